@@ -1,0 +1,5 @@
+pub mod Edits
+pub mod Initials
+pub mod Inside
+pub mod Kept
+pub mod Sorted

@@ -1,0 +1,10 @@
+pub mod Closed
+pub mod Config
+pub mod Goal
+pub mod Kinds
+pub mod Names
+pub mod RowShapes
+pub mod Rows
+pub mod Step
+pub mod Texts
+pub mod Universe

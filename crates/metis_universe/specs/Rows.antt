@@ -1,0 +1,170 @@
+-- The rows of a universe, as a document spells them, and what they mean.
+--     TypeRow, StateRow      a type and a state, with all that they name
+--     first_fault rows      the first reason why the rows are no universe
+--     universe_from rows      the universe that rows without a fault stand for
+--     meaning_of rows      the one or the other
+--     IsMade result rows      what `Universe::new` gives for the rows
+use Rattle.std.specs.Prelude.{◌≡◌, ◌≢◌, ◌<◌, ◌^◌, ℕ, ◌+◌, Bool, nat_lt, List, [], ◌∷◌, ◌++◌, length, map, take, fold, position, sum_by, Option, Some, None, unwrap_or, option_map, Result, Ok, Err, if◌then◌else◌}
+use Rattle.std.specs.List.{list_any, flat_map, All}
+use Rattle.std.specs.BTreeSet.{insert_key}
+use Rattle.std.specs.Ordering.{nat_cmp}
+use Rattle.std.specs.Str.{bytes_eq}
+use Rattle.metis_universe.specs.Names.{is_name}
+use Rattle.metis_universe.specs.RowShapes.{StateRow, TypeRow}
+use Rattle.metis_universe.specs.Universe.{Universe, Kind, Pair, universe_of}
+use Rattle.metis_universe.specs.declared.faults.LimitKind.TheVariants.{States, Requires, Pairs, Ports}
+use Rattle.metis_universe.specs.declared.faults.RowFault.{RowFault}
+use Rattle.metis_universe.specs.declared.faults.RowFault.TheVariants.{TypeName, TypeTwice, StateName, StateTwice, NoInitial, UnknownNext, PortName, Limit, NoMemory}
+
+-- No list is longer than its places can be counted.
+pub record StateFits (row : StateRow) : Type 0 where
+  pub provide : length row.provide < 2 ^ 31
+  pub require : length row.require < 2 ^ 31
+  pub next : length row.next < 2 ^ 31
+
+pub record TypeFits (row : TypeRow) : Type 0 where
+  pub states : length row.states < 2 ^ 31
+  pub each : All StateFits row.states
+
+pub record RowsFit (rows : List TypeRow) : Type 0 where
+  pub types : length rows < 2 ^ 32
+  pub each : All TypeFits rows
+
+-- the names of a list, each once, in the order in which they are first seen, after those that were seen before
+abbrev pub sights_after : List (List ℕ) → List (List ℕ) → List (List ℕ)
+sights_after seen [] = seen
+sights_after seen (name ∷ names) = sights_after (if list_any (bytes_eq name) seen then seen else seen ++ name ∷ []) names
+
+abbrev pub first_sights : List (List ℕ) → List (List ℕ)
+first_sights names = sights_after [] names
+
+-- a state's ports: those that it provides, then those that it requires
+abbrev pub ports_of_state : StateRow → List (List ℕ)
+ports_of_state row = row.provide ++ row.require
+
+abbrev pub ports_of_type : TypeRow → List (List ℕ)
+ports_of_type row = flat_map ports_of_state row.states
+
+-- the ports, numbered by first sight
+abbrev pub ports_of : List TypeRow → List (List ℕ)
+ports_of rows = first_sights (flat_map ports_of_type rows)
+
+-- how many states there are
+abbrev pub state_total : List TypeRow → ℕ
+state_total rows = sum_by (λ row. length row.states) rows
+
+-- how many ports a type's states require, where an entry that a list repeats counts once
+abbrev pub require_total : TypeRow → ℕ
+require_total row = sum_by (λ state. length (first_sights state.require)) row.states
+
+-- ---- faults
+
+-- the first of two faults
+abbrev pub or_else : Option RowFault → Option RowFault → Option RowFault
+or_else None later = later
+or_else (Some fault) later = Some fault
+
+-- the first fault that a test finds in a list; the test is given each element's place, which counts from here on
+abbrev pub first_from : {A : Type 0} → ℕ → (ℕ → A → Option RowFault) → List A → Option RowFault
+first_from place test [] = None
+first_from place test (x ∷ xs) = or_else (test place x) (first_from (place + 1) test xs)
+
+-- the fault, unless the test passes
+abbrev pub unless : Bool → RowFault → Option RowFault
+unless passes fault = if passes then None else Some fault
+
+abbrev pub has_state : TypeRow → List ℕ → Bool
+has_state row name = list_any (λ state. bytes_eq name state.name) row.states
+
+abbrev pub port_fault : ℕ → ℕ → ℕ → List ℕ → Option RowFault
+port_fault t s k name = unless (is_name name) (PortName t s k)
+
+-- of a state: its name is no name, an earlier state has it, or a port's name is none, where ports are counted through both lists
+abbrev pub state_fault : TypeRow → ℕ → ℕ → StateRow → Option RowFault
+state_fault row t s state =
+    or_else (unless (is_name state.name) (StateName t s))
+    (or_else (option_map (λ first. StateTwice t s first) (position (λ earlier. bytes_eq state.name earlier.name) (take s row.states)))
+    (or_else (first_from 0 (port_fault t s) state.provide) (first_from (length state.provide) (port_fault t s) state.require)))
+
+abbrev pub next_fault : TypeRow → ℕ → ℕ → StateRow → Option RowFault
+next_fault row t s state = first_from 0 (λ k name. unless (has_state row name) (UnknownNext t s k)) state.next
+
+abbrev pub states_limit : TypeRow → Option RowFault
+states_limit row = if nat_lt 64 (length row.states) then Some (Limit States (length row.states)) else None
+
+abbrev pub requires_limit : TypeRow → Option RowFault
+requires_limit row = if nat_lt 128 (require_total row) then Some (Limit Requires (require_total row)) else None
+
+abbrev pub type_fault : List TypeRow → ℕ → TypeRow → Option RowFault
+type_fault rows t row =
+    or_else (unless (is_name row.name) (TypeName t))
+    (or_else (option_map (λ first. TypeTwice t first) (position (λ earlier. bytes_eq row.name earlier.name) (take t rows)))
+    (or_else (states_limit row)
+    (or_else (first_from 0 (state_fault row t) row.states)
+    (or_else (requires_limit row)
+    (or_else (unless (has_state row row.initial) (NoInitial t))
+    (first_from 0 (next_fault row t) row.states))))))
+
+abbrev pub pairs_limit : List TypeRow → Option RowFault
+pairs_limit rows = if nat_lt 2000 (state_total rows) then Some (Limit Pairs (state_total rows)) else None
+
+abbrev pub ports_limit : List TypeRow → Option RowFault
+ports_limit rows = if nat_lt 4000 (length (ports_of rows)) then Some (Limit Ports (length (ports_of rows))) else None
+
+-- type after type, and then the counts of all types together
+abbrev pub first_fault : List TypeRow → Option RowFault
+first_fault rows = or_else (first_from 0 (type_fault rows) rows) (or_else (pairs_limit rows) (ports_limit rows))
+
+-- ---- the universe
+
+-- the number of a name among these
+abbrev pub number_of : List (List ℕ) → List ℕ → ℕ
+number_of names name = unwrap_or (position (λ each. bytes_eq name each) names) 0
+
+-- the place of the state of this name in its type
+abbrev pub state_number : TypeRow → List ℕ → ℕ
+state_number row name = unwrap_or (position (λ state. bytes_eq name state.name) row.states) 0
+
+-- the numbers in ascending order, each once
+abbrev pub ascending : List ℕ → List ℕ
+ascending numbers = fold (insert_key nat_cmp) [] numbers
+
+-- of type t, whose first pair is this one
+abbrev pub pair_from : List (List ℕ) → ℕ → ℕ → TypeRow → StateRow → Pair
+pair_from ports t first row state = record {
+  kind = t;
+  state = state.name;
+  provided = ascending (map (number_of ports) state.provide);
+  required = ascending (map (number_of ports) state.require);
+  next = ascending (map (λ name. first + state_number row name) state.next);
+}
+
+abbrev pub pairs_of_type : List (List ℕ) → ℕ → ℕ → TypeRow → List Pair
+pairs_of_type ports t first row = map (pair_from ports t first row) row.states
+
+-- the pairs of the types from number t on, of which the first is this one
+abbrev pub pairs_from : List (List ℕ) → ℕ → ℕ → List TypeRow → List Pair
+pairs_from ports t first [] = []
+pairs_from ports t first (row ∷ rows) = pairs_of_type ports t first row ++ pairs_from ports (t + 1) (first + length row.states) rows
+
+abbrev pub kind_from : ℕ → TypeRow → Kind
+kind_from first row = record { name = row.name; initial = first + state_number row row.initial }
+
+abbrev pub kinds_from : ℕ → List TypeRow → List Kind
+kinds_from first [] = []
+kinds_from first (row ∷ rows) = kind_from first row ∷ kinds_from (first + length row.states) rows
+
+abbrev pub universe_from : List TypeRow → Universe
+universe_from rows = universe_of (kinds_from 0 rows) (pairs_from (ports_of rows) 0 0 rows) (ports_of rows)
+
+abbrev pub or_universe : Option RowFault → Universe → Result Universe RowFault
+or_universe None u = Ok u
+or_universe (Some fault) u = Err fault
+
+abbrev pub meaning_of : List TypeRow → Result Universe RowFault
+meaning_of rows = or_universe (first_fault rows) (universe_from rows)
+
+-- the result is what the rows mean, unless memory ran out
+abbrev pub IsMade : Result Universe RowFault → List TypeRow → Type 0
+IsMade (Ok u) rows = meaning_of rows ≡ Ok u
+IsMade (Err fault) rows = fault ≢ NoMemory → meaning_of rows ≡ Err fault

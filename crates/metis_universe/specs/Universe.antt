@@ -1,0 +1,165 @@
+-- What a universe is: its types, its pairs in document order, and the names of its ports.
+-- A pair is a type with one of its states. Types, pairs and ports are known by their numbers, from 0.
+-- (Di Cosmo, Zacchiroli and Zavattaro, SEFM 2012, without capacities and conflicts.)
+--     pair_at u p      the row of pair p, and `no_pair` past the end
+--     type_of, provided_of, required_of, next_of, state_name_of      of a pair: its type, its ports, the pairs that its type may go to from it, its state's name
+--     initial_of u t, is_initial u p      the initial pair of a type;  whether p is one
+--     provides, requires      whether the pair p has port r among its provided, or its required, ports
+--     type_provides, type_requires      whether some pair of the type does
+--     is_free u p      whether p is initial and requires nothing
+--     has xs n      whether n is in the list
+--     type_count, pair_count, port_count, type_name_of, port_name_of, all_pairs u      how many there are;  names;  the numbers of the pairs
+--     state_place_of u p      the place of the pair's state among those of its type
+--     type_named, state_named, pair_named      the type, the pair of a type, and the pair of these names
+--     IsUniverse u      what holds of the numbers of every universe that a document gives
+--     IsNamed u, IsWithinLimits u, IsTable u      what holds of its names;  of its counts;  all three
+use Rattle.std.specs.Prelude.{ℕ, ◌≡◌, ◌≤◌, ◌<◌, ◌^◌, ◌==◌, Bool, true, false, ◌&&◌, Option, List, [], ◌∷◌, length, take, position, sum_by, IsTrue}
+use Rattle.std.specs.List.{list_any, filter, slice_index_or, range_with_len, All}
+use Rattle.std.specs.List.Sorted.{IsNonDecreasingBy, IsStrictlyIncreasing}
+use Rattle.std.specs.Option.{option_and_then}
+use Rattle.std.specs.Str.{bytes_eq}
+use Rattle.metis_universe.specs.Names.{is_name}
+
+-- whether n is in the list
+abbrev pub has : List ℕ → ℕ → Bool
+has xs n = list_any (λ x. x == n) xs
+
+-- whether the list has no element
+abbrev pub is_empty : List ℕ → Bool
+is_empty [] = true
+is_empty (x ∷ xs) = false
+
+-- a type: its name and its initial pair
+pub record Kind : Type 0 where
+  pub name : List ℕ
+  pub initial : ℕ
+
+-- a pair: its type, the name of its state, and three ascending lists: the ports that it provides, those that it requires, and the next pairs
+pub record Pair : Type 0 where
+  pub kind : ℕ
+  pub state : List ℕ
+  pub provided : List ℕ
+  pub required : List ℕ
+  pub next : List ℕ
+
+pub record Universe : Type 0 where
+  pub kinds : List Kind
+  pub pairs : List Pair
+  pub ports : List (List ℕ)
+
+abbrev pub no_kind : Kind
+no_kind = record { name = []; initial = 0 }
+
+abbrev pub no_pair : Pair
+no_pair = record { kind = 0; state = []; provided = []; required = []; next = [] }
+
+abbrev pub type_count : Universe → ℕ
+type_count u = length u.kinds
+
+abbrev pub pair_count : Universe → ℕ
+pair_count u = length u.pairs
+
+abbrev pub pair_at : Universe → ℕ → Pair
+pair_at u p = slice_index_or u.pairs p no_pair
+
+abbrev pub type_of : Universe → ℕ → ℕ
+type_of u p = (pair_at u p).kind
+
+abbrev pub state_name_of : Universe → ℕ → List ℕ
+state_name_of u p = (pair_at u p).state
+
+abbrev pub provided_of : Universe → ℕ → List ℕ
+provided_of u p = (pair_at u p).provided
+
+abbrev pub required_of : Universe → ℕ → List ℕ
+required_of u p = (pair_at u p).required
+
+abbrev pub next_of : Universe → ℕ → List ℕ
+next_of u p = (pair_at u p).next
+
+abbrev pub kind_at : Universe → ℕ → Kind
+kind_at u t = slice_index_or u.kinds t no_kind
+
+abbrev pub initial_of : Universe → ℕ → ℕ
+initial_of u t = (kind_at u t).initial
+
+abbrev pub type_name_of : Universe → ℕ → List ℕ
+type_name_of u t = (kind_at u t).name
+
+abbrev pub is_initial : Universe → ℕ → Bool
+is_initial u p = list_any (λ k. k.initial == p) u.kinds
+
+abbrev pub provides : Universe → ℕ → ℕ → Bool
+provides u p r = has (provided_of u p) r
+
+abbrev pub requires : Universe → ℕ → ℕ → Bool
+requires u p r = has (required_of u p) r
+
+abbrev pub type_provides : Universe → ℕ → ℕ → Bool
+type_provides u t r = list_any (λ p. (p.kind == t) && has p.provided r) u.pairs
+
+abbrev pub type_requires : Universe → ℕ → ℕ → Bool
+type_requires u t r = list_any (λ p. (p.kind == t) && has p.required r) u.pairs
+
+abbrev pub is_free : Universe → ℕ → Bool
+is_free u p = is_initial u p && is_empty (required_of u p)
+
+abbrev pub port_count : Universe → ℕ
+port_count u = length u.ports
+
+abbrev pub port_name_of : Universe → ℕ → List ℕ
+port_name_of u r = slice_index_or u.ports r []
+
+abbrev pub all_pairs : Universe → List ℕ
+all_pairs u = range_with_len 0 (pair_count u)
+
+-- how many pairs of the same type stand before p
+abbrev pub state_place_of : Universe → ℕ → ℕ
+state_place_of u p = length (filter (λ q. q.kind == type_of u p) (take p u.pairs))
+
+abbrev pub type_named : Universe → List ℕ → Option ℕ
+type_named u name = position (λ k. bytes_eq name k.name) u.kinds
+
+abbrev pub state_named : Universe → ℕ → List ℕ → Option ℕ
+state_named u t name = position (λ p. (p.kind == t) && bytes_eq name p.state) u.pairs
+
+abbrev pub pair_named : Universe → List ℕ → List ℕ → Option ℕ
+pair_named u kind state = option_and_then (λ t. state_named u t state) (type_named u kind)
+
+abbrev pub universe_of : List Kind → List Pair → List (List ℕ) → Universe
+universe_of kinds pairs ports = record { kinds = kinds; pairs = pairs; ports = ports }
+
+-- What holds of every universe that a document gives, names and limits aside: the types' pairs stand type by type,
+-- each type's initial pair is one of its own, and each pair's lists ascend and stay within the universe.
+pub record IsUniverse (u : Universe) : Type 0 where
+  pub by_type : IsNonDecreasingBy (λ p. p.kind) u.pairs
+  pub types : (p : ℕ) → p < pair_count u → type_of u p < type_count u
+  pub initials : (t : ℕ) → t < type_count u → (initial_of u t < pair_count u) × (type_of u (initial_of u t) ≡ t)
+  pub provided : (p : ℕ) → p < pair_count u → IsStrictlyIncreasing (provided_of u p) × All (λ r. r < port_count u) (provided_of u p)
+  pub required : (p : ℕ) → p < pair_count u → IsStrictlyIncreasing (required_of u p) × All (λ r. r < port_count u) (required_of u p)
+  pub next : (p : ℕ) → p < pair_count u → IsStrictlyIncreasing (next_of u p) × All (λ q. (q < pair_count u) × (type_of u q ≡ type_of u p)) (next_of u p)
+
+-- Names are names, no two types have one name, nor two states of one type, nor two ports.
+pub record IsNamed (u : Universe) : Type 0 where
+  pub types : (t : ℕ) → t < type_count u → IsTrue (is_name (type_name_of u t))
+  pub states : (p : ℕ) → p < pair_count u → IsTrue (is_name (state_name_of u p))
+  pub ports : (r : ℕ) → r < port_count u → IsTrue (is_name (port_name_of u r))
+  pub types_apart : (s t : ℕ) → s < type_count u → t < type_count u → type_name_of u s ≡ type_name_of u t → s ≡ t
+  pub states_apart : (p q : ℕ) → p < pair_count u → q < pair_count u → type_of u p ≡ type_of u q → state_name_of u p ≡ state_name_of u q → p ≡ q
+  pub ports_apart : (r s : ℕ) → r < port_count u → s < port_count u → port_name_of u r ≡ port_name_of u s → r ≡ s
+
+-- how many pairs the type has, and how many ports they require together
+abbrev pub states_of_type : Universe → ℕ → List Pair
+states_of_type u t = filter (λ p. p.kind == t) u.pairs
+
+pub record IsWithinLimits (u : Universe) : Type 0 where
+  pub pairs : pair_count u ≤ 2000
+  pub ports : port_count u ≤ 4000
+  pub states : (t : ℕ) → length (states_of_type u t) ≤ 64
+  pub required : (t : ℕ) → sum_by (λ p. length p.required) (states_of_type u t) ≤ 128
+
+-- what every `Universe` keeps
+pub record IsTable (u : Universe) : Type 0 where
+  pub universe : IsUniverse u
+  pub named : IsNamed u
+  pub limits : IsWithinLimits u

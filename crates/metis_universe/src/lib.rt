@@ -1,0 +1,14 @@
+//! The universe of component types, and the definitions that the planner's contracts cite.
+#![tactic(auto)]
+
+mod faults;
+mod laws;
+mod names;
+mod rows;
+mod universe;
+
+pub use faults::{LimitKind, RowFault};
+pub use laws::refused_is_not_attained;
+pub use names::is_name;
+pub use rows::{StateRow, TypeRow};
+pub use universe::Universe;

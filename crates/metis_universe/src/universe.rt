@@ -1,0 +1,169 @@
+//! A universe: its types, its pairs in document order, and its ports.
+ghost use Rattle.std.specs.Prelude.{◌≡◌, ◌<◌, IfSome};
+ghost use Rattle.metis_universe.specs.Universe.{pair_count, type_count, port_count, type_of, state_place_of, initial_of, is_initial, next_of, type_named, state_named, pair_named, type_name_of, state_name_of, IsTable};
+ghost use Rattle.metis_universe.specs.Rows.{RowsFit, IsMade};
+
+use crate::faults::RowFault;
+use crate::rows::TypeRow;
+use indexmap::{IndexMap, IndexSet};
+use metis_ids::{PairIx, PortIx, StateIx, TypeIx};
+use std::alloc::Global;
+use std::marker::Model;
+
+/// A pair.
+#[derive(Drop)]
+struct PairRow {
+    kind: TypeIx,
+    state: String,
+    provided: Vec<PortIx>,
+    required: Vec<PortIx>,
+    next: Vec<PairIx>,
+}
+
+impl Model for PairRow {
+    ghost use Rattle.std.specs.String.{string_bytes};
+    ghost use Rattle.metis_universe.specs.Universe.{Pair};
+
+    ghost Value = { Pair };
+
+    ghost view = { λ a. record { kind = a.kind; state = string_bytes a.state; provided = a.provided.items; required = a.required.items; next = a.next.items } };
+}
+
+/// Component types and their states.
+#[derive(Drop)]
+pub struct Universe {
+    /// The initial pair of each type, by the type's name.
+    kinds: IndexMap<String, PairIx>,
+    pairs: Vec<PairRow>,
+    ports: IndexSet<String>,
+}
+
+impl Model for Universe {
+    ghost use Rattle.std.specs.Prelude.{map};
+    ghost use Rattle.metis_universe.specs.Texts.{texts};
+    ghost use Rattle.metis_universe.specs.Kinds.{kinds_of};
+    ghost use Rattle.metis_universe.specs.Universe as tables;
+
+    ghost Value = { tables.Universe };
+
+    ghost view = { λ a. tables.universe_of (kinds_of a.kinds.entries) a.pairs.items (texts a.ports.keys) };
+
+    ghost invariant = { λ a. tables.IsTable (tables.universe_of (kinds_of a.kinds.entries) a.pairs.items (texts a.ports.keys)) };
+}
+
+impl Universe {
+    /// The universe that the rows stand for. Types, pairs and ports are numbered from 0: types in the order of the rows,
+    /// pairs by types in order and then states in order, ports by first sight (for each state what it provides, then
+    /// what it requires). The error is the first fault of the rows: type after type, and of all types together at last.
+    pub fn new(alloc: Global, rows: Vec<TypeRow>) -> Result<Universe, RowFault>
+        requires { RowsFit rows.items }
+        ensures { IsMade result rows.items }
+    {
+        Err(RowFault::NoMemory)
+    }
+
+    /// How many pairs there are, at most 2,000.
+    pub fn pairs(&self) -> u32
+        ensures count { result ≡ pair_count self.now }
+        ensures table { IsTable self.now }
+    {
+        self.pairs.len() as u32
+    }
+
+    /// How many types there are.
+    pub fn types(&self) -> u32
+        ensures { result ≡ type_count self.now }
+    {
+        self.kinds.len() as u32
+    }
+
+    /// The pair's type.
+    pub fn type_of(&self, p: PairIx) -> TypeIx
+        requires { p < pair_count self.now }
+        ensures { result ≡ type_of self.now p }
+    {
+        let row = &self.pairs[p.0 as usize];
+        row.kind
+    }
+
+    /// The place of the pair's state among the states of its type.
+    pub fn state_of(&self, p: PairIx) -> StateIx
+        requires { p < pair_count self.now }
+        ensures { result ≡ state_place_of self.now p }
+    {
+        let kind = self.type_of(p);
+        let before = &self.pairs[..p.0 as usize];
+        StateIx(before.iter().filter(|pair| pair.kind == kind).count() as u32)
+    }
+
+    /// The type's initial pair.
+    pub fn initial(&self, t: TypeIx) -> PairIx
+        requires { t < type_count self.now }
+        ensures { result ≡ initial_of self.now t }
+    {
+        let (_, initial) = self.kinds.get_index(t.0 as usize).unwrap();
+        *initial
+    }
+
+    /// Whether the pair is a type's initial pair.
+    pub fn is_initial(&self, p: PairIx) -> bool
+        requires { p < pair_count self.now }
+        ensures { result ≡ is_initial self.now p }
+    {
+        let _tables = &self.kinds;
+        self.initial(self.type_of(p)) == p
+    }
+
+    /// The pairs that the pair may go to, ascending.
+    pub fn next(&self, p: PairIx) -> &[PairIx]
+        requires { p < pair_count self.now }
+        ensures { result.now ≡ next_of self.now p }
+    {
+        let row = &self.pairs[p.0 as usize];
+        row.next.as_slice()
+    }
+
+    /// The type of this name.
+    pub fn type_named(&self, name: &str) -> Option<TypeIx>
+        ensures { result ≡ type_named self.now name.now }
+    {
+        let index = self.kinds.get_index_of(name)?;
+        Some(TypeIx(index as u32))
+    }
+
+    /// The pair of the type and its state of this name.
+    pub fn state_named(&self, t: TypeIx, name: &str) -> Option<PairIx>
+        ensures { result ≡ state_named self.now t name.now }
+    {
+        let index = self
+            .pairs
+            .iter()
+            .position(|pair| pair.kind == t && name == pair.state.as_str())?;
+        Some(PairIx(index as u32))
+    }
+
+    /// The pair of the type and the state of these names.
+    pub fn pair_named(&self, kind: &str, state: &str) -> Option<PairIx>
+        ensures { result ≡ pair_named self.now kind.now state.now }
+    {
+        self.state_named(self.type_named(kind)?, state)
+    }
+
+    /// The name of the type.
+    pub fn type_name(&self, t: TypeIx) -> &str
+        requires { t < type_count self.now }
+        ensures { result.now ≡ type_name_of self.now t }
+    {
+        let (name, _) = self.kinds.get_index(t.0 as usize).unwrap();
+        name.as_str()
+    }
+
+    /// The name of the pair's state.
+    pub fn state_name(&self, p: PairIx) -> &str
+        requires { p < pair_count self.now }
+        ensures { result.now ≡ state_name_of self.now p }
+    {
+        let row = &self.pairs[p.0 as usize];
+        row.state.as_str()
+    }
+}
