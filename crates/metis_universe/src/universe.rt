@@ -1,7 +1,7 @@
 //! A universe: its types, its pairs in document order, and its ports.
 ghost use Rattle.std.specs.Prelude.{◌≡◌, ◌<◌, ◌==◌, ◌&&◌, position};
 ghost use Rattle.std.specs.Str.{bytes_eq};
-ghost use Rattle.metis_universe.specs.Universe.{pair_count, type_count, port_count, type_of, state_place_of, initial_of, is_initial, next_of, type_named, state_named, pair_named, type_name_of, state_name_of, IsTable};
+ghost use Rattle.metis_universe.specs.Universe.{pair_count, type_count, port_count, type_of, state_place_of, initial_of, is_initial, next_of, type_named, state_named, pair_named, type_name_of, state_name_of, port_name_of, IsTable};
 ghost use Rattle.metis_universe.specs.Rows.{RowsFit, IsMade};
 
 use crate::faults::RowFault;
@@ -81,7 +81,8 @@ impl Universe {
     /// The pair's type.
     pub fn type_of(&self, p: PairIx) -> TypeIx
         requires { p < pair_count self.now }
-        ensures { result ≡ type_of self.now p }
+        ensures kind { result ≡ type_of self.now p }
+        ensures within { result < type_count self.now }
     {
         let row = &self.pairs[p.0 as usize];
         row.kind
@@ -163,6 +164,14 @@ impl Universe {
     {
         let row = &self.pairs[p.0 as usize];
         row.state.as_str()
+    }
+
+    /// The name of the port.
+    pub fn port_name(&self, r: PortIx) -> &str
+        requires { r < port_count self.now }
+        ensures { result.now ≡ port_name_of self.now r }
+    {
+        self.ports.get_index(r.0 as usize).unwrap().as_str()
     }
 }
 

@@ -1,0 +1,11 @@
+pub mod ActionLines
+pub mod FileBytes
+pub mod Fronts
+pub mod Gathered
+pub mod Items
+pub mod OverFiles
+pub mod Plainness
+pub mod ReadFaults
+pub mod Refused
+pub mod Replies
+pub mod Shown

@@ -1,0 +1,87 @@
+-- Runs over files whose bytes are told, without faults.
+use Rattle.std.proofs.Common.{◌≡◌, ◌≢◌, ℕ, ◌≤◌, List, [], ◌∷◌, length, ◌+◌, take, Ok, None, Some, IfSome, true, refl, ap, ◌∙◌, subst, inl, inr, arith, nat_le, if◌then◌else◌}
+use Rattle.std.proofs.lemmas.List.{take_all}
+use Rattle.std.proofs.lemmas.Bool.Decides.{nat_tests}
+use Rattle.std.specs.declared.option.Option.{Option}
+use Rattle.metis_outside.specs.Faults.{Rose}
+use Rattle.metis_top.specs.declared.refusal.Refusal.TheVariants.{TooLong}
+use Rattle.metis_top.specs.declared.status.Status.{Status}
+use Rattle.metis_top.specs.declared.status.Status.TheVariants.{NoMemory}
+use Rattle.metis_top.specs.Answer.{Plan}
+use Rattle.metis_top.specs.Commands.{plan_script, script_from, universe_in_then, target_then}
+use Rattle.metis_top.specs.Course.{Ran, Shown, Says, OnShelf, AreTaken, after}
+use Rattle.metis_top.specs.Document.{universe_in}
+use Rattle.metis_top.specs.Honest.{over, Tells, Headline}
+use Rattle.metis_top.specs.Script.{Script, Read, Refuse, Reply}
+use Rattle.metis_top.specs.TargetName.{TargetName}
+use Rattle.metis_top.specs.Words.{form_of}
+use Rattle.metis_top.specs.declared.reading.TheConstants.{UNIVERSE_LIMIT}
+use Rattle.metis_universe.specs.Universe.{Universe, pair_named}
+
+-- no read failed, and memory did not run out, so the script has come to its end
+after-over : (file : List ℕ → List ℕ) (taken : List (List ℕ)) (script : Script) (count faults faults' opens opens' : ℕ) (old new : Option (List ℕ)) (status : Status)
+    → AreTaken (Some file) taken script → OnShelf (after taken script) count faults faults' opens opens' old new status
+    → (Rose faults faults' → ⊥) → status ≢ NoMemory → after taken script ≡ over file script
+after-over file [] (Read place name limit next) count faults faults' opens opens' old new status asked (inl failed) calm memory = absurd (calm failed.0)
+after-over file [] (Read place name limit next) count faults faults' opens opens' old new status asked (inr gave_up) calm memory = absurd (memory gave_up.0)
+after-over file [] (Refuse refusal) count faults faults' opens opens' old new status asked shelf calm memory = refl
+after-over file [] (Reply answer) count faults faults' opens opens' old new status asked shelf calm memory = refl
+after-over file (bytes ∷ taken) (Read place name limit next) count faults faults' opens opens' old new status asked shelf calm memory =
+    after-over file taken (next bytes) count faults faults' opens opens' old new status asked.1 shelf calm memory
+    ∙ ap (λ b. over file (next b)) asked.0.told
+after-over file (bytes ∷ taken) (Refuse refusal) count faults faults' opens opens' old new status asked shelf calm memory = absurd asked
+after-over file (bytes ∷ taken) (Reply answer) count faults faults' opens opens' old new status asked shelf calm memory = absurd asked
+
+told_by_shown : (file : List ℕ → List ℕ) (script end : Script) (old new : Option (List ℕ)) (before now : ℕ) (status : Status)
+    → end ≡ over file script → Shown (Says end) old new before now status → (Rose before now → ⊥) → status ≢ NoMemory → Tells file script old new status
+told_by_shown file script end old new before now status is (inl whole) calm memory =
+    record { text = whole.text; says = subst (λ s. Says s whole.text status) is whole.says; put = whole.put }
+told_by_shown file script end old new before now status is (inr (inl (fault, front, rose))) calm memory = absurd (calm rose)
+told_by_shown file script end old new before now status is (inr (inr (gave_up, front))) calm memory = absurd (memory gave_up)
+
+-- what was put is what the script comes to over the files
+tells : (files : Option (List ℕ → List ℕ)) (taken : List (List ℕ)) (script : Script) (count faults faults' opens opens' : ℕ) (old new : Option (List ℕ)) (before now : ℕ) (status : Status)
+    → AreTaken files taken script → OnShelf (after taken script) count faults faults' opens opens' old new status → Shown (Says (after taken script)) old new before now status
+    → IfSome files (λ file. (Rose faults faults' → ⊥) → (Rose before now → ⊥) → status ≢ NoMemory → Tells file script old new status)
+tells None taken script count faults faults' opens opens' old new before now status asked shelf puts = tt
+tells (Some file) taken script count faults faults' opens opens' old new before now status asked shelf puts = λ calm calm' memory.
+    told_by_shown file script (after taken script) old new before now status (after-over file taken script count faults faults' opens opens' old new status asked shelf calm memory) puts calm' memory
+
+pub ran_tells : {S K : Type 0} (files : S → Option (List ℕ → List ℕ)) (faults opens : S → ℕ) (written : K → Option (List ℕ)) (sink_faults : K → ℕ)
+    (script : Script) (shelf shelf' : S) (sink sink' : K) (status : Status)
+    → Ran files faults opens written sink_faults script shelf shelf' sink sink' status
+    → IfSome (files shelf) (λ file. (Rose (faults shelf) (faults shelf') → ⊥) → (Rose (sink_faults sink) (sink_faults sink') → ⊥) → status ≢ NoMemory → Tells file script (written sink) (written sink') status)
+ran_tells files faults opens written sink_faults script shelf shelf' sink sink' status r =
+    tells (files shelf) r.taken script (length r.taken) _ _ _ _ _ _ _ _ status r.asked r.reads r.puts
+
+-- an accepted document is gone on with
+over-universe : (file : List ℕ → List ℕ) (bytes taken : List ℕ) (u : Universe) (next : Universe → Script)
+    → taken ≡ bytes → length bytes ≤ UNIVERSE_LIMIT → universe_in bytes ≡ Ok u
+    → over file (if nat_le (length taken) UNIVERSE_LIMIT then universe_in_then taken next else Refuse (TooLong 2)) ≡ over file (next u)
+over-universe file bytes taken u next is fits means =
+    let passes : nat_le (length bytes) UNIVERSE_LIMIT ≡ true = grind (arith, nat_tests) in
+    ap (λ t. over file (if nat_le (length t) UNIVERSE_LIMIT then universe_in_then t next else Refuse (TooLong 2))) is ∙ rw (passes, means)
+
+-- accepted words and an accepted document come to what is to be said of the target
+over-plan : (file : List ℕ → List ℕ) (name : List ℕ) (target : TargetName) (u : Universe) (p : ℕ) → length (file name) ≤ UNIVERSE_LIMIT → universe_in (file name) ≡ Ok u
+    → pair_named u target.kind target.state ≡ Some p → over file (plan_script name target) ≡ Reply (Plan u (p ∷ []))
+over-plan file name target u p fits means found =
+    over-universe file (file name) (take (UNIVERSE_LIMIT + 1) (file name)) u (λ v. target_then 3 v target (λ q. Reply (Plan v (q ∷ [])))) (take_all (UNIVERSE_LIMIT + 1) (file name) (omega arith)) fits means
+    ∙ rw found
+
+pub tells_plans : (words : List (List ℕ)) (file : List ℕ → List ℕ) (old new : Option (List ℕ)) (status : Status) → Tells file (script_from (form_of words)) old new status → Headline words file old new status
+tells_plans words file old new status t = λ name target u p is fits means found.
+    let ends : over file (script_from (form_of words)) ≡ Reply (Plan u (p ∷ [])) = ap (λ f. over file (script_from f)) is ∙ over-plan file name target u p fits means found in
+    (t.text, subst (λ s. Says s t.text status) ends t.says, t.put)
+
+if_some_headline : (words : List (List ℕ)) (files : Option (List ℕ → List ℕ)) (P Q R : Type 0) (old new : Option (List ℕ)) (status : Status)
+    → IfSome files (λ file. P → Q → R → Tells file (script_from (form_of words)) old new status) → IfSome files (λ file. P → Q → R → Headline words file old new status)
+if_some_headline words None P Q R old new status t = tt
+if_some_headline words (Some file) P Q R old new status t = λ p q r. tells_plans words file old new status (t p q r)
+
+pub ran_headline : {S K : Type 0} (files : S → Option (List ℕ → List ℕ)) (faults opens : S → ℕ) (written : K → Option (List ℕ)) (sink_faults : K → ℕ)
+    (words : List (List ℕ)) (shelf shelf' : S) (sink sink' : K) (status : Status)
+    → Ran files faults opens written sink_faults (script_from (form_of words)) shelf shelf' sink sink' status
+    → IfSome (files shelf) (λ file. (Rose (faults shelf) (faults shelf') → ⊥) → (Rose (sink_faults sink) (sink_faults sink') → ⊥) → status ≢ NoMemory → Headline words file (written sink) (written sink') status)
+ran_headline files faults opens written sink_faults words shelf shelf' sink sink' status r =
+    if_some_headline words (files shelf) _ _ _ (written sink) (written sink') status (ran_tells files faults opens written sink_faults _ shelf shelf' sink sink' status r)

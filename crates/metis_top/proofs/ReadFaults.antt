@@ -1,0 +1,92 @@
+-- The line of a failed read tells how many files were opened.
+use Rattle.std.proofs.Common.{◌≡◌, ◌⊎◌, ℕ, suc, ◌+◌, List, [], ◌∷◌, length, Result, Ok, Err, None, Some, Option, Bool, true, false, refl, sym, ap, ◌∙◌, subst, inl, inr, arith, nat_le, if◌then◌else◌}
+use Rattle.std.specs.declared.option.Option.{Option as Known}
+use Rattle.std.specs.Io.KnownBytes.{Appends}
+use Rattle.metis_top.specs.declared.refusal.Refusal.{Refusal}
+use Rattle.metis_top.specs.declared.refusal.Refusal.TheVariants.{Word, TooLong, NotJson, UniverseForm, NotYetRequires, UniverseRows}
+use Rattle.metis_top.specs.declared.status.Status.{Status}
+use Rattle.metis_top.specs.declared.status.Status.TheVariants.{Done, No, ReadFault}
+use Rattle.metis_top.specs.declared.words.Verb.{Verb}
+use Rattle.metis_top.specs.declared.words.Verb.TheVariants.{Plan}
+use Rattle.metis_top.specs.declared.reading.TheConstants.{UNIVERSE_LIMIT}
+use Rattle.metis_top.specs.Answer as answer
+use Rattle.metis_top.specs.Answer.{Answer, IsAnswer}
+use Rattle.metis_top.specs.Commands.{universe_then, judged, or_word, command_script, script_from}
+use Rattle.metis_top.specs.Course.{Ran, Shown, Says, OnShelf, after}
+use Rattle.metis_top.specs.Document.{universe_in}
+use Rattle.metis_top.specs.Lines.{refusal_status, read_fault_line}
+use Rattle.metis_top.specs.Numbered.{Numbered, TellsReadFault}
+use Rattle.metis_top.specs.Script.{Script, Read, Refuse, Reply}
+use Rattle.metis_top.specs.TargetName.{TargetName}
+use Rattle.metis_top.specs.Words.{Form, word_at, target_at}
+use Rattle.metis_universe.specs.Universe.{Universe, pair_named}
+
+-- an answer has the status `Done` or `No`
+answer_status : (said : Answer) (text : List ℕ) (status : Status) → IsAnswer said text status → (status ≡ Done) ⊎ (status ≡ No)
+answer_status (answer.Plan u targets) text status (inl is) = inl is.0
+answer_status (answer.Plan u targets) text status (inr is) = inr is.0
+
+not_read_fault : (status : Status) → (status ≡ Done) ⊎ (status ≡ No) → status ≡ ReadFault → ⊥
+not_read_fault status (inl done) fault = cc
+not_read_fault status (inr refused) fault = cc
+
+not_refused : (refusal : Refusal) → refusal_status refusal ≡ ReadFault → ⊥
+not_refused (Word place) is = cc
+not_refused (TooLong place) is = cc
+not_refused NotJson is = cc
+not_refused UniverseForm is = cc
+not_refused NotYetRequires is = cc
+not_refused UniverseRows is = cc
+
+Numbered-after : (taken : List (List ℕ)) (script : Script) (first : ℕ) → Numbered first script → Numbered (first + length taken) (after taken script)
+Numbered-after [] script first n = subst (λ k. Numbered k script) (omega arith) n
+Numbered-after (bytes ∷ taken) (Read place name limit next) first n =
+    subst (λ k. Numbered k (after taken (next bytes))) (omega arith) (Numbered-after taken (next bytes) (suc first) (n.1 bytes))
+Numbered-after (bytes ∷ taken) (Refuse refusal) first n = tt
+Numbered-after (bytes ∷ taken) (Reply answer) first n = tt
+
+told_by_shelf : (script : Script) (text : List ℕ) (count faults faults' opens opens' : ℕ) (old new : Known (List ℕ)) (status : Status) → status ≡ ReadFault → Numbered (2 + count) script
+    → Says script text status → Appends old new text → OnShelf script count faults faults' opens opens' old new status → TellsReadFault faults faults' opens opens' old new
+told_by_shelf (Read place name limit next) text count faults faults' opens opens' old new status fault n says put (inl failed) = record {
+  rose = failed.0;
+  count = suc count;
+  openings = failed.1;
+  line = subst (λ t. Appends old new t) (says.0 ∙ ap read_fault_line (n.0 ∙ omega arith)) put;
+}
+told_by_shelf (Read place name limit next) text count faults faults' opens opens' old new status fault n says put (inr gave_up) = let other = gave_up.0 in absurd (cc)
+told_by_shelf (Refuse refusal) text count faults faults' opens opens' old new status fault n says put shelf = absurd (not_refused refusal (sym says.1 ∙ fault))
+told_by_shelf (Reply answer) text count faults faults' opens opens' old new status fault n says put shelf = absurd (not_read_fault status (answer_status answer text status says) fault)
+
+told_by_shown : (script : Script) (count faults faults' opens opens' : ℕ) (old new : Known (List ℕ)) (before now : ℕ) (status : Status) → status ≡ ReadFault → Numbered (2 + count) script
+    → Shown (Says script) old new before now status → OnShelf script count faults faults' opens opens' old new status → TellsReadFault faults faults' opens opens' old new
+told_by_shown script count faults faults' opens opens' old new before now status fault n (inl whole) shelf = told_by_shelf script whole.text count faults faults' opens opens' old new status fault n whole.says whole.put shelf
+told_by_shown script count faults faults' opens opens' old new before now status fault n (inr (inl (is, front, rose))) shelf = absurd (cc)
+told_by_shown script count faults faults' opens opens' old new before now status fault n (inr (inr (is, front))) shelf = absurd (cc)
+
+-- the parts of scripts
+numbered_if : (k : ℕ) (test : Bool) (script : Script) (refusal : Refusal) → Numbered k script → Numbered k (if test then script else Refuse refusal)
+numbered_if k true script refusal n = n
+numbered_if k false script refusal n = tt
+
+numbered_judged : {X : Type 0} (k : ℕ) (next : X → Script) (r : Result X Refusal) → ((x : X) → Numbered k (next x)) → Numbered k (judged next r)
+numbered_judged k next (Ok x) n = n x
+numbered_judged k next (Err refusal) n = tt
+
+numbered_universe : (place : ℕ) (name : List ℕ) (next : Universe → Script) → ((u : Universe) → Numbered (suc place) (next u)) → Numbered place (universe_then place name next)
+numbered_universe place name next n = (refl, λ bytes. numbered_if (suc place) (nat_le (length bytes) UNIVERSE_LIMIT) (judged next (universe_in bytes)) (TooLong place) (numbered_judged (suc place) next (universe_in bytes) n))
+
+-- the script of each command
+numbered_command : (verb : Verb) (files : List (List ℕ)) (targets : List TargetName) → Numbered 2 (command_script verb files targets)
+numbered_command Plan files targets =
+    let target = target_at targets 0 in
+    numbered_universe 2 (word_at files 0) _ (λ u. numbered_judged 3 (λ p. Reply (answer.Plan u (p ∷ []))) (or_word 3 (pair_named u target.kind target.state)) (λ p. tt))
+
+numbered_script : (form : Result Form ℕ) → Numbered 2 (script_from form)
+numbered_script (Ok form) = numbered_command form.verb form.files form.targets
+numbered_script (Err place) = tt
+
+pub ran_read_fault : {S K : Type 0} (files : S → Known (List ℕ → List ℕ)) (faults opens : S → ℕ) (written : K → Known (List ℕ)) (sink_faults : K → ℕ)
+    (form : Result Form ℕ) (shelf shelf' : S) (sink sink' : K) (status : Status) → Ran files faults opens written sink_faults (script_from form) shelf shelf' sink sink' status
+    → status ≡ ReadFault → TellsReadFault (faults shelf) (faults shelf') (opens shelf) (opens shelf') (written sink) (written sink')
+ran_read_fault files faults opens written sink_faults form shelf shelf' sink sink' status r fault =
+    told_by_shown (after r.taken (script_from form)) (length r.taken) _ _ _ _ _ _ _ _ status fault (Numbered-after r.taken (script_from form) 2 (numbered_script form)) r.puts r.reads

@@ -1,0 +1,35 @@
+-- Runs that come to their answer.
+use Rattle.std.proofs.Common.{◌≡◌, ℕ, List, [], ◌∷◌, length, Result, Ok, refl, sym, ◌∙◌, subst, inl, inr}
+use Rattle.std.specs.declared.option.Option.{Option}
+use Rattle.metis_ids.specs.declared.actions.Action.{Action}
+use Rattle.metis_universe.specs.Universe.{Universe}
+use Rattle.metis_universe.proofs.Inside.{refused}
+use Rattle.metis_top.specs.Answer.{Answer, IsAnswer}
+use Rattle.metis_top.specs.Course.{Gathers, Ran, Shown, Says, OnShelf, after}
+use Rattle.metis_top.specs.PlanText.{plan_text}
+use Rattle.metis_top.specs.Planned.{IsPlan, IsRefusal, PlanAnswer}
+use Rattle.metis_top.specs.RefusalText.{refusal_text}
+use Rattle.metis_top.specs.Script.{Script, Reply}
+use Rattle.metis_top.specs.declared.refusal.Stop.{Stop}
+use Rattle.metis_top.specs.declared.status.Status.{Status}
+use Rattle.metis_top.specs.declared.status.Status.TheVariants.{Done, No}
+
+-- a run that has read what it wants, and puts its answer
+pub ran_replied : {S K X Y : Type 0} (files : S → Option (List ℕ → List ℕ)) (faults opens : S → ℕ) (written : K → Option (List ℕ)) (sink_faults : K → ℕ)
+    (view : Y → X) (part : (X → Script) → Script) (next : X → Script) (shelf shelf' : S) (sink sink' : K) (y : Y) (answer : Answer) (status : Status)
+    → Gathers files faults opens view part shelf shelf' (Ok y) → next (view y) ≡ Reply answer
+    → Shown (IsAnswer answer) (written sink) (written sink') (sink_faults sink) (sink_faults sink') status
+    → Ran files faults opens written sink_faults (part next) shelf shelf' sink sink' status
+ran_replied files faults opens written sink_faults view part next shelf shelf' sink sink' y answer status g replies s =
+    let is = g.came.0 next ∙ replies in
+    let P : Script → Type 0 = λ script. OnShelf script (length g.taken) (faults shelf) (faults shelf') (opens shelf) (opens shelf') (written sink) (written sink') status in
+    let Q : Script → Type 0 = λ script. Shown (Says script) (written sink) (written sink') (sink_faults sink) (sink_faults sink') status in
+    record { taken = g.taken; asked = g.asked next; reads = subst P (sym is) (g.came.1, g.came.2); puts = subst Q (sym is) s }
+
+-- the text of a plan answers
+pub answer_by_plan : (u : Universe) (g : List ℕ) (actions : List Action) → IsPlan u g actions → PlanAnswer u g (plan_text u actions) Done
+answer_by_plan u g actions plan = inl (refl, record { attains = (actions, plan.runs, plan.holds); actions = actions; plan = plan; told = refl })
+
+-- the text of a refusal answers
+pub answer_by_refusal : (u : Universe) (g s : List ℕ) (p : ℕ) → IsRefusal u g s p → PlanAnswer u g (refusal_text u s p) No
+answer_by_refusal u g s p refusal = inr (refl, record { unattained = refused u g s p refusal.refusal; set = s; lacking = p; refusal = refusal; told = refl })

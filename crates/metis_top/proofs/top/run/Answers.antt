@@ -1,0 +1,14 @@
+use Rattle.metis_top.proofs.OverFiles.{ran_tells, ran_headline}
+use Rattle.metis_top.proofs.ReadFaults.{ran_read_fault}
+use Rattle.metis_top.specs.Words.{form_of}
+use Rattle.metis_universe.specs.Texts.{texts}
+use Rattle.metis_top.proofs.top.run.Goals as goal
+
+pub returns-clause-told : goal.returns-clause-told
+returns-clause-told g c = ran_tells _ _ _ _ _ _ _ _ _ _ _ c.follow.ensures
+
+pub returns-clause-headline : goal.returns-clause-headline
+returns-clause-headline g c = ran_headline _ _ _ _ _ (texts c.args.words.now) _ _ _ _ _ c.follow.ensures
+
+pub returns-clause-read_fault : goal.returns-clause-read_fault
+returns-clause-read_fault g c = ran_read_fault _ _ _ _ _ (form_of (texts c.args.words.now)) _ _ _ _ _ c.follow.ensures

@@ -1,0 +1,170 @@
+-- What a universe document means, up to its rows.
+--     json_of bytes      the JSON value of the bytes, where a last line feed is left off, if there is one
+--     rows_of d      the rows that the value spells, or the first place whose form is wrong
+--     has_requires rows      whether some state requires a port
+--     universe_in bytes      the universe that the bytes mean, or why they are refused
+use Rattle.std.specs.Prelude.{ℕ, ◌+◌, ◌-◌, ◌==◌, Bool, true, false, not, List, [], ◌∷◌, length, take, Option, Some, None, option_and_then, Result, Ok, Err, if◌then◌else◌, codes, slice_index}
+use Rattle.std.specs.List.{list_any}
+use Rattle.std.specs.Str.{is_utf8}
+use Rattle.serde_json.specs.Data.{Data, Items, no_items, item}
+use Rattle.serde_json.specs.Find.{get, as_str, as_array, as_number, as_u64}
+use Rattle.serde_json.specs.Read.{read}
+use Rattle.metis_universe.specs.RowShapes.{StateRow, TypeRow}
+use Rattle.metis_universe.specs.Rows.{meaning_of}
+use Rattle.metis_universe.specs.Universe.{Universe}
+use Rattle.metis_universe.specs.declared.faults.RowFault.{RowFault}
+use Rattle.metis_top.specs.declared.document.DocumentFault.{DocumentFault}
+use Rattle.metis_top.specs.declared.document.DocumentFault.TheVariants.{NotJson, NotUniverse, TypeForm, StateForm, NoMemory}
+use Rattle.metis_top.specs.declared.refusal.Refusal.{Refusal}
+use Rattle.metis_top.specs.declared.refusal.Stop.{Stop}
+use Rattle.metis_top.specs.declared.refusal.Stop.TheVariants as stop
+use Rattle.metis_top.specs.declared.refusal.Refusal.TheVariants as refusal
+
+-- the bytes without a last line feed
+abbrev pub without_last_newline : List ℕ → List ℕ
+without_last_newline bytes = if slice_index bytes (length bytes - 1) == 10 then take (length bytes - 1) bytes else bytes
+
+abbrev pub json_of_text : List ℕ → Option Data
+json_of_text text = if is_utf8 text then read text else None
+
+abbrev pub json_of : List ℕ → Option Data
+json_of bytes = json_of_text (without_last_newline bytes)
+
+-- ---- forms
+
+abbrev pub with_text : Option (List ℕ) → Option (List (List ℕ)) → Option (List (List ℕ))
+with_text None rest = None
+with_text (Some text) None = None
+with_text (Some text) (Some texts) = Some (text ∷ texts)
+
+-- the texts of a list of texts
+abbrev pub texts_in : Items → Option (List (List ℕ))
+texts_in no_items = Some []
+texts_in (item d ds) = with_text (as_str d) (texts_in ds)
+
+-- the texts of a list of texts that may be missing
+abbrev pub texts_or_none : Option Data → Option (List (List ℕ))
+texts_or_none None = Some []
+texts_or_none (Some d) = option_and_then texts_in (as_array d)
+
+abbrev pub text_at : List ℕ → Data → Option (List ℕ)
+text_at key d = option_and_then as_str (get key d)
+
+abbrev pub list_at : List ℕ → Data → Option Items
+list_at key d = option_and_then as_array (get key d)
+
+abbrev pub state_with : Option (List ℕ) → Option (List (List ℕ)) → Option (List (List ℕ)) → Option (List (List ℕ)) → Option StateRow
+state_with None provide require next = None
+state_with (Some name) None require next = None
+state_with (Some name) (Some provide) None next = None
+state_with (Some name) (Some provide) (Some require) None = None
+state_with (Some name) (Some provide) (Some require) (Some next) = Some (record { name = name; provide = provide; require = require; next = next })
+
+-- a state: an object with a text `name`, and with lists of texts `provide`, `require` and `next` where they are there
+abbrev pub state_in : Data → Option StateRow
+state_in d =
+    state_with (text_at (codes "name") d) (texts_or_none (get (codes "provide") d)) (texts_or_none (get (codes "require") d)) (texts_or_none (get (codes "next") d))
+
+abbrev pub with_state : Option StateRow → DocumentFault → Result (List StateRow) DocumentFault → Result (List StateRow) DocumentFault
+with_state None fault rest = Err fault
+with_state (Some row) fault (Err later) = Err later
+with_state (Some row) fault (Ok rows) = Ok (row ∷ rows)
+
+-- the states of type t from place s on
+abbrev pub states_from : ℕ → ℕ → Items → Result (List StateRow) DocumentFault
+states_from t s no_items = Ok []
+states_from t s (item d ds) = with_state (state_in d) (StateForm t s) (states_from t (s + 1) ds)
+
+abbrev pub type_of_states : List ℕ → List ℕ → Result (List StateRow) DocumentFault → Result TypeRow DocumentFault
+type_of_states name initial (Err fault) = Err fault
+type_of_states name initial (Ok states) = Ok (record { name = name; initial = initial; states = states })
+
+abbrev pub type_with : ℕ → Option (List ℕ) → Option (List ℕ) → Option Items → Result TypeRow DocumentFault
+type_with t None initial states = Err (TypeForm t)
+type_with t (Some name) None states = Err (TypeForm t)
+type_with t (Some name) (Some initial) None = Err (TypeForm t)
+type_with t (Some name) (Some initial) (Some states) = type_of_states name initial (states_from t 0 states)
+
+-- type t: an object with a text `name`, a text `initial` and a list `states`; then its states
+abbrev pub type_in : ℕ → Data → Result TypeRow DocumentFault
+type_in t d = type_with t (text_at (codes "name") d) (text_at (codes "initial") d) (list_at (codes "states") d)
+
+abbrev pub with_type : Result TypeRow DocumentFault → Result (List TypeRow) DocumentFault → Result (List TypeRow) DocumentFault
+with_type (Err fault) rest = Err fault
+with_type (Ok row) (Err later) = Err later
+with_type (Ok row) (Ok rows) = Ok (row ∷ rows)
+
+-- the types from place t on
+abbrev pub types_from : ℕ → Items → Result (List TypeRow) DocumentFault
+types_from t no_items = Ok []
+types_from t (item d ds) = with_type (type_in t d) (types_from (t + 1) ds)
+
+abbrev pub is_one : Option ℕ → Bool
+is_one None = false
+is_one (Some n) = n == 1
+
+-- whether `aeolus` is the whole number 1
+abbrev pub is_version_one : Data → Bool
+is_version_one d = is_one (option_and_then as_u64 (option_and_then as_number (get (codes "aeolus") d)))
+
+abbrev pub types_with : Bool → Option Items → Result (List TypeRow) DocumentFault
+types_with false types = Err NotUniverse
+types_with true None = Err NotUniverse
+types_with true (Some types) = types_from 0 types
+
+-- a universe: an object whose `aeolus` is 1, with a list `types`; then its types
+abbrev pub rows_of : Data → Result (List TypeRow) DocumentFault
+rows_of d = types_with (is_version_one d) (list_at (codes "types") d)
+
+abbrev pub rows_or_not_json : Option Data → Result (List TypeRow) DocumentFault
+rows_or_not_json None = Err NotJson
+rows_or_not_json (Some d) = rows_of d
+
+-- the rows that the bytes spell
+abbrev pub rows_in : List ℕ → Result (List TypeRow) DocumentFault
+rows_in bytes = rows_or_not_json (json_of bytes)
+
+-- ---- meaning
+
+abbrev pub is_nil : {A : Type 0} → List A → Bool
+is_nil [] = true
+is_nil (x ∷ xs) = false
+
+abbrev pub state_requires : StateRow → Bool
+state_requires state = not (is_nil state.require)
+
+abbrev pub type_requires : TypeRow → Bool
+type_requires row = list_any state_requires row.states
+
+abbrev pub has_requires : List TypeRow → Bool
+has_requires rows = list_any type_requires rows
+
+abbrev pub or_rows_refused : Result Universe RowFault → Result Universe Refusal
+or_rows_refused (Ok u) = Ok u
+or_rows_refused (Err fault) = Err refusal.UniverseRows
+
+abbrev pub universe_of_rows : List TypeRow → Result Universe Refusal
+universe_of_rows rows = if has_requires rows then Err refusal.NotYetRequires else or_rows_refused (meaning_of rows)
+
+-- why a document that spells no rows is refused
+abbrev pub form_refusal : DocumentFault → Refusal
+form_refusal NotJson = refusal.NotJson
+form_refusal NotUniverse = refusal.UniverseForm
+form_refusal (TypeForm t) = refusal.UniverseForm
+form_refusal (StateForm t s) = refusal.UniverseForm
+form_refusal NoMemory = refusal.UniverseForm
+
+-- why such a document stops a run
+abbrev pub form_stop : DocumentFault → Stop
+form_stop NoMemory = stop.NoMemory
+form_stop NotJson = stop.Refused refusal.NotJson
+form_stop NotUniverse = stop.Refused refusal.UniverseForm
+form_stop (TypeForm t) = stop.Refused refusal.UniverseForm
+form_stop (StateForm t s) = stop.Refused refusal.UniverseForm
+
+abbrev pub or_form_refused : Result (List TypeRow) DocumentFault → Result Universe Refusal
+or_form_refused (Err fault) = Err (form_refusal fault)
+or_form_refused (Ok rows) = universe_of_rows rows
+
+abbrev pub universe_in : List ℕ → Result Universe Refusal
+universe_in bytes = or_form_refused (rows_in bytes)

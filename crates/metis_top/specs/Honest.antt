@@ -1,0 +1,33 @@
+-- Runs over files whose bytes are told.
+use Rattle.std.specs.Prelude.{◌≡◌, ℕ, ◌+◌, ◌≤◌, List, [], ◌∷◌, length, take, Ok, Some}
+use Rattle.std.specs.declared.option.Option.{Option}
+use Rattle.std.specs.Io.KnownBytes.{Appends}
+use Rattle.metis_top.specs.Course.{Says}
+use Rattle.metis_top.specs.Document.{universe_in}
+use Rattle.metis_top.specs.Planned.{PlanAnswer}
+use Rattle.metis_universe.specs.Universe.{Universe, pair_named}
+use Rattle.metis_top.specs.Script.{Script, Read}
+use Rattle.metis_top.specs.TargetName.{TargetName}
+use Rattle.metis_top.specs.Words.{form_of}
+use Rattle.metis_top.specs.declared.reading.TheConstants.{UNIVERSE_LIMIT}
+use Rattle.metis_top.specs.declared.status.Status.{Status}
+use Rattle.metis_top.specs.declared.words.Verb.TheVariants.{Plan}
+
+-- what the script comes to where each file is read with success
+abbrev pub over : (List ℕ → List ℕ) → Script → Script
+over file (Read place name limit next) = over file (next (take (limit + 1) (file name)))
+over file script = script
+
+-- the text that the script comes to over these files was put, and the status is its own
+pub record Tells (file : List ℕ → List ℕ) (script : Script) (old new : Option (List ℕ)) (status : Status) : Type 0 where
+  pub text : List ℕ
+  pub says : Says (over file script) text status
+  pub put : Appends old new text
+
+-- The headline. For accepted words, an accepted universe and a target in it, what is put is the text of a plan, with status
+-- `Done`, exactly where some list of actions attains the target, and else that of a refusal, with status `No`.
+abbrev pub Headline : List (List ℕ) → (List ℕ → List ℕ) → Option (List ℕ) → Option (List ℕ) → Status → Type 0
+Headline words file old new status = (name : List ℕ) (target : TargetName) (u : Universe) (p : ℕ)
+    → form_of words ≡ Ok (record { verb = Plan; files = name ∷ []; targets = target ∷ [] })
+    → length (file name) ≤ UNIVERSE_LIMIT → universe_in (file name) ≡ Ok u → pair_named u target.kind target.state ≡ Some p
+    → (text : List ℕ) × PlanAnswer u (p ∷ []) text status × Appends old new text

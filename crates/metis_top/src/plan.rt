@@ -1,0 +1,48 @@
+//! The command that plans.
+ghost use Rattle.std.specs.Prelude.{◌≡◌, ◌<◌, ◌∷◌, []};
+ghost use Rattle.metis_universe.specs.Universe.{pair_count};
+ghost use Rattle.metis_top.specs.Answer as answer;
+ghost use Rattle.metis_top.specs.Commands.{plan_script};
+ghost use Rattle.metis_top.specs.Course.{Ran, Shown};
+ghost use Rattle.metis_top.specs.Plain.{RequiresNothing};
+
+use crate::Status;
+use crate::plan_text::write_plan;
+use crate::outcome::Outcome;
+use crate::planner::plan;
+use crate::reading::goal_from;
+use crate::refusal_text::write_refusal;
+use crate::stop::{end, said};
+use crate::words::TargetWord;
+use metis_ids::PairIx;
+use metis_outside::{Shelf, Sink};
+use metis_universe::Universe;
+use std::alloc::Global;
+
+/// Reads the universe, and puts a plan for the target, or a refusal where nothing attains it.
+pub fn plan_file<H: Shelf, K: Sink>(
+    alloc: Global,
+    file: &str,
+    target: &TargetWord,
+    shelf: &mut H,
+    out: &mut K,
+) -> Status
+    ensures { Ran H.files H.faults H.opens K.written K.faults (plan_script file.now target.now) shelf.old shelf.new out.old out.new result }
+{
+    match goal_from(alloc, shelf, file, target) {
+        Ok((universe, pair)) => put_plan(alloc, &universe, pair, out),
+        Err(stop) => end(alloc, stop, out),
+    }
+}
+
+fn put_plan<K: Sink>(alloc: Global, u: &Universe, target: PairIx, out: &mut K) -> Status
+    requires plain { RequiresNothing u.now }
+    requires within { target < pair_count u.now }
+    ensures { Shown (answer.IsAnswer (answer.Plan u.now (target ∷ []))) (K.written out.old) (K.written out.new) (K.faults out.old) (K.faults out.new) result }
+{
+    match plan(alloc, u, target) {
+        Ok(Outcome::Plan(actions)) => said(write_plan(alloc, u, &actions, out), Status::Done),
+        Ok(Outcome::Closed(set)) => said(write_refusal(alloc, u, &set, target, out), Status::No),
+        Err(_) => Status::NoMemory,
+    }
+}

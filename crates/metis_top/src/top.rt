@@ -1,0 +1,76 @@
+//! The top call.
+ghost use Rattle.std.specs.Prelude.{◌≡◌, ◌≢◌, IfSome};
+ghost use Rattle.metis_outside.specs.Faults.{Rose};
+ghost use Rattle.metis_top.specs.Commands.{script_of, command_script};
+ghost use Rattle.metis_top.specs.Course.{Ran};
+ghost use Rattle.metis_top.specs.Honest.{Tells, Headline};
+ghost use Rattle.metis_top.specs.Numbered.{TellsReadFault};
+ghost use Rattle.metis_top.specs.Statuses.{IsVerdict};
+ghost use Rattle.metis_top.specs.Words.{word_stop};
+ghost use Rattle.metis_universe.specs.Texts.{texts};
+
+use crate::Status;
+use crate::grammar::read_words;
+use crate::plan::plan_file;
+use crate::refusal::{Refusal, Stop};
+use crate::stop::end;
+use crate::words::{Command, Verb, WordFault};
+use metis_outside::{Shelf, Sink};
+use std::alloc::Global;
+
+/// Does all that the program does: reads the words and the files that they name, and puts the answer.
+pub fn run<H: Shelf, K: Sink>(alloc: Global, words: &[String], shelf: &mut H, out: &mut K) -> Status
+    // What it takes of its files, how often it opens one, what it puts, and its status.
+    ensures course { Ran H.files H.faults H.opens K.written K.faults (script_of (texts words.now)) shelf.old shelf.new out.old out.new result }
+
+    // A fault is told only where there was one, and an answer only where there was none.
+    ensures read_fault { result ≡ Status.ReadFault
+        → TellsReadFault (H.faults shelf.old) (H.faults shelf.new) (H.opens shelf.old) (H.opens shelf.new) (K.written out.old) (K.written out.new) }
+    ensures write_fault { result ≡ Status.WriteFault → Rose (K.faults out.old) (K.faults out.new) }
+    ensures shelf_calm { IsVerdict result → H.faults shelf.new ≡ H.faults shelf.old }
+    ensures sink_calm { IsVerdict result → K.faults out.new ≡ K.faults out.old }
+
+    // Memory and faults aside, it puts what its words say of the files that they name.
+    ensures told { IfSome (H.files shelf.old) (λ file.
+        (Rose (H.faults shelf.old) (H.faults shelf.new) → ⊥) → (Rose (K.faults out.old) (K.faults out.new) → ⊥) → result ≢ Status.NoMemory
+        → Tells file (script_of (texts words.now)) (K.written out.old) (K.written out.new) result) }
+    ensures headline { IfSome (H.files shelf.old) (λ file.
+        (Rose (H.faults shelf.old) (H.faults shelf.new) → ⊥) → (Rose (K.faults out.old) (K.faults out.new) → ⊥) → result ≢ Status.NoMemory
+        → Headline (texts words.now) file (K.written out.old) (K.written out.new) result) }
+{
+    follow(alloc, words, shelf, out)
+}
+
+// Reads the words, and does what they say.
+fn follow<H: Shelf, K: Sink>(alloc: Global, words: &[String], shelf: &mut H, out: &mut K) -> Status
+    ensures { Ran H.files H.faults H.opens K.written K.faults (script_of (texts words.now)) shelf.old shelf.new out.old out.new result }
+{
+    match read_words(alloc, words) {
+        Ok(command) => perform(alloc, &command, shelf, out),
+        Err(fault) => end(alloc, fault.stop(), out),
+    }
+}
+
+impl WordFault {
+    fn stop(self) -> Stop
+        ensures { result ≡ word_stop self }
+    {
+        match self {
+            WordFault::At(place) => Stop::Refused(Refusal::Word(place)),
+            WordFault::NoMemory => Stop::NoMemory,
+        }
+    }
+}
+
+fn perform<H: Shelf, K: Sink>(
+    alloc: Global,
+    command: &Command,
+    shelf: &mut H,
+    out: &mut K,
+) -> Status
+    ensures { Ran H.files H.faults H.opens K.written K.faults (command_script command.now.verb (texts command.now.files.items) command.now.targets.items) shelf.old shelf.new out.old out.new result }
+{
+    match command.verb {
+        Verb::Plan => plan_file(alloc, command.file(0), command.target(0), shelf, out),
+    }
+}
