@@ -1,8 +1,8 @@
 -- The places of the flags that are set.
-use Rattle.std.proofs.Common.{◌≡◌, ℕ, suc, zero, ◌+◌, ◌<◌, ◌≤◌, Bool, true, false, List, [], ◌∷◌, length, get_or, drop, refl, sym, ap, ◌∙◌, subst, arith, eqb, replicate, set, zero-add}
+use Rattle.std.proofs.Common.{◌≡◌, ℕ, suc, zero, ◌+◌, ◌<◌, ◌≤◌, Bool, true, false, List, [], ◌∷◌, length, get_or, refl, sym, ap, ◌∙◌, subst, arith, eqb, replicate, set, zero-add}
 use Rattle.std.proofs.lemmas.Bool.Decides.{nat_tests}
 use Rattle.std.proofs.Math.ListN.{get_or-eq_default}
-use Rattle.std.proofs.lemmas.List.{get_or_default, drop_more, drop_all, length-set}
+use Rattle.std.proofs.lemmas.List.{get_or_default, length-set}
 use Rattle.std.proofs.lemmas.Map.Keys.{IsStrictlyIncreasing-from_sorted}
 use Rattle.std.specs.List.{AllByRecursion, All, list_any}
 use Rattle.std.specs.List.Sorted.{IsStrictlySortedBy, IsStrictlyIncreasing}
@@ -130,13 +130,3 @@ module _ (i : ℕ) (flags : List Bool) where
 
   pub room : (b : Bool) → i < length flags → b ≡ get_or flags i b → b ≡ false → length (members_of flags) + 1 ≤ length flags
   room b h e f = omega (arith, one_more b h e f, length-members_from 0 (set flags i true), length-set flags i true)
-
-  -- what is left of the places at a flag that is set, at one that is not, and at the end
-  pub left_at_set : (b : Bool) → i < length flags → b ≡ get_or flags i b → b ≡ true → members_from i (drop i flags) ≡ i ∷ members_from (i + 1) (drop (i + 1) flags)
-  left_at_set b h e t = rw (drop_more flags i b h, ← e, t)
-
-  pub left_at_unset : (b : Bool) → i < length flags → b ≡ get_or flags i b → b ≡ false → members_from i (drop i flags) ≡ members_from (i + 1) (drop (i + 1) flags)
-  left_at_unset b h e f = rw (drop_more flags i b h, ← e, f)
-
-  pub left_at_end : length flags ≤ i → members_from i (drop i flags) ≡ []
-  left_at_end h = rw (drop_all i flags h)

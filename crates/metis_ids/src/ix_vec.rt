@@ -34,7 +34,7 @@ impl<I: Ix, T: Drop> IxVec<I, T> {
         }
     }
 
-    /// Appends an item, and answers its index. Where memory runs out the list stays.
+    /// Appends an item, and answers its index. Where memory runs out the list stays as it was.
     pub fn push(&mut self, item: T) -> Result<I, NoMemory>
         requires { length self.old < 2 ^ 32 - 1 }
         ensures items { OnOk result (self.new ≡ self.old ++ item ∷ []) }
@@ -46,6 +46,7 @@ impl<I: Ix, T: Drop> IxVec<I, T> {
         Ok(index)
     }
 
+    /// The item of an index, and `None` past the end.
     pub fn get(&self, i: I) -> Option<&T>
         ensures value { option_copied result ≡ slice_get self.now (I.number_of i) }
         ensures item { IsItemAt self.now (I.number_of i) result }
@@ -53,7 +54,7 @@ impl<I: Ix, T: Drop> IxVec<I, T> {
         self.items.get(i.number() as usize)
     }
 
-    /// Replaces the item of an index.
+    /// Replaces the item of an index that is there.
     pub fn set(&mut self, i: I, item: T)
         requires { I.number_of i < length self.old }
         ensures { self.new ≡ slice_set self.old (I.number_of i) item }
@@ -62,7 +63,8 @@ impl<I: Ix, T: Drop> IxVec<I, T> {
     }
 
     pub fn len(&self) -> u32
-        ensures { result ≡ length self.now }
+        ensures len { result ≡ length self.now }
+        ensures limit { length self.now < 2 ^ 32 }
     {
         self.items.len() as u32
     }

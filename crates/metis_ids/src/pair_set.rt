@@ -29,7 +29,7 @@ impl Model for PairSet {
 }
 
 impl PairSet {
-    /// The empty set of pairs below `n`.
+    /// The empty set of pairs below `n`. No other call takes memory.
     pub fn with_pairs(alloc: Global, n: u32) -> Result<PairSet, NoMemory>
         ensures size { IfOk result (λ s. s.size ≡ n) }
         ensures members { IfOk result (λ s. s.members ≡ []) }
@@ -38,6 +38,7 @@ impl PairSet {
         Ok(PairSet { flags, count: 0 })
     }
 
+    /// The number that all members are below.
     pub fn size(&self) -> u32
         ensures size { result ≡ self.now.size }
         ensures limit { self.now.size < 2 ^ 32 }
@@ -47,7 +48,7 @@ impl PairSet {
         self.flags.len() as u32
     }
 
-    /// Whether the pair was not in the set before.
+    /// Puts a pair in, and answers whether it was not there before.
     pub fn add(&mut self, p: PairIx) -> bool
         requires { p < self.old.size }
         ensures fresh { result ≡ not (list_any (λ q. q == p) self.old.members) }
@@ -63,6 +64,7 @@ impl PairSet {
         true
     }
 
+    /// Whether the pair is a member; past the size none is.
     pub fn has(&self, p: PairIx) -> bool
         ensures { result ≡ list_any (λ q. q == p) self.now.members }
     {
