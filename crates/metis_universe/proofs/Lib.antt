@@ -2,4 +2,5 @@ pub mod Edits
 pub mod Initials
 pub mod Inside
 pub mod Kept
+pub mod Named
 pub mod Sorted

@@ -13,7 +13,7 @@
 --     type_named, state_named, pair_named      the type, the pair of a type, and the pair of these names
 --     IsUniverse u      what holds of the numbers of every universe that a document gives
 --     IsNamed u, IsWithinLimits u, IsTable u      what holds of its names;  of its counts;  all three
-use Rattle.std.specs.Prelude.{ℕ, ◌≡◌, ◌≤◌, ◌<◌, ◌^◌, ◌==◌, Bool, true, false, ◌&&◌, Option, List, [], ◌∷◌, length, take, position, sum_by, IsTrue}
+use Rattle.std.specs.Prelude.{ℕ, ◌≡◌, ◌≤◌, ◌<◌, ◌==◌, Bool, true, false, ◌&&◌, Option, List, [], ◌∷◌, length, take, position, sum_by, IsTrue}
 use Rattle.std.specs.List.{list_any, filter, slice_index_or, range_with_len, All}
 use Rattle.std.specs.List.Sorted.{IsNonDecreasingBy, IsStrictlyIncreasing}
 use Rattle.std.specs.Option.{option_and_then}
@@ -153,6 +153,7 @@ abbrev pub states_of_type : Universe → ℕ → List Pair
 states_of_type u t = filter (λ p. p.kind == t) u.pairs
 
 pub record IsWithinLimits (u : Universe) : Type 0 where
+  pub types : type_count u ≤ 2000
   pub pairs : pair_count u ≤ 2000
   pub ports : port_count u ≤ 4000
   pub states : (t : ℕ) → length (states_of_type u t) ≤ 64

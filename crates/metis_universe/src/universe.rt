@@ -1,5 +1,6 @@
 //! A universe: its types, its pairs in document order, and its ports.
-ghost use Rattle.std.specs.Prelude.{◌≡◌, ◌<◌, IfSome};
+ghost use Rattle.std.specs.Prelude.{◌≡◌, ◌<◌, ◌==◌, ◌&&◌, position};
+ghost use Rattle.std.specs.Str.{bytes_eq};
 ghost use Rattle.metis_universe.specs.Universe.{pair_count, type_count, port_count, type_of, state_place_of, initial_of, is_initial, next_of, type_named, state_named, pair_named, type_name_of, state_name_of, IsTable};
 ghost use Rattle.metis_universe.specs.Rows.{RowsFit, IsMade};
 
@@ -135,11 +136,8 @@ impl Universe {
     pub fn state_named(&self, t: TypeIx, name: &str) -> Option<PairIx>
         ensures { result ≡ state_named self.now t name.now }
     {
-        let index = self
-            .pairs
-            .iter()
-            .position(|pair| pair.kind == t && name == pair.state.as_str())?;
-        Some(PairIx(index as u32))
+        let place = place_named(&self.pairs, t, name)?;
+        Some(PairIx(place as u32))
     }
 
     /// The pair of the type and the state of these names.
@@ -166,4 +164,13 @@ impl Universe {
         let row = &self.pairs[p.0 as usize];
         row.state.as_str()
     }
+}
+
+/// The place of the first pair of the type with this state.
+fn place_named(pairs: &[PairRow], t: TypeIx, name: &str) -> Option<usize>
+    ensures { result ≡ position (λ p. (p.kind == t) && bytes_eq name.now p.state) pairs.now }
+{
+    pairs
+        .iter()
+        .position(|pair| pair.kind == t && name == pair.state.as_str())
 }
