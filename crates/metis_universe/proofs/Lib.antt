@@ -1,6 +1,9 @@
 pub mod Edits
+pub mod FirstFault
 pub mod Initials
 pub mod Inside
 pub mod Kept
 pub mod Named
+pub mod FirstSights
 pub mod Sorted
+pub mod TypeFaults

@@ -1,10 +1,12 @@
 //! The universe of component types, and the definitions that the planner's contracts cite.
 #![tactic(auto)]
 
+mod check;
 mod faults;
 mod laws;
 mod names;
 mod rows;
+mod sights;
 mod universe;
 
 pub use faults::{LimitKind, RowFault};
