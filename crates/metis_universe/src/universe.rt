@@ -4,8 +4,12 @@ ghost use Rattle.std.specs.Str.{bytes_eq};
 ghost use Rattle.metis_universe.specs.Universe.{pair_count, type_count, port_count, type_of, state_place_of, initial_of, is_initial, next_of, type_named, state_named, pair_named, type_name_of, state_name_of, IsTable};
 ghost use Rattle.metis_universe.specs.Rows.{RowsFit, IsMade};
 
+mod build;
+
+use crate::check::first_fault;
 use crate::faults::RowFault;
 use crate::rows::TypeRow;
+use crate::sights::ports_of;
 use indexmap::{IndexMap, IndexSet};
 use metis_ids::{PairIx, PortIx, StateIx, TypeIx};
 use std::alloc::Global;
@@ -60,7 +64,11 @@ impl Universe {
         requires { RowsFit rows.items }
         ensures { IsMade result rows.items }
     {
-        Err(RowFault::NoMemory)
+        let ports = ports_of(alloc, &rows)?;
+        if let Some(fault) = first_fault(alloc, &rows, ports.len() as u64)? {
+            return Err(fault);
+        }
+        Ok(build::tables(alloc, &rows, ports)?)
     }
 
     /// How many pairs there are, at most 2,000.
