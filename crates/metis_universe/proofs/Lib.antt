@@ -1,7 +1,9 @@
 pub mod Ascending
 pub mod Blocks
 pub mod ClearRows
+pub mod Correctness
 pub mod Edits
+pub mod Examples
 pub mod FirstFault
 pub mod FromRows
 pub mod Initials
