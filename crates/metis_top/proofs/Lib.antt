@@ -3,6 +3,7 @@ pub mod FileBytes
 pub mod Fronts
 pub mod Gathered
 pub mod Items
+pub mod Marking
 pub mod OverFiles
 pub mod Plainness
 pub mod ReadFaults

@@ -11,9 +11,11 @@ pub mod Outcome
 pub mod Plain
 pub mod PlanText
 pub mod Planned
+pub mod Reach
 pub mod Reads
 pub mod RefusalText
 pub mod Script
 pub mod Statuses
 pub mod TargetName
+pub mod Way
 pub mod Words

@@ -1,6 +1,5 @@
 //! The rows that a universe document spells.
-ghost use Rattle.std.specs.Prelude.{◌≡◌, ◌+◌, ◌^◌, ◌<◌, IfOk, length, option_map, IsTrue};
-ghost use Rattle.metis_universe.specs.Rows.{RowsFit, TypeFits, StateFits};
+ghost use Rattle.std.specs.Prelude.{◌≡◌, IfOk, option_map};
 ghost use Rattle.metis_universe.specs.Texts.{texts};
 ghost use Rattle.serde_json.specs.Find.{get};
 ghost use Rattle.serde_json.specs.View.{view, items_view};
@@ -231,26 +230,4 @@ fn state_requires(state: &StateRow) -> bool
     ensures { result ≡ state_requires state.now }
 {
     !state.require.is_empty()
-}
-
-/// The longest list of rows and of entries that places can count: 2^31 - 1.
-const LONGEST: usize = 0x7fff_ffff;
-
-/// Whether no list is longer than its places can be counted.
-pub fn rows_fit(rows: &[TypeRow]) -> bool
-    ensures { IsTrue result → RowsFit rows.now }
-{
-    rows.len() <= LONGEST && rows.iter().all(type_fits)
-}
-
-fn type_fits(row: &TypeRow) -> bool
-    ensures { IsTrue result → TypeFits row.now }
-{
-    row.states.len() <= LONGEST && row.states.iter().all(state_fits)
-}
-
-fn state_fits(row: &StateRow) -> bool
-    ensures { IsTrue result → StateFits row.now }
-{
-    row.provide.len() <= LONGEST && row.require.len() <= LONGEST && row.next.len() <= LONGEST
 }

@@ -6,12 +6,12 @@ ghost use Rattle.metis_top.specs.Course.{Gathers, Judges, or_stop};
 ghost use Rattle.metis_top.specs.Document.{has_requires, form_stop};
 ghost use Rattle.metis_top.specs.Plain.{RequiresNothing};
 
-use crate::document::{DocumentFault, has_requires, read_rows, rows_fit};
+use crate::document::{DocumentFault, has_requires, read_rows};
 use crate::refusal::{Refusal, Stop};
 use crate::words::TargetWord;
 use metis_ids::PairIx;
 use metis_outside::{ReadAnswer, Shelf, read_whole};
-use metis_universe::{RowFault, TypeRow, Universe};
+use metis_universe::{RowFault, TypeRow, Universe, rows_fit};
 use std::alloc::Global;
 
 /// The most bytes of a universe's document.

@@ -1,6 +1,17 @@
+pub mod Ascending
+pub mod Blocks
+pub mod ClearRows
+pub mod Correctness
 pub mod Edits
+pub mod Examples
+pub mod FirstFault
+pub mod FromRows
 pub mod Initials
 pub mod Inside
 pub mod Kept
 pub mod Named
+pub mod FirstSights
+pub mod OfType
+pub mod RowTables
 pub mod Sorted
+pub mod TypeFaults

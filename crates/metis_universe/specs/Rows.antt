@@ -6,12 +6,14 @@
 --     IsMade result rows      what `Universe::new` gives for the rows
 use Rattle.std.specs.Prelude.{◌≡◌, ◌≢◌, ◌<◌, ◌^◌, ℕ, ◌+◌, Bool, nat_lt, List, [], ◌∷◌, ◌++◌, length, map, take, fold, position, sum_by, Option, Some, None, unwrap_or, option_map, Result, Ok, Err, if◌then◌else◌}
 use Rattle.std.specs.List.{list_any, flat_map, All}
+use Rattle.std.specs.Option.{option_or}
 use Rattle.std.specs.BTreeSet.{insert_key}
 use Rattle.std.specs.Ordering.{nat_cmp}
 use Rattle.std.specs.Str.{bytes_eq}
 use Rattle.metis_universe.specs.Names.{is_name}
 use Rattle.metis_universe.specs.RowShapes.{StateRow, TypeRow}
 use Rattle.metis_universe.specs.Universe.{Universe, Kind, Pair, universe_of}
+use Rattle.metis_universe.specs.declared.faults.LimitKind.{LimitKind}
 use Rattle.metis_universe.specs.declared.faults.LimitKind.TheVariants.{States, Requires, Pairs, Ports}
 use Rattle.metis_universe.specs.declared.faults.RowFault.{RowFault}
 use Rattle.metis_universe.specs.declared.faults.RowFault.TheVariants.{TypeName, TypeTwice, StateName, StateTwice, NoInitial, UnknownNext, PortName, Limit, NoMemory}
@@ -30,10 +32,13 @@ pub record RowsFit (rows : List TypeRow) : Type 0 where
   pub types : length rows < 2 ^ 32
   pub each : All TypeFits rows
 
+-- the names, with this one at the end unless it is among them
+abbrev pub with_name : List (List ℕ) → List ℕ → List (List ℕ)
+with_name seen name = if list_any (bytes_eq name) seen then seen else seen ++ name ∷ []
+
 -- the names of a list, each once, in the order in which they are first seen, after those that were seen before
 abbrev pub sights_after : List (List ℕ) → List (List ℕ) → List (List ℕ)
-sights_after seen [] = seen
-sights_after seen (name ∷ names) = sights_after (if list_any (bytes_eq name) seen then seen else seen ++ name ∷ []) names
+sights_after seen names = fold with_name seen names
 
 abbrev pub first_sights : List (List ℕ) → List (List ℕ)
 first_sights names = sights_after [] names
@@ -59,19 +64,18 @@ require_total row = sum_by (λ state. length (first_sights state.require)) row.s
 
 -- ---- faults
 
--- the first of two faults
-abbrev pub or_else : Option RowFault → Option RowFault → Option RowFault
-or_else None later = later
-or_else (Some fault) later = Some fault
-
 -- the first fault that a test finds in a list; the test is given each element's place, which counts from here on
 abbrev pub first_from : {A : Type 0} → ℕ → (ℕ → A → Option RowFault) → List A → Option RowFault
 first_from place test [] = None
-first_from place test (x ∷ xs) = or_else (test place x) (first_from (place + 1) test xs)
+first_from place test (x ∷ xs) = option_or (test place x) (first_from (place + 1) test xs)
 
 -- the fault, unless the test passes
 abbrev pub unless : Bool → RowFault → Option RowFault
 unless passes fault = if passes then None else Some fault
+
+-- more are counted than the limit allows
+abbrev pub limit_fault : LimitKind → ℕ → ℕ → Option RowFault
+limit_fault kind most count = if nat_lt most count then Some (Limit kind count) else None
 
 abbrev pub has_state : TypeRow → List ℕ → Bool
 has_state row name = list_any (λ state. bytes_eq name state.name) row.states
@@ -79,41 +83,52 @@ has_state row name = list_any (λ state. bytes_eq name state.name) row.states
 abbrev pub port_fault : ℕ → ℕ → ℕ → List ℕ → Option RowFault
 port_fault t s k name = unless (is_name name) (PortName t s k)
 
+-- an earlier state of the type has the state's name
+abbrev pub state_twice : TypeRow → ℕ → ℕ → StateRow → Option RowFault
+state_twice row t s state = option_map (λ first. StateTwice t s first) (position (λ earlier. bytes_eq state.name earlier.name) (take s row.states))
+
 -- of a state: its name is no name, an earlier state has it, or a port's name is none, where ports are counted through both lists
 abbrev pub state_fault : TypeRow → ℕ → ℕ → StateRow → Option RowFault
 state_fault row t s state =
-    or_else (unless (is_name state.name) (StateName t s))
-    (or_else (option_map (λ first. StateTwice t s first) (position (λ earlier. bytes_eq state.name earlier.name) (take s row.states)))
-    (or_else (first_from 0 (port_fault t s) state.provide) (first_from (length state.provide) (port_fault t s) state.require)))
+    option_or (unless (is_name state.name) (StateName t s))
+    (option_or (state_twice row t s state)
+    (option_or (first_from 0 (port_fault t s) state.provide) (first_from (length state.provide) (port_fault t s) state.require)))
 
 abbrev pub next_fault : TypeRow → ℕ → ℕ → StateRow → Option RowFault
 next_fault row t s state = first_from 0 (λ k name. unless (has_state row name) (UnknownNext t s k)) state.next
 
-abbrev pub states_limit : TypeRow → Option RowFault
-states_limit row = if nat_lt 64 (length row.states) then Some (Limit States (length row.states)) else None
+-- the type's name is no name, the earlier type at this place has it, or the states are too many
+abbrev pub head_fault : Option ℕ → ℕ → TypeRow → Option RowFault
+head_fault earlier t row =
+    option_or (unless (is_name row.name) (TypeName t))
+    (option_or (option_map (λ first. TypeTwice t first) earlier)
+    (limit_fault States 64 (length row.states)))
 
-abbrev pub requires_limit : TypeRow → Option RowFault
-requires_limit row = if nat_lt 128 (require_total row) then Some (Limit Requires (require_total row)) else None
+-- the initial state is none of the states, or a next state is none
+abbrev pub link_fault : ℕ → TypeRow → Option RowFault
+link_fault t row = option_or (unless (has_state row row.initial) (NoInitial t)) (first_from 0 (next_fault row t) row.states)
+
+-- the type itself, then its states one by one, then the ports that they require together, then the states that it names
+abbrev pub fault_after : Option ℕ → ℕ → TypeRow → Option RowFault
+fault_after earlier t row =
+    option_or (head_fault earlier t row)
+    (option_or (first_from 0 (state_fault row t) row.states)
+    (option_or (limit_fault Requires 128 (require_total row))
+    (link_fault t row)))
+
+-- the place of the first type before type t that has the name
+abbrev pub earlier_type : List TypeRow → ℕ → List ℕ → Option ℕ
+earlier_type rows t name = position (λ earlier. bytes_eq name earlier.name) (take t rows)
 
 abbrev pub type_fault : List TypeRow → ℕ → TypeRow → Option RowFault
-type_fault rows t row =
-    or_else (unless (is_name row.name) (TypeName t))
-    (or_else (option_map (λ first. TypeTwice t first) (position (λ earlier. bytes_eq row.name earlier.name) (take t rows)))
-    (or_else (states_limit row)
-    (or_else (first_from 0 (state_fault row t) row.states)
-    (or_else (requires_limit row)
-    (or_else (unless (has_state row row.initial) (NoInitial t))
-    (first_from 0 (next_fault row t) row.states))))))
-
-abbrev pub pairs_limit : List TypeRow → Option RowFault
-pairs_limit rows = if nat_lt 2000 (state_total rows) then Some (Limit Pairs (state_total rows)) else None
-
-abbrev pub ports_limit : List TypeRow → Option RowFault
-ports_limit rows = if nat_lt 4000 (length (ports_of rows)) then Some (Limit Ports (length (ports_of rows))) else None
+type_fault rows t row = fault_after (earlier_type rows t row.name) t row
 
 -- type after type, and then the counts of all types together
 abbrev pub first_fault : List TypeRow → Option RowFault
-first_fault rows = or_else (first_from 0 (type_fault rows) rows) (or_else (pairs_limit rows) (ports_limit rows))
+first_fault rows =
+    option_or (first_from 0 (type_fault rows) rows)
+    (option_or (limit_fault Pairs 2000 (state_total rows))
+    (limit_fault Ports 4000 (length (ports_of rows))))
 
 -- ---- the universe
 

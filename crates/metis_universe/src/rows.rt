@@ -1,4 +1,7 @@
 //! The rows of a universe, as a document spells them.
+ghost use Rattle.std.specs.Prelude.{IsTrue, ◌↔◌};
+ghost use Rattle.metis_universe.specs.Rows.{StateFits, TypeFits, RowsFit};
+
 use std::marker::Model;
 
 /// A state of a type.
@@ -40,4 +43,28 @@ impl Model for TypeRow {
     ghost Value = { rows.TypeRow };
 
     ghost view = { λ t. record { name = string_bytes t.name; initial = string_bytes t.initial; states = t.states.items } };
+}
+
+/// No list of rows is longer than this, so that each place has a number.
+const MOST: u64 = 1 << 31;
+
+fn state_fits(row: &StateRow) -> bool
+    ensures { IsTrue result ↔ StateFits row.now }
+{
+    (row.provide.len() as u64) < MOST
+        && (row.require.len() as u64) < MOST
+        && (row.next.len() as u64) < MOST
+}
+
+fn type_fits(row: &TypeRow) -> bool
+    ensures { IsTrue result ↔ TypeFits row.now }
+{
+    (row.states.len() as u64) < MOST && row.states.iter().all(|state| state_fits(state))
+}
+
+/// Whether `Universe::new` takes the rows: no list of states, ports or next states has 2^31 entries, and the rows are fewer than 2^32.
+pub fn rows_fit(rows: &[TypeRow]) -> bool
+    ensures { IsTrue result ↔ RowsFit rows.now }
+{
+    (rows.len() as u64) < 2 * MOST && rows.iter().all(|row| type_fits(row))
 }

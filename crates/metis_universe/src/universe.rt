@@ -1,11 +1,16 @@
 //! A universe: its types, its pairs in document order, and its ports.
 ghost use Rattle.std.specs.Prelude.{◌≡◌, ◌<◌, ◌==◌, ◌&&◌, position};
+ghost use Rattle.std.specs.List.{All};
 ghost use Rattle.std.specs.Str.{bytes_eq};
 ghost use Rattle.metis_universe.specs.Universe.{pair_count, type_count, port_count, type_of, state_place_of, initial_of, is_initial, next_of, type_named, state_named, pair_named, type_name_of, state_name_of, port_name_of, IsTable};
 ghost use Rattle.metis_universe.specs.Rows.{RowsFit, IsMade};
 
+mod build;
+
+use crate::check::first_fault;
 use crate::faults::RowFault;
 use crate::rows::TypeRow;
+use crate::sights::ports_of;
 use indexmap::{IndexMap, IndexSet};
 use metis_ids::{PairIx, PortIx, StateIx, TypeIx};
 use std::alloc::Global;
@@ -60,7 +65,11 @@ impl Universe {
         requires { RowsFit rows.items }
         ensures { IsMade result rows.items }
     {
-        Err(RowFault::NoMemory)
+        let ports = ports_of(alloc, &rows)?;
+        if let Some(fault) = first_fault(alloc, &rows, ports.len() as u64)? {
+            return Err(fault);
+        }
+        Ok(build::tables(alloc, &rows, ports)?)
     }
 
     /// How many pairs there are, at most 2,000.
@@ -119,7 +128,8 @@ impl Universe {
     /// The pairs that the pair may go to, ascending.
     pub fn next(&self, p: PairIx) -> &[PairIx]
         requires { p < pair_count self.now }
-        ensures { result.now ≡ next_of self.now p }
+        ensures pairs { result.now ≡ next_of self.now p }
+        ensures within { All (λ q. q < pair_count self.now) result.now }
     {
         let row = &self.pairs[p.0 as usize];
         row.next.as_slice()

@@ -1,0 +1,115 @@
+-- Names in the order in which they are first seen.
+use Rattle.std.proofs.Common.{◌≡◌, ℕ, suc, zero, IsTrue, ◌+◌, ◌<◌, ◌≤◌, arith, Bool, true, false, cond, ◌||◌, List, [], ◌∷◌, ◌++◌, map, length, take, get_or, flat_map, refl, ap, sym, ◌∙◌, String, string_bytes, string_eq}
+use Rattle.std.specs.declared.alloc.Global.{Global}
+use Rattle.std.specs.List.{list_any, AllByRecursion, IsDistinct}
+use Rattle.std.specs.Cmp.Lexicographic.{nat_list_eq_equiv}
+use Rattle.std.proofs.lemmas.Bool.{or_left, or_right}
+use Rattle.std.proofs.lemmas.List.Folds.{list_any-append}
+use Rattle.std.proofs.lemmas.Map.Keys.{IsDistinct-push}
+use Rattle.std.proofs.lemmas.Slice.Eq.{bytes_eq-Decides}
+use Rattle.std.specs.Str.{bytes_eq}
+use Rattle.std.proofs.lemmas.List.{length_push, map_more, map_push, take_more}
+use Rattle.std.proofs.lemmas.List.Sums.{fold_push, fold-append}
+use Rattle.std.proofs.lemmas.List.Concat.{flat_map-append}
+use Rattle.std.proofs.lemmas.List.{append-nil}
+use Rattle.metis_universe.specs.Texts.{texts}
+use Rattle.metis_universe.specs.Rows.{with_name, sights_after}
+
+pub list_any-map : {A B : Type 0} (p : B → Bool) (f : A → B) (xs : List A) → list_any p (map f xs) ≡ list_any (λ x. p (f x)) xs
+list_any-map p f [] = refl
+list_any-map p f (x ∷ xs) = ap (λ b. p (f x) || b) (list_any-map p f xs)
+
+-- a set of texts that has the name
+pub with_name-there : (keys : List (String Global)) (name : List ℕ) → list_any (λ k. bytes_eq name (string_bytes k)) keys ≡ true → texts keys ≡ with_name (texts keys) name
+with_name-there keys name h = sym (ap (λ b. cond b (texts keys) (texts keys ++ name ∷ [])) (list_any-map (bytes_eq name) (λ t. string_bytes t) keys ∙ h))
+
+-- a set of texts that takes it
+pub with_name-new : (keys new : List (String Global)) (key : String Global) (name : List ℕ) → string_bytes key ≡ name → new ≡ cond (list_any (string_eq key) keys) keys (keys ++ key ∷ []) → texts new ≡ with_name (texts keys) name
+with_name-new keys new key name is h =
+    ap texts h ∙ elim (list_any (string_eq key) keys) as (λ b. texts (cond b keys (keys ++ key ∷ [])) ≡ cond b (texts keys) (texts keys ++ string_bytes key ∷ [])) [
+      | true ↦ refl
+      | false ↦ map_push (λ t. string_bytes t) keys key
+    ]
+    ∙ ap (λ b. cond b (texts keys) (texts keys ++ string_bytes key ∷ [])) (sym (list_any-map (bytes_eq (string_bytes key)) (λ t. string_bytes t) keys))
+    ∙ ap (with_name (texts keys)) is
+
+pub sights_more : (seen : List (List ℕ)) (names : List (String Global)) (i : ℕ) (d : String Global) → i < length names → sights_after seen (texts (take (i + 1) names)) ≡ with_name (sights_after seen (texts (take i names))) (string_bytes (get_or names i d))
+sights_more seen names i d h = ap (sights_after seen) (map_more (λ t. string_bytes t) names i d h) ∙ fold_push with_name seen (texts (take i names)) (string_bytes (get_or names i d))
+
+pub sights_of_more : {A : Type 0} (f : A → List (List ℕ)) (seen : List (List ℕ)) (xs : List A) (i : ℕ) (d : A) → i < length xs → sights_after seen (flat_map f (take (i + 1) xs)) ≡ sights_after (sights_after seen (flat_map f (take i xs))) (f (get_or xs i d))
+sights_of_more f seen xs i d h =
+    ap (λ ys. sights_after seen (flat_map f ys)) (take_more xs i d h)
+    ∙ ap (sights_after seen) (flat_map-append f (take i xs) (get_or xs i d ∷ []) ∙ ap (λ ys. flat_map f (take i xs) ++ ys) (append-nil (f (get_or xs i d))))
+    ∙ fold-append with_name seen (flat_map f (take i xs)) (f (get_or xs i d))
+
+length-with_name : (seen : List (List ℕ)) (name : List ℕ) → length (with_name seen name) ≤ length seen + 1
+length-with_name seen name = elim (list_any (bytes_eq name) seen) as (λ b. length (cond b seen (seen ++ name ∷ [])) ≤ length seen + 1) [
+  | true ↦ omega arith
+  | false ↦ omega (arith, length_push seen name)
+]
+
+pub length-sights_after : (seen names : List (List ℕ)) → length (sights_after seen names) ≤ length seen + length names
+length-sights_after seen [] = omega arith
+length-sights_after seen (name ∷ names) = omega (arith, length-with_name seen name, length-sights_after (with_name seen name) names)
+
+-- ---- what the names that were seen have
+
+seen_stays_one : (p : List ℕ → Bool) (seen : List (List ℕ)) (name : List ℕ) → list_any p seen ≡ true → list_any p (with_name seen name) ≡ true
+seen_stays_one p seen name h = elim (list_any (bytes_eq name) seen) as (λ b. list_any p (cond b seen (seen ++ name ∷ [])) ≡ true) [
+  | true ↦ h
+  | false ↦ list_any-append p seen (name ∷ []) ∙ or_left (list_any p seen) _ h
+]
+
+pub seen_stays : (p : List ℕ → Bool) (seen names : List (List ℕ)) → list_any p seen ≡ true → list_any p (sights_after seen names) ≡ true
+seen_stays p seen [] h = h
+seen_stays p seen (name ∷ names) h = seen_stays p (with_name seen name) names (seen_stays_one p seen name h)
+
+same_bytes : (name : List ℕ) → bytes_eq name name ≡ true
+same_bytes name = (bytes_eq-Decides name name).1 refl
+
+seen_now : (seen : List (List ℕ)) (name : List ℕ) → list_any (bytes_eq name) (with_name seen name) ≡ true
+seen_now seen name = elim (list_any (bytes_eq name) seen) as (λ b. list_any (bytes_eq name) seen ≡ b → list_any (bytes_eq name) (cond b seen (seen ++ name ∷ [])) ≡ true) [
+  | true ↦ λ e. e
+  | false ↦ λ e. list_any-append (bytes_eq name) seen (name ∷ []) ∙ or_right (list_any (bytes_eq name) seen) _ (or_left (bytes_eq name name) false (same_bytes name))
+] refl
+
+-- each name is there
+pub each_seen : (seen names : List (List ℕ)) → AllByRecursion (λ name. IsTrue (list_any (bytes_eq name) (sights_after seen names))) names
+each_seen seen [] = tt
+each_seen seen (name ∷ names) = (seen_stays (bytes_eq name) (with_name seen name) names (seen_now seen name), each_seen (with_name seen name) names)
+
+pub each_append : {A : Type 0} (P : A → Type 0) (xs ys : List A) → AllByRecursion P xs → AllByRecursion P ys → AllByRecursion P (xs ++ ys)
+each_append P [] ys h k = k
+each_append P (x ∷ xs) ys h k = (h.0, each_append P xs ys h.1 k)
+
+pub each_parts : {A : Type 0} (P : A → Type 0) (xs ys : List A) → AllByRecursion P (xs ++ ys) → AllByRecursion P xs × AllByRecursion P ys
+each_parts P [] ys h = (tt, h)
+each_parts P (x ∷ xs) ys h = let rest = each_parts P xs ys h.1 in ((h.0, rest.0), rest.1)
+
+pub sights_keep : (P : List ℕ → Type 0) (seen names : List (List ℕ)) → AllByRecursion P seen → AllByRecursion P names → AllByRecursion P (sights_after seen names)
+sights_keep P seen [] h k = h
+sights_keep P seen (name ∷ names) h k =
+    sights_keep P (with_name seen name) names (elim (list_any (bytes_eq name) seen) as (λ b. AllByRecursion P (cond b seen (seen ++ name ∷ []))) [ true ↦ h | false ↦ each_append P seen (name ∷ []) h (k.0, tt) ]) k.1
+
+-- no name is there twice
+pub sights_distinct : (seen names : List (List ℕ)) → IsDistinct bytes_eq seen → IsDistinct bytes_eq (sights_after seen names)
+sights_distinct seen [] h = h
+sights_distinct seen (name ∷ names) h =
+    sights_distinct (with_name seen name) names (elim (list_any (bytes_eq name) seen) as (λ b. list_any (bytes_eq name) seen ≡ b → IsDistinct bytes_eq (cond b seen (seen ++ name ∷ []))) [
+      | true ↦ λ _. h
+      | false ↦ λ new. IsDistinct-push nat_list_eq_equiv seen name h new
+    ] refl)
+
+pub distinct_none : IsDistinct bytes_eq []
+unfolding IsDistinct
+distinct_none = tt
+
+-- what each list has, and all of them together
+pub each_of_flat_map : {A B : Type 0} (P : B → Type 0) (f : A → List B) (xs : List A) → AllByRecursion P (flat_map f xs) → (i : ℕ) (d : A) → i < length xs → AllByRecursion P (f (get_or xs i d))
+each_of_flat_map P f [] h i d l = absurd (omega arith)
+each_of_flat_map P f (x ∷ xs) h zero d l = (each_parts P (f x) (flat_map f xs) h).0
+each_of_flat_map P f (x ∷ xs) h (suc i) d l = each_of_flat_map P f xs (each_parts P (f x) (flat_map f xs) h).1 i d (omega arith)
+
+pub flat_map_each : {A B : Type 0} (P : B → Type 0) (f : A → List B) (xs : List A) → ((i : ℕ) (d : A) → i < length xs → AllByRecursion P (f (get_or xs i d))) → AllByRecursion P (flat_map f xs)
+flat_map_each P f [] h = tt
+flat_map_each P f (x ∷ xs) h = each_append P (f x) (flat_map f xs) (h 0 x (omega arith)) (flat_map_each P f xs (λ i d l. h (suc i) d (omega arith)))

@@ -1,0 +1,258 @@
+-- The universe of rows without a fault has what every universe has.
+use Rattle.std.proofs.Common.{◌≡◌, ℕ, suc, ◌+◌, ◌<◌, ◌≤◌, Bool, true, IsTrue, List, [], ◌∷◌, length, take, get_or, map, sum_by, position, flat_map, None, inl, inr, ap, sym, ◌∙◌, subst, zero-add, arith}
+use Rattle.std.specs.List.{list_any, AllByRecursion, All}
+use Rattle.std.specs.List.Sorted.{IsNonDecreasingBy, IsStrictlyIncreasing}
+use Rattle.std.specs.Str.{bytes_eq}
+use Rattle.std.proofs.lemmas.Bool.{both_ways, cases_lt, cases_order}
+use Rattle.std.proofs.lemmas.List.{get_or-take, get_or_default, length-take-le, length-map}
+use Rattle.std.proofs.lemmas.List.Elements.{All-from_recursion}
+use Rattle.std.proofs.lemmas.List.Folds.{list_any_at, fold-map}
+use Rattle.std.proofs.lemmas.List.Sums.{sum_by-le-sum_by, sum_by_more_le}
+use Rattle.std.proofs.lemmas.Map.Keys.{apart_from_distinct}
+use Rattle.std.proofs.lemmas.Slice.Eq.{bytes_eq-Decides}
+use Rattle.metis_universe.specs.Names.{is_name}
+use Rattle.metis_universe.specs.RowShapes.{TypeRow, StateRow}
+use Rattle.metis_universe.specs.Universe.{Kind, Pair, no_kind, no_pair, kind_at, pair_at, type_of, type_count, pair_count, port_count, initial_of, states_of_type, IsUniverse, IsNamed, IsWithinLimits, IsTable}
+use Rattle.metis_universe.specs.Rows.{first_sights, ports_of_state, ports_of_type, ports_of, state_total, has_state, first_fault, earlier_type, number_of, state_number, ascending, pair_from, pairs_of_type, pairs_from, kind_from, universe_from}
+use Rattle.metis_universe.proofs.Ascending.{number_within, IsStrictlyIncreasing-ascending, All-ascending, each_map, each_weaker, length-ascending}
+use Rattle.metis_universe.proofs.Blocks.{no_state, no_row, row_at, states_at, first_of, state_total-cons, length-pairs_from, length-kinds_from, get_or-kinds_from, get_or-pairs_from, Place, place_of, first_of-more, first_of-within}
+use Rattle.metis_universe.proofs.ClearRows.{IsClear, IsClear-from_first_fault}
+use Rattle.metis_universe.proofs.FirstFault.{list_any-from_position}
+use Rattle.metis_universe.proofs.FirstSights.{each_seen, each_append, each_parts, sights_keep, sights_distinct, distinct_none, each_of_flat_map, flat_map_each}
+use Rattle.metis_universe.proofs.OfType.{of_type}
+
+-- ---- reads
+
+abbrev state_at : List TypeRow → ℕ → ℕ → StateRow
+state_at rows t i = get_or (states_at rows t) i no_state
+
+kind_is : (rows : List TypeRow) (t : ℕ) → t < length rows → kind_at (universe_from rows) t ≡ kind_from (first_of rows t) (row_at rows t)
+kind_is rows t l = get_or-kinds_from 0 rows t no_kind l ∙ ap (λ n. kind_from n (row_at rows t)) (zero-add (first_of rows t))
+
+pair_is : (rows : List TypeRow) (t i : ℕ) → t < length rows → i < length (states_at rows t) → pair_at (universe_from rows) (first_of rows t + i) ≡ pair_from (ports_of rows) t (first_of rows t) (row_at rows t) (state_at rows t i)
+pair_is rows t i l m =
+    get_or-pairs_from (ports_of rows) 0 0 rows t i no_pair l m
+    ∙ (λ j. pair_from (ports_of rows) (zero-add t j) (zero-add (first_of rows t) j) (row_at rows t) (state_at rows t i))
+
+pair_at_place : (rows : List TypeRow) (p : ℕ) (at : Place rows p) → pair_at (universe_from rows) p ≡ pair_from (ports_of rows) at.t (first_of rows at.t) (row_at rows at.t) (state_at rows at.t at.i)
+pair_at_place rows p at = ap (pair_at (universe_from rows)) at.is ∙ pair_is rows at.t at.i at.within at.below
+
+type_at_place : (rows : List TypeRow) (p : ℕ) (at : Place rows p) → type_of (universe_from rows) p ≡ at.t
+type_at_place rows p at = ap (λ (x : Pair). x.kind) (pair_at_place rows p at)
+
+place : (rows : List TypeRow) (p : ℕ) → p < pair_count (universe_from rows) → Place rows p
+place rows p h = place_of rows p (omega (arith, length-pairs_from (ports_of rows) 0 0 rows))
+
+row_within : (rows : List TypeRow) (t : ℕ) → t < type_count (universe_from rows) → t < length rows
+row_within rows t h = omega (arith, length-kinds_from 0 rows)
+
+pair_within : (rows : List TypeRow) (t i : ℕ) → t < length rows → i < length (states_at rows t) → first_of rows t + i < pair_count (universe_from rows)
+pair_within rows t i l m = omega (arith, length-pairs_from (ports_of rows) 0 0 rows, first_of-within rows t i l m)
+
+-- ---- numbers
+
+ports_of_names : (rows : List TypeRow) (names : List (List ℕ)) → AllByRecursion (λ name. IsTrue (list_any (bytes_eq name) (ports_of rows))) names →
+    IsStrictlyIncreasing (ascending (map (number_of (ports_of rows)) names)) × All (λ r. r < port_count (universe_from rows)) (ascending (map (number_of (ports_of rows)) names))
+ports_of_names rows names h =
+    let P : ℕ → Type 0 = λ r. r < length (ports_of rows) in
+    let Q : List ℕ → Type 0 = λ name. IsTrue (list_any (bytes_eq name) (ports_of rows)) in (
+      IsStrictlyIncreasing-ascending (map (number_of (ports_of rows)) names),
+      All-ascending P (map (number_of (ports_of rows)) names)
+          (each_map P (number_of (ports_of rows)) names (each_weaker Q (λ name. P (number_of (ports_of rows) name)) names (λ name e. number_within (bytes_eq name) (ports_of rows) e) h)),
+    )
+
+seen_in : (rows : List TypeRow) (t i : ℕ) → t < length rows → i < length (states_at rows t) → AllByRecursion (λ name. IsTrue (list_any (bytes_eq name) (ports_of rows))) (ports_of_state (state_at rows t i))
+seen_in rows t i l m =
+    let Q : List ℕ → Type 0 = λ name. IsTrue (list_any (bytes_eq name) (ports_of rows)) in
+    each_of_flat_map Q ports_of_state (states_at rows t) (each_of_flat_map Q ports_of_type rows (each_seen [] _) t no_row l) i no_state m
+
+initial_within : (rows : List TypeRow) → IsClear rows → (t : ℕ) → t < length rows → state_number (row_at rows t) (row_at rows t).initial < length (states_at rows t)
+initial_within rows clear t l = number_within (λ state. bytes_eq (row_at rows t).initial state.name) (states_at rows t) (clear.types t no_row l).initial
+
+-- ---- the universe
+
+nondecreasing : (rows : List TypeRow) → IsNonDecreasingBy (λ (p : Pair). p.kind) (pairs_from (ports_of rows) 0 0 rows)
+nondecreasing rows i j d le h =
+    let a = place rows i (omega arith) in
+    let b = place rows j h in
+    let pairs = pairs_from (ports_of rows) 0 0 rows in
+    let before : i < length pairs = omega arith in
+    let ka : (get_or pairs i d).kind ≡ a.t = ap (λ (x : Pair). x.kind) (get_or_default pairs i d no_pair before) ∙ type_at_place rows i a in
+    let kb : (get_or pairs j d).kind ≡ b.t = ap (λ (x : Pair). x.kind) (get_or_default pairs j d no_pair h) ∙ type_at_place rows j b in
+    elim (cases_lt b.t a.t) [
+      | inl less ↦ absurd (omega (arith, first_of-more rows b.t a.t less b.within, a.is, b.is, b.below))
+      | inr more ↦ omega arith
+    ]
+
+IsUniverse-universe_from : (rows : List TypeRow) → IsClear rows → IsUniverse (universe_from rows)
+IsUniverse-universe_from rows clear = record {
+  by_type = nondecreasing rows;
+  types = λ p h. let at = place rows p h in omega (arith, type_at_place rows p at, at.within, length-kinds_from 0 rows);
+  initials = λ t h.
+      let l = row_within rows t h in
+      let m = initial_within rows clear t l in
+      let e : initial_of (universe_from rows) t ≡ first_of rows t + state_number (row_at rows t) (row_at rows t).initial = ap (λ (k : Kind). k.initial) (kind_is rows t l) in
+      let n = pair_within rows t (state_number (row_at rows t) (row_at rows t).initial) l m in
+      (omega arith, ap (type_of (universe_from rows)) e ∙ ap (λ (x : Pair). x.kind) (pair_is rows t _ l m));
+  provided = λ p h.
+      let at = place rows p h in
+      let T : Pair → Type 0 = λ x. IsStrictlyIncreasing x.provided × All (λ r. r < port_count (universe_from rows)) x.provided in
+      let state = state_at rows at.t at.i in
+      subst T (sym (pair_at_place rows p at)) (ports_of_names rows state.provide (each_parts _ state.provide state.require (seen_in rows at.t at.i at.within at.below)).0);
+  required = λ p h.
+      let at = place rows p h in
+      let T : Pair → Type 0 = λ x. IsStrictlyIncreasing x.required × All (λ r. r < port_count (universe_from rows)) x.required in
+      let state = state_at rows at.t at.i in
+      subst T (sym (pair_at_place rows p at)) (ports_of_names rows state.require (each_parts _ state.provide state.require (seen_in rows at.t at.i at.within at.below)).1);
+  next = λ p h.
+      let at = place rows p h in
+      let row = row_at rows at.t in
+      let state = state_at rows at.t at.i in
+      let Q : ℕ → Type 0 = λ q. (q < pair_count (universe_from rows)) × (type_of (universe_from rows) q ≡ type_of (universe_from rows) p) in
+      let T : Pair → Type 0 = λ x. IsStrictlyIncreasing x.next × All Q x.next in
+      let number = λ (name : List ℕ). first_of rows at.t + state_number row name in
+      let H : List ℕ → Type 0 = λ name. IsTrue (has_state row name) in
+      let there : (name : List ℕ) → H name → Q (number name) = λ name e.
+      let m = number_within (λ (state : StateRow). bytes_eq name state.name) row.states e in (
+        pair_within rows at.t (state_number row name) at.within m,
+        ap (λ (x : Pair). x.kind) (pair_is rows at.t (state_number row name) at.within m) ∙ sym (type_at_place rows p at),
+      ) in
+      let next = ((clear.types at.t no_row at.within).states at.i no_state at.below).next in
+      subst T (sym (pair_at_place rows p at)) (IsStrictlyIncreasing-ascending (map number state.next), All-ascending Q (map number state.next) (each_map Q number state.next (each_weaker H (λ name. Q (number name)) state.next there next)));
+}
+
+-- ---- names
+
+not_before : {A : Type 0} (p : A → Bool) (xs : List A) (s t : ℕ) (d : A) → position p (take t xs) ≡ None → s < t → t < length xs → p (get_or xs s d) ≡ true → ⊥
+not_before p xs s t d none l m h =
+    let e : length (take t xs) ≡ t = length-take-le t xs (omega arith) in
+    let w : s < length (take t xs) = omega arith in
+    both_ways (list_any p (take t xs)) (list_any-from_position p (take t xs) none) (list_any_at p (take t xs) s d w (ap p (get_or-take t xs s d l) ∙ h))
+
+-- elements of which none has the name of an earlier one
+apart_by : {A : Type 0} (name : A → List ℕ) (xs : List A) (d : A) → ((t : ℕ) → t < length xs → position (λ e. bytes_eq (name (get_or xs t d)) (name e)) (take t xs) ≡ None) →
+    (s t : ℕ) → s < length xs → t < length xs → name (get_or xs s d) ≡ name (get_or xs t d) → s ≡ t
+apart_by name xs d none s t ls lt e =
+    elim (cases_order s t) [
+      | inl same ↦ same
+      | inr apart ↦ elim apart [
+        | inl less ↦ absurd (not_before (λ x. bytes_eq (name (get_or xs t d)) (name x)) xs s t d (none t lt) less lt ((bytes_eq-Decides (name (get_or xs t d)) (name (get_or xs s d))).1 (sym e)))
+        | inr more ↦ absurd (not_before (λ x. bytes_eq (name (get_or xs s d)) (name x)) xs t s d (none s ls) more ls ((bytes_eq-Decides (name (get_or xs s d)) (name (get_or xs t d))).1 e))
+      ]
+    ]
+
+same_place : (rows : List TypeRow) → IsClear rows → (t u i j : ℕ) → t ≡ u → t < length rows → i < length (states_at rows t) → j < length (states_at rows u) → (state_at rows t i).name ≡ (state_at rows u j).name →
+    first_of rows t + i ≡ first_of rows u + j
+same_place rows clear t u i j e l m n names =
+    let P : ℕ → Type 0 = λ u. j < length (states_at rows u) → (state_at rows t i).name ≡ (state_at rows u j).name → first_of rows t + i ≡ first_of rows u + j in
+    subst P e (λ n' names'. ap (λ k. first_of rows t + k) (apart_by (λ (s : StateRow). s.name) (states_at rows t) no_state (λ s l'. ((clear.types t no_row l).states s no_state l').apart) i j m n' names')) n names
+
+each_port_named : (rows : List TypeRow) → IsClear rows → AllByRecursion (λ name. IsTrue (is_name name)) (ports_of rows)
+each_port_named rows clear =
+    let P : List ℕ → Type 0 = λ name. IsTrue (is_name name) in
+    sights_keep P [] _ tt (flat_map_each P ports_of_type rows (λ t d l. flat_map_each P ports_of_state (get_or rows t d).states (λ i e m.
+    let c = (clear.types t d l).states i e m in
+    each_append P (get_or (get_or rows t d).states i e).provide (get_or (get_or rows t d).states i e).require c.provide c.require)))
+
+IsNamed-universe_from : (rows : List TypeRow) → IsClear rows → IsNamed (universe_from rows)
+IsNamed-universe_from rows clear = record {
+  types = λ t h. let l = row_within rows t h in let T : Kind → Type 0 = λ k. IsTrue (is_name k.name) in subst T (sym (kind_is rows t l)) (clear.types t no_row l).name;
+  states = λ p h.
+      let at = place rows p h in
+      let T : Pair → Type 0 = λ x. IsTrue (is_name x.state) in
+      subst T (sym (pair_at_place rows p at)) ((clear.types at.t no_row at.within).states at.i no_state at.below).name;
+  ports = λ r h. All-from_recursion (λ name. IsTrue (is_name name)) (ports_of rows) (each_port_named rows clear) r [] h;
+  types_apart = λ s t hs ht e.
+      let ls = row_within rows s hs in
+      let lt = row_within rows t ht in
+      apart_by (λ (row : TypeRow). row.name) rows no_row (λ t l. (clear.types t no_row l).apart) s t ls lt (sym (ap (λ (k : Kind). k.name) (kind_is rows s ls)) ∙ e ∙ ap (λ (k : Kind). k.name) (kind_is rows t lt));
+  states_apart = λ p q hp hq et en.
+      let a = place rows p hp in
+      let b = place rows q hq in
+      a.is ∙ same_place rows clear a.t b.t a.i b.i (sym (type_at_place rows p a) ∙ et ∙ type_at_place rows q b) a.within a.below b.below
+      (sym (ap (λ (x : Pair). x.state) (pair_at_place rows p a)) ∙ en ∙ ap (λ (x : Pair). x.state) (pair_at_place rows q b)) ∙ sym b.is;
+  ports_apart = λ r s hr hs e.
+      let distinct = sights_distinct [] (flat_map ports_of_type rows) distinct_none in
+      let same = λ (m n : List ℕ) (e : m ≡ n). (bytes_eq-Decides m n).1 e in
+      elim (cases_order r s) [
+        | inl same' ↦ same'
+        | inr apart ↦ elim apart [
+          | inl less ↦ absurd (both_ways _ (apart_from_distinct bytes_eq (ports_of rows) r s [] distinct less hs) (same _ _ e))
+          | inr more ↦ absurd (both_ways _ (apart_from_distinct bytes_eq (ports_of rows) s r [] distinct more hr) (same _ _ (sym e)))
+        ]
+      ];
+}
+
+-- ---- limits
+
+length-le-state_total : (rows : List TypeRow) → ((t : ℕ) (d : TypeRow) → t < length rows → 1 ≤ length (get_or rows t d).states) → length rows ≤ state_total rows
+length-le-state_total [] h = omega arith
+length-le-state_total (row ∷ rows) h =
+    let one : 1 ≤ length row.states = h 0 row (omega arith) in
+    let rest : length rows ≤ state_total rows = length-le-state_total rows (λ t d l. h (suc t) d (omega arith)) in
+    omega (arith, state_total-cons row rows)
+
+pub types-le : (rows : List TypeRow) → IsClear rows → length rows ≤ 2000
+types-le rows clear =
+    let each : (t : ℕ) (d : TypeRow) → t < length rows → 1 ≤ length (get_or rows t d).states =
+    λ t d l. let m = number_within (λ (state : StateRow). bytes_eq (get_or rows t d).initial state.name) (get_or rows t d).states (clear.types t d l).initial in omega arith in
+    omega (arith, length-le-state_total rows each, clear.pairs)
+
+required-le : (ports : List (List ℕ)) (t f : ℕ) (row : TypeRow) → sum_by (λ (p : Pair). length p.required) (pairs_of_type ports t f row) ≤ sum_by (λ (state : StateRow). length (first_sights state.require)) row.states
+required-le ports t f row =
+    let own = λ (state : StateRow). length (ascending (map (number_of ports) state.require)) in
+    let named = λ (state : StateRow). length (first_sights state.require) in
+    let e : sum_by (λ (p : Pair). length p.required) (pairs_of_type ports t f row) ≡ sum_by own row.states = fold-map (λ (n : ℕ) (p : Pair). n + length p.required) (pair_from ports t f row) 0 row.states in
+    let le : sum_by own row.states ≤ sum_by named row.states = sum_by-le-sum_by own named row.states (λ state. length-ascending (number_of ports) state.require) in
+    omega arith
+
+IsWithinLimits-universe_from : (rows : List TypeRow) → IsClear rows → IsWithinLimits (universe_from rows)
+IsWithinLimits-universe_from rows clear = record {
+  types = omega (arith, length-kinds_from 0 rows, types-le rows clear);
+  pairs = omega (arith, length-pairs_from (ports_of rows) 0 0 rows, clear.pairs);
+  ports = clear.ports;
+  states = λ t. elim (of_type (ports_of rows) 0 0 rows t) [
+    | inl none ↦ omega (arith, ap length none)
+    | inr some ↦
+        let e : length (states_of_type (universe_from rows) t) ≡ length (states_at rows some.k) = ap length some.are ∙ length-map (states_at rows some.k) (pair_from (ports_of rows) t some.first (row_at rows some.k)) in
+        omega (arith, (clear.types some.k no_row some.within).few)
+  ];
+  required = λ t.
+      let total = λ (pairs : List Pair). sum_by (λ (p : Pair). length p.required) pairs in
+      elim (of_type (ports_of rows) 0 0 rows t) [
+        | inl none ↦ omega (arith, ap total none)
+        | inr some ↦
+            let e : total (states_of_type (universe_from rows) t) ≡ total (pairs_of_type (ports_of rows) t some.first (row_at rows some.k)) = ap total some.are in
+            omega (arith, required-le (ports_of rows) t some.first (row_at rows some.k), (clear.types some.k no_row some.within).required)
+      ];
+}
+
+pub IsTable-universe_from : (rows : List TypeRow) → first_fault rows ≡ None → IsTable (universe_from rows)
+IsTable-universe_from rows none =
+    let clear = IsClear-from_first_fault rows none in
+    record { universe = IsUniverse-universe_from rows clear; named = IsNamed-universe_from rows clear; limits = IsWithinLimits-universe_from rows clear }
+
+-- ---- while the tables are made
+
+-- the pairs so far are those of the types before t, and there is room for the next type's
+pub record HasRoom (rows : List TypeRow) (t : ℕ) (row : TypeRow) (pairs : List Pair) : Type 0 where
+  pub first : length pairs ≡ first_of rows t
+  pub fits : length pairs + length row.states ≤ 2000
+  pub place : t < 2000
+
+pub has_room : (rows : List TypeRow) → first_fault rows ≡ None → (t : ℕ) (row : TypeRow) → t < length rows → row ≡ get_or rows t row → (ports : List (List ℕ)) (pairs : List Pair) → pairs ≡ pairs_from ports 0 0 (take t rows) → HasRoom rows t row pairs
+has_room rows none t row l is ports pairs are =
+    let clear = IsClear-from_first_fault rows none in
+    let e : length pairs ≡ first_of rows t = ap length are ∙ length-pairs_from ports 0 0 (take t rows) in
+    let n : length row.states ≡ length (get_or rows t row).states = ap (λ (row : TypeRow). length row.states) is in
+    record {
+      first = e;
+      fits = omega (arith, clear.pairs, sum_by_more_le (λ (row : TypeRow). length row.states) rows t row l);
+      place = omega (arith, types-le rows clear);
+    }
+
+pub ports_fit : (rows : List TypeRow) → first_fault rows ≡ None → length (ports_of rows) ≤ 4000
+ports_fit rows none = (IsClear-from_first_fault rows none).ports
+
+pub no_earlier_type : (rows : List TypeRow) → first_fault rows ≡ None → (t : ℕ) (row : TypeRow) → t < length rows → row ≡ get_or rows t row → earlier_type rows t row.name ≡ None
+no_earlier_type rows none t row l is = ap (λ (row : TypeRow). earlier_type rows t row.name) is ∙ ((IsClear-from_first_fault rows none).types t row l).apart

@@ -1,0 +1,36 @@
+-- The names of the types so far, and how many states there are.
+use Rattle.std.proofs.Common.{◌≡◌, ℕ, ◌+◌, ◌*◌, ◌<◌, ◌≤◌, ◌^◌, false, cond, List, [], ◌∷◌, ◌++◌, map, take, get_or, length, position, is_some, option_map, ap, sym, ◌∙◌, Option, None, arith}
+use Rattle.std.specs.List.{list_any}
+use Rattle.std.specs.Str.{bytes_eq}
+use Rattle.std.proofs.lemmas.List.{map_more}
+use Rattle.std.proofs.lemmas.List.Sums.{sum_by-le}
+use Rattle.metis_universe.specs.declared.faults.RowFault.{RowFault}
+use Rattle.metis_universe.specs.declared.faults.RowFault.TheVariants.{TypeName, TypeTwice}
+use Rattle.metis_universe.specs.Names.{is_name}
+use Rattle.metis_universe.specs.RowShapes.{TypeRow}
+use Rattle.metis_universe.specs.Rows.{RowsFit, with_name, unless, earlier_type, head_fault, fault_after, type_fault, state_total}
+use Rattle.metis_universe.proofs.Named.{position-map}
+use Rattle.metis_universe.proofs.FirstFault.{none_from_is_some, option_or-none, option_map-none, list_any-from_position}
+
+pub state_total-fits : (rows : List TypeRow) → RowsFit rows → state_total rows < 2 ^ 64
+state_total-fits rows fit = let e : state_total rows ≤ length rows * 2 ^ 31 = sum_by-le (λ row. length row.states) (2 ^ 31) rows (λ k d h. let s = (fit.each k d h).states in omega arith) in let n = fit.types in omega arith
+
+earlier_type-names : (rows : List TypeRow) (t : ℕ) (name : List ℕ) → position (bytes_eq name) (map (λ row. row.name) (take t rows)) ≡ earlier_type rows t name
+earlier_type-names rows t name = position-map (λ row. row.name) (bytes_eq name) (take t rows)
+
+module _ (rows : List TypeRow) (t : ℕ) (row : TypeRow) (seen : List (List ℕ)) (are : seen ≡ map (λ row. row.name) (take t rows)) where
+  pub type_fault-seen : (found : Option RowFault) → found ≡ fault_after (position (bytes_eq row.name) seen) t row → type_fault rows t row ≡ found
+  type_fault-seen found h = ap (λ o. fault_after o t row) (sym (earlier_type-names rows t row.name) ∙ ap (position (bytes_eq row.name)) (sym are)) ∙ sym h
+
+  pub not_seen : (found : Option RowFault) → found ≡ fault_after (position (bytes_eq row.name) seen) t row → is_some found ≡ false → list_any (bytes_eq row.name) seen ≡ false
+  not_seen found h none =
+      let clear : fault_after (position (bytes_eq row.name) seen) t row ≡ None = sym h ∙ none_from_is_some found none in
+      let head = (option_or-none (head_fault (position (bytes_eq row.name) seen) t row) _ clear).0 in
+      let rest = (option_or-none (unless (is_name row.name) (TypeName t)) _ head).1 in
+      let twice = (option_or-none (option_map (λ first. TypeTwice t first) (position (bytes_eq row.name) seen)) _ rest).0 in
+      list_any-from_position (bytes_eq row.name) seen (option_map-none (λ first. TypeTwice t first) _ twice)
+
+  pub names_more : (d : TypeRow) → t < length rows → row ≡ get_or rows t d → list_any (bytes_eq row.name) seen ≡ false → with_name seen row.name ≡ map (λ row. row.name) (take (t + 1) rows)
+  names_more d h is none =
+      ap (λ b. cond b seen (seen ++ row.name ∷ [])) none ∙ ap (λ names. names ++ row.name ∷ []) are
+      ∙ ap (λ r. map (λ row. row.name) (take t rows) ++ r.name ∷ []) is ∙ sym (map_more (λ (row : TypeRow). row.name) rows t d h)

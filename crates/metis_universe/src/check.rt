@@ -1,0 +1,215 @@
+//! The first fault of rows.
+ghost use Rattle.std.specs.Prelude.{◌≡◌, ◌+◌, ◌<◌, ◌≤◌, ◌^◌, length, take, map, not, position, option_map, IfOk};
+ghost use Rattle.std.specs.Str.{bytes_eq};
+ghost use Rattle.std.specs.String.{string_bytes};
+ghost use Rattle.metis_universe.specs.Names.{is_name};
+ghost use Rattle.metis_universe.specs.Rows.{first_from, unless, limit_fault, has_state, port_fault, state_twice, state_fault, next_fault, head_fault, link_fault, fault_after, type_fault, first_fault, StateFits, TypeFits, RowsFit, state_total, ports_of};
+ghost use Rattle.metis_universe.specs.Texts.{texts};
+ghost use Rattle.metis_universe.specs.declared.faults.RowFault.TheVariants.{TypeTwice};
+ghost use Rattle.indexmap.specs.IndexSet.{index_set_len};
+
+use crate::faults::{LimitKind, RowFault};
+use crate::names::is_name;
+use crate::rows::{StateRow, TypeRow};
+use crate::sights::require_total;
+use indexmap::IndexSet;
+use std::alloc::{AllocError, Global};
+
+fn unless(passes: bool, fault: RowFault) -> Option<RowFault>
+    ensures { result ≡ unless passes fault }
+{
+    if passes { None } else { Some(fault) }
+}
+
+fn fault_of_count(kind: LimitKind, most: u64, count: u64) -> Option<RowFault>
+    ensures { result ≡ limit_fault kind most count }
+{
+    if most < count {
+        Some(RowFault::Limit(kind, count))
+    } else {
+        None
+    }
+}
+
+pub fn has_state(row: &TypeRow, name: &str) -> bool
+    ensures { result ≡ has_state row.now name.now }
+{
+    row.states.iter().any(|state| name == state.name.as_str())
+}
+
+/// The place of the first that is no name.
+fn place_of_no_name(names: &[String]) -> Option<usize>
+    ensures { result ≡ position (λ name. not (is_name (string_bytes name))) names.now }
+{
+    names.iter().position(|name| !is_name(name.as_str()))
+}
+
+/// The place of the first name that no state of the type has.
+fn place_of_unknown(row: &TypeRow, names: &[String]) -> Option<usize>
+    ensures { result ≡ position (λ name. not (has_state row.now (string_bytes name))) names.now }
+{
+    names.iter().position(|name| !has_state(row, name.as_str()))
+}
+
+/// The place of the first state of this name.
+pub fn place_of_state(states: &[StateRow], name: &str) -> Option<usize>
+    ensures { result ≡ position (λ state. bytes_eq name.now state.name) states.now }
+{
+    states.iter().position(|state| name == state.name.as_str())
+}
+
+/// The first of these ports whose name is none, where they are counted from the place on.
+fn fault_of_ports(t: u32, s: u32, place: u32, names: &[String]) -> Option<RowFault>
+    requires { place + length names.now < 2 ^ 32 }
+    ensures { result ≡ first_from place (port_fault t s) (texts names.now) }
+{
+    let k = place_of_no_name(names)?;
+    Some(RowFault::PortName(t, s, place + k as u32))
+}
+
+fn fault_of_earlier_state(row: &TypeRow, t: u32, s: u32, state: &StateRow) -> Option<RowFault>
+    requires fits { TypeFits row.now }
+    requires place { s ≤ length row.now.states }
+    ensures { result ≡ state_twice row.now t s state.now }
+{
+    let earlier = &row.states[..s as usize];
+    let first = place_of_state(earlier, state.name.as_str())?;
+    Some(RowFault::StateTwice(t, s, first as u32))
+}
+
+fn fault_of_state(row: &TypeRow, t: u32, s: u32, state: &StateRow) -> Option<RowFault>
+    requires row { TypeFits row.now }
+    requires place { s ≤ length row.now.states }
+    requires state { StateFits state.now }
+    ensures { result ≡ state_fault row.now t s state.now }
+{
+    let name = unless(is_name(state.name.as_str()), RowFault::StateName(t, s));
+    let twice = fault_of_earlier_state(row, t, s, state);
+    let provided = fault_of_ports(t, s, 0, &state.provide);
+    let required = fault_of_ports(t, s, state.provide.len() as u32, &state.require);
+    name.or(twice.or(provided.or(required)))
+}
+
+fn fault_of_states(row: &TypeRow, t: u32) -> Option<RowFault>
+    requires { TypeFits row.now }
+    ensures { result ≡ first_from 0 (state_fault row.now t) row.now.states }
+{
+    for (s, state) in row.states.iter().enumerate() {
+        let fault = fault_of_state(row, t, s as u32, state);
+        if fault.is_some() {
+            return fault;
+        }
+    }
+    None
+}
+
+/// The first next state of the state that is none of the type's states.
+fn fault_of_next(row: &TypeRow, t: u32, s: u32, state: &StateRow) -> Option<RowFault>
+    requires { StateFits state.now }
+    ensures { result ≡ next_fault row.now t s state.now }
+{
+    let k = place_of_unknown(row, &state.next)?;
+    Some(RowFault::UnknownNext(t, s, k as u32))
+}
+
+fn fault_of_nexts(row: &TypeRow, t: u32) -> Option<RowFault>
+    requires { TypeFits row.now }
+    ensures { result ≡ first_from 0 (next_fault row.now t) row.now.states }
+{
+    for (s, state) in row.states.iter().enumerate() {
+        let fault = fault_of_next(row, t, s as u32, state);
+        if fault.is_some() {
+            return fault;
+        }
+    }
+    None
+}
+
+fn fault_of_links(row: &TypeRow, t: u32) -> Option<RowFault>
+    requires { TypeFits row.now }
+    ensures { result ≡ link_fault t row.now }
+{
+    let initial = unless(has_state(row, row.initial.as_str()), RowFault::NoInitial(t));
+    initial.or(fault_of_nexts(row, t))
+}
+
+fn fault_of_earlier_type(row: &TypeRow, t: u32, seen: &IndexSet<String>) -> Option<RowFault>
+    requires { index_set_len seen.now < 2 ^ 32 }
+    ensures { result ≡ option_map (λ first. TypeTwice t first) (position (bytes_eq row.now.name) (texts seen.now.keys)) }
+{
+    let first = seen.get_index_of(row.name.as_str())?;
+    Some(RowFault::TypeTwice(t, first as u32))
+}
+
+/// The type itself: its name, an earlier type of that name, and how many states it has.
+fn fault_of_head(row: &TypeRow, t: u32, seen: &IndexSet<String>) -> Option<RowFault>
+    requires fits { TypeFits row.now }
+    requires earlier { index_set_len seen.now < 2 ^ 32 }
+    ensures { result ≡ head_fault (position (bytes_eq row.now.name) (texts seen.now.keys)) t row.now }
+{
+    let name = unless(is_name(row.name.as_str()), RowFault::TypeName(t));
+    let twice = fault_of_earlier_type(row, t, seen);
+    let states = fault_of_count(LimitKind::States, 64, row.states.len() as u64);
+    name.or(twice.or(states))
+}
+
+/// The fault of a type, where the set has the names of the types before it.
+fn fault_of_type(
+    alloc: Global,
+    row: &TypeRow,
+    t: u32,
+    seen: &IndexSet<String>,
+) -> Result<Option<RowFault>, AllocError>
+    requires fits { TypeFits row.now }
+    requires earlier { index_set_len seen.now < 2 ^ 32 }
+    ensures { IfOk result (λ found. found ≡ fault_after (position (bytes_eq row.now.name) (texts seen.now.keys)) t row.now) }
+{
+    let head = fault_of_head(row, t, seen);
+    if head.is_some() {
+        return Ok(head);
+    }
+    let states = fault_of_states(row, t);
+    if states.is_some() {
+        return Ok(states);
+    }
+    let required = fault_of_count(LimitKind::Requires, 128, require_total(alloc, row)?);
+    Ok(required.or(fault_of_links(row, t)))
+}
+
+fn fault_of_types(alloc: Global, rows: &[TypeRow]) -> Result<Option<RowFault>, AllocError>
+    requires { RowsFit rows.now }
+    ensures { IfOk result (λ found. found ≡ first_from 0 (type_fault rows.now) rows.now) }
+{
+    let mut seen = IndexSet::new(alloc);
+    for (t, row) in rows.iter().enumerate() {
+        let fault = fault_of_type(alloc, row, t as u32, &seen)?;
+        if fault.is_some() {
+            return Ok(fault);
+        }
+        seen.insert(row.name.clone()?)?;
+    }
+    Ok(None)
+}
+
+fn state_total(rows: &[TypeRow]) -> u64
+    requires { state_total rows.now < 2 ^ 64 }
+    ensures { result ≡ state_total rows.now }
+{
+    rows.iter().map(|row| row.states.len() as u64).sum()
+}
+
+/// The first fault of the rows, whose ports are as many.
+pub fn first_fault(
+    alloc: Global,
+    rows: &[TypeRow],
+    ports: u64,
+) -> Result<Option<RowFault>, AllocError>
+    requires fits { RowsFit rows.now }
+    requires ports { ports ≡ length (ports_of rows.now) }
+    ensures { IfOk result (λ found. found ≡ first_fault rows.now) }
+{
+    let types = fault_of_types(alloc, rows)?;
+    let pairs = fault_of_count(LimitKind::Pairs, 2000, state_total(rows));
+    let ports = fault_of_count(LimitKind::Ports, 4000, ports);
+    Ok(types.or(pairs.or(ports)))
+}

@@ -1,0 +1,143 @@
+//! The tables of rows that have no fault.
+ghost use Rattle.std.specs.Prelude.{◌≡◌, ◌+◌, ◌<◌, ◌≤◌, ◌^◌, ◌++◌, ◌∷◌, [], false, length, map, None, IfOk, OnOk};
+ghost use Rattle.std.specs.List.{list_any};
+ghost use Rattle.std.specs.Str.{bytes_eq};
+ghost use Rattle.std.specs.String.{string_bytes};
+ghost use Rattle.indexmap.specs.IndexSet.{index_set_len};
+ghost use Rattle.metis_universe.specs.Kinds.{kind_of, kinds_of};
+ghost use Rattle.metis_universe.specs.Texts.{texts};
+ghost use Rattle.metis_universe.specs.Rows.{number_of, state_number, ascending, pair_from, pairs_of_type, universe_from, first_fault, ports_of, state_total};
+
+use super::{PairRow, Universe};
+use crate::check::place_of_state;
+use crate::rows::{StateRow, TypeRow};
+use indexmap::{IndexMap, IndexSet};
+use metis_ids::{PairIx, PortIx, TypeIx};
+use std::alloc::{AllocError, Global};
+use std::collections::BTreeSet;
+
+fn port_number(ports: &IndexSet<String>, name: &str) -> PortIx
+    requires { index_set_len ports.now < 2 ^ 32 }
+    ensures { result ≡ number_of (texts ports.now.keys) name.now }
+{
+    PortIx(ports.get_index_of(name).unwrap_or(0) as u32)
+}
+
+/// The numbers of these ports, ascending.
+fn port_numbers(
+    alloc: Global,
+    ports: &IndexSet<String>,
+    names: &[String],
+) -> Result<Vec<PortIx>, AllocError>
+    requires { index_set_len ports.now < 2 ^ 32 }
+    ensures { IfOk result (λ numbers. numbers.items ≡ ascending (map (number_of (texts ports.now.keys)) (texts names.now))) }
+{
+    let mut numbers = BTreeSet::new(alloc);
+    for name in names {
+        numbers.insert(port_number(ports, name.as_str()))?;
+    }
+    numbers.into_iter().collect(alloc)
+}
+
+/// The place of the state of this name in its type.
+fn state_number(row: &TypeRow, name: &str) -> u32
+    requires { length row.now.states < 2 ^ 32 }
+    ensures { result ≡ state_number row.now name.now }
+{
+    place_of_state(&row.states, name).unwrap_or(0) as u32
+}
+
+/// The pairs of these states, ascending, where the type's first pair is this one.
+fn next_numbers(
+    alloc: Global,
+    row: &TypeRow,
+    first: u32,
+    names: &[String],
+) -> Result<Vec<PairIx>, AllocError>
+    requires { first + length row.now.states < 2 ^ 32 }
+    ensures { IfOk result (λ numbers. numbers.items ≡ ascending (map (λ name. first + state_number row.now name) (texts names.now))) }
+{
+    let mut numbers = BTreeSet::new(alloc);
+    for name in names {
+        numbers.insert(PairIx(first + state_number(row, name.as_str())))?;
+    }
+    numbers.into_iter().collect(alloc)
+}
+
+fn pair_of(
+    alloc: Global,
+    ports: &IndexSet<String>,
+    t: TypeIx,
+    first: u32,
+    row: &TypeRow,
+    state: &StateRow,
+) -> Result<PairRow, AllocError>
+    requires ports { index_set_len ports.now < 2 ^ 32 }
+    requires first { first + length row.now.states < 2 ^ 32 }
+    ensures { IfOk result (λ pair. pair ≡ pair_from (texts ports.now.keys) t first row.now state.now) }
+{
+    Ok(PairRow {
+        kind: t,
+        state: state.name.clone()?,
+        provided: port_numbers(alloc, ports, &state.provide)?,
+        required: port_numbers(alloc, ports, &state.require)?,
+        next: next_numbers(alloc, row, first, &state.next)?,
+    })
+}
+
+/// Adds the pairs of a type.
+fn add_pairs(
+    alloc: Global,
+    pairs: &mut Vec<PairRow>,
+    ports: &IndexSet<String>,
+    t: TypeIx,
+    row: &TypeRow,
+) -> Result<(), AllocError>
+    requires ports { index_set_len ports.now < 2 ^ 32 }
+    requires first { length pairs.old.items + length row.now.states < 2 ^ 32 }
+    ensures { OnOk result (pairs.new.items ≡ pairs.old.items ++ pairs_of_type (texts ports.now.keys) t (length pairs.old.items) row.now) }
+{
+    let first = pairs.len() as u32;
+    for state in &row.states {
+        pairs.push(pair_of(alloc, ports, t, first, row, state)?)?;
+    }
+    Ok(())
+}
+
+/// Adds a type.
+fn add_kind(
+    kinds: &mut IndexMap<String, PairIx>,
+    name: String,
+    initial: PairIx,
+) -> Result<(), AllocError>
+    requires { list_any (λ k. bytes_eq (string_bytes name) k.name) (kinds_of kinds.old.entries) ≡ false }
+    ensures { OnOk result (kinds_of kinds.new.entries ≡ kinds_of kinds.old.entries ++ kind_of (string_bytes name) initial ∷ []) }
+{
+    kinds.insert(name, initial)?;
+    Ok(())
+}
+
+/// The universe of rows that have no fault, with their ports.
+pub fn tables(
+    alloc: Global,
+    rows: &[TypeRow],
+    ports: IndexSet<String>,
+) -> Result<Universe, AllocError>
+    requires sound { first_fault rows.now ≡ None }
+    requires ports { texts ports.keys ≡ ports_of rows.now }
+    ensures { IfOk result (λ u. u ≡ universe_from rows.now) }
+{
+    let mut kinds = IndexMap::new(alloc);
+    let mut pairs = Vec::new(alloc);
+    for (t, row) in rows.iter().enumerate() {
+        let first = pairs.len() as u32;
+        let initial = PairIx(first + state_number(row, row.initial.as_str()));
+        add_kind(&mut kinds, row.name.clone()?, initial)?;
+        add_pairs(alloc, &mut pairs, &ports, TypeIx(t as u32), row)?;
+    }
+    Ok(Universe {
+        kinds,
+        pairs,
+        ports,
+    })
+}
