@@ -1,7 +1,7 @@
 //! A universe: its types, its pairs in document order, and its ports.
 ghost use Rattle.std.specs.Prelude.{◌≡◌, ◌<◌, ◌==◌, ◌&&◌, position};
 ghost use Rattle.std.specs.Str.{bytes_eq};
-ghost use Rattle.metis_universe.specs.Universe.{pair_count, type_count, port_count, type_of, state_place_of, initial_of, is_initial, next_of, type_named, state_named, pair_named, type_name_of, state_name_of, IsTable};
+ghost use Rattle.metis_universe.specs.Universe.{pair_count, type_count, type_of, state_place_of, initial_of, is_initial, next_of, type_named, state_named, pair_named, type_name_of, state_name_of, IsTable};
 ghost use Rattle.metis_universe.specs.Rows.{RowsFit, IsMade};
 
 mod build;
@@ -44,7 +44,6 @@ pub struct Universe {
 }
 
 impl Model for Universe {
-    ghost use Rattle.std.specs.Prelude.{map};
     ghost use Rattle.metis_universe.specs.Texts.{texts};
     ghost use Rattle.metis_universe.specs.Kinds.{kinds_of};
     ghost use Rattle.metis_universe.specs.Universe as tables;
