@@ -1,4 +1,5 @@
 pub mod ActionLines
+pub mod Attaining
 pub mod FileBytes
 pub mod Fronts
 pub mod Gathered

@@ -1,9 +1,9 @@
 -- Rows without requirements make a universe without requirements.
-use Rattle.std.proofs.Common.{◌≡◌, ℕ, zero, suc, ◌+◌, Bool, true, false, ◌||◌, not, List, [], ◌∷◌, ◌++◌, length, map, get_or, Option, None, Some, Ok, Err, refl, sym, ap, ◌∙◌, subst}
+use Rattle.std.proofs.Common.{◌≡◌, ℕ, zero, suc, ◌+◌, Bool, true, false, ◌||◌, not, List, [], ◌∷◌, ◌++◌, length, map, get_or, Option, None, Some, Ok, refl, subst}
 use Rattle.std.specs.List.{list_any, AllByRecursion}
 use Rattle.metis_universe.specs.RowShapes.{StateRow, TypeRow}
 use Rattle.metis_universe.specs.Rows.{first_fault, or_universe, meaning_of, universe_from, pairs_from, pairs_of_type, pair_from, ports_of}
-use Rattle.metis_universe.specs.Universe.{Universe, Pair, no_pair, required_of}
+use Rattle.metis_universe.specs.Universe.{Universe, Pair, no_pair}
 use Rattle.metis_universe.specs.declared.faults.RowFault.{RowFault}
 use Rattle.metis_top.specs.Document.{has_requires, type_requires, state_requires, is_nil}
 use Rattle.metis_top.specs.Plain.{RequiresNothing}

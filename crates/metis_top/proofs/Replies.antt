@@ -1,16 +1,15 @@
 -- Runs that come to their answer.
-use Rattle.std.proofs.Common.{◌≡◌, ℕ, List, [], ◌∷◌, length, Result, Ok, refl, sym, ◌∙◌, subst, inl, inr}
+use Rattle.std.proofs.Common.{◌≡◌, ℕ, List, length, Ok, refl, sym, ◌∙◌, subst, inl, inr}
 use Rattle.std.specs.declared.option.Option.{Option}
 use Rattle.metis_ids.specs.declared.actions.Action.{Action}
 use Rattle.metis_universe.specs.Universe.{Universe}
 use Rattle.metis_universe.proofs.Inside.{refused}
 use Rattle.metis_top.specs.Answer.{Answer, IsAnswer}
-use Rattle.metis_top.specs.Course.{Gathers, Ran, Shown, Says, OnShelf, after}
+use Rattle.metis_top.specs.Course.{Gathers, Ran, Shown, Says, OnShelf}
 use Rattle.metis_top.specs.PlanText.{plan_text}
 use Rattle.metis_top.specs.Planned.{IsPlan, IsRefusal, PlanAnswer}
 use Rattle.metis_top.specs.RefusalText.{refusal_text}
 use Rattle.metis_top.specs.Script.{Script, Reply}
-use Rattle.metis_top.specs.declared.refusal.Stop.{Stop}
 use Rattle.metis_top.specs.declared.status.Status.{Status}
 use Rattle.metis_top.specs.declared.status.Status.TheVariants.{Done, No}
 

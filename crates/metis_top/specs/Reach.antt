@@ -4,9 +4,9 @@
 --     IsMarked u marks queue      what holds of the marks and of the queue of the pairs in the order of their marking
 --     Extends marks marks'      what was marked stays, in its layer
 --     IsReach u marks      the marked pairs are closed, and each is reached as its mark says
-use Rattle.std.specs.Prelude.{◌≡◌, ℕ, suc, ◌+◌, ◌<◌, ◌^◌, List, [], ◌∷◌, length, take, Option, Some, None, MatchOption, IfSome, IsSome, IsSomeAnd, IsTrue, slice_index}
+use Rattle.std.specs.Prelude.{◌≡◌, ℕ, suc, ◌+◌, ◌<◌, List, [], ◌∷◌, length, take, Option, Some, None, MatchOption, IfSome, IsSome, IsSomeAnd, IsTrue, slice_index}
 use Rattle.std.specs.List.{Contains, slice_index_or}
-use Rattle.metis_universe.specs.Universe.{Universe, pair_count, is_free, next_of, has}
+use Rattle.metis_universe.specs.Universe.{Universe, IsTable, pair_count, is_free, next_of, has}
 use Rattle.metis_top.specs.declared.mark.Mark.{Mark}
 
 abbrev pub mark_at : List (Option Mark) → ℕ → Option Mark
@@ -28,7 +28,7 @@ pub record IsMarked (u : Universe) (marks : List (Option Mark)) (queue : List �
   pub within : (k : ℕ) → k < length queue → IsSome (mark_at marks (slice_index queue k))
   pub count : unmarked marks + length queue ≡ pair_count u
   pub layers : (q : ℕ) → IfSome (mark_at marks q) (λ m. m.layer < length queue)
-  pub small : pair_count u < 2 ^ 32
+  pub table : IsTable u
 
 -- A mark keeps its layer.
 abbrev pub Extends : List (Option Mark) → List (Option Mark) → Type 0
@@ -47,3 +47,4 @@ pub record IsReach (u : Universe) (marks : List (Option Mark)) : Type 0 where
   pub sound : (q : ℕ) → IfSome (mark_at marks q) (IsOrigin u marks q)
   pub free : (q : ℕ) → IsTrue (is_free u q) → IsSome (mark_at marks q)
   pub moves : (p : ℕ) → IsSome (mark_at marks p) → IsFollowed u marks p
+  pub table : IsTable u

@@ -1,7 +1,7 @@
 -- The words of a command, read from the left. Places start at 1.
 --     target_of word      the names of a type and of a state, with a colon between them
 --     form_of words      the command that the words are, or the place of the first that does not fit
-use Rattle.std.specs.Prelude.{◌≡◌, ℕ, List, [], ◌∷◌, Result, Ok, Err, Option, Some, None, Bool, ◌&&◌, if◌then◌else◌, string_bytes, codes, slice_get, unwrap_or, ◌==◌}
+use Rattle.std.specs.Prelude.{◌≡◌, ℕ, List, [], ◌∷◌, Result, Ok, Err, Option, Some, None, Bool, ◌&&◌, if◌then◌else◌, codes, slice_get, unwrap_or, ◌==◌}
 use Rattle.std.specs.List.{before_first, after_first}
 use Rattle.std.specs.Str.{bytes_eq}
 use Rattle.metis_universe.specs.Names.{is_name}

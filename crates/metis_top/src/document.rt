@@ -184,11 +184,7 @@ fn read_state(alloc: Global, value: &Value) -> Result<Option<StateRow>, AllocErr
 }
 
 // The texts of the list at the key, none where there is no such key.
-fn read_texts_at(
-    alloc: Global,
-    value: &Value,
-    key: &str,
-) -> Result<Option<Vec<String>>, AllocError>
+fn read_texts_at(alloc: Global, value: &Value, key: &str) -> Result<Option<Vec<String>>, AllocError>
     ensures { IfOk result (λ list. option_map (λ v. texts v.items) list ≡ texts_or_none (get key.now (view value.now))) }
 {
     match value.get(key) {

@@ -7,8 +7,8 @@ ghost use Rattle.metis_top.specs.Course.{Ran, Shown};
 ghost use Rattle.metis_top.specs.Plain.{RequiresNothing};
 
 use crate::Status;
-use crate::plan_text::write_plan;
 use crate::outcome::Outcome;
+use crate::plan_text::write_plan;
 use crate::planner::plan;
 use crate::reading::goal_from;
 use crate::refusal_text::write_refusal;

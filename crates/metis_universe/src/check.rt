@@ -1,5 +1,5 @@
 //! The first fault of rows.
-ghost use Rattle.std.specs.Prelude.{◌≡◌, ◌+◌, ◌<◌, ◌≤◌, ◌^◌, length, take, map, not, position, option_map, IfOk};
+ghost use Rattle.std.specs.Prelude.{◌≡◌, ◌+◌, ◌<◌, ◌≤◌, ◌^◌, length, not, position, option_map, IfOk};
 ghost use Rattle.std.specs.Str.{bytes_eq};
 ghost use Rattle.std.specs.String.{string_bytes};
 ghost use Rattle.metis_universe.specs.Names.{is_name};
@@ -15,12 +15,14 @@ use crate::sights::require_total;
 use indexmap::IndexSet;
 use std::alloc::{AllocError, Global};
 
+/// The fault, unless the test passed.
 fn unless(passes: bool, fault: RowFault) -> Option<RowFault>
     ensures { result ≡ unless passes fault }
 {
     if passes { None } else { Some(fault) }
 }
 
+/// A fault where more are counted than the limit allows.
 fn fault_of_count(kind: LimitKind, most: u64, count: u64) -> Option<RowFault>
     ensures { result ≡ limit_fault kind most count }
 {
@@ -31,7 +33,8 @@ fn fault_of_count(kind: LimitKind, most: u64, count: u64) -> Option<RowFault>
     }
 }
 
-pub fn has_state(row: &TypeRow, name: &str) -> bool
+/// Whether a state of the type has the name.
+fn has_state(row: &TypeRow, name: &str) -> bool
     ensures { result ≡ has_state row.now name.now }
 {
     row.states.iter().any(|state| name == state.name.as_str())
@@ -67,6 +70,7 @@ fn fault_of_ports(t: u32, s: u32, place: u32, names: &[String]) -> Option<RowFau
     Some(RowFault::PortName(t, s, place + k as u32))
 }
 
+/// A state before this place has the state's name.
 fn fault_of_earlier_state(row: &TypeRow, t: u32, s: u32, state: &StateRow) -> Option<RowFault>
     requires fits { TypeFits row.now }
     requires place { s ≤ length row.now.states }
@@ -77,6 +81,7 @@ fn fault_of_earlier_state(row: &TypeRow, t: u32, s: u32, state: &StateRow) -> Op
     Some(RowFault::StateTwice(t, s, first as u32))
 }
 
+/// The first fault of a state, its next states aside.
 fn fault_of_state(row: &TypeRow, t: u32, s: u32, state: &StateRow) -> Option<RowFault>
     requires row { TypeFits row.now }
     requires place { s ≤ length row.now.states }
@@ -90,6 +95,7 @@ fn fault_of_state(row: &TypeRow, t: u32, s: u32, state: &StateRow) -> Option<Row
     name.or(twice.or(provided.or(required)))
 }
 
+/// The first fault of the type's states, their next states aside.
 fn fault_of_states(row: &TypeRow, t: u32) -> Option<RowFault>
     requires { TypeFits row.now }
     ensures { result ≡ first_from 0 (state_fault row.now t) row.now.states }
@@ -112,6 +118,7 @@ fn fault_of_next(row: &TypeRow, t: u32, s: u32, state: &StateRow) -> Option<RowF
     Some(RowFault::UnknownNext(t, s, k as u32))
 }
 
+/// The first next state of any state that is none of the type's states.
 fn fault_of_nexts(row: &TypeRow, t: u32) -> Option<RowFault>
     requires { TypeFits row.now }
     ensures { result ≡ first_from 0 (next_fault row.now t) row.now.states }
@@ -125,6 +132,7 @@ fn fault_of_nexts(row: &TypeRow, t: u32) -> Option<RowFault>
     None
 }
 
+/// The initial state is none of the type's states, or a next state is none.
 fn fault_of_links(row: &TypeRow, t: u32) -> Option<RowFault>
     requires { TypeFits row.now }
     ensures { result ≡ link_fault t row.now }
@@ -133,6 +141,7 @@ fn fault_of_links(row: &TypeRow, t: u32) -> Option<RowFault>
     initial.or(fault_of_nexts(row, t))
 }
 
+/// A type before this one has the type's name.
 fn fault_of_earlier_type(row: &TypeRow, t: u32, seen: &IndexSet<String>) -> Option<RowFault>
     requires { index_set_len seen.now < 2 ^ 32 }
     ensures { result ≡ option_map (λ first. TypeTwice t first) (position (bytes_eq row.now.name) (texts seen.now.keys)) }
@@ -176,6 +185,7 @@ fn fault_of_type(
     Ok(required.or(fault_of_links(row, t)))
 }
 
+/// The first fault of any type.
 fn fault_of_types(alloc: Global, rows: &[TypeRow]) -> Result<Option<RowFault>, AllocError>
     requires { RowsFit rows.now }
     ensures { IfOk result (λ found. found ≡ first_from 0 (type_fault rows.now) rows.now) }
@@ -191,6 +201,7 @@ fn fault_of_types(alloc: Global, rows: &[TypeRow]) -> Result<Option<RowFault>, A
     Ok(None)
 }
 
+/// How many states all types have.
 fn state_total(rows: &[TypeRow]) -> u64
     requires { state_total rows.now < 2 ^ 64 }
     ensures { result ≡ state_total rows.now }

@@ -17,7 +17,6 @@ pub struct StateRow {
 }
 
 impl Model for StateRow {
-    ghost use Rattle.std.specs.Prelude.{map};
     ghost use Rattle.std.specs.String.{string_bytes};
     ghost use Rattle.metis_universe.specs.Texts.{texts};
     ghost use Rattle.metis_universe.specs.RowShapes as rows;

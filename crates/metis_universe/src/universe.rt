@@ -45,7 +45,6 @@ pub struct Universe {
 }
 
 impl Model for Universe {
-    ghost use Rattle.std.specs.Prelude.{map};
     ghost use Rattle.metis_universe.specs.Texts.{texts};
     ghost use Rattle.metis_universe.specs.Kinds.{kinds_of};
     ghost use Rattle.metis_universe.specs.Universe as tables;

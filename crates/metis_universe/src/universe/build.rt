@@ -1,12 +1,12 @@
 //! The tables of rows that have no fault.
-ghost use Rattle.std.specs.Prelude.{◌≡◌, ◌+◌, ◌<◌, ◌≤◌, ◌^◌, ◌++◌, ◌∷◌, [], false, length, map, None, IfOk, OnOk};
+ghost use Rattle.std.specs.Prelude.{◌≡◌, ◌+◌, ◌<◌, ◌^◌, ◌++◌, ◌∷◌, [], false, length, map, None, IfOk, OnOk};
 ghost use Rattle.std.specs.List.{list_any};
 ghost use Rattle.std.specs.Str.{bytes_eq};
 ghost use Rattle.std.specs.String.{string_bytes};
 ghost use Rattle.indexmap.specs.IndexSet.{index_set_len};
 ghost use Rattle.metis_universe.specs.Kinds.{kind_of, kinds_of};
 ghost use Rattle.metis_universe.specs.Texts.{texts};
-ghost use Rattle.metis_universe.specs.Rows.{number_of, state_number, ascending, pair_from, pairs_of_type, universe_from, first_fault, ports_of, state_total};
+ghost use Rattle.metis_universe.specs.Rows.{number_of, state_number, ascending, pair_from, pairs_of_type, universe_from, first_fault, ports_of};
 
 use super::{PairRow, Universe};
 use crate::check::place_of_state;
@@ -16,6 +16,7 @@ use metis_ids::{PairIx, PortIx, TypeIx};
 use std::alloc::{AllocError, Global};
 use std::collections::BTreeSet;
 
+/// The number of the port of this name.
 fn port_number(ports: &IndexSet<String>, name: &str) -> PortIx
     requires { index_set_len ports.now < 2 ^ 32 }
     ensures { result ≡ number_of (texts ports.now.keys) name.now }
@@ -64,6 +65,7 @@ fn next_numbers(
     numbers.into_iter().collect(alloc)
 }
 
+/// The pair of a type and one of its states, where the type's first pair is this one.
 fn pair_of(
     alloc: Global,
     ports: &IndexSet<String>,

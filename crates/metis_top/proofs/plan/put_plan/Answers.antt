@@ -1,8 +1,6 @@
-use Rattle.std.proofs.Common.{[], ◌∷◌, subst, ap}
-use Rattle.metis_outside.specs.Writes.{Writes}
+use Rattle.std.proofs.Common.{[], ◌∷◌}
 use Rattle.metis_top.proofs.Replies.{answer_by_plan, answer_by_refusal}
 use Rattle.metis_top.proofs.Shown.{shown_by_writer}
-use Rattle.metis_top.specs.PlanText.{plan_text}
 use Rattle.metis_top.proofs.plan.put_plan.Goals as goal
 
 pub returns-in-Ok-Plan : goal.returns-in-Ok-Plan

@@ -1,4 +1,3 @@
-use Rattle.std.proofs.Common.{length}
 use Rattle.std.proofs.lemmas.Result.{err_from_is_err_and}
 use Rattle.metis_outside.proofs.Writing.{front_of_first}
 use Rattle.metis_top.specs.RefusalText.{refusal_header, refusal_body}
