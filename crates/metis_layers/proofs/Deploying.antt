@@ -1,0 +1,125 @@
+-- Lines of instances, one after another, each of which is bound only to instances that stand already.
+use Rattle.std.proofs.Common.{◌≡◌, ◌≢◌, ℕ, zero, suc, ◌+◌, ◌<◌, ◌≤◌, Bool, true, false, cond, not, ◌&&◌, ◌||◌, List, [], ◌∷◌, ◌++◌, length, map, Option, Some, None, refl, sym, ap, ◌∙◌, subst, arith, nat_eq, inl, inr, append_assoc, append-nil, length-append, add-one}
+use Rattle.std.proofs.lemmas.Bool.{eqb-true, eq-eqb, ne_eqb, cases_eq, cases_lt, false≢true, both_ways, or_cases}
+use Rattle.std.specs.List.{list_any, filter, slice_get}
+use Rattle.std.specs.Option.{option_map_or}
+use Rattle.std.specs.Prelude.{IsSome, IsSomeAnd, IsTrue}
+use Rattle.metis_ids.specs.declared.actions.Action.{Action}
+use Rattle.metis_ids.specs.declared.actions.Action.TheVariants.{New, Delete, Bind, Unbind, Move}
+use Rattle.metis_universe.proofs.Edits.{pair_of-put, is_bound-tie, is_bound-untie}
+use Rattle.metis_universe.specs.Config.{Config, Correct, IsMet, empty, pair_of, is_bound, is_tie, put, tie, untie}
+use Rattle.metis_universe.specs.Step.{Allows, IsRun, after, after_all}
+use Rattle.metis_universe.specs.Steadfast.{is_new, is_steadfast_after}
+use Rattle.metis_universe.specs.Universe.{Universe, pair_count, type_count, type_of, initial_of, is_free, next_of, required_of, requires, provides, type_requires, type_provides, has}
+use Rattle.metis_layers.specs.LayerOrder.{gained, binds, unbinds, move_actions, moves_along, line_actions, lines_from}
+
+-- ---- runs in which each action is steadfast
+
+abbrev pub at : Universe → List Action → Config
+at u earlier = after_all u empty earlier
+
+pub after_all-append : (u : Universe) (c : Config) (xs ys : List Action) → after_all u c (xs ++ ys) ≡ after_all u (after_all u c xs) ys
+after_all-append u c [] ys = refl
+after_all-append u c (x ∷ xs) ys = after_all-append u (after u c x) xs ys
+
+-- after these earlier actions each action is allowed, leaves a correct configuration, and is steadfast
+abbrev pub GoesOn : Universe → List Action → List Action → Type 0
+GoesOn u earlier [] = Unit {0}
+GoesOn u earlier (a ∷ rest) =
+    Allows u (at u earlier) a × Correct u (after u (at u earlier) a) × (is_steadfast_after u earlier a ≡ true) × GoesOn u (earlier ++ a ∷ []) rest
+
+pub GoesOn-append : (u : Universe) (earlier xs ys : List Action) → GoesOn u earlier xs → GoesOn u (earlier ++ xs) ys → GoesOn u earlier (xs ++ ys)
+GoesOn-append u earlier [] ys one two = subst (λ e. GoesOn u e ys) (append-nil earlier) two
+GoesOn-append u earlier (x ∷ xs) ys one two =
+    (one.0, one.1, one.2, GoesOn-append u (earlier ++ x ∷ []) xs ys one.3 (subst (λ e. GoesOn u e ys) (sym (append_assoc earlier (x ∷ []) xs)) two))
+
+pub at-next : (u : Universe) (earlier : List Action) (a : Action) → at u (earlier ++ a ∷ []) ≡ after u (at u earlier) a
+at-next u earlier a = after_all-append u empty earlier (a ∷ [])
+
+-- ---- who stands where
+
+module _ (u : Universe) (holder : ℕ → ℕ) where
+  -- the port's holder stands, and provides it
+  pub record IsHeld (ends : List ℕ) (r : ℕ) : Type 0 where
+    pub stands : holder r < length ends
+    pub pair : ℕ
+    pub there : slice_get ends (holder r) ≡ Some pair
+    pub gives : provides u pair r ≡ true
+
+  abbrev pub ends_need : List ℕ → ℕ → ℕ → Bool
+  ends_need ends x r = option_map_or (λ e. requires u e r) (slice_get ends x) false
+
+  -- what each instance in its end requires is held
+  abbrev pub AreServed : List ℕ → Type 0
+  AreServed ends = (x r : ℕ) → ends_need ends x r ≡ true → IsHeld ends r
+
+  -- whether instance x is bound at port r: those that stand where their ends require it, and the next one where t says so
+  abbrev pub needs : List ℕ → (ℕ → Bool) → ℕ → ℕ → Bool
+  needs ends t x r = (nat_eq x (length ends) && t r) || ends_need ends x r
+
+  -- The instances stand in their ends, and the next one is in p and bound at the ports that t has.
+  pub record IsAt (ends : List ℕ) (p : ℕ) (t : ℕ → Bool) (earlier : List Action) : Type 0 where
+    pub pairs : (x : ℕ) → pair_of (at u earlier) x ≡ slice_get (ends ++ p ∷ []) x
+    pub bound : (r x y : ℕ) → is_bound (at u earlier) r x y ≡ (needs ends t x r && nat_eq y (holder r))
+    pub news : (x : ℕ) → suc (length ends) ≤ x → list_any (is_new x) earlier ≡ false
+
+  pub record Stand (ends : List ℕ) (earlier : List Action) : Type 0 where
+    pub pairs : (x : ℕ) → pair_of (at u earlier) x ≡ slice_get ends x
+    pub bound : (r x y : ℕ) → is_bound (at u earlier) r x y ≡ (ends_need ends x r && nat_eq y (holder r))
+    pub news : (x : ℕ) → length ends ≤ x → list_any (is_new x) earlier ≡ false
+
+-- ---- lists
+
+pub slice_get-past : (xs : List ℕ) (i : ℕ) → length xs ≤ i → slice_get xs i ≡ None
+slice_get-past [] i h = refl
+slice_get-past (x ∷ xs) zero h = absurd (omega arith)
+slice_get-past (x ∷ xs) (suc i) h = slice_get-past xs i (omega arith)
+
+pub slice_get-before : (xs ys : List ℕ) (i : ℕ) → i < length xs → slice_get (xs ++ ys) i ≡ slice_get xs i
+slice_get-before [] ys i h = absurd (omega arith)
+slice_get-before (x ∷ xs) ys zero h = refl
+slice_get-before (x ∷ xs) ys (suc i) h = slice_get-before xs ys i (omega arith)
+
+pub slice_get-last : (xs : List ℕ) (p : ℕ) → slice_get (xs ++ p ∷ []) (length xs) ≡ Some p
+slice_get-last [] p = refl
+slice_get-last (x ∷ xs) p = slice_get-last xs p
+
+-- the list with one more at its end: what is read at a place
+pub slice_get-push : (xs : List ℕ) (p i : ℕ) → slice_get (xs ++ p ∷ []) i ≡ cond (nat_eq i (length xs)) (Some p) (slice_get xs i)
+slice_get-push [] p zero = refl
+slice_get-push [] p (suc i) = rw (ne_eqb (suc i) 0 (λ e. omega arith)) refl
+slice_get-push (x ∷ xs) p zero = rw (ne_eqb 0 (suc (length xs)) (λ e. omega arith)) refl
+slice_get-push (x ∷ xs) p (suc i) = slice_get-push xs p i ∙ ap (λ b. cond b (Some p) (slice_get xs i)) (same_next i (length xs)) where
+  same_next : (a b : ℕ) → nat_eq a b ≡ nat_eq (suc a) (suc b)
+  same_next a b = elim (cases_eq a b) [
+    | inl is ↦ rw (eq-eqb a b is, eq-eqb (suc a) (suc b) (ap suc is)) refl
+    | inr other ↦ rw (ne_eqb a b other, ne_eqb (suc a) (suc b) (λ e. other (omega arith))) refl
+  ]
+
+pub no_news : (x : ℕ) (earlier : List Action) (a : Action) → list_any (is_new x) earlier ≡ false → is_new x a ≡ false → list_any (is_new x) (earlier ++ a ∷ []) ≡ false
+no_news x [] a none other = ap (λ b. b || false) other
+no_news x (e ∷ earlier) a none other =
+    elim (is_new x e) as (λ b. (b || list_any (is_new x) earlier) ≡ false → (b || list_any (is_new x) (earlier ++ a ∷ [])) ≡ false) [
+      | true ↦ λ h. absurd (false≢true (sym h))
+      | false ↦ λ h. no_news x earlier a h other
+    ] none
+
+-- ---- ports one after another
+
+-- the ports are bound one after another
+abbrev pub Fresh : (ℕ → Bool) → List ℕ → Type 0
+Fresh t [] = Unit {0}
+Fresh t (r ∷ rs) = (t r ≡ false) × Fresh (λ s. nat_eq s r || t s) rs
+
+abbrev pub Ready : (ℕ → Bool) → List ℕ → Type 0
+Ready t [] = Unit {0}
+Ready t (r ∷ rs) = (t r ≡ true) × Ready (λ s. not (nat_eq s r) && t s) rs
+
+-- the test after all of them
+abbrev pub with_all : (ℕ → Bool) → List ℕ → ℕ → Bool
+with_all t [] = t
+with_all t (r ∷ rs) = with_all (λ s. nat_eq s r || t s) rs
+
+abbrev pub without_all : (ℕ → Bool) → List ℕ → ℕ → Bool
+without_all t [] = t
+without_all t (r ∷ rs) = without_all (λ s. not (nat_eq s r) && t s) rs

@@ -1,0 +1,5 @@
+pub mod Deploying
+pub mod Hops
+pub mod LayerFacts
+pub mod Lines
+pub mod Ways

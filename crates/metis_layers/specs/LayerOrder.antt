@@ -1,0 +1,74 @@
+-- The list of actions that makes one instance for each pair that some port is taken from, in the order of the layers, and then one for each target.
+--     standing_pairs u      the pairs that are the first provider of some port, by layer and then by number
+--     holder_of u r      the number of the instance that provides the port
+--     path_to u p      the pairs on the way to p along origins, from a free pair on
+--     line_actions u holder z path      makes instance z and moves it along the path
+--     layer_order u g      the whole list
+use Rattle.std.specs.Prelude.{ℕ, zero, suc, ◌+◌, ◌==◌, Bool, false, not, List, [], ◌∷◌, ◌++◌, Option, map, filter}
+use Rattle.std.specs.List.{list_any, position_or_len, range_with_len}
+use Rattle.std.specs.Option.{option_map_or}
+use Rattle.metis_ids.specs.declared.actions.Action.{Action}
+use Rattle.metis_ids.specs.declared.actions.Action.TheVariants.{New, Bind, Unbind, Move}
+use Rattle.metis_universe.specs.Universe.{Universe, pair_count, port_count, type_of, required_of, requires}
+use Rattle.metis_universe.specs.Layers.{layered}
+use Rattle.metis_universe.specs.Selection.{provider_of, origin_of}
+
+-- whether the pair is the port's first provider
+abbrev pub is_provider : Universe → ℕ → ℕ → Bool
+is_provider u p r = option_map_or (λ y. y == p) (provider_of u r) false
+
+abbrev pub is_standing : Universe → ℕ → Bool
+is_standing u p = list_any (is_provider u p) (range_with_len 0 (port_count u))
+
+abbrev pub standing_pairs : Universe → List ℕ
+standing_pairs u = filter (is_standing u) (layered u)
+
+-- the place of a number in a list
+abbrev pub place_of : List ℕ → ℕ → ℕ
+place_of xs p = position_or_len (λ q. q == p) xs
+
+abbrev pub holder_of : Universe → ℕ → ℕ
+holder_of u r = option_map_or (place_of (standing_pairs u)) (provider_of u r) 0
+
+-- along at most n origins
+abbrev pub path_within : Universe → ℕ → ℕ → List ℕ
+path_within u zero p = p ∷ []
+path_within u (suc n) p = option_map_or (path_within u n) (origin_of u p) [] ++ p ∷ []
+
+abbrev pub path_to : Universe → ℕ → List ℕ
+path_to u p = path_within u (pair_count u) p
+
+-- the ports that q requires and p does not, ascending
+abbrev pub gained : Universe → ℕ → ℕ → List ℕ
+gained u p q = filter (λ r. not (requires u p r)) (required_of u q)
+
+-- the instance is bound to the holders of these ports, or no longer
+abbrev pub binds : (ℕ → ℕ) → ℕ → List ℕ → List Action
+binds holder z ports = map (λ r. Bind r z (holder r)) ports
+
+abbrev pub unbinds : (ℕ → ℕ) → ℕ → List ℕ → List Action
+unbinds holder z ports = map (λ r. Unbind r z (holder r)) ports
+
+-- from p to q: what q requires besides is bound before the move, and what it no longer requires is unbound after it
+abbrev pub move_actions : Universe → (ℕ → ℕ) → ℕ → ℕ → ℕ → List Action
+move_actions u holder z p q = binds holder z (gained u p q) ++ (Move z p q ∷ unbinds holder z (gained u q p))
+
+abbrev pub moves_along : Universe → (ℕ → ℕ) → ℕ → ℕ → List ℕ → List Action
+moves_along u holder z p [] = []
+moves_along u holder z p (q ∷ path) = move_actions u holder z p q ++ moves_along u holder z q path
+
+abbrev pub line_actions : Universe → (ℕ → ℕ) → ℕ → List ℕ → List Action
+line_actions u holder z [] = []
+line_actions u holder z (p ∷ path) = New z (type_of u p) ∷ moves_along u holder z p path
+
+-- the lines of instances from number z on
+abbrev pub lines_from : Universe → (ℕ → ℕ) → ℕ → List (List ℕ) → List Action
+lines_from u holder z [] = []
+lines_from u holder z (path ∷ paths) = line_actions u holder z path ++ lines_from u holder (z + 1) paths
+
+-- what the instances end in
+abbrev pub line_ends : Universe → List ℕ → List ℕ
+line_ends u g = standing_pairs u ++ g
+
+abbrev pub layer_order : Universe → List ℕ → List Action
+layer_order u g = lines_from u (holder_of u) 0 (map (path_to u) (line_ends u g))

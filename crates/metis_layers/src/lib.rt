@@ -1,0 +1,6 @@
+//! In how many rounds each pair is attained, and from which pair each port is taken first.
+#![tactic(auto)]
+
+mod laws;
+
+pub use laws::layer_order_runs;
