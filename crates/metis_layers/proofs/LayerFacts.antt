@@ -150,16 +150,16 @@ module _ (u : Universe) where
           }
     ]
 
-  in_layer : (k p : ℕ) → has (filter (is_in_layer u k) (all_pairs u)) p ≡ true → layer_of u p ≡ Some k
+  pub in_layer : (k p : ℕ) → has (filter (is_in_layer u k) (all_pairs u)) p ≡ true → layer_of u p ≡ Some k
   in_layer k p h = by (layer_of u p) refl (and_parts (is_in_layer u k p) (has (all_pairs u) p) (sym (has-filter (is_in_layer u k) p (all_pairs u)) ∙ h)).0 where
     by : (o : Option ℕ) → layer_of u p ≡ o → is_in_layer u k p ≡ true → layer_of u p ≡ Some k
     by None is t = absurd (false≢true (sym (ap (λ o. option_map_or (λ l. nat_eq l k) o false) is) ∙ t))
     by (Some l) is t = is ∙ ap Some (eqb-true l k (sym (ap (λ o. option_map_or (λ j. nat_eq j k) o false) is) ∙ t))
 
-  among_layer : (k p : ℕ) → layer_of u p ≡ Some k → has (filter (is_in_layer u k) (all_pairs u)) p ≡ true
+  pub among_layer : (k p : ℕ) → layer_of u p ≡ Some k → has (filter (is_in_layer u k) (all_pairs u)) p ≡ true
   among_layer k p is = has-filter (is_in_layer u k) p (all_pairs u) ∙ and_from _ _ (ap (λ o. option_map_or (λ l. nat_eq l k) o false) is ∙ eq-eqb k k refl) (layer_pair p k is)
 
-  layer_below : (p k : ℕ) → layer_of u p ≡ Some k → k < pair_count u
+  pub layer_below : (p k : ℕ) → layer_of u p ≡ Some k → k < pair_count u
   layer_below p k is = omega (arith, (found_in_range (λ j. has (layer_set u j) p) 0 (pair_count u) k is).1) where
     found_in_range : (t : ℕ → Bool) (a n j : ℕ) → find t (range_with_len a n) ≡ Some j → (a ≤ j) × (j < a + n)
     found_in_range t a zero j h = cc

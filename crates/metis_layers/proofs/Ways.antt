@@ -13,7 +13,7 @@ use Rattle.metis_layers.proofs.LayerFacts.{HasLayer, HasOrigin, HasProvider, lay
 use Rattle.metis_layers.proofs.Lines.{IsHop, AreHops, IsBegun, IsWay, last_of, end_of}
 use Rattle.metis_layers.specs.LayerOrder.{path_within, path_to}
 
-in_range : (a n q : ℕ) → has (range_with_len a n) q ≡ true → q < a + n
+pub in_range : (a n q : ℕ) → has (range_with_len a n) q ≡ true → q < a + n
 in_range a zero q h = absurd (false≢true h)
 in_range a (suc n) q h = elim (or_cases (nat_eq a q) (has (range_with_len (a + 1) n) q) h) [
   | inl now ↦ let same = eqb-true a q now in omega arith
@@ -21,13 +21,13 @@ in_range a (suc n) q h = elim (or_cases (nat_eq a q) (has (range_with_len (a + 1
 ]
 
 -- what holds of each number of a list holds of one that is in it
-all_has : (P : ℕ → Type 0) (xs : List ℕ) (q : ℕ) → All P xs → has xs q ≡ true → P q
+pub all_has : (P : ℕ → Type 0) (xs : List ℕ) (q : ℕ) → All P xs → has xs q ≡ true → P q
 all_has P xs q all h =
     let some = Any-from_list_any (λ x. nat_eq x q) xs h in
     subst P (some.3 ∙ eqb-true some.1 q some.4) (all some.0 some.1 some.2)
 
 module _ (u : Universe) (k : IsUniverse u) (holder : ℕ → ℕ) where
-  within : (p l : ℕ) → layer_of u p ≡ Some l → p < pair_count u
+  pub within : (p l : ℕ) → layer_of u p ≡ Some l → p < pair_count u
   within p l is = omega (arith, in_range 0 (pair_count u) p (layer_pair u p l is))
 
   -- a pair of layer 0 begins a way
