@@ -2,9 +2,14 @@ pub mod Closed
 pub mod Config
 pub mod Goal
 pub mod Kinds
+pub mod Layers
 pub mod Names
 pub mod RowShapes
 pub mod Rows
+pub mod Selection
+pub mod Steadfast
 pub mod Step
 pub mod Texts
+pub mod Tidy
 pub mod Universe
+pub mod Waits
