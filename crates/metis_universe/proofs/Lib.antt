@@ -21,4 +21,5 @@ pub mod RowTables
 pub mod Selected
 pub mod Sorted
 pub mod Standing
+pub mod TypeBlock
 pub mod TypeFaults
