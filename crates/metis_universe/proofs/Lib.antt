@@ -1,4 +1,5 @@
 pub mod Ascending
+pub mod Attained
 pub mod Blocks
 pub mod ClearRows
 pub mod Correctness
@@ -14,9 +15,13 @@ pub mod Kept
 pub mod Named
 pub mod OfType
 pub mod Places
+pub mod PlanExamples
+pub mod Ranges
 pub mod Rounds
 pub mod RowTables
 pub mod Same
 pub mod Selected
 pub mod Sorted
+pub mod Standing
+pub mod TypeBlock
 pub mod TypeFaults

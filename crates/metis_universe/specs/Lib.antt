@@ -10,5 +10,6 @@ pub mod Selection
 pub mod Steadfast
 pub mod Step
 pub mod Texts
+pub mod Tidy
 pub mod Universe
 pub mod Waits

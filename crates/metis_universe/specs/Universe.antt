@@ -9,7 +9,8 @@
 --     has xs n      whether n is in the list
 --     type_count, pair_count, port_count, type_name_of, port_name_of, all_pairs u      how many there are;  names;  the numbers of the pairs
 --     state_place_of u p      the place of the pair's state among those of its type
---     type_named, state_named, pair_named      the type, the pair of a type, and the pair of these names
+--     type_named, port_named, state_named, pair_named      the type, the port, the pair of a type, and the pair of these names
+--     providers_of u r      the pairs that provide the port, ascending
 --     IsUniverse u      what holds of the numbers of every universe that a document gives
 --     IsNamed u, IsWithinLimits u, IsTable u      what holds of its names;  of its counts;  all three
 use Rattle.std.specs.Prelude.{ℕ, ◌≡◌, ◌≤◌, ◌<◌, ◌==◌, Bool, true, false, ◌&&◌, Option, List, [], ◌∷◌, length, take, position, sum_by, IsTrue}
@@ -124,6 +125,13 @@ state_named u t name = position (λ p. (p.kind == t) && bytes_eq name p.state) u
 
 abbrev pub pair_named : Universe → List ℕ → List ℕ → Option ℕ
 pair_named u kind state = option_and_then (λ t. state_named u t state) (type_named u kind)
+
+abbrev pub port_named : Universe → List ℕ → Option ℕ
+port_named u name = position (λ each. bytes_eq name each) u.ports
+
+-- the pairs that provide the port, ascending
+abbrev pub providers_of : Universe → ℕ → List ℕ
+providers_of u r = filter (λ p. provides u p r) (all_pairs u)
 
 abbrev pub universe_of : List Kind → List Pair → List (List ℕ) → Universe
 universe_of kinds pairs ports = record { kinds = kinds; pairs = pairs; ports = ports }

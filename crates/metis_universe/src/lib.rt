@@ -12,7 +12,10 @@ mod tests;
 mod universe;
 
 pub use faults::{LimitKind, RowFault};
-pub use laws::refused_is_not_attained;
+pub use laws::{
+    layer_is_least, layers_are_closed, refused_is_not_attained, selection_is_least,
+    standing_is_made_and_not_ended,
+};
 pub use names::is_name;
 pub use rows::{StateRow, TypeRow, rows_fit};
 pub use universe::Universe;

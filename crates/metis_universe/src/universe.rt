@@ -1,8 +1,9 @@
 //! A universe: its types, its pairs in document order, and its ports.
 ghost use Rattle.std.specs.Prelude.{◌≡◌, ◌<◌, ◌==◌, ◌&&◌, position};
-ghost use Rattle.std.specs.List.{All};
+ghost use Rattle.std.specs.List.{All, filter, list_any};
+ghost use Rattle.std.specs.List.Sorted.{IsStrictlyIncreasing, IsNonDecreasingBy};
 ghost use Rattle.std.specs.Str.{bytes_eq};
-ghost use Rattle.metis_universe.specs.Universe.{pair_count, type_count, port_count, type_of, state_place_of, initial_of, is_initial, next_of, type_named, state_named, pair_named, type_name_of, state_name_of, port_name_of, IsTable};
+ghost use Rattle.metis_universe.specs.Universe.{has, pair_count, type_count, port_count, type_of, state_place_of, initial_of, is_initial, next_of, provided_of, required_of, provides, type_requires, type_provides, type_named, port_named, state_named, pair_named, type_name_of, state_name_of, port_name_of, IsTable};
 ghost use Rattle.metis_universe.specs.Rows.{RowsFit, IsMade};
 
 mod build;
@@ -134,6 +135,59 @@ impl Universe {
         row.next.as_slice()
     }
 
+    /// How many ports there are, at most 4,000.
+    pub fn ports(&self) -> u32
+        ensures { result ≡ port_count self.now }
+    {
+        self.ports.len() as u32
+    }
+
+    /// The ports that the pair provides, ascending.
+    pub fn provided(&self, p: PairIx) -> &[PortIx]
+        requires { p < pair_count self.now }
+        ensures ports { result.now ≡ provided_of self.now p }
+        ensures ascending { IsStrictlyIncreasing result.now }
+        ensures within { All (λ r. r < port_count self.now) result.now }
+    {
+        let row = &self.pairs[p.0 as usize];
+        row.provided.as_slice()
+    }
+
+    /// The ports that the pair requires, ascending.
+    pub fn required(&self, p: PairIx) -> &[PortIx]
+        requires { p < pair_count self.now }
+        ensures ports { result.now ≡ required_of self.now p }
+        ensures ascending { IsStrictlyIncreasing result.now }
+        ensures within { All (λ r. r < port_count self.now) result.now }
+    {
+        let row = &self.pairs[p.0 as usize];
+        row.required.as_slice()
+    }
+
+    /// Whether the pair provides the port.
+    pub fn provides(&self, p: PairIx, r: PortIx) -> bool
+        requires { p < pair_count self.now }
+        ensures { result ≡ provides self.now p r }
+    {
+        self.provided(p).contains(&r)
+    }
+
+    /// Whether some pair of the type requires the port.
+    pub fn type_requires(&self, t: TypeIx, r: PortIx) -> bool
+        ensures { result ≡ type_requires self.now t r }
+    {
+        let _tables = &self.kinds;
+        some_requires(block_of(&self.pairs, t), r)
+    }
+
+    /// Whether some pair of the type provides the port.
+    pub fn type_provides(&self, t: TypeIx, r: PortIx) -> bool
+        ensures { result ≡ type_provides self.now t r }
+    {
+        let _tables = &self.kinds;
+        some_provides(block_of(&self.pairs, t), r)
+    }
+
     /// The type of this name.
     pub fn type_named(&self, name: &str) -> Option<TypeIx>
         ensures { result ≡ type_named self.now name.now }
@@ -155,6 +209,14 @@ impl Universe {
         ensures { result ≡ pair_named self.now kind.now state.now }
     {
         self.state_named(self.type_named(kind)?, state)
+    }
+
+    /// The port of this name.
+    pub fn port_named(&self, name: &str) -> Option<PortIx>
+        ensures { result ≡ port_named self.now name.now }
+    {
+        let index = self.ports.get_index_of(name)?;
+        Some(PortIx(index as u32))
     }
 
     /// The name of the type.
@@ -182,6 +244,30 @@ impl Universe {
     {
         self.ports.get_index(r.0 as usize).unwrap().as_str()
     }
+}
+
+/// The pairs of the type, which stand together.
+fn block_of(pairs: &[PairRow], t: TypeIx) -> &[PairRow]
+    requires { IsNonDecreasingBy (λ p. p.kind) pairs.now }
+    ensures { result.now ≡ filter (λ p. p.kind == t) pairs.now }
+{
+    let start = pairs.partition_point(|pair| pair.kind < t);
+    let end = pairs.partition_point(|pair| pair.kind <= t);
+    &pairs[start..end]
+}
+
+/// Whether one of the pairs requires the port.
+fn some_requires(pairs: &[PairRow], r: PortIx) -> bool
+    ensures { result ≡ list_any (λ p. has p.required r) pairs.now }
+{
+    pairs.iter().any(|pair| pair.required.contains(&r))
+}
+
+/// Whether one of the pairs provides the port.
+fn some_provides(pairs: &[PairRow], r: PortIx) -> bool
+    ensures { result ≡ list_any (λ p. has p.provided r) pairs.now }
+{
+    pairs.iter().any(|pair| pair.provided.contains(&r))
 }
 
 /// The place of the first pair of the type with this state.
