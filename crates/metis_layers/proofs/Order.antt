@@ -1,6 +1,6 @@
 -- The list in the order of the layers deploys the targets, and a pair is attainable exactly where it has a layer.
 use Rattle.std.proofs.Common.{◌≡◌, ℕ, zero, suc, ◌+◌, ◌<◌, ◌≤◌, Bool, true, false, cond, not, ◌&&◌, ◌||◌, List, [], ◌∷◌, ◌++◌, length, map, Option, Some, None, refl, sym, ap, ◌∙◌, subst, arith, nat_eq, inl, inr, length-append, zero-add}
-use Rattle.std.proofs.lemmas.Bool.{eqb-true, false≢true, or_cases, and_from, and_parts, or_left, or_right}
+use Rattle.std.proofs.lemmas.Bool.{eqb-true, false≢true, true_from_ne_false, or_cases, and_from, and_parts, or_left, or_right}
 use Rattle.std.proofs.lemmas.List.{length-map}
 use Rattle.std.specs.List.{list_all, list_any, find, count_by, enumerate_from, slice_get}
 use Rattle.std.specs.Map.{lookup}
@@ -20,8 +20,13 @@ use Rattle.metis_universe.specs.Universe.{Universe, IsUniverse, all_pairs, has, 
 use Rattle.metis_layers.proofs.Counts.{count-append, count-enumerate, enumerate_ascends, lines_make, lookup-enumerate, standing_few}
 use Rattle.metis_layers.proofs.Deploying.{Stand}
 use Rattle.metis_layers.proofs.Lines.{all_lines_go, end_of, last_of, run_from_going, steadfast_from_going}
-use Rattle.metis_layers.proofs.Standing.{AllLayered, order_ways}
-use Rattle.metis_layers.specs.LayerOrder.{Deploys, holder_of, layer_order, line_ends, path_to, path_within, standing_pairs}
+use Rattle.metis_layers.proofs.LayerFacts.{layer_by}
+use Rattle.metis_layers.proofs.Standing.{AllLayered, HasSomeLayer, order_ways}
+use Rattle.metis_universe.proofs.Attained.{Closed-layers}
+use Rattle.metis_universe.proofs.Inside.{refused}
+use Rattle.std.specs.Bool.{Decides}
+use Rattle.std.specs.Prelude.{IsSome}
+use Rattle.metis_layers.specs.LayerOrder.{Deploys, attained_pairs, holder_of, layer_order, line_ends, path_to, path_within, standing_pairs}
 
 module _ (u : Universe) where
   -- a path ends in its pair
@@ -67,4 +72,25 @@ module _ (u : Universe) where
         );
       }
 
-  -- ---- the pairs that have a layer are closed
+layered_some : (u : Universe) (p : ℕ) (o : Option ℕ) → layer_of u p ≡ o → IsSome o → HasSomeLayer u p
+layered_some u p None is some = absurd (false≢true some)
+layered_some u p (Some l) is some = record { layer = l; is = is }
+
+pub deploys : (u : Universe) (g : List ℕ) → IsUniverse u → ((p : ℕ) → has g p ≡ true → IsSome (layer_of u p)) → Deploys u g (layer_order u g)
+deploys u g k all = order_deploys u k g (λ p h. layered_some u p (layer_of u p) refl (all p h))
+
+-- ---- attainable pairs
+
+attained : (u : Universe) (p : ℕ) → IsUniverse u → has (attained_pairs u) p ≡ true → Attainable u p
+attained u p k h =
+    let at = layer_by u p (pair_count u) h in
+    let d = order_deploys u k (p ∷ []) (λ q one. record { layer = at.layer; is = ap (layer_of u) (sym (only q one)) ∙ at.is }) in
+    (layer_order u (p ∷ []), d.runs, d.holds) where
+  only : (q : ℕ) → has (p ∷ []) q ≡ true → p ≡ q
+  only q one = elim (or_cases (nat_eq p q) false one) [ inl same ↦ eqb-true p q same | inr none ↦ absurd (false≢true none) ]
+
+unattained : (u : Universe) (p : ℕ) → IsUniverse u → has (attained_pairs u) p ≡ false → Attainable u p → ⊥
+unattained u p k missing attains = refused u (p ∷ []) (attained_pairs u) p (Closed-layers u k, ap (λ b. cond (not b) (Some p) None) missing) attains
+
+pub attainable : (u : Universe) (p : ℕ) → IsUniverse u → Decides (has (attained_pairs u) p) (Attainable u p)
+attainable u p k = (attained u p k, λ attains. true_from_ne_false (has (attained_pairs u) p) (λ missing. unattained u p k missing attains))

@@ -3,4 +3,4 @@
 
 mod laws;
 
-pub use laws::layer_order_runs;
+pub use laws::{layer_order_deploys, layers_are_attainable};
