@@ -5,6 +5,7 @@ pub mod Fronts
 pub mod Gathered
 pub mod Items
 pub mod Marking
+pub mod Openings
 pub mod OverFiles
 pub mod Plainness
 pub mod ReadFaults

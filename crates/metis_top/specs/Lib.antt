@@ -7,6 +7,7 @@ pub mod Honest
 pub mod Line
 pub mod Lines
 pub mod Numbered
+pub mod Openings
 pub mod Outcome
 pub mod Plain
 pub mod PlanText

@@ -5,8 +5,9 @@ ghost use Rattle.metis_top.specs.Commands.{script_of, command_script};
 ghost use Rattle.metis_top.specs.Course.{Ran};
 ghost use Rattle.metis_top.specs.Honest.{Tells, Headline};
 ghost use Rattle.metis_top.specs.Numbered.{TellsReadFault};
+ghost use Rattle.metis_top.specs.Openings.{OpensFiles};
 ghost use Rattle.metis_top.specs.Statuses.{IsVerdict};
-ghost use Rattle.metis_top.specs.Words.{word_stop};
+ghost use Rattle.metis_top.specs.Words.{form_of, word_stop};
 ghost use Rattle.metis_universe.specs.Texts.{texts};
 
 use crate::Status;
@@ -22,6 +23,9 @@ use std::alloc::Global;
 pub fn run<H: Shelf, K: Sink>(alloc: Global, words: &[String], shelf: &mut H, out: &mut K) -> Status
     // What it takes of its files, how often it opens one, what it puts, and its status.
     ensures course { Ran H.files H.faults H.opens K.written K.faults (script_of (texts words.now)) shelf.old shelf.new out.old out.new result }
+
+    // It opens its file once, and none where its words are no command.
+    ensures opens { OpensFiles (form_of (texts words.now)) result (H.opens shelf.old) (H.opens shelf.new) }
 
     // A fault is told only where there was one, and an answer only where there was none.
     ensures read_fault { result ≡ Status.ReadFault

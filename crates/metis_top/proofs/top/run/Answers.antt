@@ -1,4 +1,5 @@
 use Rattle.metis_top.proofs.OverFiles.{ran_tells, ran_headline}
+use Rattle.metis_top.proofs.Openings.{ran_opens}
 use Rattle.metis_top.proofs.ReadFaults.{ran_read_fault}
 use Rattle.metis_top.specs.Words.{form_of}
 use Rattle.metis_universe.specs.Texts.{texts}
@@ -12,3 +13,6 @@ returns-clause-headline g c = ran_headline _ _ _ _ _ (texts c.args.words.now) _ 
 
 pub returns-clause-read_fault : goal.returns-clause-read_fault
 returns-clause-read_fault g c = ran_read_fault _ _ _ _ _ (form_of (texts c.args.words.now)) _ _ _ _ _ c.follow.ensures
+
+pub returns-clause-opens : goal.returns-clause-opens
+returns-clause-opens g c = ran_opens _ _ _ _ _ (form_of (texts c.args.words.now)) _ _ _ _ _ c.follow.ensures

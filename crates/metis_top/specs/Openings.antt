@@ -1,0 +1,18 @@
+-- How many files a run opens.
+--     IsLast script      it reads no further file
+--     OpensFiles form status opens opens'      one file where the words are a command, and else none; at want of memory perhaps none
+use Rattle.std.specs.Prelude.{◌≡◌, ◌⊎◌, ℕ, Result, Ok, Err}
+use Rattle.metis_top.specs.Course.{opened}
+use Rattle.metis_top.specs.Script.{Script, Read, Refuse, Reply}
+use Rattle.metis_top.specs.Words.{Form}
+use Rattle.metis_top.specs.declared.status.Status.{Status}
+use Rattle.metis_top.specs.declared.status.Status.TheVariants.{NoMemory}
+
+abbrev pub IsLast : Script → Type 0
+IsLast (Read place name limit next) = ⊥
+IsLast (Refuse refusal) = Unit {0}
+IsLast (Reply answer) = Unit {0}
+
+abbrev pub OpensFiles : Result Form ℕ → Status → ℕ → ℕ → Type 0
+OpensFiles (Err place) status opens opens' = opens' ≡ opens
+OpensFiles (Ok form) status opens opens' = (opens' ≡ opened opens 1) ⊎ ((status ≡ NoMemory) × (opens' ≡ opens))
