@@ -16,7 +16,7 @@ use Rattle.metis_top.specs.Openings.{IsLast, OpensFiles}
 use Rattle.metis_top.specs.Script.{Script, Read, Refuse, Reply}
 use Rattle.metis_top.specs.TargetName.{TargetName}
 use Rattle.metis_top.specs.Words.{Form, word_at, target_at}
-use Rattle.metis_universe.specs.Universe.{Universe, pair_named}
+use Rattle.metis_universe.specs.Universe.{pair_named}
 
 last_judged : {X : Type 0} (next : X → Script) (r : Result X Refusal) → ((x : X) → IsLast (next x)) → IsLast (judged next r)
 last_judged next (Ok x) last = last x
