@@ -1,4 +1,6 @@
 //! The words of the command line.
+ghost use Rattle.std.specs.Prelude.{◌≡◌, [], IsUtf8, string_bytes};
+
 use std::alloc::{AllocError, Global};
 use std::env::{Env, FillError};
 
@@ -18,7 +20,11 @@ pub fn words_given<R: Env + AllocGlobal>(rt: &R) -> Result<Vec<String>, AllocErr
     Ok(words)
 }
 
-fn word_of(alloc: Global, bytes: Vec<u8>) -> String {
+// The word of these bytes, an empty one where they are not UTF-8.
+fn word_of(alloc: Global, bytes: Vec<u8>) -> String
+    ensures text { IsUtf8 bytes.items → string_bytes result ≡ bytes.items }
+    ensures empty { (IsUtf8 bytes.items → ⊥) → string_bytes result ≡ [] }
+{
     match String::from_utf8(bytes) {
         Ok(word) => word,
         Err(_) => String::new(alloc),
