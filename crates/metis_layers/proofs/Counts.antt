@@ -19,7 +19,7 @@ use Rattle.metis_layers.specs.LayerOrder.{attained_pairs, binds, unbinds, gained
 
 kept_fewer : (t : ℕ → Bool) (xs : List ℕ) → length (filter t xs) ≤ length xs
 kept_fewer t [] = omega arith
-kept_fewer t (x ∷ xs) = let rest = kept_fewer t xs in elim (t x) as (λ b. length (cond b (x ∷ filter t xs) (filter t xs)) ≤ length (x ∷ xs)) [ | true ↦ omega (arith, rest) | false ↦ omega (arith, rest) ]
+kept_fewer t (x ∷ xs) = let rest = kept_fewer t xs in elim (t x) as (λ b. length (cond b (x ∷ filter t xs) (filter t xs)) ≤ length (x ∷ xs)) [ true ↦ omega (arith, rest) | false ↦ omega (arith, rest) ]
 
 -- what one test keeps and what another keeps are kept by one that keeps both, where no element passes the two
 kept_together : (s t w : ℕ → Bool) (xs : List ℕ) → ((x : ℕ) → s x ≡ true → t x ≡ true → ⊥) → ((x : ℕ) → s x ≡ true → has xs x ≡ true → w x ≡ true) → ((x : ℕ) → t x ≡ true → has xs x ≡ true → w x ≡ true)
@@ -29,16 +29,16 @@ kept_together s t w (x ∷ xs) apart one two =
     let rest = kept_together s t w xs apart (λ y h there. one y h (or_right (nat_eq x y) (has xs y) there)) (λ y h there. two y h (or_right (nat_eq x y) (has xs y) there)) in
     let here = or_left (nat_eq x x) (has xs x) (eq-eqb x x refl) in
     by_cases (s x) (t x) (w x) (apart x) (λ h. one x h here) (λ h. two x h here) rest where
-  by_cases : (a b c : Bool) → (a ≡ true → b ≡ true → ⊥) → (a ≡ true → c ≡ true) → (b ≡ true → c ≡ true) → length (filter s xs) + length (filter t xs) ≤ length (filter w xs)
-      → length (cond a (x ∷ filter s xs) (filter s xs)) + length (cond b (x ∷ filter t xs) (filter t xs)) ≤ length (cond c (x ∷ filter w xs) (filter w xs))
-  by_cases true true true never one two rest = absurd (never refl refl)
-  by_cases true true false never one two rest = absurd (never refl refl)
-  by_cases true false true never one two rest = omega (arith, rest)
-  by_cases true false false never one two rest = absurd (false≢true (one refl))
-  by_cases false true true never one two rest = omega (arith, rest)
-  by_cases false true false never one two rest = absurd (false≢true (two refl))
-  by_cases false false true never one two rest = omega (arith, rest)
-  by_cases false false false never one two rest = rest
+      by_cases : (a b c : Bool) → (a ≡ true → b ≡ true → ⊥) → (a ≡ true → c ≡ true) → (b ≡ true → c ≡ true) → length (filter s xs) + length (filter t xs) ≤ length (filter w xs)
+          → length (cond a (x ∷ filter s xs) (filter s xs)) + length (cond b (x ∷ filter t xs) (filter t xs)) ≤ length (cond c (x ∷ filter w xs) (filter w xs))
+      by_cases true true true never one two rest = absurd (never refl refl)
+      by_cases true true false never one two rest = absurd (never refl refl)
+      by_cases true false true never one two rest = omega (arith, rest)
+      by_cases true false false never one two rest = absurd (false≢true (one refl))
+      by_cases false true true never one two rest = omega (arith, rest)
+      by_cases false true false never one two rest = absurd (false≢true (two refl))
+      by_cases false false true never one two rest = omega (arith, rest)
+      by_cases false false false never one two rest = rest
 
 kept_same : (t : ℕ → Bool) (xs : List ℕ) → length (filter (has (filter t xs)) xs) ≤ length (filter t xs)
 kept_same t xs = kept_into (has (filter t xs)) t xs (λ x h there. (and_parts (t x) (has xs x) (sym (has-filter t x xs) ∙ h)).0) where
@@ -81,9 +81,9 @@ module _ (u : Universe) where
       let rest = layers_count n (a + 1) in
       let now : ℕ → Bool = λ p. has (all_pairs u) p && is_in_layer u a p in
       let both = kept_together now (λ p. has (all_pairs u) p && in_some (a + 1) n p) (λ p. has (all_pairs u) p && in_some a (suc n) p) (all_pairs u)
-        (λ p one two. let first = and_parts (has (all_pairs u) p) (is_in_layer u a p) one in one_layer n a p first.0 first.1 (and_parts (has (all_pairs u) p) (in_some (a + 1) n p) two).1)
-        (λ p one there. and_from _ _ there (or_left (is_in_layer u a p) (in_some (a + 1) n p) (and_parts (has (all_pairs u) p) (is_in_layer u a p) one).1))
-        (λ p two there. and_from _ _ there (or_right (is_in_layer u a p) (in_some (a + 1) n p) (and_parts (has (all_pairs u) p) (in_some (a + 1) n p) two).1)) in
+      (λ p one two. let first = and_parts (has (all_pairs u) p) (is_in_layer u a p) one in one_layer n a p first.0 first.1 (and_parts (has (all_pairs u) p) (in_some (a + 1) n p) two).1)
+      (λ p one there. and_from _ _ there (or_left (is_in_layer u a p) (in_some (a + 1) n p) (and_parts (has (all_pairs u) p) (is_in_layer u a p) one).1))
+      (λ p two there. and_from _ _ there (or_right (is_in_layer u a p) (in_some (a + 1) n p) (and_parts (has (all_pairs u) p) (in_some (a + 1) n p) two).1)) in
       let same = kept_together (is_in_layer u a) (λ x. false) now (all_pairs u) (λ x one two. false≢true two) (λ x one there. and_from _ _ there one) (λ x one there. absurd (false≢true one)) in
       omega (arith, rest, both, same, length-append (filter (is_in_layer u a) (all_pairs u)) (layers_from (a + 1) n))
 
@@ -108,11 +108,11 @@ module _ (u : Universe) where
   layered_few : length (layered u) ≤ length (attained_pairs u)
   layered_few =
       let into = kept_together (λ p. has (all_pairs u) p && in_some 0 (pair_count u) p) (λ x. false) (has (attained_pairs u)) (all_pairs u) (λ x one two. false≢true two)
-        (λ p one there.
-          let at = in_some_at (pair_count u) 0 p there (and_parts (has (all_pairs u) p) (in_some 0 (pair_count u) p) one).1 in
-          let is = in_layer u at.layer p at.there in
-          attained_by p at.layer (layer_below u p at.layer is) (layer_has u p at.layer is))
-        (λ p one there. absurd (false≢true one)) in
+      (λ p one there.
+      let at = in_some_at (pair_count u) 0 p there (and_parts (has (all_pairs u) p) (in_some 0 (pair_count u) p) one).1 in
+      let is = in_layer u at.layer p at.there in
+      attained_by p at.layer (layer_below u p at.layer is) (layer_has u p at.layer is))
+      (λ p one there. absurd (false≢true one)) in
       omega (arith, layers_count (pair_count u) 0, into, attained_kept)
 
   pub standing_few : length (standing_pairs u) ≤ length (attained_pairs u)

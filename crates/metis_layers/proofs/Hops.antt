@@ -121,9 +121,9 @@ module _ (u : Universe) (holder : ℕ → ℕ) (ends : List ℕ) where
         ∙ ap (λ b. is_tie o x y (r, length ends, holder r) || b) (s.bound o x y)
         ∙ elim (cases_eq o r) [
           | inl is ↦ and_first (nat_eq r o) (nat_eq (length ends) x) (nat_eq (holder r) y) (((a && t o) || e) && nat_eq y (holder o)) (eq-eqb r o (sym is))
-            ∙ ap (λ k. (nat_eq (length ends) x && nat_eq (holder k) y) || (((a && t o) || e) && nat_eq y (holder o))) (sym is)
-            ∙ rw (eqb_swap (length ends) x, eqb_swap (holder o) y) (tie_here a (nat_eq y (holder o)) (t o) e)
-            ∙ ap (λ b. ((a && (b || t o)) || e) && nat_eq y (holder o)) (sym (eq-eqb o r is))
+              ∙ ap (λ k. (nat_eq (length ends) x && nat_eq (holder k) y) || (((a && t o) || e) && nat_eq y (holder o))) (sym is)
+              ∙ rw (eqb_swap (length ends) x, eqb_swap (holder o) y) (tie_here a (nat_eq y (holder o)) (t o) e)
+              ∙ ap (λ b. ((a && (b || t o)) || e) && nat_eq y (holder o)) (sym (eq-eqb o r is))
           | inr other ↦ rw (ne_eqb r o (λ q. other (sym q)), ne_eqb o r other) refl
         ];
     news = λ x h. no_news x earlier (Bind r (length ends) (holder r)) (s.news x h) refl;
@@ -149,9 +149,9 @@ module _ (u : Universe) (holder : ℕ → ℕ) (ends : List ℕ) where
         ∙ ap (λ b. not (is_tie r (length ends) (holder r) (o, x, y)) && b) (s.bound o x y)
         ∙ elim (cases_eq o r) [
           | inl is ↦ and_first (nat_eq o r) a (nat_eq y (holder r)) (((a && t o) || e) && nat_eq y (holder o)) (eq-eqb o r is)
-            ∙ ap (λ k. not (a && nat_eq y (holder k)) && (((a && t o) || e) && nat_eq y (holder o))) (sym is)
-            ∙ untie_here a (nat_eq y (holder o)) (t o) e (own_end x o)
-            ∙ ap (λ b. ((a && (not b && t o)) || e) && nat_eq y (holder o)) (sym (eq-eqb o r is))
+              ∙ ap (λ k. not (a && nat_eq y (holder k)) && (((a && t o) || e) && nat_eq y (holder o))) (sym is)
+              ∙ untie_here a (nat_eq y (holder o)) (t o) e (own_end x o)
+              ∙ ap (λ b. ((a && (not b && t o)) || e) && nat_eq y (holder o)) (sym (eq-eqb o r is))
           | inr other ↦ rw (ne_eqb o r other) refl
         ];
     news = λ x h. no_news x earlier (Unbind r (length ends) (holder r)) (s.news x h) refl;
@@ -257,12 +257,13 @@ module _ (u : Universe) (holder : ℕ → ℕ) (ends : List ℕ) where
       let t' : ℕ → Bool = λ v. nat_eq v r || t v in
       let after_it = at_bind p r t earlier s in
       let held' = next_held r t this.1 held in
-      let rest = binds_go p rs t' (earlier ++ a ∷ []) after_it served (λ v h. or_right (nat_eq v r) (t v) (enough v h)) held' fresh.1 (λ v h. all v (or_right (nat_eq r v) (has rs v) h)) in
-      (
-        (can_bind p r t earlier s this.0 this.1 fresh.0,
+      let rest = binds_go p rs t' (earlier ++ a ∷ []) after_it served (λ v h. or_right (nat_eq v r) (t v) (enough v h)) held' fresh.1 (λ v h. all v (or_right (nat_eq r v) (has rs v) h)) in (
+        (
+          can_bind p r t earlier s this.0 this.1 fresh.0,
           subst (Correct u) (at-next u earlier a) (correct_at p t' (earlier ++ a ∷ []) after_it served (λ v h. or_right (nat_eq v r) (t v) (enough v h)) held'),
           steady_bind p r t earlier s this.1,
-          rest.0),
+          rest.0,
+        ),
         subst (λ l. IsAt u holder ends p (with_all t' rs) l) (append_assoc earlier (a ∷ []) (binds holder (length ends) rs)) rest.1,
       )
 
@@ -277,12 +278,13 @@ module _ (u : Universe) (holder : ℕ → ℕ) (ends : List ℕ) where
       let unneeded = all r (or_left (nat_eq r r) (has rs r) (eq-eqb r r refl)) in
       let enough' : (v : ℕ) → requires u p v ≡ true → t' v ≡ true = λ v h. and_from _ _ (ap not (ne_eqb v r (λ e. true_false _ h (ap (requires u p) e ∙ unneeded)))) (enough v h) in
       let held' : (v : ℕ) → t' v ≡ true → IsHeld u holder ends v = λ v h. held v (and_parts (not (nat_eq v r)) (t v) h).1 in
-      let rest = unbinds_go p rs t' (earlier ++ a ∷ []) after_it served enough' held' ready.1 (λ v h. all v (or_right (nat_eq r v) (has rs v) h)) in
-      (
-        (s.bound r (length ends) (holder r) ∙ rw (ready.0, eq-eqb (length ends) (length ends) refl, eq-eqb (holder r) (holder r) refl) refl,
+      let rest = unbinds_go p rs t' (earlier ++ a ∷ []) after_it served enough' held' ready.1 (λ v h. all v (or_right (nat_eq r v) (has rs v) h)) in (
+        (
+          s.bound r (length ends) (holder r) ∙ rw (ready.0, eq-eqb (length ends) (length ends) refl, eq-eqb (holder r) (holder r) refl) refl,
           subst (Correct u) (at-next u earlier a) (correct_at p t' (earlier ++ a ∷ []) after_it served enough' held'),
           refl,
-          rest.0),
+          rest.0,
+        ),
         subst (λ l. IsAt u holder ends p (without_all t' rs) l) (append_assoc earlier (a ∷ []) (unbinds holder (length ends) rs)) rest.1,
       )
 

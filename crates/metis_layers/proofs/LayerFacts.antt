@@ -94,7 +94,7 @@ module _ (u : Universe) where
   pub layer_enabled : (p k : ℕ) → layer_of u p ≡ Some (suc k) → is_enabled u (layer_set u k) p ≡ true
   layer_enabled p k is =
       let both = (and_parts (has (layer_set u k) p || is_enabled u (layer_set u k) p) (has (all_pairs u) p)
-        (sym (has-filter (λ q. has (layer_set u k) q || is_enabled u (layer_set u k) q) p (all_pairs u)) ∙ layer_has p (suc k) is)).0 in
+      (sym (has-filter (λ q. has (layer_set u k) q || is_enabled u (layer_set u k) q) p (all_pairs u)) ∙ layer_has p (suc k) is)).0 in
       elim (or_cases (has (layer_set u k) p) (is_enabled u (layer_set u k) p) both) [
         | inl before ↦ absurd (true_false _ before (layer_first p (suc k) k is (omega arith)))
         | inr now ↦ now
@@ -133,22 +133,30 @@ module _ (u : Universe) where
   find_in_layers t zero a k x low high there passes = absurd (omega arith)
   find_in_layers t (suc n) a k x low high there passes =
       by (find t (filter (is_in_layer u a) (all_pairs u))) refl (λ above. find_in_layers t n (a + 1) k x above (omega arith) there passes) where
-    by : (o : Option ℕ) → find t (filter (is_in_layer u a) (all_pairs u)) ≡ o → (a + 1 ≤ k → FoundBy t (a + 1) n k) → FoundBy t a (suc n) k
-    by (Some y) is again =
-        let at = found t (filter (is_in_layer u a) (all_pairs u)) y is in
-        record {
-          pair = y; layer = a; low = low; there = at.0; passes = at.1;
-          is = find-append t (filter (is_in_layer u a) (all_pairs u)) (flat_map (λ j. filter (is_in_layer u j) (all_pairs u)) (range_with_len (a + 1) n)) ∙ rw is refl;
-        }
-    by None is again = elim (cases_eq a k) [
-      | inl same ↦ absurd (not_found t (filter (is_in_layer u a) (all_pairs u)) x is (subst (λ j. has (filter (is_in_layer u j) (all_pairs u)) x ≡ true) (sym same) there) passes)
-      | inr other ↦
-          let f = again (omega arith) in
-          record {
-            pair = f.pair; layer = f.layer; low = f.low; there = f.there; passes = f.passes;
-            is = find-append t (filter (is_in_layer u a) (all_pairs u)) (flat_map (λ j. filter (is_in_layer u j) (all_pairs u)) (range_with_len (a + 1) n)) ∙ rw is f.is;
-          }
-    ]
+        by : (o : Option ℕ) → find t (filter (is_in_layer u a) (all_pairs u)) ≡ o → (a + 1 ≤ k → FoundBy t (a + 1) n k) → FoundBy t a (suc n) k
+        by (Some y) is again =
+            let at = found t (filter (is_in_layer u a) (all_pairs u)) y is in
+            record {
+              pair = y;
+              layer = a;
+              low = low;
+              there = at.0;
+              passes = at.1;
+              is = find-append t (filter (is_in_layer u a) (all_pairs u)) (flat_map (λ j. filter (is_in_layer u j) (all_pairs u)) (range_with_len (a + 1) n)) ∙ rw is refl;
+            }
+        by None is again = elim (cases_eq a k) [
+          | inl same ↦ absurd (not_found t (filter (is_in_layer u a) (all_pairs u)) x is (subst (λ j. has (filter (is_in_layer u j) (all_pairs u)) x ≡ true) (sym same) there) passes)
+          | inr other ↦
+              let f = again (omega arith) in
+              record {
+                pair = f.pair;
+                layer = f.layer;
+                low = f.low;
+                there = f.there;
+                passes = f.passes;
+                is = find-append t (filter (is_in_layer u a) (all_pairs u)) (flat_map (λ j. filter (is_in_layer u j) (all_pairs u)) (range_with_len (a + 1) n)) ∙ rw is f.is;
+              }
+        ]
 
   pub in_layer : (k p : ℕ) → has (filter (is_in_layer u k) (all_pairs u)) p ≡ true → layer_of u p ≡ Some k
   in_layer k p h = by (layer_of u p) refl (and_parts (is_in_layer u k p) (has (all_pairs u) p) (sym (has-filter (is_in_layer u k) p (all_pairs u)) ∙ h)).0 where

@@ -1,5 +1,6 @@
 pub mod Counts
 pub mod Deploying
+pub mod Examples
 pub mod Hops
 pub mod LayerFacts
 pub mod Lines

@@ -148,9 +148,9 @@ module _ (u : Universe) (k : IsUniverse u) (holder : ℕ → ℕ) where
         let lost = gained u q p in
         let t1 = with_all (requires u p) rs in
         let first = binds_go u holder ends p rs (requires u p) earlier s served (λ r h. h) held
-            (all_fresh (requires u p) rs (sorted_gained p q) (λ r h. not_true (requires u p r) (and_parts (not (requires u p r)) (requires u q r) (sym (has-gained p q r) ∙ h)).0))
-            (λ r h. let needed = (and_parts (not (requires u p r)) (requires u q r) (sym (has-gained p q r) ∙ h)).1 in
-              (subst (λ t. type_requires u t r ≡ true) hop.same (type_requires-own u q r needed), hop.served r needed)) in
+        (all_fresh (requires u p) rs (sorted_gained p q) (λ r h. not_true (requires u p r) (and_parts (not (requires u p r)) (requires u q r) (sym (has-gained p q r) ∙ h)).0))
+        (λ r h. let needed = (and_parts (not (requires u p r)) (requires u q r) (sym (has-gained p q r) ∙ h)).1 in
+        (subst (λ t. type_requires u t r ≡ true) hop.same (type_requires-own u q r needed), hop.served r needed)) in
         let all1 : (r : ℕ) → t1 r ≡ (has rs r || requires u p r) = with_all-has (requires u p) rs in
         let enough : (r : ℕ) → requires u q r ≡ true → t1 r ≡ true = λ r h. all1 r ∙ ap (λ b. b || requires u p r) (has-gained p q r) ∙ one_or_other (requires u p r) (requires u q r) h in
         let held1 : (r : ℕ) → t1 r ≡ true → IsHeld u holder ends r = λ r h. elim (or_cases (has rs r) (requires u p r) (sym (all1 r) ∙ h)) [
@@ -161,14 +161,13 @@ module _ (u : Universe) (k : IsUniverse u) (holder : ℕ → ℕ) where
         let moves = move_goes u holder ends p q t1 mid first.1 served hop.next enough held1 in
         let moved = at_move u holder ends p q t1 mid first.1 in
         let last = unbinds_go u holder ends q lost t1 (mid ++ Move z p q ∷ []) moved served enough held1
-            (all_ready t1 lost (sorted_gained q p) (λ r h. all1 r ∙ or_right (has rs r) (requires u p r) (and_parts (not (requires u q r)) (requires u p r) (sym (has-gained q p r) ∙ h)).1))
-            (λ r h. not_true (requires u q r) (and_parts (not (requires u q r)) (requires u p r) (sym (has-gained q p r) ∙ h)).0) in
+        (all_ready t1 lost (sorted_gained q p) (λ r h. all1 r ∙ or_right (has rs r) (requires u p r) (and_parts (not (requires u q r)) (requires u p r) (sym (has-gained q p r) ∙ h)).1))
+        (λ r h. not_true (requires u q r) (and_parts (not (requires u q r)) (requires u p r) (sym (has-gained q p r) ∙ h)).0) in
         let ends_in : (r : ℕ) → without_all t1 lost r ≡ requires u q r =
-            λ r. without_all-has t1 lost r ∙ rw (all1 r, has-gained q p r, has-gained p q r) (exact (requires u p r) (requires u q r)) in
-        (
+        λ r. without_all-has t1 lost r ∙ rw (all1 r, has-gained q p r, has-gained p q r) (exact (requires u p r) (requires u q r)) in (
           GoesOn-append u earlier (binds holder z rs) (Move z p q ∷ unbinds holder z lost) first.0 (GoesOn-append u mid (Move z p q ∷ []) (unbinds holder z lost) moves last.0),
           subst (λ l. IsAt u holder ends q (requires u q) l) (append_assoc mid (Move z p q ∷ []) (unbinds holder z lost) ∙ append_assoc earlier (binds holder z rs) (Move z p q ∷ unbinds holder z lost))
-          (at_retest u holder ends q (without_all t1 lost) (requires u q) _ ends_in last.1),
+              (at_retest u holder ends q (without_all t1 lost) (requires u q) _ ends_in last.1),
         ) where
           not_true : (b : Bool) → not b ≡ true → b ≡ false
           not_true true h = absurd (false≢true h)
@@ -203,8 +202,7 @@ module _ (u : Universe) (k : IsUniverse u) (holder : ℕ → ℕ) where
         let first = hop_goes p q earlier hops.0 held s in
         let now = move_actions u holder (length ends) p q in
         let rest = path_goes q path (earlier ++ now) hops.1 hops.0.served first.1 in
-        let e = last_of u holder q path in
-        (
+        let e = last_of u holder q path in (
           GoesOn-append u earlier now (moves_along u holder (length ends) q path) first.0 rest.0,
           subst (λ l. IsAt u holder ends e (requires u e) l) (append_assoc earlier now (moves_along u holder (length ends) q path)) rest.1,
         )
@@ -228,8 +226,7 @@ module _ (u : Universe) (k : IsUniverse u) (holder : ℕ → ℕ) where
         let correct = correct_at u holder ends p (requires u p) (earlier ++ a ∷ []) begun served (λ r h. h) held in
         let e = last_of u holder p path in
         let there = s.pairs z ∙ slice_get-past ends z (omega arith) in
-        let new = ap not (s.news z (omega arith)) in
-        (
+        let new = ap not (s.news z (omega arith)) in (
           ((way.0.kind, there), subst (Correct u) (at-next u earlier a) correct, new, rest.0),
           subst (λ l. Stand u holder (ends ++ e ∷ []) l) (append_assoc earlier (a ∷ []) (moves_along u holder z p path)) (at_finish u holder ends e _ rest.1),
           last_served p path way.1 held,
@@ -263,11 +260,10 @@ module _ (u : Universe) (k : IsUniverse u) (holder : ℕ → ℕ) where
       let more = lines_from u holder (length ends + 1) paths in
       let go : GoesOn u (earlier ++ line) more = subst (λ n. GoesOn u (earlier ++ line) (lines_from u holder n paths)) number rest.0 in
       let stand : Stand u holder ((ends ++ e ∷ []) ++ map (end_of u holder) paths) ((earlier ++ line) ++ more) =
-          subst (λ n. Stand u holder ((ends ++ e ∷ []) ++ map (end_of u holder) paths) ((earlier ++ line) ++ lines_from u holder n paths)) number rest.1 in
-      (
+      subst (λ n. Stand u holder ((ends ++ e ∷ []) ++ map (end_of u holder) paths) ((earlier ++ line) ++ lines_from u holder n paths)) number rest.1 in (
         GoesOn-append u earlier line more first.0 go,
         subst (λ l. Stand u holder l (earlier ++ (line ++ more))) (append_assoc ends (e ∷ []) (map (end_of u holder) paths))
-        (subst (λ l. Stand u holder ((ends ++ e ∷ []) ++ map (end_of u holder) paths) l) (append_assoc earlier line more) stand),
+            (subst (λ l. Stand u holder ((ends ++ e ∷ []) ++ map (end_of u holder) paths) l) (append_assoc earlier line more) stand),
       )
 
   stand_none : Stand u holder [] []

@@ -68,7 +68,11 @@ module _ (u : Universe) where
         holds = λ p. subst (λ n. count_by (λ q. nat_eq q p) g ≤ n) (sym (holds_ends (line_ends u g) (layer_order u g) run stand p)) (count-append p (standing_pairs u) g);
         steadfast = steadfast_from_going u (layer_order u g) went.0;
         few = omega (
-          arith, lines_make u (holder_of u) 0 paths, ends_count (line_ends u g), length-append (standing_pairs u) g, standing_few u,
+          arith,
+          lines_make u (holder_of u) 0 paths,
+          ends_count (line_ends u g),
+          length-append (standing_pairs u) g,
+          standing_few u,
         );
       }
 
@@ -86,8 +90,8 @@ attained u p k h =
     let at = layer_by u p (pair_count u) h in
     let d = order_deploys u k (p ∷ []) (λ q one. record { layer = at.layer; is = ap (layer_of u) (sym (only q one)) ∙ at.is }) in
     (layer_order u (p ∷ []), d.runs, d.holds) where
-  only : (q : ℕ) → has (p ∷ []) q ≡ true → p ≡ q
-  only q one = elim (or_cases (nat_eq p q) false one) [ inl same ↦ eqb-true p q same | inr none ↦ absurd (false≢true none) ]
+      only : (q : ℕ) → has (p ∷ []) q ≡ true → p ≡ q
+      only q one = elim (or_cases (nat_eq p q) false one) [ inl same ↦ eqb-true p q same | inr none ↦ absurd (false≢true none) ]
 
 unattained : (u : Universe) (p : ℕ) → IsUniverse u → has (attained_pairs u) p ≡ false → Attainable u p → ⊥
 unattained u p k missing attains = refused u (p ∷ []) (attained_pairs u) p (Closed-layers u k, ap (λ b. cond (not b) (Some p) None) missing) attains

@@ -82,7 +82,7 @@ module _ (u : Universe) where
   rising-same k [] all = tt
   rising-same k (x ∷ xs) all = (
     λ q l m h at_x at_q. let one : l ≡ k = some_same l k (sym at_x ∙ all x (or_left (nat_eq x x) (has xs x) (eq-eqb x x refl))) in
-      let two : m ≡ k = some_same m k (sym at_q ∙ all q (or_right (nat_eq x q) (has xs q) h)) in omega (arith, one, two),
+        let two : m ≡ k = some_same m k (sym at_q ∙ all q (or_right (nat_eq x q) (has xs q) h)) in omega (arith, one, two),
     rising-same k xs (λ p h. all p (or_right (nat_eq x p) (has xs p) h)),
   ) where
     some_same : (a b : ℕ) → Some a ≡ Some b → a ≡ b
@@ -119,10 +119,10 @@ module _ (u : Universe) where
       (rising-same a (filter (is_in_layer u a) (all_pairs u)) (λ p h. in_layer u a p h))
       (layers_rise n (a + 1))
       (λ p there q l m h at_p at_q.
-        let one : l ≡ a = some_same l a (sym at_p ∙ in_layer u a p there) in
-        let from = in_layers n (a + 1) q h in
-        let two : m ≡ from.layer = some_same m from.layer (sym at_q ∙ from.is) in
-        omega (arith, one, two, from.high))
+      let one : l ≡ a = some_same l a (sym at_p ∙ in_layer u a p there) in
+      let from = in_layers n (a + 1) q h in
+      let two : m ≡ from.layer = some_same m from.layer (sym at_q ∙ from.is) in
+      omega (arith, one, two, from.high))
 
   pub layered_rises : Rising (layered u)
   layered_rises = layers_rise (pair_count u) 0
@@ -208,12 +208,11 @@ module _ (u : Universe) (k : IsUniverse u) where
   target_ways (p ∷ g) more all =
       let at = all p (or_left (nat_eq p p) (has g p) (eq-eqb p p refl)) in
       let held : HeldUpTo u k (holder_of u) (standing_pairs u ++ more) at.layer = λ q l r is low required. held_beside (standing_pairs u) more r
-          (held_below (standing_pairs u) [] at.layer (sym (append-nil (standing_pairs u))) (λ q j h. absurd (false≢true h)) q l r is low required) in
-      let way = way_to (standing_pairs u ++ more) p at.layer held at.is in
-      (
+      (held_below (standing_pairs u) [] at.layer (sym (append-nil (standing_pairs u))) (λ q j h. absurd (false≢true h)) q l r is low required) in
+      let way = way_to (standing_pairs u ++ more) p at.layer held at.is in (
         way.way,
         subst (λ e. AreWays u (holder_of u) ((standing_pairs u ++ more) ++ e ∷ []) (map (path_to u) g)) (sym way.end)
-        (subst (λ l. AreWays u (holder_of u) l (map (path_to u) g)) (sym (append_assoc (standing_pairs u) more (p ∷ []))) (target_ways g (more ++ p ∷ []) (λ q h. all q (or_right (nat_eq p q) (has g q) h)))),
+            (subst (λ l. AreWays u (holder_of u) l (map (path_to u) g)) (sym (append_assoc (standing_pairs u) more (p ∷ []))) (target_ways g (more ++ p ∷ []) (λ q h. all q (or_right (nat_eq p q) (has g q) h)))),
       )
 
   ways_from : (rest done g : List ℕ) → standing_pairs u ≡ done ++ rest → AllLayered g → AreWays u (holder_of u) done (map (path_to u) (rest ++ g))
@@ -225,11 +224,10 @@ module _ (u : Universe) (k : IsUniverse u) where
         | inl same ↦ omega (arith, some_same u at.layer j (sym at.is ∙ ap (layer_of u) (eqb-true p q same) ∙ is))
         | inr later ↦ rises.0 q at.layer j later at.is is
       ] in
-      let way = way_to done p at.layer (held_below done (p ∷ rest) at.layer whole high) at.is in
-      (
+      let way = way_to done p at.layer (held_below done (p ∷ rest) at.layer whole high) at.is in (
         way.way,
         subst (λ e. AreWays u (holder_of u) (done ++ e ∷ []) (map (path_to u) (rest ++ g))) (sym way.end)
-        (ways_from rest (done ++ p ∷ []) g (whole ∙ sym (append_assoc done (p ∷ []) rest)) all),
+            (ways_from rest (done ++ p ∷ []) g (whole ∙ sym (append_assoc done (p ∷ []) rest)) all),
       )
 
   pub order_ways : (g : List ℕ) → AllLayered g → AreWays u (holder_of u) [] (map (path_to u) (line_ends u g))

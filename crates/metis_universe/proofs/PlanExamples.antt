@@ -14,14 +14,14 @@ use Rattle.metis_universe.specs.Selection.{provider_of, origin_of, selected, pro
 use Rattle.metis_universe.specs.Tidy.{IsTidy, IsReached, target}
 use Rattle.metis_universe.proofs.Edits.{tie_is}
 
-abbrev pair : ℕ → List ℕ → List ℕ → List ℕ → Pair
+abbrev pub pair : ℕ → List ℕ → List ℕ → List ℕ → Pair
 pair kind provided required next = record { kind = kind; state = []; provided = provided; required = required; next = next }
 
-abbrev kind : ℕ → Kind
+abbrev pub kind : ℕ → Kind
 kind initial = record { name = []; initial = initial }
 
 -- a database that is switched on, and a web server that runs on it: pairs Db:off 0, Db:on 1, Web:off 2, Web:run 3
-abbrev web : Universe
+abbrev pub web : Universe
 web = record {
   kinds = kind 0 ∷ kind 2 ∷ [];
   pairs = pair 0 [] [] (1 ∷ []) ∷ pair 0 (0 ∷ []) [] [] ∷ pair 1 [] [] (3 ∷ []) ∷ pair 1 [] (0 ∷ []) [] ∷ [];
