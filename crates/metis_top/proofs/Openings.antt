@@ -3,7 +3,6 @@ use Rattle.std.proofs.Common.{◌≡◌, ℕ, List, [], ◌∷◌, length, Resul
 use Rattle.std.specs.declared.option.Option.{Option as Known}
 use Rattle.metis_top.specs.declared.refusal.Refusal.{Refusal}
 use Rattle.metis_top.specs.declared.refusal.Refusal.TheVariants.{TooLong, Word}
-use Rattle.metis_top.specs.declared.reading.TheConstants.{UNIVERSE_LIMIT}
 use Rattle.metis_top.specs.declared.status.Status.{Status}
 use Rattle.metis_top.specs.declared.status.Status.TheVariants.{NoMemory}
 use Rattle.metis_top.specs.declared.words.Verb.{Verb}
@@ -11,7 +10,7 @@ use Rattle.metis_top.specs.declared.words.Verb.TheVariants.{Plan}
 use Rattle.metis_top.specs.Answer as answer
 use Rattle.metis_top.specs.Commands.{judged, or_word, command_script, script_from, target_then}
 use Rattle.metis_top.specs.Course.{Ran, AreTaken, OnShelf, after, opened}
-use Rattle.metis_top.specs.Document.{universe_in}
+use Rattle.metis_top.specs.Document.{document_limit, universe_in}
 use Rattle.metis_top.specs.Openings.{IsLast, OpensFiles}
 use Rattle.metis_top.specs.Script.{Script, Read, Refuse, Reply}
 use Rattle.metis_top.specs.TargetName.{TargetName}
@@ -27,9 +26,9 @@ last_if true script refusal last = last
 last_if false script refusal last = tt
 
 -- what follows the one file
-last_after : (bytes : List ℕ) (target : TargetName) → IsLast (if nat_le (length bytes) UNIVERSE_LIMIT then judged (λ u. target_then 3 u target (λ p. Reply (answer.Plan u (p ∷ [])))) (universe_in bytes) else Refuse (TooLong 2))
+last_after : (bytes : List ℕ) (target : TargetName) → IsLast (if nat_le (length bytes) document_limit then judged (λ u. target_then 3 u target (λ p. Reply (answer.Plan u (p ∷ [])))) (universe_in bytes) else Refuse (TooLong 2))
 last_after bytes target =
-    last_if (nat_le (length bytes) UNIVERSE_LIMIT) _ (TooLong 2)
+    last_if (nat_le (length bytes) document_limit) _ (TooLong 2)
     (last_judged (λ u. target_then 3 u target (λ p. Reply (answer.Plan u (p ∷ [])))) (universe_in bytes) (λ u.
     last_judged (λ p. Reply (answer.Plan u (p ∷ []))) (or_word 3 (pair_named u target.kind target.state)) (λ p. tt)))
 
@@ -62,7 +61,7 @@ command_opens : (files : Known (List ℕ → List ℕ)) (verb : Verb) (words : L
     → AreTaken files taken (command_script verb words targets) → OnShelf (after taken (command_script verb words targets)) (length taken) faults faults' opens opens' old new status
     → (opens' ≡ opened opens 1) ⊎ ((status ≡ NoMemory) × (opens' ≡ opens))
 command_opens files Plan words targets taken faults faults' opens opens' old new status asked shelf =
-    one_file files 2 UNIVERSE_LIMIT (word_at words 0) _ taken faults faults' opens opens' old new status (λ bytes. last_after bytes (target_at targets 0)) asked shelf
+    one_file files 2 document_limit (word_at words 0) _ taken faults faults' opens opens' old new status (λ bytes. last_after bytes (target_at targets 0)) asked shelf
 
 none_taken : (files : Known (List ℕ → List ℕ)) (place : ℕ) (taken : List (List ℕ)) (faults faults' opens opens' : ℕ) (old new : Known (List ℕ)) (status : Status)
     → AreTaken files taken (Refuse (Word place)) → OnShelf (after taken (Refuse (Word place))) (length taken) faults faults' opens opens' old new status → opens' ≡ opens

@@ -10,12 +10,11 @@ use Rattle.metis_top.specs.declared.status.Status.TheVariants.{NoMemory}
 use Rattle.metis_top.specs.Answer.{Plan}
 use Rattle.metis_top.specs.Commands.{plan_script, script_from, universe_in_then, target_then}
 use Rattle.metis_top.specs.Course.{Ran, Shown, Says, OnShelf, AreTaken, after}
-use Rattle.metis_top.specs.Document.{universe_in}
+use Rattle.metis_top.specs.Document.{document_limit, universe_in}
 use Rattle.metis_top.specs.Honest.{over, Tells, Headline}
 use Rattle.metis_top.specs.Script.{Script, Read, Refuse, Reply}
 use Rattle.metis_top.specs.TargetName.{TargetName}
 use Rattle.metis_top.specs.Words.{form_of}
-use Rattle.metis_top.specs.declared.reading.TheConstants.{UNIVERSE_LIMIT}
 use Rattle.metis_universe.specs.Universe.{Universe, pair_named}
 
 -- no read failed, and memory did not run out, so the script has come to its end
@@ -56,17 +55,17 @@ ran_tells files faults opens written sink_faults script shelf shelf' sink sink' 
 
 -- an accepted document is gone on with
 over-universe : (file : List ℕ → List ℕ) (bytes taken : List ℕ) (u : Universe) (next : Universe → Script)
-    → taken ≡ bytes → length bytes ≤ UNIVERSE_LIMIT → universe_in bytes ≡ Ok u
-    → over file (if nat_le (length taken) UNIVERSE_LIMIT then universe_in_then taken next else Refuse (TooLong 2)) ≡ over file (next u)
+    → taken ≡ bytes → length bytes ≤ document_limit → universe_in bytes ≡ Ok u
+    → over file (if nat_le (length taken) document_limit then universe_in_then taken next else Refuse (TooLong 2)) ≡ over file (next u)
 over-universe file bytes taken u next is fits means =
-    let passes : nat_le (length bytes) UNIVERSE_LIMIT ≡ true = grind (arith, nat_tests) in
-    ap (λ t. over file (if nat_le (length t) UNIVERSE_LIMIT then universe_in_then t next else Refuse (TooLong 2))) is ∙ rw (passes, means)
+    let passes : nat_le (length bytes) document_limit ≡ true = grind (arith, nat_tests) in
+    ap (λ t. over file (if nat_le (length t) document_limit then universe_in_then t next else Refuse (TooLong 2))) is ∙ rw (passes, means)
 
 -- accepted words and an accepted document come to what is to be said of the target
-over-plan : (file : List ℕ → List ℕ) (name : List ℕ) (target : TargetName) (u : Universe) (p : ℕ) → length (file name) ≤ UNIVERSE_LIMIT → universe_in (file name) ≡ Ok u
+over-plan : (file : List ℕ → List ℕ) (name : List ℕ) (target : TargetName) (u : Universe) (p : ℕ) → length (file name) ≤ document_limit → universe_in (file name) ≡ Ok u
     → pair_named u target.kind target.state ≡ Some p → over file (plan_script name target) ≡ Reply (Plan u (p ∷ []))
 over-plan file name target u p fits means found =
-    over-universe file (file name) (take (UNIVERSE_LIMIT + 1) (file name)) u (λ v. target_then 3 v target (λ q. Reply (Plan v (q ∷ [])))) (take_all (UNIVERSE_LIMIT + 1) (file name) (omega arith)) fits means
+    over-universe file (file name) (take (document_limit + 1) (file name)) u (λ v. target_then 3 v target (λ q. Reply (Plan v (q ∷ [])))) (take_all (document_limit + 1) (file name) (omega arith)) fits means
     ∙ rw found
 
 pub tells_plans : (words : List (List ℕ)) (file : List ℕ → List ℕ) (old new : Option (List ℕ)) (status : Status) → Tells file (script_from (form_of words)) old new status → Headline words file old new status

@@ -5,11 +5,10 @@ use Rattle.metis_universe.specs.Rows.{meaning_of}
 use Rattle.metis_universe.specs.Universe.{Universe, pair_named}
 use Rattle.metis_top.specs.declared.refusal.Refusal.{Refusal}
 use Rattle.metis_top.specs.declared.refusal.Refusal.TheVariants.{Word, TooLong}
-use Rattle.metis_top.specs.declared.reading.TheConstants.{UNIVERSE_LIMIT}
 use Rattle.metis_top.specs.declared.words.Verb.{Verb}
 use Rattle.metis_top.specs.declared.words.Verb.TheVariants.{Plan}
 use Rattle.metis_top.specs.Answer as answer
-use Rattle.metis_top.specs.Document.{universe_in, or_rows_refused}
+use Rattle.metis_top.specs.Document.{document_limit, universe_in, or_rows_refused}
 use Rattle.metis_top.specs.Script.{Script, Read, Refuse, Reply}
 use Rattle.metis_top.specs.TargetName.{TargetName}
 use Rattle.metis_top.specs.Words.{Form, word_at, target_at, form_of}
@@ -33,7 +32,7 @@ universe_in_then bytes next = judged next (universe_in bytes)
 
 -- the same of the file of the word at this place
 abbrev pub universe_then : ℕ → List ℕ → (Universe → Script) → Script
-universe_then place name next = bytes_then place name UNIVERSE_LIMIT (λ bytes. universe_in_then bytes next)
+universe_then place name next = bytes_then place name document_limit (λ bytes. universe_in_then bytes next)
 
 abbrev pub or_word : ℕ → Option ℕ → Result ℕ Refusal
 or_word place None = Err (Word place)

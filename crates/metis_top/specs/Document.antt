@@ -1,4 +1,5 @@
 -- What a universe document means, up to its rows.
+--     document_limit      how many bytes a document has at most
 --     json_of bytes      the JSON value of the bytes, where a last line feed is left off, if there is one
 --     rows_of d      the rows that the value spells, or the first place whose form is wrong
 --     has_requires rows      whether some state requires a port
@@ -19,6 +20,9 @@ use Rattle.metis_top.specs.declared.refusal.Refusal.{Refusal}
 use Rattle.metis_top.specs.declared.refusal.Stop.{Stop}
 use Rattle.metis_top.specs.declared.refusal.Stop.TheVariants as stop
 use Rattle.metis_top.specs.declared.refusal.Refusal.TheVariants as refusal
+
+abbrev pub document_limit : ℕ
+document_limit = 4194304
 
 -- the bytes without a last line feed
 abbrev pub without_last_newline : List ℕ → List ℕ

@@ -3,13 +3,12 @@ use Rattle.std.specs.Prelude.{◌≡◌, ℕ, ◌+◌, ◌≤◌, List, [], ◌�
 use Rattle.std.specs.declared.option.Option.{Option}
 use Rattle.std.specs.Io.KnownBytes.{Appends}
 use Rattle.metis_top.specs.Course.{Says}
-use Rattle.metis_top.specs.Document.{universe_in}
+use Rattle.metis_top.specs.Document.{document_limit, universe_in}
 use Rattle.metis_top.specs.Planned.{PlanAnswer}
 use Rattle.metis_universe.specs.Universe.{Universe, pair_named}
 use Rattle.metis_top.specs.Script.{Script, Read}
 use Rattle.metis_top.specs.TargetName.{TargetName}
 use Rattle.metis_top.specs.Words.{form_of}
-use Rattle.metis_top.specs.declared.reading.TheConstants.{UNIVERSE_LIMIT}
 use Rattle.metis_top.specs.declared.status.Status.{Status}
 use Rattle.metis_top.specs.declared.words.Verb.TheVariants.{Plan}
 
@@ -29,5 +28,5 @@ pub record Tells (file : List ℕ → List ℕ) (script : Script) (old new : Opt
 abbrev pub Headline : List (List ℕ) → (List ℕ → List ℕ) → Option (List ℕ) → Option (List ℕ) → Status → Type 0
 Headline words file old new status = (name : List ℕ) (target : TargetName) (u : Universe) (p : ℕ)
     → form_of words ≡ Ok (record { verb = Plan; files = name ∷ []; targets = target ∷ [] })
-    → length (file name) ≤ UNIVERSE_LIMIT → universe_in (file name) ≡ Ok u → pair_named u target.kind target.state ≡ Some p
+    → length (file name) ≤ document_limit → universe_in (file name) ≡ Ok u → pair_named u target.kind target.state ≡ Some p
     → (text : List ℕ) × PlanAnswer u (p ∷ []) text status × Appends old new text
