@@ -3,11 +3,12 @@
 --     unmet u c      the first of these, instance by instance and then port by port
 --     IsAtMost, IsLeast      an instance and a port come no later than others;  are the first that pass a test
 --     is_met_if, is_lost      what is met, and what a client of an instance would lack, if the instance were in another pair, or gone
-use Rattle.std.specs.Prelude.{◌≡◌, ◌<◌, ◌≤◌, ◌⊎◌, ℕ, ◌==◌, Bool, false, not, ◌&&◌, List, [], ◌∷◌, Option, Some, None, option_map, IsTrue, IsFalse, MatchOption, if◌then◌else◌}
+--     changed c z o, earlier_of z own lost, own_unmet      that configuration;  the first of two;  the first of the instance's own
+use Rattle.std.specs.Prelude.{◌≡◌, ◌<◌, ◌≤◌, ◌⊎◌, ℕ, ◌==◌, Bool, false, not, ◌&&◌, List, [], ◌∷◌, Option, Some, None, option_map, IsTrue, IsFalse, if◌then◌else◌, nat_lt}
 use Rattle.std.specs.List.{list_any, find}
-use Rattle.std.specs.Option.{option_map_or, option_or}
+use Rattle.std.specs.Option.{option_map_or, option_or, option_and_then}
 use Rattle.metis_universe.specs.Universe.{Universe, required_of, requires, provides}
-use Rattle.metis_universe.specs.Config.{Config, pair_of, is_bound, is_met}
+use Rattle.metis_universe.specs.Config.{Config, pair_of, is_bound, is_met, put, remove}
 
 -- whether the instance is there and its pair requires the port
 abbrev pub is_required : Universe → Config → ℕ → ℕ → Bool
@@ -50,3 +51,18 @@ is_met_if u c z o w r = list_any (λ b. (b.0 == r) && (b.1 == w) && option_map_o
 -- w's port r is bound to z and required, and would not be met
 abbrev pub is_lost : Universe → Config → ℕ → Option ℕ → ℕ → ℕ → Bool
 is_lost u c z o w r = is_bound c r w z && is_required u c w r && not (is_met_if u c z o w r)
+
+-- the configuration with z in o, or without z
+abbrev pub changed : Config → ℕ → Option ℕ → Config
+changed c z (Some q) = put c z q
+changed c z None = remove c z
+
+-- of a port of z's own and an instance with its port, the one that comes first
+abbrev pub earlier_of : ℕ → Option ℕ → Option (ℕ × ℕ) → Option (ℕ × ℕ)
+earlier_of z None lost = lost
+earlier_of z (Some r) None = Some (z, r)
+earlier_of z (Some r) (Some x) = if nat_lt x.0 z then Some x else Some (z, r)
+
+-- the first of z's own ports that would not be met
+abbrev pub own_unmet : Universe → Config → ℕ → Option ℕ → Option ℕ
+own_unmet u c z o = option_and_then (λ q. find (λ r. not (is_met_if u c z o z r)) (required_of u q)) o

@@ -1,11 +1,16 @@
 //! A configuration, its reads and its edits.
-ghost use Rattle.std.specs.Prelude.{◌≡◌, ◌≢◌, IsTrue, IsFalse, IsSome, IfOk, OnOk, OnErr, length, not, None, ◌==◌, ◌||◌};
+ghost use Rattle.std.specs.Prelude.{◌≡◌, ◌≢◌, ◌<◌, ◌↔◌, ℕ, Some, IsTrue, IsFalse, IsSome, IfOk, OnOk, OnErr, length, not, None, ◌==◌, ◌||◌};
 ghost use Rattle.std.specs.List.{filter};
-ghost use Rattle.metis_universe.specs.Config.{empty, pair_of, is_bound, put, remove, tie, untie, names};
+ghost use Rattle.metis_universe.specs.Config.{IsConfig, empty, is_met, Correct, pair_of, is_bound, put, remove, tie, untie, names};
 ghost use Rattle.metis_universe.specs.Goal.{holding};
+ghost use Rattle.metis_universe.specs.Universe.{pair_count};
+ghost use Rattle.metis_config.specs.Over.{IsOver};
+ghost use Rattle.metis_config.specs.Unmet.{unmet, is_unmet, IsLeast, changed};
 
 use crate::lists::{Instances, Ties};
+use crate::met;
 use metis_ids::{InstNo, NoMemory, PairIx, PortIx};
+use metis_universe::Universe;
 use std::alloc::Global;
 use std::collections::{BTreeMap, BTreeSet};
 use std::marker::Model;
@@ -88,7 +93,8 @@ impl Config {
 
     /// How many instances there are.
     pub fn count(&self) -> u64
-        ensures { result ≡ length self.now.instances }
+        ensures count { result ≡ length self.now.instances }
+        ensures config { IsConfig self.now }
     {
         self.instances.len() as u64
     }
@@ -105,6 +111,73 @@ impl Config {
         ensures { result ≡ holding self.now p }
     {
         self.instances.iter().filter(|(_, q)| **q == p).count() as u64
+    }
+
+    /// Whether the port of the instance is met.
+    pub fn is_met(&self, u: &Universe, z: InstNo, r: PortIx) -> bool
+        requires { IsOver u.now self.now }
+        ensures { result ≡ is_met u.now self.now z r }
+    {
+        let pair = self.pair_of(z);
+        met::is_met_if(u, &self.instances, &self.bindings, z, &pair, z, r)
+    }
+
+    /// Whether each port that an instance's pair requires is met.
+    pub fn is_correct(&self, u: &Universe) -> bool
+        requires { IsOver u.now self.now }
+        ensures { IsTrue result ↔ Correct u.now self.now }
+    {
+        let _parts = &self.instances;
+        let _pairs = u.pairs();
+        self.unmet(u).is_none()
+    }
+
+    /// The first instance, and its first port, that is required and not met; `None` where the configuration is correct.
+    pub fn unmet(&self, u: &Universe) -> Option<(InstNo, PortIx)>
+        requires { IsOver u.now self.now }
+        ensures first { result ≡ unmet u.now self.now }
+        ensures least { IsLeast (is_unmet u.now self.now) result }
+    {
+        let _pairs = u.pairs();
+        met::first_unmet(u, &self.instances, &self.bindings)
+    }
+
+    /// What `unmet` would be if the instance were in the pair, or gone. It looks at the instance and those bound to it.
+    pub fn unmet_if(
+        &self,
+        u: &Universe,
+        z: InstNo,
+        to: Option<PairIx>,
+    ) -> Option<(InstNo, PortIx)>
+        requires over { IsOver u.now self.now }
+        requires correct { Correct u.now self.now }
+        requires to { (q : ℕ) → to ≡ Some q → q < pair_count u.now }
+        ensures { result ≡ unmet u.now (changed self.now z to) }
+    {
+        let _pairs = u.pairs();
+        let own = met::unmet_own(u, &self.instances, &self.bindings, z, &to);
+        let lost = met::first_lost(u, &self.instances, &self.bindings, &self.clients, z, &to);
+        met::earlier_of(z, own, lost)
+    }
+
+    /// What `unmet` would be without the binding. It looks at its requirer's port.
+    pub fn unmet_untied(
+        &self,
+        u: &Universe,
+        r: PortIx,
+        z: InstNo,
+        y: InstNo,
+    ) -> Option<(InstNo, PortIx)>
+        requires over { IsOver u.now self.now }
+        requires correct { Correct u.now self.now }
+        ensures { result ≡ unmet u.now (untie self.now r z y) }
+    {
+        let _pairs = u.pairs();
+        if met::lacks(u, &self.instances, &self.bindings, y, &None, z, r) {
+            Some((z, r))
+        } else {
+            None
+        }
     }
 
     /// Adds an instance. Where memory runs out, nothing changes.

@@ -1,12 +1,12 @@
 //! Which ports are met, over the parts of a configuration.
-ghost use Rattle.std.specs.Prelude.{◌≡◌, ◌<◌, ℕ, ◌==◌, not, false, [], Some, IsTrue, option_map};
-ghost use Rattle.std.specs.List.{All, find};
-ghost use Rattle.std.specs.Option.{option_map_or, option_copied};
+ghost use Rattle.std.specs.Prelude.{◌≡◌, ◌<◌, ℕ, ◌==◌, ◌&&◌, not, false, [], Some};
+ghost use Rattle.std.specs.List.{find};
+ghost use Rattle.std.specs.Option.{option_map_or};
 ghost use Rattle.metis_universe.specs.Universe.{pair_count, provides, required_of};
-ghost use Rattle.metis_universe.specs.Config.{config_of, pair_of, is_met};
+ghost use Rattle.metis_universe.specs.Config.{config_of, pair_of};
 ghost use Rattle.metis_config.specs.Over.{IsOver};
 ghost use Rattle.metis_config.specs.Clients.{IsIndexed};
-ghost use Rattle.metis_config.specs.Unmet.{pair_if, is_met_if, is_required, is_lost, IsLeast, unmet_port, unmet};
+ghost use Rattle.metis_config.specs.Unmet.{pair_if, is_met_if, is_required, is_lost, IsLeast, unmet_port, unmet, own_unmet, earlier_of};
 
 use metis_ids::{InstNo, PairIx, PortIx};
 use metis_universe::Universe;
@@ -23,20 +23,34 @@ fn gives(u: &Universe, pair: Option<PairIx>, r: PortIx) -> bool
     }
 }
 
+/// The pair of the instance, if it is there.
+fn pair_in(instances: &BTreeMap<InstNo, PairIx>, z: InstNo) -> Option<PairIx>
+    ensures { result ≡ pair_of (config_of instances.now.entries []) z }
+{
+    instances.get(&z).copied()
+}
+
 /// The pair of y, where z is taken to be in another pair, or gone.
 fn pair_if(
     instances: &BTreeMap<InstNo, PairIx>,
     z: InstNo,
-    to: Option<PairIx>,
+    to: &Option<PairIx>,
     y: InstNo,
 ) -> Option<PairIx>
-    ensures { result ≡ pair_if (config_of instances.now.entries []) z to y }
+    ensures { result ≡ pair_if (config_of instances.now.entries []) z to.now y }
 {
     if y == z {
-        to
+        *to
     } else {
-        instances.get(&y).copied()
+        pair_in(instances, y)
     }
+}
+
+/// Whether the binding is one of the requirer's port.
+fn is_for(tie: &(PortIx, InstNo, InstNo), w: InstNo, r: PortIx) -> bool
+    ensures { result ≡ ((tie.now.0 == r) && (tie.now.1 == w)) }
+{
+    tie.0 == r && tie.1 == w
 }
 
 /// Whether the port r of w is met, where z is taken to be in another pair, or gone.
@@ -45,16 +59,19 @@ pub fn is_met_if(
     instances: &BTreeMap<InstNo, PairIx>,
     bindings: &BTreeSet<(PortIx, InstNo, InstNo)>,
     z: InstNo,
-    to: Option<PairIx>,
+    to: &Option<PairIx>,
     w: InstNo,
     r: PortIx,
 ) -> bool
     requires over { IsOver u.now (config_of instances.now.entries bindings.now.keys) }
-    requires to { (q : ℕ) → to ≡ Some q → q < pair_count u.now }
-    ensures { result ≡ is_met_if u.now (config_of instances.now.entries bindings.now.keys) z to w r }
+    requires to { (q : ℕ) → to.now ≡ Some q → q < pair_count u.now }
+    ensures { result ≡ is_met_if u.now (config_of instances.now.entries bindings.now.keys) z to.now w r }
 {
-    for tie in bindings.iter() {
-        if tie.0 == r && tie.1 == w && gives(u, pair_if(instances, z, to, tie.2), r) {
+    for tie in bindings.range((r, w, InstNo(0))..) {
+        if !is_for(tie, w, r) {
+            return false;
+        }
+        if gives(u, pair_if(instances, z, to, tie.2), r) {
             return true;
         }
     }
@@ -71,10 +88,27 @@ fn is_required(
     requires { (y q : ℕ) → pair_of (config_of instances.now.entries []) y ≡ Some q → q < pair_count u.now }
     ensures { result ≡ is_required u.now (config_of instances.now.entries []) z r }
 {
-    match instances.get(&z) {
-        Some(p) => u.required(*p).contains(&r),
+    match pair_in(instances, z) {
+        Some(p) => u.required(p).contains(&r),
         None => false,
     }
+}
+
+/// Whether the port r of w is required and would not be met, where z is taken to be in another pair, or gone.
+pub fn lacks(
+    u: &Universe,
+    instances: &BTreeMap<InstNo, PairIx>,
+    bindings: &BTreeSet<(PortIx, InstNo, InstNo)>,
+    z: InstNo,
+    to: &Option<PairIx>,
+    w: InstNo,
+    r: PortIx,
+) -> bool
+    requires over { IsOver u.now (config_of instances.now.entries bindings.now.keys) }
+    requires to { (q : ℕ) → to.now ≡ Some q → q < pair_count u.now }
+    ensures { result ≡ (is_required u.now (config_of instances.now.entries bindings.now.keys) w r && not (is_met_if u.now (config_of instances.now.entries bindings.now.keys) z to.now w r)) }
+{
+    is_required(u, instances, w, r) && !is_met_if(u, instances, bindings, z, to, w, r)
 }
 
 /// The least of those bound to z that would not be met, where z is taken to be in another pair, or gone.
@@ -84,44 +118,58 @@ pub fn first_lost(
     bindings: &BTreeSet<(PortIx, InstNo, InstNo)>,
     clients: &BTreeSet<(InstNo, InstNo, PortIx)>,
     z: InstNo,
-    to: Option<PairIx>,
+    to: &Option<PairIx>,
 ) -> Option<(InstNo, PortIx)>
     requires over { IsOver u.now (config_of instances.now.entries bindings.now.keys) }
-    requires to { (q : ℕ) → to ≡ Some q → q < pair_count u.now }
+    requires to { (q : ℕ) → to.now ≡ Some q → q < pair_count u.now }
     requires indexed { IsIndexed (config_of instances.now.entries bindings.now.keys) clients.now.keys }
-    ensures { IsLeast (is_lost u.now (config_of instances.now.entries bindings.now.keys) z to) result }
+    ensures { IsLeast (is_lost u.now (config_of instances.now.entries bindings.now.keys) z to.now) result }
 {
-    for client in clients.iter() {
-        if client.0 == z
-            && is_required(u, instances, client.1, client.2)
-            && !is_met_if(u, instances, bindings, z, to, client.1, client.2)
-        {
+    for client in clients.range((z, InstNo(0), PortIx(0))..) {
+        if client.0 != z {
+            return None;
+        }
+        if lacks(u, instances, bindings, z, to, client.1, client.2) {
             return Some((client.1, client.2));
         }
     }
     None
 }
 
-/// The first of these ports that is not met where z is in its pair p.
+/// The first of these ports of z that would not be met, where z is taken to be in another pair, or gone.
 fn unmet_port(
     u: &Universe,
     instances: &BTreeMap<InstNo, PairIx>,
     bindings: &BTreeSet<(PortIx, InstNo, InstNo)>,
     z: InstNo,
-    p: PairIx,
+    to: &Option<PairIx>,
     ports: &[PortIx],
 ) -> Option<PortIx>
     requires over { IsOver u.now (config_of instances.now.entries bindings.now.keys) }
-    requires pair { p < pair_count u.now }
-    requires there { pair_of (config_of instances.now.entries bindings.now.keys) z ≡ Some p }
-    ensures { result ≡ unmet_port u.now (config_of instances.now.entries bindings.now.keys) z ports.now }
+    requires to { (q : ℕ) → to.now ≡ Some q → q < pair_count u.now }
+    ensures { result ≡ find (λ r. not (is_met_if u.now (config_of instances.now.entries bindings.now.keys) z to.now z r)) ports.now }
 {
     for r in ports {
-        if !is_met_if(u, instances, bindings, z, Some(p), z, *r) {
+        if !is_met_if(u, instances, bindings, z, to, z, *r) {
             return Some(*r);
         }
     }
     None
+}
+
+/// The first port of the instance that its pair requires and that is not met.
+fn unmet_of(
+    u: &Universe,
+    instances: &BTreeMap<InstNo, PairIx>,
+    bindings: &BTreeSet<(PortIx, InstNo, InstNo)>,
+    z: InstNo,
+    p: PairIx,
+) -> Option<PortIx>
+    requires over { IsOver u.now (config_of instances.now.entries bindings.now.keys) }
+    requires there { pair_of (config_of instances.now.entries bindings.now.keys) z ≡ Some p }
+    ensures { result ≡ unmet_port u.now (config_of instances.now.entries bindings.now.keys) z (required_of u.now p) }
+{
+    unmet_port(u, instances, bindings, z, &Some(p), u.required(p))
 }
 
 /// The first instance and its first port that are required and not met.
@@ -134,9 +182,46 @@ pub fn first_unmet(
     ensures { result ≡ unmet u.now (config_of instances.now.entries bindings.now.keys) }
 {
     for (z, p) in instances.iter() {
-        if let Some(r) = unmet_port(u, instances, bindings, *z, *p, u.required(*p)) {
+        if let Some(r) = unmet_of(u, instances, bindings, *z, *p) {
             return Some((*z, r));
         }
     }
     None
+}
+
+/// The first port of z's own that would not be met.
+pub fn unmet_own(
+    u: &Universe,
+    instances: &BTreeMap<InstNo, PairIx>,
+    bindings: &BTreeSet<(PortIx, InstNo, InstNo)>,
+    z: InstNo,
+    to: &Option<PairIx>,
+) -> Option<PortIx>
+    requires over { IsOver u.now (config_of instances.now.entries bindings.now.keys) }
+    requires to { (q : ℕ) → to.now ≡ Some q → q < pair_count u.now }
+    ensures { result ≡ own_unmet u.now (config_of instances.now.entries bindings.now.keys) z to.now }
+{
+    let q = (*to)?;
+    unmet_port(u, instances, bindings, z, to, u.required(q))
+}
+
+/// Of a port of z's own and an instance with its port, the one that comes first.
+pub fn earlier_of(
+    z: InstNo,
+    own: Option<PortIx>,
+    lost: Option<(InstNo, PortIx)>,
+) -> Option<(InstNo, PortIx)>
+    ensures { result ≡ earlier_of z own lost }
+{
+    match (own, lost) {
+        (None, lost) => lost,
+        (Some(r), None) => Some((z, r)),
+        (Some(r), Some((w, s))) => {
+            if w < z {
+                Some((w, s))
+            } else {
+                Some((z, r))
+            }
+        }
+    }
 }
