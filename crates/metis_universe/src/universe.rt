@@ -1,9 +1,10 @@
 //! A universe: its types, its pairs in document order, and its ports.
-ghost use Rattle.std.specs.Prelude.{◌≡◌, ◌<◌, ◌==◌, ◌&&◌, position};
-ghost use Rattle.std.specs.List.{All, filter, list_any};
+ghost use Rattle.std.specs.Prelude.{◌≡◌, ◌<◌, ◌==◌, ◌&&◌, length, position};
+ghost use Rattle.std.specs.List.{All, filter, list_any, slice_index_or};
+ghost use Rattle.metis_universe.specs.Kinds.{kinds_of};
 ghost use Rattle.std.specs.List.Sorted.{IsStrictlyIncreasing, IsNonDecreasingBy};
 ghost use Rattle.std.specs.Str.{bytes_eq};
-ghost use Rattle.metis_universe.specs.Universe.{has, pair_count, type_count, port_count, type_of, state_place_of, initial_of, is_initial, next_of, provided_of, required_of, provides, type_requires, type_provides, type_named, port_named, state_named, pair_named, type_name_of, state_name_of, port_name_of, IsTable};
+ghost use Rattle.metis_universe.specs.Universe.{has, no_kind, pair_count, type_count, port_count, type_of, state_place_of, initial_of, is_initial, next_of, provided_of, required_of, provides, type_requires, type_provides, type_named, port_named, state_named, pair_named, type_name_of, state_name_of, port_name_of, IsTable};
 ghost use Rattle.metis_universe.specs.Rows.{RowsFit, IsMade};
 
 mod build;
@@ -110,10 +111,11 @@ impl Universe {
     /// The type's initial pair.
     pub fn initial(&self, t: TypeIx) -> PairIx
         requires { t < type_count self.now }
-        ensures { result ≡ initial_of self.now t }
+        ensures pair { result ≡ initial_of self.now t }
+        ensures within { result < pair_count self.now }
     {
-        let (_, initial) = self.kinds.get_index(t.0 as usize).unwrap();
-        *initial
+        let _tables = &self.pairs;
+        initial_among(&self.kinds, t)
     }
 
     /// Whether the pair is a type's initial pair.
@@ -244,6 +246,15 @@ impl Universe {
     {
         self.ports.get_index(r.0 as usize).unwrap().as_str()
     }
+}
+
+/// The initial pair of the type.
+fn initial_among(kinds: &IndexMap<String, PairIx>, t: TypeIx) -> PairIx
+    requires { t < length (kinds_of kinds.now.entries) }
+    ensures { result ≡ (slice_index_or (kinds_of kinds.now.entries) t no_kind).initial }
+{
+    let (_, initial) = kinds.get_index(t.0 as usize).unwrap();
+    *initial
 }
 
 /// The pairs of the type, which stand together.

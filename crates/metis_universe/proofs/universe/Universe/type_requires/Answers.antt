@@ -1,4 +1,4 @@
-use Rattle.std.proofs.Common.{List, nat_eq, ap, ◌∙◌, ◌&&◌}
+use Rattle.std.proofs.Common.{nat_eq, ap, ◌∙◌, ◌&&◌}
 use Rattle.std.specs.List.{list_any}
 use Rattle.metis_universe.specs.Universe.{Pair, Universe, has, type_requires}
 use Rattle.metis_universe.proofs.TypeBlock.{any-filter}

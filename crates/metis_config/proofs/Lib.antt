@@ -1,0 +1,5 @@
+pub mod Changes
+pub mod Indexed
+pub mod Leasts
+pub mod Prefixes
+pub mod Unmets

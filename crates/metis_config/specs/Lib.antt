@@ -1,0 +1,3 @@
+pub mod Clients
+pub mod Over
+pub mod Unmet

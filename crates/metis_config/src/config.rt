@@ -1,0 +1,253 @@
+//! A configuration, its reads and its edits.
+ghost use Rattle.std.specs.Prelude.{◌≡◌, ◌≢◌, ◌<◌, ◌↔◌, ℕ, Some, IsTrue, IsFalse, IsSome, IfOk, OnOk, OnErr, length, not, None, ◌==◌, ◌||◌};
+ghost use Rattle.std.specs.List.{filter};
+ghost use Rattle.metis_universe.specs.Config.{IsConfig, empty, is_met, Correct, pair_of, is_bound, put, remove, tie, untie, names};
+ghost use Rattle.metis_universe.specs.Goal.{holding};
+ghost use Rattle.metis_universe.specs.Universe.{pair_count};
+ghost use Rattle.metis_config.specs.Over.{IsOver};
+ghost use Rattle.metis_config.specs.Unmet.{unmet, is_unmet, IsLeast, changed};
+
+use crate::lists::{Instances, Ties};
+use crate::met;
+use metis_ids::{InstNo, NoMemory, PairIx, PortIx};
+use metis_universe::Universe;
+use std::alloc::Global;
+use std::collections::{BTreeMap, BTreeSet};
+use std::marker::Model;
+
+/// Instances in their pairs, and the bindings between them.
+#[derive(Drop)]
+pub struct Config {
+    instances: BTreeMap<InstNo, PairIx>,
+    bindings: BTreeSet<(PortIx, InstNo, InstNo)>,
+    /// The bindings again, by provider, then requirer, then port.
+    clients: BTreeSet<(InstNo, InstNo, PortIx)>,
+}
+
+impl Model for Config {
+    ghost use Rattle.metis_universe.specs.Config as model;
+
+    ghost Value = { model.Config };
+
+    ghost use Rattle.metis_config.specs.Clients.{IsIndexed};
+
+    ghost view = { λ a. model.config_of a.instances.entries a.bindings.keys };
+
+    ghost invariant = { λ a. IsIndexed (model.config_of a.instances.entries a.bindings.keys) a.clients.keys };
+}
+
+impl Config {
+    /// No instance and no binding.
+    pub fn empty(alloc: Global) -> Config
+        ensures { result ≡ empty }
+    {
+        Config {
+            instances: BTreeMap::new(alloc),
+            bindings: BTreeSet::new(alloc),
+            clients: BTreeSet::new(alloc),
+        }
+    }
+
+    /// An equal configuration.
+    pub fn copy(&self) -> Result<Config, NoMemory>
+        ensures { IfOk result (λ c. c ≡ self.now) }
+    {
+        Ok(Config {
+            instances: self.instances.clone()?,
+            bindings: self.bindings.clone()?,
+            clients: self.clients.clone()?,
+        })
+    }
+
+    /// The pair of an instance, if it is there.
+    pub fn pair_of(&self, z: InstNo) -> Option<PairIx>
+        ensures { result ≡ pair_of self.now z }
+    {
+        self.instances.get(&z).copied()
+    }
+
+    /// Whether the requirer's port is bound to the provider.
+    pub fn bound(&self, r: PortIx, z: InstNo, y: InstNo) -> bool
+        ensures { result ≡ is_bound self.now r z y }
+    {
+        self.bindings.contains(&(r, z, y))
+    }
+
+    /// The instances with their pairs, ascending.
+    pub fn instances(&self) -> Instances<'_>
+        ensures { result ≡ self.now.instances }
+    {
+        Instances {
+            rest: self.instances.iter(),
+        }
+    }
+
+    /// The bindings, by port, then requirer, then provider.
+    pub fn bindings(&self) -> Ties<'_>
+        ensures { result ≡ self.now.bindings }
+    {
+        Ties {
+            rest: self.bindings.iter(),
+        }
+    }
+
+    /// How many instances there are.
+    pub fn count(&self) -> u64
+        ensures count { result ≡ length self.now.instances }
+        ensures config { IsConfig self.now }
+    {
+        self.instances.len() as u64
+    }
+
+    /// How many bindings there are.
+    pub fn bindings_count(&self) -> u64
+        ensures { result ≡ length self.now.bindings }
+    {
+        self.bindings.len() as u64
+    }
+
+    /// How many instances are in the pair.
+    pub fn holding(&self, p: PairIx) -> u64
+        ensures { result ≡ holding self.now p }
+    {
+        self.instances.iter().filter(|(_, q)| **q == p).count() as u64
+    }
+
+    /// Whether the port of the instance is met.
+    pub fn is_met(&self, u: &Universe, z: InstNo, r: PortIx) -> bool
+        requires { IsOver u.now self.now }
+        ensures { result ≡ is_met u.now self.now z r }
+    {
+        let pair = self.pair_of(z);
+        met::is_met_if(u, &self.instances, &self.bindings, z, &pair, z, r)
+    }
+
+    /// Whether each port that an instance's pair requires is met.
+    pub fn is_correct(&self, u: &Universe) -> bool
+        requires { IsOver u.now self.now }
+        ensures { IsTrue result ↔ Correct u.now self.now }
+    {
+        let _parts = &self.instances;
+        let _pairs = u.pairs();
+        self.unmet(u).is_none()
+    }
+
+    /// The first instance, and its first port, that is required and not met; `None` where the configuration is correct.
+    pub fn unmet(&self, u: &Universe) -> Option<(InstNo, PortIx)>
+        requires { IsOver u.now self.now }
+        ensures first { result ≡ unmet u.now self.now }
+        ensures least { IsLeast (is_unmet u.now self.now) result }
+    {
+        let _pairs = u.pairs();
+        met::first_unmet(u, &self.instances, &self.bindings)
+    }
+
+    /// What `unmet` would be if the instance were in the pair, or gone. It looks at the instance and those bound to it.
+    pub fn unmet_if(
+        &self,
+        u: &Universe,
+        z: InstNo,
+        to: Option<PairIx>,
+    ) -> Option<(InstNo, PortIx)>
+        requires over { IsOver u.now self.now }
+        requires correct { Correct u.now self.now }
+        requires to { (q : ℕ) → to ≡ Some q → q < pair_count u.now }
+        ensures { result ≡ unmet u.now (changed self.now z to) }
+    {
+        let _pairs = u.pairs();
+        let own = met::unmet_own(u, &self.instances, &self.bindings, z, &to);
+        let lost = met::first_lost(u, &self.instances, &self.bindings, &self.clients, z, &to);
+        met::earlier_of(z, own, lost)
+    }
+
+    /// What `unmet` would be without the binding. It looks at its requirer's port.
+    pub fn unmet_untied(
+        &self,
+        u: &Universe,
+        r: PortIx,
+        z: InstNo,
+        y: InstNo,
+    ) -> Option<(InstNo, PortIx)>
+        requires over { IsOver u.now self.now }
+        requires correct { Correct u.now self.now }
+        ensures { result ≡ unmet u.now (untie self.now r z y) }
+    {
+        let _pairs = u.pairs();
+        if met::lacks(u, &self.instances, &self.bindings, y, &None, z, r) {
+            Some((z, r))
+        } else {
+            None
+        }
+    }
+
+    /// Adds an instance. Where memory runs out, nothing changes.
+    pub fn put(&mut self, z: InstNo, p: PairIx) -> Result<(), NoMemory>
+        requires { pair_of self.old z ≡ None }
+        ensures ok { OnOk result (self.new ≡ put self.old z p) }
+        ensures err { OnErr result (self.new ≡ self.old) }
+    {
+        self.instances.insert(z, p)?;
+        Ok(())
+    }
+
+    /// Puts an instance that is there into another pair.
+    pub fn set_pair(&mut self, z: InstNo, p: PairIx)
+        requires { IsSome (pair_of self.old z) }
+        ensures { self.new ≡ put self.old z p }
+    {
+        // Only a new key takes memory.
+        match self.instances.insert(z, p) {
+            Ok(_) => (),
+            Err(_) => unreachable!(),
+        }
+    }
+
+    /// Adds a binding. Where memory runs out, nothing changes.
+    pub fn tie(&mut self, r: PortIx, z: InstNo, y: InstNo) -> Result<(), NoMemory>
+        requires apart { z ≢ y }
+        requires requirer { IsSome (pair_of self.old z) }
+        requires provider { IsSome (pair_of self.old y) }
+        requires unbound { IsFalse (is_bound self.old r z y) }
+        ensures ok { OnOk result (self.new ≡ tie self.old r z y) }
+        ensures err { OnErr result (self.new ≡ self.old) }
+    {
+        self.clients.insert((y, z, r))?;
+        if self.bindings.insert((r, z, y)).is_err() {
+            self.clients.remove(&(y, z, r));
+            return Err(NoMemory);
+        }
+        Ok(())
+    }
+
+    /// Takes a binding away.
+    pub fn untie(&mut self, r: PortIx, z: InstNo, y: InstNo)
+        requires { IsTrue (is_bound self.old r z y) }
+        ensures { self.new ≡ untie self.old r z y }
+    {
+        self.bindings.remove(&(r, z, y));
+        self.clients.remove(&(y, z, r));
+    }
+
+    /// Takes an instance away, with each binding that names it.
+    pub fn remove(&mut self, z: InstNo)
+        ensures { self.new ≡ remove self.old z }
+    {
+        self.instances.remove(&z);
+        drop_named(&mut self.bindings, z);
+        drop_clients(&mut self.clients, z);
+    }
+}
+
+/// Keeps the bindings that do not name z.
+fn drop_named(bindings: &mut BTreeSet<(PortIx, InstNo, InstNo)>, z: InstNo)
+    ensures { bindings.new.keys ≡ filter (λ b. not (names z b)) bindings.old.keys }
+{
+    bindings.retain(|b| !(b.1 == z || b.2 == z));
+}
+
+/// The same of bindings by their providers.
+fn drop_clients(clients: &mut BTreeSet<(InstNo, InstNo, PortIx)>, z: InstNo)
+    ensures { clients.new.keys ≡ filter (λ b. not ((b.0 == z) || (b.1 == z))) clients.old.keys }
+{
+    clients.retain(|b| !(b.0 == z || b.1 == z));
+}

@@ -1,0 +1,9 @@
+//! Configurations: which instance is in which pair, and what is bound to what.
+#![tactic(auto)]
+
+mod config;
+mod lists;
+mod met;
+
+pub use config::Config;
+pub use lists::{Instances, Ties};

@@ -1,0 +1,227 @@
+//! Which ports are met, over the parts of a configuration.
+ghost use Rattle.std.specs.Prelude.{◌≡◌, ◌<◌, ℕ, ◌==◌, ◌&&◌, not, false, [], Some};
+ghost use Rattle.std.specs.List.{find};
+ghost use Rattle.std.specs.Option.{option_map_or};
+ghost use Rattle.metis_universe.specs.Universe.{pair_count, provides, required_of};
+ghost use Rattle.metis_universe.specs.Config.{config_of, pair_of};
+ghost use Rattle.metis_config.specs.Over.{IsOver};
+ghost use Rattle.metis_config.specs.Clients.{IsIndexed};
+ghost use Rattle.metis_config.specs.Unmet.{pair_if, is_met_if, is_required, is_lost, IsLeast, unmet_port, unmet, own_unmet, earlier_of};
+
+use metis_ids::{InstNo, PairIx, PortIx};
+use metis_universe::Universe;
+use std::collections::{BTreeMap, BTreeSet};
+
+/// Whether the pair provides the port, if there is one.
+fn gives(u: &Universe, pair: Option<PairIx>, r: PortIx) -> bool
+    requires { (q : ℕ) → pair ≡ Some q → q < pair_count u.now }
+    ensures { result ≡ option_map_or (λ q. provides u.now q r) pair false }
+{
+    match pair {
+        Some(q) => u.provides(q, r),
+        None => false,
+    }
+}
+
+/// The pair of the instance, if it is there.
+fn pair_in(instances: &BTreeMap<InstNo, PairIx>, z: InstNo) -> Option<PairIx>
+    ensures { result ≡ pair_of (config_of instances.now.entries []) z }
+{
+    instances.get(&z).copied()
+}
+
+/// The pair of y, where z is taken to be in another pair, or gone.
+fn pair_if(
+    instances: &BTreeMap<InstNo, PairIx>,
+    z: InstNo,
+    to: &Option<PairIx>,
+    y: InstNo,
+) -> Option<PairIx>
+    ensures { result ≡ pair_if (config_of instances.now.entries []) z to.now y }
+{
+    if y == z {
+        *to
+    } else {
+        pair_in(instances, y)
+    }
+}
+
+/// Whether the binding is one of the requirer's port.
+fn is_for(tie: &(PortIx, InstNo, InstNo), w: InstNo, r: PortIx) -> bool
+    ensures { result ≡ ((tie.now.0 == r) && (tie.now.1 == w)) }
+{
+    tie.0 == r && tie.1 == w
+}
+
+/// Whether the port r of w is met, where z is taken to be in another pair, or gone.
+pub fn is_met_if(
+    u: &Universe,
+    instances: &BTreeMap<InstNo, PairIx>,
+    bindings: &BTreeSet<(PortIx, InstNo, InstNo)>,
+    z: InstNo,
+    to: &Option<PairIx>,
+    w: InstNo,
+    r: PortIx,
+) -> bool
+    requires over { IsOver u.now (config_of instances.now.entries bindings.now.keys) }
+    requires to { (q : ℕ) → to.now ≡ Some q → q < pair_count u.now }
+    ensures { result ≡ is_met_if u.now (config_of instances.now.entries bindings.now.keys) z to.now w r }
+{
+    for tie in bindings.range((r, w, InstNo(0))..) {
+        if !is_for(tie, w, r) {
+            return false;
+        }
+        if gives(u, pair_if(instances, z, to, tie.2), r) {
+            return true;
+        }
+    }
+    false
+}
+
+/// Whether the pair of the instance requires the port, if it is there.
+fn is_required(
+    u: &Universe,
+    instances: &BTreeMap<InstNo, PairIx>,
+    z: InstNo,
+    r: PortIx,
+) -> bool
+    requires { (y q : ℕ) → pair_of (config_of instances.now.entries []) y ≡ Some q → q < pair_count u.now }
+    ensures { result ≡ is_required u.now (config_of instances.now.entries []) z r }
+{
+    match pair_in(instances, z) {
+        Some(p) => u.required(p).contains(&r),
+        None => false,
+    }
+}
+
+/// Whether the port r of w is required and would not be met, where z is taken to be in another pair, or gone.
+pub fn lacks(
+    u: &Universe,
+    instances: &BTreeMap<InstNo, PairIx>,
+    bindings: &BTreeSet<(PortIx, InstNo, InstNo)>,
+    z: InstNo,
+    to: &Option<PairIx>,
+    w: InstNo,
+    r: PortIx,
+) -> bool
+    requires over { IsOver u.now (config_of instances.now.entries bindings.now.keys) }
+    requires to { (q : ℕ) → to.now ≡ Some q → q < pair_count u.now }
+    ensures { result ≡ (is_required u.now (config_of instances.now.entries bindings.now.keys) w r && not (is_met_if u.now (config_of instances.now.entries bindings.now.keys) z to.now w r)) }
+{
+    is_required(u, instances, w, r) && !is_met_if(u, instances, bindings, z, to, w, r)
+}
+
+/// The least of those bound to z that would not be met, where z is taken to be in another pair, or gone.
+pub fn first_lost(
+    u: &Universe,
+    instances: &BTreeMap<InstNo, PairIx>,
+    bindings: &BTreeSet<(PortIx, InstNo, InstNo)>,
+    clients: &BTreeSet<(InstNo, InstNo, PortIx)>,
+    z: InstNo,
+    to: &Option<PairIx>,
+) -> Option<(InstNo, PortIx)>
+    requires over { IsOver u.now (config_of instances.now.entries bindings.now.keys) }
+    requires to { (q : ℕ) → to.now ≡ Some q → q < pair_count u.now }
+    requires indexed { IsIndexed (config_of instances.now.entries bindings.now.keys) clients.now.keys }
+    ensures { IsLeast (is_lost u.now (config_of instances.now.entries bindings.now.keys) z to.now) result }
+{
+    for client in clients.range((z, InstNo(0), PortIx(0))..) {
+        if client.0 != z {
+            return None;
+        }
+        if lacks(u, instances, bindings, z, to, client.1, client.2) {
+            return Some((client.1, client.2));
+        }
+    }
+    None
+}
+
+/// The first of these ports of z that would not be met, where z is taken to be in another pair, or gone.
+fn unmet_port(
+    u: &Universe,
+    instances: &BTreeMap<InstNo, PairIx>,
+    bindings: &BTreeSet<(PortIx, InstNo, InstNo)>,
+    z: InstNo,
+    to: &Option<PairIx>,
+    ports: &[PortIx],
+) -> Option<PortIx>
+    requires over { IsOver u.now (config_of instances.now.entries bindings.now.keys) }
+    requires to { (q : ℕ) → to.now ≡ Some q → q < pair_count u.now }
+    ensures { result ≡ find (λ r. not (is_met_if u.now (config_of instances.now.entries bindings.now.keys) z to.now z r)) ports.now }
+{
+    for r in ports {
+        if !is_met_if(u, instances, bindings, z, to, z, *r) {
+            return Some(*r);
+        }
+    }
+    None
+}
+
+/// The first port of the instance that its pair requires and that is not met.
+fn unmet_of(
+    u: &Universe,
+    instances: &BTreeMap<InstNo, PairIx>,
+    bindings: &BTreeSet<(PortIx, InstNo, InstNo)>,
+    z: InstNo,
+    p: PairIx,
+) -> Option<PortIx>
+    requires over { IsOver u.now (config_of instances.now.entries bindings.now.keys) }
+    requires there { pair_of (config_of instances.now.entries bindings.now.keys) z ≡ Some p }
+    ensures { result ≡ unmet_port u.now (config_of instances.now.entries bindings.now.keys) z (required_of u.now p) }
+{
+    unmet_port(u, instances, bindings, z, &Some(p), u.required(p))
+}
+
+/// The first instance and its first port that are required and not met.
+pub fn first_unmet(
+    u: &Universe,
+    instances: &BTreeMap<InstNo, PairIx>,
+    bindings: &BTreeSet<(PortIx, InstNo, InstNo)>,
+) -> Option<(InstNo, PortIx)>
+    requires { IsOver u.now (config_of instances.now.entries bindings.now.keys) }
+    ensures { result ≡ unmet u.now (config_of instances.now.entries bindings.now.keys) }
+{
+    for (z, p) in instances.iter() {
+        if let Some(r) = unmet_of(u, instances, bindings, *z, *p) {
+            return Some((*z, r));
+        }
+    }
+    None
+}
+
+/// The first port of z's own that would not be met.
+pub fn unmet_own(
+    u: &Universe,
+    instances: &BTreeMap<InstNo, PairIx>,
+    bindings: &BTreeSet<(PortIx, InstNo, InstNo)>,
+    z: InstNo,
+    to: &Option<PairIx>,
+) -> Option<PortIx>
+    requires over { IsOver u.now (config_of instances.now.entries bindings.now.keys) }
+    requires to { (q : ℕ) → to.now ≡ Some q → q < pair_count u.now }
+    ensures { result ≡ own_unmet u.now (config_of instances.now.entries bindings.now.keys) z to.now }
+{
+    let q = (*to)?;
+    unmet_port(u, instances, bindings, z, to, u.required(q))
+}
+
+/// Of a port of z's own and an instance with its port, the one that comes first.
+pub fn earlier_of(
+    z: InstNo,
+    own: Option<PortIx>,
+    lost: Option<(InstNo, PortIx)>,
+) -> Option<(InstNo, PortIx)>
+    ensures { result ≡ earlier_of z own lost }
+{
+    match (own, lost) {
+        (None, lost) => lost,
+        (Some(r), None) => Some((z, r)),
+        (Some(r), Some((w, s))) => {
+            if w < z {
+                Some((w, s))
+            } else {
+                Some((z, r))
+            }
+        }
+    }
+}
