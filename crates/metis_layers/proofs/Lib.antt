@@ -5,5 +5,6 @@ pub mod Hops
 pub mod LayerFacts
 pub mod Lines
 pub mod Order
+pub mod Sets
 pub mod Standing
 pub mod Ways

@@ -1,1 +1,2 @@
 pub mod LayerOrder
+pub mod Rounds

@@ -2,5 +2,6 @@
 #![tactic(auto)]
 
 mod laws;
+mod round;
 
 pub use laws::{layer_order_deploys, layers_are_attainable};
