@@ -3,8 +3,11 @@ pub mod Deploying
 pub mod Examples
 pub mod Hops
 pub mod LayerFacts
+pub mod Layered
 pub mod Lines
 pub mod Order
 pub mod Sets
+pub mod Stamps
 pub mod Standing
+pub mod Tables
 pub mod Ways

@@ -48,24 +48,27 @@ take_one_more (y ∷ xs) zero x is = ap (λ k. k ∷ []) (some_same y x is) wher
   some_same a b h = cc
 take_one_more (y ∷ xs) (suc i) x is = let next : suc i + 1 ≡ suc (i + 1) = omega arith in ap (λ n. take n (y ∷ xs)) next ∙ ap (λ l. y ∷ l) (take_one_more xs i x is)
 
+pub take_more : (xs : List ℕ) (i x : ℕ) → i < length xs → x ≡ get_or xs i x → take (i + 1) xs ≡ take i xs ++ x ∷ []
+take_more xs i x low at = take_one_more xs i x (slice_get-get_or xs i x low ∙ ap Some (sym at))
+
 -- one more number of a list goes into a set
 pub gathered : (xs s s' old : List ℕ) (i x : ℕ) → i < length xs → x ≡ get_or xs i x → s' ≡ insert_key nat_cmp s x → ((q : ℕ) → has s q ≡ (has (take i xs) q || has old q)) → (q : ℕ) → has s' q ≡ (has (take (i + 1) xs) q || has old q)
 gathered xs s s' old i x low at is before q =
     ap (λ l. has l q) is ∙ has-insert_key s x q ∙ ap (λ b. nat_eq x q || b) (before q)
     ∙ swap (nat_eq x q) (has (take i xs) q) (has old q)
-    ∙ ap (λ b. b || has old q) (sym (list_any-append (λ y. nat_eq y q) (take i xs) (x ∷ []))) ∙ ap (λ l. has l q || has old q) (sym (take_one_more xs i x (slice_get-get_or xs i x low ∙ ap Some (sym at)))) where
-  swap : (a b c : Bool) → (a || (b || c)) ≡ ((b || (a || false)) || c)
-  swap true true c = refl
-  swap true false c = refl
-  swap false true c = refl
-  swap false false c = refl
+    ∙ ap (λ b. b || has old q) (sym (list_any-append (λ y. nat_eq y q) (take i xs) (x ∷ []))) ∙ ap (λ l. has l q || has old q) (sym (take_more xs i x low at)) where
+      swap : (a b c : Bool) → (a || (b || c)) ≡ ((b || (a || false)) || c)
+      swap true true c = refl
+      swap true false c = refl
+      swap false true c = refl
+      swap false false c = refl
 
 -- what one more pair brings
 pub brought : (f : ℕ → List ℕ) (ys : List ℕ) (p : ℕ) (s s' : List ℕ) → ((q : ℕ) → has s q ≡ list_any (λ y. has (f y) q) ys) → ((q : ℕ) → has s' q ≡ (has (f p) q || has s q)) → (q : ℕ) → has s' q ≡ list_any (λ y. has (f y) q) (ys ++ p ∷ [])
 brought f ys p s s' before now q =
     now q ∙ ap (λ b. has (f p) q || b) (before q) ∙ swap (has (f p) q) (list_any (λ y. has (f y) q) ys) ∙ sym (list_any-append (λ y. has (f y) q) ys (p ∷ [])) where
-  swap : (a b : Bool) → (a || b) ≡ (b || (a || false))
-  swap true true = refl
-  swap true false = refl
-  swap false true = refl
-  swap false false = refl
+      swap : (a b : Bool) → (a || b) ≡ (b || (a || false))
+      swap true true = refl
+      swap true false = refl
+      swap false true = refl
+      swap false false = refl

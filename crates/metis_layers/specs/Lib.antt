@@ -1,2 +1,3 @@
 pub mod LayerOrder
+pub mod Layers
 pub mod Rounds

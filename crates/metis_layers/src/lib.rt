@@ -3,5 +3,7 @@
 
 mod laws;
 mod round;
+pub mod table;
 
 pub use laws::{layer_order_deploys, layers_are_attainable};
+pub use table::build::layers;

@@ -54,7 +54,13 @@ pub fn next_round(alloc: Global, u: &Universe, set: &PairSet) -> Result<PairSet,
 }
 
 // Whether the pair is there, or enabled by those that are.
-fn comes(u: &Universe, set: &PairSet, led: &PairSet, offered: &BTreeSet<PortIx>, pair: PairIx) -> bool
+fn comes(
+    u: &Universe,
+    set: &PairSet,
+    led: &PairSet,
+    offered: &BTreeSet<PortIx>,
+    pair: PairIx,
+) -> bool
     requires within { pair < pair_count u.now }
     requires led { IsLed u.now set.now.members led.now.members }
     requires offered { IsOffered u.now set.now.members offered.now.keys }
@@ -86,11 +92,7 @@ fn add_all(set: &mut PairSet, pairs: &[PairIx])
 }
 
 // The ports that pairs of the set provide.
-fn offered_by(
-    alloc: Global,
-    u: &Universe,
-    set: &PairSet,
-) -> Result<BTreeSet<PortIx>, NoMemory>
+fn offered_by(alloc: Global, u: &Universe, set: &PairSet) -> Result<BTreeSet<PortIx>, NoMemory>
     requires { set.now.size ≡ pair_count u.now }
     ensures { IfOk result (λ offered. IsOffered u.now set.now.members offered.keys) }
 {

@@ -1,0 +1,16 @@
+use Rattle.std.proofs.Common.{◌∙◌, ap, length}
+use Rattle.metis_layers.proofs.Layered.{is_layers, order_low}
+use Rattle.metis_layers.specs.Layers.{order_by}
+use Rattle.metis_layers.proofs.table.build.layers.Goals as goal
+
+pub first_providers-requires : goal.first_providers-requires
+first_providers-requires c =
+    order_low c.args.u.now c.in_ok-rounds.rounds.items c.in_ok-rounds.ensures.rounds c.deref-2.result.now
+    (c.deref-2.ensures.value ∙ c.in_ok-order.ensures ∙ ap (λ l. order_by l (length l)) c.deref.ensures.value)
+
+pub returns : goal.returns
+returns c =
+    is_layers c.args.u.now c.in_ok-rounds.rounds.items c.in_ok-rounds.ensures.rounds c.in_ok-rounds.attained c.deref-2.result.now c.in_ok-first.first.items
+    c.in_ok-rounds.ensures.size c.in_ok-rounds.ensures.attained
+    (c.deref-2.ensures.value ∙ c.in_ok-order.ensures ∙ ap (λ l. order_by l (length l)) c.deref.ensures.value)
+    c.in_ok-first.ensures
