@@ -1,10 +1,10 @@
 //! The five actions on a configuration, and why one is refused.
 #![tactic(auto)]
 
-mod apply;
 mod faults;
+mod steps;
 mod texts;
 
-pub use apply::apply;
 pub use faults::AFault;
+pub use steps::apply;
 pub use texts::write_fault;
