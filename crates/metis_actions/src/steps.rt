@@ -13,12 +13,30 @@ use metis_config::Config;
 use metis_ids::{Action, InstNo, PairIx, PortIx, TypeIx};
 use metis_universe::Universe;
 
-/// Does the action where it leads to a correct configuration. Else the configuration stays as it was.
+/// Does the action where it leads to a correct configuration. Else the configuration stays as it was, and the fault is the first
+/// reason. Only an instance or a binding that comes takes memory.
 pub fn apply(u: &Universe, c: &mut Config, a: &Action) -> Result<(), AFault>
     requires over { IsOver u.now c.old }
     requires correct { Correct u.now c.old }
     requires action { IsOf u.now a.now }
     ensures answers { Answers u.now c.old a.now c.new result }
+
+    // So it is done exactly where the definitions allow a step to a correct configuration, and memory lasts.
+    ensures step { OnOk result (Step u.now c.old a.now c.new) }
+    ensures refused { IfErr result (λ f. f ≢ AFault.NoMemory → Allows u.now c.old a.now → Correct u.now (after u.now c.old a.now) → ⊥) }
+    ensures correct { Correct u.now c.new }
+    ensures over { IsOver u.now c.new }
+{
+    let _pairs = u.pairs();
+    let _count = c.count();
+    act(u, c, a)
+}
+
+fn act(u: &Universe, c: &mut Config, a: &Action) -> Result<(), AFault>
+    requires over { IsOver u.now c.old }
+    requires correct { Correct u.now c.old }
+    requires action { IsOf u.now a.now }
+    ensures { Answers u.now c.old a.now c.new result }
 {
     match *a {
         Action::New { inst, kind } => make(u, c, inst, kind),
