@@ -8,3 +8,6 @@ mod texts;
 pub use faults::AFault;
 pub use steps::apply;
 pub use texts::write_fault;
+
+#[cfg(test)]
+mod tests;

@@ -47,6 +47,7 @@ removed_one r w z b0 b1 b2 given gone n same none =
       and_false : (a : Bool) → (a && false) ≡ false
       and_false true = refl
       and_false false = refl
+
       no_front : (a v : Bool) → (a && false && v) ≡ false
       no_front true v = refl
       no_front false v = refl
@@ -108,35 +109,43 @@ module _ (u : Universe) (c : Config) (k : IsConfig c) (correct : Correct u c) (z
         | true ↦ λ at. both_ways _ (none r refl) (sym (ap (λ w. is_unmet u (changed c z o) w r) (eqb-true w z at)) ∙ h)
         | false ↦ λ other. both_ways _ (least w r) (only_clients w r other h)
       ] refl)
-  unmet_changed None (Some x) none some least =
-      (clients_only x.0 x.1 least.0, λ w r h.
-      elim (nat_eq w z) as (λ v. nat_eq w z ≡ v → IsAtMost x w r) [
-        | true ↦ λ at. absurd (both_ways _ (none r refl) (sym (ap (λ w. is_unmet u (changed c z o) w r) (eqb-true w z at)) ∙ h))
-        | false ↦ λ other. least.1 w r (only_clients w r other h)
-      ] refl)
-  unmet_changed (Some p) None none some least =
-      ((some p p refl).0, λ w r h.
-      elim (nat_eq w z) as (λ v. nat_eq w z ≡ v → IsAtMost (z, p) w r) [
-        | true ↦ λ at. let e = eqb-true w z at in inr (sym e, (some p r refl).1 (sym (ap (λ w. is_unmet u (changed c z o) w r) e) ∙ h))
-        | false ↦ λ other. absurd (both_ways _ (least w r) (only_clients w r other h))
-      ] refl)
+  unmet_changed None (Some x) none some least = (
+    clients_only x.0 x.1 least.0,
+    λ w r h.
+        elim (nat_eq w z) as (λ v. nat_eq w z ≡ v → IsAtMost x w r) [
+          | true ↦ λ at. absurd (both_ways _ (none r refl) (sym (ap (λ w. is_unmet u (changed c z o) w r) (eqb-true w z at)) ∙ h))
+          | false ↦ λ other. least.1 w r (only_clients w r other h)
+        ] refl,
+  )
+  unmet_changed (Some p) None none some least = (
+    (some p p refl).0,
+    λ w r h.
+        elim (nat_eq w z) as (λ v. nat_eq w z ≡ v → IsAtMost (z, p) w r) [
+          | true ↦ λ at. let e = eqb-true w z at in inr (sym e, (some p r refl).1 (sym (ap (λ w. is_unmet u (changed c z o) w r) e) ∙ h))
+          | false ↦ λ other. absurd (both_ways _ (least w r) (only_clients w r other h))
+        ] refl,
+  )
   unmet_changed (Some p) (Some x) none some least =
       elim (cases_lt x.0 z) [
-        | inl less ↦ subst (IsLeast (is_unmet u (changed c z o))) (sym (ap (λ v. cond v (Some x) (Some (z, p))) (lt-ltb x.0 z less)))
-          (clients_only x.0 x.1 least.0, λ w r h.
-          elim (nat_eq w z) as (λ v. nat_eq w z ≡ v → IsAtMost x w r) [
-            | true ↦ λ at. let e = eqb-true w z at in inl (omega arith)
-            | false ↦ λ other. least.1 w r (only_clients w r other h)
-          ] refl)
-        | inr more ↦ subst (IsLeast (is_unmet u (changed c z o))) (sym (ap (λ v. cond v (Some x) (Some (z, p))) (le-ltb x.0 z more)))
-          ((some p p refl).0, λ w r h.
-          elim (nat_eq w z) as (λ v. nat_eq w z ≡ v → IsAtMost (z, p) w r) [
-            | true ↦ λ at. let e = eqb-true w z at in inr (sym e, (some p r refl).1 (sym (ap (λ w. is_unmet u (changed c z o) w r) e) ∙ h))
-            | false ↦ λ other. elim (least.1 w r (only_clients w r other h)) [
-              | inl before ↦ inl (omega arith)
-              | inr same ↦ inl (later w other more same.0)
-            ]
-          ] refl)
+        | inl less ↦ subst (IsLeast (is_unmet u (changed c z o))) (sym (ap (λ v. cond v (Some x) (Some (z, p))) (lt-ltb x.0 z less))) (
+          clients_only x.0 x.1 least.0,
+          λ w r h.
+              elim (nat_eq w z) as (λ v. nat_eq w z ≡ v → IsAtMost x w r) [
+                | true ↦ λ at. let e = eqb-true w z at in inl (omega arith)
+                | false ↦ λ other. least.1 w r (only_clients w r other h)
+              ] refl,
+        )
+        | inr more ↦ subst (IsLeast (is_unmet u (changed c z o))) (sym (ap (λ v. cond v (Some x) (Some (z, p))) (le-ltb x.0 z more))) (
+          (some p p refl).0,
+          λ w r h.
+              elim (nat_eq w z) as (λ v. nat_eq w z ≡ v → IsAtMost (z, p) w r) [
+                | true ↦ λ at. let e = eqb-true w z at in inr (sym e, (some p r refl).1 (sym (ap (λ w. is_unmet u (changed c z o) w r) e) ∙ h))
+                | false ↦ λ other. elim (least.1 w r (only_clients w r other h)) [
+                  | inl before ↦ inl (omega arith)
+                  | inr same ↦ inl (later w other more same.0)
+                ]
+              ] refl,
+        )
       ] where
         later : (w : ℕ) → nat_eq w z ≡ false → z ≤ x.0 → x.0 ≡ w → z < w
         later w other more e = grind (arith, nat_tests)

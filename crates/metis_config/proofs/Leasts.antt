@@ -33,10 +33,11 @@ weaker P Q (e ∷ es) h all = (h e all.0, weaker P Q es h all.1)
 pub each_there : (es : List (ℕ × ℕ)) → IsStrictlySortedBy nat_cmp (keys_of es) → AllByRecursion (λ e. lookup (nat_eq e.0) es ≡ Some e.1) es
 unfolding IsStrictlySortedBy
 each_there [] s = tt
-each_there (x ∷ es) s =
-    (ap (λ b. cond b (Some x.1) (lookup (nat_eq x.0) es)) (eq-eqb x.0 x.0 refl),
-    weaker (λ e. lookup (nat_eq e.0) es ≡ Some e.1) (λ e. lookup (nat_eq e.0) (x ∷ es) ≡ Some e.1) es
-    (λ e there. ap (λ b. cond b (Some x.1) (lookup (nat_eq e.0) es)) (apart_below x.0 es e.0 e.1 s.0 there) ∙ there) (each_there es s.1))
+each_there (x ∷ es) s = (
+  ap (λ b. cond b (Some x.1) (lookup (nat_eq x.0) es)) (eq-eqb x.0 x.0 refl),
+  weaker (λ e. lookup (nat_eq e.0) es ≡ Some e.1) (λ e. lookup (nat_eq e.0) (x ∷ es) ≡ Some e.1) es
+      (λ e there. ap (λ b. cond b (Some x.1) (lookup (nat_eq e.0) es)) (apart_below x.0 es e.0 e.1 s.0 there) ∙ there) (each_there es s.1),
+)
 
 -- keys above k are greater
 below_key : (k : ℕ) (es : List (ℕ × ℕ)) (z p : ℕ) → AllByRecursion (λ y. nat_cmp k y ≡ Less) (keys_of es) → lookup (nat_eq z) es ≡ Some p → k < z
@@ -86,16 +87,22 @@ pub port_found : (t : ℕ → Bool) (xs : List ℕ) (r : ℕ) → Rises xs → f
 port_found t [] r h e = absurd (none≢some e)
 port_found t (x ∷ xs) r h e =
     elim (t x) as (λ b. t x ≡ b → cond b (Some x) (find t xs) ≡ Some r → (has (x ∷ xs) r ≡ true) × (t r ≡ true) × ((s : ℕ) → has (x ∷ xs) s ≡ true → t s ≡ true → r ≤ s)) [
-      | true ↦ λ at some. let is : x ≡ r = cc in
-          (or_left _ _ (eq-eqb x r is), ap t (sym is) ∙ at, λ s there _. elim (or_cases (nat_eq x s) _ there) [
-            | inl here ↦ let e = eqb-true x s here in omega arith
-            | inr later ↦ let l = all_above x xs h.0 s later in omega arith
-          ])
-      | false ↦ λ out rest. let found = port_found t xs r h.1 rest in
-          (or_right _ _ found.0, found.1, λ s there passes. elim (or_cases (nat_eq x s) _ there) [
-            | inl here ↦ absurd (both_ways _ out (ap t (eqb-true x s here) ∙ passes))
-            | inr later ↦ found.2 s later passes
-          ])
+      | true ↦ λ at some. let is : x ≡ r = cc in (
+        or_left _ _ (eq-eqb x r is),
+        ap t (sym is) ∙ at,
+        λ s there _. elim (or_cases (nat_eq x s) _ there) [
+          | inl here ↦ let e = eqb-true x s here in omega arith
+          | inr later ↦ let l = all_above x xs h.0 s later in omega arith
+        ],
+      )
+      | false ↦ λ out rest. let found = port_found t xs r h.1 rest in (
+        or_right _ _ found.0,
+        found.1,
+        λ s there passes. elim (or_cases (nat_eq x s) _ there) [
+          | inl here ↦ absurd (both_ways _ out (ap t (eqb-true x s here) ∙ passes))
+          | inr later ↦ found.2 s later passes
+        ],
+      )
     ] refl e
 
 pub port_none : (t : ℕ → Bool) (xs : List ℕ) → find t xs ≡ None → (s : ℕ) → has xs s ≡ true → t s ≡ false
@@ -133,11 +140,13 @@ module _ (u : Universe) (c : Config) (k : IsUniverse u) where
     | false ↦ λ other. off_key u c e es z r other ∙ least z r
   ] refl
   after_key e es s none (Some x) least =
-      let up = there_above u c e es s x.0 x.1 least.0 in
-      (off_key u c e es x.0 x.1 (ne_eqb x.0 e.0 (λ q. omega arith)) ∙ least.0, λ z r h. elim (nat_eq z e.0) as (λ b. nat_eq z e.0 ≡ b → IsAtMost x z r) [
-        | true ↦ λ at. absurd (both_ways _ (false_from_ne_true _ (λ h. let parts = and_parts (requires u e.1 r) _ h in both_ways _ (port_none (λ r. not (is_met u c e.0 r)) (required_of u e.1) none r parts.0) parts.1)) (sym (at_key u c e es r) ∙ sym (ap (λ z. unmet_in u c (e ∷ es) z r) (eqb-true z e.0 at)) ∙ h))
-        | false ↦ λ other. least.1 z r (sym (off_key u c e es z r other) ∙ h)
-      ] refl)
+      let up = there_above u c e es s x.0 x.1 least.0 in (
+        off_key u c e es x.0 x.1 (ne_eqb x.0 e.0 (λ q. omega arith)) ∙ least.0,
+        λ z r h. elim (nat_eq z e.0) as (λ b. nat_eq z e.0 ≡ b → IsAtMost x z r) [
+          | true ↦ λ at. absurd (both_ways _ (false_from_ne_true _ (λ h. let parts = and_parts (requires u e.1 r) _ h in both_ways _ (port_none (λ r. not (is_met u c e.0 r)) (required_of u e.1) none r parts.0) parts.1)) (sym (at_key u c e es r) ∙ sym (ap (λ z. unmet_in u c (e ∷ es) z r) (eqb-true z e.0 at)) ∙ h))
+          | false ↦ λ other. least.1 z r (sym (off_key u c e es z r other) ∙ h)
+        ] refl,
+      )
 
   least_in : (es : List (ℕ × ℕ)) → IsStrictlySortedBy nat_cmp (keys_of es) → IsLeast (unmet_in u c es) (unmet_among u c es)
   unfolding IsStrictlySortedBy
@@ -146,13 +155,15 @@ module _ (u : Universe) (c : Config) (k : IsUniverse u) where
       let port = unmet_port u c e.0 (required_of u e.1) in
       elim port as (λ o. port ≡ o → IsLeast (unmet_in u c (e ∷ es)) (option_or (option_map (λ r. (e.0, r)) o) (unmet_among u c es))) [
         | None ↦ λ none. after_key e es s.0 none (unmet_among u c es) (least_in es s.1)
-        | Some p ↦ λ some. let found = port_found (λ r. not (is_met u c e.0 r)) (required_of u e.1) p (required_rises u k e.1) some in
-            (at_key u c e es p ∙ and_from _ _ found.0 found.1, λ z r h. elim (nat_eq z e.0) as (λ b. nat_eq z e.0 ≡ b → IsAtMost (e.0, p) z r) [
-              | true ↦ λ at. let is = eqb-true z e.0 at in
-                  let parts = and_parts (requires u e.1 r) _ (sym (at_key u c e es r) ∙ sym (ap (λ z. unmet_in u c (e ∷ es) z r) is) ∙ h) in
-                  inr (sym is, found.2 r parts.0 parts.1)
-              | false ↦ λ other. inl (there_above u c e es s.0 z r (sym (off_key u c e es z r other) ∙ h))
-            ] refl)
+        | Some p ↦ λ some. let found = port_found (λ r. not (is_met u c e.0 r)) (required_of u e.1) p (required_rises u k e.1) some in (
+          at_key u c e es p ∙ and_from _ _ found.0 found.1,
+          λ z r h. elim (nat_eq z e.0) as (λ b. nat_eq z e.0 ≡ b → IsAtMost (e.0, p) z r) [
+            | true ↦ λ at. let is = eqb-true z e.0 at in
+                let parts = and_parts (requires u e.1 r) _ (sym (at_key u c e es r) ∙ sym (ap (λ z. unmet_in u c (e ∷ es) z r) is) ∙ h) in
+                inr (sym is, found.2 r parts.0 parts.1)
+            | false ↦ λ other. inl (there_above u c e es s.0 z r (sym (off_key u c e es z r other) ∙ h))
+          ] refl,
+        )
       ] refl
 
   -- `unmet` is the least

@@ -24,12 +24,12 @@ same_any t t' (b ∷ bs) h = λ i. h b i || same_any t t' bs h i
 pub is_met_if-own : (u : Universe) (c : Config) (z w r : ℕ) → is_met_if u c z (pair_of c z) w r ≡ is_met u c w r
 is_met_if-own u c z w r =
     same_any _ _ c.bindings (λ b. ap (λ o. (b.0 == r) && (b.1 == w) && option_map_or (λ q. provides u q r) o false) (own b.2)) where
-  own : (y : ℕ) → pair_if c z (pair_of c z) y ≡ pair_of c y
-  own y =
-      elim (nat_eq y z) as (λ b. nat_eq y z ≡ b → cond b (pair_of c z) (pair_of c y) ≡ pair_of c y) [
-        | true ↦ λ at. ap (pair_of c) (sym (eqb-true y z at))
-        | false ↦ λ _. refl
-      ] refl
+      own : (y : ℕ) → pair_if c z (pair_of c z) y ≡ pair_of c y
+      own y =
+          elim (nat_eq y z) as (λ b. nat_eq y z ≡ b → cond b (pair_of c z) (pair_of c y) ≡ pair_of c y) [
+            | true ↦ λ at. ap (pair_of c) (sym (eqb-true y z at))
+            | false ↦ λ _. refl
+          ] refl
 
 -- ---- the first that passes a test
 
@@ -119,6 +119,7 @@ order z w r x s h = elim (cases_lt w x) [
 ] where
   same_front : (z w r x s : ℕ) → is_le (binding_cmp (z, w, r) (z, x, s)) ≡ true → x ≤ w → w ≡ x
   same_front z w r x s h more = grind (arith, nat_tests)
+
   port_order : (z w r x s : ℕ) → is_le (binding_cmp (z, w, r) (z, x, s)) ≡ true → x ≤ w → r ≤ s
   port_order z w r x s h more = grind (arith, nat_tests)
 
@@ -134,9 +135,11 @@ lost_least u c clients z o k (Some b) e =
     let parts = and_parts (nat_eq b.0 z) _ found.passes in
     let rest = and_parts (is_required u c b.1 b.2) _ parts.1 in
     let own = eqb-true b.0 z parts.0 in
-    let bound : is_bound c b.2 b.1 z ≡ true = sym (k.same b.2 b.1 z) ∙ sym (ap (λ y. has_client clients y b.1 b.2) own) ∙ found.there in
-    (and_from _ _ (and_from _ _ bound rest.0) rest.1, λ w r lost.
-    let front = and_parts (is_bound c r w z && is_required u c w r) _ lost in
-    let there = and_parts (is_bound c r w z) _ front.0 in
-    order z b.1 b.2 w r (subst (λ y. is_le (binding_cmp (y, b.1, b.2) (z, w, r)) ≡ true) own
-    (found.first z w r (k.same r w z ∙ there.0) (and_from _ _ (eq-eqb z z refl) (and_from _ _ there.1 front.1)))))
+    let bound : is_bound c b.2 b.1 z ≡ true = sym (k.same b.2 b.1 z) ∙ sym (ap (λ y. has_client clients y b.1 b.2) own) ∙ found.there in (
+      and_from _ _ (and_from _ _ bound rest.0) rest.1,
+      λ w r lost.
+          let front = and_parts (is_bound c r w z && is_required u c w r) _ lost in
+          let there = and_parts (is_bound c r w z) _ front.0 in
+          order z b.1 b.2 w r (subst (λ y. is_le (binding_cmp (y, b.1, b.2) (z, w, r)) ≡ true) own
+          (found.first z w r (k.same r w z ∙ there.0) (and_from _ _ (eq-eqb z z refl) (and_from _ _ there.1 front.1)))),
+    )

@@ -143,12 +143,7 @@ impl Config {
     }
 
     /// What `unmet` would be if the instance were in the pair, or gone. It looks at the instance and those bound to it.
-    pub fn unmet_if(
-        &self,
-        u: &Universe,
-        z: InstNo,
-        to: Option<PairIx>,
-    ) -> Option<(InstNo, PortIx)>
+    pub fn unmet_if(&self, u: &Universe, z: InstNo, to: Option<PairIx>) -> Option<(InstNo, PortIx)>
         requires over { IsOver u.now self.now }
         requires correct { Correct u.now self.now }
         requires to { (q : ℕ) → to ≡ Some q → q < pair_count u.now }

@@ -39,11 +39,7 @@ fn pair_if(
 ) -> Option<PairIx>
     ensures { result ≡ pair_if (config_of instances.now.entries []) z to.now y }
 {
-    if y == z {
-        *to
-    } else {
-        pair_in(instances, y)
-    }
+    if y == z { *to } else { pair_in(instances, y) }
 }
 
 /// Whether the binding is one of the requirer's port.
@@ -79,12 +75,7 @@ pub fn is_met_if(
 }
 
 /// Whether the pair of the instance requires the port, if it is there.
-fn is_required(
-    u: &Universe,
-    instances: &BTreeMap<InstNo, PairIx>,
-    z: InstNo,
-    r: PortIx,
-) -> bool
+fn is_required(u: &Universe, instances: &BTreeMap<InstNo, PairIx>, z: InstNo, r: PortIx) -> bool
     requires { (y q : ℕ) → pair_of (config_of instances.now.entries []) y ≡ Some q → q < pair_count u.now }
     ensures { result ≡ is_required u.now (config_of instances.now.entries []) z r }
 {
@@ -216,12 +207,6 @@ pub fn earlier_of(
     match (own, lost) {
         (None, lost) => lost,
         (Some(r), None) => Some((z, r)),
-        (Some(r), Some((w, s))) => {
-            if w < z {
-                Some((w, s))
-            } else {
-                Some((z, r))
-            }
-        }
+        (Some(r), Some((w, s))) => { if w < z { Some((w, s)) } else { Some((z, r)) } }
     }
 }

@@ -15,6 +15,7 @@ pub mod Kept
 pub mod Named
 pub mod OfType
 pub mod PlanExamples
+pub mod ProviderRows
 pub mod Ranges
 pub mod Rounds
 pub mod RowTables

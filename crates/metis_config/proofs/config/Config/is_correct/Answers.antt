@@ -13,6 +13,7 @@ pub returns : goal.returns
 returns c =
     let h = subst IsConfig c.self.view_is c.self.invariant.config in
     let u = c.args.u.now in
-    let k = c.pairs-pairs.ensures.table.universe in
-    (λ t. correct-unmet u c.args.self.now k h (sym c.unmet.ensures.first ∙ none_is c.unmet.result (c.is_none.ensures ∙ ap not t)),
-    λ correct. not-false _ (sym c.is_none.ensures ∙ ap is_some (c.unmet.ensures.first ∙ unmet-correct u c.args.self.now k h correct)))
+    let k = c.pairs-pairs.ensures.table.universe in (
+      λ t. correct-unmet u c.args.self.now k h (sym c.unmet.ensures.first ∙ none_is c.unmet.result (c.is_none.ensures ∙ ap not t)),
+      λ correct. not-false _ (sym c.is_none.ensures ∙ ap is_some (c.unmet.ensures.first ∙ unmet-correct u c.args.self.now k h correct)),
+    )
