@@ -228,9 +228,9 @@ fn reads_ports(rt: HostRuntime) -> Result<(), Fail> {
         assert!(rt; p < web.pairs());
         assert_eq!(rt; web.provides(PairIx(p), sql), provides, "at {p}");
     }
-    for (t, requires) in [(0, false), (1, true)] {
-        assert_eq!(rt; web.type_requires(TypeIx(t), sql), requires, "at {t}");
-        assert_eq!(rt; web.type_provides(TypeIx(t), sql), !requires, "at {t}");
+    for (t, needs) in [(0, false), (1, true)] {
+        assert_eq!(rt; web.type_requires(TypeIx(t), sql), needs, "at {t}");
+        assert_eq!(rt; web.type_provides(TypeIx(t), sql), !needs, "at {t}");
     }
     Ok(())
 }
