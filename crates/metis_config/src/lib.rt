@@ -7,3 +7,6 @@ mod met;
 
 pub use config::Config;
 pub use lists::{Instances, Ties};
+
+#[cfg(test)]
+mod tests;

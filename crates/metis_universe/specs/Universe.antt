@@ -13,6 +13,7 @@
 --     providers_of u r      the pairs that provide the port, ascending
 --     IsUniverse u      what holds of the numbers of every universe that a document gives
 --     IsNamed u, IsWithinLimits u, IsTable u      what holds of its names;  of its counts;  all three
+--     IsIndexed u rows, IsIndexedTable u rows      the rows are the providers of each port;  all four
 use Rattle.std.specs.Prelude.{ℕ, ◌≡◌, ◌≤◌, ◌<◌, ◌==◌, Bool, true, false, ◌&&◌, Option, List, [], ◌∷◌, length, take, position, sum_by, IsTrue}
 use Rattle.std.specs.List.{list_any, filter, slice_index_or, range_with_len, All}
 use Rattle.std.specs.List.Sorted.{IsNonDecreasingBy, IsStrictlyIncreasing}
@@ -171,3 +172,15 @@ pub record IsTable (u : Universe) : Type 0 where
   pub universe : IsUniverse u
   pub named : IsNamed u
   pub limits : IsWithinLimits u
+
+-- the rows hold, port by port, the pairs that provide it
+pub record IsIndexed (u : Universe) (providers : List (List ℕ)) : Type 0 where
+  pub rows : length providers ≡ port_count u
+  pub each : (r : ℕ) → r < port_count u → slice_index_or providers r [] ≡ providers_of u r
+
+-- and with these rows
+pub record IsIndexedTable (u : Universe) (providers : List (List ℕ)) : Type 0 where
+  pub universe : IsUniverse u
+  pub named : IsNamed u
+  pub limits : IsWithinLimits u
+  pub indexed : IsIndexed u providers

@@ -1,6 +1,6 @@
 //! Universes of small rows, and each fault.
 use crate::{LimitKind, RowFault, StateRow, TypeRow, Universe, rows_fit};
-use metis_ids::{PairIx, StateIx, TypeIx};
+use metis_ids::{PairIx, PortIx, StateIx, TypeIx};
 use std::alloc::{AllocError, Global};
 use std::process::Abort;
 use std::test::Fail;
@@ -208,6 +208,29 @@ fn keeps_to_the_limits(rt: HostRuntime) -> Result<(), Fail> {
             fault,
             "{count} of {word}"
         );
+    }
+    Ok(())
+}
+
+#[test]
+fn reads_ports(rt: HostRuntime) -> Result<(), Fail> {
+    let web = universe_of(&rt, rt.alloc(), WEB)?;
+    assert!(rt; web.pairs() == 4 && web.ports() == 1);
+    let sql = PortIx(0);
+    assert_eq!(rt; web.port_named("sql"), Some(sql));
+    assert_eq!(rt; web.port_named("no"), None);
+    assert_eq!(rt; web.port_name(sql), "sql");
+    assert_eq!(rt; web.provided(PairIx(1)), [sql].as_slice());
+    assert_eq!(rt; web.required(PairIx(3)), [sql].as_slice());
+    assert_eq!(rt; web.required(PairIx(1)).len(), 0);
+    assert_eq!(rt; web.providers(sql), [PairIx(1)].as_slice());
+    for (p, provides) in [(0, false), (1, true), (2, false), (3, false)] {
+        assert!(rt; p < web.pairs());
+        assert_eq!(rt; web.provides(PairIx(p), sql), provides, "at {p}");
+    }
+    for (t, needs) in [(0, false), (1, true)] {
+        assert_eq!(rt; web.type_requires(TypeIx(t), sql), needs, "at {t}");
+        assert_eq!(rt; web.type_provides(TypeIx(t), sql), !needs, "at {t}");
     }
     Ok(())
 }

@@ -4,7 +4,7 @@ ghost use Rattle.std.specs.List.{All, filter, list_any, slice_index_or};
 ghost use Rattle.metis_universe.specs.Kinds.{kinds_of};
 ghost use Rattle.std.specs.List.Sorted.{IsStrictlyIncreasing, IsNonDecreasingBy};
 ghost use Rattle.std.specs.Str.{bytes_eq};
-ghost use Rattle.metis_universe.specs.Universe.{has, no_kind, pair_count, type_count, port_count, type_of, state_place_of, initial_of, is_initial, next_of, provided_of, required_of, provides, type_requires, type_provides, type_named, port_named, state_named, pair_named, type_name_of, state_name_of, port_name_of, IsTable};
+ghost use Rattle.metis_universe.specs.Universe.{has, no_kind, pair_count, type_count, port_count, type_of, state_place_of, initial_of, is_initial, next_of, provided_of, required_of, provides, type_requires, type_provides, providers_of, type_named, port_named, state_named, pair_named, type_name_of, state_name_of, port_name_of, IsTable};
 ghost use Rattle.metis_universe.specs.Rows.{RowsFit, IsMade};
 
 mod build;
@@ -37,6 +37,20 @@ impl Model for PairRow {
     ghost view = { λ a. record { kind = a.kind; state = string_bytes a.state; provided = a.provided.items; required = a.required.items; next = a.next.items } };
 }
 
+/// The pairs that provide a port, ascending.
+#[derive(Drop)]
+struct PortRow {
+    pairs: Vec<PairIx>,
+}
+
+impl Model for PortRow {
+    ghost use Rattle.std.specs.Prelude.{List, ℕ};
+
+    ghost Value = { List ℕ };
+
+    ghost view = { λ a. a.pairs.items };
+}
+
 /// Component types and their states.
 #[derive(Drop)]
 pub struct Universe {
@@ -44,6 +58,8 @@ pub struct Universe {
     kinds: IndexMap<String, PairIx>,
     pairs: Vec<PairRow>,
     ports: IndexSet<String>,
+    /// Who provides each port.
+    providers: Vec<PortRow>,
 }
 
 impl Model for Universe {
@@ -55,7 +71,7 @@ impl Model for Universe {
 
     ghost view = { λ a. tables.universe_of (kinds_of a.kinds.entries) a.pairs.items (texts a.ports.keys) };
 
-    ghost invariant = { λ a. tables.IsTable (tables.universe_of (kinds_of a.kinds.entries) a.pairs.items (texts a.ports.keys)) };
+    ghost invariant = { λ a. tables.IsIndexedTable (tables.universe_of (kinds_of a.kinds.entries) a.pairs.items (texts a.ports.keys)) a.providers.items };
 }
 
 impl Universe {
@@ -172,6 +188,15 @@ impl Universe {
         ensures { result ≡ provides self.now p r }
     {
         self.provided(p).contains(&r)
+    }
+
+    /// All pairs that provide the port, ascending.
+    pub fn providers(&self, r: PortIx) -> &[PairIx]
+        requires { r < port_count self.now }
+        ensures { result.now ≡ providers_of self.now r }
+    {
+        let row = &self.providers[r.0 as usize];
+        row.pairs.as_slice()
     }
 
     /// Whether some pair of the type requires the port.

@@ -1,6 +1,9 @@
-use Rattle.std.proofs.Common.{◌≡◌, ◌+◌, [], ◌∷◌, ◌++◌, take, string_bytes, sym, ap, ◌∙◌, subst, arith}
-use Rattle.std.proofs.lemmas.List.{take_all}
-use Rattle.metis_universe.specs.Universe.{universe_of, IsTable}
+use Rattle.std.proofs.Common.{◌≤◌, ◌<◌, List, length, ◌≡◌, ◌+◌, [], ◌∷◌, ◌++◌, take, string_bytes, sym, ap, ◌∙◌, subst, arith}
+use Rattle.std.specs.List.{All}
+use Rattle.std.proofs.lemmas.List.{take_all, length-map}
+use Rattle.metis_universe.specs.Universe.{Pair, port_count, universe_of, IsTable, IsIndexed}
+use Rattle.metis_universe.specs.Providers.{provider_rows}
+use Rattle.metis_universe.proofs.ProviderRows.{IsIndexed-provider_rows, ports_within}
 use Rattle.metis_universe.specs.Kinds.{kind_of, kinds_of}
 use Rattle.metis_universe.specs.RowShapes.{TypeRow}
 use Rattle.metis_universe.specs.Rows.{earlier_type, state_number, pairs_of_type, pairs_from, kind_from, kinds_from}
@@ -67,10 +70,42 @@ loop-t-preserved c =
           ∙ ap (λ (r : TypeRow). pairs_from ports 0 0 (take t rows) ++ pairs_of_type ports t (first_of rows t) r) c.index-rows-t.is ∙ sym (pairs_more rows t row c.loop-t-test.true ports);
     }
 
+pub provider_rows-requires-clause-within : goal.provider_rows-requires-clause-within
+provider_rows-requires-clause-within c =
+    let rows = c.args.rows.now in
+    let all = take_all c.loop-t.t rows c.loop-t-test.false in
+    let kinds = c.loop-t.invariant.kinds ∙ ap (kinds_from 0) all in
+    let pairs = c.loop-t.invariant.pairs ∙ (λ j. pairs_from (c.requires.ports j) 0 0 (all j)) in
+    let u = universe_of (kinds_of c.loop-t.kinds.entries) c.loop-t.pairs.items (texts c.args.ports.keys) in
+    let table : IsTable u = subst IsTable (sym (λ j. universe_of (kinds j) (pairs j) (c.requires.ports j))) (IsTable-universe_from rows c.requires.sound) in
+    let count : c.len.result ≡ port_count u = c.len.ensures.len ∙ sym (length-map c.args.ports.keys (λ t. string_bytes t)) in
+    subst (λ n. All (λ (x : Pair). All (λ r. r < n) x.provided) c.deref.result.now) (sym count)
+    (subst (λ (ps : List Pair). All (λ (x : Pair). All (λ r. r < port_count u) x.provided) ps) (sym c.deref.ensures.value) (ports_within u table.universe))
+
+pub provider_rows-requires-clause-few : goal.provider_rows-requires-clause-few
+provider_rows-requires-clause-few c =
+    let rows = c.args.rows.now in
+    let all = take_all c.loop-t.t rows c.loop-t-test.false in
+    let kinds = c.loop-t.invariant.kinds ∙ ap (kinds_from 0) all in
+    let pairs = c.loop-t.invariant.pairs ∙ (λ j. pairs_from (c.requires.ports j) 0 0 (all j)) in
+    let u = universe_of (kinds_of c.loop-t.kinds.entries) c.loop-t.pairs.items (texts c.args.ports.keys) in
+    let table : IsTable u = subst IsTable (sym (λ j. universe_of (kinds j) (pairs j) (c.requires.ports j))) (IsTable-universe_from rows c.requires.sound) in
+    let few : length c.loop-t.pairs.items ≤ 2000 = table.limits.pairs in
+    let same : length c.deref.result.now ≡ length c.loop-t.pairs.items = ap length c.deref.ensures.value in
+    omega arith
+
 pub invariant_of-result : goal.invariant_of-result
 invariant_of-result c =
     let rows = c.args.rows.now in
     let all = take_all c.loop-t.t rows c.loop-t-test.false in
     let kinds = c.loop-t.invariant.kinds ∙ ap (kinds_from 0) all in
     let pairs = c.loop-t.invariant.pairs ∙ (λ j. pairs_from (c.requires.ports j) 0 0 (all j)) in
-    subst IsTable (sym (λ j. universe_of (kinds j) (pairs j) (c.requires.ports j))) (IsTable-universe_from rows c.requires.sound)
+    let u = universe_of (kinds_of c.loop-t.kinds.entries) c.loop-t.pairs.items (texts c.args.ports.keys) in
+    let table : IsTable u = subst IsTable (sym (λ j. universe_of (kinds j) (pairs j) (c.requires.ports j))) (IsTable-universe_from rows c.requires.sound) in
+    let count : c.len.result ≡ port_count u = c.len.ensures.len ∙ sym (length-map c.args.ports.keys (λ t. string_bytes t)) in
+    record {
+      universe = table.universe;
+      named = table.named;
+      limits = table.limits;
+      indexed = subst (IsIndexed u) (sym (c.in_ok-providers.ensures ∙ (λ j. provider_rows (count j) (c.deref.ensures.value j)))) (IsIndexed-provider_rows u table.universe);
+    }
