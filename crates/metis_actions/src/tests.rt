@@ -116,6 +116,19 @@ fn tried(rt: &impl Abort, u: &Universe, c: &mut Config, a: Action) -> Option<AFa
     apply(u, c, &a).err()
 }
 
+/// Applies one action after the other, each with its fault, or none.
+fn try_each(rt: &impl Abort, u: &Universe, c: &mut Config, steps: &[(Action, Option<AFault>)])
+    requires over { IsOver u.now c.old }
+    requires correct { Correct u.now c.old }
+    ensures over { IsOver u.now c.new }
+    ensures correct { Correct u.now c.new }
+{
+    for step in steps {
+        let found = tried(rt, u, c, step.0);
+        assert!(rt; found == step.1);
+    }
+}
+
 fn new(z: u32, t: u32) -> Action {
     Action::New {
         inst: InstNo(z),
@@ -161,23 +174,25 @@ fn a_session(rt: HostRuntime) -> Result<(), Fail> {
     let alloc = rt.alloc();
     let u = web(&rt, alloc)?;
     let mut c = nothing(alloc, &u);
-    assert_eq!(rt; tried(&rt, &u, &mut c, new(0, 0)), None);
-    assert_eq!(rt; tried(&rt, &u, &mut c, new(1, 1)), None);
-    assert_eq!(rt; tried(&rt, &u, &mut c, bind(1, 0)), None);
-    assert_eq!(rt; tried(&rt, &u, &mut c, shift(1, 2, 3)), unmet());
-    assert_eq!(rt; tried(&rt, &u, &mut c, shift(0, 0, 1)), None);
-    assert_eq!(rt; tried(&rt, &u, &mut c, shift(1, 2, 3)), None);
-    assert_eq!(rt; tried(&rt, &u, &mut c, delete(0)), unmet());
-    assert_eq!(rt; tried(&rt, &u, &mut c, unbind(1, 0)), unmet());
+    let steps = [
+        (new(0, 0), None),
+        (new(1, 1), None),
+        (bind(1, 0), None),
+        (shift(1, 2, 3), unmet()),
+        (shift(0, 0, 1), None),
+        (shift(1, 2, 3), None),
+        (delete(0), unmet()),
+        (unbind(1, 0), unmet()),
+    ];
+    try_each(&rt, &u, &mut c, &steps);
     assert_eq!(rt; c.count(), 2);
     assert_eq!(rt; c.bindings_count(), 1);
     assert_eq!(rt; c.pair_of(InstNo(0)), Some(PairIx(1)));
     assert_eq!(rt; c.pair_of(InstNo(1)), Some(PairIx(3)));
     assert!(rt; c.bound(PortIx(0), InstNo(1), InstNo(0)));
     assert!(rt; c.is_correct(&u));
-    assert_eq!(rt; tried(&rt, &u, &mut c, delete(1)), None);
-    assert_eq!(rt; c.bindings_count(), 0);
-    assert_eq!(rt; tried(&rt, &u, &mut c, delete(0)), None);
+    let steps = [(delete(1), None), (delete(0), None)];
+    try_each(&rt, &u, &mut c, &steps);
     assert_eq!(rt; c.count(), 0);
     Ok(())
 }
@@ -187,46 +202,22 @@ fn each_refused_action(rt: HostRuntime) -> Result<(), Fail> {
     let alloc = rt.alloc();
     let u = web(&rt, alloc)?;
     let mut c = nothing(alloc, &u);
-    assert_eq!(rt; tried(&rt, &u, &mut c, new(0, 0)), None);
-    assert_eq!(rt; tried(&rt, &u, &mut c, new(1, 1)), None);
-    assert_eq!(rt;
-        tried(&rt, &u, &mut c, new(0, 1)),
-        Some(AFault::InUse(InstNo(0)))
-    );
-    assert_eq!(rt;
-        tried(&rt, &u, &mut c, delete(7)),
-        Some(AFault::NoInstance(InstNo(7)))
-    );
-    assert_eq!(rt;
-        tried(&rt, &u, &mut c, bind(1, 7)),
-        Some(AFault::NoInstance(InstNo(7)))
-    );
-    assert_eq!(rt;
-        tried(&rt, &u, &mut c, bind(8, 7)),
-        Some(AFault::NoInstance(InstNo(8)))
-    );
-    assert_eq!(rt;
-        tried(&rt, &u, &mut c, shift(0, 1, 0)),
-        Some(AFault::NoState(InstNo(0), PairIx(0)))
-    );
-    assert_eq!(rt;
-        tried(&rt, &u, &mut c, shift(0, 0, 0)),
-        Some(AFault::NoTransition)
-    );
-    assert_eq!(rt;
-        tried(&rt, &u, &mut c, bind(1, 1)),
-        Some(AFault::SameInstance)
-    );
-    assert_eq!(rt;
-        tried(&rt, &u, &mut c, bind(0, 1)),
-        Some(AFault::NoSuchPort)
-    );
-    assert_eq!(rt;
-        tried(&rt, &u, &mut c, unbind(1, 0)),
-        Some(AFault::NotBound)
-    );
-    assert_eq!(rt; tried(&rt, &u, &mut c, bind(1, 0)), None);
-    assert_eq!(rt; tried(&rt, &u, &mut c, bind(1, 0)), Some(AFault::Bound));
+    let steps = [
+        (new(0, 0), None),
+        (new(1, 1), None),
+        (new(0, 1), Some(AFault::InUse(InstNo(0)))),
+        (delete(7), Some(AFault::NoInstance(InstNo(7)))),
+        (bind(1, 7), Some(AFault::NoInstance(InstNo(7)))),
+        (bind(8, 7), Some(AFault::NoInstance(InstNo(8)))),
+        (shift(0, 1, 0), Some(AFault::NoState(InstNo(0), PairIx(0)))),
+        (shift(0, 0, 0), Some(AFault::NoTransition)),
+        (bind(1, 1), Some(AFault::SameInstance)),
+        (bind(0, 1), Some(AFault::NoSuchPort)),
+        (unbind(1, 0), Some(AFault::NotBound)),
+        (bind(1, 0), None),
+        (bind(1, 0), Some(AFault::Bound)),
+    ];
+    try_each(&rt, &u, &mut c, &steps);
     assert_eq!(rt; c.bindings_count(), 1);
     Ok(())
 }
@@ -236,10 +227,8 @@ fn an_initial_pair_that_requires(rt: HostRuntime) -> Result<(), Fail> {
     let alloc = rt.alloc();
     let u = needy(&rt, alloc)?;
     let mut c = nothing(alloc, &u);
-    assert_eq!(rt;
-        tried(&rt, &u, &mut c, new(0, 0)),
-        Some(AFault::Unmet(InstNo(0), PortIx(0)))
-    );
+    let steps = [(new(0, 0), Some(AFault::Unmet(InstNo(0), PortIx(0))))];
+    try_each(&rt, &u, &mut c, &steps);
     assert_eq!(rt; c.count(), 0);
     Ok(())
 }
