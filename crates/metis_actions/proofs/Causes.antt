@@ -15,7 +15,7 @@ use Rattle.metis_config.specs.Unmet.{unmet}
 use Rattle.metis_config.proofs.Leasts.{correct-unmet, unmet-correct}
 use Rattle.metis_actions.specs.declared.faults.AFault.{AFault}
 use Rattle.metis_actions.specs.declared.faults.AFault.TheVariants.{InUse, NoInstance, NoState, NoTransition, SameInstance, NoSuchPort, Bound, NotBound, Unmet, NoMemory}
-use Rattle.metis_actions.specs.Actions.{IsOf}
+use Rattle.metis_universe.specs.Numbers.{IsOf}
 use Rattle.metis_actions.specs.Faults.{when, absent, elsewhere, is_port_between, unmet_after, fault_of, IsCause, Answers}
 
 -- ---- the first of two

@@ -5,7 +5,7 @@ ghost use Rattle.metis_universe.specs.Universe.{type_count, type_of, pair_count,
 ghost use Rattle.metis_universe.specs.Config.{Correct};
 ghost use Rattle.metis_universe.specs.Step.{Allows, Step, after};
 ghost use Rattle.metis_config.specs.Over.{IsOver};
-ghost use Rattle.metis_actions.specs.Actions.{IsOf};
+ghost use Rattle.metis_universe.specs.Numbers.{IsOf};
 ghost use Rattle.metis_actions.specs.Faults.{Answers};
 
 use crate::AFault;

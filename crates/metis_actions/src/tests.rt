@@ -2,7 +2,7 @@
 ghost use Rattle.std.specs.Prelude.{IsTrue, ◌↔◌};
 ghost use Rattle.metis_universe.specs.Config.{Correct};
 ghost use Rattle.metis_config.specs.Over.{IsOver};
-ghost use Rattle.metis_actions.specs.Actions.{IsOf};
+ghost use Rattle.metis_universe.specs.Numbers.{IsOf};
 ghost use Rattle.metis_actions.specs.Faults.{IsFaultOf};
 
 use crate::{AFault, apply, write_fault};

@@ -28,12 +28,13 @@ module _ (u : Universe) (rounds : List (Option ℕ)) (known : rounds ≡ map (fo
   order_layered = ap (λ n. flat_map (of_round rounds n) (range_with_len 0 n)) count ∙ (λ i. flat_map (λ k. same_round k i) (all_pairs u))
 
   pub is_layers : (attained : PairSet) (order : List ℕ) (first : List (Option ℕ)) → attained.size ≡ pair_count u → attained.members ≡ attained_pairs u → order ≡ order_by rounds (length rounds)
-      → first ≡ map (λ r. find (λ p. provides u p r) order) (range_with_len 0 (port_count u)) → IsLayers u (record { rounds = rounds; attained = attained; first = first })
+      → first ≡ map (λ r. find (λ p. provides u p r) order) (range_with_len 0 (port_count u)) → IsLayers u (record { rounds = rounds; attained = attained; order = order; first = first })
   is_layers attained order first size members in_order providers = record {
     pairs = count;
     ports = ap length providers ∙ entries_count (λ r. find (λ p. provides u p r) order) (port_count u);
     layer = round_at;
     size = size;
     attained = members;
+    order = in_order ∙ order_layered;
     provider = λ r low. ap (λ l. get_or l r None) providers ∙ entry (λ s. find (λ p. provides u p s) order) (port_count u) r None low ∙ ap (find (λ p. provides u p r)) (in_order ∙ order_layered);
   }

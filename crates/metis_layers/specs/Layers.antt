@@ -1,15 +1,15 @@
 -- The layers of a universe, as the program holds them.
---     Layers      the layer of each pair, the attained pairs, and the first provider of each port
+--     Layers      the layer of each pair, the attained pairs, the same by layer, and the first provider of each port
 --     layer_at l p, first_at l r      what they say of a pair and of a port
 --     IsLayers u l      they are those of the universe
---     stamped, rounds_before, in_round, order_by      the layers that are known before a round;  the pairs by layer
-use Rattle.std.specs.Prelude.{◌≡◌, ℕ, ◌==◌, ◌<◌, Bool, false, List, length, map, filter, Option, Some, None, slice_index_or, if◌then◌else◌}
-use Rattle.std.specs.Bool.{Decides}
+--     stamped rounds s round p      what is known of p after the round that has the pairs s
+--     found_before u round p      the first round before this one that has p
+--     order_by rounds n      the pairs by layer and then by number
+use Rattle.std.specs.Prelude.{◌≡◌, ℕ, ◌==◌, ◌<◌, Bool, false, List, length, filter, Option, Some, None, slice_index_or, if◌then◌else◌}
 use Rattle.std.specs.List.{find, flat_map, range_with_len}
 use Rattle.std.specs.Option.{option_map_or, option_or}
 use Rattle.metis_ids.specs.PairSet.{PairSet}
-use Rattle.metis_universe.specs.Goal.{Attainable}
-use Rattle.metis_universe.specs.Layers.{layer_of, layer_set}
+use Rattle.metis_universe.specs.Layers.{layer_of, layer_set, layered}
 use Rattle.metis_universe.specs.Selection.{provider_of}
 use Rattle.metis_universe.specs.Universe.{Universe, all_pairs, has, pair_count, port_count}
 use Rattle.metis_layers.specs.LayerOrder.{attained_pairs}
@@ -17,6 +17,7 @@ use Rattle.metis_layers.specs.LayerOrder.{attained_pairs}
 pub record Layers : Type 0 where
   pub rounds : List (Option ℕ)
   pub attained : PairSet
+  pub order : List ℕ
   pub first : List (Option ℕ)
 
 abbrev pub layer_at : Layers → ℕ → Option ℕ
@@ -31,6 +32,7 @@ pub record IsLayers (u : Universe) (l : Layers) : Type 0 where
   pub layer : (p : ℕ) → p < pair_count u → layer_at l p ≡ layer_of u p
   pub size : l.attained.size ≡ pair_count u
   pub attained : l.attained.members ≡ attained_pairs u
+  pub order : l.order ≡ layered u
   pub provider : (r : ℕ) → r < port_count u → first_at l r ≡ provider_of u r
 
 -- the layer that is known already, or this round where the pair is there

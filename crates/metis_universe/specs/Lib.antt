@@ -4,6 +4,7 @@ pub mod Goal
 pub mod Kinds
 pub mod Layers
 pub mod Names
+pub mod Numbers
 pub mod Providers
 pub mod RowShapes
 pub mod Rows

@@ -21,6 +21,7 @@ pub fn layers(alloc: Global, u: &Universe) -> Result<Layers, NoMemory>
     Ok(Layers {
         rounds,
         attained,
+        order,
         first,
     })
 }

@@ -1,4 +1,6 @@
-use Rattle.std.proofs.Common.{◌∙◌, ap, length}
+use Rattle.std.proofs.Common.{◌∙◌, ap, length, map}
+use Rattle.std.specs.List.{find, range_with_len}
+use Rattle.metis_universe.specs.Universe.{port_count, provides}
 use Rattle.metis_layers.proofs.Layered.{is_layers, order_low}
 use Rattle.metis_layers.specs.Layers.{order_by}
 use Rattle.metis_layers.proofs.table.build.layers.Goals as goal
@@ -10,7 +12,8 @@ first_providers-requires c =
 
 pub returns : goal.returns
 returns c =
-    is_layers c.args.u.now c.in_ok-rounds.rounds.items c.in_ok-rounds.ensures.rounds c.in_ok-rounds.attained c.deref-2.result.now c.in_ok-first.first.items
+    let u = c.args.u.now in
+    is_layers u c.in_ok-rounds.rounds.items c.in_ok-rounds.ensures.rounds c.in_ok-rounds.attained c.in_ok-order.order.items c.in_ok-first.first.items
     c.in_ok-rounds.ensures.size c.in_ok-rounds.ensures.attained
-    (c.deref-2.ensures.value ∙ c.in_ok-order.ensures ∙ ap (λ l. order_by l (length l)) c.deref.ensures.value)
-    c.in_ok-first.ensures
+    (c.in_ok-order.ensures ∙ ap (λ l. order_by l (length l)) c.deref.ensures.value)
+    (c.in_ok-first.ensures ∙ ap (λ l. map (λ r. find (λ p. provides u p r) l) (range_with_len 0 (port_count u))) c.deref-2.ensures.value)

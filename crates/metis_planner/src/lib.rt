@@ -1,0 +1,8 @@
+//! From a universe and a list of targets to a plan, or to a set of pairs that shows why there is none.
+#![tactic(auto)]
+
+mod outcome;
+mod planner;
+
+pub use outcome::Outcome;
+pub use planner::plan;
