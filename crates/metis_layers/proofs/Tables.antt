@@ -83,7 +83,7 @@ not_found_yet t xs i x low at none fails = ap (find t) (take_more xs i x low at)
 
 -- ---- all numbers are low
 
-all_append : (P : ℕ → Type 0) (xs ys : List ℕ) → AllByRecursion P xs → AllByRecursion P ys → AllByRecursion P (xs ++ ys)
+pub all_append : (P : ℕ → Type 0) (xs ys : List ℕ) → AllByRecursion P xs → AllByRecursion P ys → AllByRecursion P (xs ++ ys)
 all_append P [] ys one two = two
 all_append P (x ∷ xs) ys one two = (one.0, all_append P xs ys one.1 two)
 

@@ -1,8 +1,11 @@
 //! From a universe and a list of targets to a plan, or to a set of pairs that shows why there is none.
 #![tactic(auto)]
 
+mod sources;
+mod lines;
 mod outcome;
 mod planner;
+mod standing;
 
 pub use outcome::Outcome;
 pub use planner::plan;

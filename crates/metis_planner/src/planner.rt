@@ -1,6 +1,6 @@
 //! Plans for lists of targets.
-ghost use Rattle.std.specs.Prelude.{◌≡◌, ◌<◌, ◌≤◌, ◌+◌, ◌*◌, [], IsTrue, length};
-ghost use Rattle.std.specs.List.{All};
+ghost use Rattle.std.specs.Prelude.{◌≡◌, ◌<◌, ◌≤◌, ◌+◌, ◌*◌, ◌^◌, [], IfOk, IsTrue, is_some, length, map, not};
+ghost use Rattle.std.specs.List.{All, find};
 ghost use Rattle.metis_universe.specs.Closed.{Refusal};
 ghost use Rattle.metis_universe.specs.Config.{empty};
 ghost use Rattle.metis_universe.specs.Goal.{Attains, Holds};
@@ -8,11 +8,17 @@ ghost use Rattle.metis_universe.specs.Numbers.{IsOf};
 ghost use Rattle.metis_universe.specs.Steadfast.{is_steadfast};
 ghost use Rattle.metis_universe.specs.Step.{IsRun, after_all};
 ghost use Rattle.metis_universe.specs.Universe.{pair_count};
-ghost use Rattle.metis_layers.specs.LayerOrder.{attained_pairs, instances_of, layer_order};
+ghost use Rattle.metis_layers.specs.LayerOrder.{attained_pairs, holder_of, instances_of, layer_order, line_ends, lines_from, path_to};
+ghost use Rattle.metis_layers.specs.Layers.{IsLayers, layer_at};
 ghost use Rattle.metis_planner.specs.Outcomes.{IsPlanWhere, IfPlan, IfClosed};
 
+use crate::sources::Sources;
+use crate::lines::add_line;
 use crate::outcome::Outcome;
-use metis_ids::{NoMemory, PairIx};
+use crate::standing::standing_pairs;
+use metis_ids::{Action, InstNo, NoMemory, PairIx, Plan};
+use metis_layers::layers;
+use metis_layers::table::Layers;
 use metis_universe::Universe;
 use std::alloc::Global;
 
@@ -47,5 +53,60 @@ pub fn plan(alloc: Global, u: &Universe, targets: &[PairIx]) -> Result<Outcome, 
     ensures refusal { IfClosed result (λ set lacking. Refusal u.now targets.now set.members lacking) }
     ensures lacking { IfClosed result (λ _ lacking. lacking < pair_count u.now) }
 {
-    Err(NoMemory)
+    let layers = layers(alloc, u)?;
+    match lacking(&layers, targets) {
+        Some(target) => Ok(Outcome::Closed(layers.into_attained(), target)),
+        None => Ok(Outcome::Plan(plan_by(alloc, u, &layers, targets)?)),
+    }
+}
+
+// The first target that has no layer.
+fn lacking(layers: &Layers, targets: &[PairIx]) -> Option<PairIx>
+    ensures { result ≡ find (λ p. not (is_some (layer_at layers.now p))) targets.now }
+{
+    targets
+        .iter()
+        .copied()
+        .find(|target| layers.of(*target).is_none())
+}
+
+// The plan in the order of the layers.
+fn plan_by(
+    alloc: Global,
+    u: &Universe,
+    layers: &Layers,
+    targets: &[PairIx],
+) -> Result<Plan, NoMemory>
+    requires layers { IsLayers u.now layers.now }
+    requires few { length targets.now ≤ 256 }
+    requires within { All (λ p. p < pair_count u.now) targets.now }
+    ensures actions { IfOk result (λ plan. plan.actions.items ≡ layer_order u.now targets.now) }
+    ensures instances { IfOk result (λ plan. plan.instances ≡ length (line_ends u.now targets.now)) }
+    ensures dups { IfOk result (λ plan. plan.dups.items ≡ []) }
+{
+    let mut ends = standing_pairs(alloc, u, layers)?;
+    let sources = Sources::new(alloc, u, layers, &ends)?;
+    ends.extend_from_slice(targets)?;
+    Ok(Plan {
+        actions: all_lines(alloc, &sources, &ends)?,
+        dups: Vec::new(alloc),
+        instances: ends.len() as u32,
+    })
+}
+
+// The lines of the instances that end in these pairs.
+fn all_lines(
+    alloc: Global,
+    sources: &Sources<'_>,
+    ends: &[PairIx],
+) -> Result<Vec<Action>, NoMemory>
+    requires few { length ends.now < 2 ^ 32 }
+    requires within { All (λ p. p < pair_count sources.now) ends.now }
+    ensures { IfOk result (λ actions. actions.items ≡ lines_from sources.now (holder_of sources.now) 0 (map (path_to sources.now) ends.now)) }
+{
+    let mut actions = Vec::new(alloc);
+    for (number, pair) in ends.iter().enumerate() {
+        add_line(alloc, sources, InstNo(number as u32), *pair, &mut actions)?;
+    }
+    Ok(actions)
 }
