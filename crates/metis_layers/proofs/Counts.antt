@@ -1,19 +1,18 @@
 -- How many pairs stand, how many instances lines make, and how many instances are in a pair.
-use Rattle.std.proofs.Common.{◌≡◌, ℕ, zero, suc, ◌+◌, ◌<◌, ◌≤◌, Bool, true, false, cond, ◌&&◌, ◌||◌, List, [], ◌∷◌, ◌++◌, length, map, Option, Some, None, Less, refl, sym, ap, ◌∙◌, subst, arith, nat_eq, nat_cmp, inl, inr, length-append}
-use Rattle.std.proofs.lemmas.Bool.{eqb-true, eq-eqb, ne_eqb, cases_lt, false≢true, and_parts, and_from, or_cases, or_left, or_right}
-use Rattle.std.proofs.lemmas.List.FromFn.{length-range_with_len}
-use Rattle.std.specs.List.{list_any, filter, count_by, enumerate_from, flat_map, range_with_len, slice_get, AllByRecursion}
+use Rattle.std.proofs.Common.{◌≡◌, ℕ, zero, suc, ◌+◌, ◌<◌, ◌≤◌, Bool, true, false, cond, ◌&&◌, ◌||◌, List, [], ◌∷◌, ◌++◌, length, Some, Less, refl, sym, ap, ◌∙◌, arith, nat_eq, nat_cmp, inl, inr, length-append}
+use Rattle.std.proofs.lemmas.Bool.{eq-eqb, ne_eqb, cases_lt, false≢true, and_parts, and_from, or_cases, or_left, or_right}
+use Rattle.std.specs.List.{filter, count_by, enumerate_from, flat_map, range_with_len, slice_get, AllByRecursion}
 use Rattle.std.specs.List.Sorted.{IsStrictlySortedBy}
 use Rattle.std.proofs.lemmas.List.Sums.{sum_by-append, sum_by-cons}
 use Rattle.std.specs.Cmp.{nat_cmp_is}
 use Rattle.std.specs.Map.{lookup, keys_of}
 use Rattle.metis_ids.specs.declared.actions.Action.{Action}
-use Rattle.metis_ids.specs.declared.actions.Action.TheVariants.{New, Bind, Unbind, Move}
+use Rattle.metis_ids.specs.declared.actions.Action.TheVariants.{Move}
 use Rattle.metis_universe.proofs.Rounds.{has-filter, layers_grow, grows_to}
 use Rattle.metis_universe.specs.Layers.{is_in_layer, layer_set, layered}
-use Rattle.metis_universe.specs.Universe.{Universe, all_pairs, has, is_free, pair_count, type_of}
-use Rattle.metis_layers.proofs.LayerFacts.{in_layer, layer_below, layer_has, true_false}
-use Rattle.metis_layers.specs.LayerOrder.{attained_pairs, binds, unbinds, gained, holder_of, instances_of, is_standing, line_actions, line_ends, lines_from, makes, move_actions, moves_along, path_to, path_within, standing_pairs}
+use Rattle.metis_universe.specs.Universe.{Universe, all_pairs, has, is_free, pair_count}
+use Rattle.metis_layers.proofs.LayerFacts.{in_layer, layer_below, layer_has}
+use Rattle.metis_layers.specs.LayerOrder.{attained_pairs, binds, unbinds, gained, instances_of, is_standing, line_actions, lines_from, makes, move_actions, moves_along, standing_pairs}
 
 -- ---- kept elements
 
