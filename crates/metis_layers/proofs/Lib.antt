@@ -8,6 +8,7 @@ pub mod Lines
 pub mod Numbers
 pub mod Order
 pub mod Sets
+pub mod Short
 pub mod Stamps
 pub mod Standing
 pub mod Tables

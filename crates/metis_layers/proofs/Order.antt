@@ -1,7 +1,6 @@
 -- The list in the order of the layers deploys the targets, and a pair is attainable exactly where it has a layer.
-use Rattle.std.proofs.Common.{◌≡◌, ℕ, zero, suc, ◌+◌, ◌<◌, ◌≤◌, Bool, true, false, cond, not, ◌||◌, List, [], ◌∷◌, ◌++◌, length, map, Option, Some, None, refl, sym, ap, ◌∙◌, subst, arith, nat_eq, nat_cmp, inl, inr, length-append, zero-add}
+use Rattle.std.proofs.Common.{◌≡◌, ℕ, zero, suc, ◌+◌, ◌<◌, ◌≤◌, Bool, true, false, cond, not, ◌||◌, List, [], ◌∷◌, ◌++◌, map, Option, Some, None, refl, sym, ap, ◌∙◌, subst, arith, nat_eq, nat_cmp, inl, inr, length-append, zero-add}
 use Rattle.std.proofs.lemmas.Bool.{eqb-true, false≢true, true_from_ne_false, or_cases}
-use Rattle.std.proofs.lemmas.List.{length-map}
 use Rattle.std.specs.List.{AllByRecursion, filter, count_by, enumerate_from, range_with_len}
 use Rattle.std.specs.Map.{lookup}
 use Rattle.std.specs.Option.{option_map_or}
@@ -48,9 +47,6 @@ module _ (u : Universe) where
   path_ends [] = refl
   path_ends (x ∷ xs) = λ i. path_end (pair_count u) x i ∷ path_ends xs i
 
-  ends_count : (xs : List ℕ) → length (map (path_to u) xs) ≡ length xs
-  ends_count xs = length-map xs (path_to u)
-
   -- each pair has as many instances as it has places among the ends
   holds_ends : (ends : List ℕ) (actions : List Action) → IsRun u empty actions → Stand u (holder_of u) ends actions → (p : ℕ) → holding (after_all u empty actions) p ≡ count_by (λ q. nat_eq q p) ends
   holds_ends ends actions run s p =
@@ -73,14 +69,13 @@ module _ (u : Universe) where
         numbers = ways_within u k (holder_of u) [] 0 paths ways;
         few = omega (
           arith,
-          lines_make u (holder_of u) 0 paths,
-          ends_count (line_ends u g),
+          lines_make u (holder_of u) 0 (line_ends u g),
           length-append (standing_pairs u) g,
           standing_few u,
         );
       }
 
-layered_some : (u : Universe) (p : ℕ) (o : Option ℕ) → layer_of u p ≡ o → IsSome o → HasSomeLayer u p
+pub layered_some : (u : Universe) (p : ℕ) (o : Option ℕ) → layer_of u p ≡ o → IsSome o → HasSomeLayer u p
 layered_some u p None is some = absurd (false≢true some)
 layered_some u p (Some l) is some = record { layer = l; is = is }
 

@@ -232,3 +232,10 @@ module _ (u : Universe) (k : IsUniverse u) where
 
   pub order_ways : (g : List ℕ) → AllLayered g → AreWays u (holder_of u) [] (map (path_to u) (line_ends u g))
   order_ways g all = ways_from (standing_pairs u) [] g refl all
+
+  -- what the instances end in has a layer
+  pub ends_layered : (g : List ℕ) → AllLayered g → AllLayered (line_ends u g)
+  ends_layered g all p h = elim (or_cases (has (standing_pairs u) p) (has g p) (sym (has-append (standing_pairs u) g p) ∙ h)) [
+    | inl stands ↦ standing_layer u p stands
+    | inr target ↦ all p target
+  ]
