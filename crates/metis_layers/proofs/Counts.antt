@@ -1,19 +1,20 @@
 -- How many pairs stand, how many instances lines make, and how many instances are in a pair.
-use Rattle.std.proofs.Common.{◌≡◌, ℕ, zero, suc, ◌+◌, ◌<◌, ◌≤◌, Bool, true, false, cond, ◌&&◌, ◌||◌, List, [], ◌∷◌, ◌++◌, length, map, Option, Some, None, Less, refl, sym, ap, ◌∙◌, subst, arith, nat_eq, nat_cmp, inl, inr, length-append}
-use Rattle.std.proofs.lemmas.Bool.{eqb-true, eq-eqb, ne_eqb, cases_lt, false≢true, and_parts, and_from, or_cases, or_left, or_right}
-use Rattle.std.proofs.lemmas.List.FromFn.{length-range_with_len}
-use Rattle.std.specs.List.{list_any, filter, count_by, enumerate_from, flat_map, range_with_len, slice_get, AllByRecursion}
+use Rattle.std.proofs.Common.{◌≡◌, ℕ, zero, suc, ◌+◌, ◌<◌, ◌≤◌, Bool, true, false, cond, ◌&&◌, ◌||◌, List, [], ◌∷◌, ◌++◌, length, map, Some, Less, refl, sym, ap, ◌∙◌, arith, nat_eq, nat_cmp, inl, inr, length-append}
+use Rattle.std.proofs.lemmas.Bool.{eq-eqb, ne_eqb, cases_lt, false≢true, and_parts, and_from, or_cases, or_left, or_right}
+use Rattle.std.specs.List.{filter, count_by, enumerate_from, flat_map, range_with_len, slice_get, AllByRecursion}
 use Rattle.std.specs.List.Sorted.{IsStrictlySortedBy}
 use Rattle.std.proofs.lemmas.List.Sums.{sum_by-append, sum_by-cons}
 use Rattle.std.specs.Cmp.{nat_cmp_is}
 use Rattle.std.specs.Map.{lookup, keys_of}
+use Rattle.std.specs.Option.{option_map_or}
 use Rattle.metis_ids.specs.declared.actions.Action.{Action}
-use Rattle.metis_ids.specs.declared.actions.Action.TheVariants.{New, Bind, Unbind, Move}
+use Rattle.metis_ids.specs.declared.actions.Action.TheVariants.{Move}
 use Rattle.metis_universe.proofs.Rounds.{has-filter, layers_grow, grows_to}
 use Rattle.metis_universe.specs.Layers.{is_in_layer, layer_set, layered}
-use Rattle.metis_universe.specs.Universe.{Universe, all_pairs, has, is_free, pair_count, type_of}
-use Rattle.metis_layers.proofs.LayerFacts.{in_layer, layer_below, layer_has, true_false}
-use Rattle.metis_layers.specs.LayerOrder.{attained_pairs, binds, unbinds, gained, holder_of, instances_of, is_standing, line_actions, line_ends, lines_from, makes, move_actions, moves_along, path_to, path_within, standing_pairs}
+use Rattle.metis_universe.specs.Selection.{origin_of}
+use Rattle.metis_universe.specs.Universe.{Universe, all_pairs, has, is_free, pair_count}
+use Rattle.metis_layers.proofs.LayerFacts.{in_layer, layer_below, layer_has}
+use Rattle.metis_layers.specs.LayerOrder.{attained_pairs, binds, unbinds, gained, instances_of, is_standing, line_actions, lines_from, makes, move_actions, moves_along, path_to, path_within, standing_pairs}
 
 -- ---- kept elements
 
@@ -145,13 +146,22 @@ module _ (u : Universe) where
   moves_make holder z p [] = refl
   moves_make holder z p (q ∷ path) = none_made (move_actions u holder z p q) (moves_along u holder z q path) ∙ omega (arith, move_makes holder z p q, moves_make holder z q path)
 
-  line_makes : (holder : ℕ → ℕ) (z : ℕ) (path : List ℕ) → length (filter makes (line_actions u holder z path)) ≤ 1
-  line_makes holder z [] = omega arith
-  line_makes holder z (p ∷ path) = omega (arith, moves_make holder z p path)
+  -- a line along a path that is not empty makes one
+  line_makes : (holder : ℕ → ℕ) (z q : ℕ) (path : List ℕ) → length (filter makes (line_actions u holder z (path ++ q ∷ []))) ≡ 1
+  line_makes holder z q [] = refl
+  line_makes holder z q (p ∷ path) = ap suc (moves_make holder z p (path ++ q ∷ []))
 
-  pub lines_make : (holder : ℕ → ℕ) (z : ℕ) (paths : List (List ℕ)) → instances_of (lines_from u holder z paths) ≤ length paths
-  lines_make holder z [] = omega arith
-  lines_make holder z (path ∷ paths) = omega (arith, none_made (line_actions u holder z path) (lines_from u holder (z + 1) paths), line_makes holder z path, lines_make holder (z + 1) paths)
+  -- and no path along origins is empty
+  path_makes : (holder : ℕ → ℕ) (z n p : ℕ) → length (filter makes (line_actions u holder z (path_within u n p))) ≡ 1
+  path_makes holder z zero p = refl
+  path_makes holder z (suc n) p = line_makes holder z p (option_map_or (path_within u n) (origin_of u p) [])
+
+  -- so there is one for each of the pairs that the lines end in
+  pub lines_make : (holder : ℕ → ℕ) (z : ℕ) (ends : List ℕ) → instances_of (lines_from u holder z (map (path_to u) ends)) ≡ length ends
+  lines_make holder z [] = refl
+  lines_make holder z (p ∷ ends) =
+      let paths = map (path_to u) ends in
+      omega (arith, none_made (line_actions u holder z (path_to u p)) (lines_from u holder (z + 1) paths), path_makes holder z (pair_count u) p, lines_make holder (z + 1) ends)
 
 -- ---- instances by number
 

@@ -1,17 +1,13 @@
 -- Lines of instances, one after another, each of which is bound only to instances that stand already.
-use Rattle.std.proofs.Common.{◌≡◌, ◌≢◌, ℕ, zero, suc, ◌+◌, ◌<◌, ◌≤◌, Bool, true, false, cond, not, ◌&&◌, ◌||◌, List, [], ◌∷◌, ◌++◌, length, map, Option, Some, None, refl, sym, ap, ◌∙◌, subst, arith, nat_eq, inl, inr, append_assoc, append-nil, length-append, add-one}
-use Rattle.std.proofs.lemmas.Bool.{eqb-true, eq-eqb, ne_eqb, cases_eq, cases_lt, false≢true, both_ways, or_cases}
-use Rattle.std.specs.List.{list_any, filter, slice_get}
+use Rattle.std.proofs.Common.{◌≡◌, ℕ, zero, suc, ◌<◌, ◌≤◌, Bool, true, false, cond, not, ◌&&◌, ◌||◌, List, [], ◌∷◌, ◌++◌, length, Some, None, refl, sym, ap, ◌∙◌, subst, arith, nat_eq, inl, inr, append_assoc, append-nil}
+use Rattle.std.proofs.lemmas.Bool.{eq-eqb, ne_eqb, cases_eq, false≢true}
+use Rattle.std.specs.List.{list_any, slice_get}
 use Rattle.std.specs.Option.{option_map_or}
-use Rattle.std.specs.Prelude.{IsSome, IsSomeAnd, IsTrue}
 use Rattle.metis_ids.specs.declared.actions.Action.{Action}
-use Rattle.metis_ids.specs.declared.actions.Action.TheVariants.{New, Delete, Bind, Unbind, Move}
-use Rattle.metis_universe.proofs.Edits.{pair_of-put, is_bound-tie, is_bound-untie}
-use Rattle.metis_universe.specs.Config.{Config, Correct, IsMet, empty, pair_of, is_bound, is_tie, put, tie, untie}
-use Rattle.metis_universe.specs.Step.{Allows, IsRun, after, after_all}
+use Rattle.metis_universe.specs.Config.{Config, Correct, empty, pair_of, is_bound}
+use Rattle.metis_universe.specs.Step.{Allows, after, after_all}
 use Rattle.metis_universe.specs.Steadfast.{is_new, is_steadfast_after}
-use Rattle.metis_universe.specs.Universe.{Universe, pair_count, type_count, type_of, initial_of, is_free, next_of, required_of, requires, provides, type_requires, type_provides, has}
-use Rattle.metis_layers.specs.LayerOrder.{gained, binds, unbinds, move_actions, moves_along, line_actions, lines_from}
+use Rattle.metis_universe.specs.Universe.{Universe, requires, provides}
 
 -- ---- runs in which each action is steadfast
 

@@ -1,6 +1,5 @@
 -- The order of the layers on small universes.
-use Rattle.std.proofs.Common.{◌≡◌, List, [], ◌∷◌, refl}
-use Rattle.metis_ids.specs.declared.actions.Action.{Action}
+use Rattle.std.proofs.Common.{◌≡◌, [], ◌∷◌, refl}
 use Rattle.metis_ids.specs.declared.actions.Action.TheVariants.{New, Bind, Move}
 use Rattle.metis_universe.proofs.PlanExamples.{kind, pair, web}
 use Rattle.metis_universe.specs.Universe.{Universe}

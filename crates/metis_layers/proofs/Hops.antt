@@ -1,26 +1,22 @@
 -- One instance's way, each of whose steps is bound only to instances that stand already.
-use Rattle.std.proofs.Common.{◌≡◌, ◌≢◌, ℕ, zero, suc, ◌+◌, ◌<◌, ◌≤◌, Bool, true, false, cond, not, ◌&&◌, ◌||◌, List, [], ◌∷◌, ◌++◌, length, map, get_or, Option, Some, None, Less, refl, sym, ap, ◌∙◌, subst, arith, nat_eq, nat_cmp, inl, inr, append_assoc, append-nil, length-append}
-use Rattle.std.proofs.lemmas.Bool.{eqb-true, eq-eqb, ne_eqb, cases_eq, cases_lt, false≢true, both_ways, and_parts, and_from, or_cases, or_left, or_right}
+use Rattle.std.proofs.Common.{◌≡◌, ℕ, ◌<◌, ◌≤◌, Bool, true, false, cond, not, ◌&&◌, ◌||◌, List, [], ◌∷◌, ◌++◌, length, Option, Some, refl, sym, ap, ◌∙◌, subst, arith, nat_eq, inl, inr, append_assoc, append-nil, length-append}
+use Rattle.std.proofs.lemmas.Bool.{eqb-true, eq-eqb, ne_eqb, cases_eq, cases_lt, false≢true, and_parts, and_from, or_cases, or_left, or_right}
 use Rattle.std.proofs.lemmas.List.{get_or_past}
 use Rattle.std.proofs.lemmas.List.Folds.{list_any_at}
-use Rattle.std.proofs.lemmas.List.Kept.{IsStrictlyIncreasing-filter}
-use Rattle.std.proofs.lemmas.Map.Keys.{sorted_from_strictly_increasing}
-use Rattle.std.specs.List.{list_any, filter, slice_get, AllByRecursion}
-use Rattle.std.specs.List.Sorted.{IsStrictlyIncreasing, IsStrictlySortedBy}
+use Rattle.std.specs.List.{list_any, slice_get}
 use Rattle.std.specs.Option.{option_map_or}
-use Rattle.std.specs.Prelude.{IsSome, IsSomeAnd, IsTrue}
+use Rattle.std.specs.Prelude.{IsSomeAnd}
 use Rattle.metis_ids.specs.declared.actions.Action.{Action}
-use Rattle.metis_ids.specs.declared.actions.Action.TheVariants.{New, Delete, Bind, Unbind, Move}
+use Rattle.metis_ids.specs.declared.actions.Action.TheVariants.{New, Bind, Unbind, Move}
 use Rattle.metis_universe.proofs.Edits.{pair_of-put, is_bound-tie, is_bound-untie}
 use Rattle.metis_universe.proofs.Frames.{bindings-after_all}
-use Rattle.metis_universe.proofs.Rounds.{has-filter}
-use Rattle.metis_universe.specs.Config.{Binding, Config, Correct, IsMet, empty, pair_of, is_bound, is_tie, put, tie, untie}
-use Rattle.metis_universe.specs.Step.{Allows, CanBind, IsRun, after, after_all}
-use Rattle.metis_universe.specs.Steadfast.{is_new, is_steadfast_after}
-use Rattle.metis_universe.specs.Universe.{Universe, pair_count, type_count, type_of, initial_of, is_free, is_empty, is_initial, next_of, required_of, requires, provided_of, provides, type_requires, type_provides, has, no_pair, pair_at}
+use Rattle.metis_universe.specs.Config.{Binding, Correct, empty, pair_of, is_bound, is_tie}
+use Rattle.metis_universe.specs.Step.{CanBind}
+use Rattle.metis_universe.specs.Steadfast.{is_steadfast_after}
+use Rattle.metis_universe.specs.Universe.{Universe, pair_count, type_of, initial_of, next_of, requires, provides, type_requires, type_provides, has, no_pair}
 use Rattle.metis_universe.specs.Waits.{standing}
-use Rattle.metis_layers.proofs.Deploying.{at, at-next, GoesOn, GoesOn-append, IsHeld, ends_need, AreServed, needs, IsAt, Stand, slice_get-past, slice_get-before, slice_get-last, slice_get-push, no_news, Fresh, Ready, with_all, without_all}
-use Rattle.metis_layers.specs.LayerOrder.{gained, binds, unbinds, move_actions, moves_along, line_actions, lines_from}
+use Rattle.metis_layers.proofs.Deploying.{at, at-next, GoesOn, IsHeld, ends_need, AreServed, needs, IsAt, Stand, slice_get-past, slice_get-before, slice_get-last, slice_get-push, no_news, Fresh, Ready, with_all, without_all}
+use Rattle.metis_layers.specs.LayerOrder.{binds, unbinds}
 
 -- ---- tests
 

@@ -1,12 +1,11 @@
 -- What a pair's layer says of its origin and of the providers of what it requires.
-use Rattle.std.proofs.Common.{◌≡◌, ◌≢◌, ℕ, zero, suc, ◌+◌, ◌<◌, ◌≤◌, Bool, true, false, cond, not, ◌&&◌, ◌||◌, List, [], ◌∷◌, ◌++◌, length, Option, Some, None, refl, sym, ap, ◌∙◌, subst, arith, nat_eq, inl, inr}
-use Rattle.std.proofs.lemmas.Bool.{eqb-true, eq-eqb, ne_eqb, cases_eq, cases_lt, false≢true, and_parts, and_from, or_cases, or_left, or_right}
+use Rattle.std.proofs.Common.{◌≡◌, ℕ, zero, suc, ◌+◌, ◌<◌, ◌≤◌, Bool, true, false, cond, ◌||◌, List, [], ◌∷◌, Option, Some, None, refl, sym, ap, ◌∙◌, subst, arith, nat_eq, inl, inr}
+use Rattle.std.proofs.lemmas.Bool.{eqb-true, eq-eqb, cases_eq, cases_lt, false≢true, and_parts, and_from, or_cases, or_left, or_right}
 use Rattle.std.proofs.lemmas.List.Folds.{find-append}
 use Rattle.std.specs.List.{list_any, list_all, filter, find, flat_map, range_with_len}
-use Rattle.std.specs.Option.{option_map_or, option_and_then, option_or}
-use Rattle.std.specs.Prelude.{MatchOption}
-use Rattle.metis_universe.proofs.Rounds.{has-filter, layer_of-least, layers_grow, comes_early, grows_to}
-use Rattle.metis_universe.specs.Layers.{layer_set, layer_of, layered, is_in_layer, is_enabled, IsLeastRound}
+use Rattle.std.specs.Option.{option_map_or, option_and_then}
+use Rattle.metis_universe.proofs.Rounds.{has-filter, layer_of-least}
+use Rattle.metis_universe.specs.Layers.{layer_set, layer_of, is_in_layer, is_enabled, IsLeastRound}
 use Rattle.metis_universe.specs.Selection.{provider_of, origin_of, origin_below}
 use Rattle.metis_universe.specs.Universe.{Universe, all_pairs, pair_count, is_free, next_of, required_of, requires, provides, has}
 

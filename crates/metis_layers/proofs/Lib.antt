@@ -5,8 +5,10 @@ pub mod Hops
 pub mod LayerFacts
 pub mod Layered
 pub mod Lines
+pub mod Numbers
 pub mod Order
 pub mod Sets
+pub mod Short
 pub mod Stamps
 pub mod Standing
 pub mod Tables

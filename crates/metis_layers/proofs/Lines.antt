@@ -1,20 +1,20 @@
 -- Whole lines: an instance is made, goes along its path, and then the next one is.
-use Rattle.std.proofs.Common.{◌≡◌, ◌≢◌, ℕ, zero, suc, ◌+◌, ◌<◌, ◌≤◌, Bool, true, false, cond, not, ◌&&◌, ◌||◌, List, [], ◌∷◌, ◌++◌, length, map, take, ◌-◌, get_or, Option, Some, None, Less, refl, sym, ap, ◌∙◌, subst, arith, nat_eq, nat_cmp, inl, inr, append_assoc, append-nil, length-append, add-one}
+use Rattle.std.proofs.Common.{◌≡◌, ℕ, zero, suc, ◌+◌, ◌<◌, ◌≤◌, Bool, true, false, cond, not, ◌&&◌, ◌||◌, List, [], ◌∷◌, ◌++◌, length, map, take, ◌-◌, Option, Some, None, Less, refl, sym, ap, ◌∙◌, subst, arith, nat_eq, nat_cmp, inl, inr, append_assoc, append-nil, length-append}
 use Rattle.std.proofs.lemmas.Bool.{eqb-true, eq-eqb, ne_eqb, cases_eq, cases_lt, false≢true, and_parts, and_from, or_cases, or_left, or_right}
 use Rattle.std.proofs.lemmas.List.{get_or_past}
 use Rattle.std.proofs.lemmas.List.Kept.{IsStrictlyIncreasing-filter}
 use Rattle.std.proofs.lemmas.Map.Keys.{sorted_from_strictly_increasing}
-use Rattle.std.specs.List.{list_any, filter, list_all, range_with_len, slice_get, AllByRecursion}
+use Rattle.std.specs.List.{list_all, range_with_len, slice_get, AllByRecursion}
 use Rattle.std.specs.List.Sorted.{IsStrictlyIncreasing, IsStrictlySortedBy}
 use Rattle.std.specs.Option.{option_map_or}
 use Rattle.metis_ids.specs.declared.actions.Action.{Action}
-use Rattle.metis_ids.specs.declared.actions.Action.TheVariants.{New, Delete, Bind, Unbind, Move}
+use Rattle.metis_ids.specs.declared.actions.Action.TheVariants.{New, Move}
 use Rattle.metis_universe.specs.Config.{Correct}
 use Rattle.metis_universe.specs.Step.{IsRun}
 use Rattle.metis_universe.specs.Steadfast.{is_steadfast, is_steadfast_at, is_steadfast_after}
 use Rattle.metis_universe.proofs.Rounds.{has-filter}
-use Rattle.metis_universe.specs.Universe.{Universe, IsUniverse, pair_count, type_count, type_of, initial_of, is_free, is_empty, is_initial, next_of, required_of, requires, provides, type_requires, has, no_pair}
-use Rattle.metis_layers.proofs.Deploying.{at, at-next, GoesOn, GoesOn-append, IsHeld, ends_need, AreServed, IsAt, Stand, slice_get-past, slice_get-before, slice_get-last, slice_get-push, Fresh, Ready, with_all, without_all}
+use Rattle.metis_universe.specs.Universe.{Universe, IsUniverse, pair_count, type_count, type_of, initial_of, is_free, is_empty, is_initial, next_of, required_of, requires, type_requires, has, no_pair}
+use Rattle.metis_layers.proofs.Deploying.{at, at-next, GoesOn, GoesOn-append, IsHeld, AreServed, IsAt, Stand, slice_get-past, slice_get-before, slice_get-push, Fresh, Ready, with_all, without_all}
 use Rattle.metis_layers.proofs.Hops.{at_begin, at_move, at_retest, at_finish, binds_go, unbinds_go, move_goes, correct_at, type_requires-own}
 use Rattle.metis_layers.specs.LayerOrder.{gained, binds, unbinds, move_actions, moves_along, line_actions, lines_from}
 

@@ -1,8 +1,7 @@
 -- The list in the order of the layers deploys the targets, and a pair is attainable exactly where it has a layer.
-use Rattle.std.proofs.Common.{◌≡◌, ℕ, zero, suc, ◌+◌, ◌<◌, ◌≤◌, Bool, true, false, cond, not, ◌&&◌, ◌||◌, List, [], ◌∷◌, ◌++◌, length, map, Option, Some, None, refl, sym, ap, ◌∙◌, subst, arith, nat_eq, nat_cmp, inl, inr, length-append, zero-add}
-use Rattle.std.proofs.lemmas.Bool.{eqb-true, false≢true, true_from_ne_false, or_cases, and_from, and_parts, or_left, or_right}
-use Rattle.std.proofs.lemmas.List.{length-map}
-use Rattle.std.specs.List.{AllByRecursion, list_all, list_any, filter, find, count_by, enumerate_from, range_with_len, slice_get}
+use Rattle.std.proofs.Common.{◌≡◌, ℕ, zero, suc, ◌+◌, ◌<◌, ◌≤◌, Bool, true, false, cond, not, ◌||◌, List, [], ◌∷◌, ◌++◌, map, Option, Some, None, refl, sym, ap, ◌∙◌, subst, arith, nat_eq, nat_cmp, inl, inr, length-append, zero-add}
+use Rattle.std.proofs.lemmas.Bool.{eqb-true, false≢true, true_from_ne_false, or_cases}
+use Rattle.std.specs.List.{AllByRecursion, filter, count_by, enumerate_from, range_with_len}
 use Rattle.std.specs.Map.{lookup}
 use Rattle.std.specs.Option.{option_map_or}
 use Rattle.std.proofs.lemmas.Cmp.{nat_cmp_total}
@@ -12,19 +11,18 @@ use Rattle.std.specs.List.Sorted.{IsStrictlySortedBy, IsStrictlyIncreasing}
 use Rattle.std.specs.declared.cmp.Ordering.TheVariants.{Less}
 use Rattle.metis_ids.specs.declared.actions.Action.{Action}
 use Rattle.metis_universe.proofs.Kept.{IsConfig-after_all, IsConfig-empty}
-use Rattle.metis_universe.proofs.Rounds.{has-filter, layers_grow, grows_to}
 use Rattle.metis_universe.proofs.Same.{numbers_exact, same_entries}
-use Rattle.metis_universe.specs.Closed.{Closed, IsProvidedIn, Refusal}
 use Rattle.metis_universe.specs.Config.{empty}
-use Rattle.metis_universe.specs.Goal.{Attainable, Attains, Holds, IsAttainedSet, holding}
+use Rattle.metis_universe.specs.Goal.{Attainable, IsAttainedSet, holding}
 use Rattle.metis_universe.specs.Selection.{origin_of}
 use Rattle.metis_universe.specs.Layers.{is_enabled, layer_of, layer_set}
 use Rattle.metis_universe.specs.Step.{IsRun, after_all}
-use Rattle.metis_universe.specs.Universe.{Universe, IsUniverse, all_pairs, has, is_free, next_of, pair_count, provides, required_of, requires}
+use Rattle.metis_universe.specs.Universe.{Universe, IsUniverse, has, is_free, pair_count}
 use Rattle.metis_layers.proofs.Counts.{count-append, count-enumerate, enumerate_ascends, lines_make, lookup-enumerate, standing_few}
 use Rattle.metis_layers.proofs.Deploying.{Stand}
 use Rattle.metis_layers.proofs.Lines.{all_lines_go, end_of, last_of, run_from_going, steadfast_from_going}
 use Rattle.metis_layers.proofs.LayerFacts.{layer_by}
+use Rattle.metis_layers.proofs.Numbers.{ways_within}
 use Rattle.metis_layers.proofs.Standing.{AllLayered, HasSomeLayer, order_ways}
 use Rattle.metis_universe.proofs.Attained.{Closed-layers}
 use Rattle.metis_universe.proofs.Inside.{refused}
@@ -49,9 +47,6 @@ module _ (u : Universe) where
   path_ends [] = refl
   path_ends (x ∷ xs) = λ i. path_end (pair_count u) x i ∷ path_ends xs i
 
-  ends_count : (xs : List ℕ) → length (map (path_to u) xs) ≡ length xs
-  ends_count xs = length-map xs (path_to u)
-
   -- each pair has as many instances as it has places among the ends
   holds_ends : (ends : List ℕ) (actions : List Action) → IsRun u empty actions → Stand u (holder_of u) ends actions → (p : ℕ) → holding (after_all u empty actions) p ≡ count_by (λ q. nat_eq q p) ends
   holds_ends ends actions run s p =
@@ -63,23 +58,24 @@ module _ (u : Universe) where
   pub order_deploys : (k : IsUniverse u) (g : List ℕ) → AllLayered u k g → Deploys u g (layer_order u g)
   order_deploys k g all =
       let paths = map (path_to u) (line_ends u g) in
-      let went = all_lines_go u k (holder_of u) paths (order_ways u k g all) in
+      let ways = order_ways u k g all in
+      let went = all_lines_go u k (holder_of u) paths ways in
       let run = run_from_going u [] (layer_order u g) went.0 in
       let stand = subst (λ l. Stand u (holder_of u) l (layer_order u g)) (path_ends (line_ends u g)) went.1 in
       record {
         runs = run;
         holds = λ p. subst (λ n. count_by (λ q. nat_eq q p) g ≤ n) (sym (holds_ends (line_ends u g) (layer_order u g) run stand p)) (count-append p (standing_pairs u) g);
         steadfast = steadfast_from_going u (layer_order u g) went.0;
+        numbers = ways_within u k (holder_of u) [] 0 paths ways;
         few = omega (
           arith,
-          lines_make u (holder_of u) 0 paths,
-          ends_count (line_ends u g),
+          lines_make u (holder_of u) 0 (line_ends u g),
           length-append (standing_pairs u) g,
           standing_few u,
         );
       }
 
-layered_some : (u : Universe) (p : ℕ) (o : Option ℕ) → layer_of u p ≡ o → IsSome o → HasSomeLayer u p
+pub layered_some : (u : Universe) (p : ℕ) (o : Option ℕ) → layer_of u p ≡ o → IsSome o → HasSomeLayer u p
 layered_some u p None is some = absurd (false≢true some)
 layered_some u p (Some l) is some = record { layer = l; is = is }
 

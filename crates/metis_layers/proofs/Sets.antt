@@ -1,6 +1,6 @@
 -- Sets that grow by one number.
-use Rattle.std.proofs.Common.{Some, append-nil, get_or, ◌≡◌, ℕ, zero, suc, ◌+◌, ◌<◌, ◌≤◌, Bool, true, false, cond, ◌||◌, List, [], ◌∷◌, ◌++◌, length, take, Greater, refl, sym, ap, ◌∙◌, subst, arith, nat_eq, nat_cmp, slice_index, inl, inr}
-use Rattle.std.proofs.lemmas.Bool.{eqb-true, eq-eqb, false≢true, or_cases, or_left, or_right, and_parts}
+use Rattle.std.proofs.Common.{Some, append-nil, get_or, ◌≡◌, ℕ, zero, suc, ◌+◌, ◌<◌, Bool, true, false, cond, ◌||◌, List, [], ◌∷◌, ◌++◌, length, take, Greater, refl, sym, ap, ◌∙◌, arith, nat_eq, nat_cmp}
+use Rattle.std.proofs.lemmas.Bool.{eq-eqb, or_left, or_right, and_parts}
 use Rattle.std.proofs.lemmas.List.Elements.{filter-append}
 use Rattle.std.proofs.lemmas.List.Folds.{list_any-append}
 use Rattle.std.proofs.lemmas.Option.{slice_get-get_or}

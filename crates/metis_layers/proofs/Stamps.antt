@@ -1,7 +1,6 @@
 -- The rounds that are known after one more.
-use Rattle.std.proofs.Common.{◌≡◌, ℕ, suc, ◌+◌, ◌<◌, List, map, length, get_or, Option, Some, None, cond, refl, sym, ap, ◌∙◌, arith}
-use Rattle.std.specs.List.{find, range_with_len}
-use Rattle.std.specs.Option.{option_or}
+use Rattle.std.proofs.Common.{◌≡◌, ℕ, suc, ◌+◌, List, map, length, get_or, Option, None, sym, ap, ◌∙◌, arith}
+use Rattle.std.specs.List.{range_with_len}
 use Rattle.metis_universe.specs.Layers.{grown, is_enabled, layer_set}
 use Rattle.metis_universe.specs.Universe.{Universe, all_pairs, has, pair_count}
 use Rattle.metis_layers.proofs.Tables.{entries_alike, entries_count, entry, find_more}

@@ -1,16 +1,16 @@
 -- The pairs by layer: in their order each provider stands before the pairs that require its port.
-use Rattle.std.proofs.Common.{◌≡◌, ℕ, zero, suc, ◌+◌, ◌<◌, ◌≤◌, Bool, true, false, cond, ◌&&◌, ◌||◌, List, [], ◌∷◌, ◌++◌, length, map, Option, Some, None, refl, sym, ap, ◌∙◌, subst, arith, nat_eq, inl, inr, append_assoc, append-nil, length-append}
+use Rattle.std.proofs.Common.{◌≡◌, ℕ, zero, suc, ◌+◌, ◌<◌, ◌≤◌, Bool, true, false, cond, ◌||◌, List, [], ◌∷◌, ◌++◌, length, map, Some, refl, sym, ap, ◌∙◌, subst, arith, nat_eq, inl, inr, append_assoc, append-nil, length-append}
 use Rattle.std.proofs.lemmas.Bool.{eqb-true, eq-eqb, cases_lt, false≢true, and_parts, and_from, or_cases, or_left, or_right}
 use Rattle.std.proofs.lemmas.List.Folds.{list_any-append}
-use Rattle.std.specs.List.{list_any, filter, flat_map, position_or_len, range_with_len, slice_get}
+use Rattle.std.specs.List.{list_any, filter, flat_map, range_with_len, slice_get}
 use Rattle.std.specs.Option.{option_map_or}
 use Rattle.metis_universe.proofs.Rounds.{has-filter}
 use Rattle.metis_universe.specs.Layers.{is_in_layer, layer_of, layered}
 use Rattle.metis_universe.specs.Selection.{provider_of}
-use Rattle.metis_universe.specs.Universe.{Universe, IsUniverse, all_pairs, has, is_empty, is_free, is_initial, pair_count, port_count, provides, required_of, requires}
+use Rattle.metis_universe.specs.Universe.{Universe, IsUniverse, all_pairs, has, is_empty, is_initial, pair_count, port_count, required_of, requires}
 use Rattle.metis_layers.proofs.Deploying.{IsHeld, slice_get-before}
-use Rattle.metis_layers.proofs.LayerFacts.{HasProvider, among_layer, in_layer, layer_below, layer_free, provider_at, true_false}
-use Rattle.metis_layers.proofs.Lines.{AreWays, end_of}
+use Rattle.metis_layers.proofs.LayerFacts.{among_layer, in_layer, layer_below, layer_free, provider_at}
+use Rattle.metis_layers.proofs.Lines.{AreWays}
 use Rattle.metis_layers.proofs.Ways.{HeldUpTo, IsPath, all_has, path_is_way, within}
 use Rattle.metis_layers.specs.LayerOrder.{holder_of, is_provider, is_standing, line_ends, path_to, place_of, standing_pairs}
 
@@ -232,3 +232,10 @@ module _ (u : Universe) (k : IsUniverse u) where
 
   pub order_ways : (g : List ℕ) → AllLayered g → AreWays u (holder_of u) [] (map (path_to u) (line_ends u g))
   order_ways g all = ways_from (standing_pairs u) [] g refl all
+
+  -- what the instances end in has a layer
+  pub ends_layered : (g : List ℕ) → AllLayered g → AllLayered (line_ends u g)
+  ends_layered g all p h = elim (or_cases (has (standing_pairs u) p) (has g p) (sym (has-append (standing_pairs u) g p) ∙ h)) [
+    | inl stands ↦ standing_layer u p stands
+    | inr target ↦ all p target
+  ]

@@ -4,7 +4,7 @@ use Rattle.std.proofs.lemmas.List.{length-map}
 use Rattle.std.proofs.lemmas.List.Elements.{filter-append}
 use Rattle.std.proofs.lemmas.List.Folds.{find-append}
 use Rattle.std.proofs.lemmas.List.FromFn.{length-range_with_len}
-use Rattle.std.specs.List.{filter, find, flat_map, range_with_len, slice_get, AllByRecursion}
+use Rattle.std.specs.List.{filter, find, flat_map, range_with_len, AllByRecursion}
 use Rattle.std.specs.Option.{option_or}
 use Rattle.metis_layers.proofs.Sets.{range_more, take_more}
 

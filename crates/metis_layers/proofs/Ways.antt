@@ -1,17 +1,16 @@
 -- The paths along origins are ways, once the providers of lower layers stand.
-use Rattle.std.proofs.Common.{◌≡◌, ℕ, zero, suc, ◌+◌, ◌<◌, ◌≤◌, Bool, true, false, cond, not, ◌&&◌, ◌||◌, List, [], ◌∷◌, ◌++◌, length, map, Option, Some, None, refl, sym, ap, ◌∙◌, subst, arith, nat_eq, inl, inr}
-use Rattle.std.proofs.lemmas.Bool.{eqb-true, eq-eqb, cases_lt, false≢true, and_parts, and_from, or_cases, or_left, or_right}
+use Rattle.std.proofs.Common.{◌≡◌, ℕ, zero, suc, ◌+◌, ◌<◌, ◌≤◌, true, List, [], ◌∷◌, ◌++◌, Some, refl, sym, ap, ◌∙◌, subst, arith, nat_eq, inl, inr}
+use Rattle.std.proofs.lemmas.Bool.{eqb-true, false≢true, and_parts, or_cases}
 use Rattle.std.proofs.lemmas.List.Folds.{Any-from_list_any}
-use Rattle.std.specs.List.{list_any, filter, range_with_len, slice_get, All}
+use Rattle.std.specs.List.{range_with_len, All}
 use Rattle.std.specs.Option.{option_map_or}
 use Rattle.metis_universe.proofs.Initials.{is_initial-own}
 use Rattle.metis_universe.specs.Layers.{layer_of}
-use Rattle.metis_universe.specs.Selection.{provider_of, origin_of}
-use Rattle.metis_universe.specs.Universe.{Universe, IsUniverse, all_pairs, pair_count, type_of, initial_of, is_free, is_initial, is_empty, next_of, required_of, requires, provides, has}
+use Rattle.metis_universe.specs.Universe.{Universe, IsUniverse, pair_count, type_of, initial_of, is_initial, is_empty, next_of, required_of, requires, has}
 use Rattle.metis_layers.proofs.Deploying.{IsHeld}
-use Rattle.metis_layers.proofs.LayerFacts.{HasLayer, HasOrigin, HasProvider, layer_by, layer_free, layer_pair, no_origin, origin_at, provider_at, true_false}
+use Rattle.metis_layers.proofs.LayerFacts.{layer_free, layer_pair, no_origin, origin_at}
 use Rattle.metis_layers.proofs.Lines.{IsHop, AreHops, IsBegun, IsWay, last_of, end_of}
-use Rattle.metis_layers.specs.LayerOrder.{path_within, path_to}
+use Rattle.metis_layers.specs.LayerOrder.{path_within}
 
 pub in_range : (a n q : ℕ) → has (range_with_len a n) q ≡ true → q < a + n
 in_range a zero q h = absurd (false≢true h)

@@ -11,7 +11,7 @@ use Rattle.std.specs.Option.{option_map_or, option_or}
 use Rattle.metis_ids.specs.PairSet.{PairSet}
 use Rattle.metis_universe.specs.Layers.{layer_of, layer_set, layered}
 use Rattle.metis_universe.specs.Selection.{provider_of}
-use Rattle.metis_universe.specs.Universe.{Universe, all_pairs, has, pair_count, port_count}
+use Rattle.metis_universe.specs.Universe.{Universe, has, pair_count, port_count}
 use Rattle.metis_layers.specs.LayerOrder.{attained_pairs}
 
 pub record Layers : Type 0 where

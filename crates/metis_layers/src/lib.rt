@@ -5,5 +5,5 @@ mod laws;
 mod round;
 pub mod table;
 
-pub use laws::{layer_order_deploys, layers_are_attainable};
+pub use laws::{layer_order_deploys, layer_order_is_short, layers_are_attainable};
 pub use table::build::layers;

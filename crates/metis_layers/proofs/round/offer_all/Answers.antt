@@ -1,4 +1,3 @@
-use Rattle.std.proofs.Common.{◌∙◌}
 use Rattle.metis_layers.proofs.Sets.{gathered}
 use Rattle.metis_layers.proofs.round.offer_all.Goals as goal
 

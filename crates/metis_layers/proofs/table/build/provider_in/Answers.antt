@@ -1,4 +1,4 @@
-use Rattle.std.proofs.Common.{ℕ, Bool, sym, ◌∙◌}
+use Rattle.std.proofs.Common.{sym, ◌∙◌}
 use Rattle.metis_universe.specs.Universe.{provides}
 use Rattle.metis_layers.proofs.Tables.{found_at, not_found_yet}
 use Rattle.metis_layers.proofs.table.build.provider_in.Goals as goal

@@ -1,5 +1,4 @@
-use Rattle.std.proofs.Common.{◌≡◌, ◌<◌, ◌∙◌, ap, arith, get_or, length, map, None, refl, rules, sym}
-use Rattle.metis_universe.specs.Layers.{layer_set}
+use Rattle.std.proofs.Common.{◌∙◌, ap, arith, length, rules}
 use Rattle.metis_universe.specs.Universe.{pair_count}
 use Rattle.metis_layers.proofs.Tables.{entries_count, no_entries}
 use Rattle.metis_layers.proofs.Stamps.{stamped_more, next_members}
