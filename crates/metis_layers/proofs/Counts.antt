@@ -18,7 +18,7 @@ use Rattle.metis_layers.specs.LayerOrder.{attained_pairs, binds, unbinds, gained
 
 -- ---- kept elements
 
-kept_fewer : (t : ℕ → Bool) (xs : List ℕ) → length (filter t xs) ≤ length xs
+pub kept_fewer : (t : ℕ → Bool) (xs : List ℕ) → length (filter t xs) ≤ length xs
 kept_fewer t [] = omega arith
 kept_fewer t (x ∷ xs) = let rest = kept_fewer t xs in elim (t x) as (λ b. length (cond b (x ∷ filter t xs) (filter t xs)) ≤ length (x ∷ xs)) [ true ↦ omega (arith, rest) | false ↦ omega (arith, rest) ]
 

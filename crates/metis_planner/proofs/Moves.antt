@@ -1,6 +1,5 @@
 -- Lists of actions that grow at their end.
-use Rattle.std.proofs.Common.{◌≡◌, ℕ, zero, suc, ◌+◌, ◌<◌, List, [], ◌∷◌, ◌++◌, length, map, refl, sym, ap, ◌∙◌, arith, append-nil, append_assoc}
-use Rattle.metis_ids.specs.declared.actions.Action.{Action}
+use Rattle.std.proofs.Common.{◌≡◌, ℕ, ◌+◌, List, [], ◌∷◌, ◌++◌, length, refl, sym, ap, ◌∙◌, arith, append-nil, append_assoc}
 use Rattle.metis_universe.specs.Universe.{Universe}
 use Rattle.metis_layers.proofs.Lines.{last_of}
 use Rattle.metis_layers.specs.LayerOrder.{line_actions, lines_from, move_actions, moves_along}

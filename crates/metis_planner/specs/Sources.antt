@@ -7,7 +7,7 @@ use Rattle.std.specs.List.{range_with_len}
 use Rattle.std.specs.Option.{option_map_or}
 use Rattle.metis_universe.specs.Layers.{layer_of}
 use Rattle.metis_universe.specs.Selection.{origin_of}
-use Rattle.metis_universe.specs.Universe.{Universe, IsUniverse, all_pairs, has, next_of, port_count}
+use Rattle.metis_universe.specs.Universe.{Universe, all_pairs, has, next_of, port_count}
 use Rattle.metis_layers.specs.LayerOrder.{holder_of}
 use Rattle.metis_layers.specs.Layers.{Layers, layer_at}
 
@@ -22,6 +22,5 @@ abbrev pub leads_to : Universe → ℕ → ℕ → Bool
 leads_to u p o = is_below (layer_of u o) (layer_of u p) && has (next_of u o) p
 
 pub record AreSources (u : Universe) (origins : List (Option ℕ)) (holders : List ℕ) : Type 0 where
-  pub universe : IsUniverse u
   pub each_origin : origins ≡ map (origin_of u) (all_pairs u)
   pub each_holder : holders ≡ map (holder_of u) (range_with_len 0 (port_count u))

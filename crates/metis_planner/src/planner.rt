@@ -7,14 +7,14 @@ ghost use Rattle.metis_universe.specs.Goal.{Attains, Holds};
 ghost use Rattle.metis_universe.specs.Numbers.{IsOf};
 ghost use Rattle.metis_universe.specs.Steadfast.{is_steadfast};
 ghost use Rattle.metis_universe.specs.Step.{IsRun, after_all};
-ghost use Rattle.metis_universe.specs.Universe.{pair_count};
+ghost use Rattle.metis_universe.specs.Universe.{IsTable, pair_count};
 ghost use Rattle.metis_layers.specs.LayerOrder.{attained_pairs, holder_of, instances_of, layer_order, line_ends, lines_from, path_to};
 ghost use Rattle.metis_layers.specs.Layers.{IsLayers, layer_at};
 ghost use Rattle.metis_planner.specs.Outcomes.{IsPlanWhere, IfPlan, IfClosed};
 
-use crate::sources::Sources;
 use crate::lines::add_line;
 use crate::outcome::Outcome;
+use crate::sources::Sources;
 use crate::standing::standing_pairs;
 use metis_ids::{Action, InstNo, NoMemory, PairIx, Plan};
 use metis_layers::layers;
@@ -78,6 +78,7 @@ fn plan_by(
     targets: &[PairIx],
 ) -> Result<Plan, NoMemory>
     requires layers { IsLayers u.now layers.now }
+    requires table { IsTable u.now }
     requires few { length targets.now ≤ 256 }
     requires within { All (λ p. p < pair_count u.now) targets.now }
     ensures actions { IfOk result (λ plan. plan.actions.items ≡ layer_order u.now targets.now) }
@@ -95,11 +96,7 @@ fn plan_by(
 }
 
 // The lines of the instances that end in these pairs.
-fn all_lines(
-    alloc: Global,
-    sources: &Sources<'_>,
-    ends: &[PairIx],
-) -> Result<Vec<Action>, NoMemory>
+fn all_lines(alloc: Global, sources: &Sources<'_>, ends: &[PairIx]) -> Result<Vec<Action>, NoMemory>
     requires few { length ends.now < 2 ^ 32 }
     requires within { All (λ p. p < pair_count sources.now) ends.now }
     ensures { IfOk result (λ actions. actions.items ≡ lines_from sources.now (holder_of sources.now) 0 (map (path_to sources.now) ends.now)) }

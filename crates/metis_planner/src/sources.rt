@@ -1,5 +1,5 @@
 //! What the instances of a plan stand on.
-ghost use Rattle.std.specs.Prelude.{◌≡◌, ◌<◌, ◌==◌, ◌++◌, IfOk, OnOk, map, position};
+ghost use Rattle.std.specs.Prelude.{◌≡◌, ◌<◌, ◌==◌, ◌^◌, ◌++◌, IfOk, OnOk, length, map, position};
 ghost use Rattle.std.specs.List.{find, range_with_len};
 ghost use Rattle.metis_universe.specs.Selection.{origin_of};
 ghost use Rattle.metis_universe.specs.Universe.{all_pairs, pair_count, port_count};
@@ -42,6 +42,7 @@ impl<'a> Sources<'a> {
     ) -> Result<Sources<'a>, NoMemory>
         requires layers { IsLayers u.now layers.now }
         requires standing { standing.now ≡ standing_pairs u.now }
+        requires few { length standing.now < 2 ^ 32 }
         ensures { IfOk result (λ sources. sources ≡ u.now) }
     {
         let origins = origins(alloc, u, layers)?;
@@ -123,6 +124,7 @@ fn holders(
 ) -> Result<Vec<InstNo>, NoMemory>
     requires layers { IsLayers u.now layers.now }
     requires standing { standing.now ≡ standing_pairs u.now }
+    requires few { length standing.now < 2 ^ 32 }
     ensures { IfOk result (λ holders. holders.items ≡ map (holder_of u.now) (range_with_len 0 (port_count u.now))) }
 {
     let mut holders = Vec::new(alloc);

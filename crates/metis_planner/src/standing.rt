@@ -11,11 +11,7 @@ use metis_universe::Universe;
 use std::alloc::Global;
 
 /// The pairs that are the first provider of some port, by layer and then by number.
-pub fn standing_pairs(
-    alloc: Global,
-    u: &Universe,
-    layers: &Layers,
-) -> Result<Vec<PairIx>, NoMemory>
+pub fn standing_pairs(alloc: Global, u: &Universe, layers: &Layers) -> Result<Vec<PairIx>, NoMemory>
     requires { IsLayers u.now layers.now }
     ensures { IfOk result (λ pairs. pairs.items ≡ standing_pairs u.now) }
 {

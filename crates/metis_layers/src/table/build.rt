@@ -1,7 +1,7 @@
 //! From a universe to its layers.
 ghost use Rattle.std.specs.Prelude.{◌≡◌, ◌<◌, ◌^◌, IfOk, OnOk, ◌++◌, length, map};
 ghost use Rattle.std.specs.List.{All, find, range_with_len};
-ghost use Rattle.metis_universe.specs.Universe.{all_pairs, pair_count, port_count, provides};
+ghost use Rattle.metis_universe.specs.Universe.{IsTable, all_pairs, pair_count, port_count, provides};
 ghost use Rattle.metis_layers.specs.LayerOrder.{attained_pairs};
 ghost use Rattle.metis_layers.specs.Layers.{IsLayers, stamp, stamped, found_before, is_round, of_round, order_by};
 
@@ -13,7 +13,8 @@ use std::alloc::Global;
 
 /// The layers of the universe's pairs. It goes over all pairs once for each round, in as many rounds as there are pairs.
 pub fn layers(alloc: Global, u: &Universe) -> Result<Layers, NoMemory>
-    ensures { IfOk result (IsLayers u.now) }
+    ensures layers { IfOk result (IsLayers u.now) }
+    ensures table { IfOk result (λ _. IsTable u.now) }
 {
     let (rounds, attained) = rounds_of(alloc, u)?;
     let order = in_order(alloc, &rounds)?;
@@ -32,6 +33,7 @@ fn rounds_of(alloc: Global, u: &Universe) -> Result<(Vec<Option<u32>>, PairSet),
     ensures few { IfOk result (λ x. length x.0.items < 2 ^ 32) }
     ensures size { IfOk result (λ x. x.1.size ≡ pair_count u.now) }
     ensures attained { IfOk result (λ x. x.1.members ≡ attained_pairs u.now) }
+    ensures table { IfOk result (λ _. IsTable u.now) }
 {
     let count = u.pairs();
     let mut set = free_pairs(alloc, u)?;

@@ -1,4 +1,4 @@
-use Rattle.std.proofs.Common.{◌∙◌, sym}
+use Rattle.std.proofs.Common.{◌∙◌}
 use Rattle.metis_universe.specs.Selection.{origin_of}
 use Rattle.metis_layers.proofs.Tables.{pushed}
 use Rattle.metis_planner.proofs.Origins.{origin_found}

@@ -10,8 +10,8 @@ first_providers-requires c =
     order_low c.args.u.now c.in_ok-rounds.rounds.items c.in_ok-rounds.ensures.rounds c.deref-2.result.now
     (c.deref-2.ensures.value ∙ c.in_ok-order.ensures ∙ ap (λ l. order_by l (length l)) c.deref.ensures.value)
 
-pub returns : goal.returns
-returns c =
+pub returns-clause-layers : goal.returns-clause-layers
+returns-clause-layers c =
     let u = c.args.u.now in
     is_layers u c.in_ok-rounds.rounds.items c.in_ok-rounds.ensures.rounds c.in_ok-rounds.attained c.in_ok-order.order.items c.in_ok-first.first.items
     c.in_ok-rounds.ensures.size c.in_ok-rounds.ensures.attained
