@@ -1,4 +1,4 @@
-//! The layers of small universes: one with every kind of pair, a mutual need, and an initial state that requires.
+//! The layers of small universes: a port with two providers, a mutual need, and an initial state that requires.
 use crate::layers;
 use crate::table::Layers;
 use metis_ids::{PairIx, PortIx};
