@@ -1,13 +1,10 @@
 pub mod ActionLines
-pub mod Attaining
 pub mod FileBytes
 pub mod Fronts
 pub mod Gathered
 pub mod Items
-pub mod Marking
 pub mod Openings
 pub mod OverFiles
-pub mod Plainness
 pub mod ReadFaults
 pub mod Refused
 pub mod Replies

@@ -3,7 +3,7 @@ use Rattle.std.proofs.Common.{◌≡◌, ◌⊎◌, ℕ, suc, ◌+◌, List, [],
 use Rattle.std.specs.declared.option.Option.{Option as Known}
 use Rattle.std.specs.Io.KnownBytes.{Appends}
 use Rattle.metis_top.specs.declared.refusal.Refusal.{Refusal}
-use Rattle.metis_top.specs.declared.refusal.Refusal.TheVariants.{Word, TooLong, NotJson, UniverseForm, NotYetRequires, UniverseRows}
+use Rattle.metis_top.specs.declared.refusal.Refusal.TheVariants.{Word, TooLong, NotJson, UniverseForm, UniverseRows}
 use Rattle.metis_top.specs.declared.status.Status.{Status}
 use Rattle.metis_top.specs.declared.status.Status.TheVariants.{Done, No, ReadFault}
 use Rattle.metis_top.specs.declared.words.Verb.{Verb}
@@ -34,7 +34,6 @@ not_refused (Word place) is = cc
 not_refused (TooLong place) is = cc
 not_refused NotJson is = cc
 not_refused UniverseForm is = cc
-not_refused NotYetRequires is = cc
 not_refused UniverseRows is = cc
 
 Numbered-after : (taken : List (List ℕ)) (script : Script) (first : ℕ) → Numbered first script → Numbered (first + length taken) (after taken script)

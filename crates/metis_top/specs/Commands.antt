@@ -22,7 +22,7 @@ abbrev pub judged : {X : Type 0} → (X → Script) → Result X Refusal → Scr
 judged next (Ok x) = next x
 judged next (Err refusal) = Refuse refusal
 
--- goes on with the universe of rows, none of which requires a port
+-- goes on with the universe of the rows
 abbrev pub rows_then : List TypeRow → (Universe → Script) → Script
 rows_then rows next = judged next (or_rows_refused (meaning_of rows))
 

@@ -2,10 +2,8 @@
 --     document_limit      how many bytes a document has at most
 --     json_of bytes      the JSON value of the bytes, where a last line feed is left off, if there is one
 --     rows_of d      the rows that the value spells, or the first place whose form is wrong
---     has_requires rows      whether some state requires a port
 --     universe_in bytes      the universe that the bytes mean, or why they are refused
-use Rattle.std.specs.Prelude.{ℕ, ◌+◌, ◌-◌, ◌==◌, Bool, true, false, not, List, [], ◌∷◌, length, take, Option, Some, None, option_and_then, Result, Ok, Err, if◌then◌else◌, codes, slice_index}
-use Rattle.std.specs.List.{list_any}
+use Rattle.std.specs.Prelude.{ℕ, ◌+◌, ◌-◌, ◌==◌, Bool, true, false, List, [], ◌∷◌, length, take, Option, Some, None, option_and_then, Result, Ok, Err, if◌then◌else◌, codes, slice_index}
 use Rattle.std.specs.Str.{is_utf8}
 use Rattle.serde_json.specs.Data.{Data, Items, no_items, item}
 use Rattle.serde_json.specs.Find.{get, as_str, as_array, as_number, as_u64}
@@ -130,25 +128,9 @@ rows_in bytes = rows_or_not_json (json_of bytes)
 
 -- ---- meaning
 
-abbrev pub is_nil : {A : Type 0} → List A → Bool
-is_nil [] = true
-is_nil (x ∷ xs) = false
-
-abbrev pub state_requires : StateRow → Bool
-state_requires state = not (is_nil state.require)
-
-abbrev pub type_requires : TypeRow → Bool
-type_requires row = list_any state_requires row.states
-
-abbrev pub has_requires : List TypeRow → Bool
-has_requires rows = list_any type_requires rows
-
 abbrev pub or_rows_refused : Result Universe RowFault → Result Universe Refusal
 or_rows_refused (Ok u) = Ok u
 or_rows_refused (Err fault) = Err refusal.UniverseRows
-
-abbrev pub universe_of_rows : List TypeRow → Result Universe Refusal
-universe_of_rows rows = if has_requires rows then Err refusal.NotYetRequires else or_rows_refused (meaning_of rows)
 
 -- why a document that spells no rows is refused
 abbrev pub form_refusal : DocumentFault → Refusal
@@ -168,7 +150,7 @@ form_stop (StateForm t s) = stop.Refused refusal.UniverseForm
 
 abbrev pub or_form_refused : Result (List TypeRow) DocumentFault → Result Universe Refusal
 or_form_refused (Err fault) = Err (form_refusal fault)
-or_form_refused (Ok rows) = universe_of_rows rows
+or_form_refused (Ok rows) = or_rows_refused (meaning_of rows)
 
 abbrev pub universe_in : List ℕ → Result Universe Refusal
 universe_in bytes = or_form_refused (rows_in bytes)

@@ -8,15 +8,11 @@ pub mod Line
 pub mod Lines
 pub mod Numbered
 pub mod Openings
-pub mod Outcome
-pub mod Plain
 pub mod PlanText
 pub mod Planned
-pub mod Reach
 pub mod Reads
 pub mod RefusalText
 pub mod Script
 pub mod Statuses
 pub mod TargetName
-pub mod Way
 pub mod Words

@@ -3,7 +3,7 @@ use Rattle.std.specs.Prelude.{ℕ, List, ◌++◌, codes, decimal, Result, Ok, E
 use Rattle.metis_outside.specs.declared.trouble.Trouble.{Trouble}
 use Rattle.metis_outside.specs.declared.trouble.Trouble.TheVariants as trouble
 use Rattle.metis_top.specs.declared.refusal.Refusal.{Refusal}
-use Rattle.metis_top.specs.declared.refusal.Refusal.TheVariants.{Word, TooLong, NotJson, UniverseForm, NotYetRequires, UniverseRows}
+use Rattle.metis_top.specs.declared.refusal.Refusal.TheVariants.{Word, TooLong, NotJson, UniverseForm, UniverseRows}
 use Rattle.metis_top.specs.declared.status.Status.{Status}
 use Rattle.metis_top.specs.declared.status.Status.TheVariants.{BadWords, BadInput, WriteFault, NoMemory}
 
@@ -12,7 +12,6 @@ refusal_line (Word place) = codes "bad word " ++ (decimal place ++ codes "\n")
 refusal_line (TooLong place) = codes "too long " ++ (decimal place ++ codes "\n")
 refusal_line NotJson = codes "bad universe U1\n"
 refusal_line UniverseForm = codes "bad universe form\n"
-refusal_line NotYetRequires = codes "not yet requires\n"
 refusal_line UniverseRows = codes "bad universe rows\n"
 
 abbrev pub refusal_status : Refusal → Status
@@ -20,7 +19,6 @@ refusal_status (Word place) = BadWords
 refusal_status (TooLong place) = BadInput
 refusal_status NotJson = BadInput
 refusal_status UniverseForm = BadInput
-refusal_status NotYetRequires = BadInput
 refusal_status UniverseRows = BadInput
 
 abbrev pub read_fault_line : ℕ → List ℕ

@@ -1,23 +1,12 @@
--- The text of a plan, for plans in which no action waits for another instance's, and nothing is duplicated.
+-- The text of a plan.
 --     action_line u k a      the line of action number k
---     plan_text u actions      the whole text
-use Rattle.std.specs.Prelude.{ℕ, ◌+◌, Bool, true, false, List, [], ◌∷◌, ◌++◌, length, codes, decimal}
-use Rattle.std.specs.List.{filter}
+--     plan_text u actions dups      the whole text, where the instances of so many pairs were doubled
+use Rattle.std.specs.Prelude.{ℕ, ◌+◌, List, [], ◌∷◌, ◌++◌, length, codes, decimal}
 use Rattle.metis_ids.specs.declared.actions.Action.{Action}
 use Rattle.metis_ids.specs.declared.actions.Action.TheVariants.{New, Delete, Bind, Unbind, Move}
+use Rattle.metis_layers.specs.LayerOrder.{instances_of}
 use Rattle.metis_top.specs.Line.{line}
 use Rattle.metis_universe.specs.Universe.{Universe, type_name_of, state_name_of, port_name_of}
-
-abbrev pub is_new : Action → Bool
-is_new (New z t) = true
-is_new (Delete z) = false
-is_new (Bind r z y) = false
-is_new (Unbind r z y) = false
-is_new (Move z p q) = false
-
--- how many instances the actions make
-abbrev pub instances_of : List Action → ℕ
-instances_of actions = length (filter is_new actions)
 
 -- what stands in the action's line behind its number
 abbrev pub action_tokens : Universe → Action → List (List ℕ)
@@ -38,11 +27,11 @@ action_lines u k (a ∷ actions) = action_line u k a ++ action_lines u (k + 1) a
 abbrev pub plan_header : List ℕ
 plan_header = line (codes "metis" ∷ codes "plan" ∷ codes "1" ∷ [])
 
-abbrev pub counts_line : ℕ → ℕ → List ℕ
-counts_line instances actions = line (codes "instances" ∷ decimal instances ∷ codes "actions" ∷ decimal actions ∷ codes "dups" ∷ codes "0" ∷ [])
+abbrev pub counts_line : ℕ → ℕ → ℕ → List ℕ
+counts_line instances actions dups = line (codes "instances" ∷ decimal instances ∷ codes "actions" ∷ decimal actions ∷ codes "dups" ∷ decimal dups ∷ [])
 
-abbrev pub counts_of : List Action → List ℕ
-counts_of actions = counts_line (instances_of actions) (length actions)
+abbrev pub counts_of : List Action → ℕ → List ℕ
+counts_of actions dups = counts_line (instances_of actions) (length actions) dups
 
 abbrev pub end_line : List ℕ
 end_line = line (codes "end" ∷ [])
@@ -51,8 +40,8 @@ end_line = line (codes "end" ∷ [])
 abbrev pub plan_rest : Universe → List Action → List ℕ
 plan_rest u actions = action_lines u 1 actions ++ end_line
 
-abbrev pub plan_body : Universe → List Action → List ℕ
-plan_body u actions = counts_of actions ++ plan_rest u actions
+abbrev pub plan_body : Universe → List Action → ℕ → List ℕ
+plan_body u actions dups = counts_of actions dups ++ plan_rest u actions
 
-abbrev pub plan_text : Universe → List Action → List ℕ
-plan_text u actions = plan_header ++ plan_body u actions
+abbrev pub plan_text : Universe → List Action → ℕ → List ℕ
+plan_text u actions dups = plan_header ++ plan_body u actions dups

@@ -1,30 +1,26 @@
 -- What is said of targets in a universe: a plan, or a refusal.
---     IsAttainedSet u s      s is the ascending list of all attainable pairs
---     IsPlan u g actions      run from the empty configuration, the actions meet only correct configurations and end with every target
+--     IsPlan u g actions      run from the empty configuration, the actions meet only correct configurations and end with every target, and no provider leaves its pair while a binding to it stands
 --     IsRefusal u g s p      s is the set of all attainable pairs, it is closed, and p is the first target that it lacks
 --     PlanAnswer u g text status      the text is that of such a plan where some actions attain the targets, and else of such a refusal
 use Rattle.std.specs.Prelude.{◌≡◌, ◌⊎◌, ℕ, ◌+◌, ◌≤◌, List, length, IsTrue}
-use Rattle.std.specs.List.Sorted.{IsStrictlyIncreasing}
 use Rattle.metis_ids.specs.declared.actions.Action.{Action}
-use Rattle.metis_universe.specs.Universe.{Universe, has}
+use Rattle.metis_universe.specs.Universe.{Universe}
 use Rattle.metis_universe.specs.Config.{empty}
 use Rattle.metis_universe.specs.Step.{IsRun, after_all}
-use Rattle.metis_universe.specs.Goal.{Holds, Attains, Attainable}
+use Rattle.metis_universe.specs.Goal.{Holds, Attains, IsAttainedSet}
+use Rattle.metis_universe.specs.Steadfast.{is_steadfast}
 use Rattle.metis_universe.specs.Closed.{Refusal}
-use Rattle.metis_top.specs.PlanText.{plan_text, instances_of}
+use Rattle.metis_layers.specs.LayerOrder.{instances_of}
+use Rattle.metis_top.specs.PlanText.{plan_text}
 use Rattle.metis_top.specs.RefusalText.{refusal_text}
 use Rattle.metis_top.specs.declared.status.Status.{Status}
 use Rattle.metis_top.specs.declared.status.Status.TheVariants.{Done, No}
-
-pub record IsAttainedSet (u : Universe) (s : List ℕ) : Type 0 where
-  pub ascends : IsStrictlyIncreasing s
-  pub attained : (p : ℕ) → IsTrue (has s p) → Attainable u p
-  pub all : (p : ℕ) → Attainable u p → IsTrue (has s p)
 
 -- It makes no more instances than there are attainable pairs and targets.
 pub record IsPlan (u : Universe) (g : List ℕ) (actions : List Action) : Type 0 where
   pub runs : IsRun u empty actions
   pub holds : Holds (after_all u empty actions) g
+  pub steadfast : IsTrue (is_steadfast u actions)
   pub attained : List ℕ
   pub all : IsAttainedSet u attained
   pub few : instances_of actions ≤ length attained + length g
@@ -37,7 +33,7 @@ pub record Plans (u : Universe) (g text : List ℕ) : Type 0 where
   pub attains : Attains u g
   pub actions : List Action
   pub plan : IsPlan u g actions
-  pub told : text ≡ plan_text u actions
+  pub told : text ≡ plan_text u actions 0
 
 pub record Refuses (u : Universe) (g text : List ℕ) : Type 0 where
   pub unattained : Attains u g → ⊥

@@ -6,6 +6,7 @@ use Rattle.std.specs.List.{before_first, after_first}
 use Rattle.std.specs.Str.{bytes_eq}
 use Rattle.metis_universe.specs.Names.{is_name}
 use Rattle.metis_universe.specs.Texts.{texts}
+use Rattle.metis_universe.specs.Universe.{is_empty}
 use Rattle.metis_top.specs.TargetName.{TargetName}
 use Rattle.metis_top.specs.declared.words.Command.{Command}
 use Rattle.metis_top.specs.declared.words.Verb.{Verb}
@@ -16,7 +17,6 @@ use Rattle.metis_top.specs.declared.refusal.Refusal.TheVariants.{Word}
 use Rattle.metis_top.specs.declared.refusal.Stop.{Stop}
 use Rattle.metis_top.specs.declared.refusal.Stop.TheVariants.{Refused}
 use Rattle.metis_top.specs.declared.refusal.Stop.TheVariants as stop
-use Rattle.metis_top.specs.Document.{is_nil}
 
 -- the parts of a command; those that its verb does not have are empty
 pub record Form : Type 0 where
@@ -50,8 +50,8 @@ plan_with file (Some target) (_ ∷ _) = Err 4
 
 abbrev pub plan_form : List (List ℕ) → Result Form ℕ
 plan_form [] = Err 2
-plan_form (file ∷ []) = if is_nil file then Err 2 else Err 3
-plan_form (file ∷ target ∷ more) = if is_nil file then Err 2 else plan_with file (target_of target) more
+plan_form (file ∷ []) = if is_empty file then Err 2 else Err 3
+plan_form (file ∷ target ∷ more) = if is_empty file then Err 2 else plan_with file (target_of target) more
 
 abbrev pub form_of : List (List ℕ) → Result Form ℕ
 form_of [] = Err 1

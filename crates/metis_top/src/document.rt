@@ -3,7 +3,7 @@ ghost use Rattle.std.specs.Prelude.{◌≡◌, IfOk, option_map};
 ghost use Rattle.metis_universe.specs.Texts.{texts};
 ghost use Rattle.serde_json.specs.Find.{get};
 ghost use Rattle.serde_json.specs.View.{view, items_view};
-ghost use Rattle.metis_top.specs.Document.{json_of, without_last_newline, texts_in, texts_or_none, text_at, list_at, state_in, states_from, type_in, types_from, is_version_one, rows_of, rows_in, has_requires, type_requires, state_requires};
+ghost use Rattle.metis_top.specs.Document.{json_of, without_last_newline, texts_in, texts_or_none, text_at, list_at, state_in, states_from, type_in, types_from, is_version_one, rows_of, rows_in};
 ghost use Rattle.metis_top.specs.Reads.{Reads, ReadsJson};
 
 use metis_universe::{StateRow, TypeRow};
@@ -207,23 +207,4 @@ fn read_texts(alloc: Global, items: &[Value]) -> Result<Option<Vec<String>>, All
         }
     }
     Ok(Some(list))
-}
-
-/// Whether some state requires a port.
-pub fn has_requires(rows: &[TypeRow]) -> bool
-    ensures { result ≡ has_requires rows.now }
-{
-    rows.iter().any(type_requires)
-}
-
-fn type_requires(row: &TypeRow) -> bool
-    ensures { result ≡ type_requires row.now }
-{
-    row.states.iter().any(state_requires)
-}
-
-fn state_requires(state: &StateRow) -> bool
-    ensures { result ≡ state_requires state.now }
-{
-    !state.require.is_empty()
 }

@@ -3,19 +3,14 @@
 
 mod document;
 mod grammar;
-mod mark;
-mod outcome;
 mod plan;
 mod plan_text;
-mod planner;
-mod reach;
 mod reading;
 mod refusal;
 mod refusal_text;
 mod status;
 mod stop;
 mod top;
-mod way;
 mod words;
 
 pub use grammar::read_words;

@@ -4,18 +4,16 @@ ghost use Rattle.metis_universe.specs.Universe.{pair_count};
 ghost use Rattle.metis_top.specs.Answer as answer;
 ghost use Rattle.metis_top.specs.Commands.{plan_script};
 ghost use Rattle.metis_top.specs.Course.{Ran, Shown};
-ghost use Rattle.metis_top.specs.Plain.{RequiresNothing};
 
 use crate::Status;
-use crate::outcome::Outcome;
 use crate::plan_text::write_plan;
-use crate::planner::plan;
 use crate::reading::goal_from;
 use crate::refusal_text::write_refusal;
 use crate::stop::{end, said};
 use crate::words::TargetWord;
 use metis_ids::PairIx;
 use metis_outside::{Shelf, Sink};
+use metis_planner::{Outcome, plan};
 use metis_universe::Universe;
 use std::alloc::Global;
 
@@ -36,13 +34,15 @@ pub fn plan_file<H: Shelf, K: Sink>(
 }
 
 fn put_plan<K: Sink>(alloc: Global, u: &Universe, target: PairIx, out: &mut K) -> Status
-    requires plain { RequiresNothing u.now }
-    requires within { target < pair_count u.now }
+    requires { target < pair_count u.now }
     ensures { Shown (answer.IsAnswer (answer.Plan u.now (target ∷ []))) (K.written out.old) (K.written out.new) (K.faults out.old) (K.faults out.new) result }
 {
-    match plan(alloc, u, target) {
-        Ok(Outcome::Plan(actions)) => said(write_plan(alloc, u, &actions, out), Status::Done),
-        Ok(Outcome::Closed(set)) => said(write_refusal(alloc, u, &set, target, out), Status::No),
+    let _pairs = u.pairs();
+    match plan(alloc, u, &[target]) {
+        Ok(Outcome::Plan(plan)) => said(write_plan(alloc, u, &plan, out), Status::Done),
+        Ok(Outcome::Closed(set, lacking)) => {
+            said(write_refusal(alloc, u, &set, lacking, out), Status::No)
+        }
         Err(_) => Status::NoMemory,
     }
 }

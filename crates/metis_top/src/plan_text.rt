@@ -1,14 +1,15 @@
 //! Writes the text of a plan.
-ghost use Rattle.std.specs.Prelude.{◌≡◌, [], ◌∷◌, IfOk, codes, decimal, string_bytes};
+ghost use Rattle.std.specs.Prelude.{◌≡◌, [], ◌∷◌, IfOk, codes, decimal, length, string_bytes};
 ghost use Rattle.std.specs.List.{All};
 ghost use Rattle.metis_outside.specs.Faults.{CountsFault};
 ghost use Rattle.metis_outside.specs.Writes.{Writes};
+ghost use Rattle.metis_universe.specs.Numbers.{IsOf};
+ghost use Rattle.metis_layers.specs.LayerOrder.{instances_of};
 ghost use Rattle.metis_top.specs.Line.{line};
-ghost use Rattle.metis_top.specs.Outcome.{IsOf};
-ghost use Rattle.metis_top.specs.PlanText.{action_line, action_lines, counts_line, counts_of, instances_of, plan_body, plan_rest, plan_text};
+ghost use Rattle.metis_top.specs.PlanText.{action_line, action_lines, counts_line, counts_of, plan_body, plan_rest, plan_text};
 
 use crate::stop::put_all;
-use metis_ids::{Action, Ix};
+use metis_ids::{Action, Ix, Plan};
 use metis_outside::{Sink, Trouble};
 use metis_universe::Universe;
 use std::alloc::{AllocError, Global};
@@ -18,30 +19,27 @@ use std::alloc::{AllocError, Global};
 pub fn write_plan<K: Sink>(
     alloc: Global,
     u: &Universe,
-    actions: &[Action],
+    plan: &Plan,
     out: &mut K,
 ) -> Result<(), Trouble>
-    requires { All (IsOf u.now) actions.now }
-    ensures text { Writes (plan_text u.now actions.now) (K.written out.old) (K.written out.new) result }
+    requires counted { plan.now.instances ≡ instances_of plan.now.actions.items }
+    requires numbers { All (IsOf u.now) plan.now.actions.items }
+    ensures text { Writes (plan_text u.now plan.now.actions.items (length plan.now.dups.items)) (K.written out.old) (K.written out.new) result }
     ensures cause { CountsFault (K.faults out.old) (K.faults out.new) result }
 {
     put_all(b"metis plan 1\n", out)?;
-    write_body(alloc, u, actions, out)
+    write_body(alloc, u, plan, out)
 }
 
 #[tactic(auto, using(metis_outside::proofs::Writing::front_of_first, metis_outside::proofs::Writing::writes_then))]
-fn write_body<K: Sink>(
-    alloc: Global,
-    u: &Universe,
-    actions: &[Action],
-    out: &mut K,
-) -> Result<(), Trouble>
-    requires { All (IsOf u.now) actions.now }
-    ensures text { Writes (plan_body u.now actions.now) (K.written out.old) (K.written out.new) result }
+fn write_body<K: Sink>(alloc: Global, u: &Universe, plan: &Plan, out: &mut K) -> Result<(), Trouble>
+    requires counted { plan.now.instances ≡ instances_of plan.now.actions.items }
+    requires numbers { All (IsOf u.now) plan.now.actions.items }
+    ensures text { Writes (plan_body u.now plan.now.actions.items (length plan.now.dups.items)) (K.written out.old) (K.written out.new) result }
     ensures cause { CountsFault (K.faults out.old) (K.faults out.new) result }
 {
-    write_counts(alloc, actions, out)?;
-    write_rest(alloc, u, actions, out)
+    write_counts(alloc, plan, out)?;
+    write_rest(alloc, u, &plan.actions, out)
 }
 
 #[tactic(auto, using(metis_outside::proofs::Writing::front_of_first, metis_outside::proofs::Writing::writes_then))]
@@ -60,27 +58,24 @@ fn write_rest<K: Sink>(
 }
 
 #[tactic(auto, using(metis_outside::proofs::Writing::front_of_nothing))]
-fn write_counts<K: Sink>(alloc: Global, actions: &[Action], out: &mut K) -> Result<(), Trouble>
-    ensures text { Writes (counts_of actions.now) (K.written out.old) (K.written out.new) result }
+fn write_counts<K: Sink>(alloc: Global, plan: &Plan, out: &mut K) -> Result<(), Trouble>
+    requires { plan.now.instances ≡ instances_of plan.now.actions.items }
+    ensures text { Writes (counts_of plan.now.actions.items (length plan.now.dups.items)) (K.written out.old) (K.written out.new) result }
     ensures cause { CountsFault (K.faults out.old) (K.faults out.new) result }
 {
-    let line = counts_line(alloc, instances_of(actions), actions.len())?;
+    let line = counts_line(alloc, plan.instances, plan.actions.len(), plan.dups.len())?;
     put_all(line.as_bytes(), out)
 }
 
-fn counts_line(alloc: Global, instances: usize, count: usize) -> Result<String, AllocError>
-    ensures { IfOk result (λ text. string_bytes text ≡ counts_line instances count) }
+fn counts_line(
+    alloc: Global,
+    instances: u32,
+    count: usize,
+    dups: usize,
+) -> Result<String, AllocError>
+    ensures { IfOk result (λ text. string_bytes text ≡ counts_line instances count dups) }
 {
-    format!(in alloc; "instances {instances} actions {count} dups 0\n")
-}
-
-fn instances_of(actions: &[Action]) -> usize
-    ensures { result ≡ instances_of actions.now }
-{
-    actions
-        .iter()
-        .filter(|action| matches!(action, Action::New { .. }))
-        .count()
+    format!(in alloc; "instances {instances} actions {count} dups {dups}\n")
 }
 
 fn write_actions<K: Sink>(

@@ -1,12 +1,11 @@
 //! From files to what they mean.
-ghost use Rattle.std.specs.Prelude.{◌≡◌, ◌<◌, ◌≤◌, ◌^◌, length, IfOk, IsFalse};
+ghost use Rattle.std.specs.Prelude.{◌≡◌, ◌<◌, ◌≤◌, ◌^◌, length, IfOk};
 ghost use Rattle.metis_universe.specs.Universe.{pair_count};
 ghost use Rattle.metis_top.specs.Commands.{bytes_then, universe_in_then, universe_then, target_then, goal_then, rows_then};
 ghost use Rattle.metis_top.specs.Course.{Gathers, Judges, or_stop};
-ghost use Rattle.metis_top.specs.Document.{has_requires, form_stop};
-ghost use Rattle.metis_top.specs.Plain.{RequiresNothing};
+ghost use Rattle.metis_top.specs.Document.{form_stop};
 
-use crate::document::{DocumentFault, has_requires, read_rows};
+use crate::document::{DocumentFault, read_rows};
 use crate::refusal::{Refusal, Stop};
 use crate::words::TargetWord;
 use metis_ids::PairIx;
@@ -57,24 +56,17 @@ impl DocumentFault {
 
 /// The universe that the bytes mean.
 fn universe_in(alloc: Global, bytes: &[u8]) -> Result<Universe, Stop>
-    ensures judges { Judges (λ u. u) (universe_in_then bytes.now) result }
-    ensures plain { IfOk result RequiresNothing }
+    ensures { Judges (λ u. u) (universe_in_then bytes.now) result }
 {
-    let rows = match read_rows(alloc, bytes) {
-        Ok(rows) => rows,
-        Err(fault) => return Err(fault.stop()),
-    };
-    if has_requires(&rows) {
-        return Err(Stop::Refused(Refusal::NotYetRequires));
+    match read_rows(alloc, bytes) {
+        Ok(rows) => made(alloc, rows),
+        Err(fault) => Err(fault.stop()),
     }
-    made(alloc, rows)
 }
 
-// The universe of the rows, none of which requires a port. Rows that could not be numbered are more than memory holds.
+// The universe of the rows. Rows that could not be numbered are more than memory holds.
 fn made(alloc: Global, rows: Vec<TypeRow>) -> Result<Universe, Stop>
-    requires { IsFalse (has_requires rows.items) }
-    ensures judges { Judges (λ u. u) (rows_then rows.items) result }
-    ensures plain { IfOk result RequiresNothing }
+    ensures { Judges (λ u. u) (rows_then rows.items) result }
 {
     if !rows_fit(&rows) {
         return Err(Stop::NoMemory);
@@ -93,8 +85,7 @@ fn universe_from<H: Shelf>(
     place: u32,
     name: &str,
 ) -> Result<Universe, Stop>
-    ensures gathers { Gathers H.files H.faults H.opens (λ u. u) (universe_then place name.now) shelf.old shelf.new result }
-    ensures plain { IfOk result RequiresNothing }
+    ensures { Gathers H.files H.faults H.opens (λ u. u) (universe_then place name.now) shelf.old shelf.new result }
 {
     let bytes = bytes_from(alloc, shelf, place, name, UNIVERSE_LIMIT)?;
     universe_in(alloc, &bytes)
@@ -119,7 +110,6 @@ pub fn goal_from<H: Shelf>(
     target: &TargetWord,
 ) -> Result<(Universe, PairIx), Stop>
     ensures gathers { Gathers H.files H.faults H.opens (λ goal. goal) (goal_then file.now target.now) shelf.old shelf.new result }
-    ensures plain { IfOk result (λ goal. RequiresNothing goal.0) }
     ensures within { IfOk result (λ goal. goal.1 < pair_count goal.0) }
 {
     let universe = universe_from(alloc, shelf, 2, file)?;

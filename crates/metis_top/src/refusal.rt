@@ -9,8 +9,6 @@ pub enum Refusal {
     NotJson,
     /// The document has not the form of a universe.
     UniverseForm,
-    /// Some state requires a port.
-    NotYetRequires,
     /// The document has the form of a universe, and what it says is none.
     UniverseRows,
 }

@@ -18,7 +18,6 @@ fn refusal_line(alloc: Global, refusal: Refusal) -> Result<String, AllocError>
         Refusal::TooLong(place) => format!(in alloc; "too long {place}\n"),
         Refusal::NotJson => String::from_str(alloc, "bad universe U1\n"),
         Refusal::UniverseForm => String::from_str(alloc, "bad universe form\n"),
-        Refusal::NotYetRequires => String::from_str(alloc, "not yet requires\n"),
         Refusal::UniverseRows => String::from_str(alloc, "bad universe rows\n"),
     }
 }

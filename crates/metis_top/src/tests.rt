@@ -3,6 +3,7 @@ mod documents;
 mod faults;
 mod given_words;
 mod paths;
+mod ports;
 
 use crate::{Status, run};
 use metis_outside::{MemShelf, MemSink};

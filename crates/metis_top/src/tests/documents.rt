@@ -1,5 +1,5 @@
 // Universe documents that are accepted, and those that are refused.
-use super::{PLAN_C, ROW, SERVICES, WEB, expect, expect_despite};
+use super::{PLAN_C, ROW, SERVICES, expect, expect_despite};
 use crate::Status;
 use std::alloc::{AllocError, Global};
 use std::test::Fail;
@@ -10,7 +10,6 @@ const WORDS: &str = "plan f.json Svc:c";
 fn a_document_is_refused_by_its_first_fault(rt: HostRuntime) -> Result<(), Fail> {
     let not_json = "bad universe U1\n";
     let form = "bad universe form\n";
-    let required = "not yet requires\n";
     let rows = "bad universe rows\n";
     let cases = [
         ("", not_json),
@@ -74,14 +73,14 @@ fn a_document_is_refused_by_its_first_fault(rt: HostRuntime) -> Result<(), Fail>
             r#"{"aeolus":1,"types":[{"name":"","initial":"c","states":[{"name":"c"}]}]}"#,
             rows,
         ),
-        // a requirement comes before a state that is not there
+        // the next state of a state that requires a port is not there
         (
             r#"{"aeolus":1,"types":[{"name":"Svc","initial":"c","states":[{"name":"c","next":["d"],"require":["p"]}]}]}"#,
-            required,
+            rows,
         ),
-        // a form comes before a requirement
+        // a form comes before what the rows say
         (
-            r#"{"aeolus":1,"types":[{"name":"Svc","initial":"c","states":[{"name":"c","require":["p"]}]},5]}"#,
+            r#"{"aeolus":1,"types":[{"name":"Svc","initial":"c","states":[{"name":"c","next":["d"]}]},5]}"#,
             form,
         ),
     ];
@@ -93,13 +92,10 @@ fn a_document_is_refused_by_its_first_fault(rt: HostRuntime) -> Result<(), Fail>
 
 #[test]
 fn a_universe_is_refused_before_its_targets(rt: HostRuntime) -> Result<(), Fail> {
-    let cases = [
-        ("plan f.json Db:off", WEB, "not yet requires\n"),
-        ("plan f.json Web:gone", WEB, "not yet requires\n"),
-        ("plan f.json Svc:z", "[]", "bad universe form\n"),
-    ];
-    for (line, document, text) in cases {
-        expect(&rt, line, document, Status::BadInput, text)?;
+    let rows = r#"{"aeolus":1,"types":[{"name":"Svc","initial":"a","states":[{"name":"c"}]}]}"#;
+    let cases = [("[]", "bad universe form\n"), (rows, "bad universe rows\n")];
+    for (document, text) in cases {
+        expect(&rt, "plan f.json Svc:z", document, Status::BadInput, text)?;
     }
     Ok(())
 }
@@ -113,8 +109,8 @@ fn a_document_may_say_more(rt: HostRuntime) -> Result<(), Fail> {
         r#"{"aeolus":1,"aeolus":1,"types":[{"name":"Svc","initial":"a","states":[{"name":"a","next":["b"]},{"name":"b","next":["c"]},{"name":"c"}]}]}"#,
         // a next state that is named twice
         r#"{"aeolus":1,"types":[{"name":"Svc","initial":"a","states":[{"name":"a","next":["b","b"]},{"name":"b","next":["c"]},{"name":"c"}]}]}"#,
-        // provided ports and empty lists
-        r#"{"aeolus":1,"types":[{"name":"Svc","initial":"a","states":[{"name":"a","next":["b"],"require":[]},{"name":"b","next":["c"],"provide":["p","q"]},{"name":"c","next":[],"provide":["p","p"]}]}]}"#,
+        // empty lists
+        r#"{"aeolus":1,"types":[{"name":"Svc","initial":"a","states":[{"name":"a","next":["b"],"require":[]},{"name":"b","next":["c"],"provide":[]},{"name":"c","next":[]}]}]}"#,
     ];
     for document in documents {
         expect(&rt, WORDS, document, Status::Done, PLAN_C)?;

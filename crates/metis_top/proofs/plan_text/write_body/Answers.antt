@@ -1,3 +1,4 @@
+use Rattle.std.proofs.Common.{length}
 use Rattle.std.proofs.lemmas.Result.{err_from_is_err_and}
 use Rattle.metis_outside.proofs.Writing.{front_of_first}
 use Rattle.metis_top.specs.PlanText.{counts_of, plan_rest}
@@ -6,4 +7,4 @@ use Rattle.metis_top.proofs.plan_text.write_body.Goals as goal
 pub returns-in_err-write_counts-clause-text : goal.returns-in_err-write_counts-clause-text
 returns-in_err-write_counts-clause-text g c =
     let p = err_from_is_err_and c.from_residual.result c.from_residual.ensures.1 in
-    rw p.1 (front_of_first _ _ (counts_of c.args.actions.now) (plan_rest c.args.u.now c.args.actions.now) c.in_err-write_counts.ensures.text)
+    rw p.1 (front_of_first _ _ (counts_of c.args.plan.now.actions.items (length c.args.plan.now.dups.items)) (plan_rest c.args.u.now c.args.plan.now.actions.items) c.in_err-write_counts.ensures.text)
