@@ -1,4 +1,5 @@
 // Whole runs over files and output in memory, each with the exact bytes that it puts.
+mod applied;
 mod documents;
 mod faults;
 mod given_words;
