@@ -1,0 +1,64 @@
+-- The one document that is written for a universe.
+--     rows_of_universe u      its types with their states, and all names that they give: ports in ascending order of their numbers,
+--                             next states in that of their pairs
+--     document_of rows      the JSON value that spells the rows; the keys of each object ascend, and each key is there
+--     canonical u      its text with no space, and a line feed at the end
+use Rattle.std.specs.Prelude.{ℕ, List, [], ◌∷◌, ◌++◌, map, codes}
+use Rattle.std.specs.List.{range_with_len}
+use Rattle.serde_json.specs.Data.{Data, unsigned, number, string, array, object, no_members, member}
+use Rattle.serde_json.specs.View.{items_of}
+use Rattle.serde_json.specs.Written.{compact_text}
+use Rattle.metis_universe.specs.RowShapes.{StateRow, TypeRow}
+use Rattle.metis_universe.specs.Universe.{Universe, Pair, type_count, type_name_of, initial_of, state_name_of, port_name_of, states_of_type}
+
+-- ---- the rows of a universe
+
+abbrev pub state_row : Universe → Pair → StateRow
+state_row u p = record {
+  name = p.state;
+  provide = map (port_name_of u) p.provided;
+  require = map (port_name_of u) p.required;
+  next = map (state_name_of u) p.next;
+}
+
+abbrev pub type_row : Universe → ℕ → TypeRow
+type_row u t = record {
+  name = type_name_of u t;
+  initial = state_name_of u (initial_of u t);
+  states = map (state_row u) (states_of_type u t);
+}
+
+abbrev pub rows_of_universe : Universe → List TypeRow
+rows_of_universe u = map (type_row u) (range_with_len 0 (type_count u))
+
+-- ---- the value that spells rows
+
+-- the list of the values of these elements
+abbrev pub list_of : {A : Type 0} → (A → Data) → List A → Data
+list_of value xs = array (items_of (map value xs))
+
+abbrev pub state_value : StateRow → Data
+state_value row =
+    object (member (codes "name") (string row.name)
+    (member (codes "next") (list_of string row.next)
+    (member (codes "provide") (list_of string row.provide)
+    (member (codes "require") (list_of string row.require)
+    no_members))))
+
+abbrev pub type_value : TypeRow → Data
+type_value row =
+    object (member (codes "initial") (string row.initial)
+    (member (codes "name") (string row.name)
+    (member (codes "states") (list_of state_value row.states)
+    no_members)))
+
+abbrev pub document_of : List TypeRow → Data
+document_of rows =
+    object (member (codes "aeolus") (number (unsigned 1))
+    (member (codes "types") (list_of type_value rows)
+    no_members))
+
+-- ---- its text
+
+abbrev pub canonical : Universe → List ℕ
+canonical u = compact_text (document_of (rows_of_universe u)) ++ 10 ∷ []

@@ -1,0 +1,157 @@
+-- What a universe document means.
+--     document_limit      how many bytes a document has at most
+--     json_of bytes      the JSON value of the bytes, where a last line feed is left off, if there is one
+--     rows_of d, rows_in bytes      the rows that the value, or the bytes, spell, or the first place whose form is wrong
+--     fault_of_row fault      a fault of the rows, as a fault of the document
+--     universe_in bytes      the universe that the bytes mean, or why they mean none: a wrong form first, then a fault of the rows
+--     IsRead result bytes      what a reader of the bytes answers
+use Rattle.std.specs.Prelude.{ℕ, ◌≡◌, ◌≢◌, ◌+◌, ◌-◌, ◌==◌, Bool, true, false, List, [], ◌∷◌, length, take, Option, Some, None, option_and_then, Result, Ok, Err, if◌then◌else◌, codes, slice_index}
+use Rattle.std.specs.Str.{is_utf8}
+use Rattle.serde_json.specs.Data.{Data, Items, no_items, item}
+use Rattle.serde_json.specs.Find.{get, as_str, as_array, as_number, as_u64}
+use Rattle.serde_json.specs.Read.{read}
+use Rattle.metis_universe.specs.RowShapes.{StateRow, TypeRow}
+use Rattle.metis_universe.specs.Rows.{meaning_of}
+use Rattle.metis_universe.specs.Universe.{Universe}
+use Rattle.metis_universe.specs.declared.faults.RowFault.{RowFault}
+use Rattle.metis_universe.specs.declared.faults.RowFault.TheVariants as row
+use Rattle.metis_ujson.specs.declared.faults.UFault.{UFault}
+use Rattle.metis_ujson.specs.declared.faults.UFault.TheVariants.{NotJson, NotUniverse, TypeForm, TypeName, TypeTwice, StateForm, StateName, StateTwice, NoInitial, UnknownNext, PortName, Limit, NoMemory}
+
+abbrev pub document_limit : ℕ
+document_limit = 4194304
+
+-- the bytes without a last line feed
+abbrev pub without_last_newline : List ℕ → List ℕ
+without_last_newline bytes = if slice_index bytes (length bytes - 1) == 10 then take (length bytes - 1) bytes else bytes
+
+abbrev pub json_of_text : List ℕ → Option Data
+json_of_text text = if is_utf8 text then read text else None
+
+abbrev pub json_of : List ℕ → Option Data
+json_of bytes = json_of_text (without_last_newline bytes)
+
+-- ---- forms
+
+abbrev pub with_text : Option (List ℕ) → Option (List (List ℕ)) → Option (List (List ℕ))
+with_text None rest = None
+with_text (Some text) None = None
+with_text (Some text) (Some texts) = Some (text ∷ texts)
+
+-- the texts of a list of texts
+abbrev pub texts_in : Items → Option (List (List ℕ))
+texts_in no_items = Some []
+texts_in (item d ds) = with_text (as_str d) (texts_in ds)
+
+-- the texts of a list of texts that may be missing
+abbrev pub texts_or_none : Option Data → Option (List (List ℕ))
+texts_or_none None = Some []
+texts_or_none (Some d) = option_and_then texts_in (as_array d)
+
+abbrev pub text_at : List ℕ → Data → Option (List ℕ)
+text_at key d = option_and_then as_str (get key d)
+
+abbrev pub list_at : List ℕ → Data → Option Items
+list_at key d = option_and_then as_array (get key d)
+
+abbrev pub state_with : Option (List ℕ) → Option (List (List ℕ)) → Option (List (List ℕ)) → Option (List (List ℕ)) → Option StateRow
+state_with None provide require next = None
+state_with (Some name) None require next = None
+state_with (Some name) (Some provide) None next = None
+state_with (Some name) (Some provide) (Some require) None = None
+state_with (Some name) (Some provide) (Some require) (Some next) = Some (record { name = name; provide = provide; require = require; next = next })
+
+-- a state: an object with a text `name`, and with lists of texts `provide`, `require` and `next` where they are there
+abbrev pub state_in : Data → Option StateRow
+state_in d =
+    state_with (text_at (codes "name") d) (texts_or_none (get (codes "provide") d)) (texts_or_none (get (codes "require") d)) (texts_or_none (get (codes "next") d))
+
+abbrev pub with_state : Option StateRow → UFault → Result (List StateRow) UFault → Result (List StateRow) UFault
+with_state None fault rest = Err fault
+with_state (Some row) fault (Err later) = Err later
+with_state (Some row) fault (Ok rows) = Ok (row ∷ rows)
+
+-- the states of type t from place s on
+abbrev pub states_from : ℕ → ℕ → Items → Result (List StateRow) UFault
+states_from t s no_items = Ok []
+states_from t s (item d ds) = with_state (state_in d) (StateForm t s) (states_from t (s + 1) ds)
+
+abbrev pub type_of_states : List ℕ → List ℕ → Result (List StateRow) UFault → Result TypeRow UFault
+type_of_states name initial (Err fault) = Err fault
+type_of_states name initial (Ok states) = Ok (record { name = name; initial = initial; states = states })
+
+abbrev pub type_with : ℕ → Option (List ℕ) → Option (List ℕ) → Option Items → Result TypeRow UFault
+type_with t None initial states = Err (TypeForm t)
+type_with t (Some name) None states = Err (TypeForm t)
+type_with t (Some name) (Some initial) None = Err (TypeForm t)
+type_with t (Some name) (Some initial) (Some states) = type_of_states name initial (states_from t 0 states)
+
+-- type t: an object with a text `name`, a text `initial` and a list `states`; then its states
+abbrev pub type_in : ℕ → Data → Result TypeRow UFault
+type_in t d = type_with t (text_at (codes "name") d) (text_at (codes "initial") d) (list_at (codes "states") d)
+
+abbrev pub with_type : Result TypeRow UFault → Result (List TypeRow) UFault → Result (List TypeRow) UFault
+with_type (Err fault) rest = Err fault
+with_type (Ok row) (Err later) = Err later
+with_type (Ok row) (Ok rows) = Ok (row ∷ rows)
+
+-- the types from place t on
+abbrev pub types_from : ℕ → Items → Result (List TypeRow) UFault
+types_from t no_items = Ok []
+types_from t (item d ds) = with_type (type_in t d) (types_from (t + 1) ds)
+
+abbrev pub is_one : Option ℕ → Bool
+is_one None = false
+is_one (Some n) = n == 1
+
+-- whether `aeolus` is the whole number 1
+abbrev pub is_version_one : Data → Bool
+is_version_one d = is_one (option_and_then as_u64 (option_and_then as_number (get (codes "aeolus") d)))
+
+abbrev pub types_with : Bool → Option Items → Result (List TypeRow) UFault
+types_with false types = Err NotUniverse
+types_with true None = Err NotUniverse
+types_with true (Some types) = types_from 0 types
+
+-- a universe: an object whose `aeolus` is 1, with a list `types`; then its types
+abbrev pub rows_of : Data → Result (List TypeRow) UFault
+rows_of d = types_with (is_version_one d) (list_at (codes "types") d)
+
+abbrev pub rows_or_not_json : Option Data → Result (List TypeRow) UFault
+rows_or_not_json None = Err NotJson
+rows_or_not_json (Some d) = rows_of d
+
+-- the rows that the bytes spell
+abbrev pub rows_in : List ℕ → Result (List TypeRow) UFault
+rows_in bytes = rows_or_not_json (json_of bytes)
+
+-- ---- meaning
+
+-- the fault of the same name
+abbrev pub fault_of_row : RowFault → UFault
+fault_of_row (row.TypeName t) = TypeName t
+fault_of_row (row.TypeTwice t first) = TypeTwice t first
+fault_of_row (row.StateName t s) = StateName t s
+fault_of_row (row.StateTwice t s first) = StateTwice t s first
+fault_of_row (row.NoInitial t) = NoInitial t
+fault_of_row (row.UnknownNext t s k) = UnknownNext t s k
+fault_of_row (row.PortName t s k) = PortName t s k
+fault_of_row (row.Limit kind count) = Limit kind count
+fault_of_row row.NoMemory = NoMemory
+
+abbrev pub or_row_fault : Result Universe RowFault → Result Universe UFault
+or_row_fault (Ok u) = Ok u
+or_row_fault (Err fault) = Err (fault_of_row fault)
+
+abbrev pub universe_of_rows : Result (List TypeRow) UFault → Result Universe UFault
+universe_of_rows (Err fault) = Err fault
+universe_of_rows (Ok rows) = or_row_fault (meaning_of rows)
+
+-- the universe that the bytes mean
+abbrev pub universe_in : List ℕ → Result Universe UFault
+universe_in bytes = universe_of_rows (rows_in bytes)
+
+-- the result is what the bytes mean, unless memory ran out
+abbrev pub IsRead : Result Universe UFault → List ℕ → Type 0
+IsRead (Ok u) bytes = universe_in bytes ≡ Ok u
+IsRead (Err fault) bytes = fault ≢ NoMemory → universe_in bytes ≡ Err fault

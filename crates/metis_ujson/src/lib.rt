@@ -1,0 +1,10 @@
+//! Universe documents: from their bytes to the universe that they mean, and back.
+#![tactic(auto)]
+
+mod faults;
+mod read;
+mod write;
+
+pub use faults::UFault;
+pub use read::{UNIVERSE_LIMIT, read_universe};
+pub use write::write_universe;
