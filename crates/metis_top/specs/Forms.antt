@@ -1,10 +1,14 @@
--- How many words of each kind a command has at least.
+-- How many words of each kind a command has.
 use Rattle.std.specs.Prelude.{ℕ}
 use Rattle.metis_top.specs.declared.words.Verb.{Verb}
-use Rattle.metis_top.specs.declared.words.Verb.TheVariants.{Plan}
+use Rattle.metis_top.specs.declared.words.Verb.TheVariants.{Plan, Print}
 
+-- exactly so many file words
 abbrev pub file_count : Verb → ℕ
 file_count Plan = 1
+file_count Print = 1
 
-abbrev pub target_count : Verb → ℕ
-target_count Plan = 1
+-- at most so many target words
+abbrev pub target_limit : Verb → ℕ
+target_limit Plan = 256
+target_limit Print = 0

@@ -1,7 +1,6 @@
 pub mod Answer
 pub mod Commands
 pub mod Course
-pub mod Document
 pub mod Forms
 pub mod Honest
 pub mod Line
@@ -10,7 +9,6 @@ pub mod Numbered
 pub mod Openings
 pub mod PlanText
 pub mod Planned
-pub mod Reads
 pub mod RefusalText
 pub mod Script
 pub mod Statuses

@@ -1,25 +1,54 @@
 -- The lines of a run that ends before its work.
-use Rattle.std.specs.Prelude.{ℕ, List, ◌++◌, codes, decimal, Result, Ok, Err}
+use Rattle.std.specs.Prelude.{ℕ, List, [], ◌++◌, codes, decimal, Result, Ok, Err}
 use Rattle.metis_outside.specs.declared.trouble.Trouble.{Trouble}
 use Rattle.metis_outside.specs.declared.trouble.Trouble.TheVariants as trouble
+use Rattle.metis_ujson.specs.declared.faults.UFault.{UFault}
+use Rattle.metis_ujson.specs.declared.faults.UFault.TheVariants.{NotJson, NotUniverse, TypeForm, TypeName, TypeTwice, StateForm, StateName, StateTwice, NoInitial, UnknownNext, PortName, Limit}
+use Rattle.metis_ujson.specs.declared.faults.UFault.TheVariants as ufault
+use Rattle.metis_universe.specs.declared.faults.LimitKind.{LimitKind}
+use Rattle.metis_universe.specs.declared.faults.LimitKind.TheVariants.{States, Requires, Pairs, Ports}
 use Rattle.metis_top.specs.declared.refusal.Refusal.{Refusal}
-use Rattle.metis_top.specs.declared.refusal.Refusal.TheVariants.{Word, TooLong, NotJson, UniverseForm, UniverseRows}
+use Rattle.metis_top.specs.declared.refusal.Refusal.TheVariants.{Word, TooLong}
+use Rattle.metis_top.specs.declared.refusal.Refusal.TheVariants as refusal
 use Rattle.metis_top.specs.declared.status.Status.{Status}
 use Rattle.metis_top.specs.declared.status.Status.TheVariants.{BadWords, BadInput, WriteFault, NoMemory}
+
+abbrev pub limit_line : LimitKind → ℕ → List ℕ
+limit_line States n = codes "bad universe U12 states " ++ (decimal n ++ codes "\n")
+limit_line Requires n = codes "bad universe U12 requires " ++ (decimal n ++ codes "\n")
+limit_line Pairs n = codes "bad universe U12 pairs " ++ (decimal n ++ codes "\n")
+limit_line Ports n = codes "bad universe U12 ports " ++ (decimal n ++ codes "\n")
+
+-- the faults of a state
+abbrev pub state_line : UFault → List ℕ
+state_line (StateForm t s) = codes "bad universe U6 type " ++ (decimal t ++ (codes " state " ++ (decimal s ++ codes "\n")))
+state_line (StateName t s) = codes "bad universe U7 type " ++ (decimal t ++ (codes " state " ++ (decimal s ++ codes "\n")))
+state_line (StateTwice t s f) = codes "bad universe U8 type " ++ (decimal t ++ (codes " state " ++ (decimal s ++ (codes " first " ++ (decimal f ++ codes "\n")))))
+state_line (UnknownNext t s k) = codes "bad universe U10 type " ++ (decimal t ++ (codes " state " ++ (decimal s ++ (codes " entry " ++ (decimal k ++ codes "\n")))))
+state_line (PortName t s k) = codes "bad universe U11 type " ++ (decimal t ++ (codes " state " ++ (decimal s ++ (codes " entry " ++ (decimal k ++ codes "\n")))))
+state_line _ = []
+
+-- the first fault of a document; want of memory is none
+abbrev pub universe_line : UFault → List ℕ
+universe_line NotJson = codes "bad universe U1\n"
+universe_line NotUniverse = codes "bad universe U2\n"
+universe_line (TypeForm t) = codes "bad universe U3 type " ++ (decimal t ++ codes "\n")
+universe_line (TypeName t) = codes "bad universe U4 type " ++ (decimal t ++ codes "\n")
+universe_line (TypeTwice t f) = codes "bad universe U5 type " ++ (decimal t ++ (codes " first " ++ (decimal f ++ codes "\n")))
+universe_line (NoInitial t) = codes "bad universe U9 type " ++ (decimal t ++ codes "\n")
+universe_line (Limit kind n) = limit_line kind n
+universe_line ufault.NoMemory = []
+universe_line fault = state_line fault
 
 abbrev pub refusal_line : Refusal → List ℕ
 refusal_line (Word place) = codes "bad word " ++ (decimal place ++ codes "\n")
 refusal_line (TooLong place) = codes "too long " ++ (decimal place ++ codes "\n")
-refusal_line NotJson = codes "bad universe U1\n"
-refusal_line UniverseForm = codes "bad universe form\n"
-refusal_line UniverseRows = codes "bad universe rows\n"
+refusal_line (refusal.Universe fault) = universe_line fault
 
 abbrev pub refusal_status : Refusal → Status
 refusal_status (Word place) = BadWords
 refusal_status (TooLong place) = BadInput
-refusal_status NotJson = BadInput
-refusal_status UniverseForm = BadInput
-refusal_status UniverseRows = BadInput
+refusal_status (refusal.Universe fault) = BadInput
 
 abbrev pub read_fault_line : ℕ → List ℕ
 read_fault_line place = codes "read fault " ++ (decimal place ++ codes "\n")

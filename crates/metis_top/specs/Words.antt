@@ -1,16 +1,21 @@
 -- The words of a command, read from the left. Places start at 1.
 --     target_of word      the names of a type and of a state, with a colon between them
+--     file_fits words k      word k of these is a file word, where those before it are file words too
+--     target_fits limit words k      word k of these is a target word, and not past the limit
 --     form_of words      the command that the words are, or the place of the first that does not fit
-use Rattle.std.specs.Prelude.{◌≡◌, ℕ, List, [], ◌∷◌, Result, Ok, Err, Option, Some, None, Bool, ◌&&◌, if◌then◌else◌, codes, slice_get, unwrap_or, ◌==◌}
-use Rattle.std.specs.List.{before_first, after_first}
+use Rattle.std.specs.Prelude.{◌≡◌, ℕ, ◌+◌, nat_lt, List, [], ◌∷◌, length, drop, take, Result, Ok, Err, Option, Some, None, Bool, false, not, ◌&&◌, if◌then◌else◌, codes, slice_get, unwrap_or, ◌==◌}
+use Rattle.std.specs.List.{before_first, after_first, filter_map, find, list_any, range_with_len}
+use Rattle.std.specs.Option.{option_map_or}
+use Rattle.std.specs.Prelude.{is_some}
 use Rattle.std.specs.Str.{bytes_eq}
 use Rattle.metis_universe.specs.Names.{is_name}
 use Rattle.metis_universe.specs.Texts.{texts}
 use Rattle.metis_universe.specs.Universe.{is_empty}
+use Rattle.metis_top.specs.Forms.{file_count, target_limit}
 use Rattle.metis_top.specs.TargetName.{TargetName}
 use Rattle.metis_top.specs.declared.words.Command.{Command}
 use Rattle.metis_top.specs.declared.words.Verb.{Verb}
-use Rattle.metis_top.specs.declared.words.Verb.TheVariants.{Plan}
+use Rattle.metis_top.specs.declared.words.Verb.TheVariants.{Plan, Print}
 use Rattle.metis_top.specs.declared.words.WordFault.{WordFault}
 use Rattle.metis_top.specs.declared.words.WordFault.TheVariants.{At, NoMemory}
 use Rattle.metis_top.specs.declared.refusal.Refusal.TheVariants.{Word}
@@ -18,11 +23,12 @@ use Rattle.metis_top.specs.declared.refusal.Stop.{Stop}
 use Rattle.metis_top.specs.declared.refusal.Stop.TheVariants.{Refused}
 use Rattle.metis_top.specs.declared.refusal.Stop.TheVariants as stop
 
--- the parts of a command; those that its verb does not have are empty
+-- the parts of a command; those that its verb does not have are empty, or 0
 pub record Form : Type 0 where
   pub verb : Verb
   pub files : List (List ℕ)
   pub targets : List TargetName
+  pub size : ℕ
 
 -- a colon
 abbrev pub is_colon : ℕ → Bool
@@ -39,38 +45,73 @@ target_if_names kind state = if is_name kind && is_name state then Some (target_
 abbrev pub target_of : List ℕ → Option TargetName
 target_of word = target_if_names (before_first is_colon word) (after_first is_colon word)
 
-abbrev pub plan_of : List ℕ → TargetName → Form
-plan_of file target = record { verb = Plan; files = file ∷ []; targets = target ∷ [] }
+-- standard input
+abbrev pub is_dash : List ℕ → Bool
+is_dash word = bytes_eq word (codes "-")
 
--- a file word, then exactly one target word
-abbrev pub plan_with : List ℕ → Option TargetName → List (List ℕ) → Result Form ℕ
-plan_with file None more = Err 3
-plan_with file (Some target) [] = Ok (plan_of file target)
-plan_with file (Some target) (_ ∷ _) = Err 4
+-- a text that is not empty; standard input may be named once
+abbrev pub fits_after : List (List ℕ) → List ℕ → Bool
+fits_after earlier word = not (is_empty word) && not (is_dash word && list_any is_dash earlier)
 
-abbrev pub plan_form : List (List ℕ) → Result Form ℕ
-plan_form [] = Err 2
-plan_form (file ∷ []) = if is_empty file then Err 2 else Err 3
-plan_form (file ∷ target ∷ more) = if is_empty file then Err 2 else plan_with file (target_of target) more
+abbrev pub file_fits : List (List ℕ) → ℕ → Bool
+file_fits words k = option_map_or (fits_after (take k words)) (slice_get words k) false
+
+abbrev pub target_fits : ℕ → List (List ℕ) → ℕ → Bool
+target_fits limit words k = nat_lt k limit && option_map_or (λ word. is_some (target_of word)) (slice_get words k) false
+
+-- the first of so many words that is no file word
+abbrev pub file_misfit : ℕ → List (List ℕ) → Option ℕ
+file_misfit count words = find (λ k. not (file_fits words k)) (range_with_len 0 count)
+
+-- the first word that is no target word, or past the limit
+abbrev pub target_misfit : ℕ → List (List ℕ) → Option ℕ
+target_misfit limit words = find (λ k. not (target_fits limit words k)) (range_with_len 0 (length words))
+
+-- the words, unless one does not fit; they are counted from this place on
+abbrev pub unless_misfit : {X : Type 0} → ℕ → Option ℕ → X → Result X ℕ
+unless_misfit first None x = Ok x
+unless_misfit first (Some k) x = Err (first + k)
+
+abbrev pub files_in : ℕ → List (List ℕ) → Result (List (List ℕ)) ℕ
+files_in count words = unless_misfit 2 (file_misfit count words) (take count words)
+
+abbrev pub targets_in : ℕ → ℕ → List (List ℕ) → Result (List TargetName) ℕ
+targets_in first limit words = unless_misfit first (target_misfit limit words) (filter_map target_of words)
+
+abbrev pub with_targets : Verb → List (List ℕ) → Result (List TargetName) ℕ → Result Form ℕ
+with_targets verb files (Err place) = Err place
+with_targets verb files (Ok targets) = Ok (record { verb = verb; files = files; targets = targets; size = 0 })
+
+abbrev pub with_files : Verb → Result (List (List ℕ)) ℕ → List (List ℕ) → Result Form ℕ
+with_files verb (Err place) rest = Err place
+with_files verb (Ok files) rest = with_targets verb files (targets_in (file_count verb + 2) (target_limit verb) rest)
+
+-- the file words of the verb, and then target words
+abbrev pub form_with : Verb → List (List ℕ) → Result Form ℕ
+form_with verb words = with_files verb (files_in (file_count verb) words) (drop (file_count verb) words)
+
+abbrev pub verb_named : List ℕ → Option Verb
+verb_named word = if bytes_eq word (codes "plan") then Some Plan else if bytes_eq word (codes "print") then Some Print else None
+
+abbrev pub with_verb : Option Verb → List (List ℕ) → Result Form ℕ
+with_verb None words = Err 1
+with_verb (Some verb) words = form_with verb words
 
 abbrev pub form_of : List (List ℕ) → Result Form ℕ
 form_of [] = Err 1
-form_of (verb ∷ words) = if bytes_eq verb (codes "plan") then plan_form words else Err 1
+form_of (verb ∷ words) = with_verb (verb_named verb) words
 
 abbrev pub form : Command → Form
-form c = record { verb = c.verb; files = texts c.files.items; targets = c.targets.items }
+form c = record { verb = c.verb; files = texts c.files.items; targets = c.targets.items; size = c.size }
 
--- what was read is the form of the words, unless memory ran out
-abbrev pub ReadsWords : Result Command WordFault → Result Form ℕ → Type 0
-ReadsWords (Ok c) meaning = meaning ≡ Ok (form c)
-ReadsWords (Err (At place)) meaning = meaning ≡ Err place
-ReadsWords (Err NoMemory) meaning = Unit {0}
+-- what was read, seen by view, is what the words mean, unless memory ran out
+abbrev pub ReadsWords : {X Y : Type 0} → (Y → X) → Result Y WordFault → Result X ℕ → Type 0
+ReadsWords view (Ok y) meaning = meaning ≡ Ok (view y)
+ReadsWords view (Err (At place)) meaning = meaning ≡ Err place
+ReadsWords view (Err NoMemory) meaning = Unit {0}
 
 abbrev pub word_at : List (List ℕ) → ℕ → List ℕ
 word_at words k = unwrap_or (slice_get words k) []
-
-abbrev pub target_at : List TargetName → ℕ → TargetName
-target_at targets k = unwrap_or (slice_get targets k) (target_name [] [])
 
 -- why words that are no command stop a run
 abbrev pub word_stop : WordFault → Stop

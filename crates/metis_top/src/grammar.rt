@@ -1,6 +1,7 @@
-ghost use Rattle.std.specs.Prelude.{◌≡◌, IfOk};
+//! From words to a command.
+ghost use Rattle.std.specs.Prelude.{◌≡◌, ◌+◌, ◌≤◌, IfOk, drop, length};
 ghost use Rattle.metis_universe.specs.Texts.{texts};
-ghost use Rattle.metis_top.specs.Words.{form_of, plan_form, plan_of, plan_with, target_of, ReadsWords};
+ghost use Rattle.metis_top.specs.Words.{files_in, fits_after, form, form_of, form_with, target_of, targets_in, verb_named, ReadsWords};
 
 use crate::words::{Command, TargetWord, Verb, WordFault};
 use metis_universe::is_name;
@@ -9,57 +10,92 @@ use std::alloc::{AllocError, Global};
 /// The command that the words are, or the place of the first that does not fit. A word that is missing has the place
 /// after the last one.
 pub fn read_words(alloc: Global, words: &[String]) -> Result<Command, WordFault>
-    ensures { ReadsWords result (form_of (texts words.now)) }
+    ensures { ReadsWords form result (form_of (texts words.now)) }
 {
     match words {
         [] => Err(WordFault::At(1)),
-        [verb, words @ ..] => {
-            if verb.as_str() == "plan" {
-                read_plan(alloc, words)
-            } else {
-                Err(WordFault::At(1))
-            }
+        [verb, words @ ..] => match verb_named(verb.as_str()) {
+            Some(verb) => read_form(alloc, verb, words),
+            None => Err(WordFault::At(1)),
+        },
+    }
+}
+
+fn verb_named(word: &str) -> Option<Verb>
+    ensures { result ≡ verb_named word.now }
+{
+    if word == "plan" {
+        Some(Verb::Plan)
+    } else if word == "print" {
+        Some(Verb::Print)
+    } else {
+        None
+    }
+}
+
+// The file words of the verb, and then target words.
+fn read_form(alloc: Global, verb: Verb, words: &[String]) -> Result<Command, WordFault>
+    ensures { ReadsWords form result (form_with verb (texts words.now)) }
+{
+    let count = verb.file_count();
+    let files = read_files(alloc, count, words)?;
+    let rest = &words[count..];
+    let targets = read_targets(alloc, count as u32 + 2, verb.target_limit(), rest)?;
+    Ok(Command {
+        verb,
+        files,
+        targets,
+        size: 0,
+    })
+}
+
+// So many file words.
+fn read_files(alloc: Global, count: usize, words: &[String]) -> Result<Vec<String>, WordFault>
+    requires { count ≤ 3 }
+    ensures files { ReadsWords (λ files. texts files.items) result (files_in count (texts words.now)) }
+    ensures all { IfOk result (λ files. length files.items ≡ count) }
+    ensures there { IfOk result (λ _. count ≤ length words.now) }
+{
+    let mut files = Vec::new(alloc);
+    for k in 0..count {
+        match words.get(k) {
+            Some(word) if fits_after(&words[..k], word.as_str()) => files.push(word.clone()?)?,
+            _ => return Err(WordFault::At(k as u32 + 2)),
         }
     }
+    Ok(files)
 }
 
-// A file word, then exactly one target word.
-fn read_plan(alloc: Global, words: &[String]) -> Result<Command, WordFault>
-    ensures { ReadsWords result (plan_form (texts words.now)) }
+// Whether the word names a file, where these words before it do. Standard input is named once.
+fn fits_after(earlier: &[String], word: &str) -> bool
+    ensures { result ≡ fits_after (texts earlier.now) word.now }
 {
-    match words {
-        [] => Err(WordFault::At(2)),
-        [file, ..] if file.is_empty() => Err(WordFault::At(2)),
-        [_] => Err(WordFault::At(3)),
-        [file, target, more @ ..] => read_target_words(alloc, file.as_str(), target.as_str(), more),
-    }
+    !word.is_empty() && !(word == "-" && earlier.iter().any(|word| word.as_str() == "-"))
 }
 
-// The target word, behind which there may be no more.
-fn read_target_words(
+// Target words, at most so many. The first of them has this place.
+fn read_targets(
     alloc: Global,
-    file: &str,
-    target: &str,
-    more: &[String],
-) -> Result<Command, WordFault>
-    ensures { ReadsWords result (plan_with file.now (target_of target.now) (texts more.now)) }
+    first: u32,
+    limit: usize,
+    words: &[String],
+) -> Result<Vec<TargetWord>, WordFault>
+    requires first { first ≤ 5 }
+    requires limit { limit ≤ 256 }
+    ensures targets { ReadsWords (λ targets. targets.items) result (targets_in first limit (texts words.now)) }
+    ensures few { IfOk result (λ targets. length targets.items ≤ limit) }
 {
-    match read_target(alloc, target)? {
-        None => Err(WordFault::At(3)),
-        Some(_) if !more.is_empty() => Err(WordFault::At(4)),
-        Some(target) => plan_command(alloc, file, target),
+    let mut targets = Vec::new(alloc);
+    for (k, word) in words.iter().enumerate() {
+        if k >= limit {
+            return Err(WordFault::At(first + k as u32));
+        }
+        match read_target(alloc, word.as_str())? {
+            Some(target) => targets.push(target)?,
+            None => return Err(WordFault::At(first + k as u32)),
+        }
     }
-}
-
-fn plan_command(alloc: Global, file: &str, target: TargetWord) -> Result<Command, WordFault>
-    ensures { ReadsWords result (Ok (plan_of file.now target)) }
-{
-    let file = String::from_str(alloc, file)?;
-    Ok(Command {
-        verb: Verb::Plan,
-        files: vec![in alloc; file]?,
-        targets: vec![in alloc; target]?,
-    })
+    Ok(targets)
 }
 
 // The names of a type and of a state, with a colon between them.

@@ -1,10 +1,10 @@
 //! The whole run of the program, over files and an output that are passed in.
 #![tactic(auto)]
 
-mod document;
 mod grammar;
 mod plan;
 mod plan_text;
+mod print;
 mod reading;
 mod refusal;
 mod refusal_text;

@@ -1,5 +1,6 @@
 //! The command that plans.
-ghost use Rattle.std.specs.Prelude.{◌≡◌, ◌<◌, ◌∷◌, []};
+ghost use Rattle.std.specs.Prelude.{◌≡◌, ◌<◌, ◌≤◌, length};
+ghost use Rattle.std.specs.List.{All};
 ghost use Rattle.metis_universe.specs.Universe.{pair_count};
 ghost use Rattle.metis_top.specs.Answer as answer;
 ghost use Rattle.metis_top.specs.Commands.{plan_script};
@@ -17,28 +18,30 @@ use metis_planner::{Outcome, plan};
 use metis_universe::Universe;
 use std::alloc::Global;
 
-/// Reads the universe, and puts a plan for the target, or a refusal where nothing attains it.
+/// Reads the universe, and puts a plan for the targets, or a refusal where nothing attains them.
 pub fn plan_file<H: Shelf, K: Sink>(
     alloc: Global,
     file: &str,
-    target: &TargetWord,
+    targets: &[TargetWord],
     shelf: &mut H,
     out: &mut K,
 ) -> Status
-    ensures { Ran H.files H.faults H.opens K.written K.faults (plan_script file.now target.now) shelf.old shelf.new out.old out.new result }
+    requires { length targets.now ≤ 256 }
+    ensures { Ran H.files H.faults H.opens K.written K.faults (plan_script file.now targets.now) shelf.old shelf.new out.old out.new result }
 {
-    match goal_from(alloc, shelf, file, target) {
-        Ok((universe, pair)) => put_plan(alloc, &universe, pair, out),
+    match goal_from(alloc, shelf, file, targets) {
+        Ok((universe, pairs)) => put_plan(alloc, &universe, &pairs, out),
         Err(stop) => end(alloc, stop, out),
     }
 }
 
-fn put_plan<K: Sink>(alloc: Global, u: &Universe, target: PairIx, out: &mut K) -> Status
-    requires { target < pair_count u.now }
-    ensures { Shown (answer.IsAnswer (answer.Plan u.now (target ∷ []))) (K.written out.old) (K.written out.new) (K.faults out.old) (K.faults out.new) result }
+fn put_plan<K: Sink>(alloc: Global, u: &Universe, targets: &[PairIx], out: &mut K) -> Status
+    requires few { length targets.now ≤ 256 }
+    requires within { All (λ p. p < pair_count u.now) targets.now }
+    ensures { Shown (answer.IsAnswer (answer.Plan u.now targets.now)) (K.written out.old) (K.written out.new) (K.faults out.old) (K.faults out.new) result }
 {
     let _pairs = u.pairs();
-    match plan(alloc, u, &[target]) {
+    match plan(alloc, u, targets) {
         Ok(Outcome::Plan(plan)) => said(write_plan(alloc, u, &plan, out), Status::Done),
         Ok(Outcome::Closed(set, lacking)) => {
             said(write_refusal(alloc, u, &set, lacking, out), Status::No)

@@ -1,20 +1,17 @@
 //! From files to what they mean.
 ghost use Rattle.std.specs.Prelude.{◌≡◌, ◌<◌, ◌≤◌, ◌^◌, length, IfOk};
+ghost use Rattle.std.specs.List.{All};
 ghost use Rattle.metis_universe.specs.Universe.{pair_count};
-ghost use Rattle.metis_top.specs.Commands.{bytes_then, universe_in_then, universe_then, target_then, goal_then, rows_then};
+ghost use Rattle.metis_top.specs.Commands.{bytes_then, universe_in_then, universe_then, targets_then, goal_then};
 ghost use Rattle.metis_top.specs.Course.{Gathers, Judges, or_stop};
-ghost use Rattle.metis_top.specs.Document.{form_stop};
 
-use crate::document::{DocumentFault, read_rows};
 use crate::refusal::{Refusal, Stop};
 use crate::words::TargetWord;
 use metis_ids::PairIx;
 use metis_outside::{ReadAnswer, Shelf, read_whole};
-use metis_universe::{RowFault, TypeRow, Universe, rows_fit};
+use metis_ujson::{UFault, UNIVERSE_LIMIT, read_universe};
+use metis_universe::Universe;
 use std::alloc::Global;
-
-/// The most bytes of a universe's document.
-pub const UNIVERSE_LIMIT: u64 = 4_194_304;
 
 // What a reading gives, or why it stops the run.
 fn or_stop(read: Result<Vec<u8>, ReadAnswer>, place: u32) -> Result<Vec<u8>, Stop>
@@ -42,44 +39,19 @@ fn bytes_from<H: Shelf>(
     or_stop(read_whole(alloc, shelf, name, limit), place)
 }
 
-impl DocumentFault {
-    fn stop(self) -> Stop
-        ensures { result ≡ form_stop self }
-    {
-        match self {
-            DocumentFault::NotJson => Stop::Refused(Refusal::NotJson),
-            DocumentFault::NoMemory => Stop::NoMemory,
-            _ => Stop::Refused(Refusal::UniverseForm),
-        }
-    }
-}
-
 /// The universe that the bytes mean.
 fn universe_in(alloc: Global, bytes: &[u8]) -> Result<Universe, Stop>
     ensures { Judges (λ u. u) (universe_in_then bytes.now) result }
 {
-    match read_rows(alloc, bytes) {
-        Ok(rows) => made(alloc, rows),
-        Err(fault) => Err(fault.stop()),
-    }
-}
-
-// The universe of the rows. Rows that could not be numbered are more than memory holds.
-fn made(alloc: Global, rows: Vec<TypeRow>) -> Result<Universe, Stop>
-    ensures { Judges (λ u. u) (rows_then rows.items) result }
-{
-    if !rows_fit(&rows) {
-        return Err(Stop::NoMemory);
-    }
-    match Universe::new(alloc, rows) {
+    match read_universe(alloc, bytes) {
         Ok(universe) => Ok(universe),
-        Err(RowFault::NoMemory) => Err(Stop::NoMemory),
-        Err(_) => Err(Stop::Refused(Refusal::UniverseRows)),
+        Err(UFault::NoMemory) => Err(Stop::NoMemory),
+        Err(fault) => Err(Stop::Refused(Refusal::Universe(fault))),
     }
 }
 
 /// The universe in the file of the word at this place.
-fn universe_from<H: Shelf>(
+pub fn universe_from<H: Shelf>(
     alloc: Global,
     shelf: &mut H,
     place: u32,
@@ -91,28 +63,36 @@ fn universe_from<H: Shelf>(
     universe_in(alloc, &bytes)
 }
 
-/// The pair that the target word at this place names.
-fn target_in(u: &Universe, place: u32, target: &TargetWord) -> Result<PairIx, Stop>
-    ensures judges { Judges (λ p. p) (target_then place u.now target.now) result }
-    ensures within { IfOk result (λ p. p < pair_count u.now) }
+/// The pairs that the target words name, the first of which is the word at place 3.
+fn pairs_in(alloc: Global, u: &Universe, targets: &[TargetWord]) -> Result<Vec<PairIx>, Stop>
+    requires { length targets.now ≤ 256 }
+    ensures judges { Judges (λ pairs. pairs.items) (targets_then 3 u.now targets.now) result }
+    ensures few { IfOk result (λ pairs. length pairs.items ≤ 256) }
+    ensures within { IfOk result (λ pairs. All (λ p. p < pair_count u.now) pairs.items) }
 {
-    match u.pair_named(target.kind.as_str(), target.state.as_str()) {
-        Some(pair) => Ok(pair),
-        None => Err(Stop::Refused(Refusal::Word(place))),
+    let mut pairs = Vec::new(alloc);
+    for (k, target) in targets.iter().enumerate() {
+        match u.pair_named(target.kind.as_str(), target.state.as_str()) {
+            Some(pair) => pairs.push(pair)?,
+            None => return Err(Stop::Refused(Refusal::Word(k as u32 + 3))),
+        }
     }
+    Ok(pairs)
 }
 
-/// The universe in the file, and the pair in it that the target word names.
+/// The universe in the file, and the pairs in it that the target words name.
 pub fn goal_from<H: Shelf>(
     alloc: Global,
     shelf: &mut H,
     file: &str,
-    target: &TargetWord,
-) -> Result<(Universe, PairIx), Stop>
-    ensures gathers { Gathers H.files H.faults H.opens (λ goal. goal) (goal_then file.now target.now) shelf.old shelf.new result }
-    ensures within { IfOk result (λ goal. goal.1 < pair_count goal.0) }
+    targets: &[TargetWord],
+) -> Result<(Universe, Vec<PairIx>), Stop>
+    requires { length targets.now ≤ 256 }
+    ensures gathers { Gathers H.files H.faults H.opens (λ goal. (goal.0, goal.1.items)) (goal_then file.now targets.now) shelf.old shelf.new result }
+    ensures few { IfOk result (λ goal. length goal.1.items ≤ 256) }
+    ensures within { IfOk result (λ goal. All (λ p. p < pair_count goal.0) goal.1.items) }
 {
     let universe = universe_from(alloc, shelf, 2, file)?;
-    let pair = target_in(&universe, 3, target)?;
-    Ok((universe, pair))
+    let pairs = pairs_in(alloc, &universe, targets)?;
+    Ok((universe, pairs))
 }

@@ -1,3 +1,9 @@
+//! Why a run ends before its work.
+ghost use Rattle.std.specs.Prelude.{◌≡◌};
+
+use metis_ujson::UFault;
+use std::alloc::AllocFailed;
+
 /// Why a run's words or files are not accepted.
 #[derive(Clone, Copy, Debug, PartialEq, Eq)]
 pub enum Refusal {
@@ -5,12 +11,8 @@ pub enum Refusal {
     Word(u32),
     /// The file of the word at this place is longer than accepted.
     TooLong(u32),
-    /// The universe's document is no JSON.
-    NotJson,
-    /// The document has not the form of a universe.
-    UniverseForm,
-    /// The document has the form of a universe, and what it says is none.
-    UniverseRows,
+    /// The document is no universe's.
+    Universe(UFault),
 }
 
 /// Why a run ends before its work.
@@ -20,4 +22,14 @@ pub enum Stop {
     /// The reading of the file of the word at this place failed.
     Failed(u32),
     NoMemory,
+}
+
+impl<T: Drop> From<AllocFailed<T>> for Stop {
+    ghost use Rattle.metis_top.specs.declared.refusal.Stop.TheVariants.{NoMemory};
+
+    ghost from_gives = { λ _ e. e ≡ NoMemory };
+
+    fn from(_: AllocFailed<T>) -> Self {
+        Stop::NoMemory
+    }
 }

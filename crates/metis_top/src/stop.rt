@@ -3,11 +3,13 @@ ghost use Rattle.std.specs.Prelude.{◌≡◌, ◌++◌, IfOk, string_bytes};
 ghost use Rattle.metis_outside.specs.Faults.{CountsFault};
 ghost use Rattle.metis_outside.specs.Writes.{Writes};
 ghost use Rattle.metis_top.specs.Course.{Shown, StopSays, IsJust};
-ghost use Rattle.metis_top.specs.Lines.{refusal_line, read_fault_line, said, refusal_status};
+ghost use Rattle.metis_top.specs.Lines.{refusal_line, universe_line, state_line, limit_line, read_fault_line, said, refusal_status};
 
 use crate::Status;
 use crate::refusal::{Refusal, Stop};
 use metis_outside::{Sink, Trouble};
+use metis_ujson::UFault;
+use metis_universe::LimitKind;
 use std::alloc::{AllocError, Global};
 
 fn refusal_line(alloc: Global, refusal: Refusal) -> Result<String, AllocError>
@@ -16,9 +18,53 @@ fn refusal_line(alloc: Global, refusal: Refusal) -> Result<String, AllocError>
     match refusal {
         Refusal::Word(place) => format!(in alloc; "bad word {place}\n"),
         Refusal::TooLong(place) => format!(in alloc; "too long {place}\n"),
-        Refusal::NotJson => String::from_str(alloc, "bad universe U1\n"),
-        Refusal::UniverseForm => String::from_str(alloc, "bad universe form\n"),
-        Refusal::UniverseRows => String::from_str(alloc, "bad universe rows\n"),
+        Refusal::Universe(fault) => universe_line(alloc, fault),
+    }
+}
+
+fn universe_line(alloc: Global, fault: UFault) -> Result<String, AllocError>
+    ensures { IfOk result (λ line. string_bytes line ≡ universe_line fault) }
+{
+    match fault {
+        UFault::NotJson => String::from_str(alloc, "bad universe U1\n"),
+        UFault::NotUniverse => String::from_str(alloc, "bad universe U2\n"),
+        UFault::TypeForm(t) => format!(in alloc; "bad universe U3 type {t}\n"),
+        UFault::TypeName(t) => format!(in alloc; "bad universe U4 type {t}\n"),
+        UFault::TypeTwice(t, f) => format!(in alloc; "bad universe U5 type {t} first {f}\n"),
+        UFault::NoInitial(t) => format!(in alloc; "bad universe U9 type {t}\n"),
+        UFault::Limit(kind, n) => limit_line(alloc, kind, n),
+        UFault::NoMemory => Ok(String::new(alloc)),
+        _ => state_line(alloc, fault),
+    }
+}
+
+fn state_line(alloc: Global, fault: UFault) -> Result<String, AllocError>
+    ensures { IfOk result (λ line. string_bytes line ≡ state_line fault) }
+{
+    match fault {
+        UFault::StateForm(t, s) => format!(in alloc; "bad universe U6 type {t} state {s}\n"),
+        UFault::StateName(t, s) => format!(in alloc; "bad universe U7 type {t} state {s}\n"),
+        UFault::StateTwice(t, s, f) => {
+            format!(in alloc; "bad universe U8 type {t} state {s} first {f}\n")
+        }
+        UFault::UnknownNext(t, s, k) => {
+            format!(in alloc; "bad universe U10 type {t} state {s} entry {k}\n")
+        }
+        UFault::PortName(t, s, k) => {
+            format!(in alloc; "bad universe U11 type {t} state {s} entry {k}\n")
+        }
+        _ => Ok(String::new(alloc)),
+    }
+}
+
+fn limit_line(alloc: Global, kind: LimitKind, n: u64) -> Result<String, AllocError>
+    ensures { IfOk result (λ line. string_bytes line ≡ limit_line kind n) }
+{
+    match kind {
+        LimitKind::States => format!(in alloc; "bad universe U12 states {n}\n"),
+        LimitKind::Requires => format!(in alloc; "bad universe U12 requires {n}\n"),
+        LimitKind::Pairs => format!(in alloc; "bad universe U12 pairs {n}\n"),
+        LimitKind::Ports => format!(in alloc; "bad universe U12 ports {n}\n"),
     }
 }
 

@@ -13,6 +13,7 @@ ghost use Rattle.metis_universe.specs.Texts.{texts};
 use crate::Status;
 use crate::grammar::read_words;
 use crate::plan::plan_file;
+use crate::print::print_file;
 use crate::refusal::{Refusal, Stop};
 use crate::stop::end;
 use crate::words::{Command, Verb, WordFault};
@@ -75,6 +76,7 @@ fn perform<H: Shelf, K: Sink>(
     ensures { Ran H.files H.faults H.opens K.written K.faults (command_script command.now.verb (texts command.now.files.items) command.now.targets.items) shelf.old shelf.new out.old out.new result }
 {
     match command.verb {
-        Verb::Plan => plan_file(alloc, command.file(0), command.target(0), shelf, out),
+        Verb::Plan => plan_file(alloc, command.file(0), command.targets(), shelf, out),
+        Verb::Print => print_file(alloc, command.file(0), shelf, out),
     }
 }
