@@ -2,6 +2,7 @@
 #![tactic(auto)]
 
 mod faults;
+mod forms;
 mod read;
 mod write;
 
