@@ -4,6 +4,7 @@
 mod faults;
 mod forms;
 mod read;
+mod value;
 mod write;
 
 pub use faults::UFault;
