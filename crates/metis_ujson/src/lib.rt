@@ -10,3 +10,6 @@ mod write;
 pub use faults::UFault;
 pub use read::{UNIVERSE_LIMIT, read_universe};
 pub use write::write_universe;
+
+#[cfg(test)]
+mod tests;
