@@ -143,13 +143,17 @@ abbrev pub or_row_fault : Result Universe RowFault → Result Universe UFault
 or_row_fault (Ok u) = Ok u
 or_row_fault (Err fault) = Err (fault_of_row fault)
 
-abbrev pub universe_of_rows : Result (List TypeRow) UFault → Result Universe UFault
-universe_of_rows (Err fault) = Err fault
-universe_of_rows (Ok rows) = or_row_fault (meaning_of rows)
+-- the universe that rows stand for
+abbrev pub rows_made : List TypeRow → Result Universe UFault
+rows_made rows = or_row_fault (meaning_of rows)
+
+abbrev pub or_form_fault : Result (List TypeRow) UFault → Result Universe UFault
+or_form_fault (Err fault) = Err fault
+or_form_fault (Ok rows) = rows_made rows
 
 -- the universe that the bytes mean
 abbrev pub universe_in : List ℕ → Result Universe UFault
-universe_in bytes = universe_of_rows (rows_in bytes)
+universe_in bytes = or_form_fault (rows_in bytes)
 
 -- the result is what the bytes mean, unless memory ran out
 abbrev pub IsRead : Result Universe UFault → List ℕ → Type 0

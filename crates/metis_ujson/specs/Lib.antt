@@ -1,2 +1,3 @@
 pub mod Canonical
 pub mod Document
+pub mod Reads

@@ -2,9 +2,14 @@
 #![tactic(auto)]
 
 mod faults;
+mod forms;
 mod read;
+mod value;
 mod write;
 
 pub use faults::UFault;
 pub use read::{UNIVERSE_LIMIT, read_universe};
 pub use write::write_universe;
+
+#[cfg(test)]
+mod tests;

@@ -1,8 +1,10 @@
 //! The universe that a document means.
-ghost use Rattle.metis_ujson.specs.Document.{IsRead};
+ghost use Rattle.metis_ujson.specs.Document.{rows_made, IsRead};
+ghost use Rattle.metis_ujson.specs.Reads.{Reads};
 
 use crate::faults::UFault;
-use metis_universe::Universe;
+use crate::forms::read_rows;
+use metis_universe::{TypeRow, Universe, rows_fit};
 use std::alloc::Global;
 
 /// The most bytes of a universe's document.
@@ -12,5 +14,19 @@ pub const UNIVERSE_LIMIT: u64 = 4_194_304;
 pub fn read_universe(alloc: Global, bytes: &[u8]) -> Result<Universe, UFault>
     ensures { IsRead result bytes.now }
 {
-    Err(UFault::NoMemory)
+    let rows = read_rows(alloc, bytes)?;
+    made(alloc, rows)
+}
+
+// The universe of the rows. Rows that could not be numbered are more than memory holds.
+fn made(alloc: Global, rows: Vec<TypeRow>) -> Result<Universe, UFault>
+    ensures { Reads (λ u. u) result (rows_made rows.items) }
+{
+    if !rows_fit(&rows) {
+        return Err(UFault::NoMemory);
+    }
+    match Universe::new(alloc, rows) {
+        Ok(universe) => Ok(universe),
+        Err(fault) => Err(UFault::of_row(fault)),
+    }
 }

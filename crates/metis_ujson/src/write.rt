@@ -1,17 +1,29 @@
 //! Writes the document of a universe.
+ghost use Rattle.std.specs.Prelude.{◌≡◌, IfOk, string_bytes};
 ghost use Rattle.metis_outside.specs.Faults.{CountsFault};
 ghost use Rattle.metis_outside.specs.Writes.{Writes};
 ghost use Rattle.metis_ujson.specs.Canonical.{canonical};
 
+use crate::value::document_of;
 use metis_outside::{Sink, Trouble};
 use metis_universe::Universe;
-use std::alloc::Global;
+use std::alloc::{AllocError, Global};
 
 /// Puts the document of the universe, by one put.
-#[tactic(auto, using(metis_outside::proofs::Writing::front_of_nothing))]
+#[tactic(auto, using(metis_outside::proofs::Writing::writes_by_put, metis_outside::proofs::Writing::front_of_nothing))]
 pub fn write_universe<K: Sink>(alloc: Global, u: &Universe, out: &mut K) -> Result<(), Trouble>
     ensures text { Writes (canonical u.now) (K.written out.old) (K.written out.new) result }
     ensures cause { CountsFault (K.faults out.old) (K.faults out.new) result }
 {
-    Err(Trouble::NoMemory)
+    let text = text_of(alloc, u)?;
+    out.put(text.as_bytes())
+}
+
+#[tactic(auto, using(crate::proofs::Plain::no_float))]
+fn text_of(alloc: Global, u: &Universe) -> Result<String, AllocError>
+    ensures { IfOk result (λ text. string_bytes text ≡ canonical u.now) }
+{
+    let mut text = document_of(alloc, u)?.to_string(alloc)?;
+    text.push('\n')?;
+    Ok(text)
 }

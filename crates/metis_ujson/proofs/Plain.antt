@@ -1,0 +1,38 @@
+-- The value of a document: it has no float, and few levels.
+use Rattle.std.proofs.Common.{◌≡◌, ℕ, suc, ◌≤◌, max, List, [], ◌∷◌, map, Bool, false, refl, arith}
+use Rattle.serde_json.specs.Data.{Data, string, depth, items_depth}
+use Rattle.serde_json.specs.View.{items_of}
+use Rattle.serde_json.specs.Written.{has_float, items_have_float}
+use Rattle.metis_universe.specs.RowShapes.{StateRow, TypeRow}
+use Rattle.metis_ujson.specs.Canonical.{list_of, state_value, type_value, document_of}
+
+no_float-list : {A : Type 0} (value : A → Data) → ((x : A) → has_float (value x) ≡ false) → (xs : List A) → has_float (list_of value xs) ≡ false
+no_float-list value none [] = refl
+no_float-list value none (x ∷ xs) = rw (none x) (no_float-list value none xs)
+
+no_float-state : (row : StateRow) → has_float (state_value row) ≡ false
+no_float-state row = rw (no_float-list string (λ s. refl) row.next, no_float-list string (λ s. refl) row.provide, no_float-list string (λ s. refl) row.require) refl
+
+no_float-type : (row : TypeRow) → has_float (type_value row) ≡ false
+no_float-type row = rw (no_float-list state_value no_float-state row.states) refl
+
+pub no_float : (rows : List TypeRow) → has_float (document_of rows) ≡ false
+no_float rows = rw (no_float-list type_value no_float-type rows) refl
+
+shallow-list : {A : Type 0} (value : A → Data) (k : ℕ) → ((x : A) → depth (value x) ≤ k) → (xs : List A) → depth (list_of value xs) ≤ suc k
+shallow-list value k each [] = omega arith
+shallow-list value k each (x ∷ xs) = let here = each x in let later = shallow-list value k each xs in omega arith
+
+shallow-state : (row : StateRow) → depth (state_value row) ≤ 2
+shallow-state row =
+    let none : (s : List ℕ) → depth (string s) ≤ 0 = λ s. omega arith in
+    let next = shallow-list string 0 none row.next in
+    let provide = shallow-list string 0 none row.provide in
+    let require = shallow-list string 0 none row.require in
+    omega arith
+
+shallow-type : (row : TypeRow) → depth (type_value row) ≤ 4
+shallow-type row = let states = shallow-list state_value 2 shallow-state row.states in omega arith
+
+pub shallow : (rows : List TypeRow) → depth (document_of rows) ≤ 127
+shallow rows = let types = shallow-list type_value 4 shallow-type rows in omega arith

@@ -1,0 +1,186 @@
+//! The rows that a universe document spells.
+ghost use Rattle.std.specs.Prelude.{◌≡◌, ◌<◌, ◌^◌, ◌↔◌, length, IsTrue, IfOk, option_map};
+ghost use Rattle.metis_universe.specs.Texts.{texts};
+ghost use Rattle.serde_json.specs.Find.{get};
+ghost use Rattle.serde_json.specs.View.{view, items_view};
+ghost use Rattle.metis_ujson.specs.Document.{json_of, without_last_newline, texts_in, texts_or_none, text_at, list_at, state_in, states_from, type_in, types_from, is_version_one, rows_of, rows_in};
+ghost use Rattle.metis_ujson.specs.Reads.{Reads, ReadsJson};
+
+use crate::faults::UFault;
+use metis_universe::{StateRow, TypeRow};
+use serde_json::{Category, Value};
+use std::alloc::{AllocError, Global};
+
+/// The rows that the bytes spell.
+pub fn read_rows(alloc: Global, bytes: &[u8]) -> Result<Vec<TypeRow>, UFault>
+    ensures { Reads (λ rows. rows.items) result (rows_in bytes.now) }
+{
+    let root = read_json(alloc, strip_newline(bytes))?;
+    read_types(alloc, &root)
+}
+
+// The bytes without a last line feed.
+fn strip_newline(bytes: &[u8]) -> &[u8]
+    ensures { result.now ≡ without_last_newline bytes.now }
+{
+    match bytes {
+        [text @ .., b'\n'] => text,
+        _ => bytes,
+    }
+}
+
+fn read_json(alloc: Global, text: &[u8]) -> Result<Value, UFault>
+    ensures { ReadsJson result text.now }
+{
+    match Value::from_slice(alloc, text) {
+        Ok(root) => Ok(root),
+        Err(error) => match error.classify() {
+            Category::Memory => Err(UFault::NoMemory),
+            _ => Err(UFault::NotJson),
+        },
+    }
+}
+
+// Whether `aeolus` is the whole number 1.
+fn is_version_one(root: &Value) -> bool
+    ensures { result ≡ is_version_one (view root.now) }
+{
+    match root.get("aeolus") {
+        Some(version) => version.as_u64() == Some(1),
+        None => false,
+    }
+}
+
+fn text_at<'a>(value: &'a Value, key: &str) -> Option<&'a str>
+    ensures { option_map (λ text. text.now) result ≡ text_at key.now (view value.now) }
+{
+    match value.get(key) {
+        Some(text) => text.as_str(),
+        None => None,
+    }
+}
+
+fn list_at<'a>(value: &'a Value, key: &str) -> Option<&'a Vec<Value>>
+    ensures { option_map (λ list. items_view list.now.items) result ≡ list_at key.now (view value.now) }
+{
+    match value.get(key) {
+        Some(list) => list.as_array(),
+        None => None,
+    }
+}
+
+fn read_types(alloc: Global, root: &Value) -> Result<Vec<TypeRow>, UFault>
+    ensures { Reads (λ rows. rows.items) result (rows_of (view root.now)) }
+{
+    if !is_version_one(root) {
+        return Err(UFault::NotUniverse);
+    }
+    match list_at(root, "types") {
+        Some(types) => read_type_list(alloc, types),
+        None => Err(UFault::NotUniverse),
+    }
+}
+
+// Whether each place of the list has a number. No list that memory holds is longer.
+fn can_count(values: &[Value]) -> bool
+    ensures { IsTrue result ↔ (length values.now < 2 ^ 32) }
+{
+    (values.len() as u64) < 1 << 32
+}
+
+fn read_type_list(alloc: Global, types: &[Value]) -> Result<Vec<TypeRow>, UFault>
+    ensures { Reads (λ rows. rows.items) result (types_from 0 (items_view types.now)) }
+{
+    if !can_count(types) {
+        return Err(UFault::NoMemory);
+    }
+    let mut rows = Vec::new(alloc);
+    for (place, value) in types.iter().enumerate() {
+        let row = read_type(alloc, place as u32, value)?;
+        rows.push(row)?;
+    }
+    Ok(rows)
+}
+
+fn read_type(alloc: Global, place: u32, value: &Value) -> Result<TypeRow, UFault>
+    ensures { Reads (λ row. row) result (type_in place (view value.now)) }
+{
+    let (Some(name), Some(initial), Some(states)) = (
+        text_at(value, "name"),
+        text_at(value, "initial"),
+        list_at(value, "states"),
+    ) else {
+        return Err(UFault::TypeForm(place));
+    };
+    let states = read_state_list(alloc, place, states)?;
+    Ok(TypeRow {
+        name: String::from_str(alloc, name)?,
+        initial: String::from_str(alloc, initial)?,
+        states,
+    })
+}
+
+fn read_state_list(alloc: Global, kind: u32, states: &[Value]) -> Result<Vec<StateRow>, UFault>
+    ensures { Reads (λ rows. rows.items) result (states_from kind 0 (items_view states.now)) }
+{
+    if !can_count(states) {
+        return Err(UFault::NoMemory);
+    }
+    let mut rows = Vec::new(alloc);
+    for (place, value) in states.iter().enumerate() {
+        match read_state(alloc, value)? {
+            Some(row) => rows.push(row)?,
+            None => return Err(UFault::StateForm(kind, place as u32)),
+        }
+    }
+    Ok(rows)
+}
+
+fn read_state(alloc: Global, value: &Value) -> Result<Option<StateRow>, AllocError>
+    ensures { IfOk result (λ row. row ≡ state_in (view value.now)) }
+{
+    let Some(name) = text_at(value, "name") else {
+        return Ok(None);
+    };
+    let Some(provide) = read_texts_at(alloc, value, "provide")? else {
+        return Ok(None);
+    };
+    let Some(require) = read_texts_at(alloc, value, "require")? else {
+        return Ok(None);
+    };
+    let Some(next) = read_texts_at(alloc, value, "next")? else {
+        return Ok(None);
+    };
+    Ok(Some(StateRow {
+        name: String::from_str(alloc, name)?,
+        provide,
+        require,
+        next,
+    }))
+}
+
+// The texts of the list at the key, none where there is no such key.
+fn read_texts_at(alloc: Global, value: &Value, key: &str) -> Result<Option<Vec<String>>, AllocError>
+    ensures { IfOk result (λ list. option_map (λ v. texts v.items) list ≡ texts_or_none (get key.now (view value.now))) }
+{
+    match value.get(key) {
+        Some(list) => match list.as_array() {
+            Some(items) => read_texts(alloc, items),
+            None => Ok(None),
+        },
+        None => Ok(Some(Vec::new(alloc))),
+    }
+}
+
+fn read_texts(alloc: Global, items: &[Value]) -> Result<Option<Vec<String>>, AllocError>
+    ensures { IfOk result (λ list. option_map (λ v. texts v.items) list ≡ texts_in (items_view items.now)) }
+{
+    let mut list = Vec::new(alloc);
+    for item in items {
+        match item.as_str() {
+            Some(text) => list.push(String::from_str(alloc, text)?)?,
+            None => return Ok(None),
+        }
+    }
+    Ok(Some(list))
+}
