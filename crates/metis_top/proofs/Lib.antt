@@ -1,8 +1,8 @@
 pub mod ActionLines
 pub mod FileBytes
-pub mod Fronts
 pub mod Gathered
 pub mod Items
+pub mod Misfits
 pub mod Openings
 pub mod OverFiles
 pub mod ReadFaults

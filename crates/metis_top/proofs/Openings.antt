@@ -6,16 +6,16 @@ use Rattle.metis_top.specs.declared.refusal.Refusal.TheVariants.{TooLong, Word}
 use Rattle.metis_top.specs.declared.status.Status.{Status}
 use Rattle.metis_top.specs.declared.status.Status.TheVariants.{NoMemory}
 use Rattle.metis_top.specs.declared.words.Verb.{Verb}
-use Rattle.metis_top.specs.declared.words.Verb.TheVariants.{Plan}
+use Rattle.metis_top.specs.declared.words.Verb.TheVariants.{Plan, Print}
 use Rattle.metis_top.specs.Answer as answer
-use Rattle.metis_top.specs.Commands.{judged, or_word, command_script, script_from, target_then}
+use Rattle.metis_top.specs.Commands.{judged, or_universe_refused, pairs_named, command_script, script_from, targets_then}
 use Rattle.metis_top.specs.Course.{Ran, AreTaken, OnShelf, after, opened}
-use Rattle.metis_top.specs.Document.{document_limit, universe_in}
+use Rattle.metis_ujson.specs.Document.{document_limit, universe_in}
 use Rattle.metis_top.specs.Openings.{IsLast, OpensFiles}
 use Rattle.metis_top.specs.Script.{Script, Read, Refuse, Reply}
 use Rattle.metis_top.specs.TargetName.{TargetName}
-use Rattle.metis_top.specs.Words.{Form, word_at, target_at}
-use Rattle.metis_universe.specs.Universe.{pair_named}
+use Rattle.metis_top.specs.Words.{Form, word_at}
+use Rattle.metis_universe.specs.Universe.{Universe}
 
 last_judged : {X : Type 0} (next : X → Script) (r : Result X Refusal) → ((x : X) → IsLast (next x)) → IsLast (judged next r)
 last_judged next (Ok x) last = last x
@@ -26,11 +26,8 @@ last_if true script refusal last = last
 last_if false script refusal last = tt
 
 -- what follows the one file
-last_after : (bytes : List ℕ) (target : TargetName) → IsLast (if nat_le (length bytes) document_limit then judged (λ u. target_then 3 u target (λ p. Reply (answer.Plan u (p ∷ [])))) (universe_in bytes) else Refuse (TooLong 2))
-last_after bytes target =
-    last_if (nat_le (length bytes) document_limit) _ (TooLong 2)
-    (last_judged (λ u. target_then 3 u target (λ p. Reply (answer.Plan u (p ∷ [])))) (universe_in bytes) (λ u.
-    last_judged (λ p. Reply (answer.Plan u (p ∷ []))) (or_word 3 (pair_named u target.kind target.state)) (λ p. tt)))
+last_after : (bytes : List ℕ) (next : Universe → Script) → ((u : Universe) → IsLast (next u)) → IsLast (if nat_le (length bytes) document_limit then judged next (or_universe_refused (universe_in bytes)) else Refuse (TooLong 2))
+last_after bytes next last = last_if (nat_le (length bytes) document_limit) _ (TooLong 2) (last_judged next (or_universe_refused (universe_in bytes)) last)
 
 none_further : (files : Known (List ℕ → List ℕ)) (script : Script) (taken : List (List ℕ)) → IsLast script → AreTaken files taken script → taken ≡ []
 none_further files script [] last asked = refl
@@ -61,7 +58,10 @@ command_opens : (files : Known (List ℕ → List ℕ)) (verb : Verb) (words : L
     → AreTaken files taken (command_script verb words targets) → OnShelf (after taken (command_script verb words targets)) (length taken) faults faults' opens opens' old new status
     → (opens' ≡ opened opens 1) ⊎ ((status ≡ NoMemory) × (opens' ≡ opens))
 command_opens files Plan words targets taken faults faults' opens opens' old new status asked shelf =
-    one_file files 2 document_limit (word_at words 0) _ taken faults faults' opens opens' old new status (λ bytes. last_after bytes (target_at targets 0)) asked shelf
+    one_file files 2 document_limit (word_at words 0) _ taken faults faults' opens opens' old new status
+    (λ bytes. last_after bytes (λ u. targets_then 3 u targets (λ g. Reply (answer.Plan u g))) (λ u. last_judged (λ g. Reply (answer.Plan u g)) (pairs_named 3 u targets) (λ g. tt))) asked shelf
+command_opens files Print words targets taken faults faults' opens opens' old new status asked shelf =
+    one_file files 2 document_limit (word_at words 0) _ taken faults faults' opens opens' old new status (λ bytes. last_after bytes (λ u. Reply (answer.Print u)) (λ u. tt)) asked shelf
 
 none_taken : (files : Known (List ℕ → List ℕ)) (place : ℕ) (taken : List (List ℕ)) (faults faults' opens opens' : ℕ) (old new : Known (List ℕ)) (status : Status)
     → AreTaken files taken (Refuse (Word place)) → OnShelf (after taken (Refuse (Word place))) (length taken) faults faults' opens opens' old new status → opens' ≡ opens

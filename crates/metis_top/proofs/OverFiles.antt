@@ -8,14 +8,14 @@ use Rattle.metis_top.specs.declared.refusal.Refusal.TheVariants.{TooLong}
 use Rattle.metis_top.specs.declared.status.Status.{Status}
 use Rattle.metis_top.specs.declared.status.Status.TheVariants.{NoMemory}
 use Rattle.metis_top.specs.Answer.{Plan}
-use Rattle.metis_top.specs.Commands.{plan_script, script_from, universe_in_then, target_then}
+use Rattle.metis_top.specs.Commands.{pairs_named, plan_script, script_from, universe_in_then, targets_then}
 use Rattle.metis_top.specs.Course.{Ran, Shown, Says, OnShelf, AreTaken, after}
-use Rattle.metis_top.specs.Document.{document_limit, universe_in}
+use Rattle.metis_ujson.specs.Document.{document_limit, universe_in}
 use Rattle.metis_top.specs.Honest.{over, Tells, Headline}
 use Rattle.metis_top.specs.Script.{Script, Read, Refuse, Reply}
 use Rattle.metis_top.specs.TargetName.{TargetName}
 use Rattle.metis_top.specs.Words.{form_of}
-use Rattle.metis_universe.specs.Universe.{Universe, pair_named}
+use Rattle.metis_universe.specs.Universe.{Universe}
 
 -- no read failed, and memory did not run out, so the script has come to its end
 after-over : (file : List ℕ → List ℕ) (taken : List (List ℕ)) (script : Script) (count faults faults' opens opens' : ℕ) (old new : Option (List ℕ)) (status : Status)
@@ -61,16 +61,16 @@ over-universe file bytes taken u next is fits means =
     let passes : nat_le (length bytes) document_limit ≡ true = grind (arith, nat_tests) in
     ap (λ t. over file (if nat_le (length t) document_limit then universe_in_then t next else Refuse (TooLong 2))) is ∙ rw (passes, means)
 
--- accepted words and an accepted document come to what is to be said of the target
-over-plan : (file : List ℕ → List ℕ) (name : List ℕ) (target : TargetName) (u : Universe) (p : ℕ) → length (file name) ≤ document_limit → universe_in (file name) ≡ Ok u
-    → pair_named u target.kind target.state ≡ Some p → over file (plan_script name target) ≡ Reply (Plan u (p ∷ []))
-over-plan file name target u p fits means found =
-    over-universe file (file name) (take (document_limit + 1) (file name)) u (λ v. target_then 3 v target (λ q. Reply (Plan v (q ∷ [])))) (take_all (document_limit + 1) (file name) (omega arith)) fits means
+-- accepted words and an accepted document come to what is to be said of the targets
+over-plan : (file : List ℕ → List ℕ) (name : List ℕ) (targets : List TargetName) (u : Universe) (g : List ℕ) → length (file name) ≤ document_limit → universe_in (file name) ≡ Ok u
+    → pairs_named 3 u targets ≡ Ok g → over file (plan_script name targets) ≡ Reply (Plan u g)
+over-plan file name targets u g fits means found =
+    over-universe file (file name) (take (document_limit + 1) (file name)) u (λ v. targets_then 3 v targets (λ pairs. Reply (Plan v pairs))) (take_all (document_limit + 1) (file name) (omega arith)) fits means
     ∙ rw found
 
 pub tells_plans : (words : List (List ℕ)) (file : List ℕ → List ℕ) (old new : Option (List ℕ)) (status : Status) → Tells file (script_from (form_of words)) old new status → Headline words file old new status
-tells_plans words file old new status t = λ name target u p is fits means found.
-    let ends : over file (script_from (form_of words)) ≡ Reply (Plan u (p ∷ [])) = ap (λ f. over file (script_from f)) is ∙ over-plan file name target u p fits means found in
+tells_plans words file old new status t = λ name targets u g is fits means found.
+    let ends : over file (script_from (form_of words)) ≡ Reply (Plan u g) = ap (λ f. over file (script_from f)) is ∙ over-plan file name targets u g fits means found in
     (t.text, subst (λ s. Says s t.text status) ends t.says, t.put)
 
 if_some_headline : (words : List (List ℕ)) (files : Option (List ℕ → List ℕ)) (P Q R : Type 0) (old new : Option (List ℕ)) (status : Status)

@@ -3,27 +3,29 @@ use Rattle.std.proofs.Common.{◌≡◌, ◌⊎◌, ℕ, suc, ◌+◌, List, [],
 use Rattle.std.specs.declared.option.Option.{Option as Known}
 use Rattle.std.specs.Io.KnownBytes.{Appends}
 use Rattle.metis_top.specs.declared.refusal.Refusal.{Refusal}
-use Rattle.metis_top.specs.declared.refusal.Refusal.TheVariants.{Word, TooLong, NotJson, UniverseForm, UniverseRows}
+use Rattle.metis_top.specs.declared.refusal.Refusal.TheVariants.{Word, TooLong}
+use Rattle.metis_top.specs.declared.refusal.Refusal.TheVariants as refusal
 use Rattle.metis_top.specs.declared.status.Status.{Status}
 use Rattle.metis_top.specs.declared.status.Status.TheVariants.{Done, No, ReadFault}
 use Rattle.metis_top.specs.declared.words.Verb.{Verb}
-use Rattle.metis_top.specs.declared.words.Verb.TheVariants.{Plan}
+use Rattle.metis_top.specs.declared.words.Verb.TheVariants.{Plan, Print}
 use Rattle.metis_top.specs.Answer as answer
 use Rattle.metis_top.specs.Answer.{Answer, IsAnswer}
-use Rattle.metis_top.specs.Commands.{universe_then, judged, or_word, command_script, script_from}
+use Rattle.metis_top.specs.Commands.{universe_then, judged, or_universe_refused, pairs_named, command_script, script_from}
 use Rattle.metis_top.specs.Course.{Ran, Shown, Says, OnShelf, after}
-use Rattle.metis_top.specs.Document.{document_limit, universe_in}
+use Rattle.metis_ujson.specs.Document.{document_limit, universe_in}
 use Rattle.metis_top.specs.Lines.{refusal_status, read_fault_line}
 use Rattle.metis_top.specs.Numbered.{Numbered, TellsReadFault}
 use Rattle.metis_top.specs.Script.{Script, Read, Refuse, Reply}
 use Rattle.metis_top.specs.TargetName.{TargetName}
-use Rattle.metis_top.specs.Words.{Form, word_at, target_at}
-use Rattle.metis_universe.specs.Universe.{Universe, pair_named}
+use Rattle.metis_top.specs.Words.{Form, word_at}
+use Rattle.metis_universe.specs.Universe.{Universe}
 
 -- an answer has the status `Done` or `No`
 answer_status : (said : Answer) (text : List ℕ) (status : Status) → IsAnswer said text status → (status ≡ Done) ⊎ (status ≡ No)
 answer_status (answer.Plan u targets) text status (inl is) = inl is.0
 answer_status (answer.Plan u targets) text status (inr is) = inr is.0
+answer_status (answer.Print u) text status is = inl is.1
 
 not_read_fault : (status : Status) → (status ≡ Done) ⊎ (status ≡ No) → status ≡ ReadFault → ⊥
 not_read_fault status (inl done) fault = cc
@@ -32,9 +34,7 @@ not_read_fault status (inr refused) fault = cc
 not_refused : (refusal : Refusal) → refusal_status refusal ≡ ReadFault → ⊥
 not_refused (Word place) is = cc
 not_refused (TooLong place) is = cc
-not_refused NotJson is = cc
-not_refused UniverseForm is = cc
-not_refused UniverseRows is = cc
+not_refused (refusal.Universe fault) is = cc
 
 Numbered-after : (taken : List (List ℕ)) (script : Script) (first : ℕ) → Numbered first script → Numbered (first + length taken) (after taken script)
 Numbered-after [] script first n = subst (λ k. Numbered k script) (omega arith) n
@@ -71,13 +71,12 @@ numbered_judged k next (Ok x) n = n x
 numbered_judged k next (Err refusal) n = tt
 
 numbered_universe : (place : ℕ) (name : List ℕ) (next : Universe → Script) → ((u : Universe) → Numbered (suc place) (next u)) → Numbered place (universe_then place name next)
-numbered_universe place name next n = (refl, λ bytes. numbered_if (suc place) (nat_le (length bytes) document_limit) (judged next (universe_in bytes)) (TooLong place) (numbered_judged (suc place) next (universe_in bytes) n))
+numbered_universe place name next n = (refl, λ bytes. numbered_if (suc place) (nat_le (length bytes) document_limit) (judged next (or_universe_refused (universe_in bytes))) (TooLong place) (numbered_judged (suc place) next (or_universe_refused (universe_in bytes)) n))
 
 -- the script of each command
 numbered_command : (verb : Verb) (files : List (List ℕ)) (targets : List TargetName) → Numbered 2 (command_script verb files targets)
-numbered_command Plan files targets =
-    let target = target_at targets 0 in
-    numbered_universe 2 (word_at files 0) _ (λ u. numbered_judged 3 (λ p. Reply (answer.Plan u (p ∷ []))) (or_word 3 (pair_named u target.kind target.state)) (λ p. tt))
+numbered_command Plan files targets = numbered_universe 2 (word_at files 0) _ (λ u. numbered_judged 3 (λ g. Reply (answer.Plan u g)) (pairs_named 3 u targets) (λ g. tt))
+numbered_command Print files targets = numbered_universe 2 (word_at files 0) _ (λ u. tt)
 
 numbered_script : (form : Result Form ℕ) → Numbered 2 (script_from form)
 numbered_script (Ok form) = numbered_command form.verb form.files form.targets

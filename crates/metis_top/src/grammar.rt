@@ -1,7 +1,7 @@
 //! From words to a command.
 ghost use Rattle.std.specs.Prelude.{◌≡◌, ◌+◌, ◌≤◌, IfOk, drop, length};
 ghost use Rattle.metis_universe.specs.Texts.{texts};
-ghost use Rattle.metis_top.specs.Words.{files_in, fits_after, form, form_of, form_with, target_of, targets_in, verb_named, ReadsWords};
+ghost use Rattle.metis_top.specs.Words.{files_in, fits_after, form, form_of, form_with, is_dash, target_of, targets_in, verb_named, ReadsWords};
 
 use crate::words::{Command, TargetWord, Verb, WordFault};
 use metis_universe::is_name;
@@ -57,11 +57,17 @@ fn read_files(alloc: Global, count: usize, words: &[String]) -> Result<Vec<Strin
     ensures there { IfOk result (λ _. count ≤ length words.now) }
 {
     let mut files = Vec::new(alloc);
-    for k in 0..count {
-        match words.get(k) {
-            Some(word) if fits_after(&words[..k], word.as_str()) => files.push(word.clone()?)?,
-            _ => return Err(WordFault::At(k as u32 + 2)),
+    for (k, word) in words.iter().enumerate() {
+        if k >= count {
+            return Ok(files);
         }
+        if !fits_after(&words[..k], word.as_str()) {
+            return Err(WordFault::At(k as u32 + 2));
+        }
+        files.push(word.clone()?)?;
+    }
+    if files.len() < count {
+        return Err(WordFault::At(files.len() as u32 + 2));
     }
     Ok(files)
 }
@@ -70,7 +76,14 @@ fn read_files(alloc: Global, count: usize, words: &[String]) -> Result<Vec<Strin
 fn fits_after(earlier: &[String], word: &str) -> bool
     ensures { result ≡ fits_after (texts earlier.now) word.now }
 {
-    !word.is_empty() && !(word == "-" && earlier.iter().any(|word| word.as_str() == "-"))
+    !word.is_empty() && !(is_dash(word) && earlier.iter().any(|word| is_dash(word.as_str())))
+}
+
+// Standard input.
+fn is_dash(word: &str) -> bool
+    ensures { result ≡ is_dash word.now }
+{
+    word == "-"
 }
 
 // Target words, at most so many. The first of them has this place.

@@ -1,4 +1,3 @@
-use Rattle.std.proofs.Common.{[], ◌∷◌}
 use Rattle.metis_top.proofs.Replies.{answer_by_plan, answer_by_refusal}
 use Rattle.metis_top.proofs.Shown.{shown_by_writer}
 use Rattle.metis_top.proofs.plan.put_plan.Goals as goal
@@ -8,7 +7,7 @@ returns-in-Ok-Plan g c =
     let found = rw c.in-Ok-Plan.field-0-is at c.in-Ok-Plan.ensures in
     let plan = c.in-Ok-Plan.plan in
     let table = c.pairs-pairs.ensures.table in
-    let answer = answer_by_plan c.args.u.now (c.args.target ∷ []) plan.actions.items plan.dups.items table.universe found.run found.holds found.steadfast (rw found.instances at found.lean) found.dups in
+    let answer = answer_by_plan c.args.u.now c.args.targets.now plan.actions.items plan.dups.items table.universe found.run found.holds found.steadfast (rw found.instances at found.lean) found.dups in
     rw c.said.ensures (shown_by_writer _ _ _ _ _ _ _ c.write_plan.result answer c.write_plan.ensures.text c.write_plan.ensures.cause)
 
 pub returns-in-Ok-Closed : goal.returns-in-Ok-Closed
@@ -16,5 +15,5 @@ returns-in-Ok-Closed g c =
     let found = rw c.in-Ok-Closed.field-0-is at c.in-Ok-Closed.ensures in
     let set = c.in-Ok-Closed.set in
     let table = c.pairs-pairs.ensures.table in
-    let answer = answer_by_refusal c.args.u.now (c.args.target ∷ []) set.members c.in-Ok-Closed.lacking table.universe found.members found.refusal in
+    let answer = answer_by_refusal c.args.u.now c.args.targets.now set.members c.in-Ok-Closed.lacking table.universe found.members found.refusal in
     rw c.said-in-Ok-Closed.ensures (shown_by_writer _ _ _ _ _ _ _ c.write_refusal.result answer c.write_refusal.ensures.text c.write_refusal.ensures.cause)
