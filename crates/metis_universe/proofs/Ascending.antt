@@ -15,7 +15,8 @@ use Rattle.std.proofs.lemmas.Map.Keys.{below_from_sorted}
 use Rattle.std.proofs.lemmas.Slice.Eq.{bytes_eq-Decides}
 use Rattle.metis_universe.specs.Universe.{has}
 use Rattle.metis_universe.specs.RowShapes.{TypeRow}
-use Rattle.metis_universe.specs.Rows.{with_name, sights_after, first_sights, ascending, state_number}
+use Rattle.metis_universe.specs.Rows.{ascending, state_number}
+use Rattle.metis_universe.specs.Sights.{with_name, sights_after, first_sights}
 use Rattle.metis_universe.proofs.Edits.{any-insert_key}
 use Rattle.metis_universe.proofs.FirstFault.{list_any-from_position}
 use Rattle.metis_universe.proofs.FirstSights.{each_append}
@@ -49,15 +50,21 @@ sorted_none : IsStrictlySortedBy nat_cmp []
 unfolding IsStrictlySortedBy
 sorted_none = tt
 
+pub sorted_ascending : (xs : List ℕ) → IsStrictlySortedBy nat_cmp (ascending xs)
+sorted_ascending xs = sorted_fold [] xs sorted_none
+
 pub IsStrictlyIncreasing-ascending : (xs : List ℕ) → IsStrictlyIncreasing (ascending xs)
-IsStrictlyIncreasing-ascending xs = λ k h. below_from_sorted (ascending xs) k (k + 1) 0 (sorted_fold [] xs sorted_none) (omega arith) h
+IsStrictlyIncreasing-ascending xs = λ k h. below_from_sorted (ascending xs) k (k + 1) 0 (sorted_ascending xs) (omega arith) h
 
 all_fold : (P : ℕ → Type 0) (keys xs : List ℕ) → AllByRecursion P keys → AllByRecursion P xs → AllByRecursion P (fold (insert_key nat_cmp) keys xs)
 all_fold P keys [] h k = h
 all_fold P keys (x ∷ xs) h k = all_fold P (insert_key nat_cmp keys x) xs (all_insert nat_cmp_total P keys x k.0 h) k.1
 
+pub each_ascending : (P : ℕ → Type 0) (xs : List ℕ) → AllByRecursion P xs → AllByRecursion P (ascending xs)
+each_ascending P xs h = all_fold P [] xs tt h
+
 pub All-ascending : (P : ℕ → Type 0) (xs : List ℕ) → AllByRecursion P xs → All P (ascending xs)
-All-ascending P xs h = All-from_recursion P (ascending xs) (all_fold P [] xs tt h)
+All-ascending P xs h = All-from_recursion P (ascending xs) (each_ascending P xs h)
 
 pub each_map : {A B : Type 0} (P : B → Type 0) (f : A → B) (xs : List A) → AllByRecursion (λ x. P (f x)) xs → AllByRecursion P (map f xs)
 each_map P f [] h = tt
@@ -72,13 +79,13 @@ each_weaker P Q (x ∷ xs) w h = (w x h.0, each_weaker P Q xs w h.1)
 exact : (a b : ℕ) → nat_cmp a b ≡ Equal → a ≡ b
 exact a b h = grind (arith, nat_tests)
 
-has-insert_key : (n k : ℕ) (xs : List ℕ) → has (insert_key nat_cmp xs k) n ≡ (nat_eq k n || has xs n)
+pub has-insert_key : (n k : ℕ) (xs : List ℕ) → has (insert_key nat_cmp xs k) n ≡ (nat_eq k n || has xs n)
 has-insert_key n k xs = any-insert_key nat_cmp exact (λ x. nat_eq x n) k xs
 
 less_apart : (k x : ℕ) → nat_cmp k x ≡ Less → nat_eq x k ≡ false
 less_apart k x h = grind (arith, nat_tests)
 
-none_above : (k : ℕ) (xs : List ℕ) → AllByRecursion (λ y. nat_cmp k y ≡ Less) xs → has xs k ≡ false
+pub none_above : (k : ℕ) (xs : List ℕ) → AllByRecursion (λ y. nat_cmp k y ≡ Less) xs → has xs k ≡ false
 none_above k [] h = refl
 none_above k (x ∷ xs) h = or_from (nat_eq x k) (has xs k) (less_apart k x h.0) (none_above k xs h.1)
 
@@ -104,7 +111,7 @@ length-insert_key (x ∷ xs) k =
       | Greater ↦ omega (arith, length-insert_key xs k)
     ]
 
-at_seen : (P : List ℕ → Type 0) (seen : List (List ℕ)) (name : List ℕ) → AllByRecursion P seen → list_any (bytes_eq name) seen ≡ true → P name
+pub at_seen : (P : List ℕ → Type 0) (seen : List (List ℕ)) (name : List ℕ) → AllByRecursion P seen → list_any (bytes_eq name) seen ≡ true → P name
 at_seen P [] name h e = absurd (false≢true e)
 at_seen P (x ∷ seen) name h e =
     elim (or_cases (bytes_eq name x) (list_any (bytes_eq name) seen) e) [

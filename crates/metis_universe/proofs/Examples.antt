@@ -1,5 +1,5 @@
 -- The definitions on small universes, and on the rows that spell them.
-use Rattle.std.proofs.Common.{zero, suc, lit≤, lit<, ◌<◌, ◌≤◌, ◌≢◌, true, false, IsTrue, nat_eq, ◌⊎◌, inl, inr, ◌≡◌, ℕ, List, [], ◌∷◌, ◌++◌, length, map, take, replicate, Some, None, Ok, codes, refl, sym, subst, arith}
+use Rattle.std.proofs.Common.{zero, suc, lit≤, lit<, ◌<◌, ◌≤◌, ◌≢◌, true, false, IsTrue, nat_eq, ◌⊎◌, inl, inr, ◌≡◌, ℕ, List, [], ◌∷◌, ◌++◌, length, map, flat_map, take, replicate, Some, None, Ok, codes, refl, sym, subst, arith}
 use Rattle.std.proofs.lemmas.Bool.{and_parts, eqb-true, false≢true, or_cases}
 use Rattle.std.specs.List.{All, AllAdjacentBelow}
 use Rattle.std.specs.List.Sorted.{IsStrictlyIncreasing}
@@ -12,7 +12,8 @@ use Rattle.metis_universe.specs.declared.faults.LimitKind.TheVariants.{States}
 use Rattle.metis_universe.specs.Names.{is_name}
 use Rattle.metis_universe.specs.RowShapes.{TypeRow, StateRow}
 use Rattle.metis_universe.specs.Rows.{first_fault, ports_of, meaning_of}
-use Rattle.metis_universe.specs.Universe.{Universe, Kind, Pair, has, is_initial, is_empty, required_of, next_of, provided_of, provides, requires, type_count, pair_count, port_count, type_of, initial_of, state_place_of, type_named, pair_named, IsUniverse}
+use Rattle.metis_universe.specs.Sights.{first_sights}
+use Rattle.metis_universe.specs.Universe.{Universe, Kind, Pair, has, is_initial, is_empty, required_of, next_of, provided_of, provides, requires, type_count, pair_count, port_count, type_of, initial_of, state_place_of, type_named, pair_named, port_names_of_pair, IsBySight, IsUniverse}
 use Rattle.metis_universe.specs.Config.{empty, is_correct}
 use Rattle.metis_universe.specs.Step.{after_all, IsRun}
 use Rattle.metis_universe.specs.Closed.{Closed, IsProvidedIn, Refusal}
@@ -206,6 +207,20 @@ lock_refused : Refusal lock (2 ∷ 3 ∷ []) locked 3
 lock_refused = (locked_closed, refl)
 
 -- ---- what every universe has
+
+lock_by_sight : IsBySight lock
+lock_by_sight = refl
+
+-- the same with the numbers of its ports exchanged: x is seen first, and yet is number 1
+abbrev exchanged : Universe
+exchanged = record {
+  kinds = lock.kinds;
+  pairs = pair 0 off [] [] (1 ∷ []) ∷ pair 0 on (1 ∷ []) (0 ∷ []) [] ∷ pair 1 off [] [] (3 ∷ []) ∷ pair 1 on (0 ∷ []) (1 ∷ []) [] ∷ [];
+  ports = codes "y" ∷ codes "x" ∷ [];
+}
+
+exchanged_sights : first_sights (flat_map (port_names_of_pair exchanged) exchanged.pairs) ≡ codes "x" ∷ codes "y" ∷ []
+exchanged_sights = refl
 
 none_rises : IsStrictlyIncreasing []
 none_rises = λ k h. absurd (omega arith)

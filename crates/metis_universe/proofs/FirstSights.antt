@@ -13,7 +13,7 @@ use Rattle.std.proofs.lemmas.List.Sums.{fold_push, fold-append}
 use Rattle.std.proofs.lemmas.List.Concat.{flat_map-append}
 use Rattle.std.proofs.lemmas.List.{append-nil}
 use Rattle.metis_universe.specs.Texts.{texts}
-use Rattle.metis_universe.specs.Rows.{with_name, sights_after}
+use Rattle.metis_universe.specs.Sights.{with_name, sights_after}
 
 pub list_any-map : {A B : Type 0} (p : B → Bool) (f : A → B) (xs : List A) → list_any p (map f xs) ≡ list_any (λ x. p (f x)) xs
 list_any-map p f [] = refl
@@ -64,7 +64,7 @@ pub seen_stays : (p : List ℕ → Bool) (seen names : List (List ℕ)) → list
 seen_stays p seen [] h = h
 seen_stays p seen (name ∷ names) h = seen_stays p (with_name seen name) names (seen_stays_one p seen name h)
 
-same_bytes : (name : List ℕ) → bytes_eq name name ≡ true
+pub same_bytes : (name : List ℕ) → bytes_eq name name ≡ true
 same_bytes name = (bytes_eq-Decides name name).1 refl
 
 seen_now : (seen : List (List ℕ)) (name : List ℕ) → list_any (bytes_eq name) (with_name seen name) ≡ true

@@ -12,10 +12,12 @@ use Rattle.std.proofs.lemmas.Map.Keys.{apart_from_distinct}
 use Rattle.std.proofs.lemmas.Slice.Eq.{bytes_eq-Decides}
 use Rattle.metis_universe.specs.Names.{is_name}
 use Rattle.metis_universe.specs.RowShapes.{TypeRow, StateRow}
+use Rattle.metis_universe.specs.Sights.{first_sights}
 use Rattle.metis_universe.specs.Universe.{Kind, Pair, no_kind, no_pair, kind_at, pair_at, type_of, type_count, pair_count, port_count, initial_of, states_of_type, IsUniverse, IsNamed, IsWithinLimits, IsTable}
-use Rattle.metis_universe.specs.Rows.{first_sights, ports_of_state, ports_of_type, ports_of, state_total, has_state, first_fault, earlier_type, number_of, state_number, ascending, pair_from, pairs_of_type, pairs_from, kind_from, universe_from}
+use Rattle.metis_universe.specs.Rows.{ports_of_state, ports_of_type, ports_of, state_total, has_state, first_fault, earlier_type, number_of, state_number, ascending, pair_from, pairs_of_type, pairs_from, kind_from, universe_from}
 use Rattle.metis_universe.proofs.Ascending.{number_within, IsStrictlyIncreasing-ascending, All-ascending, each_map, each_weaker, length-ascending}
 use Rattle.metis_universe.proofs.Blocks.{no_state, no_row, row_at, states_at, first_of, state_total-cons, length-pairs_from, length-kinds_from, get_or-kinds_from, get_or-pairs_from, Place, place_of, first_of-more, first_of-within}
+use Rattle.metis_universe.proofs.BySight.{IsBySight-universe_from}
 use Rattle.metis_universe.proofs.ClearRows.{IsClear, IsClear-from_first_fault}
 use Rattle.metis_universe.proofs.FirstFault.{list_any-from_position}
 use Rattle.metis_universe.proofs.FirstSights.{each_seen, each_append, each_parts, sights_keep, sights_distinct, distinct_none, each_of_flat_map, flat_map_each}
@@ -230,7 +232,8 @@ IsWithinLimits-universe_from rows clear = record {
 pub IsTable-universe_from : (rows : List TypeRow) → first_fault rows ≡ None → IsTable (universe_from rows)
 IsTable-universe_from rows none =
     let clear = IsClear-from_first_fault rows none in
-    record { universe = IsUniverse-universe_from rows clear; named = IsNamed-universe_from rows clear; limits = IsWithinLimits-universe_from rows clear }
+    let named = IsNamed-universe_from rows clear in
+    record { universe = IsUniverse-universe_from rows clear; named = named; limits = IsWithinLimits-universe_from rows clear; sights = IsBySight-universe_from rows named.ports_apart }
 
 -- ---- while the tables are made
 

@@ -1,6 +1,7 @@
 pub mod Ascending
 pub mod Attained
 pub mod Blocks
+pub mod BySight
 pub mod ClearRows
 pub mod Correctness
 pub mod Edits
@@ -21,6 +22,7 @@ pub mod Ranges
 pub mod Rounds
 pub mod RowTables
 pub mod Same
+pub mod SeenNumbers
 pub mod Selected
 pub mod Sorted
 pub mod Standing

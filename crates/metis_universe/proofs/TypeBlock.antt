@@ -1,8 +1,6 @@
 -- The pairs of a type stand together.
-use Rattle.std.proofs.Common.{◌≡◌, ℕ, zero, suc, ◌+◌, ◌<◌, ◌≤◌, Bool, true, false, cond, ◌&&◌, ◌||◌, ltb, leb, nat_eq, List, [], ◌∷◌, length, take, drop, get_or, refl, ap, ◌∙◌, sym, arith}
+use Rattle.std.proofs.Common.{◌≡◌, ℕ, zero, suc, ◌+◌, ◌≤◌, Bool, true, false, cond, ◌&&◌, ◌||◌, ltb, leb, nat_eq, List, [], ◌∷◌, length, take, drop, refl, ap, ◌∙◌, sym, arith}
 use Rattle.std.specs.List.{list_any, filter, AllWithin}
-use Rattle.std.specs.List.Sorted.{IsPartitionPoint}
-use Rattle.std.proofs.lemmas.Bool.{true≢false}
 use Rattle.std.proofs.lemmas.Bool.Decides.{nat_tests}
 use Rattle.metis_universe.specs.Universe.{Pair}
 

@@ -8,7 +8,8 @@ use Rattle.metis_universe.specs.declared.faults.RowFault.{RowFault}
 use Rattle.metis_universe.specs.declared.faults.RowFault.TheVariants.{TypeName, TypeTwice}
 use Rattle.metis_universe.specs.Names.{is_name}
 use Rattle.metis_universe.specs.RowShapes.{TypeRow}
-use Rattle.metis_universe.specs.Rows.{RowsFit, with_name, unless, earlier_type, head_fault, fault_after, type_fault, state_total}
+use Rattle.metis_universe.specs.Sights.{with_name}
+use Rattle.metis_universe.specs.Rows.{RowsFit, unless, earlier_type, head_fault, fault_after, type_fault, state_total}
 use Rattle.metis_universe.proofs.Named.{position-map}
 use Rattle.metis_universe.proofs.FirstFault.{none_from_is_some, option_or-none, option_map-none, list_any-from_position}
 

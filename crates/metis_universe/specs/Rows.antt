@@ -12,6 +12,7 @@ use Rattle.std.specs.Ordering.{nat_cmp}
 use Rattle.std.specs.Str.{bytes_eq}
 use Rattle.metis_universe.specs.Names.{is_name}
 use Rattle.metis_universe.specs.RowShapes.{StateRow, TypeRow}
+use Rattle.metis_universe.specs.Sights.{first_sights}
 use Rattle.metis_universe.specs.Universe.{Universe, Kind, Pair, universe_of}
 use Rattle.metis_universe.specs.declared.faults.LimitKind.{LimitKind}
 use Rattle.metis_universe.specs.declared.faults.LimitKind.TheVariants.{States, Requires, Pairs, Ports}
@@ -31,17 +32,6 @@ pub record TypeFits (row : TypeRow) : Type 0 where
 pub record RowsFit (rows : List TypeRow) : Type 0 where
   pub types : length rows < 2 ^ 32
   pub each : All TypeFits rows
-
--- the names, with this one at the end unless it is among them
-abbrev pub with_name : List (List ℕ) → List ℕ → List (List ℕ)
-with_name seen name = if list_any (bytes_eq name) seen then seen else seen ++ name ∷ []
-
--- the names of a list, each once, in the order in which they are first seen, after those that were seen before
-abbrev pub sights_after : List (List ℕ) → List (List ℕ) → List (List ℕ)
-sights_after seen names = fold with_name seen names
-
-abbrev pub first_sights : List (List ℕ) → List (List ℕ)
-first_sights names = sights_after [] names
 
 -- a state's ports: those that it provides, then those that it requires
 abbrev pub ports_of_state : StateRow → List (List ℕ)

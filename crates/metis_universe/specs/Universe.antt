@@ -11,15 +11,18 @@
 --     state_place_of u p      the place of the pair's state among those of its type
 --     type_named, port_named, state_named, pair_named      the type, the port, the pair of a type, and the pair of these names
 --     providers_of u r      the pairs that provide the port, ascending
+--     port_names_of_pair u p      the names of the ports of a row of u.pairs, those that it provides and then those that it requires
+--     IsBySight u      the ports are numbered by first sight: they stand in the order in which they are first seen, pair after pair
 --     IsUniverse u      what holds of the numbers of every universe that a document gives
---     IsNamed u, IsWithinLimits u, IsTable u      what holds of its names;  of its counts;  all three
---     IsIndexed u rows, IsIndexedTable u rows      the rows are the providers of each port;  all four
-use Rattle.std.specs.Prelude.{ℕ, ◌≡◌, ◌≤◌, ◌<◌, ◌==◌, Bool, true, false, ◌&&◌, Option, List, [], ◌∷◌, length, take, position, sum_by, IsTrue}
+--     IsNamed u, IsWithinLimits u, IsTable u      what holds of its names;  of its counts;  all of these, and that its ports are by sight
+--     IsIndexed u rows, IsIndexedTable u rows      the rows are the providers of each port;  that, and all that IsTable says
+use Rattle.std.specs.Prelude.{ℕ, ◌≡◌, ◌≤◌, ◌<◌, ◌==◌, Bool, true, false, ◌&&◌, Option, List, [], ◌∷◌, ◌++◌, length, map, flat_map, take, position, sum_by, IsTrue}
 use Rattle.std.specs.List.{list_any, filter, slice_index_or, range_with_len, All}
 use Rattle.std.specs.List.Sorted.{IsNonDecreasingBy, IsStrictlyIncreasing}
 use Rattle.std.specs.Option.{option_and_then}
 use Rattle.std.specs.Str.{bytes_eq}
 use Rattle.metis_universe.specs.Names.{is_name}
+use Rattle.metis_universe.specs.Sights.{first_sights}
 
 -- whether n is in the list
 abbrev pub has : List ℕ → ℕ → Bool
@@ -167,11 +170,20 @@ pub record IsWithinLimits (u : Universe) : Type 0 where
   pub states : (t : ℕ) → length (states_of_type u t) ≤ 64
   pub required : (t : ℕ) → sum_by (λ p. length p.required) (states_of_type u t) ≤ 128
 
+-- the names of a pair's ports, those that it provides and then those that it requires
+abbrev pub port_names_of_pair : Universe → Pair → List (List ℕ)
+port_names_of_pair u p = map (port_name_of u) (p.provided ++ p.required)
+
+-- the ports stand in the order in which they are first seen, pair after pair
+abbrev pub IsBySight : Universe → Type 0
+IsBySight u = first_sights (flat_map (port_names_of_pair u) u.pairs) ≡ u.ports
+
 -- what every `Universe` keeps
 pub record IsTable (u : Universe) : Type 0 where
   pub universe : IsUniverse u
   pub named : IsNamed u
   pub limits : IsWithinLimits u
+  pub sights : IsBySight u
 
 -- the rows hold, port by port, the pairs that provide it
 pub record IsIndexed (u : Universe) (providers : List (List ℕ)) : Type 0 where
@@ -183,4 +195,5 @@ pub record IsIndexedTable (u : Universe) (providers : List (List ℕ)) : Type 0 
   pub universe : IsUniverse u
   pub named : IsNamed u
   pub limits : IsWithinLimits u
+  pub sights : IsBySight u
   pub indexed : IsIndexed u providers

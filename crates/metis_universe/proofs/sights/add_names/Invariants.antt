@@ -1,5 +1,5 @@
 use Rattle.std.proofs.Common.{◌≡◌, take}
-use Rattle.metis_universe.specs.Rows.{sights_after}
+use Rattle.metis_universe.specs.Sights.{sights_after}
 use Rattle.metis_universe.specs.Texts.{texts}
 use Rattle.metis_universe.proofs.sights.add_names.Given as goal
 

@@ -1,5 +1,6 @@
 use Rattle.std.proofs.Common.{◌≡◌, take, flat_map, []}
-use Rattle.metis_universe.specs.Rows.{sights_after, ports_of_type}
+use Rattle.metis_universe.specs.Rows.{ports_of_type}
+use Rattle.metis_universe.specs.Sights.{sights_after}
 use Rattle.metis_universe.specs.Texts.{texts}
 use Rattle.metis_universe.proofs.sights.ports_of.Given as goal
 

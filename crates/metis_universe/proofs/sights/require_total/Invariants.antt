@@ -1,5 +1,5 @@
 use Rattle.std.proofs.Common.{◌≡◌, ◌≤◌, ◌*◌, ◌^◌, take, sum_by, length}
-use Rattle.metis_universe.specs.Rows.{first_sights}
+use Rattle.metis_universe.specs.Sights.{first_sights}
 use Rattle.metis_universe.proofs.sights.require_total.Given as goal
 
 abbrev pub invariant-loop-state : goal.invariant-loop-state

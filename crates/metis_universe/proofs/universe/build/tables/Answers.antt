@@ -107,5 +107,6 @@ invariant_of-result c =
       universe = table.universe;
       named = table.named;
       limits = table.limits;
+      sights = table.sights;
       indexed = subst (IsIndexed u) (sym (c.in_ok-providers.ensures ∙ (λ j. provider_rows (count j) (c.deref.ensures.value j)))) (IsIndexed-provider_rows u table.universe);
     }
