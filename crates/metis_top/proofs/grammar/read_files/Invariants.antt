@@ -1,4 +1,4 @@
-use Rattle.std.proofs.Common.{◌≡◌, ◌≤◌, ℕ, not, take, length, None}
+use Rattle.std.proofs.Common.{◌≡◌, ◌≤◌, not, take, length, None}
 use Rattle.std.specs.List.{find, range_with_len}
 use Rattle.metis_universe.specs.Texts.{texts}
 use Rattle.metis_top.specs.Words.{file_fits}

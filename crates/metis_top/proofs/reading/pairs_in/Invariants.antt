@@ -1,4 +1,4 @@
-use Rattle.std.proofs.Common.{◌≡◌, ◌≤◌, ◌<◌, ◌+◌, [], drop, length}
+use Rattle.std.proofs.Common.{◌≡◌, ◌<◌, ◌+◌, drop, length}
 use Rattle.std.specs.List.{All}
 use Rattle.metis_universe.specs.Universe.{pair_count}
 use Rattle.metis_top.specs.Commands.{pairs_after, pairs_named}
