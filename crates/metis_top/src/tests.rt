@@ -5,6 +5,8 @@ mod faults;
 mod given_words;
 mod paths;
 mod ports;
+mod printed;
+mod target_lists;
 
 use crate::{Status, run};
 use metis_outside::{MemShelf, MemSink};
@@ -23,6 +25,10 @@ const ROW: &str =
 // A state of the second type requires a port.
 const WEB: &str =
     r#"{"aeolus":1,"types":[{"name":"Db","initial":"off","states":[{"name":"off","next":["on"]},{"name":"on","provide":["sql"]}]},{"name":"Web","initial":"off","states":[{"name":"off","next":["run"]},{"name":"run","require":["sql"]}]}]}"#;
+
+// The first document in its canonical form, of one line.
+const CANONICAL_SERVICES: &str =
+    "{\"aeolus\":1,\"types\":[{\"initial\":\"a\",\"name\":\"Svc\",\"states\":[{\"name\":\"a\",\"next\":[\"b\"],\"provide\":[],\"require\":[]},{\"name\":\"b\",\"next\":[\"c\"],\"provide\":[],\"require\":[]},{\"name\":\"c\",\"next\":[],\"provide\":[],\"require\":[]}]},{\"initial\":\"l0\",\"name\":\"Lone\",\"states\":[{\"name\":\"l0\",\"next\":[],\"provide\":[],\"require\":[]},{\"name\":\"l1\",\"next\":[\"l0\"],\"provide\":[],\"require\":[]}]}]}\n";
 
 const PLAN_C: &str =
     "metis plan 1\ninstances 1 actions 3 dups 0\n1 new 0 Svc\n2 move 0 a b\n3 move 0 b c\nend\n";

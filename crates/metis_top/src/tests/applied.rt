@@ -5,13 +5,13 @@ ghost use Rattle.metis_universe.specs.Numbers.{IsOf};
 ghost use Rattle.metis_config.specs.Over.{IsOver};
 
 use super::{SERVICES, WEB, one_file, words_in};
-use crate::document::read_rows;
 use crate::{Status, run};
 use metis_actions::apply;
 use metis_config::Config;
 use metis_ids::{Action, InstNo, PairIx};
 use metis_outside::{CalmShelf, CalmSink};
-use metis_universe::{Universe, rows_fit};
+use metis_ujson::read_universe;
+use metis_universe::Universe;
 use std::alloc::{AllocError, Global};
 use std::process::Abort;
 use std::test::Fail;
@@ -20,11 +20,9 @@ use std::test::Fail;
 const SETUP: &str =
     r#"{"aeolus":1,"types":[{"name":"Db","initial":"off","states":[{"name":"off","next":["on"]},{"name":"on","provide":["sql"],"next":["idle"]},{"name":"idle"}]},{"name":"Setup","initial":"a","states":[{"name":"a","next":["b"]},{"name":"b","require":["sql"],"next":["c"]},{"name":"c"}]}]}"#;
 
-fn universe(rt: &impl Abort, alloc: Global, document: &str) -> Result<Universe, Fail> {
-    let rows = read_rows(alloc, document.as_bytes()).ok().ok_or("no rows")?;
-    let fits = rows_fit(&rows);
-    assert!(rt; fits);
-    Ok(Universe::new(alloc, rows).ok().ok_or("no universe")?)
+fn universe(alloc: Global, document: &str) -> Result<Universe, Fail> {
+    let read = read_universe(alloc, document.as_bytes());
+    Ok(read.ok().ok_or("no universe")?)
 }
 
 // What a run prints.
@@ -146,7 +144,7 @@ fn apply_plan(
     actions: u32,
 ) -> Result<(), Fail> {
     let alloc = rt.alloc();
-    let u = universe(rt, alloc, document)?;
+    let u = universe(alloc, document)?;
     let line = format!(in alloc; "plan f.json {kind}:{state}")?;
     let text = printed(rt, alloc, line.as_str(), document)?;
     let mut c = Config::empty(alloc);

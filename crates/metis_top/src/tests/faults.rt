@@ -1,5 +1,5 @@
 // Reads and writes that fail.
-use super::{PLAN_C, REFUSAL_L1, SERVICES, expect, expect_despite};
+use super::{CANONICAL_SERVICES, PLAN_C, REFUSAL_L1, SERVICES, expect, expect_despite};
 use crate::Status;
 use std::test::Fail;
 
@@ -17,7 +17,7 @@ fn a_failed_read_is_told(rt: HostRuntime) -> Result<(), Fail> {
     // not where no file is read
     expect_despite(
         &rt,
-        "plan f.json",
+        "plan f.json Svc",
         document,
         &[1],
         &[],
@@ -48,6 +48,7 @@ fn a_failed_put_ends_the_text_between_two_lines(rt: HostRuntime) -> Result<(), F
         ("plan f.json Svc:z", "bad word 3\n", Status::BadWords),
         ("plan g.json Svc:c", "read fault 2\n", Status::ReadFault),
         ("help", "bad word 1\n", Status::BadWords),
+        ("print f.json", CANONICAL_SERVICES, Status::Done),
     ];
     let fault = Status::WriteFault;
     for (line, text, status) in cases {
