@@ -1,10 +1,10 @@
 -- The rows of a universe have no fault.
-use Rattle.std.proofs.Common.{◌≡◌, ℕ, suc, zero, ◌+◌, ◌<◌, ◌≤◌, Bool, true, false, cond, IsTrue, List, [], ◌∷◌, length, take, get_or, map, sum_by, position, nat_lt, Option, Some, None, option_map, refl, ap, sym, ◌∙◌, subst, zero-add, arith}
-use Rattle.std.specs.List.{AllByRecursion, list_any, range_with_len}
+use Rattle.std.proofs.Common.{◌≡◌, ℕ, suc, ◌+◌, ◌<◌, ◌≤◌, Bool, true, false, cond, IsTrue, List, [], ◌∷◌, length, take, get_or, map, sum_by, position, nat_lt, Option, Some, None, option_map, refl, ap, sym, ◌∙◌, subst, zero-add, arith}
+use Rattle.std.specs.List.{AllByRecursion, list_any}
 use Rattle.std.specs.Option.{option_or}
 use Rattle.std.specs.Str.{bytes_eq}
 use Rattle.std.proofs.lemmas.Bool.Decides.{nat_tests}
-use Rattle.std.proofs.lemmas.List.{get_or-map, get_or-take, get_or_default, length-map, length-take-le}
+use Rattle.std.proofs.lemmas.List.{get_or-map, get_or-take, length-map, length-take-le}
 use Rattle.std.proofs.lemmas.List.Elements.{recursion_from_All}
 use Rattle.std.proofs.lemmas.List.Folds.{fold-map, list_any_at}
 use Rattle.std.proofs.lemmas.List.FromFn.{length-map-range_with_len, get_or-map-range_with_len}
@@ -16,7 +16,7 @@ use Rattle.metis_universe.specs.declared.faults.LimitKind.{LimitKind}
 use Rattle.metis_universe.specs.declared.faults.LimitKind.TheVariants.{States, Requires, Pairs, Ports}
 use Rattle.metis_universe.specs.Names.{is_name}
 use Rattle.metis_universe.specs.RowShapes.{TypeRow, StateRow}
-use Rattle.metis_universe.specs.Rows.{first_sights, first_from, unless, limit_fault, has_state, port_fault, state_twice, state_fault, next_fault, head_fault, link_fault, earlier_type, type_fault, first_fault, require_total, state_total, ports_of}
+use Rattle.metis_universe.specs.Rows.{first_sights, first_from, unless, limit_fault, has_state, port_fault, state_twice, state_fault, next_fault, head_fault, earlier_type, type_fault, first_fault, require_total, state_total, ports_of}
 use Rattle.metis_universe.specs.Universe.{Universe, Pair, no_pair, pair_at, type_of, type_count, pair_count, port_count, initial_of, type_name_of, state_name_of, port_name_of, IsUniverse, IsNamed, IsWithinLimits}
 use Rattle.metis_universe.proofs.Ascending.{each_map, each_weaker}
 use Rattle.metis_universe.proofs.Blocks.{length-pairs_from}
@@ -98,7 +98,7 @@ module _ (u : Universe) (is : IsUniverse u) (named : IsNamed u) where
   has_own : (t q : ℕ) → q < pair_count u → type_of u q ≡ t → IsTrue (has_state (type_row u t) (state_name_of u q))
   has_own t q l e = let at = spot_of u is t q l e in any_at_position (λ (s : StateRow). bytes_eq (state_name_of u q) s.name) (type_row u t).states at.i (state_row u no_pair) (state_place u is named t q at)
 
-  names_of_ports : (rs : List ℕ) → AllByRecursion (λ r. r < port_count u) rs → AllByRecursion (λ name. IsTrue (is_name name)) (map (port_name_of u) rs)
+  pub names_of_ports : (rs : List ℕ) → AllByRecursion (λ r. r < port_count u) rs → AllByRecursion (λ name. IsTrue (is_name name)) (map (port_name_of u) rs)
   names_of_ports rs h =
       let P : List ℕ → Type 0 = λ name. IsTrue (is_name name) in
       each_map P (port_name_of u) rs (each_weaker (λ r. r < port_count u) (λ r. P (port_name_of u r)) rs (λ r l. named.ports r l) h)

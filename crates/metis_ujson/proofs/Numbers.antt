@@ -1,5 +1,5 @@
 -- Numbers of names, and lists that ascend already.
-use Rattle.std.proofs.Common.{◌≡◌, ℕ, suc, zero, ◌+◌, ◌<◌, Bool, true, false, cond, List, [], ◌∷◌, ◌++◌, length, get_or, position, fold, Option, Some, None, option_map, refl, ap, sym, ◌∙◌, subst, append_assoc, append-nil, Greater, arith}
+use Rattle.std.proofs.Common.{◌≡◌, ℕ, suc, zero, ◌<◌, Bool, true, false, cond, List, [], ◌∷◌, ◌++◌, length, get_or, position, fold, Some, None, option_map, refl, ap, sym, ◌∙◌, append_assoc, append-nil, Greater, arith}
 use Rattle.std.specs.List.{AllByRecursion}
 use Rattle.std.specs.List.Sorted.{IsStrictlyIncreasing}
 use Rattle.std.specs.BTreeSet.{insert_key}

@@ -9,9 +9,9 @@ use Rattle.std.proofs.lemmas.List.Concat.{flat_map-append}
 use Rattle.std.proofs.lemmas.List.Elements.{filter_passes, recursion_from_All}
 use Rattle.std.proofs.lemmas.List.Folds.{flat_map-map}
 use Rattle.std.proofs.lemmas.Simd.{map-map}
-use Rattle.metis_universe.specs.RowShapes.{StateRow, TypeRow}
+use Rattle.metis_universe.specs.RowShapes.{StateRow}
 use Rattle.metis_universe.specs.Rows.{first_sights, ports_of_state, ports_of_type, ports_of, number_of, state_number, ascending, pair_from, pairs_of_type, pairs_from, kind_from, kinds_from, universe_from}
-use Rattle.metis_universe.specs.Universe.{Universe, Kind, Pair, no_kind, no_pair, universe_of, kind_at, pair_at, type_of, type_count, pair_count, port_count, initial_of, type_name_of, state_name_of, port_name_of, provided_of, required_of, next_of, IsUniverse, IsNamed}
+use Rattle.metis_universe.specs.Universe.{Universe, Pair, no_kind, no_pair, universe_of, kind_at, pair_at, type_of, type_count, pair_count, port_count, initial_of, type_name_of, state_name_of, port_name_of, provided_of, required_of, next_of, IsUniverse, IsNamed}
 use Rattle.metis_universe.proofs.Named.{position-map}
 use Rattle.metis_ujson.specs.Canonical.{state_row, type_row, rows_of_universe}
 use Rattle.metis_ujson.specs.Sights.{port_names_of_pair, IsBySight}
@@ -85,7 +85,7 @@ module _ (u : Universe) (is : IsUniverse u) (named : IsNamed u) where
       let name : List ℕ → Type 0 = λ n. position (λ (p : Pair). bytes_eq n p.state) (own u is t) ≡ Some at.i in
       position-map (state_row u) (λ (s : StateRow). bytes_eq (state_name_of u q) s.name) (own u is t)
       ∙ subst name (ap (λ (p : Pair). p.state) here)
-          (place_of_name (λ (p : Pair). p.state) (own u is t) at.i no_pair at.within (λ k less e. let same : at.i ≡ k = own_apart t at.i k at.within (omega (arith, at.within)) e in omega arith))
+      (place_of_name (λ (p : Pair). p.state) (own u is t) at.i no_pair at.within (λ k less e. let same : at.i ≡ k = own_apart t at.i k at.within (omega (arith, at.within)) e in omega arith))
 
   state_back : (t q : ℕ) → q < pair_count u → type_of u q ≡ t → first u is t + state_number (type_row u t) (state_name_of u q) ≡ q
   state_back t q l e =
