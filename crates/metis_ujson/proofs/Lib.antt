@@ -1,2 +1,11 @@
+pub mod Clear
+pub mod Examples
 pub mod Fronts
+pub mod Grouped
+pub mod Law
+pub mod Numbers
 pub mod Plain
+pub mod Rebuilt
+pub mod Spelled
+pub mod Utf8
+pub mod ValueRead

@@ -1,8 +1,7 @@
 -- The value of a document: it has no float, and few levels.
-use Rattle.std.proofs.Common.{◌≡◌, ℕ, suc, ◌≤◌, max, List, [], ◌∷◌, map, Bool, false, refl, arith}
-use Rattle.serde_json.specs.Data.{Data, string, depth, items_depth}
-use Rattle.serde_json.specs.View.{items_of}
-use Rattle.serde_json.specs.Written.{has_float, items_have_float}
+use Rattle.std.proofs.Common.{◌≡◌, ℕ, suc, ◌≤◌, List, [], ◌∷◌, false, refl, arith}
+use Rattle.serde_json.specs.Data.{Data, string, depth}
+use Rattle.serde_json.specs.Written.{has_float}
 use Rattle.metis_universe.specs.RowShapes.{StateRow, TypeRow}
 use Rattle.metis_ujson.specs.Canonical.{list_of, state_value, type_value, document_of}
 

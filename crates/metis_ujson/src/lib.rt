@@ -3,11 +3,13 @@
 
 mod faults;
 mod forms;
+mod laws;
 mod read;
 mod value;
 mod write;
 
 pub use faults::UFault;
+pub use laws::written_is_read;
 pub use read::{UNIVERSE_LIMIT, read_universe};
 pub use write::write_universe;
 

@@ -1,0 +1,180 @@
+-- The rows of a universe have no fault.
+use Rattle.std.proofs.Common.{◌≡◌, ℕ, suc, ◌+◌, ◌<◌, ◌≤◌, Bool, true, false, cond, IsTrue, List, [], ◌∷◌, length, take, get_or, map, sum_by, position, nat_lt, Option, Some, None, option_map, refl, ap, sym, ◌∙◌, subst, zero-add, arith}
+use Rattle.std.specs.List.{AllByRecursion, list_any}
+use Rattle.std.specs.Option.{option_or}
+use Rattle.std.specs.Str.{bytes_eq}
+use Rattle.std.proofs.lemmas.Bool.Decides.{nat_tests}
+use Rattle.std.proofs.lemmas.List.{get_or-map, get_or-take, length-map, length-take-le}
+use Rattle.std.proofs.lemmas.List.Elements.{recursion_from_All}
+use Rattle.std.proofs.lemmas.List.Folds.{fold-map, list_any_at}
+use Rattle.std.proofs.lemmas.List.FromFn.{length-map-range_with_len, get_or-map-range_with_len}
+use Rattle.std.proofs.lemmas.List.Quantifiers.{position-Some}
+use Rattle.std.proofs.lemmas.List.Sums.{sum_by-le-sum_by}
+use Rattle.metis_universe.specs.declared.faults.RowFault.{RowFault}
+use Rattle.metis_universe.specs.declared.faults.RowFault.TheVariants.{TypeName, TypeTwice, StateName, StateTwice, NoInitial, UnknownNext, PortName, Limit}
+use Rattle.metis_universe.specs.declared.faults.LimitKind.{LimitKind}
+use Rattle.metis_universe.specs.declared.faults.LimitKind.TheVariants.{States, Requires, Pairs, Ports}
+use Rattle.metis_universe.specs.Names.{is_name}
+use Rattle.metis_universe.specs.RowShapes.{TypeRow, StateRow}
+use Rattle.metis_universe.specs.Rows.{first_from, unless, limit_fault, has_state, port_fault, state_twice, state_fault, next_fault, head_fault, earlier_type, type_fault, first_fault, require_total, state_total, ports_of}
+use Rattle.metis_universe.specs.Universe.{Universe, Pair, no_pair, pair_at, type_of, type_count, pair_count, port_count, initial_of, type_name_of, state_name_of, port_name_of, IsUniverse, IsNamed, IsWithinLimits, IsBySight}
+use Rattle.metis_universe.proofs.Ascending.{each_map, each_weaker}
+use Rattle.metis_universe.proofs.Blocks.{length-pairs_from}
+use Rattle.metis_universe.proofs.ClearRows.{IsClear, IsClearState, IsClearType}
+use Rattle.metis_universe.proofs.FirstSights.{length-sights_after}
+use Rattle.metis_ujson.specs.Canonical.{state_row, type_row, rows_of_universe}
+use Rattle.metis_universe.specs.Sights.{first_sights}
+use Rattle.metis_ujson.proofs.Numbers.{bytes_apart, position_never}
+use Rattle.metis_ujson.proofs.Rebuilt.{own, first, own_is, own_within, own_type, own_apart, spot_of, state_place, pairs_same, ports_same}
+
+-- ---- rows that have what rows without a fault have
+
+neither : {A : Type 0} (a b : Option A) → a ≡ None → b ≡ None → option_or a b ≡ None
+neither a b h k = ap (λ o. option_or o b) h ∙ k
+
+passes : (b : Bool) (fault : RowFault) → IsTrue b → unless b fault ≡ None
+passes b fault h = ap (λ c. unless c fault) h
+
+within : (kind : LimitKind) (most count : ℕ) → count ≤ most → limit_fault kind most count ≡ None
+within kind most count l = let e : nat_lt most count ≡ false = grind (arith, nat_tests) in ap (λ b. cond b (Some (Limit kind count)) None) e
+
+none_from : {A : Type 0} (place : ℕ) (test : ℕ → A → Option RowFault) (xs : List A) → ((i : ℕ) (d : A) → i < length xs → test (place + i) (get_or xs i d) ≡ None) → first_from place test xs ≡ None
+none_from place test [] h = refl
+none_from place test (x ∷ xs) h =
+    let here : place ≡ place + 0 = omega arith in
+    neither (test place x) (first_from (place + 1) test xs) (ap (λ n. test n x) here ∙ h 0 x (omega arith))
+    (none_from (place + 1) test xs (λ i d l. let there : place + 1 + i ≡ place + suc i = omega arith in ap (λ n. test n (get_or xs i d)) there ∙ h (suc i) d (omega arith)))
+
+none_at : {A : Type 0} (test : ℕ → A → Option RowFault) (xs : List A) → ((i : ℕ) (d : A) → i < length xs → test i (get_or xs i d) ≡ None) → first_from 0 test xs ≡ None
+none_at test xs h = none_from 0 test xs (λ i d l. ap (λ n. test n (get_or xs i d)) (zero-add i) ∙ h i d l)
+
+all_pass : (p : List ℕ → Bool) (fault : ℕ → RowFault) (place : ℕ) (xs : List (List ℕ)) → AllByRecursion (λ x. IsTrue (p x)) xs → first_from place (λ k x. unless (p x) (fault k)) xs ≡ None
+all_pass p fault place [] h = refl
+all_pass p fault place (x ∷ xs) h = neither (unless (p x) (fault place)) _ (passes (p x) (fault place) h.0) (all_pass p fault (place + 1) xs h.1)
+
+clear_of_state : (row : TypeRow) (t s : ℕ) (state : StateRow) → IsClearState row s state → state_fault row t s state ≡ None
+clear_of_state row t s state c =
+    neither (unless (is_name state.name) (StateName t s)) _ (passes (is_name state.name) (StateName t s) c.name)
+    (neither (state_twice row t s state) _ (ap (option_map (λ n. StateTwice t s n)) c.apart)
+    (neither (first_from 0 (port_fault t s) state.provide) _ (all_pass is_name (λ k. PortName t s k) 0 state.provide c.provide)
+    (all_pass is_name (λ k. PortName t s k) (length state.provide) state.require c.require)))
+
+clear_of_next : (row : TypeRow) (t s : ℕ) (state : StateRow) → IsClearState row s state → next_fault row t s state ≡ None
+clear_of_next row t s state c = all_pass (has_state row) (λ k. UnknownNext t s k) 0 state.next c.next
+
+clear_of_type : (rows : List TypeRow) (t : ℕ) (row : TypeRow) → IsClearType rows t row → type_fault rows t row ≡ None
+clear_of_type rows t row c =
+    neither (head_fault (earlier_type rows t row.name) t row) _
+    (neither (unless (is_name row.name) (TypeName t)) _ (passes (is_name row.name) (TypeName t) c.name)
+    (neither (option_map (λ n. TypeTwice t n) (earlier_type rows t row.name)) _ (ap (option_map (λ n. TypeTwice t n)) c.apart) (within States 64 (length row.states) c.few)))
+    (neither (first_from 0 (state_fault row t) row.states) _ (none_at (state_fault row t) row.states (λ s d l. clear_of_state row t s (get_or row.states s d) (c.states s d l)))
+    (neither (limit_fault Requires 128 (require_total row)) _ (within Requires 128 (require_total row) c.required)
+    (neither (unless (has_state row row.initial) (NoInitial t)) _ (passes (has_state row row.initial) (NoInitial t) c.initial)
+    (none_at (next_fault row t) row.states (λ s d l. clear_of_next row t s (get_or row.states s d) (c.states s d l))))))
+
+pub none_of_clear : (rows : List TypeRow) → IsClear rows → first_fault rows ≡ None
+none_of_clear rows c =
+    neither (first_from 0 (type_fault rows) rows) _ (none_at (type_fault rows) rows (λ t d l. clear_of_type rows t (get_or rows t d) (c.types t d l)))
+    (neither (limit_fault Pairs 2000 (state_total rows)) _ (within Pairs 2000 (state_total rows) c.pairs) (within Ports 4000 (length (ports_of rows)) c.ports))
+
+-- ---- the rows of a universe
+
+any_at_position : {A : Type 0} (p : A → Bool) (xs : List A) (i : ℕ) (d : A) → position p xs ≡ Some i → list_any p xs ≡ true
+any_at_position p xs i d h = let at = position-Some p xs i d h in list_any_at p xs i d at.0 at.1
+
+module _ (u : Universe) (is : IsUniverse u) (named : IsNamed u) where
+  type_at : (t : ℕ) (d : TypeRow) → t < type_count u → get_or (rows_of_universe u) t d ≡ type_row u t
+  type_at t d l = get_or-map-range_with_len (type_row u) 0 (type_count u) t t d l (zero-add t)
+
+  length_rows : length (rows_of_universe u) ≡ type_count u
+  length_rows = length-map-range_with_len (type_row u) 0 (type_count u)
+
+  state_at : (t s : ℕ) (d : StateRow) → s < length (own u is t) → get_or (type_row u t).states s d ≡ state_row u (get_or (own u is t) s no_pair)
+  state_at t s d l = get_or-map (state_row u) (own u is t) s no_pair d l
+
+  length_states : (t : ℕ) → length (type_row u t).states ≡ length (own u is t)
+  length_states t = length-map (own u is t) (state_row u)
+
+  has_own : (t q : ℕ) → q < pair_count u → type_of u q ≡ t → IsTrue (has_state (type_row u t) (state_name_of u q))
+  has_own t q l e = let at = spot_of u is t q l e in any_at_position (λ (s : StateRow). bytes_eq (state_name_of u q) s.name) (type_row u t).states at.i (state_row u no_pair) (state_place u is named t q at)
+
+  pub names_of_ports : (rs : List ℕ) → AllByRecursion (λ r. r < port_count u) rs → AllByRecursion (λ name. IsTrue (is_name name)) (map (port_name_of u) rs)
+  names_of_ports rs h =
+      let P : List ℕ → Type 0 = λ name. IsTrue (is_name name) in
+      each_map P (port_name_of u) rs (each_weaker (λ r. r < port_count u) (λ r. P (port_name_of u r)) rs (λ r l. named.ports r l) h)
+
+  none_before : (t s : ℕ) → s < length (own u is t) → position (λ (earlier : StateRow). bytes_eq (get_or (own u is t) s no_pair).state earlier.name) (take s (type_row u t).states) ≡ None
+  none_before t s l =
+      let states = (type_row u t).states in
+      let name = (get_or (own u is t) s no_pair).state in
+      let n : length (take s states) ≡ s = length-take-le s states (omega (arith, length_states t)) in
+      position_never (λ (earlier : StateRow). bytes_eq name earlier.name) (take s states) (λ k d m.
+      let below : k < s = omega arith in
+      let there : get_or (take s states) k d ≡ state_row u (get_or (own u is t) k no_pair) = get_or-take s states k d below ∙ state_at t k d (omega arith) in
+      ap (λ (row : StateRow). bytes_eq name row.name) there
+      ∙ bytes_apart name (get_or (own u is t) k no_pair).state (λ e. let same : s ≡ k = own_apart u is named t s k l (omega arith) e in omega arith))
+
+  clear_state : (t q s : ℕ) → q ≡ first u is t + s → s < length (own u is t) → IsClearState (type_row u t) s (state_row u (pair_at u q))
+  clear_state t q s at l =
+      let w : q < pair_count u = omega (arith, own_within u is t s l) in
+      let of : type_of u q ≡ t = ap (type_of u) at ∙ own_type u is t s l in
+      let here : pair_at u q ≡ get_or (own u is t) s no_pair = ap (pair_at u) at ∙ own_is u is t s l in
+      let P : List ℕ → Type 0 = λ name. IsTrue (has_state (type_row u t) name) in
+      let Q : ℕ → Type 0 = λ p. (p < pair_count u) × (type_of u p ≡ type_of u q) in
+      let R : ℕ → Type 0 = λ r. r < port_count u in
+      let N : Pair → Type 0 = λ p. position (λ (earlier : StateRow). bytes_eq p.state earlier.name) (take s (type_row u t).states) ≡ None in
+      let p = pair_at u q in
+      record {
+        name = named.states q w;
+        apart = subst N (sym here) (none_before t s l);
+        provide = names_of_ports p.provided (recursion_from_All R p.provided (is.provided q w).1);
+        require = names_of_ports p.required (recursion_from_All R p.required (is.required q w).1);
+        next = each_map P (state_name_of u) p.next (each_weaker Q (λ x. P (state_name_of u x)) p.next (λ x h. has_own t x h.0 (h.1 ∙ of)) (recursion_from_All Q p.next (is.next q w).1));
+      }
+
+  earlier_types : (t : ℕ) → t < type_count u → earlier_type (rows_of_universe u) t (type_name_of u t) ≡ None
+  earlier_types t l =
+      let rows = rows_of_universe u in
+      let n : length (take t rows) ≡ t = length-take-le t rows (omega (arith, length_rows)) in
+      position_never (λ (earlier : TypeRow). bytes_eq (type_name_of u t) earlier.name) (take t rows) (λ k d m.
+      let below : k < t = omega arith in
+      let there : get_or (take t rows) k d ≡ type_row u k = get_or-take t rows k d below ∙ type_at k d (omega arith) in
+      ap (λ (row : TypeRow). bytes_eq (type_name_of u t) row.name) there
+      ∙ bytes_apart (type_name_of u t) (type_name_of u k) (λ e. let same : t ≡ k = named.types_apart t k l (omega arith) e in omega arith))
+
+  required_fit : IsWithinLimits u → (t : ℕ) → require_total (type_row u t) ≤ 128
+  required_fit limits t =
+      let each : Pair → ℕ = λ p. length (first_sights (map (port_name_of u) p.required)) in
+      let whole : Pair → ℕ = λ p. length p.required in
+      let e : require_total (type_row u t) ≡ sum_by each (own u is t) = fold-map (λ (n : ℕ) (row : StateRow). n + length (first_sights row.require)) (state_row u) 0 (own u is t) in
+      let le : sum_by each (own u is t) ≤ sum_by whole (own u is t) =
+      sum_by-le-sum_by each whole (own u is t) (λ p. omega (arith, length-sights_after [] (map (port_name_of u) p.required), length-map p.required (port_name_of u))) in
+      let most : sum_by whole (own u is t) ≤ 128 = limits.required t in
+      omega arith
+
+  clear_type : IsWithinLimits u → (t : ℕ) → t < type_count u → IsClearType (rows_of_universe u) t (type_row u t)
+  clear_type limits t l =
+      let few : length (own u is t) ≤ 64 = limits.states t in
+      let T : StateRow → ℕ → Type 0 = λ row s. IsClearState (type_row u t) s row in
+      record {
+        name = named.types t l;
+        apart = earlier_types t l;
+        few = omega (arith, length_states t);
+        states = λ s d m.
+            let w : s < length (own u is t) = omega (arith, length_states t) in
+            subst (λ row. T row s) (ap (state_row u) (own_is u is t s w) ∙ sym (state_at t s d w)) (clear_state t (first u is t + s) s refl w);
+        required = required_fit limits t;
+        initial = has_own t (initial_of u t) (is.initials t l).0 (is.initials t l).1;
+      }
+
+  clear : IsWithinLimits u → IsBySight u → IsClear (rows_of_universe u)
+  clear limits sights = record {
+    types = λ t d m.
+        let w : t < type_count u = omega (arith, length_rows) in
+        subst (λ row. IsClearType (rows_of_universe u) t row) (sym (type_at t d w)) (clear_type limits t w);
+    pairs = omega (arith, limits.pairs, length-pairs_from u.ports 0 0 (rows_of_universe u), ap length (pairs_same u is named));
+    ports = omega (arith, limits.ports, ap length (ports_same u is named sights));
+  }
+
+  pub no_fault : IsWithinLimits u → IsBySight u → first_fault (rows_of_universe u) ≡ None
+  no_fault limits sights = none_of_clear (rows_of_universe u) (clear limits sights)
