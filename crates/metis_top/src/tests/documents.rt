@@ -38,13 +38,34 @@ fn a_form_is_refused_with_its_place(rt: HostRuntime) -> Result<(), Fail> {
         (r#"{"aeolus":2,"types":[]}"#, "U2"),
         (r#"{"aeolus":1,"types":{}}"#, "U2"),
         (r#"{"aeolus":1,"types":[5]}"#, "U3 type 0"),
-        (r#"{"aeolus":1,"types":[{"name":"Svc","initial":"c"}]}"#, "U3 type 0"),
-        (r#"{"aeolus":1,"types":[{"name":"Svc","states":[{"name":"c"}]}]}"#, "U3 type 0"),
-        (r#"{"aeolus":1,"types":[{"name":5,"initial":"c","states":[{"name":"c"}]}]}"#, "U3 type 0"),
-        (r#"{"aeolus":1,"types":[{"name":"Svc","initial":"c","states":[{}]}]}"#, "U6 type 0 state 0"),
-        (r#"{"aeolus":1,"types":[{"name":"Svc","initial":"c","states":[{"name":"c","next":"b"}]}]}"#, "U6 type 0 state 0"),
-        (r#"{"aeolus":1,"types":[{"name":"Svc","initial":"c","states":[{"name":"c","provide":null}]}]}"#, "U6 type 0 state 0"),
-        (r#"{"aeolus":1,"types":[{"name":"Svc","initial":"c","states":[{"name":"c","require":[5]}]}]}"#, "U6 type 0 state 0"),
+        (
+            r#"{"aeolus":1,"types":[{"name":"Svc","initial":"c"}]}"#,
+            "U3 type 0",
+        ),
+        (
+            r#"{"aeolus":1,"types":[{"name":"Svc","states":[{"name":"c"}]}]}"#,
+            "U3 type 0",
+        ),
+        (
+            r#"{"aeolus":1,"types":[{"name":5,"initial":"c","states":[{"name":"c"}]}]}"#,
+            "U3 type 0",
+        ),
+        (
+            r#"{"aeolus":1,"types":[{"name":"Svc","initial":"c","states":[{}]}]}"#,
+            "U6 type 0 state 0",
+        ),
+        (
+            r#"{"aeolus":1,"types":[{"name":"Svc","initial":"c","states":[{"name":"c","next":"b"}]}]}"#,
+            "U6 type 0 state 0",
+        ),
+        (
+            r#"{"aeolus":1,"types":[{"name":"Svc","initial":"c","states":[{"name":"c","provide":null}]}]}"#,
+            "U6 type 0 state 0",
+        ),
+        (
+            r#"{"aeolus":1,"types":[{"name":"Svc","initial":"c","states":[{"name":"c","require":[5]}]}]}"#,
+            "U6 type 0 state 0",
+        ),
     ];
     expect_refused(&rt, WORDS, &cases)
 }
@@ -53,29 +74,65 @@ fn a_form_is_refused_with_its_place(rt: HostRuntime) -> Result<(), Fail> {
 fn a_universe_is_refused_by_its_first_fault(rt: HostRuntime) -> Result<(), Fail> {
     let cases = [
         // the first type is a number
-        (r#"{"aeolus":1,"types":[5,{"name":"Web","initial":"off","states":[{"name":"off","next":["run"]},{"name":"run","require":["sql"]}]}]}"#, "U3 type 0"),
+        (
+            r#"{"aeolus":1,"types":[5,{"name":"Web","initial":"off","states":[{"name":"off","next":["run"]},{"name":"run","require":["sql"]}]}]}"#,
+            "U3 type 0",
+        ),
         // no name
-        (r#"{"aeolus":1,"types":[{"name":"D b","initial":"off","states":[{"name":"off","next":["on"]},{"name":"on","provide":["sql"]}]},{"name":"Web","initial":"off","states":[{"name":"off","next":["run"]},{"name":"run","require":["sql"]}]}]}"#, "U4 type 0"),
+        (
+            r#"{"aeolus":1,"types":[{"name":"D b","initial":"off","states":[{"name":"off","next":["on"]},{"name":"on","provide":["sql"]}]},{"name":"Web","initial":"off","states":[{"name":"off","next":["run"]},{"name":"run","require":["sql"]}]}]}"#,
+            "U4 type 0",
+        ),
         // two types of one name
-        (r#"{"aeolus":1,"types":[{"name":"Db","initial":"off","states":[{"name":"off","next":["on"]},{"name":"on","provide":["sql"]}]},{"name":"Db","initial":"off","states":[{"name":"off","next":["run"]},{"name":"run","require":["sql"]}]}]}"#, "U5 type 1 first 0"),
+        (
+            r#"{"aeolus":1,"types":[{"name":"Db","initial":"off","states":[{"name":"off","next":["on"]},{"name":"on","provide":["sql"]}]},{"name":"Db","initial":"off","states":[{"name":"off","next":["run"]},{"name":"run","require":["sql"]}]}]}"#,
+            "U5 type 1 first 0",
+        ),
         // a text in place of a list
-        (r#"{"aeolus":1,"types":[{"name":"Db","initial":"off","states":[{"name":"off","next":["on"]},{"name":"on","provide":"sql"}]},{"name":"Web","initial":"off","states":[{"name":"off","next":["run"]},{"name":"run","require":["sql"]}]}]}"#, "U6 type 0 state 1"),
+        (
+            r#"{"aeolus":1,"types":[{"name":"Db","initial":"off","states":[{"name":"off","next":["on"]},{"name":"on","provide":"sql"}]},{"name":"Web","initial":"off","states":[{"name":"off","next":["run"]},{"name":"run","require":["sql"]}]}]}"#,
+            "U6 type 0 state 1",
+        ),
         // an empty name
-        (r#"{"aeolus":1,"types":[{"name":"Db","initial":"off","states":[{"name":"off","next":["on"]},{"name":"","provide":["sql"]}]},{"name":"Web","initial":"off","states":[{"name":"off","next":["run"]},{"name":"run","require":["sql"]}]}]}"#, "U7 type 0 state 1"),
+        (
+            r#"{"aeolus":1,"types":[{"name":"Db","initial":"off","states":[{"name":"off","next":["on"]},{"name":"","provide":["sql"]}]},{"name":"Web","initial":"off","states":[{"name":"off","next":["run"]},{"name":"run","require":["sql"]}]}]}"#,
+            "U7 type 0 state 1",
+        ),
         // two states of one name
-        (r#"{"aeolus":1,"types":[{"name":"Db","initial":"off","states":[{"name":"off","next":["on"]},{"name":"off","provide":["sql"]}]},{"name":"Web","initial":"off","states":[{"name":"off","next":["run"]},{"name":"run","require":["sql"]}]}]}"#, "U8 type 0 state 1 first 0"),
+        (
+            r#"{"aeolus":1,"types":[{"name":"Db","initial":"off","states":[{"name":"off","next":["on"]},{"name":"off","provide":["sql"]}]},{"name":"Web","initial":"off","states":[{"name":"off","next":["run"]},{"name":"run","require":["sql"]}]}]}"#,
+            "U8 type 0 state 1 first 0",
+        ),
         // the initial state is none of the states
-        (r#"{"aeolus":1,"types":[{"name":"Db","initial":"off","states":[{"name":"off","next":["on"]},{"name":"on","provide":["sql"]}]},{"name":"Web","initial":"on","states":[{"name":"off","next":["run"]},{"name":"run","require":["sql"]}]}]}"#, "U9 type 1"),
+        (
+            r#"{"aeolus":1,"types":[{"name":"Db","initial":"off","states":[{"name":"off","next":["on"]},{"name":"on","provide":["sql"]}]},{"name":"Web","initial":"on","states":[{"name":"off","next":["run"]},{"name":"run","require":["sql"]}]}]}"#,
+            "U9 type 1",
+        ),
         // the next state is none of the states
-        (r#"{"aeolus":1,"types":[{"name":"Db","initial":"off","states":[{"name":"off","next":["onn"]},{"name":"on","provide":["sql"]}]},{"name":"Web","initial":"off","states":[{"name":"off","next":["run"]},{"name":"run","require":["sql"]}]}]}"#, "U10 type 0 state 0 entry 0"),
+        (
+            r#"{"aeolus":1,"types":[{"name":"Db","initial":"off","states":[{"name":"off","next":["onn"]},{"name":"on","provide":["sql"]}]},{"name":"Web","initial":"off","states":[{"name":"off","next":["run"]},{"name":"run","require":["sql"]}]}]}"#,
+            "U10 type 0 state 0 entry 0",
+        ),
         // the second port is no name
-        (r#"{"aeolus":1,"types":[{"name":"Db","initial":"off","states":[{"name":"off","next":["on"]},{"name":"on","provide":["sql","a:b"]}]},{"name":"Web","initial":"off","states":[{"name":"off","next":["run"]},{"name":"run","require":["sql"]}]}]}"#, "U11 type 0 state 1 entry 1"),
+        (
+            r#"{"aeolus":1,"types":[{"name":"Db","initial":"off","states":[{"name":"off","next":["on"]},{"name":"on","provide":["sql","a:b"]}]},{"name":"Web","initial":"off","states":[{"name":"off","next":["run"]},{"name":"run","require":["sql"]}]}]}"#,
+            "U11 type 0 state 1 entry 1",
+        ),
         // a required port is counted behind those that are provided
-        (r#"{"aeolus":1,"types":[{"name":"Db","initial":"off","states":[{"name":"off","next":["on"]},{"name":"on","provide":["sql"],"require":["a b"]}]},{"name":"Web","initial":"off","states":[{"name":"off","next":["run"]},{"name":"run","require":["sql"]}]}]}"#, "U11 type 0 state 1 entry 1"),
+        (
+            r#"{"aeolus":1,"types":[{"name":"Db","initial":"off","states":[{"name":"off","next":["on"]},{"name":"on","provide":["sql"],"require":["a b"]}]},{"name":"Web","initial":"off","states":[{"name":"off","next":["run"]},{"name":"run","require":["sql"]}]}]}"#,
+            "U11 type 0 state 1 entry 1",
+        ),
         // all forms come before all names
-        (r#"{"aeolus":1,"types":[{"name":"D b","initial":"off","states":[{"name":"off","next":["on"]},{"name":"on","provide":["sql"]}]},{"name":"Web","initial":"off","states":[{"name":"off","next":["run"]},5]}]}"#, "U6 type 1 state 1"),
+        (
+            r#"{"aeolus":1,"types":[{"name":"D b","initial":"off","states":[{"name":"off","next":["on"]},{"name":"on","provide":["sql"]}]},{"name":"Web","initial":"off","states":[{"name":"off","next":["run"]},5]}]}"#,
+            "U6 type 1 state 1",
+        ),
         // it is cut
-        (r#"{"aeolus":1,"types":[{"name":"Db","initial":"off","states":["#, "U1"),
+        (
+            r#"{"aeolus":1,"types":[{"name":"Db","initial":"off","states":["#,
+            "U1",
+        ),
     ];
     // before its targets
     expect_refused(&rt, "plan f.json Web:z", &cases)?;
@@ -121,8 +178,16 @@ fn a_universe_is_within_its_limits(rt: HostRuntime) -> Result<(), Fail> {
     expect(&rt, "plan f.json", most.as_str(), Status::Done, nothing)?;
     let pairs = many_pairs(alloc, 31, 17)?;
     let states = many_pairs(alloc, 0, 65)?;
-    let required = WEB.replace(alloc, "[\"sql\"]}]}]}", format!(in alloc; "[{}]}}]}}]}}", names(alloc, "r", 129)?)?.as_str())?;
-    let ports = WEB.replace(alloc, "\"provide\":[\"sql\"]", format!(in alloc; "\"provide\":[{}]", names(alloc, "p", 4000)?)?.as_str())?;
+    let required = WEB.replace(
+        alloc,
+        "[\"sql\"]}]}]}",
+        format!(in alloc; "[{}]}}]}}]}}", names(alloc, "r", 129)?)?.as_str(),
+    )?;
+    let ports = WEB.replace(
+        alloc,
+        "\"provide\":[\"sql\"]",
+        format!(in alloc; "\"provide\":[{}]", names(alloc, "p", 4000)?)?.as_str(),
+    )?;
     let cases = [
         (pairs.as_str(), "U12 pairs 2001"),
         (states.as_str(), "U12 states 65"),
@@ -143,7 +208,9 @@ fn a_long_name_is_none(rt: HostRuntime) -> Result<(), Fail> {
     ];
     for (length, status, text) in cases {
         let name = "x".repeat(alloc, length)?;
-        let document = format!(in alloc; "{{\"aeolus\":1,\"types\":[{{\"name\":\"{name}\",\"initial\":\"a\",\"states\":[{{\"name\":\"a\"}}]}}]}}")?;
+        let document = format!(in alloc;
+            "{{\"aeolus\":1,\"types\":[{{\"name\":\"{name}\",\"initial\":\"a\",\"states\":[{{\"name\":\"a\"}}]}}]}}"
+        )?;
         expect(&rt, "plan f.json", document.as_str(), status, text)?;
     }
     Ok(())
