@@ -80,7 +80,7 @@ fn is_required(u: &Universe, instances: &BTreeMap<InstNo, PairIx>, z: InstNo, r:
     ensures { result ≡ is_required u.now (config_of instances.now.entries []) z r }
 {
     match pair_in(instances, z) {
-        Some(p) => u.required(p).contains(&r),
+        Some(p) => u.requires_(p).contains(&r),
         None => false,
     }
 }
@@ -160,7 +160,7 @@ fn unmet_of(
     requires there { pair_of (config_of instances.now.entries bindings.now.keys) z ≡ Some p }
     ensures { result ≡ unmet_port u.now (config_of instances.now.entries bindings.now.keys) z (required_of u.now p) }
 {
-    unmet_port(u, instances, bindings, z, &Some(p), u.required(p))
+    unmet_port(u, instances, bindings, z, &Some(p), u.requires_(p))
 }
 
 /// The first instance and its first port that are required and not met.
@@ -193,7 +193,7 @@ pub fn unmet_own(
     ensures { result ≡ own_unmet u.now (config_of instances.now.entries bindings.now.keys) z to.now }
 {
     let q = (*to)?;
-    unmet_port(u, instances, bindings, z, to, u.required(q))
+    unmet_port(u, instances, bindings, z, to, u.requires_(q))
 }
 
 /// Of a port of z's own and an instance with its port, the one that comes first.

@@ -31,7 +31,7 @@ fn is_free(u: &Universe, pair: PairIx) -> bool
     requires { pair < pair_count u.now }
     ensures { result ≡ is_free u.now pair }
 {
-    u.is_initial(pair) && u.required(pair).is_empty()
+    u.is_initial(pair) && u.requires_(pair).is_empty()
 }
 
 /// The pairs of the set, and those that they enable.
@@ -66,7 +66,7 @@ fn comes(
     requires offered { IsOffered u.now set.now.members offered.now.keys }
     ensures { result ≡ (has set.now.members pair || is_enabled u.now set.now.members pair) }
 {
-    set.has(pair) || (led.has(pair) && are_offered(offered, u.required(pair)))
+    set.has(pair) || (led.has(pair) && are_offered(offered, u.requires_(pair)))
 }
 
 // The pairs to which pairs of the set may go.

@@ -117,9 +117,9 @@ fn gained(alloc: Global, u: &Universe, p: PairIx, q: PairIx) -> Result<Vec<PortI
     ensures ports { IfOk result (λ ports. ports.items ≡ gained u.now p q) }
     ensures within { IfOk result (λ ports. All (λ r. r < port_count u.now) ports.items) }
 {
-    let held = u.required(p);
+    let held = u.requires_(p);
     let mut ports = Vec::new(alloc);
-    for port in u.required(q) {
+    for port in u.requires_(q) {
         if !held.contains(port) {
             ports.push(*port)?;
         }

@@ -57,7 +57,7 @@ fn state_value(alloc: Global, u: &Universe, p: PairIx) -> Result<Value, AllocErr
 {
     let next = state_names(alloc, u, u.next(p))?;
     let provide = port_names(alloc, u, u.provided(p))?;
-    let require = port_names(alloc, u, u.required(p))?;
+    let require = port_names(alloc, u, u.requires_(p))?;
     json!(in alloc; {"name": u.state_name(p), "next": next, "provide": provide, "require": require})
 }
 

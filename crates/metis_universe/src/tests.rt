@@ -221,8 +221,8 @@ fn reads_ports(rt: HostRuntime) -> Result<(), Fail> {
     assert_eq!(rt; web.port_named("no"), None);
     assert_eq!(rt; web.port_name(sql), "sql");
     assert_eq!(rt; web.provided(PairIx(1)), [sql].as_slice());
-    assert_eq!(rt; web.required(PairIx(3)), [sql].as_slice());
-    assert_eq!(rt; web.required(PairIx(1)).len(), 0);
+    assert_eq!(rt; web.requires_(PairIx(3)), [sql].as_slice());
+    assert_eq!(rt; web.requires_(PairIx(1)).len(), 0);
     assert_eq!(rt; web.providers(sql), [PairIx(1)].as_slice());
     for (p, provides) in [(0, false), (1, true), (2, false), (3, false)] {
         assert!(rt; p < web.pairs());

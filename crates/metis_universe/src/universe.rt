@@ -172,7 +172,7 @@ impl Universe {
     }
 
     /// The ports that the pair requires, ascending.
-    pub fn required(&self, p: PairIx) -> &[PortIx]
+    pub fn requires_(&self, p: PairIx) -> &[PortIx]
         requires { p < pair_count self.now }
         ensures ports { result.now ≡ required_of self.now p }
         ensures ascending { IsStrictlyIncreasing result.now }

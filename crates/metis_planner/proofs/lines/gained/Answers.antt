@@ -8,8 +8,8 @@ use Rattle.metis_planner.proofs.lines.gained.Goals.{then-not-contains+in_ok-push
 
 pub loop-port-preserved : goal.loop-port-preserved
 loop-port-preserved c =
-    let t : ℕ → Bool = λ r. not (has c.required-held.result.now r) in
-    let ports = c.required-port-items.result.now in
+    let t : ℕ → Bool = λ r. not (has c.requires_-held.result.now r) in
+    let ports = c.requires_-port-items.result.now in
     let i = c.loop-port.port-index in
     let r = c.port-item.result in
     elim c.if-not-contains.branch [
@@ -19,6 +19,6 @@ loop-port-preserved c =
 
 pub returns-clause-within : goal.returns-clause-within
 returns-clause-within c =
-    let t : ℕ → Bool = λ r. not (has c.required-held.result.now r) in
-    let ports = c.required-port-items.result.now in
-    subst (All (λ r. r < port_count c.args.u.now)) (sym (c.loop-port.invariant ∙ ap (filter t) (taken_all ports c.loop-port.port-index c.loop-port-test.false))) (All-filter t (λ r. r < port_count c.args.u.now) ports c.required-port-items.ensures.within)
+    let t : ℕ → Bool = λ r. not (has c.requires_-held.result.now r) in
+    let ports = c.requires_-port-items.result.now in
+    subst (All (λ r. r < port_count c.args.u.now)) (sym (c.loop-port.invariant ∙ ap (filter t) (taken_all ports c.loop-port.port-index c.loop-port-test.false))) (All-filter t (λ r. r < port_count c.args.u.now) ports c.requires_-port-items.ensures.within)
