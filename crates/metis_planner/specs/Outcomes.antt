@@ -1,14 +1,22 @@
 -- What is said of the planner's answer. Where memory ran out, nothing is.
 --     IsPlanWhere P result      it is a plan exactly where P holds
+--     IsLean u n g      n is at most the attainable pairs and the targets g together
 --     IfPlan result P      P holds of the plan, where it is one
 --     IfClosed result P      P holds of the set and of the target that it lacks, where it is no plan
-use Rattle.std.specs.Prelude.{ℕ, Bool, true, false, ⊤, Result, Ok, Err}
+use Rattle.std.specs.Prelude.{ℕ, ◌+◌, ◌≤◌, List, length, Bool, true, false, ⊤, Result, Ok, Err}
 use Rattle.std.specs.Bool.{Decides}
 use Rattle.metis_ids.specs.PairSet.{PairSet}
 use Rattle.metis_ids.specs.declared.no_memory.NoMemory.{NoMemory}
 use Rattle.metis_ids.specs.declared.plans.Plan.{Plan}
+use Rattle.metis_universe.specs.Goal.{IsAttainedSet}
+use Rattle.metis_universe.specs.Universe.{Universe}
 use Rattle.metis_planner.specs.declared.outcome.Outcome.{Outcome}
 use Rattle.metis_planner.specs.declared.outcome.Outcome.TheVariants as outcome
+
+pub record IsLean (u : Universe) (n : ℕ) (g : List ℕ) : Type 0 where
+  pub attained : List ℕ
+  pub all : IsAttainedSet u attained
+  pub few : n ≤ length attained + length g
 
 abbrev pub is_plan : Outcome → Bool
 is_plan (outcome.Plan plan) = true

@@ -3,14 +3,14 @@ ghost use Rattle.std.specs.Prelude.{◌≡◌, ◌<◌, ◌≤◌, ◌+◌, ◌*
 ghost use Rattle.std.specs.List.{All, find};
 ghost use Rattle.metis_universe.specs.Closed.{Refusal};
 ghost use Rattle.metis_universe.specs.Config.{empty};
-ghost use Rattle.metis_universe.specs.Goal.{Attains, Holds};
+ghost use Rattle.metis_universe.specs.Goal.{Attains, Holds, IsAttainedSet};
 ghost use Rattle.metis_universe.specs.Numbers.{IsOf};
 ghost use Rattle.metis_universe.specs.Steadfast.{is_steadfast};
 ghost use Rattle.metis_universe.specs.Step.{IsRun, after_all};
 ghost use Rattle.metis_universe.specs.Universe.{IsTable, pair_count};
-ghost use Rattle.metis_layers.specs.LayerOrder.{attained_pairs, holder_of, instances_of, layer_order, line_ends, lines_from, path_to};
+ghost use Rattle.metis_layers.specs.LayerOrder.{holder_of, instances_of, layer_order, line_ends, lines_from, path_to};
 ghost use Rattle.metis_layers.specs.Layers.{IsLayers, layer_at};
-ghost use Rattle.metis_planner.specs.Outcomes.{IsPlanWhere, IfPlan, IfClosed};
+ghost use Rattle.metis_planner.specs.Outcomes.{IsLean, IsPlanWhere, IfPlan, IfClosed};
 
 use crate::lines::add_line;
 use crate::outcome::Outcome;
@@ -23,7 +23,7 @@ use metis_universe::Universe;
 use std::alloc::Global;
 
 /// A plan for the targets, at most 256, where some list of actions attains them; else the set of all attainable pairs,
-/// with the first target that is not in it. `attained_pairs` are the attainable pairs.
+/// with the first target that is not in it.
 pub fn plan(alloc: Global, u: &Universe, targets: &[PairIx]) -> Result<Outcome, NoMemory>
     requires few { length targets.now ≤ 256 }
     requires within { All (λ p. p < pair_count u.now) targets.now }
@@ -40,7 +40,7 @@ pub fn plan(alloc: Global, u: &Universe, targets: &[PairIx]) -> Result<Outcome, 
 
     // It counts its instances, which are few, and so are the actions of each.
     ensures instances { IfPlan result (λ plan. plan.instances ≡ instances_of plan.actions.items) }
-    ensures lean { IfPlan result (λ plan. plan.instances ≤ length (attained_pairs u.now) + length targets.now) }
+    ensures lean { IfPlan result (λ plan. IsLean u.now plan.instances targets.now) }
     ensures short { IfPlan result (λ plan. length plan.actions.items ≤ 321 * plan.instances) }
 
     // The actions are those in the order of the layers, and nothing is doubled.
@@ -49,7 +49,7 @@ pub fn plan(alloc: Global, u: &Universe, targets: &[PairIx]) -> Result<Outcome, 
 
     // What comes in place of a plan refuses the targets.
     ensures size { IfClosed result (λ set _. set.size ≡ pair_count u.now) }
-    ensures members { IfClosed result (λ set _. set.members ≡ attained_pairs u.now) }
+    ensures members { IfClosed result (λ set _. IsAttainedSet u.now set.members) }
     ensures refusal { IfClosed result (λ set lacking. Refusal u.now targets.now set.members lacking) }
     ensures lacking { IfClosed result (λ _ lacking. lacking < pair_count u.now) }
 {

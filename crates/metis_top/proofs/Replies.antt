@@ -1,22 +1,22 @@
 -- Runs that come to their answer.
-use Rattle.std.proofs.Common.{◌≡◌, ◌≤◌, ℕ, ◌+◌, List, [], length, Ok, refl, sym, ap, ◌∙◌, subst, inl, inr}
+use Rattle.std.proofs.Common.{◌≡◌, ℕ, List, [], length, Ok, refl, sym, ap, ◌∙◌, subst, inl, inr}
 use Rattle.std.specs.Prelude.{IsTrue}
 use Rattle.std.specs.declared.option.Option.{Option}
 use Rattle.metis_ids.specs.declared.actions.Action.{Action}
 use Rattle.metis_ids.specs.declared.plans.Dup.{Dup}
-use Rattle.metis_layers.proofs.Order.{attained_set}
-use Rattle.metis_layers.specs.LayerOrder.{attained_pairs, instances_of}
+use Rattle.metis_layers.specs.LayerOrder.{instances_of}
 use Rattle.metis_universe.proofs.Inside.{refused}
 use Rattle.metis_universe.specs.Closed.{Refusal}
 use Rattle.metis_universe.specs.Config.{empty}
 use Rattle.metis_universe.specs.Goal.{Holds, IsAttainedSet}
 use Rattle.metis_universe.specs.Steadfast.{is_steadfast}
 use Rattle.metis_universe.specs.Step.{IsRun, after_all}
-use Rattle.metis_universe.specs.Universe.{Universe, IsUniverse}
+use Rattle.metis_universe.specs.Universe.{Universe}
+use Rattle.metis_planner.specs.Outcomes.{IsLean}
 use Rattle.metis_top.specs.Answer.{Answer, IsAnswer}
 use Rattle.metis_top.specs.Course.{Gathers, Ran, Shown, Says, OnShelf}
 use Rattle.metis_top.specs.PlanText.{plan_text}
-use Rattle.metis_top.specs.Planned.{IsPlan, IsRefusal, PlanAnswer}
+use Rattle.metis_top.specs.Planned.{IsPlan, PlanAnswer}
 use Rattle.metis_top.specs.RefusalText.{refusal_text}
 use Rattle.metis_top.specs.Script.{Script, Reply}
 use Rattle.metis_top.specs.declared.status.Status.{Status}
@@ -35,14 +35,12 @@ ran_replied files faults opens written sink_faults view part next shelf shelf' s
     record { taken = g.taken; asked = g.asked next; reads = subst P (sym is) (g.came.1, g.came.2); puts = subst Q (sym is) s }
 
 -- the text of a plan answers
-pub answer_by_plan : (u : Universe) (g : List ℕ) (actions : List Action) (dups : List Dup) → IsUniverse u → IsRun u empty actions → Holds (after_all u empty actions) g → IsTrue (is_steadfast u actions)
-    → instances_of actions ≤ length (attained_pairs u) + length g → dups ≡ [] → PlanAnswer u g (plan_text u actions (length dups)) Done
-answer_by_plan u g actions dups k runs holds steadfast few none =
-    let plan : IsPlan u g actions = record { runs = runs; holds = holds; steadfast = steadfast; attained = attained_pairs u; all = attained_set u k; few = few } in
+pub answer_by_plan : (u : Universe) (g : List ℕ) (actions : List Action) (dups : List Dup) → IsRun u empty actions → Holds (after_all u empty actions) g → IsTrue (is_steadfast u actions)
+    → IsLean u (instances_of actions) g → dups ≡ [] → PlanAnswer u g (plan_text u actions (length dups)) Done
+answer_by_plan u g actions dups runs holds steadfast lean none =
+    let plan : IsPlan u g actions = record { runs = runs; holds = holds; steadfast = steadfast; attained = lean.attained; all = lean.all; few = lean.few } in
     inl (refl, record { attains = (actions, runs, holds); actions = actions; plan = plan; told = ap (λ l. plan_text u actions (length l)) none })
 
 -- the text of a refusal answers
-pub answer_by_refusal : (u : Universe) (g s : List ℕ) (p : ℕ) → IsUniverse u → s ≡ attained_pairs u → Refusal u g s p → PlanAnswer u g (refusal_text u s p) No
-answer_by_refusal u g s p k is refusal =
-    let all : IsRefusal u g s p = record { refusal = refusal; all = subst (IsAttainedSet u) (sym is) (attained_set u k) } in
-    inr (refl, record { unattained = refused u g s p refusal; set = s; lacking = p; refusal = all; told = refl })
+pub answer_by_refusal : (u : Universe) (g s : List ℕ) (p : ℕ) → IsAttainedSet u s → Refusal u g s p → PlanAnswer u g (refusal_text u s p) No
+answer_by_refusal u g s p all refusal = inr (refl, record { unattained = refused u g s p refusal; set = s; lacking = p; refusal = record { refusal = refusal; all = all }; told = refl })

@@ -2,16 +2,16 @@ use Rattle.std.proofs.Common.{◌∙◌, ap, sym, subst, refl, arith, length}
 use Rattle.std.proofs.lemmas.Bool.{false≢true}
 use Rattle.metis_universe.proofs.Inside.{refused}
 use Rattle.metis_universe.specs.Closed.{Refusal}
-use Rattle.metis_layers.proofs.Order.{deploys}
+use Rattle.metis_layers.proofs.Order.{attained_set, deploys}
 use Rattle.metis_layers.proofs.Short.{order_short}
 use Rattle.std.specs.List.{All}
 use Rattle.std.specs.Prelude.{IsTrue}
 use Rattle.metis_universe.specs.Config.{empty}
-use Rattle.metis_universe.specs.Goal.{Holds}
+use Rattle.metis_universe.specs.Goal.{Holds, IsAttainedSet}
 use Rattle.metis_universe.specs.Numbers.{IsOf}
 use Rattle.metis_universe.specs.Steadfast.{is_steadfast}
 use Rattle.metis_universe.specs.Step.{IsRun, after_all}
-use Rattle.metis_layers.specs.LayerOrder.{instances_of, layer_order}
+use Rattle.metis_layers.specs.LayerOrder.{attained_pairs, instances_of, layer_order}
 use Rattle.metis_planner.proofs.Ends.{made}
 use Rattle.metis_planner.proofs.Planning.{all_layered, lacking_low, refuses}
 use Rattle.metis_planner.proofs.planner.plan.Goals as goal
@@ -23,6 +23,11 @@ returns-in-Some-clause-attains c =
     let k = c.in_ok-layers.ensures in
     let refusal = refuses u c.in_ok-layers.layers k.layers g c.requires.within k.table.universe c.in-Some.target (sym c.lacking.ensures ∙ c.in-Some.is) in
     (λ same. absurd (false≢true same), λ attains. absurd (refused u g _ c.in-Some.target refusal attains))
+
+pub returns-in-Some-clause-members : goal.returns-in-Some-clause-members
+returns-in-Some-clause-members c =
+    let k = c.in_ok-layers.ensures in
+    subst (IsAttainedSet c.args.u.now) (sym (ap (λ s. s.members) c.into_attained.ensures ∙ k.layers.attained)) (attained_set c.args.u.now k.table.universe)
 
 pub returns-in-Some-clause-refusal : goal.returns-in-Some-clause-refusal
 returns-in-Some-clause-refusal c =
@@ -103,7 +108,7 @@ returns-in_ok-plan_by-in-None-clause-lean c =
     let is = c.in_ok-plan_by-in-None.ensures.actions in
     let all = all_layered u c.in_ok-layers.layers k.layers g c.requires.within (sym c.lacking.ensures ∙ c.in-None.is) in
     let d = deploys u g k.table.universe all in
-    omega (arith, d.few, c.in_ok-plan_by-in-None.ensures.instances, made u g)
+    record { attained = attained_pairs u; all = attained_set u k.table.universe; few = omega (arith, d.few, c.in_ok-plan_by-in-None.ensures.instances, made u g) }
 
 pub returns-in_ok-plan_by-in-None-clause-short : goal.returns-in_ok-plan_by-in-None-clause-short
 returns-in_ok-plan_by-in-None-clause-short c =

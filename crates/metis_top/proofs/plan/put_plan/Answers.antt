@@ -1,3 +1,5 @@
+use Rattle.std.proofs.Common.{subst}
+use Rattle.metis_planner.specs.Outcomes.{IsLean}
 use Rattle.metis_top.proofs.Replies.{answer_by_plan, answer_by_refusal}
 use Rattle.metis_top.proofs.Shown.{shown_by_writer}
 use Rattle.metis_top.proofs.plan.put_plan.Goals as goal
@@ -6,14 +8,12 @@ pub returns-in-Ok-Plan : goal.returns-in-Ok-Plan
 returns-in-Ok-Plan g c =
     let found = rw c.in-Ok-Plan.field-0-is at c.in-Ok-Plan.ensures in
     let plan = c.in-Ok-Plan.plan in
-    let table = c.pairs-pairs.ensures.table in
-    let answer = answer_by_plan c.args.u.now c.args.targets.now plan.actions.items plan.dups.items table.universe found.run found.holds found.steadfast (rw found.instances at found.lean) found.dups in
+    let answer = answer_by_plan c.args.u.now c.args.targets.now plan.actions.items plan.dups.items found.run found.holds found.steadfast (subst (λ n. IsLean c.args.u.now n c.args.targets.now) found.instances found.lean) found.dups in
     rw c.said.ensures (shown_by_writer _ _ _ _ _ _ _ c.write_plan.result answer c.write_plan.ensures.text c.write_plan.ensures.cause)
 
 pub returns-in-Ok-Closed : goal.returns-in-Ok-Closed
 returns-in-Ok-Closed g c =
     let found = rw c.in-Ok-Closed.field-0-is at c.in-Ok-Closed.ensures in
     let set = c.in-Ok-Closed.set in
-    let table = c.pairs-pairs.ensures.table in
-    let answer = answer_by_refusal c.args.u.now c.args.targets.now set.members c.in-Ok-Closed.lacking table.universe found.members found.refusal in
+    let answer = answer_by_refusal c.args.u.now c.args.targets.now set.members c.in-Ok-Closed.lacking found.members found.refusal in
     rw c.said-in-Ok-Closed.ensures (shown_by_writer _ _ _ _ _ _ _ c.write_refusal.result answer c.write_refusal.ensures.text c.write_refusal.ensures.cause)
