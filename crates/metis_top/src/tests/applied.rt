@@ -12,7 +12,7 @@ use metis_ids::{Action, InstNo, PairIx};
 use metis_outside::{CalmShelf, CalmSink};
 use metis_ujson::read_universe;
 use metis_universe::Universe;
-use std::alloc::{AllocError, Global};
+use std::alloc::Global;
 use std::process::Abort;
 use std::test::Fail;
 
@@ -51,31 +51,32 @@ fn state_of(u: &Universe, c: &Config, z: InstNo, name: &str) -> Option<PairIx> {
 }
 
 // The action that a line spells, behind its number.
-fn action_of(u: &Universe, c: &Config, tokens: &[&str]) -> Option<Action> {
-    match tokens {
-        [_, "new", z, kind] => Some(Action::New {
-            inst: instance(z)?,
-            kind: u.type_named(kind)?,
-        }),
-        [_, "bind", port, z, y] => Some(Action::Bind {
-            port: u.port_named(port)?,
-            inst: instance(z)?,
-            to: instance(y)?,
-        }),
-        [_, "unbind", port, z, y] => Some(Action::Unbind {
-            port: u.port_named(port)?,
-            inst: instance(z)?,
-            to: instance(y)?,
-        }),
-        [_, "move", z, from, to] => {
-            let z = instance(z)?;
-            Some(Action::Move {
-                inst: z,
-                from: state_of(u, c, z, from)?,
-                to: state_of(u, c, z, to)?,
-            })
-        }
-        _ => None,
+fn action_of(u: &Universe, c: &Config, line: &str) -> Option<Action> {
+    let mut tokens = line.split(' ').skip(1);
+    let verb = tokens.next()?;
+    if verb == "new" {
+        return Some(Action::New {
+            inst: instance(tokens.next()?)?,
+            kind: u.type_named(tokens.next()?)?,
+        });
+    }
+    if verb == "move" {
+        let z = instance(tokens.next()?)?;
+        return Some(Action::Move {
+            inst: z,
+            from: state_of(u, c, z, tokens.next()?)?,
+            to: state_of(u, c, z, tokens.next()?)?,
+        });
+    }
+    let port = u.port_named(tokens.next()?)?;
+    let inst = instance(tokens.next()?)?;
+    let to = instance(tokens.next()?)?;
+    if verb == "bind" {
+        Some(Action::Bind { port, inst, to })
+    } else if verb == "unbind" {
+        Some(Action::Unbind { port, inst, to })
+    } else {
+        None
     }
 }
 
@@ -92,13 +93,13 @@ fn is_of(u: &Universe, a: &Action) -> bool
     }
 }
 
-fn do_line(rt: &impl Abort, u: &Universe, c: &mut Config, tokens: &[&str])
+fn do_line(rt: &impl Abort, u: &Universe, c: &mut Config, line: &str)
     requires over { IsOver u.now c.old }
     requires correct { Correct u.now c.old }
     ensures over { IsOver u.now c.new }
     ensures correct { Correct u.now c.new }
 {
-    let Some(action) = action_of(u, c, tokens) else {
+    let Some(action) = action_of(u, c, line) else {
         panic!(rt; "no action");
     };
     let fits = is_of(u, &action);
@@ -108,31 +109,21 @@ fn do_line(rt: &impl Abort, u: &Universe, c: &mut Config, tokens: &[&str])
 }
 
 // Does the lines of a plan, but for the first two and the last, and gives how many there were.
-fn do_lines(
-    rt: &impl Abort,
-    alloc: Global,
-    u: &Universe,
-    c: &mut Config,
-    text: &str,
-) -> Result<u32, AllocError>
+fn do_lines(rt: &impl Abort, u: &Universe, c: &mut Config, text: &str) -> u32
     requires over { IsOver u.now c.old }
     requires correct { Correct u.now c.old }
     ensures over { IsOver u.now c.new }
     ensures correct { Correct u.now c.new }
 {
-    let mut count = 0;
+    let mut count = 0u32;
     for line in text.split('\n').skip(2) {
         if line == "end" {
             break;
         }
-        let mut tokens = Vec::new(alloc);
-        for token in line.split(' ') {
-            tokens.push(token)?;
-        }
-        do_line(rt, u, c, &tokens);
-        count += 1;
+        do_line(rt, u, c, line);
+        count = count.saturating_add(1);
     }
-    Ok(count)
+    count
 }
 
 // Does all that is printed for the target, and looks for it.
@@ -148,7 +139,7 @@ fn apply_plan(
     let line = format!(in alloc; "plan f.json {kind}:{state}")?;
     let text = printed(rt, alloc, line.as_str(), document)?;
     let mut c = Config::empty(alloc);
-    let count = do_lines(rt, alloc, &u, &mut c, text.as_str())?;
+    let count = do_lines(rt, &u, &mut c, text.as_str());
     assert_eq!(rt; count, actions, "{line}");
     let target = u.pair_named(kind, state).ok_or("no target")?;
     assert!(rt; c.holding(target) >= 1, "{line}");
