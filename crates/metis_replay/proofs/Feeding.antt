@@ -15,7 +15,26 @@ use Rattle.metis_replay.proofs.Reasons.{never_memory}
 use Rattle.metis_replay.specs.Exact.{IsRefused}
 use Rattle.metis_replay.specs.Progress.{Progress, fed, fed_all, fed_by, progress_of}
 
-fed_append : (s : Progress) (xs ys : List Action) → fed_all s (xs ++ ys) ≡ fed_all (fed_all s xs) ys
+-- what one more action keeps and counts
+pub fed_universe : (s : Progress) (a : Action) → (fed s a).universe ≡ s.universe
+fed_universe s a = by s.refused (fault_of s.universe s.config a) where
+  by : (first : Option (ℕ × AFault)) (o : Option AFault) → (fed_by s a first o).universe ≡ s.universe
+  by (Some first) o = refl
+  by None (Some f) = refl
+  by None None = refl
+
+pub fed_number : (s : Progress) (a : Action) → (fed s a).number ≡ s.number + 1
+fed_number s a = by s.refused (fault_of s.universe s.config a) where
+  by : (first : Option (ℕ × AFault)) (o : Option AFault) → (fed_by s a first o).number ≡ s.number + 1
+  by (Some first) o = refl
+  by None (Some f) = refl
+  by None None = refl
+
+pub fed_count : (s : Progress) (actions : List Action) → (fed_all s actions).number ≡ s.number + length actions
+fed_count s [] = omega arith
+fed_count s (a ∷ rest) = omega (arith, fed_count (fed s a) rest, fed_number s a)
+
+pub fed_append : (s : Progress) (xs ys : List Action) → fed_all s (xs ++ ys) ≡ fed_all (fed_all s xs) ys
 fed_append s [] ys = refl
 fed_append s (x ∷ xs) ys = fed_append (fed s x) xs ys
 
@@ -23,6 +42,12 @@ fed_append s (x ∷ xs) ys = fed_append (fed s x) xs ys
 stays : (s : Progress) (first : ℕ × AFault) (actions : List Action) → s.refused ≡ Some first → (fed_all s actions).refused ≡ Some first
 stays s first [] is = is
 stays s first (a ∷ rest) is = stays (fed s a) first rest (ap (λ o. (fed_by s a o (fault_of s.universe s.config a)).refused) is ∙ is)
+
+rests : (s : Progress) (first : ℕ × AFault) (actions : List Action) → s.refused ≡ Some first → (fed_all s actions).config ≡ s.config
+rests s first [] is = refl
+rests s first (a ∷ rest) is =
+    let one = λ (o : Option (ℕ × AFault)). fed_by s a o (fault_of s.universe s.config a) in
+    rests (fed s a) first rest (ap (λ o. (one o).refused) is ∙ is) ∙ ap (λ o. (one o).config) is
 
 some_none : {A : Type 0} {x : A} → Some x ≡ None → ⊥
 some_none e = cc
@@ -50,6 +75,14 @@ module _ (u : Universe) (k : IsUniverse u) where
       let there = progress_of u (after_all u c before) (n + length before) None in
       ap (λ s. s.refused) (fed_append (progress_of u c n None) before (a ∷ later)) ∙ ap (λ s. (fed_all (fed s a) later).refused) (run_done before c n h correct run)
       ∙ stays (fed there a) (n + length before + 1, f) later (ap (λ o. (fed_by there a None o).refused) is)
+
+  -- and the configuration stays what the run left
+  pub first_kept : (before : List Action) (a : Action) (later : List Action) (f : AFault) (c : Config) (n : ℕ) → IsConfig c → Correct u c → IsRun u c before → fault_of u (after_all u c before) a ≡ Some f
+      → (fed_all (progress_of u c n None) (before ++ a ∷ later)).config ≡ after_all u c before
+  first_kept before a later f c n h correct run is =
+      let there = progress_of u (after_all u c before) (n + length before) None in
+      ap (λ s. s.config) (fed_append (progress_of u c n None) before (a ∷ later)) ∙ ap (λ s. (fed_all (fed s a) later).config) (run_done before c n h correct run)
+      ∙ rests (fed there a) (n + length before + 1, f) later (ap (λ o. (fed_by there a None o).refused) is) ∙ ap (λ o. (fed_by there a None o).config) is
 
   -- the first action that has a fault
   pub record Stops (c : Config) (actions : List Action) : Type 0 where

@@ -7,3 +7,6 @@ mod verdict;
 
 pub use replay::Replay;
 pub use verdict::Verdict;
+
+#[cfg(test)]
+mod tests;

@@ -1,12 +1,10 @@
 //! Does actions one after the other.
-ghost use Rattle.std.specs.Prelude.{◌≡◌, ◌<◌, ◌-◌, ◌^◌, ◌==◌, IsTrue, IfOk, OnOk, OnErr, None, nat_lt};
-ghost use Rattle.std.specs.List.{count_by, find};
+ghost use Rattle.std.specs.Prelude.{◌≡◌, ◌<◌, ◌-◌, ◌^◌, IsTrue, IfOk, OnOk, OnErr, None};
 ghost use Rattle.metis_universe.specs.Config.{Correct};
-ghost use Rattle.metis_universe.specs.Goal.{holding};
 ghost use Rattle.metis_universe.specs.Numbers.{IsOf};
 ghost use Rattle.metis_config.specs.Over.{IsOver};
 ghost use Rattle.metis_actions.specs.Faults.{fault_of, takes_memory};
-ghost use Rattle.metis_replay.specs.Progress.{start, fed, left_by, first_short, verdict};
+ghost use Rattle.metis_replay.specs.Progress.{fed, first_short, left_by, places, start, verdict};
 
 use crate::Verdict;
 use metis_actions::{AFault, apply};
@@ -125,7 +123,7 @@ fn first_short(c: &Config, targets: &[PairIx]) -> Option<PairIx>
 
 // How many places the pair has in the list.
 fn places(targets: &[PairIx], p: PairIx) -> u64
-    ensures { result ≡ count_by (λ q. q == p) targets.now }
+    ensures { result ≡ places targets.now p }
 {
     targets.iter().filter(|q| **q == p).count() as u64
 }
