@@ -15,15 +15,8 @@ use Rattle.metis_replay.proofs.Reasons.{never_memory}
 use Rattle.metis_replay.specs.Exact.{IsRefused}
 use Rattle.metis_replay.specs.Progress.{Progress, fed, fed_all, fed_by, progress_of}
 
--- what one more action keeps and counts
-pub fed_universe : (s : Progress) (a : Action) → (fed s a).universe ≡ s.universe
-fed_universe s a = by s.refused (fault_of s.universe s.config a) where
-  by : (first : Option (ℕ × AFault)) (o : Option AFault) → (fed_by s a first o).universe ≡ s.universe
-  by (Some first) o = refl
-  by None (Some f) = refl
-  by None None = refl
-
-pub fed_number : (s : Progress) (a : Action) → (fed s a).number ≡ s.number + 1
+-- each action is counted
+fed_number : (s : Progress) (a : Action) → (fed s a).number ≡ s.number + 1
 fed_number s a = by s.refused (fault_of s.universe s.config a) where
   by : (first : Option (ℕ × AFault)) (o : Option AFault) → (fed_by s a first o).number ≡ s.number + 1
   by (Some first) o = refl
@@ -53,7 +46,7 @@ some_none : {A : Type 0} {x : A} → Some x ≡ None → ⊥
 some_none e = cc
 
 module _ (u : Universe) (k : IsUniverse u) where
-  pub is_refused : (c : Config) → IsConfig c → Correct u c → (a : Action) (f : AFault) → fault_of u c a ≡ Some f → IsRefused u c a f
+  is_refused : (c : Config) → IsConfig c → Correct u c → (a : Action) (f : AFault) → fault_of u c a ≡ Some f → IsRefused u c a f
   is_refused c h correct a f is = record {
     fault = is;
     reason = never_memory u c a f is;
