@@ -1,0 +1,4 @@
+pub mod Feeding
+pub mod Reasons
+pub mod Shortages
+pub mod Verdicts
