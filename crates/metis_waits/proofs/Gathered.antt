@@ -1,0 +1,94 @@
+-- The numbers that an action waits for, gathered in a set.
+use Rattle.std.proofs.Common.{◌≡◌, ℕ, zero, suc, ◌<◌, ◌≤◌, Bool, true, false, ◌&&◌, ◌||◌, List, [], length, refl, sym, ap, ◌∙◌, arith, nat_eq, nat_lt, nat_cmp, inl, inr}
+use Rattle.std.proofs.lemmas.Bool.{cases_lt, eqb-true, false_from_ne_true, le-ltb, lt-ltb}
+use Rattle.std.proofs.lemmas.Bool.Decides.{nat_tests}
+use Rattle.std.proofs.lemmas.List.Kept.{IsStrictlySortedBy-filter}
+use Rattle.std.specs.BTreeSet.{insert_key}
+use Rattle.std.specs.List.{filter}
+use Rattle.std.specs.List.Sorted.{IsStrictlySortedBy}
+use Rattle.std.specs.Option.{option_map_or}
+use Rattle.metis_ids.specs.declared.actions.Action.{Action}
+use Rattle.metis_universe.proofs.Ascending.{has-insert_key}
+use Rattle.metis_universe.proofs.Ranges.{has_range, in_range}
+use Rattle.metis_universe.proofs.Rounds.{has-filter}
+use Rattle.metis_universe.specs.Universe.{has}
+use Rattle.metis_universe.specs.Waits.{before, enters, is_release_of, is_wait, last_number, numbers, releases, standing}
+use Rattle.metis_waits.proofs.Pushed.{get_past}
+use Rattle.metis_waits.proofs.Risen.{range_sorted, same_sorted}
+use Rattle.metis_waits.specs.State.{is_by}
+
+pub last_low : (p : Action → Bool) (xs : List Action) → last_number p xs ≤ length xs
+last_low p xs = omega arith
+
+and_false : (b : Bool) → (b && false) ≡ false
+and_false true = refl
+and_false false = refl
+
+and_true : (b : Bool) → b ≡ (b && true)
+and_true true = refl
+and_true false = refl
+
+pub number_in : (ks ks' : List ℕ) (n : ℕ) → nat_eq n 0 ≡ false → ks' ≡ insert_key nat_cmp ks n → (m : ℕ) → has ks' m ≡ ((nat_lt 0 m && nat_eq m n) || has ks m)
+number_in ks ks' n some is m = ap (λ l. has l m) is ∙ has-insert_key m n ks ∙ ap (λ b. b || has ks m) (test n m some) where
+  test : (n m : ℕ) → nat_eq n 0 ≡ false → nat_eq n m ≡ (nat_lt 0 m && nat_eq m n)
+  test n m some = grind (arith, nat_tests)
+
+module _ (earlier : List Action) where
+  within : (m : ℕ) → 0 < m → m ≤ length earlier → has (numbers earlier) m ≡ true
+  within m low high = has_range 1 (length earlier) m (omega arith) (omega arith)
+
+  number_within : (n m : ℕ) → n ≤ length earlier → (nat_lt 0 m && nat_eq m n) ≡ (nat_eq m n && has (numbers earlier) m)
+  number_within n m high = elim (nat_eq m n) as (λ b. nat_eq m n ≡ b → (nat_lt 0 m && b) ≡ (b && has (numbers earlier) m)) [
+    | true ↦ λ at. let e = eqb-true m n at in elim (cases_lt 0 m) [
+      | inl up ↦ ap (λ b. b && true) (lt-ltb 0 m up) ∙ sym (within m up (omega arith))
+      | inr none ↦ ap (λ b. b && true) (le-ltb 0 m none) ∙ sym (false_from_ne_true _ (λ h. omega (arith, (in_range 1 (length earlier) m h).0)))
+    ]
+    | false ↦ λ _. and_false (nat_lt 0 m)
+  ] refl
+
+  release_within : (y m : ℕ) → is_release_of y earlier m ≡ (is_release_of y earlier m && has (numbers earlier) m)
+  release_within y zero = ap (λ b. b) (and_false (nat_lt (last_number (enters y) earlier) 0)) ∙ sym (ap (λ b. b && has (numbers earlier) 0) (and_false (nat_lt (last_number (enters y) earlier) 0)))
+  release_within y (suc i) = elim (cases_lt i (length earlier)) [
+    | inl less ↦ and_true (is_release_of y earlier (suc i)) ∙ ap (λ b. is_release_of y earlier (suc i) && b) (sym (within (suc i) (omega arith) (omega arith)))
+    | inr more ↦
+        let none : is_release_of y earlier (suc i) ≡ false = ap (λ o. nat_lt (last_number (enters y) earlier) (suc i) && option_map_or (releases y (standing (before (suc i) earlier))) o false) (get_past earlier i more) ∙ and_false (nat_lt (last_number (enters y) earlier) (suc i)) in
+        none ∙ sym (ap (λ b. b && has (numbers earlier) (suc i)) none)
+  ]
+
+  module _ (z own : ℕ) (ks ks1 : List ℕ) (empty : ks ≡ []) (is : own ≡ last_number (is_by z) earlier) (first : (m : ℕ) → has ks1 m ≡ ((nat_lt 0 m && nat_eq m own) || has ks m)) where
+    -- the actor's previous action alone
+    pub own_alone : (m : ℕ) → has ks1 m ≡ (nat_eq m (last_number (is_by z) earlier) && has (numbers earlier) m)
+    own_alone m =
+        first m ∙ (λ i. (nat_lt 0 m && nat_eq m (is i)) || has (empty i) m) ∙ or_none (nat_lt 0 m && nat_eq m (last_number (is_by z) earlier))
+        ∙ number_within (last_number (is_by z) earlier) m (last_low (is_by z) earlier) where
+          or_none : (b : Bool) → (b || false) ≡ b
+          or_none true = refl
+          or_none false = refl
+
+    both : (a b r : Bool) → ((b && r) || (a && r)) ≡ ((a || b) && r)
+    both true true true = refl
+    both true true false = refl
+    both true false r = refl
+    both false true true = refl
+    both false true false = refl
+    both false false r = refl
+
+    -- and the provider's entry
+    pub own_and_entry : (y entry : ℕ) (ks2 : List ℕ) → entry ≡ last_number (enters y) earlier → ((m : ℕ) → has ks2 m ≡ ((nat_lt 0 m && nat_eq m entry) || has ks1 m)) →
+        (m : ℕ) → has ks2 m ≡ ((nat_eq m (last_number (is_by z) earlier) || nat_eq m (last_number (enters y) earlier)) && has (numbers earlier) m)
+    own_and_entry y entry ks2 at second m =
+        second m ∙ (λ i. (nat_lt 0 m && nat_eq m (at i)) || own_alone m i)
+        ∙ ap (λ b. b || (nat_eq m (last_number (is_by z) earlier) && has (numbers earlier) m)) (number_within (last_number (enters y) earlier) m (last_low (enters y) earlier))
+        ∙ both (nat_eq m (last_number (is_by z) earlier)) (nat_eq m (last_number (enters y) earlier)) (has (numbers earlier) m)
+
+    -- and the releases
+    pub own_and_releases : (y : ℕ) (ks2 : List ℕ) → ((m : ℕ) → has ks2 m ≡ (is_release_of y earlier m || has ks1 m)) →
+        (m : ℕ) → has ks2 m ≡ ((nat_eq m (last_number (is_by z) earlier) || is_release_of y earlier m) && has (numbers earlier) m)
+    own_and_releases y ks2 second m =
+        second m ∙ (λ i. release_within y m i || own_alone m i)
+        ∙ both (nat_eq m (last_number (is_by z) earlier)) (is_release_of y earlier m) (has (numbers earlier) m)
+
+  -- in order they are the list
+  pub listed : (a : Action) (ks : List ℕ) → IsStrictlySortedBy nat_cmp ks → ((m : ℕ) → has ks m ≡ (is_wait earlier a m && has (numbers earlier) m)) → ks ≡ filter (is_wait earlier a) (numbers earlier)
+  listed a ks s h = same_sorted ks (filter (is_wait earlier a) (numbers earlier)) s (IsStrictlySortedBy-filter nat_cmp (is_wait earlier a) (numbers earlier) (range_sorted 1 (length earlier)))
+      (λ m. h m ∙ sym (has-filter (is_wait earlier a) m (numbers earlier)))

@@ -1,0 +1,10 @@
+use Rattle.std.proofs.Common.{ap, sym, ◌∙◌, ◌+◌, length, nat_eq, arith}
+use Rattle.metis_ids.specs.Action.{actor_of}
+use Rattle.metis_waits.proofs.Kept.{marked, turned}
+use Rattle.metis_waits.specs.State.{is_by}
+use Rattle.metis_waits.proofs.marks.note_last.Goals as goal
+
+pub returns : goal.returns
+returns c =
+    marked is_by c.args.earlier.now c.args.action.now c.args.lasts.now.entries c.insert.new.self.entries c.actor.result (length c.args.earlier.now + 1)
+    c.in_ok-insert.ensures.entries (omega arith) (λ q. turned (actor_of c.args.action.now) q ∙ ap (nat_eq q) (sym c.actor.ensures)) c.requires.lasts

@@ -1,0 +1,42 @@
+-- The waits of each action of a list, as lists.
+--     own_previous actions k      the number of the last action before k of the same instance, and 0 where there is none
+--     waits_on_others actions k      the numbers that action k waits for, without its instance's previous action
+--     WaitLists, AreWaits actions w      both kinds of lists for all actions, from number 1 on
+--     list_of lists k      the list of action k
+--     IfLoose result P, IsFirstLoose u actions k      the number in the fault;  the first action that is not steadfast
+use Rattle.std.specs.Prelude.{◌≡◌, ◌<◌, ℕ, ◌-◌, ◌==◌, not, List, [], map, IsTrue, IsFalse, Result, Ok, Err, ⊤}
+use Rattle.std.specs.List.{filter, slice_index_or}
+use Rattle.std.specs.Option.{option_map_or}
+use Rattle.metis_ids.specs.Action.{actor_of}
+use Rattle.metis_ids.specs.declared.actions.Action.{Action}
+use Rattle.metis_universe.specs.Steadfast.{is_steadfast_at}
+use Rattle.metis_universe.specs.Universe.{Universe}
+use Rattle.metis_universe.specs.Waits.{action_at, before, last_number, numbers, waits}
+use Rattle.metis_waits.specs.declared.fault.WFault.{WFault}
+use Rattle.metis_waits.specs.declared.fault.WFault.TheVariants as fault
+
+abbrev pub own_previous : List Action → ℕ → ℕ
+own_previous actions k = option_map_or (λ a. last_number (λ b. actor_of b == actor_of a) (before k actions)) (action_at actions k) 0
+
+abbrev pub waits_on_others : List Action → ℕ → List ℕ
+waits_on_others actions k = filter (λ m. not (m == own_previous actions k)) (waits actions k)
+
+pub record WaitLists : Type 0 where
+  pub each : List (List ℕ)
+  pub others : List (List ℕ)
+
+pub record AreWaits (actions : List Action) (w : WaitLists) : Type 0 where
+  pub each : w.each ≡ map (waits actions) (numbers actions)
+  pub others : w.others ≡ map (waits_on_others actions) (numbers actions)
+
+abbrev pub list_of : List (List ℕ) → ℕ → List ℕ
+list_of lists k = slice_index_or lists (k - 1) []
+
+abbrev pub IfLoose : {A : Type 0} → Result A WFault → (ℕ → Type 0) → Type 0
+IfLoose (Ok w) P = ⊤
+IfLoose (Err (fault.Loose k)) P = P k
+IfLoose (Err fault.NoMemory) P = ⊤
+
+pub record IsFirstLoose (u : Universe) (actions : List Action) (k : ℕ) : Type 0 where
+  pub loose : IsFalse (is_steadfast_at u actions k)
+  pub before : (j : ℕ) → j < k → IsTrue (is_steadfast_at u actions j)

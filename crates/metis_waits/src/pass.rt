@@ -1,0 +1,53 @@
+//! One pass over a list of actions.
+ghost use Rattle.std.specs.Prelude.{◌≡◌, ◌<◌, ◌-◌, ◌^◌, ◌==◌, IfOk, IsTrue, length, not};
+ghost use Rattle.std.specs.List.{All, filter};
+ghost use Rattle.metis_universe.specs.Numbers.{IsOf};
+ghost use Rattle.metis_universe.specs.Steadfast.{is_steadfast};
+ghost use Rattle.metis_waits.specs.Waits.{AreWaits, IfLoose, IsFirstLoose};
+
+use crate::fault::WFault;
+use crate::rows::Row;
+use crate::state::State;
+use crate::wait_lists::Waits;
+use metis_ids::{Action, NoMemory};
+use metis_universe::Universe;
+use std::alloc::Global;
+
+/// What each action of the list waits for, where the list is steadfast; else the first action that is not.
+/// The actions are numbered from 1.
+pub fn waits(alloc: Global, u: &Universe, actions: &[Action]) -> Result<Waits, WFault>
+    requires numbers { All (IsOf u.now) actions.now }
+    requires few { length actions.now < 2 ^ 32 - 1 }
+    ensures waits { IfOk result (λ w. AreWaits actions.now w) }
+    ensures steadfast { IfOk result (λ _. IsTrue (is_steadfast u.now actions.now)) }
+    ensures loose { IfLoose result (IsFirstLoose u.now actions.now) }
+{
+    let mut state = State::new(alloc, u);
+    let mut each = Vec::new(alloc);
+    let mut others = Vec::new(alloc);
+    for (index, action) in actions.iter().enumerate() {
+        let earlier = &actions[..index];
+        if !state.is_steadfast(u, earlier, action) {
+            return Err(WFault::Loose(index as u32 + 1));
+        }
+        let numbers = state.waits_of(alloc, u, earlier, action)?;
+        let previous = state.own_previous(u, earlier, action);
+        others.push(without(alloc, &numbers, previous)?)?;
+        each.push(Row { numbers })?;
+        state.add(alloc, u, earlier, action)?;
+    }
+    Ok(Waits::new(each, others))
+}
+
+// The other numbers.
+fn without(alloc: Global, numbers: &[u32], left_out: u32) -> Result<Row, NoMemory>
+    ensures { IfOk result (λ row. row ≡ filter (λ m. not (m == left_out)) numbers.now) }
+{
+    Ok(Row {
+        numbers: numbers
+            .iter()
+            .copied()
+            .filter(|number| *number != left_out)
+            .collect(alloc)?,
+    })
+}

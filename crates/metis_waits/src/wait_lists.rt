@@ -1,0 +1,54 @@
+//! The waits of all actions of a list.
+ghost use Rattle.std.specs.Prelude.{◌≡◌, ◌≤◌, length};
+ghost use Rattle.metis_waits.specs.Waits.{list_of};
+
+use crate::rows::Row;
+use std::marker::Model;
+
+/// For each action of a list the numbers of those that it waits for.
+#[derive(Drop)]
+pub struct Waits {
+    each: Vec<Row>,
+    others: Vec<Row>,
+}
+
+impl Model for Waits {
+    ghost use Rattle.std.specs.Prelude.{◌≡◌, length};
+    ghost use Rattle.metis_waits.specs.Waits.{WaitLists};
+
+    ghost Value = { WaitLists };
+
+    ghost view = { λ w. record { each = w.each.items; others = w.others.items } };
+
+    ghost invariant = { λ w. length w.others.items ≡ length w.each.items };
+}
+
+impl Waits {
+    /// As many lists of others as there are lists.
+    pub(crate) fn new(each: Vec<Row>, others: Vec<Row>) -> Waits
+        requires { length others.items ≡ length each.items }
+        ensures { result ≡ record { each = each.items; others = others.items } }
+    {
+        Waits { each, others }
+    }
+
+    /// The numbers that action k waits for, ascending.
+    pub fn of(&self, k: u32) -> &[u32]
+        requires first { 1 ≤ k }
+        requires last { k ≤ length self.now.each }
+        ensures { result.now ≡ list_of self.now.each k }
+    {
+        let row = &self.each[k as usize - 1];
+        row.numbers.as_slice()
+    }
+
+    /// The same without the previous action of the action's own instance.
+    pub fn after(&self, k: u32) -> &[u32]
+        requires first { 1 ≤ k }
+        requires last { k ≤ length self.now.each }
+        ensures { result.now ≡ list_of self.now.others k }
+    {
+        let row = &self.others[k as usize - 1];
+        row.numbers.as_slice()
+    }
+}
