@@ -1,3 +1,4 @@
+pub mod Examples
 pub mod Freed
 pub mod Gathered
 pub mod Kept
