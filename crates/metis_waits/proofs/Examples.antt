@@ -1,7 +1,7 @@
 -- The waits of small lists.
-use Rattle.std.proofs.Common.{◌≡◌, ℕ, List, [], ◌∷◌, map, refl}
+use Rattle.std.proofs.Common.{◌≡◌, List, [], ◌∷◌, map, refl}
 use Rattle.metis_ids.specs.declared.actions.Action.{Action}
-use Rattle.metis_ids.specs.declared.actions.Action.TheVariants.{New, Delete, Bind, Unbind, Move}
+use Rattle.metis_ids.specs.declared.actions.Action.TheVariants.{New, Delete, Bind, Move}
 use Rattle.metis_universe.specs.Waits.{numbers, waits}
 use Rattle.metis_waits.specs.Waits.{own_previous, waits_on_others}
 

@@ -2,8 +2,11 @@ pub mod Examples
 pub mod Freed
 pub mod Gathered
 pub mod Kept
+pub mod Noted
 pub mod Pairs
 pub mod Passed
 pub mod Placed
 pub mod Pushed
+pub mod Rests
 pub mod Risen
+pub mod Tied

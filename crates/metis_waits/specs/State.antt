@@ -17,6 +17,7 @@ use Rattle.metis_universe.specs.Steadfast.{is_new, pair_after}
 use Rattle.metis_universe.specs.Step.{after_all}
 use Rattle.metis_universe.specs.Universe.{Universe, has, pair_count}
 use Rattle.metis_universe.specs.Waits.{action_at, before, enters, last_number, releases, standing}
+use Rattle.metis_waits.specs.Ties.{AreTies}
 use Rattle.metis_waits.specs.declared.state.State.{State}
 
 abbrev pub number_at : List (ℕ × ℕ) → ℕ → ℕ
@@ -54,5 +55,5 @@ pub record IsState (u : Universe) (earlier : List Action) (s : State) : Type 0 w
   pub entered : AreLasts enters earlier s.entered.entries
   pub places : ArePlaces u earlier s.places.entries
   pub made : AreMade earlier s.made.keys
-  pub bindings : s.bindings.keys ≡ standing earlier
+  pub ties : AreTies (standing earlier) s.ties
   pub releases : AreReleases earlier s.releases.keys

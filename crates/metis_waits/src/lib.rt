@@ -5,6 +5,7 @@ mod fault;
 mod marks;
 mod pass;
 mod places;
+mod releases;
 mod rows;
 mod state;
 mod ties;
