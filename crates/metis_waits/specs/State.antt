@@ -3,7 +3,8 @@
 --     is_by z a      whether the instance does the action
 --     AreLasts p earlier entries      for each instance z the number of the last action that passes p z
 --     IsEntering a o      the instance that the action puts into a pair
---     released y earlier m, has_pair pairs y m      whether action m ended a binding to y on the requirer's side;  whether y and m are among the pairs
+--     AreMade earlier zs      the instances that the actions made
+--     released y earlier m, AreReleases, has_pair pairs y m      whether action m ended a binding to y on the requirer's side;  the pairs of such y and m;  whether y and m are among them
 --     ArePlaces u earlier entries      the pair of each instance after these actions
 --     IsState u earlier s      the state after these actions
 use Rattle.std.specs.Prelude.{◌≡◌, ℕ, ◌<◌, ◌==◌, Bool, false, ◌&&◌, List, Option, Some}
