@@ -103,7 +103,7 @@ tied_in a b c ks ks' is x y z = ap (list_any (is_tie x y z)) is ∙ is_bound-tie
 at_tie : (a b c x y z : ℕ) → is_eq (ordering_then (ordering_then (nat_cmp a x) (nat_cmp b y)) (nat_cmp c z)) ≡ ((nat_eq x a && nat_eq y b) && nat_eq z c)
 at_tie a b c x y z = grind (arith, nat_tests)
 
-has_tie : (x y z : ℕ) (ks : List Binding) → list_any (is_at (binding_cmp (x, y, z))) ks ≡ list_any (is_tie x y z) ks
+pub has_tie : (x y z : ℕ) (ks : List Binding) → list_any (is_at (binding_cmp (x, y, z))) ks ≡ list_any (is_tie x y z) ks
 has_tie x y z [] = refl
 has_tie x y z (k ∷ ks) = λ i. at_tie x y z k.0 k.1 k.2 i || has_tie x y z ks i
 
