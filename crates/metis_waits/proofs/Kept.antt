@@ -14,7 +14,6 @@ use Rattle.metis_universe.proofs.Edits.{pair_of-put}
 use Rattle.metis_universe.specs.Config.{config_of}
 use Rattle.metis_universe.specs.Steadfast.{is_new}
 use Rattle.metis_universe.specs.Universe.{has}
-use Rattle.metis_universe.specs.Waits.{last_number}
 use Rattle.metis_waits.proofs.Pushed.{last_pushed}
 use Rattle.metis_waits.specs.State.{AreLasts, AreMade, number_at}
 

@@ -1,8 +1,12 @@
+pub mod Examples
 pub mod Freed
 pub mod Gathered
 pub mod Kept
+pub mod Noted
 pub mod Pairs
 pub mod Passed
 pub mod Placed
 pub mod Pushed
+pub mod Rests
 pub mod Risen
+pub mod Tied

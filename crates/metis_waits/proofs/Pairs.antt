@@ -1,19 +1,19 @@
 -- Sets of pairs of numbers: an instance and the number of an action.
-use Rattle.std.proofs.Common.{◌≡◌, ℕ, ◌+◌, ◌<◌, Bool, true, false, cond, ◌&&◌, ◌||◌, List, [], ◌∷◌, length, take, get_or, refl, sym, ap, ◌∙◌, arith, nat_eq, nat_lt, nat_cmp}
+use Rattle.std.proofs.Common.{◌≡◌, ℕ, ◌+◌, ◌<◌, Bool, true, false, ◌&&◌, ◌||◌, List, ◌∷◌, length, take, get_or, refl, sym, ap, ◌∙◌, arith, nat_eq, nat_lt, nat_cmp}
+use Rattle.std.proofs.lemmas.Bool.{and_left}
 use Rattle.std.proofs.lemmas.Bool.Decides.{nat_tests}
 use Rattle.std.proofs.lemmas.List.Folds.{list_any_more}
-use Rattle.std.proofs.lemmas.List.Kept.{IsStrictlySortedBy-filter}
 use Rattle.std.proofs.lemmas.Map.Views.{any-filter_same}
 use Rattle.std.specs.BTreeSet.{insert_key}
-use Rattle.std.specs.List.{AllByRecursion, filter, list_any}
-use Rattle.std.specs.List.Sorted.{IsStrictlySortedBy}
-use Rattle.std.specs.Ordering.{is_le, ordering_then}
+use Rattle.std.specs.List.{filter, list_any}
+use Rattle.std.specs.Ordering.{ordering_then}
 use Rattle.std.specs.declared.cmp.Ordering.{Ordering}
 use Rattle.std.specs.declared.cmp.Ordering.TheVariants.{Less, Equal}
 use Rattle.metis_universe.proofs.Ascending.{has-insert_key}
 use Rattle.metis_universe.specs.Universe.{has}
 use Rattle.metis_universe.proofs.Edits.{any-insert_key}
 use Rattle.metis_universe.specs.Config.{Binding}
+use Rattle.metis_waits.proofs.Rests.{IsRest, any_none, is_from, no_more}
 use Rattle.metis_waits.specs.State.{has_pair}
 
 abbrev pub pair_cmp : ℕ × ℕ → ℕ × ℕ → Ordering
@@ -32,13 +32,13 @@ flip : (a b : ℕ) → nat_eq a b ≡ nat_eq b a
 flip a b = grind (arith, nat_tests)
 
 -- one more binding, whose provider is noted with the number
-pub noted_more : (ties : List Binding) (i n : ℕ) (b : Binding) (first ps ps' : List (ℕ × ℕ)) → i < length ties → b ≡ get_or ties i b → ps' ≡ insert_key pair_cmp ps (b.2, n) →
-    ((y m : ℕ) → has_pair ps y m ≡ ((nat_eq m n && list_any (λ t. nat_eq t.2 y) (take i ties)) || has_pair first y m)) →
-    (y m : ℕ) → has_pair ps' y m ≡ ((nat_eq m n && list_any (λ t. nat_eq t.2 y) (take (i + 1) ties)) || has_pair first y m)
+pub noted_more : (ties : List Binding) (i n : ℕ) (b : Binding) (first ps ps' : List (ℕ × ℕ)) → i < length ties → b ≡ get_or ties i b → ps' ≡ insert_key pair_cmp ps (b.1, n) →
+    ((y m : ℕ) → has_pair ps y m ≡ ((nat_eq m n && list_any (λ t. nat_eq t.1 y) (take i ties)) || has_pair first y m)) →
+    (y m : ℕ) → has_pair ps' y m ≡ ((nat_eq m n && list_any (λ t. nat_eq t.1 y) (take (i + 1) ties)) || has_pair first y m)
 noted_more ties i n b first ps ps' low at is old y m =
-    pair_put ps ps' b.2 n y m is ∙ (λ i. (nat_eq b.2 y && flip n m i) || old y m i)
-    ∙ mix (nat_eq b.2 y) (nat_eq m n) (list_any (λ (t : Binding). nat_eq t.2 y) (take i ties)) (has_pair first y m)
-    ∙ ap (λ v. (nat_eq m n && v) || has_pair first y m) (ap (λ (t : Binding). list_any (λ (t : Binding). nat_eq t.2 y) (take i ties) || nat_eq t.2 y) at ∙ sym (list_any_more (λ (t : Binding). nat_eq t.2 y) ties i b low)) where
+    pair_put ps ps' b.1 n y m is ∙ (λ i. (nat_eq b.1 y && flip n m i) || old y m i)
+    ∙ mix (nat_eq b.1 y) (nat_eq m n) (list_any (λ (t : Binding). nat_eq t.1 y) (take i ties)) (has_pair first y m)
+    ∙ ap (λ v. (nat_eq m n && v) || has_pair first y m) (ap (λ (t : Binding). list_any (λ (t : Binding). nat_eq t.1 y) (take i ties) || nat_eq t.1 y) at ∙ sym (list_any_more (λ (t : Binding). nat_eq t.1 y) ties i b low)) where
       mix : (h e l f : Bool) → ((h && e) || ((e && l) || f)) ≡ ((e && (l || h)) || f)
       mix true true true f = refl
       mix true true false f = refl
@@ -47,47 +47,20 @@ noted_more ties i n b first ps ps' low at is old y m =
       mix false true false f = refl
       mix false false l f = refl
 
--- ---- the pairs from a start on
-
-abbrev pub is_from : ℕ × ℕ → ℕ × ℕ → Bool
-is_from start p = is_le (pair_cmp start p) && true
-
--- in order, and none earlier than the start
-pub record IsRest (start : ℕ × ℕ) (ps : List (ℕ × ℕ)) : Type 0 where
-  pub in_order : IsStrictlySortedBy pair_cmp ps
-  pub from : AllByRecursion (λ p. is_from start p ≡ true) ps
-
-each_from : (start : ℕ × ℕ) (ps : List (ℕ × ℕ)) → AllByRecursion (λ p. is_from start p ≡ true) (filter (is_from start) ps)
-each_from start [] = tt
-each_from start (p ∷ ps) =
-    elim (is_from start p) as (λ b. is_from start p ≡ b → AllByRecursion (λ p. is_from start p ≡ true) (cond b (p ∷ filter (is_from start) ps) (filter (is_from start) ps))) [
-      | true ↦ λ at. (at, each_from start ps)
-      | false ↦ λ _. each_from start ps
-    ] refl
-
-pub IsRest-filter : (start : ℕ × ℕ) (ps : List (ℕ × ℕ)) → IsStrictlySortedBy pair_cmp ps → IsRest start (filter (is_from start) ps)
-IsRest-filter start ps s = record { in_order = IsStrictlySortedBy-filter pair_cmp (is_from start) ps s; from = each_from start ps }
-
-pub IsRest-tail : (start p : ℕ × ℕ) (ps : List (ℕ × ℕ)) → IsRest start (p ∷ ps) → IsRest start ps
-unfolding IsStrictlySortedBy
-IsRest-tail start p ps k = record { in_order = k.in_order.1; from = k.from.1 }
-
 -- of one instance, what comes from a number on has a greater number
-pub rest_has : (y e m : ℕ) (ps : List (ℕ × ℕ)) → has_pair (filter (is_from (y, e + 1)) ps) y m ≡ (nat_lt e m && has_pair ps y m)
-rest_has y e m ps = any-filter_same (λ p. nat_eq p.0 y && nat_eq p.1 m) (is_from (y, e + 1)) (nat_lt e m) (λ p h. from p.0 p.1 h) ps where
-  from : (a b : ℕ) → (nat_eq a y && nat_eq b m) ≡ true → is_from (y, e + 1) (a, b) ≡ nat_lt e m
+pub rest_has : (y e m : ℕ) (ps : List (ℕ × ℕ)) → has_pair (filter (is_from pair_cmp (y, e + 1)) ps) y m ≡ (nat_lt e m && has_pair ps y m)
+rest_has y e m ps = any-filter_same (λ p. nat_eq p.0 y && nat_eq p.1 m) (is_from pair_cmp (y, e + 1)) (nat_lt e m) (λ p h. from p.0 p.1 h) ps where
+  from : (a b : ℕ) → (nat_eq a y && nat_eq b m) ≡ true → is_from pair_cmp (y, e + 1) (a, b) ≡ nat_lt e m
   from a b h = grind (arith, nat_tests)
 
-past : (y e a b c d : ℕ) → is_from (y, e) (a, b) ≡ true → nat_eq a y ≡ false → pair_cmp (a, b) (c, d) ≡ Less → nat_eq c y ≡ false
+past : (y e a b c d : ℕ) → is_from pair_cmp (y, e) (a, b) ≡ true → nat_eq a y ≡ false → pair_cmp (a, b) (c, d) ≡ Less → nat_eq c y ≡ false
 past y e a b c d h n l = grind (arith, nat_tests)
 
 -- after the first of another instance there is none of this
-pub none_after : (y e m : ℕ) (p : ℕ × ℕ) (ps : List (ℕ × ℕ)) → IsRest (y, e) (p ∷ ps) → nat_eq p.0 y ≡ false → has_pair (p ∷ ps) y m ≡ false
-unfolding IsStrictlySortedBy
-none_after y e m p ps k other = λ i. (other i && nat_eq p.1 m) || later ps k.in_order.0 i where
-  later : (qs : List (ℕ × ℕ)) → AllByRecursion (λ q. pair_cmp p q ≡ Less) qs → has_pair qs y m ≡ false
-  later [] all = refl
-  later (q ∷ qs) all = λ i. (past y e p.0 p.1 q.0 q.1 k.from.0 other all.0 i && nat_eq q.1 m) || later qs all.1 i
+pub none_after : (y e m : ℕ) (p : ℕ × ℕ) (ps : List (ℕ × ℕ)) → IsRest pair_cmp (y, e) (p ∷ ps) → nat_eq p.0 y ≡ false → has_pair (p ∷ ps) y m ≡ false
+none_after y e m p ps rest other =
+    let none = no_more pair_cmp (y, e) (λ q. nat_eq q.0 y) (λ a b h n l. past y e a.0 a.1 b.0 b.1 h n l) p ps rest other in
+    any_none (λ q. nat_eq q.0 y) (λ q. nat_eq q.0 y && nat_eq q.1 m) (λ q n. and_left _ _ n) (p ∷ ps) none
 
 -- the first pair's number goes into a set of numbers
 pub taken : (y m : ℕ) (p : ℕ × ℕ) (ps : List (ℕ × ℕ)) (ks ks' : List ℕ) → nat_eq p.0 y ≡ true → ks' ≡ insert_key nat_cmp ks p.1 → (has_pair ps y m || has ks' m) ≡ (has_pair (p ∷ ps) y m || has ks m)

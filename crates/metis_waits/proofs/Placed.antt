@@ -7,37 +7,19 @@ use Rattle.std.specs.List.Sorted.{IsStrictlySortedBy}
 use Rattle.std.specs.Map.{keys_of, remove_entry}
 use Rattle.metis_ids.specs.declared.actions.Action.{Action}
 use Rattle.metis_ids.specs.declared.actions.Action.TheVariants.{New, Delete, Bind, Unbind, Move}
-use Rattle.metis_universe.proofs.Edits.{binding_cmp_total, pair_of-put, pair_of-remove}
+use Rattle.metis_universe.proofs.Edits.{pair_of-put, pair_of-remove}
 use Rattle.metis_universe.proofs.Sorted.{IsStrictlySortedBy-insert_key, keys_of-filter, keys_of-insert_entry, remove_entry-numbers}
-use Rattle.metis_universe.specs.Config.{Binding, Config, binding_cmp, empty, is_tie, names, pair_of, put}
+use Rattle.metis_universe.specs.Config.{Config, empty, pair_of, put}
 use Rattle.metis_universe.specs.Step.{after, after_all}
 use Rattle.metis_universe.specs.Universe.{Universe, initial_of, pair_count}
-use Rattle.metis_universe.specs.Waits.{bindings_after, standing, standing_from}
 use Rattle.metis_waits.proofs.Pushed.{after_pushed}
 use Rattle.metis_waits.specs.State.{ArePlaces}
 
 -- ---- what is in order
 
-no_bindings : IsStrictlySortedBy binding_cmp []
-unfolding IsStrictlySortedBy
-no_bindings = tt
-
 no_places : IsStrictlySortedBy nat_cmp []
 unfolding IsStrictlySortedBy
 no_places = tt
-
-pub standing_sorted : (xs : List Action) → IsStrictlySortedBy binding_cmp (standing xs)
-standing_sorted xs = from [] xs no_bindings where
-  one : (bs : List Binding) (a : Action) → IsStrictlySortedBy binding_cmp bs → IsStrictlySortedBy binding_cmp (bindings_after bs a)
-  one bs (New z t) s = s
-  one bs (Delete z) s = IsStrictlySortedBy-filter binding_cmp (λ b. not (names z b)) bs s
-  one bs (Bind r z y) s = IsStrictlySortedBy-insert_key binding_cmp_total bs (r, z, y) s
-  one bs (Unbind r z y) s = IsStrictlySortedBy-filter binding_cmp (λ b. not (is_tie r z y b)) bs s
-  one bs (Move z p q) s = s
-
-  from : (bs : List Binding) (xs : List Action) → IsStrictlySortedBy binding_cmp bs → IsStrictlySortedBy binding_cmp (standing_from bs xs)
-  from bs [] s = s
-  from bs (a ∷ xs) s = from (bindings_after bs a) xs (one bs a s)
 
 module _ (u : Universe) where
   places_sorted : (xs : List Action) → IsStrictlySortedBy nat_cmp (keys_of (after_all u empty xs).instances)

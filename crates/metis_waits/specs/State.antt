@@ -3,7 +3,8 @@
 --     is_by z a      whether the instance does the action
 --     AreLasts p earlier entries      for each instance z the number of the last action that passes p z
 --     IsEntering a o      the instance that the action puts into a pair
---     released y earlier m, has_pair pairs y m      whether action m ended a binding to y on the requirer's side;  whether y and m are among the pairs
+--     AreMade earlier zs      the instances that the actions made
+--     released y earlier m, AreReleases, has_pair pairs y m      whether action m ended a binding to y on the requirer's side;  the pairs of such y and m;  whether y and m are among them
 --     ArePlaces u earlier entries      the pair of each instance after these actions
 --     IsState u earlier s      the state after these actions
 use Rattle.std.specs.Prelude.{◌≡◌, ℕ, ◌<◌, ◌==◌, Bool, false, ◌&&◌, List, Option, Some}
@@ -17,6 +18,7 @@ use Rattle.metis_universe.specs.Steadfast.{is_new, pair_after}
 use Rattle.metis_universe.specs.Step.{after_all}
 use Rattle.metis_universe.specs.Universe.{Universe, has, pair_count}
 use Rattle.metis_universe.specs.Waits.{action_at, before, enters, last_number, releases, standing}
+use Rattle.metis_waits.specs.Ties.{AreTies}
 use Rattle.metis_waits.specs.declared.state.State.{State}
 
 abbrev pub number_at : List (ℕ × ℕ) → ℕ → ℕ
@@ -54,5 +56,5 @@ pub record IsState (u : Universe) (earlier : List Action) (s : State) : Type 0 w
   pub entered : AreLasts enters earlier s.entered.entries
   pub places : ArePlaces u earlier s.places.entries
   pub made : AreMade earlier s.made.keys
-  pub bindings : s.bindings.keys ≡ standing earlier
+  pub ties : AreTies (standing earlier) s.ties
   pub releases : AreReleases earlier s.releases.keys

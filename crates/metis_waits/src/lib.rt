@@ -5,6 +5,7 @@ mod fault;
 mod marks;
 mod pass;
 mod places;
+mod releases;
 mod rows;
 mod state;
 mod ties;
@@ -13,3 +14,6 @@ mod wait_lists;
 pub use fault::WFault;
 pub use pass::waits;
 pub use wait_lists::Waits;
+
+#[cfg(test)]
+mod tests;

@@ -1,5 +1,5 @@
 //! What is kept of the actions so far.
-ghost use Rattle.std.specs.Prelude.{◌≡◌, ◌<◌, ℕ, ◌-◌, ◌^◌, ◌==◌, ◌++◌, ◌∷◌, ◌&&◌, ◌||◌, [], IfOk, OnOk, length, nat_lt};
+ghost use Rattle.std.specs.Prelude.{◌≡◌, ◌<◌, ℕ, ◌-◌, ◌^◌, ◌==◌, ◌++◌, ◌∷◌, ◌&&◌, ◌||◌, [], IfOk, IsTrue, OnOk, length, nat_lt};
 ghost use Rattle.metis_universe.specs.Universe.{has};
 ghost use Rattle.std.specs.List.{filter};
 ghost use Rattle.std.specs.List.Sorted.{IsStrictlySortedBy};
@@ -12,8 +12,9 @@ ghost use Rattle.metis_waits.specs.State.{IsState, is_by};
 
 use crate::marks::{is_made, note_entry, note_last, note_made, number_at};
 use crate::places::{gives, note_place};
-use crate::ties::{add_released, is_serving, note_binding, note_releases};
-use metis_ids::{Action, InstNo, NoMemory, PairIx, PortIx};
+use crate::releases::{add_released, note_releases};
+use crate::ties::Ties;
+use metis_ids::{Action, InstNo, NoMemory, PairIx};
 use metis_universe::Universe;
 use std::alloc::Global;
 use std::collections::{BTreeMap, BTreeSet};
@@ -30,7 +31,7 @@ pub struct State {
     /// The instances that were made.
     made: BTreeSet<InstNo>,
     /// The bindings that stand.
-    bindings: BTreeSet<(PortIx, InstNo, InstNo)>,
+    ties: Ties,
     /// The providers with the actions that ended a binding to them on the requirer's side.
     releases: BTreeSet<(InstNo, u32)>,
 }
@@ -45,7 +46,7 @@ impl State {
             entered: BTreeMap::new(alloc),
             places: BTreeMap::new(alloc),
             made: BTreeSet::new(alloc),
-            bindings: BTreeSet::new(alloc),
+            ties: Ties::new(alloc),
             releases: BTreeSet::new(alloc),
         }
     }
@@ -59,10 +60,8 @@ impl State {
             Action::New { inst, .. } => !is_made(&self.made, inst),
             Action::Bind { port, to, .. } => gives(u, &self.places, earlier, to, port),
             Action::Unbind { .. } => true,
-            Action::Delete { inst } | Action::Move { inst, .. } => !is_serving(
-                &self.bindings,
-                inst,
-            ),
+            Action::Delete { inst } => !self.ties.is_serving(inst),
+            Action::Move { inst, .. } => !self.ties.is_serving(inst),
         }
     }
 
@@ -76,6 +75,7 @@ impl State {
     ) -> Result<(), NoMemory>
         requires few { length earlier.now < 2 ^ 32 - 1 }
         requires number { IsOf u.now action.now }
+        requires steadfast { IsTrue (is_steadfast_after u.now earlier.now action.now) }
         requires state { IsState u.now earlier.now self.old }
         ensures { OnOk result (IsState u.now (earlier.now ++ action.now ∷ []) self.new) }
     {
@@ -83,8 +83,8 @@ impl State {
         note_entry(&mut self.entered, earlier, action)?;
         note_place(&mut self.places, u, earlier, action)?;
         note_made(&mut self.made, earlier, action)?;
-        note_releases(alloc, &mut self.releases, &self.bindings, earlier, action)?;
-        note_binding(&mut self.bindings, earlier, action)
+        note_releases(alloc, &mut self.releases, &self.ties, earlier, action)?;
+        self.ties.note(alloc, u, earlier, action)
     }
 
     /// The last action of the instance that does the action.

@@ -32,6 +32,13 @@ impl Waits {
         Waits { each, others }
     }
 
+    /// How many actions there are.
+    pub fn count(&self) -> usize
+        ensures { result ≡ length self.now.each }
+    {
+        self.each.len()
+    }
+
     /// The numbers that action k waits for, ascending.
     pub fn of(&self, k: u32) -> &[u32]
         requires first { 1 ≤ k }

@@ -9,25 +9,38 @@ use Rattle.metis_waits.proofs.state.State.gather.Goals as goal
 
 pub returns-in_ok-add_number-in-Bind : goal.returns-in_ok-add_number-in-Bind
 returns-in_ok-add_number-in-Bind c =
-    subst (λ (a : Action). (m : ℕ) → has c.add_number-in-Bind.new.numbers.keys m ≡ (is_wait c.args.earlier.now a m && has (numbers c.args.earlier.now) m)) (sym c.in-Bind.is)
-    (own_and_entry c.args.earlier.now c.in-Bind.inst c.own_previous.result c.args.waits.now.keys c.add_number.new.numbers.keys c.requires.none (c.own_previous.ensures ∙ ap (λ (a : Action). last_number (is_by (actor_of a)) c.args.earlier.now) c.in-Bind.is) c.in_ok-add_number.ensures c.in-Bind.to c.number_at.result c.add_number-in-Bind.new.numbers.keys (c.number_at.ensures ∙ c.requires.state.entered c.in-Bind.to) c.in_ok-add_number-in-Bind.ensures)
+    let earlier = c.args.earlier.now in
+    let own = c.own_previous.ensures ∙ ap (λ (a : Action). last_number (is_by (actor_of a)) earlier) c.in-Bind.is in
+    subst (λ (a : Action). (m : ℕ) → has c.add_number-in-Bind.new.numbers.keys m ≡ (is_wait earlier a m && has (numbers earlier) m)) (sym c.in-Bind.is)
+    (own_and_entry earlier c.in-Bind.inst c.own_previous.result c.args.waits.now.keys c.add_number.new.numbers.keys c.requires.none own c.in_ok-add_number.ensures
+    c.in-Bind.to c.number_at.result c.add_number-in-Bind.new.numbers.keys (c.number_at.ensures ∙ c.requires.state.entered c.in-Bind.to) c.in_ok-add_number-in-Bind.ensures)
 
 pub returns-in_ok-gather_releases-in-Delete : goal.returns-in_ok-gather_releases-in-Delete
 returns-in_ok-gather_releases-in-Delete c =
-    subst (λ (a : Action). (m : ℕ) → has c.gather_releases.new.waits.keys m ≡ (is_wait c.args.earlier.now a m && has (numbers c.args.earlier.now) m)) (sym c.in-Delete.is)
-    (own_and_releases c.args.earlier.now c.in-Delete.inst c.own_previous.result c.args.waits.now.keys c.add_number.new.numbers.keys c.requires.none (c.own_previous.ensures ∙ ap (λ (a : Action). last_number (is_by (actor_of a)) c.args.earlier.now) c.in-Delete.is) c.in_ok-add_number.ensures c.in-Delete.inst c.gather_releases.new.waits.keys c.in_ok-gather_releases-in-Delete.ensures)
+    let earlier = c.args.earlier.now in
+    let own = c.own_previous.ensures ∙ ap (λ (a : Action). last_number (is_by (actor_of a)) earlier) c.in-Delete.is in
+    subst (λ (a : Action). (m : ℕ) → has c.gather_releases.new.waits.keys m ≡ (is_wait earlier a m && has (numbers earlier) m)) (sym c.in-Delete.is)
+    (own_and_releases earlier c.in-Delete.inst c.own_previous.result c.args.waits.now.keys c.add_number.new.numbers.keys c.requires.none own c.in_ok-add_number.ensures
+    c.in-Delete.inst c.gather_releases.new.waits.keys c.in_ok-gather_releases-in-Delete.ensures)
 
 pub returns-in_ok-gather_releases-in-Move : goal.returns-in_ok-gather_releases-in-Move
 returns-in_ok-gather_releases-in-Move c =
-    subst (λ (a : Action). (m : ℕ) → has c.gather_releases-in-Move.new.waits.keys m ≡ (is_wait c.args.earlier.now a m && has (numbers c.args.earlier.now) m)) (sym c.in-Move.is)
-    (own_and_releases c.args.earlier.now c.in-Move.inst c.own_previous.result c.args.waits.now.keys c.add_number.new.numbers.keys c.requires.none (c.own_previous.ensures ∙ ap (λ (a : Action). last_number (is_by (actor_of a)) c.args.earlier.now) c.in-Move.is) c.in_ok-add_number.ensures c.in-Move.inst c.gather_releases-in-Move.new.waits.keys c.in_ok-gather_releases-in-Move.ensures)
+    let earlier = c.args.earlier.now in
+    let own = c.own_previous.ensures ∙ ap (λ (a : Action). last_number (is_by (actor_of a)) earlier) c.in-Move.is in
+    subst (λ (a : Action). (m : ℕ) → has c.gather_releases-in-Move.new.waits.keys m ≡ (is_wait earlier a m && has (numbers earlier) m)) (sym c.in-Move.is)
+    (own_and_releases earlier c.in-Move.inst c.own_previous.result c.args.waits.now.keys c.add_number.new.numbers.keys c.requires.none own c.in_ok-add_number.ensures
+    c.in-Move.inst c.gather_releases-in-Move.new.waits.keys c.in_ok-gather_releases-in-Move.ensures)
 
 pub returns-in-New : goal.returns-in-New
 returns-in-New c =
-    subst (λ (a : Action). (m : ℕ) → has c.add_number.new.numbers.keys m ≡ (is_wait c.args.earlier.now a m && has (numbers c.args.earlier.now) m)) (sym c.in-New.is)
-    (own_alone c.args.earlier.now c.in-New.inst c.own_previous.result c.args.waits.now.keys c.add_number.new.numbers.keys c.requires.none (c.own_previous.ensures ∙ ap (λ (a : Action). last_number (is_by (actor_of a)) c.args.earlier.now) c.in-New.is) c.in_ok-add_number.ensures)
+    let earlier = c.args.earlier.now in
+    let own = c.own_previous.ensures ∙ ap (λ (a : Action). last_number (is_by (actor_of a)) earlier) c.in-New.is in
+    subst (λ (a : Action). (m : ℕ) → has c.add_number.new.numbers.keys m ≡ (is_wait earlier a m && has (numbers earlier) m)) (sym c.in-New.is)
+    (own_alone earlier c.in-New.inst c.own_previous.result c.args.waits.now.keys c.add_number.new.numbers.keys c.requires.none own c.in_ok-add_number.ensures)
 
 pub returns-in-Unbind : goal.returns-in-Unbind
 returns-in-Unbind c =
-    subst (λ (a : Action). (m : ℕ) → has c.add_number.new.numbers.keys m ≡ (is_wait c.args.earlier.now a m && has (numbers c.args.earlier.now) m)) (sym c.in-Unbind.is)
-    (own_alone c.args.earlier.now c.in-Unbind.inst c.own_previous.result c.args.waits.now.keys c.add_number.new.numbers.keys c.requires.none (c.own_previous.ensures ∙ ap (λ (a : Action). last_number (is_by (actor_of a)) c.args.earlier.now) c.in-Unbind.is) c.in_ok-add_number.ensures)
+    let earlier = c.args.earlier.now in
+    let own = c.own_previous.ensures ∙ ap (λ (a : Action). last_number (is_by (actor_of a)) earlier) c.in-Unbind.is in
+    subst (λ (a : Action). (m : ℕ) → has c.add_number.new.numbers.keys m ≡ (is_wait earlier a m && has (numbers earlier) m)) (sym c.in-Unbind.is)
+    (own_alone earlier c.in-Unbind.inst c.own_previous.result c.args.waits.now.keys c.add_number.new.numbers.keys c.requires.none own c.in_ok-add_number.ensures)

@@ -1,5 +1,5 @@
 use Rattle.metis_waits.proofs.Pairs.{noted_more}
-use Rattle.metis_waits.proofs.ties.add_releases.Goals as goal
+use Rattle.metis_waits.proofs.releases.add_releases.Goals as goal
 
 pub loop-tie-preserved : goal.loop-tie-preserved
 loop-tie-preserved c =
