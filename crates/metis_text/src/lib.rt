@@ -7,3 +7,6 @@ mod write;
 
 pub use plan_text::PlanText;
 pub use write::write_plan;
+
+#[cfg(test)]
+mod tests;
