@@ -25,12 +25,12 @@ row_within actions w i are within =
     omega (arith, long, size, within)
 
 -- and it is the action with its list
-pub row_at : (actions : List Action) (w : WaitLists) (i : ℕ) (a : Action) (ks : List ℕ) → AreWaits actions w → i < length actions
-    → a ≡ get_or actions i a → ks ≡ list_of w.others (i + 1) → (a, ks) ≡ get_or (zip actions w.others) i (a, [])
-row_at actions w i a ks are within is listed =
+pub row_at : (actions : List Action) (w : WaitLists) (i : ℕ) (a : Action) → AreWaits actions w → i < length actions
+    → a ≡ get_or actions i a → (a, list_of w.others (i + 1)) ≡ get_or (zip actions w.others) i (a, [])
+row_at actions w i a are within is =
     let long = others_long actions w are in
     let place : i + 1 - 1 ≡ i = omega arith in
-    ap (λ b. (b, ks)) is ∙ ap (λ l. (get_or actions i a, l)) (listed ∙ ap (λ n. get_or w.others n []) place)
+    ap (λ b. (b, list_of w.others (i + 1))) is ∙ ap (λ n. (get_or actions i a, get_or w.others n [])) place
     ∙ sym (get_or-zip actions w.others i (a, []) within (omega (arith, long, within)))
 
 -- there are no rows but those of the actions

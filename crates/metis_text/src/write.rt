@@ -1,12 +1,12 @@
 //! Writes the text of a plan.
-ghost use Rattle.std.specs.Prelude.{◌≡◌, ◌<◌, ◌^◌, length, map};
+ghost use Rattle.std.specs.Prelude.{◌<◌, ◌≤◌, ◌^◌, length, map};
 ghost use Rattle.std.specs.List.{All};
 ghost use Rattle.metis_outside.specs.Faults.{CountsFault};
 ghost use Rattle.metis_outside.specs.Writes.{Writes};
 ghost use Rattle.metis_universe.specs.Numbers.{IsOf};
 ghost use Rattle.metis_universe.specs.Universe.{pair_count};
 ghost use Rattle.metis_universe.specs.Waits.{numbers};
-ghost use Rattle.metis_waits.specs.Waits.{AreWaits, waits_on_others};
+ghost use Rattle.metis_waits.specs.Waits.{AreWaits, list_of, waits_on_others};
 ghost use Rattle.metis_text.specs.PlanText.{action_line, action_lines, counts_of, dup_line, dup_lines, plan_body, plan_bytes, plan_end, plan_rest};
 
 use crate::lines::{action_line, counts_line, dup_line};
@@ -126,7 +126,7 @@ fn write_actions<K: Sink>(
 {
     for (index, action) in actions.iter().enumerate() {
         let number = index as u32 + 1;
-        write_action(alloc, u, number, action, w.after(number), out)?;
+        write_action(alloc, u, number, action, w, out)?;
     }
     Ok(())
 }
@@ -137,14 +137,16 @@ fn write_action<K: Sink>(
     u: &Universe,
     number: u32,
     action: &Action,
-    after: &[u32],
+    w: &Waits,
     out: &mut K,
 ) -> Result<(), Trouble>
-    requires { IsOf u.now action.now }
-    ensures text { Writes (action_line u.now number (action.now, after.now)) (K.written out.old) (K.written out.new) result }
+    requires action { IsOf u.now action.now }
+    requires first { 1 ≤ number }
+    requires last { number ≤ length w.now.each }
+    ensures text { Writes (action_line u.now number (action.now, list_of w.now.others number)) (K.written out.old) (K.written out.new) result }
     ensures cause { CountsFault (K.faults out.old) (K.faults out.new) result }
 {
-    let line = action_line(alloc, u, number, action, after)?;
+    let line = action_line(alloc, u, number, action, w.after(number))?;
     put_all(line.as_bytes(), out)
 }
 

@@ -1,4 +1,4 @@
-use Rattle.std.proofs.Common.{◌∙◌, [], subst, arith}
+use Rattle.std.proofs.Common.{◌+◌, ◌∙◌, [], subst, arith}
 use Rattle.std.proofs.lemmas.Result.{err_from_is_err_and}
 use Rattle.std.specs.Io.KnownBytes.{Appends}
 use Rattle.std.specs.List.{zip}
@@ -6,10 +6,11 @@ use Rattle.metis_text.proofs.Numbered.{appends_next, front_of_numbered}
 use Rattle.metis_text.proofs.Rows.{all_rows, is_listed, row_at, row_within}
 use Rattle.metis_text.specs.Line.{numbered}
 use Rattle.metis_text.specs.PlanText.{action_line}
+use Rattle.metis_waits.specs.Waits.{list_of}
 use Rattle.metis_text.proofs.write.write_actions.Goals as goal
 
-pub after-requires-clause-last : goal.after-requires-clause-last
-after-requires-clause-last g c = is_listed c.args.actions.now c.args.w.now c.loop-index.index c.requires.waits c.loop-index-test.true
+pub write_action-requires-clause-last : goal.write_action-requires-clause-last
+write_action-requires-clause-last g c = is_listed c.args.actions.now c.args.w.now c.loop-index.index c.requires.waits c.loop-index-test.true
 
 pub returns-in_err-write_action-clause-text : goal.returns-in_err-write_action-clause-text
 returns-in_err-write_action-clause-text g c =
@@ -18,9 +19,9 @@ returns-in_err-write_action-clause-text g c =
     let w = c.args.w.now in
     let i = c.loop-index.index in
     let a = c.index-actions-index.result in
-    let ks = c.after.result.now in
+    let ks = list_of w.others (i + 1) in
     let here = row_within actions w i c.requires.waits c.loop-index-test.true in
-    let is = row_at actions w i a ks c.requires.waits c.loop-index-test.true c.index-actions-index.is c.after.ensures in
+    let is = row_at actions w i a c.requires.waits c.loop-index-test.true c.index-actions-index.is in
     rw p.1 (front_of_numbered (action_line c.args.u.now) (zip actions w.others) i (a, ks) (a, []) _ _ _ here is c.loop-index.invariant.written c.in_err-write_action.ensures.text)
 
 pub loop-index-preserved : goal.loop-index-preserved
@@ -29,9 +30,9 @@ loop-index-preserved g c =
     let w = c.args.w.now in
     let i = c.loop-index.index in
     let a = c.index-actions-index.result in
-    let ks = c.after.result.now in
+    let ks = list_of w.others (i + 1) in
     let here = row_within actions w i c.requires.waits c.loop-index-test.true in
-    let is = row_at actions w i a ks c.requires.waits c.loop-index-test.true c.index-actions-index.is c.after.ensures in
+    let is = row_at actions w i a c.requires.waits c.loop-index-test.true c.index-actions-index.is in
     record {
       written = appends_next (action_line c.args.u.now) (zip actions w.others) i (a, ks) (a, []) _ _ _ here is c.loop-index.invariant.written c.in_ok-write_action.ensures.text;
       calm = c.in_ok-write_action.ensures.cause ∙ c.loop-index.invariant.calm;
