@@ -1,0 +1,14 @@
+use Rattle.std.proofs.Common.{◌++◌, ◌∷◌, [], map, sym, ap, ◌∙◌}
+use Rattle.std.specs.Prelude.{codes, decimal, string_bytes}
+use Rattle.metis_text.proofs.Words.{words_added}
+use Rattle.metis_text.specs.Line.{added}
+use Rattle.metis_text.specs.PlanText.{event_token, pair_word}
+use Rattle.metis_text.proofs.lines.dup_line.Goals as goal
+
+pub returns : goal.returns
+returns c =
+    let events = map event_token c.args.dup.now.cycle.items in
+    let others = decimal c.args.number ∷ pair_word c.args.u.now c.args.dup.now.pair ∷ codes "cycle" ∷ [] in
+    c.in_ok-push_str.ensures.bytes
+    ∙ ap (λ l. l ++ codes "\n") (c.in_ok-push_events.ensures ∙ ap (λ es. string_bytes c.in_ok-line.line ++ added (map event_token es)) c.deref.ensures.value
+    ∙ ap (λ l. l ++ added events) c.in_ok-line.ensures ∙ sym (words_added (codes "dup") others events))

@@ -1,0 +1,128 @@
+-- The text of a plan.
+--     action_tokens u a, after_tokens ks      what stands in an action's line behind its number;  and behind that, for the numbers of its list
+--     action_line u k row      the line of action number k, where the row is the action and its list
+--     pair_word u p, event_token e      the names of a pair's type and state, with a colon between them;  an event's token
+--     dup_line u k d      the line of dup number k
+--     plan_bytes u p after      the whole text, where `after` has a list for each action
+--     makes a, kind_of z actions      whether the action makes an instance;  the type of the last New of instance z, if there is one
+--     IsWellFormed u p after      what a text says that can be read
+use Rattle.std.specs.Prelude.{◌≡◌, ◌<◌, ◌≤◌, ℕ, zero, suc, ◌^◌, ◌==◌, Bool, true, false, cond, List, [], ◌∷◌, ◌++◌, length, map, codes, decimal, Option, Some, None}
+use Rattle.std.specs.List.{All, count_by, slice_index_or, zip}
+use Rattle.std.specs.List.Sorted.{IsStrictlyIncreasing}
+use Rattle.metis_ids.specs.declared.actions.Action.{Action}
+use Rattle.metis_ids.specs.declared.actions.Action.TheVariants.{New, Delete, Bind, Unbind, Move}
+use Rattle.metis_ids.specs.declared.events.Event.{Event}
+use Rattle.metis_ids.specs.declared.events.Event.TheVariants.{At, End}
+use Rattle.metis_ids.specs.declared.plans.Dup.{Dup}
+use Rattle.metis_ids.specs.declared.plans.Plan.{Plan}
+use Rattle.metis_text.specs.Line.{line, numbered}
+use Rattle.metis_universe.specs.Numbers.{IsOf}
+use Rattle.metis_universe.specs.Universe.{Universe, pair_count, type_of, type_name_of, state_name_of, port_name_of}
+use Rattle.metis_universe.specs.Waits.{action_at, before}
+
+abbrev pub action_tokens : Universe → Action → List (List ℕ)
+action_tokens u (New z t) = codes "new" ∷ decimal z ∷ type_name_of u t ∷ []
+action_tokens u (Delete z) = codes "delete" ∷ decimal z ∷ []
+action_tokens u (Bind r z y) = codes "bind" ∷ port_name_of u r ∷ decimal z ∷ decimal y ∷ []
+action_tokens u (Unbind r z y) = codes "unbind" ∷ port_name_of u r ∷ decimal z ∷ decimal y ∷ []
+action_tokens u (Move z p q) = codes "move" ∷ decimal z ∷ state_name_of u p ∷ state_name_of u q ∷ []
+
+-- nothing where the list is empty
+abbrev pub after_tokens : List ℕ → List (List ℕ)
+after_tokens [] = []
+after_tokens (k ∷ ks) = codes "after" ∷ map decimal (k ∷ ks)
+
+abbrev pub action_line : Universe → ℕ → (Action × List ℕ) → List ℕ
+action_line u k row = line ((decimal k ∷ action_tokens u row.0) ++ after_tokens row.1)
+
+abbrev pub pair_word : Universe → ℕ → List ℕ
+pair_word u p = type_name_of u (type_of u p) ++ (codes ":" ++ state_name_of u p)
+
+-- the line and the step of what happens, or the end of the plan
+abbrev pub event_token : Event → List ℕ
+event_token (At l s) = decimal l ++ (codes "." ++ decimal s)
+event_token End = codes "end"
+
+abbrev pub dup_tokens : Universe → ℕ → ℕ → List (List ℕ)
+dup_tokens u k p = codes "dup" ∷ decimal k ∷ pair_word u p ∷ codes "cycle" ∷ []
+
+abbrev pub dup_line : Universe → ℕ → Dup → List ℕ
+dup_line u k d = line (dup_tokens u k d.pair ++ map event_token d.cycle.items)
+
+abbrev pub plan_header : List ℕ
+plan_header = line (codes "metis" ∷ codes "plan" ∷ codes "1" ∷ [])
+
+abbrev pub counts_line : ℕ → ℕ → ℕ → List ℕ
+counts_line instances actions dups = line (codes "instances" ∷ decimal instances ∷ codes "actions" ∷ decimal actions ∷ codes "dups" ∷ decimal dups ∷ [])
+
+abbrev pub counts_of : Plan → List ℕ
+counts_of p = counts_line p.instances (length p.actions.items) (length p.dups.items)
+
+abbrev pub end_line : List ℕ
+end_line = line (codes "end" ∷ [])
+
+abbrev pub action_lines : Universe → List Action → List (List ℕ) → List ℕ
+action_lines u actions after = numbered (action_line u) 1 (zip actions after)
+
+abbrev pub dup_lines : Universe → List Dup → List ℕ
+dup_lines u dups = numbered (dup_line u) 1 dups
+
+-- the lines of the dups, and the last line
+abbrev pub plan_end : Universe → List Dup → List ℕ
+plan_end u dups = dup_lines u dups ++ end_line
+
+-- all lines but the first two
+abbrev pub plan_rest : Universe → Plan → List (List ℕ) → List ℕ
+plan_rest u p after = action_lines u p.actions.items after ++ plan_end u p.dups.items
+
+abbrev pub plan_body : Universe → Plan → List (List ℕ) → List ℕ
+plan_body u p after = counts_of p ++ plan_rest u p after
+
+abbrev pub plan_bytes : Universe → Plan → List (List ℕ) → List ℕ
+plan_bytes u p after = plan_header ++ plan_body u p after
+
+abbrev pub makes : Action → Bool
+makes (New z t) = true
+makes (Delete z) = false
+makes (Bind r z y) = false
+makes (Unbind r z y) = false
+makes (Move z p q) = false
+
+-- the type of instance z after the action, where this was it before
+abbrev pub kind_after : ℕ → Option ℕ → Action → Option ℕ
+kind_after z kind (New y t) = cond (y == z) (Some t) kind
+kind_after z kind (Delete y) = kind
+kind_after z kind (Bind r y x) = kind
+kind_after z kind (Unbind r y x) = kind
+kind_after z kind (Move y p q) = kind
+
+abbrev pub kind_from : ℕ → Option ℕ → List Action → Option ℕ
+kind_from z kind [] = kind
+kind_from z kind (a ∷ actions) = kind_from z (kind_after z kind a) actions
+
+abbrev pub kind_of : ℕ → List Action → Option ℕ
+kind_of z actions = kind_from z None actions
+
+-- the list of action k
+abbrev pub after_of : List (List ℕ) → ℕ → List ℕ
+after_of after zero = []
+after_of after (suc i) = slice_index_or after i []
+
+-- the action's instance is made before, and both pairs are of the type of its last New
+abbrev pub IsMoveOf : Universe → List Action → ℕ → ℕ → ℕ → Type 0
+IsMoveOf u earlier z p q = (kind_of z earlier ≡ Some (type_of u p)) × (type_of u q ≡ type_of u p)
+
+-- An action waits for earlier ones, its list ascends, each move goes between pairs of its instance's type, each cycle
+-- has two or more events, and all numbers are the universe's. There are fewer than 2^32 actions and dups, and the
+-- instances are counted.
+pub record IsWellFormed (u : Universe) (p : Plan) (after : List (List ℕ)) : Type 0 where
+  pub lists : length after ≡ length p.actions.items
+  pub ascending : All IsStrictlyIncreasing after
+  pub earlier : (k : ℕ) → All (λ m. (1 ≤ m) × (m < k)) (after_of after k)
+  pub moves : (k z a b : ℕ) → action_at p.actions.items k ≡ Some (Move z a b) → IsMoveOf u (before k p.actions.items) z a b
+  pub actions : All (IsOf u) p.actions.items
+  pub dups : All (λ d. d.pair < pair_count u) p.dups.items
+  pub cycles : All (λ d. 2 ≤ length d.cycle.items) p.dups.items
+  pub few_actions : length p.actions.items < 2 ^ 32
+  pub few_dups : length p.dups.items < 2 ^ 32
+  pub instances : p.instances ≡ count_by makes p.actions.items

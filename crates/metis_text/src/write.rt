@@ -1,0 +1,192 @@
+//! Writes the text of a plan.
+ghost use Rattle.std.specs.Prelude.{◌<◌, ◌≤◌, ◌^◌, length, map};
+ghost use Rattle.std.specs.List.{All};
+ghost use Rattle.metis_outside.specs.Faults.{CountsFault};
+ghost use Rattle.metis_outside.specs.Writes.{Writes};
+ghost use Rattle.metis_universe.specs.Numbers.{IsOf};
+ghost use Rattle.metis_universe.specs.Universe.{pair_count};
+ghost use Rattle.metis_universe.specs.Waits.{numbers};
+ghost use Rattle.metis_waits.specs.Waits.{AreWaits, list_of, waits_on_others};
+ghost use Rattle.metis_text.specs.PlanText.{action_line, action_lines, counts_of, dup_line, dup_lines, plan_body, plan_bytes, plan_end, plan_rest};
+
+use crate::lines::{action_line, counts_line, dup_line};
+use metis_ids::{Action, Dup, Plan};
+use metis_outside::{Sink, Trouble};
+use metis_universe::Universe;
+use metis_waits::Waits;
+use std::alloc::Global;
+
+/// Puts the text of the plan, a line a put. Behind each action stand the numbers of the other actions that it waits
+/// for, without its own instance's previous one.
+pub fn write_plan<K: Sink>(
+    alloc: Global,
+    u: &Universe,
+    p: &Plan,
+    w: &Waits,
+    out: &mut K,
+) -> Result<(), Trouble>
+    requires actions { All (IsOf u.now) p.now.actions.items }
+    requires dups { All (λ d. d.pair < pair_count u.now) p.now.dups.items }
+    requires waits { AreWaits p.now.actions.items w.now }
+    requires few { length p.now.actions.items < 2 ^ 32 }
+    ensures text { Writes (plan_bytes u.now p.now (map (waits_on_others p.now.actions.items) (numbers p.now.actions.items))) (K.written out.old) (K.written out.new) result }
+    ensures cause { CountsFault (K.faults out.old) (K.faults out.new) result }
+{
+    write_text(alloc, u, p, w, out)
+}
+
+#[tactic(auto, using(metis_outside::proofs::Writing::front_of_first, metis_outside::proofs::Writing::writes_then))]
+fn write_text<K: Sink>(
+    alloc: Global,
+    u: &Universe,
+    p: &Plan,
+    w: &Waits,
+    out: &mut K,
+) -> Result<(), Trouble>
+    requires actions { All (IsOf u.now) p.now.actions.items }
+    requires dups { All (λ d. d.pair < pair_count u.now) p.now.dups.items }
+    requires waits { AreWaits p.now.actions.items w.now }
+    requires few { length p.now.actions.items < 2 ^ 32 }
+    ensures text { Writes (plan_bytes u.now p.now w.now.others) (K.written out.old) (K.written out.new) result }
+    ensures cause { CountsFault (K.faults out.old) (K.faults out.new) result }
+{
+    put_all(b"metis plan 1\n", out)?;
+    write_body(alloc, u, p, w, out)
+}
+
+#[tactic(auto, using(metis_outside::proofs::Writing::front_of_first, metis_outside::proofs::Writing::writes_then))]
+fn write_body<K: Sink>(
+    alloc: Global,
+    u: &Universe,
+    p: &Plan,
+    w: &Waits,
+    out: &mut K,
+) -> Result<(), Trouble>
+    requires actions { All (IsOf u.now) p.now.actions.items }
+    requires dups { All (λ d. d.pair < pair_count u.now) p.now.dups.items }
+    requires waits { AreWaits p.now.actions.items w.now }
+    requires few { length p.now.actions.items < 2 ^ 32 }
+    ensures text { Writes (plan_body u.now p.now w.now.others) (K.written out.old) (K.written out.new) result }
+    ensures cause { CountsFault (K.faults out.old) (K.faults out.new) result }
+{
+    write_counts(alloc, p, out)?;
+    write_rest(alloc, u, p, w, out)
+}
+
+#[tactic(auto, using(metis_outside::proofs::Writing::front_of_first, metis_outside::proofs::Writing::writes_then))]
+fn write_rest<K: Sink>(
+    alloc: Global,
+    u: &Universe,
+    p: &Plan,
+    w: &Waits,
+    out: &mut K,
+) -> Result<(), Trouble>
+    requires actions { All (IsOf u.now) p.now.actions.items }
+    requires dups { All (λ d. d.pair < pair_count u.now) p.now.dups.items }
+    requires waits { AreWaits p.now.actions.items w.now }
+    requires few { length p.now.actions.items < 2 ^ 32 }
+    ensures text { Writes (plan_rest u.now p.now w.now.others) (K.written out.old) (K.written out.new) result }
+    ensures cause { CountsFault (K.faults out.old) (K.faults out.new) result }
+{
+    write_actions(alloc, u, &p.actions, w, out)?;
+    write_end(alloc, u, &p.dups, out)
+}
+
+#[tactic(auto, using(metis_outside::proofs::Writing::front_of_first, metis_outside::proofs::Writing::writes_then))]
+fn write_end<K: Sink>(alloc: Global, u: &Universe, dups: &[Dup], out: &mut K) -> Result<(), Trouble>
+    requires { All (λ d. d.pair < pair_count u.now) dups.now }
+    ensures text { Writes (plan_end u.now dups.now) (K.written out.old) (K.written out.new) result }
+    ensures cause { CountsFault (K.faults out.old) (K.faults out.new) result }
+{
+    write_dups(alloc, u, dups, out)?;
+    put_all(b"end\n", out)
+}
+
+#[tactic(auto, using(metis_outside::proofs::Writing::front_of_nothing))]
+fn write_counts<K: Sink>(alloc: Global, p: &Plan, out: &mut K) -> Result<(), Trouble>
+    ensures text { Writes (counts_of p.now) (K.written out.old) (K.written out.new) result }
+    ensures cause { CountsFault (K.faults out.old) (K.faults out.new) result }
+{
+    let line = counts_line(alloc, p.instances, p.actions.len(), p.dups.len())?;
+    put_all(line.as_bytes(), out)
+}
+
+fn write_actions<K: Sink>(
+    alloc: Global,
+    u: &Universe,
+    actions: &[Action],
+    w: &Waits,
+    out: &mut K,
+) -> Result<(), Trouble>
+    requires actions { All (IsOf u.now) actions.now }
+    requires waits { AreWaits actions.now w.now }
+    requires few { length actions.now < 2 ^ 32 }
+    ensures text { Writes (action_lines u.now actions.now w.now.others) (K.written out.old) (K.written out.new) result }
+    ensures cause { CountsFault (K.faults out.old) (K.faults out.new) result }
+{
+    for (index, action) in actions.iter().enumerate() {
+        let number = index as u32 + 1;
+        write_action(alloc, u, number, action, w, out)?;
+    }
+    Ok(())
+}
+
+#[tactic(auto, using(metis_outside::proofs::Writing::front_of_nothing))]
+fn write_action<K: Sink>(
+    alloc: Global,
+    u: &Universe,
+    number: u32,
+    action: &Action,
+    w: &Waits,
+    out: &mut K,
+) -> Result<(), Trouble>
+    requires action { IsOf u.now action.now }
+    requires first { 1 ≤ number }
+    requires last { number ≤ length w.now.each }
+    ensures text { Writes (action_line u.now number (action.now, list_of w.now.others number)) (K.written out.old) (K.written out.new) result }
+    ensures cause { CountsFault (K.faults out.old) (K.faults out.new) result }
+{
+    let line = action_line(alloc, u, number, action, w.after(number))?;
+    put_all(line.as_bytes(), out)
+}
+
+fn write_dups<K: Sink>(
+    alloc: Global,
+    u: &Universe,
+    dups: &[Dup],
+    out: &mut K,
+) -> Result<(), Trouble>
+    requires { All (λ d. d.pair < pair_count u.now) dups.now }
+    ensures text { Writes (dup_lines u.now dups.now) (K.written out.old) (K.written out.new) result }
+    ensures cause { CountsFault (K.faults out.old) (K.faults out.new) result }
+{
+    for (index, dup) in dups.iter().enumerate() {
+        write_dup(alloc, u, index + 1, dup, out)?;
+    }
+    Ok(())
+}
+
+#[tactic(auto, using(metis_outside::proofs::Writing::front_of_nothing))]
+fn write_dup<K: Sink>(
+    alloc: Global,
+    u: &Universe,
+    number: usize,
+    dup: &Dup,
+    out: &mut K,
+) -> Result<(), Trouble>
+    requires { dup.now.pair < pair_count u.now }
+    ensures text { Writes (dup_line u.now number dup.now) (K.written out.old) (K.written out.new) result }
+    ensures cause { CountsFault (K.faults out.old) (K.faults out.new) result }
+{
+    let line = dup_line(alloc, u, number, dup)?;
+    put_all(line.as_bytes(), out)
+}
+
+// Writes the bytes by one put.
+#[tactic(auto, using(metis_outside::proofs::Writing::writes_by_put))]
+fn put_all<K: Sink>(bytes: &[u8], out: &mut K) -> Result<(), Trouble>
+    ensures text { Writes bytes.now (K.written out.old) (K.written out.new) result }
+    ensures cause { CountsFault (K.faults out.old) (K.faults out.new) result }
+{
+    out.put(bytes)
+}
