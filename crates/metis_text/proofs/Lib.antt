@@ -1,3 +1,3 @@
 pub mod Numbered
-pub mod Rows
+pub mod WaitRows
 pub mod Words

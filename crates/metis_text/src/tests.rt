@@ -4,7 +4,7 @@ ghost use Rattle.std.specs.List.{All};
 ghost use Rattle.metis_universe.specs.Numbers.{IsOf};
 ghost use Rattle.metis_universe.specs.Universe.{pair_count};
 
-use crate::{PlanText, write_plan};
+use crate::{PlanText, TFault, read_plan, write_plan};
 use metis_ids::{Action, Dup, Event, InstNo, LineIx, PairIx, Plan, PortIx, StepIx, TypeIx};
 use metis_outside::{MemSink, Trouble};
 use metis_universe::{StateRow, TypeRow, Universe, rows_fit};
@@ -221,5 +221,50 @@ fn a_put_that_fails(rt: HostRuntime) -> Result<(), Fail> {
         out.bytes(),
         b"metis plan 1\ninstances 3 actions 10 dups 2\n".as_slice()
     );
+    Ok(())
+}
+
+/// Reads the text, which is short.
+fn read(
+    rt: &impl Abort,
+    alloc: Global,
+    u: &Universe,
+    text: &[u8],
+) -> Result<Result<PlanText, TFault>, Fail> {
+    assert!(rt; text.len() < 10_000);
+    Ok(read_plan(alloc, u, text))
+}
+
+/// The fault of the text.
+fn fault(rt: &impl Abort, alloc: Global, u: &Universe, text: &str) -> Result<TFault, Fail> {
+    Ok(read(rt, alloc, u, text.as_bytes())?.err().ok_or("a plan")?)
+}
+
+#[test]
+fn what_is_written_is_read(rt: HostRuntime) -> Result<(), Fail> {
+    let alloc = rt.alloc();
+    let u = web(&rt, alloc)?;
+    let plan = shared(alloc)?;
+    let text = read(&rt, alloc, &u, SHARED.as_bytes())?.ok().ok_or("a fault")?;
+    assert!(rt; text.plan.actions.as_slice() == plan.actions.as_slice());
+    assert_eq!(rt; text.plan.instances, 3);
+    assert_eq!(rt; text.plan.dups.len(), 2);
+    let first = text.plan.dups.first().ok_or("no dup")?;
+    assert_eq!(rt; first.pair, PairIx(1));
+    assert!(rt; first.cycle.as_slice() == [at(0, 1), at(1, 0), Event::End].as_slice());
+    assert_eq!(rt; text.after.len(), 10);
+    let waits = text.after.get(9).ok_or("no list")?;
+    assert!(rt; waits.as_slice() == [8, 9].as_slice());
+    Ok(())
+}
+
+#[test]
+fn an_empty_text(rt: HostRuntime) -> Result<(), Fail> {
+    let alloc = rt.alloc();
+    let u = web(&rt, alloc)?;
+    let text = read(&rt, alloc, &u, b"metis plan 1\ninstances 0 actions 0 dups 0\nend\n")?
+        .ok()
+        .ok_or("a fault")?;
+    assert!(rt; text.plan.actions.is_empty() && text.plan.dups.is_empty() && text.after.is_empty());
     Ok(())
 }

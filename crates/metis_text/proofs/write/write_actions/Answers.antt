@@ -3,7 +3,7 @@ use Rattle.std.proofs.lemmas.Result.{err_from_is_err_and}
 use Rattle.std.specs.Io.KnownBytes.{Appends}
 use Rattle.std.specs.List.{zip}
 use Rattle.metis_text.proofs.Numbered.{appends_next, front_of_numbered}
-use Rattle.metis_text.proofs.Rows.{all_rows, is_listed, row_at, row_within}
+use Rattle.metis_text.proofs.WaitRows.{all_rows, is_listed, row_at, row_within}
 use Rattle.metis_text.specs.Line.{numbered}
 use Rattle.metis_text.specs.PlanText.{action_line}
 use Rattle.metis_waits.specs.Waits.{list_of}

@@ -1,0 +1,50 @@
+-- A line of a dup that is read.
+--     pair_in u word      the pair whose type and state the word names, with a colon between them
+--     event_in t      the end, or a line and a step with a point between them
+--     dup_in u k line      the pair and its cycle, in the line of dup number k
+use Rattle.std.specs.Prelude.{ℕ, ◌&&◌, Bool, ◌==◌, List, [], ◌∷◌, codes, Option, Result, Ok, Err, if◌then◌else◌}
+use Rattle.std.specs.List.{after_first, before_first}
+use Rattle.std.specs.Str.{bytes_eq}
+use Rattle.metis_ids.specs.declared.events.Event.{Event}
+use Rattle.metis_ids.specs.declared.events.Event.TheVariants.{At, End}
+use Rattle.metis_text.specs.declared.flaw.Flaw.{Flaw}
+use Rattle.metis_text.specs.declared.flaw.Flaw.TheVariants.{Form}
+use Rattle.metis_text.specs.ActionLine.{due}
+use Rattle.metis_text.specs.Flaws.{all_behind, both, found, made}
+use Rattle.metis_text.specs.Tokens.{number_in, tokens}
+use Rattle.metis_universe.specs.Names.{is_name}
+use Rattle.metis_universe.specs.Universe.{Universe, pair_named}
+
+abbrev pub is_colon : ℕ → Bool
+is_colon byte = byte == 58
+
+abbrev pub is_point : ℕ → Bool
+is_point byte = byte == 46
+
+abbrev pub pair_of_names : Universe → List ℕ → List ℕ → Result ℕ Flaw
+pair_of_names u kind state = if is_name kind && is_name state then found (pair_named u kind state) else Err Form
+
+-- A word without a colon has nothing behind it, and so no name.
+abbrev pub pair_in : Universe → List ℕ → Result ℕ Flaw
+pair_in u word = pair_of_names u (before_first is_colon word) (after_first is_colon word)
+
+abbrev pub at_event : ℕ × ℕ → Event
+at_event p = At p.0 p.1
+
+abbrev pub event_in : List ℕ → Result Event Flaw
+event_in t = if bytes_eq t (codes "end") then Ok End else made at_event (both (number_in (before_first is_point t)) (number_in (after_first is_point t)))
+
+-- a pair, and the events of its cycle
+abbrev pub DupRow : Type 0
+DupRow = ℕ × List Event
+
+abbrev pub dup_with : Universe → ℕ → List ℕ → List ℕ → List (List ℕ) → Result DupRow Flaw
+dup_with u k number word events = made (λ p. p.1) (both (due k number) (both (pair_in u word) (all_behind event_in (Ok []) events)))
+
+-- a cycle has two or more events
+abbrev pub dup_of : Universe → ℕ → List (List ℕ) → Result DupRow Flaw
+dup_of u k (dup ∷ number ∷ word ∷ cycle ∷ first ∷ second ∷ more) = if bytes_eq dup (codes "dup") && bytes_eq cycle (codes "cycle") then dup_with u k number word (first ∷ second ∷ more) else Err Form
+dup_of u k _ = Err Form
+
+abbrev pub dup_in : Universe → ℕ → List ℕ → Result DupRow Flaw
+dup_in u k line = dup_of u k (tokens line)

@@ -1,0 +1,128 @@
+-- What the text of a plan says, line by line, or its first fault.
+--     Lines, next_line l      what is left of a text, with how many lines were read;  the next line, and what is left then
+--     told l x      what was read in the last line, or the fault of that line
+--     Parts, plan_in u bytes      what a plan's text says;  what these bytes say
+use Rattle.std.specs.Prelude.{ℕ, zero, suc, ◌+◌, ◌&&◌, ◌==◌, Bool, List, [], ◌∷◌, ◌++◌, length, take, drop, codes, Option, Some, None, Result, Ok, Err, if◌then◌else◌}
+use Rattle.std.specs.List.{count_by, position}
+use Rattle.std.specs.Str.{bytes_eq}
+use Rattle.metis_ids.specs.declared.actions.Action.{Action}
+use Rattle.metis_text.specs.declared.flaw.Flaw.{Flaw}
+use Rattle.metis_text.specs.declared.flaw.Flaw.TheVariants.{Form}
+use Rattle.metis_text.specs.declared.flaw.Flaw.TheVariants as flaw
+use Rattle.metis_text.specs.declared.fault.TFault.{TFault}
+use Rattle.metis_text.specs.declared.fault.TFault.TheVariants.{Line, Short, Name, Number}
+use Rattle.metis_text.specs.ActionLine.{Row, row_in}
+use Rattle.metis_text.specs.DupLine.{DupRow, dup_in}
+use Rattle.metis_text.specs.Flaws.{both, made}
+use Rattle.metis_text.specs.PlanText.{makes}
+use Rattle.metis_text.specs.Tokens.{number_in, tokens}
+use Rattle.metis_universe.specs.Universe.{Universe}
+
+pub record Lines : Type 0 where
+  pub rest : List ℕ
+  pub number : ℕ
+
+abbrev pub lines_of : List ℕ → ℕ → Lines
+lines_of rest number = record { rest = rest; number = number }
+
+abbrev pub is_feed : ℕ → Bool
+is_feed byte = byte == 10
+
+-- the line that ends at this place
+abbrev pub line_to : Lines → Option ℕ → Result (List ℕ × Lines) TFault
+line_to l None = Err Short
+line_to l (Some end) = Ok (take end l.rest, lines_of (drop (end + 1) l.rest) (l.number + 1))
+
+abbrev pub next_line : Lines → Result (List ℕ × Lines) TFault
+next_line l = line_to l (position is_feed l.rest)
+
+-- the fault of the line that was read last
+abbrev pub fault_at : ℕ → Flaw → TFault
+fault_at n flaw.Form = Line n
+fault_at n flaw.Number = Number n
+fault_at n flaw.Name = Name n
+
+abbrev pub told : {A : Type 0} → Lines → Result A Flaw → Result A TFault
+told l (Ok a) = Ok a
+told l (Err f) = Err (fault_at l.number f)
+
+abbrev pub and_then : {A B : Type 0} → Result A TFault → (A → Result B TFault) → Result B TFault
+and_then (Ok a) next = next a
+and_then (Err f) next = Err f
+
+-- reads the next line, and goes on behind it
+abbrev pub read_next : {A : Type 0} → (List ℕ → Result A Flaw) → Lines → Result (A × Lines) TFault
+read_next read l = and_then (next_line l) (λ p. made (λ a. (a, p.1)) (told p.1 (read p.0)))
+
+-- the line is these bytes
+abbrev pub exactly : List ℕ → List ℕ → Result (Unit {0}) Flaw
+exactly bytes line = if bytes_eq line bytes then Ok tt else Err Form
+
+-- the numbers of instances, of actions and of dups
+abbrev pub Numbers : Type 0
+Numbers = ℕ × (ℕ × ℕ)
+
+abbrev pub counts_of_tokens : List (List ℕ) → Result Numbers Flaw
+counts_of_tokens (i ∷ instances ∷ a ∷ actions ∷ d ∷ dups ∷ []) =
+    if bytes_eq i (codes "instances") && bytes_eq a (codes "actions") && bytes_eq d (codes "dups")
+    then both (number_in instances) (both (number_in actions) (number_in dups)) else Err Form
+counts_of_tokens _ = Err Form
+
+abbrev pub counts_in : List ℕ → Result Numbers Flaw
+counts_in line = counts_of_tokens (tokens line)
+
+-- the actions that were read, with their lists
+pub record Rows : Type 0 where
+  pub actions : List Action
+  pub after : List (List ℕ)
+
+abbrev pub rows_of : List Action → List (List ℕ) → Rows
+rows_of actions after = record { actions = actions; after = after }
+
+abbrev pub with_row : Rows → Row → Rows
+with_row rows row = rows_of (rows.actions ++ row.0 ∷ []) (rows.after ++ row.1 ∷ [])
+
+-- so many more actions behind those that were read
+abbrev pub rows_from : Universe → ℕ → Rows → Lines → Result (Rows × Lines) TFault
+rows_from u zero rows l = Ok (rows, l)
+rows_from u (suc left) rows l = and_then (read_next (row_in u rows.actions) l) (λ p. rows_from u left (with_row rows p.0) p.1)
+
+-- so many more dups behind those that were read
+abbrev pub dups_from : Universe → ℕ → List DupRow → Lines → Result (List DupRow × Lines) TFault
+dups_from u zero dups l = Ok (dups, l)
+dups_from u (suc left) dups l = and_then (read_next (dup_in u (length dups + 1)) l) (λ p. dups_from u left (dups ++ p.0 ∷ []) p.1)
+
+-- nothing stands behind the line that was read last
+abbrev pub ended : Lines → Result (Unit {0}) TFault
+ended l = if length l.rest == 0 then Ok tt else Err (Line (l.number + 1))
+
+pub record Parts : Type 0 where
+  pub instances : ℕ
+  pub rows : Rows
+  pub dups : List DupRow
+
+abbrev pub parts : ℕ → Rows → List DupRow → Parts
+parts instances rows dups = record { instances = instances; rows = rows; dups = dups }
+
+-- the instances are as many as the actions make
+abbrev pub counted : Parts → Result Parts TFault
+counted p = if count_by makes p.rows.actions == p.instances then Ok p else Err (Line 2)
+
+-- the last line, and nothing behind it
+abbrev pub end_from : Parts → Lines → Result Parts TFault
+end_from p l = and_then (read_next (exactly (codes "end")) l) (λ e. and_then (ended e.1) (λ _. counted p))
+
+abbrev pub body_from : Universe → Numbers → Lines → Result Parts TFault
+body_from u counts l =
+    and_then (rows_from u counts.1.0 (rows_of [] []) l) (λ rows.
+    and_then (dups_from u counts.1.1 [] rows.1) (λ dups.
+    end_from (parts counts.0 rows.0 dups.0) dups.1))
+
+abbrev pub plan_from : Universe → Lines → Result Parts TFault
+plan_from u l =
+    and_then (read_next (exactly (codes "metis plan 1")) l) (λ header.
+    and_then (read_next counts_in header.1) (λ counts.
+    body_from u counts.0 counts.1))
+
+abbrev pub plan_in : Universe → List ℕ → Result Parts TFault
+plan_in u bytes = plan_from u (lines_of bytes 0)

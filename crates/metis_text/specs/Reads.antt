@@ -1,0 +1,51 @@
+-- What the readers of a text give.
+--     Reads view r l meaning      what was read, seen by view, and the lines that are left are what was meant, unless memory ran out
+--     ReadsLine, ReadsPlan      the same of a line;  and of a whole text
+--     said p after, parts_of t      what the text of a plan with these lists says
+--     IsTextOf u t bytes      the bytes are the text of the plan with its lists, and it is well formed
+use Rattle.std.specs.Prelude.{◌≡◌, ◌≢◌, ℕ, List, map, Result, Ok, Err}
+use denote.Ref.{Bor}
+use Rattle.metis_ids.specs.declared.plans.Dup.{Dup}
+use Rattle.metis_ids.specs.declared.plans.Plan.{Plan}
+use Rattle.metis_universe.specs.Universe.{Universe}
+use Rattle.metis_text.specs.PlanText.{IsWellFormed, plan_bytes}
+use Rattle.metis_text.specs.declared.fault.TFault.{TFault}
+use Rattle.metis_text.specs.declared.fault.TFault.TheVariants.{NoMemory}
+use Rattle.metis_text.specs.declared.read.Counts.{Counts}
+use Rattle.metis_text.specs.declared.plan_text.PlanText.{PlanText}
+use Rattle.metis_text.specs.DupLine.{DupRow}
+use Rattle.metis_text.specs.Reading.{Lines, Numbers, Parts, parts, rows_of}
+
+abbrev pub Reads : {X Y : Type 0} → (Y → X) → Result Y TFault → Lines → Result (X × Lines) TFault → Type 0
+Reads view (Ok y) l meaning = meaning ≡ Ok (view y, l)
+Reads view (Err fault) l meaning = fault ≢ NoMemory → meaning ≡ Err fault
+
+abbrev pub ReadsLine : Result (Bor (List ℕ)) TFault → Lines → Result (List ℕ × Lines) TFault → Type 0
+ReadsLine result l meaning = Reads (λ line. line.now) result l meaning
+
+-- the numbers of the second line, as it says them
+abbrev pub numbers_of : Counts → Numbers
+numbers_of c = (c.instances, (c.actions, c.dups))
+
+-- a dup as its line says it
+abbrev pub dup_row : Dup → DupRow
+dup_row d = (d.pair, d.cycle.items)
+
+-- what the text of a plan with these lists says
+abbrev pub said : Plan → List (List ℕ) → Parts
+said p after = parts p.instances (rows_of p.actions.items after) (map dup_row p.dups.items)
+
+abbrev pub lists_of : PlanText → List (List ℕ)
+lists_of t = map (λ ks. ks.items) t.after.items
+
+abbrev pub parts_of : PlanText → Parts
+parts_of t = said t.plan (lists_of t)
+
+-- the bytes are the text of the plan with its lists, which is well formed
+pub record IsTextOf (u : Universe) (t : PlanText) (bytes : List ℕ) : Type 0 where
+  pub text : bytes ≡ plan_bytes u t.plan (lists_of t)
+  pub formed : IsWellFormed u t.plan (lists_of t)
+
+abbrev pub ReadsPlan : Result PlanText TFault → Result Parts TFault → Type 0
+ReadsPlan (Ok t) meaning = meaning ≡ Ok (parts_of t)
+ReadsPlan (Err fault) meaning = fault ≢ NoMemory → meaning ≡ Err fault

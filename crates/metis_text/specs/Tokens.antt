@@ -1,0 +1,34 @@
+-- The tokens of a line that is read.
+--     tokens line      the parts of the line between its spaces
+--     is_number t, number_in t      decimal digits of which the first is 0 only where it stands alone;  their value, which is below 2^32
+--     named find t      what has the name that the token is
+use Rattle.std.specs.Prelude.{ℕ, ◌^◌, nat_lt, Bool, ◌&&◌, ◌||◌, not, ◌==◌, List, length, Option, Result, Ok, Err, if◌then◌else◌, slice_index}
+use Rattle.std.specs.List.{slice_split}
+use Rattle.std.specs.Str.{all_ascii_digits}
+use Rattle.std.specs.Str.Parse.{digits_value}
+use Rattle.metis_text.specs.Flaws.{found}
+use Rattle.metis_text.specs.declared.flaw.Flaw.{Flaw}
+use Rattle.metis_text.specs.declared.flaw.Flaw.TheVariants.{Form, Number}
+use Rattle.metis_universe.specs.Names.{is_name}
+
+abbrev pub is_space : ℕ → Bool
+is_space byte = byte == 32
+
+abbrev pub tokens : List ℕ → List (List ℕ)
+tokens line = slice_split is_space line
+
+-- one digit, or more of which the first is not 0
+abbrev pub starts_number : List ℕ → Bool
+starts_number t = (length t == 1) || (nat_lt 1 (length t) && not (slice_index t 0 == 48))
+
+abbrev pub is_number : List ℕ → Bool
+is_number t = starts_number t && all_ascii_digits t
+
+abbrev pub in_range : ℕ → Result ℕ Flaw
+in_range n = if nat_lt n (2 ^ 32) then Ok n else Err Number
+
+abbrev pub number_in : List ℕ → Result ℕ Flaw
+number_in t = if is_number t then in_range (digits_value 10 t) else Err Form
+
+abbrev pub named : {A : Type 0} → (List ℕ → Option A) → List ℕ → Result A Flaw
+named find t = if is_name t then found (find t) else Err Form

@@ -1,0 +1,26 @@
+//! Laws over the definitions.
+ghost use Rattle.std.specs.Prelude.{◌≡◌, ◌<◌, ◌≤◌, ◌-◌, ◌^◌, ℕ, List, Ok, length, map};
+ghost use Rattle.std.specs.List.{All, count_by};
+ghost use Rattle.metis_ids.specs.declared.plans.Plan.{Plan};
+ghost use Rattle.metis_universe.specs.Config.{empty};
+ghost use Rattle.metis_universe.specs.Numbers.{IsOf};
+ghost use Rattle.metis_universe.specs.Step.{IsRun};
+ghost use Rattle.metis_universe.specs.Universe.{Universe, IsTable, pair_count};
+ghost use Rattle.metis_universe.specs.Waits.{numbers};
+ghost use Rattle.metis_text.specs.PlanText.{IsWellFormed, makes, plan_bytes};
+ghost use Rattle.metis_text.specs.Reading.{Parts, plan_in};
+ghost use Rattle.metis_text.specs.Reads.{said};
+ghost use Rattle.metis_waits.specs.Waits.{waits_on_others};
+
+/// A text is read exactly where it is that of a plan with lists that is well formed, and then as this plan.
+pub fn well_formed_is_read()
+    ensures { (u : Universe) (p : Plan) (after : List (List ℕ)) → IsTable u → IsWellFormed u p after → plan_in u (plan_bytes u p after) ≡ Ok (said p after) }
+{}
+
+/// The text that is written for a plan whose actions are a run from the empty configuration is read as this plan.
+pub fn written_run_is_read()
+    ensures { (u : Universe) (p : Plan) → IsTable u → IsRun u empty p.actions.items → All (IsOf u) p.actions.items → All (λ d. d.pair < pair_count u) p.dups.items → All (λ d. 2 ≤ length d.cycle.items) p.dups.items
+        → p.instances ≡ count_by makes p.actions.items
+        → length (plan_bytes u p (map (waits_on_others p.actions.items) (numbers p.actions.items))) < 2 ^ 32 - 1
+        → plan_in u (plan_bytes u p (map (waits_on_others p.actions.items) (numbers p.actions.items))) ≡ Ok (said p (map (waits_on_others p.actions.items) (numbers p.actions.items))) }
+{}

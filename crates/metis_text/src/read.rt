@@ -1,0 +1,139 @@
+//! Reads the text of a plan.
+ghost use Rattle.std.specs.Prelude.{◌≡◌, ◌<◌, ◌-◌, ◌^◌, IfOk, [], codes, length, map};
+ghost use Rattle.metis_text.specs.Flaws.{made};
+ghost use Rattle.metis_text.specs.Reading.{counts_in, counts_of_tokens, counted, dups_from, exactly, parts, plan_in, read_next, rows_from, rows_of};
+ghost use Rattle.metis_text.specs.Reads.{Reads, ReadsPlan, dup_row, numbers_of, parts_of};
+
+use crate::action_line::row_in;
+use crate::cursor::Lines;
+use crate::dup_line::dup_in;
+use crate::fault::TFault;
+use crate::flaw::{Flaw, both};
+use crate::plan_text::PlanText;
+use crate::rows::Rows;
+use crate::tokens::{is, number_in, tokens_of};
+use metis_ids::{Action, Dup, Plan};
+use metis_universe::Universe;
+use std::alloc::Global;
+
+/// The numbers in the second line.
+#[derive(Clone, Copy)]
+pub struct Counts {
+    pub instances: u32,
+    pub actions: u32,
+    pub dups: u32,
+}
+
+/// The plan that the bytes say, with the list behind each action, or their first fault.
+pub fn read_plan(alloc: Global, u: &Universe, bytes: &[u8]) -> Result<PlanText, TFault>
+    requires { length bytes.now < 2 ^ 32 - 1 }
+    ensures read { ReadsPlan result (plan_in u.now bytes.now) }
+{
+    let mut lines = Lines::of(bytes);
+    read_exactly("metis plan 1", &mut lines)?;
+    let counts = read_counts(alloc, &mut lines)?;
+    let rows = read_rows(alloc, u, counts.actions, &mut lines)?;
+    let dups = read_dups(alloc, u, counts.dups, &mut lines)?;
+    read_exactly("end", &mut lines)?;
+    lines.ended()?;
+    counted(counts.instances, rows, dups)
+}
+
+// A line of this text.
+fn read_exactly(text: &str, lines: &mut Lines<'_>) -> Result<(), TFault>
+    ensures { Reads (λ x. x) result lines.new (read_next (exactly text.now) lines.old) }
+{
+    if is(lines.next_line()?, text) {
+        Ok(())
+    } else {
+        Err(Flaw::Form.at(lines.number()))
+    }
+}
+
+fn read_counts(alloc: Global, lines: &mut Lines<'_>) -> Result<Counts, TFault>
+    ensures { Reads numbers_of result lines.new (read_next counts_in lines.old) }
+{
+    let line = lines.next_line()?;
+    let tokens = tokens_of(alloc, line)?;
+    match counts_in(&tokens) {
+        Ok(counts) => Ok(counts),
+        Err(flaw) => Err(flaw.at(lines.number())),
+    }
+}
+
+fn counts_in(tokens: &[&[u8]]) -> Result<Counts, Flaw>
+    ensures { made numbers_of result ≡ counts_of_tokens (map (λ t. t.now) tokens.now) }
+{
+    match tokens {
+        [i, instances, a, actions, d, dups]
+            if is(i, "instances") && is(a, "actions") && is(d, "dups") =>
+        {
+            let others = both(number_in(actions), number_in(dups));
+            let (instances, (actions, dups)) = both(number_in(instances), others)?;
+            Ok(Counts {
+                instances,
+                actions,
+                dups,
+            })
+        }
+        _ => Err(Flaw::Form),
+    }
+}
+
+// So many actions.
+fn read_rows(alloc: Global, u: &Universe, count: u32, lines: &mut Lines<'_>) -> Result<Rows, TFault>
+    ensures { Reads (λ rows. rows) result lines.new (rows_from u.now count (rows_of [] []) lines.old) }
+{
+    let mut rows = Rows::new(alloc);
+    for index in 0..count {
+        let line = lines.next_line()?;
+        match row_in(alloc, u, &rows, index + 1, line)? {
+            Ok((action, after)) => rows.add(action, after)?,
+            Err(flaw) => return Err(flaw.at(lines.number())),
+        }
+    }
+    Ok(rows)
+}
+
+// So many dups.
+fn read_dups(
+    alloc: Global,
+    u: &Universe,
+    count: u32,
+    lines: &mut Lines<'_>,
+) -> Result<Vec<Dup>, TFault>
+    ensures { Reads (λ dups. map dup_row dups.items) result lines.new (dups_from u.now count [] lines.old) }
+{
+    let mut dups = Vec::new(alloc);
+    for index in 0..count {
+        let line = lines.next_line()?;
+        match dup_in(alloc, u, index + 1, line)? {
+            Ok(dup) => dups.push(dup)?,
+            Err(flaw) => return Err(flaw.at(lines.number())),
+        }
+    }
+    Ok(dups)
+}
+
+// The instances are as many as the actions make.
+fn counted(instances: u32, rows: Rows, dups: Vec<Dup>) -> Result<PlanText, TFault>
+    ensures { ReadsPlan result (counted (parts instances rows (map dup_row dups.items))) }
+{
+    let made = rows
+        .actions
+        .iter()
+        .filter(|action| matches!(action, Action::New { .. }))
+        .count();
+    if made != instances as usize {
+        return Err(TFault::Line(2));
+    }
+    let plan = Plan {
+        actions: rows.actions,
+        dups,
+        instances,
+    };
+    Ok(PlanText {
+        plan,
+        after: rows.after,
+    })
+}

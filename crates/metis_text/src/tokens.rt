@@ -1,0 +1,139 @@
+//! The tokens of a line that is read.
+ghost use Rattle.std.specs.Prelude.{◌≡◌, ◌==◌, IfOk, IsTrue, MatchOption, false, map};
+ghost use Rattle.std.specs.List.{after_first, before_first};
+ghost use Rattle.std.specs.Str.{bytes_eq};
+ghost use Rattle.metis_text.specs.ActionLine.{due, state_in};
+ghost use Rattle.metis_text.specs.DupLine.{event_in, pair_in};
+ghost use Rattle.metis_text.specs.Tokens.{is_number, named, number_in, starts_number, tokens};
+ghost use Rattle.metis_universe.specs.Names.{is_name};
+ghost use Rattle.metis_universe.specs.Universe.{port_named, type_named};
+
+use crate::flaw::{Flaw, both, found};
+use metis_ids::{Event, LineIx, PairIx, PortIx, StepIx, TypeIx};
+use metis_universe::{Universe, is_name};
+use std::alloc::{AllocError, Global};
+
+/// The parts of the line between its spaces.
+pub fn tokens_of<'a>(alloc: Global, line: &'a [u8]) -> Result<Vec<&'a [u8]>, AllocError>
+    ensures { IfOk result (λ v. map (λ t. t.now) v.items ≡ tokens line.now) }
+{
+    line.split(|byte| *byte == b' ').collect(alloc)
+}
+
+/// Whether the bytes are these of the text.
+pub fn is(bytes: &[u8], text: &str) -> bool
+    ensures { result ≡ bytes_eq bytes.now text.now }
+{
+    bytes == text.as_bytes()
+}
+
+// Whether the token is a number: decimal digits of which the first is 0 only where it stands alone.
+fn is_number(token: &[u8]) -> bool
+    ensures { result ≡ is_number token.now }
+{
+    starts_number(token) && token.iter().all(|byte| byte.is_ascii_digit())
+}
+
+fn starts_number(token: &[u8]) -> bool
+    ensures { result ≡ starts_number token.now }
+{
+    token.len() == 1 || token.len() > 1 && token[0] != b'0'
+}
+
+/// The value of the number that the token is.
+pub fn number_in(token: &[u8]) -> Result<u32, Flaw>
+    ensures { result ≡ number_in token.now }
+{
+    if !is_number(token) {
+        return Err(Flaw::Form);
+    }
+    match str::from_utf8(token) {
+        Ok(digits) => digits.parse::<u32>().ok().ok_or(Flaw::Number),
+        Err(_) => Err(Flaw::Form),
+    }
+}
+
+/// The number that the token is, if it is the one that is due.
+pub fn due(number: u32, token: &[u8]) -> Result<u32, Flaw>
+    ensures { result ≡ due number token.now }
+{
+    match number_in(token) {
+        Ok(n) if n != number => Err(Flaw::Number),
+        read => read,
+    }
+}
+
+// The token as a name.
+fn name_in<'a>(token: &'a [u8]) -> Option<&'a str>
+    ensures { MatchOption result (λ name. (name.now ≡ token.now) × IsTrue (is_name token.now)) (is_name token.now ≡ false) }
+{
+    match str::from_utf8(token) {
+        Ok(name) if is_name(name) => Some(name),
+        _ => None,
+    }
+}
+
+/// The type whose name the token is.
+pub fn type_in(u: &Universe, token: &[u8]) -> Result<TypeIx, Flaw>
+    ensures { result ≡ named (type_named u.now) token.now }
+{
+    match name_in(token) {
+        Some(name) => found(u.type_named(name)),
+        None => Err(Flaw::Form),
+    }
+}
+
+/// The port whose name the token is.
+pub fn port_in(u: &Universe, token: &[u8]) -> Result<PortIx, Flaw>
+    ensures { result ≡ named (port_named u.now) token.now }
+{
+    match name_in(token) {
+        Some(name) => found(u.port_named(name)),
+        None => Err(Flaw::Form),
+    }
+}
+
+/// The pair of the type, if there is one, whose state's name the token is.
+pub fn state_in(u: &Universe, kind: Option<TypeIx>, token: &[u8]) -> Result<PairIx, Flaw>
+    ensures { result ≡ state_in u.now kind token.now }
+{
+    match (name_in(token), kind) {
+        (Some(name), Some(kind)) => found(u.state_named(kind, name)),
+        (Some(_), None) => Err(Flaw::Name),
+        (None, _) => Err(Flaw::Form),
+    }
+}
+
+// What stands before the byte, and what behind it.
+fn cut(token: &[u8], at: u8) -> (&[u8], &[u8])
+    ensures before { result.0.now ≡ before_first (λ byte. byte == at) token.now }
+    ensures behind { result.1.now ≡ after_first (λ byte. byte == at) token.now }
+{
+    match token.iter().position(|byte| *byte == at) {
+        Some(place) => (&token[..place], &token[place + 1..]),
+        None => (token, &[]),
+    }
+}
+
+/// The pair whose type and state the word names, with a colon between them.
+pub fn pair_in(u: &Universe, word: &[u8]) -> Result<PairIx, Flaw>
+    ensures { result ≡ pair_in u.now word.now }
+{
+    let (kind, state) = cut(word, b':');
+    match (name_in(kind), name_in(state)) {
+        (Some(kind), Some(state)) => found(u.pair_named(kind, state)),
+        _ => Err(Flaw::Form),
+    }
+}
+
+/// The end, or a line and a step with a point between them.
+pub fn event_in(token: &[u8]) -> Result<Event, Flaw>
+    ensures { result ≡ event_in token.now }
+{
+    if is(token, "end") {
+        return Ok(Event::End);
+    }
+    let (line, step) = cut(token, b'.');
+    let (line, step) = both(number_in(line), number_in(step))?;
+    Ok(Event::At(LineIx(line), StepIx(step)))
+}
