@@ -6,7 +6,7 @@ ghost use Rattle.metis_universe.specs.Config.{Correct};
 ghost use Rattle.metis_universe.specs.Step.{Allows, Step, after};
 ghost use Rattle.metis_config.specs.Over.{IsOver};
 ghost use Rattle.metis_universe.specs.Numbers.{IsOf};
-ghost use Rattle.metis_actions.specs.Faults.{Answers};
+ghost use Rattle.metis_actions.specs.Faults.{Answers, IsFaultOf};
 
 use crate::AFault;
 use metis_config::Config;
@@ -26,6 +26,9 @@ pub fn apply(u: &Universe, c: &mut Config, a: &Action) -> Result<(), AFault>
     ensures refused { IfErr result (λ f. f ≢ AFault.NoMemory → Allows u.now c.old a.now → Correct u.now (after u.now c.old a.now) → ⊥) }
     ensures correct { Correct u.now c.new }
     ensures over { IsOver u.now c.new }
+
+    // A fault's numbers are the universe's.
+    ensures fault { IfErr result (λ f. f ≢ AFault.NoMemory → IsFaultOf u.now f) }
 {
     let _pairs = u.pairs();
     let _count = c.count();

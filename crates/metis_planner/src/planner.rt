@@ -38,9 +38,11 @@ pub fn plan(alloc: Global, u: &Universe, targets: &[PairIx]) -> Result<Outcome, 
     ensures steadfast { IfPlan result (λ plan. IsTrue (is_steadfast u.now plan.actions.items)) }
     ensures numbers { IfPlan result (λ plan. All (IsOf u.now) plan.actions.items) }
 
-    // It counts its instances, which are few, and so are the actions of each.
+    // It counts its instances, which are few, also since a universe has at most 2,000 pairs, and so are the actions of
+    // each.
     ensures instances { IfPlan result (λ plan. plan.instances ≡ instances_of plan.actions.items) }
     ensures lean { IfPlan result (λ plan. IsLean u.now plan.instances targets.now) }
+    ensures bounded { IfPlan result (λ plan. plan.instances ≤ 2256) }
     ensures short { IfPlan result (λ plan. length plan.actions.items ≤ 321 * plan.instances) }
 
     // The actions are those in the order of the layers, and nothing is doubled.

@@ -3,7 +3,8 @@ use Rattle.std.proofs.Common.{◌≡◌, ℕ, ◌+◌, ◌<◌, ◌≤◌, Bool,
 use Rattle.std.proofs.lemmas.Bool.{false≢true, eqb-true, eq-eqb, or_left, or_right, or_cases}
 use Rattle.std.proofs.lemmas.Bool.Decides.{nat_tests}
 use Rattle.std.proofs.lemmas.List.Sums.{sum_by-cons}
-use Rattle.std.specs.List.{find}
+use Rattle.std.proofs.lemmas.List.Elements.{All-tail}
+use Rattle.std.specs.List.{All, find}
 use Rattle.metis_universe.specs.Config.{Config}
 use Rattle.metis_universe.specs.Goal.{Holds, holding}
 use Rattle.metis_universe.specs.Universe.{has}
@@ -109,3 +110,12 @@ module _ (c : Config) (g : List ℕ) where
     want_is = refl;
     fewer = fewer (holding c p) (places g p) f.passes;
   }
+
+-- what all numbers of a list have, the one that is found has
+pub found_among : (P : ℕ → Type 0) (t : ℕ → Bool) (xs : List ℕ) (p : ℕ) → All P xs → find t xs ≡ Some p → P p
+found_among P t [] p all is = cc
+found_among P t (x ∷ xs) p all is =
+    elim (t x) as (λ b. cond b (Some x) (find t xs) ≡ Some p → P p) [
+      | true ↦ λ e. let same : x ≡ p = cc in subst P same (all 0 x (omega arith))
+      | false ↦ λ e. found_among P t xs p (All-tail P x xs all) e
+    ] is

@@ -1,10 +1,12 @@
 //! Does actions one after the other.
-ghost use Rattle.std.specs.Prelude.{◌≡◌, ◌<◌, ◌-◌, ◌^◌, IsTrue, IfOk, OnOk, OnErr, None};
+ghost use Rattle.std.specs.Prelude.{◌≡◌, ◌<◌, ◌-◌, ◌^◌, IsTrue, IfOk, IfSome, OnOk, OnErr, None};
+ghost use Rattle.std.specs.List.{All};
 ghost use Rattle.metis_universe.specs.Config.{Correct};
 ghost use Rattle.metis_universe.specs.Numbers.{IsOf};
+ghost use Rattle.metis_universe.specs.Universe.{pair_count};
 ghost use Rattle.metis_config.specs.Over.{IsOver};
-ghost use Rattle.metis_actions.specs.Faults.{fault_of, takes_memory};
-ghost use Rattle.metis_replay.specs.Progress.{fed, first_short, left_by, places, start, verdict};
+ghost use Rattle.metis_actions.specs.Faults.{IsFaultOf, fault_of, takes_memory};
+ghost use Rattle.metis_replay.specs.Progress.{IsVerdictOf, fed, first_short, left_by, places, start, verdict};
 
 use crate::Verdict;
 use metis_actions::{AFault, apply};
@@ -32,7 +34,7 @@ impl<'a> Model for Replay<'a> {
 
     ghost view = { λ g. progress_of g.universe.now g.config g.number g.refused };
 
-    ghost invariant = { λ g. IsSound g.universe.now g.config };
+    ghost invariant = { λ g. IsSound g.universe.now g.config g.refused };
 }
 
 impl<'a> Replay<'a> {
@@ -70,7 +72,8 @@ impl<'a> Replay<'a> {
 
     /// What the actions came to, where the targets were asked for.
     pub fn finish(&self, targets: &[PairIx]) -> Verdict
-        ensures { result ≡ verdict self.now targets.now }
+        ensures verdict { result ≡ verdict self.now targets.now }
+        ensures numbers { All (λ p. p < pair_count self.now.universe) targets.now → IsVerdictOf self.now.universe result }
     {
         if let Some((number, fault)) = self.refused {
             return Verdict::Bad(number, fault);
@@ -97,6 +100,7 @@ fn tried(u: &Universe, c: &mut Config, a: &Action) -> Result<Option<AFault>, NoM
     requires correct { Correct u.now c.old }
     requires action { IsOf u.now a.now }
     ensures fault { IfOk result (λ f. f ≡ fault_of u.now c.old a.now) }
+    ensures numbers { IfOk result (λ f. IfSome f (IsFaultOf u.now)) }
     ensures ok { OnOk result (c.new ≡ left_by u.now c.old a.now) }
     ensures err { OnErr result (c.new ≡ c.old) }
     ensures allowed { OnErr result (fault_of u.now c.old a.now ≡ None) }

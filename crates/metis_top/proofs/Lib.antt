@@ -1,4 +1,3 @@
-pub mod ActionLines
 pub mod FileBytes
 pub mod Gathered
 pub mod Items

@@ -8,10 +8,14 @@ use Rattle.metis_top.specs.declared.refusal.Refusal.TheVariants as refusal
 use Rattle.metis_top.specs.declared.status.Status.{Status}
 use Rattle.metis_top.specs.declared.status.Status.TheVariants.{Done, No, ReadFault}
 use Rattle.metis_top.specs.declared.words.Verb.{Verb}
-use Rattle.metis_top.specs.declared.words.Verb.TheVariants.{Plan, Print}
+use Rattle.metis_top.specs.declared.words.Verb.TheVariants.{Plan, Replay, Print}
 use Rattle.metis_top.specs.Answer as answer
 use Rattle.metis_top.specs.Answer.{Answer, IsAnswer}
-use Rattle.metis_top.specs.Commands.{universe_then, judged, or_universe_refused, pairs_named, command_script, script_from}
+use Rattle.metis_replay.specs.declared.verdict.Verdict.{Verdict}
+use Rattle.metis_replay.specs.declared.verdict.Verdict.TheVariants.{Good, Bad, Missing}
+use Rattle.metis_text.specs.Reading.{plan_in}
+use Rattle.metis_top.specs.Commands.{universe_then, judged, or_plan_refused, or_universe_refused, pairs_named, plan_limit, replay_then, command_script, script_from}
+use Rattle.metis_top.specs.Replayed.{verdict_status}
 use Rattle.metis_top.specs.Course.{Ran, Shown, Says, OnShelf, after}
 use Rattle.metis_ujson.specs.Document.{document_limit, universe_in}
 use Rattle.metis_top.specs.Lines.{refusal_status, read_fault_line}
@@ -21,10 +25,16 @@ use Rattle.metis_top.specs.TargetName.{TargetName}
 use Rattle.metis_top.specs.Words.{Form, word_at}
 use Rattle.metis_universe.specs.Universe.{Universe}
 
+verdict_ends : (v : Verdict) (status : Status) → status ≡ verdict_status v → (status ≡ Done) ⊎ (status ≡ No)
+verdict_ends Good status is = inl is
+verdict_ends (Bad k f) status is = inr is
+verdict_ends (Missing p have want) status is = inr is
+
 -- an answer has the status `Done` or `No`
 answer_status : (said : Answer) (text : List ℕ) (status : Status) → IsAnswer said text status → (status ≡ Done) ⊎ (status ≡ No)
 answer_status (answer.Plan u targets) text status (inl is) = inl is.0
 answer_status (answer.Plan u targets) text status (inr is) = inr is.0
+answer_status (answer.Replay u targets actions) text status is = verdict_ends is.verdict status is.is
 answer_status (answer.Print u) text status is = inl is.1
 
 not_read_fault : (status : Status) → (status ≡ Done) ⊎ (status ≡ No) → status ≡ ReadFault → ⊥
@@ -35,6 +45,7 @@ not_refused : (refusal : Refusal) → refusal_status refusal ≡ ReadFault → �
 not_refused (Word place) is = cc
 not_refused (TooLong place) is = cc
 not_refused (refusal.Universe fault) is = cc
+not_refused (refusal.PlanText fault) is = cc
 
 Numbered-after : (taken : List (List ℕ)) (script : Script) (first : ℕ) → Numbered first script → Numbered (first + length taken) (after taken script)
 Numbered-after [] script first n = subst (λ k. Numbered k script) (omega arith) n
@@ -73,9 +84,14 @@ numbered_judged k next (Err refusal) n = tt
 numbered_universe : (place : ℕ) (name : List ℕ) (next : Universe → Script) → ((u : Universe) → Numbered (suc place) (next u)) → Numbered place (universe_then place name next)
 numbered_universe place name next n = (refl, λ bytes. numbered_if (suc place) (nat_le (length bytes) document_limit) (judged next (or_universe_refused (universe_in bytes))) (TooLong place) (numbered_judged (suc place) next (or_universe_refused (universe_in bytes)) n))
 
+numbered_replay : (u : Universe) (g plan : List ℕ) → Numbered 3 (replay_then plan (u, g))
+numbered_replay u g plan = (refl, λ bytes. numbered_if 4 (nat_le (length bytes) plan_limit) (judged (λ parts. Reply (answer.Replay u g parts.rows.actions)) (or_plan_refused (plan_in u bytes))) (TooLong 3)
+    (numbered_judged 4 (λ parts. Reply (answer.Replay u g parts.rows.actions)) (or_plan_refused (plan_in u bytes)) (λ parts. tt)))
+
 -- the script of each command
 numbered_command : (verb : Verb) (files : List (List ℕ)) (targets : List TargetName) → Numbered 2 (command_script verb files targets)
 numbered_command Plan files targets = numbered_universe 2 (word_at files 0) _ (λ u. numbered_judged 3 (λ g. Reply (answer.Plan u g)) (pairs_named 3 u targets) (λ g. tt))
+numbered_command Replay files targets = numbered_universe 2 (word_at files 0) _ (λ u. numbered_judged 3 (λ g. replay_then (word_at files 1) (u, g)) (pairs_named 4 u targets) (λ g. numbered_replay u g (word_at files 1)))
 numbered_command Print files targets = numbered_universe 2 (word_at files 0) _ (λ u. tt)
 
 numbered_script : (form : Result Form ℕ) → Numbered 2 (script_from form)

@@ -1,9 +1,11 @@
 -- Runs that come to their answer.
-use Rattle.std.proofs.Common.{◌≡◌, ℕ, List, [], length, Ok, refl, sym, ap, ◌∙◌, subst, inl, inr}
+use Rattle.std.proofs.Common.{◌≡◌, ℕ, List, [], ◌∷◌, length, Ok, refl, sym, ap, ◌∙◌, subst, inl, inr, arith}
+use Rattle.std.specs.List.{count_by}
 use Rattle.std.specs.Prelude.{IsTrue}
 use Rattle.std.specs.declared.option.Option.{Option}
 use Rattle.metis_ids.specs.declared.actions.Action.{Action}
-use Rattle.metis_ids.specs.declared.plans.Dup.{Dup}
+use Rattle.metis_ids.specs.declared.actions.Action.TheVariants.{New, Delete, Bind, Unbind, Move}
+use Rattle.metis_ids.specs.declared.plans.Plan.{Plan}
 use Rattle.metis_layers.specs.LayerOrder.{instances_of}
 use Rattle.metis_universe.proofs.Inside.{refused}
 use Rattle.metis_universe.specs.Closed.{Refusal}
@@ -13,11 +15,15 @@ use Rattle.metis_universe.specs.Steadfast.{is_steadfast}
 use Rattle.metis_universe.specs.Step.{IsRun, after_all}
 use Rattle.metis_universe.specs.Universe.{Universe}
 use Rattle.metis_planner.specs.Outcomes.{IsLean}
+use Rattle.metis_replay.specs.Exact.{Tells}
+use Rattle.metis_replay.specs.declared.verdict.Verdict.{Verdict}
+use Rattle.metis_replay.specs.declared.verdict.Verdict.TheVariants.{Good, Bad, Missing}
 use Rattle.metis_top.specs.Answer.{Answer, IsAnswer}
 use Rattle.metis_top.specs.Course.{Gathers, Ran, Shown, Says, OnShelf}
-use Rattle.metis_top.specs.PlanText.{plan_text}
-use Rattle.metis_top.specs.Planned.{IsPlan, PlanAnswer}
+use Rattle.metis_text.specs.PlanText.{makes}
+use Rattle.metis_top.specs.Planned.{IsPlan, PlanAnswer, plan_text}
 use Rattle.metis_top.specs.RefusalText.{refusal_text}
+use Rattle.metis_top.specs.Replayed.{Replayed, good_line, standing_after, verdict_line, verdict_status}
 use Rattle.metis_top.specs.Script.{Script, Reply}
 use Rattle.metis_top.specs.declared.status.Status.{Status}
 use Rattle.metis_top.specs.declared.status.Status.TheVariants.{Done, No}
@@ -34,13 +40,30 @@ ran_replied files faults opens written sink_faults view part next shelf shelf' s
     let Q : Script → Type 0 = λ script. Shown (Says script) (written sink) (written sink') (sink_faults sink) (sink_faults sink') status in
     record { taken = g.taken; asked = g.asked next; reads = subst P (sym is) (g.came.1, g.came.2); puts = subst Q (sym is) s }
 
+-- the instances that actions make, counted in two ways
+counts_as_made : (actions : List Action) → instances_of actions ≡ count_by makes actions
+counts_as_made [] = refl
+counts_as_made (New z t ∷ actions) = search (rules, counts_as_made actions)
+counts_as_made (Delete z ∷ actions) = search (rules, counts_as_made actions)
+counts_as_made (Bind r z y ∷ actions) = search (rules, counts_as_made actions)
+counts_as_made (Unbind r z y ∷ actions) = search (rules, counts_as_made actions)
+counts_as_made (Move z p q ∷ actions) = search (rules, counts_as_made actions)
+
 -- the text of a plan answers
-pub answer_by_plan : (u : Universe) (g : List ℕ) (actions : List Action) (dups : List Dup) → IsRun u empty actions → Holds (after_all u empty actions) g → IsTrue (is_steadfast u actions)
-    → IsLean u (instances_of actions) g → dups ≡ [] → PlanAnswer u g (plan_text u actions (length dups)) Done
-answer_by_plan u g actions dups runs holds steadfast lean none =
-    let plan : IsPlan u g actions = record { runs = runs; holds = holds; steadfast = steadfast; attained = lean.attained; all = lean.all; few = lean.few } in
-    inl (refl, record { attains = (actions, runs, holds); actions = actions; plan = plan; told = ap (λ l. plan_text u actions (length l)) none })
+pub answer_by_plan : (u : Universe) (g : List ℕ) (p : Plan) → IsRun u empty p.actions.items → Holds (after_all u empty p.actions.items) g → IsTrue (is_steadfast u p.actions.items)
+    → p.instances ≡ instances_of p.actions.items → IsLean u p.instances g → PlanAnswer u g (plan_text u p) Done
+answer_by_plan u g p runs holds steadfast counts lean =
+    let counted : p.instances ≡ count_by makes p.actions.items = counts ∙ counts_as_made p.actions.items in
+    let is : IsPlan u g p.actions.items = record { runs = runs; holds = holds; steadfast = steadfast; attained = lean.attained; all = lean.all; few = omega (arith, counted, lean.few) } in
+    inl (refl, record { attains = (p.actions.items, runs, holds); plan = p; is = is; counted = counted; told = refl })
 
 -- the text of a refusal answers
 pub answer_by_refusal : (u : Universe) (g s : List ℕ) (p : ℕ) → IsAttainedSet u s → Refusal u g s p → PlanAnswer u g (refusal_text u s p) No
 answer_by_refusal u g s p all refusal = inr (refl, record { unattained = refused u g s p refusal; set = s; lacking = p; refusal = record { refusal = refusal; all = all }; told = refl })
+
+-- the line of a verdict answers
+pub answer_by_verdict : (u : Universe) (g : List ℕ) (actions : List Action) (v : Verdict) (standing : ℕ) → Tells u actions g v → (v ≡ Good → standing ≡ standing_after u actions)
+    → Replayed u g actions (verdict_line u standing (length actions) v) (verdict_status v)
+answer_by_verdict u g actions Good standing tells stands = record { verdict = Good; tells = tells; told = ap (λ n. good_line n (length actions)) (stands refl); is = refl }
+answer_by_verdict u g actions (Bad n f) standing tells stands = record { verdict = Bad n f; tells = tells; told = refl; is = refl }
+answer_by_verdict u g actions (Missing p have want) standing tells stands = record { verdict = Missing p have want; tells = tells; told = refl; is = refl }

@@ -5,8 +5,10 @@ use Rattle.metis_top.specs.declared.refusal.Refusal.{Refusal}
 use Rattle.metis_top.specs.declared.refusal.Refusal.TheVariants.{Word, TooLong}
 use Rattle.metis_top.specs.declared.refusal.Refusal.TheVariants as refusal
 use Rattle.metis_top.specs.declared.words.Verb.{Verb}
-use Rattle.metis_top.specs.declared.words.Verb.TheVariants.{Plan, Print}
+use Rattle.metis_top.specs.declared.words.Verb.TheVariants.{Plan, Replay, Print}
 use Rattle.metis_top.specs.Answer as answer
+use Rattle.metis_text.specs.Reading.{Parts, plan_in}
+use Rattle.metis_text.specs.declared.fault.TFault.{TFault}
 use Rattle.metis_ujson.specs.Document.{document_limit, universe_in}
 use Rattle.metis_ujson.specs.declared.faults.UFault.{UFault}
 use Rattle.metis_top.specs.Script.{Script, Read, Refuse, Reply}
@@ -55,12 +57,35 @@ pairs_named place u targets = pairs_after [] place u targets
 abbrev pub targets_then : ℕ → Universe → List TargetName → (List ℕ → Script) → Script
 targets_then place u targets next = judged next (pairs_named place u targets)
 
--- reads the universe, and goes on with it and the targets' pairs
-abbrev pub goal_then : List ℕ → List TargetName → (Universe × List ℕ → Script) → Script
-goal_then file targets next = universe_then 2 file (λ u. targets_then 3 u targets (λ pairs. next (u, pairs)))
+-- reads the universe, and goes on with it and the pairs of the targets, whose words begin at this place
+abbrev pub goal_then : ℕ → List ℕ → List TargetName → (Universe × List ℕ → Script) → Script
+goal_then place file targets next = universe_then 2 file (λ u. targets_then place u targets (λ pairs. next (u, pairs)))
+
+-- the most bytes of a plan's text
+abbrev pub plan_limit : ℕ
+plan_limit = 268435456
+
+abbrev pub or_plan_refused : Result Parts TFault → Result Parts Refusal
+or_plan_refused (Ok plan) = Ok plan
+or_plan_refused (Err fault) = Err (refusal.PlanText fault)
+
+-- goes on with what the bytes say as the text of a plan
+abbrev pub plan_in_then : Universe → List ℕ → (Parts → Script) → Script
+plan_in_then u bytes next = judged next (or_plan_refused (plan_in u bytes))
+
+-- the same of the file of the word at this place
+abbrev pub plan_then : ℕ → Universe → List ℕ → (Parts → Script) → Script
+plan_then place u name next = bytes_then place name plan_limit (λ bytes. plan_in_then u bytes next)
 
 abbrev pub plan_script : List ℕ → List TargetName → Script
-plan_script file targets = goal_then file targets (λ goal. Reply (answer.Plan goal.0 goal.1))
+plan_script file targets = goal_then 3 file targets (λ goal. Reply (answer.Plan goal.0 goal.1))
+
+-- what a replay does once it has its universe and its targets
+abbrev pub replay_then : List ℕ → Universe × List ℕ → Script
+replay_then plan goal = plan_then 3 goal.0 plan (λ parts. Reply (answer.Replay goal.0 goal.1 parts.rows.actions))
+
+abbrev pub replay_script : List ℕ → List ℕ → List TargetName → Script
+replay_script file plan targets = goal_then 4 file targets (replay_then plan)
 
 abbrev pub print_script : List ℕ → Script
 print_script file = universe_then 2 file (λ u. Reply (answer.Print u))
@@ -68,6 +93,7 @@ print_script file = universe_then 2 file (λ u. Reply (answer.Print u))
 -- the script of each command
 abbrev pub command_script : Verb → List (List ℕ) → List TargetName → Script
 command_script Plan files targets = plan_script (word_at files 0) targets
+command_script Replay files targets = replay_script (word_at files 0) (word_at files 1) targets
 command_script Print files targets = print_script (word_at files 0)
 
 -- the script of a run from its words

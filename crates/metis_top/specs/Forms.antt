@@ -1,14 +1,16 @@
 -- How many words of each kind a command has.
 use Rattle.std.specs.Prelude.{ℕ}
 use Rattle.metis_top.specs.declared.words.Verb.{Verb}
-use Rattle.metis_top.specs.declared.words.Verb.TheVariants.{Plan, Print}
+use Rattle.metis_top.specs.declared.words.Verb.TheVariants.{Plan, Replay, Print}
 
 -- exactly so many file words
 abbrev pub file_count : Verb → ℕ
 file_count Plan = 1
+file_count Replay = 2
 file_count Print = 1
 
 -- at most so many target words
 abbrev pub target_limit : Verb → ℕ
 target_limit Plan = 256
+target_limit Replay = 256
 target_limit Print = 0

@@ -3,13 +3,12 @@ pub mod Commands
 pub mod Course
 pub mod Forms
 pub mod Honest
-pub mod Line
 pub mod Lines
 pub mod Numbered
 pub mod Openings
-pub mod PlanText
 pub mod Planned
 pub mod RefusalText
+pub mod Replayed
 pub mod Script
 pub mod Statuses
 pub mod TargetName

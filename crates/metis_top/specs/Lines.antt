@@ -5,6 +5,8 @@ use Rattle.metis_outside.specs.declared.trouble.Trouble.TheVariants as trouble
 use Rattle.metis_ujson.specs.declared.faults.UFault.{UFault}
 use Rattle.metis_ujson.specs.declared.faults.UFault.TheVariants.{NotJson, NotUniverse, TypeForm, TypeName, TypeTwice, StateForm, StateName, StateTwice, NoInitial, UnknownNext, PortName, Limit}
 use Rattle.metis_ujson.specs.declared.faults.UFault.TheVariants as ufault
+use Rattle.metis_text.specs.declared.fault.TFault.{TFault}
+use Rattle.metis_text.specs.declared.fault.TFault.TheVariants as tfault
 use Rattle.metis_universe.specs.declared.faults.LimitKind.{LimitKind}
 use Rattle.metis_universe.specs.declared.faults.LimitKind.TheVariants.{States, Requires, Pairs, Ports}
 use Rattle.metis_top.specs.declared.refusal.Refusal.{Refusal}
@@ -40,15 +42,25 @@ universe_line (Limit kind n) = limit_line kind n
 universe_line ufault.NoMemory = []
 universe_line fault = state_line fault
 
+-- the first fault of a plan's text; want of memory is none
+abbrev pub plan_fault_line : TFault → List ℕ
+plan_fault_line (tfault.Line n) = codes "bad plan line " ++ (decimal n ++ codes "\n")
+plan_fault_line tfault.Short = codes "bad plan short\n"
+plan_fault_line (tfault.Name n) = codes "bad plan name " ++ (decimal n ++ codes "\n")
+plan_fault_line (tfault.Number n) = codes "bad plan number " ++ (decimal n ++ codes "\n")
+plan_fault_line tfault.NoMemory = []
+
 abbrev pub refusal_line : Refusal → List ℕ
 refusal_line (Word place) = codes "bad word " ++ (decimal place ++ codes "\n")
 refusal_line (TooLong place) = codes "too long " ++ (decimal place ++ codes "\n")
 refusal_line (refusal.Universe fault) = universe_line fault
+refusal_line (refusal.PlanText fault) = plan_fault_line fault
 
 abbrev pub refusal_status : Refusal → Status
 refusal_status (Word place) = BadWords
 refusal_status (TooLong place) = BadInput
 refusal_status (refusal.Universe fault) = BadInput
+refusal_status (refusal.PlanText fault) = BadInput
 
 abbrev pub read_fault_line : ℕ → List ℕ
 read_fault_line place = codes "read fault " ++ (decimal place ++ codes "\n")

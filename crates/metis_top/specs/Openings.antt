@@ -1,8 +1,9 @@
 -- How many files a run opens.
 --     IsLast script      it reads no further file
---     OpensFiles form status opens opens'      one file where the words are a command, and else none; at want of memory perhaps none
-use Rattle.std.specs.Prelude.{◌≡◌, ◌⊎◌, ℕ, Result, Ok, Err}
+--     OpensFiles form status opens opens'      at least one file and at most those of its words, where the words are a command, and else none; at want of memory perhaps none
+use Rattle.std.specs.Prelude.{◌≡◌, ◌⊎◌, ◌≤◌, ℕ, Result, Ok, Err}
 use Rattle.metis_top.specs.Course.{opened}
+use Rattle.metis_top.specs.Forms.{file_count}
 use Rattle.metis_top.specs.Script.{Script, Read, Refuse, Reply}
 use Rattle.metis_top.specs.Words.{Form}
 use Rattle.metis_top.specs.declared.status.Status.{Status}
@@ -13,6 +14,13 @@ IsLast (Read place name limit next) = ⊥
 IsLast (Refuse refusal) = Unit {0}
 IsLast (Reply answer) = Unit {0}
 
+-- so many files, of at most these
+pub record OpensSome (files : ℕ) (status : Status) (opens opens' : ℕ) : Type 0 where
+  pub count : ℕ
+  pub openings : opens' ≡ opened opens count
+  pub most : count ≤ files
+  pub some : (status ≡ NoMemory) ⊎ (1 ≤ count)
+
 abbrev pub OpensFiles : Result Form ℕ → Status → ℕ → ℕ → Type 0
 OpensFiles (Err place) status opens opens' = opens' ≡ opens
-OpensFiles (Ok form) status opens opens' = (opens' ≡ opened opens 1) ⊎ ((status ≡ NoMemory) × (opens' ≡ opens))
+OpensFiles (Ok form) status opens opens' = OpensSome (file_count form.verb) status opens opens'

@@ -1,17 +1,21 @@
 -- What is said of targets in a universe: a plan, or a refusal.
 --     IsPlan u g actions      run from the empty configuration, the actions meet only correct configurations and end with every target, and no provider leaves its pair while a binding to it stands
+--     plan_text u p      the text of a plan in which each action names the actions of other instances that it waits for
 --     IsRefusal u g s p      s is the set of all attainable pairs, it is closed, and p is the first target that it lacks
 --     PlanAnswer u g text status      the text is that of such a plan where some actions attain the targets, and else of such a refusal
-use Rattle.std.specs.Prelude.{◌≡◌, ◌⊎◌, ℕ, ◌+◌, ◌≤◌, List, length, IsTrue}
+use Rattle.std.specs.Prelude.{◌≡◌, ◌⊎◌, ℕ, ◌+◌, ◌≤◌, List, length, map, IsTrue}
+use Rattle.std.specs.List.{count_by}
 use Rattle.metis_ids.specs.declared.actions.Action.{Action}
+use Rattle.metis_ids.specs.declared.plans.Plan.{Plan}
 use Rattle.metis_universe.specs.Universe.{Universe}
 use Rattle.metis_universe.specs.Config.{empty}
 use Rattle.metis_universe.specs.Step.{IsRun, after_all}
 use Rattle.metis_universe.specs.Goal.{Holds, Attains, IsAttainedSet}
 use Rattle.metis_universe.specs.Steadfast.{is_steadfast}
 use Rattle.metis_universe.specs.Closed.{Refusal}
-use Rattle.metis_layers.specs.LayerOrder.{instances_of}
-use Rattle.metis_top.specs.PlanText.{plan_text}
+use Rattle.metis_text.specs.PlanText.{makes, plan_bytes}
+use Rattle.metis_universe.specs.Waits.{numbers}
+use Rattle.metis_waits.specs.Waits.{waits_on_others}
 use Rattle.metis_top.specs.RefusalText.{refusal_text}
 use Rattle.metis_top.specs.declared.status.Status.{Status}
 use Rattle.metis_top.specs.declared.status.Status.TheVariants.{Done, No}
@@ -23,17 +27,22 @@ pub record IsPlan (u : Universe) (g : List ℕ) (actions : List Action) : Type 0
   pub steadfast : IsTrue (is_steadfast u actions)
   pub attained : List ℕ
   pub all : IsAttainedSet u attained
-  pub few : instances_of actions ≤ length attained + length g
+  pub few : count_by makes actions ≤ length attained + length g
 
 pub record IsRefusal (u : Universe) (g s : List ℕ) (p : ℕ) : Type 0 where
   pub refusal : Refusal u g s p
   pub all : IsAttainedSet u s
 
+abbrev pub plan_text : Universe → Plan → List ℕ
+plan_text u p = plan_bytes u p (map (waits_on_others p.actions.items) (numbers p.actions.items))
+
+-- It counts its instances.
 pub record Plans (u : Universe) (g text : List ℕ) : Type 0 where
   pub attains : Attains u g
-  pub actions : List Action
-  pub plan : IsPlan u g actions
-  pub told : text ≡ plan_text u actions 0
+  pub plan : Plan
+  pub is : IsPlan u g plan.actions.items
+  pub counted : plan.instances ≡ count_by makes plan.actions.items
+  pub told : text ≡ plan_text u plan
 
 pub record Refuses (u : Universe) (g text : List ℕ) : Type 0 where
   pub unattained : Attains u g → ⊥

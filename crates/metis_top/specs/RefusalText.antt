@@ -1,13 +1,10 @@
 -- The text of a refusal: a set of pairs, and a target that is not in it.
---     pair_word u p      the names of a pair's type and state, with a colon between them
 --     refusal_text u s p      the whole text
 use Rattle.std.specs.Prelude.{ℕ, List, [], ◌∷◌, ◌++◌, length, codes, decimal}
 use Rattle.std.specs.List.{flat_map}
-use Rattle.metis_top.specs.Line.{line}
-use Rattle.metis_universe.specs.Universe.{Universe, type_of, type_name_of, state_name_of}
-
-abbrev pub pair_word : Universe → ℕ → List ℕ
-pair_word u p = type_name_of u (type_of u p) ++ (codes ":" ++ state_name_of u p)
+use Rattle.metis_text.specs.Line.{line}
+use Rattle.metis_text.specs.PlanText.{pair_word}
+use Rattle.metis_universe.specs.Universe.{Universe}
 
 abbrev pub pair_line : Universe → ℕ → List ℕ
 pair_line u p = line (pair_word u p ∷ [])

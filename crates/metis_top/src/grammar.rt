@@ -27,6 +27,8 @@ fn verb_named(word: &str) -> Option<Verb>
 {
     if word == "plan" {
         Some(Verb::Plan)
+    } else if word == "replay" {
+        Some(Verb::Replay)
     } else if word == "print" {
         Some(Verb::Print)
     } else {

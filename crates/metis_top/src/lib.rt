@@ -3,14 +3,15 @@
 
 mod grammar;
 mod plan;
-mod plan_text;
 mod print;
 mod reading;
 mod refusal;
 mod refusal_text;
+mod replay;
 mod status;
 mod stop;
 mod top;
+mod verdict_line;
 mod words;
 
 pub use grammar::read_words;

@@ -1,21 +1,28 @@
 //! The command that plans.
-ghost use Rattle.std.specs.Prelude.{◌≡◌, ◌<◌, ◌≤◌, length};
+ghost use Rattle.std.specs.Prelude.{◌≡◌, ◌<◌, ◌≤◌, ◌-◌, ◌^◌, [], IfOk, IsTrue, length};
 ghost use Rattle.std.specs.List.{All};
+ghost use Rattle.metis_universe.specs.Numbers.{IsOf};
+ghost use Rattle.metis_universe.specs.Steadfast.{is_steadfast};
 ghost use Rattle.metis_universe.specs.Universe.{pair_count};
+ghost use Rattle.metis_waits.specs.Waits.{AreWaits};
 ghost use Rattle.metis_top.specs.Answer as answer;
 ghost use Rattle.metis_top.specs.Commands.{plan_script};
 ghost use Rattle.metis_top.specs.Course.{Ran, Shown};
+ghost use Rattle.metis_top.specs.Planned.{plan_text};
+ghost use Rattle.metis_outside.specs.Faults.{CountsFault};
+ghost use Rattle.metis_outside.specs.Writes.{Writes};
 
 use crate::Status;
-use crate::plan_text::write_plan;
 use crate::reading::goal_from;
 use crate::refusal_text::write_refusal;
 use crate::stop::{end, said};
 use crate::words::TargetWord;
-use metis_ids::PairIx;
-use metis_outside::{Shelf, Sink};
+use metis_ids::{Action, NoMemory, PairIx, Plan};
+use metis_outside::{Shelf, Sink, Trouble};
 use metis_planner::{Outcome, plan};
+use metis_text::write_plan;
 use metis_universe::Universe;
+use metis_waits::{WFault, Waits, waits};
 use std::alloc::Global;
 
 /// Reads the universe, and puts a plan for the targets, or a refusal where nothing attains them.
@@ -29,7 +36,7 @@ pub fn plan_file<H: Shelf, K: Sink>(
     requires { length targets.now ≤ 256 }
     ensures { Ran H.files H.faults H.opens K.written K.faults (plan_script file.now targets.now) shelf.old shelf.new out.old out.new result }
 {
-    match goal_from(alloc, shelf, file, targets) {
+    match goal_from(alloc, shelf, file, 3, targets) {
         Ok((universe, pairs)) => put_plan(alloc, &universe, &pairs, out),
         Err(stop) => end(alloc, stop, out),
     }
@@ -41,10 +48,45 @@ fn put_plan<K: Sink>(alloc: Global, u: &Universe, targets: &[PairIx], out: &mut 
     ensures { Shown (answer.IsAnswer (answer.Plan u.now targets.now)) (K.written out.old) (K.written out.new) (K.faults out.old) (K.faults out.new) result }
 {
     match plan(alloc, u, targets) {
-        Ok(Outcome::Plan(plan)) => said(write_plan(alloc, u, &plan, out), Status::Done),
+        Ok(Outcome::Plan(plan)) => said(write_actions(alloc, u, &plan, out), Status::Done),
         Ok(Outcome::Closed(set, lacking)) => {
             said(write_refusal(alloc, u, &set, lacking, out), Status::No)
         }
         Err(_) => Status::NoMemory,
+    }
+}
+
+// Puts the plan, each action with the actions of other instances that it waits for.
+#[tactic(auto, using(metis_outside::proofs::Writing::front_of_nothing))]
+fn write_actions<K: Sink>(
+    alloc: Global,
+    u: &Universe,
+    plan: &Plan,
+    out: &mut K,
+) -> Result<(), Trouble>
+    requires numbers { All (IsOf u.now) plan.now.actions.items }
+    requires steadfast { IsTrue (is_steadfast u.now plan.now.actions.items) }
+    requires few { length plan.now.actions.items < 2 ^ 32 - 1 }
+    requires dups { plan.now.dups.items ≡ [] }
+    ensures text { Writes (plan_text u.now plan.now) (K.written out.old) (K.written out.new) result }
+    ensures cause { CountsFault (K.faults out.old) (K.faults out.new) result }
+{
+    match waits_in(alloc, u, &plan.actions) {
+        Ok(waits) => write_plan(alloc, u, plan, &waits, out),
+        Err(_) => Err(Trouble::NoMemory),
+    }
+}
+
+// What each action waits for. No provider leaves its pair while a binding to it stands, so there is no loose action.
+fn waits_in(alloc: Global, u: &Universe, actions: &[Action]) -> Result<Waits, NoMemory>
+    requires numbers { All (IsOf u.now) actions.now }
+    requires steadfast { IsTrue (is_steadfast u.now actions.now) }
+    requires few { length actions.now < 2 ^ 32 - 1 }
+    ensures { IfOk result (AreWaits actions.now) }
+{
+    match waits(alloc, u, actions) {
+        Ok(waits) => Ok(waits),
+        Err(WFault::NoMemory) => Err(NoMemory),
+        Err(WFault::Loose(_)) => unreachable!(),
     }
 }

@@ -1,17 +1,23 @@
 //! From files to what they mean.
-ghost use Rattle.std.specs.Prelude.{◌≡◌, ◌<◌, ◌≤◌, ◌^◌, length, IfOk};
+ghost use Rattle.std.specs.Prelude.{◌≡◌, ◌<◌, ◌≤◌, ◌-◌, ◌^◌, length, IfOk};
 ghost use Rattle.std.specs.List.{All};
 ghost use Rattle.metis_universe.specs.Universe.{pair_count};
-ghost use Rattle.metis_top.specs.Commands.{bytes_then, universe_in_then, universe_then, targets_then, goal_then};
+ghost use Rattle.metis_universe.specs.Numbers.{IsOf};
+ghost use Rattle.metis_text.specs.Reads.{parts_of};
+ghost use Rattle.metis_top.specs.Commands.{bytes_then, universe_in_then, universe_then, targets_then, goal_then, plan_in_then, plan_then};
 ghost use Rattle.metis_top.specs.Course.{Gathers, Judges, or_stop};
 
 use crate::refusal::{Refusal, Stop};
 use crate::words::TargetWord;
 use metis_ids::PairIx;
 use metis_outside::{ReadAnswer, Shelf, read_whole};
+use metis_text::{PlanText, TFault, read_plan};
 use metis_ujson::{UFault, UNIVERSE_LIMIT, read_universe};
 use metis_universe::Universe;
 use std::alloc::Global;
+
+/// The most bytes of a plan's text.
+const PLAN_LIMIT: u64 = 268_435_456;
 
 // What a reading gives, or why it stops the run.
 fn or_stop(read: Result<Vec<u8>, ReadAnswer>, place: u32) -> Result<Vec<u8>, Stop>
@@ -34,7 +40,8 @@ fn bytes_from<H: Shelf>(
     limit: u64,
 ) -> Result<Vec<u8>, Stop>
     requires { limit < 2 ^ 63 }
-    ensures { Gathers H.files H.faults H.opens (λ bytes. bytes.items) (bytes_then place name.now limit) shelf.old shelf.new result }
+    ensures gathers { Gathers H.files H.faults H.opens (λ bytes. bytes.items) (bytes_then place name.now limit) shelf.old shelf.new result }
+    ensures few { IfOk result (λ bytes. length bytes.items ≤ limit) }
 {
     or_stop(read_whole(alloc, shelf, name, limit), place)
 }
@@ -63,10 +70,16 @@ pub fn universe_from<H: Shelf>(
     universe_in(alloc, &bytes)
 }
 
-/// The pairs that the target words name, the first of which is the word at place 3.
-fn pairs_in(alloc: Global, u: &Universe, targets: &[TargetWord]) -> Result<Vec<PairIx>, Stop>
-    requires { length targets.now ≤ 256 }
-    ensures judges { Judges (λ pairs. pairs.items) (targets_then 3 u.now targets.now) result }
+/// The pairs that the target words name, the first of which is the word at this place.
+fn pairs_in(
+    alloc: Global,
+    u: &Universe,
+    place: u32,
+    targets: &[TargetWord],
+) -> Result<Vec<PairIx>, Stop>
+    requires few { length targets.now ≤ 256 }
+    requires place { place ≤ 4 }
+    ensures judges { Judges (λ pairs. pairs.items) (targets_then place u.now targets.now) result }
     ensures few { IfOk result (λ pairs. length pairs.items ≤ 256) }
     ensures within { IfOk result (λ pairs. All (λ p. p < pair_count u.now) pairs.items) }
 {
@@ -74,25 +87,57 @@ fn pairs_in(alloc: Global, u: &Universe, targets: &[TargetWord]) -> Result<Vec<P
     for (k, target) in targets.iter().enumerate() {
         match u.pair_named(target.kind.as_str(), target.state.as_str()) {
             Some(pair) => pairs.push(pair)?,
-            None => return Err(Stop::Refused(Refusal::Word(k as u32 + 3))),
+            None => return Err(Stop::Refused(Refusal::Word(place + k as u32))),
         }
     }
     Ok(pairs)
 }
 
-/// The universe in the file, and the pairs in it that the target words name.
+/// The universe in the file, and the pairs in it that the target words name, the first of which is the word at this place.
 pub fn goal_from<H: Shelf>(
     alloc: Global,
     shelf: &mut H,
     file: &str,
+    place: u32,
     targets: &[TargetWord],
 ) -> Result<(Universe, Vec<PairIx>), Stop>
-    requires { length targets.now ≤ 256 }
-    ensures gathers { Gathers H.files H.faults H.opens (λ goal. (goal.0, goal.1.items)) (goal_then file.now targets.now) shelf.old shelf.new result }
+    requires few { length targets.now ≤ 256 }
+    requires place { place ≤ 4 }
+    ensures gathers { Gathers H.files H.faults H.opens (λ goal. (goal.0, goal.1.items)) (goal_then place file.now targets.now) shelf.old shelf.new result }
     ensures few { IfOk result (λ goal. length goal.1.items ≤ 256) }
     ensures within { IfOk result (λ goal. All (λ p. p < pair_count goal.0) goal.1.items) }
 {
     let universe = universe_from(alloc, shelf, 2, file)?;
-    let pairs = pairs_in(alloc, &universe, targets)?;
+    let pairs = pairs_in(alloc, &universe, place, targets)?;
     Ok((universe, pairs))
+}
+
+/// What the bytes say as the text of a plan.
+fn plan_in(alloc: Global, u: &Universe, bytes: &[u8]) -> Result<PlanText, Stop>
+    requires { length bytes.now < 2 ^ 32 - 1 }
+    ensures judges { Judges parts_of (plan_in_then u.now bytes.now) result }
+    ensures numbers { IfOk result (λ text. All (IsOf u.now) text.plan.actions.items) }
+    ensures few { IfOk result (λ text. length text.plan.actions.items < 2 ^ 32 - 1) }
+{
+    match read_plan(alloc, u, bytes) {
+        Ok(text) => Ok(text),
+        Err(TFault::NoMemory) => Err(Stop::NoMemory),
+        Err(fault) => Err(Stop::Refused(Refusal::PlanText(fault))),
+    }
+}
+
+/// The plan in the file of the word at this place.
+pub fn plan_from<H: Shelf>(
+    alloc: Global,
+    shelf: &mut H,
+    place: u32,
+    u: &Universe,
+    name: &str,
+) -> Result<PlanText, Stop>
+    ensures gathers { Gathers H.files H.faults H.opens parts_of (plan_then place u.now name.now) shelf.old shelf.new result }
+    ensures numbers { IfOk result (λ text. All (IsOf u.now) text.plan.actions.items) }
+    ensures few { IfOk result (λ text. length text.plan.actions.items < 2 ^ 32 - 1) }
+{
+    let bytes = bytes_from(alloc, shelf, place, name, PLAN_LIMIT)?;
+    plan_in(alloc, u, &bytes)
 }

@@ -1,6 +1,7 @@
 //! Why a run ends before its work.
 ghost use Rattle.std.specs.Prelude.{◌≡◌};
 
+use metis_text::TFault;
 use metis_ujson::UFault;
 use std::alloc::AllocFailed;
 
@@ -13,6 +14,8 @@ pub enum Refusal {
     TooLong(u32),
     /// The document is no universe's.
     Universe(UFault),
+    /// The bytes are no text of a plan.
+    PlanText(TFault),
 }
 
 /// Why a run ends before its work.

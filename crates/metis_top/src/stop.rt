@@ -3,11 +3,12 @@ ghost use Rattle.std.specs.Prelude.{◌≡◌, ◌++◌, IfOk, string_bytes};
 ghost use Rattle.metis_outside.specs.Faults.{CountsFault};
 ghost use Rattle.metis_outside.specs.Writes.{Writes};
 ghost use Rattle.metis_top.specs.Course.{Shown, StopSays, IsJust};
-ghost use Rattle.metis_top.specs.Lines.{refusal_line, universe_line, state_line, limit_line, read_fault_line, said, refusal_status};
+ghost use Rattle.metis_top.specs.Lines.{plan_fault_line, refusal_line, universe_line, state_line, limit_line, read_fault_line, said, refusal_status};
 
 use crate::Status;
 use crate::refusal::{Refusal, Stop};
 use metis_outside::{Sink, Trouble};
+use metis_text::TFault;
 use metis_ujson::UFault;
 use metis_universe::LimitKind;
 use std::alloc::{AllocError, Global};
@@ -19,6 +20,7 @@ fn refusal_line(alloc: Global, refusal: Refusal) -> Result<String, AllocError>
         Refusal::Word(place) => format!(in alloc; "bad word {place}\n"),
         Refusal::TooLong(place) => format!(in alloc; "too long {place}\n"),
         Refusal::Universe(fault) => universe_line(alloc, fault),
+        Refusal::PlanText(fault) => plan_fault_line(alloc, fault),
     }
 }
 
@@ -65,6 +67,18 @@ fn limit_line(alloc: Global, kind: LimitKind, n: u64) -> Result<String, AllocErr
         LimitKind::Requires => format!(in alloc; "bad universe U12 requires {n}\n"),
         LimitKind::Pairs => format!(in alloc; "bad universe U12 pairs {n}\n"),
         LimitKind::Ports => format!(in alloc; "bad universe U12 ports {n}\n"),
+    }
+}
+
+fn plan_fault_line(alloc: Global, fault: TFault) -> Result<String, AllocError>
+    ensures { IfOk result (λ line. string_bytes line ≡ plan_fault_line fault) }
+{
+    match fault {
+        TFault::Line(n) => format!(in alloc; "bad plan line {n}\n"),
+        TFault::Short => String::from_str(alloc, "bad plan short\n"),
+        TFault::Name(n) => format!(in alloc; "bad plan name {n}\n"),
+        TFault::Number(n) => format!(in alloc; "bad plan number {n}\n"),
+        TFault::NoMemory => Ok(String::new(alloc)),
     }
 }
 

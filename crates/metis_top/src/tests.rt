@@ -6,6 +6,7 @@ mod given_words;
 mod paths;
 mod ports;
 mod printed;
+mod replays;
 mod target_lists;
 
 use crate::{Status, run};
@@ -56,6 +57,18 @@ fn one_file(alloc: Global, document: &[u8]) -> Result<Vec<(String, Vec<u8>)>, Al
     Ok(files)
 }
 
+// That file and the file `p.txt`.
+fn two_files(
+    alloc: Global,
+    document: &str,
+    plan: &str,
+) -> Result<Vec<(String, Vec<u8>)>, AllocError> {
+    let mut files = one_file(alloc, document.as_bytes())?;
+    let name = String::from_str(alloc, "p.txt")?;
+    files.push((name, plan.as_bytes().to_vec(alloc)?))?;
+    Ok(files)
+}
+
 // Runs over the file `f.json`. The calls and the puts of these numbers fail.
 fn expect_despite(
     rt: &(impl Abort + AllocGlobal),
@@ -66,9 +79,22 @@ fn expect_despite(
     status: Status,
     text: &str,
 ) -> Result<(), Fail> {
+    let files = one_file(rt.alloc(), document)?;
+    expect_over(rt, line, files, calls, puts, status, text)
+}
+
+// Runs over these files. The calls and the puts of these numbers fail.
+fn expect_over(
+    rt: &(impl Abort + AllocGlobal),
+    line: &str,
+    files: Vec<(String, Vec<u8>)>,
+    calls: &[u32],
+    puts: &[u32],
+    status: Status,
+    text: &str,
+) -> Result<(), Fail> {
     let alloc = rt.alloc();
     let words = words_in(alloc, line)?;
-    let files = one_file(alloc, document)?;
     let mut shelf = MemShelf::new(alloc, files, calls.to_vec(alloc)?);
     let mut out = MemSink::new(alloc, puts.to_vec(alloc)?);
     let ended = run(alloc, &words, &mut shelf, &mut out);

@@ -15,6 +15,7 @@ use crate::grammar::read_words;
 use crate::plan::plan_file;
 use crate::print::print_file;
 use crate::refusal::{Refusal, Stop};
+use crate::replay::replay_file;
 use crate::stop::end;
 use crate::words::{Command, Verb, WordFault};
 use metis_outside::{Shelf, Sink};
@@ -25,7 +26,7 @@ pub fn run<H: Shelf, K: Sink>(alloc: Global, words: &[String], shelf: &mut H, ou
     // What it takes of its files, how often it opens one, what it puts, and its status.
     ensures course { Ran H.files H.faults H.opens K.written K.faults (script_of (texts words.now)) shelf.old shelf.new out.old out.new result }
 
-    // It opens its file once, and none where its words are no command.
+    // It opens a file at least and at most those of its words, each once, and none where its words are no command.
     ensures opens { OpensFiles (form_of (texts words.now)) result (H.opens shelf.old) (H.opens shelf.new) }
 
     // A fault is told only where there was one, and an answer only where there was none.
@@ -77,6 +78,10 @@ fn perform<H: Shelf, K: Sink>(
 {
     match command.verb {
         Verb::Plan => plan_file(alloc, command.file(0), command.targets(), shelf, out),
+        Verb::Replay => {
+            let (file, plan) = (command.file(0), command.file(1));
+            replay_file(alloc, file, plan, command.targets(), shelf, out)
+        }
         Verb::Print => print_file(alloc, command.file(0), shelf, out),
     }
 }

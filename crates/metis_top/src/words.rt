@@ -10,6 +10,8 @@ use std::marker::Model;
 pub enum Verb {
     /// Plans for target words.
     Plan,
+    /// Replays a plan, and looks for target words at its end.
+    Replay,
     /// Prints the universe.
     Print,
 }
@@ -21,6 +23,7 @@ impl Verb {
     {
         match self {
             Verb::Plan | Verb::Print => 1,
+            Verb::Replay => 2,
         }
     }
 
@@ -29,7 +32,7 @@ impl Verb {
         ensures { result ≡ target_limit self }
     {
         match self {
-            Verb::Plan => 256,
+            Verb::Plan | Verb::Replay => 256,
             Verb::Print => 0,
         }
     }

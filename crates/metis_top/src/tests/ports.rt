@@ -6,7 +6,7 @@ use std::test::Fail;
 #[test]
 fn what_provides_a_port_stands_before_what_requires_it(rt: HostRuntime) -> Result<(), Fail> {
     let run =
-        "metis plan 1\ninstances 2 actions 5 dups 0\n1 new 0 Db\n2 move 0 off on\n3 new 1 Web\n4 bind sql 1 0\n5 move 1 off run\nend\n";
+        "metis plan 1\ninstances 2 actions 5 dups 0\n1 new 0 Db\n2 move 0 off on\n3 new 1 Web\n4 bind sql 1 0 after 2\n5 move 1 off run\nend\n";
     // the provider of a port stands where no target needs it, too
     let off =
         "metis plan 1\ninstances 2 actions 3 dups 0\n1 new 0 Db\n2 move 0 off on\n3 new 1 Db\nend\n";
@@ -36,7 +36,7 @@ fn a_requirement_that_ends_is_unbound_after_the_move(rt: HostRuntime) -> Result<
     let document =
         r#"{"aeolus":1,"types":[{"name":"Db","initial":"off","states":[{"name":"off","next":["on"]},{"name":"on","provide":["sql"]}]},{"name":"Setup","initial":"a","states":[{"name":"a","next":["b"]},{"name":"b","require":["sql"],"next":["c"]},{"name":"c"}]}]}"#;
     let text =
-        "metis plan 1\ninstances 2 actions 7 dups 0\n1 new 0 Db\n2 move 0 off on\n3 new 1 Setup\n4 bind sql 1 0\n5 move 1 a b\n6 move 1 b c\n7 unbind sql 1 0\nend\n";
+        "metis plan 1\ninstances 2 actions 7 dups 0\n1 new 0 Db\n2 move 0 off on\n3 new 1 Setup\n4 bind sql 1 0 after 2\n5 move 1 a b\n6 move 1 b c\n7 unbind sql 1 0\nend\n";
     expect(&rt, "plan f.json Setup:c", document, Status::Done, text)
 }
 
@@ -46,7 +46,7 @@ fn the_last_move_is_from_the_least_state_of_any_earlier_round(rt: HostRuntime) -
     let document =
         r#"{"aeolus":1,"types":[{"name":"T","initial":"a","states":[{"name":"a","next":["b","z"]},{"name":"b","next":["z"]},{"name":"z","require":["p"]}]},{"name":"P","initial":"p0","states":[{"name":"p0","next":["p1"]},{"name":"p1","provide":["p"]}]}]}"#;
     let text =
-        "metis plan 1\ninstances 2 actions 5 dups 0\n1 new 0 P\n2 move 0 p0 p1\n3 new 1 T\n4 bind p 1 0\n5 move 1 a z\nend\n";
+        "metis plan 1\ninstances 2 actions 5 dups 0\n1 new 0 P\n2 move 0 p0 p1\n3 new 1 T\n4 bind p 1 0 after 2\n5 move 1 a z\nend\n";
     expect(&rt, "plan f.json T:z", document, Status::Done, text)
 }
 

@@ -7,7 +7,7 @@ use std::test::Fail;
 #[test]
 fn each_target_gets_an_instance(rt: HostRuntime) -> Result<(), Fail> {
     let twice =
-        "metis plan 1\ninstances 3 actions 8 dups 0\n1 new 0 Db\n2 move 0 off on\n3 new 1 Web\n4 bind sql 1 0\n5 move 1 off run\n6 new 2 Web\n7 bind sql 2 0\n8 move 2 off run\nend\n";
+        "metis plan 1\ninstances 3 actions 8 dups 0\n1 new 0 Db\n2 move 0 off on\n3 new 1 Web\n4 bind sql 1 0 after 2\n5 move 1 off run\n6 new 2 Web\n7 bind sql 2 0 after 2\n8 move 2 off run\nend\n";
     expect(&rt, "plan f.json Web:run Web:run", WEB, Status::Done, twice)?;
     let nothing = "metis plan 1\ninstances 0 actions 0 dups 0\nend\n";
     expect(&rt, "plan f.json", SERVICES, Status::Done, nothing)?;

@@ -12,7 +12,7 @@ use Rattle.metis_universe.specs.Numbers.{IsOf}
 use Rattle.metis_universe.specs.Steadfast.{is_steadfast}
 use Rattle.metis_universe.specs.Step.{IsRun, after_all}
 use Rattle.metis_layers.specs.LayerOrder.{attained_pairs, instances_of, layer_order}
-use Rattle.metis_planner.proofs.Ends.{made}
+use Rattle.metis_planner.proofs.Ends.{ends_count, made}
 use Rattle.metis_planner.proofs.Planning.{all_layered, lacking_low, refuses}
 use Rattle.metis_planner.proofs.planner.plan.Goals as goal
 
@@ -109,6 +109,9 @@ returns-in_ok-plan_by-in-None-clause-lean c =
     let all = all_layered u c.in_ok-layers.layers k.layers g c.requires.within (sym c.lacking.ensures ∙ c.in-None.is) in
     let d = deploys u g k.table.universe all in
     record { attained = attained_pairs u; all = attained_set u k.table.universe; few = omega (arith, d.few, c.in_ok-plan_by-in-None.ensures.instances, made u g) }
+
+pub returns-in_ok-plan_by-in-None-clause-bounded : goal.returns-in_ok-plan_by-in-None-clause-bounded
+returns-in_ok-plan_by-in-None-clause-bounded c = omega (arith, ends_count c.args.u.now c.args.targets.now c.in_ok-layers.ensures.table c.requires.few, c.in_ok-plan_by-in-None.ensures.instances)
 
 pub returns-in_ok-plan_by-in-None-clause-short : goal.returns-in_ok-plan_by-in-None-clause-short
 returns-in_ok-plan_by-in-None-clause-short c =

@@ -1,5 +1,3 @@
-use Rattle.std.proofs.Common.{subst}
-use Rattle.metis_planner.specs.Outcomes.{IsLean}
 use Rattle.metis_top.proofs.Replies.{answer_by_plan, answer_by_refusal}
 use Rattle.metis_top.proofs.Shown.{shown_by_writer}
 use Rattle.metis_top.proofs.plan.put_plan.Goals as goal
@@ -7,9 +5,8 @@ use Rattle.metis_top.proofs.plan.put_plan.Goals as goal
 pub returns-in-Ok-Plan : goal.returns-in-Ok-Plan
 returns-in-Ok-Plan g c =
     let found = rw c.in-Ok-Plan.field-0-is at c.in-Ok-Plan.ensures in
-    let plan = c.in-Ok-Plan.plan in
-    let answer = answer_by_plan c.args.u.now c.args.targets.now plan.actions.items plan.dups.items found.run found.holds found.steadfast (subst (λ n. IsLean c.args.u.now n c.args.targets.now) found.instances found.lean) found.dups in
-    rw c.said.ensures (shown_by_writer _ _ _ _ _ _ _ c.write_plan.result answer c.write_plan.ensures.text c.write_plan.ensures.cause)
+    let answer = answer_by_plan c.args.u.now c.args.targets.now c.in-Ok-Plan.plan found.run found.holds found.steadfast found.instances found.lean in
+    rw c.said.ensures (shown_by_writer _ _ _ _ _ _ _ c.write_actions.result answer c.write_actions.ensures.text c.write_actions.ensures.cause)
 
 pub returns-in-Ok-Closed : goal.returns-in-Ok-Closed
 returns-in-Ok-Closed g c =

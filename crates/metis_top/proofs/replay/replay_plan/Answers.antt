@@ -1,0 +1,18 @@
+use Rattle.std.proofs.Common.{refl}
+use Rattle.metis_text.specs.Reading.{Parts}
+use Rattle.metis_text.specs.Reads.{parts_of}
+use Rattle.metis_top.proofs.Gathered.{ran_stopped}
+use Rattle.metis_top.proofs.Replies.{ran_replied}
+use Rattle.metis_top.specs.Answer as answer
+use Rattle.metis_top.specs.Commands.{plan_then}
+use Rattle.metis_top.specs.Script.{Reply}
+use Rattle.metis_top.proofs.replay.replay_plan.Goals as goal
+
+pub returns-in-Ok : goal.returns-in-Ok
+returns-in-Ok g c =
+    ran_replied _ _ _ _ _ parts_of (plan_then 3 c.args.u.now c.args.plan.now) (λ (parts : Parts). Reply (answer.Replay c.args.u.now c.args.targets.now parts.rows.actions)) _ _ _ _
+    c.in-Ok.text (answer.Replay c.args.u.now c.args.targets.now c.in-Ok.text.plan.actions.items) _ c.in-Ok.ensures.gathers refl (rw c.deref.ensures.value at c.put_verdict.ensures)
+
+pub returns-in-Err : goal.returns-in-Err
+returns-in-Err g c =
+    ran_stopped _ _ _ _ _ parts_of (plan_then 3 c.args.u.now c.args.plan.now) (λ (parts : Parts). Reply (answer.Replay c.args.u.now c.args.targets.now parts.rows.actions)) _ _ _ _ c.in-Err.stop _ c.in-Err.ensures.gathers c.end.ensures

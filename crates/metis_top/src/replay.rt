@@ -1,0 +1,113 @@
+//! The command that replays a plan.
+ghost use Rattle.std.specs.Prelude.{◌≡◌, ◌<◌, ◌≤◌, ◌-◌, ◌^◌, IfOk, length};
+ghost use Rattle.std.specs.List.{All};
+ghost use Rattle.metis_replay.specs.Exact.{Tells};
+ghost use Rattle.metis_replay.specs.Progress.{IsVerdictOf};
+ghost use Rattle.metis_universe.specs.Numbers.{IsOf};
+ghost use Rattle.metis_universe.specs.Universe.{pair_count};
+ghost use Rattle.metis_top.specs.Answer as answer;
+ghost use Rattle.metis_top.specs.Commands.{replay_script, replay_then};
+ghost use Rattle.metis_top.specs.Course.{Ran, Shown};
+ghost use Rattle.metis_top.specs.Replayed.{standing_after, verdict_status};
+
+use crate::Status;
+use crate::reading::{goal_from, plan_from};
+use crate::stop::{end, said};
+use crate::verdict_line::write_verdict;
+use crate::words::TargetWord;
+use metis_ids::{Action, NoMemory, PairIx};
+use metis_outside::{Shelf, Sink};
+use metis_replay::{Replay, Verdict, replay_is_exact, replay_keeps_what_was_done};
+use metis_universe::Universe;
+use std::alloc::Global;
+
+/// Reads the universe and the plan, and puts what the plan's actions come to from the empty configuration.
+pub fn replay_file<H: Shelf, K: Sink>(
+    alloc: Global,
+    file: &str,
+    plan: &str,
+    targets: &[TargetWord],
+    shelf: &mut H,
+    out: &mut K,
+) -> Status
+    requires { length targets.now ≤ 256 }
+    ensures { Ran H.files H.faults H.opens K.written K.faults (replay_script file.now plan.now targets.now) shelf.old shelf.new out.old out.new result }
+{
+    match goal_from(alloc, shelf, file, 4, targets) {
+        Ok((universe, pairs)) => replay_plan(alloc, plan, &universe, &pairs, shelf, out),
+        Err(stop) => end(alloc, stop, out),
+    }
+}
+
+// The same where the universe is known, and the targets' pairs in it.
+fn replay_plan<H: Shelf, K: Sink>(
+    alloc: Global,
+    plan: &str,
+    u: &Universe,
+    targets: &[PairIx],
+    shelf: &mut H,
+    out: &mut K,
+) -> Status
+    requires { All (λ p. p < pair_count u.now) targets.now }
+    ensures { Ran H.files H.faults H.opens K.written K.faults (replay_then plan.now (u.now, targets.now)) shelf.old shelf.new out.old out.new result }
+{
+    match plan_from(alloc, shelf, 3, u, plan) {
+        Ok(text) => put_verdict(alloc, u, &text.plan.actions, targets, out),
+        Err(stop) => end(alloc, stop, out),
+    }
+}
+
+fn put_verdict<K: Sink>(
+    alloc: Global,
+    u: &Universe,
+    actions: &[Action],
+    targets: &[PairIx],
+    out: &mut K,
+) -> Status
+    requires numbers { All (IsOf u.now) actions.now }
+    requires few { length actions.now < 2 ^ 32 - 1 }
+    requires within { All (λ p. p < pair_count u.now) targets.now }
+    ensures { Shown (answer.IsAnswer (answer.Replay u.now targets.now actions.now)) (K.written out.old) (K.written out.new) (K.faults out.old) (K.faults out.new) result }
+{
+    match replayed(alloc, u, actions, targets) {
+        Ok((verdict, standing)) => {
+            let put = write_verdict(alloc, u, standing, actions.len(), &verdict, out);
+            said(put, status_of(&verdict))
+        }
+        Err(_) => Status::NoMemory,
+    }
+}
+
+// What the actions came to, and how many instances stood then.
+fn replayed(
+    alloc: Global,
+    u: &Universe,
+    actions: &[Action],
+    targets: &[PairIx],
+) -> Result<(Verdict, u64), NoMemory>
+    requires numbers { All (IsOf u.now) actions.now }
+    requires few { length actions.now < 2 ^ 32 - 1 }
+    requires within { All (λ p. p < pair_count u.now) targets.now }
+    ensures tells { IfOk result (λ r. Tells u.now actions.now targets.now r.0) }
+    ensures numbers { IfOk result (λ r. IsVerdictOf u.now r.0) }
+    ensures standing { IfOk result (λ r. r.0 ≡ Verdict.Good → r.1 ≡ standing_after u.now actions.now) }
+{
+    replay_is_exact();
+    replay_keeps_what_was_done();
+    let _pairs = u.pairs();
+    let mut replay = Replay::new(alloc, u);
+    for action in actions {
+        replay.feed(action)?;
+    }
+    Ok((replay.finish(targets), replay.config().count()))
+}
+
+fn status_of(verdict: &Verdict) -> Status
+    ensures { result ≡ verdict_status verdict.now }
+{
+    match *verdict {
+        Verdict::Good => Status::Done,
+        Verdict::Bad(..) => Status::No,
+        Verdict::Missing(..) => Status::No,
+    }
+}
