@@ -6,7 +6,7 @@ ghost use Rattle.metis_text.specs.ActionLine.{action_in, after_in, bind_action, 
 ghost use Rattle.metis_text.specs.Flaws.{all_behind, made};
 ghost use Rattle.metis_text.specs.Tokens.{number_in};
 
-use crate::flaw::{Flaw, both};
+use crate::flaw::{Flaw, both, numbered};
 use crate::gather::numbers_in;
 use crate::rows::Rows;
 use crate::tokens::{due, is, number_in, port_in, state_in, tokens_of, type_in};
@@ -84,7 +84,7 @@ fn states_in(
     ensures { result ≡ states_in u.now rows.now.actions z.now from.now to.now }
 {
     let kind = kind_in(rows, number_in(z));
-    let states = both(state_in(u, kind, from), state_in(u, kind, to));
+    let states = both(state_in(u, &kind, from), state_in(u, &kind, to));
     both(number_in(z), states)
 }
 
@@ -172,12 +172,12 @@ fn action_in<'t, 'a>(
 fn rise(low: u32, high: u32, numbers: &[u32]) -> bool
     ensures { result ≡ rise low high numbers.now }
 {
-    let mut low = low;
+    let mut last = low;
     for number in numbers {
-        if *number <= low || *number >= high {
+        if *number <= last || *number >= high {
             return false;
         }
-        low = *number;
+        last = *number;
     }
     true
 }
@@ -234,8 +234,7 @@ fn row_of(
         [first, verb, args @ ..] => match action_in(u, rows, verb, args) {
             Some((action, rest)) => {
                 let after = after_in(alloc, number, rest)?;
-                let row = both(due(number, first), both(action, after));
-                Ok(row.map(|(_, row)| row))
+                Ok(numbered(due(number, first), both(action, after)))
             }
             None => Ok(Err(Flaw::Form)),
         },

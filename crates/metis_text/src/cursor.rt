@@ -4,6 +4,7 @@ ghost use Rattle.metis_text.specs.Reading.{ended, lines_of, next_line};
 ghost use Rattle.metis_text.specs.Reads.{ReadsLine};
 
 use crate::fault::TFault;
+use crate::tokens::place_of;
 use std::marker::Model;
 
 /// What is left of a text of which so many lines were read.
@@ -38,7 +39,7 @@ impl<'a> Lines<'a> {
     pub fn next_line(&mut self) -> Result<&'a [u8], TFault>
         ensures { ReadsLine result self.new (next_line self.old) }
     {
-        match self.rest.iter().position(|byte| *byte == b'\n') {
+        match place_of(self.rest, b'\n') {
             Some(end) => {
                 let line = &self.rest[..end];
                 self.rest = &self.rest[end + 1..];

@@ -1,6 +1,6 @@
 //! What is wrong with a line that is read.
 ghost use Rattle.std.specs.Prelude.{◌≡◌};
-ghost use Rattle.metis_text.specs.Flaws.{both, found, graver};
+ghost use Rattle.metis_text.specs.Flaws.{both, found, graver, made};
 
 /// What is wrong with a line that is read.
 #[derive(Clone, Copy, Debug, PartialEq, Eq)]
@@ -25,7 +25,10 @@ pub fn graver(first: Flaw, second: Flaw) -> Flaw
 }
 
 /// Two parts of a line, or the graver of their flaws.
-pub fn both<A: Drop, B: Drop>(first: Result<A, Flaw>, second: Result<B, Flaw>) -> Result<(A, B), Flaw>
+pub fn both<A: Drop, B: Drop>(
+    first: Result<A, Flaw>,
+    second: Result<B, Flaw>,
+) -> Result<(A, B), Flaw>
     ensures { result ≡ both first second }
 {
     match (first, second) {
@@ -33,6 +36,16 @@ pub fn both<A: Drop, B: Drop>(first: Result<A, Flaw>, second: Result<B, Flaw>) -
         (Ok(_), Err(flaw)) => Err(flaw),
         (Err(flaw), Ok(_)) => Err(flaw),
         (Err(first), Err(second)) => Err(graver(first, second)),
+    }
+}
+
+/// What a line says behind its number, or the graver of their flaws.
+pub fn numbered<A: Drop>(number: Result<u32, Flaw>, line: Result<A, Flaw>) -> Result<A, Flaw>
+    ensures { result ≡ made (λ p. p.1) (both number line) }
+{
+    match both(number, line) {
+        Ok((_, line)) => Ok(line),
+        Err(flaw) => Err(flaw),
     }
 }
 

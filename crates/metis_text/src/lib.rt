@@ -22,4 +22,6 @@ pub use read::read_plan;
 pub use write::write_plan;
 
 #[cfg(test)]
+mod fault_tests;
+#[cfg(test)]
 mod tests;

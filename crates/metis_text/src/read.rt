@@ -1,5 +1,6 @@
 //! Reads the text of a plan.
-ghost use Rattle.std.specs.Prelude.{◌≡◌, ◌<◌, ◌-◌, ◌^◌, IfOk, [], codes, length, map};
+ghost use Rattle.std.specs.Prelude.{◌≡◌, ◌<◌, ◌-◌, ◌^◌, ◌&&◌, IfOk, [], codes, length, map};
+ghost use Rattle.std.specs.Str.{bytes_eq};
 ghost use Rattle.metis_text.specs.Flaws.{made};
 ghost use Rattle.metis_text.specs.Reading.{counts_in, counts_of_tokens, counted, dups_from, exactly, parts, plan_in, read_next, rows_from, rows_of};
 ghost use Rattle.metis_text.specs.Reads.{Reads, ReadsPlan, dup_row, numbers_of, parts_of};
@@ -65,9 +66,10 @@ fn counts_in(tokens: &[&[u8]]) -> Result<Counts, Flaw>
     ensures { made numbers_of result ≡ counts_of_tokens (map (λ t. t.now) tokens.now) }
 {
     match tokens {
-        [i, instances, a, actions, d, dups]
-            if is(i, "instances") && is(a, "actions") && is(d, "dups") =>
-        {
+        [i, instances, a, actions, d, dups] => {
+            if !has_words(i, a, d) {
+                return Err(Flaw::Form);
+            }
             let others = both(number_in(actions), number_in(dups));
             let (instances, (actions, dups)) = both(number_in(instances), others)?;
             Ok(Counts {
@@ -80,6 +82,13 @@ fn counts_in(tokens: &[&[u8]]) -> Result<Counts, Flaw>
     }
 }
 
+// Whether the words of the second line are there.
+fn has_words(instances: &[u8], actions: &[u8], dups: &[u8]) -> bool
+    ensures { result ≡ (bytes_eq instances.now (codes "instances") && bytes_eq actions.now (codes "actions") && bytes_eq dups.now (codes "dups")) }
+{
+    is(instances, "instances") && is(actions, "actions") && is(dups, "dups")
+}
+
 // So many actions.
 fn read_rows(alloc: Global, u: &Universe, count: u32, lines: &mut Lines<'_>) -> Result<Rows, TFault>
     ensures { Reads (λ rows. rows) result lines.new (rows_from u.now count (rows_of [] []) lines.old) }
@@ -88,7 +97,7 @@ fn read_rows(alloc: Global, u: &Universe, count: u32, lines: &mut Lines<'_>) -> 
     for index in 0..count {
         let line = lines.next_line()?;
         match row_in(alloc, u, &rows, index + 1, line)? {
-            Ok((action, after)) => rows.add(action, after)?,
+            Ok((action, after)) => rows = rows.add(action, after)?,
             Err(flaw) => return Err(flaw.at(lines.number())),
         }
     }

@@ -1,6 +1,6 @@
 //! The actions that were read so far.
-ghost use Rattle.std.specs.Prelude.{◌≡◌, ◌==◌, OnOk, [], ℕ};
-ghost use Rattle.std.specs.Map.{lookup};
+ghost use Rattle.std.specs.Prelude.{◌≡◌, ◌++◌, ◌∷◌, IfOk, OnOk, []};
+ghost use Rattle.metis_text.specs.Kinds.{AreKinds};
 ghost use Rattle.metis_text.specs.PlanText.{kind_of};
 ghost use Rattle.metis_text.specs.Reading.{rows_of, with_row};
 
@@ -16,7 +16,7 @@ pub struct Rows {
     pub after: Vec<Vec<u32>>,
     /// The type of each instance that the actions make, by its last `new`.
     kinds: BTreeMap<InstNo, TypeIx>,
-    ghost kept: { (z : ℕ) → lookup (λ k. z == k) kinds.entries ≡ kind_of z actions.items },
+    ghost kept: { AreKinds actions.items kinds.entries },
 }
 
 impl Model for Rows {
@@ -47,15 +47,43 @@ impl Rows {
         self.kinds.get(&z).copied()
     }
 
-    /// Adds an action with its list.
-    pub fn add(&mut self, action: Action, after: Vec<u32>) -> Result<(), NoMemory>
-        ensures { OnOk result (self.new ≡ with_row self.old (action, after.items)) }
+    /// The rows with one more action and its list.
+    pub fn add(self, action: Action, after: Vec<u32>) -> Result<Rows, NoMemory>
+        ensures { IfOk result (λ rows. rows ≡ with_row self (action, after.items)) }
     {
-        if let Action::New { inst, kind } = action {
-            self.kinds.insert(inst, kind)?;
-        }
-        self.actions.push(action)?;
-        self.after.push(after)?;
-        Ok(())
+        let Rows {
+            mut actions,
+            after: mut lists,
+            mut kinds,
+        } = self;
+        note_kind(&mut kinds, &actions, &action)?;
+        actions.push(action)?;
+        lists.push(after)?;
+        Ok(Rows {
+            actions,
+            after: lists,
+            kinds,
+        })
     }
+}
+
+// Notes the type of an instance that the action makes.
+fn note_kind(
+    kinds: &mut BTreeMap<InstNo, TypeIx>,
+    earlier: &[Action],
+    action: &Action,
+) -> Result<(), NoMemory>
+    requires { AreKinds earlier.now kinds.old.entries }
+    ensures { OnOk result (AreKinds (earlier.now ++ action.now ∷ []) kinds.new.entries) }
+{
+    match *action {
+        Action::New { inst, kind } => {
+            kinds.insert(inst, kind)?;
+        }
+        Action::Delete { .. } => (),
+        Action::Bind { .. } => (),
+        Action::Unbind { .. } => (),
+        Action::Move { .. } => (),
+    }
+    Ok(())
 }

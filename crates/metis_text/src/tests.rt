@@ -22,7 +22,7 @@ fn names(alloc: Global, name: &str) -> Result<Vec<String>, AllocError> {
 }
 
 /// A state with at most one port that it provides, one that it requires, and one next state.
-fn state(
+pub(crate) fn state(
     alloc: Global,
     name: &str,
     provide: &str,
@@ -37,7 +37,7 @@ fn state(
     })
 }
 
-fn kind(
+pub(crate) fn kind(
     alloc: Global,
     name: &str,
     first: StateRow,
@@ -55,7 +55,7 @@ fn kind(
 }
 
 /// Db:off 0 leads to Db:on 1, which provides sql; Web:off 2 leads to Web:run 3, which requires it.
-fn web(rt: &impl Abort, alloc: Global) -> Result<Universe, Fail> {
+pub(crate) fn web(rt: &impl Abort, alloc: Global) -> Result<Universe, Fail> {
     let off = state(alloc, "off", "", "", "on")?;
     let on = state(alloc, "on", "sql", "", "")?;
     let idle = state(alloc, "off", "", "", "run")?;
@@ -116,7 +116,7 @@ fn unbind(z: u32) -> Action {
     }
 }
 
-fn shift(z: u32, from: u32, to: u32) -> Action {
+pub(crate) fn shift(z: u32, from: u32, to: u32) -> Action {
     Action::Move {
         inst: InstNo(z),
         from: PairIx(from),
@@ -225,7 +225,7 @@ fn a_put_that_fails(rt: HostRuntime) -> Result<(), Fail> {
 }
 
 /// Reads the text, which is short.
-fn read(
+pub(crate) fn read(
     rt: &impl Abort,
     alloc: Global,
     u: &Universe,
@@ -235,17 +235,14 @@ fn read(
     Ok(read_plan(alloc, u, text))
 }
 
-/// The fault of the text.
-fn fault(rt: &impl Abort, alloc: Global, u: &Universe, text: &str) -> Result<TFault, Fail> {
-    Ok(read(rt, alloc, u, text.as_bytes())?.err().ok_or("a plan")?)
-}
-
 #[test]
 fn what_is_written_is_read(rt: HostRuntime) -> Result<(), Fail> {
     let alloc = rt.alloc();
     let u = web(&rt, alloc)?;
     let plan = shared(alloc)?;
-    let text = read(&rt, alloc, &u, SHARED.as_bytes())?.ok().ok_or("a fault")?;
+    let text = read(&rt, alloc, &u, SHARED.as_bytes())?
+        .ok()
+        .ok_or("a fault")?;
     assert!(rt; text.plan.actions.as_slice() == plan.actions.as_slice());
     assert_eq!(rt; text.plan.instances, 3);
     assert_eq!(rt; text.plan.dups.len(), 2);
@@ -262,9 +259,14 @@ fn what_is_written_is_read(rt: HostRuntime) -> Result<(), Fail> {
 fn an_empty_text(rt: HostRuntime) -> Result<(), Fail> {
     let alloc = rt.alloc();
     let u = web(&rt, alloc)?;
-    let text = read(&rt, alloc, &u, b"metis plan 1\ninstances 0 actions 0 dups 0\nend\n")?
-        .ok()
-        .ok_or("a fault")?;
+    let text = read(
+        &rt,
+        alloc,
+        &u,
+        b"metis plan 1\ninstances 0 actions 0 dups 0\nend\n",
+    )?
+    .ok()
+    .ok_or("a fault")?;
     assert!(rt; text.plan.actions.is_empty() && text.plan.dups.is_empty() && text.after.is_empty());
     Ok(())
 }

@@ -1,6 +1,6 @@
 //! The tokens of a line that is read.
 ghost use Rattle.std.specs.Prelude.{◌≡◌, ◌==◌, IfOk, IsTrue, MatchOption, false, map};
-ghost use Rattle.std.specs.List.{after_first, before_first};
+ghost use Rattle.std.specs.List.{after_first, before_first, position};
 ghost use Rattle.std.specs.Str.{bytes_eq};
 ghost use Rattle.metis_text.specs.ActionLine.{due, state_in};
 ghost use Rattle.metis_text.specs.DupLine.{event_in, pair_in};
@@ -65,11 +65,12 @@ pub fn due(number: u32, token: &[u8]) -> Result<u32, Flaw>
 
 // The token as a name.
 fn name_in<'a>(token: &'a [u8]) -> Option<&'a str>
-    ensures { MatchOption result (λ name. (name.now ≡ token.now) × IsTrue (is_name token.now)) (is_name token.now ≡ false) }
+    ensures { MatchOption result (is_name token.now ≡ false) (λ name. (name.now ≡ token.now) × IsTrue (is_name token.now)) }
 {
     match str::from_utf8(token) {
         Ok(name) if is_name(name) => Some(name),
-        _ => None,
+        Ok(_) => None,
+        Err(_) => None,
     }
 }
 
@@ -94,22 +95,29 @@ pub fn port_in(u: &Universe, token: &[u8]) -> Result<PortIx, Flaw>
 }
 
 /// The pair of the type, if there is one, whose state's name the token is.
-pub fn state_in(u: &Universe, kind: Option<TypeIx>, token: &[u8]) -> Result<PairIx, Flaw>
-    ensures { result ≡ state_in u.now kind token.now }
+pub fn state_in(u: &Universe, kind: &Option<TypeIx>, token: &[u8]) -> Result<PairIx, Flaw>
+    ensures { result ≡ state_in u.now kind.now token.now }
 {
     match (name_in(token), kind) {
-        (Some(name), Some(kind)) => found(u.state_named(kind, name)),
+        (Some(name), Some(kind)) => found(u.state_named(*kind, name)),
         (Some(_), None) => Err(Flaw::Name),
         (None, _) => Err(Flaw::Form),
     }
 }
 
-// What stands before the byte, and what behind it.
+/// The place of the first such byte.
+pub fn place_of(bytes: &[u8], byte: u8) -> Option<usize>
+    ensures { result ≡ position (λ b. b == byte) bytes.now }
+{
+    bytes.iter().position(|b| *b == byte)
+}
+
+// What stands before the first such byte, and what behind it.
 fn cut(token: &[u8], at: u8) -> (&[u8], &[u8])
     ensures before { result.0.now ≡ before_first (λ byte. byte == at) token.now }
     ensures behind { result.1.now ≡ after_first (λ byte. byte == at) token.now }
 {
-    match token.iter().position(|byte| *byte == at) {
+    match place_of(token, at) {
         Some(place) => (&token[..place], &token[place + 1..]),
         None => (token, &[]),
     }
