@@ -1,0 +1,135 @@
+#!/usr/bin/env python3
+"""Times how long plans are written, read and replayed, against the bytes of their texts, and checks what is answered.
+
+    replay.py PROGRAM
+
+PROGRAM is the built planner, as crates/metis/out/metis. The largest universe is near the limits, and so is its plan.
+Each plan is printed by `plan`, then read by `replay` with its last line cut off, which ends the run before the replay,
+and at last replayed whole. The status is 1 where an answer is not the one that has to come. docs/BENCHMARKS.md says how
+to read the table.
+"""
+
+import json
+import subprocess
+import sys
+import tempfile
+import time
+from pathlib import Path
+
+STATES = 64
+SIZES = (4, 8, 16, 31)
+TARGETS = 256
+
+COLUMNS = ("types", "actions", "MB", "written", "read", "read and replayed", "read, by the MB", "replayed, by the MB")
+
+
+def long_name(short):
+    """A name of 64 bytes that begins so."""
+    return (short + "-" * 64)[:64]
+
+
+def port(number):
+    """One of the four ports that all states but the first ones take in turn."""
+    return long_name(f"common{number}")
+
+
+def chain(number):
+    """A type whose states follow one another. Each provides a port of its own, and requires two of the common ports,
+    which are not those of the state before it."""
+    states = []
+    for place in range(STATES):
+        pair = (0, 1) if place % 2 == 0 else (2, 3)
+        state = {"name": long_name(f"s{place}"), "provide": [long_name(f"own{number}.{place}")]}
+        if place > 0:
+            state["require"] = [port(one) for one in pair]
+        if place + 1 < STATES:
+            state["next"] = [long_name(f"s{place + 1}")]
+        states.append(state)
+    return {"name": long_name(f"t{number}"), "initial": states[0]["name"], "states": states}
+
+
+def document(types):
+    """The universe: one type that provides the common ports from the start, and so many chains."""
+    common = {"name": long_name("up"), "provide": [port(one) for one in range(4)]}
+    first = {"name": long_name("common"), "initial": common["name"], "states": [common]}
+    return {"aeolus": 1, "types": [first] + [chain(number) for number in range(types)]}
+
+
+def actions_to(place):
+    """The actions of an instance that goes to this state: it is made, and for each further state two ports are bound, it
+    moves, and the two ports before are unbound, which the first state does not have."""
+    return 1 if place == 0 else 1 + 5 * place - 2
+
+
+def expected(types):
+    """The instances and actions of the plan: one instance for each pair, since each is the first provider of a port, and
+    one for each target."""
+    standing = types * STATES + 1
+    actions = 1 + types * sum(actions_to(place) for place in range(STATES)) + TARGETS * actions_to(STATES - 1)
+    return standing + TARGETS, actions
+
+
+def timed(command, out):
+    """The time of one run, in seconds, and its status. Its text goes into the file."""
+    with open(out, "wb") as text:
+        begin = time.perf_counter()
+        done = subprocess.run(command, stdin=subprocess.DEVNULL, stdout=text, check=False)
+        return time.perf_counter() - begin, done.returncode
+
+
+def fault_of(what, told, wanted):
+    return None if told == wanted else f"{what} is {told}, and has to be {wanted}"
+
+
+def measure(program, folder, types):
+    """The numbers of one row: actions, bytes, and three times; or what is wrong with an answer."""
+    universe, plan, verdict = folder / "u.json", folder / "p.txt", folder / "v.txt"
+    universe.write_text(json.dumps(document(types), separators=(",", ":")) + "\n")
+    targets = [f"{long_name('t0')}:{long_name(f's{STATES - 1}')}"] * TARGETS
+    instances, actions = expected(types)
+
+    written, status = timed([program, "plan", str(universe), *targets], plan)
+    with open(plan, "rb") as text:
+        head = [text.readline() for _ in range(2)]
+    wanted = (0, [b"metis plan 1\n", f"instances {instances} actions {actions} dups 0\n".encode()])
+    fault = fault_of("the plan", (status, head), wanted)
+    if fault is not None:
+        return None, fault
+
+    replayed, status = timed([program, "replay", str(universe), str(plan), *targets], verdict)
+    wanted = (0, f"good standing {instances} actions {actions}\n".encode())
+    fault = fault_of("the verdict", (status, verdict.read_bytes()), wanted)
+    if fault is not None:
+        return None, fault
+
+    size = plan.stat().st_size
+    with open(plan, "r+b") as text:
+        text.truncate(size - len(b"end\n"))
+    read, status = timed([program, "replay", str(universe), str(plan), *targets], verdict)
+    fault = fault_of("the refusal", (status, verdict.read_bytes()), (3, b"bad plan short\n"))
+    return (actions, size, written, read, replayed), fault
+
+
+def main(words):
+    if len(words) != 1:
+        print("usage: replay.py PROGRAM", file=sys.stderr)
+        return 2
+    print("| " + " | ".join(COLUMNS) + " |")
+    print("| " + " | ".join("---" for _ in COLUMNS) + " |", flush=True)
+    first = None
+    with tempfile.TemporaryDirectory() as name:
+        for types in SIZES:
+            row, fault = measure(words[0], Path(name), types)
+            if fault is not None:
+                print(f"replay.py: {types} types: {fault}", file=sys.stderr)
+                return 1
+            actions, size, written, read, replayed = row
+            each = (read / size, (replayed - read) / size)
+            first = first or each
+            cells = (types, actions, f"{size / 1e6:.1f}", f"{written:.2f} s", f"{read:.2f} s", f"{replayed:.2f} s")
+            print("| " + " | ".join(map(str, cells)) + f" | {each[0] / first[0]:.2f} | {each[1] / first[1]:.2f} |", flush=True)
+    return 0
+
+
+if __name__ == "__main__":
+    sys.exit(main(sys.argv[1:]))
