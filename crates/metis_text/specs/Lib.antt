@@ -1,6 +1,7 @@
 pub mod ActionLine
 pub mod DupLine
 pub mod Flaws
+pub mod InRange
 pub mod Kinds
 pub mod Line
 pub mod PlanText

@@ -15,6 +15,7 @@ use Rattle.metis_ids.specs.declared.events.Event.{Event}
 use Rattle.metis_ids.specs.declared.events.Event.TheVariants.{At, End}
 use Rattle.metis_ids.specs.declared.plans.Dup.{Dup}
 use Rattle.metis_ids.specs.declared.plans.Plan.{Plan}
+use Rattle.metis_text.specs.InRange.{IsPlanInRange}
 use Rattle.metis_text.specs.Line.{line, numbered}
 use Rattle.metis_universe.specs.Numbers.{IsOf}
 use Rattle.metis_universe.specs.Universe.{Universe, pair_count, type_of, type_name_of, state_name_of, port_name_of}
@@ -113,8 +114,8 @@ abbrev pub IsMoveOf : Universe → List Action → ℕ → ℕ → ℕ → Type 
 IsMoveOf u earlier z p q = (kind_of z earlier ≡ Some (type_of u p)) × (type_of u q ≡ type_of u p)
 
 -- An action waits for earlier ones, its list ascends, each move goes between pairs of its instance's type, each cycle
--- has two or more events, and all numbers are the universe's. There are fewer than 2^32 actions and dups, and the
--- instances are counted.
+-- has two or more events, and all numbers are the universe's, or of 32 bits. There are fewer than 2^32 actions and
+-- dups, and the instances are counted.
 pub record IsWellFormed (u : Universe) (p : Plan) (after : List (List ℕ)) : Type 0 where
   pub lists : length after ≡ length p.actions.items
   pub ascending : All IsStrictlyIncreasing after
@@ -123,6 +124,7 @@ pub record IsWellFormed (u : Universe) (p : Plan) (after : List (List ℕ)) : Ty
   pub actions : All (IsOf u) p.actions.items
   pub dups : All (λ d. d.pair < pair_count u) p.dups.items
   pub cycles : All (λ d. 2 ≤ length d.cycle.items) p.dups.items
+  pub in_range : IsPlanInRange p
   pub few_actions : length p.actions.items < 2 ^ 32
   pub few_dups : length p.dups.items < 2 ^ 32
   pub instances : p.instances ≡ count_by makes p.actions.items

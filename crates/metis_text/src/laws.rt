@@ -7,12 +7,18 @@ ghost use Rattle.metis_universe.specs.Numbers.{IsOf};
 ghost use Rattle.metis_universe.specs.Step.{IsRun};
 ghost use Rattle.metis_universe.specs.Universe.{Universe, IsTable, pair_count};
 ghost use Rattle.metis_universe.specs.Waits.{numbers};
+ghost use Rattle.metis_text.specs.InRange.{IsPlanInRange};
 ghost use Rattle.metis_text.specs.PlanText.{IsWellFormed, makes, plan_bytes};
 ghost use Rattle.metis_text.specs.Reading.{Parts, plan_in};
 ghost use Rattle.metis_text.specs.Reads.{said};
 ghost use Rattle.metis_waits.specs.Waits.{waits_on_others};
 
-/// A text is read exactly where it is that of a plan with lists that is well formed, and then as this plan.
+/// A text that is read is that of the plan with the lists that it says, which is well formed.
+pub fn accepted_is_written()
+    ensures { (u : Universe) (bytes : List ℕ) (p : Plan) (after : List (List ℕ)) → plan_in u bytes ≡ Ok (said p after) → (bytes ≡ plan_bytes u p after) × IsWellFormed u p after }
+{}
+
+/// And the text of a plan with lists that is well formed is read as this plan.
 pub fn well_formed_is_read()
     ensures { (u : Universe) (p : Plan) (after : List (List ℕ)) → IsTable u → IsWellFormed u p after → plan_in u (plan_bytes u p after) ≡ Ok (said p after) }
 {}
@@ -20,7 +26,7 @@ pub fn well_formed_is_read()
 /// The text that is written for a plan whose actions are a run from the empty configuration is read as this plan.
 pub fn written_run_is_read()
     ensures { (u : Universe) (p : Plan) → IsTable u → IsRun u empty p.actions.items → All (IsOf u) p.actions.items → All (λ d. d.pair < pair_count u) p.dups.items → All (λ d. 2 ≤ length d.cycle.items) p.dups.items
-        → p.instances ≡ count_by makes p.actions.items
+        → IsPlanInRange p → p.instances ≡ count_by makes p.actions.items
         → length (plan_bytes u p (map (waits_on_others p.actions.items) (numbers p.actions.items))) < 2 ^ 32 - 1
         → plan_in u (plan_bytes u p (map (waits_on_others p.actions.items) (numbers p.actions.items))) ≡ Ok (said p (map (waits_on_others p.actions.items) (numbers p.actions.items))) }
 {}

@@ -3,7 +3,7 @@ ghost use Rattle.std.specs.Prelude.{◌≡◌, ◌<◌, ◌-◌, ◌^◌, ◌&&�
 ghost use Rattle.std.specs.Str.{bytes_eq};
 ghost use Rattle.metis_text.specs.Flaws.{made};
 ghost use Rattle.metis_text.specs.Reading.{counts_in, counts_of_tokens, counted, dups_from, exactly, parts, plan_in, read_next, rows_from, rows_of};
-ghost use Rattle.metis_text.specs.Reads.{Reads, ReadsPlan, dup_row, numbers_of, parts_of};
+ghost use Rattle.metis_text.specs.Reads.{Reads, IsTextOf, ReadsPlan, dup_row, numbers_of, parts_of};
 
 use crate::action_line::row_in;
 use crate::cursor::Lines;
@@ -29,6 +29,17 @@ pub struct Counts {
 pub fn read_plan(alloc: Global, u: &Universe, bytes: &[u8]) -> Result<PlanText, TFault>
     requires { length bytes.now < 2 ^ 32 - 1 }
     ensures read { ReadsPlan result (plan_in u.now bytes.now) }
+
+    // So the bytes are the text of what is read, and this is well formed.
+    ensures text { IfOk result (λ t. IsTextOf u.now t bytes.now) }
+    ensures fewer { IfOk result (λ t. length t.plan.actions.items < length bytes.now) }
+{
+    read_text(alloc, u, bytes)
+}
+
+fn read_text(alloc: Global, u: &Universe, bytes: &[u8]) -> Result<PlanText, TFault>
+    requires { length bytes.now < 2 ^ 32 - 1 }
+    ensures { ReadsPlan result (plan_in u.now bytes.now) }
 {
     let mut lines = Lines::of(bytes);
     read_exactly("metis plan 1", &mut lines)?;

@@ -1,0 +1,120 @@
+-- The words of a dup's line for a pair and for an event are read as these just where they are what is written for them.
+use Rattle.std.proofs.Common.{◌≡◌, ℕ, ◌+◌, ◌<◌, ◌^◌, Bool, true, false, ◌&&◌, List, ◌∷◌, ◌++◌, length, get_or, Some, Result, Ok, Err, refl, sym, ap, ◌∙◌, subst, arith, decimal, inl, inr}
+use Rattle.std.specs.Prelude.{codes}
+use Rattle.std.specs.Bool.{if◌then◌else◌, nat_le}
+use Rattle.std.specs.List.{after_first, before_first, position_or_len}
+use Rattle.std.specs.Option.{option_and_then}
+use Rattle.std.specs.Str.{bytes_eq}
+use Rattle.std.proofs.lemmas.Bool.{and_from, and_parts, cases_lt, eqb-true}
+use Rattle.std.proofs.lemmas.Bool.Decides.{nat_tests}
+use Rattle.std.proofs.lemmas.Fmt.{decimal_nonempty}
+use Rattle.std.proofs.lemmas.List.{drop_all}
+use Rattle.std.proofs.lemmas.List.Folds.{list_all-append}
+use Rattle.std.proofs.lemmas.List.Sums.{passes_at_first, split_at_first}
+use Rattle.std.proofs.lemmas.Slice.Eq.{bytes_eq-Decides}
+use Rattle.metis_ids.specs.declared.events.Event.{Event}
+use Rattle.metis_ids.specs.declared.events.Event.TheVariants.{At, End}
+use Rattle.metis_universe.specs.Names.{is_name}
+use Rattle.metis_universe.specs.Universe.{IsNamed, IsUniverse, Universe, pair_count, pair_named, state_name_of, state_named, type_name_of, type_named, type_of}
+use Rattle.metis_text.specs.DupLine.{at_event, event_in, is_colon, is_point, pair_in, pair_of_names}
+use Rattle.metis_text.specs.Flaws.{both, found, made}
+use Rattle.metis_text.specs.InRange.{IsEventInRange}
+use Rattle.metis_text.specs.PlanText.{event_token, pair_word}
+use Rattle.metis_text.specs.Tokens.{number_in}
+use Rattle.metis_text.specs.declared.flaw.Flaw.{Flaw}
+use Rattle.metis_text.specs.declared.flaw.Flaw.TheVariants.{Form}
+use Rattle.metis_text.proofs.Cuts.{after_cut, before_cut}
+use Rattle.metis_text.proofs.NameTokens.{and_then_some, bytes_apart, state_at, state_is, type_at, type_is}
+use Rattle.metis_text.proofs.NumberTokens.{number_is, number_read}
+use Rattle.metis_text.proofs.Outcomes.{both_is, found_is, if_is, made_is}
+use Rattle.metis_text.proofs.Printed.{no_colon_name, no_point_decimal, printed, printed_decimal, printed_name}
+
+-- ---- two parts of a token
+
+-- a token whose second part is not empty is cut at a byte that passes
+cut_back : (p : ℕ → Bool) (c : ℕ) (xs : List ℕ) → ((x : ℕ) → p x ≡ true → x ≡ c) → 0 < length (after_first p xs) → xs ≡ before_first p xs ++ (c ∷ after_first p xs)
+cut_back p c xs only some = elim (cases_lt (position_or_len p xs) (length xs)) [
+  | inl there ↦ split_at_first p xs 0 there ∙ ap (λ x. before_first p xs ++ (x ∷ after_first p xs)) (only (get_or xs (position_or_len p xs) 0) (passes_at_first p xs 0 there))
+  | inr none ↦ let gone = ap length (drop_all (position_or_len p xs + 1) xs (omega arith)) in absurd (omega (arith, gone, some))
+]
+
+name_some : (name : List ℕ) → is_name name ≡ true → 0 < length name
+name_some name h = some (length name) (and_parts _ _ h).0 where
+  some : (n : ℕ) → (nat_le 1 n && nat_le n 64) ≡ true → 0 < n
+  some n h = grind (arith, nat_tests)
+
+number_some : (t : List ℕ) (n : ℕ) → number_in t ≡ Ok n → 0 < length t
+number_some t n h = let number = number_is t n h in subst (λ s. 0 < length s) (sym number.0) (decimal_nonempty n (omega (arith, number.1)))
+
+-- ---- the pair
+
+module _ (u : Universe) where
+  pub pair_is : (word : List ℕ) (p : ℕ) → pair_in u word ≡ Ok p → (word ≡ pair_word u p) × (p < pair_count u)
+  pair_is word p h =
+      let kind = before_first is_colon word in
+      let state = after_first is_colon word in
+      let form = if_is (is_name kind && is_name state) (found (pair_named u kind state)) Form p h in
+      let names = and_parts (is_name kind) (is_name state) form.0 in
+      let pair = and_then_some (λ t. state_named u t state) (type_named u kind) p (found_is (pair_named u kind state) p form.1) in
+      let type = type_is u kind pair.0 pair.1 in
+      let at = state_is u state pair.0 p pair.2 in
+      let kind_is : kind ≡ type_name_of u (type_of u p) = type.1 ∙ ap (type_name_of u) (sym at.1) in
+      (cut_back is_colon 58 word (λ x is. eqb-true x 58 is) (name_some state names.1) ∙ (λ i. kind_is i ++ (58 ∷ at.2 i)), at.0)
+
+  module _ (is : IsUniverse u) (names : IsNamed u) (p : ℕ) (low : p < pair_count u) where
+    pub pair_printed : printed (pair_word u p) ≡ true
+    pair_printed =
+        let kind = type_name_of u (type_of u p) in
+        list_all-append _ kind (58 ∷ state_name_of u p)
+        ∙ and_from _ _ (printed_name kind (names.types (type_of u p) (is.types p low))) (printed_name (state_name_of u p) (names.states p low))
+
+    pub pair_read : pair_in u (pair_word u p) ≡ Ok p
+    pair_read =
+        let kind = type_name_of u (type_of u p) in
+        let state = state_name_of u p in
+        let kind_name = names.types (type_of u p) (is.types p low) in
+        let no_colon = no_colon_name kind kind_name in
+        let pair : pair_named u kind state ≡ Some p = ap (λ o. option_and_then (λ t. state_named u t state) o) (type_at u names (type_of u p) (is.types p low)) ∙ state_at u names (type_of u p) p low refl in
+        (λ i. pair_of_names u (before_cut is_colon kind 58 state no_colon refl i) (after_cut is_colon kind 58 state no_colon refl i))
+        ∙ ap (λ b. if b then found (pair_named u kind state) else Err Form) (and_from _ _ kind_name (names.states p low))
+        ∙ ap found pair
+
+-- ---- the events
+
+module _ (t : List ℕ) where
+  abbrev event_parts : Result (ℕ × ℕ) Flaw
+  event_parts = both (number_in (before_first is_point t)) (number_in (after_first is_point t))
+
+  abbrev IsEventWord : Event → Type 0
+  IsEventWord e = (t ≡ event_token e) × IsEventInRange e
+
+  pub event_is : (e : Event) → event_in t ≡ Ok e → IsEventWord e
+  event_is e h = elim (bytes_eq t (codes "end")) as (λ b. bytes_eq t (codes "end") ≡ b → (if b then Ok End else made at_event event_parts) ≡ Ok e → IsEventWord e) [
+    | true ↦ λ same h. let is : End ≡ e = cc in subst IsEventWord is ((bytes_eq-Decides t (codes "end")).0 same, tt)
+    | false ↦ λ _ h.
+        let place = made_is at_event event_parts e h in
+        let both = both_is (number_in (before_first is_point t)) (number_in (after_first is_point t)) place.0 place.1 in
+        let line = number_is (before_first is_point t) place.0.0 both.0 in
+        let step = number_is (after_first is_point t) place.0.1 both.1 in
+        let cut = cut_back is_point 46 t (λ x is. eqb-true x 46 is) (number_some (after_first is_point t) place.0.1 both.1) in
+        subst IsEventWord place.2 (cut ∙ (λ i. line.0 i ++ (46 ∷ step.0 i)), (line.1, step.1))
+  ] refl h
+
+pub event_printed : (e : Event) → IsEventInRange e → printed (event_token e) ≡ true
+event_printed (At l s) small = list_all-append _ (decimal l) (46 ∷ decimal s) ∙ and_from _ _ (printed_decimal l small.0) (printed_decimal s small.1)
+event_printed End small = refl
+
+not_end : (l s : ℕ) → l < 2 ^ 32 → decimal l ++ (46 ∷ decimal s) ≡ codes "end" → ⊥
+not_end l s small e =
+    let first : decimal l ≡ codes "end" = sym (before_cut is_point (decimal l) 46 (decimal s) (no_point_decimal l small) refl) ∙ ap (before_first is_point) e in
+    let number : Ok l ≡ Err Form = sym (number_read l small) ∙ ap number_in first in
+    cc
+
+pub event_read : (e : Event) → IsEventInRange e → event_in (event_token e) ≡ Ok e
+event_read (At l s) small =
+    let t = decimal l ++ (46 ∷ decimal s) in
+    let no_point = no_point_decimal l small.0 in
+    ap (λ b. if b then Ok End else made at_event (both (number_in (before_first is_point t)) (number_in (after_first is_point t)))) (bytes_apart t (codes "end") (not_end l s small.0))
+    ∙ (λ i. made at_event (both (number_in (before_cut is_point (decimal l) 46 (decimal s) no_point refl i)) (number_in (after_cut is_point (decimal l) 46 (decimal s) no_point refl i))))
+    ∙ (λ i. made at_event (both (number_read l small.0 i) (number_read s small.1 i)))
+event_read End small = refl

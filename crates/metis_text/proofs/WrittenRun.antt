@@ -1,0 +1,37 @@
+-- What is written for a run from the empty configuration, with the lists of what its actions wait for, is read.
+use Rattle.std.proofs.Common.{◌≡◌, ◌-◌, ◌<◌, ◌≤◌, ◌^◌, length, Ok, arith}
+use Rattle.std.specs.List.{All, count_by}
+use Rattle.metis_ids.specs.declared.plans.Plan.{Plan}
+use Rattle.metis_universe.specs.Config.{empty}
+use Rattle.metis_universe.specs.Numbers.{IsOf}
+use Rattle.metis_universe.specs.Step.{IsRun}
+use Rattle.metis_universe.specs.Universe.{IsTable, Universe, pair_count}
+use Rattle.metis_text.specs.InRange.{IsPlanInRange}
+use Rattle.metis_text.specs.PlanText.{IsWellFormed, makes, plan_bytes}
+use Rattle.metis_text.specs.Reading.{plan_in}
+use Rattle.metis_text.specs.Reads.{said}
+use Rattle.metis_text.proofs.Accepted.{well_formed_read}
+use Rattle.metis_text.proofs.Formed.{moves_from_fits}
+use Rattle.metis_text.proofs.Lengths.{actions_below_bytes, dups_below_bytes}
+use Rattle.metis_text.proofs.RunLists.{length-others, others, others_are_earlier, others_ascend}
+use Rattle.metis_text.proofs.RunMoves.{run_fits}
+
+module _ (u : Universe) (p : Plan) (table : IsTable u) (run : IsRun u empty p.actions.items) (of : All (IsOf u) p.actions.items) (pairs : All (λ d. d.pair < pair_count u) p.dups.items)
+    (cycles : All (λ d. 2 ≤ length d.cycle.items) p.dups.items) (in_range : IsPlanInRange p) (counted : p.instances ≡ count_by makes p.actions.items) (short : length (plan_bytes u p (others p.actions.items)) < 2 ^ 32 - 1) where
+  run_formed : IsWellFormed u p (others p.actions.items)
+  run_formed = record {
+    lists = length-others p.actions.items;
+    ascending = others_ascend p.actions.items;
+    earlier = others_are_earlier p.actions.items;
+    moves = moves_from_fits u p.actions.items (run_fits u table.universe p.actions.items run);
+    actions = of;
+    dups = pairs;
+    cycles = cycles;
+    in_range = in_range;
+    few_actions = omega (arith, actions_below_bytes u p (others p.actions.items) (length-others p.actions.items), short);
+    few_dups = omega (arith, dups_below_bytes u p (others p.actions.items), short);
+    instances = counted;
+  }
+
+  pub written_run_read : plan_in u (plan_bytes u p (others p.actions.items)) ≡ Ok (said p (others p.actions.items))
+  written_run_read = well_formed_read u p (others p.actions.items) table.universe table.named run_formed
