@@ -1,22 +1,21 @@
 -- An action has no fault exactly where it is a step to a correct configuration.
-use Rattle.std.proofs.Common.{◌≡◌, ℕ, ◌<◌, Bool, true, false, not, ◌&&◌, ◌||◌, Option, Some, None, Result, Ok, Err, inl, inr, refl, ap, sym, ◌∙◌, subst, nat_eq, cond}
-use Rattle.std.specs.Prelude.{◌≢◌, IsTrue, IsFalse, IsSome, IsSomeAnd, is_some, is_none, option_map, OnOk, IfErr}
+use Rattle.std.proofs.Common.{◌≡◌, ℕ, ◌<◌, Bool, true, false, not, Option, Some, None, Result, Ok, Err, inl, inr, refl, ap, sym, ◌∙◌, subst, nat_eq, cond}
+use Rattle.std.specs.Prelude.{◌≢◌, IsTrue, IsSome, IsSomeAnd, is_some, is_none, option_map, OnOk, IfErr}
 use Rattle.std.specs.Option.{option_map_or, option_or, option_and_then}
-use Rattle.std.proofs.lemmas.Bool.{false≢true, true≢false, both_ways, and_parts, and_from, or_right, or_cases, eq-eqb, eqb-true, ne_eqb, not-true, not-false}
+use Rattle.std.proofs.lemmas.Bool.{false≢true, true≢false, both_ways, and_parts, and_from, or_right, or_cases, eq-eqb, eqb-true, ne_eqb, not-false}
 use Rattle.metis_ids.specs.declared.actions.Action.{Action}
 use Rattle.metis_ids.specs.declared.actions.Action.TheVariants.{New, Delete, Bind, Unbind, Move}
-use Rattle.metis_universe.specs.Universe.{Universe, IsUniverse, has, type_of, next_of, type_requires, type_provides, initial_of, pair_count, port_count}
-use Rattle.metis_universe.specs.Config.{Config, Binding, pair_of, is_bound, is_tie, names, put, remove, tie, untie, IsConfig, IsMet, Correct}
+use Rattle.metis_universe.specs.Universe.{Universe, IsUniverse, type_of, type_requires, type_provides, initial_of, pair_count, port_count}
+use Rattle.metis_universe.specs.Config.{Config, Binding, pair_of, is_bound, is_tie, names, put, remove, tie, untie, IsConfig, Correct}
 use Rattle.metis_universe.specs.Step.{Allows, CanBind, Step, after}
 use Rattle.metis_universe.proofs.Edits.{pair_of-put, pair_of-remove, is_bound-tie, is_bound-untie, is_bound-remove, tie_is}
 use Rattle.metis_universe.proofs.Kept.{IsConfig-after}
 use Rattle.metis_config.specs.Over.{IsOver}
-use Rattle.metis_config.specs.Unmet.{unmet}
 use Rattle.metis_config.proofs.Leasts.{correct-unmet, unmet-correct}
 use Rattle.metis_actions.specs.declared.faults.AFault.{AFault}
 use Rattle.metis_actions.specs.declared.faults.AFault.TheVariants.{InUse, NoInstance, NoState, NoTransition, SameInstance, NoSuchPort, Bound, NotBound, Unmet, NoMemory}
 use Rattle.metis_universe.specs.Numbers.{IsOf}
-use Rattle.metis_actions.specs.Faults.{when, absent, elsewhere, is_port_between, unmet_after, fault_of, IsCause, Answers}
+use Rattle.metis_actions.specs.Faults.{when, elsewhere, unmet_after, fault_of, IsCause, Answers}
 
 -- ---- the first of two
 

@@ -3,7 +3,7 @@
 --     IsCause u c a f      f is that reason, or memory ran out where an instance or a binding was to come
 --     Answers u c a d result      what `apply` answers, and the configuration d that it leaves
 --     IsFaultOf u f, fault_text u f      a reason whose numbers are of the universe, and not for want of memory;  its text
-use Rattle.std.specs.Prelude.{◌≡◌, ◌<◌, ℕ, ◌==◌, Bool, true, false, not, ◌&&◌, List, [], ◌∷◌, ◌++◌, Option, Some, None, option_map, Result, Ok, Err, is_some, is_none, IsTrue, ⊤, codes, decimal, if◌then◌else◌}
+use Rattle.std.specs.Prelude.{◌≡◌, ◌<◌, ℕ, ◌==◌, Bool, true, false, not, ◌&&◌, List, [], ◌∷◌, Option, Some, None, option_map, Result, Ok, Err, is_some, is_none, IsTrue, ⊤, codes, decimal, if◌then◌else◌}
 use Rattle.std.specs.List.{join_with_byte}
 use Rattle.std.specs.Option.{option_map_or, option_or, option_and_then}
 use Rattle.metis_ids.specs.declared.actions.Action.{Action}

@@ -1,5 +1,6 @@
 -- What the actions that were fed leave.
-use Rattle.std.proofs.Common.{◌≡◌, ℕ, ◌+◌, List, [], ◌∷◌, ◌++◌, length, Option, Some, None, refl, ap, sym, ◌∙◌, inl, inr, arith}
+use Rattle.std.proofs.Common.{◌≡◌, ℕ, ◌+◌, ◌<◌, List, [], ◌∷◌, ◌++◌, length, take, get_or, Option, Some, None, refl, ap, sym, ◌∙◌, inl, inr, arith}
+use Rattle.std.proofs.lemmas.List.{take_more}
 use Rattle.std.specs.List.{AllByRecursion}
 use Rattle.std.specs.Prelude.{◌⊎◌}
 use Rattle.metis_ids.specs.declared.actions.Action.{Action}
@@ -13,7 +14,7 @@ use Rattle.metis_actions.specs.Faults.{fault_of}
 use Rattle.metis_actions.specs.declared.faults.AFault.{AFault}
 use Rattle.metis_replay.proofs.Reasons.{never_memory}
 use Rattle.metis_replay.specs.Exact.{IsRefused}
-use Rattle.metis_replay.specs.Progress.{Progress, fed, fed_all, fed_by, progress_of}
+use Rattle.metis_replay.specs.Progress.{Progress, after_feeding, fed, fed_all, fed_by, progress_of, start}
 
 -- each action is counted
 fed_number : (s : Progress) (a : Action) → (fed s a).number ≡ s.number + 1
@@ -99,3 +100,18 @@ module _ (u : Universe) (k : IsUniverse u) where
           | inr s ↦ inr (record { before = a ∷ s.before; action = s.action; later = s.later; fault = s.fault; parts = ap (λ l. a ∷ l) s.parts; run = (step.0, step.1, s.run); refused = s.refused })
         ]
     by further (Some f) is = inr (record { before = []; action = a; later = rest; fault = f; parts = refl; run = tt; refused = is_refused c h correct a f is })
+
+-- the universe stays
+by_universe : (s : Progress) (a : Action) (refused : Option (ℕ × AFault)) (fault : Option AFault) → (fed_by s a refused fault).universe ≡ s.universe
+by_universe s a (Some first) fault = refl
+by_universe s a None (Some f) = refl
+by_universe s a None None = refl
+
+pub fed_universe : (s : Progress) (actions : List Action) → (fed_all s actions).universe ≡ s.universe
+fed_universe s [] = refl
+fed_universe s (a ∷ rest) = fed_universe (fed s a) rest ∙ by_universe s a s.refused (fault_of s.universe s.config a)
+
+-- one more action
+pub fed_next : (u : Universe) (actions : List Action) (i : ℕ) (a : Action) → i < length actions → a ≡ get_or actions i a → after_feeding u (take (i + 1) actions) ≡ fed (after_feeding u (take i actions)) a
+fed_next u actions i a within is =
+    ap (after_feeding u) (take_more actions i a within ∙ ap (λ x. take i actions ++ x ∷ []) (sym is)) ∙ fed_append (start u) (take i actions) (a ∷ [])

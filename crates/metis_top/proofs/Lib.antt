@@ -1,7 +1,9 @@
 pub mod FileBytes
+pub mod FormRead
 pub mod Gathered
 pub mod Items
 pub mod Misfits
+pub mod NeverLoose
 pub mod Openings
 pub mod OverFiles
 pub mod ReadFaults

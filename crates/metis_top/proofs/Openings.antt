@@ -1,5 +1,5 @@
 -- A run opens a file at least, and no more than its words name.
-use Rattle.std.proofs.Common.{◌≡◌, ℕ, zero, suc, ◌-◌, ◌<◌, ◌≤◌, List, [], ◌∷◌, length, Result, Ok, Err, Bool, true, false, refl, inl, inr, nat_le, if◌then◌else◌, arith}
+use Rattle.std.proofs.Common.{◌≡◌, ℕ, zero, suc, ◌-◌, ◌<◌, ◌≤◌, List, [], ◌∷◌, length, Result, Ok, Err, Bool, true, false, refl, subst, inl, inr, nat_le, if◌then◌else◌, arith}
 use Rattle.std.specs.declared.option.Option.{Option as Known}
 use Rattle.metis_text.specs.Reading.{plan_in}
 use Rattle.metis_top.specs.declared.refusal.Refusal.{Refusal}
@@ -67,11 +67,11 @@ record Left (n : ℕ) (taken : List (List ℕ)) (script : Script) : Type 0 where
   most : IsAtMost (n - length taken) script
 
 left_after : (files : Known (List ℕ → List ℕ)) (n : ℕ) (taken : List (List ℕ)) (script : Script) → IsAtMost n script → AreTaken files taken script → Left n taken (after taken script)
-left_after files n [] script most asked = record { few = omega arith; most = most }
+left_after files n [] script most asked = record { few = omega arith; most = subst (λ k. IsAtMost k script) (omega arith) most }
 left_after files zero (bytes ∷ taken) (Read place name limit next) most asked = absurd most
 left_after files (suc n) (bytes ∷ taken) (Read place name limit next) most asked =
     let rest = left_after files n taken (next bytes) (most bytes) asked.1 in
-    record { few = omega (arith, rest.few); most = rest.most }
+    record { few = omega (arith, rest.few); most = subst (λ k. IsAtMost k (after taken (next bytes))) (omega arith) rest.most }
 left_after files n (bytes ∷ taken) (Refuse refusal) most asked = absurd asked
 left_after files n (bytes ∷ taken) (Reply said) most asked = absurd asked
 
@@ -94,7 +94,7 @@ opens_some n taken (Read place name limit next) faults faults' opens opens' old 
     record { count = suc (length taken); openings = failed.1; most = omega (arith, more); some = inr (omega arith) }
 opens_some n taken (Read place name limit next) faults faults' opens opens' old new status left some (inr gave_up) =
     let more = one_more (n - length taken) (Read place name limit next) tt left.most in
-    elim gave_up.2.0 [
+    elim gave_up.2 [
       | inl none ↦ record { count = length taken; openings = none; most = left.few; some = inl gave_up.0 }
       | inr most ↦ record { count = suc (length taken); openings = most; most = omega (arith, more); some = inl gave_up.0 }
     ]

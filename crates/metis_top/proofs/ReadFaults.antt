@@ -85,8 +85,11 @@ numbered_universe : (place : ℕ) (name : List ℕ) (next : Universe → Script)
 numbered_universe place name next n = (refl, λ bytes. numbered_if (suc place) (nat_le (length bytes) document_limit) (judged next (or_universe_refused (universe_in bytes))) (TooLong place) (numbered_judged (suc place) next (or_universe_refused (universe_in bytes)) n))
 
 numbered_replay : (u : Universe) (g plan : List ℕ) → Numbered 3 (replay_then plan (u, g))
-numbered_replay u g plan = (refl, λ bytes. numbered_if 4 (nat_le (length bytes) plan_limit) (judged (λ parts. Reply (answer.Replay u g parts.rows.actions)) (or_plan_refused (plan_in u bytes))) (TooLong 3)
-    (numbered_judged 4 (λ parts. Reply (answer.Replay u g parts.rows.actions)) (or_plan_refused (plan_in u bytes)) (λ parts. tt)))
+numbered_replay u g plan = (
+  refl,
+  λ bytes. numbered_if 4 (nat_le (length bytes) plan_limit) (judged (λ parts. Reply (answer.Replay u g parts.rows.actions)) (or_plan_refused (plan_in u bytes))) (TooLong 3)
+      (numbered_judged 4 (λ parts. Reply (answer.Replay u g parts.rows.actions)) (or_plan_refused (plan_in u bytes)) (λ parts. tt)),
+)
 
 -- the script of each command
 numbered_command : (verb : Verb) (files : List (List ℕ)) (targets : List TargetName) → Numbered 2 (command_script verb files targets)

@@ -7,6 +7,8 @@ use Rattle.metis_ids.specs.declared.actions.Action.{Action}
 use Rattle.metis_ids.specs.declared.actions.Action.TheVariants.{New, Delete, Bind, Unbind, Move}
 use Rattle.metis_ids.specs.declared.plans.Plan.{Plan}
 use Rattle.metis_layers.specs.LayerOrder.{instances_of}
+use Rattle.metis_layers.specs.LayerOrder as layer_order
+use Rattle.std.proofs.lemmas.List.Sums.{length-filter}
 use Rattle.metis_universe.proofs.Inside.{refused}
 use Rattle.metis_universe.specs.Closed.{Refusal}
 use Rattle.metis_universe.specs.Config.{empty}
@@ -40,14 +42,16 @@ ran_replied files faults opens written sink_faults view part next shelf shelf' s
     let Q : Script → Type 0 = λ script. Shown (Says script) (written sink) (written sink') (sink_faults sink) (sink_faults sink') status in
     record { taken = g.taken; asked = g.asked next; reads = subst P (sym is) (g.came.1, g.came.2); puts = subst Q (sym is) s }
 
+same_makes : (a : Action) → layer_order.makes a ≡ makes a
+same_makes (New z t) = refl
+same_makes (Delete z) = refl
+same_makes (Bind r z y) = refl
+same_makes (Unbind r z y) = refl
+same_makes (Move z p q) = refl
+
 -- the instances that actions make, counted in two ways
 counts_as_made : (actions : List Action) → instances_of actions ≡ count_by makes actions
-counts_as_made [] = refl
-counts_as_made (New z t ∷ actions) = search (rules, counts_as_made actions)
-counts_as_made (Delete z ∷ actions) = search (rules, counts_as_made actions)
-counts_as_made (Bind r z y ∷ actions) = search (rules, counts_as_made actions)
-counts_as_made (Unbind r z y ∷ actions) = search (rules, counts_as_made actions)
-counts_as_made (Move z p q ∷ actions) = search (rules, counts_as_made actions)
+counts_as_made actions = length-filter layer_order.makes actions ∙ (λ i. count_by (λ a. same_makes a i) actions)
 
 -- the text of a plan answers
 pub answer_by_plan : (u : Universe) (g : List ℕ) (p : Plan) → IsRun u empty p.actions.items → Holds (after_all u empty p.actions.items) g → IsTrue (is_steadfast u p.actions.items)

@@ -2,3 +2,6 @@ use Rattle.metis_top.proofs.top.perform.Goals as goal
 
 pub returns-in-Plan : goal.returns-in-Plan
 returns-in-Plan g c = rw c.in-Plan.is (rw (c.file.ensures, c.targets.ensures.words) at c.plan_file.ensures)
+
+pub returns-in-Replay : goal.returns-in-Replay
+returns-in-Replay g c = rw c.in-Replay.is (rw (c.file-file.ensures, c.file-plan.ensures, c.targets-in-Replay.ensures.words) at c.replay_file.ensures)

@@ -1,0 +1,19 @@
+-- A command is its file words and then its target words.
+use Rattle.std.proofs.Common.{◌≡◌, ℕ, ◌+◌, List, drop, String, Ok, sym, ap, ◌∙◌}
+use Rattle.std.proofs.lemmas.List.{drop-map}
+use Rattle.std.specs.Prelude.{string_bytes}
+use Rattle.std.specs.declared.alloc.Global.{Global}
+use Rattle.metis_top.specs.Forms.{file_count, target_limit}
+use Rattle.metis_top.specs.TargetName.{TargetName}
+use Rattle.metis_top.specs.Words.{Form, files_in, form_with, targets_in, with_files, with_targets}
+use Rattle.metis_top.specs.declared.words.Verb.{Verb}
+use Rattle.metis_universe.specs.Texts.{texts}
+
+pub form_read : (verb : Verb) (words files : List (String Global)) (targets : List TargetName) → files_in (file_count verb) (texts words) ≡ Ok (texts files)
+    → targets_in (file_count verb + 2) (target_limit verb) (texts (drop (file_count verb) words)) ≡ Ok targets
+    → form_with verb (texts words) ≡ Ok (record { verb = verb; files = texts files; targets = targets; size = 0 })
+form_read verb words files targets first rest =
+    let n = file_count verb in
+    ap (λ f. with_files verb f (drop n (texts words))) first
+    ∙ ap (λ l. with_targets verb (texts files) (targets_in (n + 2) (target_limit verb) l)) (drop-map (λ text. string_bytes text) n words)
+    ∙ ap (with_targets verb (texts files)) rest
