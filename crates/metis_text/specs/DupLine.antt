@@ -2,7 +2,7 @@
 --     pair_in u word      the pair whose type and state the word names, with a colon between them
 --     event_in t      the end, or a line and a step with a point between them
 --     dup_in u k line      the pair and its cycle, in the line of dup number k
-use Rattle.std.specs.Prelude.{ℕ, ◌&&◌, Bool, ◌==◌, List, [], ◌∷◌, codes, Option, Result, Ok, Err, if◌then◌else◌}
+use Rattle.std.specs.Prelude.{ℕ, ◌&&◌, Bool, ◌==◌, List, [], ◌∷◌, codes, Result, Ok, Err, if◌then◌else◌}
 use Rattle.std.specs.List.{after_first, before_first}
 use Rattle.std.specs.Str.{bytes_eq}
 use Rattle.metis_ids.specs.declared.events.Event.{Event}

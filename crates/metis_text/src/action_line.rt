@@ -6,10 +6,11 @@ ghost use Rattle.metis_text.specs.ActionLine.{action_in, after_in, bind_action, 
 ghost use Rattle.metis_text.specs.Flaws.{all_behind, made};
 ghost use Rattle.metis_text.specs.Tokens.{number_in};
 
+use crate::bytes::is;
 use crate::flaw::{Flaw, both, numbered};
 use crate::gather::numbers_in;
 use crate::rows::Rows;
-use crate::tokens::{due, is, number_in, port_in, state_in, tokens_of, type_in};
+use crate::tokens::{due, number_in, port_in, state_in, tokens_of, type_in};
 use metis_ids::{Action, InstNo, PairIx, PortIx, TypeIx};
 use metis_universe::Universe;
 use std::alloc::{AllocError, Global};

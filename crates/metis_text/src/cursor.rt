@@ -3,8 +3,8 @@ ghost use Rattle.std.specs.Prelude.{◌≡◌, ◌+◌, ◌-◌, ◌<◌, ◌^�
 ghost use Rattle.metis_text.specs.Reading.{ended, lines_of, next_line};
 ghost use Rattle.metis_text.specs.Reads.{ReadsLine};
 
+use crate::bytes::place_of;
 use crate::fault::TFault;
-use crate::tokens::place_of;
 use std::marker::Model;
 
 /// What is left of a text of which so many lines were read.

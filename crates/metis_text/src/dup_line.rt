@@ -5,9 +5,10 @@ ghost use Rattle.metis_text.specs.DupLine.{dup_in, dup_of};
 ghost use Rattle.metis_text.specs.Flaws.{both, made};
 ghost use Rattle.metis_text.specs.Reads.{dup_row};
 
+use crate::bytes::is;
 use crate::flaw::{Flaw, both, numbered};
 use crate::gather::events_in;
-use crate::tokens::{due, is, pair_in, tokens_of};
+use crate::tokens::{due, pair_in, tokens_of};
 use metis_ids::{Dup, Event, PairIx};
 use metis_universe::Universe;
 use std::alloc::{AllocError, Global};

@@ -2,6 +2,7 @@
 #![tactic(auto)]
 
 mod action_line;
+mod bytes;
 mod cursor;
 mod dup_line;
 mod fault;

@@ -6,13 +6,14 @@ ghost use Rattle.metis_text.specs.Reading.{counts_in, counts_of_tokens, counted,
 ghost use Rattle.metis_text.specs.Reads.{Reads, IsTextOf, ReadsPlan, dup_row, numbers_of, parts_of};
 
 use crate::action_line::row_in;
+use crate::bytes::is;
 use crate::cursor::Lines;
 use crate::dup_line::dup_in;
 use crate::fault::TFault;
 use crate::flaw::{Flaw, both};
 use crate::plan_text::PlanText;
 use crate::rows::Rows;
-use crate::tokens::{is, number_in, tokens_of};
+use crate::tokens::{number_in, tokens_of};
 use metis_ids::{Action, Dup, Plan};
 use metis_universe::Universe;
 use std::alloc::Global;

@@ -1,13 +1,13 @@
 //! The tokens of a line that is read.
 ghost use Rattle.std.specs.Prelude.{◌≡◌, ◌==◌, IfOk, IsTrue, MatchOption, false, map};
-ghost use Rattle.std.specs.List.{after_first, before_first, position};
-ghost use Rattle.std.specs.Str.{bytes_eq};
+ghost use Rattle.std.specs.List.{after_first, before_first};
 ghost use Rattle.metis_text.specs.ActionLine.{due, state_in};
 ghost use Rattle.metis_text.specs.DupLine.{event_in, pair_in};
 ghost use Rattle.metis_text.specs.Tokens.{is_number, named, number_in, starts_number, tokens};
 ghost use Rattle.metis_universe.specs.Names.{is_name};
 ghost use Rattle.metis_universe.specs.Universe.{port_named, type_named};
 
+use crate::bytes::{is, place_of};
 use crate::flaw::{Flaw, both, found};
 use metis_ids::{Event, LineIx, PairIx, PortIx, StepIx, TypeIx};
 use metis_universe::{Universe, is_name};
@@ -18,13 +18,6 @@ pub fn tokens_of<'a>(alloc: Global, line: &'a [u8]) -> Result<Vec<&'a [u8]>, All
     ensures { IfOk result (λ v. map (λ t. t.now) v.items ≡ tokens line.now) }
 {
     line.split(|byte| *byte == b' ').collect(alloc)
-}
-
-/// Whether the bytes are these of the text.
-pub fn is(bytes: &[u8], text: &str) -> bool
-    ensures { result ≡ bytes_eq bytes.now text.now }
-{
-    bytes == text.as_bytes()
 }
 
 // Whether the token is a number: decimal digits of which the first is 0 only where it stands alone.
@@ -103,13 +96,6 @@ pub fn state_in(u: &Universe, kind: &Option<TypeIx>, token: &[u8]) -> Result<Pai
         (Some(_), None) => Err(Flaw::Name),
         (None, _) => Err(Flaw::Form),
     }
-}
-
-/// The place of the first such byte.
-pub fn place_of(bytes: &[u8], byte: u8) -> Option<usize>
-    ensures { result ≡ position (λ b. b == byte) bytes.now }
-{
-    bytes.iter().position(|b| *b == byte)
 }
 
 // What stands before the first such byte, and what behind it.

@@ -1,7 +1,7 @@
-use Rattle.std.proofs.Common.{ℕ, ◌+◌, ◌-◌, [], ◌∷◌, ◌++◌, length, map, Ok, Err, refl, sym, ap, ◌∙◌, arith}
+use Rattle.std.proofs.Common.{◌+◌, ◌-◌, [], ◌∷◌, ◌++◌, length, map, Err, refl, sym, ap, ◌∙◌}
 use Rattle.std.proofs.lemmas.List.{length-map, length_push, map-append}
 use Rattle.std.proofs.lemmas.Result.{err_from_is_err_and}
-use Rattle.metis_text.specs.DupLine.{DupRow, dup_in}
+use Rattle.metis_text.specs.DupLine.{dup_in}
 use Rattle.metis_text.specs.Flaws.{made}
 use Rattle.metis_text.specs.Reading.{dups_from, fault_at}
 use Rattle.metis_text.specs.Reads.{dup_row}

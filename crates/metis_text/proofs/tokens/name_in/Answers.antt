@@ -1,5 +1,3 @@
-use Rattle.std.proofs.Common.{ap, sym, ◌∙◌}
-use Rattle.metis_universe.specs.Names.{is_name}
 use Rattle.metis_text.proofs.Ascii.{no_name}
 use Rattle.metis_text.proofs.tokens.name_in.Goals as goal
 
