@@ -84,6 +84,18 @@ fn a_plan_need_not_be_steadfast(rt: HostRuntime) -> Result<(), Fail> {
 #[test]
 fn a_faulty_text_is_told_with_its_line(rt: HostRuntime) -> Result<(), Fail> {
     let alloc = rt.alloc();
+    let served = [
+        ("3 move 1 off on", "3 move 1 off gone", "name 5"),
+        ("3 move 1 off on", "03 move 1 off on", "line 5"),
+        ("after 3", "after 4", "number 6"),
+        ("\n", "\r\n", "line 1"),
+    ];
+    for (old, new, fault) in served {
+        let plan = SERVED.replace(alloc, old, new)?;
+        let text = format!(in alloc; "bad plan {fault}\n")?;
+        let plan = plan.as_str();
+        expect_replay(&rt, " Web:run", WEB, plan, Status::BadInput, text.as_str())?;
+    }
     let cases = [
         ("dup 1 A:a1 cycle 0.2 1.3 1.2 0.3\nend\n", "", "short"),
         ("\n4 move 1 b0 b1", "\n4 move 1 b0 gone", "name 6"),
