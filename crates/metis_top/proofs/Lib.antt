@@ -1,7 +1,6 @@
 pub mod FileBytes
 pub mod FormRead
 pub mod Gathered
-pub mod Items
 pub mod Misfits
 pub mod NeverLoose
 pub mod Openings

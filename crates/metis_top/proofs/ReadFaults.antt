@@ -8,13 +8,18 @@ use Rattle.metis_top.specs.declared.refusal.Refusal.TheVariants as refusal
 use Rattle.metis_top.specs.declared.status.Status.{Status}
 use Rattle.metis_top.specs.declared.status.Status.TheVariants.{Done, No, ReadFault}
 use Rattle.metis_top.specs.declared.words.Verb.{Verb}
-use Rattle.metis_top.specs.declared.words.Verb.TheVariants.{Plan, Replay, Print}
+use Rattle.metis_top.specs.declared.words.Verb.TheVariants.{Plan, Replay, Refute, Print}
 use Rattle.metis_top.specs.Answer as answer
 use Rattle.metis_top.specs.Answer.{Answer, IsAnswer}
 use Rattle.metis_replay.specs.declared.verdict.Verdict.{Verdict}
 use Rattle.metis_replay.specs.declared.verdict.Verdict.TheVariants.{Good, Bad, Missing}
 use Rattle.metis_text.specs.Reading.{plan_in}
-use Rattle.metis_top.specs.Commands.{universe_then, judged, or_plan_refused, or_universe_refused, pairs_named, plan_limit, replay_then, command_script, script_from}
+use Rattle.metis_text.specs.RefusalReading.{refusal_in}
+use Rattle.metis_top.specs.Commands.{universe_then, judged, or_plan_refused, or_refusal_refused, or_universe_refused, pairs_named, plan_limit, refusal_limit, refute_then, replay_then, command_script, script_from}
+use Rattle.metis_refusal.specs.declared.verdict.Verdict2.{Verdict2}
+use Rattle.metis_refusal.specs.declared.verdict.Verdict2.TheVariants.{Closed, NotFree, Open, LacksNone}
+use Rattle.metis_refusal.specs.Judgement.{judgement}
+use Rattle.metis_top.specs.Judged.{judgement_status}
 use Rattle.metis_top.specs.Replayed.{verdict_status}
 use Rattle.metis_top.specs.Course.{Ran, Shown, Says, OnShelf, after}
 use Rattle.metis_ujson.specs.Document.{document_limit, universe_in}
@@ -30,11 +35,18 @@ verdict_ends Good status is = inl is
 verdict_ends (Bad k f) status is = inr is
 verdict_ends (Missing p have want) status is = inr is
 
+judgement_ends : (v : Verdict2) (status : Status) → status ≡ judgement_status v → (status ≡ Done) ⊎ (status ≡ No)
+judgement_ends (Closed p) status is = inl is
+judgement_ends (NotFree p) status is = inr is
+judgement_ends (Open p q) status is = inr is
+judgement_ends LacksNone status is = inr is
+
 -- an answer has the status `Done` or `No`
 answer_status : (said : Answer) (text : List ℕ) (status : Status) → IsAnswer said text status → (status ≡ Done) ⊎ (status ≡ No)
 answer_status (answer.Plan u targets) text status (inl is) = inl is.0
 answer_status (answer.Plan u targets) text status (inr is) = inr is.0
 answer_status (answer.Replay u targets actions) text status is = verdict_ends is.verdict status is.is
+answer_status (answer.Refute u targets set) text status is = judgement_ends (judgement u set targets) status is.is
 answer_status (answer.Print u) text status is = inl is.1
 
 not_read_fault : (status : Status) → (status ≡ Done) ⊎ (status ≡ No) → status ≡ ReadFault → ⊥
@@ -46,6 +58,7 @@ not_refused (Word place) is = cc
 not_refused (TooLong place) is = cc
 not_refused (refusal.Universe fault) is = cc
 not_refused (refusal.PlanText fault) is = cc
+not_refused (refusal.RefusalText fault) is = cc
 
 Numbered-after : (taken : List (List ℕ)) (script : Script) (first : ℕ) → Numbered first script → Numbered (first + length taken) (after taken script)
 Numbered-after [] script first n = subst (λ k. Numbered k script) (omega arith) n
@@ -91,10 +104,15 @@ numbered_replay u g plan = (
       (numbered_judged 4 (λ parts. Reply (answer.Replay u g parts.rows.actions)) (or_plan_refused (plan_in u bytes)) (λ parts. tt)),
 )
 
+numbered_refute : (u : Universe) (g text : List ℕ) → Numbered 3 (refute_then text (u, g))
+numbered_refute u g text = (refl, λ bytes. numbered_if 4 (nat_le (length bytes) refusal_limit) (judged (λ parts. Reply (answer.Refute u g parts.pairs)) (or_refusal_refused (refusal_in u bytes))) (TooLong 3)
+    (numbered_judged 4 (λ parts. Reply (answer.Refute u g parts.pairs)) (or_refusal_refused (refusal_in u bytes)) (λ parts. tt)))
+
 -- the script of each command
 numbered_command : (verb : Verb) (files : List (List ℕ)) (targets : List TargetName) → Numbered 2 (command_script verb files targets)
 numbered_command Plan files targets = numbered_universe 2 (word_at files 0) _ (λ u. numbered_judged 3 (λ g. Reply (answer.Plan u g)) (pairs_named 3 u targets) (λ g. tt))
 numbered_command Replay files targets = numbered_universe 2 (word_at files 0) _ (λ u. numbered_judged 3 (λ g. replay_then (word_at files 1) (u, g)) (pairs_named 4 u targets) (λ g. numbered_replay u g (word_at files 1)))
+numbered_command Refute files targets = numbered_universe 2 (word_at files 0) _ (λ u. numbered_judged 3 (λ g. refute_then (word_at files 1) (u, g)) (pairs_named 4 u targets) (λ g. numbered_refute u g (word_at files 1)))
 numbered_command Print files targets = numbered_universe 2 (word_at files 0) _ (λ u. tt)
 
 numbered_script : (form : Result Form ℕ) → Numbered 2 (script_from form)

@@ -24,7 +24,7 @@ use Rattle.metis_top.specs.Answer.{Answer, IsAnswer}
 use Rattle.metis_top.specs.Course.{Gathers, Ran, Shown, Says, OnShelf}
 use Rattle.metis_text.specs.PlanText.{makes}
 use Rattle.metis_top.specs.Planned.{IsPlan, PlanAnswer, plan_text}
-use Rattle.metis_top.specs.RefusalText.{refusal_text}
+use Rattle.metis_text.specs.RefusalText.{refusal_bytes}
 use Rattle.metis_top.specs.Replayed.{Replayed, good_line, standing_after, verdict_line, verdict_status}
 use Rattle.metis_top.specs.Script.{Script, Reply}
 use Rattle.metis_top.specs.declared.status.Status.{Status}
@@ -62,7 +62,7 @@ answer_by_plan u g p runs holds steadfast counts lean =
     inl (refl, record { attains = (p.actions.items, runs, holds); plan = p; is = is; counted = counted; told = refl })
 
 -- the text of a refusal answers
-pub answer_by_refusal : (u : Universe) (g s : List ℕ) (p : ℕ) → IsAttainedSet u s → Refusal u g s p → PlanAnswer u g (refusal_text u s p) No
+pub answer_by_refusal : (u : Universe) (g s : List ℕ) (p : ℕ) → IsAttainedSet u s → Refusal u g s p → PlanAnswer u g (refusal_bytes u s p) No
 answer_by_refusal u g s p all refusal = inr (refl, record { unattained = refused u g s p refusal; set = s; lacking = p; refusal = record { refusal = refusal; all = all }; told = refl })
 
 -- the line of a verdict answers

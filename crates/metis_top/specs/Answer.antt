@@ -3,19 +3,22 @@ use Rattle.std.specs.Prelude.{◌≡◌, ℕ, List}
 use Rattle.metis_ids.specs.declared.actions.Action.{Action}
 use Rattle.metis_ujson.specs.Canonical.{canonical}
 use Rattle.metis_universe.specs.Universe.{Universe}
+use Rattle.metis_top.specs.Judged.{Judged}
 use Rattle.metis_top.specs.Planned.{PlanAnswer}
 use Rattle.metis_top.specs.Replayed.{Replayed}
 use Rattle.metis_top.specs.declared.status.Status.{Status}
 use Rattle.metis_top.specs.declared.status.Status.TheVariants.{Done}
 
 -- A plan for these targets or a refusal of them, where there may be several such texts; or what these actions came to, where
--- the targets were asked for; or the universe's own document.
+-- the targets were asked for; or what a set of pairs comes to as a refusal of these targets; or the universe's own document.
 pub data Answer : Type 0 where
   Plan : (u : Universe) (targets : List ℕ) → Answer
   Replay : (u : Universe) (targets : List ℕ) (actions : List Action) → Answer
+  Refute : (u : Universe) (targets set : List ℕ) → Answer
   Print : (u : Universe) → Answer
 
 abbrev pub IsAnswer : Answer → List ℕ → Status → Type 0
 IsAnswer (Plan u targets) text status = PlanAnswer u targets text status
 IsAnswer (Replay u targets actions) text status = Replayed u targets actions text status
+IsAnswer (Refute u targets set) text status = Judged u targets set text status
 IsAnswer (Print u) text status = (text ≡ canonical u) × (status ≡ Done)

@@ -5,9 +5,10 @@ use Rattle.metis_top.specs.declared.refusal.Refusal.{Refusal}
 use Rattle.metis_top.specs.declared.refusal.Refusal.TheVariants.{Word, TooLong}
 use Rattle.metis_top.specs.declared.refusal.Refusal.TheVariants as refusal
 use Rattle.metis_top.specs.declared.words.Verb.{Verb}
-use Rattle.metis_top.specs.declared.words.Verb.TheVariants.{Plan, Replay, Print}
+use Rattle.metis_top.specs.declared.words.Verb.TheVariants.{Plan, Replay, Refute, Print}
 use Rattle.metis_top.specs.Answer as answer
 use Rattle.metis_text.specs.Reading.{Parts, plan_in}
+use Rattle.metis_text.specs.RefusalReading.{RefusalParts, refusal_in}
 use Rattle.metis_text.specs.declared.fault.TFault.{TFault}
 use Rattle.metis_ujson.specs.Document.{document_limit, universe_in}
 use Rattle.metis_ujson.specs.declared.faults.UFault.{UFault}
@@ -77,6 +78,22 @@ plan_in_then u bytes next = judged next (or_plan_refused (plan_in u bytes))
 abbrev pub plan_then : ℕ → Universe → List ℕ → (Parts → Script) → Script
 plan_then place u name next = bytes_then place name plan_limit (λ bytes. plan_in_then u bytes next)
 
+-- the most bytes of a refusal's text
+abbrev pub refusal_limit : ℕ
+refusal_limit = 1048576
+
+abbrev pub or_refusal_refused : Result RefusalParts TFault → Result RefusalParts Refusal
+or_refusal_refused (Ok parts) = Ok parts
+or_refusal_refused (Err fault) = Err (refusal.RefusalText fault)
+
+-- goes on with what the bytes say as the text of a refusal
+abbrev pub refusal_in_then : Universe → List ℕ → (RefusalParts → Script) → Script
+refusal_in_then u bytes next = judged next (or_refusal_refused (refusal_in u bytes))
+
+-- the same of the file of the word at this place
+abbrev pub refusal_then : ℕ → Universe → List ℕ → (RefusalParts → Script) → Script
+refusal_then place u name next = bytes_then place name refusal_limit (λ bytes. refusal_in_then u bytes next)
+
 abbrev pub plan_script : List ℕ → List TargetName → Script
 plan_script file targets = goal_then 3 file targets (λ goal. Reply (answer.Plan goal.0 goal.1))
 
@@ -87,6 +104,13 @@ replay_then plan goal = plan_then 3 goal.0 plan (λ parts. Reply (answer.Replay 
 abbrev pub replay_script : List ℕ → List ℕ → List TargetName → Script
 replay_script file plan targets = goal_then 4 file targets (replay_then plan)
 
+-- what the check of a refusal does once it has its universe and its targets; the target that the text names is not used
+abbrev pub refute_then : List ℕ → Universe × List ℕ → Script
+refute_then text goal = refusal_then 3 goal.0 text (λ parts. Reply (answer.Refute goal.0 goal.1 parts.pairs))
+
+abbrev pub refute_script : List ℕ → List ℕ → List TargetName → Script
+refute_script file text targets = goal_then 4 file targets (refute_then text)
+
 abbrev pub print_script : List ℕ → Script
 print_script file = universe_then 2 file (λ u. Reply (answer.Print u))
 
@@ -94,6 +118,7 @@ print_script file = universe_then 2 file (λ u. Reply (answer.Print u))
 abbrev pub command_script : Verb → List (List ℕ) → List TargetName → Script
 command_script Plan files targets = plan_script (word_at files 0) targets
 command_script Replay files targets = replay_script (word_at files 0) (word_at files 1) targets
+command_script Refute files targets = refute_script (word_at files 0) (word_at files 1) targets
 command_script Print files targets = print_script (word_at files 0)
 
 -- the script of a run from its words

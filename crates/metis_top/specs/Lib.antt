@@ -3,11 +3,11 @@ pub mod Commands
 pub mod Course
 pub mod Forms
 pub mod Honest
+pub mod Judged
 pub mod Lines
 pub mod Numbered
 pub mod Openings
 pub mod Planned
-pub mod RefusalText
 pub mod Replayed
 pub mod Script
 pub mod Statuses

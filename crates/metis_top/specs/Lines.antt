@@ -50,17 +50,27 @@ plan_fault_line (tfault.Name n) = codes "bad plan name " ++ (decimal n ++ codes 
 plan_fault_line (tfault.Number n) = codes "bad plan number " ++ (decimal n ++ codes "\n")
 plan_fault_line tfault.NoMemory = []
 
+-- the first fault of a refusal's text; want of memory is none
+abbrev pub refusal_fault_line : TFault → List ℕ
+refusal_fault_line (tfault.Line n) = codes "bad refusal line " ++ (decimal n ++ codes "\n")
+refusal_fault_line tfault.Short = codes "bad refusal short\n"
+refusal_fault_line (tfault.Name n) = codes "bad refusal name " ++ (decimal n ++ codes "\n")
+refusal_fault_line (tfault.Number n) = codes "bad refusal number " ++ (decimal n ++ codes "\n")
+refusal_fault_line tfault.NoMemory = []
+
 abbrev pub refusal_line : Refusal → List ℕ
 refusal_line (Word place) = codes "bad word " ++ (decimal place ++ codes "\n")
 refusal_line (TooLong place) = codes "too long " ++ (decimal place ++ codes "\n")
 refusal_line (refusal.Universe fault) = universe_line fault
 refusal_line (refusal.PlanText fault) = plan_fault_line fault
+refusal_line (refusal.RefusalText fault) = refusal_fault_line fault
 
 abbrev pub refusal_status : Refusal → Status
 refusal_status (Word place) = BadWords
 refusal_status (TooLong place) = BadInput
 refusal_status (refusal.Universe fault) = BadInput
 refusal_status (refusal.PlanText fault) = BadInput
+refusal_status (refusal.RefusalText fault) = BadInput
 
 abbrev pub read_fault_line : ℕ → List ℕ
 read_fault_line place = codes "read fault " ++ (decimal place ++ codes "\n")

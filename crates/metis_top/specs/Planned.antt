@@ -16,7 +16,7 @@ use Rattle.metis_universe.specs.Closed.{Refusal}
 use Rattle.metis_text.specs.PlanText.{makes, plan_bytes}
 use Rattle.metis_universe.specs.Waits.{numbers}
 use Rattle.metis_waits.specs.Waits.{waits_on_others}
-use Rattle.metis_top.specs.RefusalText.{refusal_text}
+use Rattle.metis_text.specs.RefusalText.{refusal_bytes}
 use Rattle.metis_top.specs.declared.status.Status.{Status}
 use Rattle.metis_top.specs.declared.status.Status.TheVariants.{Done, No}
 
@@ -49,7 +49,7 @@ pub record Refuses (u : Universe) (g text : List ℕ) : Type 0 where
   pub set : List ℕ
   pub lacking : ℕ
   pub refusal : IsRefusal u g set lacking
-  pub told : text ≡ refusal_text u set lacking
+  pub told : text ≡ refusal_bytes u set lacking
 
 abbrev pub PlanAnswer : Universe → List ℕ → List ℕ → Status → Type 0
 PlanAnswer u g text status = ((status ≡ Done) × Plans u g text) ⊎ ((status ≡ No) × Refuses u g text)

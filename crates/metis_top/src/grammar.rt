@@ -29,6 +29,8 @@ fn verb_named(word: &str) -> Option<Verb>
         Some(Verb::Plan)
     } else if word == "replay" {
         Some(Verb::Replay)
+    } else if word == "refute" {
+        Some(Verb::Refute)
     } else if word == "print" {
         Some(Verb::Print)
     } else {

@@ -2,11 +2,12 @@
 #![tactic(auto)]
 
 mod grammar;
+mod judgement_line;
 mod plan;
 mod print;
 mod reading;
 mod refusal;
-mod refusal_text;
+mod refute;
 mod replay;
 mod status;
 mod stop;

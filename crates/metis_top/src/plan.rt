@@ -14,13 +14,12 @@ ghost use Rattle.metis_outside.specs.Writes.{Writes};
 
 use crate::Status;
 use crate::reading::goal_from;
-use crate::refusal_text::write_refusal;
 use crate::stop::{end, said};
 use crate::words::TargetWord;
 use metis_ids::{Action, NoMemory, PairIx, Plan};
 use metis_outside::{Shelf, Sink, Trouble};
 use metis_planner::{Outcome, plan};
-use metis_text::write_plan;
+use metis_text::{Refusal, write_plan, write_refusal};
 use metis_universe::Universe;
 use metis_waits::{WFault, Waits, waits};
 use std::alloc::Global;
@@ -49,8 +48,9 @@ fn put_plan<K: Sink>(alloc: Global, u: &Universe, targets: &[PairIx], out: &mut 
 {
     match plan(alloc, u, targets) {
         Ok(Outcome::Plan(plan)) => said(write_actions(alloc, u, &plan, out), Status::Done),
-        Ok(Outcome::Closed(set, lacking)) => {
-            said(write_refusal(alloc, u, &set, lacking, out), Status::No)
+        Ok(Outcome::Closed(pairs, lacks)) => {
+            let refusal = Refusal { lacks, pairs };
+            said(write_refusal(alloc, u, &refusal, out), Status::No)
         }
         Err(_) => Status::NoMemory,
     }

@@ -3,21 +3,24 @@ ghost use Rattle.std.specs.Prelude.{◌≡◌, ◌<◌, ◌≤◌, ◌-◌, ◌^
 ghost use Rattle.std.specs.List.{All};
 ghost use Rattle.metis_universe.specs.Universe.{pair_count};
 ghost use Rattle.metis_universe.specs.Numbers.{IsOf};
-ghost use Rattle.metis_text.specs.Reads.{parts_of};
-ghost use Rattle.metis_top.specs.Commands.{bytes_then, universe_in_then, universe_then, targets_then, goal_then, plan_in_then, plan_then};
+ghost use Rattle.metis_text.specs.Reads.{parts_of, refusal_parts_of};
+ghost use Rattle.metis_top.specs.Commands.{bytes_then, universe_in_then, universe_then, targets_then, goal_then, plan_in_then, plan_then, refusal_in_then, refusal_then};
 ghost use Rattle.metis_top.specs.Course.{Gathers, Judges, or_stop};
 
 use crate::refusal::{Refusal, Stop};
 use crate::words::TargetWord;
 use metis_ids::PairIx;
 use metis_outside::{ReadAnswer, Shelf, read_whole};
-use metis_text::{PlanText, TFault, read_plan};
+use metis_text::{PlanText, TFault, read_plan, read_refusal};
 use metis_ujson::{UFault, UNIVERSE_LIMIT, read_universe};
 use metis_universe::Universe;
 use std::alloc::Global;
 
 /// The most bytes of a plan's text.
 const PLAN_LIMIT: u64 = 268_435_456;
+
+/// The most bytes of a refusal's text.
+const REFUSAL_LIMIT: u64 = 1_048_576;
 
 // What a reading gives, or why it stops the run.
 fn or_stop(read: Result<Vec<u8>, ReadAnswer>, place: u32) -> Result<Vec<u8>, Stop>
@@ -140,4 +143,32 @@ pub fn plan_from<H: Shelf>(
 {
     let bytes = bytes_from(alloc, shelf, place, name, PLAN_LIMIT)?;
     plan_in(alloc, u, &bytes)
+}
+
+/// What the bytes say as the text of a refusal.
+fn refusal_in(alloc: Global, u: &Universe, bytes: &[u8]) -> Result<metis_text::Refusal, Stop>
+    requires { length bytes.now < 2 ^ 32 - 1 }
+    ensures judges { Judges refusal_parts_of (refusal_in_then u.now bytes.now) result }
+    ensures size { IfOk result (λ text. text.pairs.size ≡ pair_count u.now) }
+{
+    match read_refusal(alloc, u, bytes) {
+        Ok(text) => Ok(text),
+        Err(TFault::NoMemory) => Err(Stop::NoMemory),
+        Err(fault) => Err(Stop::Refused(Refusal::RefusalText(fault))),
+    }
+}
+
+/// The refusal in the file of the word at this place.
+pub fn refusal_from<H: Shelf>(
+    alloc: Global,
+    shelf: &mut H,
+    place: u32,
+    u: &Universe,
+    name: &str,
+) -> Result<metis_text::Refusal, Stop>
+    ensures gathers { Gathers H.files H.faults H.opens refusal_parts_of (refusal_then place u.now name.now) shelf.old shelf.new result }
+    ensures size { IfOk result (λ text. text.pairs.size ≡ pair_count u.now) }
+{
+    let bytes = bytes_from(alloc, shelf, place, name, REFUSAL_LIMIT)?;
+    refusal_in(alloc, u, &bytes)
 }

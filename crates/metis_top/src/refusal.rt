@@ -16,6 +16,8 @@ pub enum Refusal {
     Universe(UFault),
     /// The bytes are no text of a plan.
     PlanText(TFault),
+    /// The bytes are no text of a refusal.
+    RefusalText(TFault),
 }
 
 /// Why a run ends before its work.

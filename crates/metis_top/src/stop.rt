@@ -3,7 +3,7 @@ ghost use Rattle.std.specs.Prelude.{◌≡◌, ◌++◌, IfOk, string_bytes};
 ghost use Rattle.metis_outside.specs.Faults.{CountsFault};
 ghost use Rattle.metis_outside.specs.Writes.{Writes};
 ghost use Rattle.metis_top.specs.Course.{Shown, StopSays, IsJust};
-ghost use Rattle.metis_top.specs.Lines.{plan_fault_line, refusal_line, universe_line, state_line, limit_line, read_fault_line, said, refusal_status};
+ghost use Rattle.metis_top.specs.Lines.{plan_fault_line, refusal_fault_line, refusal_line, universe_line, state_line, limit_line, read_fault_line, said, refusal_status};
 
 use crate::Status;
 use crate::refusal::{Refusal, Stop};
@@ -21,6 +21,7 @@ fn refusal_line(alloc: Global, refusal: Refusal) -> Result<String, AllocError>
         Refusal::TooLong(place) => format!(in alloc; "too long {place}\n"),
         Refusal::Universe(fault) => universe_line(alloc, fault),
         Refusal::PlanText(fault) => plan_fault_line(alloc, fault),
+        Refusal::RefusalText(fault) => refusal_fault_line(alloc, fault),
     }
 }
 
@@ -78,6 +79,18 @@ fn plan_fault_line(alloc: Global, fault: TFault) -> Result<String, AllocError>
         TFault::Short => String::from_str(alloc, "bad plan short\n"),
         TFault::Name(n) => format!(in alloc; "bad plan name {n}\n"),
         TFault::Number(n) => format!(in alloc; "bad plan number {n}\n"),
+        TFault::NoMemory => Ok(String::new(alloc)),
+    }
+}
+
+fn refusal_fault_line(alloc: Global, fault: TFault) -> Result<String, AllocError>
+    ensures { IfOk result (λ line. string_bytes line ≡ refusal_fault_line fault) }
+{
+    match fault {
+        TFault::Line(n) => format!(in alloc; "bad refusal line {n}\n"),
+        TFault::Short => String::from_str(alloc, "bad refusal short\n"),
+        TFault::Name(n) => format!(in alloc; "bad refusal name {n}\n"),
+        TFault::Number(n) => format!(in alloc; "bad refusal number {n}\n"),
         TFault::NoMemory => Ok(String::new(alloc)),
     }
 }

@@ -6,6 +6,7 @@ mod given_words;
 mod paths;
 mod ports;
 mod printed;
+mod refutations;
 mod replays;
 mod target_lists;
 

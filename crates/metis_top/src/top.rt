@@ -15,6 +15,7 @@ use crate::grammar::read_words;
 use crate::plan::plan_file;
 use crate::print::print_file;
 use crate::refusal::{Refusal, Stop};
+use crate::refute::refute_file;
 use crate::replay::replay_file;
 use crate::stop::end;
 use crate::words::{Command, Verb, WordFault};
@@ -81,6 +82,10 @@ fn perform<H: Shelf, K: Sink>(
         Verb::Replay => {
             let (file, plan) = (command.file(0), command.file(1));
             replay_file(alloc, file, plan, command.targets(), shelf, out)
+        }
+        Verb::Refute => {
+            let (file, text) = (command.file(0), command.file(1));
+            refute_file(alloc, file, text, command.targets(), shelf, out)
         }
         Verb::Print => print_file(alloc, command.file(0), shelf, out),
     }

@@ -12,6 +12,8 @@ pub enum Verb {
     Plan,
     /// Replays a plan, and looks for target words at its end.
     Replay,
+    /// Checks a refusal of target words.
+    Refute,
     /// Prints the universe.
     Print,
 }
@@ -23,7 +25,7 @@ impl Verb {
     {
         match self {
             Verb::Plan | Verb::Print => 1,
-            Verb::Replay => 2,
+            Verb::Replay | Verb::Refute => 2,
         }
     }
 
@@ -32,7 +34,7 @@ impl Verb {
         ensures { result ≡ target_limit self }
     {
         match self {
-            Verb::Plan | Verb::Replay => 256,
+            Verb::Plan | Verb::Replay | Verb::Refute => 256,
             Verb::Print => 0,
         }
     }

@@ -1,9 +1,0 @@
-use Rattle.std.proofs.lemmas.Result.{err_from_is_err_and}
-use Rattle.metis_outside.proofs.Writing.{front_of_first}
-use Rattle.metis_top.specs.RefusalText.{refusal_header, refusal_body}
-use Rattle.metis_top.proofs.refusal_text.write_refusal.Goals as goal
-
-pub returns-in_err-put_all-clause-text : goal.returns-in_err-put_all-clause-text
-returns-in_err-put_all-clause-text g c =
-    let p = err_from_is_err_and c.from_residual.result c.from_residual.ensures.1 in
-    rw p.1 (front_of_first _ _ refusal_header (refusal_body c.args.u.now c.args.set.now.members c.args.lacks) c.in_err-put_all.ensures.text)

@@ -1,0 +1,60 @@
+//! Writes the line of a refusal that was checked.
+ghost use Rattle.std.specs.Prelude.{◌≡◌, ◌<◌, ◌++◌, IfOk, codes, string_bytes};
+ghost use Rattle.metis_outside.specs.Faults.{CountsFault};
+ghost use Rattle.metis_outside.specs.Writes.{Writes};
+ghost use Rattle.metis_text.specs.PlanText.{pair_word};
+ghost use Rattle.metis_universe.specs.Universe.{pair_count};
+ghost use Rattle.metis_top.specs.Judged.{IsJudgementOf, judgement_line, pair_line};
+
+use crate::stop::put_all;
+use metis_ids::PairIx;
+use metis_outside::{Sink, Trouble};
+use metis_refusal::Verdict2;
+use metis_universe::Universe;
+use std::alloc::{AllocError, Global};
+
+/// Puts the line by one put.
+#[tactic(auto, using(metis_outside::proofs::Writing::front_of_nothing))]
+pub fn write_judgement<K: Sink>(
+    alloc: Global,
+    u: &Universe,
+    judgement: Verdict2,
+    out: &mut K,
+) -> Result<(), Trouble>
+    requires { IsJudgementOf u.now judgement }
+    ensures text { Writes (judgement_line u.now judgement) (K.written out.old) (K.written out.new) result }
+    ensures cause { CountsFault (K.faults out.old) (K.faults out.new) result }
+{
+    let line = judgement_line(alloc, u, judgement)?;
+    put_all(line.as_bytes(), out)
+}
+
+fn judgement_line(alloc: Global, u: &Universe, judgement: Verdict2) -> Result<String, AllocError>
+    requires { IsJudgementOf u.now judgement }
+    ensures { IfOk result (λ line. string_bytes line ≡ judgement_line u.now judgement) }
+{
+    match judgement {
+        Verdict2::Closed(p) => pair_line(alloc, u, "closed lacks", p),
+        Verdict2::NotFree(p) => pair_line(alloc, u, "notfree", p),
+        Verdict2::Open(p, q) => open_line(alloc, u, p, q),
+        Verdict2::LacksNone => String::from_str(alloc, "lacksnone\n"),
+    }
+}
+
+fn pair_line(alloc: Global, u: &Universe, start: &str, p: PairIx) -> Result<String, AllocError>
+    requires { p < pair_count u.now }
+    ensures { IfOk result (λ line. string_bytes line ≡ start.now ++ (codes " " ++ (pair_word u.now p ++ codes "\n"))) }
+{
+    let (kind, state) = (u.type_name(u.type_of(p)), u.state_name(p));
+    format!(in alloc; "{start} {kind}:{state}\n")
+}
+
+fn open_line(alloc: Global, u: &Universe, p: PairIx, q: PairIx) -> Result<String, AllocError>
+    requires from { p < pair_count u.now }
+    requires to { q < pair_count u.now }
+    ensures { IfOk result (λ line. string_bytes line ≡ codes "open " ++ (pair_word u.now p ++ (codes " " ++ (pair_word u.now q ++ codes "\n")))) }
+{
+    let (kind, state) = (u.type_name(u.type_of(p)), u.state_name(p));
+    let (next_kind, next_state) = (u.type_name(u.type_of(q)), u.state_name(q));
+    format!(in alloc; "open {kind}:{state} {next_kind}:{next_state}\n")
+}

@@ -1,0 +1,80 @@
+//! The command that checks a refusal.
+ghost use Rattle.std.specs.Prelude.{◌≡◌, ◌<◌, ◌≤◌, length};
+ghost use Rattle.std.specs.List.{All};
+ghost use Rattle.metis_universe.specs.Universe.{pair_count};
+ghost use Rattle.metis_top.specs.Answer as answer;
+ghost use Rattle.metis_top.specs.Commands.{refute_script, refute_then};
+ghost use Rattle.metis_top.specs.Course.{Ran, Shown};
+ghost use Rattle.metis_top.specs.Judged.{judgement_status};
+
+use crate::Status;
+use crate::judgement_line::write_judgement;
+use crate::reading::{goal_from, refusal_from};
+use crate::stop::{end, said};
+use crate::words::TargetWord;
+use metis_ids::{PairIx, PairSet};
+use metis_outside::{Shelf, Sink};
+use metis_refusal::{Verdict2, check_closed};
+use metis_universe::Universe;
+use std::alloc::Global;
+
+/// Reads the universe and the refusal, and puts what the set of pairs comes to as a refusal of the targets.
+pub fn refute_file<H: Shelf, K: Sink>(
+    alloc: Global,
+    file: &str,
+    text: &str,
+    targets: &[TargetWord],
+    shelf: &mut H,
+    out: &mut K,
+) -> Status
+    requires { length targets.now ≤ 256 }
+    ensures { Ran H.files H.faults H.opens K.written K.faults (refute_script file.now text.now targets.now) shelf.old shelf.new out.old out.new result }
+{
+    match goal_from(alloc, shelf, file, 4, targets) {
+        Ok((universe, pairs)) => refute_text(alloc, text, &universe, &pairs, shelf, out),
+        Err(stop) => end(alloc, stop, out),
+    }
+}
+
+// The same where the universe is known, and the targets' pairs in it.
+fn refute_text<H: Shelf, K: Sink>(
+    alloc: Global,
+    text: &str,
+    u: &Universe,
+    targets: &[PairIx],
+    shelf: &mut H,
+    out: &mut K,
+) -> Status
+    requires { All (λ p. p < pair_count u.now) targets.now }
+    ensures { Ran H.files H.faults H.opens K.written K.faults (refute_then text.now (u.now, targets.now)) shelf.old shelf.new out.old out.new result }
+{
+    match refusal_from(alloc, shelf, 3, u, text) {
+        Ok(refusal) => put_judgement(alloc, u, &refusal.pairs, targets, out),
+        Err(stop) => end(alloc, stop, out),
+    }
+}
+
+fn put_judgement<K: Sink>(
+    alloc: Global,
+    u: &Universe,
+    set: &PairSet,
+    targets: &[PairIx],
+    out: &mut K,
+) -> Status
+    requires size { set.now.size ≡ pair_count u.now }
+    requires within { All (λ p. p < pair_count u.now) targets.now }
+    ensures { Shown (answer.IsAnswer (answer.Refute u.now targets.now set.now.members)) (K.written out.old) (K.written out.new) (K.faults out.old) (K.faults out.new) result }
+{
+    let judgement = check_closed(u, set, targets);
+    let put = write_judgement(alloc, u, judgement, out);
+    said(put, status_of(judgement))
+}
+
+fn status_of(judgement: Verdict2) -> Status
+    ensures { result ≡ judgement_status judgement }
+{
+    match judgement {
+        Verdict2::Closed(_) => Status::Done,
+        _ => Status::No,
+    }
+}
