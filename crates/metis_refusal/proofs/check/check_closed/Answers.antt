@@ -1,0 +1,32 @@
+use Rattle.std.proofs.Common.{◌<◌, sym, subst}
+use Rattle.std.specs.List.{All}
+use Rattle.metis_universe.proofs.Inside.{refused}
+use Rattle.metis_refusal.proofs.Told.{rises, told, told_of, unique}
+use Rattle.metis_refusal.specs.Claims.{Tells}
+use Rattle.metis_refusal.specs.declared.verdict.Verdict2.TheVariants.{Closed}
+use Rattle.metis_refusal.proofs.check.check_closed.Goals as goal
+
+tells : goal.returns-clause-exactly
+tells c v =
+    let u = c.args.u.now in
+    let s = c.args.set.now.members in
+    let g = c.args.targets.now in
+    let k = c.pairs-pairs.ensures.table.universe in
+    let holds = subst (Tells u s g) (sym c.judged.ensures) (told u k s g (rises s c.size-size.ensures.ascending)) in
+    (λ is. subst (Tells u s g) is holds, λ other. unique u k s g c.judged.result v holds other)
+
+pub returns-clause-exactly : goal.returns-clause-exactly
+returns-clause-exactly c = tells c
+
+pub returns-clause-closed : goal.returns-clause-closed
+returns-clause-closed c = λ p. tells c (Closed p)
+
+pub returns-clause-unattained : goal.returns-clause-unattained
+returns-clause-unattained c = λ p is. refused c.args.u.now c.args.targets.now c.args.set.now.members p ((tells c (Closed p)).0 is)
+
+pub returns-clause-pairs : goal.returns-clause-pairs
+returns-clause-pairs c =
+    let u = c.args.u.now in
+    let s = c.args.set.now.members in
+    let low = subst (λ n. All (λ p. p < n) s) c.requires.size c.size-size.ensures.below in
+    told_of u c.pairs-pairs.ensures.table.universe s c.args.targets.now low c.requires.targets c.judged.result ((tells c c.judged.result).0 (λ i. c.judged.result))

@@ -1,0 +1,128 @@
+//! Whether a set of pairs is closed, and what it lacks.
+ghost use Rattle.std.specs.Prelude.{◌≡◌, ◌<◌, ◌↔◌, ◌&&◌, ℕ, not};
+ghost use Rattle.std.specs.List.{All};
+ghost use Rattle.metis_universe.specs.Closed.{Refusal};
+ghost use Rattle.metis_universe.specs.Goal.{Attains};
+ghost use Rattle.metis_universe.specs.Universe.{has, is_free, pair_count};
+ghost use Rattle.metis_refusal.specs.Claims.{IsOf, Tells, is_unfree, first_unfree, first_way_out, lacked, verdict, way_out};
+ghost use Rattle.metis_refusal.specs.Supplies.{AreSupplied, flag};
+
+use crate::Verdict2;
+use crate::supply::{PAIR_LIMIT, supplied_by};
+use metis_ids::{PairIx, PairSet};
+use metis_universe::Universe;
+
+/// Whether the set is closed, and which target it lacks. It takes no memory, and goes once over the pairs, over the ports that
+/// pairs require and provide, over the transitions and over the targets.
+pub fn check_closed(u: &Universe, set: &PairSet, targets: &[PairIx]) -> Verdict2
+    requires size { set.now.size ≡ pair_count u.now }
+    requires targets { All (λ p. p < pair_count u.now) targets.now }
+    ensures verdict { result ≡ verdict u.now set.now.members targets.now }
+
+    // It is the verdict that is true of the set and the targets.
+    ensures exactly { (v : Verdict2) → (result ≡ v) ↔ Tells u.now set.now.members targets.now v }
+
+    // So `Closed` comes where the pair is what refuses the targets, and then no list of actions attains them.
+    ensures closed { (p : ℕ) → (result ≡ Verdict2.Closed p) ↔ Refusal u.now targets.now set.now.members p }
+    ensures unattained { (p : ℕ) → result ≡ Verdict2.Closed p → Attains u.now targets.now → ⊥ }
+    ensures pairs { IsOf u.now result }
+{
+    let _pairs = u.pairs();
+    let _size = set.size();
+    judged(u, set, targets)
+}
+
+// The first of what the claim may come to.
+fn judged(u: &Universe, set: &PairSet, targets: &[PairIx]) -> Verdict2
+    requires size { set.now.size ≡ pair_count u.now }
+    ensures { result ≡ verdict u.now set.now.members targets.now }
+{
+    if let Some(pair) = first_unfree(u, set) {
+        return Verdict2::NotFree(pair);
+    }
+    if let Some((from, to)) = first_way_out(u, set) {
+        return Verdict2::Open(from, to);
+    }
+    match lacked(set, targets) {
+        Some(target) => Verdict2::Closed(target),
+        None => Verdict2::LacksNone,
+    }
+}
+
+// The least free pair that is not in the set.
+fn first_unfree(u: &Universe, set: &PairSet) -> Option<PairIx>
+    ensures { result ≡ first_unfree u.now set.now.members }
+{
+    for number in 0..u.pairs() {
+        let pair = PairIx(number);
+        if is_unfree(u, set, pair) {
+            return Some(pair);
+        }
+    }
+    None
+}
+
+// Whether the pair is free and not in the set.
+fn is_unfree(u: &Universe, set: &PairSet, pair: PairIx) -> bool
+    requires { pair < pair_count u.now }
+    ensures { result ≡ is_unfree u.now set.now.members pair }
+{
+    is_free(u, pair) && !set.has(pair)
+}
+
+// Whether the pair is its type's initial pair and requires nothing.
+fn is_free(u: &Universe, pair: PairIx) -> bool
+    requires { pair < pair_count u.now }
+    ensures { result ≡ is_free u.now pair }
+{
+    u.is_initial(pair) && u.requires_(pair).is_empty()
+}
+
+// The least pair of the set from which a move leads out of it, and the least to which one leads.
+fn first_way_out(u: &Universe, set: &PairSet) -> Option<(PairIx, PairIx)>
+    requires { set.now.size ≡ pair_count u.now }
+    ensures { result ≡ first_way_out u.now set.now.members }
+{
+    let supplied = supplied_by(u, set);
+    for from in set.iter() {
+        if let Some(to) = way_out(u, set, &supplied, from) {
+            return Some((from, to));
+        }
+    }
+    None
+}
+
+// The least pair outside the set to which a move leads from this one.
+fn way_out(
+    u: &Universe,
+    set: &PairSet,
+    supplied: &[bool; PAIR_LIMIT],
+    from: PairIx,
+) -> Option<PairIx>
+    requires from { from < pair_count u.now }
+    requires supplied { AreSupplied u.now set.now.members supplied.now }
+    ensures { result ≡ way_out u.now set.now.members from }
+{
+    let _pairs = u.pairs();
+    for to in u.next(from) {
+        if is_way(set, supplied, *to) {
+            return Some(*to);
+        }
+    }
+    None
+}
+
+// Whether the pair is not in the set, and supplied.
+fn is_way(set: &PairSet, supplied: &[bool; PAIR_LIMIT], to: PairIx) -> bool
+    requires { to < PAIR_LIMIT }
+    ensures { result ≡ (not (has set.now.members to) && flag supplied.now to) }
+{
+    !set.has(to) && supplied[to.0 as usize]
+}
+
+// The first target that is not in the set.
+fn lacked(set: &PairSet, targets: &[PairIx]) -> Option<PairIx>
+    ensures { result ≡ lacked set.now.members targets.now }
+{
+    targets.iter().copied().find(|p| !set.has(*p))
+}
