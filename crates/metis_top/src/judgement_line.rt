@@ -4,7 +4,8 @@ ghost use Rattle.metis_outside.specs.Faults.{CountsFault};
 ghost use Rattle.metis_outside.specs.Writes.{Writes};
 ghost use Rattle.metis_text.specs.PlanText.{pair_word};
 ghost use Rattle.metis_universe.specs.Universe.{pair_count};
-ghost use Rattle.metis_top.specs.Judged.{IsJudgementOf, judgement_line, pair_line};
+ghost use Rattle.metis_refusal.specs.Claims.{IsOf};
+ghost use Rattle.metis_top.specs.Judged.{judgement_line, open_line, pair_line};
 
 use crate::stop::put_all;
 use metis_ids::PairIx;
@@ -21,7 +22,7 @@ pub fn write_judgement<K: Sink>(
     judgement: Verdict2,
     out: &mut K,
 ) -> Result<(), Trouble>
-    requires { IsJudgementOf u.now judgement }
+    requires { IsOf u.now judgement }
     ensures text { Writes (judgement_line u.now judgement) (K.written out.old) (K.written out.new) result }
     ensures cause { CountsFault (K.faults out.old) (K.faults out.new) result }
 {
@@ -30,7 +31,7 @@ pub fn write_judgement<K: Sink>(
 }
 
 fn judgement_line(alloc: Global, u: &Universe, judgement: Verdict2) -> Result<String, AllocError>
-    requires { IsJudgementOf u.now judgement }
+    requires { IsOf u.now judgement }
     ensures { IfOk result (λ line. string_bytes line ≡ judgement_line u.now judgement) }
 {
     match judgement {
@@ -43,7 +44,7 @@ fn judgement_line(alloc: Global, u: &Universe, judgement: Verdict2) -> Result<St
 
 fn pair_line(alloc: Global, u: &Universe, start: &str, p: PairIx) -> Result<String, AllocError>
     requires { p < pair_count u.now }
-    ensures { IfOk result (λ line. string_bytes line ≡ start.now ++ (codes " " ++ (pair_word u.now p ++ codes "\n"))) }
+    ensures { IfOk result (λ line. string_bytes line ≡ pair_line start.now (pair_word u.now p)) }
 {
     let (kind, state) = (u.type_name(u.type_of(p)), u.state_name(p));
     format!(in alloc; "{start} {kind}:{state}\n")
@@ -52,7 +53,7 @@ fn pair_line(alloc: Global, u: &Universe, start: &str, p: PairIx) -> Result<Stri
 fn open_line(alloc: Global, u: &Universe, p: PairIx, q: PairIx) -> Result<String, AllocError>
     requires from { p < pair_count u.now }
     requires to { q < pair_count u.now }
-    ensures { IfOk result (λ line. string_bytes line ≡ codes "open " ++ (pair_word u.now p ++ (codes " " ++ (pair_word u.now q ++ codes "\n")))) }
+    ensures { IfOk result (λ line. string_bytes line ≡ open_line (pair_word u.now p) (pair_word u.now q)) }
 {
     let (kind, state) = (u.type_name(u.type_of(p)), u.state_name(p));
     let (next_kind, next_state) = (u.type_name(u.type_of(q)), u.state_name(q));
