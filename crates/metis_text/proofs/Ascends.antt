@@ -8,7 +8,7 @@ use Rattle.std.proofs.lemmas.List.Elements.{All-from_recursion, recursion_from_A
 use Rattle.metis_universe.proofs.ProviderRows.{Rises, rises}
 use Rattle.metis_text.specs.ActionLine.{rise}
 
-increasing : (xs : List ℕ) → Rises xs → IsStrictlyIncreasing xs
+pub increasing : (xs : List ℕ) → Rises xs → IsStrictlyIncreasing xs
 increasing [] r k l = absurd (omega arith)
 increasing (x ∷ []) r k l = absurd (omega arith)
 increasing (x ∷ y ∷ xs) r zero l = r.0.0

@@ -10,6 +10,7 @@ pub mod DupPlaces
 pub mod DupWords
 pub mod DupsRead
 pub mod Formed
+pub mod Items
 pub mod KindsKept
 pub mod Lengths
 pub mod LinesRead
@@ -19,9 +20,14 @@ pub mod NumberRead
 pub mod NumberTokens
 pub mod Numbered
 pub mod Outcomes
+pub mod PairsRead
 pub mod PlanParts
 pub mod PlanRead
 pub mod Printed
+pub mod RefusalLines
+pub mod RefusalPairs
+pub mod RefusalRead
+pub mod RefusalSets
 pub mod RowLine
 pub mod RowPlaces
 pub mod RowsRead

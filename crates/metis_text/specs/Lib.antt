@@ -7,4 +7,6 @@ pub mod Line
 pub mod PlanText
 pub mod Reading
 pub mod Reads
+pub mod RefusalReading
+pub mod RefusalText
 pub mod Tokens

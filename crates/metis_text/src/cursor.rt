@@ -1,10 +1,11 @@
 //! The lines of a text, one after another.
 ghost use Rattle.std.specs.Prelude.{◌≡◌, ◌+◌, ◌-◌, ◌<◌, ◌^◌, length};
-ghost use Rattle.metis_text.specs.Reading.{ended, lines_of, next_line};
-ghost use Rattle.metis_text.specs.Reads.{ReadsLine};
+ghost use Rattle.metis_text.specs.Reading.{ended, exactly, lines_of, next_line, read_next};
+ghost use Rattle.metis_text.specs.Reads.{Reads, ReadsLine};
 
-use crate::bytes::place_of;
+use crate::bytes::{is, place_of};
 use crate::fault::TFault;
+use crate::flaw::Flaw;
 use std::marker::Model;
 
 /// What is left of a text of which so many lines were read.
@@ -66,5 +67,16 @@ impl<'a> Lines<'a> {
         } else {
             Err(TFault::Line(self.number + 1))
         }
+    }
+}
+
+/// Reads a line of this text.
+pub fn read_exactly(text: &str, lines: &mut Lines<'_>) -> Result<(), TFault>
+    ensures { Reads (λ x. x) result lines.new (read_next (exactly text.now) lines.old) }
+{
+    if is(lines.next_line()?, text) {
+        Ok(())
+    } else {
+        Err(Flaw::Form.at(lines.number()))
     }
 }

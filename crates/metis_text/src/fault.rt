@@ -1,4 +1,4 @@
-//! Why bytes are no text of a plan.
+//! Why bytes are no text of a plan or of a refusal.
 ghost use Rattle.std.specs.Prelude.{◌≡◌};
 ghost use Rattle.metis_text.specs.Reading.{fault_at};
 
@@ -6,16 +6,17 @@ use crate::flaw::Flaw;
 use metis_ids::NoMemory;
 use std::alloc::{AllocError, AllocFailed};
 
-/// Why bytes are no text of a plan. Lines count from 1.
+/// Why bytes are no text of a plan or of a refusal. Lines count from 1.
 #[derive(Clone, Copy, Debug, PartialEq, Eq)]
 pub enum TFault {
     /// The line does not have the tokens of the form that stands at its place.
     Line(u32),
     /// The bytes end before the last line does.
     Short,
-    /// The line names a type, a state or a port that is not there, or moves an instance that was not made.
+    /// The line names a type, a state, a pair or a port that is not there, or moves an instance that was not made.
     Name(u32),
-    /// A number in the line is out of range, or not one that may stand at its place.
+    /// A number in the line is out of range, or not one that may stand at its place, or a pair does not stand behind
+    /// the one before it.
     Number(u32),
     NoMemory,
 }

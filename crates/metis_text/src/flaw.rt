@@ -7,7 +7,7 @@ ghost use Rattle.metis_text.specs.Flaws.{both, found, graver, made};
 pub enum Flaw {
     /// It does not have the tokens of the form that stands at its place.
     Form,
-    /// A number is out of range, or not one that may stand at its place.
+    /// A number is out of range, or not one that may stand at its place, or a pair not behind the one before it.
     Number,
     /// A name or an instance is not there.
     Name,

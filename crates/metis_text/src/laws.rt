@@ -11,6 +11,8 @@ ghost use Rattle.metis_text.specs.InRange.{IsPlanInRange};
 ghost use Rattle.metis_text.specs.PlanText.{IsWellFormed, makes, plan_bytes};
 ghost use Rattle.metis_text.specs.Reading.{Parts, plan_in};
 ghost use Rattle.metis_text.specs.Reads.{said};
+ghost use Rattle.metis_text.specs.RefusalReading.{refusal_in, refusal_parts};
+ghost use Rattle.metis_text.specs.RefusalText.{IsRefusal, refusal_bytes};
 ghost use Rattle.metis_waits.specs.Waits.{waits_on_others};
 
 /// A text that is read is that of the plan with the lists that it says, which is well formed.
@@ -29,4 +31,14 @@ pub fn written_run_is_read()
         → IsPlanInRange p → p.instances ≡ count_by makes p.actions.items
         → length (plan_bytes u p (map (waits_on_others p.actions.items) (numbers p.actions.items))) < 2 ^ 32 - 1
         → plan_in u (plan_bytes u p (map (waits_on_others p.actions.items) (numbers p.actions.items))) ≡ Ok (said p (map (waits_on_others p.actions.items) (numbers p.actions.items))) }
+{}
+
+/// A text that is read is that of the refusal that it says, whose pairs are the universe's and ascend.
+pub fn accepted_refusal_is_written()
+    ensures { (u : Universe) (bytes set : List ℕ) (lacks : ℕ) → refusal_in u bytes ≡ Ok (refusal_parts lacks set) → (bytes ≡ refusal_bytes u set lacks) × IsRefusal u set lacks }
+{}
+
+/// And the text of a refusal whose pairs are the universe's and ascend is read as this refusal.
+pub fn refusal_is_read()
+    ensures { (u : Universe) → IsTable u → (set : List ℕ) (lacks : ℕ) → IsRefusal u set lacks → refusal_in u (refusal_bytes u set lacks) ≡ Ok (refusal_parts lacks set) }
 {}

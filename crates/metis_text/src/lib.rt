@@ -1,4 +1,5 @@
-//! The text of a plan in which each action names the others that it waits for: written, and read with its first fault.
+//! The texts of plans, in which each action names the others that it waits for, and those of refusals: written, and read
+//! with their first fault.
 #![tactic(auto)]
 
 mod action_line;
@@ -11,18 +12,30 @@ mod gather;
 mod laws;
 mod lines;
 mod plan_text;
+mod put;
 mod read;
+mod refusal_lines;
+mod refusal_read;
+mod refusal_text;
+mod refusal_write;
 mod rows;
 mod tokens;
 mod write;
 
 pub use fault::TFault;
-pub use laws::{well_formed_is_read, written_run_is_read};
+pub use laws::{
+    accepted_refusal_is_written, refusal_is_read, well_formed_is_read, written_run_is_read,
+};
 pub use plan_text::PlanText;
 pub use read::read_plan;
+pub use refusal_read::read_refusal;
+pub use refusal_text::Refusal;
+pub use refusal_write::write_refusal;
 pub use write::write_plan;
 
 #[cfg(test)]
 mod fault_tests;
+#[cfg(test)]
+mod refusal_tests;
 #[cfg(test)]
 mod tests;

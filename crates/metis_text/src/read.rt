@@ -2,12 +2,12 @@
 ghost use Rattle.std.specs.Prelude.{◌≡◌, ◌<◌, ◌-◌, ◌^◌, ◌&&◌, IfOk, [], codes, length, map};
 ghost use Rattle.std.specs.Str.{bytes_eq};
 ghost use Rattle.metis_text.specs.Flaws.{made};
-ghost use Rattle.metis_text.specs.Reading.{counts_in, counts_of_tokens, counted, dups_from, exactly, parts, plan_in, read_next, rows_from, rows_of};
+ghost use Rattle.metis_text.specs.Reading.{counts_in, counts_of_tokens, counted, dups_from, parts, plan_in, read_next, rows_from, rows_of};
 ghost use Rattle.metis_text.specs.Reads.{Reads, IsTextOf, ReadsPlan, dup_row, numbers_of, parts_of};
 
 use crate::action_line::row_in;
 use crate::bytes::is;
-use crate::cursor::Lines;
+use crate::cursor::{Lines, read_exactly};
 use crate::dup_line::dup_in;
 use crate::fault::TFault;
 use crate::flaw::{Flaw, both};
@@ -50,17 +50,6 @@ fn read_text(alloc: Global, u: &Universe, bytes: &[u8]) -> Result<PlanText, TFau
     read_exactly("end", &mut lines)?;
     lines.ended()?;
     counted(counts.instances, rows, dups)
-}
-
-// A line of this text.
-fn read_exactly(text: &str, lines: &mut Lines<'_>) -> Result<(), TFault>
-    ensures { Reads (λ x. x) result lines.new (read_next (exactly text.now) lines.old) }
-{
-    if is(lines.next_line()?, text) {
-        Ok(())
-    } else {
-        Err(Flaw::Form.at(lines.number()))
-    }
 }
 
 fn read_counts(alloc: Global, lines: &mut Lines<'_>) -> Result<Counts, TFault>

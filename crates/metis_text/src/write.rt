@@ -10,6 +10,7 @@ ghost use Rattle.metis_waits.specs.Waits.{AreWaits, list_of, waits_on_others};
 ghost use Rattle.metis_text.specs.PlanText.{action_line, action_lines, counts_of, dup_line, dup_lines, plan_body, plan_bytes, plan_end, plan_rest};
 
 use crate::lines::{action_line, counts_line, dup_line};
+use crate::put::put_all;
 use metis_ids::{Action, Dup, Plan};
 use metis_outside::{Sink, Trouble};
 use metis_universe::Universe;
@@ -180,13 +181,4 @@ fn write_dup<K: Sink>(
 {
     let line = dup_line(alloc, u, number, dup)?;
     put_all(line.as_bytes(), out)
-}
-
-// Writes the bytes by one put.
-#[tactic(auto, using(metis_outside::proofs::Writing::writes_by_put))]
-fn put_all<K: Sink>(bytes: &[u8], out: &mut K) -> Result<(), Trouble>
-    ensures text { Writes bytes.now (K.written out.old) (K.written out.new) result }
-    ensures cause { CountsFault (K.faults out.old) (K.faults out.new) result }
-{
-    out.put(bytes)
 }

@@ -1,0 +1,42 @@
+-- The text of a refusal: a set of pairs, and the pair that it is said to lack.
+--     lacks_line u p, pairs_line n, pair_line u p      the line of the pair that the set lacks;  of how many pairs the set has;  of a pair of the set
+--     refusal_bytes u set lacks      the whole text
+--     IsRefusal u set lacks      what a text says that can be read
+use Rattle.std.specs.Prelude.{◌<◌, ℕ, List, [], ◌∷◌, ◌++◌, length, codes, decimal}
+use Rattle.std.specs.List.{All, flat_map}
+use Rattle.std.specs.List.Sorted.{IsStrictlyIncreasing}
+use Rattle.metis_text.specs.Line.{line}
+use Rattle.metis_text.specs.PlanText.{end_line, pair_word}
+use Rattle.metis_universe.specs.Universe.{Universe, pair_count}
+
+abbrev pub refusal_header : List ℕ
+refusal_header = line (codes "metis" ∷ codes "refusal" ∷ codes "1" ∷ [])
+
+abbrev pub lacks_line : Universe → ℕ → List ℕ
+lacks_line u p = line (codes "lacks" ∷ pair_word u p ∷ [])
+
+abbrev pub pairs_line : ℕ → List ℕ
+pairs_line n = line (codes "pairs" ∷ decimal n ∷ [])
+
+abbrev pub pair_line : Universe → ℕ → List ℕ
+pair_line u p = line (pair_word u p ∷ [])
+
+-- the lines of the pairs, and the last line
+abbrev pub refusal_rest : Universe → List ℕ → List ℕ
+refusal_rest u set = flat_map (pair_line u) set ++ end_line
+
+abbrev pub refusal_set : Universe → List ℕ → List ℕ
+refusal_set u set = pairs_line (length set) ++ refusal_rest u set
+
+-- all lines but the first
+abbrev pub refusal_body : Universe → List ℕ → ℕ → List ℕ
+refusal_body u set lacks = lacks_line u lacks ++ refusal_set u set
+
+abbrev pub refusal_bytes : Universe → List ℕ → ℕ → List ℕ
+refusal_bytes u set lacks = refusal_header ++ refusal_body u set lacks
+
+-- all pairs are the universe's, and those of the set ascend
+pub record IsRefusal (u : Universe) (set : List ℕ) (lacks : ℕ) : Type 0 where
+  pub lacking : lacks < pair_count u
+  pub ascending : IsStrictlyIncreasing set
+  pub pairs : All (λ p. p < pair_count u) set
