@@ -104,8 +104,11 @@ numbered_replay u g plan = (
 )
 
 numbered_refute : (u : Universe) (g text : List ℕ) → Numbered 3 (refute_then text (u, g))
-numbered_refute u g text = (refl, λ bytes. numbered_if 4 (nat_le (length bytes) refusal_limit) (judged (λ parts. Reply (answer.Refute u g parts.pairs)) (or_refusal_refused (refusal_in u bytes))) (TooLong 3)
-    (numbered_judged 4 (λ parts. Reply (answer.Refute u g parts.pairs)) (or_refusal_refused (refusal_in u bytes)) (λ parts. tt)))
+numbered_refute u g text = (
+  refl,
+  λ bytes. numbered_if 4 (nat_le (length bytes) refusal_limit) (judged (λ parts. Reply (answer.Refute u g parts.pairs)) (or_refusal_refused (refusal_in u bytes))) (TooLong 3)
+      (numbered_judged 4 (λ parts. Reply (answer.Refute u g parts.pairs)) (or_refusal_refused (refusal_in u bytes)) (λ parts. tt)),
+)
 
 -- the script of each command
 numbered_command : (verb : Verb) (files : List (List ℕ)) (targets : List TargetName) → Numbered 2 (command_script verb files targets)

@@ -3,7 +3,8 @@ ghost use Rattle.std.specs.Prelude.{◌≡◌, ◌<◌, ◌≤◌, ◌-◌, ◌^
 ghost use Rattle.std.specs.List.{All};
 ghost use Rattle.metis_universe.specs.Universe.{pair_count};
 ghost use Rattle.metis_universe.specs.Numbers.{IsOf};
-ghost use Rattle.metis_text.specs.Reads.{parts_of, refusal_parts_of};
+ghost use Rattle.metis_text.specs.Reads.{parts_of};
+ghost use Rattle.metis_text.specs.RefusalReading.{refusal_of};
 ghost use Rattle.metis_top.specs.Commands.{bytes_then, universe_in_then, universe_then, targets_then, goal_then, plan_in_then, plan_then, refusal_in_then, refusal_then};
 ghost use Rattle.metis_top.specs.Course.{Gathers, Judges, or_stop};
 
@@ -148,7 +149,7 @@ pub fn plan_from<H: Shelf>(
 /// What the bytes say as the text of a refusal.
 fn refusal_in(alloc: Global, u: &Universe, bytes: &[u8]) -> Result<metis_text::Refusal, Stop>
     requires { length bytes.now < 2 ^ 32 - 1 }
-    ensures judges { Judges refusal_parts_of (refusal_in_then u.now bytes.now) result }
+    ensures judges { Judges refusal_of (refusal_in_then u.now bytes.now) result }
     ensures size { IfOk result (λ text. text.pairs.size ≡ pair_count u.now) }
 {
     match read_refusal(alloc, u, bytes) {
@@ -166,7 +167,7 @@ pub fn refusal_from<H: Shelf>(
     u: &Universe,
     name: &str,
 ) -> Result<metis_text::Refusal, Stop>
-    ensures gathers { Gathers H.files H.faults H.opens refusal_parts_of (refusal_then place u.now name.now) shelf.old shelf.new result }
+    ensures gathers { Gathers H.files H.faults H.opens refusal_of (refusal_then place u.now name.now) shelf.old shelf.new result }
     ensures size { IfOk result (λ text. text.pairs.size ≡ pair_count u.now) }
 {
     let bytes = bytes_from(alloc, shelf, place, name, REFUSAL_LIMIT)?;

@@ -36,9 +36,27 @@ fn expect_refute(
 fn a_set_is_judged_by_its_least_flaw(rt: HostRuntime) -> Result<(), Fail> {
     let alloc = rt.alloc();
     let cases = [
-        (CROSSED, " A:a1", "A:a1\npairs 2\nA:a0\nB:b0", Status::Done, "closed lacks A:a1\n"),
-        (CROSSED, " A:a1", "A:a1\npairs 1\nA:a0", Status::No, "notfree B:b0\n"),
-        (WEB, " Web:run", "Web:run\npairs 2\nDb:off\nWeb:off", Status::No, "open Db:off Db:on\n"),
+        (
+            CROSSED,
+            " A:a1",
+            "A:a1\npairs 2\nA:a0\nB:b0",
+            Status::Done,
+            "closed lacks A:a1\n",
+        ),
+        (
+            CROSSED,
+            " A:a1",
+            "A:a1\npairs 1\nA:a0",
+            Status::No,
+            "notfree B:b0\n",
+        ),
+        (
+            WEB,
+            " Web:run",
+            "Web:run\npairs 2\nDb:off\nWeb:off",
+            Status::No,
+            "open Db:off Db:on\n",
+        ),
         (
             WEB,
             " Web:run",
@@ -47,9 +65,27 @@ fn a_set_is_judged_by_its_least_flaw(rt: HostRuntime) -> Result<(), Fail> {
             "lacksnone\n",
         ),
         // the target that the text names is not looked at
-        (CROSSED, " B:b0 B:b1 A:a1", "A:a0\npairs 2\nA:a0\nB:b0", Status::Done, "closed lacks B:b1\n"),
-        (CROSSED, " B:b0", "A:a1\npairs 2\nA:a0\nB:b0", Status::No, "lacksnone\n"),
-        (CROSSED, "", "A:a1\npairs 2\nA:a0\nB:b0", Status::No, "lacksnone\n"),
+        (
+            CROSSED,
+            " B:b0 B:b1 A:a1",
+            "A:a0\npairs 2\nA:a0\nB:b0",
+            Status::Done,
+            "closed lacks B:b1\n",
+        ),
+        (
+            CROSSED,
+            " B:b0",
+            "A:a1\npairs 2\nA:a0\nB:b0",
+            Status::No,
+            "lacksnone\n",
+        ),
+        (
+            CROSSED,
+            "",
+            "A:a1\npairs 2\nA:a0\nB:b0",
+            Status::No,
+            "lacksnone\n",
+        ),
     ];
     for (document, targets, body, status, text) in cases {
         let refusal = format!(in alloc; "metis refusal 1\nlacks {body}\nend\n")?;
@@ -62,19 +98,39 @@ fn a_set_is_judged_by_its_least_flaw(rt: HostRuntime) -> Result<(), Fail> {
 fn a_faulty_refusal_is_told_with_its_line(rt: HostRuntime) -> Result<(), Fail> {
     let alloc = rt.alloc();
     let cases = [
-        ("metis refusal 1\nlacks Web:run\npairs 2\nWeb:off\nDb:off\nend\n", "number 5"),
-        ("metis refusal 1\nlacks Web:run\npairs 1\nWeb:off\n", "short"),
+        (
+            "metis refusal 1\nlacks Web:run\npairs 2\nWeb:off\nDb:off\nend\n",
+            "number 5",
+        ),
+        (
+            "metis refusal 1\nlacks Web:run\npairs 1\nWeb:off\n",
+            "short",
+        ),
         ("metis refusal 1\nlacks Web:gone\npairs 0\nend\n", "name 2"),
         ("metis plan 1\n", "line 1"),
         ("metis refusal 1\nlacks Web:run\npairs 0\nend\n\n", "line 5"),
     ];
     for (refusal, fault) in cases {
         let text = format!(in alloc; "bad refusal {fault}\n")?;
-        expect_refute(&rt, " Web:run", WEB, refusal, Status::BadInput, text.as_str())?;
+        expect_refute(
+            &rt,
+            " Web:run",
+            WEB,
+            refusal,
+            Status::BadInput,
+            text.as_str(),
+        )?;
     }
     // no more bytes are taken than the limit allows, and one
     let long = "x".repeat(alloc, 1_048_577)?;
-    expect_refute(&rt, " Web:run", WEB, long.as_str(), Status::BadInput, "too long 3\n")?;
+    expect_refute(
+        &rt,
+        " Web:run",
+        WEB,
+        long.as_str(),
+        Status::BadInput,
+        "too long 3\n",
+    )?;
     let fits = "x".repeat(alloc, 1_048_576)?;
     let short = "bad refusal short\n";
     expect_refute(&rt, " Web:run", WEB, fits.as_str(), Status::BadInput, short)
@@ -108,7 +164,15 @@ fn a_printed_refusal_is_confirmed(rt: HostRuntime) -> Result<(), Fail> {
         let line = format!(in alloc; "refute f.json p.txt {targets}")?;
         let files = two_files(alloc, document, refusal.as_str())?;
         let text = format!(in alloc; "closed lacks {lacking}\n")?;
-        expect_over(&rt, line.as_str(), files, &[], &[], Status::Done, text.as_str())?;
+        expect_over(
+            &rt,
+            line.as_str(),
+            files,
+            &[],
+            &[],
+            Status::Done,
+            text.as_str(),
+        )?;
     }
     Ok(())
 }

@@ -1,6 +1,5 @@
 use Rattle.std.proofs.Common.{refl}
-use Rattle.metis_text.specs.RefusalReading.{RefusalParts}
-use Rattle.metis_text.specs.Reads.{refusal_parts_of}
+use Rattle.metis_text.specs.RefusalReading.{RefusalParts, refusal_of}
 use Rattle.metis_top.proofs.Gathered.{ran_stopped}
 use Rattle.metis_top.proofs.Replies.{ran_replied}
 use Rattle.metis_top.specs.Answer as answer
@@ -10,9 +9,9 @@ use Rattle.metis_top.proofs.refute.refute_text.Goals as goal
 
 pub returns-in-Ok : goal.returns-in-Ok
 returns-in-Ok g c =
-    ran_replied _ _ _ _ _ refusal_parts_of (refusal_then 3 c.args.u.now c.args.text.now) (λ (parts : RefusalParts). Reply (answer.Refute c.args.u.now c.args.targets.now parts.pairs)) _ _ _ _
+    ran_replied _ _ _ _ _ refusal_of (refusal_then 3 c.args.u.now c.args.text.now) (λ (parts : RefusalParts). Reply (answer.Refute c.args.u.now c.args.targets.now parts.pairs)) _ _ _ _
     c.in-Ok.refusal (answer.Refute c.args.u.now c.args.targets.now c.in-Ok.refusal.pairs.members) _ c.in-Ok.ensures.gathers refl c.put_judgement.ensures
 
 pub returns-in-Err : goal.returns-in-Err
 returns-in-Err g c =
-    ran_stopped _ _ _ _ _ refusal_parts_of (refusal_then 3 c.args.u.now c.args.text.now) (λ (parts : RefusalParts). Reply (answer.Refute c.args.u.now c.args.targets.now parts.pairs)) _ _ _ _ c.in-Err.stop _ c.in-Err.ensures.gathers c.end.ensures
+    ran_stopped _ _ _ _ _ refusal_of (refusal_then 3 c.args.u.now c.args.text.now) (λ (parts : RefusalParts). Reply (answer.Refute c.args.u.now c.args.targets.now parts.pairs)) _ _ _ _ c.in-Err.stop _ c.in-Err.ensures.gathers c.end.ensures
