@@ -1,5 +1,5 @@
 -- A run opens a file at least, and no more than its words name.
-use Rattle.std.proofs.Common.{◌≡◌, ℕ, zero, suc, ◌-◌, ◌<◌, ◌≤◌, List, [], ◌∷◌, length, Result, Ok, Err, Bool, true, false, refl, subst, inl, inr, nat_le, if◌then◌else◌, arith}
+use Rattle.std.proofs.Common.{◌≡◌, ℕ, zero, suc, ◌-◌, ◌≤◌, List, [], ◌∷◌, length, Result, Ok, Err, Bool, true, false, subst, inl, inr, nat_le, if◌then◌else◌, arith}
 use Rattle.std.specs.declared.option.Option.{Option as Known}
 use Rattle.metis_text.specs.Reading.{plan_in}
 use Rattle.metis_text.specs.RefusalReading.{refusal_in}

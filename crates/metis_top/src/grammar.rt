@@ -45,13 +45,15 @@ fn read_form(alloc: Global, verb: Verb, words: &[String]) -> Result<Command, Wor
     let count = verb.file_count();
     let files = read_files(alloc, count, words)?;
     let rest = &words[count..];
-    let targets = read_targets(alloc, count as u32 + 2, verb.target_limit(), rest)?;
-    Ok(Command {
-        verb,
-        files,
-        targets,
-        size: 0,
-    })
+    match read_targets(alloc, count as u32 + 2, verb.target_limit(), rest) {
+        Ok(targets) => Ok(Command {
+            verb,
+            files,
+            targets,
+            size: 0,
+        }),
+        Err(fault) => Err(fault),
+    }
 }
 
 // So many file words.

@@ -15,26 +15,27 @@ use metis_universe::Universe;
 use std::alloc::{AllocError, Global};
 
 /// Puts the line by one put.
-#[tactic(auto, using(metis_outside::proofs::Writing::front_of_nothing))]
 pub fn write_judgement<K: Sink>(
     alloc: Global,
     u: &Universe,
-    judgement: Verdict2,
+    judgement: &Verdict2,
     out: &mut K,
 ) -> Result<(), Trouble>
-    requires { IsOf u.now judgement }
-    ensures text { Writes (judgement_line u.now judgement) (K.written out.old) (K.written out.new) result }
+    requires { IsOf u.now judgement.now }
+    ensures text { Writes (judgement_line u.now judgement.now) (K.written out.old) (K.written out.new) result }
     ensures cause { CountsFault (K.faults out.old) (K.faults out.new) result }
 {
-    let line = judgement_line(alloc, u, judgement)?;
-    put_all(line.as_bytes(), out)
+    match judgement_line(alloc, u, judgement) {
+        Ok(line) => put_all(line.as_bytes(), out),
+        Err(_) => Err(Trouble::NoMemory),
+    }
 }
 
-fn judgement_line(alloc: Global, u: &Universe, judgement: Verdict2) -> Result<String, AllocError>
-    requires { IsOf u.now judgement }
-    ensures { IfOk result (λ line. string_bytes line ≡ judgement_line u.now judgement) }
+fn judgement_line(alloc: Global, u: &Universe, judgement: &Verdict2) -> Result<String, AllocError>
+    requires { IsOf u.now judgement.now }
+    ensures { IfOk result (λ line. string_bytes line ≡ judgement_line u.now judgement.now) }
 {
-    match judgement {
+    match *judgement {
         Verdict2::Closed(p) => pair_line(alloc, u, "closed lacks", p),
         Verdict2::NotFree(p) => pair_line(alloc, u, "notfree", p),
         Verdict2::Open(p, q) => open_line(alloc, u, p, q),
@@ -46,7 +47,12 @@ fn pair_line(alloc: Global, u: &Universe, start: &str, p: PairIx) -> Result<Stri
     requires { p < pair_count u.now }
     ensures { IfOk result (λ line. string_bytes line ≡ pair_line start.now (pair_word u.now p)) }
 {
-    let (kind, state) = (u.type_name(u.type_of(p)), u.state_name(p));
+    named_line(alloc, start, u.type_name(u.type_of(p)), u.state_name(p))
+}
+
+fn named_line(alloc: Global, start: &str, kind: &str, state: &str) -> Result<String, AllocError>
+    ensures { IfOk result (λ line. string_bytes line ≡ pair_line start.now (kind.now ++ (codes ":" ++ state.now))) }
+{
     format!(in alloc; "{start} {kind}:{state}\n")
 }
 
@@ -57,5 +63,17 @@ fn open_line(alloc: Global, u: &Universe, p: PairIx, q: PairIx) -> Result<String
 {
     let (kind, state) = (u.type_name(u.type_of(p)), u.state_name(p));
     let (next_kind, next_state) = (u.type_name(u.type_of(q)), u.state_name(q));
+    way_line(alloc, kind, state, next_kind, next_state)
+}
+
+fn way_line(
+    alloc: Global,
+    kind: &str,
+    state: &str,
+    next_kind: &str,
+    next_state: &str,
+) -> Result<String, AllocError>
+    ensures { IfOk result (λ line. string_bytes line ≡ open_line (kind.now ++ (codes ":" ++ state.now)) (next_kind.now ++ (codes ":" ++ next_state.now))) }
+{
     format!(in alloc; "open {kind}:{state} {next_kind}:{next_state}\n")
 }

@@ -66,14 +66,14 @@ fn put_judgement<K: Sink>(
     ensures { Shown (answer.IsAnswer (answer.Refute u.now targets.now set.now.members)) (K.written out.old) (K.written out.new) (K.faults out.old) (K.faults out.new) result }
 {
     let judgement = check_closed(u, set, targets);
-    let put = write_judgement(alloc, u, judgement, out);
-    said(put, status_of(judgement))
+    let put = write_judgement(alloc, u, &judgement, out);
+    said(put, status_of(&judgement))
 }
 
-fn status_of(judgement: Verdict2) -> Status
-    ensures { result ≡ judgement_status judgement }
+fn status_of(judgement: &Verdict2) -> Status
+    ensures { result ≡ judgement_status judgement.now }
 {
-    match judgement {
+    match *judgement {
         Verdict2::Closed(_) => Status::Done,
         _ => Status::No,
     }

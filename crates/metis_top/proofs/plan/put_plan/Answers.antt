@@ -11,6 +11,5 @@ returns-in-Ok-Plan g c =
 pub returns-in-Ok-Closed : goal.returns-in-Ok-Closed
 returns-in-Ok-Closed g c =
     let found = rw c.in-Ok-Closed.field-0-is at c.in-Ok-Closed.ensures in
-    let set = c.in-Ok-Closed.set in
-    let answer = answer_by_refusal c.args.u.now c.args.targets.now set.members c.in-Ok-Closed.lacking found.members found.refusal in
+    let answer = answer_by_refusal c.args.u.now c.args.targets.now c.in-Ok-Closed.pairs.members c.in-Ok-Closed.lacks found.members found.refusal in
     rw c.said-in-Ok-Closed.ensures (shown_by_writer _ _ _ _ _ _ _ c.write_refusal.result answer c.write_refusal.ensures.text c.write_refusal.ensures.cause)

@@ -1,4 +1,4 @@
-use Rattle.std.proofs.Common.{ℕ, List, Vec}
+use Rattle.std.proofs.Common.{ℕ, Vec}
 use Rattle.std.specs.declared.alloc.Global.{Global}
 use Rattle.metis_universe.specs.Universe.{Universe}
 use Rattle.metis_top.proofs.Gathered.{ran_stopped, ran_then}

@@ -5,3 +5,6 @@ returns-in-Plan g c = rw c.in-Plan.is (rw (c.file.ensures, c.targets.ensures.wor
 
 pub returns-in-Replay : goal.returns-in-Replay
 returns-in-Replay g c = rw c.in-Replay.is (rw (c.file-file.ensures, c.file-plan.ensures, c.targets-in-Replay.ensures.words) at c.replay_file.ensures)
+
+pub returns-in-Refute : goal.returns-in-Refute
+returns-in-Refute g c = rw c.in-Refute.is (rw (c.file-file-in-Refute.ensures, c.file-text.ensures, c.targets-in-Refute.ensures.words) at c.refute_file.ensures)
