@@ -8,6 +8,3 @@ mod texts;
 pub use faults::AFault;
 pub use steps::apply;
 pub use texts::write_fault;
-
-#[cfg(test)]
-mod tests;

@@ -7,6 +7,3 @@ mod met;
 
 pub use config::Config;
 pub use lists::{Instances, Ties};
-
-#[cfg(test)]
-mod tests;

@@ -4,8 +4,6 @@
 mod laws;
 mod round;
 pub mod table;
-#[cfg(test)]
-mod tests;
 
 pub use laws::{layer_order_deploys, layer_order_is_short, layers_are_attainable};
 pub use table::build::layers;

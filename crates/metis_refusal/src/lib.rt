@@ -7,6 +7,3 @@ mod verdict;
 
 pub use check::check_closed;
 pub use verdict::Verdict2;
-
-#[cfg(test)]
-mod tests;

@@ -8,6 +8,3 @@ mod verdict;
 pub use laws::{replay_is_exact, replay_keeps_what_was_done};
 pub use replay::Replay;
 pub use verdict::Verdict;
-
-#[cfg(test)]
-mod tests;

@@ -33,10 +33,3 @@ pub use refusal_read::read_refusal;
 pub use refusal_text::Refusal;
 pub use refusal_write::write_refusal;
 pub use write::write_plan;
-
-#[cfg(test)]
-mod fault_tests;
-#[cfg(test)]
-mod refusal_tests;
-#[cfg(test)]
-mod tests;

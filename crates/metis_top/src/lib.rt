@@ -19,6 +19,3 @@ pub use grammar::read_words;
 pub use status::Status;
 pub use top::run;
 pub use words::{Command, TargetWord, Verb, WordFault};
-
-#[cfg(test)]
-mod tests;

@@ -12,6 +12,3 @@ pub use faults::UFault;
 pub use laws::written_is_read;
 pub use read::{UNIVERSE_LIMIT, read_universe};
 pub use write::write_universe;
-
-#[cfg(test)]
-mod tests;

@@ -7,8 +7,6 @@ mod laws;
 mod names;
 mod rows;
 mod sights;
-#[cfg(test)]
-mod tests;
 mod universe;
 
 pub use faults::{LimitKind, RowFault};

@@ -14,6 +14,3 @@ mod wait_lists;
 pub use fault::WFault;
 pub use pass::waits;
 pub use wait_lists::Waits;
-
-#[cfg(test)]
-mod tests;
