@@ -36,7 +36,7 @@ told_by_shown : (file : List ℕ → List ℕ) (script end : Script) (old new : 
 told_by_shown file script end old new before now status is (inl whole) calm memory =
     record { text = whole.text; says = subst (λ s. Says s whole.text status) is whole.says; put = whole.put }
 told_by_shown file script end old new before now status is (inr (inl (fault, front, rose))) calm memory = absurd (calm rose)
-told_by_shown file script end old new before now status is (inr (inr (gave_up, front))) calm memory = absurd (memory gave_up)
+told_by_shown file script end old new before now status is (inr (inr (gave_up, still, front))) calm memory = absurd (memory gave_up)
 
 -- what was put is what the script comes to over the files
 tells : (files : Option (List ℕ → List ℕ)) (taken : List (List ℕ)) (script : Script) (count faults faults' opens opens' : ℕ) (old new : Option (List ℕ)) (before now : ℕ) (status : Status)

@@ -82,7 +82,7 @@ told_by_shown : (script : Script) (count faults faults' opens opens' : ℕ) (old
     → Shown (Says script) old new before now status → OnShelf script count faults faults' opens opens' old new status → TellsReadFault faults faults' opens opens' old new
 told_by_shown script count faults faults' opens opens' old new before now status fault n (inl whole) shelf = told_by_shelf script whole.text count faults faults' opens opens' old new status fault n whole.says whole.put shelf
 told_by_shown script count faults faults' opens opens' old new before now status fault n (inr (inl (is, front, rose))) shelf = absurd (cc)
-told_by_shown script count faults faults' opens opens' old new before now status fault n (inr (inr (is, front))) shelf = absurd (cc)
+told_by_shown script count faults faults' opens opens' old new before now status fault n (inr (inr (is, still, front))) shelf = absurd (cc)
 
 -- the parts of scripts
 numbered_if : (k : ℕ) (test : Bool) (script : Script) (refusal : Refusal) → Numbered k script → Numbered k (if test then script else Refuse refusal)

@@ -1,5 +1,5 @@
 -- Runs that come to their answer.
-use Rattle.std.proofs.Common.{◌≡◌, ℕ, List, length, Ok, refl, sym, ap, ◌∙◌, subst, inl, inr, arith}
+use Rattle.std.proofs.Common.{◌≡◌, ℕ, List, [], length, Ok, refl, sym, ap, ◌∙◌, subst, inl, inr, arith}
 use Rattle.std.specs.List.{count_by}
 use Rattle.std.specs.Prelude.{IsTrue}
 use Rattle.std.specs.declared.option.Option.{Option}
@@ -55,11 +55,11 @@ counts_as_made actions = length-filter layer_order.makes actions ∙ (λ i. coun
 
 -- the text of a plan answers
 pub answer_by_plan : (u : Universe) (g : List ℕ) (p : Plan) → IsRun u empty p.actions.items → Holds (after_all u empty p.actions.items) g → IsTrue (is_steadfast u p.actions.items)
-    → p.instances ≡ instances_of p.actions.items → IsLean u p.instances g → PlanAnswer u g (plan_text u p) Done
-answer_by_plan u g p runs holds steadfast counts lean =
+    → p.instances ≡ instances_of p.actions.items → IsLean u p.instances g → p.dups.items ≡ [] → PlanAnswer u g (plan_text u p) Done
+answer_by_plan u g p runs holds steadfast counts lean undoubled =
     let counted : p.instances ≡ count_by makes p.actions.items = counts ∙ counts_as_made p.actions.items in
     let is : IsPlan u g p.actions.items = record { runs = runs; holds = holds; steadfast = steadfast; attained = lean.attained; all = lean.all; few = omega (arith, counted, lean.few) } in
-    inl (refl, record { attains = (p.actions.items, runs, holds); plan = p; is = is; counted = counted; told = refl })
+    inl (refl, record { attains = (p.actions.items, runs, holds); plan = p; is = is; counted = counted; undoubled = undoubled; told = refl })
 
 -- the text of a refusal answers
 pub answer_by_refusal : (u : Universe) (g s : List ℕ) (p : ℕ) → IsAttainedSet u s → Refusal u g s p → PlanAnswer u g (refusal_bytes u s p) No

@@ -3,7 +3,7 @@
 --     plan_text u p      the text of a plan in which each action names the actions of other instances that it waits for
 --     IsRefusal u g s p      s is the set of all attainable pairs, it is closed, and p is the first target that it lacks
 --     PlanAnswer u g text status      the text is that of such a plan where some actions attain the targets, and else of such a refusal
-use Rattle.std.specs.Prelude.{◌≡◌, ◌⊎◌, ℕ, ◌+◌, ◌≤◌, List, length, map, IsTrue}
+use Rattle.std.specs.Prelude.{◌≡◌, ◌⊎◌, ℕ, ◌+◌, ◌≤◌, List, [], length, map, IsTrue}
 use Rattle.std.specs.List.{count_by}
 use Rattle.metis_ids.specs.declared.actions.Action.{Action}
 use Rattle.metis_ids.specs.declared.plans.Plan.{Plan}
@@ -42,6 +42,7 @@ pub record Plans (u : Universe) (g text : List ℕ) : Type 0 where
   pub plan : Plan
   pub is : IsPlan u g plan.actions.items
   pub counted : plan.instances ≡ count_by makes plan.actions.items
+  pub undoubled : plan.dups.items ≡ []
   pub told : text ≡ plan_text u plan
 
 pub record Refuses (u : Universe) (g text : List ℕ) : Type 0 where

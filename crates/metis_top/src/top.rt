@@ -33,6 +33,7 @@ pub fn run<H: Shelf, K: Sink>(alloc: Global, words: &[String], shelf: &mut H, ou
     // A fault is told only where there was one, and an answer only where there was none.
     ensures read_fault { result ≡ Status.ReadFault
         → TellsReadFault (H.faults shelf.old) (H.faults shelf.new) (H.opens shelf.old) (H.opens shelf.new) (K.written out.old) (K.written out.new) }
+    ensures gave_up { result ≡ Status.NoMemory → K.faults out.new ≡ K.faults out.old }
     ensures write_fault { result ≡ Status.WriteFault → Rose (K.faults out.old) (K.faults out.new) }
     ensures shelf_calm { IsVerdict result → H.faults shelf.new ≡ H.faults shelf.old }
     ensures sink_calm { IsVerdict result → K.faults out.new ≡ K.faults out.old }
