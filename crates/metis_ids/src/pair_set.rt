@@ -1,5 +1,5 @@
 //! Sets of pairs.
-ghost use Rattle.std.specs.Prelude.{◌≡◌, ◌+◌, ◌^◌, ◌<◌, ◌≤◌, ◌==◌, [], length, not, IfOk};
+ghost use Rattle.std.specs.Prelude.{◌≡◌, ◌+◌, ◌^◌, ◌<◌, ◌≤◌, ◌==◌, [], false, length, not, IfOk};
 ghost use Rattle.std.specs.List.{All, list_any};
 ghost use Rattle.std.specs.List.Sorted.{IsStrictlyIncreasing};
 ghost use Rattle.std.specs.Iterator.{YieldsFirst, item_count};
@@ -66,7 +66,8 @@ impl PairSet {
 
     /// Whether the pair is a member; past the size none is.
     pub fn has(&self, p: PairIx) -> bool
-        ensures { result ≡ list_any (λ q. q == p) self.now.members }
+        ensures member { result ≡ list_any (λ q. q == p) self.now.members }
+        ensures past { self.now.size ≤ p → result ≡ false }
     {
         let at = p.0 as usize;
         at < self.flags.len() && self.flags[at]
@@ -83,6 +84,7 @@ impl PairSet {
     /// The members, ascending.
     pub fn iter(&self) -> Members<'_>
         ensures members { result ≡ self.now.members }
+        ensures ascending { IsStrictlyIncreasing self.now.members }
         ensures below { All (λ p. p < self.now.size) self.now.members }
     {
         Members {
