@@ -12,7 +12,7 @@ loop-pair-preserved c =
     let p = c.pair-item.result in
     let low = rw c.in_order-pair-items.ensures at c.loop-pair-test.true in
     let at = rw c.in_order-pair-items.ensures at c.pair-item.is in
-    let stands = c.has.ensures ∙ c.in_ok-serving.ensures p in
+    let stands = c.has.ensures.member ∙ c.in_ok-serving.ensures p in
     elim c.if-has.branch [
       | then-has+in_ok-push w ↦ rw w.standing-is (kept_next t order i p c.loop-pair.standing.items w.push.new.self.items low at w.in_ok-push.ensures.items c.loop-pair.invariant (sym stands ∙ w.if-has.true))
       | else-has w ↦ rw w.standing-is (skipped_next t order i p c.loop-pair.standing.items low at c.loop-pair.invariant (sym stands ∙ w.if-has.false))

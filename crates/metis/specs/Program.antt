@@ -1,0 +1,17 @@
+-- What the program is.
+--     IsRun ... code      a run over the words that were given, and the code of its status
+use Rattle.std.specs.Prelude.{◌≡◌, ℕ, List, drop, IfSome}
+use Rattle.std.specs.declared.option.Option.{Option}
+use Rattle.metis_outside.specs.Arguments.{AreGiven}
+use Rattle.metis_top.specs.declared.status.Status.{Status}
+use Rattle.metis_top.specs.Commands.{script_of}
+use Rattle.metis_top.specs.Course.{Ran}
+use Rattle.metis_top.specs.Statuses.{code_of}
+
+pub record IsRun {S K : Type 0} (told : Option (List (List ℕ))) (files : S → Option (List ℕ → List ℕ)) (faults opens : S → ℕ) (written : K → Option (List ℕ)) (sink_faults : K → ℕ)
+    (shelf shelf' : S) (sink sink' : K) (code : ℕ) : Type 0 where
+  pub words : List (List ℕ)
+  pub given : IfSome told (λ all. AreGiven (drop 1 all) words)
+  pub status : Status
+  pub ran : Ran files faults opens written sink_faults (script_of words) shelf shelf' sink sink' status
+  pub same : code ≡ code_of status

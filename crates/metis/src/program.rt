@@ -1,0 +1,25 @@
+//! The whole program, over the words, the files and the output that it is handed.
+ghost use Rattle.std.specs.Prelude.{◌≡◌, ◌⊎◌};
+ghost use Rattle.metis_top.specs.Statuses.{code_of};
+ghost use Rattle.metis.specs.Program.{IsRun};
+
+use metis_outside::{Arguments, Shelf, Sink, words_given};
+use metis_top::{Status, run};
+use std::alloc::Global;
+
+/// Runs over the words that were given, and answers the exit code: that of the run's status. Where memory runs out
+/// before the words are read, nothing is done, and the code is that of want of memory.
+pub fn exit_code<A: Arguments, H: Shelf, K: Sink>(
+    alloc: Global,
+    arguments: &A,
+    shelf: &mut H,
+    out: &mut K,
+) -> u8
+    ensures { IsRun (A.words arguments.now) H.files H.faults H.opens K.written K.faults shelf.old shelf.new out.old out.new result
+        ⊎ ((result ≡ code_of Status.NoMemory) × (shelf.new ≡ shelf.old) × (out.new ≡ out.old)) }
+{
+    match words_given(alloc, arguments) {
+        Ok(words) => run(alloc, &words, shelf, out).code(),
+        Err(_) => Status::NoMemory.code(),
+    }
+}
