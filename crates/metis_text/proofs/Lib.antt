@@ -34,6 +34,7 @@ pub mod RowsRead
 pub mod RunLists
 pub mod RunMoves
 pub mod Shapes
+pub mod TextBytes
 pub mod WaitRows
 pub mod Words
 pub mod WrittenRun
