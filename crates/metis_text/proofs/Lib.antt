@@ -13,6 +13,7 @@ pub mod Formed
 pub mod Items
 pub mod KindsKept
 pub mod Lengths
+pub mod LineFeeds
 pub mod LinesRead
 pub mod LinesTaken
 pub mod NameTokens
