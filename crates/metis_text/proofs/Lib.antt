@@ -17,6 +17,7 @@ pub mod LineFeeds
 pub mod LinesRead
 pub mod LinesTaken
 pub mod NameTokens
+pub mod NamedFaults
 pub mod NumberRead
 pub mod NumberTokens
 pub mod Numbered

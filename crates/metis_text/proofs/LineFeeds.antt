@@ -14,7 +14,7 @@ use Rattle.metis_ids.specs.declared.events.Event.{Event}
 use Rattle.metis_ids.specs.declared.events.Event.TheVariants.{At, End}
 use Rattle.metis_ids.specs.declared.plans.Dup.{Dup}
 use Rattle.metis_ids.specs.declared.plans.Plan.{Plan}
-use Rattle.metis_outside.proofs.Feeds.{IsLine-from, no_feed, no_feed-append, no_feed-decimal, no_feed-join_with_byte}
+use Rattle.metis_outside.proofs.Feeds.{IsLine-from, one_line, no_feed, no_feed-append, no_feed-decimal, no_feed-join_with_byte}
 use Rattle.metis_outside.specs.Pieces.{IsLine}
 use Rattle.metis_universe.specs.Names.{is_name, is_name_byte}
 use Rattle.metis_universe.specs.Universe.{IsNamed, IsTable, Universe, no_kind, no_pair, pair_count, port_count, port_name_of, state_name_of, type_count, type_name_of, type_of}
@@ -78,9 +78,6 @@ event_tokens (e ∷ es) = and_from _ _ (no_feed-event_token e) (event_tokens es)
 numbered_lines : {X : Type 0} (text : ℕ → X → List ℕ) → ((k : ℕ) (x : X) → IsLine (text k x)) → (k : ℕ) (xs : List X) → All IsLine (numbered text k xs)
 numbered_lines text each k [] = λ i d within. absurd (omega arith)
 numbered_lines text each k (x ∷ xs) = All-cons IsLine (text k x) (numbered text (k + 1) xs) (each k x) (numbered_lines text each (k + 1) xs)
-
-one_line : (bytes : List ℕ) → IsLine bytes → All IsLine (bytes ∷ [])
-one_line bytes is = All-cons IsLine bytes [] is (λ i d within. absurd (omega arith))
 
 IsLine-counts_line : (instances actions dups : ℕ) → IsLine (counts_line instances actions dups)
 IsLine-counts_line instances actions dups =
