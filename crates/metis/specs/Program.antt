@@ -8,7 +8,7 @@ use Rattle.metis_top.specs.Commands.{script_of}
 use Rattle.metis_top.specs.Course.{Ran}
 use Rattle.metis_top.specs.Statuses.{code_of}
 
-pub record IsRun {S K : Type 0} (told : Option (List (List ℕ))) (files : S → Option (List ℕ → List ℕ)) (faults opens : S → ℕ) (written : K → Option (List ℕ)) (sink_faults : K → ℕ)
+pub record IsRun {S K : Type 0} (told : Option (List (List ℕ))) (files : S → Option (List ℕ → List ℕ)) (faults opens : S → ℕ) (written : K → Option (List (List ℕ))) (sink_faults : K → ℕ)
     (shelf shelf' : S) (sink sink' : K) (code : ℕ) : Type 0 where
   pub words : List (List ℕ)
   pub given : IfSome told (λ all. AreGiven (drop 1 all) words)

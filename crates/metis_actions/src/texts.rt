@@ -12,7 +12,7 @@ use metis_outside::{Sink, Trouble};
 use metis_universe::Universe;
 use std::alloc::{AllocError, Global};
 
-/// Appends the text of the fault, by one put.
+/// Puts the text of the fault, as one piece.
 #[tactic(auto, using(metis_outside::proofs::Writing::front_of_nothing, metis_outside::proofs::Writing::writes_by_put))]
 pub fn write_fault<K: Sink>(
     alloc: Global,
@@ -21,7 +21,7 @@ pub fn write_fault<K: Sink>(
     out: &mut K,
 ) -> Result<(), Trouble>
     requires { IsFaultOf u.now f.now }
-    ensures text { Writes (fault_text u.now f.now) (K.written out.old) (K.written out.new) result }
+    ensures text { Writes (fault_text u.now f.now ∷ []) (K.written out.old) (K.written out.new) result }
     ensures cause { CountsFault (K.faults out.old) (K.faults out.new) result }
 {
     let text = fault_text(alloc, u, f)?;

@@ -1,6 +1,6 @@
 -- Shelves and sinks in memory, whose calls are numbered from 1, and fail by a list of numbers.
 --     MemShelf      its files by name, what is left to read, the numbers of the calls that are to fail, and how many calls were made, failed and opened a file
---     MemSink      what was written, and the same
+--     MemSink      the pieces that were put, and the same
 --     next_number made      the number of the next call, up to the greatest `u64`
 --     NextFails fails made      the list has that number
 use Rattle.std.specs.Prelude.{ℕ, ◌+◌, ◌-◌, ◌^◌, ◌==◌, min, List, IsTrue}
@@ -15,7 +15,7 @@ pub record MemShelf : Type 0 where
   pub opens : ℕ
 
 pub record MemSink : Type 0 where
-  pub written : List ℕ
+  pub written : List (List ℕ)
   pub fails : List ℕ
   pub made : ℕ
   pub faults : ℕ

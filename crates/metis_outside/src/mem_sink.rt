@@ -1,9 +1,11 @@
 // Output in memory, with calls that fail by their numbers.
-ghost use Rattle.std.specs.Prelude.{◌≡◌, ◌↔◌, ◌++◌, [], OnOk, OnErr, IsErrOf, Some};
+ghost use Rattle.std.specs.Prelude.{◌≡◌, ◌↔◌, ◌++◌, [], ◌∷◌, OnOk, OnErr, IsErrOf, Some};
 ghost use Rattle.metis_outside.specs.Calls.{next_number, NextFails};
 ghost use Rattle.metis_outside.specs.Faults.{CountsFault};
+ghost use Rattle.metis_outside.specs.Pieces.{bytes_of};
 
 use crate::calls::Calls;
+use crate::pieces::Pieces;
 use crate::{Sink, Trouble};
 use std::alloc::Global;
 use std::marker::Model;
@@ -11,7 +13,7 @@ use std::marker::Model;
 /// Output in memory. Puts are numbered from 1, and those listed fail and append nothing.
 #[derive(Drop)]
 pub struct MemSink {
-    bytes: Vec<u8>,
+    pieces: Pieces,
     calls: Calls,
     faults: u64,
 }
@@ -21,7 +23,7 @@ impl Model for MemSink {
 
     ghost Value = { MemSink };
 
-    ghost view = { λ s. record { written = s.bytes.items; fails = s.calls.fails.items; made = s.calls.made; faults = s.faults } };
+    ghost view = { λ s. record { written = s.pieces; fails = s.calls.fails.items; made = s.calls.made; faults = s.faults } };
 }
 
 impl MemSink {
@@ -33,16 +35,17 @@ impl MemSink {
         ensures faults { result.faults ≡ 0 }
     {
         MemSink {
-            bytes: Vec::new(alloc),
+            pieces: Pieces::new(alloc),
             calls: Calls { fails, made: 0 },
             faults: 0,
         }
     }
 
+    /// The bytes of all pieces.
     pub fn bytes(&self) -> &[u8]
-        ensures { result.now ≡ self.now.written }
+        ensures { result.now ≡ bytes_of self.now.written }
     {
-        &self.bytes
+        self.pieces.bytes()
     }
 }
 
@@ -52,7 +55,7 @@ impl Sink for MemSink {
     ghost faults = { λ s. s.faults };
 
     fn put(&mut self, piece: &[u8]) -> Result<(), Trouble>
-        ensures bytes { OnOk result (self.new.written ≡ self.old.written ++ piece.now) }
+        ensures pieces { OnOk result (self.new.written ≡ self.old.written ++ piece.now ∷ []) }
         ensures err { OnErr result (self.new.written ≡ self.old.written) }
         ensures cause { CountsFault self.old.faults self.new.faults result }
         ensures fails { self.new.fails ≡ self.old.fails }
@@ -63,7 +66,7 @@ impl Sink for MemSink {
             self.faults = self.faults.saturating_add(1);
             return Err(Trouble::Failed);
         }
-        self.bytes.extend_from_slice(piece)?;
+        self.pieces.append(piece)?;
         Ok(())
     }
 }

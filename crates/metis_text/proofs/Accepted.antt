@@ -2,8 +2,9 @@
 use Rattle.std.proofs.Common.{◌≡◌, ℕ, ◌<◌, List, ◌++◌, length, Result, Ok, Err, sym, ap, ◌∙◌, subst}
 use Rattle.std.proofs.lemmas.List.{length-map}
 use Rattle.metis_ids.specs.declared.plans.Plan.{Plan}
+use Rattle.metis_outside.specs.Pieces.{bytes_of}
 use Rattle.metis_universe.specs.Universe.{IsNamed, IsUniverse, Universe}
-use Rattle.metis_text.specs.PlanText.{IsWellFormed, action_lines, counts_line, end_line, plan_bytes, plan_header}
+use Rattle.metis_text.specs.PlanText.{IsWellFormed, action_lines, counts_line, counts_of, dup_lines, end_line, plan_bytes, plan_header}
 use Rattle.metis_text.specs.Reading.{plan_in}
 use Rattle.metis_text.specs.declared.fault.TFault.{TFault}
 use Rattle.std.specs.Prelude.{IfOk}
@@ -13,11 +14,15 @@ use Rattle.metis_text.proofs.DupsRead.{dup_lines_as_read}
 use Rattle.metis_text.proofs.Formed.{formed, parts_of_formed}
 use Rattle.metis_text.proofs.Lengths.{actions_below_bytes}
 use Rattle.metis_text.proofs.PlanRead.{parts_bytes, plan_is, plan_read}
+use Rattle.metis_text.proofs.TextBytes.{plan_bytes_by_parts}
 
 -- the text of what a plan says is the plan's
 said_bytes : (u : Universe) (p : Plan) (after : List (List ℕ)) → parts_bytes u (said p after) ≡ plan_bytes u p after
 said_bytes u p after =
-    λ i. plan_header ++ (counts_line p.instances (length p.actions.items) (length-map p.dups.items dup_row i) ++ (action_lines u p.actions.items after ++ (dup_lines_as_read u 1 p.dups.items i ++ end_line)))
+    let actions = bytes_of (action_lines u p.actions.items after) in
+    let parts : parts_bytes u (said p after) ≡ plan_header ++ (counts_of p ++ (actions ++ (bytes_of (dup_lines u p.dups.items) ++ end_line))) =
+    λ i. plan_header ++ (counts_line p.instances (length p.actions.items) (length-map p.dups.items dup_row i) ++ (actions ++ (dup_lines_as_read u 1 p.dups.items i ++ end_line))) in
+    parts ∙ sym (plan_bytes_by_parts u p after)
 
 pub well_formed_read : (u : Universe) (p : Plan) (after : List (List ℕ)) → IsUniverse u → IsNamed u → IsWellFormed u p after → plan_in u (plan_bytes u p after) ≡ Ok (said p after)
 well_formed_read u p after is names formed_so = ap (plan_in u) (sym (said_bytes u p after)) ∙ plan_read u is names (said p after) (parts_of_formed u p after formed_so)

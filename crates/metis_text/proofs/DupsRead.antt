@@ -7,7 +7,7 @@ use Rattle.std.proofs.lemmas.List.{length_push}
 use Rattle.metis_ids.specs.declared.plans.Dup.{Dup}
 use Rattle.metis_universe.specs.Universe.{IsNamed, IsUniverse, Universe}
 use Rattle.metis_text.specs.DupLine.{DupRow, dup_in}
-use Rattle.metis_text.specs.Line.{line, numbered}
+use Rattle.metis_text.specs.Line.{line}
 use Rattle.metis_text.specs.PlanText.{dup_line}
 use Rattle.metis_text.specs.Reading.{Lines, and_then, dups_from, lines_of, read_next}
 use Rattle.metis_text.specs.Reads.{dup_row}
@@ -15,6 +15,7 @@ use Rattle.metis_text.proofs.DupLine.{IsDupRow, dup_is, dup_printed, dup_read, d
 use Rattle.metis_text.proofs.LinesTaken.{read_next_is, read_next_read}
 use Rattle.metis_text.proofs.Outcomes.{and_then_is}
 use Rattle.metis_text.proofs.RowsRead.{line_and_rest}
+use Rattle.metis_text.proofs.TextBytes.{numbered_bytes}
 
 abbrev pub AreDups : Universe → ℕ → List DupRow → Type 0
 AreDups u k [] = ⊤
@@ -29,7 +30,7 @@ pub record DupsRead (u : Universe) (left : ℕ) (dups : List DupRow) (l : Lines)
   pub is : p.0 ≡ dups ++ added
   pub many : length added ≡ left
   pub are : AreDups u (length dups + 1) added
-  pub text : l.rest ≡ numbered (dup_row_line u) (length dups + 1) added ++ p.1.rest
+  pub text : l.rest ≡ numbered_bytes (dup_row_line u) (length dups + 1) added ++ p.1.rest
 
 module _ (u : Universe) where
   pub dups_are : (left : ℕ) (dups : List DupRow) (l : Lines) (p : List DupRow × Lines) → dups_from u left dups l ≡ Ok p → DupsRead u left dups l p
@@ -45,8 +46,8 @@ module _ (u : Universe) where
       let row_line = dup_is u k one.0 row one.1 in
       let more = dups_are left (dups ++ row ∷ []) left_then p next.2 in
       let size = length_push dups row in
-      let others = numbered (dup_row_line u) (k + 1) more.added in
-      let behind : left_then.rest ≡ others ++ p.1.rest = more.text ∙ ap (λ n. numbered (dup_row_line u) (n + 1) more.added ++ p.1.rest) size in
+      let others = numbered_bytes (dup_row_line u) (k + 1) more.added in
+      let behind : left_then.rest ≡ others ++ p.1.rest = more.text ∙ ap (λ n. numbered_bytes (dup_row_line u) (n + 1) more.added ++ p.1.rest) size in
       record {
         added = row ∷ more.added;
         is = more.is ∙ append_assoc dups (row ∷ []) more.added;
@@ -56,23 +57,23 @@ module _ (u : Universe) where
       }
 
   pub dups_read : IsUniverse u → IsNamed u → (added dups : List DupRow) (rest : List ℕ) (n : ℕ) → AreDups u (length dups + 1) added
-      → (m : ℕ) × (dups_from u (length added) dups (lines_of (numbered (dup_row_line u) (length dups + 1) added ++ rest) n) ≡ Ok (dups ++ added, lines_of rest m))
+      → (m : ℕ) × (dups_from u (length added) dups (lines_of (numbered_bytes (dup_row_line u) (length dups + 1) added ++ rest) n) ≡ Ok (dups ++ added, lines_of rest m))
   dups_read is names [] dups rest n are = (n, sym (λ i. Ok (append-nil dups i, lines_of rest n)))
   dups_read is names (d ∷ added) dups rest n are =
       let k = length dups + 1 in
-      let others = numbered (dup_row_line u) (k + 1) added in
+      let others = numbered_bytes (dup_row_line u) (k + 1) added in
       let size = length_push dups d in
       let behind = λ (p : DupRow × Lines). dups_from u (length added) (dups ++ p.0 ∷ []) p.1 in
       let more = dups_read is names added (dups ++ d ∷ []) rest (n + 1) (subst (λ j. AreDups u (j + 1) added) (sym size) are.1) in (
         more.0,
         ap (λ bytes. and_then (read_next (dup_in u k) (lines_of bytes n)) behind) (append_assoc (dup_row_line u k d) others rest)
             ∙ ap (λ r. and_then r behind) (read_next_read (dup_in u k) (dup_row_tokens u k d) (others ++ rest) n d (dup_printed u k is names d are.0) (dup_read u k is names d are.0))
-            ∙ ap (λ j. dups_from u (length added) (dups ++ d ∷ []) (lines_of (numbered (dup_row_line u) (j + 1) added ++ rest) (n + 1))) (sym size)
+            ∙ ap (λ j. dups_from u (length added) (dups ++ d ∷ []) (lines_of (numbered_bytes (dup_row_line u) (j + 1) added ++ rest) (n + 1))) (sym size)
             ∙ more.1
             ∙ (λ i. Ok (append_assoc dups (d ∷ []) added i, lines_of rest more.0)),
       )
 
   -- the lines of the dups are those of what is read of them
-  pub dup_lines_as_read : (k : ℕ) (dups : List Dup) → numbered (dup_row_line u) k (map dup_row dups) ≡ numbered (dup_line u) k dups
+  pub dup_lines_as_read : (k : ℕ) (dups : List Dup) → numbered_bytes (dup_row_line u) k (map dup_row dups) ≡ numbered_bytes (dup_line u) k dups
   dup_lines_as_read k [] = refl
   dup_lines_as_read k (d ∷ dups) = ap (λ l. dup_line u k d ++ l) (dup_lines_as_read (k + 1) dups)

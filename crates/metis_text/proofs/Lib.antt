@@ -13,9 +13,11 @@ pub mod Formed
 pub mod Items
 pub mod KindsKept
 pub mod Lengths
+pub mod LineFeeds
 pub mod LinesRead
 pub mod LinesTaken
 pub mod NameTokens
+pub mod NamedFaults
 pub mod NumberRead
 pub mod NumberTokens
 pub mod Numbered
@@ -34,6 +36,7 @@ pub mod RowsRead
 pub mod RunLists
 pub mod RunMoves
 pub mod Shapes
+pub mod TextBytes
 pub mod WaitRows
 pub mod Words
 pub mod WrittenRun

@@ -6,7 +6,7 @@ use Rattle.std.proofs.Common.{◌≡◌, ℕ, List, [], ◌∷◌, ◌++◌, len
 use Rattle.std.specs.Prelude.{codes}
 use Rattle.std.specs.List.{count_by, zip}
 use Rattle.metis_universe.specs.Universe.{IsNamed, IsUniverse, Universe}
-use Rattle.metis_text.specs.Line.{line, numbered, words}
+use Rattle.metis_text.specs.Line.{line, words}
 use Rattle.metis_text.specs.PlanText.{action_line, counts_line, end_line, makes, plan_header}
 use Rattle.metis_text.specs.Reading.{Lines, Numbers, Parts, Rows, and_then, body_from, counted, counts_in, dups_from, end_from, ended, exactly, lines_of, parts, plan_in, read_next, rows_from, rows_of}
 use Rattle.metis_text.proofs.DupsRead.{AreDups, dup_row_line, dups_are, dups_read}
@@ -14,12 +14,13 @@ use Rattle.metis_text.proofs.LinesTaken.{read_next_is, read_next_read}
 use Rattle.metis_text.proofs.Outcomes.{and_then_is}
 use Rattle.metis_text.proofs.PlanParts.{AreCounts, counted_is, counted_read, counts_are, counts_printed, counts_read, counts_tokens, ended_is, exactly_is}
 use Rattle.metis_text.proofs.RowsRead.{AreRows, rows_are, rows_read}
+use Rattle.metis_text.proofs.TextBytes.{numbered_bytes}
 
 abbrev pub numbers_of_parts : Parts → Numbers
 numbers_of_parts q = (q.instances, (length q.rows.actions, length q.dups))
 
 abbrev pub body_bytes : Universe → Parts → List ℕ
-body_bytes u q = numbered (action_line u) 1 (zip q.rows.actions q.rows.after) ++ (numbered (dup_row_line u) 1 q.dups ++ end_line)
+body_bytes u q = numbered_bytes (action_line u) 1 (zip q.rows.actions q.rows.after) ++ (numbered_bytes (dup_row_line u) 1 q.dups ++ end_line)
 
 abbrev pub parts_bytes : Universe → Parts → List ℕ
 parts_bytes u q = plan_header ++ (counts_line q.instances (length q.rows.actions) (length q.dups) ++ body_bytes u q)
@@ -59,7 +60,7 @@ module _ (u : Universe) where
       let d = dups_are u counts.1.1 [] rows.0.1 dups.0 dups.1 in
       let same : parts counts.0 (rows_of r.actions r.after) d.added ≡ q = sym (λ i. parts counts.0 (r.is i) (d.is i)) ∙ last.0 in
       subst (BodyRead u counts l) same (record {
-        text = r.text ∙ ap (λ s. numbered (action_line u) 1 (zip r.actions r.after) ++ s) (d.text ∙ ap (λ s. numbered (dup_row_line u) 1 d.added ++ s) last.1);
+        text = r.text ∙ ap (λ s. numbered_bytes (action_line u) 1 (zip r.actions r.after) ++ s) (d.text ∙ ap (λ s. numbered_bytes (dup_row_line u) 1 d.added ++ s) last.1);
         same = sym (λ i. (counts.0, (r.many i, d.many i)));
         rows = r.are;
         dups = d.are;
@@ -100,7 +101,7 @@ module _ (u : Universe) where
 
     body_read : (n : ℕ) → body_from u (numbers_of_parts q) (lines_of (body_bytes u q) n) ≡ Ok q
     body_read n =
-        let rows = rows_read u names q.rows.actions q.rows.after [] [] (numbered (dup_row_line u) 1 q.dups ++ end_line) n are.rows in
+        let rows = rows_read u names q.rows.actions q.rows.after [] [] (numbered_bytes (dup_row_line u) 1 q.dups ++ end_line) n are.rows in
         let dups = dups_read u is names q.dups [] end_line rows.0 are.dups in
         ap (λ r. and_then r (λ rows. and_then (dups_from u (length q.dups) [] rows.1) (λ dups. end_from (parts q.instances rows.0 dups.0) dups.1))) rows.1
         ∙ ap (λ r. and_then r (λ dups. end_from (parts q.instances q.rows dups.0) dups.1)) dups.1

@@ -7,7 +7,7 @@ use Rattle.metis_text.specs.Line.{line, words}
 use Rattle.metis_text.specs.PlanText.{end_line}
 use Rattle.metis_text.specs.Reading.{Lines, and_then, ended, exactly, lines_of, read_next}
 use Rattle.metis_text.specs.RefusalReading.{ReadsRefusal, RefusalParts, lacks_in, pairs_from, refusal_end_from, refusal_in, refusal_of, refusal_parts, refusal_set_from, size_in}
-use Rattle.metis_text.specs.RefusalText.{IsRefusal, pair_line, refusal_body, refusal_bytes, refusal_rest, refusal_set}
+use Rattle.metis_text.specs.RefusalText.{IsRefusal, pair_line, refusal_bytes, refusal_header}
 use Rattle.metis_text.specs.declared.fault.TFault.{TFault}
 use Rattle.metis_text.specs.declared.refusal_text.Refusal.{Refusal}
 use Rattle.metis_text.proofs.LinesTaken.{read_next_is, read_next_read}
@@ -16,6 +16,7 @@ use Rattle.metis_text.proofs.PairsRead.{ArePairs, pairs_are, pairs_read}
 use Rattle.metis_text.proofs.PlanParts.{ended_is, exactly_is}
 use Rattle.metis_text.proofs.RefusalLines.{lacks_is, lacks_printed, lacks_read, lacks_tokens, size_is, size_printed, size_read, size_tokens}
 use Rattle.metis_text.proofs.RefusalSets.{ascending_pairs, pairs_ascend, set_few}
+use Rattle.metis_text.proofs.TextBytes.{body_bytes, refusal_bytes_by_parts, rest_bytes, set_bytes}
 
 -- ---- what was read was written
 
@@ -37,7 +38,7 @@ module _ (u : Universe) where
   record SetRead (lacks : ℕ) (l : Lines) (q : RefusalParts) : Type 0 where
     lacking : lacks ≡ q.lacks
     are : ArePairs u [] q.pairs
-    text : l.rest ≡ refusal_set u q.pairs
+    text : l.rest ≡ set_bytes u q.pairs
 
   set_is : (lacks : ℕ) (l : Lines) (q : RefusalParts) → refusal_set_from u lacks l ≡ Ok q → SetRead lacks l q
   set_is lacks l q h =
@@ -48,11 +49,11 @@ module _ (u : Universe) where
       let last = end_is (refusal_parts lacks pairs.0.0) q pairs.0.1 pairs.2 in
       let p = pairs_are u size.0.0 [] size.0.1 pairs.0 pairs.1 in
       let same : refusal_parts lacks p.added ≡ q = sym (ap (refusal_parts lacks) p.is) ∙ last.0 in
-      let text = line_behind l (size_tokens size.0.0) first.0 size.0.1.rest (refusal_rest u p.added) first.2 says.0 (p.text ∙ ap (λ s. flat_map (pair_line u) p.added ++ s) last.1) in
+      let text = line_behind l (size_tokens size.0.0) first.0 size.0.1.rest (rest_bytes u p.added) first.2 says.0 (p.text ∙ ap (λ s. flat_map (pair_line u) p.added ++ s) last.1) in
       subst (SetRead lacks l) same (record {
         lacking = refl;
         are = p.are;
-        text = text ∙ ap (λ n. line (size_tokens n) ++ refusal_rest u p.added) (sym p.many);
+        text = text ∙ ap (λ n. line (size_tokens n) ++ rest_bytes u p.added) (sym p.many);
       })
 
   pub refusal_is : (bytes : List ℕ) (q : RefusalParts) → refusal_in u bytes ≡ Ok q → (bytes ≡ refusal_bytes u q.pairs q.lacks) × IsRefusal u q.pairs q.lacks
@@ -65,8 +66,8 @@ module _ (u : Universe) where
       let names = lacks_is u second.0 lacks.0.0 second.1 in
       let set = set_is lacks.0.0 lacks.0.1 q lacks.2 in
       let ascend = pairs_ascend u q.pairs set.are in
-      let body = line_behind header.0.1 (lacks_tokens u lacks.0.0) second.0 lacks.0.1.rest (refusal_set u q.pairs) second.2 names.0 set.text ∙ ap (λ p. refusal_body u q.pairs p) set.lacking in (
-        first.2 ∙ (λ i. says i ++ (10 ∷ body i)),
+      let body : header.0.1.rest ≡ body_bytes u q.pairs q.lacks = line_behind header.0.1 (lacks_tokens u lacks.0.0) second.0 lacks.0.1.rest (set_bytes u q.pairs) second.2 names.0 set.text ∙ ap (λ p. body_bytes u q.pairs p) set.lacking in (
+        first.2 ∙ (λ i. says i ++ (10 ∷ body i)) ∙ sym (refusal_bytes_by_parts u q.pairs q.lacks),
         record { lacking = subst (λ p. p < pair_count u) set.lacking names.1; ascending = ascend.0; pairs = ascend.1 },
       )
 
@@ -79,22 +80,23 @@ module _ (u : Universe) where
     end_read : (n : ℕ) → refusal_end_from said (lines_of end_line n) ≡ Ok said
     end_read n = ap (λ r. and_then r (λ e. and_then (ended e.1) (λ _. Ok said))) (read_next_read (exactly (codes "end")) (codes "end" ∷ []) [] n tt refl refl)
 
-    set_read : (n : ℕ) → refusal_set_from u lacks (lines_of (refusal_set u set) n) ≡ Ok said
+    set_read : (n : ℕ) → refusal_set_from u lacks (lines_of (set_bytes u set) n) ≡ Ok said
     set_read n =
         let size = length set in
         let small : size < 2 ^ 32 = omega (arith, set_few u set lacks table is) in
         let pairs = pairs_read u table.universe table.named set [] end_line (n + 1) (ascending_pairs u set is.ascending is.pairs) in
         ap (λ r. and_then r (λ size. and_then (pairs_from u size.0 [] size.1) (λ pairs. refusal_end_from (refusal_parts lacks pairs.0) pairs.1)))
-        (read_next_read size_in (size_tokens size) (refusal_rest u set) n size (size_printed size small) (size_read size small))
+        (read_next_read size_in (size_tokens size) (rest_bytes u set) n size (size_printed size small) (size_read size small))
         ∙ ap (λ r. and_then r (λ pairs. refusal_end_from (refusal_parts lacks pairs.0) pairs.1)) pairs.1
         ∙ end_read pairs.0
 
     pub refusal_read : refusal_in u (refusal_bytes u set lacks) ≡ Ok said
     refusal_read =
-        ap (λ r. and_then r (λ header. and_then (read_next (lacks_in u) header.1) (λ lacks. refusal_set_from u lacks.0 lacks.1)))
-        (read_next_read (exactly (codes "metis refusal 1")) (codes "metis" ∷ codes "refusal" ∷ codes "1" ∷ []) (refusal_body u set lacks) 0 tt refl refl)
+        ap (λ bytes. refusal_in u bytes) (refusal_bytes_by_parts u set lacks)
+        ∙ ap (λ r. and_then r (λ header. and_then (read_next (lacks_in u) header.1) (λ lacks. refusal_set_from u lacks.0 lacks.1)))
+        (read_next_read (exactly (codes "metis refusal 1")) (codes "metis" ∷ codes "refusal" ∷ codes "1" ∷ []) (body_bytes u set lacks) 0 tt refl refl)
         ∙ ap (λ r. and_then r (λ lacks. refusal_set_from u lacks.0 lacks.1))
-        (read_next_read (lacks_in u) (lacks_tokens u lacks) (refusal_set u set) 1 lacks (lacks_printed u table.universe table.named lacks is.lacking) (lacks_read u table.universe table.named lacks is.lacking))
+        (read_next_read (lacks_in u) (lacks_tokens u lacks) (set_bytes u set) 1 lacks (lacks_printed u table.universe table.named lacks is.lacking) (lacks_read u table.universe table.named lacks is.lacking))
         ∙ set_read 2
 
 -- ---- what a reader gives

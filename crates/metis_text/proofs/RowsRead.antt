@@ -8,12 +8,13 @@ use Rattle.std.proofs.lemmas.List.{length_push}
 use Rattle.metis_ids.specs.declared.actions.Action.{Action}
 use Rattle.metis_universe.specs.Universe.{IsNamed, Universe}
 use Rattle.metis_text.specs.ActionLine.{Row, row_in}
-use Rattle.metis_text.specs.Line.{line, numbered, words}
+use Rattle.metis_text.specs.Line.{line, words}
 use Rattle.metis_text.specs.PlanText.{action_line}
 use Rattle.metis_text.specs.Reading.{Lines, Rows, and_then, lines_of, read_next, rows_from, rows_of, with_row}
 use Rattle.metis_text.proofs.LinesTaken.{read_next_is, read_next_read}
 use Rattle.metis_text.proofs.Outcomes.{and_then_is}
 use Rattle.metis_text.proofs.RowLine.{IsRow, row_is, row_printed, row_read, row_tokens}
+use Rattle.metis_text.proofs.TextBytes.{numbered_bytes}
 
 abbrev pub AreRows : Universe → List Action → List Action → List (List ℕ) → Type 0
 AreRows u earlier [] [] = ⊤
@@ -27,7 +28,7 @@ pub record RowsRead (u : Universe) (left : ℕ) (rows : Rows) (l : Lines) (p : R
   pub is : p.0 ≡ rows_of (rows.actions ++ actions) (rows.after ++ after)
   pub many : length actions ≡ left
   pub are : AreRows u rows.actions actions after
-  pub text : l.rest ≡ numbered (action_line u) (length rows.actions + 1) (zip actions after) ++ p.1.rest
+  pub text : l.rest ≡ numbered_bytes (action_line u) (length rows.actions + 1) (zip actions after) ++ p.1.rest
 
 -- a line, a text of others and what stands behind, in a row
 pub line_and_rest : (ts : List (List ℕ)) (others rest : List ℕ) → words ts ++ (10 ∷ (others ++ rest)) ≡ (line ts ++ others) ++ rest
@@ -53,8 +54,8 @@ module _ (u : Universe) where
       let more = rows_are left (with_row rows row) left_then p next.2 in
       let k = length rows.actions + 1 in
       let z = zip more.actions more.after in
-      let others = numbered (action_line u) (k + 1) z in
-      let behind : left_then.rest ≡ others ++ p.1.rest = more.text ∙ ap (λ n. numbered (action_line u) (n + 1) z ++ p.1.rest) (length_push rows.actions row.0) in
+      let others = numbered_bytes (action_line u) (k + 1) z in
+      let behind : left_then.rest ≡ others ++ p.1.rest = more.text ∙ ap (λ n. numbered_bytes (action_line u) (n + 1) z ++ p.1.rest) (length_push rows.actions row.0) in
       record {
         actions = row.0 ∷ more.actions;
         after = row.1 ∷ more.after;
@@ -65,19 +66,19 @@ module _ (u : Universe) where
       }
 
   pub rows_read : IsNamed u → (actions : List Action) (after : List (List ℕ)) (earlier : List Action) (lists : List (List ℕ)) (rest : List ℕ) (n : ℕ) → AreRows u earlier actions after
-      → (m : ℕ) × (rows_from u (length actions) (rows_of earlier lists) (lines_of (numbered (action_line u) (length earlier + 1) (zip actions after) ++ rest) n) ≡ Ok (rows_of (earlier ++ actions) (lists ++ after), lines_of rest m))
+      → (m : ℕ) × (rows_from u (length actions) (rows_of earlier lists) (lines_of (numbered_bytes (action_line u) (length earlier + 1) (zip actions after) ++ rest) n) ≡ Ok (rows_of (earlier ++ actions) (lists ++ after), lines_of rest m))
   rows_read names [] [] earlier lists rest n are = (n, sym (λ i. Ok (rows_of (append-nil earlier i) (append-nil lists i), lines_of rest n)))
   rows_read names [] (ks ∷ after) earlier lists rest n are = absurd are
   rows_read names (a ∷ actions) [] earlier lists rest n are = absurd are
   rows_read names (a ∷ actions) (ks ∷ after) earlier lists rest n are =
       let k = length earlier + 1 in
-      let others = numbered (action_line u) (k + 1) (zip actions after) in
+      let others = numbered_bytes (action_line u) (k + 1) (zip actions after) in
       let behind = λ (p : Row × Lines). rows_from u (length actions) (with_row (rows_of earlier lists) p.0) p.1 in
       let more = rows_read names actions after (earlier ++ a ∷ []) (lists ++ ks ∷ []) rest (n + 1) are.1 in (
         more.0,
         ap (λ bytes. and_then (read_next (row_in u earlier) (lines_of bytes n)) behind) (append_assoc (action_line u k (a, ks)) others rest)
             ∙ ap (λ r. and_then r behind) (read_next_read (row_in u earlier) (row_tokens u k (a, ks)) (others ++ rest) n (a, ks) (row_printed u earlier names (a, ks) are.0) (row_read u earlier names (a, ks) are.0))
-            ∙ ap (λ j. rows_from u (length actions) (rows_of (earlier ++ a ∷ []) (lists ++ ks ∷ [])) (lines_of (numbered (action_line u) (j + 1) (zip actions after) ++ rest) (n + 1))) (sym (length_push earlier a))
+            ∙ ap (λ j. rows_from u (length actions) (rows_of (earlier ++ a ∷ []) (lists ++ ks ∷ [])) (lines_of (numbered_bytes (action_line u) (j + 1) (zip actions after) ++ rest) (n + 1))) (sym (length_push earlier a))
             ∙ more.1
             ∙ (λ i. Ok (rows_of (append_assoc earlier (a ∷ []) actions i) (append_assoc lists (ks ∷ []) after i), lines_of rest more.0)),
       )

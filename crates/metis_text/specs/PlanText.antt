@@ -3,7 +3,8 @@
 --     action_line u k row      the line of action number k, where the row is the action and its list
 --     pair_word u p, event_token e      the names of a pair's type and state, with a colon between them;  an event's token
 --     dup_line u k d      the line of dup number k
---     plan_bytes u p after      the whole text, where `after` has a list for each action
+--     plan_lines u p after      the lines of the whole text, where `after` has a list for each action
+--     plan_bytes u p after      its bytes
 --     makes a, kind_of z actions      whether the action makes an instance;  the type of the last New of instance z, if there is one
 --     IsWellFormed u p after      what a text says that can be read
 use Rattle.std.specs.Prelude.{◌≡◌, ◌<◌, ◌≤◌, ℕ, zero, suc, ◌^◌, ◌==◌, Bool, true, false, cond, List, [], ◌∷◌, ◌++◌, length, map, codes, decimal, Option, Some, None}
@@ -15,6 +16,7 @@ use Rattle.metis_ids.specs.declared.events.Event.{Event}
 use Rattle.metis_ids.specs.declared.events.Event.TheVariants.{At, End}
 use Rattle.metis_ids.specs.declared.plans.Dup.{Dup}
 use Rattle.metis_ids.specs.declared.plans.Plan.{Plan}
+use Rattle.metis_outside.specs.Pieces.{bytes_of}
 use Rattle.metis_text.specs.InRange.{IsPlanInRange}
 use Rattle.metis_text.specs.Line.{line, numbered}
 use Rattle.metis_universe.specs.Numbers.{IsOf}
@@ -62,25 +64,29 @@ counts_of p = counts_line p.instances (length p.actions.items) (length p.dups.it
 abbrev pub end_line : List ℕ
 end_line = line (codes "end" ∷ [])
 
-abbrev pub action_lines : Universe → List Action → List (List ℕ) → List ℕ
+abbrev pub action_lines : Universe → List Action → List (List ℕ) → List (List ℕ)
 action_lines u actions after = numbered (action_line u) 1 (zip actions after)
 
-abbrev pub dup_lines : Universe → List Dup → List ℕ
+abbrev pub dup_lines : Universe → List Dup → List (List ℕ)
 dup_lines u dups = numbered (dup_line u) 1 dups
 
 -- the lines of the dups, and the last line
-abbrev pub plan_end : Universe → List Dup → List ℕ
-plan_end u dups = dup_lines u dups ++ end_line
+abbrev pub plan_end : Universe → List Dup → List (List ℕ)
+plan_end u dups = dup_lines u dups ++ end_line ∷ []
 
 -- all lines but the first two
-abbrev pub plan_rest : Universe → Plan → List (List ℕ) → List ℕ
+abbrev pub plan_rest : Universe → Plan → List (List ℕ) → List (List ℕ)
 plan_rest u p after = action_lines u p.actions.items after ++ plan_end u p.dups.items
 
-abbrev pub plan_body : Universe → Plan → List (List ℕ) → List ℕ
-plan_body u p after = counts_of p ++ plan_rest u p after
+-- all lines but the first
+abbrev pub plan_body : Universe → Plan → List (List ℕ) → List (List ℕ)
+plan_body u p after = counts_of p ∷ plan_rest u p after
+
+abbrev pub plan_lines : Universe → Plan → List (List ℕ) → List (List ℕ)
+plan_lines u p after = plan_header ∷ plan_body u p after
 
 abbrev pub plan_bytes : Universe → Plan → List (List ℕ) → List ℕ
-plan_bytes u p after = plan_header ++ plan_body u p after
+plan_bytes u p after = bytes_of (plan_lines u p after)
 
 abbrev pub makes : Action → Bool
 makes (New z t) = true

@@ -1,10 +1,12 @@
 -- The text of a refusal: a set of pairs, and the pair that it is said to lack.
 --     lacks_line u p, pairs_line n, pair_line u p      the line of the pair that the set lacks;  of how many pairs the set has;  of a pair of the set
---     refusal_bytes u set lacks      the whole text
+--     refusal_lines u set lacks      the lines of the whole text
+--     refusal_bytes u set lacks      its bytes
 --     IsRefusal u set lacks      what a text says that can be read
-use Rattle.std.specs.Prelude.{◌<◌, ℕ, List, [], ◌∷◌, ◌++◌, length, codes, decimal}
-use Rattle.std.specs.List.{All, flat_map}
+use Rattle.std.specs.Prelude.{◌<◌, ℕ, List, [], ◌∷◌, ◌++◌, length, map, codes, decimal}
+use Rattle.std.specs.List.{All}
 use Rattle.std.specs.List.Sorted.{IsStrictlyIncreasing}
+use Rattle.metis_outside.specs.Pieces.{bytes_of}
 use Rattle.metis_text.specs.Line.{line}
 use Rattle.metis_text.specs.PlanText.{end_line, pair_word}
 use Rattle.metis_universe.specs.Universe.{Universe, pair_count}
@@ -22,18 +24,22 @@ abbrev pub pair_line : Universe → ℕ → List ℕ
 pair_line u p = line (pair_word u p ∷ [])
 
 -- the lines of the pairs, and the last line
-abbrev pub refusal_rest : Universe → List ℕ → List ℕ
-refusal_rest u set = flat_map (pair_line u) set ++ end_line
+abbrev pub refusal_rest : Universe → List ℕ → List (List ℕ)
+refusal_rest u set = map (pair_line u) set ++ end_line ∷ []
 
-abbrev pub refusal_set : Universe → List ℕ → List ℕ
-refusal_set u set = pairs_line (length set) ++ refusal_rest u set
+-- and the line before them
+abbrev pub refusal_set : Universe → List ℕ → List (List ℕ)
+refusal_set u set = pairs_line (length set) ∷ refusal_rest u set
 
 -- all lines but the first
-abbrev pub refusal_body : Universe → List ℕ → ℕ → List ℕ
-refusal_body u set lacks = lacks_line u lacks ++ refusal_set u set
+abbrev pub refusal_body : Universe → List ℕ → ℕ → List (List ℕ)
+refusal_body u set lacks = lacks_line u lacks ∷ refusal_set u set
+
+abbrev pub refusal_lines : Universe → List ℕ → ℕ → List (List ℕ)
+refusal_lines u set lacks = refusal_header ∷ refusal_body u set lacks
 
 abbrev pub refusal_bytes : Universe → List ℕ → ℕ → List ℕ
-refusal_bytes u set lacks = refusal_header ++ refusal_body u set lacks
+refusal_bytes u set lacks = bytes_of (refusal_lines u set lacks)
 
 -- all pairs are the universe's, and those of the set ascend
 pub record IsRefusal (u : Universe) (set : List ℕ) (lacks : ℕ) : Type 0 where

@@ -2,17 +2,18 @@
 ghost use Rattle.std.specs.Prelude.{◌≡◌, ◌<◌, ◌≤◌, ◌-◌, ◌^◌, ℕ, List, Ok, length, map};
 ghost use Rattle.std.specs.List.{All, count_by};
 ghost use Rattle.metis_ids.specs.declared.plans.Plan.{Plan};
+ghost use Rattle.metis_outside.specs.Pieces.{IsLine};
 ghost use Rattle.metis_universe.specs.Config.{empty};
 ghost use Rattle.metis_universe.specs.Numbers.{IsOf};
 ghost use Rattle.metis_universe.specs.Step.{IsRun};
 ghost use Rattle.metis_universe.specs.Universe.{Universe, IsTable, pair_count};
 ghost use Rattle.metis_universe.specs.Waits.{numbers};
 ghost use Rattle.metis_text.specs.InRange.{IsPlanInRange};
-ghost use Rattle.metis_text.specs.PlanText.{IsWellFormed, makes, plan_bytes};
+ghost use Rattle.metis_text.specs.PlanText.{IsWellFormed, makes, plan_bytes, plan_lines};
 ghost use Rattle.metis_text.specs.Reading.{Parts, plan_in};
 ghost use Rattle.metis_text.specs.Reads.{said};
 ghost use Rattle.metis_text.specs.RefusalReading.{refusal_in, refusal_parts};
-ghost use Rattle.metis_text.specs.RefusalText.{IsRefusal, refusal_bytes};
+ghost use Rattle.metis_text.specs.RefusalText.{IsRefusal, refusal_bytes, refusal_lines};
 ghost use Rattle.metis_waits.specs.Waits.{waits_on_others};
 
 /// A text that is read is that of the plan with the lists that it says, which is well formed.
@@ -41,4 +42,14 @@ pub fn accepted_refusal_is_written()
 /// And the text of a refusal whose pairs are the universe's and ascend is read as this refusal.
 pub fn refusal_is_read()
     ensures { (u : Universe) → IsTable u → (set : List ℕ) (lacks : ℕ) → IsRefusal u set lacks → refusal_in u (refusal_bytes u set lacks) ≡ Ok (refusal_parts lacks set) }
+{}
+
+/// Each line of the text of a plan ends with a line feed, and has no other.
+pub fn plan_has_lines()
+    ensures { (u : Universe) (p : Plan) (after : List (List ℕ)) → IsTable u → All IsLine (plan_lines u p after) }
+{}
+
+/// And so does each line of the text of a refusal.
+pub fn refusal_has_lines()
+    ensures { (u : Universe) (set : List ℕ) (lacks : ℕ) → IsTable u → All IsLine (refusal_lines u set lacks) }
 {}

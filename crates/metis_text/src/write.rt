@@ -1,5 +1,5 @@
 //! Writes the text of a plan.
-ghost use Rattle.std.specs.Prelude.{◌<◌, ◌≤◌, ◌^◌, length, map};
+ghost use Rattle.std.specs.Prelude.{◌<◌, ◌≤◌, ◌^◌, [], ◌∷◌, length, map};
 ghost use Rattle.std.specs.List.{All};
 ghost use Rattle.metis_outside.specs.Faults.{CountsFault};
 ghost use Rattle.metis_outside.specs.Writes.{Writes};
@@ -7,17 +7,17 @@ ghost use Rattle.metis_universe.specs.Numbers.{IsOf};
 ghost use Rattle.metis_universe.specs.Universe.{pair_count};
 ghost use Rattle.metis_universe.specs.Waits.{numbers};
 ghost use Rattle.metis_waits.specs.Waits.{AreWaits, list_of, waits_on_others};
-ghost use Rattle.metis_text.specs.PlanText.{action_line, action_lines, counts_of, dup_line, dup_lines, plan_body, plan_bytes, plan_end, plan_rest};
+ghost use Rattle.metis_text.specs.PlanText.{action_line, action_lines, counts_of, dup_line, dup_lines, plan_body, plan_end, plan_lines, plan_rest};
 
 use crate::lines::{action_line, counts_line, dup_line};
-use crate::put::put_all;
+use crate::put::put_line;
 use metis_ids::{Action, Dup, Plan};
 use metis_outside::{Sink, Trouble};
 use metis_universe::Universe;
 use metis_waits::Waits;
 use std::alloc::Global;
 
-/// Puts the text of the plan, a line a put. Behind each action stand the numbers of the other actions that it waits
+/// Puts the text of the plan, each line as one piece. Behind each action stand the numbers of the other actions that it waits
 /// for, without its own instance's previous one.
 pub fn write_plan<K: Sink>(
     alloc: Global,
@@ -30,13 +30,13 @@ pub fn write_plan<K: Sink>(
     requires dups { All (λ d. d.pair < pair_count u.now) p.now.dups.items }
     requires waits { AreWaits p.now.actions.items w.now }
     requires few { length p.now.actions.items < 2 ^ 32 }
-    ensures text { Writes (plan_bytes u.now p.now (map (waits_on_others p.now.actions.items) (numbers p.now.actions.items))) (K.written out.old) (K.written out.new) result }
+    ensures text { Writes (plan_lines u.now p.now (map (waits_on_others p.now.actions.items) (numbers p.now.actions.items))) (K.written out.old) (K.written out.new) result }
     ensures cause { CountsFault (K.faults out.old) (K.faults out.new) result }
 {
     write_text(alloc, u, p, w, out)
 }
 
-#[tactic(auto, using(metis_outside::proofs::Writing::front_of_first, metis_outside::proofs::Writing::writes_then))]
+#[tactic(auto, using(metis_outside::proofs::Writing::front_of_line, metis_outside::proofs::Writing::writes_behind))]
 fn write_text<K: Sink>(
     alloc: Global,
     u: &Universe,
@@ -48,14 +48,14 @@ fn write_text<K: Sink>(
     requires dups { All (λ d. d.pair < pair_count u.now) p.now.dups.items }
     requires waits { AreWaits p.now.actions.items w.now }
     requires few { length p.now.actions.items < 2 ^ 32 }
-    ensures text { Writes (plan_bytes u.now p.now w.now.others) (K.written out.old) (K.written out.new) result }
+    ensures text { Writes (plan_lines u.now p.now w.now.others) (K.written out.old) (K.written out.new) result }
     ensures cause { CountsFault (K.faults out.old) (K.faults out.new) result }
 {
-    put_all(b"metis plan 1\n", out)?;
+    put_line(b"metis plan 1\n", out)?;
     write_body(alloc, u, p, w, out)
 }
 
-#[tactic(auto, using(metis_outside::proofs::Writing::front_of_first, metis_outside::proofs::Writing::writes_then))]
+#[tactic(auto, using(metis_outside::proofs::Writing::front_of_line, metis_outside::proofs::Writing::writes_behind))]
 fn write_body<K: Sink>(
     alloc: Global,
     u: &Universe,
@@ -100,16 +100,16 @@ fn write_end<K: Sink>(alloc: Global, u: &Universe, dups: &[Dup], out: &mut K) ->
     ensures cause { CountsFault (K.faults out.old) (K.faults out.new) result }
 {
     write_dups(alloc, u, dups, out)?;
-    put_all(b"end\n", out)
+    put_line(b"end\n", out)
 }
 
 #[tactic(auto, using(metis_outside::proofs::Writing::front_of_nothing))]
 fn write_counts<K: Sink>(alloc: Global, p: &Plan, out: &mut K) -> Result<(), Trouble>
-    ensures text { Writes (counts_of p.now) (K.written out.old) (K.written out.new) result }
+    ensures text { Writes (counts_of p.now ∷ []) (K.written out.old) (K.written out.new) result }
     ensures cause { CountsFault (K.faults out.old) (K.faults out.new) result }
 {
     let line = counts_line(alloc, p.instances, p.actions.len(), p.dups.len())?;
-    put_all(line.as_bytes(), out)
+    put_line(line.as_bytes(), out)
 }
 
 fn write_actions<K: Sink>(
@@ -144,11 +144,11 @@ fn write_action<K: Sink>(
     requires action { IsOf u.now action.now }
     requires first { 1 ≤ number }
     requires last { number ≤ length w.now.each }
-    ensures text { Writes (action_line u.now number (action.now, list_of w.now.others number)) (K.written out.old) (K.written out.new) result }
+    ensures text { Writes (action_line u.now number (action.now, list_of w.now.others number) ∷ []) (K.written out.old) (K.written out.new) result }
     ensures cause { CountsFault (K.faults out.old) (K.faults out.new) result }
 {
     let line = action_line(alloc, u, number, action, w.after(number))?;
-    put_all(line.as_bytes(), out)
+    put_line(line.as_bytes(), out)
 }
 
 fn write_dups<K: Sink>(
@@ -176,9 +176,9 @@ fn write_dup<K: Sink>(
     out: &mut K,
 ) -> Result<(), Trouble>
     requires { dup.now.pair < pair_count u.now }
-    ensures text { Writes (dup_line u.now number dup.now) (K.written out.old) (K.written out.new) result }
+    ensures text { Writes (dup_line u.now number dup.now ∷ []) (K.written out.old) (K.written out.new) result }
     ensures cause { CountsFault (K.faults out.old) (K.faults out.new) result }
 {
     let line = dup_line(alloc, u, number, dup)?;
-    put_all(line.as_bytes(), out)
+    put_line(line.as_bytes(), out)
 }

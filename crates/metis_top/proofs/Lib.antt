@@ -8,4 +8,5 @@ pub mod OverFiles
 pub mod ReadFaults
 pub mod Refused
 pub mod Replies
+pub mod SaidLines
 pub mod Shown

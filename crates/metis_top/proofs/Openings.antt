@@ -95,7 +95,7 @@ some_taken : (taken : List (List ℕ)) (start : Script) → IsRead start → (Is
 some_taken [] start reads ended = absurd (ended reads)
 some_taken (bytes ∷ taken) start reads ended = omega arith
 
-opens_some : (n : ℕ) (taken : List (List ℕ)) (script : Script) (faults faults' opens opens' : ℕ) (old new : Known (List ℕ)) (status : Status)
+opens_some : (n : ℕ) (taken : List (List ℕ)) (script : Script) (faults faults' opens opens' : ℕ) (old new : Known (List (List ℕ))) (status : Status)
     → Left n taken script → ((IsRead script → ⊥) → 1 ≤ length taken) → OnShelf script (length taken) faults faults' opens opens' old new status → OpensSome n status opens opens'
 opens_some n taken (Read place name limit next) faults faults' opens opens' old new status left some (inl failed) =
     let more = one_more (n - length taken) (Read place name limit next) tt left.most in
@@ -109,12 +109,12 @@ opens_some n taken (Read place name limit next) faults faults' opens opens' old 
 opens_some n taken (Refuse refusal) faults faults' opens opens' old new status left some shelf = record { count = length taken; openings = shelf.1; most = left.few; some = inr (some (λ reads. reads)) }
 opens_some n taken (Reply said) faults faults' opens opens' old new status left some shelf = record { count = length taken; openings = shelf.1; most = left.few; some = inr (some (λ reads. reads)) }
 
-none_taken : (files : Known (List ℕ → List ℕ)) (place : ℕ) (taken : List (List ℕ)) (faults faults' opens opens' : ℕ) (old new : Known (List ℕ)) (status : Status)
+none_taken : (files : Known (List ℕ → List ℕ)) (place : ℕ) (taken : List (List ℕ)) (faults faults' opens opens' : ℕ) (old new : Known (List (List ℕ))) (status : Status)
     → AreTaken files taken (Refuse (Word place)) → OnShelf (after taken (Refuse (Word place))) (length taken) faults faults' opens opens' old new status → opens' ≡ opens
 none_taken files place [] faults faults' opens opens' old new status asked shelf = shelf.1
 none_taken files place (bytes ∷ taken) faults faults' opens opens' old new status asked shelf = absurd asked
 
-pub ran_opens : {S K : Type 0} (files : S → Known (List ℕ → List ℕ)) (faults opens : S → ℕ) (written : K → Known (List ℕ)) (sink_faults : K → ℕ)
+pub ran_opens : {S K : Type 0} (files : S → Known (List ℕ → List ℕ)) (faults opens : S → ℕ) (written : K → Known (List (List ℕ))) (sink_faults : K → ℕ)
     (form : Result Form ℕ) (shelf shelf' : S) (sink sink' : K) (status : Status) → Ran files faults opens written sink_faults (script_from form) shelf shelf' sink sink' status
     → OpensFiles form status (opens shelf) (opens shelf')
 ran_opens files faults opens written sink_faults (Ok form) shelf shelf' sink sink' status r =

@@ -18,7 +18,7 @@ use Rattle.metis_top.specs.Words.{form_of}
 use Rattle.metis_universe.specs.Universe.{Universe}
 
 -- no read failed, and memory did not run out, so the script has come to its end
-after-over : (file : List ℕ → List ℕ) (taken : List (List ℕ)) (script : Script) (count faults faults' opens opens' : ℕ) (old new : Option (List ℕ)) (status : Status)
+after-over : (file : List ℕ → List ℕ) (taken : List (List ℕ)) (script : Script) (count faults faults' opens opens' : ℕ) (old new : Option (List (List ℕ))) (status : Status)
     → AreTaken (Some file) taken script → OnShelf (after taken script) count faults faults' opens opens' old new status
     → (Rose faults faults' → ⊥) → status ≢ NoMemory → after taken script ≡ over file script
 after-over file [] (Read place name limit next) count faults faults' opens opens' old new status asked (inl failed) calm memory = absurd (calm failed.0)
@@ -31,22 +31,22 @@ after-over file (bytes ∷ taken) (Read place name limit next) count faults faul
 after-over file (bytes ∷ taken) (Refuse refusal) count faults faults' opens opens' old new status asked shelf calm memory = absurd asked
 after-over file (bytes ∷ taken) (Reply answer) count faults faults' opens opens' old new status asked shelf calm memory = absurd asked
 
-told_by_shown : (file : List ℕ → List ℕ) (script end : Script) (old new : Option (List ℕ)) (before now : ℕ) (status : Status)
+told_by_shown : (file : List ℕ → List ℕ) (script end : Script) (old new : Option (List (List ℕ))) (before now : ℕ) (status : Status)
     → end ≡ over file script → Shown (Says end) old new before now status → (Rose before now → ⊥) → status ≢ NoMemory → Tells file script old new status
 told_by_shown file script end old new before now status is (inl whole) calm memory =
-    record { text = whole.text; says = subst (λ s. Says s whole.text status) is whole.says; put = whole.put }
+    record { lines = whole.lines; says = subst (λ s. Says s whole.lines status) is whole.says; put = whole.put }
 told_by_shown file script end old new before now status is (inr (inl (fault, front, rose))) calm memory = absurd (calm rose)
 told_by_shown file script end old new before now status is (inr (inr (gave_up, still, front))) calm memory = absurd (memory gave_up)
 
 -- what was put is what the script comes to over the files
-tells : (files : Option (List ℕ → List ℕ)) (taken : List (List ℕ)) (script : Script) (count faults faults' opens opens' : ℕ) (old new : Option (List ℕ)) (before now : ℕ) (status : Status)
+tells : (files : Option (List ℕ → List ℕ)) (taken : List (List ℕ)) (script : Script) (count faults faults' opens opens' : ℕ) (old new : Option (List (List ℕ))) (before now : ℕ) (status : Status)
     → AreTaken files taken script → OnShelf (after taken script) count faults faults' opens opens' old new status → Shown (Says (after taken script)) old new before now status
     → IfSome files (λ file. (Rose faults faults' → ⊥) → (Rose before now → ⊥) → status ≢ NoMemory → Tells file script old new status)
 tells None taken script count faults faults' opens opens' old new before now status asked shelf puts = tt
 tells (Some file) taken script count faults faults' opens opens' old new before now status asked shelf puts = λ calm calm' memory.
     told_by_shown file script (after taken script) old new before now status (after-over file taken script count faults faults' opens opens' old new status asked shelf calm memory) puts calm' memory
 
-pub ran_tells : {S K : Type 0} (files : S → Option (List ℕ → List ℕ)) (faults opens : S → ℕ) (written : K → Option (List ℕ)) (sink_faults : K → ℕ)
+pub ran_tells : {S K : Type 0} (files : S → Option (List ℕ → List ℕ)) (faults opens : S → ℕ) (written : K → Option (List (List ℕ))) (sink_faults : K → ℕ)
     (script : Script) (shelf shelf' : S) (sink sink' : K) (status : Status)
     → Ran files faults opens written sink_faults script shelf shelf' sink sink' status
     → IfSome (files shelf) (λ file. (Rose (faults shelf) (faults shelf') → ⊥) → (Rose (sink_faults sink) (sink_faults sink') → ⊥) → status ≢ NoMemory → Tells file script (written sink) (written sink') status)
@@ -68,17 +68,17 @@ over-plan file name targets u g fits means found =
     over-universe file (file name) (take (document_limit + 1) (file name)) u (λ v. targets_then 3 v targets (λ pairs. Reply (Plan v pairs))) (take_all (document_limit + 1) (file name) (omega arith)) fits means
     ∙ rw found
 
-pub tells_plans : (words : List (List ℕ)) (file : List ℕ → List ℕ) (old new : Option (List ℕ)) (status : Status) → Tells file (script_from (form_of words)) old new status → Headline words file old new status
+pub tells_plans : (words : List (List ℕ)) (file : List ℕ → List ℕ) (old new : Option (List (List ℕ))) (status : Status) → Tells file (script_from (form_of words)) old new status → Headline words file old new status
 tells_plans words file old new status t = λ name targets u g is fits means found.
     let ends : over file (script_from (form_of words)) ≡ Reply (Plan u g) = ap (λ f. over file (script_from f)) is ∙ over-plan file name targets u g fits means found in
-    (t.text, subst (λ s. Says s t.text status) ends t.says, t.put)
+    (t.lines, subst (λ s. Says s t.lines status) ends t.says, t.put)
 
-if_some_headline : (words : List (List ℕ)) (files : Option (List ℕ → List ℕ)) (P Q R : Type 0) (old new : Option (List ℕ)) (status : Status)
+if_some_headline : (words : List (List ℕ)) (files : Option (List ℕ → List ℕ)) (P Q R : Type 0) (old new : Option (List (List ℕ))) (status : Status)
     → IfSome files (λ file. P → Q → R → Tells file (script_from (form_of words)) old new status) → IfSome files (λ file. P → Q → R → Headline words file old new status)
 if_some_headline words None P Q R old new status t = tt
 if_some_headline words (Some file) P Q R old new status t = λ p q r. tells_plans words file old new status (t p q r)
 
-pub ran_headline : {S K : Type 0} (files : S → Option (List ℕ → List ℕ)) (faults opens : S → ℕ) (written : K → Option (List ℕ)) (sink_faults : K → ℕ)
+pub ran_headline : {S K : Type 0} (files : S → Option (List ℕ → List ℕ)) (faults opens : S → ℕ) (written : K → Option (List (List ℕ))) (sink_faults : K → ℕ)
     (words : List (List ℕ)) (shelf shelf' : S) (sink sink' : K) (status : Status)
     → Ran files faults opens written sink_faults (script_from (form_of words)) shelf shelf' sink sink' status
     → IfSome (files shelf) (λ file. (Rose (faults shelf) (faults shelf') → ⊥) → (Rose (sink_faults sink) (sink_faults sink') → ⊥) → status ≢ NoMemory → Headline words file (written sink) (written sink') status)

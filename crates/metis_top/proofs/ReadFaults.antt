@@ -1,7 +1,7 @@
 -- The line of a failed read tells how many files were opened.
 use Rattle.std.proofs.Common.{◌≡◌, ◌⊎◌, ℕ, suc, ◌+◌, List, [], ◌∷◌, length, Result, Ok, Err, Bool, true, false, refl, sym, ap, ◌∙◌, subst, inl, inr, arith, nat_le, if◌then◌else◌}
 use Rattle.std.specs.declared.option.Option.{Option as Known}
-use Rattle.std.specs.Io.KnownBytes.{Appends}
+use Rattle.metis_outside.specs.Writes.{Appends}
 use Rattle.metis_top.specs.declared.refusal.Refusal.{Refusal}
 use Rattle.metis_top.specs.declared.refusal.Refusal.TheVariants.{Word, TooLong}
 use Rattle.metis_top.specs.declared.refusal.Refusal.TheVariants as refusal
@@ -41,12 +41,12 @@ judgement_ends (Open p q) status is = inr is
 judgement_ends LacksNone status is = inr is
 
 -- an answer has the status `Done` or `No`
-answer_status : (said : Answer) (text : List ℕ) (status : Status) → IsAnswer said text status → (status ≡ Done) ⊎ (status ≡ No)
-answer_status (answer.Plan u targets) text status (inl is) = inl is.0
-answer_status (answer.Plan u targets) text status (inr is) = inr is.0
-answer_status (answer.Replay u targets actions) text status is = verdict_ends is.verdict status is.is
-answer_status (answer.Refute u targets set) text status is = judgement_ends is.verdict status is.is
-answer_status (answer.Print u) text status is = inl is.1
+answer_status : (said : Answer) (lines : List (List ℕ)) (status : Status) → IsAnswer said lines status → (status ≡ Done) ⊎ (status ≡ No)
+answer_status (answer.Plan u targets) lines status (inl is) = inl is.0
+answer_status (answer.Plan u targets) lines status (inr is) = inr is.0
+answer_status (answer.Replay u targets actions) lines status is = verdict_ends is.verdict status is.is
+answer_status (answer.Refute u targets set) lines status is = judgement_ends is.verdict status is.is
+answer_status (answer.Print u) lines status is = inl is.1
 
 not_read_fault : (status : Status) → (status ≡ Done) ⊎ (status ≡ No) → status ≡ ReadFault → ⊥
 not_read_fault status (inl done) fault = cc
@@ -66,21 +66,21 @@ Numbered-after (bytes ∷ taken) (Read place name limit next) first n =
 Numbered-after (bytes ∷ taken) (Refuse refusal) first n = tt
 Numbered-after (bytes ∷ taken) (Reply answer) first n = tt
 
-told_by_shelf : (script : Script) (text : List ℕ) (count faults faults' opens opens' : ℕ) (old new : Known (List ℕ)) (status : Status) → status ≡ ReadFault → Numbered (2 + count) script
-    → Says script text status → Appends old new text → OnShelf script count faults faults' opens opens' old new status → TellsReadFault faults faults' opens opens' old new
-told_by_shelf (Read place name limit next) text count faults faults' opens opens' old new status fault n says put (inl failed) = record {
+told_by_shelf : (script : Script) (lines : List (List ℕ)) (count faults faults' opens opens' : ℕ) (old new : Known (List (List ℕ))) (status : Status) → status ≡ ReadFault → Numbered (2 + count) script
+    → Says script lines status → Appends old new lines → OnShelf script count faults faults' opens opens' old new status → TellsReadFault faults faults' opens opens' old new
+told_by_shelf (Read place name limit next) lines count faults faults' opens opens' old new status fault n says put (inl failed) = record {
   rose = failed.0;
   count = suc count;
   openings = failed.1;
-  line = subst (λ t. Appends old new t) (says.0 ∙ ap read_fault_line (n.0 ∙ omega arith)) put;
+  line = subst (λ l. Appends old new l) (says.0 ∙ ap (λ k. read_fault_line k ∷ []) (n.0 ∙ omega arith)) put;
 }
-told_by_shelf (Read place name limit next) text count faults faults' opens opens' old new status fault n says put (inr gave_up) = let other = gave_up.0 in absurd (cc)
-told_by_shelf (Refuse refusal) text count faults faults' opens opens' old new status fault n says put shelf = absurd (not_refused refusal (sym says.1 ∙ fault))
-told_by_shelf (Reply answer) text count faults faults' opens opens' old new status fault n says put shelf = absurd (not_read_fault status (answer_status answer text status says) fault)
+told_by_shelf (Read place name limit next) lines count faults faults' opens opens' old new status fault n says put (inr gave_up) = let other = gave_up.0 in absurd (cc)
+told_by_shelf (Refuse refusal) lines count faults faults' opens opens' old new status fault n says put shelf = absurd (not_refused refusal (sym says.1 ∙ fault))
+told_by_shelf (Reply answer) lines count faults faults' opens opens' old new status fault n says put shelf = absurd (not_read_fault status (answer_status answer lines status says) fault)
 
-told_by_shown : (script : Script) (count faults faults' opens opens' : ℕ) (old new : Known (List ℕ)) (before now : ℕ) (status : Status) → status ≡ ReadFault → Numbered (2 + count) script
+told_by_shown : (script : Script) (count faults faults' opens opens' : ℕ) (old new : Known (List (List ℕ))) (before now : ℕ) (status : Status) → status ≡ ReadFault → Numbered (2 + count) script
     → Shown (Says script) old new before now status → OnShelf script count faults faults' opens opens' old new status → TellsReadFault faults faults' opens opens' old new
-told_by_shown script count faults faults' opens opens' old new before now status fault n (inl whole) shelf = told_by_shelf script whole.text count faults faults' opens opens' old new status fault n whole.says whole.put shelf
+told_by_shown script count faults faults' opens opens' old new before now status fault n (inl whole) shelf = told_by_shelf script whole.lines count faults faults' opens opens' old new status fault n whole.says whole.put shelf
 told_by_shown script count faults faults' opens opens' old new before now status fault n (inr (inl (is, front, rose))) shelf = absurd (cc)
 told_by_shown script count faults faults' opens opens' old new before now status fault n (inr (inr (is, still, front))) shelf = absurd (cc)
 
@@ -121,7 +121,7 @@ numbered_script : (form : Result Form ℕ) → Numbered 2 (script_from form)
 numbered_script (Ok form) = numbered_command form.verb form.files form.targets
 numbered_script (Err place) = tt
 
-pub ran_read_fault : {S K : Type 0} (files : S → Known (List ℕ → List ℕ)) (faults opens : S → ℕ) (written : K → Known (List ℕ)) (sink_faults : K → ℕ)
+pub ran_read_fault : {S K : Type 0} (files : S → Known (List ℕ → List ℕ)) (faults opens : S → ℕ) (written : K → Known (List (List ℕ))) (sink_faults : K → ℕ)
     (form : Result Form ℕ) (shelf shelf' : S) (sink sink' : K) (status : Status) → Ran files faults opens written sink_faults (script_from form) shelf shelf' sink sink' status
     → status ≡ ReadFault → TellsReadFault (faults shelf) (faults shelf') (opens shelf) (opens shelf') (written sink) (written sink')
 ran_read_fault files faults opens written sink_faults form shelf shelf' sink sink' status r fault =

@@ -1,5 +1,5 @@
 -- Runs that come to their answer.
-use Rattle.std.proofs.Common.{◌≡◌, ℕ, List, [], length, Ok, refl, sym, ap, ◌∙◌, subst, inl, inr, arith}
+use Rattle.std.proofs.Common.{◌≡◌, ℕ, List, [], ◌∷◌, length, Ok, refl, sym, ap, ◌∙◌, subst, inl, inr, arith}
 use Rattle.std.specs.List.{count_by}
 use Rattle.std.specs.Prelude.{IsTrue}
 use Rattle.std.specs.declared.option.Option.{Option}
@@ -24,14 +24,14 @@ use Rattle.metis_top.specs.Answer.{Answer, IsAnswer}
 use Rattle.metis_top.specs.Course.{Gathers, Ran, Shown, Says, OnShelf}
 use Rattle.metis_text.specs.PlanText.{makes}
 use Rattle.metis_top.specs.Planned.{IsPlan, PlanAnswer, plan_text}
-use Rattle.metis_text.specs.RefusalText.{refusal_bytes}
+use Rattle.metis_text.specs.RefusalText.{refusal_lines}
 use Rattle.metis_top.specs.Replayed.{Replayed, good_line, standing_after, verdict_line, verdict_status}
 use Rattle.metis_top.specs.Script.{Script, Reply}
 use Rattle.metis_top.specs.declared.status.Status.{Status}
 use Rattle.metis_top.specs.declared.status.Status.TheVariants.{Done, No}
 
 -- a run that has read what it wants, and puts its answer
-pub ran_replied : {S K X Y : Type 0} (files : S → Option (List ℕ → List ℕ)) (faults opens : S → ℕ) (written : K → Option (List ℕ)) (sink_faults : K → ℕ)
+pub ran_replied : {S K X Y : Type 0} (files : S → Option (List ℕ → List ℕ)) (faults opens : S → ℕ) (written : K → Option (List (List ℕ))) (sink_faults : K → ℕ)
     (view : Y → X) (part : (X → Script) → Script) (next : X → Script) (shelf shelf' : S) (sink sink' : K) (y : Y) (answer : Answer) (status : Status)
     → Gathers files faults opens view part shelf shelf' (Ok y) → next (view y) ≡ Reply answer
     → Shown (IsAnswer answer) (written sink) (written sink') (sink_faults sink) (sink_faults sink') status
@@ -53,7 +53,7 @@ same_makes (Move z p q) = refl
 counts_as_made : (actions : List Action) → instances_of actions ≡ count_by makes actions
 counts_as_made actions = length-filter layer_order.makes actions ∙ (λ i. count_by (λ a. same_makes a i) actions)
 
--- the text of a plan answers
+-- the lines of a plan answer
 pub answer_by_plan : (u : Universe) (g : List ℕ) (p : Plan) → IsRun u empty p.actions.items → Holds (after_all u empty p.actions.items) g → IsTrue (is_steadfast u p.actions.items)
     → p.instances ≡ instances_of p.actions.items → IsLean u p.instances g → p.dups.items ≡ [] → PlanAnswer u g (plan_text u p) Done
 answer_by_plan u g p runs holds steadfast counts lean undoubled =
@@ -61,13 +61,13 @@ answer_by_plan u g p runs holds steadfast counts lean undoubled =
     let is : IsPlan u g p.actions.items = record { runs = runs; holds = holds; steadfast = steadfast; attained = lean.attained; all = lean.all; few = omega (arith, counted, lean.few) } in
     inl (refl, record { attains = (p.actions.items, runs, holds); plan = p; is = is; counted = counted; undoubled = undoubled; told = refl })
 
--- the text of a refusal answers
-pub answer_by_refusal : (u : Universe) (g s : List ℕ) (p : ℕ) → IsAttainedSet u s → Refusal u g s p → PlanAnswer u g (refusal_bytes u s p) No
+-- the lines of a refusal answer
+pub answer_by_refusal : (u : Universe) (g s : List ℕ) (p : ℕ) → IsAttainedSet u s → Refusal u g s p → PlanAnswer u g (refusal_lines u s p) No
 answer_by_refusal u g s p all refusal = inr (refl, record { unattained = refused u g s p refusal; set = s; lacking = p; refusal = record { refusal = refusal; all = all }; told = refl })
 
 -- the line of a verdict answers
 pub answer_by_verdict : (u : Universe) (g : List ℕ) (actions : List Action) (v : Verdict) (standing : ℕ) → Tells u actions g v → (v ≡ Good → standing ≡ standing_after u actions)
-    → Replayed u g actions (verdict_line u standing (length actions) v) (verdict_status v)
-answer_by_verdict u g actions Good standing tells stands = record { verdict = Good; tells = tells; told = ap (λ n. good_line n (length actions)) (stands refl); is = refl }
+    → Replayed u g actions (verdict_line u standing (length actions) v ∷ []) (verdict_status v)
+answer_by_verdict u g actions Good standing tells stands = record { verdict = Good; tells = tells; told = ap (λ n. good_line n (length actions) ∷ []) (stands refl); is = refl }
 answer_by_verdict u g actions (Bad n f) standing tells stands = record { verdict = Bad n f; tells = tells; told = refl; is = refl }
 answer_by_verdict u g actions (Missing p have want) standing tells stands = record { verdict = Missing p have want; tells = tells; told = refl; is = refl }

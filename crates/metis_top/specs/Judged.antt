@@ -1,7 +1,7 @@
 -- What is said of a refusal that is checked.
 --     judgement_line u v, judgement_status v      the line of a verdict on a set of pairs, and its status
---     Judged u g set text status      the text is the line of the verdict that is true of the set as a refusal of the targets g
-use Rattle.std.specs.Prelude.{◌≡◌, ℕ, List, ◌++◌, codes}
+--     Judged u g set lines status      the one line is that of the verdict that is true of the set as a refusal of the targets g
+use Rattle.std.specs.Prelude.{◌≡◌, ℕ, List, [], ◌∷◌, ◌++◌, codes}
 use Rattle.metis_refusal.specs.Claims.{Tells}
 use Rattle.metis_refusal.specs.declared.verdict.Verdict2.{Verdict2}
 use Rattle.metis_refusal.specs.declared.verdict.Verdict2.TheVariants.{Closed, NotFree, Open, LacksNone}
@@ -26,8 +26,8 @@ abbrev pub judgement_status : Verdict2 → Status
 judgement_status (Closed p) = Done
 judgement_status _ = No
 
-pub record Judged (u : Universe) (g set text : List ℕ) (status : Status) : Type 0 where
+pub record Judged (u : Universe) (g set : List ℕ) (lines : List (List ℕ)) (status : Status) : Type 0 where
   pub verdict : Verdict2
   pub tells : Tells u set g verdict
-  pub told : text ≡ judgement_line u verdict
+  pub told : lines ≡ judgement_line u verdict ∷ []
   pub is : status ≡ judgement_status verdict

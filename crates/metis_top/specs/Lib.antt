@@ -8,6 +8,7 @@ pub mod Lines
 pub mod Numbered
 pub mod Openings
 pub mod Planned
+pub mod PutLines
 pub mod Replayed
 pub mod Script
 pub mod Statuses

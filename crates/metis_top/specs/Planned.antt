@@ -1,8 +1,8 @@
 -- What is said of targets in a universe: a plan, or a refusal.
 --     IsPlan u g actions      run from the empty configuration, the actions meet only correct configurations and end with every target, and no provider leaves its pair while a binding to it stands
---     plan_text u p      the text of a plan in which each action names the actions of other instances that it waits for
+--     plan_text u p      the lines of the text of a plan in which each action names the actions of other instances that it waits for
 --     IsRefusal u g s p      s is the set of all attainable pairs, it is closed, and p is the first target that it lacks
---     PlanAnswer u g text status      the text is that of such a plan where some actions attain the targets, and else of such a refusal
+--     PlanAnswer u g lines status      the lines are those of such a plan where some actions attain the targets, and else of such a refusal
 use Rattle.std.specs.Prelude.{◌≡◌, ◌⊎◌, ℕ, ◌+◌, ◌≤◌, List, [], length, map, IsTrue}
 use Rattle.std.specs.List.{count_by}
 use Rattle.metis_ids.specs.declared.actions.Action.{Action}
@@ -13,10 +13,10 @@ use Rattle.metis_universe.specs.Step.{IsRun, after_all}
 use Rattle.metis_universe.specs.Goal.{Holds, Attains, IsAttainedSet}
 use Rattle.metis_universe.specs.Steadfast.{is_steadfast}
 use Rattle.metis_universe.specs.Closed.{Refusal}
-use Rattle.metis_text.specs.PlanText.{makes, plan_bytes}
+use Rattle.metis_text.specs.PlanText.{makes, plan_lines}
 use Rattle.metis_universe.specs.Waits.{numbers}
 use Rattle.metis_waits.specs.Waits.{waits_on_others}
-use Rattle.metis_text.specs.RefusalText.{refusal_bytes}
+use Rattle.metis_text.specs.RefusalText.{refusal_lines}
 use Rattle.metis_top.specs.declared.status.Status.{Status}
 use Rattle.metis_top.specs.declared.status.Status.TheVariants.{Done, No}
 
@@ -33,24 +33,24 @@ pub record IsRefusal (u : Universe) (g s : List ℕ) (p : ℕ) : Type 0 where
   pub refusal : Refusal u g s p
   pub all : IsAttainedSet u s
 
-abbrev pub plan_text : Universe → Plan → List ℕ
-plan_text u p = plan_bytes u p (map (waits_on_others p.actions.items) (numbers p.actions.items))
+abbrev pub plan_text : Universe → Plan → List (List ℕ)
+plan_text u p = plan_lines u p (map (waits_on_others p.actions.items) (numbers p.actions.items))
 
 -- It counts its instances.
-pub record Plans (u : Universe) (g text : List ℕ) : Type 0 where
+pub record Plans (u : Universe) (g : List ℕ) (lines : List (List ℕ)) : Type 0 where
   pub attains : Attains u g
   pub plan : Plan
   pub is : IsPlan u g plan.actions.items
   pub counted : plan.instances ≡ count_by makes plan.actions.items
   pub undoubled : plan.dups.items ≡ []
-  pub told : text ≡ plan_text u plan
+  pub told : lines ≡ plan_text u plan
 
-pub record Refuses (u : Universe) (g text : List ℕ) : Type 0 where
+pub record Refuses (u : Universe) (g : List ℕ) (lines : List (List ℕ)) : Type 0 where
   pub unattained : Attains u g → ⊥
   pub set : List ℕ
   pub lacking : ℕ
   pub refusal : IsRefusal u g set lacking
-  pub told : text ≡ refusal_bytes u set lacking
+  pub told : lines ≡ refusal_lines u set lacking
 
-abbrev pub PlanAnswer : Universe → List ℕ → List ℕ → Status → Type 0
-PlanAnswer u g text status = ((status ≡ Done) × Plans u g text) ⊎ ((status ≡ No) × Refuses u g text)
+abbrev pub PlanAnswer : Universe → List ℕ → List (List ℕ) → Status → Type 0
+PlanAnswer u g lines status = ((status ≡ Done) × Plans u g lines) ⊎ ((status ≡ No) × Refuses u g lines)

@@ -1,7 +1,7 @@
 -- What is said of a plan that is replayed.
 --     verdict_line u actions v, verdict_status v      the line of a verdict on these actions, and its status
---     Replayed u g actions text status      the text is the line of the verdict that is true of the actions and the targets g
-use Rattle.std.specs.Prelude.{◌≡◌, ℕ, List, ◌++◌, length, codes, decimal}
+--     Replayed u g actions lines status      the one line is that of the verdict that is true of the actions and the targets g
+use Rattle.std.specs.Prelude.{◌≡◌, ℕ, List, [], ◌∷◌, ◌++◌, length, codes, decimal}
 use Rattle.metis_actions.specs.Faults.{fault_text}
 use Rattle.metis_ids.specs.declared.actions.Action.{Action}
 use Rattle.metis_replay.specs.Exact.{Tells}
@@ -38,8 +38,8 @@ verdict_status (Missing p have want) = No
 abbrev pub standing_after : Universe → List Action → ℕ
 standing_after u actions = length (after_all u empty actions).instances
 
-pub record Replayed (u : Universe) (g : List ℕ) (actions : List Action) (text : List ℕ) (status : Status) : Type 0 where
+pub record Replayed (u : Universe) (g : List ℕ) (actions : List Action) (lines : List (List ℕ)) (status : Status) : Type 0 where
   pub verdict : Verdict
   pub tells : Tells u actions g verdict
-  pub told : text ≡ verdict_line u (standing_after u actions) (length actions) verdict
+  pub told : lines ≡ verdict_line u (standing_after u actions) (length actions) verdict ∷ []
   pub is : status ≡ verdict_status verdict

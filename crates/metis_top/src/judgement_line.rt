@@ -1,5 +1,5 @@
 //! Writes the line of a refusal that was checked.
-ghost use Rattle.std.specs.Prelude.{◌≡◌, ◌<◌, ◌++◌, IfOk, codes, string_bytes};
+ghost use Rattle.std.specs.Prelude.{◌≡◌, ◌<◌, [], ◌∷◌, ◌++◌, IfOk, codes, string_bytes};
 ghost use Rattle.metis_outside.specs.Faults.{CountsFault};
 ghost use Rattle.metis_outside.specs.Writes.{Writes};
 ghost use Rattle.metis_text.specs.PlanText.{pair_word};
@@ -7,7 +7,7 @@ ghost use Rattle.metis_universe.specs.Universe.{pair_count};
 ghost use Rattle.metis_refusal.specs.Claims.{IsOf};
 ghost use Rattle.metis_top.specs.Judged.{judgement_line, open_line, pair_line};
 
-use crate::stop::put_all;
+use crate::stop::put_line;
 use metis_ids::PairIx;
 use metis_outside::{Sink, Trouble};
 use metis_refusal::Verdict2;
@@ -22,11 +22,11 @@ pub fn write_judgement<K: Sink>(
     out: &mut K,
 ) -> Result<(), Trouble>
     requires { IsOf u.now judgement.now }
-    ensures text { Writes (judgement_line u.now judgement.now) (K.written out.old) (K.written out.new) result }
+    ensures text { Writes (judgement_line u.now judgement.now ∷ []) (K.written out.old) (K.written out.new) result }
     ensures cause { CountsFault (K.faults out.old) (K.faults out.new) result }
 {
     match judgement_line(alloc, u, judgement) {
-        Ok(line) => put_all(line.as_bytes(), out),
+        Ok(line) => put_line(line.as_bytes(), out),
         Err(_) => Err(Trouble::NoMemory),
     }
 }

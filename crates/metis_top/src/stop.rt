@@ -1,5 +1,5 @@
 //! How a run ends before its work.
-ghost use Rattle.std.specs.Prelude.{◌≡◌, ◌++◌, IfOk, string_bytes};
+ghost use Rattle.std.specs.Prelude.{◌≡◌, [], ◌∷◌, ◌++◌, IfOk, string_bytes};
 ghost use Rattle.metis_outside.specs.Faults.{CountsFault};
 ghost use Rattle.metis_outside.specs.Writes.{Writes};
 ghost use Rattle.metis_top.specs.Course.{Shown, StopSays, IsJust};
@@ -112,7 +112,7 @@ impl Refusal {
     }
 }
 
-/// The status of a run whose text was put so.
+/// The status of a run whose lines were put so.
 pub fn said(put: Result<(), Trouble>, status: Status) -> Status
     ensures { result ≡ said put status }
 {
@@ -123,20 +123,20 @@ pub fn said(put: Result<(), Trouble>, status: Status) -> Status
     }
 }
 
-/// Writes the bytes by one put.
+/// Puts the bytes as one piece.
 #[tactic(auto, using(metis_outside::proofs::Writing::writes_by_put))]
-pub fn put_all<K: Sink>(bytes: &[u8], out: &mut K) -> Result<(), Trouble>
-    ensures text { Writes bytes.now (K.written out.old) (K.written out.new) result }
+pub fn put_line<K: Sink>(line: &[u8], out: &mut K) -> Result<(), Trouble>
+    ensures text { Writes (line.now ∷ []) (K.written out.old) (K.written out.new) result }
     ensures cause { CountsFault (K.faults out.old) (K.faults out.new) result }
 {
-    out.put(bytes)
+    out.put(line)
 }
 
-/// Puts a text by one put, and ends with its status.
-fn say<K: Sink>(text: &str, status: Status, out: &mut K) -> Status
-    ensures { Shown (IsJust text.now status) (K.written out.old) (K.written out.new) (K.faults out.old) (K.faults out.new) result }
+/// Puts a line by one put, and ends with its status.
+fn say<K: Sink>(line: &str, status: Status, out: &mut K) -> Status
+    ensures { Shown (IsJust line.now status) (K.written out.old) (K.written out.new) (K.faults out.old) (K.faults out.new) result }
 {
-    said(out.put(text.as_bytes()), status)
+    said(out.put(line.as_bytes()), status)
 }
 
 /// Puts the line of a run that ends before its work.

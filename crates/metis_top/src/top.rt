@@ -6,6 +6,7 @@ ghost use Rattle.metis_top.specs.Course.{Ran};
 ghost use Rattle.metis_top.specs.Honest.{Tells, Headline};
 ghost use Rattle.metis_top.specs.Numbered.{TellsReadFault};
 ghost use Rattle.metis_top.specs.Openings.{OpensFiles};
+ghost use Rattle.metis_top.specs.PutLines.{PutsLines};
 ghost use Rattle.metis_top.specs.Statuses.{IsVerdict};
 ghost use Rattle.metis_top.specs.Words.{form_of, word_stop};
 ghost use Rattle.metis_universe.specs.Texts.{texts};
@@ -29,6 +30,9 @@ pub fn run<H: Shelf, K: Sink>(alloc: Global, words: &[String], shelf: &mut H, ou
 
     // It opens a file at least and at most those of its words, each once, and none where its words are no command.
     ensures opens { OpensFiles (form_of (texts words.now)) result (H.opens shelf.old) (H.opens shelf.new) }
+
+    // It puts lines, one a put.
+    ensures lines { PutsLines (K.written out.old) (K.written out.new) result }
 
     // A fault is told only where there was one, and an answer only where there was none.
     ensures read_fault { result ≡ Status.ReadFault

@@ -1,6 +1,7 @@
 //! Writes the line of a verdict.
-ghost use Rattle.std.specs.Prelude.{◌≡◌, ◌<◌, ◌++◌, Some, IfOk, codes, string_bytes};
+ghost use Rattle.std.specs.Prelude.{◌≡◌, ◌<◌, [], ◌∷◌, ◌++◌, Some, option_map, IfOk, codes, string_bytes};
 ghost use Rattle.metis_outside.specs.Faults.{CountsFault};
+ghost use Rattle.metis_outside.specs.Pieces.{bytes_of};
 ghost use Rattle.metis_outside.specs.Writes.{Writes};
 ghost use Rattle.metis_actions.specs.Faults.{IsFaultOf, fault_text};
 ghost use Rattle.metis_replay.specs.Progress.{IsVerdictOf};
@@ -8,7 +9,7 @@ ghost use Rattle.metis_text.specs.PlanText.{pair_word};
 ghost use Rattle.metis_universe.specs.Universe.{pair_count};
 ghost use Rattle.metis_top.specs.Replayed.{bad_line, good_line, missing_line, verdict_line};
 
-use crate::stop::put_all;
+use crate::stop::put_line;
 use metis_actions::{AFault, write_fault};
 use metis_ids::PairIx;
 use metis_outside::{CalmSink, Sink, Trouble};
@@ -26,7 +27,7 @@ pub fn write_verdict<K: Sink>(
     out: &mut K,
 ) -> Result<(), Trouble>
     requires { IsVerdictOf u.now verdict.now }
-    ensures text { Writes (verdict_line u.now standing actions verdict.now) (K.written out.old) (K.written out.new) result }
+    ensures text { Writes (verdict_line u.now standing actions verdict.now ∷ []) (K.written out.old) (K.written out.new) result }
     ensures cause { CountsFault (K.faults out.old) (K.faults out.new) result }
 {
     match *verdict {
@@ -43,11 +44,11 @@ fn write_good<K: Sink>(
     actions: usize,
     out: &mut K,
 ) -> Result<(), Trouble>
-    ensures text { Writes (good_line standing actions) (K.written out.old) (K.written out.new) result }
+    ensures text { Writes (good_line standing actions ∷ []) (K.written out.old) (K.written out.new) result }
     ensures cause { CountsFault (K.faults out.old) (K.faults out.new) result }
 {
     let line = good_line(alloc, standing, actions)?;
-    put_all(line.as_bytes(), out)
+    put_line(line.as_bytes(), out)
 }
 
 fn good_line(alloc: Global, standing: u64, actions: usize) -> Result<String, AllocError>
@@ -66,12 +67,12 @@ fn write_missing<K: Sink>(
     out: &mut K,
 ) -> Result<(), Trouble>
     requires { pair < pair_count u.now }
-    ensures text { Writes (missing_line (pair_word u.now pair) have want) (K.written out.old) (K.written out.new) result }
+    ensures text { Writes (missing_line (pair_word u.now pair) have want ∷ []) (K.written out.old) (K.written out.new) result }
     ensures cause { CountsFault (K.faults out.old) (K.faults out.new) result }
 {
     let (kind, state) = (u.type_name(u.type_of(pair)), u.state_name(pair));
     let line = missing_line(alloc, kind, state, have, want)?;
-    put_all(line.as_bytes(), out)
+    put_line(line.as_bytes(), out)
 }
 
 fn missing_line(
@@ -95,11 +96,11 @@ fn write_bad<K: Sink>(
     out: &mut K,
 ) -> Result<(), Trouble>
     requires { IsFaultOf u.now fault.now }
-    ensures text { Writes (bad_line number (fault_text u.now fault.now)) (K.written out.old) (K.written out.new) result }
+    ensures text { Writes (bad_line number (fault_text u.now fault.now) ∷ []) (K.written out.old) (K.written out.new) result }
     ensures cause { CountsFault (K.faults out.old) (K.faults out.new) result }
 {
     match bad_line(alloc, u, number, fault) {
-        Ok(line) => put_all(line.bytes(), out),
+        Ok(line) => put_line(line.bytes(), out),
         Err(_) => Err(Trouble::NoMemory),
     }
 }
@@ -107,7 +108,7 @@ fn write_bad<K: Sink>(
 // The line, put together in memory.
 fn bad_line(alloc: Global, u: &Universe, number: u32, fault: &AFault) -> Result<CalmSink, Trouble>
     requires { IsFaultOf u.now fault.now }
-    ensures { IfOk result (λ line. ⟦<CalmSink as Sink>⟧.written line ≡ Some (bad_line number (fault_text u.now fault.now))) }
+    ensures { IfOk result (λ line. option_map bytes_of (⟦<CalmSink as Sink>⟧.written line) ≡ Some (bad_line number (fault_text u.now fault.now))) }
 {
     let mut line = CalmSink::new(alloc);
     let start = format!(in alloc; "bad {number} ")?;

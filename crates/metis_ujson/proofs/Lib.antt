@@ -3,7 +3,9 @@ pub mod Examples
 pub mod Fronts
 pub mod Grouped
 pub mod Law
+pub mod NamedFaults
 pub mod Numbers
+pub mod OneLine
 pub mod Plain
 pub mod Rebuilt
 pub mod Spelled

@@ -1,5 +1,5 @@
 //! Writes the document of a universe.
-ghost use Rattle.std.specs.Prelude.{◌≡◌, IfOk, string_bytes};
+ghost use Rattle.std.specs.Prelude.{◌≡◌, [], ◌∷◌, IfOk, string_bytes};
 ghost use Rattle.metis_outside.specs.Faults.{CountsFault};
 ghost use Rattle.metis_outside.specs.Writes.{Writes};
 ghost use Rattle.metis_ujson.specs.Canonical.{canonical};
@@ -9,10 +9,10 @@ use metis_outside::{Sink, Trouble};
 use metis_universe::Universe;
 use std::alloc::{AllocError, Global};
 
-/// Puts the document of the universe, by one put.
+/// Puts the document of the universe, which is one line, by one put.
 #[tactic(auto, using(metis_outside::proofs::Writing::writes_by_put, metis_outside::proofs::Writing::front_of_nothing))]
 pub fn write_universe<K: Sink>(alloc: Global, u: &Universe, out: &mut K) -> Result<(), Trouble>
-    ensures text { Writes (canonical u.now) (K.written out.old) (K.written out.new) result }
+    ensures text { Writes (canonical u.now ∷ []) (K.written out.old) (K.written out.new) result }
     ensures cause { CountsFault (K.faults out.old) (K.faults out.new) result }
 {
     let text = text_of(alloc, u)?;

@@ -1,6 +1,6 @@
 use Rattle.std.proofs.Common.{◌+◌, ◌∙◌, [], subst, arith}
 use Rattle.std.proofs.lemmas.Result.{err_from_is_err_and}
-use Rattle.std.specs.Io.KnownBytes.{Appends}
+use Rattle.metis_outside.specs.Writes.{Appends}
 use Rattle.std.specs.List.{zip}
 use Rattle.metis_text.proofs.Numbered.{appends_next, front_of_numbered}
 use Rattle.metis_text.proofs.WaitRows.{all_rows, is_listed, row_at, row_within}

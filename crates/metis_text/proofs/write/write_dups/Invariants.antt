@@ -1,5 +1,5 @@
 use Rattle.std.proofs.Common.{◌≡◌, take}
-use Rattle.std.specs.Io.KnownBytes.{Appends}
+use Rattle.metis_outside.specs.Writes.{Appends}
 use Rattle.metis_text.specs.Line.{numbered}
 use Rattle.metis_text.specs.PlanText.{dup_line}
 use Rattle.metis_text.proofs.write.write_dups.Given as goal

@@ -1,6 +1,7 @@
 use Rattle.metis_top.proofs.OverFiles.{ran_tells, ran_headline}
 use Rattle.metis_top.proofs.Openings.{ran_opens}
 use Rattle.metis_top.proofs.ReadFaults.{ran_read_fault}
+use Rattle.metis_top.proofs.SaidLines.{ran_lines}
 use Rattle.metis_top.specs.Words.{form_of}
 use Rattle.metis_universe.specs.Texts.{texts}
 use Rattle.metis_top.proofs.top.run.Goals as goal
@@ -16,3 +17,6 @@ returns-clause-read_fault g c = ran_read_fault _ _ _ _ _ (form_of (texts c.args.
 
 pub returns-clause-opens : goal.returns-clause-opens
 returns-clause-opens g c = ran_opens _ _ _ _ _ (form_of (texts c.args.words.now)) _ _ _ _ _ c.follow.ensures
+
+pub returns-clause-lines : goal.returns-clause-lines
+returns-clause-lines g c = ran_lines _ _ _ _ _ (form_of (texts c.args.words.now)) _ _ _ _ _ c.follow.ensures

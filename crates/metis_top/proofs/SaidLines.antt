@@ -1,0 +1,286 @@
+-- What a run says are lines.
+--     SaysLines script      what is said where the script ends so is lines, whatever its files have
+use Rattle.std.proofs.Common.{◌≡◌, ◌≢◌, ℕ, ◌+◌, Bool, true, false, List, [], ◌∷◌, ◌++◌, length, Option, Some, None, Result, Ok, Err, refl, sym, ap, subst, inl, inr, nat_le, if◌then◌else◌, decimal, arith}
+use Rattle.std.specs.Prelude.{codes}
+use Rattle.std.specs.List.{All, list_all}
+use Rattle.std.proofs.lemmas.Bool.{and_from}
+use Rattle.metis_actions.specs.Faults.{fault_text, fault_tokens, pair_name}
+use Rattle.metis_actions.specs.declared.faults.AFault.{AFault}
+use Rattle.metis_actions.specs.declared.faults.AFault.TheVariants as afault
+use Rattle.metis_outside.proofs.Feeds.{IsLine-append, IsLine-from, no_feed, no_feed-append, no_feed-decimal, no_feed-join_with_byte, one_line}
+use Rattle.metis_outside.proofs.Writing.{front_of_all, front_of_kept}
+use Rattle.metis_outside.specs.Pieces.{IsLine}
+use Rattle.metis_refusal.specs.declared.verdict.Verdict2.{Verdict2}
+use Rattle.metis_refusal.specs.declared.verdict.Verdict2.TheVariants.{Closed, NotFree, Open, LacksNone}
+use Rattle.metis_replay.specs.declared.verdict.Verdict.{Verdict}
+use Rattle.metis_replay.specs.declared.verdict.Verdict.TheVariants.{Good, Bad, Missing}
+use Rattle.metis_text.proofs.LineFeeds.{no_feed-pair_word, no_feed-port_name_of, no_feed-state_name_of, no_feed-type_name_of, plan_lines_are_lines, refusal_lines_are_lines}
+use Rattle.metis_text.proofs.NamedFaults.{plan_in_named, refusal_in_named}
+use Rattle.metis_text.specs.PlanText.{pair_word}
+use Rattle.metis_text.specs.Reading.{Parts, plan_in}
+use Rattle.metis_text.specs.RefusalReading.{RefusalParts, refusal_in}
+use Rattle.metis_text.specs.declared.fault.TFault.{TFault}
+use Rattle.metis_text.specs.declared.fault.TFault.TheVariants as tfault
+use Rattle.metis_ujson.proofs.NamedFaults.{universe_in_named, universe_in_table}
+use Rattle.metis_ujson.proofs.OneLine.{IsLine-canonical}
+use Rattle.metis_ujson.specs.Document.{document_limit, universe_in}
+use Rattle.metis_ujson.specs.declared.faults.UFault.{UFault}
+use Rattle.metis_ujson.specs.declared.faults.UFault.TheVariants as ufault
+use Rattle.metis_universe.specs.Universe.{IsNamed, IsTable, Universe, pair_named, state_name_of, type_name_of, type_of}
+use Rattle.metis_universe.specs.declared.faults.LimitKind.{LimitKind}
+use Rattle.metis_universe.specs.declared.faults.LimitKind.TheVariants.{Pairs, Ports, Requires, States}
+use Rattle.metis_top.specs.Answer as answer
+use Rattle.metis_top.specs.Answer.{Answer, IsAnswer}
+use Rattle.metis_top.specs.Commands.{command_script, judged, or_plan_refused, or_refusal_refused, or_universe_refused, or_word, pair_then, pairs_after, pairs_named, plan_limit, plan_then, refusal_limit, refusal_then, refute_then, replay_then, script_from, targets_then, universe_then}
+use Rattle.metis_top.specs.Course.{Ran, Says, Shown, after}
+use Rattle.metis_top.specs.Judged as judged_specs
+use Rattle.metis_top.specs.Judged.{judgement_line}
+use Rattle.metis_top.specs.Lines.{limit_line, plan_fault_line, read_fault_line, refusal_fault_line, refusal_line, universe_line}
+use Rattle.metis_top.specs.PutLines.{PutsLines}
+use Rattle.metis_top.specs.Replayed.{bad_line, good_line, missing_line, verdict_line}
+use Rattle.metis_top.specs.Script.{Script, Read, Refuse, Reply}
+use Rattle.metis_top.specs.TargetName.{TargetName}
+use Rattle.metis_top.specs.Words.{Form, word_at}
+use Rattle.metis_top.specs.declared.refusal.Refusal.{Refusal}
+use Rattle.metis_top.specs.declared.refusal.Refusal.TheVariants.{Word, TooLong}
+use Rattle.metis_top.specs.declared.refusal.Refusal.TheVariants as refusal
+use Rattle.metis_top.specs.declared.status.Status.{Status}
+use Rattle.metis_top.specs.declared.words.Verb.{Verb}
+use Rattle.metis_top.specs.declared.words.Verb.TheVariants.{Plan, Replay, Refute, Print}
+use Rattle.std.specs.declared.option.Option.{Option as Known}
+
+-- ---- lines that end with a number or a word
+
+feed : IsLine (codes "\n")
+feed = IsLine-from [] refl
+
+by_number : (start : List ℕ) (n : ℕ) → no_feed start ≡ true → IsLine (start ++ (decimal n ++ codes "\n"))
+by_number start n h = IsLine-append start (decimal n ++ codes "\n") h (IsLine-append (decimal n) (codes "\n") (no_feed-decimal n) feed)
+
+number_then : (start : List ℕ) (n : ℕ) (rest : List ℕ) → no_feed start ≡ true → IsLine rest → IsLine (start ++ (decimal n ++ rest))
+number_then start n rest h is = IsLine-append start (decimal n ++ rest) h (IsLine-append (decimal n) rest (no_feed-decimal n) is)
+
+by_word : (start word : List ℕ) → no_feed start ≡ true → no_feed word ≡ true → IsLine (start ++ (word ++ codes "\n"))
+by_word start word h w = IsLine-append start (word ++ codes "\n") h (IsLine-append word (codes "\n") w feed)
+
+word_then : (start word rest : List ℕ) → no_feed start ≡ true → no_feed word ≡ true → IsLine rest → IsLine (start ++ (word ++ rest))
+word_then start word rest h w is = IsLine-append start (word ++ rest) h (IsLine-append word rest w is)
+
+-- ---- the lines of a run that ends before its work
+
+by_two : (start : List ℕ) (t : ℕ) (middle : List ℕ) (s : ℕ) → no_feed start ≡ true → no_feed middle ≡ true → IsLine (start ++ (decimal t ++ (middle ++ (decimal s ++ codes "\n"))))
+by_two start t middle s h m = number_then start t (middle ++ (decimal s ++ codes "\n")) h (by_number middle s m)
+
+by_three : (start : List ℕ) (t : ℕ) (middle : List ℕ) (s : ℕ) (last : List ℕ) (k : ℕ) → no_feed start ≡ true → no_feed middle ≡ true → no_feed last ≡ true
+    → IsLine (start ++ (decimal t ++ (middle ++ (decimal s ++ (last ++ (decimal k ++ codes "\n"))))))
+by_three start t middle s last k h m l = number_then start t (middle ++ (decimal s ++ (last ++ (decimal k ++ codes "\n")))) h (by_two middle s last k m l)
+
+IsLine-limit_line : (kind : LimitKind) (n : ℕ) → IsLine (limit_line kind n)
+IsLine-limit_line States n = by_number (codes "bad universe U12 states ") n refl
+IsLine-limit_line Requires n = by_number (codes "bad universe U12 requires ") n refl
+IsLine-limit_line Pairs n = by_number (codes "bad universe U12 pairs ") n refl
+IsLine-limit_line Ports n = by_number (codes "bad universe U12 ports ") n refl
+
+IsLine-universe_line : (fault : UFault) → fault ≢ ufault.NoMemory → IsLine (universe_line fault)
+IsLine-universe_line ufault.NotJson named = IsLine-from (codes "bad universe U1") refl
+IsLine-universe_line ufault.NotUniverse named = IsLine-from (codes "bad universe U2") refl
+IsLine-universe_line (ufault.TypeForm t) named = by_number (codes "bad universe U3 type ") t refl
+IsLine-universe_line (ufault.TypeName t) named = by_number (codes "bad universe U4 type ") t refl
+IsLine-universe_line (ufault.TypeTwice t f) named = by_two (codes "bad universe U5 type ") t (codes " first ") f refl refl
+IsLine-universe_line (ufault.StateForm t s) named = by_two (codes "bad universe U6 type ") t (codes " state ") s refl refl
+IsLine-universe_line (ufault.StateName t s) named = by_two (codes "bad universe U7 type ") t (codes " state ") s refl refl
+IsLine-universe_line (ufault.StateTwice t s f) named = by_three (codes "bad universe U8 type ") t (codes " state ") s (codes " first ") f refl refl refl
+IsLine-universe_line (ufault.NoInitial t) named = by_number (codes "bad universe U9 type ") t refl
+IsLine-universe_line (ufault.UnknownNext t s k) named = by_three (codes "bad universe U10 type ") t (codes " state ") s (codes " entry ") k refl refl refl
+IsLine-universe_line (ufault.PortName t s k) named = by_three (codes "bad universe U11 type ") t (codes " state ") s (codes " entry ") k refl refl refl
+IsLine-universe_line (ufault.Limit kind n) named = IsLine-limit_line kind n
+IsLine-universe_line ufault.NoMemory named = absurd (named refl)
+
+IsLine-plan_fault_line : (fault : TFault) → fault ≢ tfault.NoMemory → IsLine (plan_fault_line fault)
+IsLine-plan_fault_line (tfault.Line n) named = by_number (codes "bad plan line ") n refl
+IsLine-plan_fault_line tfault.Short named = IsLine-from (codes "bad plan short") refl
+IsLine-plan_fault_line (tfault.Name n) named = by_number (codes "bad plan name ") n refl
+IsLine-plan_fault_line (tfault.Number n) named = by_number (codes "bad plan number ") n refl
+IsLine-plan_fault_line tfault.NoMemory named = absurd (named refl)
+
+IsLine-refusal_fault_line : (fault : TFault) → fault ≢ tfault.NoMemory → IsLine (refusal_fault_line fault)
+IsLine-refusal_fault_line (tfault.Line n) named = by_number (codes "bad refusal line ") n refl
+IsLine-refusal_fault_line tfault.Short named = IsLine-from (codes "bad refusal short") refl
+IsLine-refusal_fault_line (tfault.Name n) named = by_number (codes "bad refusal name ") n refl
+IsLine-refusal_fault_line (tfault.Number n) named = by_number (codes "bad refusal number ") n refl
+IsLine-refusal_fault_line tfault.NoMemory named = absurd (named refl)
+
+IsLine-word : (place : ℕ) → IsLine (refusal_line (Word place))
+IsLine-word place = by_number (codes "bad word ") place refl
+
+IsLine-too_long : (place : ℕ) → IsLine (refusal_line (TooLong place))
+IsLine-too_long place = by_number (codes "too long ") place refl
+
+IsLine-read_fault_line : (place : ℕ) → IsLine (read_fault_line place)
+IsLine-read_fault_line place = by_number (codes "read fault ") place refl
+
+-- ---- the lines of answers
+
+module _ (u : Universe) (named : IsNamed u) where
+  no_feed-pair_name : (p : ℕ) → no_feed (pair_name u p) ≡ true
+  no_feed-pair_name p = no_feed-append (type_name_of u (type_of u p)) (58 ∷ state_name_of u p) (no_feed-type_name_of u named (type_of u p)) (no_feed-state_name_of u named p)
+
+  no_feed-fault_tokens : (f : AFault) → list_all no_feed (fault_tokens u f) ≡ true
+  no_feed-fault_tokens (afault.InUse z) = and_from _ _ (no_feed-decimal z) refl
+  no_feed-fault_tokens (afault.NoInstance z) = and_from _ _ (no_feed-decimal z) refl
+  no_feed-fault_tokens (afault.NoState z p) = and_from _ _ (no_feed-decimal z) (and_from _ _ (no_feed-pair_name p) refl)
+  no_feed-fault_tokens afault.NoTransition = refl
+  no_feed-fault_tokens afault.SameInstance = refl
+  no_feed-fault_tokens afault.NoSuchPort = refl
+  no_feed-fault_tokens afault.Bound = refl
+  no_feed-fault_tokens afault.NotBound = refl
+  no_feed-fault_tokens (afault.Unmet z r) = and_from _ _ (no_feed-decimal z) (and_from _ _ (no_feed-port_name_of u named r) refl)
+  no_feed-fault_tokens afault.NoMemory = refl
+
+  IsLine-verdict_line : (standing actions : ℕ) (v : Verdict) → IsLine (verdict_line u standing actions v)
+  IsLine-verdict_line standing actions Good = by_two (codes "good standing ") standing (codes " actions ") actions refl refl
+  IsLine-verdict_line standing actions (Bad k f) =
+      number_then (codes "bad ") k (codes " " ++ (fault_text u f ++ codes "\n")) refl
+      (by_word (codes " ") (fault_text u f) refl (no_feed-join_with_byte 32 (fault_tokens u f) refl (no_feed-fault_tokens f)))
+  IsLine-verdict_line standing actions (Missing p have want) =
+      word_then (codes "missing ") (pair_word u p) (codes " have " ++ (decimal have ++ (codes " want " ++ (decimal want ++ codes "\n")))) refl (no_feed-pair_word u named p)
+      (by_two (codes " have ") have (codes " want ") want refl refl)
+
+  IsLine-pair_line : (start : List ℕ) (p : ℕ) → no_feed start ≡ true → IsLine (judged_specs.pair_line start (pair_word u p))
+  IsLine-pair_line start p h = IsLine-append start (codes " " ++ (pair_word u p ++ codes "\n")) h (by_word (codes " ") (pair_word u p) refl (no_feed-pair_word u named p))
+
+  IsLine-judgement_line : (v : Verdict2) → IsLine (judgement_line u v)
+  IsLine-judgement_line (Closed p) = IsLine-pair_line (codes "closed lacks") p refl
+  IsLine-judgement_line (NotFree p) = IsLine-pair_line (codes "notfree") p refl
+  IsLine-judgement_line (Open p q) =
+      word_then (codes "open ") (pair_word u p) (codes " " ++ (pair_word u q ++ codes "\n")) refl (no_feed-pair_word u named p) (by_word (codes " ") (pair_word u q) refl (no_feed-pair_word u named q))
+  IsLine-judgement_line LacksNone = IsLine-from (codes "lacksnone") refl
+
+just_one : (line : List ℕ) (lines : List (List ℕ)) → IsLine line → lines ≡ line ∷ [] → All IsLine lines
+just_one line lines is same = subst (All IsLine) (sym same) (one_line line is)
+
+abbrev AnswersLines : Answer → Type 0
+AnswersLines said = (lines : List (List ℕ)) (status : Status) → IsAnswer said lines status → All IsLine lines
+
+module _ (u : Universe) (table : IsTable u) where
+  plan_answers : (g : List ℕ) → AnswersLines (answer.Plan u g)
+  plan_answers g lines status (inl (is, plans)) = subst (All IsLine) (sym plans.told) (plan_lines_are_lines u plans.plan _ table)
+  plan_answers g lines status (inr (is, refuses)) = subst (All IsLine) (sym refuses.told) (refusal_lines_are_lines u refuses.set refuses.lacking table)
+
+  replay_answers : (g : List ℕ) (parts : Parts) → AnswersLines (answer.Replay u g parts.rows.actions)
+  replay_answers g parts lines status is = just_one _ lines (IsLine-verdict_line u table.named _ _ is.verdict) is.told
+
+  refute_answers : (g set : List ℕ) → AnswersLines (answer.Refute u g set)
+  refute_answers g set lines status is = just_one _ lines (IsLine-judgement_line u table.named is.verdict) is.told
+
+print_answers : (u : Universe) → AnswersLines (answer.Print u)
+print_answers u lines status is = just_one _ lines (IsLine-canonical u) is.0
+
+-- ---- scripts
+
+abbrev SaysLines : Script → Type 0
+SaysLines (Read place name limit next) = (bytes : List ℕ) → SaysLines (next bytes)
+SaysLines (Refuse refusal) = IsLine (refusal_line refusal)
+SaysLines (Reply said) = AnswersLines said
+
+SaysLines-after : (taken : List (List ℕ)) (script : Script) → SaysLines script → SaysLines (after taken script)
+SaysLines-after [] script says = says
+SaysLines-after (bytes ∷ taken) (Read place name limit next) says = SaysLines-after taken (next bytes) (says bytes)
+SaysLines-after (bytes ∷ taken) (Refuse refusal) says = says
+SaysLines-after (bytes ∷ taken) (Reply said) says = says
+
+said_lines : (script : Script) (lines : List (List ℕ)) (status : Status) → SaysLines script → Says script lines status → All IsLine lines
+said_lines (Read place name limit next) lines status says is = just_one (read_fault_line place) lines (IsLine-read_fault_line place) is.0
+said_lines (Refuse refusal) lines status says is = just_one (refusal_line refusal) lines says is.0
+said_lines (Reply said) lines status says is = says lines status is
+
+-- the parts of scripts
+lines_if : (test : Bool) (script : Script) (place : ℕ) → SaysLines script → SaysLines (if test then script else Refuse (TooLong place))
+lines_if true script place says = says
+lines_if false script place says = IsLine-too_long place
+
+abbrev RefusesByLine : {X : Type 0} → Result X Refusal → Type 0
+RefusesByLine (Ok x) = Unit {0}
+RefusesByLine (Err refusal) = IsLine (refusal_line refusal)
+
+lines_judged : {X : Type 0} (next : X → Script) (r : Result X Refusal) → ((x : X) → SaysLines (next x)) → RefusesByLine r → SaysLines (judged next r)
+lines_judged next (Ok x) says refuses = says x
+lines_judged next (Err refusal) says refuses = refuses
+
+lines_meant : (next : Universe → Script) (r : Result Universe UFault) → ((u : Universe) → r ≡ Ok u → SaysLines (next u)) → (r ≡ Err ufault.NoMemory → ⊥) → SaysLines (judged next (or_universe_refused r))
+lines_meant next (Ok u) says named = says u refl
+lines_meant next (Err fault) says named = IsLine-universe_line fault (λ e. named (ap Err e))
+
+lines_universe : (place : ℕ) (name : List ℕ) (next : Universe → Script) → ((u : Universe) → IsTable u → SaysLines (next u)) → SaysLines (universe_then place name next)
+lines_universe place name next says = λ bytes.
+    lines_if (nat_le (length bytes) document_limit) (judged next (or_universe_refused (universe_in bytes))) place
+    (lines_meant next (universe_in bytes) (λ u is. says u (universe_in_table bytes u is)) (universe_in_named bytes))
+
+word_refuses : (place : ℕ) (o : Option ℕ) → RefusesByLine (or_word place o)
+word_refuses place None = IsLine-word place
+word_refuses place (Some p) = tt
+
+pair_refuses : (r : Result ℕ Refusal) (next : ℕ → Result (List ℕ) Refusal) → RefusesByLine r → ((p : ℕ) → RefusesByLine (next p)) → RefusesByLine (pair_then r next)
+pair_refuses (Ok p) next refuses later = later p
+pair_refuses (Err refusal) next refuses later = refuses
+
+pairs_refuse : (found : List ℕ) (place : ℕ) (u : Universe) (targets : List TargetName) → RefusesByLine (pairs_after found place u targets)
+pairs_refuse found place u [] = tt
+pairs_refuse found place u (target ∷ targets) =
+    let o = pair_named u target.kind target.state in
+    pair_refuses (or_word place o) (λ p. pairs_after (found ++ p ∷ []) (place + 1) u targets) (word_refuses place o) (λ p. pairs_refuse (found ++ p ∷ []) (place + 1) u targets)
+
+lines_targets : (place : ℕ) (u : Universe) (targets : List TargetName) (next : List ℕ → Script) → ((g : List ℕ) → SaysLines (next g)) → SaysLines (targets_then place u targets next)
+lines_targets place u targets next says = lines_judged next (pairs_named place u targets) says (pairs_refuse [] place u targets)
+
+plan_refuses : (r : Result Parts TFault) → (r ≡ Err tfault.NoMemory → ⊥) → RefusesByLine (or_plan_refused r)
+plan_refuses (Ok parts) named = tt
+plan_refuses (Err fault) named = IsLine-plan_fault_line fault (λ e. named (ap Err e))
+
+refusal_refuses : (r : Result RefusalParts TFault) → (r ≡ Err tfault.NoMemory → ⊥) → RefusesByLine (or_refusal_refused r)
+refusal_refuses (Ok parts) named = tt
+refusal_refuses (Err fault) named = IsLine-refusal_fault_line fault (λ e. named (ap Err e))
+
+lines_replay : (u : Universe) → IsTable u → (g plan : List ℕ) → SaysLines (replay_then plan (u, g))
+lines_replay u table g plan = λ bytes.
+    let next : Parts → Script = λ parts. Reply (answer.Replay u g parts.rows.actions) in
+    lines_if (nat_le (length bytes) plan_limit) (judged next (or_plan_refused (plan_in u bytes))) 3
+    (lines_judged next (or_plan_refused (plan_in u bytes)) (replay_answers u table g) (plan_refuses (plan_in u bytes) (plan_in_named u bytes)))
+
+lines_refute : (u : Universe) → IsTable u → (g text : List ℕ) → SaysLines (refute_then text (u, g))
+lines_refute u table g text = λ bytes.
+    let next : RefusalParts → Script = λ parts. Reply (answer.Refute u g parts.pairs) in
+    lines_if (nat_le (length bytes) refusal_limit) (judged next (or_refusal_refused (refusal_in u bytes))) 3
+    (lines_judged next (or_refusal_refused (refusal_in u bytes)) (λ parts. refute_answers u table g parts.pairs) (refusal_refuses (refusal_in u bytes) (refusal_in_named u bytes)))
+
+-- the script of each command
+lines_command : (verb : Verb) (files : List (List ℕ)) (targets : List TargetName) → SaysLines (command_script verb files targets)
+lines_command Plan files targets = lines_universe 2 (word_at files 0) _ (λ u table. lines_targets 3 u targets (λ g. Reply (answer.Plan u g)) (plan_answers u table))
+lines_command Replay files targets = lines_universe 2 (word_at files 0) _ (λ u table. lines_targets 4 u targets (λ g. replay_then (word_at files 1) (u, g)) (λ g. lines_replay u table g (word_at files 1)))
+lines_command Refute files targets = lines_universe 2 (word_at files 0) _ (λ u table. lines_targets 4 u targets (λ g. refute_then (word_at files 1) (u, g)) (λ g. lines_refute u table g (word_at files 1)))
+lines_command Print files targets = lines_universe 2 (word_at files 0) _ (λ u table. print_answers u)
+
+lines_script : (form : Result Form ℕ) → SaysLines (script_from form)
+lines_script (Ok form) = lines_command form.verb form.files form.targets
+lines_script (Err place) = IsLine-word place
+
+-- ---- runs
+
+no_lines : All IsLine []
+no_lines = λ k d within. absurd (omega arith)
+
+puts_lines : (script : Script) (old new : Known (List (List ℕ))) (before now : ℕ) (status : Status) → SaysLines script → Shown (Says script) old new before now status → PutsLines old new status
+puts_lines script old new before now status says (inl whole) =
+    record { lines = whole.lines; are = said_lines script whole.lines status says whole.says; put = front_of_all old new whole.lines whole.put; whole = λ _ _. whole.put }
+puts_lines script old new before now status says (inr (inl (is, front, rose))) =
+    record { lines = front.lines; are = said_lines script front.lines front.status says front.says; put = front.put; whole = λ calm _. absurd (calm is) }
+puts_lines script old new before now status says (inr (inr (is, still, inl kept))) =
+    record { lines = []; are = no_lines; put = front_of_kept old new [] kept; whole = λ _ memory. absurd (memory is) }
+puts_lines script old new before now status says (inr (inr (is, still, inr front))) =
+    record { lines = front.lines; are = said_lines script front.lines front.status says front.says; put = front.put; whole = λ _ memory. absurd (memory is) }
+
+pub ran_lines : {S K : Type 0} (files : S → Known (List ℕ → List ℕ)) (faults opens : S → ℕ) (written : K → Known (List (List ℕ))) (sink_faults : K → ℕ)
+    (form : Result Form ℕ) (shelf shelf' : S) (sink sink' : K) (status : Status) → Ran files faults opens written sink_faults (script_from form) shelf shelf' sink sink' status
+    → PutsLines (written sink) (written sink') status
+ran_lines files faults opens written sink_faults form shelf shelf' sink sink' status r =
+    puts_lines (after r.taken (script_from form)) _ _ _ _ status (SaysLines-after r.taken (script_from form) (lines_script form)) r.puts
