@@ -7,7 +7,7 @@ use Rattle.std.specs.Prelude.{ℕ, ◌+◌, ◌≤◌, List, length, Bool, true,
 use Rattle.std.specs.Bool.{Decides}
 use Rattle.metis_ids.specs.PairSet.{PairSet}
 use Rattle.metis_ids.specs.declared.no_memory.NoMemory.{NoMemory}
-use Rattle.metis_ids.specs.declared.plans.Plan.{Plan}
+use Rattle.metis_ids.specs.Plans.{Plan}
 use Rattle.metis_universe.specs.Goal.{IsAttainedSet}
 use Rattle.metis_universe.specs.Universe.{Universe}
 use Rattle.metis_planner.specs.declared.outcome.Outcome.{Outcome}

@@ -33,21 +33,21 @@ pub fn plan(alloc: Global, u: &Universe, targets: &[PairIx]) -> Result<Outcome, 
 
     // Its actions are a run from the empty configuration that holds the targets, and no provider leaves its pair while
     // a binding to it stands.
-    ensures run { IfPlan result (λ plan. IsRun u.now empty plan.actions.items) }
-    ensures holds { IfPlan result (λ plan. Holds (after_all u.now empty plan.actions.items) targets.now) }
-    ensures steadfast { IfPlan result (λ plan. IsTrue (is_steadfast u.now plan.actions.items)) }
-    ensures numbers { IfPlan result (λ plan. All (IsOf u.now) plan.actions.items) }
+    ensures run { IfPlan result (λ plan. IsRun u.now empty plan.actions) }
+    ensures holds { IfPlan result (λ plan. Holds (after_all u.now empty plan.actions) targets.now) }
+    ensures steadfast { IfPlan result (λ plan. IsTrue (is_steadfast u.now plan.actions)) }
+    ensures numbers { IfPlan result (λ plan. All (IsOf u.now) plan.actions) }
 
     // It counts its instances, which are few, also since a universe has at most 2,000 pairs, and so are the actions of
     // each.
-    ensures instances { IfPlan result (λ plan. plan.instances ≡ instances_of plan.actions.items) }
+    ensures instances { IfPlan result (λ plan. plan.instances ≡ instances_of plan.actions) }
     ensures lean { IfPlan result (λ plan. IsLean u.now plan.instances targets.now) }
     ensures bounded { IfPlan result (λ plan. plan.instances ≤ 2256) }
-    ensures short { IfPlan result (λ plan. length plan.actions.items ≤ 321 * plan.instances) }
+    ensures short { IfPlan result (λ plan. length plan.actions ≤ 321 * plan.instances) }
 
     // The actions are those in the order of the layers, and nothing is doubled.
-    ensures actions { IfPlan result (λ plan. plan.actions.items ≡ layer_order u.now targets.now) }
-    ensures dups { IfPlan result (λ plan. plan.dups.items ≡ []) }
+    ensures actions { IfPlan result (λ plan. plan.actions ≡ layer_order u.now targets.now) }
+    ensures dups { IfPlan result (λ plan. plan.dups ≡ []) }
 
     // What comes in place of a plan refuses the targets.
     ensures size { IfClosed result (λ set _. set.size ≡ pair_count u.now) }
@@ -83,9 +83,9 @@ fn plan_by(
     requires table { IsTable u.now }
     requires few { length targets.now ≤ 256 }
     requires within { All (λ p. p < pair_count u.now) targets.now }
-    ensures actions { IfOk result (λ plan. plan.actions.items ≡ layer_order u.now targets.now) }
+    ensures actions { IfOk result (λ plan. plan.actions ≡ layer_order u.now targets.now) }
     ensures instances { IfOk result (λ plan. plan.instances ≡ length (line_ends u.now targets.now)) }
-    ensures dups { IfOk result (λ plan. plan.dups.items ≡ []) }
+    ensures dups { IfOk result (λ plan. plan.dups ≡ []) }
 {
     let mut ends = standing_pairs(alloc, u, layers)?;
     let sources = Sources::new(alloc, u, layers, &ends)?;

@@ -4,7 +4,7 @@
 use Rattle.std.proofs.Common.{◌≡◌, ℕ, zero, suc, ◌+◌, List, [], ◌∷◌, ◌++◌, length, map, Ok, refl, sym, ap, ◌∙◌, append_assoc, append-nil, subst}
 use Rattle.std.specs.Prelude.{⊤}
 use Rattle.std.proofs.lemmas.List.{length_push}
-use Rattle.metis_ids.specs.declared.plans.Dup.{Dup}
+use Rattle.metis_ids.specs.Plans.{Dup}
 use Rattle.metis_universe.specs.Universe.{IsNamed, IsUniverse, Universe}
 use Rattle.metis_text.specs.DupLine.{DupRow, dup_in}
 use Rattle.metis_text.specs.Line.{line}

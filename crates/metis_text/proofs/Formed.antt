@@ -9,7 +9,7 @@ use Rattle.std.proofs.lemmas.List.Sums.{count_by-le-length}
 use Rattle.std.proofs.lemmas.Option.{get_or_from_slice_get, slice_get-get_or, slice_get_within}
 use Rattle.metis_ids.specs.declared.actions.Action.{Action}
 use Rattle.metis_ids.specs.declared.actions.Action.TheVariants.{New, Delete, Bind, Unbind, Move}
-use Rattle.metis_ids.specs.declared.plans.Plan.{Plan}
+use Rattle.metis_ids.specs.Plans.{Plan}
 use Rattle.metis_universe.specs.Numbers.{IsOf}
 use Rattle.metis_universe.specs.Universe.{Universe, pair_count}
 use Rattle.metis_universe.specs.Waits.{action_at, before}
@@ -50,7 +50,7 @@ fits_from_moves u actions moves i d low =
 
 module _ (u : Universe) (p : Plan) (after : List (List ℕ)) where
   abbrev actions : List Action
-  actions = p.actions.items
+  actions = p.actions
 
   -- ---- a plan that is read is well formed
 
@@ -80,14 +80,14 @@ module _ (u : Universe) (p : Plan) (after : List (List ℕ)) where
       earlier = earlier_of;
       moves = moves_from_fits u actions (λ i d low. (row i d low).said.fits);
       actions = All-from_get_or (IsOf u) actions (Delete 0) (λ i low. (row i (Delete 0) low).said.of);
-      dups = all_dups u (λ d. d.pair < pair_count u) (λ k d is. is.pair) 1 p.dups.items are.dups;
-      cycles = all_dups u (λ d. 2 ≤ length d.cycle.items) (λ k d is. is.long) 1 p.dups.items are.dups;
+      dups = all_dups u (λ d. d.pair < pair_count u) (λ k d is. is.pair) 1 p.dups are.dups;
+      cycles = all_dups u (λ d. 2 ≤ length d.cycle) (λ k d is. is.long) 1 p.dups are.dups;
       in_range = record {
         actions = All-from_get_or IsActionInRange actions (Delete 0) (λ i low. (row i (Delete 0) low).said.in_range);
-        events = all_dups u (λ d. All IsEventInRange d.cycle.items) (λ k d is. All-from_recursion IsEventInRange d.cycle.items is.events) 1 p.dups.items are.dups;
+        events = all_dups u (λ d. All IsEventInRange d.cycle) (λ k d is. All-from_recursion IsEventInRange d.cycle is.events) 1 p.dups are.dups;
       };
       few_actions = are.counts.actions;
-      few_dups = omega (arith, are.counts.dups, length-map p.dups.items dup_row);
+      few_dups = omega (arith, are.counts.dups, length-map p.dups dup_row);
       instances = sym are.counted;
     }
 
@@ -111,11 +111,11 @@ module _ (u : Universe) (p : Plan) (after : List (List ℕ)) where
     pub parts_of_formed : AreParts u (said p after)
     parts_of_formed = record {
       rows = rows_from_places u [] actions after formed_so.lists row_from;
-      dups = dups_from_all u p.dups.items formed_so.few_dups formed_so.dups formed_so.cycles formed_so.in_range.events;
+      dups = dups_from_all u p.dups formed_so.few_dups formed_so.dups formed_so.cycles formed_so.in_range.events;
       counts = record {
         instances = omega (arith, formed_so.instances, count_by-le-length makes actions, formed_so.few_actions);
         actions = formed_so.few_actions;
-        dups = omega (arith, formed_so.few_dups, length-map p.dups.items dup_row);
+        dups = omega (arith, formed_so.few_dups, length-map p.dups dup_row);
       };
       counted = sym formed_so.instances;
     }

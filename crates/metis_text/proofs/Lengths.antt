@@ -3,7 +3,7 @@ use Rattle.std.proofs.Common.{◌≡◌, ℕ, ◌+◌, ◌<◌, ◌≤◌, List,
 use Rattle.std.specs.List.{zip}
 use Rattle.std.proofs.lemmas.List.{length-append, length_push}
 use Rattle.std.proofs.lemmas.Slice.Zip.{length-zip}
-use Rattle.metis_ids.specs.declared.plans.Plan.{Plan}
+use Rattle.metis_ids.specs.Plans.{Plan}
 use Rattle.metis_outside.specs.Pieces.{bytes_of}
 use Rattle.metis_universe.specs.Universe.{Universe}
 use Rattle.metis_text.specs.Line.{line, words}
@@ -22,20 +22,20 @@ numbered_long text some k (x ∷ xs) =
     omega (arith, here, rest, all)
 
 module _ (u : Universe) (p : Plan) (after : List (List ℕ)) where
-  parts_long : length (bytes_of (action_lines u p.actions.items after)) + length (bytes_of (dup_lines u p.dups.items)) < length (plan_bytes u p after)
+  parts_long : length (bytes_of (action_lines u p.actions after)) + length (bytes_of (dup_lines u p.dups)) < length (plan_bytes u p after)
   parts_long =
-      let actions = bytes_of (action_lines u p.actions.items after) in
-      let dups = bytes_of (dup_lines u p.dups.items) in
+      let actions = bytes_of (action_lines u p.actions after) in
+      let dups = bytes_of (dup_lines u p.dups) in
       let whole = length-append plan_header (counts_of p ++ (actions ++ (dups ++ end_line))) in
       let body = length-append (counts_of p) (actions ++ (dups ++ end_line)) in
       let rest = length-append actions (dups ++ end_line) in
       let last = length-append dups end_line in
       omega (arith, ap length (plan_bytes_by_parts u p after), whole, body, rest, last)
 
-  pub actions_below_bytes : length after ≡ length p.actions.items → length p.actions.items < length (plan_bytes u p after)
+  pub actions_below_bytes : length after ≡ length p.actions → length p.actions < length (plan_bytes u p after)
   actions_below_bytes long =
-      let lines = numbered_long (action_line u) (λ k row. line_some ((decimal k ∷ action_tokens u row.0) ++ after_tokens row.1)) 1 (zip p.actions.items after) in
-      omega (arith, parts_long, lines, length-zip p.actions.items after, long)
+      let lines = numbered_long (action_line u) (λ k row. line_some ((decimal k ∷ action_tokens u row.0) ++ after_tokens row.1)) 1 (zip p.actions after) in
+      omega (arith, parts_long, lines, length-zip p.actions after, long)
 
-  pub dups_below_bytes : length p.dups.items < length (plan_bytes u p after)
-  dups_below_bytes = let lines = numbered_long (dup_line u) (λ k d. line_some (dup_tokens u k d.pair ++ map event_token d.cycle.items)) 1 p.dups.items in omega (arith, parts_long, lines)
+  pub dups_below_bytes : length p.dups < length (plan_bytes u p after)
+  dups_below_bytes = let lines = numbered_long (dup_line u) (λ k d. line_some (dup_tokens u k d.pair ++ map event_token d.cycle)) 1 p.dups in omega (arith, parts_long, lines)

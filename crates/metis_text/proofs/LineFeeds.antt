@@ -12,8 +12,7 @@ use Rattle.metis_ids.specs.declared.actions.Action.{Action}
 use Rattle.metis_ids.specs.declared.actions.Action.TheVariants.{New, Delete, Bind, Unbind, Move}
 use Rattle.metis_ids.specs.declared.events.Event.{Event}
 use Rattle.metis_ids.specs.declared.events.Event.TheVariants.{At, End}
-use Rattle.metis_ids.specs.declared.plans.Dup.{Dup}
-use Rattle.metis_ids.specs.declared.plans.Plan.{Plan}
+use Rattle.metis_ids.specs.Plans.{Dup, Plan}
 use Rattle.metis_outside.proofs.Feeds.{IsLine-from, one_line, no_feed, no_feed-append, no_feed-decimal, no_feed-join_with_byte}
 use Rattle.metis_outside.specs.Pieces.{IsLine}
 use Rattle.metis_universe.specs.Names.{is_name, is_name_byte}
@@ -103,9 +102,9 @@ module _ (u : Universe) (named : IsNamed u) where
 
   IsLine-dup_line : (k : ℕ) (d : Dup) → IsLine (dup_line u k d)
   IsLine-dup_line k d =
-      IsLine-line (dup_tokens u k d.pair ++ map event_token d.cycle.items)
-      (list_all-append no_feed (dup_tokens u k d.pair) (map event_token d.cycle.items)
-      ∙ and_from _ _ (and_from _ _ (no_feed-decimal k) (and_from _ _ (no_feed-pair_word u named d.pair) refl)) (event_tokens d.cycle.items))
+      IsLine-line (dup_tokens u k d.pair ++ map event_token d.cycle)
+      (list_all-append no_feed (dup_tokens u k d.pair) (map event_token d.cycle)
+      ∙ and_from _ _ (and_from _ _ (no_feed-decimal k) (and_from _ _ (no_feed-pair_word u named d.pair) refl)) (event_tokens d.cycle))
 
   IsLine-lacks_line : (p : ℕ) → IsLine (lacks_line u p)
   IsLine-lacks_line p = IsLine-line (codes "lacks" ∷ pair_word u p ∷ []) (and_from _ _ (no_feed-pair_word u named p) refl)
@@ -120,12 +119,12 @@ module _ (u : Universe) (named : IsNamed u) where
 
   plan_lines_of_numbers : (p : Plan) (after : List (List ℕ)) → All IsLine (plan_lines u p after)
   plan_lines_of_numbers p after =
-      let actions = numbered_lines (action_line u) IsLine-action_line 1 (zip p.actions.items after) in
-      let dups = numbered_lines (dup_line u) IsLine-dup_line 1 p.dups.items in
-      let end = All-append IsLine (dup_lines u p.dups.items) (end_line ∷ []) dups (one_line end_line end_is_line) in
-      let rest = All-append IsLine (action_lines u p.actions.items after) (dup_lines u p.dups.items ++ end_line ∷ []) actions end in
+      let actions = numbered_lines (action_line u) IsLine-action_line 1 (zip p.actions after) in
+      let dups = numbered_lines (dup_line u) IsLine-dup_line 1 p.dups in
+      let end = All-append IsLine (dup_lines u p.dups) (end_line ∷ []) dups (one_line end_line end_is_line) in
+      let rest = All-append IsLine (action_lines u p.actions after) (dup_lines u p.dups ++ end_line ∷ []) actions end in
       All-cons IsLine plan_header (plan_body u p after) (IsLine-line (codes "metis" ∷ codes "plan" ∷ codes "1" ∷ []) refl)
-      (All-cons IsLine (counts_line p.instances (length p.actions.items) (length p.dups.items)) (plan_rest u p after) (IsLine-counts_line p.instances (length p.actions.items) (length p.dups.items)) rest)
+      (All-cons IsLine (counts_line p.instances (length p.actions) (length p.dups)) (plan_rest u p after) (IsLine-counts_line p.instances (length p.actions) (length p.dups)) rest)
 
   refusal_lines_of_numbers : (set : List ℕ) (lacks : ℕ) → All IsLine (refusal_lines u set lacks)
   refusal_lines_of_numbers set lacks =

@@ -4,7 +4,7 @@
 use Rattle.std.proofs.Common.{◌≡◌, ℕ, List, [], ◌∷◌, ◌++◌, length, map, refl, sym, ap, ◌∙◌, append-nil}
 use Rattle.std.proofs.lemmas.List.Folds.{concat-append}
 use Rattle.std.specs.List.{flat_map}
-use Rattle.metis_ids.specs.declared.plans.Plan.{Plan}
+use Rattle.metis_ids.specs.Plans.{Plan}
 use Rattle.metis_outside.specs.Pieces.{bytes_of}
 use Rattle.metis_universe.specs.Universe.{Universe}
 use Rattle.metis_text.specs.Line.{numbered}
@@ -32,10 +32,10 @@ bytes_of-map text [] = refl
 bytes_of-map text (x ∷ xs) = ap (λ l. text x ++ l) (bytes_of-map text xs)
 
 pub plan_bytes_by_parts : (u : Universe) (p : Plan) (after : List (List ℕ))
-    → plan_bytes u p after ≡ plan_header ++ (counts_of p ++ (bytes_of (action_lines u p.actions.items after) ++ (bytes_of (dup_lines u p.dups.items) ++ end_line)))
+    → plan_bytes u p after ≡ plan_header ++ (counts_of p ++ (bytes_of (action_lines u p.actions after) ++ (bytes_of (dup_lines u p.dups) ++ end_line)))
 plan_bytes_by_parts u p after =
-    let actions = action_lines u p.actions.items after in
-    ap (λ l. plan_header ++ (counts_of p ++ l)) (concat-append actions (plan_end u p.dups.items) ∙ ap (λ l. bytes_of actions ++ l) (bytes_of-last (dup_lines u p.dups.items) end_line))
+    let actions = action_lines u p.actions after in
+    ap (λ l. plan_header ++ (counts_of p ++ l)) (concat-append actions (plan_end u p.dups) ∙ ap (λ l. bytes_of actions ++ l) (bytes_of-last (dup_lines u p.dups) end_line))
 
 pub refusal_bytes_by_parts : (u : Universe) (set : List ℕ) (lacks : ℕ) → refusal_bytes u set lacks ≡ refusal_header ++ body_bytes u set lacks
 refusal_bytes_by_parts u set lacks =

@@ -1,7 +1,7 @@
 -- What is written for a run from the empty configuration, with the lists of what its actions wait for, is read.
 use Rattle.std.proofs.Common.{◌≡◌, ◌-◌, ◌<◌, ◌≤◌, ◌^◌, length, Ok, arith}
 use Rattle.std.specs.List.{All, count_by}
-use Rattle.metis_ids.specs.declared.plans.Plan.{Plan}
+use Rattle.metis_ids.specs.Plans.{Plan}
 use Rattle.metis_universe.specs.Config.{empty}
 use Rattle.metis_universe.specs.Numbers.{IsOf}
 use Rattle.metis_universe.specs.Step.{IsRun}
@@ -16,22 +16,22 @@ use Rattle.metis_text.proofs.Lengths.{actions_below_bytes, dups_below_bytes}
 use Rattle.metis_text.proofs.RunLists.{length-others, others, others_are_earlier, others_ascend}
 use Rattle.metis_text.proofs.RunMoves.{run_fits}
 
-module _ (u : Universe) (p : Plan) (table : IsTable u) (run : IsRun u empty p.actions.items) (of : All (IsOf u) p.actions.items) (pairs : All (λ d. d.pair < pair_count u) p.dups.items)
-    (cycles : All (λ d. 2 ≤ length d.cycle.items) p.dups.items) (in_range : IsPlanInRange p) (counted : p.instances ≡ count_by makes p.actions.items) (short : length (plan_bytes u p (others p.actions.items)) < 2 ^ 32 - 1) where
-  run_formed : IsWellFormed u p (others p.actions.items)
+module _ (u : Universe) (p : Plan) (table : IsTable u) (run : IsRun u empty p.actions) (of : All (IsOf u) p.actions) (pairs : All (λ d. d.pair < pair_count u) p.dups)
+    (cycles : All (λ d. 2 ≤ length d.cycle) p.dups) (in_range : IsPlanInRange p) (counted : p.instances ≡ count_by makes p.actions) (short : length (plan_bytes u p (others p.actions)) < 2 ^ 32 - 1) where
+  run_formed : IsWellFormed u p (others p.actions)
   run_formed = record {
-    lists = length-others p.actions.items;
-    ascending = others_ascend p.actions.items;
-    earlier = others_are_earlier p.actions.items;
-    moves = moves_from_fits u p.actions.items (run_fits u table.universe p.actions.items run);
+    lists = length-others p.actions;
+    ascending = others_ascend p.actions;
+    earlier = others_are_earlier p.actions;
+    moves = moves_from_fits u p.actions (run_fits u table.universe p.actions run);
     actions = of;
     dups = pairs;
     cycles = cycles;
     in_range = in_range;
-    few_actions = omega (arith, actions_below_bytes u p (others p.actions.items) (length-others p.actions.items), short);
-    few_dups = omega (arith, dups_below_bytes u p (others p.actions.items), short);
+    few_actions = omega (arith, actions_below_bytes u p (others p.actions) (length-others p.actions), short);
+    few_dups = omega (arith, dups_below_bytes u p (others p.actions), short);
     instances = counted;
   }
 
-  pub written_run_read : plan_in u (plan_bytes u p (others p.actions.items)) ≡ Ok (said p (others p.actions.items))
-  written_run_read = well_formed_read u p (others p.actions.items) table.universe table.named run_formed
+  pub written_run_read : plan_in u (plan_bytes u p (others p.actions)) ≡ Ok (said p (others p.actions))
+  written_run_read = well_formed_read u p (others p.actions) table.universe table.named run_formed

@@ -7,7 +7,7 @@ use Rattle.metis_ids.specs.declared.actions.Action.{Action}
 use Rattle.metis_ids.specs.declared.actions.Action.TheVariants.{New, Delete, Bind, Unbind, Move}
 use Rattle.metis_ids.specs.declared.events.Event.{Event}
 use Rattle.metis_ids.specs.declared.events.Event.TheVariants.{At, End}
-use Rattle.metis_ids.specs.declared.plans.Plan.{Plan}
+use Rattle.metis_ids.specs.Plans.{Plan}
 
 abbrev pub IsActionInRange : Action → Type 0
 IsActionInRange (New z t) = z < 2 ^ 32
@@ -21,5 +21,5 @@ IsEventInRange (At l s) = (l < 2 ^ 32) × (s < 2 ^ 32)
 IsEventInRange End = ⊤
 
 pub record IsPlanInRange (p : Plan) : Type 0 where
-  pub actions : All IsActionInRange p.actions.items
-  pub events : All (λ d. All IsEventInRange d.cycle.items) p.dups.items
+  pub actions : All IsActionInRange p.actions
+  pub events : All (λ d. All IsEventInRange d.cycle) p.dups

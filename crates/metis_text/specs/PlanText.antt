@@ -14,8 +14,7 @@ use Rattle.metis_ids.specs.declared.actions.Action.{Action}
 use Rattle.metis_ids.specs.declared.actions.Action.TheVariants.{New, Delete, Bind, Unbind, Move}
 use Rattle.metis_ids.specs.declared.events.Event.{Event}
 use Rattle.metis_ids.specs.declared.events.Event.TheVariants.{At, End}
-use Rattle.metis_ids.specs.declared.plans.Dup.{Dup}
-use Rattle.metis_ids.specs.declared.plans.Plan.{Plan}
+use Rattle.metis_ids.specs.Plans.{Dup, Plan}
 use Rattle.metis_outside.specs.Pieces.{bytes_of}
 use Rattle.metis_text.specs.InRange.{IsPlanInRange}
 use Rattle.metis_text.specs.Line.{line, numbered}
@@ -50,7 +49,7 @@ abbrev pub dup_tokens : Universe → ℕ → ℕ → List (List ℕ)
 dup_tokens u k p = codes "dup" ∷ decimal k ∷ pair_word u p ∷ codes "cycle" ∷ []
 
 abbrev pub dup_line : Universe → ℕ → Dup → List ℕ
-dup_line u k d = line (dup_tokens u k d.pair ++ map event_token d.cycle.items)
+dup_line u k d = line (dup_tokens u k d.pair ++ map event_token d.cycle)
 
 abbrev pub plan_header : List ℕ
 plan_header = line (codes "metis" ∷ codes "plan" ∷ codes "1" ∷ [])
@@ -59,7 +58,7 @@ abbrev pub counts_line : ℕ → ℕ → ℕ → List ℕ
 counts_line instances actions dups = line (codes "instances" ∷ decimal instances ∷ codes "actions" ∷ decimal actions ∷ codes "dups" ∷ decimal dups ∷ [])
 
 abbrev pub counts_of : Plan → List ℕ
-counts_of p = counts_line p.instances (length p.actions.items) (length p.dups.items)
+counts_of p = counts_line p.instances (length p.actions) (length p.dups)
 
 abbrev pub end_line : List ℕ
 end_line = line (codes "end" ∷ [])
@@ -76,7 +75,7 @@ plan_end u dups = dup_lines u dups ++ end_line ∷ []
 
 -- all lines but the first two
 abbrev pub plan_rest : Universe → Plan → List (List ℕ) → List (List ℕ)
-plan_rest u p after = action_lines u p.actions.items after ++ plan_end u p.dups.items
+plan_rest u p after = action_lines u p.actions after ++ plan_end u p.dups
 
 -- all lines but the first
 abbrev pub plan_body : Universe → Plan → List (List ℕ) → List (List ℕ)
@@ -123,14 +122,14 @@ IsMoveOf u earlier z p q = (kind_of z earlier ≡ Some (type_of u p)) × (type_o
 -- has two or more events, and all numbers are the universe's, or of 32 bits. There are fewer than 2^32 actions and
 -- dups, and the instances are counted.
 pub record IsWellFormed (u : Universe) (p : Plan) (after : List (List ℕ)) : Type 0 where
-  pub lists : length after ≡ length p.actions.items
+  pub lists : length after ≡ length p.actions
   pub ascending : All IsStrictlyIncreasing after
   pub earlier : (k : ℕ) → All (λ m. (1 ≤ m) × (m < k)) (after_of after k)
-  pub moves : (k z a b : ℕ) → action_at p.actions.items k ≡ Some (Move z a b) → IsMoveOf u (before k p.actions.items) z a b
-  pub actions : All (IsOf u) p.actions.items
-  pub dups : All (λ d. d.pair < pair_count u) p.dups.items
-  pub cycles : All (λ d. 2 ≤ length d.cycle.items) p.dups.items
+  pub moves : (k z a b : ℕ) → action_at p.actions k ≡ Some (Move z a b) → IsMoveOf u (before k p.actions) z a b
+  pub actions : All (IsOf u) p.actions
+  pub dups : All (λ d. d.pair < pair_count u) p.dups
+  pub cycles : All (λ d. 2 ≤ length d.cycle) p.dups
   pub in_range : IsPlanInRange p
-  pub few_actions : length p.actions.items < 2 ^ 32
-  pub few_dups : length p.dups.items < 2 ^ 32
-  pub instances : p.instances ≡ count_by makes p.actions.items
+  pub few_actions : length p.actions < 2 ^ 32
+  pub few_dups : length p.dups < 2 ^ 32
+  pub instances : p.instances ≡ count_by makes p.actions

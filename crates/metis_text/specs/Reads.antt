@@ -5,8 +5,7 @@
 --     IsTextOf u t bytes      the bytes are the text of the plan with its lists, and it is well formed
 use Rattle.std.specs.Prelude.{◌≡◌, ◌≢◌, ℕ, List, map, Result, Ok, Err}
 use denote.Ref.{Bor}
-use Rattle.metis_ids.specs.declared.plans.Dup.{Dup}
-use Rattle.metis_ids.specs.declared.plans.Plan.{Plan}
+use Rattle.metis_ids.specs.Plans.{Dup, Plan}
 use Rattle.metis_universe.specs.Universe.{Universe}
 use Rattle.metis_text.specs.PlanText.{IsWellFormed, plan_bytes}
 use Rattle.metis_text.specs.declared.fault.TFault.{TFault}
@@ -29,11 +28,11 @@ numbers_of c = (c.instances, (c.actions, c.dups))
 
 -- a dup as its line says it
 abbrev pub dup_row : Dup → DupRow
-dup_row d = (d.pair, d.cycle.items)
+dup_row d = (d.pair, d.cycle)
 
 -- what the text of a plan with these lists says
 abbrev pub said : Plan → List (List ℕ) → Parts
-said p after = parts p.instances (rows_of p.actions.items after) (map dup_row p.dups.items)
+said p after = parts p.instances (rows_of p.actions after) (map dup_row p.dups)
 
 abbrev pub lists_of : PlanText → List (List ℕ)
 lists_of t = map (λ ks. ks.items) t.after.items

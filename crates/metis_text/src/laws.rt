@@ -1,7 +1,7 @@
 //! Laws over the definitions.
 ghost use Rattle.std.specs.Prelude.{◌≡◌, ◌<◌, ◌≤◌, ◌-◌, ◌^◌, ℕ, List, Ok, length, map};
 ghost use Rattle.std.specs.List.{All, count_by};
-ghost use Rattle.metis_ids.specs.declared.plans.Plan.{Plan};
+ghost use Rattle.metis_ids.specs.Plans.{Plan};
 ghost use Rattle.metis_outside.specs.Pieces.{IsLine};
 ghost use Rattle.metis_universe.specs.Config.{empty};
 ghost use Rattle.metis_universe.specs.Numbers.{IsOf};
@@ -28,10 +28,10 @@ pub fn well_formed_is_read()
 
 /// The text that is written for a plan whose actions are a run from the empty configuration is read as this plan.
 pub fn written_run_is_read()
-    ensures { (u : Universe) (p : Plan) → IsTable u → IsRun u empty p.actions.items → All (IsOf u) p.actions.items → All (λ d. d.pair < pair_count u) p.dups.items → All (λ d. 2 ≤ length d.cycle.items) p.dups.items
-        → IsPlanInRange p → p.instances ≡ count_by makes p.actions.items
-        → length (plan_bytes u p (map (waits_on_others p.actions.items) (numbers p.actions.items))) < 2 ^ 32 - 1
-        → plan_in u (plan_bytes u p (map (waits_on_others p.actions.items) (numbers p.actions.items))) ≡ Ok (said p (map (waits_on_others p.actions.items) (numbers p.actions.items))) }
+    ensures { (u : Universe) (p : Plan) → IsTable u → IsRun u empty p.actions → All (IsOf u) p.actions → All (λ d. d.pair < pair_count u) p.dups → All (λ d. 2 ≤ length d.cycle) p.dups
+        → IsPlanInRange p → p.instances ≡ count_by makes p.actions
+        → length (plan_bytes u p (map (waits_on_others p.actions) (numbers p.actions))) < 2 ^ 32 - 1
+        → plan_in u (plan_bytes u p (map (waits_on_others p.actions) (numbers p.actions))) ≡ Ok (said p (map (waits_on_others p.actions) (numbers p.actions))) }
 {}
 
 /// A text that is read is that of the refusal that it says, whose pairs are the universe's and ascend.

@@ -33,7 +33,7 @@ pub fn read_plan(alloc: Global, u: &Universe, bytes: &[u8]) -> Result<PlanText, 
 
     // So the bytes are the text of what is read, and this is well formed.
     ensures text { IfOk result (λ t. IsTextOf u.now t bytes.now) }
-    ensures fewer { IfOk result (λ t. length t.plan.actions.items < length bytes.now) }
+    ensures fewer { IfOk result (λ t. length t.plan.actions < length bytes.now) }
 {
     read_text(alloc, u, bytes)
 }

@@ -26,11 +26,11 @@ pub fn write_plan<K: Sink>(
     w: &Waits,
     out: &mut K,
 ) -> Result<(), Trouble>
-    requires actions { All (IsOf u.now) p.now.actions.items }
-    requires dups { All (λ d. d.pair < pair_count u.now) p.now.dups.items }
-    requires waits { AreWaits p.now.actions.items w.now }
-    requires few { length p.now.actions.items < 2 ^ 32 }
-    ensures text { Writes (plan_lines u.now p.now (map (waits_on_others p.now.actions.items) (numbers p.now.actions.items))) (K.written out.old) (K.written out.new) result }
+    requires actions { All (IsOf u.now) p.now.actions }
+    requires dups { All (λ d. d.pair < pair_count u.now) p.now.dups }
+    requires waits { AreWaits p.now.actions w.now }
+    requires few { length p.now.actions < 2 ^ 32 }
+    ensures text { Writes (plan_lines u.now p.now (map (waits_on_others p.now.actions) (numbers p.now.actions))) (K.written out.old) (K.written out.new) result }
     ensures cause { CountsFault (K.faults out.old) (K.faults out.new) result }
 {
     write_text(alloc, u, p, w, out)
@@ -44,10 +44,10 @@ fn write_text<K: Sink>(
     w: &Waits,
     out: &mut K,
 ) -> Result<(), Trouble>
-    requires actions { All (IsOf u.now) p.now.actions.items }
-    requires dups { All (λ d. d.pair < pair_count u.now) p.now.dups.items }
-    requires waits { AreWaits p.now.actions.items w.now }
-    requires few { length p.now.actions.items < 2 ^ 32 }
+    requires actions { All (IsOf u.now) p.now.actions }
+    requires dups { All (λ d. d.pair < pair_count u.now) p.now.dups }
+    requires waits { AreWaits p.now.actions w.now }
+    requires few { length p.now.actions < 2 ^ 32 }
     ensures text { Writes (plan_lines u.now p.now w.now.others) (K.written out.old) (K.written out.new) result }
     ensures cause { CountsFault (K.faults out.old) (K.faults out.new) result }
 {
@@ -63,10 +63,10 @@ fn write_body<K: Sink>(
     w: &Waits,
     out: &mut K,
 ) -> Result<(), Trouble>
-    requires actions { All (IsOf u.now) p.now.actions.items }
-    requires dups { All (λ d. d.pair < pair_count u.now) p.now.dups.items }
-    requires waits { AreWaits p.now.actions.items w.now }
-    requires few { length p.now.actions.items < 2 ^ 32 }
+    requires actions { All (IsOf u.now) p.now.actions }
+    requires dups { All (λ d. d.pair < pair_count u.now) p.now.dups }
+    requires waits { AreWaits p.now.actions w.now }
+    requires few { length p.now.actions < 2 ^ 32 }
     ensures text { Writes (plan_body u.now p.now w.now.others) (K.written out.old) (K.written out.new) result }
     ensures cause { CountsFault (K.faults out.old) (K.faults out.new) result }
 {
@@ -82,10 +82,10 @@ fn write_rest<K: Sink>(
     w: &Waits,
     out: &mut K,
 ) -> Result<(), Trouble>
-    requires actions { All (IsOf u.now) p.now.actions.items }
-    requires dups { All (λ d. d.pair < pair_count u.now) p.now.dups.items }
-    requires waits { AreWaits p.now.actions.items w.now }
-    requires few { length p.now.actions.items < 2 ^ 32 }
+    requires actions { All (IsOf u.now) p.now.actions }
+    requires dups { All (λ d. d.pair < pair_count u.now) p.now.dups }
+    requires waits { AreWaits p.now.actions w.now }
+    requires few { length p.now.actions < 2 ^ 32 }
     ensures text { Writes (plan_rest u.now p.now w.now.others) (K.written out.old) (K.written out.new) result }
     ensures cause { CountsFault (K.faults out.old) (K.faults out.new) result }
 {

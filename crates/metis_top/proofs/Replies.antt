@@ -5,7 +5,7 @@ use Rattle.std.specs.Prelude.{IsTrue}
 use Rattle.std.specs.declared.option.Option.{Option}
 use Rattle.metis_ids.specs.declared.actions.Action.{Action}
 use Rattle.metis_ids.specs.declared.actions.Action.TheVariants.{New, Delete, Bind, Unbind, Move}
-use Rattle.metis_ids.specs.declared.plans.Plan.{Plan}
+use Rattle.metis_ids.specs.Plans.{Plan}
 use Rattle.metis_layers.specs.LayerOrder.{instances_of}
 use Rattle.metis_layers.specs.LayerOrder as layer_order
 use Rattle.std.proofs.lemmas.List.Sums.{length-filter}
@@ -54,12 +54,12 @@ counts_as_made : (actions : List Action) → instances_of actions ≡ count_by m
 counts_as_made actions = length-filter layer_order.makes actions ∙ (λ i. count_by (λ a. same_makes a i) actions)
 
 -- the lines of a plan answer
-pub answer_by_plan : (u : Universe) (g : List ℕ) (p : Plan) → IsRun u empty p.actions.items → Holds (after_all u empty p.actions.items) g → IsTrue (is_steadfast u p.actions.items)
-    → p.instances ≡ instances_of p.actions.items → IsLean u p.instances g → p.dups.items ≡ [] → PlanAnswer u g (plan_text u p) Done
+pub answer_by_plan : (u : Universe) (g : List ℕ) (p : Plan) → IsRun u empty p.actions → Holds (after_all u empty p.actions) g → IsTrue (is_steadfast u p.actions)
+    → p.instances ≡ instances_of p.actions → IsLean u p.instances g → p.dups ≡ [] → PlanAnswer u g (plan_text u p) Done
 answer_by_plan u g p runs holds steadfast counts lean undoubled =
-    let counted : p.instances ≡ count_by makes p.actions.items = counts ∙ counts_as_made p.actions.items in
-    let is : IsPlan u g p.actions.items = record { runs = runs; holds = holds; steadfast = steadfast; attained = lean.attained; all = lean.all; few = omega (arith, counted, lean.few) } in
-    inl (refl, record { attains = (p.actions.items, runs, holds); plan = p; is = is; counted = counted; undoubled = undoubled; told = refl })
+    let counted : p.instances ≡ count_by makes p.actions = counts ∙ counts_as_made p.actions in
+    let is : IsPlan u g p.actions = record { runs = runs; holds = holds; steadfast = steadfast; attained = lean.attained; all = lean.all; few = omega (arith, counted, lean.few) } in
+    inl (refl, record { attains = (p.actions, runs, holds); plan = p; is = is; counted = counted; undoubled = undoubled; told = refl })
 
 -- the lines of a refusal answer
 pub answer_by_refusal : (u : Universe) (g s : List ℕ) (p : ℕ) → IsAttainedSet u s → Refusal u g s p → PlanAnswer u g (refusal_lines u s p) No

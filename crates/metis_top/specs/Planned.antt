@@ -6,7 +6,7 @@
 use Rattle.std.specs.Prelude.{◌≡◌, ◌⊎◌, ℕ, ◌+◌, ◌≤◌, List, [], length, map, IsTrue}
 use Rattle.std.specs.List.{count_by}
 use Rattle.metis_ids.specs.declared.actions.Action.{Action}
-use Rattle.metis_ids.specs.declared.plans.Plan.{Plan}
+use Rattle.metis_ids.specs.Plans.{Plan}
 use Rattle.metis_universe.specs.Universe.{Universe}
 use Rattle.metis_universe.specs.Config.{empty}
 use Rattle.metis_universe.specs.Step.{IsRun, after_all}
@@ -34,15 +34,15 @@ pub record IsRefusal (u : Universe) (g s : List ℕ) (p : ℕ) : Type 0 where
   pub all : IsAttainedSet u s
 
 abbrev pub plan_text : Universe → Plan → List (List ℕ)
-plan_text u p = plan_lines u p (map (waits_on_others p.actions.items) (numbers p.actions.items))
+plan_text u p = plan_lines u p (map (waits_on_others p.actions) (numbers p.actions))
 
 -- It counts its instances.
 pub record Plans (u : Universe) (g : List ℕ) (lines : List (List ℕ)) : Type 0 where
   pub attains : Attains u g
   pub plan : Plan
-  pub is : IsPlan u g plan.actions.items
-  pub counted : plan.instances ≡ count_by makes plan.actions.items
-  pub undoubled : plan.dups.items ≡ []
+  pub is : IsPlan u g plan.actions
+  pub counted : plan.instances ≡ count_by makes plan.actions
+  pub undoubled : plan.dups ≡ []
   pub told : lines ≡ plan_text u plan
 
 pub record Refuses (u : Universe) (g : List ℕ) (lines : List (List ℕ)) : Type 0 where

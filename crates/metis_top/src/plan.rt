@@ -64,10 +64,10 @@ fn write_actions<K: Sink>(
     plan: &Plan,
     out: &mut K,
 ) -> Result<(), Trouble>
-    requires numbers { All (IsOf u.now) plan.now.actions.items }
-    requires steadfast { IsTrue (is_steadfast u.now plan.now.actions.items) }
-    requires few { length plan.now.actions.items < 2 ^ 32 - 1 }
-    requires dups { plan.now.dups.items ≡ [] }
+    requires numbers { All (IsOf u.now) plan.now.actions }
+    requires steadfast { IsTrue (is_steadfast u.now plan.now.actions) }
+    requires few { length plan.now.actions < 2 ^ 32 - 1 }
+    requires dups { plan.now.dups ≡ [] }
     ensures text { Writes (plan_text u.now plan.now) (K.written out.old) (K.written out.new) result }
     ensures cause { CountsFault (K.faults out.old) (K.faults out.new) result }
 {

@@ -120,8 +120,8 @@ pub fn goal_from<H: Shelf>(
 fn plan_in(alloc: Global, u: &Universe, bytes: &[u8]) -> Result<PlanText, Stop>
     requires { length bytes.now < 2 ^ 32 - 1 }
     ensures judges { Judges parts_of (plan_in_then u.now bytes.now) result }
-    ensures numbers { IfOk result (λ text. All (IsOf u.now) text.plan.actions.items) }
-    ensures few { IfOk result (λ text. length text.plan.actions.items < 2 ^ 32 - 1) }
+    ensures numbers { IfOk result (λ text. All (IsOf u.now) text.plan.actions) }
+    ensures few { IfOk result (λ text. length text.plan.actions < 2 ^ 32 - 1) }
 {
     match read_plan(alloc, u, bytes) {
         Ok(text) => Ok(text),
@@ -139,8 +139,8 @@ pub fn plan_from<H: Shelf>(
     name: &str,
 ) -> Result<PlanText, Stop>
     ensures gathers { Gathers H.files H.faults H.opens parts_of (plan_then place u.now name.now) shelf.old shelf.new result }
-    ensures numbers { IfOk result (λ text. All (IsOf u.now) text.plan.actions.items) }
-    ensures few { IfOk result (λ text. length text.plan.actions.items < 2 ^ 32 - 1) }
+    ensures numbers { IfOk result (λ text. All (IsOf u.now) text.plan.actions) }
+    ensures few { IfOk result (λ text. length text.plan.actions < 2 ^ 32 - 1) }
 {
     let bytes = bytes_from(alloc, shelf, place, name, PLAN_LIMIT)?;
     plan_in(alloc, u, &bytes)

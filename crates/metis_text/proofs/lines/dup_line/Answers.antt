@@ -7,7 +7,7 @@ use Rattle.metis_text.proofs.lines.dup_line.Goals as goal
 
 pub returns : goal.returns
 returns c =
-    let events = map event_token c.args.dup.now.cycle.items in
+    let events = map event_token c.args.dup.now.cycle in
     let others = decimal c.args.number ∷ pair_word c.args.u.now c.args.dup.now.pair ∷ codes "cycle" ∷ [] in
     c.in_ok-push_str.ensures.bytes
     ∙ ap (λ l. l ++ codes "\n") (c.in_ok-push_events.ensures ∙ ap (λ es. string_bytes c.in_ok-line.line ++ added (map event_token es)) c.deref.ensures.value
