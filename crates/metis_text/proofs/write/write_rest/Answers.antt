@@ -8,4 +8,4 @@ use Rattle.metis_text.proofs.write.write_rest.Goals as goal
 pub returns-in_err-write_actions-clause-text : goal.returns-in_err-write_actions-clause-text
 returns-in_err-write_actions-clause-text g c =
     let p = err_from_is_err_and c.from_residual.result c.from_residual.ensures.1 in
-    rw p.1 (front_of_first _ _ (action_lines c.args.u.now c.args.p.now.actions c.args.w.now.others) (plan_end c.args.u.now c.args.p.now.dups) (subst (λ l. AppendsFront (g.K.Sink.written c.args.out.now) (g.K.Sink.written c.write_actions.new.out) (action_lines c.args.u.now l c.args.w.now.others)) c.deref.ensures.value c.in_err-write_actions.ensures.text))
+    rw (p.1, ← c.p.view_is) (front_of_first _ _ (action_lines c.args.u.now c.p.inside.actions.items c.args.w.now.others) (plan_end c.args.u.now c.p.inside.dups.items) (subst (λ l. AppendsFront (g.K.Sink.written c.args.out.now) (g.K.Sink.written c.write_actions.new.out) (action_lines c.args.u.now l c.args.w.now.others)) c.deref.ensures.value c.in_err-write_actions.ensures.text))
