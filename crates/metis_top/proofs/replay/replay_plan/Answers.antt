@@ -1,4 +1,5 @@
-use Rattle.std.proofs.Common.{refl}
+use Rattle.std.proofs.Common.{refl, ap}
+use Rattle.metis_text.specs.declared.plan_text.PlanText.{PlanText}
 use Rattle.metis_text.specs.Reading.{Parts}
 use Rattle.metis_text.specs.Reads.{parts_of}
 use Rattle.metis_top.proofs.Gathered.{ran_stopped}
@@ -10,8 +11,9 @@ use Rattle.metis_top.proofs.replay.replay_plan.Goals as goal
 
 pub returns-in-Ok : goal.returns-in-Ok
 returns-in-Ok g c =
+    let actions = ap (λ (p : PlanText). p.plan.actions) c.text.view_is in
     ran_replied _ _ _ _ _ parts_of (plan_then 3 c.args.u.now c.args.plan.now) (λ (parts : Parts). Reply (answer.Replay c.args.u.now c.args.targets.now parts.rows.actions)) _ _ _ _
-    c.in-Ok.text (answer.Replay c.args.u.now c.args.targets.now c.in-Ok.text.plan.actions) _ c.in-Ok.ensures.gathers refl (rw c.deref.ensures.value at c.put_verdict.ensures)
+    c.in-Ok.text (answer.Replay c.args.u.now c.args.targets.now c.in-Ok.text.plan.actions) _ c.in-Ok.ensures.gathers refl (rw (← actions) (rw c.deref.ensures.value at c.put_verdict.ensures))
 
 pub returns-in-Err : goal.returns-in-Err
 returns-in-Err g c =
