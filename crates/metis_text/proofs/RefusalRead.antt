@@ -7,7 +7,7 @@ use Rattle.metis_text.specs.Line.{line, words}
 use Rattle.metis_text.specs.PlanText.{end_line}
 use Rattle.metis_text.specs.Reading.{Lines, and_then, ended, exactly, lines_of, read_next}
 use Rattle.metis_text.specs.RefusalReading.{ReadsRefusal, RefusalParts, lacks_in, pairs_from, refusal_end_from, refusal_in, refusal_of, refusal_parts, refusal_set_from, size_in}
-use Rattle.metis_text.specs.RefusalText.{IsRefusal, pair_line, refusal_bytes, refusal_header}
+use Rattle.metis_text.specs.RefusalText.{IsRefusal, pair_line, refusal_bytes}
 use Rattle.metis_text.specs.declared.fault.TFault.{TFault}
 use Rattle.metis_text.specs.declared.refusal_text.Refusal.{Refusal}
 use Rattle.metis_text.proofs.LinesTaken.{read_next_is, read_next_read}

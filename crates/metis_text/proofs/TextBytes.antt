@@ -1,7 +1,7 @@
 -- The bytes of texts, part by part.
 --     numbered_bytes text k items      those of lines of items that have numbers
 --     rest_bytes u set, set_bytes u set, body_bytes u set lacks      those of a refusal's lines behind the count of its pairs;  with this count;  and all but the first line
-use Rattle.std.proofs.Common.{◌≡◌, ℕ, List, [], ◌∷◌, ◌++◌, length, map, refl, sym, ap, ◌∙◌, append-nil}
+use Rattle.std.proofs.Common.{◌≡◌, ℕ, List, [], ◌∷◌, ◌++◌, length, map, refl, ap, ◌∙◌, append-nil}
 use Rattle.std.proofs.lemmas.List.Folds.{concat-append}
 use Rattle.std.specs.List.{flat_map}
 use Rattle.metis_ids.specs.Plans.{Plan}

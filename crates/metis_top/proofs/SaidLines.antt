@@ -31,19 +31,18 @@ use Rattle.metis_universe.specs.declared.faults.LimitKind.{LimitKind}
 use Rattle.metis_universe.specs.declared.faults.LimitKind.TheVariants.{Pairs, Ports, Requires, States}
 use Rattle.metis_top.specs.Answer as answer
 use Rattle.metis_top.specs.Answer.{Answer, IsAnswer}
-use Rattle.metis_top.specs.Commands.{command_script, judged, or_plan_refused, or_refusal_refused, or_universe_refused, or_word, pair_then, pairs_after, pairs_named, plan_limit, plan_then, refusal_limit, refusal_then, refute_then, replay_then, script_from, targets_then, universe_then}
+use Rattle.metis_top.specs.Commands.{command_script, judged, or_plan_refused, or_refusal_refused, or_universe_refused, or_word, pair_then, pairs_after, pairs_named, plan_limit, refusal_limit, refute_then, replay_then, script_from, targets_then, universe_then}
 use Rattle.metis_top.specs.Course.{Ran, Says, Shown, after}
 use Rattle.metis_top.specs.Judged as judged_specs
 use Rattle.metis_top.specs.Judged.{judgement_line}
 use Rattle.metis_top.specs.Lines.{limit_line, plan_fault_line, read_fault_line, refusal_fault_line, refusal_line, universe_line}
 use Rattle.metis_top.specs.PutLines.{PutsLines}
-use Rattle.metis_top.specs.Replayed.{bad_line, good_line, missing_line, verdict_line}
+use Rattle.metis_top.specs.Replayed.{verdict_line}
 use Rattle.metis_top.specs.Script.{Script, Read, Refuse, Reply}
 use Rattle.metis_top.specs.TargetName.{TargetName}
 use Rattle.metis_top.specs.Words.{Form, word_at}
 use Rattle.metis_top.specs.declared.refusal.Refusal.{Refusal}
 use Rattle.metis_top.specs.declared.refusal.Refusal.TheVariants.{Word, TooLong}
-use Rattle.metis_top.specs.declared.refusal.Refusal.TheVariants as refusal
 use Rattle.metis_top.specs.declared.status.Status.{Status}
 use Rattle.metis_top.specs.declared.words.Verb.{Verb}
 use Rattle.metis_top.specs.declared.words.Verb.TheVariants.{Plan, Replay, Refute, Print}
