@@ -1,5 +1,5 @@
 -- Where the pairs of a type begin, and the place of a pair among them.
-use Rattle.std.proofs.Common.{◌≡◌, ℕ, zero, suc, ◌+◌, ◌<◌, ◌≤◌, Bool, true, false, cond, not, ◌&&◌, ltb, List, [], ◌∷◌, length, take, get_or, Option, Some, None, refl, ap, sym, ◌∙◌, arith, inl, inr}
+use Rattle.std.proofs.Common.{◌≡◌, ℕ, zero, suc, ◌+◌, ◌<◌, ◌≤◌, Bool, true, false, cond, not, ◌&&◌, ltb, nat_eq, List, [], ◌∷◌, length, take, get_or, Option, Some, None, refl, ap, sym, ◌∙◌, arith, inl, inr}
 use Rattle.std.specs.Prelude.{option_map, position}
 use Rattle.std.specs.List.{filter, AllByRecursion, AllWithin, prefix_len}
 use Rattle.std.specs.List.Sorted.{IsNonDecreasingBy}
@@ -158,3 +158,49 @@ state_named-block u k t name = position-of_type t (λ p. bytes_eq name p.state) 
 
 pub state_named-within : (u : Universe) (t : ℕ) (name : List ℕ) (p : ℕ) → state_named u t name ≡ Some p → p < pair_count u
 state_named-within u t name p e = position_within _ u.pairs p e
+
+-- ---- the block of a type
+
+-- no pair is of the type and of a lower one
+together : (t : ℕ) (xs : List Pair) → length (filter (is_before t) xs) + length (filter (is_of t) xs) ≤ length xs
+together t [] = omega arith
+together t (x ∷ xs) =
+    let rest = together t xs in
+    elim (cases_lt x.kind t) [
+      | inl less ↦ rw (lt-ltb x.kind t less, ne_eqb x.kind t (λ q. omega (arith, q))) (omega (arith, rest))
+      | inr more ↦ rw (le-ltb x.kind t more) (elim (nat_eq x.kind t) as (λ b. length (filter (is_before t) xs) + length (cond b (x ∷ filter (is_of t) xs) (filter (is_of t) xs)) ≤ length (x ∷ xs)) [
+        | true ↦ omega (arith, rest)
+        | false ↦ omega (arith, rest)
+      ])
+    ]
+
+-- fewer of the type come before a pair of the type than there are
+fewer_before : (t p : ℕ) (xs : List Pair) → p < length xs → (get_or xs p no_pair).kind ≡ t → length (filter (is_of t) (take p xs)) < length (filter (is_of t) xs)
+fewer_before t p [] l e = absurd (omega arith)
+fewer_before t zero (x ∷ xs) l e = rw (eq-eqb x.kind t e) (omega arith)
+fewer_before t (suc p) (x ∷ xs) l e =
+    let rest = fewer_before t p xs (omega arith) e in
+    elim (nat_eq x.kind t) as (λ b. length (cond b (x ∷ filter (is_of t) (take p xs)) (filter (is_of t) (take p xs))) < length (cond b (x ∷ filter (is_of t) xs) (filter (is_of t) xs))) [
+      | true ↦ omega (arith, rest)
+      | false ↦ rest
+    ]
+
+-- the pairs of p's type are those from `first` on, so many as the type has states
+pub record IsOwnBlock (u : Universe) (p first : ℕ) : Type 0 where
+  pub start : first + state_place_of u p ≡ p
+  pub within : first + length (states_of_type u (type_of u p)) ≤ pair_count u
+  pub from : (q : ℕ) → q < pair_count u → type_of u q ≡ type_of u p → first ≤ q
+  pub upto : (q : ℕ) → q < pair_count u → type_of u q ≡ type_of u p → q < first + length (states_of_type u (type_of u p))
+
+pub own_block : (u : Universe) → IsUniverse u → (p : ℕ) → p < pair_count u → IsOwnBlock u p (start_in u (type_of u p))
+own_block u k p l = record {
+  start = start_and_place u k p l;
+  within = together (type_of u p) u.pairs;
+  from = λ q low same. let at = start_and_place u k q low in let e = ap (start_in u) same in omega (arith, at, e);
+  upto = λ q low same.
+      let at = start_and_place u k q low in
+      let e = ap (start_in u) same in
+      let few = fewer_before (type_of u p) q u.pairs low same in
+      let place = ap (λ t. length (filter (is_of t) (take q u.pairs))) same in
+      omega (arith, at, e, few, place);
+}
