@@ -71,10 +71,10 @@ impl<'a> Replay<'a> {
     }
 
     /// How many actions were fed, also those that were only counted.
-    pub fn count(&self) -> u32
+    pub fn count(&self) -> u64
         ensures { result ≡ self.now.number }
     {
-        self.number
+        u64::from(self.number)
     }
 
     /// What the actions came to, where the targets were asked for.
