@@ -1,20 +1,18 @@
--- The bindings and the same bindings by their providers agree through each edit.
-use Rattle.std.proofs.Common.{◌≡◌, ℕ, Bool, true, false, not, ◌&&◌, ◌||◌, List, [], refl, ap, sym, ◌∙◌, nat_eq}
-use Rattle.std.specs.Prelude.{◌≢◌, IsTrue, IsSome}
+-- The bindings and the same bindings by their ends agree through each edit.
+use Rattle.std.proofs.Common.{◌≡◌, ℕ, Bool, true, false, not, ◌&&◌, ◌||◌, List, [], ◌∷◌, cond, refl, ap, sym, ◌∙◌, subst, nat_eq}
+use Rattle.std.specs.Prelude.{◌≢◌, ◌==◌, IsSome}
 use Rattle.std.specs.List.{filter, list_any}
 use Rattle.std.specs.BTreeSet.{insert_key}
 use Rattle.std.proofs.lemmas.Map.Views.{any-filter_same}
-use Rattle.std.proofs.lemmas.Bool.{both_ways, eq-eqb}
+use Rattle.std.proofs.lemmas.Bool.{eq-eqb, true≢false}
+use Rattle.std.specs.Ordering.{match_ordering}
+use Rattle.std.specs.declared.cmp.Ordering.TheVariants.{Less, Equal, Greater}
 use Rattle.std.proofs.lemmas.List.Kept.{IsStrictlySortedBy-filter}
-use Rattle.metis_universe.specs.Config.{Config, Binding, config_of, binding_cmp, is_bound, is_tie, put, remove, tie, untie, pair_of}
-use Rattle.metis_universe.proofs.Edits.{is_bound-tie, is_bound-untie, is_bound-remove, tie_is, binding_cmp_total}
+use Rattle.metis_universe.specs.Config.{Config, Binding, config_of, binding_cmp, is_tie, names, put, tie, untie, pair_of, IsConfig}
+use Rattle.metis_universe.proofs.Edits.{is_bound-tie, is_bound-untie, tie_is, binding_cmp_total}
 use Rattle.metis_universe.proofs.Kept.{IsConfig-put, IsConfig-remove, IsConfig-tie, IsConfig-untie}
 use Rattle.metis_universe.proofs.Sorted.{IsStrictlySortedBy-insert_key}
-use Rattle.metis_config.specs.Clients.{IsIndexed, has_client}
-
--- the bindings that name z at their first or second place
-abbrev pub names_first : ℕ → Binding → Bool
-names_first z b = nat_eq b.0 z || nat_eq b.1 z
+use Rattle.metis_config.specs.Clients.{AreEnds, AreNeeds, IsIndexed, has_client}
 
 turned : (a b c : Bool) → (a && b && c) ≡ (c && b && a)
 turned true true true = refl
@@ -26,25 +24,11 @@ turned false true false = refl
 turned false false true = refl
 turned false false false = refl
 
-swapped : (a b : Bool) → (a || b) ≡ (b || a)
-swapped true true = refl
-swapped true false = refl
-swapped false true = refl
-swapped false false = refl
-
 pub IsIndexed-put : (c : Config) (clients : List Binding) (z p : ℕ) → IsIndexed c clients → IsIndexed (put c z p) clients
 IsIndexed-put c clients z p k = record { config = IsConfig-put c z p k.config; in_order = k.in_order; same = k.same }
 
 has_client-filter : (t : Binding → Bool) (clients : List Binding) (y z r : ℕ) → has_client (filter t clients) y z r ≡ (t (y, z, r) && has_client clients y z r)
 has_client-filter t clients y z r = any-filter_same (is_tie y z r) t (t (y, z, r)) (λ b h. ap t (tie_is y z r b h)) clients
-
-pub IsIndexed-remove : (c : Config) (clients : List Binding) (z : ℕ) → IsIndexed c clients → IsIndexed (remove c z) (filter (λ b. not (names_first z b)) clients)
-IsIndexed-remove c clients z k = record {
-  config = IsConfig-remove c z k.config;
-  in_order = IsStrictlySortedBy-filter binding_cmp (λ b. not (names_first z b)) clients k.in_order;
-  same = λ r' z' y'. has_client-filter (λ b. not (names_first z b)) clients y' z' r'
-      ∙ (λ i. not (swapped (nat_eq y' z) (nat_eq z' z) i) && k.same r' z' y' i) ∙ sym (is_bound-remove c z r' z' y');
-}
 
 pub IsIndexed-tie : (c : Config) (clients : List Binding) (r z y : ℕ) → (z ≢ y) → IsSome (pair_of c z) → IsSome (pair_of c y) → IsIndexed c clients → IsIndexed (tie c r z y) (insert_key binding_cmp clients (y, z, r))
 IsIndexed-tie c clients r z y n s t k = record {
@@ -62,26 +46,81 @@ IsIndexed-untie c clients r z y k = record {
       ∙ (λ i. not (turned (nat_eq y' y) (nat_eq z' z) (nat_eq r' r) i) && k.same r' z' y' i) ∙ sym (is_bound-untie c r z y r' z' y');
 }
 
-own_tie : (y z r : ℕ) → is_tie y z r (y, z, r) ≡ true
+pub own_tie : (y z r : ℕ) → is_tie y z r (y, z, r) ≡ true
 own_tie y z r = λ i. eq-eqb y y refl i && eq-eqb z z refl i && eq-eqb r r refl i
 
--- what was not bound is put in and taken out
-pub IsIndexed-undone : (c : Config) (clients : List Binding) (r z y : ℕ) → is_bound c r z y ≡ false → IsIndexed c clients → IsIndexed c (filter (λ b. not (is_tie y z r b)) (insert_key binding_cmp clients (y, z, r)))
-IsIndexed-undone c clients r z y free k = record {
-  config = k.config;
-  in_order = IsStrictlySortedBy-filter binding_cmp (λ b. not (is_tie y z r b)) (insert_key binding_cmp clients (y, z, r)) (IsStrictlySortedBy-insert_key binding_cmp_total clients (y, z, r) k.in_order);
-  same = λ r' z' y'. has_client-filter (λ b. not (is_tie y z r b)) (insert_key binding_cmp clients (y, z, r)) y' z' r'
-      ∙ ap (λ b. not (is_tie y z r (y', z', r')) && b) (is_bound-tie (config_of [] clients) y z r y' z' r') ∙ gone r' z' y';
-} where
-  gone : (r' z' y' : ℕ) → (not (is_tie y z r (y', z', r')) && (is_tie y' z' r' (y, z, r) || has_client clients y' z' r')) ≡ is_bound c r' z' y'
-  gone r' z' y' =
-      elim (is_tie y z r (y', z', r')) as (λ b. is_tie y z r (y', z', r') ≡ b → (not b && (is_tie y' z' r' (y, z, r) || has_client clients y' z' r')) ≡ is_bound c r' z' y') [
-        | true ↦ λ at. let is = tie_is y z r (y', z', r') at in sym (ap (λ (b : Binding). is_bound c b.2 b.1 b.0) is ∙ free)
-        | false ↦ λ other. other_tie r' z' y' other ∙ k.same r' z' y'
-      ] refl where
-        other_tie : (r' z' y' : ℕ) → is_tie y z r (y', z', r') ≡ false → (is_tie y' z' r' (y, z, r) || has_client clients y' z' r') ≡ has_client clients y' z' r'
-        other_tie r' z' y' other =
-            elim (is_tie y' z' r' (y, z, r)) as (λ b. is_tie y' z' r' (y, z, r) ≡ b → (b || has_client clients y' z' r') ≡ has_client clients y' z' r') [
-              | true ↦ λ at. let is = tie_is y' z' r' (y, z, r) at in absurd (both_ways _ other (ap (λ (b : Binding). is_tie y z r b) (sym is) ∙ own_tie y z r))
-              | false ↦ λ _. refl
-            ] refl
+-- ---- by requirers
+
+moved : (a b c : Bool) → (a && b && c) ≡ (c && a && b)
+moved true true true = refl
+moved true true false = refl
+moved true false true = refl
+moved true false false = refl
+moved false true true = refl
+moved false true false = refl
+moved false false true = refl
+moved false false false = refl
+
+pub AreNeeds-tie : (c : Config) (needs : List Binding) (r z y : ℕ) → AreNeeds c needs → AreNeeds (tie c r z y) (insert_key binding_cmp needs (z, y, r))
+AreNeeds-tie c needs r z y k = record {
+  in_order = IsStrictlySortedBy-insert_key binding_cmp_total needs (z, y, r) k.in_order;
+  same = λ r' z' y'. is_bound-tie (config_of [] needs) z y r z' y' r'
+      ∙ (λ i. moved (nat_eq z z') (nat_eq y y') (nat_eq r r') i || k.same r' z' y' i) ∙ sym (is_bound-tie c r z y r' z' y');
+}
+
+pub AreNeeds-untie : (c : Config) (needs : List Binding) (r z y : ℕ) → AreNeeds c needs → AreNeeds (untie c r z y) (filter (λ b. not (is_tie z y r b)) needs)
+AreNeeds-untie c needs r z y k = record {
+  in_order = IsStrictlySortedBy-filter binding_cmp (λ b. not (is_tie z y r b)) needs k.in_order;
+  same = λ r' z' y'. has_client-filter (λ b. not (is_tie z y r b)) needs z' y' r'
+      ∙ (λ i. not (moved (nat_eq z' z) (nat_eq y' y) (nat_eq r' r) i) && k.same r' z' y' i) ∙ sym (is_bound-untie c r z y r' z' y');
+}
+
+-- ---- by both
+
+pub AreEnds-put : (c : Config) (clients needs : List Binding) (z p : ℕ) → AreEnds c clients needs → AreEnds (put c z p) clients needs
+AreEnds-put c clients needs z p k = record { by_provider = IsIndexed-put c clients z p k.by_provider; by_requirer = record { in_order = k.by_requirer.in_order; same = k.by_requirer.same } }
+
+pub AreEnds-tie : (c : Config) (clients needs : List Binding) (r z y : ℕ) → (z ≢ y) → IsSome (pair_of c z) → IsSome (pair_of c y) → AreEnds c clients needs → AreEnds (tie c r z y) (insert_key binding_cmp clients (y, z, r)) (insert_key binding_cmp needs (z, y, r))
+AreEnds-tie c clients needs r z y n s t k = record { by_provider = IsIndexed-tie c clients r z y n s t k.by_provider; by_requirer = AreNeeds-tie c needs r z y k.by_requirer }
+
+pub AreEnds-untie : (c : Config) (clients needs : List Binding) (r z y : ℕ) → AreEnds c clients needs → AreEnds (untie c r z y) (filter (λ b. not (is_tie y z r b)) clients) (filter (λ b. not (is_tie z y r b)) needs)
+AreEnds-untie c clients needs r z y k = record { by_provider = IsIndexed-untie c clients r z y k.by_provider; by_requirer = AreNeeds-untie c needs r z y k.by_requirer }
+
+-- ---- undone
+
+pub neither : (a b : Bool) → (a || b) ≡ false → (a ≡ false) × (b ≡ false)
+neither true b h = absurd (true≢false h)
+neither false b h = (refl, h)
+
+-- where none passes, all are kept
+pub none_tied : (t : Binding → Bool) (bs : List Binding) → list_any t bs ≡ false → filter (λ x. not (t x)) bs ≡ bs
+none_tied t [] n = refl
+none_tied t (x ∷ bs) n =
+    let parts = neither (t x) (list_any t bs) n in
+    ap (λ b. cond (not b) (x ∷ filter (λ x. not (t x)) bs) (filter (λ x. not (t x)) bs)) parts.0 ∙ ap (λ l. x ∷ l) (none_tied t bs parts.1)
+
+-- what was not there is put in and taken out
+pub insert-undone : (x y z : ℕ) (bs : List Binding) → list_any (is_tie x y z) bs ≡ false → filter (λ b. not (is_tie x y z b)) (insert_key binding_cmp bs (x, y, z)) ≡ bs
+insert-undone x y z [] n = ap (λ b. cond (not b) ((x, y, z) ∷ []) []) (own_tie x y z)
+insert-undone x y z (b ∷ bs) n =
+    let t = is_tie x y z in
+    elim (binding_cmp (x, y, z) b) as (λ o. filter (λ b. not (t b)) (match_ordering o ((x, y, z) ∷ b ∷ bs) (b ∷ bs) (b ∷ insert_key binding_cmp bs (x, y, z))) ≡ b ∷ bs) [
+      | Less ↦ ap (λ v. cond (not v) ((x, y, z) ∷ filter (λ b. not (t b)) (b ∷ bs)) (filter (λ b. not (t b)) (b ∷ bs))) (own_tie x y z) ∙ none_tied t (b ∷ bs) n
+      | Equal ↦ none_tied t (b ∷ bs) n
+      | Greater ↦
+          let parts = neither (t b) (list_any t bs) n in
+          ap (λ v. cond (not v) (b ∷ filter (λ b. not (t b)) (insert_key binding_cmp bs (x, y, z))) (filter (λ b. not (t b)) (insert_key binding_cmp bs (x, y, z)))) parts.0
+          ∙ ap (λ l. b ∷ l) (insert-undone x y z bs parts.1)
+    ]
+
+-- ---- an instance that no binding names
+
+pub AreEnds-gone : (c : Config) (clients needs : List Binding) (z : ℕ) → filter (λ b. not (names z b)) c.bindings ≡ c.bindings → AreEnds c clients needs → AreEnds (config_of (filter (λ e. not (e.0 == z)) c.instances) c.bindings) clients needs
+AreEnds-gone c clients needs z same k = record {
+  by_provider = record {
+    config = subst (λ bs. IsConfig (config_of (filter (λ e. not (e.0 == z)) c.instances) bs)) same (IsConfig-remove c z k.by_provider.config);
+    in_order = k.by_provider.in_order;
+    same = k.by_provider.same;
+  };
+  by_requirer = record { in_order = k.by_requirer.in_order; same = k.by_requirer.same };
+}

@@ -1,9 +1,9 @@
 -- The first unmet port, instance by instance and then port by port, is the least, and where there is none the configuration is correct.
-use Rattle.std.proofs.Common.{◌≡◌, ℕ, zero, suc, ◌+◌, ◌<◌, ◌≤◌, ◌⊎◌, Bool, true, false, cond, not, ◌&&◌, ◌||◌, List, [], ◌∷◌, length, Option, Some, None, refl, ap, sym, ◌∙◌, subst, nat_eq, inl, inr, arith}
-use Rattle.std.specs.Prelude.{◌≢◌, IsTrue, option_map, slice_index, ◌==◌}
-use Rattle.std.specs.List.{list_any, find, filter, AllByRecursion}
+use Rattle.std.proofs.Common.{◌≡◌, ℕ, suc, ◌+◌, ◌<◌, ◌≤◌, Bool, true, false, cond, not, ◌&&◌, List, [], ◌∷◌, Option, Some, None, refl, ap, sym, ◌∙◌, subst, nat_eq, inl, inr, arith}
+use Rattle.std.specs.Prelude.{option_map, slice_index, ◌==◌}
+use Rattle.std.specs.List.{find, AllByRecursion}
 use Rattle.std.specs.List.Sorted.{IsStrictlySortedBy, IsStrictlyIncreasing}
-use Rattle.std.specs.Option.{option_map_or, option_or, option_and_then}
+use Rattle.std.specs.Option.{option_map_or, option_or}
 use Rattle.std.specs.Map.{lookup, keys_of}
 use Rattle.std.specs.Ordering.{nat_cmp}
 use Rattle.std.specs.declared.cmp.Ordering.TheVariants.{Less}
@@ -11,7 +11,7 @@ use Rattle.std.proofs.lemmas.Bool.{false≢true, both_ways, and_parts, and_from,
 use Rattle.std.proofs.lemmas.Bool.Decides.{nat_tests}
 use Rattle.std.proofs.lemmas.List.{get_or_past}
 use Rattle.metis_universe.specs.Universe.{Universe, IsUniverse, has, provides, requires, required_of, pair_count, no_pair}
-use Rattle.metis_universe.specs.Config.{Config, Binding, pair_of, is_bound, is_tie, is_met, put, remove, untie, IsConfig, IsMet, Correct}
+use Rattle.metis_universe.specs.Config.{Config, pair_of, is_tie, is_met, put, remove, untie, IsConfig, IsMet, Correct}
 use Rattle.metis_universe.proofs.Edits.{pair_of-put, pair_of-remove, is_bound-untie}
 use Rattle.metis_universe.proofs.Kept.{IsConfig-put, IsConfig-remove, IsConfig-untie}
 use Rattle.metis_universe.proofs.Sorted.{apart_below}
@@ -19,7 +19,7 @@ use Rattle.metis_universe.proofs.TypeBlock.{any-filter}
 use Rattle.metis_universe.proofs.Correctness.{some_provides}
 use Rattle.metis_config.specs.Unmet.{pair_if, is_met_if, is_required, is_unmet, is_lost, unmet, unmet_among, unmet_port, IsLeast, IsAtMost, changed, earlier_of, own_unmet}
 use Rattle.metis_config.proofs.Unmets.{same_any, least_is_one}
-use Rattle.metis_config.proofs.Changes.{met, is_met-true, is_met-put, pair_of-changed, is_met-changed, unmet_changed}
+use Rattle.metis_config.proofs.Changes.{met, is_met-true, is_met-put, unmet_changed}
 
 none≢some : {A : Type 0} {x : A} → None ≡ Some x → ⊥
 none≢some e = cc

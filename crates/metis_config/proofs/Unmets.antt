@@ -1,19 +1,17 @@
 -- What is unmet, and what would be.
-use Rattle.std.proofs.Common.{◌≡◌, ℕ, zero, suc, ◌<◌, ◌≤◌, ◌⊎◌, Bool, true, false, cond, not, ◌&&◌, ◌||◌, List, [], ◌∷◌, Option, Some, None, refl, ap, sym, ◌∙◌, subst, nat_eq, inl, inr, arith}
-use Rattle.std.specs.Prelude.{IsTrue, IsSome, option_map, ◌==◌}
-use Rattle.std.specs.List.{list_any, list_all, find, AllByRecursion}
-use Rattle.std.specs.List.Sorted.{IsStrictlySortedBy, IsStrictlyIncreasing}
-use Rattle.std.specs.Option.{option_map_or, option_or}
-use Rattle.std.specs.Map.{lookup, keys_of}
-use Rattle.std.specs.Ordering.{nat_cmp, is_le}
+use Rattle.std.proofs.Common.{◌≡◌, ℕ, ◌<◌, ◌≤◌, ◌⊎◌, Bool, true, false, cond, not, ◌&&◌, ◌||◌, List, [], ◌∷◌, Option, Some, None, refl, ap, sym, ◌∙◌, subst, nat_eq, inl, inr, arith}
+use Rattle.std.specs.Prelude.{option_map, ◌==◌}
+use Rattle.std.specs.List.{list_any, find, AllByRecursion}
+use Rattle.std.specs.List.Sorted.{IsStrictlySortedBy}
+use Rattle.std.specs.Option.{option_map_or}
+use Rattle.std.specs.Ordering.{is_le}
 use Rattle.std.specs.declared.cmp.Ordering.TheVariants.{Less}
 use Rattle.std.proofs.lemmas.Bool.{false≢true, both_ways, and_parts, and_from, or_cases, or_left, or_right, eq-eqb, eqb-true, cases_lt, false_from_ne_true}
 use Rattle.std.proofs.lemmas.Bool.Decides.{nat_tests}
-use Rattle.metis_universe.specs.Universe.{Universe, has, provides, requires, required_of, pair_count}
-use Rattle.metis_universe.specs.Config.{Config, Binding, config_of, pair_of, is_bound, is_tie, is_met, binding_cmp, is_correct, IsConfig}
-use Rattle.metis_universe.proofs.Sorted.{apart_below}
+use Rattle.metis_universe.specs.Universe.{Universe, provides}
+use Rattle.metis_universe.specs.Config.{Config, Binding, pair_of, is_bound, is_tie, is_met, binding_cmp}
 use Rattle.metis_universe.proofs.Edits.{tie_is}
-use Rattle.metis_config.specs.Unmet.{pair_if, is_met_if, is_required, is_unmet, is_lost, unmet, unmet_among, unmet_port, IsLeast, IsAtMost}
+use Rattle.metis_config.specs.Unmet.{pair_if, is_met_if, is_required, is_lost, IsLeast, IsAtMost}
 use Rattle.metis_config.specs.Clients.{IsIndexed, has_client}
 
 pub same_any : (t t' : Binding → Bool) (bs : List Binding) → ((b : Binding) → t b ≡ t' b) → list_any t bs ≡ list_any t' bs
@@ -70,7 +68,7 @@ all_any P (b ∷ xs) all x y z h =
 alike : (a b c : ℕ) → is_le (binding_cmp (a, b, c) (a, b, c)) ≡ true
 alike a b c = grind (arith, nat_tests)
 
-found_none : (t : Binding → Bool) (xs : List Binding) → find t xs ≡ None → (x y z : ℕ) → list_any (is_tie x y z) xs ≡ true → t (x, y, z) ≡ true → ⊥
+pub found_none : (t : Binding → Bool) (xs : List Binding) → find t xs ≡ None → (x y z : ℕ) → list_any (is_tie x y z) xs ≡ true → t (x, y, z) ≡ true → ⊥
 found_none t [] e x y z h at = false≢true h
 found_none t (b ∷ xs) e x y z h at =
     elim (t b) as (λ v. t b ≡ v → cond v (Some b) (find t xs) ≡ None → ⊥) [
@@ -87,7 +85,7 @@ pub record IsFound (t : Binding → Bool) (xs : List Binding) (b : Binding) : Ty
   pub there : list_any (is_tie b.0 b.1 b.2) xs ≡ true
   pub first : (x y z : ℕ) → list_any (is_tie x y z) xs ≡ true → t (x, y, z) ≡ true → is_le (binding_cmp b (x, y, z)) ≡ true
 
-found_some : (t : Binding → Bool) (xs : List Binding) (b : Binding) → IsStrictlySortedBy binding_cmp xs → find t xs ≡ Some b → IsFound t xs b
+pub found_some : (t : Binding → Bool) (xs : List Binding) (b : Binding) → IsStrictlySortedBy binding_cmp xs → find t xs ≡ Some b → IsFound t xs b
 unfolding IsStrictlySortedBy
 found_some t [] b s e = absurd (none≢some e) where
   none≢some : {b : Binding} → None ≡ Some b → ⊥

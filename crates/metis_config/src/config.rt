@@ -1,12 +1,13 @@
 //! A configuration, its reads and its edits.
-ghost use Rattle.std.specs.Prelude.{◌≡◌, ◌≢◌, ◌<◌, ◌↔◌, ℕ, Some, IsTrue, IsFalse, IsSome, IfOk, OnOk, OnErr, length, not, None, ◌==◌, ◌||◌};
-ghost use Rattle.std.specs.List.{filter};
-ghost use Rattle.metis_universe.specs.Config.{IsConfig, empty, is_met, Correct, pair_of, is_bound, put, remove, tie, untie, names};
+ghost use Rattle.std.specs.Prelude.{◌≡◌, ◌≢◌, ◌<◌, ◌↔◌, ℕ, Some, IsTrue, IsFalse, IsSome, IsNone, IfOk, MatchOption, OnOk, OnErr, length, nat_lt, None};
+ghost use Rattle.std.specs.List.{list_all};
+ghost use Rattle.metis_universe.specs.Config.{IsConfig, empty, Correct, pair_of, is_bound, put, remove, tie, untie};
 ghost use Rattle.metis_universe.specs.Goal.{holding};
 ghost use Rattle.metis_universe.specs.Universe.{pair_count};
 ghost use Rattle.metis_config.specs.Over.{IsOver};
 ghost use Rattle.metis_config.specs.Unmet.{unmet, is_unmet, IsLeast, changed};
 
+use crate::ends::Ends;
 use crate::lists::{Instances, Ties};
 use crate::met;
 use metis_ids::{InstNo, NoMemory, PairIx, PortIx};
@@ -20,8 +21,8 @@ use std::marker::Model;
 pub struct Config {
     instances: BTreeMap<InstNo, PairIx>,
     bindings: BTreeSet<(PortIx, InstNo, InstNo)>,
-    /// The bindings again, by provider, then requirer, then port.
-    clients: BTreeSet<(InstNo, InstNo, PortIx)>,
+    /// The bindings again, by provider and by requirer.
+    ends: Ends,
 }
 
 impl Model for Config {
@@ -29,11 +30,11 @@ impl Model for Config {
 
     ghost Value = { model.Config };
 
-    ghost use Rattle.metis_config.specs.Clients.{IsIndexed};
+    ghost use Rattle.metis_config.specs.Clients.{AreEnds};
 
     ghost view = { λ a. model.config_of a.instances.entries a.bindings.keys };
 
-    ghost invariant = { λ a. IsIndexed (model.config_of a.instances.entries a.bindings.keys) a.clients.keys };
+    ghost invariant = { λ a. AreEnds (model.config_of a.instances.entries a.bindings.keys) a.ends.by_provider.keys a.ends.by_requirer.keys };
 }
 
 impl Config {
@@ -44,7 +45,7 @@ impl Config {
         Config {
             instances: BTreeMap::new(alloc),
             bindings: BTreeSet::new(alloc),
-            clients: BTreeSet::new(alloc),
+            ends: Ends::new(alloc),
         }
     }
 
@@ -55,7 +56,7 @@ impl Config {
         Ok(Config {
             instances: self.instances.clone()?,
             bindings: self.bindings.clone()?,
-            clients: self.clients.clone()?,
+            ends: self.ends.copy()?,
         })
     }
 
@@ -113,13 +114,12 @@ impl Config {
         self.instances.iter().filter(|(_, q)| **q == p).count() as u64
     }
 
-    /// Whether the port of the instance is met.
-    pub fn is_met(&self, u: &Universe, z: InstNo, r: PortIx) -> bool
-        requires { IsOver u.now self.now }
-        ensures { result ≡ is_met u.now self.now z r }
+    /// Whether each instance's pair and each binding's port is the universe's.
+    pub fn is_over(&self, u: &Universe) -> bool
+        ensures { IsTrue result ↔ IsOver u.now self.now }
     {
-        let pair = self.pair_of(z);
-        met::is_met_if(u, &self.instances, &self.bindings, z, &pair, z, r)
+        let _parts = &self.ends;
+        are_pairs_below(&self.instances, u.pairs()) && are_ports_below(&self.bindings, u.ports())
     }
 
     /// Whether each port that an instance's pair requires is met.
@@ -137,6 +137,7 @@ impl Config {
         requires { IsOver u.now self.now }
         ensures first { result ≡ unmet u.now self.now }
         ensures least { IsLeast (is_unmet u.now self.now) result }
+        ensures correct { IsNone result ↔ Correct u.now self.now }
     {
         let _pairs = u.pairs();
         met::first_unmet(u, &self.instances, &self.bindings)
@@ -151,7 +152,14 @@ impl Config {
     {
         let _pairs = u.pairs();
         let own = met::unmet_own(u, &self.instances, &self.bindings, z, &to);
-        let lost = met::first_lost(u, &self.instances, &self.bindings, &self.clients, z, &to);
+        let lost = met::first_lost(
+            u,
+            &self.instances,
+            &self.bindings,
+            &self.ends.by_provider,
+            z,
+            &to,
+        );
         met::earlier_of(z, own, lost)
     }
 
@@ -206,9 +214,9 @@ impl Config {
         ensures ok { OnOk result (self.new ≡ tie self.old r z y) }
         ensures err { OnErr result (self.new ≡ self.old) }
     {
-        self.clients.insert((y, z, r))?;
+        self.ends.add(r, z, y)?;
         if self.bindings.insert((r, z, y)).is_err() {
-            self.clients.remove(&(y, z, r));
+            self.ends.take(r, z, y);
             return Err(NoMemory);
         }
         Ok(())
@@ -220,29 +228,49 @@ impl Config {
         ensures { self.new ≡ untie self.old r z y }
     {
         self.bindings.remove(&(r, z, y));
-        self.clients.remove(&(y, z, r));
+        self.ends.take(r, z, y);
     }
 
-    /// Takes an instance away, with each binding that names it.
+    /// Takes an instance away, with each binding that names it. It looks at these bindings alone.
     pub fn remove(&mut self, z: InstNo)
         ensures { self.new ≡ remove self.old z }
     {
+        'served: while let Some((r, w)) = self.served_by(z) {
+            self.untie(r, w, z);
+        }
+        'needed: while let Some((r, y)) = self.needed_by(z) {
+            self.untie(r, z, y);
+        }
         self.instances.remove(&z);
-        drop_named(&mut self.bindings, z);
-        drop_clients(&mut self.clients, z);
+    }
+
+    // A binding to the provider: its port and its requirer.
+    fn served_by(&self, y: InstNo) -> Option<(PortIx, InstNo)>
+        ensures { MatchOption result ((r z : ℕ) → IsFalse (is_bound self.now r z y)) (λ b. IsTrue (is_bound self.now b.0 b.1 y)) }
+    {
+        let (z, r) = self.ends.first_to(y)?;
+        Some((r, z))
+    }
+
+    // A binding of the requirer: its port and its provider.
+    fn needed_by(&self, z: InstNo) -> Option<(PortIx, InstNo)>
+        ensures { MatchOption result ((r y : ℕ) → IsFalse (is_bound self.now r z y)) (λ b. IsTrue (is_bound self.now b.0 z b.1)) }
+    {
+        let (y, r) = self.ends.first_from(z)?;
+        Some((r, y))
     }
 }
 
-/// Keeps the bindings that do not name z.
-fn drop_named(bindings: &mut BTreeSet<(PortIx, InstNo, InstNo)>, z: InstNo)
-    ensures { bindings.new.keys ≡ filter (λ b. not (names z b)) bindings.old.keys }
+// Whether each pair has a number below this.
+fn are_pairs_below(instances: &BTreeMap<InstNo, PairIx>, count: u32) -> bool
+    ensures { result ≡ list_all (λ e. nat_lt e.1 count) instances.now.entries }
 {
-    bindings.retain(|b| !(b.1 == z || b.2 == z));
+    instances.iter().all(|(_, pair)| pair.0 < count)
 }
 
-/// The same of bindings by their providers.
-fn drop_clients(clients: &mut BTreeSet<(InstNo, InstNo, PortIx)>, z: InstNo)
-    ensures { clients.new.keys ≡ filter (λ b. not ((b.0 == z) || (b.1 == z))) clients.old.keys }
+// Whether each port has a number below this.
+fn are_ports_below(bindings: &BTreeSet<(PortIx, InstNo, InstNo)>, count: u32) -> bool
+    ensures { result ≡ list_all (λ b. nat_lt b.0 count) bindings.now.keys }
 {
-    clients.retain(|b| !(b.0 == z || b.1 == z));
+    bindings.iter().all(|tie| tie.0.0 < count)
 }

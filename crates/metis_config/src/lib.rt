@@ -2,6 +2,7 @@
 #![tactic(auto)]
 
 mod config;
+mod ends;
 mod lists;
 mod met;
 

@@ -11,5 +11,6 @@ pub mod Sets
 pub mod Short
 pub mod Stamps
 pub mod Standing
+pub mod Stopped
 pub mod Tables
 pub mod Ways

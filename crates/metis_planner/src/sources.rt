@@ -91,13 +91,15 @@ fn origins(alloc: Global, u: &Universe, layers: &Layers) -> Result<Vec<Option<Pa
     Ok(origins)
 }
 
-// The least pair of a lower layer that leads to the pair.
+// The least pair of a lower layer that leads to the pair. It is one of the pair's type, and those stand together.
 fn origin(u: &Universe, layers: &Layers, pair: PairIx) -> Option<PairIx>
     requires layers { IsLayers u.now layers.now }
     requires within { pair < pair_count u.now }
     ensures { result ≡ find (leads_to u.now pair) (all_pairs u.now) }
 {
-    for number in 0..u.pairs() {
+    let _pairs = u.pairs();
+    let first = pair.0 - u.state_of(pair).0;
+    for number in first..first + u.states(u.type_of(pair)) {
         let earlier = PairIx(number);
         if comes_before(layers, earlier, pair) && u.next(earlier).contains(&pair) {
             return Some(earlier);

@@ -70,6 +70,13 @@ impl<'a> Replay<'a> {
         Ok(())
     }
 
+    /// How many actions were fed, also those that were only counted.
+    pub fn count(&self) -> u64
+        ensures { result ≡ self.now.number }
+    {
+        u64::from(self.number)
+    }
+
     /// What the actions came to, where the targets were asked for.
     pub fn finish(&self, targets: &[PairIx]) -> Verdict
         ensures verdict { result ≡ verdict self.now targets.now }

@@ -28,3 +28,4 @@ pub mod Sorted
 pub mod Standing
 pub mod TypeBlock
 pub mod TypeFaults
+pub mod TypePlaces

@@ -32,7 +32,7 @@ under k t a = grind (arith, nat_tests)
 both : (k t : ℕ) → ltb k t ≡ true → leb k t ≡ false → ⊥
 both k t a b = grind (arith, nat_tests)
 
-abbrev is_of : ℕ → Pair → Bool
+abbrev pub is_of : ℕ → Pair → Bool
 is_of t p = nat_eq p.kind t
 
 pub block : (t : ℕ) (pairs : List Pair) (i n j : ℕ) → n + i ≡ j → j ≤ length pairs → AreEnds t pairs i j → take n (drop i pairs) ≡ filter (λ p. nat_eq p.kind t) pairs

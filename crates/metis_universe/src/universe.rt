@@ -1,10 +1,11 @@
 //! A universe: its types, its pairs in document order, and its ports.
-ghost use Rattle.std.specs.Prelude.{◌≡◌, ◌<◌, ◌==◌, ◌&&◌, length, position};
+ghost use Rattle.std.specs.Prelude.{◌≡◌, ◌<◌, ◌==◌, ◌&&◌, length, nat_lt, position, IsTrue, ◌↔◌};
 ghost use Rattle.std.specs.List.{All, filter, list_any, slice_index_or};
 ghost use Rattle.metis_universe.specs.Kinds.{kinds_of};
 ghost use Rattle.std.specs.List.Sorted.{IsStrictlyIncreasing, IsNonDecreasingBy};
 ghost use Rattle.std.specs.Str.{bytes_eq};
-ghost use Rattle.metis_universe.specs.Universe.{has, no_kind, pair_count, type_count, port_count, type_of, state_place_of, initial_of, is_initial, next_of, provided_of, required_of, provides, type_requires, type_provides, providers_of, type_named, port_named, state_named, pair_named, type_name_of, state_name_of, port_name_of, IsTable};
+ghost use Rattle.metis_universe.specs.Universe.{has, no_kind, pair_count, type_count, port_count, type_of, state_place_of, initial_of, is_initial, next_of, provided_of, required_of, provides, type_requires, type_provides, providers_of, type_named, port_named, state_named, pair_named, type_name_of, state_name_of, port_name_of, states_of_type, IsTable};
+ghost use Rattle.metis_universe.specs.Numbers.{IsOf};
 ghost use Rattle.metis_universe.specs.Rows.{RowsFit, IsMade};
 
 mod build;
@@ -14,7 +15,7 @@ use crate::faults::RowFault;
 use crate::rows::TypeRow;
 use crate::sights::ports_of;
 use indexmap::{IndexMap, IndexSet};
-use metis_ids::{PairIx, PortIx, StateIx, TypeIx};
+use metis_ids::{Action, PairIx, PortIx, StateIx, TypeIx};
 use std::alloc::Global;
 use std::marker::Model;
 
@@ -119,9 +120,16 @@ impl Universe {
         requires { p < pair_count self.now }
         ensures { result ≡ state_place_of self.now p }
     {
-        let kind = self.type_of(p);
-        let before = &self.pairs[..p.0 as usize];
-        StateIx(before.iter().filter(|pair| pair.kind == kind).count() as u32)
+        let start = start_of(&self.pairs, self.type_of(p));
+        StateIx(p.0 - start as u32)
+    }
+
+    /// How many states the type has, at most 64.
+    pub fn states(&self, t: TypeIx) -> u32
+        ensures { result ≡ length (states_of_type self.now t) }
+    {
+        let _tables = &self.kinds;
+        block_of(&self.pairs, t).len() as u32
     }
 
     /// The type's initial pair.
@@ -215,6 +223,19 @@ impl Universe {
         some_provides(block_of(&self.pairs, t), r)
     }
 
+    /// Whether the action's type, pairs and port are the universe's.
+    pub fn has_numbers(&self, a: &Action) -> bool
+        ensures { IsTrue result ↔ IsOf self.now a.now }
+    {
+        match *a {
+            Action::New { kind, .. } => kind.0 < self.types(),
+            Action::Delete { .. } => true,
+            Action::Bind { port, .. } => port.0 < self.ports(),
+            Action::Unbind { port, .. } => port.0 < self.ports(),
+            Action::Move { from, to, .. } => from.0 < self.pairs() && to.0 < self.pairs(),
+        }
+    }
+
     /// The type of this name.
     pub fn type_named(&self, name: &str) -> Option<TypeIx>
         ensures { result ≡ type_named self.now name.now }
@@ -227,8 +248,8 @@ impl Universe {
     pub fn state_named(&self, t: TypeIx, name: &str) -> Option<PairIx>
         ensures { result ≡ state_named self.now t name.now }
     {
-        let place = place_named(&self.pairs, t, name)?;
-        Some(PairIx(place as u32))
+        let place = place_named(block_of(&self.pairs, t), name)?;
+        Some(PairIx((start_of(&self.pairs, t) + place) as u32))
     }
 
     /// The pair of the type and the state of these names.
@@ -282,6 +303,14 @@ fn initial_among(kinds: &IndexMap<String, PairIx>, t: TypeIx) -> PairIx
     *initial
 }
 
+/// How many pairs have a lower type. Behind them begin those of the type.
+fn start_of(pairs: &[PairRow], t: TypeIx) -> usize
+    requires { IsNonDecreasingBy (λ p. p.kind) pairs.now }
+    ensures { result ≡ length (filter (λ p. nat_lt p.kind t) pairs.now) }
+{
+    pairs.partition_point(|pair| pair.kind < t)
+}
+
 /// The pairs of the type, which stand together.
 fn block_of(pairs: &[PairRow], t: TypeIx) -> &[PairRow]
     requires { IsNonDecreasingBy (λ p. p.kind) pairs.now }
@@ -306,11 +335,9 @@ fn some_provides(pairs: &[PairRow], r: PortIx) -> bool
     pairs.iter().any(|pair| pair.provided.contains(&r))
 }
 
-/// The place of the first pair of the type with this state.
-fn place_named(pairs: &[PairRow], t: TypeIx, name: &str) -> Option<usize>
-    ensures { result ≡ position (λ p. (p.kind == t) && bytes_eq name.now p.state) pairs.now }
+/// The place of the first of the pairs with this state.
+fn place_named(pairs: &[PairRow], name: &str) -> Option<usize>
+    ensures { result ≡ position (λ p. bytes_eq name.now p.state) pairs.now }
 {
-    pairs
-        .iter()
-        .position(|pair| pair.kind == t && name == pair.state.as_str())
+    pairs.iter().position(|pair| name == pair.state.as_str())
 }

@@ -4,6 +4,7 @@ pub mod Gathered
 pub mod Kept
 pub mod Noted
 pub mod Pairs
+pub mod Parted
 pub mod Passed
 pub mod Placed
 pub mod Pushed

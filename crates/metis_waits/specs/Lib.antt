@@ -1,3 +1,4 @@
+pub mod Rows
 pub mod State
 pub mod Ties
 pub mod Waits

@@ -6,7 +6,7 @@ ghost use Rattle.metis_universe.specs.Steadfast.{is_steadfast};
 ghost use Rattle.metis_waits.specs.Waits.{AreWaits, IfLoose, IsFirstLoose};
 
 use crate::fault::WFault;
-use crate::rows::Row;
+use crate::rows::Rows;
 use crate::state::State;
 use crate::wait_lists::Waits;
 use metis_ids::{Action, NoMemory};
@@ -23,8 +23,8 @@ pub fn waits(alloc: Global, u: &Universe, actions: &[Action]) -> Result<Waits, W
     ensures loose { IfLoose result (IsFirstLoose u.now actions.now) }
 {
     let mut state = State::new(alloc, u);
-    let mut each = Vec::new(alloc);
-    let mut others = Vec::new(alloc);
+    let mut each = Rows::new(alloc);
+    let mut others = Rows::new(alloc);
     for (index, action) in actions.iter().enumerate() {
         let earlier = &actions[..index];
         if !state.is_steadfast(u, earlier, action) {
@@ -32,22 +32,22 @@ pub fn waits(alloc: Global, u: &Universe, actions: &[Action]) -> Result<Waits, W
         }
         let numbers = state.waits_of(alloc, u, earlier, action)?;
         let previous = state.own_previous(u, earlier, action);
-        others.push(without(alloc, &numbers, previous)?)?;
-        each.push(Row { numbers })?;
+        others.push(&without(alloc, &numbers, previous)?)?;
+        each.push(&numbers)?;
         state.add(alloc, u, earlier, action)?;
     }
     Ok(Waits::new(each, others))
 }
 
 // The other numbers.
-fn without(alloc: Global, numbers: &[u32], left_out: u32) -> Result<Row, NoMemory>
-    ensures { IfOk result (λ row. row ≡ filter (λ m. not (m == left_out)) numbers.now) }
+fn without(alloc: Global, numbers: &[u32], left_out: u32) -> Result<Vec<u32>, NoMemory>
+    ensures { IfOk result (λ rest. rest.items ≡ filter (λ m. not (m == left_out)) numbers.now) }
 {
-    Ok(Row {
-        numbers: numbers
+    Ok(
+        numbers
             .iter()
             .copied()
             .filter(|number| *number != left_out)
             .collect(alloc)?,
-    })
+    )
 }

@@ -2,14 +2,14 @@
 ghost use Rattle.std.specs.Prelude.{◌≡◌, ◌≤◌, length};
 ghost use Rattle.metis_waits.specs.Waits.{list_of};
 
-use crate::rows::Row;
+use crate::rows::Rows;
 use std::marker::Model;
 
 /// For each action of a list the numbers of those that it waits for.
 #[derive(Drop)]
 pub struct Waits {
-    each: Vec<Row>,
-    others: Vec<Row>,
+    each: Rows,
+    others: Rows,
 }
 
 impl Model for Waits {
@@ -18,16 +18,16 @@ impl Model for Waits {
 
     ghost Value = { WaitLists };
 
-    ghost view = { λ w. record { each = w.each.items; others = w.others.items } };
+    ghost view = { λ w. record { each = w.each; others = w.others } };
 
-    ghost invariant = { λ w. length w.others.items ≡ length w.each.items };
+    ghost invariant = { λ w. length w.others ≡ length w.each };
 }
 
 impl Waits {
     /// As many lists of others as there are lists.
-    pub(crate) fn new(each: Vec<Row>, others: Vec<Row>) -> Waits
-        requires { length others.items ≡ length each.items }
-        ensures { result ≡ record { each = each.items; others = others.items } }
+    pub(crate) fn new(each: Rows, others: Rows) -> Waits
+        requires { length others ≡ length each }
+        ensures { result ≡ record { each = each; others = others } }
     {
         Waits { each, others }
     }
@@ -45,8 +45,7 @@ impl Waits {
         requires last { k ≤ length self.now.each }
         ensures { result.now ≡ list_of self.now.each k }
     {
-        let row = &self.each[k as usize - 1];
-        row.numbers.as_slice()
+        self.each.row(k as usize - 1)
     }
 
     /// The same without the previous action of the action's own instance.
@@ -55,7 +54,6 @@ impl Waits {
         requires last { k ≤ length self.now.each }
         ensures { result.now ≡ list_of self.now.others k }
     {
-        let row = &self.others[k as usize - 1];
-        row.numbers.as_slice()
+        self.others.row(k as usize - 1)
     }
 }

@@ -11,7 +11,7 @@ use metis_ids::{NoMemory, PairIx, PairSet, PortIx};
 use metis_universe::Universe;
 use std::alloc::Global;
 
-/// The layers of the universe's pairs. It goes over all pairs once for each round, in as many rounds as there are pairs.
+/// The layers of the universe's pairs. It goes over all pairs once for each round, up to the first one that adds nothing.
 pub fn layers(alloc: Global, u: &Universe) -> Result<Layers, NoMemory>
     ensures layers { IfOk result (IsLayers u.now) }
     ensures table { IfOk result (λ _. IsTable u.now) }
@@ -40,7 +40,11 @@ fn rounds_of(alloc: Global, u: &Universe) -> Result<(Vec<Option<u32>>, PairSet),
     let mut rounds = vec![in alloc; None; count as usize]?;
     for round in 0..count {
         rounds = stamp_all(alloc, &rounds, &set, round)?;
-        set = next_round(alloc, u, &set)?;
+        let next = next_round(alloc, u, &set)?;
+        if next.count() == set.count() {
+            return Ok((rounds, set));
+        }
+        set = next;
     }
     Ok((rounds, set))
 }

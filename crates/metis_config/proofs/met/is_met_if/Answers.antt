@@ -1,4 +1,4 @@
-use Rattle.std.proofs.Common.{◌≡◌, ◌∷◌, false, true, ◌&&◌, ◌||◌, nat_eq, sym, ap, ◌∙◌, subst}
+use Rattle.std.proofs.Common.{◌≡◌, ◌∷◌, false, ◌&&◌, ◌||◌, nat_eq, sym, ap, ◌∙◌, subst}
 use Rattle.std.specs.List.{list_any, filter}
 use Rattle.std.specs.Map.Iter.{deref}
 use Rattle.std.specs.Option.{option_map_or}

@@ -1,4 +1,4 @@
-use Rattle.std.proofs.Common.{◌≡◌, zero, false, ◌&&◌, nat_eq}
+use Rattle.std.proofs.Common.{◌≡◌, false, ◌&&◌, nat_eq}
 use Rattle.std.specs.List.{list_any}
 use Rattle.std.specs.Option.{option_map_or}
 use Rattle.metis_universe.specs.Universe.{provides}

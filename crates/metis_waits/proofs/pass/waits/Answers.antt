@@ -19,10 +19,10 @@ loop-index-preserved c =
     let more = take_more actions i a c.loop-index-test.true ∙ ap (λ (x : Action). take i actions ++ x ∷ []) (sym c.index-actions-index.is) in
     record {
       state = subst (λ l. IsState u l c.add.new.self) (sym more) c.in_ok-add.ensures;
-      each = mapped (waits actions) i c.loop-index.each.items c.push-in-loop-index.new.self.items c.in_ok-numbers.numbers.items c.in_ok-push-2.ensures.items c.loop-index.invariant.each (c.in_ok-numbers.ensures ∙ sym (waits_next actions i a is));
+      each = mapped (waits actions) i c.loop-index.each c.push-in-loop-index.new.self c.deref-in-loop-index-2.result.now c.in_ok-push-2.ensures.ok c.loop-index.invariant.each (c.deref-in-loop-index-2.ensures.value ∙ c.in_ok-numbers.ensures ∙ sym (waits_next actions i a is));
       others =
-          mapped (waits_on_others actions) i c.loop-index.others.items c.push.new.self.items c.in_ok-without.field-0 c.in_ok-push.ensures.items c.loop-index.invariant.others
-          (c.in_ok-without.ensures ∙ others_next actions i a is c.deref.result.now c.own_previous-previous.result (c.deref.ensures.value ∙ c.in_ok-numbers.ensures) c.own_previous-previous.ensures);
+          mapped (waits_on_others actions) i c.loop-index.others c.push.new.self c.deref-in-loop-index.result.now c.in_ok-push.ensures.ok c.loop-index.invariant.others
+          (c.deref-in-loop-index.ensures.value ∙ c.in_ok-without.ensures ∙ others_next actions i a is c.deref.result.now c.own_previous-previous.result (c.deref.ensures.value ∙ c.in_ok-numbers.ensures) c.own_previous-previous.ensures);
       steadfast = one_more (is_steadfast_at u actions) i c.loop-index.invariant.steadfast (steadfast_next actions i a is u ∙ sym c.if-not-is_steadfast.ensures);
     }
 

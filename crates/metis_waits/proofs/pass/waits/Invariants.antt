@@ -9,7 +9,7 @@ use Rattle.metis_waits.proofs.pass.waits.Given as goal
 abbrev pub invariant-loop-index : goal.invariant-loop-index
 invariant-loop-index l = record {
   state : IsState l.u (take l.index l.actions) l.state;
-  each : l.each.items ≡ map (waits l.actions) (range_with_len 1 l.index);
-  others : l.others.items ≡ map (waits_on_others l.actions) (range_with_len 1 l.index);
+  each : l.each ≡ map (waits l.actions) (range_with_len 1 l.index);
+  others : l.others ≡ map (waits_on_others l.actions) (range_with_len 1 l.index);
   steadfast : (j : ℕ) → j ≤ l.index → is_steadfast_at l.u l.actions j ≡ true;
 }

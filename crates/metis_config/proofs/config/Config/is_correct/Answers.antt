@@ -11,7 +11,7 @@ none_is (Some x) h = absurd (true≢false h)
 
 pub returns : goal.returns
 returns c =
-    let h = subst IsConfig c.self.view_is c.self.invariant.config in
+    let h = subst IsConfig c.self.view_is c.self.invariant.by_provider.config in
     let u = c.args.u.now in
     let k = c.pairs-pairs.ensures.table.universe in (
       λ t. correct-unmet u c.args.self.now k h (sym c.unmet.ensures.first ∙ none_is c.unmet.result (c.is_none.ensures ∙ ap not t)),

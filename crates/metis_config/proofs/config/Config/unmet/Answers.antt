@@ -1,11 +1,25 @@
-use Rattle.std.proofs.Common.{ap, sym, ◌∙◌, subst}
+use Rattle.std.proofs.Common.{◌≡◌, Option, Some, None, refl, ap, sym, ◌∙◌, subst}
+use Rattle.std.specs.Prelude.{IsNone}
 use Rattle.metis_universe.specs.Config.{IsConfig}
 use Rattle.metis_config.specs.Unmet.{unmet, is_unmet, IsLeast}
-use Rattle.metis_config.proofs.Leasts.{unmet_least}
+use Rattle.metis_config.proofs.Leasts.{correct-unmet, unmet-correct, unmet_least}
 use Rattle.metis_config.proofs.config.Config.unmet.Goals as goal
 
 pub returns-clause-least : goal.returns-clause-least
 returns-clause-least c =
-    let h = subst IsConfig c.self.view_is c.self.invariant.config in
+    let h = subst IsConfig c.self.view_is c.self.invariant.by_provider.config in
     subst (IsLeast (is_unmet c.args.u.now c.args.self.now)) (sym (c.first_unmet.ensures ∙ ap (unmet c.args.u.now) c.self.view_is))
     (unmet_least c.args.u.now c.args.self.now c.pairs-pairs.ensures.table.universe h)
+
+none_is : {A : Type 0} (o : Option A) → IsNone o → o ≡ None
+none_is None h = refl
+none_is (Some x) h = cc
+
+pub returns-clause-correct : goal.returns-clause-correct
+returns-clause-correct c =
+    let h = subst IsConfig c.self.view_is c.self.invariant.by_provider.config in
+    let k = c.pairs-pairs.ensures.table.universe in
+    let is = c.first_unmet.ensures ∙ ap (unmet c.args.u.now) c.self.view_is in (
+      λ none. correct-unmet c.args.u.now c.args.self.now k h (sym is ∙ none_is _ none),
+      λ correct. subst IsNone (sym (is ∙ unmet-correct c.args.u.now c.args.self.now k h correct)) refl,
+    )

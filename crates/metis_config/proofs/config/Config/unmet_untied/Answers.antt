@@ -6,12 +6,12 @@ use Rattle.metis_config.proofs.config.Config.unmet_untied.Goals as goal
 
 pub returns-then-lacks : goal.returns-then-lacks
 returns-then-lacks c =
-    let h = subst IsConfig c.self.view_is c.self.invariant.config in
+    let h = subst IsConfig c.self.view_is c.self.invariant.by_provider.config in
     let e = sym c.if-lacks.true ∙ c.lacks.ensures ∙ ap (λ (d : Config). is_required c.args.u.now d c.args.z c.args.r && not (is_met_if c.args.u.now d c.args.y None c.args.z c.args.r)) c.self.view_is in
     unmet-untied c.args.u.now c.args.self.now c.pairs-pairs.ensures.table.universe h c.requires.correct c.args.r c.args.z c.args.y true e
 
 pub returns-else-lacks : goal.returns-else-lacks
 returns-else-lacks c =
-    let h = subst IsConfig c.self.view_is c.self.invariant.config in
+    let h = subst IsConfig c.self.view_is c.self.invariant.by_provider.config in
     let e = sym c.if-lacks.false ∙ c.lacks.ensures ∙ ap (λ (d : Config). is_required c.args.u.now d c.args.z c.args.r && not (is_met_if c.args.u.now d c.args.y None c.args.z c.args.r)) c.self.view_is in
     unmet-untied c.args.u.now c.args.self.now c.pairs-pairs.ensures.table.universe h c.requires.correct c.args.r c.args.z c.args.y false e

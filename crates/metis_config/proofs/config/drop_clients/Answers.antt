@@ -1,7 +1,0 @@
-use Rattle.std.proofs.Common.{not, rules}
-use Rattle.std.proofs.lemmas.Fn.{filter_same}
-use Rattle.metis_config.proofs.Indexed.{names_first}
-use Rattle.metis_config.proofs.config.drop_clients.Goals as goal
-
-pub returns : goal.returns
-returns c = filter_same _ (λ b. not (names_first c.args.z b)) _ (λ x b f' k. search rules) _ _ c.retain.ensures.filtered
