@@ -5,6 +5,7 @@ pub mod Hops
 pub mod LayerFacts
 pub mod Layered
 pub mod Lines
+pub mod Named
 pub mod Numbers
 pub mod Order
 pub mod Sets

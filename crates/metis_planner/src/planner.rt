@@ -4,7 +4,7 @@ ghost use Rattle.std.specs.List.{All, find};
 ghost use Rattle.metis_universe.specs.Closed.{Refusal};
 ghost use Rattle.metis_universe.specs.Config.{empty};
 ghost use Rattle.metis_universe.specs.Goal.{Attains, Holds, IsAttainedSet};
-ghost use Rattle.metis_universe.specs.Numbers.{IsOf};
+ghost use Rattle.metis_universe.specs.Numbers.{IsOf, NamesBelow};
 ghost use Rattle.metis_universe.specs.Steadfast.{is_steadfast};
 ghost use Rattle.metis_universe.specs.Step.{IsRun, after_all};
 ghost use Rattle.metis_universe.specs.Universe.{IsTable, pair_count};
@@ -37,6 +37,7 @@ pub fn plan(alloc: Global, u: &Universe, targets: &[PairIx]) -> Result<Outcome, 
     ensures holds { IfPlan result (λ plan. Holds (after_all u.now empty plan.actions) targets.now) }
     ensures steadfast { IfPlan result (λ plan. IsTrue (is_steadfast u.now plan.actions)) }
     ensures numbers { IfPlan result (λ plan. All (IsOf u.now) plan.actions) }
+    ensures named { IfPlan result (λ plan. All (NamesBelow (2 ^ 32)) plan.actions) }
 
     // It counts its instances, which are few, also since a universe has at most 2,000 pairs, and so are the actions of
     // each.

@@ -17,9 +17,9 @@ use Rattle.metis_text.proofs.RunLists.{length-others, others, others_are_earlier
 use Rattle.metis_text.proofs.RunMoves.{run_fits}
 
 module _ (u : Universe) (p : Plan) (table : IsTable u) (run : IsRun u empty p.actions) (of : All (IsOf u) p.actions) (pairs : All (λ d. d.pair < pair_count u) p.dups)
-    (cycles : All (λ d. 2 ≤ length d.cycle) p.dups) (in_range : IsPlanInRange p) (counted : p.instances ≡ count_by makes p.actions) (short : length (plan_bytes u p (others p.actions)) < 2 ^ 32 - 1) where
-  run_formed : IsWellFormed u p (others p.actions)
-  run_formed = record {
+    (cycles : All (λ d. 2 ≤ length d.cycle) p.dups) (in_range : IsPlanInRange p) (counted : p.instances ≡ count_by makes p.actions) where
+  pub run_formed : length p.actions < 2 ^ 32 → length p.dups < 2 ^ 32 → IsWellFormed u p (others p.actions)
+  run_formed few_actions few_dups = record {
     lists = length-others p.actions;
     ascending = others_ascend p.actions;
     earlier = others_are_earlier p.actions;
@@ -28,10 +28,13 @@ module _ (u : Universe) (p : Plan) (table : IsTable u) (run : IsRun u empty p.ac
     dups = pairs;
     cycles = cycles;
     in_range = in_range;
-    few_actions = omega (arith, actions_below_bytes u p (others p.actions) (length-others p.actions), short);
-    few_dups = omega (arith, dups_below_bytes u p (others p.actions), short);
+    few_actions = few_actions;
+    few_dups = few_dups;
     instances = counted;
   }
 
-  pub written_run_read : plan_in u (plan_bytes u p (others p.actions)) ≡ Ok (said p (others p.actions))
-  written_run_read = well_formed_read u p (others p.actions) table.universe table.named run_formed
+  pub written_run_read : length (plan_bytes u p (others p.actions)) < 2 ^ 32 - 1 → plan_in u (plan_bytes u p (others p.actions)) ≡ Ok (said p (others p.actions))
+  written_run_read short =
+      well_formed_read u p (others p.actions) table.universe table.named (run_formed
+      (omega (arith, actions_below_bytes u p (others p.actions) (length-others p.actions), short))
+      (omega (arith, dups_below_bytes u p (others p.actions), short)))

@@ -4,17 +4,13 @@
 use Rattle.std.specs.Prelude.{◌<◌, ◌^◌, ⊤}
 use Rattle.std.specs.List.{All}
 use Rattle.metis_ids.specs.declared.actions.Action.{Action}
-use Rattle.metis_ids.specs.declared.actions.Action.TheVariants.{New, Delete, Bind, Unbind, Move}
 use Rattle.metis_ids.specs.declared.events.Event.{Event}
 use Rattle.metis_ids.specs.declared.events.Event.TheVariants.{At, End}
 use Rattle.metis_ids.specs.Plans.{Plan}
+use Rattle.metis_universe.specs.Numbers.{NamesBelow}
 
 abbrev pub IsActionInRange : Action → Type 0
-IsActionInRange (New z t) = z < 2 ^ 32
-IsActionInRange (Delete z) = z < 2 ^ 32
-IsActionInRange (Bind r z y) = (z < 2 ^ 32) × (y < 2 ^ 32)
-IsActionInRange (Unbind r z y) = (z < 2 ^ 32) × (y < 2 ^ 32)
-IsActionInRange (Move z p q) = z < 2 ^ 32
+IsActionInRange a = NamesBelow (2 ^ 32) a
 
 abbrev pub IsEventInRange : Event → Type 0
 IsEventInRange (At l s) = (l < 2 ^ 32) × (s < 2 ^ 32)

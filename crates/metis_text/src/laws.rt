@@ -26,7 +26,14 @@ pub fn well_formed_is_read()
     ensures { (u : Universe) (p : Plan) (after : List (List ℕ)) → IsTable u → IsWellFormed u p after → plan_in u (plan_bytes u p after) ≡ Ok (said p after) }
 {}
 
-/// The text that is written for a plan whose actions are a run from the empty configuration is read as this plan.
+/// A plan whose actions are a run from the empty configuration is well formed, with what its actions wait for.
+pub fn written_run_is_well_formed()
+    ensures { (u : Universe) (p : Plan) → IsTable u → IsRun u empty p.actions → All (IsOf u) p.actions → All (λ d. d.pair < pair_count u) p.dups → All (λ d. 2 ≤ length d.cycle) p.dups
+        → IsPlanInRange p → p.instances ≡ count_by makes p.actions → length p.actions < 2 ^ 32 → length p.dups < 2 ^ 32
+        → IsWellFormed u p (map (waits_on_others p.actions) (numbers p.actions)) }
+{}
+
+/// So the text that is written for it is read as this plan.
 pub fn written_run_is_read()
     ensures { (u : Universe) (p : Plan) → IsTable u → IsRun u empty p.actions → All (IsOf u) p.actions → All (λ d. d.pair < pair_count u) p.dups → All (λ d. 2 ≤ length d.cycle) p.dups
         → IsPlanInRange p → p.instances ≡ count_by makes p.actions

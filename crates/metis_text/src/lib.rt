@@ -25,7 +25,7 @@ mod write;
 pub use fault::TFault;
 pub use laws::{
     accepted_is_written, accepted_refusal_is_written, plan_has_lines, refusal_has_lines,
-    refusal_is_read, well_formed_is_read, written_run_is_read,
+    refusal_is_read, well_formed_is_read, written_run_is_read, written_run_is_well_formed,
 };
 pub use plan_text::PlanText;
 pub use read::read_plan;

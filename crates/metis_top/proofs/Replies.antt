@@ -1,12 +1,14 @@
 -- Runs that come to their answer.
-use Rattle.std.proofs.Common.{◌≡◌, ℕ, List, [], ◌∷◌, length, Ok, refl, sym, ap, ◌∙◌, subst, inl, inr, arith}
-use Rattle.std.specs.List.{count_by}
+use Rattle.std.proofs.Common.{◌≡◌, ℕ, ◌<◌, ◌≤◌, ◌^◌, List, [], ◌∷◌, length, Ok, refl, sym, ap, ◌∙◌, subst, inl, inr, arith}
+use Rattle.std.specs.List.{All, count_by}
 use Rattle.std.specs.Prelude.{IsTrue}
 use Rattle.std.specs.declared.option.Option.{Option}
 use Rattle.metis_ids.specs.declared.actions.Action.{Action}
 use Rattle.metis_ids.specs.declared.actions.Action.TheVariants.{New, Delete, Bind, Unbind, Move}
-use Rattle.metis_ids.specs.Plans.{Plan}
-use Rattle.metis_layers.specs.LayerOrder.{instances_of}
+use Rattle.metis_ids.specs.Plans.{Dup, Plan}
+use Rattle.metis_layers.specs.LayerOrder.{instances_of, layer_order}
+use Rattle.metis_text.proofs.WrittenRun.{run_formed}
+use Rattle.std.proofs.lemmas.List.Elements.{All-nil}
 use Rattle.metis_layers.specs.LayerOrder as layer_order
 use Rattle.std.proofs.lemmas.List.Sums.{length-filter}
 use Rattle.metis_universe.proofs.Inside.{refused}
@@ -15,15 +17,17 @@ use Rattle.metis_universe.specs.Config.{empty}
 use Rattle.metis_universe.specs.Goal.{Holds, IsAttainedSet}
 use Rattle.metis_universe.specs.Steadfast.{is_steadfast}
 use Rattle.metis_universe.specs.Step.{IsRun, after_all}
-use Rattle.metis_universe.specs.Universe.{Universe}
+use Rattle.metis_universe.specs.Numbers.{IsOf, NamesBelow}
+use Rattle.metis_universe.specs.Universe.{IsTable, Universe, pair_count}
 use Rattle.metis_planner.specs.Outcomes.{IsLean}
 use Rattle.metis_replay.specs.Exact.{Tells}
 use Rattle.metis_replay.specs.declared.verdict.Verdict.{Verdict}
 use Rattle.metis_replay.specs.declared.verdict.Verdict.TheVariants.{Good, Bad, Missing}
 use Rattle.metis_top.specs.Answer.{Answer, IsAnswer}
 use Rattle.metis_top.specs.Course.{Gathers, Ran, Shown, Says, OnShelf}
-use Rattle.metis_text.specs.PlanText.{makes}
-use Rattle.metis_top.specs.Planned.{IsPlan, PlanAnswer, plan_text}
+use Rattle.metis_text.specs.InRange.{IsEventInRange}
+use Rattle.metis_text.specs.PlanText.{IsWellFormed, makes}
+use Rattle.metis_top.specs.Planned.{IsPlan, PlanAnswer, others, plan_text}
 use Rattle.metis_text.specs.RefusalText.{refusal_lines}
 use Rattle.metis_top.specs.Replayed.{Replayed, good_line, standing_after, verdict_line, verdict_status}
 use Rattle.metis_top.specs.Script.{Script, Reply}
@@ -40,7 +44,7 @@ ran_replied files faults opens written sink_faults view part next shelf shelf' s
     let is = g.came.0 next ∙ replies in
     let P : Script → Type 0 = λ script. OnShelf script (length g.taken) (faults shelf) (faults shelf') (opens shelf) (opens shelf') (written sink) (written sink') status in
     let Q : Script → Type 0 = λ script. Shown (Says script) (written sink) (written sink') (sink_faults sink) (sink_faults sink') status in
-    record { taken = g.taken; asked = g.asked next; reads = subst P (sym is) (g.came.1, g.came.2); puts = subst Q (sym is) s }
+    record { taken = g.taken; asked = g.asked next; kept = g.files; reads = subst P (sym is) (g.came.1, g.came.2); puts = subst Q (sym is) s }
 
 same_makes : (a : Action) → layer_order.makes a ≡ makes a
 same_makes (New z t) = refl
@@ -54,12 +58,14 @@ counts_as_made : (actions : List Action) → instances_of actions ≡ count_by m
 counts_as_made actions = length-filter layer_order.makes actions ∙ (λ i. count_by (λ a. same_makes a i) actions)
 
 -- the lines of a plan answer
-pub answer_by_plan : (u : Universe) (g : List ℕ) (p : Plan) → IsRun u empty p.actions → Holds (after_all u empty p.actions) g → IsTrue (is_steadfast u p.actions)
-    → p.instances ≡ instances_of p.actions → IsLean u p.instances g → p.dups ≡ [] → PlanAnswer u g (plan_text u p) Done
-answer_by_plan u g p runs holds steadfast counts lean undoubled =
+pub answer_by_plan : (u : Universe) (g : List ℕ) (p : Plan) → IsTable u → IsRun u empty p.actions → Holds (after_all u empty p.actions) g → IsTrue (is_steadfast u p.actions) → All (IsOf u) p.actions → All (NamesBelow (2 ^ 32)) p.actions
+    → p.instances ≡ instances_of p.actions → IsLean u p.instances g → length p.actions < 2 ^ 32 → p.actions ≡ layer_order u g → p.dups ≡ [] → PlanAnswer u g (plan_text u p) Done
+answer_by_plan u g p table runs holds steadfast of named counts lean few by_layers undoubled =
     let counted : p.instances ≡ count_by makes p.actions = counts ∙ counts_as_made p.actions in
     let is : IsPlan u g p.actions = record { runs = runs; holds = holds; steadfast = steadfast; attained = lean.attained; all = lean.all; few = omega (arith, counted, lean.few) } in
-    inl (refl, record { attains = (p.actions, runs, holds); plan = p; is = is; counted = counted; undoubled = undoubled; told = refl })
+    let none : (P : Dup → Type 0) → All P p.dups = λ P. subst (λ l. All P l) (sym undoubled) (All-nil P) in
+    let formed : IsWellFormed u p (others p.actions) = run_formed u p table runs of (none (λ d. d.pair < pair_count u)) (none (λ d. 2 ≤ length d.cycle)) (record { actions = named; events = none (λ d. All IsEventInRange d.cycle) }) counted few (omega (arith, ap length undoubled)) in
+    inl (refl, record { attains = (p.actions, runs, holds); plan = p; is = is; by_layers = by_layers; counted = counted; undoubled = undoubled; formed = formed; told = refl })
 
 -- the lines of a refusal answer
 pub answer_by_refusal : (u : Universe) (g s : List ℕ) (p : ℕ) → IsAttainedSet u s → Refusal u g s p → PlanAnswer u g (refusal_lines u s p) No

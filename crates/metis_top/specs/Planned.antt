@@ -13,7 +13,8 @@ use Rattle.metis_universe.specs.Step.{IsRun, after_all}
 use Rattle.metis_universe.specs.Goal.{Holds, Attains, IsAttainedSet}
 use Rattle.metis_universe.specs.Steadfast.{is_steadfast}
 use Rattle.metis_universe.specs.Closed.{Refusal}
-use Rattle.metis_text.specs.PlanText.{makes, plan_lines}
+use Rattle.metis_layers.specs.LayerOrder.{layer_order}
+use Rattle.metis_text.specs.PlanText.{IsWellFormed, makes, plan_lines}
 use Rattle.metis_universe.specs.Waits.{numbers}
 use Rattle.metis_waits.specs.Waits.{waits_on_others}
 use Rattle.metis_text.specs.RefusalText.{refusal_lines}
@@ -33,16 +34,23 @@ pub record IsRefusal (u : Universe) (g s : List ℕ) (p : ℕ) : Type 0 where
   pub refusal : Refusal u g s p
   pub all : IsAttainedSet u s
 
-abbrev pub plan_text : Universe → Plan → List (List ℕ)
-plan_text u p = plan_lines u p (map (waits_on_others p.actions) (numbers p.actions))
+-- what each action waits for of the other instances
+abbrev pub others : List Action → List (List ℕ)
+others actions = map (waits_on_others actions) (numbers actions)
 
--- It counts its instances.
+abbrev pub plan_text : Universe → Plan → List (List ℕ)
+plan_text u p = plan_lines u p (others p.actions)
+
+-- It counts its instances, doubles none, and its actions are those in the order of the layers. With what they wait for it is
+-- well formed, so that its text is read again.
 pub record Plans (u : Universe) (g : List ℕ) (lines : List (List ℕ)) : Type 0 where
   pub attains : Attains u g
   pub plan : Plan
   pub is : IsPlan u g plan.actions
+  pub by_layers : plan.actions ≡ layer_order u g
   pub counted : plan.instances ≡ count_by makes plan.actions
   pub undoubled : plan.dups ≡ []
+  pub formed : IsWellFormed u plan (others plan.actions)
   pub told : lines ≡ plan_text u plan
 
 pub record Refuses (u : Universe) (g : List ℕ) (lines : List (List ℕ)) : Type 0 where

@@ -20,3 +20,9 @@ code_of BadInput = 3
 code_of ReadFault = 4
 code_of WriteFault = 5
 code_of NoMemory = 6
+
+-- the run did not fail on its files or its output
+abbrev pub IsCalm : Status → Type 0
+IsCalm ReadFault = ⊥
+IsCalm WriteFault = ⊥
+IsCalm _ = Unit {0}

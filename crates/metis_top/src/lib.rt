@@ -2,6 +2,7 @@
 #![tactic(auto)]
 
 mod grammar;
+mod in_memory;
 mod judgement_line;
 mod plan;
 mod print;
@@ -16,6 +17,7 @@ mod verdict_line;
 mod words;
 
 pub use grammar::read_words;
+pub use in_memory::run_in_memory;
 pub use status::Status;
 pub use top::run;
 pub use words::{Command, TargetWord, Verb, WordFault};

@@ -28,6 +28,9 @@ pub fn run<H: Shelf, K: Sink>(alloc: Global, words: &[String], shelf: &mut H, ou
     // What it takes of its files, how often it opens one, what it puts, and its status.
     ensures course { Ran H.files H.faults H.opens K.written K.faults (script_of (texts words.now)) shelf.old shelf.new out.old out.new result }
 
+    // The files stay as they were.
+    ensures files { H.files shelf.new ≡ H.files shelf.old }
+
     // It opens a file at least and at most those of its words, each once, and none where its words are no command.
     ensures opens { OpensFiles (form_of (texts words.now)) result (H.opens shelf.old) (H.opens shelf.new) }
 

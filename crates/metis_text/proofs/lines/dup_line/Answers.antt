@@ -10,6 +10,6 @@ returns c =
     let events = map event_token c.dup.inside.cycle.items in
     let others = decimal c.args.number ∷ pair_word c.args.u.now c.dup.inside.pair ∷ codes "cycle" ∷ [] in
     rw (← c.dup.view_is) (
-      c.in_ok-push_str.ensures.bytes
-      ∙ ap (λ l. l ++ codes "\n") (c.in_ok-push_events.ensures ∙ ap (λ es. string_bytes c.in_ok-line.line ++ added (map event_token es)) c.deref.ensures.value
-      ∙ ap (λ l. l ++ added events) c.in_ok-line.ensures ∙ sym (words_added (codes "dup") others events)))
+    c.in_ok-push_str.ensures.bytes
+    ∙ ap (λ l. l ++ codes "\n") (c.in_ok-push_events.ensures ∙ ap (λ es. string_bytes c.in_ok-line.line ++ added (map event_token es)) c.deref.ensures.value
+    ∙ ap (λ l. l ++ added events) c.in_ok-line.ensures ∙ sym (words_added (codes "dup") others events)))
