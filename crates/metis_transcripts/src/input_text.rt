@@ -1,4 +1,4 @@
-ghost use Rattle.std.specs.Prelude.{◌≡◌, ◌++◌, OnOk, length, min, take};
+ghost use Rattle.std.specs.Prelude.{◌≡◌, ◌++◌, [], OnOk, length, min, take};
 
 use std::alloc::{AllocError, Global};
 use std::marker::Model;
@@ -22,7 +22,9 @@ impl Model for InputText {
 }
 
 impl InputText {
-    pub fn empty(alloc: Global) -> Self {
+    pub fn empty(alloc: Global) -> Self
+        ensures { result.all ≡ [] }
+    {
         InputText {
             bytes: Vec::new(alloc),
             at: 0,

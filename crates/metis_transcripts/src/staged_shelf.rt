@@ -1,4 +1,4 @@
-ghost use Rattle.std.specs.Prelude.{◌≡◌, ◌+◌, ◌-◌, ◌^◌, ◌<◌, IsErrOf, IsTrue, None, OnOk, Some, codes, length, min};
+ghost use Rattle.std.specs.Prelude.{◌≡◌, ◌+◌, ◌-◌, ◌^◌, ◌<◌, [], IsErrOf, IsTrue, None, OnOk, Some, codes, length, min};
 ghost use Rattle.std.specs.Io.{ReadsAtMost};
 ghost use Rattle.std.specs.Io.KnownBytes.{ReadConsumes};
 ghost use Rattle.metis_outside.specs.Faults.{CountsFault};
@@ -22,7 +22,11 @@ pub struct StagedShelf<H: Shelf + Drop> {
 }
 
 impl<H: Shelf + Drop> StagedShelf<H> {
-    pub fn new(alloc: Global, files: H) -> Self {
+    pub fn new(alloc: Global, files: H) -> Self
+        ensures files { result.files ≡ files }
+        ensures input { result.input.all ≡ [] }
+        ensures fails { result.fails ≡ 0 }
+    {
         StagedShelf {
             files,
             input: InputText::empty(alloc),

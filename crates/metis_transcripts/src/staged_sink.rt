@@ -15,7 +15,10 @@ pub struct StagedSink<K: Sink + Drop> {
 }
 
 impl<K: Sink + Drop> StagedSink<K> {
-    pub fn new(out: K) -> Self {
+    pub fn new(out: K) -> Self
+        ensures out { result.out ≡ out }
+        ensures fails { result.fails ≡ 0 }
+    {
         StagedSink {
             out,
             fails: Countdown::to(0),
