@@ -1,0 +1,41 @@
+use metis_ids::NoMemory;
+use std::alloc::{AllocError, AllocFailed};
+use std::io;
+
+/// Why not all probes were made.
+#[derive(Clone, Copy, Debug, Drop, PartialEq, Eq)]
+pub enum Stop {
+    /// A file was not read, or a line not printed.
+    Files,
+    /// The line that was printed last is no probe.
+    NoProbe,
+    /// Its document is no universe.
+    NoUniverse,
+    /// Its text is no plan of the universe.
+    NoPlan,
+    NoMemory,
+}
+
+impl From<io::Error> for Stop {
+    fn from(_: io::Error) -> Self {
+        Stop::Files
+    }
+}
+
+impl From<AllocError> for Stop {
+    fn from(_: AllocError) -> Self {
+        Stop::NoMemory
+    }
+}
+
+impl<T: Drop> From<AllocFailed<T>> for Stop {
+    fn from(_: AllocFailed<T>) -> Self {
+        Stop::NoMemory
+    }
+}
+
+impl From<NoMemory> for Stop {
+    fn from(_: NoMemory) -> Self {
+        Stop::NoMemory
+    }
+}

@@ -1,0 +1,6 @@
+pub mod Cases
+pub mod Outside
+pub mod Plays
+pub mod Runs
+pub mod Settings
+pub mod Staged
