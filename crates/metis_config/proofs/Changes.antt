@@ -12,7 +12,7 @@ use Rattle.metis_universe.proofs.Correctness.{any_bound, bound_any, some_provide
 use Rattle.metis_config.specs.Unmet.{pair_if, is_met_if, is_required, is_unmet, is_lost, IsLeast, IsAtMost, changed, earlier_of}
 use Rattle.metis_config.proofs.Unmets.{same_any}
 
-abbrev gives : Universe → ℕ → Option ℕ → Bool
+abbrev pub gives : Universe → ℕ → Option ℕ → Bool
 gives u r o = option_map_or (λ q. provides u q r) o false
 
 -- ---- who meets

@@ -1,5 +1,6 @@
 pub mod Changes
 pub mod Firsts
+pub mod GivenUp
 pub mod Indexed
 pub mod Leasts
 pub mod Prefixes

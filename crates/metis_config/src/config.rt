@@ -143,7 +143,8 @@ impl Config {
         met::first_unmet(u, &self.instances, &self.bindings)
     }
 
-    /// What `unmet` would be if the instance were in the pair, or gone. It looks at the instance and those bound to it.
+    /// What `unmet` would be if the instance were in the pair, or gone. It looks at the instance, and at those bound to it
+    /// whose port it gives now and would no longer.
     pub fn unmet_if(&self, u: &Universe, z: InstNo, to: Option<PairIx>) -> Option<(InstNo, PortIx)>
         requires over { IsOver u.now self.now }
         requires correct { Correct u.now self.now }
@@ -176,7 +177,7 @@ impl Config {
         ensures { result ≡ unmet u.now (untie self.now r z y) }
     {
         let _pairs = u.pairs();
-        if met::lacks(u, &self.instances, &self.bindings, y, &None, z, r) {
+        if met::loses_tie(u, &self.instances, &self.bindings, r, z, y) {
             Some((z, r))
         } else {
             None

@@ -1,9 +1,9 @@
 //! Which ports are met, over the parts of a configuration.
-ghost use Rattle.std.specs.Prelude.{◌≡◌, ◌<◌, ℕ, ◌==◌, ◌&&◌, not, false, [], Some};
+ghost use Rattle.std.specs.Prelude.{◌≡◌, ◌<◌, ℕ, ◌==◌, ◌&&◌, not, false, [], Some, None, IsTrue};
 ghost use Rattle.std.specs.List.{find};
 ghost use Rattle.std.specs.Option.{option_map_or};
 ghost use Rattle.metis_universe.specs.Universe.{pair_count, provides, required_of};
-ghost use Rattle.metis_universe.specs.Config.{config_of, pair_of};
+ghost use Rattle.metis_universe.specs.Config.{IsConfig, Correct, config_of, is_bound, pair_of};
 ghost use Rattle.metis_config.specs.Over.{IsOver};
 ghost use Rattle.metis_config.specs.Clients.{IsIndexed};
 ghost use Rattle.metis_config.specs.Unmet.{pair_if, is_met_if, is_required, is_lost, IsLeast, unmet_port, unmet, own_unmet, earlier_of};
@@ -86,7 +86,7 @@ fn is_required(u: &Universe, instances: &BTreeMap<InstNo, PairIx>, z: InstNo, r:
 }
 
 /// Whether the port r of w is required and would not be met, where z is taken to be in another pair, or gone.
-pub fn lacks(
+fn lacks(
     u: &Universe,
     instances: &BTreeMap<InstNo, PairIx>,
     bindings: &BTreeSet<(PortIx, InstNo, InstNo)>,
@@ -102,6 +102,58 @@ pub fn lacks(
     is_required(u, instances, w, r) && !is_met_if(u, instances, bindings, z, to, w, r)
 }
 
+// Whether z's pair provides the port, and the other pair would not.
+fn gives_up(
+    u: &Universe,
+    instances: &BTreeMap<InstNo, PairIx>,
+    z: InstNo,
+    to: &Option<PairIx>,
+    r: PortIx,
+) -> bool
+    requires there { (y q : ℕ) → pair_of (config_of instances.now.entries []) y ≡ Some q → q < pair_count u.now }
+    requires to { (q : ℕ) → to.now ≡ Some q → q < pair_count u.now }
+    ensures { result ≡ (option_map_or (λ q. provides u.now q r) (pair_of (config_of instances.now.entries []) z) false && not (option_map_or (λ q. provides u.now q r) to.now false)) }
+{
+    gives(u, pair_in(instances, z), r) && !gives(u, *to, r)
+}
+
+// The same of a requirer that is bound to z, where all ports are met now. So it looks further only where z gives the port now
+// and would no longer.
+fn loses(
+    u: &Universe,
+    instances: &BTreeMap<InstNo, PairIx>,
+    bindings: &BTreeSet<(PortIx, InstNo, InstNo)>,
+    z: InstNo,
+    to: &Option<PairIx>,
+    w: InstNo,
+    r: PortIx,
+) -> bool
+    requires over { IsOver u.now (config_of instances.now.entries bindings.now.keys) }
+    requires correct { Correct u.now (config_of instances.now.entries bindings.now.keys) }
+    requires to { (q : ℕ) → to.now ≡ Some q → q < pair_count u.now }
+    requires bound { IsTrue (is_bound (config_of instances.now.entries bindings.now.keys) r w z) }
+    ensures { result ≡ (is_required u.now (config_of instances.now.entries bindings.now.keys) w r && not (is_met_if u.now (config_of instances.now.entries bindings.now.keys) z to.now w r)) }
+{
+    gives_up(u, instances, z, to, r) && lacks(u, instances, bindings, z, to, w, r)
+}
+
+/// Whether the requirer's port would not be met without the binding, where all ports are met now. It looks further only where
+/// the provider gives the port.
+pub fn loses_tie(
+    u: &Universe,
+    instances: &BTreeMap<InstNo, PairIx>,
+    bindings: &BTreeSet<(PortIx, InstNo, InstNo)>,
+    r: PortIx,
+    z: InstNo,
+    y: InstNo,
+) -> bool
+    requires over { IsOver u.now (config_of instances.now.entries bindings.now.keys) }
+    requires correct { Correct u.now (config_of instances.now.entries bindings.now.keys) }
+    ensures { result ≡ (is_required u.now (config_of instances.now.entries bindings.now.keys) z r && not (is_met_if u.now (config_of instances.now.entries bindings.now.keys) y None z r)) }
+{
+    gives(u, pair_in(instances, y), r) && lacks(u, instances, bindings, y, &None, z, r)
+}
+
 /// The least of those bound to z that would not be met, where z is taken to be in another pair, or gone.
 pub fn first_lost(
     u: &Universe,
@@ -113,6 +165,7 @@ pub fn first_lost(
 ) -> Option<(InstNo, PortIx)>
     requires over { IsOver u.now (config_of instances.now.entries bindings.now.keys) }
     requires to { (q : ℕ) → to.now ≡ Some q → q < pair_count u.now }
+    requires correct { Correct u.now (config_of instances.now.entries bindings.now.keys) }
     requires indexed { IsIndexed (config_of instances.now.entries bindings.now.keys) clients.now.keys }
     ensures { IsLeast (is_lost u.now (config_of instances.now.entries bindings.now.keys) z to.now) result }
 {
@@ -120,7 +173,7 @@ pub fn first_lost(
         if client.0 != z {
             return None;
         }
-        if lacks(u, instances, bindings, z, to, client.1, client.2) {
+        if loses(u, instances, bindings, z, to, client.1, client.2) {
             return Some((client.1, client.2));
         }
     }
@@ -180,7 +233,8 @@ pub fn first_unmet(
     None
 }
 
-/// The first port of z's own that would not be met.
+/// The first port of z's own that would not be met, where all ports are met now. So it looks only at those that z does not
+/// require yet.
 pub fn unmet_own(
     u: &Universe,
     instances: &BTreeMap<InstNo, PairIx>,
@@ -189,11 +243,34 @@ pub fn unmet_own(
     to: &Option<PairIx>,
 ) -> Option<PortIx>
     requires over { IsOver u.now (config_of instances.now.entries bindings.now.keys) }
+    requires correct { Correct u.now (config_of instances.now.entries bindings.now.keys) }
+    requires config { IsConfig (config_of instances.now.entries bindings.now.keys) }
     requires to { (q : ℕ) → to.now ≡ Some q → q < pair_count u.now }
     ensures { result ≡ own_unmet u.now (config_of instances.now.entries bindings.now.keys) z to.now }
 {
     let q = (*to)?;
-    unmet_port(u, instances, bindings, z, to, u.requires_(q))
+    new_unmet(u, instances, bindings, z, to, u.requires_(q))
+}
+
+// The first of these ports that z does not require yet and that would not be met.
+fn new_unmet(
+    u: &Universe,
+    instances: &BTreeMap<InstNo, PairIx>,
+    bindings: &BTreeSet<(PortIx, InstNo, InstNo)>,
+    z: InstNo,
+    to: &Option<PairIx>,
+    ports: &[PortIx],
+) -> Option<PortIx>
+    requires over { IsOver u.now (config_of instances.now.entries bindings.now.keys) }
+    requires to { (q : ℕ) → to.now ≡ Some q → q < pair_count u.now }
+    ensures { result ≡ find (λ r. not (is_required u.now (config_of instances.now.entries bindings.now.keys) z r) && not (is_met_if u.now (config_of instances.now.entries bindings.now.keys) z to.now z r)) ports.now }
+{
+    for r in ports {
+        if !is_required(u, instances, z, *r) && !is_met_if(u, instances, bindings, z, to, z, *r) {
+            return Some(*r);
+        }
+    }
+    None
 }
 
 /// Of a port of z's own and an instance with its port, the one that comes first.

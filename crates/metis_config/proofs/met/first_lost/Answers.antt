@@ -1,9 +1,11 @@
 use Rattle.std.proofs.Common.{◌≡◌, ◌∷◌, false, true, cond, ◌&&◌, nat_eq, Some, None, sym, ap, ◌∙◌, subst}
-use Rattle.std.specs.List.{find, filter}
+use Rattle.std.specs.List.{AllByRecursion, find, filter}
 use Rattle.std.specs.Map.Iter.{deref}
-use Rattle.std.proofs.lemmas.Bool.{and_parts, not-true, not-false}
+use Rattle.std.proofs.lemmas.Bool.{and_parts, eqb-true, not-true, not-false}
 use Rattle.std.proofs.lemmas.Map.Iter.{rest_more, rest_all}
 use Rattle.metis_universe.specs.Config.{Binding, config_of}
+use Rattle.metis_config.specs.Clients.{has_client}
+use Rattle.metis_config.proofs.GivenUp.{each_from_in, each_in, is_in}
 use Rattle.metis_config.proofs.Prefixes.{IsRest, IsRest-filter, IsRest-tail, find-from, find_none, each_weaker, has_head-from, no_head_after, is_from}
 use Rattle.metis_config.proofs.Unmets.{lost_client, lost_least, lacking}
 use Rattle.metis_config.proofs.met.first_lost.Goals as goal
@@ -16,7 +18,17 @@ loop-client-init c =
     record {
       left = ap (find passes) is ∙ find-from start passes (λ b h. has_head-from c.args.z b (and_parts _ _ h).0) c.args.clients.now.keys;
       rest = subst (IsRest start) (sym is) (IsRest-filter start c.args.clients.now.keys c.range-client-items.ensures.ordered);
+      there = subst (AllByRecursion (is_in c.args.clients.now.keys)) (sym is) (each_from_in start c.args.clients.now.keys c.args.clients.now.keys (each_in c.args.clients.now.keys));
     }
+
+-- the client is bound to z
+pub loses-requires-clause-bound : goal.loses-requires-clause-bound
+loses-requires-clause-bound c =
+    let k = config_of c.args.instances.now.entries c.args.bindings.now.keys in
+    let e = rest_more deref _ _ _ _ c.in-Some.is c.next.ensures.steps in
+    let own = eqb-true c.in-Some.client.now.0 c.args.z (not-false _ (sym c.ne.ensures ∙ c.if-ne.false)) in
+    let there = subst (AllByRecursion (is_in c.args.clients.now.keys)) e c.loop-client.invariant.there in
+    sym (c.requires.indexed.same c.in-Some.client.now.2 c.in-Some.client.now.1 c.args.z) ∙ ap (λ y. has_client c.args.clients.now.keys y c.in-Some.client.now.1 c.in-Some.client.now.2) (sym own) ∙ there.0
 
 pub returns-then-ne : goal.returns-then-ne
 returns-then-ne c =
@@ -31,13 +43,13 @@ returns-then-ne c =
     ∙ find_none passes (c.in-Some.client.now ∷ c.next.new.self)
     (each_weaker (λ b. nat_eq b.0 c.args.z) passes (λ b n. ap (λ v. v && lacking c.args.u.now k c.args.z c.args.to.now b) n) (c.in-Some.client.now ∷ c.next.new.self) none))
 
-pub returns-then-lacks : goal.returns-then-lacks
-returns-then-lacks c =
+pub returns-then-loses : goal.returns-then-loses
+returns-then-loses c =
     let k = config_of c.args.instances.now.entries c.args.bindings.now.keys in
     let passes = lost_client c.args.u.now k c.args.z c.args.to.now in
     let e = rest_more deref _ _ _ _ c.in-Some.is c.next.ensures.steps in
     let own = not-false _ (sym c.ne.ensures ∙ c.if-ne.false) in
-    let here : passes c.in-Some.client.now ≡ true = ap (λ v. v && lacking c.args.u.now k c.args.z c.args.to.now c.in-Some.client.now) own ∙ sym c.lacks.ensures ∙ c.if-lacks.true in
+    let here : passes c.in-Some.client.now ≡ true = ap (λ v. v && lacking c.args.u.now k c.args.z c.args.to.now c.in-Some.client.now) own ∙ sym c.loses.ensures ∙ c.if-loses.true in
     lost_least c.args.u.now k c.args.clients.now.keys c.args.z c.args.to.now c.requires.indexed (Some c.in-Some.client.now)
     (sym c.loop-client.invariant.left ∙ ap (find passes) e ∙ ap (λ v. cond v (Some c.in-Some.client.now) (find passes c.next.new.self)) here)
 
@@ -48,10 +60,11 @@ loop-client-preserved c =
     let passes = lost_client c.args.u.now k c.args.z c.args.to.now in
     let e = rest_more deref _ _ _ _ c.in-Some.is c.next.ensures.steps in
     let own = not-false _ (sym c.ne.ensures ∙ c.if-ne.false) in
-    let fails : passes c.in-Some.client.now ≡ false = ap (λ v. v && lacking c.args.u.now k c.args.z c.args.to.now c.in-Some.client.now) own ∙ sym c.lacks.ensures ∙ c.if-lacks.false in
+    let fails : passes c.in-Some.client.now ≡ false = ap (λ v. v && lacking c.args.u.now k c.args.z c.args.to.now c.in-Some.client.now) own ∙ sym c.loses.ensures ∙ c.if-loses.false in
     record {
       left = sym (ap (λ v. cond v (Some c.in-Some.client.now) (find passes c.next.new.self)) fails) ∙ sym (ap (find passes) e) ∙ c.loop-client.invariant.left;
       rest = IsRest-tail start c.in-Some.client.now c.next.new.self (subst (IsRest start) e c.loop-client.invariant.rest);
+      there = (subst (AllByRecursion (is_in c.args.clients.now.keys)) e c.loop-client.invariant.there).1;
     }
 
 pub returns : goal.returns
