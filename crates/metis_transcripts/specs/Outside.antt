@@ -3,7 +3,7 @@
 --     read_faults, opens      how often a call of the files failed, and how often a file was opened
 --     input      what the name `-` opens
 --     call      which of the calls of the files to come is to fail, counted from 1; 0 where none is
---     written, write_faults, put      the bytes written so far, how often a put failed, and which put to come is to fail
+--     written, write_faults, put      the pieces put so far, how often a put failed, and which put to come is to fail
 use Rattle.std.specs.Prelude.{ℕ, List}
 use Rattle.std.specs.declared.option.Option.{Option}
 
@@ -13,12 +13,12 @@ pub record Outside (S K : Type 0) : Type 0 where
   pub opens : S → ℕ
   pub input : S → List ℕ
   pub call : S → ℕ
-  pub written : K → Option (List ℕ)
+  pub written : K → Option (List (List ℕ))
   pub write_faults : K → ℕ
   pub put : K → ℕ
 
 abbrev pub outside : {S K : Type 0} → (S → Option (List ℕ → List ℕ)) → (S → ℕ) → (S → ℕ) → (S → List ℕ) → (S → ℕ)
-    → (K → Option (List ℕ)) → (K → ℕ) → (K → ℕ) → Outside S K
+    → (K → Option (List (List ℕ))) → (K → ℕ) → (K → ℕ) → Outside S K
 outside files read_faults opens input call written write_faults put = record {
   files = files;
   read_faults = read_faults;

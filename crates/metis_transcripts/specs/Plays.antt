@@ -1,8 +1,8 @@
 -- What it is that the lines of a file of cases were played, one after the other.
 use Rattle.std.specs.Prelude.{◌≡◌, ℕ, List, [], ◌∷◌, ◌≤◌, length}
-use Rattle.std.specs.Io.KnownBytes.{Appends}
 use Rattle.std.specs.Str.Lines.{lines}
 use Rattle.metis_outside.specs.Whole.{IsTaken}
+use Rattle.metis_outside.specs.Writes.{Appends}
 use Rattle.metis_transcripts.specs.declared.words.Role.{Role}
 use Rattle.metis_transcripts.specs.declared.words.Role.TheVariants.{Remark, Input, Failing, Case}
 use Rattle.metis_transcripts.specs.Cases.{role_of, plain_line}
@@ -13,11 +13,11 @@ use Rattle.metis_transcripts.specs.Settings.{Setting, SetsCall, blank, with_inpu
 -- a line of this role was put, and changed the setting of the next case; a case was run, and leaves a blank one
 abbrev pub IsPlayedAs : {S K : Type 0} → Outside S K → Role → List ℕ → Setting → Setting → S → S → K → K → Type 0
 IsPlayedAs o Remark line setting setting' shelf shelf' sink sink' =
-    Appends (o.written sink) (o.written sink') (plain_line line) × (setting' ≡ setting) × (shelf' ≡ shelf)
+    Appends (o.written sink) (o.written sink') (plain_line line ∷ []) × (setting' ≡ setting) × (shelf' ≡ shelf)
 IsPlayedAs o Input line setting setting' shelf shelf' sink sink' =
-    Appends (o.written sink) (o.written sink') (plain_line line) × (setting' ≡ with_input line setting) × (shelf' ≡ shelf)
+    Appends (o.written sink) (o.written sink') (plain_line line ∷ []) × (setting' ≡ with_input line setting) × (shelf' ≡ shelf)
 IsPlayedAs o Failing line setting setting' shelf shelf' sink sink' =
-    Appends (o.written sink) (o.written sink') (plain_line line) × SetsCall line setting setting' × (shelf' ≡ shelf)
+    Appends (o.written sink) (o.written sink') (plain_line line ∷ []) × SetsCall line setting setting' × (shelf' ≡ shelf)
 IsPlayedAs o Case line setting setting' shelf shelf' sink sink' =
     IsCase o line setting shelf shelf' sink sink' × (setting' ≡ blank)
 

@@ -1,7 +1,8 @@
 -- What it is that the command of a case was run.
 use Rattle.std.specs.Prelude.{◌≡◌, ◌≢◌, ◌⊎◌, ℕ, List, [], ◌∷◌, ◌++◌, codes, Some}
 use Rattle.std.specs.declared.option.Option.{Option}
-use Rattle.std.specs.Io.KnownBytes.{Appends}
+use Rattle.metis_outside.specs.Pieces.{bytes_of}
+use Rattle.metis_outside.specs.Writes.{Appends}
 use Rattle.metis_top.specs.declared.status.Status.{Status}
 use Rattle.metis_top.specs.declared.status.Status.TheVariants.{WriteFault, NoMemory}
 use Rattle.metis_top.specs.Commands.{script_of}
@@ -34,12 +35,12 @@ pub record IsShown {S K : Type 0} (o : Outside S K) (line : List ℕ) (put : ℕ
   pub is : o.written sink' ≡ o.written after
   pub whole : IsWhole put status
 
--- the command of the line was run over an output that tells its bytes, of which there were none before
-pub record IsAside {S : Type 0} (files : S → Option (List ℕ → List ℕ)) (faults opens : S → ℕ) (written : Option (List ℕ))
+-- the command of the line was run over an output that tells its pieces, of which there were none before
+pub record IsAside {S : Type 0} (files : S → Option (List ℕ → List ℕ)) (faults opens : S → ℕ) (written : Option (List (List ℕ)))
     (line : List ℕ) (shelf shelf' : S) (status : Status) : Type 0 where
   pub words : List (List ℕ)
   pub named : words_in line ≡ codes "metis" ∷ words
-  pub ran : Ran files faults opens (λ bytes. bytes) (λ _. 0) (script_of words) shelf shelf' (Some []) written status
+  pub ran : Ran files faults opens (λ pieces. pieces) (λ _. 0) (script_of words) shelf shelf' (Some []) written status
   pub whole : IsWhole 0 status
 
 -- one command was run as the setting says, and its status was put
@@ -49,22 +50,22 @@ pub record IsSingle {S K : Type 0} (o : Outside S K) (line : List ℕ) (setting 
   pub told : K
   pub status : Status
   pub shown : IsShown o line setting.write ready shelf' sink told status
-  pub foot : Appends (o.written told) (o.written sink') (single_foot status)
+  pub foot : Appends (o.written told) (o.written sink') (single_foot status ∷ [])
 
 -- the second of two commands was run over what the first one had put, and both statuses were put
 pub record IsPiped {S K : Type 0} (o : Outside S K) (first second : List ℕ) (setting : Setting) (shelf shelf' : S) (sink sink' : K) : Type 0 where
   pub ready : S
   pub prepared : IsPrepared o setting.input 0 shelf ready
   pub between : S
-  pub text : List ℕ
+  pub lines : List (List ℕ)
   pub first_status : Status
-  pub aside : IsAside o.files o.read_faults o.opens (Some text) first ready between first_status
+  pub aside : IsAside o.files o.read_faults o.opens (Some lines) first ready between first_status
   pub handed : S
-  pub fed : IsPrepared o text setting.read between handed
+  pub fed : IsPrepared o (bytes_of lines) setting.read between handed
   pub told : K
   pub status : Status
   pub shown : IsShown o second setting.write handed shelf' sink told status
-  pub foot : Appends (o.written told) (o.written sink') (piped_foot first_status status)
+  pub foot : Appends (o.written told) (o.written sink') (piped_foot first_status status ∷ [])
 
 -- what was run behind the line: one command where no bar stands in it, and else two
 abbrev pub IsAnswered : {S K : Type 0} → Outside S K → List ℕ → Setting → S → S → K → K → Type 0
@@ -75,5 +76,5 @@ IsAnswered o line setting shelf shelf' sink sink' =
 -- the line of a case was put, and then what was run
 pub record IsCase {S K : Type 0} (o : Outside S K) (line : List ℕ) (setting : Setting) (shelf shelf' : S) (sink sink' : K) : Type 0 where
   pub told : K
-  pub head : Appends (o.written sink) (o.written told) (case_head line)
+  pub head : Appends (o.written sink) (o.written told) (case_head line ∷ [])
   pub answered : IsAnswered o line setting shelf shelf' told sink'

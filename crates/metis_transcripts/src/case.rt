@@ -1,6 +1,6 @@
 //! Runs a case.
-ghost use Rattle.std.specs.Prelude.{◌≡◌, ◌↔◌, IfOk, IsTrue, OnOk};
-ghost use Rattle.std.specs.Io.KnownBytes.{Appends};
+ghost use Rattle.std.specs.Prelude.{◌≡◌, ◌↔◌, ◌∷◌, [], IfOk, IsTrue, OnOk};
+ghost use Rattle.metis_outside.specs.Writes.{Appends};
 ghost use Rattle.metis_transcripts.specs.Cases.{case_head, single_foot, piped_foot};
 ghost use Rattle.metis_transcripts.specs.Outside.{outside};
 ghost use Rattle.metis_transcripts.specs.Runs.{IsAside, IsCase, IsPiped, IsShown, IsSingle, IsWhole};
@@ -121,7 +121,7 @@ fn is_whole(status: Status, put: u32) -> bool
 }
 
 fn put_head<K: Sink>(alloc: Global, line: &str, out: &mut K) -> Result<(), Stop>
-    ensures { OnOk result (Appends (K.written out.old) (K.written out.new) (case_head line.now)) }
+    ensures { OnOk result (Appends (K.written out.old) (K.written out.new) (case_head line.now ∷ [])) }
 {
     let text = format!(in alloc; "$ {line}\n")?;
     out.put(text.as_bytes())?;
@@ -129,7 +129,7 @@ fn put_head<K: Sink>(alloc: Global, line: &str, out: &mut K) -> Result<(), Stop>
 }
 
 fn put_foot<K: Sink>(alloc: Global, status: Status, out: &mut K) -> Result<(), Stop>
-    ensures { OnOk result (Appends (K.written out.old) (K.written out.new) (single_foot status)) }
+    ensures { OnOk result (Appends (K.written out.old) (K.written out.new) (single_foot status ∷ [])) }
 {
     let code = status.code();
     let text = format!(in alloc; "status {code}\n")?;
@@ -138,7 +138,7 @@ fn put_foot<K: Sink>(alloc: Global, status: Status, out: &mut K) -> Result<(), S
 }
 
 fn put_feet<K: Sink>(alloc: Global, first: Status, second: Status, out: &mut K) -> Result<(), Stop>
-    ensures { OnOk result (Appends (K.written out.old) (K.written out.new) (piped_foot first second)) }
+    ensures { OnOk result (Appends (K.written out.old) (K.written out.new) (piped_foot first second ∷ [])) }
 {
     let (first, second) = (first.code(), second.code());
     let text = format!(in alloc; "status {first} | {second}\n")?;

@@ -1,6 +1,6 @@
 //! Runs cases, and puts their transcript.
-ghost use Rattle.std.specs.Prelude.{OnOk};
-ghost use Rattle.std.specs.Io.KnownBytes.{Appends};
+ghost use Rattle.std.specs.Prelude.{◌∷◌, [], OnOk};
+ghost use Rattle.metis_outside.specs.Writes.{Appends};
 ghost use Rattle.std.specs.Str.Lines.{lines};
 ghost use Rattle.metis_transcripts.specs.Cases.{plain_line};
 ghost use Rattle.metis_transcripts.specs.Outside.{outside};
@@ -86,7 +86,7 @@ fn play_line<H: CaseShelf, K: CaseSink>(
 }
 
 fn put_plain<K: Sink>(alloc: Global, line: &str, out: &mut K) -> Result<(), Stop>
-    ensures { OnOk result (Appends (K.written out.old) (K.written out.new) (plain_line line.now)) }
+    ensures { OnOk result (Appends (K.written out.old) (K.written out.new) (plain_line line.now ∷ [])) }
 {
     let text = format!(in alloc; "{line}\n")?;
     out.put(text.as_bytes())?;
