@@ -14,7 +14,8 @@ use Rattle.metis_universe.specs.Layers.{is_in_layer, layer_set, layered}
 use Rattle.metis_universe.specs.Selection.{origin_of}
 use Rattle.metis_universe.specs.Universe.{Universe, all_pairs, has, is_free, pair_count}
 use Rattle.metis_layers.proofs.LayerFacts.{in_layer, layer_below, layer_has}
-use Rattle.metis_layers.specs.LayerOrder.{attained_pairs, binds, unbinds, gained, instances_of, is_standing, line_actions, lines_from, makes, move_actions, moves_along, path_to, path_within, standing_pairs}
+use Rattle.metis_ids.specs.Action.{makes}
+use Rattle.metis_layers.specs.LayerOrder.{attained_pairs, binds, unbinds, gained, instances_of, is_standing, line_actions, lines_from, move_actions, moves_along, path_to, path_within, standing_pairs}
 
 -- ---- kept elements
 

@@ -13,7 +13,8 @@ use Rattle.metis_universe.proofs.Ranges.{has_range, in_range}
 use Rattle.metis_universe.proofs.Selected.{any_at}
 use Rattle.metis_universe.specs.Universe.{Universe, IsUniverse, all_pairs, has, initial_of, is_free, is_initial, next_of, no_kind, no_pair, pair_count, provides, required_of, requires, type_of}
 use Rattle.metis_universe.specs.Closed as closed
-use Rattle.metis_refusal.specs.Claims.{HasFree, IsLeastUnfree, IsLeastWayOut, IsOf, IsWayOut, Tells, first_unfree, first_way_out, has_way_out, is_provided, is_supplied, is_unfree, is_way, lacked, verdict, verdict_by, way_out}
+use Rattle.metis_universe.specs.Layers.{is_provided, is_supplied}
+use Rattle.metis_refusal.specs.Claims.{HasFree, IsLeastUnfree, IsLeastWayOut, NamesPairsOf, IsWayOut, Tells, first_unfree, first_way_out, has_way_out, is_unfree, is_way, lacked, verdict, verdict_by, way_out}
 use Rattle.metis_refusal.specs.declared.verdict.Verdict2.{Verdict2}
 use Rattle.metis_refusal.specs.declared.verdict.Verdict2.TheVariants.{Closed, NotFree, Open, LacksNone}
 
@@ -269,7 +270,7 @@ module _ (u : Universe) (k : IsUniverse u) where
       unique (Closed p) LacksNone a b = absurd (lack_not p a.1 b.1)
       unique (Closed p) (Closed x) a b = ap Closed (some_same (sym a.1 ∙ b.1))
 
-      pub told_of : All (λ p. p < pair_count u) s → All (λ p. p < pair_count u) g → (v : Verdict2) → Tells u s g v → IsOf u v
+      pub told_of : All (λ p. p < pair_count u) s → All (λ p. p < pair_count u) g → (v : Verdict2) → Tells u s g v → NamesPairsOf u v
       told_of s_low g_low (NotFree p) t = initial_low p (and_parts _ _ t.free).0
       told_of s_low g_low (Open p q) t = let low = all_at (λ x. x < pair_count u) p s s_low t.1.way.inside in (low, next_low p q low t.1.way.leads)
       told_of s_low g_low LacksNone t = tt

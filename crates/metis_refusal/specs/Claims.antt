@@ -1,18 +1,18 @@
 -- What a claim comes to that the set s of pairs is closed and lacks a target.
 --     first_unfree u s      the least free pair that is not in s
---     is_supplied u s q      pairs of s provide each port that q requires
 --     way_out u s p      the first pair outside s to which p leads and which is supplied
 --     first_way_out u s      the first pair of s with a way out, and its way out
 --     lacked s g      the first target that is not in s
 --     verdict u s g      the first of these that there is
 --     IsLeastUnfree, IsWayOut, IsLeastWayOut      what these pairs are, without a search
 --     Tells u s g v      what v says of s and the targets
---     IsOf u v      the pairs of v are the universe's
+--     NamesPairsOf u v      the pairs of v are the universe's
 use Rattle.std.specs.Prelude.{◌≡◌, ◌<◌, ◌≤◌, ◌⊎◌, ℕ, Bool, not, ◌&&◌, List, Option, Some, None, option_map, is_some, IsTrue, IsFalse, ⊤}
 use Rattle.std.specs.List.{list_any, list_all, find}
 use Rattle.std.specs.Option.{option_and_then}
 use Rattle.metis_universe.specs.Universe.{Universe, all_pairs, has, is_free, next_of, pair_count, provides, required_of, requires}
 use Rattle.metis_universe.specs.Closed as closed
+use Rattle.metis_universe.specs.Layers.{is_supplied}
 use Rattle.metis_refusal.specs.declared.verdict.Verdict2.{Verdict2}
 use Rattle.metis_refusal.specs.declared.verdict.Verdict2.TheVariants.{Closed, NotFree, Open, LacksNone}
 
@@ -24,13 +24,6 @@ is_unfree u s p = is_free u p && not (has s p)
 
 abbrev pub first_unfree : Universe → List ℕ → Option ℕ
 first_unfree u s = find (is_unfree u s) (all_pairs u)
-
--- some pair of s provides the port
-abbrev pub is_provided : Universe → List ℕ → ℕ → Bool
-is_provided u s r = list_any (λ y. provides u y r) s
-
-abbrev pub is_supplied : Universe → List ℕ → ℕ → Bool
-is_supplied u s q = list_all (is_provided u s) (required_of u q)
 
 -- whether the pair is not in s, and supplied
 abbrev pub is_way : Universe → List ℕ → ℕ → Bool
@@ -91,8 +84,8 @@ Tells u s g (NotFree p) = IsLeastUnfree u s p
 Tells u s g (Open p q) = HasFree u s × IsLeastWayOut u s p q
 Tells u s g LacksNone = closed.Closed u s × HasTargets s g
 
-abbrev pub IsOf : Universe → Verdict2 → Type 0
-IsOf u (Closed p) = p < pair_count u
-IsOf u (NotFree p) = p < pair_count u
-IsOf u (Open p q) = (p < pair_count u) × (q < pair_count u)
-IsOf u LacksNone = ⊤
+abbrev pub NamesPairsOf : Universe → Verdict2 → Type 0
+NamesPairsOf u (Closed p) = p < pair_count u
+NamesPairsOf u (NotFree p) = p < pair_count u
+NamesPairsOf u (Open p q) = (p < pair_count u) × (q < pair_count u)
+NamesPairsOf u LacksNone = ⊤

@@ -5,7 +5,7 @@
 use Rattle.std.specs.Prelude.{◌≡◌, ◌<◌, ℕ, Bool, false, List}
 use Rattle.std.specs.List.{slice_index_or}
 use Rattle.metis_universe.specs.Universe.{Universe, pair_count, port_count}
-use Rattle.metis_refusal.specs.Claims.{is_provided, is_supplied}
+use Rattle.metis_universe.specs.Layers.{is_provided, is_supplied}
 
 abbrev pub flag : List Bool → ℕ → Bool
 flag flags n = slice_index_or flags n false

@@ -4,7 +4,7 @@ ghost use Rattle.std.specs.List.{All};
 ghost use Rattle.metis_universe.specs.Closed.{Refusal};
 ghost use Rattle.metis_universe.specs.Goal.{Attains};
 ghost use Rattle.metis_universe.specs.Universe.{has, is_free, pair_count};
-ghost use Rattle.metis_refusal.specs.Claims.{IsOf, Tells, is_unfree, first_unfree, first_way_out, lacked, verdict, way_out};
+ghost use Rattle.metis_refusal.specs.Claims.{NamesPairsOf, Tells, is_unfree, first_unfree, first_way_out, lacked, verdict, way_out};
 ghost use Rattle.metis_refusal.specs.Supplies.{AreSupplied, flag};
 
 use crate::Verdict2;
@@ -25,7 +25,7 @@ pub fn check_closed(u: &Universe, set: &PairSet, targets: &[PairIx]) -> Verdict2
     // So `Closed` comes where the pair is what refuses the targets, and then no list of actions attains them.
     ensures closed { (p : ℕ) → (result ≡ Verdict2.Closed p) ↔ Refusal u.now targets.now set.now.members p }
     ensures unattained { (p : ℕ) → result ≡ Verdict2.Closed p → Attains u.now targets.now → ⊥ }
-    ensures pairs { IsOf u.now result }
+    ensures pairs { NamesPairsOf u.now result }
 {
     let _pairs = u.pairs();
     let _size = set.size();

@@ -15,7 +15,8 @@ use Rattle.metis_universe.specs.Universe.{Universe, pair_count}
 use Rattle.metis_universe.specs.Waits.{action_at, before}
 use Rattle.metis_text.specs.ActionLine.{rise}
 use Rattle.metis_text.specs.InRange.{IsActionInRange, IsEventInRange}
-use Rattle.metis_text.specs.PlanText.{IsMoveOf, IsWellFormed, after_of, makes}
+use Rattle.metis_ids.specs.Action.{makes}
+use Rattle.metis_text.specs.PlanText.{IsMoveOf, IsWellFormed, after_of}
 use Rattle.metis_text.specs.Reads.{dup_row, said}
 use Rattle.metis_text.proofs.ActionTokens.{Fits}
 use Rattle.metis_text.proofs.Ascends.{is_rise, rise_is}

@@ -9,7 +9,7 @@ use Rattle.std.proofs.lemmas.List.{nil_from_length}
 use Rattle.std.proofs.lemmas.Slice.Eq.{bytes_eq-Decides}
 use Rattle.metis_text.specs.Flaws.{both}
 use Rattle.metis_text.specs.Line.{words}
-use Rattle.metis_text.specs.PlanText.{makes}
+use Rattle.metis_ids.specs.Action.{makes}
 use Rattle.metis_text.specs.Reading.{Lines, Numbers, Parts, counted, counts_in, counts_of_tokens, ended, exactly}
 use Rattle.metis_text.specs.Tokens.{number_in, tokens}
 use Rattle.metis_text.specs.declared.fault.TFault.TheVariants.{Line}

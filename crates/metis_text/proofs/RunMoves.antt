@@ -10,10 +10,10 @@ use Rattle.metis_universe.proofs.Edits.{pair_of-put, pair_of-remove}
 use Rattle.metis_universe.specs.Config.{Config, empty, pair_of, put}
 use Rattle.metis_universe.specs.Step.{Allows, IsRun, after}
 use Rattle.metis_universe.specs.Universe.{IsUniverse, Universe, has, initial_of, next_of, pair_count, type_of}
-use Rattle.metis_text.specs.PlanText.{kind_after, kind_from, kind_of}
+use Rattle.metis_text.specs.PlanText.{kind_after, kind_from, last_kind}
 use Rattle.metis_text.proofs.ActionTokens.{Fits}
 
-kind_pushed : (z : ℕ) (earlier : List Action) (a : Action) → kind_of z (earlier ++ a ∷ []) ≡ kind_after z (kind_of z earlier) a
+kind_pushed : (z : ℕ) (earlier : List Action) (a : Action) → last_kind z (earlier ++ a ∷ []) ≡ kind_after z (last_kind z earlier) a
 kind_pushed z earlier a = from None earlier where
   from : (kind : Option ℕ) (actions : List Action) → kind_from z kind (actions ++ a ∷ []) ≡ kind_after z (kind_from z kind actions) a
   from kind [] = refl
@@ -32,20 +32,20 @@ turned y z = grind (arith, nat_tests)
 module _ (u : Universe) (is : IsUniverse u) where
   -- the type of each instance that is there is that of its last New
   abbrev Kinds : Config → List Action → Type 0
-  Kinds c earlier = (z p : ℕ) → pair_of c z ≡ Some p → (p < pair_count u) × (kind_of z earlier ≡ Some (type_of u p))
+  Kinds c earlier = (z p : ℕ) → pair_of c z ≡ Some p → (p < pair_count u) × (last_kind z earlier ≡ Some (type_of u p))
 
   next_is : (p q : ℕ) → p < pair_count u → has (next_of u p) q ≡ true → (q < pair_count u) × (type_of u q ≡ type_of u p)
   next_is p q low leads = all_at (λ q. (q < pair_count u) × (type_of u q ≡ type_of u p)) q (next_of u p) (is.next p low).1 leads
 
   -- an instance is put into a pair of its type
-  kinds_put : (c : Config) (earlier : List Action) (a : Action) (z q : ℕ) → q < pair_count u → kind_after z (kind_of z earlier) a ≡ Some (type_of u q)
-      → ((y p : ℕ) → nat_eq y z ≡ false → pair_of c y ≡ Some p → (p < pair_count u) × (kind_after y (kind_of y earlier) a ≡ Some (type_of u p))) → Kinds (put c z q) (earlier ++ a ∷ [])
+  kinds_put : (c : Config) (earlier : List Action) (a : Action) (z q : ℕ) → q < pair_count u → kind_after z (last_kind z earlier) a ≡ Some (type_of u q)
+      → ((y p : ℕ) → nat_eq y z ≡ false → pair_of c y ≡ Some p → (p < pair_count u) × (kind_after y (last_kind y earlier) a ≡ Some (type_of u p))) → Kinds (put c z q) (earlier ++ a ∷ [])
   kinds_put c earlier a z q low here others y p at =
-      elim (nat_eq y z) as (λ b. nat_eq y z ≡ b → cond b (Some q) (pair_of c y) ≡ Some p → (p < pair_count u) × (kind_of y (earlier ++ a ∷ []) ≡ Some (type_of u p))) [
+      elim (nat_eq y z) as (λ b. nat_eq y z ≡ b → cond b (Some q) (pair_of c y) ≡ Some p → (p < pair_count u) × (last_kind y (earlier ++ a ∷ []) ≡ Some (type_of u p))) [
         | true ↦ λ same some.
             let p_is : q ≡ p = cc in
             let y_is : z ≡ y = sym (eqb-true y z same) in
-            (subst (λ r. r < pair_count u) p_is low, kind_pushed y earlier a ∙ subst (λ x. kind_after x (kind_of x earlier) a ≡ Some (type_of u q)) y_is here ∙ ap (λ r. Some (type_of u r)) p_is)
+            (subst (λ r. r < pair_count u) p_is low, kind_pushed y earlier a ∙ subst (λ x. kind_after x (last_kind x earlier) a ≡ Some (type_of u q)) y_is here ∙ ap (λ r. Some (type_of u r)) p_is)
         | false ↦ λ other some. let old = others y p other some in (old.0, kind_pushed y earlier a ∙ old.1)
       ] refl (sym (pair_of-put c z q y) ∙ at)
 
@@ -53,9 +53,9 @@ module _ (u : Universe) (is : IsUniverse u) where
   kinds_after c earlier (New z t) old may =
       let first = is.initials t may.0 in
       kinds_put c earlier (New z t) z (initial_of u t) first.0
-      (ap (λ b. cond b (Some t) (kind_of z earlier)) (eq-eqb z z refl) ∙ ap Some (sym first.1))
-      (λ y p other at. let was = old y p at in (was.0, ap (λ b. cond b (Some t) (kind_of y earlier)) (turned z y ∙ other) ∙ was.1))
-  kinds_after c earlier (Delete z) old may = λ y p at. elim (nat_eq y z) as (λ b. cond (not b) (pair_of c y) None ≡ Some p → (p < pair_count u) × (kind_of y (earlier ++ Delete z ∷ []) ≡ Some (type_of u p))) [
+      (ap (λ b. cond b (Some t) (last_kind z earlier)) (eq-eqb z z refl) ∙ ap Some (sym first.1))
+      (λ y p other at. let was = old y p at in (was.0, ap (λ b. cond b (Some t) (last_kind y earlier)) (turned z y ∙ other) ∙ was.1))
+  kinds_after c earlier (Delete z) old may = λ y p at. elim (nat_eq y z) as (λ b. cond (not b) (pair_of c y) None ≡ Some p → (p < pair_count u) × (last_kind y (earlier ++ Delete z ∷ []) ≡ Some (type_of u p))) [
     | true ↦ λ some. cc
     | false ↦ λ some. let was = old y p some in (was.0, kind_pushed y earlier (Delete z) ∙ was.1)
   ] (sym (pair_of-remove c z y) ∙ at)

@@ -7,7 +7,8 @@ use Rattle.metis_universe.specs.Numbers.{IsOf}
 use Rattle.metis_universe.specs.Step.{IsRun}
 use Rattle.metis_universe.specs.Universe.{IsTable, Universe, pair_count}
 use Rattle.metis_text.specs.InRange.{IsPlanInRange}
-use Rattle.metis_text.specs.PlanText.{IsWellFormed, makes, plan_bytes}
+use Rattle.metis_ids.specs.Action.{makes}
+use Rattle.metis_text.specs.PlanText.{IsWellFormed, plan_bytes}
 use Rattle.metis_text.specs.Reading.{plan_in}
 use Rattle.metis_text.specs.Reads.{said}
 use Rattle.metis_text.proofs.Accepted.{well_formed_read}

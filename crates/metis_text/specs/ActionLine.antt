@@ -10,7 +10,7 @@ use Rattle.metis_ids.specs.declared.actions.Action.TheVariants.{New, Delete, Bin
 use Rattle.metis_text.specs.declared.flaw.Flaw.{Flaw}
 use Rattle.metis_text.specs.declared.flaw.Flaw.TheVariants.{Form}
 use Rattle.metis_text.specs.Flaws.{all_behind, both, made, right}
-use Rattle.metis_text.specs.PlanText.{kind_of}
+use Rattle.metis_text.specs.PlanText.{last_kind}
 use Rattle.metis_text.specs.Tokens.{named, number_in, tokens}
 use Rattle.metis_universe.specs.Universe.{Universe, port_named, state_named, type_named}
 
@@ -39,7 +39,7 @@ ends_in u r z y = both (named (port_named u) r) (both (number_in z) (number_in y
 
 -- the type of the instance, if it was made before
 abbrev pub kind_in : List Action → Result ℕ Flaw → Option ℕ
-kind_in earlier (Ok z) = kind_of z earlier
+kind_in earlier (Ok z) = last_kind z earlier
 kind_in earlier (Err f) = None
 
 abbrev pub state_in : Universe → Option ℕ → List ℕ → Result ℕ Flaw

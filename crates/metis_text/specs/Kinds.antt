@@ -3,7 +3,7 @@
 use Rattle.std.specs.Prelude.{◌≡◌, ℕ, ◌==◌, List}
 use Rattle.std.specs.Map.{lookup}
 use Rattle.metis_ids.specs.declared.actions.Action.{Action}
-use Rattle.metis_text.specs.PlanText.{kind_of}
+use Rattle.metis_text.specs.PlanText.{last_kind}
 
 abbrev pub AreKinds : List Action → List (ℕ × ℕ) → Type 0
-AreKinds earlier entries = (z : ℕ) → lookup (λ k. z == k) entries ≡ kind_of z earlier
+AreKinds earlier entries = (z : ℕ) → lookup (λ k. z == k) entries ≡ last_kind z earlier

@@ -5,11 +5,12 @@
 --     dup_line u k d      the line of dup number k
 --     plan_lines u p after      the lines of the whole text, where `after` has a list for each action
 --     plan_bytes u p after      its bytes
---     makes a, kind_of z actions      whether the action makes an instance;  the type of the last New of instance z, if there is one
+--     last_kind z actions      the type of the last New of instance z, if there is one
 --     IsWellFormed u p after      what a text says that can be read
 use Rattle.std.specs.Prelude.{◌≡◌, ◌<◌, ◌≤◌, ℕ, zero, suc, ◌^◌, ◌==◌, Bool, true, false, cond, List, [], ◌∷◌, ◌++◌, length, map, codes, decimal, Option, Some, None}
 use Rattle.std.specs.List.{All, count_by, slice_index_or, zip}
 use Rattle.std.specs.List.Sorted.{IsStrictlyIncreasing}
+use Rattle.metis_ids.specs.Action.{makes}
 use Rattle.metis_ids.specs.declared.actions.Action.{Action}
 use Rattle.metis_ids.specs.declared.actions.Action.TheVariants.{New, Delete, Bind, Unbind, Move}
 use Rattle.metis_ids.specs.declared.events.Event.{Event}
@@ -87,13 +88,6 @@ plan_lines u p after = plan_header ∷ plan_body u p after
 abbrev pub plan_bytes : Universe → Plan → List (List ℕ) → List ℕ
 plan_bytes u p after = bytes_of (plan_lines u p after)
 
-abbrev pub makes : Action → Bool
-makes (New z t) = true
-makes (Delete z) = false
-makes (Bind r z y) = false
-makes (Unbind r z y) = false
-makes (Move z p q) = false
-
 -- the type of instance z after the action, where this was it before
 abbrev pub kind_after : ℕ → Option ℕ → Action → Option ℕ
 kind_after z kind (New y t) = cond (y == z) (Some t) kind
@@ -106,8 +100,8 @@ abbrev pub kind_from : ℕ → Option ℕ → List Action → Option ℕ
 kind_from z kind [] = kind
 kind_from z kind (a ∷ actions) = kind_from z (kind_after z kind a) actions
 
-abbrev pub kind_of : ℕ → List Action → Option ℕ
-kind_of z actions = kind_from z None actions
+abbrev pub last_kind : ℕ → List Action → Option ℕ
+last_kind z actions = kind_from z None actions
 
 -- the list of action k
 abbrev pub after_of : List (List ℕ) → ℕ → List ℕ
@@ -116,7 +110,7 @@ after_of after (suc i) = slice_index_or after i []
 
 -- the action's instance is made before, and both pairs are of the type of its last New
 abbrev pub IsMoveOf : Universe → List Action → ℕ → ℕ → ℕ → Type 0
-IsMoveOf u earlier z p q = (kind_of z earlier ≡ Some (type_of u p)) × (type_of u q ≡ type_of u p)
+IsMoveOf u earlier z p q = (last_kind z earlier ≡ Some (type_of u p)) × (type_of u q ≡ type_of u p)
 
 -- An action waits for earlier ones, its list ascends, each move goes between pairs of its instance's type, each cycle
 -- has two or more events, and all numbers are the universe's, or of 32 bits. There are fewer than 2^32 actions and

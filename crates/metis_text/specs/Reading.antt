@@ -14,7 +14,7 @@ use Rattle.metis_text.specs.declared.fault.TFault.TheVariants.{Line, Short, Name
 use Rattle.metis_text.specs.ActionLine.{Row, row_in}
 use Rattle.metis_text.specs.DupLine.{DupRow, dup_in}
 use Rattle.metis_text.specs.Flaws.{both, made}
-use Rattle.metis_text.specs.PlanText.{makes}
+use Rattle.metis_ids.specs.Action.{makes}
 use Rattle.metis_text.specs.Tokens.{number_in, tokens}
 use Rattle.metis_universe.specs.Universe.{Universe}
 

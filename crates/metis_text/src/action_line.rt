@@ -69,7 +69,7 @@ fn kind_in(rows: &Rows, z: Result<u32, Flaw>) -> Option<TypeIx>
     ensures { result ≡ kind_in rows.now.actions z }
 {
     match z {
-        Ok(z) => rows.kind_of(InstNo(z)),
+        Ok(z) => rows.last_kind(InstNo(z)),
         Err(_) => None,
     }
 }

@@ -1,7 +1,7 @@
 //! The actions that were read so far.
 ghost use Rattle.std.specs.Prelude.{◌≡◌, ◌++◌, ◌∷◌, IfOk, OnOk, []};
 ghost use Rattle.metis_text.specs.Kinds.{AreKinds};
-ghost use Rattle.metis_text.specs.PlanText.{kind_of};
+ghost use Rattle.metis_text.specs.PlanText.{last_kind};
 ghost use Rattle.metis_text.specs.Reading.{rows_of, with_row};
 
 use metis_ids::{Action, InstNo, NoMemory, TypeIx};
@@ -41,8 +41,8 @@ impl Rows {
     }
 
     /// The type of the instance, if it was made.
-    pub fn kind_of(&self, z: InstNo) -> Option<TypeIx>
-        ensures { result ≡ kind_of z self.now.actions }
+    pub fn last_kind(&self, z: InstNo) -> Option<TypeIx>
+        ensures { result ≡ last_kind z self.now.actions }
     {
         self.kinds.get(&z).copied()
     }

@@ -14,7 +14,8 @@ use Rattle.metis_universe.specs.Goal.{Holds, Attains, IsAttainedSet}
 use Rattle.metis_universe.specs.Steadfast.{is_steadfast}
 use Rattle.metis_universe.specs.Closed.{Refusal}
 use Rattle.metis_layers.specs.LayerOrder.{layer_order}
-use Rattle.metis_text.specs.PlanText.{IsWellFormed, makes, plan_lines}
+use Rattle.metis_ids.specs.Action.{makes}
+use Rattle.metis_text.specs.PlanText.{IsWellFormed, plan_lines}
 use Rattle.metis_universe.specs.Waits.{numbers}
 use Rattle.metis_waits.specs.Waits.{waits_on_others}
 use Rattle.metis_text.specs.RefusalText.{refusal_lines}

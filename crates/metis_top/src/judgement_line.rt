@@ -4,7 +4,7 @@ ghost use Rattle.metis_outside.specs.Faults.{CountsFault};
 ghost use Rattle.metis_outside.specs.Writes.{Writes};
 ghost use Rattle.metis_text.specs.PlanText.{pair_word};
 ghost use Rattle.metis_universe.specs.Universe.{pair_count};
-ghost use Rattle.metis_refusal.specs.Claims.{IsOf};
+ghost use Rattle.metis_refusal.specs.Claims.{NamesPairsOf};
 ghost use Rattle.metis_top.specs.Judged.{judgement_line, open_line, pair_line};
 
 use crate::stop::put_line;
@@ -21,7 +21,7 @@ pub fn write_judgement<K: Sink>(
     judgement: &Verdict2,
     out: &mut K,
 ) -> Result<(), Trouble>
-    requires { IsOf u.now judgement.now }
+    requires { NamesPairsOf u.now judgement.now }
     ensures text { Writes (judgement_line u.now judgement.now ∷ []) (K.written out.old) (K.written out.new) result }
     ensures cause { CountsFault (K.faults out.old) (K.faults out.new) result }
 {
@@ -32,7 +32,7 @@ pub fn write_judgement<K: Sink>(
 }
 
 fn judgement_line(alloc: Global, u: &Universe, judgement: &Verdict2) -> Result<String, AllocError>
-    requires { IsOf u.now judgement.now }
+    requires { NamesPairsOf u.now judgement.now }
     ensures { IfOk result (λ line. string_bytes line ≡ judgement_line u.now judgement.now) }
 {
     match *judgement {

@@ -4,7 +4,6 @@
 --     rows_of d, rows_in bytes      the rows that the value, or the bytes, spell, or the first place whose form is wrong
 --     fault_of_row fault      a fault of the rows, as a fault of the document
 --     universe_in bytes      the universe that the bytes mean, or why they mean none: a wrong form first, then a fault of the rows
---     IsRead result bytes      what a reader of the bytes answers
 use Rattle.std.specs.Prelude.{ℕ, ◌≡◌, ◌≢◌, ◌+◌, ◌-◌, ◌==◌, Bool, true, false, List, [], ◌∷◌, length, take, Option, Some, None, option_and_then, Result, Ok, Err, if◌then◌else◌, codes, slice_index}
 use Rattle.std.specs.Str.{is_utf8}
 use Rattle.serde_json.specs.Data.{Data, Items, no_items, item}
@@ -154,8 +153,3 @@ or_form_fault (Ok rows) = rows_made rows
 -- the universe that the bytes mean
 abbrev pub universe_in : List ℕ → Result Universe UFault
 universe_in bytes = or_form_fault (rows_in bytes)
-
--- the result is what the bytes mean, unless memory ran out
-abbrev pub IsRead : Result Universe UFault → List ℕ → Type 0
-IsRead (Ok u) bytes = universe_in bytes ≡ Ok u
-IsRead (Err fault) bytes = fault ≢ NoMemory → universe_in bytes ≡ Err fault

@@ -1,5 +1,5 @@
 //! The universe that a document means.
-ghost use Rattle.metis_ujson.specs.Document.{rows_made, IsRead};
+ghost use Rattle.metis_ujson.specs.Document.{rows_made, universe_in};
 ghost use Rattle.metis_ujson.specs.Reads.{Reads};
 
 use crate::faults::UFault;
@@ -12,7 +12,7 @@ pub const UNIVERSE_LIMIT: u64 = 4_194_304;
 
 /// The universe that the bytes mean, or the first reason why they mean none.
 pub fn read_universe(alloc: Global, bytes: &[u8]) -> Result<Universe, UFault>
-    ensures { IsRead result bytes.now }
+    ensures { Reads (λ u. u) result (universe_in bytes.now) }
 {
     let rows = read_rows(alloc, bytes)?;
     made(alloc, rows)

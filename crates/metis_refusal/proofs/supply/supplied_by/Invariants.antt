@@ -1,5 +1,5 @@
 use Rattle.std.proofs.Common.{◌≡◌, ℕ, ◌<◌, length}
-use Rattle.metis_refusal.specs.Claims.{is_supplied}
+use Rattle.metis_universe.specs.Layers.{is_supplied}
 use Rattle.metis_refusal.specs.Supplies.{flag}
 use Rattle.metis_refusal.proofs.supply.supplied_by.Given as goal
 
