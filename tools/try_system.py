@@ -1,0 +1,88 @@
+#!/usr/bin/env python3
+"""Tries the built program on what only the system can show: python3 tools/try_system.py [PROGRAM]
+
+The gate does not run this: no proof says what a real file, a pipe or a full device gives. Each case has the words, what stands
+on standard input, where standard output goes, and the status and the text that have to come. The last line counts them.
+"""
+import os, shutil, subprocess, sys, tempfile
+
+WEB = b'''{"aeolus":1,"types":[{"name":"Db","initial":"off","states":[{"name":"off","next":["on"]},{"name":"on","provide":["sql"]}]},{"name":"Web","initial":"off","states":[{"name":"off","next":["run"]},{"name":"run","require":["sql"]}]}]}'''
+PRINTED = b'''{"aeolus":1,"types":[{"initial":"off","name":"Db","states":[{"name":"off","next":["on"],"provide":[],"require":[]},{"name":"on","next":[],"provide":["sql"],"require":[]}]},{"initial":"off","name":"Web","states":[{"name":"off","next":["run"],"provide":[],"require":[]},{"name":"run","next":[],"provide":[],"require":["sql"]}]}]}\n'''
+PLAN = b'''metis plan 1
+instances 2 actions 5 dups 0
+1 new 0 Db
+2 move 0 off on
+3 new 1 Web
+4 bind sql 1 0 after 2
+5 move 1 off run
+end
+'''
+SMALL = b'metis plan 1\ninstances 1 actions 1 dups 0\n1 new 0 Db\nend\n'
+
+here = os.path.dirname(os.path.abspath(__file__))
+program = os.path.abspath(sys.argv[1] if len(sys.argv) > 1 else os.path.join(here, '..', 'crates', 'metis', 'out', 'metis'))
+
+# (what it shows, words, input, where the output goes, status, text)
+cases = [
+    ('a file', ['print', 'web.json'], b'', 'pipe', 0, PRINTED),
+    ('a file, and then the input', ['replay', 'web.json', '-', 'Web:run'], PLAN, 'pipe', 0, b'good standing 2 actions 5\n'),
+    ('the input, and then a file', ['replay', '-', 'web.plan', 'Web:run'], WEB, 'pipe', 0, b'good standing 2 actions 5\n'),
+    ('an empty input', ['print', '-'], b'', 'pipe', 3, b'bad universe U1\n'),
+    ('a file whose name begins with a dash', ['print', '-x.json'], b'no JSON', 'pipe', 0, PRINTED),
+    ('a file that is not there, though the input is', ['print', '-y.json'], WEB, 'pipe', 4, b'read fault 2\n'),
+    ('a folder', ['print', 'folder'], b'', 'pipe', 4, b'read fault 2\n'),
+    ('a file that may not be read', ['print', 'secret.json'], b'', 'pipe', 4, b'read fault 2\n'),
+    ('the second file may not be read', ['replay', 'web.json', 'secret.json'], b'', 'pipe', 4, b'read fault 3\n'),
+    ('an empty file', ['print', 'empty.json'], b'', 'pipe', 3, b'bad universe U1\n'),
+    ('a full device', ['plan', 'web.json', 'Web:run'], b'', 'full', 5, b''),
+    ('a pipe that nobody reads', ['plan', 'web.json', 'Web:run'], b'', 'closed', 5, b''),
+    ('output that is closed', ['plan', 'web.json', 'Web:run'], b'', 'none', 5, b''),
+    ('no words', [], b'', 'pipe', 2, b'bad word 1\n'),
+    ('an empty word', ['print', ''], b'', 'pipe', 2, b'bad word 2\n'),
+    ('a word that is not UTF-8 in the middle', ['plan', b'\xff', 'Db:off'], b'', 'pipe', 2, b'bad word 2\n'),
+    ('a target that is not UTF-8', ['plan', 'web.json', 'Db:off', b'Db:\xff', 'Db:off'], b'', 'pipe', 2, b'bad word 4\n'),
+    ('a word of 256 bytes', ['print', 'd' * 255 + '/', 'more'], b'', 'pipe', 2, b'bad word 3\n'),
+    ('a word of 257 bytes', ['plan', './' * 124 + '/web.json', 'Db:off'], b'', 'pipe', 0, SMALL),
+    ('a word of 5,000 bytes', ['plan', 'web.json', 'Db:' + 'x' * 5000], b'', 'pipe', 2, b'bad word 3\n'),
+    ('300 words', ['plan', 'web.json'] + ['Db:off'] * 298, b'', 'pipe', 2, b'bad word 259\n'),
+    ('258 words', ['replay', 'web.json', 'web.plan'] + ['Db:on'] * 255, b'', 'pipe', 1, b'missing Db:on have 1 want 255\n'),
+]
+
+
+def run(folder, words, given, where):
+    user = {'user': 'nobody', 'group': 'nogroup', 'extra_groups': []} if os.geteuid() == 0 else {}
+    command = [os.path.join(folder, 'metis')] + words
+    if where == 'full':
+        with open('/dev/full', 'wb') as full:
+            done = subprocess.run(command, input=given, stdout=full, cwd=folder, **user)
+        return done.returncode, b''
+    if where == 'closed':
+        read, write = os.pipe()
+        os.close(read)
+        done = subprocess.run(command, input=given, stdout=write, cwd=folder, **user)
+        os.close(write)
+        return done.returncode, b''
+    if where == 'none':
+        done = subprocess.run(['sh', '-c', 'exec "$0" "$@" >&-'] + command, input=given, cwd=folder, **user)
+        return done.returncode, b''
+    done = subprocess.run(command, input=given, stdout=subprocess.PIPE, cwd=folder, **user)
+    return done.returncode, done.stdout
+
+
+failed = 0
+with tempfile.TemporaryDirectory() as folder:
+    os.chmod(folder, 0o755)
+    shutil.copy(program, os.path.join(folder, 'metis'))
+    os.chmod(os.path.join(folder, 'metis'), 0o755)
+    for name, content in [('web.json', WEB), ('-x.json', WEB), ('web.plan', PLAN), ('secret.json', WEB), ('empty.json', b'')]:
+        with open(os.path.join(folder, name), 'wb') as file:
+            file.write(content)
+    os.chmod(os.path.join(folder, 'secret.json'), 0)
+    os.mkdir(os.path.join(folder, 'folder'))
+    for what, words, given, where, status, text in cases:
+        got = run(folder, words, given, where)
+        if got != (status, text):
+            failed += 1
+            print(f'FAILED: {what}: status {got[0]}, {got[1][:200]!r}, and not {status}, {text[:200]!r}')
+print(f'{len(cases) - failed} passed, {failed} failed')
+sys.exit(1 if failed else 0)
