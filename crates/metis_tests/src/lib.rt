@@ -5,6 +5,8 @@
 #[cfg(test)]
 mod config;
 #[cfg(test)]
+mod edges;
+#[cfg(test)]
 mod ids;
 #[cfg(test)]
 mod memory;

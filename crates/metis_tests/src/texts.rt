@@ -23,9 +23,9 @@ const SHARED_PARTS: &str =
 
 /// The plan that the text says.
 fn plan_in(rt: &impl Abort, alloc: Global, u: &Universe, text: &str) -> Result<PlanText, Fail>
-    ensures actions { IfOk result (λ t. All (IsOf u.now) t.plan.actions.items) }
-    ensures dups { IfOk result (λ t. All (λ d. d.pair < pair_count u.now) t.plan.dups.items) }
-    ensures few { IfOk result (λ t. length t.plan.actions.items < 10000) }
+    ensures actions { IfOk result (λ t. All (IsOf u.now) t.plan.actions) }
+    ensures dups { IfOk result (λ t. All (λ d. d.pair < pair_count u.now) t.plan.dups) }
+    ensures few { IfOk result (λ t. length t.plan.actions < 10000) }
 {
     assert!(rt; text.len() < 10_000);
     let read = read_plan(alloc, u, text.as_bytes());
