@@ -4,6 +4,10 @@ pub mod GivenUp
 pub mod Indexed
 pub mod Leasts
 pub mod Prefixes
+pub mod Providers
 pub mod Removed
+pub mod Shifted
 pub mod Starts
+pub mod Tallies
 pub mod Unmets
+pub mod Weights

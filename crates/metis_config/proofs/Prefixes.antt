@@ -68,24 +68,6 @@ each_after : (P : Binding → Type 0) (x : Binding) (xs : List Binding) → ((b 
 each_after P x [] h s = tt
 each_after P x (b ∷ xs) h s = (h b s.0, each_after P x xs h s.1)
 
--- ---- a front of two numbers, as a port and a requirer
-
-abbrev pub has_front : ℕ → ℕ → Binding → Bool
-has_front r w b = nat_eq b.0 r && nat_eq b.1 w
-
-front_from : (r w a b c : ℕ) → (nat_eq a r && nat_eq b w) ≡ true → is_from (r, w, 0) (a, b, c) ≡ true
-front_from r w a b c h = grind (arith, nat_tests)
-
-pub has_front-from : (r w : ℕ) (b : Binding) → has_front r w b ≡ true → is_from (r, w, 0) b ≡ true
-has_front-from r w b h = front_from r w b.0 b.1 b.2 h
-
-front_past : (r w a b c x y z : ℕ) → is_from (r, w, 0) (a, b, c) ≡ true → (nat_eq a r && nat_eq b w) ≡ false → binding_cmp (a, b, c) (x, y, z) ≡ Less → (nat_eq x r && nat_eq y w) ≡ false
-front_past r w a b c x y z h n l = grind (arith, nat_tests)
-
-pub no_front_after : (r w : ℕ) (x : Binding) (xs : List Binding) → IsRest (r, w, 0) (x ∷ xs) → has_front r w x ≡ false → AllByRecursion (λ b. has_front r w b ≡ false) (x ∷ xs)
-unfolding IsStrictlySortedBy
-no_front_after r w x xs k n = (n, each_after (λ b. has_front r w b ≡ false) x xs (λ b l. front_past r w x.0 x.1 x.2 b.0 b.1 b.2 k.from.0 n l) k.in_order.0)
-
 -- ---- a front of one number, as a provider
 
 head_from : (z a b c : ℕ) → nat_eq a z ≡ true → is_from (z, 0, 0) (a, b, c) ≡ true

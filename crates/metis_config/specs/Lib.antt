@@ -1,3 +1,5 @@
+pub mod Crowd
 pub mod Clients
+pub mod Kept
 pub mod Over
 pub mod Unmet

@@ -7,6 +7,7 @@ ghost use Rattle.metis_universe.specs.Universe.{pair_count};
 ghost use Rattle.metis_config.specs.Over.{IsOver};
 ghost use Rattle.metis_config.specs.Unmet.{unmet, is_unmet, IsLeast, changed};
 
+use crate::crowds::Crowds;
 use crate::ends::Ends;
 use crate::lists::{Instances, Ties};
 use crate::met;
@@ -23,6 +24,8 @@ pub struct Config {
     bindings: BTreeSet<(PortIx, InstNo, InstNo)>,
     /// The bindings again, by provider and by requirer.
     ends: Ends,
+    /// In which pairs the providers of each port of each requirer are.
+    crowds: Crowds,
 }
 
 impl Model for Config {
@@ -30,11 +33,11 @@ impl Model for Config {
 
     ghost Value = { model.Config };
 
-    ghost use Rattle.metis_config.specs.Clients.{AreEnds};
+    ghost use Rattle.metis_config.specs.Kept.{AreKept};
 
     ghost view = { λ a. model.config_of a.instances.entries a.bindings.keys };
 
-    ghost invariant = { λ a. AreEnds (model.config_of a.instances.entries a.bindings.keys) a.ends.by_provider.keys a.ends.by_requirer.keys };
+    ghost invariant = { λ a. AreKept (model.config_of a.instances.entries a.bindings.keys) a.ends.by_provider.keys a.ends.by_requirer.keys a.crowds.map };
 }
 
 impl Config {
@@ -46,6 +49,7 @@ impl Config {
             instances: BTreeMap::new(alloc),
             bindings: BTreeSet::new(alloc),
             ends: Ends::new(alloc),
+            crowds: Crowds::new(alloc),
         }
     }
 
@@ -57,6 +61,7 @@ impl Config {
             instances: self.instances.clone()?,
             bindings: self.bindings.clone()?,
             ends: self.ends.copy()?,
+            crowds: self.crowds.copy()?,
         })
     }
 
@@ -140,7 +145,7 @@ impl Config {
         ensures correct { IsNone result ↔ Correct u.now self.now }
     {
         let _pairs = u.pairs();
-        met::first_unmet(u, &self.instances, &self.bindings)
+        met::first_unmet(u, &self.instances, &self.bindings, &self.crowds)
     }
 
     /// What `unmet` would be if the instance were in the pair, or gone. It looks at the instance, and at those bound to it
@@ -152,11 +157,12 @@ impl Config {
         ensures { result ≡ unmet u.now (changed self.now z to) }
     {
         let _pairs = u.pairs();
-        let own = met::unmet_own(u, &self.instances, &self.bindings, z, &to);
+        let own = met::unmet_own(u, &self.instances, &self.bindings, &self.crowds, z, &to);
         let lost = met::first_lost(
             u,
             &self.instances,
             &self.bindings,
+            &self.crowds,
             &self.ends.by_provider,
             z,
             &to,
@@ -177,7 +183,7 @@ impl Config {
         ensures { result ≡ unmet u.now (untie self.now r z y) }
     {
         let _pairs = u.pairs();
-        if met::loses_tie(u, &self.instances, &self.bindings, r, z, y) {
+        if met::loses_tie(u, &self.instances, &self.bindings, &self.crowds, r, z, y) {
             Some((z, r))
         } else {
             None
@@ -199,6 +205,8 @@ impl Config {
         requires { IsSome (pair_of self.old z) }
         ensures { self.new ≡ put self.old z p }
     {
+        let from = met::pair_in(&self.instances, z).unwrap();
+        self.crowds.shift_all(&self.ends.by_provider, z, from, p);
         // Only a new key takes memory.
         match self.instances.insert(z, p) {
             Ok(_) => (),
@@ -215,9 +223,15 @@ impl Config {
         ensures ok { OnOk result (self.new ≡ tie self.old r z y) }
         ensures err { OnErr result (self.new ≡ self.old) }
     {
-        self.ends.add(r, z, y)?;
+        let pair = met::pair_in(&self.instances, y).unwrap();
+        self.crowds.enter(z, r, pair)?;
+        if self.ends.add(r, z, y).is_err() {
+            self.crowds.leave(z, r, pair);
+            return Err(NoMemory);
+        }
         if self.bindings.insert((r, z, y)).is_err() {
             self.ends.take(r, z, y);
+            self.crowds.leave(z, r, pair);
             return Err(NoMemory);
         }
         Ok(())
@@ -228,8 +242,10 @@ impl Config {
         requires { IsTrue (is_bound self.old r z y) }
         ensures { self.new ≡ untie self.old r z y }
     {
+        let pair = met::pair_in(&self.instances, y).unwrap();
         self.bindings.remove(&(r, z, y));
         self.ends.take(r, z, y);
+        self.crowds.leave(z, r, pair);
     }
 
     /// Takes an instance away, with each binding that names it. It looks at these bindings alone.

@@ -2,6 +2,8 @@
 #![tactic(auto)]
 
 mod config;
+mod crowd;
+mod crowds;
 mod ends;
 mod lists;
 mod met;

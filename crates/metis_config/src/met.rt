@@ -1,13 +1,15 @@
 //! Which ports are met, over the parts of a configuration.
-ghost use Rattle.std.specs.Prelude.{◌≡◌, ◌<◌, ℕ, ◌==◌, ◌&&◌, not, false, [], Some, None, IsTrue};
+ghost use Rattle.std.specs.Prelude.{◌≡◌, ◌<◌, ℕ, ◌&&◌, not, if◌then◌else◌, false, [], Some, None, IsTrue};
 ghost use Rattle.std.specs.List.{find};
 ghost use Rattle.std.specs.Option.{option_map_or};
 ghost use Rattle.metis_universe.specs.Universe.{pair_count, provides, required_of};
 ghost use Rattle.metis_universe.specs.Config.{IsConfig, Correct, config_of, is_bound, pair_of};
 ghost use Rattle.metis_config.specs.Over.{IsOver};
 ghost use Rattle.metis_config.specs.Clients.{IsIndexed};
-ghost use Rattle.metis_config.specs.Unmet.{pair_if, is_met_if, is_required, is_lost, IsLeast, unmet_port, unmet, own_unmet, earlier_of};
+ghost use Rattle.metis_config.specs.Crowd.{AreCounted};
+ghost use Rattle.metis_config.specs.Unmet.{is_met_if, is_required, is_lost, IsLeast, unmet_port, unmet, own_unmet, earlier_of};
 
+use crate::crowds::Crowds;
 use metis_ids::{InstNo, PairIx, PortIx};
 use metis_universe::Universe;
 use std::collections::{BTreeMap, BTreeSet};
@@ -24,54 +26,68 @@ fn gives(u: &Universe, pair: Option<PairIx>, r: PortIx) -> bool
 }
 
 /// The pair of the instance, if it is there.
-fn pair_in(instances: &BTreeMap<InstNo, PairIx>, z: InstNo) -> Option<PairIx>
+pub fn pair_in(instances: &BTreeMap<InstNo, PairIx>, z: InstNo) -> Option<PairIx>
     ensures { result ≡ pair_of (config_of instances.now.entries []) z }
 {
     instances.get(&z).copied()
 }
 
-/// The pair of y, where z is taken to be in another pair, or gone.
-fn pair_if(
-    instances: &BTreeMap<InstNo, PairIx>,
+// Whether the requirer's port is bound to the instance, and this pair gives it.
+fn serves(
+    u: &Universe,
+    bindings: &BTreeSet<(PortIx, InstNo, InstNo)>,
     z: InstNo,
-    to: &Option<PairIx>,
-    y: InstNo,
-) -> Option<PairIx>
-    ensures { result ≡ pair_if (config_of instances.now.entries []) z to.now y }
+    pair: Option<PairIx>,
+    w: InstNo,
+    r: PortIx,
+) -> bool
+    requires { (q : ℕ) → pair ≡ Some q → q < pair_count u.now }
+    ensures { result ≡ (is_bound (config_of [] bindings.now.keys) r w z && option_map_or (λ q. provides u.now q r) pair false) }
 {
-    if y == z { *to } else { pair_in(instances, y) }
+    bindings.contains(&(r, w, z)) && gives(u, pair, r)
 }
 
-/// Whether the binding is one of the requirer's port.
-fn is_for(tie: &(PortIx, InstNo, InstNo), w: InstNo, r: PortIx) -> bool
-    ensures { result ≡ ((tie.now.0 == r) && (tie.now.1 == w)) }
+// 1 where the instance is bound to the requirer's port and gives it, else 0.
+fn own_count(
+    u: &Universe,
+    instances: &BTreeMap<InstNo, PairIx>,
+    bindings: &BTreeSet<(PortIx, InstNo, InstNo)>,
+    z: InstNo,
+    w: InstNo,
+    r: PortIx,
+) -> usize
+    requires over { IsOver u.now (config_of instances.now.entries bindings.now.keys) }
+    ensures { result ≡ (if is_bound (config_of instances.now.entries bindings.now.keys) r w z && option_map_or (λ q. provides u.now q r) (pair_of (config_of instances.now.entries bindings.now.keys) z) false then 1 else 0) }
 {
-    tie.0 == r && tie.1 == w
+    if serves(u, bindings, z, pair_in(instances, z), w, r) {
+        1
+    } else {
+        0
+    }
 }
 
-/// Whether the port r of w is met, where z is taken to be in another pair, or gone.
+/// Whether the port r of w is met, where z is taken to be in another pair, or gone: by z itself, or by others of those that
+/// give it now.
 pub fn is_met_if(
     u: &Universe,
     instances: &BTreeMap<InstNo, PairIx>,
     bindings: &BTreeSet<(PortIx, InstNo, InstNo)>,
+    crowds: &Crowds,
     z: InstNo,
     to: &Option<PairIx>,
     w: InstNo,
     r: PortIx,
 ) -> bool
     requires over { IsOver u.now (config_of instances.now.entries bindings.now.keys) }
+    requires counted { AreCounted (config_of instances.now.entries bindings.now.keys) crowds.now.map }
     requires to { (q : ℕ) → to.now ≡ Some q → q < pair_count u.now }
     ensures { result ≡ is_met_if u.now (config_of instances.now.entries bindings.now.keys) z to.now w r }
 {
-    for tie in bindings.range((r, w, InstNo(0))..) {
-        if !is_for(tie, w, r) {
-            return false;
-        }
-        if gives(u, pair_if(instances, z, to, tie.2), r) {
-            return true;
-        }
+    if serves(u, bindings, z, *to, w, r) {
+        true
+    } else {
+        own_count(u, instances, bindings, z, w, r) < crowds.giving(u, w, r)
     }
-    false
 }
 
 /// Whether the pair of the instance requires the port, if it is there.
@@ -90,16 +106,18 @@ fn lacks(
     u: &Universe,
     instances: &BTreeMap<InstNo, PairIx>,
     bindings: &BTreeSet<(PortIx, InstNo, InstNo)>,
+    crowds: &Crowds,
     z: InstNo,
     to: &Option<PairIx>,
     w: InstNo,
     r: PortIx,
 ) -> bool
     requires over { IsOver u.now (config_of instances.now.entries bindings.now.keys) }
+    requires counted { AreCounted (config_of instances.now.entries bindings.now.keys) crowds.now.map }
     requires to { (q : ℕ) → to.now ≡ Some q → q < pair_count u.now }
     ensures { result ≡ (is_required u.now (config_of instances.now.entries bindings.now.keys) w r && not (is_met_if u.now (config_of instances.now.entries bindings.now.keys) z to.now w r)) }
 {
-    is_required(u, instances, w, r) && !is_met_if(u, instances, bindings, z, to, w, r)
+    is_required(u, instances, w, r) && !is_met_if(u, instances, bindings, crowds, z, to, w, r)
 }
 
 // Whether z's pair provides the port, and the other pair would not.
@@ -123,18 +141,20 @@ fn loses(
     u: &Universe,
     instances: &BTreeMap<InstNo, PairIx>,
     bindings: &BTreeSet<(PortIx, InstNo, InstNo)>,
+    crowds: &Crowds,
     z: InstNo,
     to: &Option<PairIx>,
     w: InstNo,
     r: PortIx,
 ) -> bool
     requires over { IsOver u.now (config_of instances.now.entries bindings.now.keys) }
+    requires counted { AreCounted (config_of instances.now.entries bindings.now.keys) crowds.now.map }
     requires correct { Correct u.now (config_of instances.now.entries bindings.now.keys) }
     requires to { (q : ℕ) → to.now ≡ Some q → q < pair_count u.now }
     requires bound { IsTrue (is_bound (config_of instances.now.entries bindings.now.keys) r w z) }
     ensures { result ≡ (is_required u.now (config_of instances.now.entries bindings.now.keys) w r && not (is_met_if u.now (config_of instances.now.entries bindings.now.keys) z to.now w r)) }
 {
-    gives_up(u, instances, z, to, r) && lacks(u, instances, bindings, z, to, w, r)
+    gives_up(u, instances, z, to, r) && lacks(u, instances, bindings, crowds, z, to, w, r)
 }
 
 /// Whether the requirer's port would not be met without the binding, where all ports are met now. It looks further only where
@@ -143,15 +163,17 @@ pub fn loses_tie(
     u: &Universe,
     instances: &BTreeMap<InstNo, PairIx>,
     bindings: &BTreeSet<(PortIx, InstNo, InstNo)>,
+    crowds: &Crowds,
     r: PortIx,
     z: InstNo,
     y: InstNo,
 ) -> bool
     requires over { IsOver u.now (config_of instances.now.entries bindings.now.keys) }
+    requires counted { AreCounted (config_of instances.now.entries bindings.now.keys) crowds.now.map }
     requires correct { Correct u.now (config_of instances.now.entries bindings.now.keys) }
     ensures { result ≡ (is_required u.now (config_of instances.now.entries bindings.now.keys) z r && not (is_met_if u.now (config_of instances.now.entries bindings.now.keys) y None z r)) }
 {
-    gives(u, pair_in(instances, y), r) && lacks(u, instances, bindings, y, &None, z, r)
+    gives(u, pair_in(instances, y), r) && lacks(u, instances, bindings, crowds, y, &None, z, r)
 }
 
 /// The least of those bound to z that would not be met, where z is taken to be in another pair, or gone.
@@ -159,11 +181,13 @@ pub fn first_lost(
     u: &Universe,
     instances: &BTreeMap<InstNo, PairIx>,
     bindings: &BTreeSet<(PortIx, InstNo, InstNo)>,
+    crowds: &Crowds,
     clients: &BTreeSet<(InstNo, InstNo, PortIx)>,
     z: InstNo,
     to: &Option<PairIx>,
 ) -> Option<(InstNo, PortIx)>
     requires over { IsOver u.now (config_of instances.now.entries bindings.now.keys) }
+    requires counted { AreCounted (config_of instances.now.entries bindings.now.keys) crowds.now.map }
     requires to { (q : ℕ) → to.now ≡ Some q → q < pair_count u.now }
     requires correct { Correct u.now (config_of instances.now.entries bindings.now.keys) }
     requires indexed { IsIndexed (config_of instances.now.entries bindings.now.keys) clients.now.keys }
@@ -173,7 +197,7 @@ pub fn first_lost(
         if client.0 != z {
             return None;
         }
-        if loses(u, instances, bindings, z, to, client.1, client.2) {
+        if loses(u, instances, bindings, crowds, z, to, client.1, client.2) {
             return Some((client.1, client.2));
         }
     }
@@ -185,16 +209,18 @@ fn unmet_port(
     u: &Universe,
     instances: &BTreeMap<InstNo, PairIx>,
     bindings: &BTreeSet<(PortIx, InstNo, InstNo)>,
+    crowds: &Crowds,
     z: InstNo,
     to: &Option<PairIx>,
     ports: &[PortIx],
 ) -> Option<PortIx>
     requires over { IsOver u.now (config_of instances.now.entries bindings.now.keys) }
+    requires counted { AreCounted (config_of instances.now.entries bindings.now.keys) crowds.now.map }
     requires to { (q : ℕ) → to.now ≡ Some q → q < pair_count u.now }
     ensures { result ≡ find (λ r. not (is_met_if u.now (config_of instances.now.entries bindings.now.keys) z to.now z r)) ports.now }
 {
     for r in ports {
-        if !is_met_if(u, instances, bindings, z, to, z, *r) {
+        if !is_met_if(u, instances, bindings, crowds, z, to, z, *r) {
             return Some(*r);
         }
     }
@@ -206,14 +232,16 @@ fn unmet_of(
     u: &Universe,
     instances: &BTreeMap<InstNo, PairIx>,
     bindings: &BTreeSet<(PortIx, InstNo, InstNo)>,
+    crowds: &Crowds,
     z: InstNo,
     p: PairIx,
 ) -> Option<PortIx>
     requires over { IsOver u.now (config_of instances.now.entries bindings.now.keys) }
+    requires counted { AreCounted (config_of instances.now.entries bindings.now.keys) crowds.now.map }
     requires there { pair_of (config_of instances.now.entries bindings.now.keys) z ≡ Some p }
     ensures { result ≡ unmet_port u.now (config_of instances.now.entries bindings.now.keys) z (required_of u.now p) }
 {
-    unmet_port(u, instances, bindings, z, &Some(p), u.requires_(p))
+    unmet_port(u, instances, bindings, crowds, z, &Some(p), u.requires_(p))
 }
 
 /// The first instance and its first port that are required and not met.
@@ -221,12 +249,14 @@ pub fn first_unmet(
     u: &Universe,
     instances: &BTreeMap<InstNo, PairIx>,
     bindings: &BTreeSet<(PortIx, InstNo, InstNo)>,
+    crowds: &Crowds,
 ) -> Option<(InstNo, PortIx)>
-    requires { IsOver u.now (config_of instances.now.entries bindings.now.keys) }
+    requires over { IsOver u.now (config_of instances.now.entries bindings.now.keys) }
+    requires counted { AreCounted (config_of instances.now.entries bindings.now.keys) crowds.now.map }
     ensures { result ≡ unmet u.now (config_of instances.now.entries bindings.now.keys) }
 {
     for (z, p) in instances.iter() {
-        if let Some(r) = unmet_of(u, instances, bindings, *z, *p) {
+        if let Some(r) = unmet_of(u, instances, bindings, crowds, *z, *p) {
             return Some((*z, r));
         }
     }
@@ -239,17 +269,19 @@ pub fn unmet_own(
     u: &Universe,
     instances: &BTreeMap<InstNo, PairIx>,
     bindings: &BTreeSet<(PortIx, InstNo, InstNo)>,
+    crowds: &Crowds,
     z: InstNo,
     to: &Option<PairIx>,
 ) -> Option<PortIx>
     requires over { IsOver u.now (config_of instances.now.entries bindings.now.keys) }
+    requires counted { AreCounted (config_of instances.now.entries bindings.now.keys) crowds.now.map }
     requires correct { Correct u.now (config_of instances.now.entries bindings.now.keys) }
     requires config { IsConfig (config_of instances.now.entries bindings.now.keys) }
     requires to { (q : ℕ) → to.now ≡ Some q → q < pair_count u.now }
     ensures { result ≡ own_unmet u.now (config_of instances.now.entries bindings.now.keys) z to.now }
 {
     let q = (*to)?;
-    new_unmet(u, instances, bindings, z, to, u.requires_(q))
+    new_unmet(u, instances, bindings, crowds, z, to, u.requires_(q))
 }
 
 // The first of these ports that z does not require yet and that would not be met.
@@ -257,16 +289,20 @@ fn new_unmet(
     u: &Universe,
     instances: &BTreeMap<InstNo, PairIx>,
     bindings: &BTreeSet<(PortIx, InstNo, InstNo)>,
+    crowds: &Crowds,
     z: InstNo,
     to: &Option<PairIx>,
     ports: &[PortIx],
 ) -> Option<PortIx>
     requires over { IsOver u.now (config_of instances.now.entries bindings.now.keys) }
+    requires counted { AreCounted (config_of instances.now.entries bindings.now.keys) crowds.now.map }
     requires to { (q : ℕ) → to.now ≡ Some q → q < pair_count u.now }
     ensures { result ≡ find (λ r. not (is_required u.now (config_of instances.now.entries bindings.now.keys) z r) && not (is_met_if u.now (config_of instances.now.entries bindings.now.keys) z to.now z r)) ports.now }
 {
     for r in ports {
-        if !is_required(u, instances, z, *r) && !is_met_if(u, instances, bindings, z, to, z, *r) {
+        if !is_required(u, instances, z, *r)
+            && !is_met_if(u, instances, bindings, crowds, z, to, z, *r)
+        {
             return Some(*r);
         }
     }

@@ -1,0 +1,128 @@
+//! In which pairs the providers of each port of each requirer are.
+ghost use Rattle.std.specs.Prelude.{◌≡◌, ◌<◌, ◌+◌, ◌==◌, ◌&&◌, ℕ, Bool, IfOk, IsTrue, ◌↔◌, OnErr, OnOk, if◌then◌else◌};
+ghost use Rattle.metis_universe.specs.Universe.{provides};
+ghost use Rattle.metis_config.specs.Clients.{has_client};
+ghost use Rattle.metis_config.specs.Crowd.{total_of, weight, weight_at};
+
+use crate::crowd::Crowd;
+use metis_ids::{InstNo, NoMemory, PairIx, PortIx};
+use metis_universe::Universe;
+use std::alloc::Global;
+use std::collections::{BTreeMap, BTreeSet};
+
+/// For each requirer and port the pairs in which its providers are.
+#[derive(Drop)]
+pub struct Crowds {
+    pub(crate) map: BTreeMap<(InstNo, PortIx), Crowd>,
+    alloc: Global,
+}
+
+impl Crowds {
+    /// No provider.
+    pub fn new(alloc: Global) -> Crowds
+        ensures { (w r : ℕ) (f : ℕ → Bool) → weight_at result.map w r f ≡ 0 }
+    {
+        Crowds {
+            map: BTreeMap::new(alloc),
+            alloc,
+        }
+    }
+
+    /// The same.
+    pub fn copy(&self) -> Result<Crowds, NoMemory>
+        ensures { IfOk result (λ crowds. (w r : ℕ) (f : ℕ → Bool) → weight_at crowds.map w r f ≡ weight_at self.now.map w r f) }
+    {
+        Ok(Crowds {
+            map: self.map.clone()?,
+            alloc: self.alloc,
+        })
+    }
+
+    /// One more provider of the requirer's port is in the pair. Where memory runs out, nothing changes.
+    pub fn enter(&mut self, w: InstNo, r: PortIx, pair: PairIx) -> Result<(), NoMemory>
+        ensures ok { OnOk result ((v s : ℕ) (f : ℕ → Bool) → weight_at self.new.map v s f ≡ weight_at self.old.map v s f + (if (v == w) && (s == r) && f pair then 1 else 0)) }
+        ensures err { OnErr result ((v s : ℕ) (f : ℕ → Bool) → weight_at self.new.map v s f ≡ weight_at self.old.map v s f) }
+    {
+        if let Some(crowd) = self.map.get_mut(&(w, r)) {
+            return enter_with_room(crowd, pair);
+        }
+        let mut crowd = Crowd::new(self.alloc);
+        enter_with_room(&mut crowd, pair)?;
+        self.map.insert((w, r), crowd)?;
+        Ok(())
+    }
+
+    /// One fewer is.
+    pub fn leave(&mut self, w: InstNo, r: PortIx, pair: PairIx)
+        requires { 0 < weight_at self.old.map w r (λ q. q == pair) }
+        ensures { (v s : ℕ) (f : ℕ → Bool) → weight_at self.new.map v s f + (if (v == w) && (s == r) && f pair then 1 else 0) ≡ weight_at self.old.map v s f }
+    {
+        let is_last = match self.map.get_mut(&(w, r)) {
+            Some(crowd) => leave_last(crowd, pair),
+            None => false,
+        };
+        if is_last {
+            self.map.remove(&(w, r));
+        }
+    }
+
+    /// One goes from one pair to another.
+    pub fn shift(&mut self, w: InstNo, r: PortIx, from: PairIx, to: PairIx)
+        requires { 0 < weight_at self.old.map w r (λ q. q == from) }
+        ensures { (v s : ℕ) (f : ℕ → Bool) → weight_at self.new.map v s f + (if (v == w) && (s == r) && f from then 1 else 0) ≡ weight_at self.old.map v s f + (if (v == w) && (s == r) && f to then 1 else 0) }
+    {
+        if let Some(crowd) = self.map.get_mut(&(w, r)) {
+            crowd.leave(from);
+            crowd.enter(to);
+        }
+    }
+
+    /// All ports that requirers take from the instance go with it from one pair to another.
+    pub fn shift_all(
+        &mut self,
+        clients: &BTreeSet<(InstNo, InstNo, PortIx)>,
+        z: InstNo,
+        from: PairIx,
+        to: PairIx,
+    )
+        requires { (w r : ℕ) → IsTrue (has_client clients.now.keys z w r) → 0 < weight_at self.old.map w r (λ q. q == from) }
+        ensures { (w r : ℕ) (f : ℕ → Bool) → weight_at self.new.map w r f + (if has_client clients.now.keys z w r && f from then 1 else 0) ≡ weight_at self.old.map w r f + (if has_client clients.now.keys z w r && f to then 1 else 0) }
+    {
+        for client in clients.range((z, InstNo(0), PortIx(0))..) {
+            if client.0 != z {
+                return;
+            }
+            self.shift(client.1, client.2, from, to);
+        }
+    }
+
+    /// How many providers of the requirer's port give it.
+    pub fn giving(&self, u: &Universe, w: InstNo, r: PortIx) -> usize
+        ensures { result ≡ weight_at self.now.map w r (λ q. provides u.now q r) }
+    {
+        match self.map.get(&(w, r)) {
+            Some(crowd) => crowd.giving(u, r),
+            None => 0,
+        }
+    }
+}
+
+// One more is in the pair, where memory lasts.
+fn enter_with_room(crowd: &mut Crowd, pair: PairIx) -> Result<(), NoMemory>
+    ensures ok { OnOk result ((f : ℕ → Bool) → weight f crowd.new.shares ≡ weight f crowd.old.shares + (if f pair then 1 else 0)) }
+    ensures err { OnErr result (crowd.new.shares ≡ crowd.old.shares) }
+{
+    crowd.make_room()?;
+    crowd.enter(pair);
+    Ok(())
+}
+
+// One fewer is in the pair. Tells whether it was the last.
+fn leave_last(crowd: &mut Crowd, pair: PairIx) -> bool
+    requires { 0 < weight (λ q. q == pair) crowd.old.shares }
+    ensures weight { (f : ℕ → Bool) → weight f crowd.new.shares + (if f pair then 1 else 0) ≡ weight f crowd.old.shares }
+    ensures last { IsTrue result ↔ (total_of crowd.new.shares ≡ 0) }
+{
+    crowd.leave(pair);
+    crowd.is_empty()
+}
