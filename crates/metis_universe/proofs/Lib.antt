@@ -7,6 +7,7 @@ pub mod Correctness
 pub mod Edits
 pub mod Examples
 pub mod FirstFault
+pub mod FirstPairs
 pub mod FirstSights
 pub mod Frames
 pub mod FromRows
@@ -24,6 +25,7 @@ pub mod RowTables
 pub mod Same
 pub mod SeenNumbers
 pub mod Selected
+pub mod Settling
 pub mod Sorted
 pub mod Standing
 pub mod TypeBlock

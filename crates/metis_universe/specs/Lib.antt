@@ -9,6 +9,7 @@ pub mod Providers
 pub mod RowShapes
 pub mod Rows
 pub mod Selection
+pub mod Settled
 pub mod Sights
 pub mod Steadfast
 pub mod Step

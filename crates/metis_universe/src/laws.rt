@@ -1,15 +1,19 @@
 //! Laws over the definitions.
-ghost use Rattle.std.specs.Prelude.{ℕ, List};
+ghost use Rattle.std.specs.Prelude.{◌≡◌, ◌<◌, ◌≤◌, ◌⊎◌, ℕ, suc, List, take, Some, None, IsTrue, IsFalse, IsSome};
 ghost use Rattle.std.specs.Bool.{Decides};
 ghost use Rattle.std.specs.List.{list_any};
 ghost use Rattle.metis_ids.specs.declared.actions.Action.{Action};
-ghost use Rattle.metis_universe.specs.Config.{is_tie};
+ghost use Rattle.metis_ids.specs.declared.actions.Action.TheVariants.{New, Delete, Move};
+ghost use Rattle.metis_universe.specs.Config.{empty, is_tie};
+ghost use Rattle.metis_universe.specs.Step.{IsRun};
+ghost use Rattle.metis_universe.specs.Steadfast.{pair_after};
+ghost use Rattle.metis_universe.specs.Settled.{IsLast, NoneSettles, IsLower};
 ghost use Rattle.metis_universe.specs.Waits.{standing, IsStanding};
-ghost use Rattle.metis_universe.specs.Universe.{Universe, IsUniverse, pair_count};
+ghost use Rattle.metis_universe.specs.Universe.{Universe, IsUniverse, pair_count, has, next_of, initial_of, provides};
 ghost use Rattle.metis_universe.specs.Goal.{Attains};
 ghost use Rattle.metis_universe.specs.Closed.{Closed, Refusal};
 ghost use Rattle.metis_universe.specs.Layers.{layer_of, layer_set, IsLeastRound};
-ghost use Rattle.metis_universe.specs.Selection.{selected, IsLeastSelection};
+ghost use Rattle.metis_universe.specs.Selection.{provider_of, origin_of, selected, IsLeastSelection};
 
 /// No list of actions attains what a refusal refuses: each run from the empty configuration stays inside every closed set.
 pub fn refused_is_not_attained()
@@ -34,4 +38,36 @@ pub fn selection_is_least()
 /// A binding stands after a list of actions exactly where some Bind makes it and no later action ends it.
 pub fn standing_is_made_and_not_ended()
     ensures { (actions : List Action) (r z y : ℕ) → Decides (list_any (is_tie r z y) (standing actions)) (IsStanding actions r z y) }
+{}
+
+/// After a list of actions an instance is in the pair into which the last action that makes, deletes or moves it put it:
+/// in the initial pair of its type, in none, or in the pair to which it moved. Where no action does any of these it is in none.
+pub fn pair_is_of_the_last_action()
+    ensures made { (u : Universe) (actions : List Action) (y j t : ℕ) → IsLast y actions j (New y t) → pair_after u actions y ≡ Some (initial_of u t) }
+    ensures deleted { (u : Universe) (actions : List Action) (y j : ℕ) → IsLast y actions j (Delete y) → pair_after u actions y ≡ None }
+    ensures moved { (u : Universe) (actions : List Action) (y j p q : ℕ) → IsLast y actions j (Move y p q) → pair_after u actions y ≡ Some q }
+    ensures never { (u : Universe) (actions : List Action) (y : ℕ) → NoneSettles y actions → pair_after u actions y ≡ None }
+{}
+
+/// Each run from the empty configuration stays inside every closed set: after each front of it each instance is in a pair of the set.
+pub fn runs_stay_inside()
+    ensures { (u : Universe) (s : List ℕ) (actions : List Action) (k z p : ℕ) → Closed u s → IsRun u empty actions → pair_after u (take k actions) z ≡ Some p → IsTrue (has s p) }
+{}
+
+/// The provider of a port has a layer and provides it, no pair of a lower layer does, and none of the same layer and a lower number.
+/// There is none exactly where no pair that has a layer provides the port.
+pub fn provider_comes_first()
+    ensures provides { (u : Universe) (r p : ℕ) → provider_of u r ≡ Some p → IsSome (layer_of u p) × IsTrue (provides u p r) }
+    ensures first { (u : Universe) (r p l q m : ℕ) → provider_of u r ≡ Some p → layer_of u p ≡ Some l → layer_of u q ≡ Some m → IsTrue (provides u q r) → (l < m) ⊎ ((l ≡ m) × (p ≤ q)) }
+    ensures none { (u : Universe) (r q m : ℕ) → provider_of u r ≡ None → layer_of u q ≡ Some m → IsFalse (provides u q r) }
+{}
+
+/// The origin of a pair is the pair of least number among those of lower layers that have a transition to it.
+/// It is there exactly where the pair has a layer above 0.
+pub fn origin_is_the_least_below()
+    ensures leads { (u : Universe) (p o : ℕ) → origin_of u p ≡ Some o → IsLower u o p × IsTrue (has (next_of u o) p) }
+    ensures least { (u : Universe) (p o q : ℕ) → origin_of u p ≡ Some o → IsLower u q p → IsTrue (has (next_of u q) p) → o ≤ q }
+    ensures above { (u : Universe) (p k : ℕ) → layer_of u p ≡ Some (suc k) → IsSome (origin_of u p) }
+    ensures lowest { (u : Universe) (p : ℕ) → layer_of u p ≡ Some 0 → origin_of u p ≡ None }
+    ensures never { (u : Universe) (p : ℕ) → layer_of u p ≡ None → origin_of u p ≡ None }
 {}

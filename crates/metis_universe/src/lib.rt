@@ -11,7 +11,8 @@ mod universe;
 
 pub use faults::{LimitKind, RowFault};
 pub use laws::{
-    layer_is_least, layers_are_closed, refused_is_not_attained, selection_is_least,
+    layer_is_least, layers_are_closed, origin_is_the_least_below, pair_is_of_the_last_action,
+    provider_comes_first, refused_is_not_attained, runs_stay_inside, selection_is_least,
     standing_is_made_and_not_ended,
 };
 pub use names::is_name;
