@@ -86,12 +86,12 @@ def running(size):
         yield "move 0 run off"
 
 
-# the actions, how many instances are made and stand at the end, and by how much the sizes are divided
+# the actions, and how many instances are made and stand at the end
 KINDS = {
-    "leaving": (leaving, lambda size: size + 1, lambda size: 1, 1),
-    "closing": (closing, lambda size: size + 1, lambda size: 1, 1),
-    "idling": (idling, lambda size: size + 2, lambda size: size + 2, 1),
-    "running": (running, lambda size: size + 2, lambda size: size + 2, 4),
+    "leaving": (leaving, lambda size: size + 1, lambda size: 1),
+    "closing": (closing, lambda size: size + 1, lambda size: 1),
+    "idling": (idling, lambda size: size + 2, lambda size: size + 2),
+    "running": (running, lambda size: size + 2, lambda size: size + 2),
 }
 
 
@@ -130,9 +130,9 @@ def main(words):
     with tempfile.TemporaryDirectory() as name:
         universe, plan = Path(name) / "u.json", Path(name) / "p.txt"
         universe.write_text(json.dumps(UNIVERSE) + "\n")
-        for kind, (actions_of, made, standing, part) in KINDS.items():
+        for kind, (actions_of, made, standing) in KINDS.items():
             before = None
-            for size in (size // part for size in sizes):
+            for size in sizes:
                 count = write_text(plan, actions_of(size), made(size))
                 seconds, answer = timed([words[0], "replay", str(universe), str(plan)])
                 wanted = (0, f"good standing {standing(size)} actions {count}\n")
