@@ -27,19 +27,19 @@ both_none : {A : Type 0} (a b : Option A) → a ≡ None → b ≡ None → opti
 both_none None b e h = h
 both_none (Some x) b e h = cc
 
-not_when : (b : Bool) (f : AFault) → when b f ≡ None → b ≡ false
+pub not_when : (b : Bool) (f : AFault) → when b f ≡ None → b ≡ false
 not_when true f h = cc
 not_when false f h = refl
 
-when_not : (b : Bool) (f : AFault) → b ≡ false → when b f ≡ None
+pub when_not : (b : Bool) (f : AFault) → b ≡ false → when b f ≡ None
 when_not true f h = absurd (true≢false h)
 when_not false f h = refl
 
-none_of : {A : Type 0} (o : Option A) → is_some o ≡ false → o ≡ None
+pub none_of : {A : Type 0} (o : Option A) → is_some o ≡ false → o ≡ None
 none_of None h = refl
 none_of (Some x) h = absurd (true≢false h)
 
-there_of : {A : Type 0} (o : Option A) → is_none o ≡ false → (x : A) × (o ≡ Some x)
+pub there_of : {A : Type 0} (o : Option A) → is_none o ≡ false → (x : A) × (o ≡ Some x)
 there_of None h = absurd (true≢false h)
 there_of (Some x) h = (x, refl)
 
@@ -47,7 +47,7 @@ no_unmet : (o : Option (ℕ × ℕ)) → option_map (λ x. Unmet x.0 x.1) o ≡ 
 no_unmet None h = refl
 no_unmet (Some x) h = cc
 
-some_there : (o : Option ℕ) → IsSome o → is_none o ≡ false
+pub some_there : (o : Option ℕ) → IsSome o → is_none o ≡ false
 some_there None h = absurd (false≢true h)
 some_there (Some x) h = refl
 

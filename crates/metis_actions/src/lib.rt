@@ -2,9 +2,11 @@
 #![tactic(auto)]
 
 mod faults;
+mod laws;
 mod steps;
 mod texts;
 
 pub use faults::AFault;
+pub use laws::{each_reason_comes_first, none_where_the_step_is_correct};
 pub use steps::apply;
 pub use texts::write_fault;

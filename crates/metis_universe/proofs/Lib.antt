@@ -1,3 +1,4 @@
+pub mod AllFaults
 pub mod Ascending
 pub mod Attained
 pub mod Blocks

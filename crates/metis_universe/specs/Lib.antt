@@ -6,6 +6,7 @@ pub mod Layers
 pub mod Names
 pub mod Numbers
 pub mod Providers
+pub mod RowFaults
 pub mod RowShapes
 pub mod Rows
 pub mod Selection

@@ -1,5 +1,5 @@
 //! Laws over the definitions.
-ghost use Rattle.std.specs.Prelude.{◌≡◌, ◌<◌, ◌≤◌, ◌⊎◌, ℕ, suc, List, take, Some, None, IsTrue, IsFalse, IsSome};
+ghost use Rattle.std.specs.Prelude.{◌≡◌, ◌↔◌, ◌<◌, ◌≤◌, ◌⊎◌, ℕ, suc, List, Contains, take, Some, None, IsTrue, IsFalse, IsSome};
 ghost use Rattle.std.specs.Bool.{Decides};
 ghost use Rattle.std.specs.List.{list_any};
 ghost use Rattle.metis_ids.specs.declared.actions.Action.{Action};
@@ -10,6 +10,10 @@ ghost use Rattle.metis_universe.specs.Steadfast.{pair_after};
 ghost use Rattle.metis_universe.specs.Settled.{IsLast, NoneSettles, IsLower};
 ghost use Rattle.metis_universe.specs.Waits.{standing, IsStanding};
 ghost use Rattle.metis_universe.specs.Universe.{Universe, IsUniverse, pair_count, has, next_of, initial_of, provides};
+ghost use Rattle.metis_universe.specs.RowShapes.{TypeRow};
+ghost use Rattle.metis_universe.specs.Rows.{first_fault};
+ghost use Rattle.metis_universe.specs.RowFaults.{HasFault, all_faults, first_of};
+ghost use Rattle.metis_universe.specs.declared.faults.RowFault.{RowFault};
 ghost use Rattle.metis_universe.specs.Goal.{Attains};
 ghost use Rattle.metis_universe.specs.Closed.{Closed, Refusal};
 ghost use Rattle.metis_universe.specs.Layers.{layer_of, layer_set, IsLeastRound};
@@ -70,4 +74,11 @@ pub fn origin_is_the_least_below()
     ensures above { (u : Universe) (p k : ℕ) → layer_of u p ≡ Some (suc k) → IsSome (origin_of u p) }
     ensures lowest { (u : Universe) (p : ℕ) → layer_of u p ≡ Some 0 → origin_of u p ≡ None }
     ensures never { (u : Universe) (p : ℕ) → layer_of u p ≡ None → origin_of u p ≡ None }
+{}
+
+/// The fault that is told of rows is the first of all their faults, in the order of the types, and none where they have none.
+/// A fault is among these exactly where its condition holds at its place.
+pub fn first_fault_comes_first()
+    ensures first { (rows : List TypeRow) → first_fault rows ≡ first_of (all_faults rows) }
+    ensures listed { (rows : List TypeRow) (f : RowFault) → Contains (all_faults rows) f ↔ HasFault rows f }
 {}

@@ -11,9 +11,9 @@ mod universe;
 
 pub use faults::{LimitKind, RowFault};
 pub use laws::{
-    layer_is_least, layers_are_closed, origin_is_the_least_below, pair_is_of_the_last_action,
-    provider_comes_first, refused_is_not_attained, runs_stay_inside, selection_is_least,
-    standing_is_made_and_not_ended,
+    first_fault_comes_first, layer_is_least, layers_are_closed, origin_is_the_least_below,
+    pair_is_of_the_last_action, provider_comes_first, refused_is_not_attained, runs_stay_inside,
+    selection_is_least, standing_is_made_and_not_ended,
 };
 pub use names::is_name;
 pub use rows::{StateRow, TypeRow, rows_fit};
