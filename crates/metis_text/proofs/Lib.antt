@@ -10,6 +10,7 @@ pub mod DupPlaces
 pub mod DupWords
 pub mod DupsRead
 pub mod Formed
+pub mod Fronts
 pub mod Items
 pub mod KindsKept
 pub mod Lengths
@@ -26,6 +27,7 @@ pub mod PairsRead
 pub mod PlanParts
 pub mod PlanRead
 pub mod Printed
+pub mod Readers
 pub mod RefusalLines
 pub mod RefusalPairs
 pub mod RefusalRead

@@ -28,7 +28,7 @@ read_next_is read l p h =
     let value = made_is (λ a. (a, next.0.1)) (told next.0.1 (read next.0.0)) p next.2 in
     (next.0.0, told_is next.0.1 (read next.0.0) p.0 (value.1 ∙ ap (λ p. Ok p.0) value.2), line_to_is l (position is_feed l.rest) next.0 refl next.1 ∙ ap (λ p. next.0.0 ++ (10 ∷ p.1.rest)) value.2)
 
-next_is : (bytes rest : List ℕ) (n : ℕ) → list_all (λ b. not (b == 10)) bytes ≡ true → next_line (lines_of (bytes ++ (10 ∷ rest)) n) ≡ Ok (bytes, lines_of rest (n + 1))
+pub next_is : (bytes rest : List ℕ) (n : ℕ) → list_all (λ b. not (b == 10)) bytes ≡ true → next_line (lines_of (bytes ++ (10 ∷ rest)) n) ≡ Ok (bytes, lines_of rest (n + 1))
 next_is bytes rest n no_feed =
     let all = bytes ++ (10 ∷ rest) in
     let past : drop (length bytes + 1) all ≡ rest = ap (drop (length bytes + 1)) (sym (append_assoc bytes (10 ∷ []) rest)) ∙ drop_at (bytes ++ 10 ∷ []) rest (length bytes + 1) (length_push bytes 10) in

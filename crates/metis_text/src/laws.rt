@@ -1,5 +1,5 @@
 //! Laws over the definitions.
-ghost use Rattle.std.specs.Prelude.{◌≡◌, ◌<◌, ◌≤◌, ◌-◌, ◌^◌, ℕ, List, Ok, length, map};
+ghost use Rattle.std.specs.Prelude.{◌≡◌, ◌≢◌, ◌<◌, ◌≤◌, ◌-◌, ◌^◌, ℕ, List, ◌++◌, Ok, Err, length, map};
 ghost use Rattle.std.specs.List.{All, count_by};
 ghost use Rattle.metis_ids.specs.Plans.{Plan};
 ghost use Rattle.metis_outside.specs.Pieces.{IsLine};
@@ -13,6 +13,8 @@ ghost use Rattle.metis_ids.specs.Action.{makes};
 ghost use Rattle.metis_text.specs.PlanText.{IsWellFormed, plan_bytes, plan_lines};
 ghost use Rattle.metis_text.specs.Reading.{Parts, plan_in};
 ghost use Rattle.metis_text.specs.Reads.{said};
+ghost use Rattle.metis_text.specs.declared.fault.TFault.{TFault};
+ghost use Rattle.metis_text.specs.declared.fault.TFault.TheVariants.{Short};
 ghost use Rattle.metis_text.specs.RefusalReading.{refusal_in, refusal_parts};
 ghost use Rattle.metis_text.specs.RefusalText.{IsRefusal, refusal_bytes, refusal_lines};
 ghost use Rattle.metis_waits.specs.Waits.{waits_on_others};
@@ -25,6 +27,26 @@ pub fn accepted_is_written()
 /// And the text of a plan with lists that is well formed is read as this plan.
 pub fn well_formed_is_read()
     ensures { (u : Universe) (p : Plan) (after : List (List ℕ)) → IsTable u → IsWellFormed u p after → plan_in u (plan_bytes u p after) ≡ Ok (said p after) }
+{}
+
+/// Each front of the text of a plan with lists that is well formed, but the text, is read as short.
+pub fn front_is_short()
+    ensures { (u : Universe) (p : Plan) (after : List (List ℕ)) (front more : List ℕ) → IsTable u → IsWellFormed u p after → plan_bytes u p after ≡ front ++ more → 1 ≤ length more → plan_in u front ≡ Err Short }
+{}
+
+/// No text that is read begins with bytes of which another fault than `Short` is told.
+pub fn no_text_begins_with_a_fault()
+    ensures { (u : Universe) (bytes more : List ℕ) (fault : TFault) (says : Parts) → plan_in u bytes ≡ Err fault → fault ≢ Short → plan_in u (bytes ++ more) ≢ Ok says }
+{}
+
+/// Each front of a text that is short is short.
+pub fn front_of_short_is_short()
+    ensures { (u : Universe) (front more : List ℕ) → plan_in u (front ++ more) ≡ Err Short → plan_in u front ≡ Err Short }
+{}
+
+/// And a text that is short stays so until a line ends behind it.
+pub fn short_until_a_line_ends()
+    ensures { (u : Universe) (front more : List ℕ) → All (λ b. b ≢ 10) more → plan_in u front ≡ Err Short → plan_in u (front ++ more) ≡ Err Short }
 {}
 
 /// A plan whose actions are a run from the empty configuration is well formed, with what its actions wait for.
