@@ -17,7 +17,7 @@ use Rattle.metis_text.proofs.PlanRead.{parts_bytes, plan_is, plan_read}
 use Rattle.metis_text.proofs.TextBytes.{plan_bytes_by_parts}
 
 -- the text of what a plan says is the plan's
-said_bytes : (u : Universe) (p : Plan) (after : List (List ℕ)) → parts_bytes u (said p after) ≡ plan_bytes u p after
+pub said_bytes : (u : Universe) (p : Plan) (after : List (List ℕ)) → parts_bytes u (said p after) ≡ plan_bytes u p after
 said_bytes u p after =
     let actions = bytes_of (action_lines u p.actions after) in
     let parts : parts_bytes u (said p after) ≡ plan_header ++ (counts_of p ++ (actions ++ (bytes_of (dup_lines u p.dups) ++ end_line))) =

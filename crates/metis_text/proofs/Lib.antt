@@ -9,6 +9,7 @@ pub mod DupLine
 pub mod DupPlaces
 pub mod DupWords
 pub mod DupsRead
+pub mod Faults
 pub mod Formed
 pub mod Fronts
 pub mod Items
@@ -40,5 +41,6 @@ pub mod RunMoves
 pub mod Shapes
 pub mod TextBytes
 pub mod WaitRows
+pub mod WholeLines
 pub mod Words
 pub mod WrittenRun

@@ -1,5 +1,6 @@
 pub mod ActionLine
 pub mod DupLine
+pub mod Faults
 pub mod Flaws
 pub mod InRange
 pub mod Kinds

@@ -1,5 +1,5 @@
 //! Laws over the definitions.
-ghost use Rattle.std.specs.Prelude.{◌≡◌, ◌≢◌, ◌<◌, ◌≤◌, ◌-◌, ◌^◌, ℕ, List, ◌++◌, Ok, Err, length, map};
+ghost use Rattle.std.specs.Prelude.{◌≡◌, ◌≢◌, ◌<◌, ◌≤◌, ◌-◌, ◌^◌, ◌+◌, ℕ, List, ◌++◌, Ok, Err, length, map};
 ghost use Rattle.std.specs.List.{All, count_by};
 ghost use Rattle.metis_ids.specs.Plans.{Plan};
 ghost use Rattle.metis_outside.specs.Pieces.{IsLine};
@@ -8,13 +8,14 @@ ghost use Rattle.metis_universe.specs.Numbers.{IsOf};
 ghost use Rattle.metis_universe.specs.Step.{IsRun};
 ghost use Rattle.metis_universe.specs.Universe.{Universe, IsTable, pair_count};
 ghost use Rattle.metis_universe.specs.Waits.{numbers};
+ghost use Rattle.metis_text.specs.Faults.{IsFault, IsWellFormedButCount};
 ghost use Rattle.metis_text.specs.InRange.{IsPlanInRange};
 ghost use Rattle.metis_ids.specs.Action.{makes};
 ghost use Rattle.metis_text.specs.PlanText.{IsWellFormed, plan_bytes, plan_lines};
 ghost use Rattle.metis_text.specs.Reading.{Parts, plan_in};
 ghost use Rattle.metis_text.specs.Reads.{said};
 ghost use Rattle.metis_text.specs.declared.fault.TFault.{TFault};
-ghost use Rattle.metis_text.specs.declared.fault.TFault.TheVariants.{Short};
+ghost use Rattle.metis_text.specs.declared.fault.TFault.TheVariants.{Line, Short};
 ghost use Rattle.metis_text.specs.RefusalReading.{refusal_in, refusal_parts};
 ghost use Rattle.metis_text.specs.RefusalText.{IsRefusal, refusal_bytes, refusal_lines};
 ghost use Rattle.metis_waits.specs.Waits.{waits_on_others};
@@ -37,6 +38,25 @@ pub fn front_is_short()
 /// No text that is read begins with bytes of which another fault than `Short` is told.
 pub fn no_text_begins_with_a_fault()
     ensures { (u : Universe) (bytes more : List ℕ) (fault : TFault) (says : Parts) → plan_in u bytes ≡ Err fault → fault ≢ Short → plan_in u (bytes ++ more) ≢ Ok says }
+{}
+
+/// Each fault that is told is one: the bytes end before the last line does, or the fault is that of a line and comes of the
+/// lines up to it alone, or bytes stand behind the last line, or the instances are not counted.
+pub fn told_fault_is_one()
+    ensures { (u : Universe) (bytes : List ℕ) (fault : TFault) → plan_in u bytes ≡ Err fault → IsFault u bytes fault }
+{}
+
+/// Where bytes stand behind the text of a plan with lists that is well formed, but perhaps for its number of instances, the
+/// line behind the last one is told.
+pub fn bytes_past_the_end_are_told()
+    ensures { (u : Universe) (p : Plan) (after : List (List ℕ)) (more : List ℕ) → IsTable u → IsWellFormedButCount u p after → 1 ≤ length more
+        → plan_in u (plan_bytes u p after ++ more) ≡ Err (Line (length (plan_lines u p after) + 1)) }
+{}
+
+/// Where a plan with lists is well formed but for its number of instances, which is another than its actions make, the second
+/// line is told.
+pub fn miscount_is_told()
+    ensures { (u : Universe) (p : Plan) (after : List (List ℕ)) → IsTable u → IsWellFormedButCount u p after → p.instances ≢ count_by makes p.actions → plan_in u (plan_bytes u p after) ≡ Err (Line 2) }
 {}
 
 /// Each front of a text that is short is short.
