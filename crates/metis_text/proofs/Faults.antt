@@ -1,5 +1,5 @@
 -- A fault of the text of a plan is told just where it is one.
---     PlanRead u l w      the lines were read as the plan with lists, which is well formed but perhaps for its number of instances
+--     PlanRead u l w      the lines were read as the plan with lists, whose number of instances may be wrong
 use Rattle.std.proofs.Common.{◌≡◌, ◌≢◌, ◌⊎◌, ℕ, suc, ◌+◌, ◌≤◌, Bool, true, false, List, [], ◌∷◌, ◌++◌, length, map, Ok, Err, refl, sym, ap, ◌∙◌, subst, append-nil, arith, inl, inr}
 use Rattle.std.specs.Bool.{if◌then◌else◌, ◌==◌}
 use Rattle.std.specs.List.{count_by, zip}
@@ -16,14 +16,15 @@ use Rattle.metis_text.specs.DupLine.{DupRow}
 use Rattle.metis_text.specs.Faults.{IsFault, IsWellFormedButCount, recounted}
 use Rattle.metis_text.specs.Line.{numbered}
 use Rattle.metis_text.specs.PlanText.{action_line, action_lines, dup_line, dup_lines, end_line, plan_bytes, plan_end, plan_lines}
-use Rattle.metis_text.specs.Reading.{Lines, Parts, and_then, fault_at, lines_of, parts, plan_in}
+use Rattle.metis_text.specs.Reading.{Lines, Parts, and_then, fault_at, lines_of, parts, plan_from, plan_in}
 use Rattle.metis_text.specs.Reads.{dup_row, said}
 use Rattle.metis_text.specs.declared.fault.TFault.{TFault}
 use Rattle.metis_text.specs.declared.fault.TFault.TheVariants.{Line, Short}
 use Rattle.metis_text.proofs.Accepted.{said_bytes}
 use Rattle.metis_text.proofs.DupsRead.{AreDups}
 use Rattle.metis_text.proofs.Formed.{formed, parts_of_formed}
-use Rattle.metis_text.proofs.Fronts.{closed, lines_from, lines_reads, plan_by, plan_whole, whole_more}
+use Rattle.metis_text.proofs.PlanLines.{closed, lines_from, plan_text}
+use Rattle.metis_text.proofs.Texts.{text_by, whole_more}
 use Rattle.metis_text.proofs.PlanRead.{AreParts, numbers_of_parts, parts_bytes}
 use Rattle.metis_text.proofs.PlanParts.{AreCounts}
 use Rattle.metis_text.proofs.Readers.{Wrong, and_then_wrong}
@@ -127,15 +128,15 @@ module _ (u : Universe) where
         lines = w.lines;
         flaw = w.flaw;
         fault = w.fault ∙ ap (λ n. fault_at n w.flaw) place;
-        each = λ other. plan_by u (lines_of (bytes_of w.front ++ other) 0) (Err f) (w.each other);
+        each = λ other. text_by (lines_from u) closed (plan_from u) (plan_text u) (lines_of (bytes_of w.front ++ other) 0) (Err f) (w.each other);
       })
 
   of_lines : (bytes : List ℕ) (f : TFault) → (lines_from u (lines_of bytes 0) ≡ Err f) ⊎ ((w : Parts × Lines) × (lines_from u (lines_of bytes 0) ≡ Ok w) × (closed w ≡ Err f)) → IsFault u bytes f
-  of_lines bytes f (inl h) = of_wrong bytes f ((lines_reads u).wrong (lines_of bytes 0) f h)
+  of_lines bytes f (inl h) = of_wrong bytes f ((plan_text u).reads.wrong (lines_of bytes 0) f h)
   of_lines bytes f (inr (w, is, h)) = of_plan bytes w f (plan_are (lines_of bytes 0) w (lines_are u (lines_of bytes 0) w is)) (unclosed w f h).why
 
   pub told_is_fault : (bytes : List ℕ) (f : TFault) → plan_in u bytes ≡ Err f → IsFault u bytes f
-  told_is_fault bytes f h = of_lines bytes f (and_then_wrong (lines_from u (lines_of bytes 0)) closed f (sym (plan_whole u (lines_of bytes 0)) ∙ h))
+  told_is_fault bytes f h = of_lines bytes f (and_then_wrong (lines_from u (lines_of bytes 0)) closed f (sym ((plan_text u).whole (lines_of bytes 0)) ∙ h))
 
   -- ---- each fault is told
 
@@ -155,7 +156,7 @@ module _ (u : Universe) where
         let are = lines_are u (lines_of (plan_bytes u p after) 0) (said p after, lines_of [] read.0) read.1 in
         let lines = many_lines u p after formed_so.recounted_so.lists in
         let number : read.0 ≡ length (plan_lines u p after) = omega (arith, are.number, lines, length-map p.dups dup_row) in
-        whole_more u (lines_of (plan_bytes u p after) 0) (said p after, lines_of [] read.0) more read.1 some ∙ ap (λ n. Err (Line (n + 1))) number
+        whole_more (lines_from u) closed (plan_from u) (plan_text u) (lines_of (plan_bytes u p after) 0) (said p after, lines_of [] read.0) more read.1 some ∙ ap (λ n. Err (Line (n + 1))) number
 
     differs : (m n : ℕ) → n ≢ m → (m == n) ≡ false
     differs m n h = grind (arith, nat_tests)
@@ -163,5 +164,5 @@ module _ (u : Universe) where
     pub miscounted_told : p.instances ≢ count_by makes p.actions → plan_in u (plan_bytes u p after) ≡ Err (Line 2)
     miscounted_told wrong =
         let read = text_read in
-        plan_by u (lines_of (plan_bytes u p after) 0) (Ok (said p after, lines_of [] read.0)) read.1
+        text_by (lines_from u) closed (plan_from u) (plan_text u) (lines_of (plan_bytes u p after) 0) (Ok (said p after, lines_of [] read.0)) read.1
         ∙ ap (λ b. if b then Ok (said p after) else Err (Line 2)) (differs (count_by makes p.actions) p.instances wrong)

@@ -11,7 +11,6 @@ pub mod DupWords
 pub mod DupsRead
 pub mod Faults
 pub mod Formed
-pub mod Fronts
 pub mod Items
 pub mod KindsKept
 pub mod Lengths
@@ -25,10 +24,12 @@ pub mod NumberTokens
 pub mod Numbered
 pub mod Outcomes
 pub mod PairsRead
+pub mod PlanLines
 pub mod PlanParts
 pub mod PlanRead
 pub mod Printed
 pub mod Readers
+pub mod RefusalFaults
 pub mod RefusalLines
 pub mod RefusalPairs
 pub mod RefusalRead
@@ -40,6 +41,7 @@ pub mod RunLists
 pub mod RunMoves
 pub mod Shapes
 pub mod TextBytes
+pub mod Texts
 pub mod WaitRows
 pub mod WholeLines
 pub mod Words

@@ -43,6 +43,12 @@ pub and_then_is : {A B : Type 0} (x : Result A TFault) (next : A → Result B TF
 and_then_is (Ok a) next b h = (a, refl, h)
 and_then_is (Err f) next b h = cc
 
+-- what goes on behind a part that was read
+pub and_then_behind : {A B C : Type 0} (x : Result A TFault) (next : A → Result B TFault) (close : B → Result C TFault) (both : A → Result C TFault) → ((a : A) → both a ≡ and_then (next a) close)
+    → and_then x both ≡ and_then (and_then x next) close
+and_then_behind (Ok a) next close both same = same a
+and_then_behind (Err f) next close both same = refl
+
 pub told_is : {A : Type 0} (l : Lines) (x : Result A Flaw) (a : A) → told l x ≡ Ok a → x ≡ Ok a
 told_is l (Ok b) a h = cc
 told_is l (Err f) a h = cc

@@ -1,6 +1,6 @@
 -- A reader of lines: what it gives, and each fault that it tells, hangs on whole lines and not on what stands behind them.
 --     Took read l p      it read the front of l, and reads p where other bytes stand behind this front
---     Wrong read l f      the last line of a front of l has the flaw, and so it has where other bytes stand behind this front
+--     Wrong read l f      the last line of a front of l has the flaw, whatever stands behind this front
 --     IsReader read      it is one
 use Rattle.std.proofs.Common.{◌≡◌, ◌⊎◌, ℕ, ◌+◌, Bool, true, false, cond, not, List, [], ◌∷◌, ◌++◌, length, position, Some, None, Result, Ok, Err, refl, sym, ap, ◌∙◌, subst, append_assoc, append-nil, arith, inl, inr}
 use Rattle.std.specs.Bool.{nat_lt, ◌==◌}

@@ -1,4 +1,4 @@
--- The lines of the text of a plan up to the last one, where the number of instances need not be right and more may stand behind them.
+-- The lines of the text of a plan, where the number of instances may be wrong and more may stand behind them.
 --     BodyAre u counts l q end      q was read behind the second line, and this is left
 --     LinesAre u l w      these parts were read, and these lines are left
 use Rattle.std.proofs.Common.{◌≡◌, ℕ, zero, suc, ◌+◌, List, [], ◌∷◌, ◌++◌, length, take, drop, position, Option, Some, None, Result, Ok, refl, sym, ap, ◌∙◌, subst, append_assoc, arith}
@@ -13,7 +13,7 @@ use Rattle.metis_text.specs.PlanText.{action_line, counts_line, end_line}
 use Rattle.metis_text.specs.Reading.{Lines, Numbers, Parts, Rows, and_then, counts_in, dups_from, exactly, is_feed, line_to, lines_of, next_line, parts, read_next, rows_from, rows_of, told, with_row}
 use Rattle.metis_text.specs.declared.flaw.Flaw.{Flaw}
 use Rattle.metis_text.proofs.DupsRead.{AreDups, dup_row_line, dups_are, dups_read}
-use Rattle.metis_text.proofs.Fronts.{counts_then, dups_then, last_from, lines_from, rows_then}
+use Rattle.metis_text.proofs.PlanLines.{counts_then, dups_then, last_from, lines_from, rows_then}
 use Rattle.metis_text.proofs.LinesTaken.{read_next_is, read_next_read}
 use Rattle.metis_text.proofs.Outcomes.{and_then_is, made_is}
 use Rattle.metis_text.proofs.PlanParts.{AreCounts, counts_are, counts_printed, counts_read, counts_tokens, exactly_is}
@@ -27,7 +27,7 @@ line_to_number : (l : Lines) (o : Option ℕ) (p : List ℕ × Lines) → line_t
 line_to_number l None p h = cc
 line_to_number l (Some end) p h = let is : (take end l.rest, lines_of (drop (end + 1) l.rest) (l.number + 1)) ≡ p = cc in sym (ap (λ p. p.1.number) is)
 
-read_next_number : {A : Type 0} (read : List ℕ → Result A Flaw) (l : Lines) (p : A × Lines) → read_next read l ≡ Ok p → p.1.number ≡ l.number + 1
+pub read_next_number : {A : Type 0} (read : List ℕ → Result A Flaw) (l : Lines) (p : A × Lines) → read_next read l ≡ Ok p → p.1.number ≡ l.number + 1
 read_next_number read l p h =
     let next = and_then_is (next_line l) (λ p. made (λ a. (a, p.1)) (told p.1 (read p.0))) p h in
     let value = made_is (λ a. (a, next.0.1)) (told next.0.1 (read next.0.0)) p next.2 in

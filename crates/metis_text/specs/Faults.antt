@@ -1,11 +1,12 @@
--- Where the faults of the text of a plan come from.
+-- Where the faults of the texts of plans and of refusals come from.
 --     recounted p      the plan with the number of instances that its actions make
 --     IsWellFormedButCount u p after      what a text says that can be read but for its number of instances
---     IsOfLine u bytes f      the last of the first lines of the bytes has a flaw, and each text that begins with these lines has this fault
---     IsPastEnd u bytes f      more stands behind the text of a plan with lists that is well formed, but perhaps for its number of instances
---     IsMiscounted u bytes f      the bytes are the text of a plan with lists that is well formed, but for its number of instances
+--     IsOfLine read bytes f      a line has a flaw, and each text that begins with the lines up to it is read as this fault
+--     IsPastEnd u bytes f      more stands behind the text of such a plan with lists
+--     IsMiscounted u bytes f      the bytes are the text of such a plan with lists, and its number of instances is wrong
 --     IsFault u bytes f      the bytes end too early, or it is one of these
-use Rattle.std.specs.Prelude.{◌≡◌, ◌≢◌, ◌<◌, ◌≤◌, ◌^◌, ◌+◌, ℕ, List, ◌++◌, length, Err}
+--     IsPastRefusal u bytes f, IsRefusalFault u bytes f      more stands behind the text of a refusal;  all faults of refusals
+use Rattle.std.specs.Prelude.{◌≡◌, ◌≢◌, ◌<◌, ◌≤◌, ◌^◌, ◌+◌, ℕ, List, ◌++◌, length, Result, Err}
 use Rattle.std.specs.List.{All, count_by}
 use Rattle.metis_ids.specs.Action.{makes}
 use Rattle.metis_ids.specs.Plans.{Plan}
@@ -13,6 +14,8 @@ use Rattle.metis_outside.specs.Pieces.{IsLine, bytes_of}
 use Rattle.metis_universe.specs.Universe.{Universe}
 use Rattle.metis_text.specs.PlanText.{IsWellFormed, plan_bytes, plan_lines}
 use Rattle.metis_text.specs.Reading.{fault_at, plan_in}
+use Rattle.metis_text.specs.RefusalReading.{refusal_in}
+use Rattle.metis_text.specs.RefusalText.{IsRefusal, refusal_bytes, refusal_lines}
 use Rattle.metis_text.specs.declared.fault.TFault.{TFault}
 use Rattle.metis_text.specs.declared.fault.TFault.TheVariants.{Line, Short}
 use Rattle.metis_text.specs.declared.flaw.Flaw.{Flaw}
@@ -25,14 +28,14 @@ pub record IsWellFormedButCount (u : Universe) (p : Plan) (after : List (List �
   pub few_instances : p.instances < 2 ^ 32
 
 -- the front is these lines with their line feeds, and it does not matter what stands behind them
-pub record IsOfLine (u : Universe) (bytes : List ℕ) (f : TFault) : Type 0 where
+pub record IsOfLine {A : Type 0} (read : List ℕ → Result A TFault) (bytes : List ℕ) (f : TFault) : Type 0 where
   pub front : List (List ℕ)
   pub behind : List ℕ
   pub text : bytes ≡ bytes_of front ++ behind
   pub lines : All IsLine front
   pub flaw : Flaw
   pub fault : f ≡ fault_at (length front) flaw
-  pub each : (other : List ℕ) → plan_in u (bytes_of front ++ other) ≡ Err f
+  pub each : (other : List ℕ) → read (bytes_of front ++ other) ≡ Err f
 
 -- the fault is told of the line behind the last one, whether it has an end or not
 pub record IsPastEnd (u : Universe) (bytes : List ℕ) (f : TFault) : Type 0 where
@@ -55,6 +58,22 @@ pub record IsMiscounted (u : Universe) (bytes : List ℕ) (f : TFault) : Type 0 
 
 pub data IsFault (u : Universe) (bytes : List ℕ) (f : TFault) : Type 0 where
   too_short : f ≡ Short → IsFault u bytes f
-  of_line : IsOfLine u bytes f → IsFault u bytes f
+  of_line : IsOfLine (plan_in u) bytes f → IsFault u bytes f
   past_end : IsPastEnd u bytes f → IsFault u bytes f
   miscounted : IsMiscounted u bytes f → IsFault u bytes f
+
+-- ---- refusals
+
+pub record IsPastRefusal (u : Universe) (bytes : List ℕ) (f : TFault) : Type 0 where
+  pub set : List ℕ
+  pub lacks : ℕ
+  pub more : List ℕ
+  pub text : bytes ≡ refusal_bytes u set lacks ++ more
+  pub formed : IsRefusal u set lacks
+  pub some : 1 ≤ length more
+  pub fault : f ≡ Line (length (refusal_lines u set lacks) + 1)
+
+pub data IsRefusalFault (u : Universe) (bytes : List ℕ) (f : TFault) : Type 0 where
+  too_short : f ≡ Short → IsRefusalFault u bytes f
+  of_line : IsOfLine (refusal_in u) bytes f → IsRefusalFault u bytes f
+  past_end : IsPastRefusal u bytes f → IsRefusalFault u bytes f

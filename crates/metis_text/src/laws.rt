@@ -8,7 +8,7 @@ ghost use Rattle.metis_universe.specs.Numbers.{IsOf};
 ghost use Rattle.metis_universe.specs.Step.{IsRun};
 ghost use Rattle.metis_universe.specs.Universe.{Universe, IsTable, pair_count};
 ghost use Rattle.metis_universe.specs.Waits.{numbers};
-ghost use Rattle.metis_text.specs.Faults.{IsFault, IsWellFormedButCount};
+ghost use Rattle.metis_text.specs.Faults.{IsFault, IsRefusalFault, IsWellFormedButCount};
 ghost use Rattle.metis_text.specs.InRange.{IsPlanInRange};
 ghost use Rattle.metis_ids.specs.Action.{makes};
 ghost use Rattle.metis_text.specs.PlanText.{IsWellFormed, plan_bytes, plan_lines};
@@ -16,7 +16,7 @@ ghost use Rattle.metis_text.specs.Reading.{Parts, plan_in};
 ghost use Rattle.metis_text.specs.Reads.{said};
 ghost use Rattle.metis_text.specs.declared.fault.TFault.{TFault};
 ghost use Rattle.metis_text.specs.declared.fault.TFault.TheVariants.{Line, Short};
-ghost use Rattle.metis_text.specs.RefusalReading.{refusal_in, refusal_parts};
+ghost use Rattle.metis_text.specs.RefusalReading.{RefusalParts, refusal_in, refusal_parts};
 ghost use Rattle.metis_text.specs.RefusalText.{IsRefusal, refusal_bytes, refusal_lines};
 ghost use Rattle.metis_waits.specs.Waits.{waits_on_others};
 
@@ -53,8 +53,8 @@ pub fn bytes_past_the_end_are_told()
         → plan_in u (plan_bytes u p after ++ more) ≡ Err (Line (length (plan_lines u p after) + 1)) }
 {}
 
-/// Where a plan with lists is well formed but for its number of instances, which is another than its actions make, the second
-/// line is told.
+/// Where a plan with lists is well formed but for its number of instances, which is not what its actions make, the second line
+/// is told.
 pub fn miscount_is_told()
     ensures { (u : Universe) (p : Plan) (after : List (List ℕ)) → IsTable u → IsWellFormedButCount u p after → p.instances ≢ count_by makes p.actions → plan_in u (plan_bytes u p after) ≡ Err (Line 2) }
 {}
@@ -102,4 +102,35 @@ pub fn plan_has_lines()
 /// And so does each line of the text of a refusal.
 pub fn refusal_has_lines()
     ensures { (u : Universe) (set : List ℕ) (lacks : ℕ) → IsTable u → All IsLine (refusal_lines u set lacks) }
+{}
+
+/// Each front of the text of a refusal, but the text, is read as short.
+pub fn refusal_front_is_short()
+    ensures { (u : Universe) (set : List ℕ) (lacks : ℕ) (front more : List ℕ) → IsTable u → IsRefusal u set lacks → refusal_bytes u set lacks ≡ front ++ more → 1 ≤ length more → refusal_in u front ≡ Err Short }
+{}
+
+/// No text that is read as a refusal begins with bytes of which another fault than `Short` is told.
+pub fn no_refusal_begins_with_a_fault()
+    ensures { (u : Universe) (bytes more : List ℕ) (fault : TFault) (says : RefusalParts) → refusal_in u bytes ≡ Err fault → fault ≢ Short → refusal_in u (bytes ++ more) ≢ Ok says }
+{}
+
+/// Each fault of a refusal that is told is one, as `told_fault_is_one` says it of a plan's.
+pub fn told_refusal_fault_is_one()
+    ensures { (u : Universe) (bytes : List ℕ) (fault : TFault) → refusal_in u bytes ≡ Err fault → IsRefusalFault u bytes fault }
+{}
+
+/// Where bytes stand behind the text of a refusal, the line behind the last one is told.
+pub fn bytes_past_a_refusal_are_told()
+    ensures { (u : Universe) (set : List ℕ) (lacks : ℕ) (more : List ℕ) → IsTable u → IsRefusal u set lacks → 1 ≤ length more
+        → refusal_in u (refusal_bytes u set lacks ++ more) ≡ Err (Line (length (refusal_lines u set lacks) + 1)) }
+{}
+
+/// Each front of a text of a refusal that is short is short.
+pub fn front_of_short_refusal_is_short()
+    ensures { (u : Universe) (front more : List ℕ) → refusal_in u (front ++ more) ≡ Err Short → refusal_in u front ≡ Err Short }
+{}
+
+/// And a text of a refusal that is short stays so until a line ends behind it.
+pub fn short_refusal_until_a_line_ends()
+    ensures { (u : Universe) (front more : List ℕ) → All (λ b. b ≢ 10) more → refusal_in u front ≡ Err Short → refusal_in u (front ++ more) ≡ Err Short }
 {}

@@ -1,9 +1,10 @@
 use Rattle.std.proofs.Common.{sym, ap, ◌∙◌}
-use Rattle.metis_text.specs.Reading.{plan_in}
+use Rattle.metis_text.specs.Reading.{plan_from, plan_in}
 use Rattle.metis_text.specs.Reads.{said}
 use Rattle.metis_text.proofs.Accepted.{well_formed_read}
-use Rattle.metis_text.proofs.Fronts.{front_of_accepted}
+use Rattle.metis_text.proofs.PlanLines.{closed, lines_from, plan_text}
+use Rattle.metis_text.proofs.Texts.{front_of_accepted}
 use Rattle.metis_text.proofs.laws.front_is_short.Goals as goal
 
 pub returns : goal.returns
-returns c = λ u p after front more table formed text some. front_of_accepted u front more (said p after) some (ap (plan_in u) (sym text) ∙ well_formed_read u p after table.universe table.named formed)
+returns c = λ u p after front more table formed text some. front_of_accepted (lines_from u) closed (plan_from u) (plan_text u) front more (said p after) some (ap (plan_in u) (sym text) ∙ well_formed_read u p after table.universe table.named formed)

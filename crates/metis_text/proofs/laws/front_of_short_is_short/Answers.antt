@@ -1,5 +1,7 @@
-use Rattle.metis_text.proofs.Fronts.{front_of_short}
+use Rattle.metis_text.specs.Reading.{plan_from}
+use Rattle.metis_text.proofs.PlanLines.{closed, lines_from, plan_text}
+use Rattle.metis_text.proofs.Texts.{front_of_short}
 use Rattle.metis_text.proofs.laws.front_of_short_is_short.Goals as goal
 
 pub returns : goal.returns
-returns c = front_of_short
+returns c = λ u. front_of_short (lines_from u) closed (plan_from u) (plan_text u)

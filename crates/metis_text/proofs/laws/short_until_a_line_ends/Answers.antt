@@ -1,5 +1,7 @@
-use Rattle.metis_text.proofs.Fronts.{short_stays}
+use Rattle.metis_text.specs.Reading.{plan_from}
+use Rattle.metis_text.proofs.PlanLines.{closed, lines_from, plan_text}
+use Rattle.metis_text.proofs.Texts.{short_stays}
 use Rattle.metis_text.proofs.laws.short_until_a_line_ends.Goals as goal
 
 pub returns : goal.returns
-returns c = short_stays
+returns c = λ u. short_stays (lines_from u) closed (plan_from u) (plan_text u)
