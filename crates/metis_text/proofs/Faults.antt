@@ -24,7 +24,7 @@ use Rattle.metis_text.proofs.Accepted.{said_bytes}
 use Rattle.metis_text.proofs.DupsRead.{AreDups}
 use Rattle.metis_text.proofs.Formed.{formed, parts_of_formed}
 use Rattle.metis_text.proofs.PlanLines.{closed, lines_from, plan_text}
-use Rattle.metis_text.proofs.Texts.{text_by, whole_more}
+use Rattle.metis_text.proofs.Texts.{early_is_short, text_by, whole_more}
 use Rattle.metis_text.proofs.PlanRead.{AreParts, numbers_of_parts, parts_bytes}
 use Rattle.metis_text.proofs.PlanParts.{AreCounts}
 use Rattle.metis_text.proofs.Readers.{Wrong, and_then_wrong}
@@ -129,6 +129,7 @@ module _ (u : Universe) where
         flaw = w.flaw;
         fault = w.fault ∙ ap (λ n. fault_at n w.flaw) place;
         each = λ other. text_by (lines_from u) closed (plan_from u) (plan_text u) (lines_of (bytes_of w.front ++ other) 0) (Err f) (w.each other);
+        first = λ before rest at some. early_is_short (lines_from u) closed (plan_from u) (plan_text u) bytes before rest f w at some;
       })
 
   of_lines : (bytes : List ℕ) (f : TFault) → (lines_from u (lines_of bytes 0) ≡ Err f) ⊎ ((w : Parts × Lines) × (lines_from u (lines_of bytes 0) ≡ Ok w) × (closed w ≡ Err f)) → IsFault u bytes f

@@ -39,6 +39,7 @@ pub mod RowPlaces
 pub mod RowsRead
 pub mod RunLists
 pub mod RunMoves
+pub mod SameLines
 pub mod Shapes
 pub mod TextBytes
 pub mod Texts

@@ -17,7 +17,7 @@ use Rattle.metis_text.proofs.Outcomes.{and_then_behind, and_then_is}
 use Rattle.metis_text.proofs.PairsRead.{pairs_are}
 use Rattle.metis_text.proofs.Readers.{IsReader, Took, Wrong, and_then_wrong, done_reads, read_next_reads, then_reads}
 use Rattle.metis_text.proofs.RefusalRead.{refusal_is, refusal_read}
-use Rattle.metis_text.proofs.Texts.{IsText, text_by, whole_more}
+use Rattle.metis_text.proofs.Texts.{IsText, early_is_short, text_by, whole_more}
 use Rattle.metis_text.proofs.WholeLines.{read_next_number}
 
 -- ---- its lines, and then their end
@@ -170,6 +170,7 @@ module _ (u : Universe) where
         flaw = w.flaw;
         fault = w.fault ∙ ap (λ n. fault_at n w.flaw) place;
         each = λ other. text_by lines_from closed (refusal_from u) refusal_text (lines_of (bytes_of w.front ++ other) 0) (Err f) (w.each other);
+        first = λ before rest at some. early_is_short lines_from closed (refusal_from u) refusal_text bytes before rest f w at some;
       })
 
   of_lines : (bytes : List ℕ) (f : TFault) → (lines_from (lines_of bytes 0) ≡ Err f) ⊎ ((w : RefusalParts × Lines) × (lines_from (lines_of bytes 0) ≡ Ok w) × (closed w ≡ Err f)) → IsRefusalFault u bytes f

@@ -1,11 +1,7 @@
 -- The fronts of a text, and what it is read as where more bytes stand behind it.
 --     IsText lines close text      a text is its lines, and then what is known at their end, where more is a fault and nothing is short
-use Rattle.std.proofs.Common.{◌≡◌, ◌≢◌, ◌⊎◌, ℕ, ◌+◌, ◌≤◌, true, not, List, [], ◌∷◌, ◌++◌, length, Result, Ok, Err, refl, sym, ap, ◌∙◌, append-nil, arith, inl, inr}
-use Rattle.std.specs.Bool.{◌==◌}
+use Rattle.std.proofs.Common.{◌≡◌, ◌≢◌, ◌⊎◌, ℕ, ◌+◌, ◌≤◌, List, [], ◌∷◌, ◌++◌, length, Result, Ok, Err, refl, sym, ap, ◌∙◌, append_assoc, append-nil, arith, inl, inr}
 use Rattle.std.specs.List.{All}
-use Rattle.std.proofs.lemmas.List.Elements.{All-weaker}
-use Rattle.std.proofs.lemmas.List.Sums.{list_all-from_AllPass}
-use Rattle.std.proofs.lemmas.Bool.Decides.{nat_tests}
 use Rattle.std.proofs.lemmas.List.{length-append}
 use Rattle.metis_outside.specs.Pieces.{bytes_of}
 use Rattle.metis_text.specs.Reading.{Lines, and_then, fault_at, lines_of}
@@ -13,6 +9,7 @@ use Rattle.metis_text.specs.declared.fault.TFault.{TFault}
 use Rattle.metis_text.specs.declared.fault.TFault.TheVariants.{Line, Short}
 use Rattle.metis_text.specs.declared.flaw.Flaw.{Flaw}
 use Rattle.metis_text.specs.declared.flaw.Flaw.TheVariants.{Form, Number, Name}
+use Rattle.metis_text.proofs.SameLines.{fault_line, no_feed-from_All, same_lines}
 use Rattle.metis_text.proofs.Readers.{IsReader, Wrong, took_extends, wrong_extends}
 
 not_short : (n : ℕ) (flaw : Flaw) → fault_at n flaw ≢ Short
@@ -36,7 +33,7 @@ module _ {W R : Type 0} (lines : Lines → Result (W × Lines) TFault) (close : 
   text_by l r is = is_text.whole l ∙ ap (λ r. and_then r close) is
 
   -- a flaw of a line is told whatever stands behind it
-  pub wrong_line : (l : Lines) (f : TFault) → Wrong lines l f → Wrong (text) l f
+  pub wrong_line : (l : Lines) (f : TFault) → Wrong lines l f → Wrong text l f
   wrong_line l f w = record {
     front = w.front;
     behind = w.behind;
@@ -48,7 +45,7 @@ module _ {W R : Type 0} (lines : Lines → Result (W × Lines) TFault) (close : 
   }
 
   pub wrong_more : (l : Lines) (f : TFault) (more : List ℕ) → Wrong lines l f → text (lines_of (l.rest ++ more) l.number) ≡ Err f
-  wrong_more l f more w = wrong_extends (text) l f more (wrong_line l f w)
+  wrong_more l f more w = wrong_extends text l f more (wrong_line l f w)
 
   -- a text that ends has no more behind its end
   pub whole_more : (l : Lines) (w : W × Lines) (more : List ℕ) → lines l ≡ Ok w → 1 ≤ length more → text (lines_of (l.rest ++ more) l.number) ≡ Err (Line (w.1.number + 1))
@@ -115,11 +112,37 @@ module _ {W R : Type 0} (lines : Lines → Result (W × Lines) TFault) (close : 
   short_lines l (Ok w) is short = absurd (is_text.long w (sym (text_by l (Ok w) is) ∙ short))
   short_lines l (Err f) is short = let here = text_by l (Err f) is in cc
 
-  is_other : (b : ℕ) → b ≢ 10 → not (b == 10) ≡ true
-  is_other b h = grind (arith, nat_tests)
-
   -- until a line ends
   pub short_stays : (bytes tail : List ℕ) → All (λ b. b ≢ 10) tail → text_in bytes ≡ Err Short → text_in (bytes ++ tail) ≡ Err Short
   short_stays bytes tail none short =
-      let no_feeds = list_all-from_AllPass (λ b. not (b == 10)) tail (All-weaker (λ b. b ≢ 10) (λ b. not (b == 10) ≡ true) is_other tail none) in
-      text_by (lines_of (bytes ++ tail) 0) (Err Short) (is_text.reads.short (lines_of bytes 0) tail no_feeds (short_lines (lines_of bytes 0) (lines (lines_of bytes 0)) refl short))
+      text_by (lines_of (bytes ++ tail) 0) (Err Short) (is_text.reads.short (lines_of bytes 0) tail (no_feed-from_All tail none) (short_lines (lines_of bytes 0) (lines (lines_of bytes 0)) refl short))
+
+  -- ---- a fault is told as its line ends
+
+  early_wrong : (bytes before rest : List ℕ) (f g : TFault) (w : Wrong lines (lines_of bytes 0) f) → bytes_of w.front ≡ before ++ rest → 1 ≤ length rest → lines (lines_of before 0) ≡ Err g
+      → (g ≡ Short) ⊎ Wrong lines (lines_of before 0) g → g ≡ Short
+  early_wrong bytes before rest f g w at some is (inl short) = short
+  early_wrong bytes before rest f g w at some is (inr v) =
+      let told = w.each [] in
+      let whole : bytes_of w.front ++ [] ≡ before ++ rest = append-nil (bytes_of w.front) ∙ at in
+      let longer : lines (lines_of (before ++ rest) 0) ≡ Err g = wrong_extends lines (lines_of before 0) g rest v in
+      let again : lines (lines_of (before ++ rest) 0) ≡ Err f = ap (λ bytes. lines (lines_of bytes 0)) (sym whole) ∙ told in
+      let same : g ≡ f = cc in
+      let many = fault_line (0 + length w.front) (0 + length v.front) w.flaw v.flaw (sym w.fault ∙ sym same ∙ v.fault) in
+      let as_many : length w.front ≡ length v.front = omega (arith, many) in
+      let none = same_lines w.front v.front (v.behind ++ rest) w.lines v.lines as_many (at ∙ ap (λ b. b ++ rest) v.text ∙ append_assoc (bytes_of v.front) v.behind rest) in
+      absurd (omega (arith, ap length none, length-append v.behind rest, some))
+
+  early_by : (bytes before rest : List ℕ) (f : TFault) (w : Wrong lines (lines_of bytes 0) f) (r : Result (W × Lines) TFault) → bytes_of w.front ≡ before ++ rest → 1 ≤ length rest → lines (lines_of before 0) ≡ r
+      → text_in before ≡ Err Short
+  early_by bytes before rest f w (Ok p) at some is =
+      let told = w.each [] in
+      let whole : bytes_of w.front ++ [] ≡ before ++ rest = append-nil (bytes_of w.front) ∙ at in
+      let longer = took_extends lines (lines_of before 0) p rest (is_text.reads.took (lines_of before 0) p is) in
+      let again : lines (lines_of (before ++ rest) 0) ≡ Err f = ap (λ bytes. lines (lines_of bytes 0)) (sym whole) ∙ told in
+      cc
+  early_by bytes before rest f w (Err g) at some is =
+      text_by (lines_of before 0) (Err g) is ∙ ap Err (early_wrong bytes before rest f g w at some is (is_text.reads.wrong (lines_of before 0) g is))
+
+  pub early_is_short : (bytes before rest : List ℕ) (f : TFault) (w : Wrong lines (lines_of bytes 0) f) → bytes_of w.front ≡ before ++ rest → 1 ≤ length rest → text_in before ≡ Err Short
+  early_is_short bytes before rest f w at some = early_by bytes before rest f w (lines (lines_of before 0)) at some refl

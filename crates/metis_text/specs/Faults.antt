@@ -27,7 +27,7 @@ pub record IsWellFormedButCount (u : Universe) (p : Plan) (after : List (List �
   pub recounted_so : IsWellFormed u (recounted p) after
   pub few_instances : p.instances < 2 ^ 32
 
--- the front is these lines with their line feeds, and it does not matter what stands behind them
+-- the front is these lines with their line feeds; it does not matter what stands behind them, and no fault is told before the last of them ends
 pub record IsOfLine {A : Type 0} (read : List ℕ → Result A TFault) (bytes : List ℕ) (f : TFault) : Type 0 where
   pub front : List (List ℕ)
   pub behind : List ℕ
@@ -36,6 +36,7 @@ pub record IsOfLine {A : Type 0} (read : List ℕ → Result A TFault) (bytes : 
   pub flaw : Flaw
   pub fault : f ≡ fault_at (length front) flaw
   pub each : (other : List ℕ) → read (bytes_of front ++ other) ≡ Err f
+  pub first : (before rest : List ℕ) → bytes_of front ≡ before ++ rest → 1 ≤ length rest → read before ≡ Err Short
 
 -- the fault is told of the line behind the last one, whether it has an end or not
 pub record IsPastEnd (u : Universe) (bytes : List ℕ) (f : TFault) : Type 0 where

@@ -40,8 +40,9 @@ pub fn no_text_begins_with_a_fault()
     ensures { (u : Universe) (bytes more : List ℕ) (fault : TFault) (says : Parts) → plan_in u bytes ≡ Err fault → fault ≢ Short → plan_in u (bytes ++ more) ≢ Ok says }
 {}
 
-/// Each fault that is told is one: the bytes end before the last line does, or the fault is that of a line and comes of the
-/// lines up to it alone, or bytes stand behind the last line, or the instances are not counted.
+/// Each fault that is told is one: the bytes end before the last line does, or the fault is that of a line, which the lines up
+/// to it have whatever stands behind them and not before the last of them ends, or bytes stand behind the last line, or the
+/// instances are not counted.
 pub fn told_fault_is_one()
     ensures { (u : Universe) (bytes : List ℕ) (fault : TFault) → plan_in u bytes ≡ Err fault → IsFault u bytes fault }
 {}
