@@ -15,8 +15,10 @@ pub fn universe_of(alloc: Global, n: u32) -> Result<Universe, AllocError>
 {
     match Universe::new(alloc, generated_rows(alloc, n)?) {
         Ok(u) => Ok(u),
-        Err(RowFault::NoMemory) => Err(AllocError),
-        Err(_) => unreachable!(),
+        Err(fault) => match fault {
+            RowFault::NoMemory => Err(AllocError),
+            _ => unreachable!("the rows have no fault"),
+        },
     }
 }
 

@@ -65,7 +65,13 @@ fn left(alloc: Global, i: u32) -> Result<TypeRow, AllocError>
     let none = || Vec::new(alloc);
     let mut states = Vec::new(alloc);
     states.push(state(alloc, "a0", none(), none(), one(alloc, "a1")?)?)?;
-    states.push(state(alloc, "a1", port(alloc, "x", i)?, earlier(alloc, i)?, one(alloc, "a2")?)?)?;
+    states.push(state(
+        alloc,
+        "a1",
+        port(alloc, "x", i)?,
+        earlier(alloc, i)?,
+        one(alloc, "a2")?,
+    )?)?;
     states.push(state(alloc, "a2", none(), port(alloc, "y", i)?, one(alloc, "a3")?)?)?;
     states.push(state(alloc, "a3", none(), none(), none())?)?;
     Ok(TypeRow {
