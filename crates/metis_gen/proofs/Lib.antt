@@ -1,3 +1,4 @@
+pub mod Attained
 pub mod BySight
 pub mod Digits
 pub mod Named
@@ -6,4 +7,5 @@ pub mod OfType
 pub mod Pieces
 pub mod Places
 pub mod SameRows
+pub mod TargetNames
 pub mod Whole

@@ -7,4 +7,4 @@ mod names;
 mod rows;
 
 pub use generate::{targets_of, universe_of};
-pub use laws::{closed_sets_hold_all, generated_has_tables};
+pub use laws::{closed_sets_hold_all, generated_has_tables, targets_are_attained, targets_are_last_states};
