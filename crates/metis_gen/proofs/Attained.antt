@@ -1,5 +1,5 @@
 -- A run holds the targets, since all pairs of the tables have a layer.
-use Rattle.std.proofs.Common.{◌≡◌, ℕ, ◌*◌, ◌<◌, true, false, ◌||◌, IsTrue, IsSome, MatchOption, Option, Some, None, List, [], ◌∷◌, inl, inr, refl, ap, sym, ◌∙◌, subst, arith}
+use Rattle.std.proofs.Common.{◌≡◌, ℕ, true, IsTrue, IsSome, Some, None, List, [], ◌∷◌, inl, inr, refl, sym, ◌∙◌, subst}
 use Rattle.std.specs.List.{AllByRecursion}
 use Rattle.std.proofs.lemmas.Bool.{eqb-true, false≢true, or_cases}
 use Rattle.metis_universe.specs.Goal.{Attains}
@@ -16,7 +16,7 @@ use Rattle.metis_gen.proofs.Whole.{targets_in}
 
 member : (P : ℕ → Type 0) (g : List ℕ) (p : ℕ) → AllByRecursion P g → has g p ≡ true → P p
 member P [] p all h = absurd (false≢true h)
-member P (q ∷ g) p all h = elim (or_cases _ (has g p) h) [ | inl here ↦ subst P (eqb-true q p here) all.0 | inr rest ↦ member P g p all.1 rest ]
+member P (q ∷ g) p all h = elim (or_cases _ (has g p) h) [ inl here ↦ subst P (eqb-true q p here) all.0 | inr rest ↦ member P g p all.1 rest ]
 
 has_layer : (u : Universe) (p k : ℕ) → IsTrue (has (layer_set u k) p) → IsSome (layer_of u p)
 has_layer u p k h = elim (layer_of u p) as (λ o. IsLeastRound u p o → IsSome o) [

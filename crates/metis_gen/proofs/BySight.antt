@@ -1,6 +1,6 @@
 -- The ports of the tables are numbered by first sight.
-use Rattle.std.proofs.Common.{◌≡◌, ℕ, suc, zero, ◌+◌, ◌*◌, ◌<◌, ◌≤◌, false, ◌||◌, List, [], ◌∷◌, ◌++◌, length, take, get_or, refl, ap, sym, ◌∙◌, subst, arith}
-use Rattle.std.specs.List.{flat_map, range_with_len, AllByRecursion}
+use Rattle.std.proofs.Common.{◌≡◌, ℕ, suc, zero, ◌+◌, ◌*◌, ◌<◌, ◌≤◌, false, ◌||◌, List, [], ◌∷◌, length, take, ap, ◌∙◌, arith}
+use Rattle.std.specs.List.{flat_map, range_with_len}
 use Rattle.std.specs.List.Sorted.{IsStrictlySortedBy}
 use Rattle.std.specs.Ordering.{nat_cmp}
 use Rattle.std.proofs.lemmas.Bool.{eq-eqb}
@@ -8,7 +8,7 @@ use Rattle.std.proofs.lemmas.List.{take_all}
 use Rattle.std.proofs.lemmas.List.Concat.{flat_map-append}
 use Rattle.std.proofs.lemmas.List.Sums.{fold-append}
 use Rattle.metis_universe.specs.Sights.{with_name, sights_after}
-use Rattle.metis_universe.specs.Universe.{Universe, Pair, port_count, port_name_of, port_names_of_pair, IsBySight}
+use Rattle.metis_universe.specs.Universe.{port_name_of, port_names_of_pair, IsBySight}
 use Rattle.metis_universe.proofs.SeenNumbers.{Apart, seeing_numbers}
 use Rattle.metis_gen.specs.Tables.{pairs_at, tables}
 use Rattle.metis_gen.proofs.Named.{ports_apart}

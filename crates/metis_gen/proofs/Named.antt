@@ -1,7 +1,7 @@
 -- The names of the tables are names, and no two types, states of a type or ports have one.
-use Rattle.std.proofs.Common.{◌≡◌, ℕ, suc, zero, ◌+◌, ◌*◌, ◌/◌, ◌%◌, ◌<◌, ◌≤◌, true, IsTrue, List, [], ◌∷◌, ◌++◌, length, get_or, drop, refl, ap, sym, ◌∙◌, subst, arith}
+use Rattle.std.proofs.Common.{◌≡◌, ℕ, ◌+◌, ◌*◌, ◌/◌, ◌%◌, ◌<◌, ◌≤◌, IsTrue, List, [], get_or, drop, refl, ap, sym, ◌∙◌, arith}
 use Rattle.metis_universe.specs.Names.{is_name}
-use Rattle.metis_universe.specs.Universe.{Universe, Kind, Pair, no_kind, no_pair, kind_at, pair_at, type_of, type_count, pair_count, port_count, type_name_of, state_name_of, port_name_of, IsNamed}
+use Rattle.metis_universe.specs.Universe.{no_kind, no_pair, type_of, type_name_of, state_name_of, port_name_of, IsNamed}
 use Rattle.metis_gen.specs.Generated.{three_digits}
 use Rattle.metis_gen.specs.Tables.{kinds_at, pairs_at, ports_at, tables}
 use Rattle.metis_gen.proofs.Digits.{same_digits, digits_named}

@@ -1,10 +1,10 @@
 -- The numbers of the tables are those of a universe.
-use Rattle.std.proofs.Common.{◌≡◌, ℕ, suc, zero, ◌+◌, ◌*◌, ◌/◌, ◌%◌, ◌<◌, ◌≤◌, List, [], ◌∷◌, length, get_or, refl, ap, sym, ◌∙◌, subst, arith}
+use Rattle.std.proofs.Common.{◌≡◌, ℕ, suc, zero, ◌+◌, ◌*◌, ◌/◌, ◌<◌, List, [], ◌∷◌, get_or, ap, sym, ◌∙◌, subst, arith}
 use Rattle.std.specs.List.{All}
 use Rattle.std.specs.List.Sorted.{IsNonDecreasingBy, IsStrictlyIncreasing}
 use Rattle.std.proofs.lemmas.List.{get_or_default}
 use Rattle.std.proofs.lemmas.List.Elements.{All-from_recursion}
-use Rattle.metis_universe.specs.Universe.{Universe, Kind, Pair, no_kind, no_pair, kind_at, pair_at, type_of, type_count, pair_count, port_count, initial_of, provided_of, required_of, next_of, IsUniverse}
+use Rattle.metis_universe.specs.Universe.{Pair, no_kind, no_pair, type_of, pair_count, initial_of, provided_of, required_of, next_of, IsUniverse}
 use Rattle.metis_gen.specs.Tables.{kinds_at, pairs_at, earlier_z_number, tables}
 use Rattle.metis_gen.proofs.Places.{types_counted, pairs_counted, ports_counted, each_of_two, each_of_eight, each_kind, each_pair}
 

@@ -1,7 +1,6 @@
 -- The tables of a generated universe, by place: types, pairs and ports, each with what holds of all of them.
-use Rattle.std.proofs.Common.{◌≡◌, ℕ, suc, zero, ◌+◌, ◌*◌, ◌/◌, ◌%◌, ◌<◌, List, [], ◌∷◌, ◌++◌, length, get_or, refl, ap, sym, ◌∙◌, subst, zero-add, arith}
-use Rattle.std.specs.List.{flat_map, range_with_len}
-use Rattle.metis_universe.specs.Universe.{Universe, Kind, Pair, no_kind, no_pair, kind_at, pair_at, type_count, pair_count, port_count, port_name_of}
+use Rattle.std.proofs.Common.{◌≡◌, ℕ, suc, zero, ◌+◌, ◌*◌, ◌/◌, ◌%◌, ◌<◌, List, [], get_or, refl, ap, sym, ◌∙◌, subst, zero-add, arith}
+use Rattle.metis_universe.specs.Universe.{Kind, Pair, no_kind, no_pair, kind_at, pair_at, type_count, pair_count, port_count, port_name_of}
 use Rattle.metis_gen.specs.Tables.{kinds_at, pairs_at, ports_at, tables}
 use Rattle.metis_gen.proofs.Pieces.{length_pieces, piece_at}
 

@@ -1,18 +1,18 @@
 -- The generated rows are those that spell the tables, and so they have no fault and stand for them.
-use Rattle.std.proofs.Common.{◌≡◌, ℕ, suc, zero, ◌+◌, ◌*◌, ◌/◌, ◌%◌, ◌<◌, ◌≤◌, ◌^◌, List, [], ◌∷◌, ◌++◌, length, map, get_or, None, Ok, refl, ap, sym, ◌∙◌, subst, zero-add, arith}
+use Rattle.std.proofs.Common.{◌≡◌, ℕ, suc, zero, ◌+◌, ◌*◌, ◌/◌, ◌%◌, ◌<◌, ◌≤◌, List, [], ◌∷◌, length, map, get_or, None, Ok, refl, ap, sym, ◌∙◌, subst, zero-add, arith}
 use Rattle.std.specs.Prelude.{codes}
-use Rattle.std.specs.List.{flat_map, range_with_len}
+use Rattle.std.specs.List.{range_with_len}
 use Rattle.std.proofs.lemmas.List.Elements.{All-from_recursion}
 use Rattle.std.proofs.lemmas.List.FromFn.{fill_by_all}
 use Rattle.metis_universe.specs.RowShapes.{StateRow, TypeRow}
 use Rattle.metis_universe.specs.Rows.{first_fault, universe_from, or_universe, meaning_of, RowsFit, TypeFits, StateFits}
-use Rattle.metis_universe.specs.Universe.{Universe, Kind, Pair, no_kind, no_pair, kind_at, pair_at, type_count, initial_of, type_name_of, state_name_of, port_name_of, states_of_type, IsTable}
+use Rattle.metis_universe.specs.Universe.{Kind, Pair, no_pair, type_count, initial_of, state_name_of, port_name_of, states_of_type, IsTable}
 use Rattle.metis_universe.proofs.FirstSights.{flat_map_each}
 use Rattle.metis_ujson.specs.Canonical.{state_row, type_row, rows_of_universe}
 use Rattle.metis_ujson.proofs.Clear.{no_fault}
 use Rattle.metis_ujson.proofs.Rebuilt.{rebuilt}
 use Rattle.metis_gen.specs.Generated.{earlier_z, x_port, y_port, z_port, left_row, right_row, rows_at, generated_rows, generated}
-use Rattle.metis_gen.specs.Tables.{kinds_at, pairs_at, ports_at, left_pairs, right_pairs, earlier_z_number, tables}
+use Rattle.metis_gen.specs.Tables.{pairs_at, left_pairs, right_pairs, earlier_z_number, tables}
 use Rattle.metis_gen.proofs.BySight.{tables_by_sight}
 use Rattle.metis_gen.proofs.Named.{tables_named}
 use Rattle.metis_gen.proofs.Numbers.{tables_universe}

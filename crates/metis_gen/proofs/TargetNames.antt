@@ -1,13 +1,13 @@
 -- The targets by their names.
-use Rattle.std.proofs.Common.{◌≡◌, ℕ, ◌+◌, ◌*◌, ◌/◌, ◌%◌, ◌<◌, ◌≤◌, Bool, true, false, ◌&&◌, nat_eq, IsTrue, Some, List, [], ◌∷◌, ◌++◌, length, get_or, position, refl, ap, sym, ◌∙◌, subst, arith}
+use Rattle.std.proofs.Common.{◌≡◌, ℕ, ◌+◌, ◌*◌, ◌<◌, ◌≤◌, Bool, true, false, ◌&&◌, nat_eq, Some, List, refl, ap, sym, ◌∙◌, subst, arith}
 use Rattle.std.specs.Prelude.{codes}
 use Rattle.std.specs.Option.{option_and_then}
 use Rattle.std.specs.Str.{bytes_eq}
 use Rattle.std.proofs.lemmas.Bool.{eq-eqb, eqb-true}
-use Rattle.metis_universe.specs.Universe.{Universe, Kind, Pair, no_kind, no_pair, kind_at, pair_at, type_count, pair_count, type_of, type_name_of, state_name_of, type_named, state_named, pair_named}
+use Rattle.metis_universe.specs.Universe.{Kind, Pair, no_kind, no_pair, type_of, type_name_of, state_name_of, type_named, state_named, pair_named}
 use Rattle.metis_ujson.proofs.Numbers.{bytes_apart, bytes_same, position_first}
 use Rattle.metis_gen.specs.Generated.{left_row, right_row}
-use Rattle.metis_gen.specs.Tables.{kinds_at, pairs_at, tables}
+use Rattle.metis_gen.specs.Tables.{tables}
 use Rattle.metis_gen.proofs.Named.{tables_named}
 use Rattle.metis_gen.proofs.Numbers.{type_is}
 use Rattle.metis_gen.proofs.Places.{types_counted, pairs_counted, kind_in, pair_in}

@@ -1,15 +1,15 @@
 -- Each closed set of the tables holds all their pairs: place after place, with the pairs of a place in an order in which each
 -- is free, or is led to and has what it requires.
-use Rattle.std.proofs.Common.{◌≡◌, ℕ, suc, zero, ◌+◌, ◌*◌, ◌/◌, ◌%◌, ◌<◌, ◌≤◌, Bool, true, false, not, cond, nat_eq, ◌&&◌, ◌||◌, inl, inr, IsTrue, List, [], ◌∷◌, length, get_or, Some, None, refl, ap, sym, ◌∙◌, subst, zero-add, arith}
-use Rattle.std.specs.List.{find, flat_map, range_with_len, AllByRecursion}
+use Rattle.std.proofs.Common.{◌≡◌, ℕ, suc, zero, ◌+◌, ◌*◌, ◌/◌, ◌%◌, ◌<◌, true, false, not, cond, nat_eq, ◌&&◌, ◌||◌, inl, inr, IsTrue, List, [], ◌∷◌, get_or, Some, None, refl, ap, sym, ◌∙◌, subst, zero-add, arith}
+use Rattle.std.specs.List.{find, range_with_len, AllByRecursion}
 use Rattle.std.proofs.lemmas.Bool.{eq-eqb, eqb-true, false≢true, or_cases}
 use Rattle.std.proofs.lemmas.List.Folds.{list_any_at}
 use Rattle.std.proofs.lemmas.List.FromFn.{length-range_with_len, get_or-range_with_len}
-use Rattle.metis_universe.specs.Closed.{Closed, Refusal, IsProvidedIn}
-use Rattle.metis_universe.specs.Universe.{Universe, Kind, Pair, no_kind, no_pair, kind_at, pair_at, type_count, has, is_empty, is_free, is_initial, provided_of, required_of, next_of}
+use Rattle.metis_universe.specs.Closed.{Closed, Refusal}
+use Rattle.metis_universe.specs.Universe.{Universe, Kind, Pair, no_kind, no_pair, kind_at, has, is_empty, is_initial, provided_of, required_of, next_of}
 use Rattle.metis_universe.proofs.FirstSights.{flat_map_each}
 use Rattle.metis_gen.specs.Generated.{targets_at, generated_targets}
-use Rattle.metis_gen.specs.Tables.{kinds_at, pairs_at, tables}
+use Rattle.metis_gen.specs.Tables.{pairs_at, tables}
 use Rattle.metis_gen.proofs.Numbers.{initial_is}
 use Rattle.metis_gen.proofs.Places.{types_counted, pair_in, each_of_eight}
 

@@ -7,4 +7,6 @@ mod names;
 mod rows;
 
 pub use generate::{targets_of, universe_of};
-pub use laws::{closed_sets_hold_all, generated_has_tables, targets_are_attained, targets_are_last_states};
+pub use laws::{
+    closed_sets_hold_all, generated_has_tables, targets_are_attained, targets_are_last_states,
+};

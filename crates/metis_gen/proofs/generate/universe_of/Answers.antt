@@ -1,6 +1,5 @@
-use Rattle.std.proofs.Common.{◌≡◌, Ok, Err, ap, subst, sym, ◌∙◌, arith}
+use Rattle.std.proofs.Common.{ap, subst, sym, ◌∙◌, arith}
 use Rattle.metis_universe.specs.Rows.{RowsFit, meaning_of}
-use Rattle.metis_gen.specs.Generated.{generated}
 use Rattle.metis_gen.proofs.SameRows.{rows_fit, rows_mean}
 use Rattle.metis_gen.proofs.generate.universe_of.Goals as goal
 

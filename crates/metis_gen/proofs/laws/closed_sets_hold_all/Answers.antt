@@ -1,4 +1,4 @@
-use Rattle.std.proofs.Common.{ap, subst, sym, ◌∙◌, arith}
+use Rattle.std.proofs.Common.{ap, subst, ◌∙◌, arith}
 use Rattle.metis_universe.specs.Closed.{Closed, Refusal}
 use Rattle.metis_universe.specs.Universe.{pair_count}
 use Rattle.metis_gen.specs.Generated.{generated_targets}

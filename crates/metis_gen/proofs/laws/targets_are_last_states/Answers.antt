@@ -1,4 +1,4 @@
-use Rattle.std.proofs.Common.{◌≡◌, ap, sym, ◌∙◌, arith}
+use Rattle.std.proofs.Common.{ap, ◌∙◌, arith}
 use Rattle.std.specs.Prelude.{codes}
 use Rattle.metis_universe.specs.Universe.{pair_named}
 use Rattle.metis_gen.specs.Generated.{left_row, right_row}

@@ -1,4 +1,4 @@
-use Rattle.std.proofs.Common.{arith, append_assoc}
+use Rattle.std.proofs.Common.{arith}
 use Rattle.std.proofs.lemmas.Grind.{common_steps}
 use Rattle.metis_gen.specs.Generated.{rows_at, generated_rows}
 use Rattle.metis_gen.proofs.Pieces.{pieces_more}
