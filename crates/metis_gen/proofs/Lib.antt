@@ -1,0 +1,11 @@
+pub mod Attained
+pub mod BySight
+pub mod Digits
+pub mod Named
+pub mod Numbers
+pub mod OfType
+pub mod Pieces
+pub mod Places
+pub mod SameRows
+pub mod TargetNames
+pub mod Whole

@@ -1,0 +1,12 @@
+use Rattle.std.proofs.Common.{arith}
+use Rattle.std.proofs.lemmas.Grind.{common_steps}
+use Rattle.metis_gen.specs.Generated.{rows_at, generated_rows}
+use Rattle.metis_gen.proofs.Pieces.{pieces_more}
+use Rattle.metis_gen.proofs.rows.generated_rows.Goals as goal
+
+pub loop-i-preserved : goal.loop-i-preserved
+loop-i-preserved c = rw (pieces_more rows_at 0 c.loop-i.i c.loop-i.i (omega arith)) (grind (arith, common_steps))
+
+pub returns : goal.returns
+unfolding generated_rows
+returns c = grind (arith, common_steps)
