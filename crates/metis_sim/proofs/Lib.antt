@@ -1,0 +1,3 @@
+pub mod Args
+pub mod Numbers
+pub mod WordLists
