@@ -44,12 +44,6 @@ delete_in z = on (formed (number_of z)) (λ n. Ok (Delete n))
 abbrev pub ends_in : Universe → List ℕ → List ℕ → List ℕ → Result (ℕ × ℕ × ℕ) Misread
 ends_in u r z y = on (formed (number_of z)) (λ n. on (formed (number_of y)) (λ m. on (named (port_named u) r) (λ port. Ok (port, n, m))))
 
-abbrev pub bind_in : Universe → List ℕ → List ℕ → List ℕ → Result Action Misread
-bind_in u r z y = on (ends_in u r z y) (λ e. Ok (Bind e.0 e.1 e.2))
-
-abbrev pub unbind_in : Universe → List ℕ → List ℕ → List ℕ → Result Action Misread
-unbind_in u r z y = on (ends_in u r z y) (λ e. Ok (Unbind e.0 e.1 e.2))
-
 -- between two states of the type of which the instance is
 abbrev pub between : Universe → Config → ℕ → List ℕ → List ℕ → Result Action Misread
 between u c z from to =
@@ -70,17 +64,29 @@ abbrev pub delete_args : List (List ℕ) → Result Action Misread
 delete_args (z ∷ []) = delete_in z
 delete_args _ = Err Form
 
+-- a port, and its two ends
+abbrev pub tie_ends : Universe → List ℕ → List (List ℕ) → Result (ℕ × ℕ × ℕ) Misread
+tie_ends u r (z ∷ y ∷ []) = ends_in u r z y
+tie_ends u r _ = Err Form
+
+abbrev pub tie_args : Universe → List (List ℕ) → Result (ℕ × ℕ × ℕ) Misread
+tie_args u (r ∷ ends) = tie_ends u r ends
+tie_args u [] = Err Form
+
 abbrev pub bind_args : Universe → List (List ℕ) → Result Action Misread
-bind_args u (r ∷ z ∷ y ∷ []) = bind_in u r z y
-bind_args u _ = Err Form
+bind_args u args = on (tie_args u args) (λ e. Ok (Bind e.0 e.1 e.2))
 
 abbrev pub unbind_args : Universe → List (List ℕ) → Result Action Misread
-unbind_args u (r ∷ z ∷ y ∷ []) = unbind_in u r z y
-unbind_args u _ = Err Form
+unbind_args u args = on (tie_args u args) (λ e. Ok (Unbind e.0 e.1 e.2))
+
+-- an instance, and two states
+abbrev pub move_states : Universe → Config → List ℕ → List (List ℕ) → Result Action Misread
+move_states u c z (from ∷ to ∷ []) = move_in u c z from to
+move_states u c z _ = Err Form
 
 abbrev pub move_args : Universe → Config → List (List ℕ) → Result Action Misread
-move_args u c (z ∷ from ∷ to ∷ []) = move_in u c z from to
-move_args u c _ = Err Form
+move_args u c (z ∷ states) = move_states u c z states
+move_args u c [] = Err Form
 
 abbrev pub action_in : Universe → Config → List ℕ → List (List ℕ) → Result Action Misread
 action_in u c verb args =

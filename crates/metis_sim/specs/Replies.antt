@@ -4,7 +4,6 @@
 use Rattle.std.specs.Prelude.{ℕ, ◌<◌, List, [], ◌∷◌, ◌++◌, length, map, codes, decimal, ⊤}
 use Rattle.metis_universe.specs.Config.{Binding, Config}
 use Rattle.metis_universe.specs.Universe.{Universe, pair_count, port_name_of}
-use Rattle.metis_text.specs.Line.{line}
 use Rattle.metis_text.specs.PlanText.{pair_word}
 use Rattle.metis_actions.specs.Faults.{IsFaultOf, fault_text}
 use Rattle.metis_sim.specs.declared.reply.Reply.{Reply}
@@ -18,24 +17,28 @@ IsReplyOf u NoMemory = ⊥
 IsReplyOf u _ = ⊤
 
 abbrev pub counts_line : Config → List ℕ
-counts_line c = line (codes "instances" ∷ decimal (length c.instances) ∷ codes "bindings" ∷ decimal (length c.bindings) ∷ [])
+counts_line c = codes "instances " ++ (decimal (length c.instances) ++ (codes " bindings " ++ (decimal (length c.bindings) ++ codes "\n")))
 
 -- an instance with its pair
 abbrev pub instance_line : Universe → ℕ × ℕ → List ℕ
-instance_line u e = line (decimal e.0 ∷ pair_word u e.1 ∷ [])
+instance_line u e = decimal e.0 ++ (codes " " ++ (pair_word u e.1 ++ codes "\n"))
 
 -- a port, its requirer and its provider
 abbrev pub binding_line : Universe → Binding → List ℕ
-binding_line u b = line (port_name_of u b.0 ∷ decimal b.1 ∷ decimal b.2 ∷ [])
+binding_line u b = port_name_of u b.0 ++ (codes " " ++ (decimal b.1 ++ (codes " " ++ (decimal b.2 ++ codes "\n"))))
+
+-- each instance, and then each binding
+abbrev pub part_lines : Universe → Config → List (List ℕ)
+part_lines u c = map (instance_line u) c.instances ++ map (binding_line u) c.bindings
 
 abbrev pub show_lines : Universe → Config → List (List ℕ)
-show_lines u c = counts_line c ∷ map (instance_line u) c.instances ++ map (binding_line u) c.bindings
+show_lines u c = counts_line c ∷ part_lines u c
 
 abbrev pub refused_line : List ℕ → List ℕ
 refused_line fault = codes "refused " ++ (fault ++ codes "\n")
 
 abbrev pub missing_line : List ℕ → ℕ → ℕ → List ℕ
-missing_line pair have want = line (codes "missing" ∷ pair ∷ codes "have" ∷ decimal have ∷ codes "want" ∷ decimal want ∷ [])
+missing_line pair have want = codes "missing " ++ (pair ++ (codes " have " ++ (decimal have ++ (codes " want " ++ (decimal want ++ codes "\n")))))
 
 abbrev pub reply_lines : Universe → Config → Reply → List (List ℕ)
 reply_lines u c Did = codes "ok\n" ∷ []

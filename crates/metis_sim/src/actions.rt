@@ -1,9 +1,10 @@
 //! Reads an action from the tokens of a line.
-ghost use Rattle.std.specs.Prelude.{◌≡◌, map};
+ghost use Rattle.std.specs.Prelude.{◌≡◌, IfOk, map};
 ghost use Rattle.metis_universe.specs.Config.{pair_of};
+ghost use Rattle.metis_universe.specs.Numbers.{IsOf};
 ghost use Rattle.metis_universe.specs.Universe.{port_named, type_named};
 ghost use Rattle.metis_config.specs.Over.{IsOver};
-ghost use Rattle.metis_sim.specs.Orders.{action_in, between, bind_args, bind_in, delete_args, delete_in, ends_in, formed, known, move_args, move_in, named, new_args, new_in, present, unbind_args, unbind_in};
+ghost use Rattle.metis_sim.specs.Orders.{action_in, between, bind_args, delete_args, delete_in, ends_in, formed, known, move_args, move_in, move_states, named, new_args, new_in, present, tie_args, tie_ends, unbind_args};
 ghost use Rattle.metis_sim.specs.Words.{number_of};
 
 use crate::bytes::is;
@@ -80,28 +81,6 @@ fn ends_in(u: &Universe, r: &[u8], z: &[u8], y: &[u8]) -> Result<(PortIx, u32, u
     Ok((port, inst, to))
 }
 
-fn bind_in(u: &Universe, r: &[u8], z: &[u8], y: &[u8]) -> Result<Action, Misread>
-    ensures { result ≡ bind_in u.now r.now z.now y.now }
-{
-    let (port, inst, to) = ends_in(u, r, z, y)?;
-    Ok(Action::Bind {
-        port,
-        inst: InstNo(inst),
-        to: InstNo(to),
-    })
-}
-
-fn unbind_in(u: &Universe, r: &[u8], z: &[u8], y: &[u8]) -> Result<Action, Misread>
-    ensures { result ≡ unbind_in u.now r.now z.now y.now }
-{
-    let (port, inst, to) = ends_in(u, r, z, y)?;
-    Ok(Action::Unbind {
-        port,
-        inst: InstNo(inst),
-        to: InstNo(to),
-    })
-}
-
 // The move of an instance between two states of its type.
 fn between(u: &Universe, c: &Config, z: InstNo, from: &str, to: &str) -> Result<Action, Misread>
     requires { IsOver u.now c.now }
@@ -143,20 +122,54 @@ fn delete_args(args: &[&[u8]]) -> Result<Action, Misread>
     }
 }
 
+// A port, and its two ends.
+fn tie_ends(u: &Universe, r: &[u8], ends: &[&[u8]]) -> Result<(PortIx, u32, u32), Misread>
+    ensures { result ≡ tie_ends u.now r.now (map (λ t. t.now) ends.now) }
+{
+    match ends {
+        [z, y] => ends_in(u, r, z, y),
+        _ => Err(Misread::Form),
+    }
+}
+
+fn tie_args(u: &Universe, args: &[&[u8]]) -> Result<(PortIx, u32, u32), Misread>
+    ensures { result ≡ tie_args u.now (map (λ t. t.now) args.now) }
+{
+    match args {
+        [r, ends @ ..] => tie_ends(u, r, ends),
+        [] => Err(Misread::Form),
+    }
+}
+
 fn bind_args(u: &Universe, args: &[&[u8]]) -> Result<Action, Misread>
     ensures { result ≡ bind_args u.now (map (λ t. t.now) args.now) }
 {
-    match args {
-        [r, z, y] => bind_in(u, r, z, y),
-        _ => Err(Misread::Form),
-    }
+    let (port, inst, to) = tie_args(u, args)?;
+    Ok(Action::Bind {
+        port,
+        inst: InstNo(inst),
+        to: InstNo(to),
+    })
 }
 
 fn unbind_args(u: &Universe, args: &[&[u8]]) -> Result<Action, Misread>
     ensures { result ≡ unbind_args u.now (map (λ t. t.now) args.now) }
 {
-    match args {
-        [r, z, y] => unbind_in(u, r, z, y),
+    let (port, inst, to) = tie_args(u, args)?;
+    Ok(Action::Unbind {
+        port,
+        inst: InstNo(inst),
+        to: InstNo(to),
+    })
+}
+
+// The two states of a move.
+fn move_states(u: &Universe, c: &Config, z: &[u8], states: &[&[u8]]) -> Result<Action, Misread>
+    requires { IsOver u.now c.now }
+    ensures { result ≡ move_states u.now c.now z.now (map (λ t. t.now) states.now) }
+{
+    match states {
+        [from, to] => move_in(u, c, z, from, to),
         _ => Err(Misread::Form),
     }
 }
@@ -166,8 +179,8 @@ fn move_args(u: &Universe, c: &Config, args: &[&[u8]]) -> Result<Action, Misread
     ensures { result ≡ move_args u.now c.now (map (λ t. t.now) args.now) }
 {
     match args {
-        [z, from, to] => move_in(u, c, z, from, to),
-        _ => Err(Misread::Form),
+        [z, states @ ..] => move_states(u, c, z, states),
+        [] => Err(Misread::Form),
     }
 }
 
@@ -175,6 +188,14 @@ fn move_args(u: &Universe, c: &Config, args: &[&[u8]]) -> Result<Action, Misread
 pub fn action_in(u: &Universe, c: &Config, verb: &[u8], args: &[&[u8]]) -> Result<Action, Misread>
     requires { IsOver u.now c.now }
     ensures action { result ≡ action_in u.now c.now verb.now (map (λ t. t.now) args.now) }
+    ensures numbers { IfOk result (IsOf u.now) }
+{
+    action_of(u, c, verb, args)
+}
+
+fn action_of(u: &Universe, c: &Config, verb: &[u8], args: &[&[u8]]) -> Result<Action, Misread>
+    requires { IsOver u.now c.now }
+    ensures { result ≡ action_in u.now c.now verb.now (map (λ t. t.now) args.now) }
 {
     if is(verb, "new") {
         new_args(u, args)
