@@ -2,7 +2,6 @@
 use Rattle.std.proofs.Common.{◌≡◌, ℕ, ◌<◌, ◌&&◌, Bool, true, false, cond, List, [], ◌∷◌, codes, Option, Some, None, Result, Ok, Err, refl, subst}
 use Rattle.std.specs.Prelude.{IfOk}
 use Rattle.std.specs.Str.{bytes_eq}
-use Rattle.metis_ids.specs.declared.actions.Action.{Action}
 use Rattle.metis_ids.specs.declared.actions.Action.TheVariants.{New, Delete, Bind, Unbind, Move}
 use Rattle.metis_universe.proofs.Named.{position_within}
 use Rattle.metis_universe.proofs.TypePlaces.{state_named-within}
@@ -47,6 +46,7 @@ module _ (u : Universe) where
   HasPort e = e.0 < port_count u
 
   ends_low : (r z y : List ℕ) → IfOk (ends_in u r z y) HasPort
+  unfolding ends_in
   ends_low r z y =
       if_on HasPort (formed (number_of z)) (λ n. on (formed (number_of y)) (λ m. on (named (port_named u) r) (λ port. Ok (port, n, m)))) (λ n _.
       if_on HasPort (formed (number_of y)) (λ m. on (named (port_named u) r) (λ port. Ok (port, n, m))) (λ m _.

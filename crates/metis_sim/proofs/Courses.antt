@@ -1,11 +1,11 @@
 -- What lines leave of a session.
-use Rattle.std.proofs.Common.{◌≡◌, ℕ, Bool, true, false, cond, List, [], ◌∷◌, map, codes, None, refl, sym, ap, ◌∙◌, subst}
+use Rattle.std.proofs.Common.{◌≡◌, ℕ, true, false, List, [], ◌∷◌, map, codes, None, refl, sym, ap, ◌∙◌, subst}
 use Rattle.std.specs.Prelude.{◌≢◌}
 use Rattle.std.specs.List.{AllByRecursion}
 use Rattle.std.proofs.lemmas.Bool.{cond-false, cond-true, false≢true}
 use Rattle.metis_ids.specs.declared.actions.Action.{Action}
 use Rattle.metis_universe.proofs.Kept.{IsConfig-after, IsConfig-empty}
-use Rattle.metis_universe.specs.Config.{Config, Correct, IsConfig, empty}
+use Rattle.metis_universe.specs.Config.{Config, Correct, IsConfig}
 use Rattle.metis_universe.specs.Numbers.{IsOf}
 use Rattle.metis_universe.specs.Step.{after}
 use Rattle.metis_universe.specs.Universe.{Universe, IsUniverse}
@@ -15,9 +15,9 @@ use Rattle.metis_actions.proofs.Causes.{over_after, step-no_fault}
 use Rattle.metis_actions.specs.Faults.{fault_of}
 use Rattle.metis_actions.specs.declared.faults.AFault.{AFault}
 use Rattle.metis_actions.specs.declared.faults.AFault.TheVariants as faults
-use Rattle.metis_sim.proofs.Answered.{IsStill, each_answer}
+use Rattle.metis_sim.proofs.Answered.{each_answer}
 use Rattle.metis_sim.specs.Replies.{IsReplyOf}
-use Rattle.metis_sim.specs.Session.{Answer, Session, after_line, after_lines, answer, answer_to_line, begin, changes, done_by, replies, reply, session_of, undone_by}
+use Rattle.metis_sim.specs.Session.{Answer, Session, after_line, after_lines, answer, answer_to_line, begin, changes, done_by, replies, reply, undone_by}
 use Rattle.metis_sim.specs.declared.reply.Reply.{Reply}
 use Rattle.metis_sim.specs.declared.reply.Reply.TheVariants.{Bye, Did, Ended, Refused, Undone}
 
@@ -59,12 +59,14 @@ module _ (s : Session) where
       (λ c earlier is other. absurd (undone≢did other))
       (λ other. absurd (bye≢did other))
       (λ ended other. absurd (ended≢did other)) where
-    undone≢did : Undone ≡ Did → ⊥
-    undone≢did e = cc
-    bye≢did : Bye ≡ Did → ⊥
-    bye≢did e = cc
-    ended≢did : Ended ≡ Did → ⊥
-    ended≢did e = cc
+        undone≢did : Undone ≡ Did → ⊥
+        undone≢did e = cc
+
+        bye≢did : Bye ≡ Did → ⊥
+        bye≢did e = cc
+
+        ended≢did : Ended ≡ Did → ⊥
+        ended≢did e = cc
 
   -- ---- quit
 
@@ -78,10 +80,11 @@ module _ (s : Session) where
       (λ c earlier is other. absurd (undone≢bye other))
       (λ is. refl)
       (λ ended is. ended) where
-    undone≢bye : Undone ≡ Bye → ⊥
-    undone≢bye e = cc
-    did≢bye : Did ≡ Bye → ⊥
-    did≢bye e = cc
+        undone≢bye : Undone ≡ Bye → ⊥
+        undone≢bye e = cc
+
+        did≢bye : Did ≡ Bye → ⊥
+        did≢bye e = cc
 
   pub answer_after_quit : s.ended ≡ true → (line : List ℕ) → answer s line ≡ (Ended, s)
   answer_after_quit over line = cond-true s.ended (Ended, s) (answer_to_line s line) over

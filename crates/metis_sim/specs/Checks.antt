@@ -4,7 +4,7 @@
 --     check_reply u c words      the reply to a `check` with these words
 use Rattle.std.specs.Prelude.{ℕ, ◌&&◌, nat_le, List, [], ◌∷◌, ◌++◌, length, Option, Some, None, if◌then◌else◌}
 use Rattle.std.specs.List.{list_all}
-use Rattle.std.specs.Option.{option_and_then, option_map}
+use Rattle.std.specs.Option.{option_and_then}
 use Rattle.metis_universe.specs.Config.{Config}
 use Rattle.metis_universe.specs.Goal.{holding}
 use Rattle.metis_universe.specs.Universe.{Universe}

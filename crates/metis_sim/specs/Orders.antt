@@ -41,7 +41,7 @@ abbrev pub delete_in : List ℕ → Result Action Misread
 delete_in z = on (formed (number_of z)) (λ n. Ok (Delete n))
 
 -- the port, its requirer and its provider
-abbrev pub ends_in : Universe → List ℕ → List ℕ → List ℕ → Result (ℕ × ℕ × ℕ) Misread
+unfoldable pub ends_in : Universe → List ℕ → List ℕ → List ℕ → Result (ℕ × ℕ × ℕ) Misread
 ends_in u r z y = on (formed (number_of z)) (λ n. on (formed (number_of y)) (λ m. on (named (port_named u) r) (λ port. Ok (port, n, m))))
 
 -- between two states of the type of which the instance is

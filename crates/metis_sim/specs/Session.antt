@@ -112,4 +112,3 @@ changes _ = false
 -- a session that has ended, and `undo` and `quit`, take no memory
 abbrev pub takes_none : Session → List ℕ → Bool
 takes_none s line = s.ended || bytes_eq line (codes "undo") || bytes_eq line (codes "quit")
-

@@ -72,6 +72,7 @@ fn delete_in(z: &[u8]) -> Result<Action, Misread>
 }
 
 // A port, the instance that requires it and the one that provides it.
+#[tactic(auto, unfolding(crate::specs::Orders::ends_in))]
 fn ends_in(u: &Universe, r: &[u8], z: &[u8], y: &[u8]) -> Result<(PortIx, u32, u32), Misread>
     ensures { result ≡ ends_in u.now r.now z.now y.now }
 {

@@ -12,7 +12,9 @@ mod session;
 mod tokens;
 mod write;
 
-pub use laws::{kept_configurations_are_correct, nothing_else_changes, nothing_follows_quit, undo_takes_back};
+pub use laws::{
+    kept_configurations_are_correct, nothing_else_changes, nothing_follows_quit, undo_takes_back,
+};
 pub use reply::Reply;
 pub use session::Session;
 pub use write::write_reply;

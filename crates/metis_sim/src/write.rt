@@ -115,7 +115,12 @@ fn missing_line(
 
 // How many instances and bindings there are, each instance with its pair, and each binding.
 #[tactic(auto, using(metis_outside::proofs::Writing::front_of_line, metis_outside::proofs::Writing::writes_behind))]
-fn write_config<K: Sink>(alloc: Global, u: &Universe, c: &Config, out: &mut K) -> Result<(), Trouble>
+fn write_config<K: Sink>(
+    alloc: Global,
+    u: &Universe,
+    c: &Config,
+    out: &mut K,
+) -> Result<(), Trouble>
     requires { IsOver u.now c.now }
     ensures text { Writes (show_lines u.now c.now) (K.written out.old) (K.written out.new) result }
     ensures cause { CountsFault (K.faults out.old) (K.faults out.new) result }
