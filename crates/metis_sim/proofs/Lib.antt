@@ -1,0 +1,7 @@
+pub mod ActionNumbers
+pub mod Answered
+pub mod CheckNumbers
+pub mod Courses
+pub mod Numbers
+pub mod ShownNumbers
+pub mod WordLists

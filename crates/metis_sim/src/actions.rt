@@ -1,0 +1,214 @@
+//! Reads an action from the tokens of a line.
+ghost use Rattle.std.specs.Prelude.{◌≡◌, IfOk, map};
+ghost use Rattle.metis_universe.specs.Config.{pair_of};
+ghost use Rattle.metis_universe.specs.Numbers.{IsOf};
+ghost use Rattle.metis_universe.specs.Universe.{port_named, type_named};
+ghost use Rattle.metis_config.specs.Over.{IsOver};
+ghost use Rattle.metis_sim.specs.Orders.{action_in, between, bind_args, delete_args, delete_in, ends_in, formed, known, move_args, move_in, move_states, named, new_args, new_in, present, tie_args, tie_ends, unbind_args};
+ghost use Rattle.metis_sim.specs.Words.{number_of};
+
+use crate::bytes::is;
+use crate::misread::Misread;
+use crate::tokens::{name_of, number_of};
+use metis_config::Config;
+use metis_ids::{Action, InstNo, PairIx, PortIx, TypeIx};
+use metis_universe::Universe;
+
+// A number.
+fn number_in(token: &[u8]) -> Result<u32, Misread>
+    ensures { result ≡ formed (number_of token.now) }
+{
+    number_of(token).ok_or(Misread::Form)
+}
+
+// What a name stands for, if it is there.
+fn known<A: Drop>(looked: Option<A>) -> Result<A, Misread>
+    ensures { result ≡ known looked }
+{
+    looked.ok_or(Misread::Name)
+}
+
+fn type_in(u: &Universe, token: &[u8]) -> Result<TypeIx, Misread>
+    ensures { result ≡ named (type_named u.now) token.now }
+{
+    match name_of(token) {
+        Some(name) => known(u.type_named(name)),
+        None => Err(Misread::Form),
+    }
+}
+
+fn port_in(u: &Universe, token: &[u8]) -> Result<PortIx, Misread>
+    ensures { result ≡ named (port_named u.now) token.now }
+{
+    match name_of(token) {
+        Some(name) => known(u.port_named(name)),
+        None => Err(Misread::Form),
+    }
+}
+
+// The pair of the instance, if it is there.
+fn present(c: &Config, z: InstNo) -> Result<PairIx, Misread>
+    ensures { result ≡ present z (pair_of c.now z) }
+{
+    c.pair_of(z).ok_or(Misread::Absent(z))
+}
+
+fn new_in(u: &Universe, z: &[u8], kind: &[u8]) -> Result<Action, Misread>
+    ensures { result ≡ new_in u.now z.now kind.now }
+{
+    let inst = number_in(z)?;
+    let kind = type_in(u, kind)?;
+    Ok(Action::New {
+        inst: InstNo(inst),
+        kind,
+    })
+}
+
+fn delete_in(z: &[u8]) -> Result<Action, Misread>
+    ensures { result ≡ delete_in z.now }
+{
+    let inst = number_in(z)?;
+    Ok(Action::Delete { inst: InstNo(inst) })
+}
+
+// A port, the instance that requires it and the one that provides it.
+#[tactic(auto, unfolding(crate::specs::Orders::ends_in))]
+fn ends_in(u: &Universe, r: &[u8], z: &[u8], y: &[u8]) -> Result<(PortIx, u32, u32), Misread>
+    ensures { result ≡ ends_in u.now r.now z.now y.now }
+{
+    let inst = number_in(z)?;
+    let to = number_in(y)?;
+    let port = port_in(u, r)?;
+    Ok((port, inst, to))
+}
+
+// The move of an instance between two states of its type.
+fn between(u: &Universe, c: &Config, z: InstNo, from: &str, to: &str) -> Result<Action, Misread>
+    requires { IsOver u.now c.now }
+    ensures { result ≡ between u.now c.now z from.now to.now }
+{
+    let pair = present(c, z)?;
+    let kind = u.type_of(pair);
+    let from = known(u.state_named(kind, from))?;
+    let to = known(u.state_named(kind, to))?;
+    Ok(Action::Move { inst: z, from, to })
+}
+
+fn move_in(u: &Universe, c: &Config, z: &[u8], from: &[u8], to: &[u8]) -> Result<Action, Misread>
+    requires { IsOver u.now c.now }
+    ensures { result ≡ move_in u.now c.now z.now from.now to.now }
+{
+    let inst = number_in(z)?;
+    match (name_of(from), name_of(to)) {
+        (Some(from), Some(to)) => between(u, c, InstNo(inst), from, to),
+        _ => Err(Misread::Form),
+    }
+}
+
+fn new_args(u: &Universe, args: &[&[u8]]) -> Result<Action, Misread>
+    ensures { result ≡ new_args u.now (map (λ t. t.now) args.now) }
+{
+    match args {
+        [z, kind] => new_in(u, z, kind),
+        _ => Err(Misread::Form),
+    }
+}
+
+fn delete_args(args: &[&[u8]]) -> Result<Action, Misread>
+    ensures { result ≡ delete_args (map (λ t. t.now) args.now) }
+{
+    match args {
+        [z] => delete_in(z),
+        _ => Err(Misread::Form),
+    }
+}
+
+// A port, and its two ends.
+fn tie_ends(u: &Universe, r: &[u8], ends: &[&[u8]]) -> Result<(PortIx, u32, u32), Misread>
+    ensures { result ≡ tie_ends u.now r.now (map (λ t. t.now) ends.now) }
+{
+    match ends {
+        [z, y] => ends_in(u, r, z, y),
+        _ => Err(Misread::Form),
+    }
+}
+
+fn tie_args(u: &Universe, args: &[&[u8]]) -> Result<(PortIx, u32, u32), Misread>
+    ensures { result ≡ tie_args u.now (map (λ t. t.now) args.now) }
+{
+    match args {
+        [r, ends @ ..] => tie_ends(u, r, ends),
+        [] => Err(Misread::Form),
+    }
+}
+
+fn bind_args(u: &Universe, args: &[&[u8]]) -> Result<Action, Misread>
+    ensures { result ≡ bind_args u.now (map (λ t. t.now) args.now) }
+{
+    let (port, inst, to) = tie_args(u, args)?;
+    Ok(Action::Bind {
+        port,
+        inst: InstNo(inst),
+        to: InstNo(to),
+    })
+}
+
+fn unbind_args(u: &Universe, args: &[&[u8]]) -> Result<Action, Misread>
+    ensures { result ≡ unbind_args u.now (map (λ t. t.now) args.now) }
+{
+    let (port, inst, to) = tie_args(u, args)?;
+    Ok(Action::Unbind {
+        port,
+        inst: InstNo(inst),
+        to: InstNo(to),
+    })
+}
+
+// The two states of a move.
+fn move_states(u: &Universe, c: &Config, z: &[u8], states: &[&[u8]]) -> Result<Action, Misread>
+    requires { IsOver u.now c.now }
+    ensures { result ≡ move_states u.now c.now z.now (map (λ t. t.now) states.now) }
+{
+    match states {
+        [from, to] => move_in(u, c, z, from, to),
+        _ => Err(Misread::Form),
+    }
+}
+
+fn move_args(u: &Universe, c: &Config, args: &[&[u8]]) -> Result<Action, Misread>
+    requires { IsOver u.now c.now }
+    ensures { result ≡ move_args u.now c.now (map (λ t. t.now) args.now) }
+{
+    match args {
+        [z, states @ ..] => move_states(u, c, z, states),
+        [] => Err(Misread::Form),
+    }
+}
+
+/// The action of the verb and the tokens behind it, or why they ask for none.
+pub fn action_in(u: &Universe, c: &Config, verb: &[u8], args: &[&[u8]]) -> Result<Action, Misread>
+    requires { IsOver u.now c.now }
+    ensures action { result ≡ action_in u.now c.now verb.now (map (λ t. t.now) args.now) }
+    ensures numbers { IfOk result (IsOf u.now) }
+{
+    action_of(u, c, verb, args)
+}
+
+fn action_of(u: &Universe, c: &Config, verb: &[u8], args: &[&[u8]]) -> Result<Action, Misread>
+    requires { IsOver u.now c.now }
+    ensures { result ≡ action_in u.now c.now verb.now (map (λ t. t.now) args.now) }
+{
+    if is(verb, "new") {
+        new_args(u, args)
+    } else if is(verb, "delete") {
+        delete_args(args)
+    } else if is(verb, "bind") {
+        bind_args(u, args)
+    } else if is(verb, "unbind") {
+        unbind_args(u, args)
+    } else if is(verb, "move") {
+        move_args(u, c, args)
+    } else {
+        Err(Misread::Form)
+    }
+}

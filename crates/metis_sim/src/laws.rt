@@ -1,0 +1,28 @@
+//! Laws over the definitions.
+ghost use Rattle.std.specs.Prelude.{◌≡◌, ℕ, List, ◌∷◌, IsFalse, codes, map};
+ghost use Rattle.std.specs.List.{AllByRecursion};
+ghost use Rattle.metis_universe.specs.Config.{Correct};
+ghost use Rattle.metis_universe.specs.Universe.{Universe, IsUniverse};
+ghost use Rattle.metis_sim.specs.Session.{Session, after_line, after_lines, answer, begin, changes, replies, reply};
+ghost use Rattle.metis_sim.specs.declared.reply.Reply.TheVariants.{Bye, Did, Ended, Undone};
+
+/// After an action that was done, `undo` gives the session before it again, and with it its configuration.
+pub fn undo_takes_back()
+    ensures { (s : Session) (line : List ℕ) → reply s line ≡ Did → answer (after_line s line) (codes "undo") ≡ (Undone, s) }
+{}
+
+/// After any lines, from a new session on, the configuration is correct, and so is each that is kept.
+pub fn kept_configurations_are_correct()
+    ensures { (u : Universe) (lines : List (List ℕ)) → IsUniverse u → let s = after_lines (begin u) lines in AllByRecursion (Correct u) (s.config ∷ s.earlier) }
+{}
+
+/// Only `Did`, `Undone` and `Bye` change a session.
+pub fn nothing_else_changes()
+    ensures { (s : Session) (line : List ℕ) → IsFalse (changes (reply s line)) → after_line s line ≡ s }
+{}
+
+/// After `quit` each line is answered `Ended`, and changes nothing.
+pub fn nothing_follows_quit()
+    ensures replies { (s : Session) (line : List ℕ) (lines : List (List ℕ)) → reply s line ≡ Bye → replies (after_line s line) lines ≡ map (λ _. Ended) lines }
+    ensures session { (s : Session) (line : List ℕ) (lines : List (List ℕ)) → reply s line ≡ Bye → after_lines (after_line s line) lines ≡ after_line s line }
+{}

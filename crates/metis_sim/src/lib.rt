@@ -1,0 +1,20 @@
+//! Sessions: a configuration that the lines of a script act on, with undo.
+#![tactic(auto)]
+
+mod actions;
+mod bytes;
+mod check;
+mod earlier;
+mod laws;
+mod misread;
+mod reply;
+mod session;
+mod tokens;
+mod write;
+
+pub use laws::{
+    kept_configurations_are_correct, nothing_else_changes, nothing_follows_quit, undo_takes_back,
+};
+pub use reply::Reply;
+pub use session::Session;
+pub use write::write_reply;
