@@ -1,5 +1,5 @@
--- Each closed set of the tables holds all their pairs: place after place, with the pairs of a place in an order in which each
--- is free, or is led to and has what it requires.
+-- Each closed set of the tables holds all their pairs: place after place, and in a place in an order in which each pair is
+-- free, or is led to and has what it requires.
 use Rattle.std.proofs.Common.{◌≡◌, ℕ, suc, zero, ◌+◌, ◌*◌, ◌/◌, ◌%◌, ◌<◌, true, false, not, cond, nat_eq, ◌&&◌, ◌||◌, inl, inr, IsTrue, List, [], ◌∷◌, get_or, Some, None, refl, ap, sym, ◌∙◌, subst, zero-add, arith}
 use Rattle.std.specs.List.{find, range_with_len, AllByRecursion}
 use Rattle.std.proofs.lemmas.Bool.{eq-eqb, eqb-true, false≢true, or_cases}
