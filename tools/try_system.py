@@ -17,7 +17,6 @@ instances 2 actions 5 dups 0
 5 move 1 off run
 end
 '''
-SMALL = b'metis plan 1\ninstances 1 actions 1 dups 0\n1 new 0 Db\nend\n'
 
 here = os.path.dirname(os.path.abspath(__file__))
 program = os.path.abspath(sys.argv[1] if len(sys.argv) > 1 else os.path.join(here, '..', 'crates', 'metis', 'out', 'metis'))
@@ -42,7 +41,7 @@ cases = [
     ('a word that is not UTF-8 in the middle', ['plan', b'\xff', 'Db:off'], b'', 'pipe', 2, b'bad word 2\n'),
     ('a target that is not UTF-8', ['plan', 'web.json', 'Db:off', b'Db:\xff', 'Db:off'], b'', 'pipe', 2, b'bad word 4\n'),
     ('a word of 256 bytes', ['print', 'd' * 255 + '/', 'more'], b'', 'pipe', 2, b'bad word 3\n'),
-    ('a word of 257 bytes', ['plan', './' * 124 + '/web.json', 'Db:off'], b'', 'pipe', 0, SMALL),
+    ('a word of 257 bytes', ['print', './' * 124 + '/web.json'], b'', 'pipe', 0, PRINTED),
     ('a word of 5,000 bytes', ['plan', 'web.json', 'Db:' + 'x' * 5000], b'', 'pipe', 2, b'bad word 3\n'),
     ('300 words', ['plan', 'web.json'] + ['Db:off'] * 298, b'', 'pipe', 2, b'bad word 259\n'),
     ('258 words', ['replay', 'web.json', 'web.plan'] + ['Db:on'] * 255, b'', 'pipe', 1, b'missing Db:on have 1 want 255\n'),
