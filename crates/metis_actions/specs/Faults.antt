@@ -8,7 +8,8 @@ use Rattle.std.specs.List.{join_with_byte}
 use Rattle.std.specs.Option.{option_map_or, option_or, option_and_then}
 use Rattle.metis_ids.specs.declared.actions.Action.{Action}
 use Rattle.metis_ids.specs.declared.actions.Action.TheVariants.{New, Delete, Bind, Unbind, Move}
-use Rattle.metis_universe.specs.Universe.{Universe, has, type_of, next_of, type_requires, type_provides, pair_count, port_count, type_name_of, state_name_of, port_name_of}
+use Rattle.metis_universe.specs.Universe.{Universe, has, type_of, next_of, type_requires, type_provides, pair_count, port_count, port_name_of}
+use Rattle.metis_universe.specs.PairWords.{pair_word}
 use Rattle.metis_universe.specs.Config.{Config, pair_of, is_bound}
 use Rattle.metis_universe.specs.Step.{after}
 use Rattle.metis_config.specs.Unmet.{unmet}
@@ -72,14 +73,10 @@ IsFaultOf u (Unmet z r) = r < port_count u
 IsFaultOf u NoMemory = ⊥
 IsFaultOf u _ = ⊤
 
--- a pair's type and its state
-abbrev pub pair_name : Universe → ℕ → List ℕ
-pair_name u p = join_with_byte 58 (type_name_of u (type_of u p) ∷ state_name_of u p ∷ [])
-
 abbrev pub fault_tokens : Universe → AFault → List (List ℕ)
 fault_tokens u (InUse z) = codes "A1" ∷ decimal z ∷ []
 fault_tokens u (NoInstance z) = codes "A2" ∷ decimal z ∷ []
-fault_tokens u (NoState z p) = codes "A3" ∷ decimal z ∷ pair_name u p ∷ []
+fault_tokens u (NoState z p) = codes "A3" ∷ decimal z ∷ pair_word u p ∷ []
 fault_tokens u NoTransition = codes "A4" ∷ []
 fault_tokens u SameInstance = codes "A5" ∷ []
 fault_tokens u NoSuchPort = codes "A6" ∷ []

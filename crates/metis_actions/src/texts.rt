@@ -1,10 +1,10 @@
 //! Writes why an action is refused.
-ghost use Rattle.std.specs.Prelude.{◌≡◌, ◌<◌, [], ◌∷◌, IfOk, codes, decimal, string_bytes};
+ghost use Rattle.std.specs.Prelude.{◌≡◌, ◌<◌, [], ◌∷◌, ◌++◌, IfOk, codes, decimal, string_bytes};
 ghost use Rattle.std.specs.List.{join_with_byte};
 ghost use Rattle.metis_outside.specs.Faults.{CountsFault};
 ghost use Rattle.metis_outside.specs.Writes.{Writes};
 ghost use Rattle.metis_universe.specs.Universe.{pair_count, port_count};
-ghost use Rattle.metis_actions.specs.Faults.{IsFaultOf, fault_text, pair_name};
+ghost use Rattle.metis_actions.specs.Faults.{IsFaultOf, fault_text};
 
 use crate::AFault;
 use metis_ids::{InstNo, Ix, PairIx};
@@ -62,7 +62,7 @@ fn number_text(alloc: Global, code: &str, z: u32) -> Result<String, AllocError>
 }
 
 fn state_text(alloc: Global, z: u32, kind: &str, state: &str) -> Result<String, AllocError>
-    ensures { IfOk result (λ text. string_bytes text ≡ join_with_byte 32 (codes "A3" ∷ decimal z ∷ join_with_byte 58 (kind.now ∷ state.now ∷ []) ∷ [])) }
+    ensures { IfOk result (λ text. string_bytes text ≡ join_with_byte 32 (codes "A3" ∷ decimal z ∷ (kind.now ++ (codes ":" ++ state.now)) ∷ [])) }
 {
     format!(in alloc; "A3 {z} {kind}:{state}")
 }

@@ -1,15 +1,16 @@
 -- The first target of which there are fewer instances than places.
-use Rattle.std.proofs.Common.{◌≡◌, ℕ, ◌+◌, ◌<◌, ◌≤◌, Bool, true, false, cond, ◌||◌, List, [], ◌∷◌, ◌++◌, nat_eq, nat_lt, Some, None, refl, ap, ◌∙◌, subst, inl, inr, arith}
+use Rattle.std.proofs.Common.{◌≡◌, ℕ, ◌+◌, ◌<◌, ◌≤◌, Bool, true, false, cond, ◌||◌, List, [], ◌∷◌, ◌++◌, nat_eq, nat_lt, Option, Some, None, refl, ap, sym, ◌∙◌, subst, inl, inr, arith}
 use Rattle.std.proofs.lemmas.Bool.{false≢true, eqb-true, eq-eqb, or_left, or_right, or_cases}
 use Rattle.std.proofs.lemmas.Bool.Decides.{nat_tests}
 use Rattle.std.proofs.lemmas.List.Sums.{sum_by-cons}
 use Rattle.std.proofs.lemmas.List.Elements.{All-tail}
 use Rattle.std.specs.List.{All, find}
+use Rattle.std.specs.Prelude.{option_map}
 use Rattle.metis_universe.specs.Config.{Config}
 use Rattle.metis_universe.specs.Goal.{Holds, holding}
 use Rattle.metis_universe.specs.Universe.{has}
 use Rattle.metis_replay.specs.Exact.{IsFirstMissing}
-use Rattle.metis_replay.specs.Progress.{first_short, places}
+use Rattle.metis_replay.specs.Progress.{first_short, places, shortage}
 
 -- ---- searches
 
@@ -86,22 +87,34 @@ module _ (c : Config) (g : List ℕ) where
   abbrev is_short : ℕ → Bool
   is_short p = nat_lt (holding c p) (places g p)
 
-  pub holds_none : Holds c g → first_short c g ≡ None
-  holds_none holds = none_found is_short g (λ p. few (holding c p) (places g p) (holds p))
+  abbrev counted : ℕ → ℕ × ℕ × ℕ
+  counted p = (p, holding c p, places g p)
 
-  pub none_holds : first_short c g ≡ None → Holds c g
-  none_holds none p = elim (has g p) as (λ b. has g p ≡ b → places g p ≤ holding c p) [
+  pub holds_none : Holds c g → shortage c g ≡ None
+  holds_none holds = ap (option_map counted) (none_found is_short g (λ p. few (holding c p) (places g p) (holds p)))
+
+  no_short_holds : first_short c g ≡ None → Holds c g
+  no_short_holds none p = elim (has g p) as (λ b. has g p ≡ b → places g p ≤ holding c p) [
     | true ↦ λ there. enough (holding c p) (places g p) (all_fail is_short g none p there)
     | false ↦ λ away. let zero = no_place g p away in omega (arith, zero)
   ] refl
 
-  pub missing_short : (p have want : ℕ) → IsFirstMissing c g p have want → first_short c g ≡ Some p
-  missing_short p have want m =
+  pub none_holds : shortage c g ≡ None → Holds c g
+  none_holds none = by (first_short c g) refl none where
+    by : (o : Option ℕ) → first_short c g ≡ o → option_map counted o ≡ None → Holds c g
+    by None is e = no_short_holds is
+    by (Some p) is e = cc
+
+  first_is : (p have want : ℕ) → IsFirstMissing c g p have want → first_short c g ≡ Some p
+  first_is p have want m =
       ap (find is_short) m.parts
       ∙ first_found is_short m.before p m.later (λ q there. few (holding c q) (places g q) (m.enough q there)) (many (holding c p) (places g p) (omega (arith, m.fewer, m.have_is, m.want_is)))
 
-  pub short_missing : (p : ℕ) → first_short c g ≡ Some p → IsFirstMissing c g p (holding c p) (places g p)
-  short_missing p is = let f = found_at is_short g p is in record {
+  pub missing_short : (p have want : ℕ) → IsFirstMissing c g p have want → shortage c g ≡ Some (p, have, want)
+  missing_short p have want m = ap (option_map counted) (first_is p have want m) ∙ ap (λ n. Some (p, n, places g p)) (sym m.have_is) ∙ ap (λ n. Some (p, have, n)) (sym m.want_is)
+
+  first_missing : (p : ℕ) → first_short c g ≡ Some p → IsFirstMissing c g p (holding c p) (places g p)
+  first_missing p is = let f = found_at is_short g p is in record {
     before = f.before;
     later = f.later;
     parts = f.parts;
@@ -111,11 +124,24 @@ module _ (c : Config) (g : List ℕ) where
     fewer = fewer (holding c p) (places g p) f.passes;
   }
 
+  pub short_missing : (s : ℕ × ℕ × ℕ) → shortage c g ≡ Some s → IsFirstMissing c g s.0 s.1 s.2
+  short_missing s found = by (first_short c g) refl found where
+    by : (o : Option ℕ) → first_short c g ≡ o → option_map counted o ≡ Some s → IsFirstMissing c g s.0 s.1 s.2
+    by None is e = cc
+    by (Some p) is e = let same : counted p ≡ s = cc in subst (λ s. IsFirstMissing c g s.0 s.1 s.2) same (first_missing p is)
+
 -- what all numbers of a list have, the one that is found has
-pub found_among : (P : ℕ → Type 0) (t : ℕ → Bool) (xs : List ℕ) (p : ℕ) → All P xs → find t xs ≡ Some p → P p
+found_among : (P : ℕ → Type 0) (t : ℕ → Bool) (xs : List ℕ) (p : ℕ) → All P xs → find t xs ≡ Some p → P p
 found_among P t [] p all is = cc
 found_among P t (x ∷ xs) p all is =
     elim (t x) as (λ b. cond b (Some x) (find t xs) ≡ Some p → P p) [
       | true ↦ λ e. let same : x ≡ p = cc in subst P same (all 0 x (omega arith))
       | false ↦ λ e. found_among P t xs p (All-tail P x xs all) e
     ] is
+
+-- and so the pair of a shortage has what all targets have
+pub short_among : (P : ℕ → Type 0) (c : Config) (g : List ℕ) (s : ℕ × ℕ × ℕ) → All P g → shortage c g ≡ Some s → P s.0
+short_among P c g s all is = by (first_short c g) refl is where
+  by : (o : Option ℕ) → first_short c g ≡ o → option_map (λ p. (p, holding c p, places g p)) o ≡ Some s → P s.0
+  by None at e = cc
+  by (Some p) at e = let same : (p, holding c p, places g p) ≡ s = cc in subst (λ s. P s.0) same (found_among P (λ p. nat_lt (holding c p) (places g p)) g p all at)

@@ -3,8 +3,10 @@
 
 mod laws;
 mod replay;
+mod shortage;
 mod verdict;
 
 pub use laws::{replay_is_exact, replay_keeps_what_was_done};
 pub use replay::Replay;
+pub use shortage::shortage;
 pub use verdict::Verdict;

@@ -6,9 +6,10 @@ ghost use Rattle.metis_universe.specs.Numbers.{IsOf};
 ghost use Rattle.metis_universe.specs.Universe.{pair_count};
 ghost use Rattle.metis_config.specs.Over.{IsOver};
 ghost use Rattle.metis_actions.specs.Faults.{IsFaultOf, fault_of, takes_memory};
-ghost use Rattle.metis_replay.specs.Progress.{IsVerdictOf, fed, first_short, left_by, places, start, verdict};
+ghost use Rattle.metis_replay.specs.Progress.{IsVerdictOf, fed, left_by, start, verdict};
 
 use crate::Verdict;
+use crate::shortage::shortage;
 use metis_actions::{AFault, apply};
 use metis_config::Config;
 use metis_ids::{Action, NoMemory, PairIx};
@@ -85,8 +86,8 @@ impl<'a> Replay<'a> {
         if let Some((number, fault)) = self.refused {
             return Verdict::Bad(number, fault);
         }
-        match first_short(&self.config, targets) {
-            Some(p) => Verdict::Missing(p, self.config.holding(p), places(targets, p)),
+        match shortage(&self.config, targets) {
+            Some((pair, have, want)) => Verdict::Missing(pair, have, want),
             None => Verdict::Good,
         }
     }
@@ -120,21 +121,4 @@ fn tried(u: &Universe, c: &mut Config, a: &Action) -> Result<Option<AFault>, NoM
         Err(AFault::NoMemory) => Err(NoMemory),
         Err(fault) => Ok(Some(fault)),
     }
-}
-
-// The first target of which there are fewer instances than places in the list.
-fn first_short(c: &Config, targets: &[PairIx]) -> Option<PairIx>
-    ensures { result ≡ first_short c.now targets.now }
-{
-    targets
-        .iter()
-        .copied()
-        .find(|p| c.holding(*p) < places(targets, *p))
-}
-
-// How many places the pair has in the list.
-fn places(targets: &[PairIx], p: PairIx) -> u64
-    ensures { result ≡ places targets.now p }
-{
-    targets.iter().filter(|q| **q == p).count() as u64
 }

@@ -1,19 +1,19 @@
 -- A check changes nothing, and what it says is missing is a pair of the universe.
-use Rattle.std.proofs.Common.{◌≡◌, ℕ, ◌<◌, ◌&&◌, Bool, true, false, cond, nat_le, nat_lt, List, [], ◌∷◌, ◌++◌, length, Option, Some, None, refl}
+use Rattle.std.proofs.Common.{◌≡◌, ℕ, ◌<◌, ◌&&◌, Bool, true, false, nat_le, List, [], ◌∷◌, ◌++◌, length, Option, Some, None, refl}
 use Rattle.std.specs.List.{All, list_all}
 use Rattle.std.specs.Option.{option_and_then}
 use Rattle.std.specs.Prelude.{IfSome}
 use Rattle.std.proofs.lemmas.List.Elements.{All-append, All-from_recursion}
 use Rattle.metis_universe.proofs.TypePlaces.{state_named-within}
 use Rattle.metis_universe.specs.Config.{Config}
-use Rattle.metis_universe.specs.Goal.{holding}
+use Rattle.metis_universe.specs.PairWords.{pair_names}
 use Rattle.metis_universe.specs.Universe.{Universe, pair_count, pair_named, state_named, type_named}
-use Rattle.metis_replay.proofs.Shortages.{found_among}
-use Rattle.metis_replay.specs.Progress.{first_short, places}
+use Rattle.metis_replay.proofs.Shortages.{short_among}
+use Rattle.metis_replay.specs.Progress.{shortage}
 use Rattle.metis_sim.specs.Checks.{check_reply, most_targets, pairs_behind, pairs_of, reply_on, said_by}
 use Rattle.metis_sim.specs.Replies.{IsReplyOf}
 use Rattle.metis_sim.specs.Session.{changes}
-use Rattle.metis_sim.specs.Words.{is_pair_word, kind_in, pair_of_word, state_in}
+use Rattle.metis_sim.specs.Words.{is_pair_word, pair_of_word}
 use Rattle.metis_sim.specs.declared.reply.Reply.{Reply}
 use Rattle.metis_sim.specs.declared.reply.Reply.TheVariants.{BadLine}
 
@@ -21,13 +21,13 @@ either : (P : Reply → Type 0) (b : Bool) (x y : Reply) → P x → P y → P (
 either P true x y p q = p
 either P false x y p q = q
 
-calm_said : (c : Config) (g : List ℕ) (o : Option ℕ) → changes (said_by c g o) ≡ false
-calm_said c g None = refl
-calm_said c g (Some p) = refl
+calm_said : (o : Option (ℕ × ℕ × ℕ)) → changes (said_by o) ≡ false
+calm_said None = refl
+calm_said (Some s) = refl
 
 calm_reply : (c : Config) (o : Option (List ℕ)) → changes (reply_on c o) ≡ false
 calm_reply c None = refl
-calm_reply c (Some g) = calm_said c g (first_short c g)
+calm_reply c (Some g) = calm_said (shortage c g)
 
 pub check_calm : (u : Universe) (c : Config) (words : List (List ℕ)) → changes (check_reply u c words) ≡ false
 check_calm u c words = either (λ r. changes r ≡ false) (nat_le (length words) most_targets && list_all is_pair_word words) (reply_on c (pairs_of u words)) BadLine (calm_reply c (pairs_of u words)) refl
@@ -43,10 +43,10 @@ module _ (u : Universe) where
     by (Some t) e = state_named-within u t state p e
 
   word_low : (word : List ℕ) (p : ℕ) → pair_of_word u word ≡ Some p → p < pair_count u
-  word_low word p = by (is_pair_word word) where
-    by : (b : Bool) → cond b (pair_named u (kind_in word) (state_in word)) None ≡ Some p → p < pair_count u
-    by true e = named_low (kind_in word) (state_in word) p e
-    by false e = cc
+  word_low word p = by (pair_names word) where
+    by : (o : Option (List ℕ × List ℕ)) → option_and_then (λ names. pair_named u names.0 names.1) o ≡ Some p → p < pair_count u
+    by (Some names) e = named_low names.0 names.1 p e
+    by None e = cc
 
   pairs_low : (words : List (List ℕ)) (found : List ℕ) → All IsLow found → IfSome (pairs_behind found u words) (All IsLow)
   pairs_low [] found all = all
@@ -56,13 +56,13 @@ module _ (u : Universe) where
     by next (Some p) is = next p (word_low word p is)
 
   module _ (c : Config) where
-    said_low : (g : List ℕ) → All IsLow g → (o : Option ℕ) → first_short c g ≡ o → IsReplyOf u (said_by c g o)
+    said_low : (g : List ℕ) → All IsLow g → (o : Option (ℕ × ℕ × ℕ)) → shortage c g ≡ o → IsReplyOf u (said_by o)
     said_low g all None is = tt
-    said_low g all (Some p) is = found_among IsLow (λ p. nat_lt (holding c p) (places g p)) g p all is
+    said_low g all (Some s) is = short_among IsLow c g s all is
 
     reply_low : (o : Option (List ℕ)) → IfSome o (All IsLow) → IsReplyOf u (reply_on c o)
     reply_low None all = tt
-    reply_low (Some g) all = said_low g all (first_short c g) refl
+    reply_low (Some g) all = said_low g all (shortage c g) refl
 
     pub check_low : (words : List (List ℕ)) → IsReplyOf u (check_reply u c words)
     check_low words =

@@ -6,9 +6,8 @@ use Rattle.std.specs.Prelude.{ℕ, ◌&&◌, nat_le, List, [], ◌∷◌, ◌++�
 use Rattle.std.specs.List.{list_all}
 use Rattle.std.specs.Option.{option_and_then}
 use Rattle.metis_universe.specs.Config.{Config}
-use Rattle.metis_universe.specs.Goal.{holding}
 use Rattle.metis_universe.specs.Universe.{Universe}
-use Rattle.metis_replay.specs.Progress.{first_short, places}
+use Rattle.metis_replay.specs.Progress.{shortage}
 use Rattle.metis_sim.specs.Words.{is_pair_word, pair_of_word}
 use Rattle.metis_sim.specs.declared.reply.Reply.{Reply}
 use Rattle.metis_sim.specs.declared.reply.Reply.TheVariants.{BadLine, Holds, Missing, Unknown}
@@ -25,12 +24,12 @@ pairs_behind found u (word ∷ words) = option_and_then (λ p. pairs_behind (fou
 abbrev pub pairs_of : Universe → List (List ℕ) → Option (List ℕ)
 pairs_of u words = pairs_behind [] u words
 
-abbrev pub said_by : Config → List ℕ → Option ℕ → Reply
-said_by c g None = Holds
-said_by c g (Some p) = Missing p (holding c p) (places g p)
+abbrev pub said_by : Option (ℕ × ℕ × ℕ) → Reply
+said_by None = Holds
+said_by (Some s) = Missing s.0 s.1 s.2
 
 abbrev pub said_of : Config → List ℕ → Reply
-said_of c g = said_by c g (first_short c g)
+said_of c g = said_by (shortage c g)
 
 abbrev pub reply_on : Config → Option (List ℕ) → Reply
 reply_on c None = Unknown

@@ -4,7 +4,8 @@
 use Rattle.std.specs.Prelude.{ℕ, ◌<◌, List, [], ◌∷◌, ◌++◌, length, map, codes, decimal, ⊤}
 use Rattle.metis_universe.specs.Config.{Binding, Config}
 use Rattle.metis_universe.specs.Universe.{Universe, pair_count, port_name_of}
-use Rattle.metis_text.specs.PlanText.{pair_word}
+use Rattle.metis_universe.specs.PairWords.{pair_word}
+use Rattle.metis_text.specs.MissingLine.{missing_line}
 use Rattle.metis_actions.specs.Faults.{IsFaultOf, fault_text}
 use Rattle.metis_sim.specs.declared.reply.Reply.{Reply}
 use Rattle.metis_sim.specs.declared.reply.Reply.TheVariants.{BadLine, Bye, Did, Ended, Holds, Missing, NoMemory, Nothing, Refused, Show, Undone, Unknown}
@@ -36,9 +37,6 @@ show_lines u c = counts_line c ∷ part_lines u c
 
 abbrev pub refused_line : List ℕ → List ℕ
 refused_line fault = codes "refused " ++ (fault ++ codes "\n")
-
-abbrev pub missing_line : List ℕ → ℕ → ℕ → List ℕ
-missing_line pair have want = codes "missing " ++ (pair ++ (codes " have " ++ (decimal have ++ (codes " want " ++ (decimal want ++ codes "\n")))))
 
 abbrev pub reply_lines : Universe → Config → Reply → List (List ℕ)
 reply_lines u c Did = codes "ok\n" ∷ []

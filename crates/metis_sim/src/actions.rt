@@ -9,16 +9,19 @@ ghost use Rattle.metis_sim.specs.Words.{number_of};
 
 use crate::bytes::is;
 use crate::misread::Misread;
-use crate::tokens::{name_of, number_of};
 use metis_config::Config;
 use metis_ids::{Action, InstNo, PairIx, PortIx, TypeIx};
-use metis_universe::Universe;
+use metis_text::number_in;
+use metis_universe::{Universe, name_in};
 
 // A number.
-fn number_in(token: &[u8]) -> Result<u32, Misread>
+fn number(token: &[u8]) -> Result<u32, Misread>
     ensures { result ≡ formed (number_of token.now) }
 {
-    number_of(token).ok_or(Misread::Form)
+    match number_in(token) {
+        Ok(number) => Ok(number),
+        Err(_) => Err(Misread::Form),
+    }
 }
 
 // What a name stands for, if it is there.
@@ -31,7 +34,7 @@ fn known<A: Drop>(looked: Option<A>) -> Result<A, Misread>
 fn type_in(u: &Universe, token: &[u8]) -> Result<TypeIx, Misread>
     ensures { result ≡ named (type_named u.now) token.now }
 {
-    match name_of(token) {
+    match name_in(token) {
         Some(name) => known(u.type_named(name)),
         None => Err(Misread::Form),
     }
@@ -40,7 +43,7 @@ fn type_in(u: &Universe, token: &[u8]) -> Result<TypeIx, Misread>
 fn port_in(u: &Universe, token: &[u8]) -> Result<PortIx, Misread>
     ensures { result ≡ named (port_named u.now) token.now }
 {
-    match name_of(token) {
+    match name_in(token) {
         Some(name) => known(u.port_named(name)),
         None => Err(Misread::Form),
     }
@@ -56,7 +59,7 @@ fn present(c: &Config, z: InstNo) -> Result<PairIx, Misread>
 fn new_in(u: &Universe, z: &[u8], kind: &[u8]) -> Result<Action, Misread>
     ensures { result ≡ new_in u.now z.now kind.now }
 {
-    let inst = number_in(z)?;
+    let inst = number(z)?;
     let kind = type_in(u, kind)?;
     Ok(Action::New {
         inst: InstNo(inst),
@@ -67,7 +70,7 @@ fn new_in(u: &Universe, z: &[u8], kind: &[u8]) -> Result<Action, Misread>
 fn delete_in(z: &[u8]) -> Result<Action, Misread>
     ensures { result ≡ delete_in z.now }
 {
-    let inst = number_in(z)?;
+    let inst = number(z)?;
     Ok(Action::Delete { inst: InstNo(inst) })
 }
 
@@ -76,8 +79,8 @@ fn delete_in(z: &[u8]) -> Result<Action, Misread>
 fn ends_in(u: &Universe, r: &[u8], z: &[u8], y: &[u8]) -> Result<(PortIx, u32, u32), Misread>
     ensures { result ≡ ends_in u.now r.now z.now y.now }
 {
-    let inst = number_in(z)?;
-    let to = number_in(y)?;
+    let inst = number(z)?;
+    let to = number(y)?;
     let port = port_in(u, r)?;
     Ok((port, inst, to))
 }
@@ -98,8 +101,8 @@ fn move_in(u: &Universe, c: &Config, z: &[u8], from: &[u8], to: &[u8]) -> Result
     requires { IsOver u.now c.now }
     ensures { result ≡ move_in u.now c.now z.now from.now to.now }
 {
-    let inst = number_in(z)?;
-    match (name_of(from), name_of(to)) {
+    let inst = number(z)?;
+    match (name_in(from), name_in(to)) {
         (Some(from), Some(to)) => between(u, c, InstNo(inst), from, to),
         _ => Err(Misread::Form),
     }

@@ -1,15 +1,14 @@
 //! Whether the configuration holds the targets of a line.
 ghost use Rattle.std.specs.Prelude.{◌≡◌, IfOk, map, option_map};
 ghost use Rattle.std.specs.List.{list_all};
-ghost use Rattle.metis_replay.specs.Progress.{first_short, places};
 ghost use Rattle.metis_sim.specs.Checks.{check_reply, pairs_of, reply_on, said_of};
-ghost use Rattle.metis_sim.specs.Words.{is_pair_word};
+ghost use Rattle.metis_sim.specs.Words.{is_pair_word, pair_of_word};
 
 use crate::Reply;
-use crate::tokens::{is_pair_word, pair_of_word};
 use metis_config::Config;
 use metis_ids::{NoMemory, PairIx};
-use metis_universe::Universe;
+use metis_replay::shortage;
+use metis_universe::{Universe, pair_names};
 use std::alloc::Global;
 
 /// The most target words of a line.
@@ -33,7 +32,24 @@ pub fn check_reply(
     })
 }
 
-// Whether each of the words is two names with a colon between them.
+// Whether the word is two names with a colon between them.
+fn is_pair_word(word: &[u8]) -> bool
+    ensures { result ≡ is_pair_word word.now }
+{
+    pair_names(word).is_some()
+}
+
+// The pair whose type and state the word names, if it is there.
+fn pair_of_word(u: &Universe, word: &[u8]) -> Option<PairIx>
+    ensures { result ≡ pair_of_word u.now word.now }
+{
+    match pair_names(word) {
+        Some((kind, state)) => u.pair_named(kind, state),
+        None => None,
+    }
+}
+
+// Whether each of the words is so.
 fn are_pair_words(words: &[&[u8]]) -> bool
     ensures { result ≡ list_all is_pair_word (map (λ t. t.now) words.now) }
 {
@@ -58,25 +74,8 @@ fn pairs_of(alloc: Global, u: &Universe, words: &[&[u8]]) -> Result<Option<Vec<P
 fn said_of(c: &Config, targets: &[PairIx]) -> Reply
     ensures { result ≡ said_of c.now targets.now }
 {
-    match first_short(c, targets) {
-        Some(p) => Reply::Missing(p, c.holding(p), places(targets, p)),
+    match shortage(c, targets) {
+        Some((pair, have, want)) => Reply::Missing(pair, have, want),
         None => Reply::Holds,
     }
-}
-
-// The first target of which there are fewer instances than places in the list.
-fn first_short(c: &Config, targets: &[PairIx]) -> Option<PairIx>
-    ensures { result ≡ first_short c.now targets.now }
-{
-    targets
-        .iter()
-        .copied()
-        .find(|p| c.holding(*p) < places(targets, *p))
-}
-
-// How many places the pair has in the list.
-fn places(targets: &[PairIx], p: PairIx) -> u64
-    ensures { result ≡ places targets.now p }
-{
-    targets.iter().filter(|q| **q == p).count() as u64
 }

@@ -9,7 +9,6 @@ mod laws;
 mod misread;
 mod reply;
 mod session;
-mod tokens;
 mod write;
 
 pub use laws::{

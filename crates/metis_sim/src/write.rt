@@ -7,14 +7,14 @@ ghost use Rattle.metis_outside.specs.Writes.{Writes};
 ghost use Rattle.metis_universe.specs.Universe.{pair_count, port_count};
 ghost use Rattle.metis_config.specs.Over.{IsOver};
 ghost use Rattle.metis_actions.specs.Faults.{IsFaultOf, fault_text};
-ghost use Rattle.metis_text.specs.PlanText.{pair_word};
-ghost use Rattle.metis_sim.specs.Replies.{IsReplyOf, binding_line, counts_line, instance_line, missing_line, part_lines, refused_line, reply_lines, show_lines};
+ghost use Rattle.metis_sim.specs.Replies.{IsReplyOf, binding_line, counts_line, instance_line, part_lines, refused_line, reply_lines, show_lines};
 
 use crate::{Reply, Session};
 use metis_actions::{AFault, write_fault};
 use metis_config::Config;
 use metis_ids::{InstNo, Ix, PairIx, PortIx};
 use metis_outside::{CalmSink, Sink, Trouble};
+use metis_text::{put_line, write_missing};
 use metis_universe::Universe;
 use std::alloc::{AllocError, Global};
 
@@ -46,14 +46,6 @@ pub fn write_reply<K: Sink>(
     }
 }
 
-#[tactic(auto, using(metis_outside::proofs::Writing::writes_by_put))]
-fn put_line<K: Sink>(line: &[u8], out: &mut K) -> Result<(), Trouble>
-    ensures text { Writes (line.now ∷ []) (K.written out.old) (K.written out.new) result }
-    ensures cause { CountsFault (K.faults out.old) (K.faults out.new) result }
-{
-    out.put(line)
-}
-
 #[tactic(auto, using(metis_outside::proofs::Writing::front_of_nothing))]
 fn write_refused<K: Sink>(
     alloc: Global,
@@ -81,36 +73,6 @@ fn refused_line(alloc: Global, u: &Universe, fault: &AFault) -> Result<CalmSink,
     write_fault(alloc, u, fault, &mut line)?;
     line.put(b"\n")?;
     Ok(line)
-}
-
-#[tactic(auto, using(metis_outside::proofs::Writing::front_of_nothing))]
-fn write_missing<K: Sink>(
-    alloc: Global,
-    u: &Universe,
-    pair: PairIx,
-    have: u64,
-    want: u64,
-    out: &mut K,
-) -> Result<(), Trouble>
-    requires { pair < pair_count u.now }
-    ensures text { Writes (missing_line (pair_word u.now pair) have want ∷ []) (K.written out.old) (K.written out.new) result }
-    ensures cause { CountsFault (K.faults out.old) (K.faults out.new) result }
-{
-    let (kind, state) = (u.type_name(u.type_of(pair)), u.state_name(pair));
-    let line = missing_line(alloc, kind, state, have, want)?;
-    put_line(line.as_bytes(), out)
-}
-
-fn missing_line(
-    alloc: Global,
-    kind: &str,
-    state: &str,
-    have: u64,
-    want: u64,
-) -> Result<String, AllocError>
-    ensures { IfOk result (λ line. string_bytes line ≡ missing_line (kind.now ++ (codes ":" ++ state.now)) have want) }
-{
-    format!(in alloc; "missing {kind}:{state} have {have} want {want}\n")
 }
 
 // How many instances and bindings there are, each instance with its pair, and each binding.

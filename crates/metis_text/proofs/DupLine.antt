@@ -14,7 +14,8 @@ use Rattle.metis_text.specs.DupLine.{DupRow, dup_in, dup_of, dup_with, event_in,
 use Rattle.metis_text.specs.Flaws.{all_behind, both, made}
 use Rattle.metis_text.specs.InRange.{IsEventInRange}
 use Rattle.metis_text.specs.Line.{words}
-use Rattle.metis_text.specs.PlanText.{dup_tokens, event_token, pair_word}
+use Rattle.metis_text.specs.PlanText.{dup_tokens, event_token}
+use Rattle.metis_universe.specs.PairWords.{pair_word}
 use Rattle.metis_text.specs.Tokens.{tokens}
 use Rattle.metis_text.specs.declared.flaw.Flaw.TheVariants.{Form}
 use Rattle.metis_text.proofs.ActionRead.{due_read}

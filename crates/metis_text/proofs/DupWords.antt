@@ -1,5 +1,5 @@
 -- The words of a dup's line for a pair and for an event are read as these just where they are what is written for them.
-use Rattle.std.proofs.Common.{◌≡◌, ℕ, ◌+◌, ◌<◌, ◌^◌, Bool, true, false, ◌&&◌, List, ◌∷◌, ◌++◌, length, get_or, Some, Result, Ok, Err, refl, sym, ap, ◌∙◌, subst, arith, decimal, inl, inr}
+use Rattle.std.proofs.Common.{◌≡◌, ℕ, ◌+◌, ◌<◌, ◌^◌, Bool, true, false, ◌&&◌, List, ◌∷◌, ◌++◌, length, Some, None, Result, Ok, Err, refl, sym, ap, ◌∙◌, subst, arith, decimal, inl, inr}
 use Rattle.std.specs.Prelude.{codes}
 use Rattle.std.specs.Bool.{if◌then◌else◌, nat_le}
 use Rattle.std.specs.List.{after_first, before_first, position_or_len}
@@ -16,10 +16,12 @@ use Rattle.metis_ids.specs.declared.events.Event.{Event}
 use Rattle.metis_ids.specs.declared.events.Event.TheVariants.{At, End}
 use Rattle.metis_universe.specs.Names.{is_name}
 use Rattle.metis_universe.specs.Universe.{IsNamed, IsUniverse, Universe, pair_count, pair_named, state_name_of, state_named, type_name_of, type_named, type_of}
-use Rattle.metis_text.specs.DupLine.{at_event, event_in, is_colon, is_point, pair_in, pair_of_names}
+use Rattle.metis_universe.specs.PairWords.{if_names, is_colon, pair_word}
+use Rattle.metis_universe.proofs.NameBytes.{cut_back, name_some}
+use Rattle.metis_text.specs.DupLine.{at_event, event_in, is_point, pair_in, pair_of_names}
 use Rattle.metis_text.specs.Flaws.{both, found, made}
 use Rattle.metis_text.specs.InRange.{IsEventInRange}
-use Rattle.metis_text.specs.PlanText.{event_token, pair_word}
+use Rattle.metis_text.specs.PlanText.{event_token}
 use Rattle.metis_text.specs.Tokens.{number_in}
 use Rattle.metis_text.specs.declared.flaw.Flaw.{Flaw}
 use Rattle.metis_text.specs.declared.flaw.Flaw.TheVariants.{Form}
@@ -31,29 +33,21 @@ use Rattle.metis_text.proofs.Printed.{no_colon_name, no_point_decimal, printed, 
 
 -- ---- two parts of a token
 
--- a token whose second part is not empty is cut at a byte that passes
-cut_back : (p : ℕ → Bool) (c : ℕ) (xs : List ℕ) → ((x : ℕ) → p x ≡ true → x ≡ c) → 0 < length (after_first p xs) → xs ≡ before_first p xs ++ (c ∷ after_first p xs)
-cut_back p c xs only some = elim (cases_lt (position_or_len p xs) (length xs)) [
-  | inl there ↦ split_at_first p xs 0 there ∙ ap (λ x. before_first p xs ++ (x ∷ after_first p xs)) (only (get_or xs (position_or_len p xs) 0) (passes_at_first p xs 0 there))
-  | inr none ↦ let gone = ap length (drop_all (position_or_len p xs + 1) xs (omega arith)) in absurd (omega (arith, gone, some))
-]
-
-name_some : (name : List ℕ) → is_name name ≡ true → 0 < length name
-name_some name h = some (length name) (and_parts _ _ h).0 where
-  some : (n : ℕ) → (nat_le 1 n && nat_le n 64) ≡ true → 0 < n
-  some n h = grind (arith, nat_tests)
-
 number_some : (t : List ℕ) (n : ℕ) → number_in t ≡ Ok n → 0 < length t
 number_some t n h = let number = number_is t n h in subst (λ s. 0 < length s) (sym number.0) (decimal_nonempty n (omega (arith, number.1)))
 
 -- ---- the pair
 
 module _ (u : Universe) where
+  of_names_is : (b : Bool) (kind state : List ℕ) (p : ℕ) → pair_of_names u (if b then Some (kind, state) else None) ≡ Ok p → (b ≡ true) × (found (pair_named u kind state) ≡ Ok p)
+  of_names_is true kind state p h = (refl, h)
+  of_names_is false kind state p h = cc
+
   pub pair_is : (word : List ℕ) (p : ℕ) → pair_in u word ≡ Ok p → (word ≡ pair_word u p) × (p < pair_count u)
   pair_is word p h =
       let kind = before_first is_colon word in
       let state = after_first is_colon word in
-      let form = if_is (is_name kind && is_name state) (found (pair_named u kind state)) Form p h in
+      let form = of_names_is (is_name kind && is_name state) kind state p h in
       let names = and_parts (is_name kind) (is_name state) form.0 in
       let pair = and_then_some (λ t. state_named u t state) (type_named u kind) p (found_is (pair_named u kind state) p form.1) in
       let type = type_is u kind pair.0 pair.1 in
@@ -75,8 +69,8 @@ module _ (u : Universe) where
         let kind_name = names.types (type_of u p) (is.types p low) in
         let no_colon = no_colon_name kind kind_name in
         let pair : pair_named u kind state ≡ Some p = ap (λ o. option_and_then (λ t. state_named u t state) o) (type_at u names (type_of u p) (is.types p low)) ∙ state_at u names (type_of u p) p low refl in
-        (λ i. pair_of_names u (before_cut is_colon kind 58 state no_colon refl i) (after_cut is_colon kind 58 state no_colon refl i))
-        ∙ ap (λ b. if b then found (pair_named u kind state) else Err Form) (and_from _ _ kind_name (names.states p low))
+        (λ i. pair_of_names u (if_names (before_cut is_colon kind 58 state no_colon refl i) (after_cut is_colon kind 58 state no_colon refl i)))
+        ∙ ap (λ b. pair_of_names u (if b then Some (kind, state) else None)) (and_from _ _ kind_name (names.states p low))
         ∙ ap found pair
 
 -- ---- the events

@@ -18,7 +18,8 @@ use Rattle.metis_outside.specs.Pieces.{IsLine}
 use Rattle.metis_universe.specs.Names.{is_name, is_name_byte}
 use Rattle.metis_universe.specs.Universe.{IsNamed, IsTable, Universe, no_kind, no_pair, pair_count, port_count, port_name_of, state_name_of, type_count, type_name_of, type_of}
 use Rattle.metis_text.specs.Line.{line, numbered, words}
-use Rattle.metis_text.specs.PlanText.{action_line, action_lines, action_tokens, after_tokens, counts_line, dup_line, dup_lines, dup_tokens, end_line, event_token, pair_word, plan_body, plan_header, plan_lines, plan_rest}
+use Rattle.metis_text.specs.PlanText.{action_line, action_lines, action_tokens, after_tokens, counts_line, dup_line, dup_lines, dup_tokens, end_line, event_token, plan_body, plan_header, plan_lines, plan_rest}
+use Rattle.metis_universe.specs.PairWords.{pair_word}
 use Rattle.metis_text.specs.RefusalText.{lacks_line, pair_line, pairs_line, refusal_body, refusal_header, refusal_lines, refusal_rest, refusal_set}
 use Rattle.metis_text.proofs.Printed.{all_weaker}
 

@@ -10,7 +10,7 @@ use Rattle.metis_universe.specs.Universe.{IsNamed, IsUniverse, Universe, pair_co
 use Rattle.metis_text.specs.DupLine.{pair_in}
 use Rattle.metis_text.specs.Flaws.{right}
 use Rattle.metis_text.specs.Line.{words}
-use Rattle.metis_text.specs.PlanText.{pair_word}
+use Rattle.metis_universe.specs.PairWords.{pair_word}
 use Rattle.metis_text.specs.RefusalReading.{above, lacks_in, lacks_of_tokens, next_pair_in, pair_of_tokens, size_in, size_of_tokens}
 use Rattle.metis_text.specs.Tokens.{number_in, tokens}
 use Rattle.metis_text.specs.declared.flaw.Flaw.TheVariants.{Form, Number}

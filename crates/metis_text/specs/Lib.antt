@@ -5,6 +5,7 @@ pub mod Flaws
 pub mod InRange
 pub mod Kinds
 pub mod Line
+pub mod MissingLine
 pub mod PlanText
 pub mod Reading
 pub mod Reads

@@ -1,7 +1,7 @@
 -- The text of a plan.
 --     action_tokens u a, after_tokens ks      what stands in an action's line behind its number;  and behind that, for the numbers of its list
 --     action_line u k row      the line of action number k, where the row is the action and its list
---     pair_word u p, event_token e      the names of a pair's type and state, with a colon between them;  an event's token
+--     event_token e      an event's token
 --     dup_line u k d      the line of dup number k
 --     plan_lines u p after      the lines of the whole text, where `after` has a list for each action
 --     plan_bytes u p after      its bytes
@@ -20,6 +20,7 @@ use Rattle.metis_outside.specs.Pieces.{bytes_of}
 use Rattle.metis_text.specs.InRange.{IsPlanInRange}
 use Rattle.metis_text.specs.Line.{line, numbered}
 use Rattle.metis_universe.specs.Numbers.{IsOf}
+use Rattle.metis_universe.specs.PairWords.{pair_word}
 use Rattle.metis_universe.specs.Universe.{Universe, pair_count, type_of, type_name_of, state_name_of, port_name_of}
 use Rattle.metis_universe.specs.Waits.{action_at, before}
 
@@ -37,9 +38,6 @@ after_tokens (k ∷ ks) = codes "after" ∷ map decimal (k ∷ ks)
 
 abbrev pub action_line : Universe → ℕ → (Action × List ℕ) → List ℕ
 action_line u k row = line ((decimal k ∷ action_tokens u row.0) ++ after_tokens row.1)
-
-abbrev pub pair_word : Universe → ℕ → List ℕ
-pair_word u p = type_name_of u (type_of u p) ++ (codes ":" ++ state_name_of u p)
 
 -- the line and the step of what happens, or the end of the plan
 abbrev pub event_token : Event → List ℕ

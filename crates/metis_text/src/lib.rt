@@ -11,6 +11,7 @@ mod flaw;
 mod gather;
 mod laws;
 mod lines;
+mod missing;
 mod plan_text;
 mod put;
 mod read;
@@ -23,13 +24,17 @@ mod tokens;
 mod write;
 
 pub use fault::TFault;
+pub use flaw::Flaw;
 pub use laws::{
     accepted_is_written, accepted_refusal_is_written, plan_has_lines, refusal_has_lines,
     refusal_is_read, well_formed_is_read, written_run_is_read, written_run_is_well_formed,
 };
+pub use missing::write_missing;
 pub use plan_text::PlanText;
+pub use put::put_line;
 pub use read::read_plan;
 pub use refusal_read::read_refusal;
 pub use refusal_text::Refusal;
 pub use refusal_write::write_refusal;
+pub use tokens::{number_in, tokens_of};
 pub use write::write_plan;

@@ -1,16 +1,15 @@
 //! The tokens of a line that is read.
-ghost use Rattle.std.specs.Prelude.{◌≡◌, ◌==◌, IfOk, IsTrue, MatchOption, false, map};
+ghost use Rattle.std.specs.Prelude.{◌≡◌, ◌==◌, IfOk, map};
 ghost use Rattle.std.specs.List.{after_first, before_first};
 ghost use Rattle.metis_text.specs.ActionLine.{due, state_in};
 ghost use Rattle.metis_text.specs.DupLine.{event_in, pair_in};
 ghost use Rattle.metis_text.specs.Tokens.{is_number, named, number_in, starts_number, tokens};
-ghost use Rattle.metis_universe.specs.Names.{is_name};
 ghost use Rattle.metis_universe.specs.Universe.{port_named, type_named};
 
 use crate::bytes::{is, place_of};
 use crate::flaw::{Flaw, both, found};
 use metis_ids::{Event, LineIx, PairIx, PortIx, StepIx, TypeIx};
-use metis_universe::{Universe, is_name};
+use metis_universe::{Universe, name_in, pair_names};
 use std::alloc::{AllocError, Global};
 
 /// The parts of the line between its spaces.
@@ -53,17 +52,6 @@ pub fn due(number: u32, token: &[u8]) -> Result<u32, Flaw>
     match number_in(token) {
         Ok(n) if n != number => Err(Flaw::Number),
         read => read,
-    }
-}
-
-// The token as a name.
-fn name_in<'a>(token: &'a [u8]) -> Option<&'a str>
-    ensures { MatchOption result (is_name token.now ≡ false) (λ name. (name.now ≡ token.now) × IsTrue (is_name token.now)) }
-{
-    match str::from_utf8(token) {
-        Ok(name) if is_name(name) => Some(name),
-        Ok(_) => None,
-        Err(_) => None,
     }
 }
 
@@ -113,10 +101,9 @@ fn cut(token: &[u8], at: u8) -> (&[u8], &[u8])
 pub fn pair_in(u: &Universe, word: &[u8]) -> Result<PairIx, Flaw>
     ensures { result ≡ pair_in u.now word.now }
 {
-    let (kind, state) = cut(word, b':');
-    match (name_in(kind), name_in(state)) {
-        (Some(kind), Some(state)) => found(u.pair_named(kind, state)),
-        _ => Err(Flaw::Form),
+    match pair_names(word) {
+        Some((kind, state)) => found(u.pair_named(kind, state)),
+        None => Err(Flaw::Form),
     }
 }
 

@@ -4,19 +4,19 @@ use Rattle.std.proofs.Common.{◌≡◌, ◌≢◌, ℕ, ◌+◌, Bool, true, fa
 use Rattle.std.specs.Prelude.{codes}
 use Rattle.std.specs.List.{All, list_all}
 use Rattle.std.proofs.lemmas.Bool.{and_from}
-use Rattle.metis_actions.specs.Faults.{fault_text, fault_tokens, pair_name}
+use Rattle.metis_actions.specs.Faults.{fault_text, fault_tokens}
 use Rattle.metis_actions.specs.declared.faults.AFault.{AFault}
 use Rattle.metis_actions.specs.declared.faults.AFault.TheVariants as afault
-use Rattle.metis_outside.proofs.Feeds.{IsLine-append, IsLine-from, no_feed, no_feed-append, no_feed-decimal, no_feed-join_with_byte, one_line}
+use Rattle.metis_outside.proofs.Feeds.{IsLine-append, IsLine-from, no_feed, no_feed-decimal, no_feed-join_with_byte, one_line}
 use Rattle.metis_outside.proofs.Writing.{front_of_all, front_of_kept}
 use Rattle.metis_outside.specs.Pieces.{IsLine}
 use Rattle.metis_refusal.specs.declared.verdict.Verdict2.{Verdict2}
 use Rattle.metis_refusal.specs.declared.verdict.Verdict2.TheVariants.{Closed, NotFree, Open, LacksNone}
 use Rattle.metis_replay.specs.declared.verdict.Verdict.{Verdict}
 use Rattle.metis_replay.specs.declared.verdict.Verdict.TheVariants.{Good, Bad, Missing}
-use Rattle.metis_text.proofs.LineFeeds.{no_feed-pair_word, no_feed-port_name_of, no_feed-state_name_of, no_feed-type_name_of, plan_lines_are_lines, refusal_lines_are_lines}
+use Rattle.metis_text.proofs.LineFeeds.{no_feed-pair_word, no_feed-port_name_of, plan_lines_are_lines, refusal_lines_are_lines}
 use Rattle.metis_text.proofs.NamedFaults.{plan_in_named, refusal_in_named}
-use Rattle.metis_text.specs.PlanText.{pair_word}
+use Rattle.metis_universe.specs.PairWords.{pair_word}
 use Rattle.metis_text.specs.Reading.{Parts, plan_in}
 use Rattle.metis_text.specs.RefusalReading.{RefusalParts, refusal_in}
 use Rattle.metis_text.specs.declared.fault.TFault.{TFault}
@@ -26,7 +26,7 @@ use Rattle.metis_ujson.proofs.OneLine.{IsLine-canonical}
 use Rattle.metis_ujson.specs.Document.{document_limit, universe_in}
 use Rattle.metis_ujson.specs.declared.faults.UFault.{UFault}
 use Rattle.metis_ujson.specs.declared.faults.UFault.TheVariants as ufault
-use Rattle.metis_universe.specs.Universe.{IsNamed, IsTable, Universe, pair_named, state_name_of, type_name_of, type_of}
+use Rattle.metis_universe.specs.Universe.{IsNamed, IsTable, Universe, pair_named}
 use Rattle.metis_universe.specs.declared.faults.LimitKind.{LimitKind}
 use Rattle.metis_universe.specs.declared.faults.LimitKind.TheVariants.{Pairs, Ports, Requires, States}
 use Rattle.metis_top.specs.Answer as answer
@@ -121,13 +121,10 @@ IsLine-read_fault_line place = by_number (codes "read fault ") place refl
 -- ---- the lines of answers
 
 module _ (u : Universe) (named : IsNamed u) where
-  no_feed-pair_name : (p : ℕ) → no_feed (pair_name u p) ≡ true
-  no_feed-pair_name p = no_feed-append (type_name_of u (type_of u p)) (58 ∷ state_name_of u p) (no_feed-type_name_of u named (type_of u p)) (no_feed-state_name_of u named p)
-
   no_feed-fault_tokens : (f : AFault) → list_all no_feed (fault_tokens u f) ≡ true
   no_feed-fault_tokens (afault.InUse z) = and_from _ _ (no_feed-decimal z) refl
   no_feed-fault_tokens (afault.NoInstance z) = and_from _ _ (no_feed-decimal z) refl
-  no_feed-fault_tokens (afault.NoState z p) = and_from _ _ (no_feed-decimal z) (and_from _ _ (no_feed-pair_name p) refl)
+  no_feed-fault_tokens (afault.NoState z p) = and_from _ _ (no_feed-decimal z) (and_from _ _ (no_feed-pair_word u named p) refl)
   no_feed-fault_tokens afault.NoTransition = refl
   no_feed-fault_tokens afault.SameInstance = refl
   no_feed-fault_tokens afault.NoSuchPort = refl

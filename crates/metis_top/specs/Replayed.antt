@@ -7,7 +7,8 @@ use Rattle.metis_ids.specs.declared.actions.Action.{Action}
 use Rattle.metis_replay.specs.Exact.{Tells}
 use Rattle.metis_replay.specs.declared.verdict.Verdict.{Verdict}
 use Rattle.metis_replay.specs.declared.verdict.Verdict.TheVariants.{Good, Bad, Missing}
-use Rattle.metis_text.specs.PlanText.{pair_word}
+use Rattle.metis_text.specs.MissingLine.{missing_line}
+use Rattle.metis_universe.specs.PairWords.{pair_word}
 use Rattle.metis_top.specs.declared.status.Status.{Status}
 use Rattle.metis_top.specs.declared.status.Status.TheVariants.{Done, No}
 use Rattle.metis_universe.specs.Config.{empty}
@@ -20,9 +21,6 @@ good_line standing actions = codes "good standing " ++ (decimal standing ++ (cod
 
 abbrev pub bad_line : ℕ → List ℕ → List ℕ
 bad_line k fault = codes "bad " ++ (decimal k ++ (codes " " ++ (fault ++ codes "\n")))
-
-abbrev pub missing_line : List ℕ → ℕ → ℕ → List ℕ
-missing_line pair have want = codes "missing " ++ (pair ++ (codes " have " ++ (decimal have ++ (codes " want " ++ (decimal want ++ codes "\n")))))
 
 abbrev pub verdict_line : Universe → ℕ → ℕ → Verdict → List ℕ
 verdict_line u standing actions Good = good_line standing actions

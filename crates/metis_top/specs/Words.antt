@@ -3,12 +3,12 @@
 --     file_fits words k      word k of these is a file word, where those before it are file words too
 --     target_fits limit words k      word k of these is a target word, and not past the limit
 --     form_of words      the command that the words are, or the place of the first that does not fit
-use Rattle.std.specs.Prelude.{◌≡◌, ℕ, ◌+◌, nat_lt, List, [], ◌∷◌, length, drop, take, Result, Ok, Err, Option, Some, None, Bool, false, not, ◌&&◌, if◌then◌else◌, codes, slice_get, unwrap_or, ◌==◌}
-use Rattle.std.specs.List.{before_first, after_first, filter_map, find, list_any, range_with_len}
+use Rattle.std.specs.Prelude.{◌≡◌, ℕ, ◌+◌, nat_lt, List, [], ◌∷◌, length, drop, take, Result, Ok, Err, Option, Some, None, Bool, false, not, ◌&&◌, if◌then◌else◌, codes, option_map, slice_get, unwrap_or}
+use Rattle.std.specs.List.{filter_map, find, list_any, range_with_len}
 use Rattle.std.specs.Option.{option_map_or}
 use Rattle.std.specs.Prelude.{is_some}
 use Rattle.std.specs.Str.{bytes_eq}
-use Rattle.metis_universe.specs.Names.{is_name}
+use Rattle.metis_universe.specs.PairWords.{pair_names}
 use Rattle.metis_universe.specs.Texts.{texts}
 use Rattle.metis_universe.specs.Universe.{is_empty}
 use Rattle.metis_top.specs.Forms.{file_count, target_limit}
@@ -30,20 +30,12 @@ pub record Form : Type 0 where
   pub targets : List TargetName
   pub size : ℕ
 
--- a colon
-abbrev pub is_colon : ℕ → Bool
-is_colon byte = byte == 58
+abbrev pub target_name : List ℕ × List ℕ → TargetName
+target_name names = record { kind = names.0; state = names.1 }
 
-abbrev pub target_name : List ℕ → List ℕ → TargetName
-target_name kind state = record { kind = kind; state = state }
-
-abbrev pub target_if_names : List ℕ → List ℕ → Option TargetName
-target_if_names kind state = if is_name kind && is_name state then Some (target_name kind state) else None
-
--- What stands before the first colon is the type's name, and what stands behind it the state's. A word without a colon
--- has nothing behind it, and so no name.
+-- the names of a type and of a state, with a colon between them
 abbrev pub target_of : List ℕ → Option TargetName
-target_of word = target_if_names (before_first is_colon word) (after_first is_colon word)
+target_of word = option_map target_name (pair_names word)
 
 -- standard input
 abbrev pub is_dash : List ℕ → Bool

@@ -5,7 +5,7 @@ ghost use Rattle.metis_universe.specs.Texts.{texts};
 ghost use Rattle.metis_top.specs.Words.{files_in, fits_after, form, form_of, form_with, is_dash, target_of, targets_in, verb_named, ReadsWords};
 
 use crate::words::{Command, TargetWord, Verb, WordFault};
-use metis_universe::is_name;
+use metis_universe::pair_names;
 use std::alloc::{AllocError, Global};
 
 /// The command that the words are, or the place of the first that does not fit. A word that is missing has the place
@@ -128,11 +128,11 @@ fn read_targets(
 fn read_target(alloc: Global, word: &str) -> Result<Option<TargetWord>, AllocError>
     ensures { IfOk result (λ target. target ≡ target_of word.now) }
 {
-    match word.split_once(':') {
-        Some((kind, state)) if is_name(kind) && is_name(state) => Ok(Some(TargetWord {
+    match pair_names(word.as_bytes()) {
+        Some((kind, state)) => Ok(Some(TargetWord {
             kind: String::from_str(alloc, kind)?,
             state: String::from_str(alloc, state)?,
         })),
-        _ => Ok(None),
+        None => Ok(None),
     }
 }

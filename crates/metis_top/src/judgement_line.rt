@@ -2,15 +2,15 @@
 ghost use Rattle.std.specs.Prelude.{◌≡◌, ◌<◌, [], ◌∷◌, ◌++◌, IfOk, codes, string_bytes};
 ghost use Rattle.metis_outside.specs.Faults.{CountsFault};
 ghost use Rattle.metis_outside.specs.Writes.{Writes};
-ghost use Rattle.metis_text.specs.PlanText.{pair_word};
+ghost use Rattle.metis_universe.specs.PairWords.{pair_word};
 ghost use Rattle.metis_universe.specs.Universe.{pair_count};
 ghost use Rattle.metis_refusal.specs.Claims.{NamesPairsOf};
 ghost use Rattle.metis_top.specs.Judged.{judgement_line, open_line, pair_line};
 
-use crate::stop::put_line;
 use metis_ids::PairIx;
 use metis_outside::{Sink, Trouble};
 use metis_refusal::Verdict2;
+use metis_text::put_line;
 use metis_universe::Universe;
 use std::alloc::{AllocError, Global};
 

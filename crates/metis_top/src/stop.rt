@@ -1,7 +1,5 @@
 //! How a run ends before its work.
-ghost use Rattle.std.specs.Prelude.{◌≡◌, [], ◌∷◌, ◌++◌, IfOk, string_bytes};
-ghost use Rattle.metis_outside.specs.Faults.{CountsFault};
-ghost use Rattle.metis_outside.specs.Writes.{Writes};
+ghost use Rattle.std.specs.Prelude.{◌≡◌, IfOk, string_bytes};
 ghost use Rattle.metis_top.specs.Course.{Shown, StopSays, IsJust};
 ghost use Rattle.metis_top.specs.Lines.{plan_fault_line, refusal_fault_line, refusal_line, universe_line, state_line, limit_line, read_fault_line, said, refusal_status};
 
@@ -121,15 +119,6 @@ pub fn said(put: Result<(), Trouble>, status: Status) -> Status
         Err(Trouble::Failed) => Status::WriteFault,
         Err(Trouble::NoMemory) => Status::NoMemory,
     }
-}
-
-/// Puts the bytes as one piece.
-#[tactic(auto, using(metis_outside::proofs::Writing::writes_by_put))]
-pub fn put_line<K: Sink>(line: &[u8], out: &mut K) -> Result<(), Trouble>
-    ensures text { Writes (line.now ∷ []) (K.written out.old) (K.written out.new) result }
-    ensures cause { CountsFault (K.faults out.old) (K.faults out.new) result }
-{
-    out.put(line)
 }
 
 /// Puts a line by one put, and ends with its status.

@@ -1,19 +1,16 @@
 //! Writes the line of a verdict.
-ghost use Rattle.std.specs.Prelude.{◌≡◌, ◌<◌, [], ◌∷◌, ◌++◌, Some, option_map, IfOk, codes, string_bytes};
+ghost use Rattle.std.specs.Prelude.{◌≡◌, [], ◌∷◌, Some, option_map, IfOk, string_bytes};
 ghost use Rattle.metis_outside.specs.Faults.{CountsFault};
 ghost use Rattle.metis_outside.specs.Pieces.{bytes_of};
 ghost use Rattle.metis_outside.specs.Writes.{Writes};
 ghost use Rattle.metis_actions.specs.Faults.{IsFaultOf, fault_text};
 ghost use Rattle.metis_replay.specs.Progress.{IsVerdictOf};
-ghost use Rattle.metis_text.specs.PlanText.{pair_word};
-ghost use Rattle.metis_universe.specs.Universe.{pair_count};
-ghost use Rattle.metis_top.specs.Replayed.{bad_line, good_line, missing_line, verdict_line};
+ghost use Rattle.metis_top.specs.Replayed.{bad_line, good_line, verdict_line};
 
-use crate::stop::put_line;
 use metis_actions::{AFault, write_fault};
-use metis_ids::PairIx;
 use metis_outside::{CalmSink, Sink, Trouble};
 use metis_replay::Verdict;
+use metis_text::{put_line, write_missing};
 use metis_universe::Universe;
 use std::alloc::{AllocError, Global};
 
@@ -55,36 +52,6 @@ fn good_line(alloc: Global, standing: u64, actions: usize) -> Result<String, All
     ensures { IfOk result (λ line. string_bytes line ≡ good_line standing actions) }
 {
     format!(in alloc; "good standing {standing} actions {actions}\n")
-}
-
-#[tactic(auto, using(metis_outside::proofs::Writing::front_of_nothing))]
-fn write_missing<K: Sink>(
-    alloc: Global,
-    u: &Universe,
-    pair: PairIx,
-    have: u64,
-    want: u64,
-    out: &mut K,
-) -> Result<(), Trouble>
-    requires { pair < pair_count u.now }
-    ensures text { Writes (missing_line (pair_word u.now pair) have want ∷ []) (K.written out.old) (K.written out.new) result }
-    ensures cause { CountsFault (K.faults out.old) (K.faults out.new) result }
-{
-    let (kind, state) = (u.type_name(u.type_of(pair)), u.state_name(pair));
-    let line = missing_line(alloc, kind, state, have, want)?;
-    put_line(line.as_bytes(), out)
-}
-
-fn missing_line(
-    alloc: Global,
-    kind: &str,
-    state: &str,
-    have: u64,
-    want: u64,
-) -> Result<String, AllocError>
-    ensures { IfOk result (λ line. string_bytes line ≡ missing_line (kind.now ++ (codes ":" ++ state.now)) have want) }
-{
-    format!(in alloc; "missing {kind}:{state} have {have} want {want}\n")
 }
 
 #[tactic(auto, using(metis_outside::proofs::Writing::front_of_nothing))]

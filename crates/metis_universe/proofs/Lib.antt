@@ -15,6 +15,7 @@ pub mod FromRows
 pub mod Initials
 pub mod Inside
 pub mod Kept
+pub mod NameBytes
 pub mod Named
 pub mod OfType
 pub mod Places

@@ -1,5 +1,5 @@
 -- What plans are made of, on small universes: waits, kept orders, layers, providers, and what is left at the end.
-use Rattle.std.proofs.Common.{zero, suc, ◌||◌, Bool, cond, ◌≡◌, ℕ, List, [], ◌∷◌, map, Some, None, true, false, nat_eq, refl, subst, inl, inr, arith}
+use Rattle.std.proofs.Common.{zero, suc, ◌||◌, Bool, cond, ◌≡◌, ℕ, List, [], ◌∷◌, map, Some, None, true, false, nat_eq, refl, ap, subst, take, inl, inr, arith}
 use Rattle.std.specs.Prelude.{slice_get, IsSome, IsSomeAnd, IsTrue}
 use Rattle.std.proofs.lemmas.Bool.{false≢true, cases_lt, ne_eqb, true≢false}
 use Rattle.metis_ids.specs.declared.actions.Action.{Action}
@@ -7,11 +7,11 @@ use Rattle.metis_ids.specs.declared.actions.Action.TheVariants.{New, Delete, Bin
 use Rattle.metis_universe.specs.Universe.{Universe, Kind, Pair, all_pairs, requires}
 use Rattle.metis_universe.specs.Config.{Binding, empty, pair_of, is_bound, is_tie}
 use Rattle.metis_universe.specs.Step.{after_all}
-use Rattle.metis_universe.specs.Waits.{IsKept, picked, waits, numbers}
+use Rattle.metis_universe.specs.Waits.{IsKept, is_complete, picked, waits, numbers}
 use Rattle.metis_universe.specs.Steadfast.{is_steadfast, is_steadfast_at}
 use Rattle.metis_universe.specs.Layers.{layer_of}
 use Rattle.metis_universe.specs.Selection.{provider_of, origin_of, selected, provider_pairs}
-use Rattle.metis_universe.specs.Tidy.{IsTidy, IsReached, target}
+use Rattle.metis_universe.specs.Tidy.{IsTidy, IsReached, target, provider}
 use Rattle.metis_universe.proofs.Edits.{tie_is}
 
 abbrev pub pair : ℕ → List ℕ → List ℕ → List ℕ → Pair
@@ -122,6 +122,10 @@ stand_in_first_ends = refl
 too_early_kept : IsKept in_turn (1 ∷ 2 ∷ 5 ∷ []) → ⊥
 too_early_kept h = false≢true h.3.3.2
 
+or_none : (b : Bool) → (b || false) ≡ true → b ≡ true
+or_none true h = refl
+or_none false h = h
+
 -- a plan's end with its two targets and a binding that is required is tidy
 session_tidy : IsTidy web (1 ∷ 3 ∷ []) (after_all web empty session)
 session_tidy = record { targets = targets; instances = instances; bindings = bindings } where
@@ -142,8 +146,36 @@ session_tidy = record { targets = targets; instances = instances; bindings = bin
 
   bindings : (r z y : ℕ) → IsTrue (is_bound (after_all web empty session) r z y) → IsSomeAnd (pair_of (after_all web empty session) z) (λ p. IsTrue (requires web p r))
   bindings r z y h =
-      let is = tie_is r z y (0, 1, 0) (sure (is_tie r z y (0, 1, 0)) h) in
-      subst (λ (b : Binding). IsSomeAnd (pair_of (after_all web empty session) b.1) (λ p. IsTrue (requires web p b.0))) is refl where
-        sure : (b : Bool) → (b || false) ≡ true → b ≡ true
-        sure true h = refl
-        sure false h = h
+      let is = tie_is r z y (0, 1, 0) (or_none (is_tie r z y (0, 1, 0)) h) in
+      subst (λ (b : Binding). IsSomeAnd (pair_of (after_all web empty session) b.1) (λ p. IsTrue (requires web p b.0))) is refl
+
+-- an instance that is no target, and to which no binding leads, is not left at a tidy end
+abbrev orphan : List Action
+orphan = New 0 0 ∷ New 1 1 ∷ Bind 0 1 0 ∷ Move 0 0 1 ∷ Move 1 2 3 ∷ New 2 0 ∷ []
+
+orphan_lost : (y : ℕ) → y ≡ 2 → IsReached (after_all web empty orphan) 2 y → ⊥
+orphan_lost y is (target z low) = absurd (omega (arith, is, low))
+orphan_lost y is (provider r z x from bound) =
+    let tied = tie_is r z y (0, 1, 0) (or_none (is_tie r z y (0, 1, 0)) bound) in
+    let none : 0 ≡ y = ap (λ (b : Binding). b.2) tied in
+    omega (arith, is, none)
+
+orphan_untidy : IsTidy web (1 ∷ 3 ∷ []) (after_all web empty orphan) → ⊥
+orphan_untidy tidy = orphan_lost 2 refl (tidy.instances 2 refl)
+
+-- nor is a binding whose port the requirer's pair does not require
+idle_untidy : IsTidy web (0 ∷ 2 ∷ []) (after_all web empty (New 0 0 ∷ New 1 1 ∷ Bind 0 1 0 ∷ [])) → ⊥
+idle_untidy tidy = false≢true (tidy.bindings 0 1 0 refl)
+
+-- an order that leaves a number out may keep the waits, and is not complete
+front_kept : IsKept in_turn (9 ∷ 1 ∷ 10 ∷ [])
+front_kept = (refl, refl, refl, (refl, refl, refl, (refl, refl, refl, tt)))
+
+front_incomplete : is_complete in_turn (9 ∷ 1 ∷ 10 ∷ []) ≡ false
+front_incomplete = refl
+
+stand_in_first_complete : is_complete in_turn stand_in_first ≡ true
+stand_in_first_complete = refl
+
+last_left_out : is_complete in_turn (take 14 stand_in_first) ≡ false
+last_left_out = refl

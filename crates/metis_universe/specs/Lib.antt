@@ -5,6 +5,7 @@ pub mod Kinds
 pub mod Layers
 pub mod Names
 pub mod Numbers
+pub mod PairWords
 pub mod Providers
 pub mod RowFaults
 pub mod RowShapes

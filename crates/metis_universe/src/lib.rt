@@ -15,6 +15,6 @@ pub use laws::{
     pair_is_of_the_last_action, provider_comes_first, refused_is_not_attained, runs_stay_inside,
     selection_is_least, standing_is_made_and_not_ended,
 };
-pub use names::is_name;
+pub use names::{is_name, name_in, pair_names};
 pub use rows::{StateRow, TypeRow, rows_fit};
 pub use universe::Universe;

@@ -1,8 +1,8 @@
 //! Names of types, states and ports.
-ghost use Rattle.std.specs.Prelude.{◌≡◌};
-ghost use Rattle.std.specs.Prelude.{length};
+ghost use Rattle.std.specs.Prelude.{◌≡◌, IsTrue, MatchOption, false, length, option_map};
 ghost use Rattle.std.specs.List.{list_all};
 ghost use Rattle.metis_universe.specs.Names.{is_name, is_name_byte, is_between};
+ghost use Rattle.metis_universe.specs.PairWords.{pair_names};
 
 /// The most bytes of a name.
 const LONGEST: usize = 64;
@@ -31,4 +31,34 @@ fn is_name_byte(byte: u8) -> bool
     ensures { result ≡ is_name_byte byte }
 {
     matches!(byte, b'a'..=b'z' | b'A'..=b'Z' | b'0'..=b'9' | b'_' | b'-' | b'.' | b'/' | b'@')
+}
+
+/// The bytes as a name, if they are one.
+pub fn name_in(bytes: &[u8]) -> Option<&str>
+    ensures { MatchOption result (is_name bytes.now ≡ false) (λ name. (name.now ≡ bytes.now) × IsTrue (is_name bytes.now)) }
+{
+    match str::from_utf8(bytes) {
+        Ok(name) if is_name(name) => Some(name),
+        Ok(_) => None,
+        Err(_) => None,
+    }
+}
+
+/// The names of a type and of a state, if the word is these two with a colon between them.
+pub fn pair_names(word: &[u8]) -> Option<(&str, &str)>
+    ensures { option_map (λ names. (names.0.now, names.1.now)) result ≡ pair_names word.now }
+{
+    match str::from_utf8(word) {
+        Ok(word) => names_in(word),
+        Err(_) => None,
+    }
+}
+
+fn names_in(word: &str) -> Option<(&str, &str)>
+    ensures { option_map (λ names. (names.0.now, names.1.now)) result ≡ pair_names word.now }
+{
+    match word.split_once(':') {
+        Some((kind, state)) if is_name(kind) && is_name(state) => Some((kind, state)),
+        _ => None,
+    }
 }

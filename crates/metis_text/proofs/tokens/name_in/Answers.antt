@@ -1,5 +1,0 @@
-use Rattle.metis_text.proofs.Ascii.{no_name}
-use Rattle.metis_text.proofs.tokens.name_in.Goals as goal
-
-pub returns-in-Err : goal.returns-in-Err
-returns-in-Err c = no_name c.args.token.now c.in-Err.ensures.cases.0
