@@ -21,12 +21,9 @@ use Rattle.std.specs.List.{list_any, filter, slice_index_or, range_with_len, All
 use Rattle.std.specs.List.Sorted.{IsNonDecreasingBy, IsStrictlyIncreasing}
 use Rattle.std.specs.Option.{option_and_then}
 use Rattle.std.specs.Str.{bytes_eq}
+pub use Rattle.metis_ids.specs.Lists.{has}
 use Rattle.metis_universe.specs.Names.{is_name}
 use Rattle.metis_universe.specs.Sights.{first_sights}
-
--- whether n is in the list
-abbrev pub has : List ℕ → ℕ → Bool
-has xs n = list_any (λ x. x == n) xs
 
 -- whether the list has no element
 abbrev pub is_empty : List ℕ → Bool
