@@ -10,7 +10,7 @@ use Rattle.std.proofs.lemmas.Slice.Eq.{bytes_eq-Decides}
 use Rattle.metis_universe.specs.Rows.{ascending}
 use Rattle.metis_universe.proofs.FirstFault.{position-cons}
 use Rattle.metis_universe.proofs.FirstSights.{each_append}
-use Rattle.metis_universe.proofs.ProviderRows.{Rises, rises}
+use Rattle.metis_universe.proofs.PortRows.{Rises, rises}
 
 -- ---- names
 

@@ -20,7 +20,7 @@ pub mod Named
 pub mod OfType
 pub mod Places
 pub mod PlanExamples
-pub mod ProviderRows
+pub mod PortRows
 pub mod Ranges
 pub mod Rounds
 pub mod RowTables

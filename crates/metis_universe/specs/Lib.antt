@@ -6,7 +6,7 @@ pub mod Layers
 pub mod Names
 pub mod Numbers
 pub mod PairWords
-pub mod Providers
+pub mod PortRows
 pub mod RowFaults
 pub mod RowShapes
 pub mod Rows

@@ -10,12 +10,12 @@
 --     type_count, pair_count, port_count, type_name_of, port_name_of, all_pairs u      how many there are;  names;  the numbers of the pairs
 --     state_place_of u p      the place of the pair's state among those of its type
 --     type_named, port_named, state_named, pair_named      the type, the port, the pair of a type, and the pair of these names
---     providers_of u r      the pairs that provide the port, ascending
+--     providers_of u r, requirers_of u r      the pairs that provide the port, ascending;  those that require it
 --     port_names_of_pair u p      the names of the ports of a row of u.pairs, those that it provides and then those that it requires
 --     IsBySight u      the ports are numbered by first sight: they stand in the order in which they are first seen, pair after pair
 --     IsUniverse u      what holds of the numbers of every universe that a document gives
 --     IsNamed u, IsWithinLimits u, IsTable u      what holds of its names;  of its counts;  all of these, and that its ports are by sight
---     IsIndexed u rows, IsIndexedTable u rows      the rows are the providers of each port;  that, and all that IsTable says
+--     IsIndexed u providers requirers, IsIndexedTable u providers requirers      the rows are the providers and the requirers of each port;  that, and all that IsTable says
 use Rattle.std.specs.Prelude.{ℕ, ◌≡◌, ◌≤◌, ◌<◌, ◌==◌, Bool, true, false, ◌&&◌, Option, List, [], ◌∷◌, ◌++◌, length, map, flat_map, take, position, sum_by, IsTrue}
 use Rattle.std.specs.List.{list_any, filter, slice_index_or, range_with_len, All}
 use Rattle.std.specs.List.Sorted.{IsNonDecreasingBy, IsStrictlyIncreasing}
@@ -134,6 +134,10 @@ port_named u name = position (λ each. bytes_eq name each) u.ports
 abbrev pub providers_of : Universe → ℕ → List ℕ
 providers_of u r = filter (λ p. provides u p r) (all_pairs u)
 
+-- the pairs that require the port, ascending
+abbrev pub requirers_of : Universe → ℕ → List ℕ
+requirers_of u r = filter (λ p. requires u p r) (all_pairs u)
+
 abbrev pub universe_of : List Kind → List Pair → List (List ℕ) → Universe
 universe_of kinds pairs ports = record { kinds = kinds; pairs = pairs; ports = ports }
 
@@ -182,15 +186,17 @@ pub record IsTable (u : Universe) : Type 0 where
   pub limits : IsWithinLimits u
   pub sights : IsBySight u
 
--- the rows hold, port by port, the pairs that provide it
-pub record IsIndexed (u : Universe) (providers : List (List ℕ)) : Type 0 where
-  pub rows : length providers ≡ port_count u
-  pub each : (r : ℕ) → r < port_count u → slice_index_or providers r [] ≡ providers_of u r
+-- the rows hold, port by port, the pairs that provide it, and those that require it
+pub record IsIndexed (u : Universe) (providers requirers : List (List ℕ)) : Type 0 where
+  pub provided_rows : length providers ≡ port_count u
+  pub provided : (r : ℕ) → r < port_count u → slice_index_or providers r [] ≡ providers_of u r
+  pub required_rows : length requirers ≡ port_count u
+  pub required : (r : ℕ) → r < port_count u → slice_index_or requirers r [] ≡ requirers_of u r
 
 -- and with these rows
-pub record IsIndexedTable (u : Universe) (providers : List (List ℕ)) : Type 0 where
+pub record IsIndexedTable (u : Universe) (providers requirers : List (List ℕ)) : Type 0 where
   pub universe : IsUniverse u
   pub named : IsNamed u
   pub limits : IsWithinLimits u
   pub sights : IsBySight u
-  pub indexed : IsIndexed u providers
+  pub indexed : IsIndexed u providers requirers

@@ -5,6 +5,7 @@ mod check;
 mod faults;
 mod laws;
 mod names;
+mod reading;
 mod rows;
 mod sights;
 mod universe;
@@ -16,5 +17,6 @@ pub use laws::{
     selection_is_least, standing_is_made_and_not_ended,
 };
 pub use names::{is_name, name_in, pair_names};
+pub use reading::Reading;
 pub use rows::{StateRow, TypeRow, rows_fit};
 pub use universe::Universe;

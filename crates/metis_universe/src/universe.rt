@@ -4,7 +4,7 @@ ghost use Rattle.std.specs.List.{All, filter, list_any, slice_index_or};
 ghost use Rattle.metis_universe.specs.Kinds.{kinds_of};
 ghost use Rattle.std.specs.List.Sorted.{IsStrictlyIncreasing, IsNonDecreasingBy};
 ghost use Rattle.std.specs.Str.{bytes_eq};
-ghost use Rattle.metis_universe.specs.Universe.{has, no_kind, pair_count, type_count, port_count, type_of, state_place_of, initial_of, is_initial, next_of, provided_of, required_of, provides, type_requires, type_provides, providers_of, type_named, port_named, state_named, pair_named, type_name_of, state_name_of, port_name_of, states_of_type, IsTable};
+ghost use Rattle.metis_universe.specs.Universe.{has, no_kind, pair_count, type_count, port_count, type_of, state_place_of, initial_of, is_initial, next_of, provided_of, required_of, provides, type_requires, type_provides, providers_of, requirers_of, type_named, port_named, state_named, pair_named, type_name_of, state_name_of, port_name_of, states_of_type, IsTable};
 ghost use Rattle.metis_universe.specs.Numbers.{IsOf};
 ghost use Rattle.metis_universe.specs.Rows.{RowsFit, IsMade};
 
@@ -38,7 +38,7 @@ impl Model for PairRow {
     ghost view = { λ a. record { kind = a.kind; state = string_bytes a.state; provided = a.provided.items; required = a.required.items; next = a.next.items } };
 }
 
-/// The pairs that provide a port, ascending.
+/// The pairs that provide a port, or those that require it, ascending.
 #[derive(Drop)]
 struct PortRow {
     pairs: Vec<PairIx>,
@@ -61,6 +61,8 @@ pub struct Universe {
     ports: IndexSet<String>,
     /// Who provides each port.
     providers: Vec<PortRow>,
+    /// Who requires each port.
+    requirers: Vec<PortRow>,
 }
 
 impl Model for Universe {
@@ -72,7 +74,7 @@ impl Model for Universe {
 
     ghost view = { λ a. tables.universe_of (kinds_of a.kinds.entries) a.pairs.items (texts a.ports.keys) };
 
-    ghost invariant = { λ a. tables.IsIndexedTable (tables.universe_of (kinds_of a.kinds.entries) a.pairs.items (texts a.ports.keys)) a.providers.items };
+    ghost invariant = { λ a. tables.IsIndexedTable (tables.universe_of (kinds_of a.kinds.entries) a.pairs.items (texts a.ports.keys)) a.providers.items a.requirers.items };
 }
 
 impl Universe {
@@ -204,6 +206,15 @@ impl Universe {
         ensures { result.now ≡ providers_of self.now r }
     {
         let row = &self.providers[r.0 as usize];
+        row.pairs.as_slice()
+    }
+
+    /// All pairs that require the port, ascending.
+    pub fn requirers(&self, r: PortIx) -> &[PairIx]
+        requires { r < port_count self.now }
+        ensures { result.now ≡ requirers_of self.now r }
+    {
+        let row = &self.requirers[r.0 as usize];
         row.pairs.as_slice()
     }
 

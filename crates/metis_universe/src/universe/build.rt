@@ -1,7 +1,7 @@
 //! The tables of rows that have no fault.
 ghost use Rattle.std.specs.Prelude.{◌≡◌, ◌+◌, ◌<◌, ◌^◌, ◌++◌, ◌∷◌, [], false, length, map, replicate, None, IfOk, OnOk};
 ghost use Rattle.std.specs.List.{list_any, All};
-ghost use Rattle.metis_universe.specs.Providers.{with_provider, provider_rows};
+ghost use Rattle.metis_universe.specs.PortRows.{with_pair, port_rows};
 ghost use Rattle.std.specs.Str.{bytes_eq};
 ghost use Rattle.std.specs.String.{string_bytes};
 ghost use Rattle.indexmap.specs.IndexSet.{index_set_len};
@@ -143,9 +143,9 @@ fn add_to_row(row: &mut PortRow, p: PairIx) -> Result<(), AllocError>
 }
 
 /// Adds the pair to the rows of these ports.
-fn add_provider(rows: &mut Vec<PortRow>, p: PairIx, ports: &[PortIx]) -> Result<(), AllocError>
+fn add_to_rows(rows: &mut Vec<PortRow>, p: PairIx, ports: &[PortIx]) -> Result<(), AllocError>
     requires { All (λ r. r < length rows.old.items) ports.now }
-    ensures { OnOk result (rows.new.items ≡ with_provider p rows.old.items ports.now) }
+    ensures { OnOk result (rows.new.items ≡ with_pair p rows.old.items ports.now) }
 {
     for r in ports {
         add_to_row(&mut rows[r.0 as usize], p)?;
@@ -153,17 +153,25 @@ fn add_provider(rows: &mut Vec<PortRow>, p: PairIx, ports: &[PortIx]) -> Result<
     Ok(())
 }
 
-/// The providers of each of so many ports.
-fn provider_rows(alloc: Global, pairs: &[PairRow], count: usize) -> Result<Vec<PortRow>, AllocError>
-    requires within { All (λ pair. All (λ r. r < count) pair.provided) pairs.now }
+/// The providers of each of so many ports, and its requirers.
+fn index_rows(
+    alloc: Global,
+    pairs: &[PairRow],
+    count: usize,
+) -> Result<(Vec<PortRow>, Vec<PortRow>), AllocError>
+    requires provided { All (λ pair. All (λ r. r < count) pair.provided) pairs.now }
+    requires required { All (λ pair. All (λ r. r < count) pair.required) pairs.now }
     requires few { length pairs.now < 2 ^ 32 }
-    ensures { IfOk result (λ rows. rows.items ≡ provider_rows count pairs.now) }
+    ensures providers { IfOk result (λ rows. rows.0.items ≡ port_rows (λ x. x.provided) count pairs.now) }
+    ensures requirers { IfOk result (λ rows. rows.1.items ≡ port_rows (λ x. x.required) count pairs.now) }
 {
-    let mut rows = empty_rows(alloc, count)?;
+    let mut providers = empty_rows(alloc, count)?;
+    let mut requirers = empty_rows(alloc, count)?;
     for (p, pair) in pairs.iter().enumerate() {
-        add_provider(&mut rows, PairIx(p as u32), &pair.provided)?;
+        add_to_rows(&mut providers, PairIx(p as u32), &pair.provided)?;
+        add_to_rows(&mut requirers, PairIx(p as u32), &pair.required)?;
     }
-    Ok(rows)
+    Ok((providers, requirers))
 }
 
 /// The universe of rows that have no fault, with their ports.
@@ -184,11 +192,12 @@ pub fn tables(
         add_kind(&mut kinds, row.name.clone()?, initial)?;
         add_pairs(alloc, &mut pairs, &ports, TypeIx(t as u32), row)?;
     }
-    let providers = provider_rows(alloc, &pairs, ports.len())?;
+    let (providers, requirers) = index_rows(alloc, &pairs, ports.len())?;
     Ok(Universe {
         kinds,
         pairs,
         ports,
         providers,
+        requirers,
     })
 }

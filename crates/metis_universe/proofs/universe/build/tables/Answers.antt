@@ -2,8 +2,8 @@ use Rattle.std.proofs.Common.{◌≤◌, ◌<◌, List, length, ◌≡◌, ◌+�
 use Rattle.std.specs.List.{All}
 use Rattle.std.proofs.lemmas.List.{take_all, length-map}
 use Rattle.metis_universe.specs.Universe.{Pair, port_count, universe_of, IsTable, IsIndexed}
-use Rattle.metis_universe.specs.Providers.{provider_rows}
-use Rattle.metis_universe.proofs.ProviderRows.{IsIndexed-provider_rows, ports_within}
+use Rattle.metis_universe.specs.PortRows.{port_rows}
+use Rattle.metis_universe.proofs.PortRows.{IsIndexed-port_rows, provided_within, required_within}
 use Rattle.metis_universe.specs.Kinds.{kind_of, kinds_of}
 use Rattle.metis_universe.specs.RowShapes.{TypeRow}
 use Rattle.metis_universe.specs.Rows.{earlier_type, state_number, pairs_of_type, pairs_from, kind_from, kinds_from}
@@ -70,8 +70,8 @@ loop-t-preserved c =
           ∙ ap (λ (r : TypeRow). pairs_from ports 0 0 (take t rows) ++ pairs_of_type ports t (first_of rows t) r) c.index-rows-t.is ∙ sym (pairs_more rows t row c.loop-t-test.true ports);
     }
 
-pub provider_rows-requires-clause-within : goal.provider_rows-requires-clause-within
-provider_rows-requires-clause-within c =
+pub index_rows-requires-clause-provided : goal.index_rows-requires-clause-provided
+index_rows-requires-clause-provided c =
     let rows = c.args.rows.now in
     let all = take_all c.loop-t.t rows c.loop-t-test.false in
     let kinds = c.loop-t.invariant.kinds ∙ ap (kinds_from 0) all in
@@ -80,10 +80,22 @@ provider_rows-requires-clause-within c =
     let table : IsTable u = subst IsTable (sym (λ j. universe_of (kinds j) (pairs j) (c.requires.ports j))) (IsTable-universe_from rows c.requires.sound) in
     let count : c.len.result ≡ port_count u = c.len.ensures.len ∙ sym (length-map c.args.ports.keys (λ t. string_bytes t)) in
     subst (λ n. All (λ (x : Pair). All (λ r. r < n) x.provided) c.deref.result.now) (sym count)
-    (subst (λ (ps : List Pair). All (λ (x : Pair). All (λ r. r < port_count u) x.provided) ps) (sym c.deref.ensures.value) (ports_within u table.universe))
+    (subst (λ (ps : List Pair). All (λ (x : Pair). All (λ r. r < port_count u) x.provided) ps) (sym c.deref.ensures.value) (provided_within u table.universe))
 
-pub provider_rows-requires-clause-few : goal.provider_rows-requires-clause-few
-provider_rows-requires-clause-few c =
+pub index_rows-requires-clause-required : goal.index_rows-requires-clause-required
+index_rows-requires-clause-required c =
+    let rows = c.args.rows.now in
+    let all = take_all c.loop-t.t rows c.loop-t-test.false in
+    let kinds = c.loop-t.invariant.kinds ∙ ap (kinds_from 0) all in
+    let pairs = c.loop-t.invariant.pairs ∙ (λ j. pairs_from (c.requires.ports j) 0 0 (all j)) in
+    let u = universe_of (kinds_of c.loop-t.kinds.entries) c.loop-t.pairs.items (texts c.args.ports.keys) in
+    let table : IsTable u = subst IsTable (sym (λ j. universe_of (kinds j) (pairs j) (c.requires.ports j))) (IsTable-universe_from rows c.requires.sound) in
+    let count : c.len.result ≡ port_count u = c.len.ensures.len ∙ sym (length-map c.args.ports.keys (λ t. string_bytes t)) in
+    subst (λ n. All (λ (x : Pair). All (λ r. r < n) x.required) c.deref.result.now) (sym count)
+    (subst (λ (ps : List Pair). All (λ (x : Pair). All (λ r. r < port_count u) x.required) ps) (sym c.deref.ensures.value) (required_within u table.universe))
+
+pub index_rows-requires-clause-few : goal.index_rows-requires-clause-few
+index_rows-requires-clause-few c =
     let rows = c.args.rows.now in
     let all = take_all c.loop-t.t rows c.loop-t-test.false in
     let kinds = c.loop-t.invariant.kinds ∙ ap (kinds_from 0) all in
@@ -103,10 +115,12 @@ invariant_of-result c =
     let u = universe_of (kinds_of c.loop-t.kinds.entries) c.loop-t.pairs.items (texts c.args.ports.keys) in
     let table : IsTable u = subst IsTable (sym (λ j. universe_of (kinds j) (pairs j) (c.requires.ports j))) (IsTable-universe_from rows c.requires.sound) in
     let count : c.len.result ≡ port_count u = c.len.ensures.len ∙ sym (length-map c.args.ports.keys (λ t. string_bytes t)) in
+    let providers = c.in_ok-index_rows.ensures.providers ∙ (λ j. port_rows (λ x. x.provided) (count j) (c.deref.ensures.value j)) in
+    let requirers = c.in_ok-index_rows.ensures.requirers ∙ (λ j. port_rows (λ x. x.required) (count j) (c.deref.ensures.value j)) in
     record {
       universe = table.universe;
       named = table.named;
       limits = table.limits;
       sights = table.sights;
-      indexed = subst (IsIndexed u) (sym (c.in_ok-providers.ensures ∙ (λ j. provider_rows (count j) (c.deref.ensures.value j)))) (IsIndexed-provider_rows u table.universe);
+      indexed = subst (λ rows. IsIndexed u rows.0 rows.1) (sym (λ j. (providers j, requirers j))) (IsIndexed-port_rows u table.universe);
     }
