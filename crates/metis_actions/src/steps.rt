@@ -30,8 +30,8 @@ pub fn apply(u: &Universe, c: &mut Config, a: &Action) -> Result<(), AFault>
     // A fault's numbers are the universe's.
     ensures fault { IfErr result (λ f. f ≢ AFault.NoMemory → IsFaultOf u.now f) }
 {
-    let _pairs = u.pairs();
-    let _count = c.count();
+    u.keeps_invariant();
+    c.keeps_invariant();
     act(u, c, a)
 }
 

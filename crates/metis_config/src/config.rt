@@ -97,10 +97,16 @@ impl Config {
         }
     }
 
+    /// It does nothing: what every configuration keeps.
+    pub fn keeps_invariant(&self)
+        ensures { IsConfig self.now }
+    {
+        let _parts = &self.instances;
+    }
+
     /// How many instances there are.
     pub fn count(&self) -> u64
-        ensures count { result ≡ length self.now.instances }
-        ensures config { IsConfig self.now }
+        ensures { result ≡ length self.now.instances }
     {
         self.instances.len() as u64
     }
@@ -132,8 +138,8 @@ impl Config {
         requires { IsOver u.now self.now }
         ensures { IsTrue result ↔ Correct u.now self.now }
     {
-        let _parts = &self.instances;
-        let _pairs = u.pairs();
+        self.keeps_invariant();
+        u.keeps_invariant();
         self.unmet(u).is_none()
     }
 
@@ -144,7 +150,7 @@ impl Config {
         ensures least { IsLeast (is_unmet u.now self.now) result }
         ensures correct { IsNone result ↔ Correct u.now self.now }
     {
-        let _pairs = u.pairs();
+        u.keeps_invariant();
         met::first_unmet(u, &self.instances, &self.bindings, &self.crowds)
     }
 
@@ -156,7 +162,7 @@ impl Config {
         requires to { (q : ℕ) → to ≡ Some q → q < pair_count u.now }
         ensures { result ≡ unmet u.now (changed self.now z to) }
     {
-        let _pairs = u.pairs();
+        u.keeps_invariant();
         let own = met::unmet_own(u, &self.instances, &self.bindings, &self.crowds, z, &to);
         let lost = met::first_lost(
             u,
@@ -182,7 +188,7 @@ impl Config {
         requires correct { Correct u.now self.now }
         ensures { result ≡ unmet u.now (untie self.now r z y) }
     {
-        let _pairs = u.pairs();
+        u.keeps_invariant();
         if met::loses_tie(u, &self.instances, &self.bindings, &self.crowds, r, z, y) {
             Some((z, r))
         } else {

@@ -97,7 +97,7 @@ fn origin(u: &Universe, layers: &Layers, pair: PairIx) -> Option<PairIx>
     requires within { pair < pair_count u.now }
     ensures { result ≡ find (leads_to u.now pair) (all_pairs u.now) }
 {
-    let _pairs = u.pairs();
+    u.keeps_invariant();
     let first = pair.0 - u.state_of(pair).0;
     for number in first..first + u.states(u.type_of(pair)) {
         let earlier = PairIx(number);

@@ -27,8 +27,8 @@ pub fn check_closed(u: &Universe, set: &PairSet, targets: &[PairIx]) -> Verdict2
     ensures unattained { (p : ℕ) → result ≡ Verdict2.Closed p → Attains u.now targets.now → ⊥ }
     ensures pairs { NamesPairsOf u.now result }
 {
-    let _pairs = u.pairs();
-    let _size = set.size();
+    u.keeps_invariant();
+    set.keeps_invariant();
     judged(u, set, targets)
 }
 
@@ -103,7 +103,7 @@ fn way_out(
     requires supplied { AreSupplied u.now set.now.members supplied.now }
     ensures { result ≡ way_out u.now set.now.members from }
 {
-    let _pairs = u.pairs();
+    u.keeps_invariant();
     for to in u.next(from) {
         if is_way(set, supplied, *to) {
             return Some(*to);

@@ -31,7 +31,7 @@ fn provided_by(u: &Universe, set: &PairSet) -> [bool; PORT_LIMIT]
     requires { set.now.size ≡ pair_count u.now }
     ensures { AreProvided u.now set.now.members result }
 {
-    let _pairs = u.pairs();
+    u.keeps_invariant();
     let mut provided = [false; PORT_LIMIT];
     for pair in set.iter() {
         set_all(&mut provided, u.provided(pair));

@@ -66,7 +66,7 @@ impl<'a> Session<'a> {
         ensures refused { (f : AFault) → result ≡ Reply.Refused f → f ≢ AFault.NoMemory }
         ensures numbers { result ≢ Reply.Ended → result ≢ Reply.NoMemory → IsReplyOf self.old.universe result }
     {
-        let _pairs = self.universe.pairs();
+        self.universe.keeps_invariant();
         match self.answer(bytes) {
             Ok(reply) => reply,
             Err(NoMemory) => Reply::NoMemory,

@@ -97,7 +97,7 @@ fn write_parts<K: Sink>(alloc: Global, u: &Universe, c: &Config, out: &mut K) ->
     ensures text { Writes (part_lines u.now c.now) (K.written out.old) (K.written out.new) result }
     ensures cause { CountsFault (K.faults out.old) (K.faults out.new) result }
 {
-    let _count = c.count();
+    c.keeps_invariant();
     write_instances(alloc, u, c, out)?;
     write_bindings(alloc, u, c, out)
 }

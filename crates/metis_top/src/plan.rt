@@ -46,7 +46,7 @@ fn put_plan<K: Sink>(alloc: Global, u: &Universe, targets: &[PairIx], out: &mut 
     requires within { All (λ p. p < pair_count u.now) targets.now }
     ensures { Shown (answer.IsAnswer (answer.Plan u.now targets.now)) (K.written out.old) (K.written out.new) (K.faults out.old) (K.faults out.new) result }
 {
-    let _pairs = u.pairs();
+    u.keeps_invariant();
     match plan(alloc, u, targets) {
         Ok(Outcome::Plan(plan)) => said(write_actions(alloc, u, &plan, out), Status::Done),
         Ok(Outcome::Closed(pairs, lacks)) => {

@@ -94,7 +94,7 @@ fn replayed(
 {
     replay_is_exact();
     replay_keeps_what_was_done();
-    let _pairs = u.pairs();
+    u.keeps_invariant();
     let mut replay = Replay::new(alloc, u);
     for action in actions {
         replay.feed(action)?;

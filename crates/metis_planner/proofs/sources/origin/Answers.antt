@@ -12,20 +12,20 @@ use Rattle.metis_planner.proofs.sources.origin.Goals.{else-comes_before-via-then
 
 pub overflow_sub-first : goal.overflow_sub-first
 overflow_sub-first c =
-    let block = own_range c.args.u.now c.pairs-pairs.ensures.table.universe c.args.pair c.pair.inside.0 c.first.inside.0 c.requires.within c.pair.view_is (c.first.view_is ∙ c.state_of.ensures) in
+    let block = own_range c.args.u.now c.keeps_invariant.ensures.universe c.args.pair c.pair.inside.0 c.first.inside.0 c.requires.within c.pair.view_is (c.first.view_is ∙ c.state_of.ensures) in
     let n = c.pair.view_is in
     let s = c.first.view_is ∙ c.state_of.ensures in
     omega (arith, block.start, n, s)
 
 pub loop-number-init : goal.loop-number-init
 loop-number-init c =
-    let block = own_range c.args.u.now c.pairs-pairs.ensures.table.universe c.args.pair c.pair.inside.0 c.first.inside.0 c.requires.within c.pair.view_is (c.first.view_is ∙ c.state_of.ensures) in
-    none_before c.args.u.now c.pairs-pairs.ensures.table.universe c.args.pair (c.pair.inside.0 - c.first.inside.0) (omega (arith, block.within)) block.from
+    let block = own_range c.args.u.now c.keeps_invariant.ensures.universe c.args.pair c.pair.inside.0 c.first.inside.0 c.requires.within c.pair.view_is (c.first.view_is ∙ c.state_of.ensures) in
+    none_before c.args.u.now c.keeps_invariant.ensures.universe c.args.pair (c.pair.inside.0 - c.first.inside.0) (omega (arith, block.within)) block.from
 
 pub next-requires : goal.next-requires
 next-requires c =
     let u = c.args.u.now in
-    let block = own_range u c.pairs-pairs.ensures.table.universe c.args.pair c.pair.inside.0 c.first.inside.0 c.requires.within c.pair.view_is (c.first.view_is ∙ c.state_of.ensures) in
+    let block = own_range u c.keeps_invariant.ensures.universe c.args.pair c.pair.inside.0 c.first.inside.0 c.requires.within c.pair.view_is (c.first.view_is ∙ c.state_of.ensures) in
     let many = c.states.ensures ∙ ap (λ t. length (states_of_type u t)) c.type_of.ensures.kind in
     omega (arith, c.loop-number-test.true, block.within, many)
 
@@ -33,7 +33,7 @@ pub returns-then-contains : goal.returns-then-contains
 returns-then-contains c =
     let u = c.args.u.now in
     let n = c.loop-number.number in
-    let block = own_range u c.pairs-pairs.ensures.table.universe c.args.pair c.pair.inside.0 c.first.inside.0 c.requires.within c.pair.view_is (c.first.view_is ∙ c.state_of.ensures) in
+    let block = own_range u c.keeps_invariant.ensures.universe c.args.pair c.pair.inside.0 c.first.inside.0 c.requires.within c.pair.view_is (c.first.view_is ∙ c.state_of.ensures) in
     let many = c.states.ensures ∙ ap (λ t. length (states_of_type u t)) c.type_of.ensures.kind in
     let low : n < pair_count u = omega (arith, c.loop-number-test.true, block.within, many) in
     let l = c.requires.layers in
@@ -44,7 +44,7 @@ pub loop-number-preserved : goal.loop-number-preserved
 loop-number-preserved c =
     let u = c.args.u.now in
     let n = c.loop-number.number in
-    let block = own_range u c.pairs-pairs.ensures.table.universe c.args.pair c.pair.inside.0 c.first.inside.0 c.requires.within c.pair.view_is (c.first.view_is ∙ c.state_of.ensures) in
+    let block = own_range u c.keeps_invariant.ensures.universe c.args.pair c.pair.inside.0 c.first.inside.0 c.requires.within c.pair.view_is (c.first.view_is ∙ c.state_of.ensures) in
     let many = c.states.ensures ∙ ap (λ t. length (states_of_type u t)) c.type_of.ensures.kind in
     let low : n < pair_count u = omega (arith, c.loop-number-test.true, block.within, many) in
     let l = c.requires.layers in
@@ -57,6 +57,6 @@ loop-number-preserved c =
 pub returns : goal.returns
 returns c =
     let u = c.args.u.now in
-    let block = own_range u c.pairs-pairs.ensures.table.universe c.args.pair c.pair.inside.0 c.first.inside.0 c.requires.within c.pair.view_is (c.first.view_is ∙ c.state_of.ensures) in
+    let block = own_range u c.keeps_invariant.ensures.universe c.args.pair c.pair.inside.0 c.first.inside.0 c.requires.within c.pair.view_is (c.first.view_is ∙ c.state_of.ensures) in
     let many = c.states.ensures ∙ ap (λ t. length (states_of_type u t)) c.type_of.ensures.kind in
-    sym (none_at_all u c.pairs-pairs.ensures.table.universe c.args.pair c.loop-number.number (λ q low same. let up = block.upto q low same in omega (arith, up, many, c.loop-number-test.false)) c.loop-number.invariant)
+    sym (none_at_all u c.keeps_invariant.ensures.universe c.args.pair c.loop-number.number (λ q low same. let up = block.upto q low same in omega (arith, up, many, c.loop-number-test.false)) c.loop-number.invariant)

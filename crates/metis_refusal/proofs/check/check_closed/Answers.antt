@@ -11,8 +11,8 @@ tells c v =
     let u = c.args.u.now in
     let s = c.args.set.now.members in
     let g = c.args.targets.now in
-    let k = c.pairs-pairs.ensures.table.universe in
-    let holds = subst (Tells u s g) (sym c.judged.ensures) (told u k s g (rises s c.size-size.ensures.ascending)) in
+    let k = c.keeps_invariant.ensures.universe in
+    let holds = subst (Tells u s g) (sym c.judged.ensures) (told u k s g (rises s c.keeps_invariant-2.ensures.ascending)) in
     (λ is. subst (Tells u s g) is holds, λ other. unique u k s g c.judged.result v holds other)
 
 pub returns-clause-exactly : goal.returns-clause-exactly
@@ -28,5 +28,5 @@ pub returns-clause-pairs : goal.returns-clause-pairs
 returns-clause-pairs c =
     let u = c.args.u.now in
     let s = c.args.set.now.members in
-    let low = subst (λ n. All (λ p. p < n) s) c.requires.size c.size-size.ensures.below in
-    told_of u c.pairs-pairs.ensures.table.universe s c.args.targets.now low c.requires.targets c.judged.result ((tells c c.judged.result).0 (λ i. c.judged.result))
+    let low = subst (λ n. All (λ p. p < n) s) c.requires.size c.keeps_invariant-2.ensures.below in
+    told_of u c.keeps_invariant.ensures.universe s c.args.targets.now low c.requires.targets c.judged.result ((tells c c.judged.result).0 (λ i. c.judged.result))

@@ -14,7 +14,7 @@ loop-number-preserved c =
     record {
       places = length-set c.loop-number.supplied c.loop-number.number c.are_set.result ∙ c.loop-number.invariant.places;
       set = flagged (is_supplied u s) c.loop-number.supplied c.loop-number.number c.are_set.result
-          (omega (arith, c.loop-number.invariant.places, c.pairs-number-end.ensures.count, c.pairs-number-end.ensures.table.limits.pairs)) c.loop-number.invariant.set
+          (omega (arith, c.loop-number.invariant.places, c.pairs-number-end.ensures.count, c.pairs-number-end.ensures.most)) c.loop-number.invariant.set
           (c.are_set.ensures ∙ all_alike (flag c.provided_by-provided.result) (is_provided u s) (port_count u) c.requires_.result.now c.provided_by-provided.ensures c.requires_.ensures.within
           ∙ ap (list_all (is_provided u s)) c.requires_.ensures.ports);
     }

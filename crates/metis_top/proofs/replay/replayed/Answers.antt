@@ -36,8 +36,8 @@ returns-clause-standing c = λ good.
     let u = c.args.u.now in
     let actions = c.args.actions.now in
     let g = c.args.targets.now in
-    let k = c.pairs-pairs.ensures.table.universe in
+    let k = c.keeps_invariant.ensures.universe in
     let all : c.loop-action.replay ≡ after_feeding u actions = c.loop-action.invariant.fed ∙ ap (after_feeding u) (take_all c.loop-action.action-index actions (omega (arith, c.loop-action-test.false))) in
     let said : verdict (after_feeding u actions) g ≡ Good = ap (λ s. verdict s g) (sym all) ∙ sym c.finish.ensures.verdict ∙ good in
     let tells = (c.replay_is_exact.ensures u actions g Good k c.requires.numbers).0 said in
-    c.count.ensures.count ∙ ap (λ (d : Config). length d.instances) (c.config.ensures.config ∙ ap (λ s. s.config) all ∙ c.replay_keeps_what_was_done.ensures.done u actions k tells.0)
+    c.count.ensures ∙ ap (λ (d : Config). length d.instances) (c.config.ensures.config ∙ ap (λ s. s.config) all ∙ c.replay_keeps_what_was_done.ensures.done u actions k tells.0)

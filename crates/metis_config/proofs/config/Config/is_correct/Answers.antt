@@ -1,7 +1,6 @@
 use Rattle.std.proofs.Common.{◌≡◌, Option, Some, None, false, not, refl, ap, sym, ◌∙◌, subst}
 use Rattle.std.specs.Prelude.{is_some}
 use Rattle.std.proofs.lemmas.Bool.{true≢false, not-false}
-use Rattle.metis_universe.specs.Config.{IsConfig}
 use Rattle.metis_config.proofs.Leasts.{correct-unmet, unmet-correct}
 use Rattle.metis_config.proofs.config.Config.is_correct.Goals as goal
 
@@ -11,9 +10,9 @@ none_is (Some x) h = absurd (true≢false h)
 
 pub returns : goal.returns
 returns c =
-    let h = subst IsConfig c.self.view_is c.self.invariant.by_provider.config in
+    let h = c.keeps_invariant.ensures in
     let u = c.args.u.now in
-    let k = c.pairs-pairs.ensures.table.universe in (
+    let k = c.keeps_invariant-2.ensures.universe in (
       λ t. correct-unmet u c.args.self.now k h (sym c.unmet.ensures.first ∙ none_is c.unmet.result (c.is_none.ensures ∙ ap not t)),
       λ correct. not-false _ (sym c.is_none.ensures ∙ ap is_some (c.unmet.ensures.first ∙ unmet-correct u c.args.self.now k h correct)),
     )

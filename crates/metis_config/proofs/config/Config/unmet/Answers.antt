@@ -9,7 +9,7 @@ pub returns-clause-least : goal.returns-clause-least
 returns-clause-least c =
     let h = subst IsConfig c.self.view_is c.self.invariant.by_provider.config in
     subst (IsLeast (is_unmet c.args.u.now c.args.self.now)) (sym (c.first_unmet.ensures ∙ ap (unmet c.args.u.now) c.self.view_is))
-    (unmet_least c.args.u.now c.args.self.now c.pairs-pairs.ensures.table.universe h)
+    (unmet_least c.args.u.now c.args.self.now c.keeps_invariant.ensures.universe h)
 
 none_is : {A : Type 0} (o : Option A) → IsNone o → o ≡ None
 none_is None h = refl
@@ -18,7 +18,7 @@ none_is (Some x) h = cc
 pub returns-clause-correct : goal.returns-clause-correct
 returns-clause-correct c =
     let h = subst IsConfig c.self.view_is c.self.invariant.by_provider.config in
-    let k = c.pairs-pairs.ensures.table.universe in
+    let k = c.keeps_invariant.ensures.universe in
     let is = c.first_unmet.ensures ∙ ap (unmet c.args.u.now) c.self.view_is in (
       λ none. correct-unmet c.args.u.now c.args.self.now k h (sym is ∙ none_is _ none),
       λ correct. subst IsNone (sym (is ∙ unmet-correct c.args.u.now c.args.self.now k h correct)) refl,

@@ -16,7 +16,7 @@ loop-round-init c = record {
 pub stamp_all-requires : goal.stamp_all-requires
 stamp_all-requires c =
     let count = ap length (c.deref.ensures.value ∙ c.loop-round.invariant.rounds) ∙ entries_count (found_before c.args.u.now c.loop-round.round) (pair_count c.args.u.now) in
-    omega (arith, count, c.pairs-count.ensures.table.limits.pairs)
+    omega (arith, count, c.pairs-count.ensures.most)
 
 pub loop-round-preserved : goal.loop-round-preserved
 loop-round-preserved c =
@@ -30,14 +30,14 @@ loop-round-preserved c =
 pub returns-clause-few : goal.returns-clause-few
 returns-clause-few c =
     let count = ap length c.loop-round.invariant.rounds ∙ entries_count (found_before c.args.u.now c.loop-round.round) (pair_count c.args.u.now) in
-    omega (arith, count, c.pairs-count.ensures.table.limits.pairs)
+    omega (arith, count, c.pairs-count.ensures.most)
 
 pub returns-then-count-clause-few : goal.returns-then-count-clause-few
 returns-then-count-clause-few c =
     let old = c.loop-round.invariant in
     let rounds = stamped_more c.args.u.now c.loop-round.round c.deref.result.now c.loop-round.set.members c.in_ok-rounds-2.rounds.items (c.deref.ensures.value ∙ old.rounds) old.members c.in_ok-rounds-2.ensures in
     let count = ap length rounds ∙ entries_count (found_before c.args.u.now (c.loop-round.round + 1)) (pair_count c.args.u.now) in
-    omega (arith, count, c.pairs-count.ensures.table.limits.pairs)
+    omega (arith, count, c.pairs-count.ensures.most)
 
 pub returns-then-count-clause-rounds : goal.returns-then-count-clause-rounds
 returns-then-count-clause-rounds c =
@@ -46,7 +46,7 @@ returns-then-count-clause-rounds c =
     let old = c.loop-round.invariant in
     let rounds = stamped_more u k c.deref.result.now c.loop-round.set.members c.in_ok-rounds-2.rounds.items (c.deref.ensures.value ∙ old.rounds) old.members c.in_ok-rounds-2.ensures in
     let next = next_members u k c.loop-round.set.members c.in_ok-next.next.members old.members c.in_ok-next.ensures.members in
-    let still = stopped_at u k c.loop-round.set.members c.in_ok-next.next.members old.members next (sym c.count.ensures.count ∙ c.if-count.true ∙ c.count-in-loop-round.ensures.count) in
+    let still = stopped_at u k c.loop-round.set.members c.in_ok-next.next.members old.members next (sym c.count.ensures ∙ c.if-count.true ∙ c.count-in-loop-round.ensures.count) in
     let low : k < pair_count u = omega (arith, c.loop-round-test.true, c.pairs-count.ensures.count) in
     rounds ∙ rounds_stay u k still low
 
@@ -56,6 +56,6 @@ returns-then-count-clause-attained c =
     let k = c.loop-round.round in
     let old = c.loop-round.invariant in
     let next = next_members u k c.loop-round.set.members c.in_ok-next.next.members old.members c.in_ok-next.ensures.members in
-    let still = stopped_at u k c.loop-round.set.members c.in_ok-next.next.members old.members next (sym c.count.ensures.count ∙ c.if-count.true ∙ c.count-in-loop-round.ensures.count) in
+    let still = stopped_at u k c.loop-round.set.members c.in_ok-next.next.members old.members next (sym c.count.ensures ∙ c.if-count.true ∙ c.count-in-loop-round.ensures.count) in
     let low : k < pair_count u = omega (arith, c.loop-round-test.true, c.pairs-count.ensures.count) in
     old.members ∙ set_stays u k still low

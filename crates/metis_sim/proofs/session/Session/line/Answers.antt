@@ -14,13 +14,13 @@ returns-in-Ok-clause-kept c = λ calm.
 pub returns-in-Ok-clause-refused : goal.returns-in-Ok-clause-refused
 returns-in-Ok-clause-refused c = λ f is.
     let e = ap (λ (w : Answer). w.0) c.in-Ok.ensures.ok in
-    let k = subst (λ (s : Session). IsUniverse s.universe) c.self.view_is c.pairs-pairs.ensures.table.universe in
+    let k = subst (λ (s : Session). IsUniverse s.universe) c.self.view_is c.keeps_invariant.ensures.universe in
     let over = subst (λ (s : Session). IsOver s.universe s.config) c.self.view_is c.self.invariant.config.over in
     never_for_memory c.args.self.now k over c.args.bytes.now f (sym e ∙ is)
 
 pub returns-in-Ok-clause-numbers : goal.returns-in-Ok-clause-numbers
 returns-in-Ok-clause-numbers c = λ other memory.
     let e = ap (λ (w : Answer). w.0) c.in-Ok.ensures.ok in
-    let k = subst (λ (s : Session). IsUniverse s.universe) c.self.view_is c.pairs-pairs.ensures.table.universe in
+    let k = subst (λ (s : Session). IsUniverse s.universe) c.self.view_is c.keeps_invariant.ensures.universe in
     let over = subst (λ (s : Session). IsOver s.universe s.config) c.self.view_is c.self.invariant.config.over in
     subst (IsReplyOf c.args.self.now.universe) (sym e) (numbered c.args.self.now k over c.args.bytes.now (λ ended. other (e ∙ ended)))
