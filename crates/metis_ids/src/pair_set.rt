@@ -89,7 +89,9 @@ impl PairSet {
 
     /// The members, ascending.
     pub fn iter(&self) -> Members<'_>
-        ensures { result ≡ self.now.members }
+        ensures members { result ≡ self.now.members }
+        ensures ascending { IsStrictlyIncreasing self.now.members }
+        ensures below { All (λ p. p < self.now.size) self.now.members }
     {
         Members {
             flags: &self.flags,

@@ -1,5 +1,5 @@
 -- Names are ASCII, and so UTF-8, and so is the word of a pair.
-use Rattle.std.proofs.Common.{◌≡◌, ℕ, zero, suc, ◌+◌, ◌<◌, Bool, true, false, ◌&&◌, List, [], ◌∷◌, ◌++◌, length, get_or, Some, None, IsUtf8, refl, ap, ◌∙◌, subst, arith, sym, inl, inr}
+use Rattle.std.proofs.Common.{◌≡◌, ℕ, zero, suc, ◌+◌, ◌<◌, Bool, true, false, ◌&&◌, List, [], ◌∷◌, ◌++◌, length, get_or, Option, Some, None, IsUtf8, refl, ap, ◌∙◌, subst, arith, sym, inl, inr}
 use Rattle.std.specs.Bool.{if◌then◌else◌, nat_le}
 use Rattle.std.specs.List.{after_first, before_first, list_all, position_or_len}
 use Rattle.std.proofs.lemmas.Bool.{and_parts, cases_lt, eqb-true, false_from_ne_true}
@@ -44,7 +44,7 @@ IsUtf8-colon : IsUtf8 (58 ∷ [])
 IsUtf8-colon = IsUtf8-from_ascii (58 ∷ []) (IsAscii-from_all (58 ∷ []) (λ k d within. small_colon k d within))
 
 module _ (t : List ℕ) (bad : IsUtf8 t → ⊥) where
-  unnamed : (b : Bool) → (is_name (before_first is_colon t) && is_name (after_first is_colon t)) ≡ b → (if b then Some (before_first is_colon t, after_first is_colon t) else None) ≡ None
+  unnamed : (b : Bool) → (is_name (before_first is_colon t) && is_name (after_first is_colon t)) ≡ b → if◌then◌else◌ {A = Option (List ℕ × List ℕ)} b (Some (before_first is_colon t, after_first is_colon t)) None ≡ None
   unnamed false are = refl
   unnamed true are =
       let names = and_parts (is_name (before_first is_colon t)) (is_name (after_first is_colon t)) are in

@@ -55,6 +55,7 @@ impl Reading for Universe {
     ghost universe = { λ u. u };
 
     fn pairs(&self) -> u32 {
+        self.keeps_invariant();
         Universe::pairs(self)
     }
 

@@ -35,6 +35,7 @@ fn rounds_of(alloc: Global, u: &Universe) -> Result<(Vec<Option<u32>>, PairSet),
     ensures attained { IfOk result (λ x. x.1.members ≡ attained_pairs u.now) }
     ensures table { IfOk result (λ _. IsTable u.now) }
 {
+    u.keeps_invariant();
     let count = u.pairs();
     let mut set = free_pairs(alloc, u)?;
     let mut rounds = vec![in alloc; None; count as usize]?;

@@ -46,7 +46,7 @@ returns-then-count-clause-rounds c =
     let old = c.loop-round.invariant in
     let rounds = stamped_more u k c.deref.result.now c.loop-round.set.members c.in_ok-rounds-2.rounds.items (c.deref.ensures.value ∙ old.rounds) old.members c.in_ok-rounds-2.ensures in
     let next = next_members u k c.loop-round.set.members c.in_ok-next.next.members old.members c.in_ok-next.ensures.members in
-    let still = stopped_at u k c.loop-round.set.members c.in_ok-next.next.members old.members next (sym c.count.ensures ∙ c.if-count.true ∙ c.count-in-loop-round.ensures.count) in
+    let still = stopped_at u k c.loop-round.set.members c.in_ok-next.next.members old.members next (sym c.count.ensures.count ∙ c.if-count.true ∙ c.count-in-loop-round.ensures.count) in
     let low : k < pair_count u = omega (arith, c.loop-round-test.true, c.pairs-count.ensures.count) in
     rounds ∙ rounds_stay u k still low
 
@@ -56,6 +56,6 @@ returns-then-count-clause-attained c =
     let k = c.loop-round.round in
     let old = c.loop-round.invariant in
     let next = next_members u k c.loop-round.set.members c.in_ok-next.next.members old.members c.in_ok-next.ensures.members in
-    let still = stopped_at u k c.loop-round.set.members c.in_ok-next.next.members old.members next (sym c.count.ensures ∙ c.if-count.true ∙ c.count-in-loop-round.ensures.count) in
+    let still = stopped_at u k c.loop-round.set.members c.in_ok-next.next.members old.members next (sym c.count.ensures.count ∙ c.if-count.true ∙ c.count-in-loop-round.ensures.count) in
     let low : k < pair_count u = omega (arith, c.loop-round-test.true, c.pairs-count.ensures.count) in
     old.members ∙ set_stays u k still low

@@ -10,7 +10,7 @@ loop-p-preserved c =
     let x = c.index-pairs-p.result in
     let rest : drop p pairs ≡ x ∷ drop (p + 1) pairs = drop-cons pairs p x c.loop-p-test.true ∙ (λ i. sym c.index-pairs-p.is i ∷ drop (sym (add-one p) i) pairs) in
     let provided : c.deref.result.now ≡ x.provided = c.deref.ensures.value ∙ ap (λ r. r.provided) c.pair.view_is in
-    let required : c.deref-2.result.now ≡ x.required = c.deref-2.ensures.value ∙ ap (λ r. r.required) c.pair.view_is in
+    let required : c.deref-in-loop-p.result.now ≡ x.required = c.deref-in-loop-p.ensures.value ∙ ap (λ r. r.required) c.pair.view_is in
     let providers = c.in_ok-add_to_rows.ensures ∙ ap (with_pair p c.loop-p.providers.items) provided in
     let requirers = c.in_ok-add_to_rows-2.ensures ∙ ap (with_pair p c.loop-p.requirers.items) required in
     record {

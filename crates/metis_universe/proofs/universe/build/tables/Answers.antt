@@ -1,4 +1,4 @@
-use Rattle.std.proofs.Common.{◌≤◌, ◌<◌, List, length, ◌≡◌, ◌+◌, [], ◌∷◌, ◌++◌, take, string_bytes, sym, ap, ◌∙◌, subst, arith}
+use Rattle.std.proofs.Common.{◌≤◌, ◌<◌, ℕ, List, length, ◌≡◌, ◌+◌, [], ◌∷◌, ◌++◌, take, string_bytes, sym, ap, ◌∙◌, subst, arith}
 use Rattle.std.specs.List.{All}
 use Rattle.std.proofs.lemmas.List.{take_all, length-map}
 use Rattle.metis_universe.specs.Universe.{Pair, port_count, universe_of, IsTable, IsIndexed}
@@ -115,12 +115,12 @@ invariant_of-result c =
     let u = universe_of (kinds_of c.loop-t.kinds.entries) c.loop-t.pairs.items (texts c.args.ports.keys) in
     let table : IsTable u = subst IsTable (sym (λ j. universe_of (kinds j) (pairs j) (c.requires.ports j))) (IsTable-universe_from rows c.requires.sound) in
     let count : c.len.result ≡ port_count u = c.len.ensures.len ∙ sym (length-map c.args.ports.keys (λ t. string_bytes t)) in
-    let providers = c.in_ok-index_rows.ensures.providers ∙ (λ j. port_rows (λ x. x.provided) (count j) (c.deref.ensures.value j)) in
-    let requirers = c.in_ok-index_rows.ensures.requirers ∙ (λ j. port_rows (λ x. x.required) (count j) (c.deref.ensures.value j)) in
+    let providers = c.in_ok-providers.ensures.providers ∙ (λ j. port_rows (λ x. x.provided) (count j) (c.deref.ensures.value j)) in
+    let requirers = c.in_ok-providers.ensures.requirers ∙ (λ j. port_rows (λ x. x.required) (count j) (c.deref.ensures.value j)) in
     record {
       universe = table.universe;
       named = table.named;
       limits = table.limits;
       sights = table.sights;
-      indexed = subst (λ rows. IsIndexed u rows.0 rows.1) (sym (λ j. (providers j, requirers j))) (IsIndexed-port_rows u table.universe);
+      indexed = subst {A = List (List ℕ) × List (List ℕ)} (λ rows. IsIndexed u rows.0 rows.1) (sym (λ j. (providers j, requirers j))) (IsIndexed-port_rows u table.universe);
     }
