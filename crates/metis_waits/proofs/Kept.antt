@@ -15,7 +15,7 @@ use Rattle.metis_universe.specs.Config.{config_of}
 use Rattle.metis_universe.specs.Steadfast.{is_new}
 use Rattle.metis_universe.specs.Universe.{has}
 use Rattle.metis_waits.proofs.Pushed.{last_pushed}
-use Rattle.metis_waits.specs.State.{AreLasts, AreMade, number_at}
+use Rattle.metis_waits.specs.Summary.{AreLasts, AreMade, number_at}
 
 pub turned : (a b : ℕ) → nat_eq a b ≡ nat_eq b a
 turned a b = grind (arith, nat_tests)

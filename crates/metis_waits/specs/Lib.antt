@@ -1,4 +1,4 @@
 pub mod Rows
-pub mod State
-pub mod Ties
+pub mod StandingBindings
+pub mod Summary
 pub mod Waits

@@ -7,8 +7,8 @@ mod pass;
 mod places;
 mod releases;
 mod rows;
-mod state;
-mod ties;
+mod standing_bindings;
+mod summary;
 mod wait_lists;
 
 pub use fault::WFault;

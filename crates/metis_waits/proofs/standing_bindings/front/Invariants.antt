@@ -3,7 +3,7 @@ use Rattle.std.specs.List.{filter}
 use Rattle.metis_universe.specs.Config.{binding_cmp}
 use Rattle.metis_waits.proofs.Rests.{IsRest}
 use Rattle.metis_waits.proofs.Tied.{begins}
-use Rattle.metis_waits.proofs.ties.front.Given as goal
+use Rattle.metis_waits.proofs.standing_bindings.front.Given as goal
 
 abbrev pub invariant-loop-tie : goal.invariant-loop-tie
 invariant-loop-tie l = record {

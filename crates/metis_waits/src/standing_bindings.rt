@@ -4,7 +4,7 @@ ghost use Rattle.std.specs.List.{filter, list_any};
 ghost use Rattle.metis_universe.specs.Config.{is_tie};
 ghost use Rattle.metis_universe.specs.Steadfast.{is_steadfast_after};
 ghost use Rattle.metis_universe.specs.Waits.{standing};
-ghost use Rattle.metis_waits.specs.Ties.{AreTies};
+ghost use Rattle.metis_waits.specs.StandingBindings.{AreBindings};
 
 use metis_ids::{Action, InstNo, NoMemory, PortIx};
 use metis_universe::Universe;
@@ -13,19 +13,19 @@ use std::collections::BTreeSet;
 
 /// The bindings that stand, in two orders.
 #[derive(Drop)]
-pub struct Ties {
+pub struct StandingBindings {
     /// By requirer, then provider, then port.
     by_requirer: BTreeSet<(InstNo, InstNo, PortIx)>,
     /// By provider, then requirer, then port.
     by_provider: BTreeSet<(InstNo, InstNo, PortIx)>,
 }
 
-impl Ties {
+impl StandingBindings {
     /// No binding.
-    pub fn new(alloc: Global) -> Ties
-        ensures { AreTies [] result }
+    pub fn new(alloc: Global) -> StandingBindings
+        ensures { AreBindings [] result }
     {
-        Ties {
+        StandingBindings {
             by_requirer: BTreeSet::new(alloc),
             by_provider: BTreeSet::new(alloc),
         }
@@ -61,8 +61,8 @@ impl Ties {
         action: &Action,
     ) -> Result<(), NoMemory>
         requires steadfast { IsTrue (is_steadfast_after u.now earlier.now action.now) }
-        requires ties { AreTies (standing earlier.now) self.old }
-        ensures { OnOk result (AreTies (standing (earlier.now ++ action.now ∷ [])) self.new) }
+        requires bindings { AreBindings (standing earlier.now) self.old }
+        ensures { OnOk result (AreBindings (standing (earlier.now ++ action.now ∷ [])) self.new) }
     {
         match *action {
             Action::Bind { port, inst, to } => {

@@ -8,17 +8,17 @@ use Rattle.metis_universe.specs.Waits.{standing}
 use Rattle.metis_waits.proofs.Noted.{bound_provider, bound_requirer, gone_test, unbound_provider, unbound_requirer}
 use Rattle.metis_waits.proofs.Pushed.{standing_pushed}
 use Rattle.metis_waits.proofs.Tied.{tied_out}
-use Rattle.metis_waits.proofs.ties.Ties.note.Goals as goal
+use Rattle.metis_waits.proofs.standing_bindings.StandingBindings.note.Goals as goal
 
 pub returns-in_ok-insert-in-Bind-2 : goal.returns-in_ok-insert-in-Bind-2
 returns-in_ok-insert-in-Bind-2 c =
     let earlier = c.args.earlier.now in
     record {
       by_requirer = λ r z y.
-          bound_requirer earlier c.args.self.now.by_requirer.keys c.insert.new.self.keys c.in-Bind.port c.in-Bind.inst c.in-Bind.to c.in_ok-insert-in-Bind.ensures.keys c.requires.ties.by_requirer r z y
+          bound_requirer earlier c.args.self.now.by_requirer.keys c.insert.new.self.keys c.in-Bind.port c.in-Bind.inst c.in-Bind.to c.in_ok-insert-in-Bind.ensures.keys c.requires.bindings.by_requirer r z y
           ∙ ap (λ (a : Action). list_any (is_tie r z y) (standing (earlier ++ a ∷ []))) (sym c.in-Bind.is);
       by_provider = λ r z y.
-          bound_provider earlier c.args.self.now.by_provider.keys c.insert-in-Bind.new.self.keys c.in-Bind.port c.in-Bind.inst c.in-Bind.to c.in_ok-insert-in-Bind-2.ensures.keys c.requires.ties.by_provider r z y
+          bound_provider earlier c.args.self.now.by_provider.keys c.insert-in-Bind.new.self.keys c.in-Bind.port c.in-Bind.inst c.in-Bind.to c.in_ok-insert-in-Bind-2.ensures.keys c.requires.bindings.by_provider r z y
           ∙ ap (λ (a : Action). list_any (is_tie r z y) (standing (earlier ++ a ∷ []))) (sym c.in-Bind.is);
     }
 
@@ -32,10 +32,10 @@ returns-in-Unbind c =
     let w = c.in-Unbind.to in
     record {
       by_requirer = λ r z y.
-          unbound_requirer earlier us c.remove.new.self.keys s x w (tied_out x w s us c.remove.new.self.keys c.remove.ensures.updates.0) c.requires.ties.by_requirer r z y
+          unbound_requirer earlier us c.remove.new.self.keys s x w (tied_out x w s us c.remove.new.self.keys c.remove.ensures.updates.0) c.requires.bindings.by_requirer r z y
           ∙ ap (λ (a : Action). list_any (is_tie r z y) (standing (earlier ++ a ∷ []))) (sym c.in-Unbind.is);
       by_provider = λ r z y.
-          unbound_provider earlier ss c.remove-in-Unbind.new.self.keys s x w (tied_out w x s ss c.remove-in-Unbind.new.self.keys c.remove-in-Unbind.ensures.updates.0) c.requires.ties.by_provider r z y
+          unbound_provider earlier ss c.remove-in-Unbind.new.self.keys s x w (tied_out w x s ss c.remove-in-Unbind.new.self.keys c.remove-in-Unbind.ensures.updates.0) c.requires.bindings.by_provider r z y
           ∙ ap (λ (a : Action). list_any (is_tie r z y) (standing (earlier ++ a ∷ []))) (sym c.in-Unbind.is);
     }
 
@@ -48,12 +48,12 @@ returns-in_ok-own-in-Delete c =
     let own = c.deref.ensures.value ∙ c.in_ok-own-in-Delete.ensures in
     record {
       by_requirer = λ r z y.
-          gone_test earlier c.in-Delete.inst c.deref.result.now us steadfast own c.requires.ties.by_requirer r z y
-          (list_any (is_tie z y r) c.drop_all.new.self.by_requirer.keys) (list_any (is_tie z y r) us) (c.drop_all.ensures.by_requirer z y r) (c.requires.ties.by_requirer r z y)
+          gone_test earlier c.in-Delete.inst c.deref.result.now us steadfast own c.requires.bindings.by_requirer r z y
+          (list_any (is_tie z y r) c.drop_all.new.self.by_requirer.keys) (list_any (is_tie z y r) us) (c.drop_all.ensures.by_requirer z y r) (c.requires.bindings.by_requirer r z y)
           ∙ ap (λ (a : Action). list_any (is_tie r z y) (standing (earlier ++ a ∷ []))) (sym c.in-Delete.is);
       by_provider = λ r z y.
-          gone_test earlier c.in-Delete.inst c.deref.result.now us steadfast own c.requires.ties.by_requirer r z y
-          (list_any (is_tie y z r) c.drop_all.new.self.by_provider.keys) (list_any (is_tie y z r) ss) (c.drop_all.ensures.by_provider z y r) (c.requires.ties.by_provider r z y)
+          gone_test earlier c.in-Delete.inst c.deref.result.now us steadfast own c.requires.bindings.by_requirer r z y
+          (list_any (is_tie y z r) c.drop_all.new.self.by_provider.keys) (list_any (is_tie y z r) ss) (c.drop_all.ensures.by_provider z y r) (c.requires.bindings.by_provider r z y)
           ∙ ap (λ (a : Action). list_any (is_tie r z y) (standing (earlier ++ a ∷ []))) (sym c.in-Delete.is);
     }
 
@@ -62,10 +62,10 @@ returns-in-New c =
     let earlier = c.args.earlier.now in
     record {
       by_requirer = λ r z y.
-          c.requires.ties.by_requirer r z y ∙ ap (list_any (is_tie r z y)) (sym (standing_pushed earlier (New c.in-New.inst c.in-New.kind)))
+          c.requires.bindings.by_requirer r z y ∙ ap (list_any (is_tie r z y)) (sym (standing_pushed earlier (New c.in-New.inst c.in-New.kind)))
           ∙ ap (λ (a : Action). list_any (is_tie r z y) (standing (earlier ++ a ∷ []))) (sym c.in-New.is);
       by_provider = λ r z y.
-          c.requires.ties.by_provider r z y ∙ ap (list_any (is_tie r z y)) (sym (standing_pushed earlier (New c.in-New.inst c.in-New.kind)))
+          c.requires.bindings.by_provider r z y ∙ ap (list_any (is_tie r z y)) (sym (standing_pushed earlier (New c.in-New.inst c.in-New.kind)))
           ∙ ap (λ (a : Action). list_any (is_tie r z y) (standing (earlier ++ a ∷ []))) (sym c.in-New.is);
     }
 
@@ -74,9 +74,9 @@ returns-in-Move c =
     let earlier = c.args.earlier.now in
     record {
       by_requirer = λ r z y.
-          c.requires.ties.by_requirer r z y ∙ ap (list_any (is_tie r z y)) (sym (standing_pushed earlier (Move c.in-Move.inst c.in-Move.from c.in-Move.to)))
+          c.requires.bindings.by_requirer r z y ∙ ap (list_any (is_tie r z y)) (sym (standing_pushed earlier (Move c.in-Move.inst c.in-Move.from c.in-Move.to)))
           ∙ ap (λ (a : Action). list_any (is_tie r z y) (standing (earlier ++ a ∷ []))) (sym c.in-Move.is);
       by_provider = λ r z y.
-          c.requires.ties.by_provider r z y ∙ ap (list_any (is_tie r z y)) (sym (standing_pushed earlier (Move c.in-Move.inst c.in-Move.from c.in-Move.to)))
+          c.requires.bindings.by_provider r z y ∙ ap (list_any (is_tie r z y)) (sym (standing_pushed earlier (Move c.in-Move.inst c.in-Move.from c.in-Move.to)))
           ∙ ap (λ (a : Action). list_any (is_tie r z y) (standing (earlier ++ a ∷ []))) (sym c.in-Move.is);
     }

@@ -4,8 +4,8 @@ use Rattle.metis_ids.specs.declared.actions.Action.{Action}
 use Rattle.metis_universe.specs.Universe.{has}
 use Rattle.metis_universe.specs.Waits.{is_wait, last_number, numbers}
 use Rattle.metis_waits.proofs.Gathered.{own_alone, own_and_entry, own_and_releases}
-use Rattle.metis_waits.specs.State.{is_by}
-use Rattle.metis_waits.proofs.state.State.gather.Goals as goal
+use Rattle.metis_waits.specs.Summary.{is_by}
+use Rattle.metis_waits.proofs.summary.Summary.gather.Goals as goal
 
 pub returns-in_ok-add_number-in-Bind : goal.returns-in_ok-add_number-in-Bind
 returns-in_ok-add_number-in-Bind c =
@@ -13,7 +13,7 @@ returns-in_ok-add_number-in-Bind c =
     let own = c.own_previous.ensures ∙ ap (λ (a : Action). last_number (is_by (actor_of a)) earlier) c.in-Bind.is in
     subst (λ (a : Action). (m : ℕ) → has c.add_number-in-Bind.new.numbers.keys m ≡ (is_wait earlier a m && has (numbers earlier) m)) (sym c.in-Bind.is)
     (own_and_entry earlier c.in-Bind.inst c.own_previous.result c.args.waits.now.keys c.add_number.new.numbers.keys c.requires.none own c.in_ok-add_number.ensures
-    c.in-Bind.to c.number_at.result c.add_number-in-Bind.new.numbers.keys (c.number_at.ensures ∙ c.requires.state.entered c.in-Bind.to) c.in_ok-add_number-in-Bind.ensures)
+    c.in-Bind.to c.number_at.result c.add_number-in-Bind.new.numbers.keys (c.number_at.ensures ∙ c.requires.summary.entered c.in-Bind.to) c.in_ok-add_number-in-Bind.ensures)
 
 pub returns-in_ok-gather_releases-in-Delete : goal.returns-in_ok-gather_releases-in-Delete
 returns-in_ok-gather_releases-in-Delete c =

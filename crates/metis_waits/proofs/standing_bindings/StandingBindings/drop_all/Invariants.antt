@@ -1,7 +1,7 @@
 use Rattle.std.proofs.Common.{◌≡◌, ℕ, not, ◌&&◌, take}
 use Rattle.std.specs.List.{list_any}
 use Rattle.metis_universe.specs.Config.{is_tie}
-use Rattle.metis_waits.proofs.ties.Ties.drop_all.Given as goal
+use Rattle.metis_waits.proofs.standing_bindings.StandingBindings.drop_all.Given as goal
 
 abbrev pub invariant-loop-tie : goal.invariant-loop-tie
 invariant-loop-tie l = record {

@@ -5,7 +5,7 @@ use Rattle.std.specs.Map.Iter.{deref}
 use Rattle.metis_universe.specs.Config.{binding_cmp}
 use Rattle.metis_waits.proofs.Rests.{IsRest, IsRest-filter, is_from}
 use Rattle.metis_waits.proofs.Tied.{front_first, front_none}
-use Rattle.metis_waits.proofs.ties.has_front.Goals as goal
+use Rattle.metis_waits.proofs.standing_bindings.has_front.Goals as goal
 
 pub returns-in-Some : goal.returns-in-Some
 returns-in-Some c =

@@ -6,7 +6,7 @@ use Rattle.std.specs.Map.Iter.{deref}
 use Rattle.metis_universe.specs.Config.{binding_cmp}
 use Rattle.metis_waits.proofs.Rests.{IsRest, IsRest-filter, IsRest-tail, is_from}
 use Rattle.metis_waits.proofs.Tied.{begins, fronts, fronts_end}
-use Rattle.metis_waits.proofs.ties.front.Goals as goal
+use Rattle.metis_waits.proofs.standing_bindings.front.Goals as goal
 
 pub loop-tie-init : goal.loop-tie-init
 loop-tie-init c =

@@ -1,4 +1,4 @@
--- What is kept of the actions of a list so far.
+-- What the actions of a list so far come to.
 --     number_at entries z      the number that the entries have for z, and 0 where they have none
 --     is_by z a      whether the instance does the action
 --     AreLasts p earlier entries      for each instance z the number of the last action that passes p z
@@ -6,7 +6,7 @@
 --     AreMade earlier zs      the instances that the actions made
 --     released y earlier m, AreReleases, has_pair pairs y m      whether action m ended a binding to y on the requirer's side;  the pairs of such y and m;  whether y and m are among them
 --     ArePlaces u earlier entries      the pair of each instance after these actions
---     IsState u earlier s      the state after these actions
+--     IsSummary u earlier s      what these actions come to
 use Rattle.std.specs.Prelude.{◌≡◌, ℕ, ◌<◌, ◌==◌, Bool, false, ◌&&◌, List, Option, Some}
 use Rattle.std.specs.List.{list_any}
 use Rattle.std.specs.Map.{lookup}
@@ -18,8 +18,8 @@ use Rattle.metis_universe.specs.Steadfast.{is_new, pair_after}
 use Rattle.metis_universe.specs.Step.{after_all}
 use Rattle.metis_universe.specs.Universe.{Universe, has, pair_count}
 use Rattle.metis_universe.specs.Waits.{action_at, before, enters, last_number, releases, standing}
-use Rattle.metis_waits.specs.Ties.{AreTies}
-use Rattle.metis_waits.specs.declared.state.State.{State}
+use Rattle.metis_waits.specs.StandingBindings.{AreBindings}
+use Rattle.metis_waits.specs.declared.summary.Summary.{Summary}
 
 abbrev pub number_at : List (ℕ × ℕ) → ℕ → ℕ
 number_at entries z = unwrap_or (lookup (λ k. z == k) entries) 0
@@ -51,10 +51,10 @@ pub record ArePlaces (u : Universe) (earlier : List Action) (entries : List (ℕ
   pub same : entries ≡ (after_all u empty earlier).instances
   pub within : (y p : ℕ) → pair_after u earlier y ≡ Some p → p < pair_count u
 
-pub record IsState (u : Universe) (earlier : List Action) (s : State) : Type 0 where
+pub record IsSummary (u : Universe) (earlier : List Action) (s : Summary) : Type 0 where
   pub lasts : AreLasts is_by earlier s.lasts.entries
   pub entered : AreLasts enters earlier s.entered.entries
   pub places : ArePlaces u earlier s.places.entries
   pub made : AreMade earlier s.made.keys
-  pub ties : AreTies (standing earlier) s.ties
+  pub bindings : AreBindings (standing earlier) s.bindings
   pub releases : AreReleases earlier s.releases.keys

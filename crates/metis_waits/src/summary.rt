@@ -1,4 +1,4 @@
-//! What is kept of the actions so far.
+//! What the actions so far come to.
 ghost use Rattle.std.specs.Prelude.{◌≡◌, ◌<◌, ℕ, ◌-◌, ◌^◌, ◌==◌, ◌++◌, ◌∷◌, ◌&&◌, ◌||◌, [], IfOk, IsTrue, OnOk, length, nat_lt};
 ghost use Rattle.metis_universe.specs.Universe.{has};
 ghost use Rattle.std.specs.List.{filter};
@@ -8,20 +8,20 @@ ghost use Rattle.metis_ids.specs.Action.{actor_of};
 ghost use Rattle.metis_universe.specs.Numbers.{IsOf};
 ghost use Rattle.metis_universe.specs.Steadfast.{is_steadfast_after};
 ghost use Rattle.metis_universe.specs.Waits.{is_release_of, is_wait, last_number, numbers};
-ghost use Rattle.metis_waits.specs.State.{IsState, is_by};
+ghost use Rattle.metis_waits.specs.Summary.{IsSummary, is_by};
 
 use crate::marks::{is_made, note_entry, note_last, note_made, number_at};
 use crate::places::{gives, note_place};
 use crate::releases::{add_released, note_releases};
-use crate::ties::Ties;
+use crate::standing_bindings::StandingBindings;
 use metis_ids::{Action, InstNo, NoMemory, PairIx};
 use metis_universe::Universe;
 use std::alloc::Global;
 use std::collections::{BTreeMap, BTreeSet};
 
-/// What is kept of the actions so far. Their numbers count from 1.
+/// What the actions so far come to. Their numbers count from 1.
 #[derive(Drop)]
-pub struct State {
+pub struct Summary {
     /// The last action of each instance.
     lasts: BTreeMap<InstNo, u32>,
     /// The last New or Move of each instance.
@@ -31,37 +31,37 @@ pub struct State {
     /// The instances that were made.
     made: BTreeSet<InstNo>,
     /// The bindings that stand.
-    ties: Ties,
+    bindings: StandingBindings,
     /// The providers with the actions that ended a binding to them on the requirer's side.
     releases: BTreeSet<(InstNo, u32)>,
 }
 
-impl State {
-    /// The state before the first action.
-    pub fn new(alloc: Global, u: &Universe) -> State
-        ensures { IsState u.now [] result }
+impl Summary {
+    /// The summary of no action.
+    pub fn new(alloc: Global, u: &Universe) -> Summary
+        ensures { IsSummary u.now [] result }
     {
-        State {
+        Summary {
             lasts: BTreeMap::new(alloc),
             entered: BTreeMap::new(alloc),
             places: BTreeMap::new(alloc),
             made: BTreeSet::new(alloc),
-            ties: Ties::new(alloc),
+            bindings: StandingBindings::new(alloc),
             releases: BTreeSet::new(alloc),
         }
     }
 
     /// Whether the action is steadfast after these.
     pub fn is_steadfast(&self, u: &Universe, earlier: &[Action], action: &Action) -> bool
-        requires { IsState u.now earlier.now self.now }
+        requires { IsSummary u.now earlier.now self.now }
         ensures { result ≡ is_steadfast_after u.now earlier.now action.now }
     {
         match *action {
             Action::New { inst, .. } => !is_made(&self.made, inst),
             Action::Bind { port, to, .. } => gives(u, &self.places, earlier, to, port),
             Action::Unbind { .. } => true,
-            Action::Delete { inst } => !self.ties.is_serving(inst),
-            Action::Move { inst, .. } => !self.ties.is_serving(inst),
+            Action::Delete { inst } => !self.bindings.is_serving(inst),
+            Action::Move { inst, .. } => !self.bindings.is_serving(inst),
         }
     }
 
@@ -76,20 +76,20 @@ impl State {
         requires few { length earlier.now < 2 ^ 32 - 1 }
         requires number { IsOf u.now action.now }
         requires steadfast { IsTrue (is_steadfast_after u.now earlier.now action.now) }
-        requires state { IsState u.now earlier.now self.old }
-        ensures { OnOk result (IsState u.now (earlier.now ++ action.now ∷ []) self.new) }
+        requires summary { IsSummary u.now earlier.now self.old }
+        ensures { OnOk result (IsSummary u.now (earlier.now ++ action.now ∷ []) self.new) }
     {
         note_last(&mut self.lasts, earlier, action)?;
         note_entry(&mut self.entered, earlier, action)?;
         note_place(&mut self.places, u, earlier, action)?;
         note_made(&mut self.made, earlier, action)?;
-        note_releases(alloc, &mut self.releases, &self.ties, earlier, action)?;
-        self.ties.note(alloc, u, earlier, action)
+        note_releases(alloc, &mut self.releases, &self.bindings, earlier, action)?;
+        self.bindings.note(alloc, u, earlier, action)
     }
 
     /// The last action of the instance that does the action.
     pub fn own_previous(&self, u: &Universe, earlier: &[Action], action: &Action) -> u32
-        requires { IsState u.now earlier.now self.now }
+        requires { IsSummary u.now earlier.now self.now }
         ensures { result ≡ last_number (is_by (actor_of action.now)) earlier.now }
     {
         number_at(&self.lasts, action.actor())
@@ -104,7 +104,7 @@ impl State {
         action: &Action,
     ) -> Result<Vec<u32>, NoMemory>
         requires few { length earlier.now < 2 ^ 32 - 1 }
-        requires state { IsState u.now earlier.now self.now }
+        requires summary { IsSummary u.now earlier.now self.now }
         ensures { IfOk result (λ waits. waits.items ≡ filter (is_wait earlier.now action.now) (numbers earlier.now)) }
     {
         let mut waits = BTreeSet::new(alloc);
@@ -121,7 +121,7 @@ impl State {
         waits: &mut BTreeSet<u32>,
     ) -> Result<(), NoMemory>
         requires few { length earlier.now < 2 ^ 32 - 1 }
-        requires state { IsState u.now earlier.now self.now }
+        requires summary { IsSummary u.now earlier.now self.now }
         requires none { waits.old.keys ≡ [] }
         ensures { OnOk result ((m : ℕ) → has waits.new.keys m ≡ (is_wait earlier.now action.now m && has (numbers earlier.now) m)) }
     {
@@ -145,7 +145,7 @@ impl State {
         waits: &mut BTreeSet<u32>,
     ) -> Result<(), NoMemory>
         requires few { length earlier.now < 2 ^ 32 - 1 }
-        requires state { IsState u.now earlier.now self.now }
+        requires summary { IsSummary u.now earlier.now self.now }
         ensures { OnOk result ((m : ℕ) → has waits.new.keys m ≡ (is_release_of y earlier.now m || has waits.old.keys m)) }
     {
         add_released(&self.releases, y, number_at(&self.entered, y), waits)

@@ -2,7 +2,7 @@ use Rattle.std.proofs.Common.{not, ◌&&◌, ◌∙◌, ap, nat_eq}
 use Rattle.std.specs.List.{list_any}
 use Rattle.metis_universe.specs.Config.{is_tie}
 use Rattle.metis_waits.proofs.Tied.{dropped_more, swapped, tied_out}
-use Rattle.metis_waits.proofs.ties.Ties.drop_all.Goals as goal
+use Rattle.metis_waits.proofs.standing_bindings.StandingBindings.drop_all.Goals as goal
 
 pub loop-tie-preserved : goal.loop-tie-preserved
 loop-tie-preserved c =
