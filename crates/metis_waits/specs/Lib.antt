@@ -1,3 +1,5 @@
+pub mod Causes
+pub mod Orders
 pub mod Rows
 pub mod StandingBindings
 pub mod Summary

@@ -1,6 +1,5 @@
 -- What the actions of a list so far come to.
 --     number_at entries z      the number that the entries have for z, and 0 where they have none
---     is_by z a      whether the instance does the action
 --     AreLasts p earlier entries      for each instance z the number of the last action that passes p z
 --     IsEntering a o      the instance that the action puts into a pair
 --     AreMade earlier zs      the instances that the actions made
@@ -11,7 +10,6 @@ use Rattle.std.specs.Prelude.{◌≡◌, ℕ, ◌<◌, ◌==◌, Bool, false, �
 use Rattle.std.specs.List.{list_any}
 use Rattle.std.specs.Map.{lookup}
 use Rattle.std.specs.Option.{option_map_or, unwrap_or}
-use Rattle.metis_ids.specs.Action.{actor_of}
 use Rattle.metis_ids.specs.declared.actions.Action.{Action}
 use Rattle.metis_universe.specs.Config.{empty}
 use Rattle.metis_universe.specs.Steadfast.{is_new, pair_after}
@@ -19,13 +17,11 @@ use Rattle.metis_universe.specs.Step.{after_all}
 use Rattle.metis_universe.specs.Universe.{Universe, has, pair_count}
 use Rattle.metis_universe.specs.Waits.{action_at, before, enters, last_number, releases, standing}
 use Rattle.metis_waits.specs.StandingBindings.{AreBindings}
+use Rattle.metis_waits.specs.Waits.{is_by}
 use Rattle.metis_waits.specs.declared.summary.Summary.{Summary}
 
 abbrev pub number_at : List (ℕ × ℕ) → ℕ → ℕ
 number_at entries z = unwrap_or (lookup (λ k. z == k) entries) 0
-
-abbrev pub is_by : ℕ → Action → Bool
-is_by z a = actor_of a == z
 
 abbrev pub AreLasts : (ℕ → Action → Bool) → List Action → List (ℕ × ℕ) → Type 0
 AreLasts p earlier entries = (z : ℕ) → number_at entries z ≡ last_number (p z) earlier

@@ -8,7 +8,8 @@ ghost use Rattle.metis_ids.specs.Action.{actor_of};
 ghost use Rattle.metis_universe.specs.Numbers.{IsOf};
 ghost use Rattle.metis_universe.specs.Steadfast.{is_steadfast_after};
 ghost use Rattle.metis_universe.specs.Waits.{is_release_of, is_wait, last_number, numbers};
-ghost use Rattle.metis_waits.specs.Summary.{IsSummary, is_by};
+ghost use Rattle.metis_waits.specs.Summary.{IsSummary};
+ghost use Rattle.metis_waits.specs.Waits.{is_by};
 
 use crate::marks::{is_made, note_entry, note_last, note_made, number_at};
 use crate::places::{gives, note_place};

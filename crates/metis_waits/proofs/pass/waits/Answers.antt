@@ -4,6 +4,7 @@ use Rattle.std.proofs.lemmas.Option.{slice_get-get_or}
 use Rattle.metis_ids.specs.declared.actions.Action.{Action}
 use Rattle.metis_universe.specs.Steadfast.{is_steadfast_at}
 use Rattle.metis_universe.specs.Waits.{waits}
+use Rattle.metis_waits.proofs.Listed.{numbered}
 use Rattle.metis_waits.proofs.Passed.{all_steadfast, mapped, one_more, others_next, steadfast_next, waits_next}
 use Rattle.metis_waits.specs.Summary.{IsSummary}
 use Rattle.metis_waits.specs.Waits.{waits_on_others}
@@ -39,3 +40,6 @@ returns-then-not-is_steadfast-clause-loose c =
 
 pub returns-clause-steadfast : goal.returns-clause-steadfast
 returns-clause-steadfast c = all_steadfast c.args.u.now c.args.actions.now c.loop-index.index c.loop-index-test.false c.loop-index.invariant.steadfast
+
+pub new-requires : goal.new-requires
+new-requires c = numbered c.args.actions.now c.loop-index.index c.loop-index.each c.loop-index.others c.loop-index.invariant.each c.loop-index.invariant.others (omega arith)

@@ -4,7 +4,7 @@ use Rattle.metis_ids.specs.declared.actions.Action.{Action}
 use Rattle.metis_universe.specs.Universe.{has}
 use Rattle.metis_universe.specs.Waits.{is_wait, last_number, numbers}
 use Rattle.metis_waits.proofs.Gathered.{own_alone, own_and_entry, own_and_releases}
-use Rattle.metis_waits.specs.Summary.{is_by}
+use Rattle.metis_waits.specs.Waits.{is_by}
 use Rattle.metis_waits.proofs.summary.Summary.gather.Goals as goal
 
 pub returns-in_ok-add_number-in-Bind : goal.returns-in_ok-add_number-in-Bind
