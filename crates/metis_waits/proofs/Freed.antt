@@ -12,7 +12,7 @@ use Rattle.metis_waits.proofs.Kept.{turned}
 use Rattle.metis_waits.proofs.Pairs.{pair_cmp, pair_put}
 use Rattle.metis_waits.proofs.Pushed.{released_pushed}
 use Rattle.metis_waits.proofs.Tied.{begins, requirer_any}
-use Rattle.metis_waits.specs.State.{AreReleases, has_pair, released}
+use Rattle.metis_waits.specs.Summary.{AreReleases, has_pair, released}
 
 and_false : (b : Bool) → (b && false) ≡ false
 and_false true = refl

@@ -15,7 +15,7 @@ use Rattle.metis_universe.specs.Universe.{has}
 use Rattle.metis_universe.specs.Waits.{before, enters, is_release_of, is_wait, last_number, numbers, releases, standing}
 use Rattle.metis_waits.proofs.Pushed.{get_past}
 use Rattle.metis_waits.proofs.Risen.{range_sorted, same_sorted}
-use Rattle.metis_waits.specs.State.{is_by}
+use Rattle.metis_waits.specs.Waits.{is_by}
 
 pub last_low : (p : Action → Bool) (xs : List Action) → last_number p xs ≤ length xs
 last_low p xs = omega arith

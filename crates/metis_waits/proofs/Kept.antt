@@ -15,12 +15,12 @@ use Rattle.metis_universe.specs.Config.{config_of}
 use Rattle.metis_universe.specs.Steadfast.{is_new}
 use Rattle.metis_universe.specs.Universe.{has}
 use Rattle.metis_waits.proofs.Pushed.{last_pushed}
-use Rattle.metis_waits.specs.State.{AreLasts, AreMade, number_at}
+use Rattle.metis_waits.specs.Summary.{AreLasts, AreMade, number_at}
 
 pub turned : (a b : ℕ) → nat_eq a b ≡ nat_eq b a
 turned a b = grind (arith, nat_tests)
 
-number_at-insert : (es : List (ℕ × ℕ)) (z v q : ℕ) → number_at (insert_entry nat_cmp es z v) q ≡ cond (nat_eq q z) v (number_at es q)
+pub number_at-insert : (es : List (ℕ × ℕ)) (z v q : ℕ) → number_at (insert_entry nat_cmp es z v) q ≡ cond (nat_eq q z) v (number_at es q)
 number_at-insert es z v q =
     ap (λ o. unwrap_or o 0) (pair_of-put (config_of es []) z v q)
     ∙ elim (nat_eq q z) as (λ b. unwrap_or (cond b (Some v) (lookup (nat_eq q) es)) 0 ≡ cond b v (unwrap_or (lookup (nat_eq q) es) 0)) [ true ↦ refl | false ↦ refl ]

@@ -14,7 +14,7 @@ use Rattle.metis_universe.specs.Universe.{has}
 use Rattle.metis_universe.proofs.Edits.{any-insert_key}
 use Rattle.metis_universe.specs.Config.{Binding}
 use Rattle.metis_waits.proofs.Rests.{IsRest, any_none, is_from, no_more}
-use Rattle.metis_waits.specs.State.{has_pair}
+use Rattle.metis_waits.specs.Summary.{has_pair}
 
 abbrev pub pair_cmp : ℕ × ℕ → ℕ × ℕ → Ordering
 pair_cmp a b = ordering_then (nat_cmp a.0 b.0) (nat_cmp a.1 b.1)

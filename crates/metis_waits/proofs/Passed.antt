@@ -10,8 +10,7 @@ use Rattle.metis_universe.specs.Steadfast.{is_steadfast, is_steadfast_after, is_
 use Rattle.metis_universe.specs.Universe.{Universe}
 use Rattle.metis_universe.specs.Waits.{action_at, before, is_wait, last_number, numbers, waits}
 use Rattle.metis_waits.proofs.Risen.{range_push}
-use Rattle.metis_waits.specs.State.{is_by}
-use Rattle.metis_waits.specs.Waits.{own_previous, waits_on_others}
+use Rattle.metis_waits.specs.Waits.{is_by, own_previous, waits_on_others}
 
 -- what a function of the earlier actions and of the action gives at the next number
 at_next : {A : Type 0} (f : List Action → Action → A) (d : A) (actions : List Action) (i : ℕ) (a : Action) → slice_get actions i ≡ Some a →

@@ -13,7 +13,7 @@ use Rattle.metis_universe.specs.Config.{Config, empty, pair_of, put}
 use Rattle.metis_universe.specs.Step.{after, after_all}
 use Rattle.metis_universe.specs.Universe.{Universe, initial_of, pair_count}
 use Rattle.metis_waits.proofs.Pushed.{after_pushed}
-use Rattle.metis_waits.specs.State.{ArePlaces}
+use Rattle.metis_waits.specs.Summary.{ArePlaces}
 
 -- ---- what is in order
 

@@ -10,7 +10,7 @@ use Rattle.metis_universe.specs.Config.{Binding, Config, empty}
 use Rattle.metis_universe.specs.Step.{after, after_all}
 use Rattle.metis_universe.specs.Universe.{Universe}
 use Rattle.metis_universe.specs.Waits.{bindings_after, last_number, releases, standing, standing_from}
-use Rattle.metis_waits.specs.State.{released}
+use Rattle.metis_waits.specs.Summary.{released}
 
 pub last_pushed : (p : Action → Bool) (xs : List Action) (a : Action) → last_number p (xs ++ a ∷ []) ≡ cond (p a) (length xs + 1) (last_number p xs)
 last_pushed p xs a =

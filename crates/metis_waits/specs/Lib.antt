@@ -1,4 +1,6 @@
+pub mod Causes
+pub mod Orders
 pub mod Rows
-pub mod State
-pub mod Ties
+pub mod StandingBindings
+pub mod Summary
 pub mod Waits

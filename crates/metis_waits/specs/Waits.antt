@@ -1,10 +1,12 @@
 -- The waits of each action of a list, as lists.
+--     is_by z a      whether the instance does the action
 --     own_previous actions k      the number of the last action before k of the same instance, and 0 where there is none
 --     waits_on_others actions k      the numbers that action k waits for, without its instance's previous action
 --     WaitLists, AreWaits actions w      both kinds of lists for all actions, from number 1 on
+--     IsNumbered each others      there is a list of others for each list, and their numbers have 32 bits
 --     list_of lists k      the list of action k
 --     IfLoose result P, IsFirstLoose u actions k      the number in the fault;  the first action that is not steadfast
-use Rattle.std.specs.Prelude.{◌≡◌, ◌<◌, ℕ, ◌-◌, ◌==◌, not, List, [], map, IsTrue, IsFalse, Result, Ok, Err, ⊤}
+use Rattle.std.specs.Prelude.{◌≡◌, ◌<◌, ℕ, ◌-◌, ◌^◌, ◌==◌, Bool, not, List, [], length, map, IsTrue, IsFalse, Result, Ok, Err, ⊤}
 use Rattle.std.specs.List.{filter, slice_index_or}
 use Rattle.std.specs.Option.{option_map_or}
 use Rattle.metis_ids.specs.Action.{actor_of}
@@ -15,8 +17,11 @@ use Rattle.metis_universe.specs.Waits.{action_at, before, last_number, numbers, 
 use Rattle.metis_waits.specs.declared.fault.WFault.{WFault}
 use Rattle.metis_waits.specs.declared.fault.WFault.TheVariants as fault
 
+abbrev pub is_by : ℕ → Action → Bool
+is_by z a = actor_of a == z
+
 abbrev pub own_previous : List Action → ℕ → ℕ
-own_previous actions k = option_map_or (λ a. last_number (λ b. actor_of b == actor_of a) (before k actions)) (action_at actions k) 0
+own_previous actions k = option_map_or (λ a. last_number (is_by (actor_of a)) (before k actions)) (action_at actions k) 0
 
 abbrev pub waits_on_others : List Action → ℕ → List ℕ
 waits_on_others actions k = filter (λ m. not (m == own_previous actions k)) (waits actions k)
@@ -28,6 +33,10 @@ pub record WaitLists : Type 0 where
 pub record AreWaits (actions : List Action) (w : WaitLists) : Type 0 where
   pub each : w.each ≡ map (waits actions) (numbers actions)
   pub others : w.others ≡ map (waits_on_others actions) (numbers actions)
+
+pub record IsNumbered (each others : List (List ℕ)) : Type 0 where
+  pub alike : length others ≡ length each
+  pub few : length each < 2 ^ 32
 
 abbrev pub list_of : List (List ℕ) → ℕ → List ℕ
 list_of lists k = slice_index_or lists (k - 1) []

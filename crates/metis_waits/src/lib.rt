@@ -1,16 +1,21 @@
-//! Which actions of a list each of its actions waits for.
+//! Which actions of a list each of its actions waits for, and the orders that keep these waits.
 #![tactic(auto)]
 
 mod fault;
+mod laws;
 mod marks;
 mod pass;
 mod places;
 mod releases;
 mod rows;
-mod state;
-mod ties;
+mod standing_bindings;
+mod summary;
 mod wait_lists;
 
 pub use fault::WFault;
+pub use laws::{
+    complete_order_ends_alike, kept_order_is_a_run, kept_order_is_in_time, own_order_is_kept,
+    waits_have_causes,
+};
 pub use pass::waits;
 pub use wait_lists::Waits;

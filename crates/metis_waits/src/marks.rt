@@ -2,7 +2,8 @@
 ghost use Rattle.std.specs.Prelude.{◌≡◌, ◌<◌, ◌-◌, ◌^◌, ◌++◌, ◌∷◌, [], OnOk, length};
 ghost use Rattle.metis_universe.specs.Universe.{has};
 ghost use Rattle.metis_universe.specs.Waits.{enters};
-ghost use Rattle.metis_waits.specs.State.{AreLasts, AreMade, IsEntering, is_by, number_at};
+ghost use Rattle.metis_waits.specs.Summary.{AreLasts, AreMade, IsEntering, number_at};
+ghost use Rattle.metis_waits.specs.Waits.{is_by};
 
 use metis_ids::{Action, InstNo, NoMemory};
 use std::collections::{BTreeMap, BTreeSet};

@@ -7,7 +7,7 @@ ghost use Rattle.metis_waits.specs.Waits.{AreWaits, IfLoose, IsFirstLoose};
 
 use crate::fault::WFault;
 use crate::rows::Rows;
-use crate::state::State;
+use crate::summary::Summary;
 use crate::wait_lists::Waits;
 use metis_ids::{Action, NoMemory};
 use metis_universe::Universe;
@@ -22,19 +22,19 @@ pub fn waits(alloc: Global, u: &Universe, actions: &[Action]) -> Result<Waits, W
     ensures steadfast { IfOk result (λ _. IsTrue (is_steadfast u.now actions.now)) }
     ensures loose { IfLoose result (IsFirstLoose u.now actions.now) }
 {
-    let mut state = State::new(alloc, u);
+    let mut summary = Summary::new(alloc, u);
     let mut each = Rows::new(alloc);
     let mut others = Rows::new(alloc);
     for (index, action) in actions.iter().enumerate() {
         let earlier = &actions[..index];
-        if !state.is_steadfast(u, earlier, action) {
+        if !summary.is_steadfast(u, earlier, action) {
             return Err(WFault::Loose(index as u32 + 1));
         }
-        let numbers = state.waits_of(alloc, u, earlier, action)?;
-        let previous = state.own_previous(u, earlier, action);
+        let numbers = summary.waits_of(alloc, u, earlier, action)?;
+        let previous = summary.own_previous(u, earlier, action);
         others.push(&without(alloc, &numbers, previous)?)?;
         each.push(&numbers)?;
-        state.add(alloc, u, earlier, action)?;
+        summary.add(alloc, u, earlier, action)?;
     }
     Ok(Waits::new(each, others))
 }

@@ -5,7 +5,7 @@ ghost use Rattle.std.specs.Option.{option_map_or};
 ghost use Rattle.metis_universe.specs.Numbers.{IsOf};
 ghost use Rattle.metis_universe.specs.Steadfast.{pair_after};
 ghost use Rattle.metis_universe.specs.Universe.{provides};
-ghost use Rattle.metis_waits.specs.State.{ArePlaces};
+ghost use Rattle.metis_waits.specs.Summary.{ArePlaces};
 
 use metis_ids::{Action, InstNo, NoMemory, PairIx, PortIx};
 use metis_universe::Universe;

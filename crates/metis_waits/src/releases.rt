@@ -3,10 +3,10 @@ ghost use Rattle.std.specs.Prelude.{◌≡◌, ◌<◌, ℕ, ◌-◌, ◌^◌, �
 ghost use Rattle.std.specs.List.{list_any};
 ghost use Rattle.metis_universe.specs.Universe.{has};
 ghost use Rattle.metis_universe.specs.Waits.{standing};
-ghost use Rattle.metis_waits.specs.State.{AreReleases, has_pair};
-ghost use Rattle.metis_waits.specs.Ties.{AreTies};
+ghost use Rattle.metis_waits.specs.Summary.{AreReleases, has_pair};
+ghost use Rattle.metis_waits.specs.StandingBindings.{AreBindings};
 
-use crate::ties::Ties;
+use crate::standing_bindings::StandingBindings;
 use metis_ids::{Action, InstNo, NoMemory, PortIx};
 use std::alloc::Global;
 use std::collections::BTreeSet;
@@ -29,23 +29,23 @@ fn add_releases(
 pub fn note_releases(
     alloc: Global,
     releases: &mut BTreeSet<(InstNo, u32)>,
-    ties: &Ties,
+    bindings: &StandingBindings,
     earlier: &[Action],
     action: &Action,
 ) -> Result<(), NoMemory>
     requires few { length earlier.now < 2 ^ 32 - 1 }
-    requires ties { AreTies (standing earlier.now) ties.now }
+    requires bindings { AreBindings (standing earlier.now) bindings.now }
     requires releases { AreReleases earlier.now releases.old.keys }
     ensures { OnOk result (AreReleases (earlier.now ++ action.now ∷ []) releases.new.keys) }
 {
     let number = earlier.len() as u32 + 1;
     match *action {
         Action::Unbind { port, inst, to } => {
-            if ties.has(port, inst, to) {
+            if bindings.has(port, inst, to) {
                 releases.insert((to, number))?;
             }
         }
-        Action::Delete { inst } => add_releases(releases, &ties.own(alloc, inst)?, number)?,
+        Action::Delete { inst } => add_releases(releases, &bindings.own(alloc, inst)?, number)?,
         Action::New { .. } => (),
         Action::Bind { .. } => (),
         Action::Move { .. } => (),

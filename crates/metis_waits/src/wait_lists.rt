@@ -1,6 +1,8 @@
 //! The waits of all actions of a list.
-ghost use Rattle.std.specs.Prelude.{◌≡◌, ◌≤◌, length};
-ghost use Rattle.metis_waits.specs.Waits.{list_of};
+ghost use Rattle.std.specs.Prelude.{◌≡◌, ◌<◌, ◌≤◌, ◌^◌, List, length};
+ghost use Rattle.metis_ids.specs.declared.actions.Action.{Action};
+ghost use Rattle.metis_universe.specs.Waits.{waits};
+ghost use Rattle.metis_waits.specs.Waits.{AreWaits, IsNumbered, list_of, waits_on_others};
 
 use crate::rows::Rows;
 use std::marker::Model;
@@ -13,20 +15,19 @@ pub struct Waits {
 }
 
 impl Model for Waits {
-    ghost use Rattle.std.specs.Prelude.{◌≡◌, length};
-    ghost use Rattle.metis_waits.specs.Waits.{WaitLists};
+    ghost use Rattle.metis_waits.specs.Waits.{IsNumbered, WaitLists};
 
     ghost Value = { WaitLists };
 
     ghost view = { λ w. record { each = w.each; others = w.others } };
 
-    ghost invariant = { λ w. length w.others ≡ length w.each };
+    ghost invariant = { λ w. IsNumbered w.each w.others };
 }
 
 impl Waits {
-    /// As many lists of others as there are lists.
+    /// As many lists of others as there are lists, and few enough to be numbered.
     pub(crate) fn new(each: Rows, others: Rows) -> Waits
-        requires { length others ≡ length each }
+        requires { IsNumbered each others }
         ensures { result ≡ record { each = each; others = others } }
     {
         Waits { each, others }
@@ -34,7 +35,8 @@ impl Waits {
 
     /// How many actions there are.
     pub fn count(&self) -> usize
-        ensures { result ≡ length self.now.each }
+        ensures count { result ≡ length self.now.each }
+        ensures few { length self.now.each < 2 ^ 32 }
     {
         self.each.len()
     }
@@ -43,7 +45,8 @@ impl Waits {
     pub fn of(&self, k: u32) -> &[u32]
         requires first { 1 ≤ k }
         requires last { k ≤ length self.now.each }
-        ensures { result.now ≡ list_of self.now.each k }
+        ensures list { result.now ≡ list_of self.now.each k }
+        ensures waits { (actions : List Action) → AreWaits actions self.now → result.now ≡ waits actions k }
     {
         self.each.row(k as usize - 1)
     }
@@ -52,7 +55,8 @@ impl Waits {
     pub fn after(&self, k: u32) -> &[u32]
         requires first { 1 ≤ k }
         requires last { k ≤ length self.now.each }
-        ensures { result.now ≡ list_of self.now.others k }
+        ensures list { result.now ≡ list_of self.now.others k }
+        ensures waits { (actions : List Action) → AreWaits actions self.now → result.now ≡ waits_on_others actions k }
     {
         self.others.row(k as usize - 1)
     }

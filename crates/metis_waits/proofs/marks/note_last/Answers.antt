@@ -1,7 +1,7 @@
 use Rattle.std.proofs.Common.{ap, sym, ◌∙◌, ◌+◌, length, nat_eq, arith}
 use Rattle.metis_ids.specs.Action.{actor_of}
 use Rattle.metis_waits.proofs.Kept.{marked, turned}
-use Rattle.metis_waits.specs.State.{is_by}
+use Rattle.metis_waits.specs.Waits.{is_by}
 use Rattle.metis_waits.proofs.marks.note_last.Goals as goal
 
 pub returns : goal.returns

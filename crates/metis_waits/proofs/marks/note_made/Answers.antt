@@ -1,6 +1,6 @@
 use Rattle.std.proofs.Common.{sym, subst, ◌++◌, ◌∷◌, []}
 use Rattle.metis_ids.specs.declared.actions.Action.{Action}
-use Rattle.metis_waits.specs.State.{AreMade}
+use Rattle.metis_waits.specs.Summary.{AreMade}
 use Rattle.metis_waits.proofs.Kept.{made_more}
 use Rattle.metis_waits.proofs.marks.note_made.Goals as goal
 

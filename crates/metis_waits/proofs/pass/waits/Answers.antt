@@ -4,8 +4,9 @@ use Rattle.std.proofs.lemmas.Option.{slice_get-get_or}
 use Rattle.metis_ids.specs.declared.actions.Action.{Action}
 use Rattle.metis_universe.specs.Steadfast.{is_steadfast_at}
 use Rattle.metis_universe.specs.Waits.{waits}
+use Rattle.metis_waits.proofs.Listed.{numbered}
 use Rattle.metis_waits.proofs.Passed.{all_steadfast, mapped, one_more, others_next, steadfast_next, waits_next}
-use Rattle.metis_waits.specs.State.{IsState}
+use Rattle.metis_waits.specs.Summary.{IsSummary}
 use Rattle.metis_waits.specs.Waits.{waits_on_others}
 use Rattle.metis_waits.proofs.pass.waits.Goals as goal
 
@@ -18,7 +19,7 @@ loop-index-preserved c =
     let is = slice_get-get_or actions i a c.loop-index-test.true ∙ ap Some (sym c.index-actions-index.is) in
     let more = take_more actions i a c.loop-index-test.true ∙ ap (λ (x : Action). take i actions ++ x ∷ []) (sym c.index-actions-index.is) in
     record {
-      state = subst (λ l. IsState u l c.add.new.self) (sym more) c.in_ok-add.ensures;
+      summary = subst (λ l. IsSummary u l c.add.new.self) (sym more) c.in_ok-add.ensures;
       each = mapped (waits actions) i c.loop-index.each c.push-in-loop-index.new.self c.deref-in-loop-index-2.result.now c.in_ok-push-2.ensures.ok c.loop-index.invariant.each (c.deref-in-loop-index-2.ensures.value ∙ c.in_ok-numbers.ensures ∙ sym (waits_next actions i a is));
       others =
           mapped (waits_on_others actions) i c.loop-index.others c.push.new.self c.deref-in-loop-index.result.now c.in_ok-push.ensures.ok c.loop-index.invariant.others
@@ -39,3 +40,6 @@ returns-then-not-is_steadfast-clause-loose c =
 
 pub returns-clause-steadfast : goal.returns-clause-steadfast
 returns-clause-steadfast c = all_steadfast c.args.u.now c.args.actions.now c.loop-index.index c.loop-index-test.false c.loop-index.invariant.steadfast
+
+pub new-requires : goal.new-requires
+new-requires c = numbered c.args.actions.now c.loop-index.index c.loop-index.each c.loop-index.others c.loop-index.invariant.each c.loop-index.invariant.others (omega arith)

@@ -2,13 +2,13 @@ use Rattle.std.proofs.Common.{◌≡◌, ℕ, ◌≤◌, true, map, take}
 use Rattle.std.specs.List.{range_with_len}
 use Rattle.metis_universe.specs.Steadfast.{is_steadfast_at}
 use Rattle.metis_universe.specs.Waits.{waits}
-use Rattle.metis_waits.specs.State.{IsState}
+use Rattle.metis_waits.specs.Summary.{IsSummary}
 use Rattle.metis_waits.specs.Waits.{waits_on_others}
 use Rattle.metis_waits.proofs.pass.waits.Given as goal
 
 abbrev pub invariant-loop-index : goal.invariant-loop-index
 invariant-loop-index l = record {
-  state : IsState l.u (take l.index l.actions) l.state;
+  summary : IsSummary l.u (take l.index l.actions) l.summary;
   each : l.each ≡ map (waits l.actions) (range_with_len 1 l.index);
   others : l.others ≡ map (waits_on_others l.actions) (range_with_len 1 l.index);
   steadfast : (j : ℕ) → j ≤ l.index → is_steadfast_at l.u l.actions j ≡ true;

@@ -1,7 +1,7 @@
 use Rattle.std.proofs.Common.{sym, subst, ◌++◌, ◌∷◌, []}
 use Rattle.metis_ids.specs.declared.actions.Action.{Action}
 use Rattle.metis_universe.specs.Numbers.{IsOf}
-use Rattle.metis_waits.specs.State.{ArePlaces}
+use Rattle.metis_waits.specs.Summary.{ArePlaces}
 use Rattle.metis_waits.proofs.Placed.{placed_bind, placed_unbind, placed_delete, placed_move, placed_new}
 use Rattle.metis_waits.proofs.places.note_place.Goals as goal
 

@@ -6,7 +6,7 @@ use Rattle.std.proofs.lemmas.Map.Iter.{rest_more}
 use Rattle.metis_universe.specs.Universe.{has}
 use Rattle.metis_waits.proofs.Pairs.{none_after, pair_cmp, rest_has, taken}
 use Rattle.metis_waits.proofs.Rests.{IsRest, IsRest-filter, IsRest-tail, is_from}
-use Rattle.metis_waits.specs.State.{has_pair}
+use Rattle.metis_waits.specs.Summary.{has_pair}
 use Rattle.metis_waits.proofs.releases.add_released.Goals as goal
 
 pub loop-release-init : goal.loop-release-init

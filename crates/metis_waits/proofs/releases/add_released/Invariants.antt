@@ -2,7 +2,7 @@ use Rattle.std.proofs.Common.{◌≡◌, ℕ, ◌+◌, ◌&&◌, ◌||◌, nat_l
 use Rattle.metis_universe.specs.Universe.{has}
 use Rattle.metis_waits.proofs.Pairs.{pair_cmp}
 use Rattle.metis_waits.proofs.Rests.{IsRest}
-use Rattle.metis_waits.specs.State.{has_pair}
+use Rattle.metis_waits.specs.Summary.{has_pair}
 use Rattle.metis_waits.proofs.releases.add_released.Given as goal
 
 abbrev pub invariant-loop-release : goal.invariant-loop-release

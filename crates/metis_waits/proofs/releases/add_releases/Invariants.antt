@@ -1,7 +1,7 @@
 use Rattle.std.proofs.Common.{◌≡◌, ℕ, ◌&&◌, ◌||◌, nat_eq, take}
 use Rattle.std.specs.List.{list_any}
 use Rattle.metis_universe.specs.Config.{Binding}
-use Rattle.metis_waits.specs.State.{has_pair}
+use Rattle.metis_waits.specs.Summary.{has_pair}
 use Rattle.metis_waits.proofs.releases.add_releases.Given as goal
 
 abbrev pub invariant-loop-tie : goal.invariant-loop-tie

@@ -1,0 +1,9 @@
+pub mod Counted
+pub mod Counts
+pub mod Exact
+pub mod Examples
+pub mod Fronts
+pub mod Looked
+pub mod Made
+pub mod OwnActions
+pub mod Turns

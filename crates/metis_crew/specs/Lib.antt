@@ -1,0 +1,3 @@
+pub mod Crew
+pub mod Tables
+pub mod Turn

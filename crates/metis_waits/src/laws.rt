@@ -1,0 +1,41 @@
+//! Laws of orders that keep the waits.
+ghost use Rattle.std.specs.Prelude.{◌≡◌, ◌↔◌, ℕ, IsTrue, List};
+ghost use Rattle.metis_ids.specs.declared.actions.Action.{Action};
+ghost use Rattle.metis_universe.specs.Config.{empty};
+ghost use Rattle.metis_universe.specs.Steadfast.{is_steadfast};
+ghost use Rattle.metis_universe.specs.Step.{IsRun, after_all};
+ghost use Rattle.metis_universe.specs.Universe.{Universe, has};
+ghost use Rattle.metis_universe.specs.Waits.{IsKept, is_complete, numbers, picked, waits};
+ghost use Rattle.metis_waits.specs.Causes.{HasCause};
+ghost use Rattle.metis_waits.specs.Orders.{KeepsWaits};
+
+/// An action waits for the previous one of its instance; where it binds, for the one that put the provider into its pair; and where it
+/// moves or deletes an instance, for each that ended a binding to this one since it came into its pair. It waits for no other.
+pub fn waits_have_causes()
+    ensures { (actions : List Action) (k m : ℕ) → IsTrue (has (waits actions k) m) ↔ HasCause actions k m }
+{}
+
+/// An order keeps the waits of actions where each of its numbers is one of the actions', stands there once, and comes after all
+/// that it waits for.
+pub fn kept_order_is_in_time()
+    ensures { (actions : List Action) (ks : List ℕ) → IsKept actions ks ↔ KeepsWaits actions ks }
+{}
+
+/// Each order that keeps the waits of a steadfast run from the empty configuration, complete or not, is such a run too: so the
+/// configuration after each of its actions is correct.
+pub fn kept_order_is_a_run()
+    ensures { (u : Universe) (actions : List Action) (ks : List ℕ) → IsRun u empty actions → IsTrue (is_steadfast u actions) → IsKept actions ks → IsRun u empty (picked actions ks) }
+{}
+
+/// Each of these orders that has every action ends in the configuration in which the actions end in their own order.
+pub fn complete_order_ends_alike()
+    ensures { (u : Universe) (actions : List Action) (ks : List ℕ) → IsRun u empty actions → IsTrue (is_steadfast u actions) → IsKept actions ks → IsTrue (is_complete actions ks) → after_all u empty (picked actions ks) ≡ after_all u empty actions }
+{}
+
+/// The order in which the actions stand keeps their waits, whether they are a run or not. It has every action, and its actions
+/// are these themselves.
+pub fn own_order_is_kept()
+    ensures kept { (actions : List Action) → IsKept actions (numbers actions) }
+    ensures complete { (actions : List Action) → IsTrue (is_complete actions (numbers actions)) }
+    ensures same { (actions : List Action) → picked actions (numbers actions) ≡ actions }
+{}
