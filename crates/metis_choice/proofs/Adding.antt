@@ -1,5 +1,5 @@
 -- What is added to a work list.
-use Rattle.std.proofs.Common.{◌≡◌, ℕ, ◌+◌, ◌-◌, ◌≤◌, Bool, true, false, not, ◌&&◌, ◌||◌, List, [], ◌∷◌, ◌++◌, length, Option, Some, None, refl, sym, ap, ◌∙◌, subst, arith, nat_eq, nat_cmp}
+use Rattle.std.proofs.Common.{◌≡◌, ℕ, ◌≤◌, Bool, true, false, not, ◌&&◌, ◌||◌, List, [], ◌∷◌, ◌++◌, length, Option, Some, None, refl, sym, ap, ◌∙◌, subst, arith, nat_eq, nat_cmp}
 use Rattle.std.proofs.lemmas.Bool.{eqb-true}
 use Rattle.std.proofs.lemmas.List.{length_push}
 use Rattle.std.proofs.lemmas.List.Folds.{list_any-append}
@@ -9,10 +9,7 @@ use Rattle.std.specs.List.{filter_map, cons_option}
 use Rattle.std.specs.Option.{option_to_list}
 use Rattle.metis_ids.proofs.Inserted.{has-insert_key, length-insert_key}
 use Rattle.metis_universe.specs.Universe.{has}
-use Rattle.metis_choice.specs.WorkList.{WorkList, Adds, work_left}
-
-pub adds_none : (w : WorkList) → Adds [] w w
-adds_none w = record { size = refl; selected = λ q. refl; waiting = λ q. refl; less = omega arith }
+use Rattle.metis_choice.specs.WorkList.{WorkList, Adds}
 
 or_again : (p q s : Bool) → (q || (p || s)) ≡ ((p || q) || s)
 or_again true true s = refl
@@ -48,52 +45,32 @@ adds_both ps qs a b c one two =
 
 -- ---- one pair
 
-module _ (p : ℕ) (a : WorkList) where
-  -- the pair was selected already
-  pub adds_known : has a.selected.members p ≡ true → Adds (p ∷ []) a a
-  adds_known known = record {
-    size = refl;
-    selected = λ q. by_selected q (nat_eq p q) refl;
-    waiting = λ q. by_waiting q (nat_eq p q) refl;
-    less = omega arith;
-  } where
-    there : (q : ℕ) → nat_eq p q ≡ true → has a.selected.members q ≡ true
-    there q same = subst (λ n. has a.selected.members n ≡ true) (eqb-true p q same) known
+-- the pair is new
+pub adds_new : (p : ℕ) (a b : WorkList) → has a.selected.members p ≡ false → b.selected.size ≡ a.selected.size → b.selected.members ≡ insert_key nat_cmp a.selected.members p → b.waiting ≡ a.waiting ++ p ∷ [] → length b.selected.members ≤ b.selected.size → Adds (p ∷ []) a b
+adds_new p a b fresh size members waiting few = record {
+  size = size;
+  selected = λ q. ap (λ l. has l q) members ∙ has-insert_key a.selected.members p q ∙ or_none (nat_eq p q) (has a.selected.members q);
+  waiting = λ q. ap (λ l. has l q) waiting ∙ list_any-append (λ x. nat_eq x q) a.waiting (p ∷ []) ∙ by_waiting q (nat_eq p q) refl;
+  less =
+      let longer = ap length waiting ∙ length_push a.waiting p in
+      let more = ap length members ∙ length-insert_key a.selected.members p fresh in
+      omega arith;
+} where
+  or_none : (x y : Bool) → (x || y) ≡ ((x || false) || y)
+  or_none true y = refl
+  or_none false y = refl
 
-    by_selected : (q : ℕ) (b : Bool) → nat_eq p q ≡ b → has a.selected.members q ≡ ((b || false) || has a.selected.members q)
-    by_selected q true same = there q same
-    by_selected q false other = refl
+  or_true : (x : Bool) → (x || true) ≡ true
+  or_true true = refl
+  or_true false = refl
 
-    by_waiting : (q : ℕ) (b : Bool) → nat_eq p q ≡ b → has a.waiting q ≡ (((b || false) && not (has a.selected.members q)) || has a.waiting q)
-    by_waiting q true same = ap (λ x. not x || has a.waiting q) (sym (there q same))
-    by_waiting q false other = refl
+  or_false : (x : Bool) → (x || false) ≡ x
+  or_false true = refl
+  or_false false = refl
 
-  -- the pair is new
-  pub adds_new : (b : WorkList) → has a.selected.members p ≡ false → b.selected.size ≡ a.selected.size → b.selected.members ≡ insert_key nat_cmp a.selected.members p → b.waiting ≡ a.waiting ++ p ∷ [] → length b.selected.members ≤ b.selected.size → Adds (p ∷ []) a b
-  adds_new b fresh size members waiting few = record {
-    size = size;
-    selected = λ q. ap (λ l. has l q) members ∙ has-insert_key a.selected.members p q ∙ or_none (nat_eq p q) (has a.selected.members q);
-    waiting = λ q. ap (λ l. has l q) waiting ∙ list_any-append (λ x. nat_eq x q) a.waiting (p ∷ []) ∙ by_waiting q (nat_eq p q) refl;
-    less =
-        let longer = ap length waiting ∙ length_push a.waiting p in
-        let more = ap length members ∙ length-insert_key a.selected.members p fresh in
-        omega arith;
-  } where
-    or_none : (x y : Bool) → (x || y) ≡ ((x || false) || y)
-    or_none true y = refl
-    or_none false y = refl
-
-    or_true : (x : Bool) → (x || true) ≡ true
-    or_true true = refl
-    or_true false = refl
-
-    or_false : (x : Bool) → (x || false) ≡ x
-    or_false true = refl
-    or_false false = refl
-
-    by_waiting : (q : ℕ) (b : Bool) → nat_eq p q ≡ b → (has a.waiting q || (b || false)) ≡ (((b || false) && not (has a.selected.members q)) || has a.waiting q)
-    by_waiting q true same = or_true (has a.waiting q) ∙ ap (λ x. not x || has a.waiting q) (sym (subst (λ n. has a.selected.members n ≡ false) (eqb-true p q same) fresh))
-    by_waiting q false other = or_false (has a.waiting q)
+  by_waiting : (q : ℕ) (b : Bool) → nat_eq p q ≡ b → (has a.waiting q || (b || false)) ≡ (((b || false) && not (has a.selected.members q)) || has a.waiting q)
+  by_waiting q true same = or_true (has a.waiting q) ∙ ap (λ x. not x || has a.waiting q) (sym (subst (λ n. has a.selected.members n ≡ false) (eqb-true p q same) fresh))
+  by_waiting q false other = or_false (has a.waiting q)
 
 -- ---- one element of a list
 

@@ -1,9 +1,9 @@
 -- Origins, found pair by pair: each pair becomes the origin of those to which it leads up and that have none yet.
-use Rattle.std.proofs.Common.{◌≡◌, ℕ, zero, suc, ◌+◌, ◌-◌, ◌<◌, ◌≤◌, Bool, true, false, List, [], ◌∷◌, ◌++◌, length, map, replicate, set, get_or, Option, Some, None, refl, sym, ap, ◌∙◌, subst, arith, nat_eq, inl, inr, get_or-set_same, get_or-set_other}
-use Rattle.std.specs.Prelude.{IsSome, IsSomeAnd, MatchOption, ◌⊎◌, is_some}
+use Rattle.std.proofs.Common.{◌≡◌, ℕ, zero, suc, ◌+◌, ◌-◌, ◌<◌, true, false, List, [], ◌∷◌, ◌++◌, length, map, set, get_or, Option, Some, None, refl, sym, ap, ◌∙◌, subst, arith, nat_eq, inl, inr, get_or-set_same, get_or-set_other}
+use Rattle.std.specs.Prelude.{IsSomeAnd, MatchOption, is_some}
 use Rattle.std.specs.Option.{option_or}
-use Rattle.std.proofs.lemmas.Bool.{cases_eq, cases_lt, false≢true, false_from_ne_true, or_cases, or_parts}
-use Rattle.std.proofs.lemmas.List.{get_or-replicate, length-replicate, length-set}
+use Rattle.std.proofs.lemmas.Bool.{cases_eq, cases_lt, false≢true, or_parts}
+use Rattle.std.proofs.lemmas.List.{length-set}
 use Rattle.std.proofs.lemmas.List.Folds.{list_any-append}
 use Rattle.std.proofs.lemmas.List.FromFn.{fill_by_all}
 use Rattle.metis_universe.proofs.FirstPairs.{origin-above, origin-leads, origin-least, provider-provides}
@@ -51,9 +51,6 @@ module _ (u : Universe) where
     pub done : (p : ℕ) → p < pair_count u → has seen p ≡ true → IsFirstBelow u (n + 1) p (get_or origins p None)
     pub before : (p : ℕ) → p < pair_count u → has seen p ≡ false → IsFirstBelow u n p (get_or origins p None)
 
-  pub noted_none : (n : ℕ) (origins : List (Option ℕ)) → AreFirstBelow u n origins → IsNoted n [] origins
-  noted_none n origins first = record { count = first.count; done = λ p low h. absurd (false≢true h); before = λ p low h. first.each p low }
-
   unseen : (seen : List ℕ) (x p : ℕ) → has (seen ++ x ∷ []) p ≡ false → has seen p ≡ false
   unseen seen x p h = (or_parts (has seen p) (has (x ∷ []) p) (sym (list_any-append (λ y. nat_eq y p) seen (x ∷ [])) ∙ h)).0
 
@@ -77,9 +74,6 @@ module _ (u : Universe) where
     done = done;
     before = λ p below h. subst (IsFirstBelow u n p) (sym (other p (λ same. false≢true (sym (last p h) ∙ has_here p same)))) (old.before p below (unseen seen x p h));
   } where
-    origins' : List (Option ℕ)
-    origins' = set origins x (option_or (get_or origins x None) (Some n))
-
     other : (p : ℕ) → (p ≡ x → ⊥) → get_or (set origins x (option_or (get_or origins x None) (Some n))) p None ≡ get_or origins p None
     other p apart = get_or-set_other origins x p (option_or (get_or origins x None) (Some n)) None apart
 
@@ -122,15 +116,6 @@ module _ (u : Universe) where
     ] refl;
   }
 
-  -- a pair without a layer leads up to none
-  pub no_layer : (n : ℕ) (origins : List (Option ℕ)) → AreFirstBelow u n origins → layer_of u n ≡ None → AreFirstBelow u (n + 1) origins
-  no_layer n origins first none = record {
-    count = first.count;
-    each = λ p low. passed n p (get_or origins p None) (first.each p low) (λ up. none_some up.lower.lower (sym none ∙ up.lower.of_lower));
-  } where
-    none_some : (l : ℕ) → None ≡ Some l → ⊥
-    none_some l e = cc
-
   -- whether pair n, of this layer, leads up to x shows at the layer of x
   pub leads_up : (n x l : ℕ) → layer_of u n ≡ Some l → has (next_of u n) x ≡ true → IsSomeAnd (layer_of u x) (λ m. l < m) → LeadsUp u n x
   leads_up n x l is leads above = by (layer_of u x) refl above where
@@ -145,13 +130,7 @@ module _ (u : Universe) where
         same_some : (a b : ℕ) → Some a ≡ Some b → a ≡ b
         same_some a b h = cc
 
-  -- ---- from none to all
-
-  pub first_none : (origins : List (Option ℕ)) → origins ≡ replicate (pair_count u) None → AreFirstBelow u 0 origins
-  first_none origins is = record {
-    count = ap length is ∙ length-replicate (pair_count u) None;
-    each = λ p low. subst (IsFirstBelow u 0 p) (sym (ap (λ l. get_or l p None) is ∙ get_or-replicate (pair_count u) p None None low)) (λ q below up. absurd (omega arith));
-  }
+  -- ---- all pairs
 
   leads_of : (p o : ℕ) → origin_of u p ≡ Some o → LeadsUp u o p
   leads_of p o is = let f = origin-leads u p o is in record { lower = f.0; leads = f.1 }

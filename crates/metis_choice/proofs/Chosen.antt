@@ -1,5 +1,5 @@
 -- What holds of the support of a selection.
-use Rattle.std.proofs.Common.{◌≡◌, ℕ, true, List, Option, Some, None, map, refl, sym, ap, ◌∙◌, subst}
+use Rattle.std.proofs.Common.{◌≡◌, ℕ, true, List, Option, Some, map, sym, ap, ◌∙◌, subst}
 use Rattle.std.specs.Prelude.{IsSome, IsSomeAnd, MatchOption}
 use Rattle.std.specs.List.{All, range_with_len}
 use Rattle.metis_ids.specs.PairSet.{PairSet}

@@ -4,7 +4,7 @@ use Rattle.metis_universe.proofs.Selected.{selected-least}
 use Rattle.metis_universe.specs.Layers.{layer_of}
 use Rattle.metis_universe.specs.Selection.{IsLeastSelection}
 use Rattle.metis_universe.specs.Universe.{requires}
-use Rattle.metis_support.specs.Support.{IsSupport, Support, is_selected, layer_at, origin_at, provider_at}
+use Rattle.metis_support.specs.Support.{IsSupport, is_selected, layer_at, origin_at, provider_at}
 use Rattle.metis_choice.proofs.Chosen.{layers, origins, over, providers}
 use Rattle.metis_choice.proofs.Lacking.{all_layered, first_without}
 use Rattle.metis_choice.specs.Choices.{IsFirstProvider}

@@ -1,9 +1,9 @@
-use Rattle.std.proofs.Common.{◌≡◌, ◌<◌, ◌++◌, Some, take, sym, ap, ◌∙◌, subst, arith}
+use Rattle.std.proofs.Common.{◌<◌, ◌++◌, take, sym, ap, ◌∙◌, subst, arith}
 use Rattle.std.specs.List.{filter_map}
 use Rattle.std.specs.Option.{option_to_list}
 use Rattle.std.proofs.lemmas.List.Elements.{All-get_or}
 use Rattle.metis_universe.specs.Selection.{provider_of}
-use Rattle.metis_universe.specs.Universe.{pair_count, port_count}
+use Rattle.metis_universe.specs.Universe.{port_count}
 use Rattle.metis_layers.proofs.Sets.{take_more}
 use Rattle.metis_choice.proofs.Adding.{adds_both, filter_map_push}
 use Rattle.metis_choice.proofs.Below.{provider_low}
