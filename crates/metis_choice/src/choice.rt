@@ -28,7 +28,7 @@ pub enum Choice {
 }
 
 /// What a plan for the targets stands on, where each of them has a layer; else the first target that has none. It goes once
-/// over the universe's transitions, and then looks only at what the selected pairs need.
+/// over the universe's transitions, and then once over what each selected pair needs.
 pub fn choose(
     alloc: Global,
     u: &Universe,
