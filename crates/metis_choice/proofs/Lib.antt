@@ -1,0 +1,5 @@
+pub mod Adding
+pub mod Below
+pub mod Chosen
+pub mod Lacking
+pub mod UnderWay

@@ -1,0 +1,12 @@
+use Rattle.std.proofs.Common.{sym, subst}
+use Rattle.metis_support.specs.Support.{IsSupport}
+use Rattle.metis_choice.proofs.Chosen.{built, over}
+use Rattle.metis_choice.proofs.choice.support.Goals as goal
+
+pub build-requires : goal.build-requires
+build-requires c =
+    let u = c.args.u.now in
+    let g = c.args.targets.now in
+    subst (IsSupport u)
+    (sym (built u g c.in_ok-selected.selected c.in_ok-origin.origin c.in_ok-layer.layer c.in_ok-provider.provider c.in_ok-selected.ensures.size c.in_ok-selected.ensures.members c.in_ok-origin.ensures c.in_ok-layer.ensures c.in_ok-provider.ensures))
+    (over u c.pairs-pairs.ensures.table.universe g c.requires.layered)

@@ -1,0 +1,20 @@
+use Rattle.std.proofs.Common.{◌<◌, None, cond, ap, ◌∙◌, arith, length}
+use Rattle.metis_universe.specs.Layers.{layer_of}
+use Rattle.metis_universe.specs.Universe.{has, pair_count}
+use Rattle.metis_layers.proofs.Tables.{entries_count, pushed}
+use Rattle.metis_support.specs.Support.{of_selected}
+use Rattle.metis_choice.proofs.tables.layer_table.Goals as goal
+
+pub push-requires : goal.push-requires
+push-requires c =
+    let count = ap length c.loop-number.invariant ∙ entries_count (of_selected c.args.selected.now.members (layer_of c.args.u.now)) c.loop-number.number in
+    omega (arith, count, c.loop-number-test.true, c.pairs-number-end.ensures.count, c.pairs-number-end.ensures.table.limits.pairs)
+
+pub loop-number-preserved : goal.loop-number-preserved
+loop-number-preserved c =
+    let u = c.args.u.now in
+    let s = c.args.selected.now.members in
+    let n = c.loop-number.number in
+    let low : n < pair_count u = omega (arith, c.loop-number-test.true, c.pairs-number-end.ensures.count) in
+    pushed (of_selected s (layer_of u)) n c.loop-number.table c.push.new.self c.selected_layer.result c.in_ok-push.ensures.items c.loop-number.invariant
+    (c.selected_layer.ensures ∙ ap (λ o. cond (has s n) o None) (c.requires.layer n low))

@@ -1,0 +1,3 @@
+pub mod Choices
+pub mod Origins
+pub mod WorkList
