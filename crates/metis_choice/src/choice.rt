@@ -55,7 +55,7 @@ pub fn choose(
     ensures support { IfSupport result (λ s. s ≡ support_of u.now targets.now) }
     ensures over { IfSupport result (IsSupport u.now) }
 {
-    let _pairs = u.pairs();
+    u.keeps_invariant();
     match lacking(layers, targets) {
         Some(target) => Ok(Choice::Lacks(target)),
         None => Ok(Choice::Support(support(alloc, u, layers, targets)?)),
@@ -84,7 +84,7 @@ fn support(
     requires layered { All (λ p. IsSome (layer_of u.now p)) targets.now }
     ensures { IfOk result (λ s. s ≡ support_of u.now targets.now) }
 {
-    let _pairs = u.pairs();
+    u.keeps_invariant();
     let origins = all_origins(alloc, u, layers)?;
     let selected = selected_pairs(alloc, u, layers, &origins, targets)?;
     let origin = origin_table(alloc, u, &origins, &selected)?;

@@ -33,7 +33,7 @@ pub fn selected_pairs(
         add_needs(&mut work, u, layers, origins, pair)?;
     }
     let set = work.into_selected();
-    let _size = set.size();
+    set.keeps_invariant();
     Ok(set)
 }
 

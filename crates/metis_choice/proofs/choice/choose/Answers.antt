@@ -29,25 +29,25 @@ returns-in_ok-support-in-None-clause-layers c =
     let u = c.args.u.now in
     let g = c.args.targets.now in
     let layered = all_layered u c.args.layers.now c.requires.layers g c.requires.within (sym c.lacking.ensures ∙ c.in-None.is) in
-    subst (λ s. (p : ℕ) → is_selected s p ≡ true → layer_at s p ≡ layer_of u p) (sym c.in_ok-support-in-None.ensures) (layers u c.pairs-pairs.ensures.table.universe g layered)
+    subst (λ s. (p : ℕ) → is_selected s p ≡ true → layer_at s p ≡ layer_of u p) (sym c.in_ok-support-in-None.ensures) (layers u c.keeps_invariant.ensures.universe g layered)
 
 pub returns-in_ok-support-in-None-clause-origins : goal.returns-in_ok-support-in-None-clause-origins
 returns-in_ok-support-in-None-clause-origins c =
     let u = c.args.u.now in
     let g = c.args.targets.now in
     let layered = all_layered u c.args.layers.now c.requires.layers g c.requires.within (sym c.lacking.ensures ∙ c.in-None.is) in
-    subst (λ s. (p : ℕ) → is_selected s p ≡ true → MatchOption (origin_at s p) (layer_of u p ≡ Some 0) (IsLeastBelow u p)) (sym c.in_ok-support-in-None.ensures) (origins u c.pairs-pairs.ensures.table.universe g layered)
+    subst (λ s. (p : ℕ) → is_selected s p ≡ true → MatchOption (origin_at s p) (layer_of u p ≡ Some 0) (IsLeastBelow u p)) (sym c.in_ok-support-in-None.ensures) (origins u c.keeps_invariant.ensures.universe g layered)
 
 pub returns-in_ok-support-in-None-clause-providers : goal.returns-in_ok-support-in-None-clause-providers
 returns-in_ok-support-in-None-clause-providers c =
     let u = c.args.u.now in
     let g = c.args.targets.now in
     let layered = all_layered u c.args.layers.now c.requires.layers g c.requires.within (sym c.lacking.ensures ∙ c.in-None.is) in
-    subst (λ s. (p r : ℕ) → is_selected s p ≡ true → requires u p r ≡ true → IsSomeAnd (provider_at s r) (IsFirstProvider u r)) (sym c.in_ok-support-in-None.ensures) (providers u c.pairs-pairs.ensures.table.universe g layered)
+    subst (λ s. (p r : ℕ) → is_selected s p ≡ true → requires u p r ≡ true → IsSomeAnd (provider_at s r) (IsFirstProvider u r)) (sym c.in_ok-support-in-None.ensures) (providers u c.keeps_invariant.ensures.universe g layered)
 
 pub returns-in_ok-support-in-None-clause-over : goal.returns-in_ok-support-in-None-clause-over
 returns-in_ok-support-in-None-clause-over c =
     let u = c.args.u.now in
     let g = c.args.targets.now in
     let layered = all_layered u c.args.layers.now c.requires.layers g c.requires.within (sym c.lacking.ensures ∙ c.in-None.is) in
-    subst (IsSupport u) (sym c.in_ok-support-in-None.ensures) (over u c.pairs-pairs.ensures.table.universe g layered)
+    subst (IsSupport u) (sym c.in_ok-support-in-None.ensures) (over u c.keeps_invariant.ensures.universe g layered)

@@ -9,4 +9,4 @@ build-requires c =
     let g = c.args.targets.now in
     subst (IsSupport u)
     (sym (built u g c.in_ok-selected.selected c.in_ok-origin.origin c.in_ok-layer.layer c.in_ok-provider.provider c.in_ok-selected.ensures.size c.in_ok-selected.ensures.members c.in_ok-origin.ensures c.in_ok-layer.ensures c.in_ok-provider.ensures))
-    (over u c.pairs-pairs.ensures.table.universe g c.requires.layered)
+    (over u c.keeps_invariant.ensures.universe g c.requires.layered)

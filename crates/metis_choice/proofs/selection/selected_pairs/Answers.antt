@@ -17,4 +17,4 @@ pub returns-clause-members : goal.returns-clause-members
 returns-clause-members c =
     let w = c.loop-pair.work in
     let same = ap (λ s. s.members) (c.into_selected-set.ensures ∙ c.pop.ensures.selected) in
-    same ∙ arrived c.args.u.now c.args.targets.now w c.loop-pair.invariant c.in_default.ensures.waiting (subst IsStrictlyIncreasing same c.size-size.ensures.ascending)
+    same ∙ arrived c.args.u.now c.args.targets.now w c.loop-pair.invariant c.in_default.ensures.waiting (subst IsStrictlyIncreasing same c.keeps_invariant.ensures.ascending)

@@ -8,7 +8,7 @@ use Rattle.metis_choice.proofs.tables.layer_table.Goals as goal
 pub push-requires : goal.push-requires
 push-requires c =
     let count = ap length c.loop-number.invariant ∙ entries_count (of_selected c.args.selected.now.members (layer_of c.args.u.now)) c.loop-number.number in
-    omega (arith, count, c.loop-number-test.true, c.pairs-number-end.ensures.count, c.pairs-number-end.ensures.table.limits.pairs)
+    omega (arith, count, c.loop-number-test.true, c.pairs-number-end.ensures.count, c.pairs-number-end.ensures.most)
 
 pub loop-number-preserved : goal.loop-number-preserved
 loop-number-preserved c =
