@@ -18,6 +18,7 @@ pub fn supplied_by(u: &Universe, set: &PairSet) -> [bool; PAIR_LIMIT]
     requires { set.now.size ≡ pair_count u.now }
     ensures { AreSupplied u.now set.now.members result }
 {
+    u.keeps_invariant();
     let provided = provided_by(u, set);
     let mut supplied = [false; PAIR_LIMIT];
     for number in 0..u.pairs() {
