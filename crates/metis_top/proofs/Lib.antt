@@ -1,3 +1,4 @@
+pub mod Deployments
 pub mod FileBytes
 pub mod FormRead
 pub mod Gathered

@@ -11,6 +11,7 @@ use Rattle.metis_top.specs.Answer.{Plan}
 use Rattle.metis_top.specs.Commands.{pairs_named, plan_script, script_from, universe_in_then, targets_then}
 use Rattle.metis_top.specs.Course.{Ran, Shown, Says, OnShelf, AreTaken, after}
 use Rattle.metis_ujson.specs.Document.{document_limit, universe_in}
+use Rattle.metis_top.proofs.Deployments.{OrderLaws, answer_deploys}
 use Rattle.metis_top.specs.Honest.{over, Tells, Headline}
 use Rattle.metis_top.specs.Script.{Script, Read, Refuse, Reply}
 use Rattle.metis_top.specs.TargetName.{TargetName}
@@ -68,19 +69,19 @@ over-plan file name targets u g fits means found =
     over-universe file (file name) (take (document_limit + 1) (file name)) u (λ v. targets_then 3 v targets (λ pairs. Reply (Plan v pairs))) (take_all (document_limit + 1) (file name) (omega arith)) fits means
     ∙ rw found
 
-pub tells_plans : (words : List (List ℕ)) (file : List ℕ → List ℕ) (old new : Option (List (List ℕ))) (status : Status) → Tells file (script_from (form_of words)) old new status → Headline words file old new status
-tells_plans words file old new status t = λ name targets u g is fits means found.
+pub tells_plans : OrderLaws → (words : List (List ℕ)) (file : List ℕ → List ℕ) (old new : Option (List (List ℕ))) (status : Status) → Tells file (script_from (form_of words)) old new status → Headline words file old new status
+tells_plans laws words file old new status t = λ name targets u g is fits means found.
     let ends : over file (script_from (form_of words)) ≡ Reply (Plan u g) = ap (λ f. over file (script_from f)) is ∙ over-plan file name targets u g fits means found in
-    (t.lines, subst (λ s. Says s t.lines status) ends t.says, t.put)
+    (t.lines, answer_deploys laws u g t.lines status (subst (λ s. Says s t.lines status) ends t.says), t.put)
 
-if_some_headline : (words : List (List ℕ)) (files : Option (List ℕ → List ℕ)) (P Q R : Type 0) (old new : Option (List (List ℕ))) (status : Status)
+if_some_headline : OrderLaws → (words : List (List ℕ)) (files : Option (List ℕ → List ℕ)) (P Q R : Type 0) (old new : Option (List (List ℕ))) (status : Status)
     → IfSome files (λ file. P → Q → R → Tells file (script_from (form_of words)) old new status) → IfSome files (λ file. P → Q → R → Headline words file old new status)
-if_some_headline words None P Q R old new status t = tt
-if_some_headline words (Some file) P Q R old new status t = λ p q r. tells_plans words file old new status (t p q r)
+if_some_headline laws words None P Q R old new status t = tt
+if_some_headline laws words (Some file) P Q R old new status t = λ p q r. tells_plans laws words file old new status (t p q r)
 
-pub ran_headline : {S K : Type 0} (files : S → Option (List ℕ → List ℕ)) (faults opens : S → ℕ) (written : K → Option (List (List ℕ))) (sink_faults : K → ℕ)
+pub ran_headline : OrderLaws → {S K : Type 0} (files : S → Option (List ℕ → List ℕ)) (faults opens : S → ℕ) (written : K → Option (List (List ℕ))) (sink_faults : K → ℕ)
     (words : List (List ℕ)) (shelf shelf' : S) (sink sink' : K) (status : Status)
     → Ran files faults opens written sink_faults (script_from (form_of words)) shelf shelf' sink sink' status
     → IfSome (files shelf) (λ file. (Rose (faults shelf) (faults shelf') → ⊥) → (Rose (sink_faults sink) (sink_faults sink') → ⊥) → status ≢ NoMemory → Headline words file (written sink) (written sink') status)
-ran_headline files faults opens written sink_faults words shelf shelf' sink sink' status r =
-    if_some_headline words (files shelf) _ _ _ (written sink) (written sink') status (ran_tells files faults opens written sink_faults _ shelf shelf' sink sink' status r)
+ran_headline laws files faults opens written sink_faults words shelf shelf' sink sink' status r =
+    if_some_headline laws words (files shelf) _ _ _ (written sink) (written sink') status (ran_tells files faults opens written sink_faults _ shelf shelf' sink sink' status r)

@@ -5,7 +5,7 @@ use Rattle.metis_outside.specs.Writes.{Appends}
 use Rattle.metis_top.specs.Course.{Says}
 use Rattle.metis_ujson.specs.Document.{document_limit, universe_in}
 use Rattle.metis_top.specs.Commands.{pairs_named}
-use Rattle.metis_top.specs.Planned.{PlanAnswer}
+use Rattle.metis_top.specs.Deployment.{DeploysOrRefuses}
 use Rattle.metis_universe.specs.Universe.{Universe}
 use Rattle.metis_top.specs.Script.{Script, Read}
 use Rattle.metis_top.specs.TargetName.{TargetName}
@@ -26,8 +26,9 @@ pub record Tells (file : List ℕ → List ℕ) (script : Script) (old new : Opt
 
 -- The headline. For accepted words, an accepted universe and targets in it, what is put is the text of a plan, line by line,
 -- with status `Done`, exactly where some list of actions attains the targets, and else that of a refusal, with status `No`.
+-- In any order that keeps its waits the plan meets only correct configurations, and ends with every target.
 abbrev pub Headline : List (List ℕ) → (List ℕ → List ℕ) → Option (List (List ℕ)) → Option (List (List ℕ)) → Status → Type 0
 Headline words file old new status = (name : List ℕ) (targets : List TargetName) (u : Universe) (g : List ℕ)
     → form_of words ≡ Ok (record { verb = Plan; files = name ∷ []; targets = targets; size = 0 })
     → length (file name) ≤ document_limit → universe_in (file name) ≡ Ok u → pairs_named 3 u targets ≡ Ok g
-    → (lines : List (List ℕ)) × PlanAnswer u g lines status × Appends old new lines
+    → (lines : List (List ℕ)) × DeploysOrRefuses u g lines status × Appends old new lines

@@ -1,6 +1,7 @@
 pub mod Answer
 pub mod Commands
 pub mod Course
+pub mod Deployment
 pub mod Forms
 pub mod Honest
 pub mod Judged

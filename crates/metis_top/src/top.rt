@@ -21,6 +21,7 @@ use crate::replay::replay_file;
 use crate::stop::end;
 use crate::words::{Command, Verb, WordFault};
 use metis_outside::{Shelf, Sink};
+use metis_waits::{complete_order_ends_alike, kept_order_is_a_run, own_order_is_kept};
 use std::alloc::Global;
 
 /// Does all that the program does: reads the words and the files that they name, and puts the answer.
@@ -53,6 +54,9 @@ pub fn run<H: Shelf, K: Sink>(alloc: Global, words: &[String], shelf: &mut H, ou
         (Rose (H.faults shelf.old) (H.faults shelf.new) → ⊥) → (Rose (K.faults out.old) (K.faults out.new) → ⊥) → result ≢ Status.NoMemory
         → Headline (texts words.now) file (K.written out.old) (K.written out.new) result) }
 {
+    kept_order_is_a_run();
+    complete_order_ends_alike();
+    own_order_is_kept();
     follow(alloc, words, shelf, out)
 }
 

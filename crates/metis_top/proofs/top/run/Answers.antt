@@ -1,3 +1,4 @@
+use Rattle.metis_top.proofs.Deployments.{OrderLaws}
 use Rattle.metis_top.proofs.OverFiles.{ran_tells, ran_headline}
 use Rattle.metis_top.proofs.Openings.{ran_opens}
 use Rattle.metis_top.proofs.ReadFaults.{ran_read_fault}
@@ -10,7 +11,15 @@ pub returns-clause-told : goal.returns-clause-told
 returns-clause-told g c = ran_tells _ _ _ _ _ _ _ _ _ _ _ c.follow.ensures
 
 pub returns-clause-headline : goal.returns-clause-headline
-returns-clause-headline g c = ran_headline _ _ _ _ _ (texts c.args.words.now) _ _ _ _ _ c.follow.ensures
+returns-clause-headline g c =
+    let laws : OrderLaws = record {
+      runs = c.kept_order_is_a_run.ensures;
+      alike = c.complete_order_ends_alike.ensures;
+      kept = c.own_order_is_kept.ensures.kept;
+      complete = c.own_order_is_kept.ensures.complete;
+      same = c.own_order_is_kept.ensures.same;
+    } in
+    ran_headline laws _ _ _ _ _ (texts c.args.words.now) _ _ _ _ _ c.follow.ensures
 
 pub returns-clause-read_fault : goal.returns-clause-read_fault
 returns-clause-read_fault g c = ran_read_fault _ _ _ _ _ (form_of (texts c.args.words.now)) _ _ _ _ _ c.follow.ensures

@@ -1,0 +1,41 @@
+-- What the headline promises of the plan that is printed.
+--     InAnyOrder u g actions      run from the empty configuration in any order that keeps their waits, the actions meet only correct configurations, and end with every target
+--     Deploys u g lines      the lines are the text of a plan whose actions do so, and that makes few instances
+--     DeploysOrRefuses u g lines status      the lines are those of such a plan where some list of actions attains the targets, and else of a closed set of pairs that lacks one
+use Rattle.std.specs.Prelude.{◌≡◌, ◌⊎◌, ℕ, ◌+◌, ◌≤◌, List, length, IsTrue}
+use Rattle.std.specs.List.{count_by}
+use Rattle.metis_ids.specs.Action.{makes}
+use Rattle.metis_ids.specs.Plans.{Plan}
+use Rattle.metis_ids.specs.declared.actions.Action.{Action}
+use Rattle.metis_universe.specs.Config.{Config, empty}
+use Rattle.metis_universe.specs.Goal.{Attains, Holds, IsAttainedSet}
+use Rattle.metis_universe.specs.Step.{IsRun, after_all}
+use Rattle.metis_universe.specs.Universe.{Universe}
+use Rattle.metis_universe.specs.Waits.{IsKept, is_complete, numbers, picked}
+use Rattle.metis_top.specs.Planned.{Refuses, plan_text}
+use Rattle.metis_top.specs.declared.status.Status.{Status}
+use Rattle.metis_top.specs.declared.status.Status.TheVariants.{Done, No}
+
+-- Each order that keeps the waits, complete or not, is a run from the empty configuration, so it meets only correct
+-- configurations. All that are complete end in one configuration, which holds every target. The order of the text is one of them.
+pub record InAnyOrder (u : Universe) (g : List ℕ) (actions : List Action) : Type 0 where
+  pub runs : (ks : List ℕ) → IsKept actions ks → IsRun u empty (picked actions ks)
+  pub last : Config
+  pub ends_alike : (ks : List ℕ) → IsKept actions ks → IsTrue (is_complete actions ks) → after_all u empty (picked actions ks) ≡ last
+  pub holds : Holds last g
+  pub own_kept : IsKept actions (numbers actions)
+  pub own_complete : IsTrue (is_complete actions (numbers actions))
+  pub own_same : picked actions (numbers actions) ≡ actions
+
+-- It makes no more instances than there are attainable pairs and targets.
+pub record Deploys (u : Universe) (g : List ℕ) (lines : List (List ℕ)) : Type 0 where
+  pub attains : Attains u g
+  pub plan : Plan
+  pub any_order : InAnyOrder u g plan.actions
+  pub attained : List ℕ
+  pub all : IsAttainedSet u attained
+  pub few : count_by makes plan.actions ≤ length attained + length g
+  pub told : lines ≡ plan_text u plan
+
+abbrev pub DeploysOrRefuses : Universe → List ℕ → List (List ℕ) → Status → Type 0
+DeploysOrRefuses u g lines status = ((status ≡ Done) × Deploys u g lines) ⊎ ((status ≡ No) × Refuses u g lines)
