@@ -6,7 +6,7 @@ use Rattle.std.specs.List.Sorted.{IsStrictlyIncreasing}
 use Rattle.std.proofs.lemmas.Bool.{and_from, and_parts, lt-ltb, ltb-true}
 use Rattle.std.proofs.lemmas.List.Elements.{All-from_recursion, recursion_from_All}
 use Rattle.std.proofs.lemmas.List.Folds.{list_all-append}
-use Rattle.metis_universe.proofs.ProviderRows.{Rises, rises}
+use Rattle.metis_universe.proofs.PortRows.{Rises, rises}
 use Rattle.metis_universe.specs.Universe.{IsTable, Universe, pair_count}
 use Rattle.metis_text.specs.RefusalReading.{above}
 use Rattle.metis_text.specs.RefusalText.{IsRefusal}
