@@ -9,7 +9,7 @@ ghost use Rattle.metis_actions.specs.Faults.{IsFaultOf, fault_of, takes_memory};
 ghost use Rattle.metis_replay.specs.Progress.{IsVerdictOf, fed, left_by, start, verdict};
 
 use crate::Verdict;
-use crate::shortage::shortage;
+use crate::lacking::shortage;
 use metis_actions::{AFault, apply};
 use metis_config::Config;
 use metis_ids::{Action, NoMemory, PairIx};
