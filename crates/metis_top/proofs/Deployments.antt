@@ -43,5 +43,5 @@ module _ (laws : OrderLaws) (u : Universe) (g : List ℕ) where
   }
 
   pub answer_deploys : (lines : List (List ℕ)) (status : Status) → PlanAnswer u g lines status → DeploysOrRefuses u g lines status
-  answer_deploys lines status (inl (done, plans)) = inl (done, deploys lines plans)
-  answer_deploys lines status (inr (no, refuses)) = inr (no, refuses)
+  answer_deploys lines status (inl (is, plans)) = inl (is, deploys lines plans)
+  answer_deploys lines status (inr (is, refuses)) = inr (is, refuses)
