@@ -11,6 +11,7 @@ pub mod Planned
 pub mod PutLines
 pub mod Replayed
 pub mod Script
+pub mod Simulated
 pub mod Statuses
 pub mod TargetName
 pub mod Words
