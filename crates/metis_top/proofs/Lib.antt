@@ -10,4 +10,5 @@ pub mod ReadFaults
 pub mod Refused
 pub mod Replies
 pub mod SaidLines
+pub mod Sessions
 pub mod Shown

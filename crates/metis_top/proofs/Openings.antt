@@ -7,9 +7,9 @@ use Rattle.metis_top.specs.declared.refusal.Refusal.{Refusal}
 use Rattle.metis_top.specs.declared.refusal.Refusal.TheVariants.{TooLong, Word}
 use Rattle.metis_top.specs.declared.status.Status.{Status}
 use Rattle.metis_top.specs.declared.words.Verb.{Verb}
-use Rattle.metis_top.specs.declared.words.Verb.TheVariants.{Plan, Replay, Refute, Print}
+use Rattle.metis_top.specs.declared.words.Verb.TheVariants.{Plan, Replay, Refute, Sim, Print}
 use Rattle.metis_top.specs.Answer as answer
-use Rattle.metis_top.specs.Commands.{judged, or_plan_refused, or_refusal_refused, or_universe_refused, pairs_named, plan_limit, refusal_limit, refute_then, replay_then, command_script, script_from, universe_then}
+use Rattle.metis_top.specs.Commands.{judged, or_plan_refused, or_refusal_refused, or_universe_refused, pairs_named, plan_limit, refusal_limit, refute_then, replay_then, session_limit, sim_then, command_script, script_from, universe_then}
 use Rattle.metis_top.specs.Course.{Ran, AreTaken, IsRead, OnShelf, after}
 use Rattle.metis_ujson.specs.Document.{document_limit, universe_in}
 use Rattle.metis_top.specs.Forms.{file_count}
@@ -56,17 +56,22 @@ at_most_refute u g text = λ bytes.
     at_most_if 0 (nat_le (length bytes) refusal_limit) (judged (λ parts. Reply (answer.Refute u g parts.pairs)) (or_refusal_refused (refusal_in u bytes))) (TooLong 3)
     (at_most_judged 0 (λ parts. Reply (answer.Refute u g parts.pairs)) (or_refusal_refused (refusal_in u bytes)) (λ parts. tt))
 
+at_most_sim : (u : Universe) (input : List ℕ) → IsAtMost 1 (sim_then input u)
+at_most_sim u input = λ bytes. at_most_if 0 (nat_le (length bytes) session_limit) (Reply (answer.Sim u bytes)) (TooLong 3) tt
+
 -- the files of each command
 at_most_command : (verb : Verb) (files : List (List ℕ)) (targets : List TargetName) → IsAtMost (file_count verb) (command_script verb files targets)
 at_most_command Plan files targets = at_most_universe 0 2 (word_at files 0) _ (λ u. at_most_judged 0 (λ g. Reply (answer.Plan u g)) (pairs_named 3 u targets) (λ g. tt))
 at_most_command Replay files targets = at_most_universe 1 2 (word_at files 0) _ (λ u. at_most_judged 1 (λ g. replay_then (word_at files 1) (u, g)) (pairs_named 4 u targets) (λ g. at_most_replay u g (word_at files 1)))
 at_most_command Refute files targets = at_most_universe 1 2 (word_at files 0) _ (λ u. at_most_judged 1 (λ g. refute_then (word_at files 1) (u, g)) (pairs_named 4 u targets) (λ g. at_most_refute u g (word_at files 1)))
+at_most_command Sim files targets = at_most_universe 1 2 (word_at files 0) _ (λ u. at_most_sim u (word_at files 1))
 at_most_command Print files targets = at_most_universe 0 2 (word_at files 0) _ (λ u. tt)
 
 first_read : (verb : Verb) (files : List (List ℕ)) (targets : List TargetName) → IsRead (command_script verb files targets)
 first_read Plan files targets = tt
 first_read Replay files targets = tt
 first_read Refute files targets = tt
+first_read Sim files targets = tt
 first_read Print files targets = tt
 
 -- what is left of a script after so many files

@@ -8,14 +8,14 @@ use Rattle.metis_top.specs.declared.refusal.Refusal.TheVariants as refusal
 use Rattle.metis_top.specs.declared.status.Status.{Status}
 use Rattle.metis_top.specs.declared.status.Status.TheVariants.{Done, No, ReadFault}
 use Rattle.metis_top.specs.declared.words.Verb.{Verb}
-use Rattle.metis_top.specs.declared.words.Verb.TheVariants.{Plan, Replay, Refute, Print}
+use Rattle.metis_top.specs.declared.words.Verb.TheVariants.{Plan, Replay, Refute, Sim, Print}
 use Rattle.metis_top.specs.Answer as answer
 use Rattle.metis_top.specs.Answer.{Answer, IsAnswer}
 use Rattle.metis_replay.specs.declared.verdict.Verdict.{Verdict}
 use Rattle.metis_replay.specs.declared.verdict.Verdict.TheVariants.{Good, Bad, Missing}
 use Rattle.metis_text.specs.Reading.{plan_in}
 use Rattle.metis_text.specs.RefusalReading.{refusal_in}
-use Rattle.metis_top.specs.Commands.{universe_then, judged, or_plan_refused, or_refusal_refused, or_universe_refused, pairs_named, plan_limit, refusal_limit, refute_then, replay_then, command_script, script_from}
+use Rattle.metis_top.specs.Commands.{universe_then, judged, or_plan_refused, or_refusal_refused, or_universe_refused, pairs_named, plan_limit, refusal_limit, refute_then, replay_then, session_limit, sim_then, command_script, script_from}
 use Rattle.metis_refusal.specs.declared.verdict.Verdict2.{Verdict2}
 use Rattle.metis_refusal.specs.declared.verdict.Verdict2.TheVariants.{Closed, NotFree, Open, LacksNone}
 use Rattle.metis_top.specs.Judged.{judgement_status}
@@ -46,6 +46,7 @@ answer_status (answer.Plan u targets) lines status (inl is) = inl is.0
 answer_status (answer.Plan u targets) lines status (inr is) = inr is.0
 answer_status (answer.Replay u targets actions) lines status is = verdict_ends is.verdict status is.is
 answer_status (answer.Refute u targets set) lines status is = judgement_ends is.verdict status is.is
+answer_status (answer.Sim u script) lines status is = inl is.is
 answer_status (answer.Print u) lines status is = inl is.1
 
 not_read_fault : (status : Status) → (status ≡ Done) ⊎ (status ≡ No) → status ≡ ReadFault → ⊥
@@ -110,11 +111,15 @@ numbered_refute u g text = (
       (numbered_judged 4 (λ parts. Reply (answer.Refute u g parts.pairs)) (or_refusal_refused (refusal_in u bytes)) (λ parts. tt)),
 )
 
+numbered_sim : (u : Universe) (input : List ℕ) → Numbered 3 (sim_then input u)
+numbered_sim u input = (refl, λ bytes. numbered_if 4 (nat_le (length bytes) session_limit) (Reply (answer.Sim u bytes)) (TooLong 3) tt)
+
 -- the script of each command
 numbered_command : (verb : Verb) (files : List (List ℕ)) (targets : List TargetName) → Numbered 2 (command_script verb files targets)
 numbered_command Plan files targets = numbered_universe 2 (word_at files 0) _ (λ u. numbered_judged 3 (λ g. Reply (answer.Plan u g)) (pairs_named 3 u targets) (λ g. tt))
 numbered_command Replay files targets = numbered_universe 2 (word_at files 0) _ (λ u. numbered_judged 3 (λ g. replay_then (word_at files 1) (u, g)) (pairs_named 4 u targets) (λ g. numbered_replay u g (word_at files 1)))
 numbered_command Refute files targets = numbered_universe 2 (word_at files 0) _ (λ u. numbered_judged 3 (λ g. refute_then (word_at files 1) (u, g)) (pairs_named 4 u targets) (λ g. numbered_refute u g (word_at files 1)))
+numbered_command Sim files targets = numbered_universe 2 (word_at files 0) _ (λ u. numbered_sim u (word_at files 1))
 numbered_command Print files targets = numbered_universe 2 (word_at files 0) _ (λ u. tt)
 
 numbered_script : (form : Result Form ℕ) → Numbered 2 (script_from form)

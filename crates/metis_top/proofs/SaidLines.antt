@@ -1,10 +1,11 @@
 -- What a run says are lines.
 --     SaysLines script      what is said where the script ends so is lines, whatever its files have
-use Rattle.std.proofs.Common.{◌≡◌, ◌≢◌, ℕ, ◌+◌, Bool, true, false, List, [], ◌∷◌, ◌++◌, length, Option, Some, None, Result, Ok, Err, refl, sym, ap, subst, inl, inr, nat_le, if◌then◌else◌, decimal, arith}
+use Rattle.std.proofs.Common.{◌≡◌, ◌≢◌, ℕ, ◌+◌, Bool, true, false, List, [], ◌∷◌, ◌++◌, length, map, Option, Some, None, Result, Ok, Err, refl, sym, ap, subst, inl, inr, nat_le, if◌then◌else◌, decimal, arith}
 use Rattle.std.specs.Prelude.{codes}
 use Rattle.std.specs.List.{All, list_all}
 use Rattle.std.proofs.lemmas.Bool.{and_from}
 use Rattle.metis_actions.specs.Faults.{fault_text, fault_tokens}
+use Rattle.std.proofs.lemmas.List.Elements.{All-append, All-cons}
 use Rattle.metis_actions.specs.declared.faults.AFault.{AFault}
 use Rattle.metis_actions.specs.declared.faults.AFault.TheVariants as afault
 use Rattle.metis_outside.proofs.Feeds.{IsLine-append, IsLine-from, no_feed, no_feed-decimal, no_feed-join_with_byte, one_line}
@@ -14,6 +15,11 @@ use Rattle.metis_refusal.specs.declared.verdict.Verdict2.{Verdict2}
 use Rattle.metis_refusal.specs.declared.verdict.Verdict2.TheVariants.{Closed, NotFree, Open, LacksNone}
 use Rattle.metis_replay.specs.declared.verdict.Verdict.{Verdict}
 use Rattle.metis_replay.specs.declared.verdict.Verdict.TheVariants.{Good, Bad, Missing}
+use Rattle.metis_sim.specs.Replies.{binding_line, counts_line, instance_line, part_lines, reply_lines, show_lines}
+use Rattle.metis_sim.specs.Session.{Session, after_line, begin, reply as reply_to}
+use Rattle.metis_sim.specs.declared.reply.Reply.{Reply as SessionReply}
+use Rattle.metis_sim.specs.declared.reply.Reply.TheVariants as reply
+use Rattle.metis_universe.specs.Config.{Binding, Config}
 use Rattle.metis_text.proofs.LineFeeds.{no_feed-pair_word, no_feed-port_name_of, plan_lines_are_lines, refusal_lines_are_lines}
 use Rattle.metis_text.proofs.NamedFaults.{plan_in_named, refusal_in_named}
 use Rattle.metis_universe.specs.PairWords.{pair_word}
@@ -26,12 +32,12 @@ use Rattle.metis_ujson.proofs.OneLine.{IsLine-canonical}
 use Rattle.metis_ujson.specs.Document.{document_limit, universe_in}
 use Rattle.metis_ujson.specs.declared.faults.UFault.{UFault}
 use Rattle.metis_ujson.specs.declared.faults.UFault.TheVariants as ufault
-use Rattle.metis_universe.specs.Universe.{IsNamed, IsTable, Universe, pair_named}
+use Rattle.metis_universe.specs.Universe.{IsNamed, IsTable, Universe, pair_named, port_name_of}
 use Rattle.metis_universe.specs.declared.faults.LimitKind.{LimitKind}
 use Rattle.metis_universe.specs.declared.faults.LimitKind.TheVariants.{Pairs, Ports, Requires, States}
 use Rattle.metis_top.specs.Answer as answer
 use Rattle.metis_top.specs.Answer.{Answer, IsAnswer}
-use Rattle.metis_top.specs.Commands.{command_script, judged, or_plan_refused, or_refusal_refused, or_universe_refused, or_word, pair_then, pairs_after, pairs_named, plan_limit, refusal_limit, refute_then, replay_then, script_from, targets_then, universe_then}
+use Rattle.metis_top.specs.Commands.{command_script, judged, or_plan_refused, or_refusal_refused, or_universe_refused, or_word, pair_then, pairs_after, pairs_named, plan_limit, refusal_limit, refute_then, replay_then, script_from, session_limit, sim_then, targets_then, universe_then}
 use Rattle.metis_top.specs.Course.{Ran, Says, Shown, after}
 use Rattle.metis_top.specs.Judged as judged_specs
 use Rattle.metis_top.specs.Judged.{judgement_line}
@@ -39,14 +45,22 @@ use Rattle.metis_top.specs.Lines.{limit_line, plan_fault_line, read_fault_line, 
 use Rattle.metis_top.specs.PutLines.{PutsLines}
 use Rattle.metis_top.specs.Replayed.{verdict_line}
 use Rattle.metis_top.specs.Script.{Script, Read, Refuse, Reply}
+use Rattle.metis_top.specs.Simulated.{replies_to, script_lines}
 use Rattle.metis_top.specs.TargetName.{TargetName}
 use Rattle.metis_top.specs.Words.{Form, word_at}
 use Rattle.metis_top.specs.declared.refusal.Refusal.{Refusal}
 use Rattle.metis_top.specs.declared.refusal.Refusal.TheVariants.{Word, TooLong}
 use Rattle.metis_top.specs.declared.status.Status.{Status}
 use Rattle.metis_top.specs.declared.words.Verb.{Verb}
-use Rattle.metis_top.specs.declared.words.Verb.TheVariants.{Plan, Replay, Refute, Print}
+use Rattle.metis_top.specs.declared.words.Verb.TheVariants.{Plan, Replay, Refute, Sim, Print}
 use Rattle.std.specs.declared.option.Option.{Option as Known}
+
+no_lines : All IsLine []
+no_lines = λ k d within. absurd (omega arith)
+
+each_line : {X : Type 0} (text : X → List ℕ) (xs : List X) → ((x : X) → IsLine (text x)) → All IsLine (map text xs)
+each_line text [] each = no_lines
+each_line text (x ∷ xs) each = All-cons IsLine (text x) (map text xs) (each x) (each_line text xs each)
 
 -- ---- lines that end with a number or a word
 
@@ -152,6 +166,37 @@ module _ (u : Universe) (named : IsNamed u) where
       word_then (codes "open ") (pair_word u p) (codes " " ++ (pair_word u q ++ codes "\n")) refl (no_feed-pair_word u named p) (by_word (codes " ") (pair_word u q) refl (no_feed-pair_word u named q))
   IsLine-judgement_line LacksNone = IsLine-from (codes "lacksnone") refl
 
+  IsLine-instance_line : (e : ℕ × ℕ) → IsLine (instance_line u e)
+  IsLine-instance_line e = IsLine-append (decimal e.0) (codes " " ++ (pair_word u e.1 ++ codes "\n")) (no_feed-decimal e.0) (by_word (codes " ") (pair_word u e.1) refl (no_feed-pair_word u named e.1))
+
+  IsLine-binding_line : (b : Binding) → IsLine (binding_line u b)
+  IsLine-binding_line b =
+      IsLine-append (port_name_of u b.0) (codes " " ++ (decimal b.1 ++ (codes " " ++ (decimal b.2 ++ codes "\n")))) (no_feed-port_name_of u named b.0) (by_two (codes " ") b.1 (codes " ") b.2 refl refl)
+
+  show_are_lines : (c : Config) → All IsLine (show_lines u c)
+  show_are_lines c =
+      All-cons IsLine (counts_line c) (part_lines u c) (by_two (codes "instances ") (length c.instances) (codes " bindings ") (length c.bindings) refl refl)
+      (All-append IsLine (map (instance_line u) c.instances) (map (binding_line u) c.bindings) (each_line (instance_line u) c.instances IsLine-instance_line) (each_line (binding_line u) c.bindings IsLine-binding_line))
+
+  reply_are_lines : (c : Config) (r : SessionReply) → All IsLine (reply_lines u c r)
+  reply_are_lines c reply.Did = one_line (codes "ok\n") (IsLine-from (codes "ok") refl)
+  reply_are_lines c (reply.Refused f) = one_line _ (by_word (codes "refused ") (fault_text u f) refl (no_feed-join_with_byte 32 (fault_tokens u f) refl (no_feed-fault_tokens f)))
+  reply_are_lines c reply.Show = show_are_lines c
+  reply_are_lines c reply.Undone = one_line (codes "undone\n") (IsLine-from (codes "undone") refl)
+  reply_are_lines c reply.Nothing = one_line (codes "nothing\n") (IsLine-from (codes "nothing") refl)
+  reply_are_lines c reply.Holds = one_line (codes "holds\n") (IsLine-from (codes "holds") refl)
+  reply_are_lines c (reply.Missing p have want) = one_line _ (IsLine-verdict_line 0 0 (Missing p have want))
+  reply_are_lines c reply.Bye = one_line (codes "bye\n") (IsLine-from (codes "bye") refl)
+  reply_are_lines c reply.BadLine = one_line (codes "bad line\n") (IsLine-from (codes "bad line") refl)
+  reply_are_lines c reply.Unknown = one_line (codes "unknown\n") (IsLine-from (codes "unknown") refl)
+  reply_are_lines c reply.Ended = no_lines
+  reply_are_lines c reply.NoMemory = no_lines
+
+  replies_are_lines : (s : Session) (lines : List (List ℕ)) → All IsLine (replies_to u s lines)
+  replies_are_lines s [] = no_lines
+  replies_are_lines s (line ∷ lines) =
+      All-append IsLine (reply_lines u (after_line s line).config (reply_to s line)) (replies_to u (after_line s line) lines) (reply_are_lines (after_line s line).config (reply_to s line)) (replies_are_lines (after_line s line) lines)
+
 just_one : (line : List ℕ) (lines : List (List ℕ)) → IsLine line → lines ≡ line ∷ [] → All IsLine lines
 just_one line lines is same = subst (All IsLine) (sym same) (one_line line is)
 
@@ -168,6 +213,9 @@ module _ (u : Universe) (table : IsTable u) where
 
   refute_answers : (g set : List ℕ) → AnswersLines (answer.Refute u g set)
   refute_answers g set lines status is = just_one _ lines (IsLine-judgement_line u table.named is.verdict) is.told
+
+  sim_answers : (script : List ℕ) → AnswersLines (answer.Sim u script)
+  sim_answers script lines status is = subst (All IsLine) (sym is.told) (replies_are_lines u table.named (begin u) (script_lines script))
 
 print_answers : (u : Universe) → AnswersLines (answer.Print u)
 print_answers u lines status is = just_one _ lines (IsLine-canonical u) is.0
@@ -249,11 +297,15 @@ lines_refute u table g text = λ bytes.
     lines_if (nat_le (length bytes) refusal_limit) (judged next (or_refusal_refused (refusal_in u bytes))) 3
     (lines_judged next (or_refusal_refused (refusal_in u bytes)) (λ parts. refute_answers u table g parts.pairs) (refusal_refuses (refusal_in u bytes) (refusal_in_named u bytes)))
 
+lines_sim : (u : Universe) → IsTable u → (input : List ℕ) → SaysLines (sim_then input u)
+lines_sim u table input = λ bytes. lines_if (nat_le (length bytes) session_limit) (Reply (answer.Sim u bytes)) 3 (sim_answers u table bytes)
+
 -- the script of each command
 lines_command : (verb : Verb) (files : List (List ℕ)) (targets : List TargetName) → SaysLines (command_script verb files targets)
 lines_command Plan files targets = lines_universe 2 (word_at files 0) _ (λ u table. lines_targets 3 u targets (λ g. Reply (answer.Plan u g)) (plan_answers u table))
 lines_command Replay files targets = lines_universe 2 (word_at files 0) _ (λ u table. lines_targets 4 u targets (λ g. replay_then (word_at files 1) (u, g)) (λ g. lines_replay u table g (word_at files 1)))
 lines_command Refute files targets = lines_universe 2 (word_at files 0) _ (λ u table. lines_targets 4 u targets (λ g. refute_then (word_at files 1) (u, g)) (λ g. lines_refute u table g (word_at files 1)))
+lines_command Sim files targets = lines_universe 2 (word_at files 0) _ (λ u table. lines_sim u table (word_at files 1))
 lines_command Print files targets = lines_universe 2 (word_at files 0) _ (λ u table. print_answers u)
 
 lines_script : (form : Result Form ℕ) → SaysLines (script_from form)
@@ -261,9 +313,6 @@ lines_script (Ok form) = lines_command form.verb form.files form.targets
 lines_script (Err place) = IsLine-word place
 
 -- ---- runs
-
-no_lines : All IsLine []
-no_lines = λ k d within. absurd (omega arith)
 
 puts_lines : (script : Script) (old new : Known (List (List ℕ))) (before now : ℕ) (status : Status) → SaysLines script → Shown (Says script) old new before now status → PutsLines old new status
 puts_lines script old new before now status says (inl whole) =

@@ -6,15 +6,18 @@ use Rattle.metis_universe.specs.Universe.{Universe}
 use Rattle.metis_top.specs.Judged.{Judged}
 use Rattle.metis_top.specs.Planned.{PlanAnswer}
 use Rattle.metis_top.specs.Replayed.{Replayed}
+use Rattle.metis_top.specs.Simulated.{Simulated}
 use Rattle.metis_top.specs.declared.status.Status.{Status}
 use Rattle.metis_top.specs.declared.status.Status.TheVariants.{Done}
 
 -- A plan for these targets or a refusal of them, where there may be several such texts; or what these actions came to, where
--- the targets were asked for; or what a set of pairs comes to as a refusal of these targets; or the universe's own document.
+-- the targets were asked for; or what a set of pairs comes to as a refusal of these targets; or what a session over the universe
+-- replies to the lines of this script; or the universe's own document.
 pub data Answer : Type 0 where
   Plan : (u : Universe) (targets : List ℕ) → Answer
   Replay : (u : Universe) (targets : List ℕ) (actions : List Action) → Answer
   Refute : (u : Universe) (targets set : List ℕ) → Answer
+  Sim : (u : Universe) (script : List ℕ) → Answer
   Print : (u : Universe) → Answer
 
 -- these are the lines of such an answer, and its status
@@ -22,4 +25,5 @@ abbrev pub IsAnswer : Answer → List (List ℕ) → Status → Type 0
 IsAnswer (Plan u targets) lines status = PlanAnswer u targets lines status
 IsAnswer (Replay u targets actions) lines status = Replayed u targets actions lines status
 IsAnswer (Refute u targets set) lines status = Judged u targets set lines status
+IsAnswer (Sim u script) lines status = Simulated u script lines status
 IsAnswer (Print u) lines status = (lines ≡ canonical u ∷ []) × (status ≡ Done)

@@ -5,7 +5,7 @@ use Rattle.metis_top.specs.declared.refusal.Refusal.{Refusal}
 use Rattle.metis_top.specs.declared.refusal.Refusal.TheVariants.{Word, TooLong}
 use Rattle.metis_top.specs.declared.refusal.Refusal.TheVariants as refusal
 use Rattle.metis_top.specs.declared.words.Verb.{Verb}
-use Rattle.metis_top.specs.declared.words.Verb.TheVariants.{Plan, Replay, Refute, Print}
+use Rattle.metis_top.specs.declared.words.Verb.TheVariants.{Plan, Replay, Refute, Sim, Print}
 use Rattle.metis_top.specs.Answer as answer
 use Rattle.metis_text.specs.Reading.{Parts, plan_in}
 use Rattle.metis_text.specs.RefusalReading.{RefusalParts, refusal_in}
@@ -94,6 +94,10 @@ refusal_in_then u bytes next = judged next (or_refusal_refused (refusal_in u byt
 abbrev pub refusal_then : ℕ → Universe → List ℕ → (RefusalParts → Script) → Script
 refusal_then place u name next = bytes_then place name refusal_limit (λ bytes. refusal_in_then u bytes next)
 
+-- the most bytes of the script of a session
+abbrev pub session_limit : ℕ
+session_limit = 65536
+
 abbrev pub plan_script : List ℕ → List TargetName → Script
 plan_script file targets = goal_then 3 file targets (λ goal. Reply (answer.Plan goal.0 goal.1))
 
@@ -111,6 +115,13 @@ refute_then text goal = refusal_then 3 goal.0 text (λ parts. Reply (answer.Refu
 abbrev pub refute_script : List ℕ → List ℕ → List TargetName → Script
 refute_script file text targets = goal_then 4 file targets (refute_then text)
 
+-- what a simulation does once it has its universe
+abbrev pub sim_then : List ℕ → Universe → Script
+sim_then input u = bytes_then 3 input session_limit (λ bytes. Reply (answer.Sim u bytes))
+
+abbrev pub sim_script : List ℕ → List ℕ → Script
+sim_script file input = universe_then 2 file (sim_then input)
+
 abbrev pub print_script : List ℕ → Script
 print_script file = universe_then 2 file (λ u. Reply (answer.Print u))
 
@@ -119,6 +130,7 @@ abbrev pub command_script : Verb → List (List ℕ) → List TargetName → Scr
 command_script Plan files targets = plan_script (word_at files 0) targets
 command_script Replay files targets = replay_script (word_at files 0) (word_at files 1) targets
 command_script Refute files targets = refute_script (word_at files 0) (word_at files 1) targets
+command_script Sim files targets = sim_script (word_at files 0) (word_at files 1)
 command_script Print files targets = print_script (word_at files 0)
 
 -- the script of a run from its words

@@ -12,6 +12,7 @@ pub mod Planned
 pub mod PutLines
 pub mod Replayed
 pub mod Script
+pub mod Simulated
 pub mod Statuses
 pub mod TargetName
 pub mod Words

@@ -4,12 +4,14 @@
 mod grammar;
 mod in_memory;
 mod judgement_line;
+mod laws;
 mod plan;
 mod print;
 mod reading;
 mod refusal;
 mod refute;
 mod replay;
+mod sim;
 mod status;
 mod stop;
 mod top;
@@ -18,6 +20,7 @@ mod words;
 
 pub use grammar::read_words;
 pub use in_memory::run_in_memory;
+pub use laws::nothing_is_put_behind_quit;
 pub use status::Status;
 pub use top::run;
 pub use words::{Command, TargetWord, Verb, WordFault};

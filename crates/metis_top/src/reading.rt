@@ -5,7 +5,7 @@ ghost use Rattle.metis_universe.specs.Universe.{pair_count};
 ghost use Rattle.metis_universe.specs.Numbers.{IsOf};
 ghost use Rattle.metis_text.specs.Reads.{parts_of};
 ghost use Rattle.metis_text.specs.RefusalReading.{refusal_of};
-ghost use Rattle.metis_top.specs.Commands.{bytes_then, universe_in_then, universe_then, targets_then, goal_then, plan_in_then, plan_then, refusal_in_then, refusal_then};
+ghost use Rattle.metis_top.specs.Commands.{bytes_then, universe_in_then, universe_then, targets_then, goal_then, plan_in_then, plan_then, refusal_in_then, refusal_then, session_limit};
 ghost use Rattle.metis_top.specs.Course.{Gathers, Judges, or_stop};
 
 use crate::refusal::{Refusal, Stop};
@@ -22,6 +22,9 @@ const PLAN_LIMIT: u64 = 268_435_456;
 
 /// The most bytes of a refusal's text.
 const REFUSAL_LIMIT: u64 = 1_048_576;
+
+/// The most bytes of the script of a session.
+const SESSION_LIMIT: u64 = 65_536;
 
 // What a reading gives, or why it stops the run.
 fn or_stop(read: Result<Vec<u8>, ReadAnswer>, place: u32) -> Result<Vec<u8>, Stop>
@@ -172,4 +175,16 @@ pub fn refusal_from<H: Shelf>(
 {
     let bytes = bytes_from(alloc, shelf, place, name, REFUSAL_LIMIT)?;
     refusal_in(alloc, u, &bytes)
+}
+
+/// The script of a session in the file of the word at this place.
+pub fn session_script_from<H: Shelf>(
+    alloc: Global,
+    shelf: &mut H,
+    place: u32,
+    name: &str,
+) -> Result<Vec<u8>, Stop>
+    ensures { Gathers H.files H.faults H.opens (λ bytes. bytes.items) (bytes_then place name.now session_limit) shelf.old shelf.new result }
+{
+    bytes_from(alloc, shelf, place, name, SESSION_LIMIT)
 }

@@ -18,6 +18,7 @@ use crate::print::print_file;
 use crate::refusal::{Refusal, Stop};
 use crate::refute::refute_file;
 use crate::replay::replay_file;
+use crate::sim::sim_file;
 use crate::stop::end;
 use crate::words::{Command, Verb, WordFault};
 use metis_outside::{Shelf, Sink};
@@ -98,6 +99,10 @@ fn perform<H: Shelf, K: Sink>(
         Verb::Refute => {
             let (file, text) = (command.file(0), command.file(1));
             refute_file(alloc, file, text, command.targets(), shelf, out)
+        }
+        Verb::Sim => {
+            let (file, input) = (command.file(0), command.file(1));
+            sim_file(alloc, file, input, shelf, out)
         }
         Verb::Print => print_file(alloc, command.file(0), shelf, out),
     }

@@ -14,6 +14,8 @@ pub enum Verb {
     Replay,
     /// Checks a refusal of target words.
     Refute,
+    /// Runs a session.
+    Sim,
     /// Prints the universe.
     Print,
 }
@@ -25,7 +27,7 @@ impl Verb {
     {
         match self {
             Verb::Plan | Verb::Print => 1,
-            Verb::Replay | Verb::Refute => 2,
+            Verb::Replay | Verb::Refute | Verb::Sim => 2,
         }
     }
 
@@ -35,7 +37,7 @@ impl Verb {
     {
         match self {
             Verb::Plan | Verb::Replay | Verb::Refute => 256,
-            Verb::Print => 0,
+            Verb::Sim | Verb::Print => 0,
         }
     }
 }

@@ -1,0 +1,229 @@
+-- The replies to the lines of a session, one after the other.
+use Rattle.std.proofs.Common.{◌≡◌, ◌≢◌, ℕ, suc, ◌+◌, ◌-◌, ◌<◌, ◌≤◌, nat_eq, Bool, true, false, cond, List, [], ◌∷◌, ◌++◌, map, take, drop, get_or, codes, Option, Some, None, Result, Ok, Err, refl, sym, ap, ◌∙◌, subst, append_assoc, append-nil, arith}
+use Rattle.std.proofs.Math.Seq.{drop-cons}
+use Rattle.std.proofs.lemmas.Bool.{cond-false, cond-true}
+use Rattle.std.proofs.lemmas.Bool.Decides.{nat_tests}
+use Rattle.std.proofs.lemmas.List.{map-append, take-append-drop, take_all, take_more}
+use Rattle.std.specs.Str.{bytes_eq}
+use Rattle.std.specs.List.{list_all}
+use Rattle.std.specs.Prelude.{nat_le, length, ◌&&◌}
+use Rattle.std.specs.declared.option.Option.{Option as Known}
+use Rattle.metis_ids.specs.declared.actions.Action.{Action}
+use Rattle.metis_universe.specs.Config.{Config}
+use Rattle.metis_universe.specs.Universe.{Universe, is_empty}
+use Rattle.metis_text.specs.Tokens.{tokens}
+use Rattle.metis_outside.proofs.Writing.{Appends-trans, front_of_all, front_of_first, front_of_second, writes_then}
+use Rattle.metis_outside.specs.Writes.{Appends, AppendsFront, Writes}
+use Rattle.metis_outside.specs.declared.trouble.Trouble.{Trouble}
+use Rattle.metis_actions.specs.Faults.{fault_of}
+use Rattle.metis_actions.specs.declared.faults.AFault.{AFault}
+use Rattle.metis_replay.specs.Progress.{shortage}
+use Rattle.metis_sim.proofs.Answered.{each_answer}
+use Rattle.metis_sim.proofs.Courses.{answer_after_quit, over_by_bye}
+use Rattle.metis_sim.specs.Checks.{check_reply, most_targets, pairs_of, reply_on, said_by}
+use Rattle.metis_sim.specs.Orders.{action_in}
+use Rattle.metis_sim.specs.Replies.{reply_lines}
+use Rattle.metis_sim.specs.Session.{Answer, Session, acted, after_line, after_lines, answer, answer_to_line, answer_to_words, done_by, reply, session_of, undone, undone_by}
+use Rattle.metis_sim.specs.Words.{is_pair_word}
+use Rattle.metis_sim.specs.declared.misread.Misread.{Misread}
+use Rattle.metis_sim.specs.declared.misread.Misread.TheVariants.{Absent, Form, Name}
+use Rattle.metis_sim.specs.declared.reply.Reply.{Reply}
+use Rattle.metis_sim.specs.declared.reply.Reply.TheVariants.{BadLine, Bye, Ended, Show}
+use Rattle.metis_top.specs.Simulated.{replies_to, without_empty_end}
+
+-- ---- some lines, and then others
+
+pub after_lines-append : (s : Session) (first second : List (List ℕ)) → after_lines s (first ++ second) ≡ after_lines (after_lines s first) second
+after_lines-append s [] second = refl
+after_lines-append s (line ∷ first) second = after_lines-append (after_line s line) first second
+
+pub replies_to-append : (u : Universe) (s : Session) (first second : List (List ℕ)) → replies_to u s (first ++ second) ≡ replies_to u s first ++ replies_to u (after_lines s first) second
+replies_to-append u s [] second = refl
+replies_to-append u s (line ∷ first) second =
+    let here = reply_lines u (after_line s line).config (reply s line) in
+    ap (λ l. here ++ l) (replies_to-append u (after_line s line) first second)
+    ∙ sym (append_assoc here (replies_to u (after_line s line) first) (replies_to u (after_lines (after_line s line) first) second))
+
+-- ---- the end of a session
+
+-- once it has ended, nothing more is told
+pub replies_to-ended : (u : Universe) (s : Session) → s.ended ≡ true → (lines : List (List ℕ)) → replies_to u s lines ≡ []
+replies_to-ended u s over [] = refl
+replies_to-ended u s over (line ∷ lines) =
+    ap (λ (w : Answer). reply_lines u w.1.config w.0 ++ replies_to u w.1 lines) (answer_after_quit s over line) ∙ replies_to-ended u s over lines
+
+pub bye_is_the_last : (u : Universe) (s : Session) (line : List ℕ) (lines : List (List ℕ)) → reply s line ≡ Bye → replies_to u s (line ∷ lines) ≡ codes "bye\n" ∷ []
+bye_is_the_last u s line lines bye =
+    ap (λ q. reply_lines u (after_line s line).config q ++ replies_to u (after_line s line) lines) bye
+    ∙ ap (λ l. codes "bye\n" ∷ l) (replies_to-ended u (after_line s line) (over_by_bye s line bye) lines)
+
+-- ---- a session that has not ended
+
+module _ (s : Session) where
+  abbrev IsNotEnded : Answer → Type 0
+  IsNotEnded w = w.0 ≢ Ended
+
+  done_not_ended : (a : Action) (o : Option AFault) → IsNotEnded (done_by s a o)
+  done_not_ended a None = λ e. cc
+  done_not_ended a (Some f) = λ e. cc
+
+  acted_not_ended : (r : Result Action Misread) → IsNotEnded (acted s r)
+  acted_not_ended (Err Form) = λ e. cc
+  acted_not_ended (Err Name) = λ e. cc
+  acted_not_ended (Err (Absent z)) = λ e. cc
+  acted_not_ended (Ok a) = done_not_ended a (fault_of s.universe s.config a)
+
+  undone_not_ended : (earlier : List Config) → IsNotEnded (undone_by s earlier)
+  undone_not_ended [] = λ e. cc
+  undone_not_ended (c ∷ earlier) = λ e. cc
+
+  said_not_ended : (o : Option (ℕ × ℕ × ℕ)) → said_by o ≢ Ended
+  said_not_ended None = λ e. cc
+  said_not_ended (Some p) = λ e. cc
+
+  replied_not_ended : (o : Option (List ℕ)) → reply_on s.config o ≢ Ended
+  replied_not_ended None = λ e. cc
+  replied_not_ended (Some g) = said_not_ended (shortage s.config g)
+
+  checked_not_ended : (b : Bool) (o : Option (List ℕ)) → cond b (reply_on s.config o) BadLine ≢ Ended
+  checked_not_ended true o = replied_not_ended o
+  checked_not_ended false o = λ e. cc
+
+  either : (b : Bool) (w v : Answer) → IsNotEnded w → IsNotEnded v → IsNotEnded (cond b w v)
+  either true w v p q = p
+  either false w v p q = q
+
+  words_not_ended : (ts : List (List ℕ)) → IsNotEnded (answer_to_words s ts)
+  words_not_ended [] = λ e. cc
+  words_not_ended (verb ∷ words) =
+      either (bytes_eq verb (codes "check")) (check_reply s.universe s.config words, s) (acted s (action_in s.universe s.config verb words))
+      (checked_not_ended (nat_le (length words) most_targets && list_all is_pair_word words) (pairs_of s.universe words)) (acted_not_ended (action_in s.universe s.config verb words))
+
+  line_not_ended : (line : List ℕ) → IsNotEnded (answer_to_line s line)
+  line_not_ended line =
+      either (bytes_eq line (codes "undo")) (undone s) _ (undone_not_ended s.earlier)
+      (either (bytes_eq line (codes "quit")) (Bye, session_of s.universe s.config s.earlier true) _ (λ e. cc)
+      (either (bytes_eq line (codes "show")) (Show, s) (answer_to_words s (tokens line)) (λ e. cc) (words_not_ended (tokens line))))
+
+  -- while it has not ended, it does not reply that it has
+  pub reply_not_ended : s.ended ≡ false → (line : List ℕ) → reply s line ≢ Ended
+  reply_not_ended live line =
+      let P : Bool → Type 0 = λ b. IsNotEnded (cond b (Ended, s) (answer_to_line s line)) in
+      subst P (sym live) (line_not_ended line)
+
+  abbrev GoesOn : Answer → Type 0
+  GoesOn w = w.0 ≢ Bye → w.1.ended ≡ false
+
+  -- it ends by `quit` alone
+  pub goes_on : s.ended ≡ false → (line : List ℕ) → reply s line ≢ Bye → (after_line s line).ended ≡ false
+  goes_on live = each_answer s GoesOn (λ r still other. live) (λ _ a of none other. live) (λ c earlier is other. live) (λ other. absurd (other refl)) (λ ended other. live)
+
+  abbrev KeepsUniverse : Answer → Type 0
+  KeepsUniverse w = w.1.universe ≡ s.universe
+
+  pub universe_after_line : (line : List ℕ) → (after_line s line).universe ≡ s.universe
+  universe_after_line = each_answer s KeepsUniverse (λ r still. refl) (λ live a of none. refl) (λ c earlier is. refl) refl (λ ended. refl)
+
+-- the session t answers a line by r, which leaves t'
+module _ (u : Universe) (line : List ℕ) (t t' : Session) (r : Reply) (e : (r, t') ≡ answer t line) where
+  pub same_universe : t.universe ≡ u → t'.universe ≡ u
+  same_universe same = ap (λ (w : Answer). w.1.universe) e ∙ universe_after_line t line ∙ same
+
+  pub live_still : t.ended ≡ false → r ≢ Bye → t'.ended ≡ false
+  live_still live other = ap (λ (w : Answer). w.1.ended) e ∙ goes_on t live line (λ bye. other (ap (λ (w : Answer). w.0) e ∙ bye))
+
+  pub never_ended : t.ended ≡ false → r ≢ Ended
+  never_ended live ended = reply_not_ended t live line (sym (ap (λ (w : Answer). w.0) e) ∙ ended)
+
+-- ---- what is put of some of the lines
+
+-- The session t is s after the first lines, and answers the next one by r, which leaves t'.
+module _ (u : Universe) (s : Session) (first : List (List ℕ)) (line : List ℕ) (t t' : Session) (r : Reply) (at : t ≡ after_lines s first) (e : (r, t') ≡ answer t line) where
+  there : (r, t') ≡ answer (after_lines s first) line
+  there = e ∙ ap (λ q. answer q line) at
+
+  here : reply_lines u t'.config r ≡ reply_lines u (after_line (after_lines s first) line).config (reply (after_lines s first) line)
+  here = ap (λ (w : Answer). reply_lines u w.1.config w.0) there
+
+  -- the session after one more line
+  pub after_one_more : t' ≡ after_lines s (first ++ line ∷ [])
+  after_one_more = ap (λ (w : Answer). w.1) there ∙ sym (after_lines-append s first (line ∷ []))
+
+  -- the replies to one more line
+  pub appends_one_more : (old mid new : Known (List (List ℕ))) → Appends old mid (replies_to u s first) → Appends mid new (reply_lines u t'.config r) → Appends old new (replies_to u s (first ++ line ∷ []))
+  appends_one_more old mid new put more =
+      let q = after_lines s first in
+      let told = reply_lines u (after_line q line).config (reply q line) in
+      subst (λ l. Appends old new l) (sym (replies_to-append u s first (line ∷ []) ∙ ap (λ l. replies_to u s first ++ l) (append-nil told)))
+      (Appends-trans old mid new (replies_to u s first) told put (subst (λ l. Appends mid new l) here more))
+
+  module _ (rest all : List (List ℕ)) (is : first ++ line ∷ rest ≡ all) where
+    split_at : replies_to u s all ≡ replies_to u s first ++ replies_to u (after_lines s first) (line ∷ rest)
+    split_at = ap (replies_to u s) (sym is) ∙ replies_to-append u s first (line ∷ rest)
+
+    -- a front of one more reply
+    pub front_of_reply : (old mid new : Known (List (List ℕ))) → Appends old mid (replies_to u s first) → AppendsFront mid new (reply_lines u t'.config r) → AppendsFront old new (replies_to u s all)
+    front_of_reply old mid new put front =
+        let q = after_lines s first in
+        let told = reply_lines u (after_line q line).config (reply q line) in
+        subst (λ l. AppendsFront old new l) (sym split_at)
+        (front_of_second old mid new (replies_to u s first) (replies_to u q (line ∷ rest)) put (front_of_first mid new told (replies_to u (after_line q line) rest) (subst (λ l. AppendsFront mid new l) here front)))
+
+    -- the reply that ends the session
+    pub writes_last_reply : {T : Type 0} (old mid new : Known (List (List ℕ))) (w : Result T Trouble) → r ≡ Bye → Appends old mid (replies_to u s first) → Writes (codes "bye\n" ∷ []) mid new w → Writes (replies_to u s all) old new w
+    writes_last_reply old mid new w bye put writes =
+        let q = after_lines s first in
+        let told : replies_to u q (line ∷ rest) ≡ codes "bye\n" ∷ [] = bye_is_the_last u q line rest (sym (ap (λ (w : Answer). w.0) there) ∙ bye) in
+        subst (λ l. Writes l old new w) (sym (split_at ∙ ap (λ l. replies_to u s first ++ l) told)) (writes_then old mid new (replies_to u s first) (codes "bye\n" ∷ []) w put writes)
+
+-- the replies to the first lines alone
+pub front_of_replies : (u : Universe) (s : Session) (first rest all : List (List ℕ)) → first ++ rest ≡ all → (old new : Known (List (List ℕ))) → Appends old new (replies_to u s first) → AppendsFront old new (replies_to u s all)
+front_of_replies u s first rest all is old new put =
+    subst (λ l. AppendsFront old new l) (sym (ap (replies_to u s) (sym is) ∙ replies_to-append u s first rest))
+    (front_of_first old new (replies_to u s first) (replies_to u (after_lines s first) rest) (front_of_all old new (replies_to u s first) put))
+
+-- ---- lines that are lent, of which v gives the bytes
+
+module _ {A : Type 0} (v : A → List ℕ) (ws : List A) (i : ℕ) (d : A) (low : i < length ws) where
+  pub lines_split : map v (take i ws) ++ v (get_or ws i d) ∷ map v (drop (suc i) ws) ≡ map v ws
+  lines_split =
+      sym (map-append v (take i ws) (get_or ws i d ∷ drop (suc i) ws))
+      ∙ ap (map v) (ap (λ l. take i ws ++ l) (sym (drop-cons ws i d low)) ∙ take-append-drop i ws)
+
+  pub one_line_more : map v (take (i + 1) ws) ≡ map v (take i ws) ++ v (get_or ws i d) ∷ []
+  one_line_more = ap (map v) (take_more ws i d low) ∙ map-append v (take i ws) (get_or ws i d ∷ [])
+
+-- ---- the lines of a script
+
+same_start : (b : Bool) (y : List ℕ) (xs ys : List (List ℕ)) → cond b (y ∷ xs) (y ∷ ys) ≡ y ∷ cond b xs ys
+same_start true y xs ys = refl
+same_start false y xs ys = refl
+
+-- a last piece counts where it is not empty
+pub without_empty_end-append : (xs : List (List ℕ)) (x : List ℕ) → without_empty_end (xs ++ x ∷ []) ≡ cond (is_empty x) xs (xs ++ x ∷ [])
+without_empty_end-append [] x = refl
+without_empty_end-append (y ∷ []) x = sym (same_start (is_empty x) y [] (x ∷ []))
+without_empty_end-append (y ∷ z ∷ xs) x = ap (λ l. y ∷ l) (without_empty_end-append (z ∷ xs) x) ∙ sym (same_start (is_empty x) y (z ∷ xs) (z ∷ xs ++ x ∷ []))
+
+counted_empty : (xs : List ℕ) → nat_eq (length xs) 0 ≡ is_empty xs
+counted_empty [] = refl
+counted_empty (x ∷ xs) = grind (arith, nat_tests)
+
+-- the last of some pieces that are lent
+module _ {A : Type 0} (v : A → List ℕ) (ws : List A) (d : A) (some : 1 ≤ length ws) where
+  abbrev before : List (List ℕ)
+  before = map v (take (length ws - 1) ws)
+
+  abbrev last : List ℕ
+  last = v (get_or ws (length ws - 1) d)
+
+  ends : map v ws ≡ before ++ last ∷ []
+  ends =
+      let all : take (length ws - 1 + 1) ws ≡ ws = take_all (length ws - 1 + 1) ws (omega arith) in
+      ap (map v) (sym all) ∙ one_line_more v ws (length ws - 1) d (omega arith)
+
+  pub empty_end : nat_eq (length last) 0 ≡ true → before ≡ without_empty_end (map v ws)
+  empty_end none = sym (ap without_empty_end ends ∙ without_empty_end-append before last ∙ cond-true (is_empty last) before (before ++ last ∷ []) (sym (counted_empty last) ∙ none))
+
+  pub other_end : nat_eq (length last) 0 ≡ false → map v ws ≡ without_empty_end (map v ws)
+  other_end more = ends ∙ sym (ap without_empty_end ends ∙ without_empty_end-append before last ∙ cond-false (is_empty last) before (before ++ last ∷ []) (sym (counted_empty last) ∙ more))

@@ -1,0 +1,100 @@
+//! The command that runs a session.
+ghost use Rattle.std.specs.Prelude.{◌≡◌, IfOk, map};
+ghost use Rattle.std.specs.List.{slice_split};
+ghost use Rattle.metis_outside.specs.Faults.{CountsFault};
+ghost use Rattle.metis_outside.specs.Writes.{Writes};
+ghost use Rattle.metis_sim.specs.Session.{begin};
+ghost use Rattle.metis_top.specs.Answer as answer;
+ghost use Rattle.metis_top.specs.Commands.{sim_script, sim_then};
+ghost use Rattle.metis_top.specs.Course.{Ran, Shown};
+ghost use Rattle.metis_top.specs.Simulated.{is_line_feed, replies_to, without_empty_end};
+
+use crate::Status;
+use crate::reading::{session_script_from, universe_from};
+use crate::stop::{end, said};
+use metis_outside::{Shelf, Sink, Trouble};
+use metis_sim::{Reply, Session, write_reply};
+use metis_universe::Universe;
+use std::alloc::{AllocError, Global};
+
+/// Reads the universe and the script of a session, and puts the replies to the script's lines.
+pub fn sim_file<H: Shelf, K: Sink>(
+    alloc: Global,
+    file: &str,
+    input: &str,
+    shelf: &mut H,
+    out: &mut K,
+) -> Status
+    ensures { Ran H.files H.faults H.opens K.written K.faults (sim_script file.now input.now) shelf.old shelf.new out.old out.new result }
+{
+    match universe_from(alloc, shelf, 2, file) {
+        Ok(universe) => sim_input(alloc, input, &universe, shelf, out),
+        Err(stop) => end(alloc, stop, out),
+    }
+}
+
+// The same where the universe is known.
+fn sim_input<H: Shelf, K: Sink>(
+    alloc: Global,
+    input: &str,
+    u: &Universe,
+    shelf: &mut H,
+    out: &mut K,
+) -> Status
+    ensures { Ran H.files H.faults H.opens K.written K.faults (sim_then input.now u.now) shelf.old shelf.new out.old out.new result }
+{
+    match session_script_from(alloc, shelf, 3, input) {
+        Ok(script) => put_replies(alloc, u, &script, out),
+        Err(stop) => end(alloc, stop, out),
+    }
+}
+
+fn put_replies<K: Sink>(alloc: Global, u: &Universe, script: &[u8], out: &mut K) -> Status
+    ensures { Shown (answer.IsAnswer (answer.Sim u.now script.now)) (K.written out.old) (K.written out.new) (K.faults out.old) (K.faults out.new) result }
+{
+    match pieces_of(alloc, script) {
+        Ok(pieces) => {
+            let put = write_replies(alloc, u, without_empty_end(&pieces), out);
+            said(put, Status::Done)
+        }
+        Err(_) => Status::NoMemory,
+    }
+}
+
+// What stands between the line feeds of the script.
+fn pieces_of<'a>(alloc: Global, script: &'a [u8]) -> Result<Vec<&'a [u8]>, AllocError>
+    ensures { IfOk result (λ v. map (λ piece. piece.now) v.items ≡ slice_split is_line_feed script.now) }
+{
+    script.split(|byte| *byte == b'\n').collect(alloc)
+}
+
+// The lines among the pieces: behind the last line feed there is one only where something stands there.
+fn without_empty_end<'a, 'b>(pieces: &'b [&'a [u8]]) -> &'b [&'a [u8]]
+    ensures { map (λ line. line.now) result.now ≡ without_empty_end (map (λ piece. piece.now) pieces.now) }
+{
+    match pieces {
+        [lines @ .., last] => { if last.is_empty() { lines } else { pieces } }
+        [] => pieces,
+    }
+}
+
+// Answers the lines one by one, up to the one that ends the session.
+fn write_replies<K: Sink>(
+    alloc: Global,
+    u: &Universe,
+    lines: &[&[u8]],
+    out: &mut K,
+) -> Result<(), Trouble>
+    ensures text { Writes (replies_to u.now (begin u.now) (map (λ line. line.now) lines.now)) (K.written out.old) (K.written out.new) result }
+    ensures cause { CountsFault (K.faults out.old) (K.faults out.new) result }
+{
+    let mut session = Session::new(alloc, u);
+    for line in lines {
+        match session.line(line) {
+            Reply::NoMemory => return Err(Trouble::NoMemory),
+            Reply::Bye => return write_reply(alloc, u, &session, &Reply::Bye, out),
+            reply => write_reply(alloc, u, &session, &reply, out)?,
+        }
+    }
+    Ok(())
+}
