@@ -1,6 +1,7 @@
 pub mod FileBytes
 pub mod FormRead
 pub mod Gathered
+pub mod Loads
 pub mod Misfits
 pub mod NeverLoose
 pub mod Openings

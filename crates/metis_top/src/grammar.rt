@@ -1,8 +1,11 @@
 //! From words to a command.
 ghost use Rattle.std.specs.Prelude.{◌≡◌, ◌+◌, ◌≤◌, IfOk, drop, length, string_bytes};
 ghost use Rattle.std.specs.List.{list_any};
+ghost use Rattle.std.specs.Result.{result_ok};
+ghost use Rattle.metis_text.specs.Tokens.{is_number, number_in, starts_number};
 ghost use Rattle.metis_universe.specs.Texts.{texts};
-ghost use Rattle.metis_top.specs.Words.{files_in, fits_after, form, form_of, form_with, is_dash, target_of, targets_in, verb_named, ReadsWords};
+ghost use Rattle.metis_top.specs.Forms.{least_size};
+ghost use Rattle.metis_top.specs.Words.{files_in, fits_after, form, form_of, form_with, form_with_files, is_dash, size_of, sized_form, target_of, targets_in, verb_named, ReadsWords};
 
 use crate::words::{Command, TargetWord, Verb, WordFault};
 use metis_universe::is_name;
@@ -35,14 +38,78 @@ fn verb_named(word: &str) -> Option<Verb>
         Some(Verb::Sim)
     } else if word == "print" {
         Some(Verb::Print)
+    } else if word == "load" {
+        Some(Verb::Load)
     } else {
         None
     }
 }
 
-// The file words of the verb, and then target words.
 fn read_form(alloc: Global, verb: Verb, words: &[String]) -> Result<Command, WordFault>
     ensures { ReadsWords form result (form_with verb (texts words.now)) }
+{
+    match verb {
+        Verb::Load => read_size(alloc, words),
+        _ => read_over_files(alloc, verb, words),
+    }
+}
+
+// A size, and nothing behind it.
+fn read_size(alloc: Global, words: &[String]) -> Result<Command, WordFault>
+    ensures { ReadsWords form result (sized_form (texts words.now)) }
+{
+    match words {
+        [] => Err(WordFault::At(2)),
+        [word, more @ ..] => match size_of(word.as_str()) {
+            Some(_) if !more.is_empty() => Err(WordFault::At(3)),
+            Some(size) => Ok(Command {
+                verb: Verb::Load,
+                files: Vec::new(alloc),
+                targets: Vec::new(alloc),
+                size,
+            }),
+            None => Err(WordFault::At(2)),
+        },
+    }
+}
+
+// The number that the word is, where it is one from 1 to 128.
+fn size_of(word: &str) -> Option<u32>
+    ensures { result ≡ size_of word.now }
+{
+    match number_of(word) {
+        Some(n) if 1 <= n && n <= 128 => Some(n),
+        _ => None,
+    }
+}
+
+// The number below 2^32 that the word is: decimal digits of which the first is 0 only where it stands alone.
+fn number_of(word: &str) -> Option<u32>
+    ensures { result ≡ result_ok (number_in word.now) }
+{
+    if is_number(word.as_bytes()) {
+        word.parse::<u32>().ok()
+    } else {
+        None
+    }
+}
+
+fn is_number(digits: &[u8]) -> bool
+    ensures { result ≡ is_number digits.now }
+{
+    starts_number(digits) && digits.iter().all(|byte| byte.is_ascii_digit())
+}
+
+fn starts_number(digits: &[u8]) -> bool
+    ensures { result ≡ starts_number digits.now }
+{
+    digits.len() == 1 || digits.len() > 1 && digits[0] != b'0'
+}
+
+// The file words of the verb, and then target words.
+fn read_over_files(alloc: Global, verb: Verb, words: &[String]) -> Result<Command, WordFault>
+    requires { least_size verb ≡ 0 }
+    ensures { ReadsWords form result (form_with_files verb (texts words.now)) }
 {
     let count = verb.file_count();
     let files = read_files(alloc, count, words)?;
