@@ -34,6 +34,8 @@ cases = [
     ('the second file may not be read', ['replay', 'web.json', 'secret.json'], b'', 'pipe', 4, b'read fault 3\n'),
     ('a script from the input', ['sim', 'web.json', '-'], b'new 0 Db\nshow', 'pipe', 0, b'ok\ninstances 1 bindings 0\n0 Db:off\n'),
     ('the replies to a full device', ['sim', 'web.json', '-'], b'new 0 Db\nshow', 'full', 5, b''),
+    ('a generated universe', ['load', '3'], b'', 'pipe', 0, b'load 3 pairs 24 targets 6 instances 15 actions 72 dups 0 good\n'),
+    ('its line to a full device', ['load', '3'], b'', 'full', 5, b''),
     ('an empty file', ['print', 'empty.json'], b'', 'pipe', 3, b'bad universe U1\n'),
     ('a full device', ['plan', 'web.json', 'Web:run'], b'', 'full', 5, b''),
     ('a pipe that nobody reads', ['plan', 'web.json', 'Web:run'], b'', 'closed', 5, b''),

@@ -8,4 +8,5 @@ pub mod Pieces
 pub mod Places
 pub mod SameRows
 pub mod TargetNames
+pub mod TargetPairs
 pub mod Whole

@@ -1,5 +1,6 @@
 //! Laws over the generated universes.
-ghost use Rattle.std.specs.Prelude.{◌≡◌, ◌≤◌, ◌<◌, ◌+◌, ◌*◌, ℕ, List, IsTrue, Some, codes};
+ghost use Rattle.std.specs.Prelude.{◌≡◌, ◌≤◌, ◌<◌, ◌+◌, ◌*◌, ℕ, List, IsTrue, Some, codes, length};
+ghost use Rattle.std.specs.List.{All};
 ghost use Rattle.metis_universe.specs.Universe.{has, pair_count, pair_named};
 ghost use Rattle.metis_universe.specs.Closed.{Closed, Refusal};
 ghost use Rattle.metis_universe.specs.Goal.{Attains};
@@ -15,6 +16,12 @@ pub fn generated_has_tables()
 pub fn targets_are_last_states()
     ensures left { (n i : ℕ) → n ≤ 128 → i < n → pair_named (generated n) (left_row i).name (codes "a3") ≡ Some (8 * i + 3) }
     ensures right { (n i : ℕ) → n ≤ 128 → i < n → pair_named (generated n) (right_row i).name (codes "b3") ≡ Some (8 * i + 7) }
+{}
+
+/// There are two targets for each place, and each is a pair of the universe.
+pub fn targets_are_pairs()
+    ensures count { (n : ℕ) → length (generated_targets n) ≡ 2 * n }
+    ensures within { (n : ℕ) → n ≤ 128 → All (λ p. p < pair_count (generated n)) (generated_targets n) }
 {}
 
 /// Some list of actions attains all targets.

@@ -5,7 +5,7 @@ use Rattle.std.specs.Prelude.{string_bytes}
 use Rattle.std.specs.declared.alloc.Global.{Global}
 use Rattle.metis_top.specs.Forms.{file_count, target_limit}
 use Rattle.metis_top.specs.TargetName.{TargetName}
-use Rattle.metis_top.specs.Words.{Form, ReadsWords, files_in, form_with, targets_in, with_files, with_targets}
+use Rattle.metis_top.specs.Words.{Form, ReadsWords, files_in, form_with_files, targets_in, with_files, with_targets}
 use Rattle.metis_top.specs.declared.words.Verb.{Verb}
 use Rattle.metis_top.specs.declared.words.WordFault.{WordFault}
 use Rattle.metis_top.specs.declared.words.WordFault.TheVariants.{At, NoMemory}
@@ -13,7 +13,7 @@ use Rattle.metis_universe.specs.Texts.{texts}
 
 pub form_read : (verb : Verb) (words files : List (String Global)) (targets : List TargetName) → files_in (file_count verb) (texts words) ≡ Ok (texts files)
     → targets_in (file_count verb + 2) (target_limit verb) (texts (drop (file_count verb) words)) ≡ Ok targets
-    → form_with verb (texts words) ≡ Ok (record { verb = verb; files = texts files; targets = targets; size = 0 })
+    → form_with_files verb (texts words) ≡ Ok (record { verb = verb; files = texts files; targets = targets; size = 0 })
 form_read verb words files targets first rest =
     let n = file_count verb in
     ap (λ f. with_files verb f (drop n (texts words))) first
@@ -22,7 +22,7 @@ form_read verb words files targets first rest =
 
 pub form_misread : {Y Z : Type 0} (verb : Verb) (words files : List (String Global)) (fault : WordFault) (view : Y → List TargetName) (view' : Z → Form) → files_in (file_count verb) (texts words) ≡ Ok (texts files)
     → ReadsWords view (Err fault) (targets_in (file_count verb + 2) (target_limit verb) (texts (drop (file_count verb) words)))
-    → ReadsWords view' (Err fault) (form_with verb (texts words))
+    → ReadsWords view' (Err fault) (form_with_files verb (texts words))
 form_misread verb words files (At place) view view' first rest =
     let n = file_count verb in
     ap (λ f. with_files verb f (drop n (texts words))) first

@@ -2,6 +2,7 @@ pub mod Deployments
 pub mod FileBytes
 pub mod FormRead
 pub mod Gathered
+pub mod Loads
 pub mod Misfits
 pub mod NeverLoose
 pub mod Openings

@@ -1,5 +1,5 @@
 -- A run opens a file at least, and no more than its words name.
-use Rattle.std.proofs.Common.{◌≡◌, ℕ, zero, suc, ◌-◌, ◌≤◌, List, [], ◌∷◌, length, Result, Ok, Err, Bool, true, false, subst, inl, inr, nat_le, if◌then◌else◌, arith}
+use Rattle.std.proofs.Common.{◌≡◌, ℕ, zero, suc, ◌-◌, ◌≤◌, min, List, [], ◌∷◌, length, Result, Ok, Err, Bool, true, false, subst, inl, inr, nat_le, if◌then◌else◌, arith}
 use Rattle.std.specs.declared.option.Option.{Option as Known}
 use Rattle.metis_text.specs.Reading.{plan_in}
 use Rattle.metis_text.specs.RefusalReading.{refusal_in}
@@ -7,7 +7,7 @@ use Rattle.metis_top.specs.declared.refusal.Refusal.{Refusal}
 use Rattle.metis_top.specs.declared.refusal.Refusal.TheVariants.{TooLong, Word}
 use Rattle.metis_top.specs.declared.status.Status.{Status}
 use Rattle.metis_top.specs.declared.words.Verb.{Verb}
-use Rattle.metis_top.specs.declared.words.Verb.TheVariants.{Plan, Replay, Refute, Sim, Print}
+use Rattle.metis_top.specs.declared.words.Verb.TheVariants.{Plan, Replay, Refute, Sim, Print, Load}
 use Rattle.metis_top.specs.Answer as answer
 use Rattle.metis_top.specs.Commands.{judged, or_plan_refused, or_refusal_refused, or_universe_refused, pairs_named, plan_limit, refusal_limit, refute_then, replay_then, session_limit, sim_then, command_script, script_from, universe_then}
 use Rattle.metis_top.specs.Course.{Ran, AreTaken, IsRead, OnShelf, after}
@@ -60,19 +60,21 @@ at_most_sim : (u : Universe) (input : List ℕ) → IsAtMost 1 (sim_then input u
 at_most_sim u input = λ bytes. at_most_if 0 (nat_le (length bytes) session_limit) (Reply (answer.Sim u bytes)) (TooLong 3) tt
 
 -- the files of each command
-at_most_command : (verb : Verb) (files : List (List ℕ)) (targets : List TargetName) → IsAtMost (file_count verb) (command_script verb files targets)
-at_most_command Plan files targets = at_most_universe 0 2 (word_at files 0) _ (λ u. at_most_judged 0 (λ g. Reply (answer.Plan u g)) (pairs_named 3 u targets) (λ g. tt))
-at_most_command Replay files targets = at_most_universe 1 2 (word_at files 0) _ (λ u. at_most_judged 1 (λ g. replay_then (word_at files 1) (u, g)) (pairs_named 4 u targets) (λ g. at_most_replay u g (word_at files 1)))
-at_most_command Refute files targets = at_most_universe 1 2 (word_at files 0) _ (λ u. at_most_judged 1 (λ g. refute_then (word_at files 1) (u, g)) (pairs_named 4 u targets) (λ g. at_most_refute u g (word_at files 1)))
-at_most_command Sim files targets = at_most_universe 1 2 (word_at files 0) _ (λ u. at_most_sim u (word_at files 1))
-at_most_command Print files targets = at_most_universe 0 2 (word_at files 0) _ (λ u. tt)
+at_most_command : (verb : Verb) (files : List (List ℕ)) (targets : List TargetName) (size : ℕ) → IsAtMost (file_count verb) (command_script verb files targets size)
+at_most_command Plan files targets size = at_most_universe 0 2 (word_at files 0) _ (λ u. at_most_judged 0 (λ g. Reply (answer.Plan u g)) (pairs_named 3 u targets) (λ g. tt))
+at_most_command Replay files targets size = at_most_universe 1 2 (word_at files 0) _ (λ u. at_most_judged 1 (λ g. replay_then (word_at files 1) (u, g)) (pairs_named 4 u targets) (λ g. at_most_replay u g (word_at files 1)))
+at_most_command Refute files targets size = at_most_universe 1 2 (word_at files 0) _ (λ u. at_most_judged 1 (λ g. refute_then (word_at files 1) (u, g)) (pairs_named 4 u targets) (λ g. at_most_refute u g (word_at files 1)))
+at_most_command Sim files targets size = at_most_universe 1 2 (word_at files 0) _ (λ u. at_most_sim u (word_at files 1))
+at_most_command Print files targets size = at_most_universe 0 2 (word_at files 0) _ (λ u. tt)
+at_most_command Load files targets size = tt
 
-first_read : (verb : Verb) (files : List (List ℕ)) (targets : List TargetName) → IsRead (command_script verb files targets)
-first_read Plan files targets = tt
-first_read Replay files targets = tt
-first_read Refute files targets = tt
-first_read Sim files targets = tt
-first_read Print files targets = tt
+first_read : (verb : Verb) (files : List (List ℕ)) (targets : List TargetName) (size : ℕ) → 1 ≤ file_count verb → IsRead (command_script verb files targets size)
+first_read Plan files targets size some = tt
+first_read Replay files targets size some = tt
+first_read Refute files targets size some = tt
+first_read Sim files targets size some = tt
+first_read Print files targets size some = tt
+first_read Load files targets size some = absurd (omega (arith, some))
 
 -- what is left of a script after so many files
 record Left (n : ℕ) (taken : List (List ℕ)) (script : Script) : Type 0 where
@@ -95,13 +97,14 @@ one_more (suc k) (Read place name limit next) reads most = omega arith
 one_more k (Refuse refusal) reads most = absurd reads
 one_more k (Reply said) reads most = absurd reads
 
--- a script that begins with a file, and has come to its end, has taken one
-some_taken : (taken : List (List ℕ)) (start : Script) → IsRead start → (IsRead (after taken start) → ⊥) → 1 ≤ length taken
-some_taken [] start reads ended = absurd (ended reads)
-some_taken (bytes ∷ taken) start reads ended = omega arith
+-- a script that begins with a file where it has some, and has come to its end, has taken one
+some_taken : (n : ℕ) (taken : List (List ℕ)) (start : Script) → (1 ≤ n → IsRead start) → (IsRead (after taken start) → ⊥) → min 1 n ≤ length taken
+some_taken zero [] start reads ended = omega arith
+some_taken (suc n) [] start reads ended = absurd (ended (reads (omega arith)))
+some_taken n (bytes ∷ taken) start reads ended = omega arith
 
 opens_some : (n : ℕ) (taken : List (List ℕ)) (script : Script) (faults faults' opens opens' : ℕ) (old new : Known (List (List ℕ))) (status : Status)
-    → Left n taken script → ((IsRead script → ⊥) → 1 ≤ length taken) → OnShelf script (length taken) faults faults' opens opens' old new status → OpensSome n status opens opens'
+    → Left n taken script → ((IsRead script → ⊥) → min 1 n ≤ length taken) → OnShelf script (length taken) faults faults' opens opens' old new status → OpensSome n status opens opens'
 opens_some n taken (Read place name limit next) faults faults' opens opens' old new status left some (inl failed) =
     let more = one_more (n - length taken) (Read place name limit next) tt left.most in
     record { count = suc (length taken); openings = failed.1; most = omega (arith, more); some = inr (omega arith) }
@@ -123,7 +126,7 @@ pub ran_opens : {S K : Type 0} (files : S → Known (List ℕ → List ℕ)) (fa
     (form : Result Form ℕ) (shelf shelf' : S) (sink sink' : K) (status : Status) → Ran files faults opens written sink_faults (script_from form) shelf shelf' sink sink' status
     → OpensFiles form status (opens shelf) (opens shelf')
 ran_opens files faults opens written sink_faults (Ok form) shelf shelf' sink sink' status r =
-    let script = command_script form.verb form.files form.targets in
-    let left = left_after (files shelf) (file_count form.verb) r.taken script (at_most_command form.verb form.files form.targets) r.asked in
-    opens_some (file_count form.verb) r.taken (after r.taken script) _ _ _ _ _ _ status left (some_taken r.taken script (first_read form.verb form.files form.targets)) r.reads
+    let script = command_script form.verb form.files form.targets form.size in
+    let left = left_after (files shelf) (file_count form.verb) r.taken script (at_most_command form.verb form.files form.targets form.size) r.asked in
+    opens_some (file_count form.verb) r.taken (after r.taken script) _ _ _ _ _ _ status left (some_taken (file_count form.verb) r.taken script (first_read form.verb form.files form.targets form.size)) r.reads
 ran_opens files faults opens written sink_faults (Err place) shelf shelf' sink sink' status r = none_taken (files shelf) place r.taken _ _ _ _ _ _ status r.asked r.reads

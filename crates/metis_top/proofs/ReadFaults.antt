@@ -8,7 +8,7 @@ use Rattle.metis_top.specs.declared.refusal.Refusal.TheVariants as refusal
 use Rattle.metis_top.specs.declared.status.Status.{Status}
 use Rattle.metis_top.specs.declared.status.Status.TheVariants.{Done, No, ReadFault}
 use Rattle.metis_top.specs.declared.words.Verb.{Verb}
-use Rattle.metis_top.specs.declared.words.Verb.TheVariants.{Plan, Replay, Refute, Sim, Print}
+use Rattle.metis_top.specs.declared.words.Verb.TheVariants.{Plan, Replay, Refute, Sim, Print, Load}
 use Rattle.metis_top.specs.Answer as answer
 use Rattle.metis_top.specs.Answer.{Answer, IsAnswer}
 use Rattle.metis_replay.specs.declared.verdict.Verdict.{Verdict}
@@ -48,6 +48,7 @@ answer_status (answer.Replay u targets actions) lines status is = verdict_ends i
 answer_status (answer.Refute u targets set) lines status is = judgement_ends is.verdict status is.is
 answer_status (answer.Sim u script) lines status is = inl is.is
 answer_status (answer.Print u) lines status is = inl is.1
+answer_status (answer.Load size) lines status is = inl is.is
 
 not_read_fault : (status : Status) → (status ≡ Done) ⊎ (status ≡ No) → status ≡ ReadFault → ⊥
 not_read_fault status (inl done) fault = cc
@@ -115,15 +116,16 @@ numbered_sim : (u : Universe) (input : List ℕ) → Numbered 3 (sim_then input 
 numbered_sim u input = (refl, λ bytes. numbered_if 4 (nat_le (length bytes) session_limit) (Reply (answer.Sim u bytes)) (TooLong 3) tt)
 
 -- the script of each command
-numbered_command : (verb : Verb) (files : List (List ℕ)) (targets : List TargetName) → Numbered 2 (command_script verb files targets)
-numbered_command Plan files targets = numbered_universe 2 (word_at files 0) _ (λ u. numbered_judged 3 (λ g. Reply (answer.Plan u g)) (pairs_named 3 u targets) (λ g. tt))
-numbered_command Replay files targets = numbered_universe 2 (word_at files 0) _ (λ u. numbered_judged 3 (λ g. replay_then (word_at files 1) (u, g)) (pairs_named 4 u targets) (λ g. numbered_replay u g (word_at files 1)))
-numbered_command Refute files targets = numbered_universe 2 (word_at files 0) _ (λ u. numbered_judged 3 (λ g. refute_then (word_at files 1) (u, g)) (pairs_named 4 u targets) (λ g. numbered_refute u g (word_at files 1)))
-numbered_command Sim files targets = numbered_universe 2 (word_at files 0) _ (λ u. numbered_sim u (word_at files 1))
-numbered_command Print files targets = numbered_universe 2 (word_at files 0) _ (λ u. tt)
+numbered_command : (verb : Verb) (files : List (List ℕ)) (targets : List TargetName) (size : ℕ) → Numbered 2 (command_script verb files targets size)
+numbered_command Plan files targets size = numbered_universe 2 (word_at files 0) _ (λ u. numbered_judged 3 (λ g. Reply (answer.Plan u g)) (pairs_named 3 u targets) (λ g. tt))
+numbered_command Replay files targets size = numbered_universe 2 (word_at files 0) _ (λ u. numbered_judged 3 (λ g. replay_then (word_at files 1) (u, g)) (pairs_named 4 u targets) (λ g. numbered_replay u g (word_at files 1)))
+numbered_command Refute files targets size = numbered_universe 2 (word_at files 0) _ (λ u. numbered_judged 3 (λ g. refute_then (word_at files 1) (u, g)) (pairs_named 4 u targets) (λ g. numbered_refute u g (word_at files 1)))
+numbered_command Sim files targets size = numbered_universe 2 (word_at files 0) _ (λ u. numbered_sim u (word_at files 1))
+numbered_command Print files targets size = numbered_universe 2 (word_at files 0) _ (λ u. tt)
+numbered_command Load files targets size = tt
 
 numbered_script : (form : Result Form ℕ) → Numbered 2 (script_from form)
-numbered_script (Ok form) = numbered_command form.verb form.files form.targets
+numbered_script (Ok form) = numbered_command form.verb form.files form.targets form.size
 numbered_script (Err place) = tt
 
 pub ran_read_fault : {S K : Type 0} (files : S → Known (List ℕ → List ℕ)) (faults opens : S → ℕ) (written : K → Known (List (List ℕ))) (sink_faults : K → ℕ)

@@ -45,8 +45,15 @@ ran_replied files faults opens written sink_faults view part next shelf shelf' s
     let Q : Script → Type 0 = λ script. Shown (Says script) (written sink) (written sink') (sink_faults sink) (sink_faults sink') status in
     record { taken = g.taken; asked = g.asked next; kept = g.files; reads = subst P (sym is) (g.came.1, g.came.2); puts = subst Q (sym is) s }
 
+-- a run that reads no file, and puts its answer
+pub ran_at_once : {S K : Type 0} (files : S → Option (List ℕ → List ℕ)) (faults opens : S → ℕ) (written : K → Option (List (List ℕ))) (sink_faults : K → ℕ)
+    (shelf : S) (sink sink' : K) (answer : Answer) (status : Status)
+    → Shown (IsAnswer answer) (written sink) (written sink') (sink_faults sink) (sink_faults sink') status
+    → Ran files faults opens written sink_faults (Reply answer) shelf shelf sink sink' status
+ran_at_once files faults opens written sink_faults shelf sink sink' answer status s = record { taken = []; asked = tt; kept = refl; reads = (refl, refl); puts = s }
+
 -- the instances that actions make, counted in two ways
-counts_as_made : (actions : List Action) → instances_of actions ≡ count_by makes actions
+pub counts_as_made : (actions : List Action) → instances_of actions ≡ count_by makes actions
 counts_as_made actions = length-filter makes actions
 
 -- the lines of a plan answer

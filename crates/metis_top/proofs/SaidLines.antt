@@ -32,9 +32,10 @@ use Rattle.metis_ujson.proofs.OneLine.{IsLine-canonical}
 use Rattle.metis_ujson.specs.Document.{document_limit, universe_in}
 use Rattle.metis_ujson.specs.declared.faults.UFault.{UFault}
 use Rattle.metis_ujson.specs.declared.faults.UFault.TheVariants as ufault
-use Rattle.metis_universe.specs.Universe.{IsNamed, IsTable, Universe, pair_named, port_name_of}
+use Rattle.metis_universe.specs.Universe.{IsNamed, IsTable, Universe, pair_count, pair_named, port_name_of}
 use Rattle.metis_universe.specs.declared.faults.LimitKind.{LimitKind}
 use Rattle.metis_universe.specs.declared.faults.LimitKind.TheVariants.{Pairs, Ports, Requires, States}
+use Rattle.metis_gen.specs.Generated.{generated, generated_targets}
 use Rattle.metis_top.specs.Answer as answer
 use Rattle.metis_top.specs.Answer.{Answer, IsAnswer}
 use Rattle.metis_top.specs.Commands.{command_script, judged, or_plan_refused, or_refusal_refused, or_universe_refused, or_word, pair_then, pairs_after, pairs_named, plan_limit, refusal_limit, refute_then, replay_then, script_from, session_limit, sim_then, targets_then, universe_then}
@@ -42,6 +43,7 @@ use Rattle.metis_top.specs.Course.{Ran, Says, Shown, after}
 use Rattle.metis_top.specs.Judged as judged_specs
 use Rattle.metis_top.specs.Judged.{judgement_line}
 use Rattle.metis_top.specs.Lines.{limit_line, plan_fault_line, read_fault_line, refusal_fault_line, refusal_line, universe_line}
+use Rattle.metis_top.specs.Loaded.{counts_line as load_counts_line, load_line, planned}
 use Rattle.metis_top.specs.PutLines.{PutsLines}
 use Rattle.metis_top.specs.Replayed.{verdict_line}
 use Rattle.metis_top.specs.Script.{Script, Read, Refuse, Reply}
@@ -52,7 +54,7 @@ use Rattle.metis_top.specs.declared.refusal.Refusal.{Refusal}
 use Rattle.metis_top.specs.declared.refusal.Refusal.TheVariants.{Word, TooLong}
 use Rattle.metis_top.specs.declared.status.Status.{Status}
 use Rattle.metis_top.specs.declared.words.Verb.{Verb}
-use Rattle.metis_top.specs.declared.words.Verb.TheVariants.{Plan, Replay, Refute, Sim, Print}
+use Rattle.metis_top.specs.declared.words.Verb.TheVariants.{Plan, Replay, Refute, Sim, Print, Load}
 use Rattle.std.specs.declared.option.Option.{Option as Known}
 
 no_lines : All IsLine []
@@ -220,6 +222,19 @@ module _ (u : Universe) (table : IsTable u) where
 print_answers : (u : Universe) → AnswersLines (answer.Print u)
 print_answers u lines status is = just_one _ lines (IsLine-canonical u) is.0
 
+IsLine-load_counts_line : (n pairs targets instances actions dups : ℕ) → IsLine (load_counts_line n pairs targets instances actions dups)
+IsLine-load_counts_line n pairs targets instances actions dups =
+    number_then (codes "load ") n _ refl (number_then (codes " pairs ") pairs _ refl (number_then (codes " targets ") targets _ refl
+    (number_then (codes " instances ") instances _ refl (number_then (codes " actions ") actions _ refl
+    (number_then (codes " dups ") dups (codes " good\n") refl (IsLine-from (codes " good") refl))))))
+
+load_answers : (size : ℕ) → AnswersLines (answer.Load size)
+load_answers size lines status is =
+    let u = generated size in
+    let g = generated_targets size in
+    let plan = planned u g in
+    just_one (load_line size u g plan) lines (IsLine-load_counts_line size (pair_count u) (length g) plan.instances (length plan.actions) (length plan.dups)) is.told
+
 -- ---- scripts
 
 abbrev SaysLines : Script → Type 0
@@ -301,15 +316,16 @@ lines_sim : (u : Universe) → IsTable u → (input : List ℕ) → SaysLines (s
 lines_sim u table input = λ bytes. lines_if (nat_le (length bytes) session_limit) (Reply (answer.Sim u bytes)) 3 (sim_answers u table bytes)
 
 -- the script of each command
-lines_command : (verb : Verb) (files : List (List ℕ)) (targets : List TargetName) → SaysLines (command_script verb files targets)
-lines_command Plan files targets = lines_universe 2 (word_at files 0) _ (λ u table. lines_targets 3 u targets (λ g. Reply (answer.Plan u g)) (plan_answers u table))
-lines_command Replay files targets = lines_universe 2 (word_at files 0) _ (λ u table. lines_targets 4 u targets (λ g. replay_then (word_at files 1) (u, g)) (λ g. lines_replay u table g (word_at files 1)))
-lines_command Refute files targets = lines_universe 2 (word_at files 0) _ (λ u table. lines_targets 4 u targets (λ g. refute_then (word_at files 1) (u, g)) (λ g. lines_refute u table g (word_at files 1)))
-lines_command Sim files targets = lines_universe 2 (word_at files 0) _ (λ u table. lines_sim u table (word_at files 1))
-lines_command Print files targets = lines_universe 2 (word_at files 0) _ (λ u table. print_answers u)
+lines_command : (verb : Verb) (files : List (List ℕ)) (targets : List TargetName) (size : ℕ) → SaysLines (command_script verb files targets size)
+lines_command Plan files targets size = lines_universe 2 (word_at files 0) _ (λ u table. lines_targets 3 u targets (λ g. Reply (answer.Plan u g)) (plan_answers u table))
+lines_command Replay files targets size = lines_universe 2 (word_at files 0) _ (λ u table. lines_targets 4 u targets (λ g. replay_then (word_at files 1) (u, g)) (λ g. lines_replay u table g (word_at files 1)))
+lines_command Refute files targets size = lines_universe 2 (word_at files 0) _ (λ u table. lines_targets 4 u targets (λ g. refute_then (word_at files 1) (u, g)) (λ g. lines_refute u table g (word_at files 1)))
+lines_command Sim files targets size = lines_universe 2 (word_at files 0) _ (λ u table. lines_sim u table (word_at files 1))
+lines_command Print files targets size = lines_universe 2 (word_at files 0) _ (λ u table. print_answers u)
+lines_command Load files targets size = load_answers size
 
 lines_script : (form : Result Form ℕ) → SaysLines (script_from form)
-lines_script (Ok form) = lines_command form.verb form.files form.targets
+lines_script (Ok form) = lines_command form.verb form.files form.targets form.size
 lines_script (Err place) = IsLine-word place
 
 -- ---- runs

@@ -4,6 +4,7 @@ use Rattle.metis_ids.specs.declared.actions.Action.{Action}
 use Rattle.metis_ujson.specs.Canonical.{canonical}
 use Rattle.metis_universe.specs.Universe.{Universe}
 use Rattle.metis_top.specs.Judged.{Judged}
+use Rattle.metis_top.specs.Loaded.{Loaded}
 use Rattle.metis_top.specs.Planned.{PlanAnswer}
 use Rattle.metis_top.specs.Replayed.{Replayed}
 use Rattle.metis_top.specs.Simulated.{Simulated}
@@ -12,13 +13,14 @@ use Rattle.metis_top.specs.declared.status.Status.TheVariants.{Done}
 
 -- A plan for these targets or a refusal of them, where there may be several such texts; or what these actions came to, where
 -- the targets were asked for; or what a set of pairs comes to as a refusal of these targets; or what a session over the universe
--- replies to the lines of this script; or the universe's own document.
+-- replies to the lines of this script; or the universe's own document; or the counts of the plan for a generated universe.
 pub data Answer : Type 0 where
   Plan : (u : Universe) (targets : List ℕ) → Answer
   Replay : (u : Universe) (targets : List ℕ) (actions : List Action) → Answer
   Refute : (u : Universe) (targets set : List ℕ) → Answer
   Sim : (u : Universe) (script : List ℕ) → Answer
   Print : (u : Universe) → Answer
+  Load : (size : ℕ) → Answer
 
 -- these are the lines of such an answer, and its status
 abbrev pub IsAnswer : Answer → List (List ℕ) → Status → Type 0
@@ -27,3 +29,4 @@ IsAnswer (Replay u targets actions) lines status = Replayed u targets actions li
 IsAnswer (Refute u targets set) lines status = Judged u targets set lines status
 IsAnswer (Sim u script) lines status = Simulated u script lines status
 IsAnswer (Print u) lines status = (lines ≡ canonical u ∷ []) × (status ≡ Done)
+IsAnswer (Load size) lines status = Loaded size lines status

@@ -5,7 +5,7 @@ use Rattle.metis_top.specs.declared.refusal.Refusal.{Refusal}
 use Rattle.metis_top.specs.declared.refusal.Refusal.TheVariants.{Word, TooLong}
 use Rattle.metis_top.specs.declared.refusal.Refusal.TheVariants as refusal
 use Rattle.metis_top.specs.declared.words.Verb.{Verb}
-use Rattle.metis_top.specs.declared.words.Verb.TheVariants.{Plan, Replay, Refute, Sim, Print}
+use Rattle.metis_top.specs.declared.words.Verb.TheVariants.{Plan, Replay, Refute, Sim, Print, Load}
 use Rattle.metis_top.specs.Answer as answer
 use Rattle.metis_text.specs.Reading.{Parts, plan_in}
 use Rattle.metis_text.specs.RefusalReading.{RefusalParts, refusal_in}
@@ -125,17 +125,22 @@ sim_script file input = universe_then 2 file (sim_then input)
 abbrev pub print_script : List ℕ → Script
 print_script file = universe_then 2 file (λ u. Reply (answer.Print u))
 
+-- a command that reads no file
+abbrev pub load_script : ℕ → Script
+load_script size = Reply (answer.Load size)
+
 -- the script of each command
-abbrev pub command_script : Verb → List (List ℕ) → List TargetName → Script
-command_script Plan files targets = plan_script (word_at files 0) targets
-command_script Replay files targets = replay_script (word_at files 0) (word_at files 1) targets
-command_script Refute files targets = refute_script (word_at files 0) (word_at files 1) targets
-command_script Sim files targets = sim_script (word_at files 0) (word_at files 1)
-command_script Print files targets = print_script (word_at files 0)
+abbrev pub command_script : Verb → List (List ℕ) → List TargetName → ℕ → Script
+command_script Plan files targets size = plan_script (word_at files 0) targets
+command_script Replay files targets size = replay_script (word_at files 0) (word_at files 1) targets
+command_script Refute files targets size = refute_script (word_at files 0) (word_at files 1) targets
+command_script Sim files targets size = sim_script (word_at files 0) (word_at files 1)
+command_script Print files targets size = print_script (word_at files 0)
+command_script Load files targets size = load_script size
 
 -- the script of a run from its words
 abbrev pub script_from : Result Form ℕ → Script
-script_from (Ok form) = command_script form.verb form.files form.targets
+script_from (Ok form) = command_script form.verb form.files form.targets form.size
 script_from (Err place) = Refuse (Word place)
 
 abbrev pub script_of : List (List ℕ) → Script

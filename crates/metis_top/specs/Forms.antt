@@ -1,7 +1,7 @@
 -- How many words of each kind a command has.
 use Rattle.std.specs.Prelude.{ℕ}
 use Rattle.metis_top.specs.declared.words.Verb.{Verb}
-use Rattle.metis_top.specs.declared.words.Verb.TheVariants.{Plan, Replay, Refute, Sim, Print}
+use Rattle.metis_top.specs.declared.words.Verb.TheVariants.{Plan, Replay, Refute, Sim, Print, Load}
 
 -- exactly so many file words
 abbrev pub file_count : Verb → ℕ
@@ -10,6 +10,7 @@ file_count Replay = 2
 file_count Refute = 2
 file_count Sim = 2
 file_count Print = 1
+file_count Load = 0
 
 -- at most so many target words
 abbrev pub target_limit : Verb → ℕ
@@ -18,3 +19,14 @@ target_limit Replay = 256
 target_limit Refute = 256
 target_limit Sim = 0
 target_limit Print = 0
+target_limit Load = 0
+
+-- a size from this number on, where it has one; and else 0
+abbrev pub least_size : Verb → ℕ
+least_size Load = 1
+least_size _ = 0
+
+-- and up to this one
+abbrev pub size_limit : Verb → ℕ
+size_limit Load = 128
+size_limit _ = 0

@@ -6,6 +6,7 @@ pub mod Forms
 pub mod Honest
 pub mod Judged
 pub mod Lines
+pub mod Loaded
 pub mod Numbered
 pub mod Openings
 pub mod Planned

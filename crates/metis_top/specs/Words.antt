@@ -1,13 +1,16 @@
 -- The words of a command, read from the left. Places start at 1.
 --     target_of word      the names of a type and of a state, with a colon between them
 --     file_fits words k      word k of these is a file word, where those before it are file words too
+--     size_of word      the number that the word is, where it is one from 1 to 128
 --     target_fits limit words k      word k of these is a target word, and not past the limit
 --     form_of words      the command that the words are, or the place of the first that does not fit
-use Rattle.std.specs.Prelude.{◌≡◌, ℕ, ◌+◌, nat_lt, List, [], ◌∷◌, length, drop, take, Result, Ok, Err, Option, Some, None, Bool, false, not, ◌&&◌, if◌then◌else◌, codes, option_map, slice_get, unwrap_or}
+use Rattle.std.specs.Prelude.{◌≡◌, ℕ, ◌+◌, nat_le, nat_lt, List, [], ◌∷◌, length, drop, take, Result, Ok, Err, Option, Some, None, Bool, false, not, ◌&&◌, if◌then◌else◌, codes, option_map, slice_get, unwrap_or}
 use Rattle.std.specs.List.{filter_map, find, list_any, range_with_len}
-use Rattle.std.specs.Option.{option_map_or}
+use Rattle.std.specs.Option.{option_and_then, option_map_or}
+use Rattle.std.specs.Result.{result_ok}
 use Rattle.std.specs.Prelude.{is_some}
 use Rattle.std.specs.Str.{bytes_eq}
+use Rattle.metis_text.specs.Tokens.{number_in}
 use Rattle.metis_universe.specs.PairWords.{pair_names}
 use Rattle.metis_universe.specs.Texts.{texts}
 use Rattle.metis_universe.specs.Universe.{is_empty}
@@ -15,7 +18,7 @@ use Rattle.metis_top.specs.Forms.{file_count, target_limit}
 use Rattle.metis_top.specs.TargetName.{TargetName}
 use Rattle.metis_top.specs.declared.words.Command.{Command}
 use Rattle.metis_top.specs.declared.words.Verb.{Verb}
-use Rattle.metis_top.specs.declared.words.Verb.TheVariants.{Plan, Replay, Refute, Sim, Print}
+use Rattle.metis_top.specs.declared.words.Verb.TheVariants.{Plan, Replay, Refute, Sim, Print, Load}
 use Rattle.metis_top.specs.declared.words.WordFault.{WordFault}
 use Rattle.metis_top.specs.declared.words.WordFault.TheVariants.{At, NoMemory}
 use Rattle.metis_top.specs.declared.refusal.Refusal.TheVariants.{Word}
@@ -79,8 +82,28 @@ with_files verb (Err place) rest = Err place
 with_files verb (Ok files) rest = with_targets verb files (targets_in (file_count verb + 2) (target_limit verb) rest)
 
 -- the file words of the verb, and then target words
+abbrev pub form_with_files : Verb → List (List ℕ) → Result Form ℕ
+form_with_files verb words = with_files verb (files_in (file_count verb) words) (drop (file_count verb) words)
+
+abbrev pub size_if_fits : ℕ → Option ℕ
+size_if_fits n = if nat_le 1 n && nat_le n 128 then Some n else None
+
+abbrev pub size_of : List ℕ → Option ℕ
+size_of word = option_and_then size_if_fits (result_ok (number_in word))
+
+abbrev pub form_with_size : Option ℕ → List (List ℕ) → Result Form ℕ
+form_with_size None more = Err 2
+form_with_size (Some size) [] = Ok (record { verb = Load; files = []; targets = []; size = size })
+form_with_size (Some size) (word ∷ more) = Err 3
+
+-- a size, and nothing behind it
+abbrev pub sized_form : List (List ℕ) → Result Form ℕ
+sized_form [] = Err 2
+sized_form (word ∷ more) = form_with_size (size_of word) more
+
 abbrev pub form_with : Verb → List (List ℕ) → Result Form ℕ
-form_with verb words = with_files verb (files_in (file_count verb) words) (drop (file_count verb) words)
+form_with Load words = sized_form words
+form_with verb words = form_with_files verb words
 
 abbrev pub verb_named : List ℕ → Option Verb
 verb_named word =
@@ -89,6 +112,7 @@ verb_named word =
     else if bytes_eq word (codes "refute") then Some Refute
     else if bytes_eq word (codes "sim") then Some Sim
     else if bytes_eq word (codes "print") then Some Print
+    else if bytes_eq word (codes "load") then Some Load
     else None
 
 abbrev pub with_verb : Option Verb → List (List ℕ) → Result Form ℕ

@@ -2,9 +2,11 @@
 ghost use Rattle.std.specs.Prelude.{◌≡◌, ◌+◌, ◌≤◌, IfOk, drop, length, string_bytes};
 ghost use Rattle.std.specs.List.{list_any};
 ghost use Rattle.metis_universe.specs.Texts.{texts};
-ghost use Rattle.metis_top.specs.Words.{files_in, fits_after, form, form_of, form_with, is_dash, target_of, targets_in, verb_named, ReadsWords};
+ghost use Rattle.metis_top.specs.Forms.{least_size};
+ghost use Rattle.metis_top.specs.Words.{files_in, fits_after, form, form_of, form_with, form_with_files, is_dash, size_of, sized_form, target_of, targets_in, verb_named, ReadsWords};
 
 use crate::words::{Command, TargetWord, Verb, WordFault};
+use metis_text::number_in;
 use metis_universe::pair_names;
 use std::alloc::{AllocError, Global};
 
@@ -35,14 +37,55 @@ fn verb_named(word: &str) -> Option<Verb>
         Some(Verb::Sim)
     } else if word == "print" {
         Some(Verb::Print)
+    } else if word == "load" {
+        Some(Verb::Load)
     } else {
         None
     }
 }
 
-// The file words of the verb, and then target words.
 fn read_form(alloc: Global, verb: Verb, words: &[String]) -> Result<Command, WordFault>
     ensures { ReadsWords form result (form_with verb (texts words.now)) }
+{
+    match verb {
+        Verb::Load => read_size(alloc, words),
+        _ => read_over_files(alloc, verb, words),
+    }
+}
+
+// A size, and nothing behind it.
+fn read_size(alloc: Global, words: &[String]) -> Result<Command, WordFault>
+    ensures { ReadsWords form result (sized_form (texts words.now)) }
+{
+    match words {
+        [] => Err(WordFault::At(2)),
+        [word, more @ ..] => match size_of(word.as_str()) {
+            Some(_) if !more.is_empty() => Err(WordFault::At(3)),
+            Some(size) => Ok(Command {
+                verb: Verb::Load,
+                files: Vec::new(alloc),
+                targets: Vec::new(alloc),
+                size,
+            }),
+            None => Err(WordFault::At(2)),
+        },
+    }
+}
+
+// The number that the word is, where it is one from 1 to 128.
+fn size_of(word: &str) -> Option<u32>
+    ensures { result ≡ size_of word.now }
+{
+    match number_in(word.as_bytes()) {
+        Ok(n) if 1 <= n && n <= 128 => Some(n),
+        _ => None,
+    }
+}
+
+// The file words of the verb, and then target words.
+fn read_over_files(alloc: Global, verb: Verb, words: &[String]) -> Result<Command, WordFault>
+    requires { least_size verb ≡ 0 }
+    ensures { ReadsWords form result (form_with_files verb (texts words.now)) }
 {
     let count = verb.file_count();
     let files = read_files(alloc, count, words)?;

@@ -5,6 +5,7 @@ mod grammar;
 mod in_memory;
 mod judgement_line;
 mod laws;
+mod load;
 mod plan;
 mod print;
 mod reading;

@@ -78,8 +78,8 @@ fn put_verdict<K: Sink>(
     }
 }
 
-// What the actions came to, and how many instances stood then.
-fn replayed(
+/// What the actions came to, and how many instances stood then.
+pub fn replayed(
     alloc: Global,
     u: &Universe,
     actions: &[Action],

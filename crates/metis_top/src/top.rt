@@ -13,6 +13,7 @@ ghost use Rattle.metis_universe.specs.Texts.{texts};
 
 use crate::Status;
 use crate::grammar::read_words;
+use crate::load::load_size;
 use crate::plan::plan_file;
 use crate::print::print_file;
 use crate::refusal::{Refusal, Stop};
@@ -33,7 +34,8 @@ pub fn run<H: Shelf, K: Sink>(alloc: Global, words: &[String], shelf: &mut H, ou
     // The files stay as they were.
     ensures files { H.files shelf.new ≡ H.files shelf.old }
 
-    // It opens a file at least and at most those of its words, each once, and none where its words are no command.
+    // It opens at most the files of its words, each once, and at least one where there are any; and none where its words are
+    // no command.
     ensures opens { OpensFiles (form_of (texts words.now)) result (H.opens shelf.old) (H.opens shelf.new) }
 
     // It puts lines, one a put.
@@ -88,7 +90,7 @@ fn perform<H: Shelf, K: Sink>(
     shelf: &mut H,
     out: &mut K,
 ) -> Status
-    ensures { Ran H.files H.faults H.opens K.written K.faults (command_script command.now.verb (texts command.now.files.items) command.now.targets.items) shelf.old shelf.new out.old out.new result }
+    ensures { Ran H.files H.faults H.opens K.written K.faults (command_script command.now.verb (texts command.now.files.items) command.now.targets.items command.now.size) shelf.old shelf.new out.old out.new result }
 {
     match command.verb {
         Verb::Plan => plan_file(alloc, command.file(0), command.targets(), shelf, out),
@@ -105,5 +107,6 @@ fn perform<H: Shelf, K: Sink>(
             sim_file(alloc, file, input, shelf, out)
         }
         Verb::Print => print_file(alloc, command.file(0), shelf, out),
+        Verb::Load => load_size(alloc, command.size, out),
     }
 }

@@ -1,6 +1,6 @@
 //! The parts of a command.
 ghost use Rattle.std.specs.Prelude.{◌≡◌, ◌<◌, ◌≤◌, length};
-ghost use Rattle.metis_top.specs.Forms.{file_count, target_limit};
+ghost use Rattle.metis_top.specs.Forms.{file_count, least_size, size_limit, target_limit};
 
 use std::alloc::{AllocError, AllocFailed};
 use std::marker::Model;
@@ -18,6 +18,8 @@ pub enum Verb {
     Sim,
     /// Prints the universe.
     Print,
+    /// Plans for the generated universe of a size, and replays the plan.
+    Load,
 }
 
 impl Verb {
@@ -26,6 +28,7 @@ impl Verb {
         ensures { result ≡ file_count self }
     {
         match self {
+            Verb::Load => 0,
             Verb::Plan | Verb::Print => 1,
             Verb::Replay | Verb::Refute | Verb::Sim => 2,
         }
@@ -37,7 +40,7 @@ impl Verb {
     {
         match self {
             Verb::Plan | Verb::Replay | Verb::Refute => 256,
-            Verb::Sim | Verb::Print => 0,
+            Verb::Sim | Verb::Print | Verb::Load => 0,
         }
     }
 }
@@ -67,6 +70,8 @@ pub struct Command {
     pub size: u32,
     ghost files_are_there: { file_count verb ≤ length files.items },
     ghost targets_are_few: { length targets.items ≤ target_limit verb },
+    ghost size_is_enough: { least_size verb ≤ size },
+    ghost size_is_small: { size ≤ size_limit verb },
 }
 
 impl Command {

@@ -1,3 +1,5 @@
+use Rattle.metis_top.proofs.Replies.{ran_at_once}
+use Rattle.metis_top.specs.Answer.{Load}
 use Rattle.metis_top.proofs.top.perform.Goals as goal
 
 pub returns-in-Plan : goal.returns-in-Plan
@@ -8,3 +10,6 @@ returns-in-Replay g c = rw c.in-Replay.is (rw (c.file-file.ensures, c.file-plan.
 
 pub returns-in-Refute : goal.returns-in-Refute
 returns-in-Refute g c = rw c.in-Refute.is (rw (c.file-file-in-Refute.ensures, c.file-text.ensures, c.targets-in-Refute.ensures.words) at c.refute_file.ensures)
+
+pub returns-in-Load : goal.returns-in-Load
+returns-in-Load g c = rw c.in-Load.is (ran_at_once _ _ _ _ _ _ _ _ (Load c.args.command.now.size) _ c.load_size.ensures)

@@ -5,7 +5,7 @@ use Rattle.metis_top.specs.Forms.{file_count, target_limit}
 use Rattle.metis_top.specs.TargetName.{TargetName}
 use Rattle.metis_top.specs.Words.{ReadsWords, form, targets_in}
 use Rattle.metis_universe.specs.Texts.{texts}
-use Rattle.metis_top.proofs.grammar.read_form.Goals as goal
+use Rattle.metis_top.proofs.grammar.read_over_files.Goals as goal
 
 pub returns-in-Ok : goal.returns-in-Ok
 returns-in-Ok c =
