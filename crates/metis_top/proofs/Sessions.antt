@@ -12,9 +12,8 @@ use Rattle.metis_ids.specs.declared.actions.Action.{Action}
 use Rattle.metis_universe.specs.Config.{Config}
 use Rattle.metis_universe.specs.Universe.{Universe, is_empty}
 use Rattle.metis_text.specs.Tokens.{tokens}
-use Rattle.metis_outside.proofs.Writing.{Appends-trans, front_of_all, front_of_first, front_of_second, writes_then}
-use Rattle.metis_outside.specs.Writes.{Appends, AppendsFront, Writes}
-use Rattle.metis_outside.specs.declared.trouble.Trouble.{Trouble}
+use Rattle.metis_outside.proofs.Writing.{Appends-trans, front_of_first, front_of_second}
+use Rattle.metis_outside.specs.Writes.{Appends, AppendsFront}
 use Rattle.metis_actions.specs.Faults.{fault_of}
 use Rattle.metis_actions.specs.declared.faults.AFault.{AFault}
 use Rattle.metis_replay.specs.Progress.{shortage}
@@ -132,28 +131,33 @@ module _ (u : Universe) (line : List ℕ) (t t' : Session) (r : Reply) (e : (r, 
   pub live_still : t.ended ≡ false → r ≢ Bye → t'.ended ≡ false
   live_still live other = ap (λ (w : Answer). w.1.ended) e ∙ goes_on t live line (λ bye. other (ap (λ (w : Answer). w.0) e ∙ bye))
 
+  pub ended_by : r ≡ Bye → t'.ended ≡ true
+  ended_by bye = ap (λ (w : Answer). w.1.ended) e ∙ over_by_bye t line (sym (ap (λ (w : Answer). w.0) e) ∙ bye)
+
   pub never_ended : t.ended ≡ false → r ≢ Ended
   never_ended live ended = reply_not_ended t live line (sym (ap (λ (w : Answer). w.0) e) ∙ ended)
 
+  pub told_is : reply_lines u t'.config r ≡ reply_lines u (after_line t line).config (reply t line)
+  told_is = ap (λ (w : Answer). reply_lines u w.1.config w.0) e
+
 -- ---- what is put of some of the lines
 
--- The session t is s after the first lines, and answers the next one by r, which leaves t'.
-module _ (u : Universe) (s : Session) (first : List (List ℕ)) (line : List ℕ) (t t' : Session) (r : Reply) (at : t ≡ after_lines s first) (e : (r, t') ≡ answer t line) where
-  there : (r, t') ≡ answer (after_lines s first) line
-  there = e ∙ ap (λ q. answer q line) at
+abbrev told_by : Universe → Session → List ℕ → List (List ℕ)
+told_by u t line = reply_lines u (after_line t line).config (reply t line)
 
-  here : reply_lines u t'.config r ≡ reply_lines u (after_line (after_lines s first) line).config (reply (after_lines s first) line)
-  here = ap (λ (w : Answer). reply_lines u w.1.config w.0) there
+-- the session t is s after the first lines, and the next line follows
+module _ (u : Universe) (s : Session) (first : List (List ℕ)) (line : List ℕ) (t : Session) (at : t ≡ after_lines s first) where
+  here : told_by u t line ≡ told_by u (after_lines s first) line
+  here = ap (λ q. told_by u q line) at
 
   -- the session after one more line
-  pub after_one_more : t' ≡ after_lines s (first ++ line ∷ [])
-  after_one_more = ap (λ (w : Answer). w.1) there ∙ sym (after_lines-append s first (line ∷ []))
+  pub after_one_more : after_line t line ≡ after_lines s (first ++ line ∷ [])
+  after_one_more = ap (λ q. after_line q line) at ∙ sym (after_lines-append s first (line ∷ []))
 
   -- the replies to one more line
-  pub appends_one_more : (old mid new : Known (List (List ℕ))) → Appends old mid (replies_to u s first) → Appends mid new (reply_lines u t'.config r) → Appends old new (replies_to u s (first ++ line ∷ []))
+  pub appends_one_more : (old mid new : Known (List (List ℕ))) → Appends old mid (replies_to u s first) → Appends mid new (told_by u t line) → Appends old new (replies_to u s (first ++ line ∷ []))
   appends_one_more old mid new put more =
-      let q = after_lines s first in
-      let told = reply_lines u (after_line q line).config (reply q line) in
+      let told = told_by u (after_lines s first) line in
       subst (λ l. Appends old new l) (sym (replies_to-append u s first (line ∷ []) ∙ ap (λ l. replies_to u s first ++ l) (append-nil told)))
       (Appends-trans old mid new (replies_to u s first) told put (subst (λ l. Appends mid new l) here more))
 
@@ -162,25 +166,19 @@ module _ (u : Universe) (s : Session) (first : List (List ℕ)) (line : List ℕ
     split_at = ap (replies_to u s) (sym is) ∙ replies_to-append u s first (line ∷ rest)
 
     -- a front of one more reply
-    pub front_of_reply : (old mid new : Known (List (List ℕ))) → Appends old mid (replies_to u s first) → AppendsFront mid new (reply_lines u t'.config r) → AppendsFront old new (replies_to u s all)
+    pub front_of_reply : (old mid new : Known (List (List ℕ))) → Appends old mid (replies_to u s first) → AppendsFront mid new (told_by u t line) → AppendsFront old new (replies_to u s all)
     front_of_reply old mid new put front =
         let q = after_lines s first in
-        let told = reply_lines u (after_line q line).config (reply q line) in
         subst (λ l. AppendsFront old new l) (sym split_at)
-        (front_of_second old mid new (replies_to u s first) (replies_to u q (line ∷ rest)) put (front_of_first mid new told (replies_to u (after_line q line) rest) (subst (λ l. AppendsFront mid new l) here front)))
+        (front_of_second old mid new (replies_to u s first) (replies_to u q (line ∷ rest)) put (front_of_first mid new (told_by u q line) (replies_to u (after_line q line) rest) (subst (λ l. AppendsFront mid new l) here front)))
 
-    -- the reply that ends the session
-    pub writes_last_reply : {T : Type 0} (old mid new : Known (List (List ℕ))) (w : Result T Trouble) → r ≡ Bye → Appends old mid (replies_to u s first) → Writes (codes "bye\n" ∷ []) mid new w → Writes (replies_to u s all) old new w
-    writes_last_reply old mid new w bye put writes =
+    -- a line that ends the session
+    pub all_replies : (old mid new : Known (List (List ℕ))) → (after_line t line).ended ≡ true → Appends old mid (replies_to u s first) → Appends mid new (told_by u t line) → Appends old new (replies_to u s all)
+    all_replies old mid new over put more =
         let q = after_lines s first in
-        let told : replies_to u q (line ∷ rest) ≡ codes "bye\n" ∷ [] = bye_is_the_last u q line rest (sym (ap (λ (w : Answer). w.0) there) ∙ bye) in
-        subst (λ l. Writes l old new w) (sym (split_at ∙ ap (λ l. replies_to u s first ++ l) told)) (writes_then old mid new (replies_to u s first) (codes "bye\n" ∷ []) w put writes)
-
--- the replies to the first lines alone
-pub front_of_replies : (u : Universe) (s : Session) (first rest all : List (List ℕ)) → first ++ rest ≡ all → (old new : Known (List (List ℕ))) → Appends old new (replies_to u s first) → AppendsFront old new (replies_to u s all)
-front_of_replies u s first rest all is old new put =
-    subst (λ l. AppendsFront old new l) (sym (ap (replies_to u s) (sym is) ∙ replies_to-append u s first rest))
-    (front_of_first old new (replies_to u s first) (replies_to u (after_lines s first) rest) (front_of_all old new (replies_to u s first) put))
+        let over' : (after_line q line).ended ≡ true = sym (ap (λ p. (after_line p line).ended) at) ∙ over in
+        let last : replies_to u q (line ∷ rest) ≡ told_by u q line = ap (λ l. told_by u q line ++ l) (replies_to-ended u (after_line q line) over' rest) ∙ append-nil (told_by u q line) in
+        subst (λ l. Appends old new l) (sym (split_at ∙ ap (λ l. replies_to u s first ++ l) last)) (Appends-trans old mid new (replies_to u s first) (told_by u q line) put (subst (λ l. Appends mid new l) here more))
 
 -- ---- lines that are lent, of which v gives the bytes
 

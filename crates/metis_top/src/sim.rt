@@ -1,9 +1,10 @@
 //! The command that runs a session.
-ghost use Rattle.std.specs.Prelude.{◌≡◌, IfOk, map};
+ghost use Rattle.std.specs.Prelude.{◌≡◌, IfOk, OnOk, false, map, not};
 ghost use Rattle.std.specs.List.{slice_split};
 ghost use Rattle.metis_outside.specs.Faults.{CountsFault};
 ghost use Rattle.metis_outside.specs.Writes.{Writes};
-ghost use Rattle.metis_sim.specs.Session.{begin};
+ghost use Rattle.metis_sim.specs.Replies.{reply_lines};
+ghost use Rattle.metis_sim.specs.Session.{after_line, begin, reply};
 ghost use Rattle.metis_top.specs.Answer as answer;
 ghost use Rattle.metis_top.specs.Commands.{sim_script, sim_then};
 ghost use Rattle.metis_top.specs.Course.{Ran, Shown};
@@ -90,11 +91,38 @@ fn write_replies<K: Sink>(
 {
     let mut session = Session::new(alloc, u);
     for line in lines {
-        match session.line(line) {
-            Reply::NoMemory => return Err(Trouble::NoMemory),
-            Reply::Bye => return write_reply(alloc, u, &session, &Reply::Bye, out),
-            reply => write_reply(alloc, u, &session, &reply, out)?,
+        let goes_on = write_answer(alloc, u, &mut session, line, out)?;
+        if !goes_on {
+            return Ok(());
         }
     }
     Ok(())
+}
+
+// Puts the reply to the line, and tells whether the session goes on.
+fn write_answer<K: Sink>(
+    alloc: Global,
+    u: &Universe,
+    session: &mut Session<'_>,
+    line: &[u8],
+    out: &mut K,
+) -> Result<bool, Trouble>
+    requires universe { session.old.universe ≡ u.now }
+    requires live { session.old.ended ≡ false }
+    ensures text { Writes (reply_lines u.now (after_line session.old line.now).config (reply session.old line.now)) (K.written out.old) (K.written out.new) result }
+    ensures cause { CountsFault (K.faults out.old) (K.faults out.new) result }
+    ensures session { OnOk result (session.new ≡ after_line session.old line.now) }
+    ensures goes_on { IfOk result (λ on. session.new.ended ≡ not on) }
+{
+    match session.line(line) {
+        Reply::NoMemory => Err(Trouble::NoMemory),
+        Reply::Bye => {
+            write_reply(alloc, u, session, &Reply::Bye, out)?;
+            Ok(false)
+        }
+        reply => {
+            write_reply(alloc, u, session, &reply, out)?;
+            Ok(true)
+        }
+    }
 }
