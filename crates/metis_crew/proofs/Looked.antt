@@ -26,7 +26,7 @@ use Rattle.metis_crew.proofs.Counts.{done_all, done_before}
 use Rattle.metis_crew.proofs.Fronts.{none_is_some}
 use Rattle.metis_crew.proofs.Made.{at_key}
 use Rattle.metis_crew.proofs.OwnActions.{own_next, own_self, own_short}
-use Rattle.metis_crew.specs.Crew.{actor_at, count_of, done_count, is_done, is_own, next_of, none_done, one_more, own_numbers, start}
+use Rattle.metis_crew.specs.Crew.{CrewState, actor_at, count_of, done_count, is_done, is_own, next_of, none_done, one_more, own_numbers, start}
 use Rattle.metis_crew.specs.Tables.{AreTables, row_at}
 
 -- ---- what is done, by the next action
@@ -45,6 +45,13 @@ next_within A counts z k next =
     let own = own_next A z (count_of counts z) k next in
     let range = in_range 1 (length A) k own.1 in
     (range.0, omega (arith, range.1), own.0)
+
+-- the next action of a crew, whose fields are these
+pub next_there : (A : List Action) (counts : List (ℕ × ℕ)) (s : CrewState) (z : ℕ) → record { actions = A; counts = counts } ≡ s → is_some (next_of s.actions s.counts z) ≡ true → (k : ℕ) × (next_of A counts z ≡ Some k)
+next_there A counts s z same some = some_of (next_of A counts z) (ap (λ (t : CrewState). is_some (next_of t.actions t.counts z)) same ∙ some) where
+  some_of : (o : Option ℕ) → is_some o ≡ true → (k : ℕ) × (o ≡ Some k)
+  some_of None h = absurd (false≢true h)
+  some_of (Some k) h = (k, refl)
 
 -- ---- one more
 

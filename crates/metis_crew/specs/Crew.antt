@@ -9,13 +9,12 @@
 --     turns actions counts zs, after_turns actions counts zs      the answers to the turns of these instances in order;  what is done after them
 --     did answers      the numbers of the actions that were done in these turns
 --     CrewState, at_start actions      a crew's actions and what is done of them;  with none done
-use Rattle.std.specs.Prelude.{ℕ, suc, Bool, false, not, List, [], ◌∷◌, length, take, Option, Some, None, slice_get, cond}
+use Rattle.std.specs.Prelude.{ℕ, suc, nat_eq, Bool, false, not, List, [], ◌∷◌, length, take, Option, Some, None, slice_get, cond}
 use Rattle.std.specs.BTreeMap.{insert_entry}
 use Rattle.std.specs.List.{filter, filter_map, find}
 use Rattle.std.specs.Map.{lookup}
 use Rattle.std.specs.Option.{option_map_or, unwrap_or}
 use Rattle.std.specs.Ordering.{nat_cmp}
-use Rattle.std.specs.Prelude.{nat_eq}
 use Rattle.metis_ids.specs.Action.{actor_of}
 use Rattle.metis_ids.specs.declared.actions.Action.{Action}
 use Rattle.metis_universe.specs.Universe.{has, is_empty}

@@ -72,8 +72,7 @@ impl<'a> Crew<'a> {
         if let Some(m) = self.first_wait(k) {
             return Turn::WaitsFor(k, m);
         }
-        count_up(&mut self.counts, z);
-        self.done += 1;
+        self.act(z);
         Turn::Did(k)
     }
 
@@ -92,6 +91,16 @@ impl<'a> Crew<'a> {
         ensures { result ≡ done_count self.now.actions self.now.counts }
     {
         self.done
+    }
+
+    // The instance does its next action.
+    fn act(&mut self, z: InstNo)
+        requires { IsSome (next_of self.old.actions self.old.counts z) }
+        ensures actions { self.new.actions ≡ self.old.actions }
+        ensures counts { self.new.counts ≡ one_more self.old.counts z }
+    {
+        count_up(&mut self.counts, z);
+        self.done += 1;
     }
 
     // The numbers of the instance's actions.
