@@ -11,7 +11,7 @@ ghost use Rattle.indexmap.specs.IndexSet.{index_set_len};
 use crate::faults::{LimitKind, RowFault};
 use crate::names::is_name;
 use crate::rows::{StateRow, TypeRow};
-use crate::sights::require_total;
+use crate::sights::{add_name, require_total};
 use indexmap::IndexSet;
 use std::alloc::{AllocError, Global};
 
@@ -196,7 +196,7 @@ fn fault_of_types(alloc: Global, rows: &[TypeRow]) -> Result<Option<RowFault>, A
         if fault.is_some() {
             return Ok(fault);
         }
-        seen.insert(row.name.clone()?)?;
+        add_name(alloc, &mut seen, row.name.as_str())?;
     }
     Ok(None)
 }

@@ -7,7 +7,7 @@ ghost use Rattle.std.specs.String.{string_bytes};
 ghost use Rattle.indexmap.specs.IndexSet.{index_set_len};
 ghost use Rattle.metis_universe.specs.Kinds.{kind_of, kinds_of};
 ghost use Rattle.metis_universe.specs.Texts.{texts};
-ghost use Rattle.metis_universe.specs.Rows.{number_of, state_number, ascending, pair_from, pairs_of_type, universe_from, first_fault, ports_of};
+ghost use Rattle.metis_universe.specs.Rows.{number_of, state_number, ascending, kind_from, kinds_from, pair_from, pairs_from, pairs_of_type, universe_from, first_fault, ports_of};
 
 use super::{PairRow, PortRow, Universe};
 use crate::check::place_of_state;
@@ -174,6 +174,46 @@ fn index_rows(
     Ok((providers, requirers))
 }
 
+/// Adds a type and its pairs.
+fn add_type(
+    alloc: Global,
+    kinds: &mut IndexMap<String, PairIx>,
+    pairs: &mut Vec<PairRow>,
+    ports: &IndexSet<String>,
+    t: TypeIx,
+    row: &TypeRow,
+) -> Result<(), AllocError>
+    requires ports { index_set_len ports.now < 2 ^ 32 }
+    requires first { length pairs.old.items + length row.now.states < 2 ^ 32 }
+    requires new { list_any (λ k. bytes_eq row.now.name k.name) (kinds_of kinds.old.entries) ≡ false }
+    ensures kinds { OnOk result (kinds_of kinds.new.entries ≡ kinds_of kinds.old.entries ++ kind_from (length pairs.old.items) row.now ∷ []) }
+    ensures pairs { OnOk result (pairs.new.items ≡ pairs.old.items ++ pairs_of_type (texts ports.now.keys) t (length pairs.old.items) row.now) }
+{
+    let first = pairs.len() as u32;
+    let initial = PairIx(first + state_number(row, row.initial.as_str()));
+    add_kind(kinds, row.name.clone()?, initial)?;
+    add_pairs(alloc, pairs, ports, t, row)
+}
+
+/// The types of the rows, by their names, and the pairs of these.
+fn type_tables(
+    alloc: Global,
+    rows: &[TypeRow],
+    ports: &IndexSet<String>,
+) -> Result<(IndexMap<String, PairIx>, Vec<PairRow>), AllocError>
+    requires sound { first_fault rows.now ≡ None }
+    requires ports { texts ports.now.keys ≡ ports_of rows.now }
+    ensures kinds { IfOk result (λ made. kinds_of made.0.entries ≡ kinds_from 0 rows.now) }
+    ensures pairs { IfOk result (λ made. made.1.items ≡ pairs_from (ports_of rows.now) 0 0 rows.now) }
+{
+    let mut kinds = IndexMap::new(alloc);
+    let mut pairs = Vec::new(alloc);
+    for (t, row) in rows.iter().enumerate() {
+        add_type(alloc, &mut kinds, &mut pairs, ports, TypeIx(t as u32), row)?;
+    }
+    Ok((kinds, pairs))
+}
+
 /// The universe of rows that have no fault, with their ports.
 pub fn tables(
     alloc: Global,
@@ -184,14 +224,7 @@ pub fn tables(
     requires ports { texts ports.keys ≡ ports_of rows.now }
     ensures { IfOk result (λ u. u ≡ universe_from rows.now) }
 {
-    let mut kinds = IndexMap::new(alloc);
-    let mut pairs = Vec::new(alloc);
-    for (t, row) in rows.iter().enumerate() {
-        let first = pairs.len() as u32;
-        let initial = PairIx(first + state_number(row, row.initial.as_str()));
-        add_kind(&mut kinds, row.name.clone()?, initial)?;
-        add_pairs(alloc, &mut pairs, &ports, TypeIx(t as u32), row)?;
-    }
+    let (kinds, pairs) = type_tables(alloc, rows, &ports)?;
     let (providers, requirers) = index_rows(alloc, &pairs, ports.len())?;
     Ok(Universe {
         kinds,
