@@ -1,3 +1,5 @@
+pub mod CountedTable
+pub mod CounterFacts
 pub mod Counts
 pub mod Deploying
 pub mod Examples
@@ -8,10 +10,10 @@ pub mod Lines
 pub mod Named
 pub mod Numbers
 pub mod Order
+pub mod RoundFacts
 pub mod Sets
 pub mod Short
-pub mod Stamps
 pub mod Standing
-pub mod Stopped
 pub mod Tables
 pub mod Ways
+pub mod WorkFacts

@@ -1,5 +1,0 @@
-use Rattle.metis_layers.proofs.Sets.{gathered}
-use Rattle.metis_layers.proofs.round.offer_all.Goals as goal
-
-pub loop-port-preserved : goal.loop-port-preserved
-loop-port-preserved c = gathered c.args.ports.now c.loop-port.offered.keys c.insert.new.self.keys c.args.offered.now.keys c.loop-port.port-index c.port-item.result c.loop-port-test.true c.port-item.is c.in_ok-insert.ensures.keys c.loop-port.invariant
