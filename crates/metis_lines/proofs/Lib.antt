@@ -1,0 +1,11 @@
+pub mod Examples
+pub mod Few
+pub mod FirstTable
+pub mod FirstHeld
+pub mod Holders
+pub mod Instances
+pub mod OwnLines
+pub mod Pushes
+pub mod Sets
+pub mod Sound
+pub mod Tabled

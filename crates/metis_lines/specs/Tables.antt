@@ -1,0 +1,45 @@
+-- What is kept beside life lines, and the tables that lead to it.
+--     IsTabled x holders count      the lines are few, no own pair comes twice, the table has the holder of each pair, and so many are loose
+--     IsLineOf pairs line      the line's pairs are of so many, and its last one stands on it once
+--     held_by t lines p      the first line that passes the test, with the place of p there
+--     on_line l line p      line l, with the place of p there, where it has p
+--     first_held lines p, first_holder lines providers p      the first line that ends in p, else through it, with its place there;  the same for a provider pair alone
+--     AreHeld holders lines      the table names lines that are there
+--     goes_on lines holders p      whether the line that the table names for p goes on from p
+use Rattle.std.specs.Prelude.{ℕ, ◌≡◌, ◌<◌, ◌≤◌, ◌+◌, ◌-◌, Bool, false, not, List, [], length, Option, Some, None, slice_index_or, nat_eq, if◌then◌else◌}
+use Rattle.std.specs.List.{All, IsDistinct, list_any, position_or_len}
+use Rattle.std.specs.Option.{option_map_or, option_or}
+use Rattle.metis_universe.specs.Universe.{has}
+use Rattle.metis_layers.specs.LayerOrder.{place_of}
+use Rattle.metis_lines.specs.LifeLines.{LifeLines, ends_in, goes_through, holder_of, loose}
+
+pub record IsTabled (x : LifeLines) (holders : List (Option (ℕ × ℕ))) (count : ℕ) : Type 0 where
+  pub few : length x.lines ≤ 256 + length holders + length x.own
+  pub apart : IsDistinct nat_eq x.own
+  pub pairs : length holders ≤ 2000
+  pub own_few : length x.own + loose x ≤ length x.providers
+  pub provider_few : length x.providers ≤ length holders
+  pub held : (p : ℕ) → slice_index_or holders p None ≡ holder_of x p
+  pub counted : count ≡ loose x
+
+pub record IsLineOf (pairs : ℕ) (line : List ℕ) : Type 0 where
+  pub within : All (λ p. p < pairs) line
+  pub once : place_of line (slice_index_or line (length line - 1) 0) ≡ length line - 1
+
+abbrev pub held_by : (List ℕ → Bool) → List (List ℕ) → ℕ → Option (ℕ × ℕ)
+held_by t lines p = if list_any t lines then Some (position_or_len t lines, place_of (slice_index_or lines (position_or_len t lines) []) p) else None
+
+abbrev pub on_line : ℕ → List ℕ → ℕ → Option (ℕ × ℕ)
+on_line l line p = if goes_through p line then Some (l, place_of line p) else None
+
+abbrev pub first_held : List (List ℕ) → ℕ → Option (ℕ × ℕ)
+first_held lines p = option_or (held_by (ends_in p) lines p) (held_by (goes_through p) lines p)
+
+abbrev pub first_holder : List (List ℕ) → List ℕ → ℕ → Option (ℕ × ℕ)
+first_holder lines providers p = if has providers p then first_held lines p else None
+
+abbrev pub AreHeld : List (Option (ℕ × ℕ)) → List (List ℕ) → Type 0
+AreHeld holders lines = (p : ℕ) (held : ℕ × ℕ) → slice_index_or holders p None ≡ Some held → held.0 < length lines
+
+abbrev pub goes_on : List (List ℕ) → List (Option (ℕ × ℕ)) → ℕ → Bool
+goes_on lines holders p = option_map_or (λ held. not (ends_in p (slice_index_or lines held.0 []))) (slice_index_or holders p None) false

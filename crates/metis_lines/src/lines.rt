@@ -1,0 +1,162 @@
+//! Life lines.
+ghost use Rattle.std.specs.Prelude.{ℕ, ◌≡◌, ◌<◌, ◌≤◌, ◌+◌, ◌++◌, ◌∷◌, [], length, map, IfOk, OnOk, OnErr, IsTrue, nat_lt};
+ghost use Rattle.std.specs.List.{slice_index_or};
+ghost use Rattle.metis_support.specs.Support.{IsKept, is_selected, path_to, provider_pairs};
+ghost use Rattle.metis_universe.specs.Universe.{has};
+ghost use Rattle.metis_lines.specs.LifeLines.{AreLines, LifeLines, holder_of, is_loose, line_at, lines_of, loose, other_ends};
+
+use crate::first::first_lines;
+use crate::held::{count_loose, first_holders, holder_in};
+use crate::line::Line;
+use metis_ids::{IxVec, LineIx, NoMemory, PairIx, StepIx};
+use metis_support::Support;
+use std::alloc::Global;
+use std::marker::Model;
+
+/// The life lines for targets and own pairs, and which of them holds each provider pair.
+#[derive(Drop)]
+pub struct Lines {
+    lines: Vec<Line>,
+    targets: Vec<PairIx>,
+    own: Vec<PairIx>,
+    providers: Vec<PairIx>,
+    /// Where each pair is held, by pair.
+    holders: IxVec<PairIx, Option<(LineIx, StepIx)>>,
+    loose: u32,
+}
+
+impl Model for Lines {
+    ghost use Rattle.metis_lines.specs.LifeLines as model;
+    ghost use Rattle.metis_lines.specs.Tables.{IsTabled};
+
+    ghost Value = { model.LifeLines };
+
+    ghost view = { λ a. model.lines_by a.lines.items a.targets.items a.own.items a.providers.items };
+
+    ghost invariant = { λ a. IsTabled (model.lines_by a.lines.items a.targets.items a.own.items a.providers.items) a.holders a.loose };
+}
+
+impl Lines {
+    /// The lines for selected targets, and no own pairs. It goes once over the selected pairs and twice over their lines.
+    pub fn new(alloc: Global, s: &Support, targets: &[PairIx]) -> Result<Lines, NoMemory>
+        requires selected { (p : ℕ) → IsTrue (has targets.now p) → IsTrue (is_selected s.now p) }
+        requires few { length targets.now ≤ 256 }
+        ensures lines { IfOk result (λ x. x ≡ lines_of s.now targets.now []) }
+        ensures are { IfOk result (AreLines s.now) }
+    {
+        let selected = s.selected();
+        let _count = selected.count();
+        let lines = first_lines(alloc, s, targets)?;
+        let providers = Vec::from_slice(alloc, s.provider_pairs())?;
+        let holders = first_holders(alloc, selected.size(), &providers, &lines)?;
+        let loose = count_loose(&providers, &lines, &holders);
+        let targets = Vec::from_slice(alloc, targets)?;
+        Ok(Lines {
+            lines,
+            targets,
+            own: Vec::new(alloc),
+            providers,
+            holders,
+            loose,
+        })
+    }
+
+    /// How many lines there are.
+    pub fn count(&self) -> u32
+        ensures count { result ≡ length self.now.lines }
+        ensures few { length self.now.lines ≤ 4256 }
+    {
+        let _table = &self.holders;
+        self.lines.len() as u32
+    }
+
+    /// The number of the line's last station.
+    pub fn last(&self, l: LineIx) -> StepIx
+        requires { l < length self.now.lines }
+        ensures last { result + 1 ≡ length (line_at self.now l) }
+        ensures short { result < 64 }
+    {
+        self.lines[l.0 as usize].last()
+    }
+
+    /// The pair of a station.
+    pub fn station(&self, l: LineIx, j: StepIx) -> PairIx
+        requires line { l < length self.now.lines }
+        requires station { j < length (line_at self.now l) }
+        ensures { result ≡ slice_index_or (line_at self.now l) j 0 }
+    {
+        self.lines[l.0 as usize].station(j)
+    }
+
+    /// Whether the line is a target's.
+    pub fn is_target(&self, l: LineIx) -> bool
+        ensures { result ≡ nat_lt l (length self.now.targets) }
+    {
+        (l.0 as usize) < self.targets.len()
+    }
+
+    /// The pairs that have a line of their own.
+    pub fn own(&self) -> &[PairIx]
+        ensures { result.now ≡ self.now.own }
+    {
+        self.own.as_slice()
+    }
+
+    /// The line that holds a provider pair, with the pair's station there; none where the pair is no provider pair.
+    pub fn holder(&self, p: PairIx) -> Option<(LineIx, StepIx)>
+        ensures { result ≡ holder_of self.now p }
+    {
+        let _lines = &self.lines;
+        holder_in(&self.holders, p)
+    }
+
+    /// How many provider pairs are held by a line that goes on from them.
+    pub fn loose(&self) -> u32
+        ensures { result ≡ loose self.now }
+    {
+        let _lines = &self.lines;
+        self.loose
+    }
+
+    /// Gives a provider pair a line of its own, where the line that holds it goes on from there, and answers that line.
+    /// One pair less is then held so. Where memory runs out the lines stay as they were.
+    pub fn own_line(&mut self, alloc: Global, s: &Support, p: PairIx) -> Result<LineIx, NoMemory>
+        requires lines { AreLines s.now self.old }
+        requires provider { IsTrue (has self.old.providers p) }
+        requires loose { IsTrue (is_loose self.old p) }
+        ensures line { IfOk result (λ l. l ≡ length self.old.lines) }
+        ensures own { OnOk result (self.new ≡ lines_of s.now self.old.targets (self.old.own ++ p ∷ [])) }
+        ensures lines { OnOk result (AreLines s.now self.new) }
+        ensures loose { OnOk result (loose self.new + 1 ≡ loose self.old) }
+        ensures err { OnErr result (self.new ≡ self.old) }
+    {
+        let _kept = s.selected();
+        let line = Line::to(alloc, s, p)?;
+        let number = LineIx(self.lines.len() as u32);
+        let last = line.last();
+        push_both(&mut self.lines, line, &mut self.own, p)?;
+        self.holders.set(p, Some((number, last)));
+        self.loose -= 1;
+        Ok(number)
+    }
+}
+
+// Appends the line and its pair, or neither.
+fn push_both(
+    lines: &mut Vec<Line>,
+    line: Line,
+    own: &mut Vec<PairIx>,
+    p: PairIx,
+) -> Result<(), NoMemory>
+    ensures lines { OnOk result (lines.new.items ≡ lines.old.items ++ line ∷ []) }
+    ensures own { OnOk result (own.new.items ≡ own.old.items ++ p ∷ []) }
+    ensures no_lines { OnErr result (lines.new.items ≡ lines.old.items) }
+    ensures no_own { OnErr result (own.new.items ≡ own.old.items) }
+{
+    own.push(p)?;
+    if lines.push(line).is_err() {
+        own.pop();
+        return Err(NoMemory);
+    }
+    Ok(())
+}
