@@ -1,8 +1,6 @@
 -- One instance's way, each of whose steps is bound only to instances that stand already.
-use Rattle.std.proofs.Common.{◌≡◌, ℕ, ◌<◌, ◌≤◌, Bool, true, false, cond, not, ◌&&◌, ◌||◌, List, [], ◌∷◌, ◌++◌, length, Option, Some, refl, sym, ap, ◌∙◌, subst, arith, nat_eq, inl, inr, append_assoc, append-nil, length-append}
-use Rattle.std.proofs.lemmas.Bool.{eqb-true, eq-eqb, ne_eqb, cases_eq, cases_lt, false≢true, and_parts, and_from, or_cases, or_left, or_right}
-use Rattle.std.proofs.lemmas.List.{get_or_past}
-use Rattle.std.proofs.lemmas.List.Folds.{list_any_at}
+use Rattle.std.proofs.Common.{◌≡◌, ℕ, ◌<◌, Bool, true, false, cond, not, ◌&&◌, ◌||◌, List, [], ◌∷◌, ◌++◌, length, Option, Some, refl, sym, ap, ◌∙◌, subst, arith, nat_eq, inl, inr, append_assoc, append-nil, length-append}
+use Rattle.std.proofs.lemmas.Bool.{eqb-true, eq-eqb, ne_eqb, cases_eq, false≢true, and_parts, and_from, or_cases, or_left, or_right}
 use Rattle.std.specs.List.{list_any, slice_get}
 use Rattle.std.specs.Option.{option_map_or}
 use Rattle.std.specs.Prelude.{IsSomeAnd}
@@ -10,12 +8,13 @@ use Rattle.metis_ids.specs.declared.actions.Action.{Action}
 use Rattle.metis_ids.specs.declared.actions.Action.TheVariants.{New, Bind, Unbind, Move}
 use Rattle.metis_universe.proofs.Edits.{pair_of-put, is_bound-tie, is_bound-untie}
 use Rattle.metis_universe.proofs.Frames.{bindings-after_all}
-use Rattle.metis_universe.specs.Config.{Binding, Correct, empty, pair_of, is_bound, is_tie}
+use Rattle.metis_universe.specs.Config.{Correct, empty, pair_of, is_bound, is_tie}
 use Rattle.metis_universe.specs.Step.{CanBind}
 use Rattle.metis_universe.specs.Steadfast.{is_steadfast_after}
-use Rattle.metis_universe.specs.Universe.{Universe, pair_count, type_of, initial_of, next_of, requires, provides, type_requires, type_provides, has, no_pair}
+use Rattle.metis_universe.specs.Universe.{Universe, type_of, initial_of, next_of, requires, provides, type_requires, type_provides, has}
 use Rattle.metis_universe.specs.Waits.{standing}
-use Rattle.metis_layers.proofs.Deploying.{at, at-next, GoesOn, IsHeld, ends_need, AreServed, needs, IsAt, Stand, slice_get-past, slice_get-before, slice_get-last, slice_get-push, no_news, Fresh, Ready, with_all, without_all}
+use Rattle.metis_layers.proofs.Going.{at, at-next, GoesOn, no_news, type_provides-own, unprovided}
+use Rattle.metis_layers.proofs.Deploying.{IsHeld, ends_need, AreServed, needs, IsAt, Stand, slice_get-past, slice_get-before, slice_get-last, slice_get-push, Fresh, Ready, with_all, without_all}
 use Rattle.metis_layers.specs.LayerOrder.{binds, unbinds}
 
 -- ---- tests
@@ -53,37 +52,6 @@ and_swap a b c a' b' c' e f g = rw (e, f, g) refl
 
 true_false : (b : Bool) → b ≡ true → b ≡ false → ⊥
 true_false b t f = false≢true (sym f ∙ t)
-
--- a port that a pair provides or requires, its type provides or requires
-past_pair : (u : Universe) (p r : ℕ) → pair_count u ≤ p → provides u p r ≡ true → ⊥
-past_pair u p r past h = false≢true (ap (λ row. has row.provided r) (sym (get_or_past u.pairs p no_pair past)) ∙ h)
-
-pub type_provides-own : (u : Universe) (p r : ℕ) → provides u p r ≡ true → type_provides u (type_of u p) r ≡ true
-type_provides-own u p r h = elim (cases_lt p (pair_count u)) [
-  | inl low ↦ list_any_at (λ row. nat_eq row.kind (type_of u p) && has row.provided r) u.pairs p no_pair low (and_from _ _ (eq-eqb (type_of u p) (type_of u p) refl) h)
-  | inr past ↦ absurd (past_pair u p r past h)
-]
-
-past_required : (u : Universe) (p r : ℕ) → pair_count u ≤ p → requires u p r ≡ true → ⊥
-past_required u p r past h = false≢true (ap (λ row. has row.required r) (sym (get_or_past u.pairs p no_pair past)) ∙ h)
-
-pub type_requires-own : (u : Universe) (p r : ℕ) → requires u p r ≡ true → type_requires u (type_of u p) r ≡ true
-type_requires-own u p r h = elim (cases_lt p (pair_count u)) [
-  | inl low ↦ list_any_at (λ row. nat_eq row.kind (type_of u p) && has row.required r) u.pairs p no_pair low (and_from _ _ (eq-eqb (type_of u p) (type_of u p) refl) h)
-  | inr past ↦ absurd (past_required u p r past h)
-]
-
--- no binding to z, if none to z from any requirer at any port
-unprovided : (z : ℕ) (bs : List Binding) → ((r x : ℕ) → list_any (is_tie r x z) bs ≡ false) → list_any (λ b. nat_eq b.2 z) bs ≡ false
-unprovided z [] none = refl
-unprovided z (b ∷ bs) none =
-    elim (nat_eq b.2 z) as (λ v. nat_eq b.2 z ≡ v → (v || list_any (λ c. nat_eq c.2 z) bs) ≡ false) [
-      | true ↦ λ is. absurd (true_false _ (or_left (is_tie b.0 b.1 z b) (list_any (is_tie b.0 b.1 z) bs) (and_from _ _ (and_from _ _ (eq-eqb b.0 b.0 refl) (eq-eqb b.1 b.1 refl)) is)) (none b.0 b.1))
-      | false ↦ λ _. unprovided z bs (λ r x. rest_false (is_tie r x z b) (list_any (is_tie r x z) bs) (none r x))
-    ] refl where
-      rest_false : (v w : Bool) → (v || w) ≡ false → w ≡ false
-      rest_false true w h = absurd (false≢true (sym h))
-      rest_false false w h = h
 
 module _ (u : Universe) (holder : ℕ → ℕ) (ends : List ℕ) where
   -- ---- what each action leaves

@@ -3,6 +3,7 @@ pub mod CounterFacts
 pub mod Counts
 pub mod Deploying
 pub mod Examples
+pub mod Going
 pub mod Hops
 pub mod LayerFacts
 pub mod Layered
@@ -15,5 +16,6 @@ pub mod Sets
 pub mod Short
 pub mod Standing
 pub mod Tables
+pub mod TypeWeights
 pub mod Ways
 pub mod WorkFacts

@@ -20,7 +20,8 @@ use Rattle.metis_universe.specs.Step.{IsRun, after_all}
 use Rattle.metis_universe.specs.Universe.{Universe, IsUniverse, has, is_free, pair_count}
 use Rattle.metis_layers.proofs.Counts.{count-append, count-enumerate, enumerate_ascends, lines_make, lookup-enumerate, standing_few}
 use Rattle.metis_layers.proofs.Deploying.{Stand}
-use Rattle.metis_layers.proofs.Lines.{all_lines_go, end_of, last_of, run_from_going, steadfast_from_going}
+use Rattle.metis_layers.proofs.Going.{run_from_going, steadfast_from_going}
+use Rattle.metis_layers.proofs.Lines.{all_lines_go, end_of, last_of}
 use Rattle.metis_layers.proofs.LayerFacts.{layer_by}
 use Rattle.metis_layers.proofs.Numbers.{ways_within}
 use Rattle.metis_layers.proofs.Standing.{AllLayered, HasSomeLayer, order_ways}

@@ -9,11 +9,7 @@ use indexmap::IndexSet;
 use std::alloc::{AllocError, Global};
 
 /// Adds the name unless the set has it.
-pub fn add_name(
-    alloc: Global,
-    seen: &mut IndexSet<String>,
-    name: &str,
-) -> Result<(), AllocError>
+pub fn add_name(alloc: Global, seen: &mut IndexSet<String>, name: &str) -> Result<(), AllocError>
     ensures { OnOk result (texts seen.new.keys ≡ with_name (texts seen.old.keys) name.now) }
 {
     if !seen.contains(name) {

@@ -1,4 +1,4 @@
-use Rattle.std.proofs.Common.{◌≤◌, length, arith}
+use Rattle.std.proofs.Common.{arith}
 use Rattle.metis_universe.specs.Universe.{port_count}
 use Rattle.metis_universe.proofs.PortRows.{few_below}
 use Rattle.metis_universe.proofs.reading.UniverseReading.needs.Goals as goal

@@ -1,8 +1,8 @@
-use Rattle.std.proofs.Common.{◌≡◌, ◌+◌, ◌∷◌, [], ◌++◌, take, sym, ap, ◌∙◌, arith}
+use Rattle.std.proofs.Common.{◌∷◌, [], ◌++◌, take, sym, ap, ◌∙◌, arith}
 use Rattle.std.proofs.lemmas.List.{take_all}
 use Rattle.metis_universe.specs.Kinds.{kinds_of}
 use Rattle.metis_universe.specs.RowShapes.{TypeRow}
-use Rattle.metis_universe.specs.Rows.{earlier_type, pairs_of_type, pairs_from, kind_from, kinds_from}
+use Rattle.metis_universe.specs.Rows.{pairs_of_type, pairs_from, kind_from, kinds_from}
 use Rattle.metis_universe.specs.Texts.{texts}
 use Rattle.metis_universe.proofs.Blocks.{first_of}
 use Rattle.metis_universe.proofs.FromRows.{has_room, no_earlier_type}
