@@ -1,13 +1,9 @@
-//! Tests of what no transcript of a command shows: indices, sets and configurations by themselves, files and output in
-//! memory, texts of plans with dups, and words.
+//! Tests of what no transcript of a command shows and no clause says: adapters over a system that is made up, files and output
+//! in memory, texts of plans with dups, and words.
 #![tactic(auto)]
 
 #[cfg(test)]
-mod config;
-#[cfg(test)]
 mod edges;
-#[cfg(test)]
-mod ids;
 #[cfg(test)]
 mod memory;
 #[cfg(test)]
