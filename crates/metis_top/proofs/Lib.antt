@@ -1,3 +1,4 @@
+pub mod CrewTurns
 pub mod Deployments
 pub mod FileBytes
 pub mod FormRead
@@ -13,3 +14,4 @@ pub mod Replies
 pub mod SaidLines
 pub mod Sessions
 pub mod Shown
+pub mod TurnsRead

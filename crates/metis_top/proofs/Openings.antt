@@ -1,21 +1,23 @@
 -- A run opens a file at least, and no more than its words name.
 use Rattle.std.proofs.Common.{◌≡◌, ℕ, zero, suc, ◌-◌, ◌≤◌, min, List, [], ◌∷◌, length, Result, Ok, Err, Bool, true, false, subst, inl, inr, nat_le, if◌then◌else◌, arith}
 use Rattle.std.specs.declared.option.Option.{Option as Known}
+use Rattle.metis_ids.specs.declared.actions.Action.{Action}
 use Rattle.metis_text.specs.Reading.{plan_in}
 use Rattle.metis_text.specs.RefusalReading.{refusal_in}
 use Rattle.metis_top.specs.declared.refusal.Refusal.{Refusal}
 use Rattle.metis_top.specs.declared.refusal.Refusal.TheVariants.{TooLong, Word}
 use Rattle.metis_top.specs.declared.status.Status.{Status}
 use Rattle.metis_top.specs.declared.words.Verb.{Verb}
-use Rattle.metis_top.specs.declared.words.Verb.TheVariants.{Plan, Replay, Refute, Sim, Print, Load}
+use Rattle.metis_top.specs.declared.words.Verb.TheVariants.{Plan, Replay, Refute, Sim, Crew, Print, Load}
 use Rattle.metis_top.specs.Answer as answer
-use Rattle.metis_top.specs.Commands.{judged, or_plan_refused, or_refusal_refused, or_universe_refused, pairs_named, plan_limit, refusal_limit, refute_then, replay_then, session_limit, sim_then, command_script, script_from, universe_then}
+use Rattle.metis_top.specs.Commands.{crew_over, crew_then, judged, or_plan_refused, or_refusal_refused, or_turns_refused, or_universe_refused, pairs_named, plan_limit, refusal_limit, refute_then, replay_then, session_limit, sim_then, turns_limit, command_script, script_from, universe_then}
 use Rattle.metis_top.specs.Course.{Ran, AreTaken, IsRead, OnShelf, after}
 use Rattle.metis_ujson.specs.Document.{document_limit, universe_in}
 use Rattle.metis_top.specs.Forms.{file_count}
 use Rattle.metis_top.specs.Openings.{OpensFiles, OpensSome}
 use Rattle.metis_top.specs.Script.{Script, Read, Refuse, Reply}
 use Rattle.metis_top.specs.TargetName.{TargetName}
+use Rattle.metis_top.specs.Turns.{turns_in}
 use Rattle.metis_top.specs.Words.{Form, word_at}
 use Rattle.metis_universe.specs.Universe.{Universe}
 
@@ -59,12 +61,23 @@ at_most_refute u g text = λ bytes.
 at_most_sim : (u : Universe) (input : List ℕ) → IsAtMost 1 (sim_then input u)
 at_most_sim u input = λ bytes. at_most_if 0 (nat_le (length bytes) session_limit) (Reply (answer.Sim u bytes)) (TooLong 3) tt
 
+at_most_crew_over : (u : Universe) (actions : List Action) (name : List ℕ) → IsAtMost 1 (crew_over name u actions)
+at_most_crew_over u actions name = λ bytes.
+    at_most_if 0 (nat_le (length bytes) turns_limit) (judged (λ zs. Reply (answer.Crew u actions zs)) (or_turns_refused (turns_in bytes))) (TooLong 4)
+    (at_most_judged 0 (λ zs. Reply (answer.Crew u actions zs)) (or_turns_refused (turns_in bytes)) (λ zs. tt))
+
+at_most_crew : (u : Universe) (plan name : List ℕ) → IsAtMost 2 (crew_then plan name u)
+at_most_crew u plan name = λ bytes.
+    at_most_if 1 (nat_le (length bytes) plan_limit) (judged (λ parts. crew_over name u parts.rows.actions) (or_plan_refused (plan_in u bytes))) (TooLong 3)
+    (at_most_judged 1 (λ parts. crew_over name u parts.rows.actions) (or_plan_refused (plan_in u bytes)) (λ parts. at_most_crew_over u parts.rows.actions name))
+
 -- the files of each command
 at_most_command : (verb : Verb) (files : List (List ℕ)) (targets : List TargetName) (size : ℕ) → IsAtMost (file_count verb) (command_script verb files targets size)
 at_most_command Plan files targets size = at_most_universe 0 2 (word_at files 0) _ (λ u. at_most_judged 0 (λ g. Reply (answer.Plan u g)) (pairs_named 3 u targets) (λ g. tt))
 at_most_command Replay files targets size = at_most_universe 1 2 (word_at files 0) _ (λ u. at_most_judged 1 (λ g. replay_then (word_at files 1) (u, g)) (pairs_named 4 u targets) (λ g. at_most_replay u g (word_at files 1)))
 at_most_command Refute files targets size = at_most_universe 1 2 (word_at files 0) _ (λ u. at_most_judged 1 (λ g. refute_then (word_at files 1) (u, g)) (pairs_named 4 u targets) (λ g. at_most_refute u g (word_at files 1)))
 at_most_command Sim files targets size = at_most_universe 1 2 (word_at files 0) _ (λ u. at_most_sim u (word_at files 1))
+at_most_command Crew files targets size = at_most_universe 2 2 (word_at files 0) _ (λ u. at_most_crew u (word_at files 1) (word_at files 2))
 at_most_command Print files targets size = at_most_universe 0 2 (word_at files 0) _ (λ u. tt)
 at_most_command Load files targets size = tt
 
@@ -73,6 +86,7 @@ first_read Plan files targets size some = tt
 first_read Replay files targets size some = tt
 first_read Refute files targets size some = tt
 first_read Sim files targets size some = tt
+first_read Crew files targets size some = tt
 first_read Print files targets size some = tt
 first_read Load files targets size some = absurd (omega (arith, some))
 

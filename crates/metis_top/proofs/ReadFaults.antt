@@ -8,14 +8,15 @@ use Rattle.metis_top.specs.declared.refusal.Refusal.TheVariants as refusal
 use Rattle.metis_top.specs.declared.status.Status.{Status}
 use Rattle.metis_top.specs.declared.status.Status.TheVariants.{Done, No, ReadFault}
 use Rattle.metis_top.specs.declared.words.Verb.{Verb}
-use Rattle.metis_top.specs.declared.words.Verb.TheVariants.{Plan, Replay, Refute, Sim, Print, Load}
+use Rattle.metis_top.specs.declared.words.Verb.TheVariants.{Plan, Replay, Refute, Sim, Crew, Print, Load}
 use Rattle.metis_top.specs.Answer as answer
 use Rattle.metis_top.specs.Answer.{Answer, IsAnswer}
 use Rattle.metis_replay.specs.declared.verdict.Verdict.{Verdict}
 use Rattle.metis_replay.specs.declared.verdict.Verdict.TheVariants.{Good, Bad, Missing}
+use Rattle.metis_ids.specs.declared.actions.Action.{Action}
 use Rattle.metis_text.specs.Reading.{plan_in}
 use Rattle.metis_text.specs.RefusalReading.{refusal_in}
-use Rattle.metis_top.specs.Commands.{universe_then, judged, or_plan_refused, or_refusal_refused, or_universe_refused, pairs_named, plan_limit, refusal_limit, refute_then, replay_then, session_limit, sim_then, command_script, script_from}
+use Rattle.metis_top.specs.Commands.{universe_then, crew_over, crew_then, judged, or_plan_refused, or_refusal_refused, or_turns_refused, or_universe_refused, pairs_named, plan_limit, refusal_limit, refute_then, replay_then, session_limit, sim_then, turns_limit, command_script, script_from}
 use Rattle.metis_refusal.specs.declared.verdict.Verdict2.{Verdict2}
 use Rattle.metis_refusal.specs.declared.verdict.Verdict2.TheVariants.{Closed, NotFree, Open, LacksNone}
 use Rattle.metis_top.specs.Judged.{judgement_status}
@@ -26,6 +27,7 @@ use Rattle.metis_top.specs.Lines.{refusal_status, read_fault_line}
 use Rattle.metis_top.specs.Numbered.{Numbered, TellsReadFault}
 use Rattle.metis_top.specs.Script.{Script, Read, Refuse, Reply}
 use Rattle.metis_top.specs.TargetName.{TargetName}
+use Rattle.metis_top.specs.Turns.{turns_in}
 use Rattle.metis_top.specs.Words.{Form, word_at}
 use Rattle.metis_universe.specs.Universe.{Universe}
 
@@ -47,6 +49,9 @@ answer_status (answer.Plan u targets) lines status (inr is) = inr is.0
 answer_status (answer.Replay u targets actions) lines status is = verdict_ends is.verdict status is.is
 answer_status (answer.Refute u targets set) lines status is = judgement_ends is.verdict status is.is
 answer_status (answer.Sim u script) lines status is = inl is.is
+answer_status (answer.Crew u actions zs) lines status (inl bad) = inr bad.is
+answer_status (answer.Crew u actions zs) lines status (inr (inl loose)) = inr loose.is
+answer_status (answer.Crew u actions zs) lines status (inr (inr taken)) = inl taken.is
 answer_status (answer.Print u) lines status is = inl is.1
 answer_status (answer.Load size) lines status is = inl is.is
 
@@ -60,6 +65,7 @@ not_refused (TooLong place) is = cc
 not_refused (refusal.Universe fault) is = cc
 not_refused (refusal.PlanText fault) is = cc
 not_refused (refusal.RefusalText fault) is = cc
+not_refused (refusal.Turns place) is = cc
 
 Numbered-after : (taken : List (List ℕ)) (script : Script) (first : ℕ) → Numbered first script → Numbered (first + length taken) (after taken script)
 Numbered-after [] script first n = subst (λ k. Numbered k script) (omega arith) n
@@ -115,12 +121,27 @@ numbered_refute u g text = (
 numbered_sim : (u : Universe) (input : List ℕ) → Numbered 3 (sim_then input u)
 numbered_sim u input = (refl, λ bytes. numbered_if 4 (nat_le (length bytes) session_limit) (Reply (answer.Sim u bytes)) (TooLong 3) tt)
 
+numbered_crew_over : (u : Universe) (actions : List Action) (name : List ℕ) → Numbered 4 (crew_over name u actions)
+numbered_crew_over u actions name = (
+  refl,
+  λ bytes. numbered_if 5 (nat_le (length bytes) turns_limit) (judged (λ zs. Reply (answer.Crew u actions zs)) (or_turns_refused (turns_in bytes))) (TooLong 4)
+      (numbered_judged 5 (λ zs. Reply (answer.Crew u actions zs)) (or_turns_refused (turns_in bytes)) (λ zs. tt)),
+)
+
+numbered_crew : (u : Universe) (plan name : List ℕ) → Numbered 3 (crew_then plan name u)
+numbered_crew u plan name = (
+  refl,
+  λ bytes. numbered_if 4 (nat_le (length bytes) plan_limit) (judged (λ parts. crew_over name u parts.rows.actions) (or_plan_refused (plan_in u bytes))) (TooLong 3)
+      (numbered_judged 4 (λ parts. crew_over name u parts.rows.actions) (or_plan_refused (plan_in u bytes)) (λ parts. numbered_crew_over u parts.rows.actions name)),
+)
+
 -- the script of each command
 numbered_command : (verb : Verb) (files : List (List ℕ)) (targets : List TargetName) (size : ℕ) → Numbered 2 (command_script verb files targets size)
 numbered_command Plan files targets size = numbered_universe 2 (word_at files 0) _ (λ u. numbered_judged 3 (λ g. Reply (answer.Plan u g)) (pairs_named 3 u targets) (λ g. tt))
 numbered_command Replay files targets size = numbered_universe 2 (word_at files 0) _ (λ u. numbered_judged 3 (λ g. replay_then (word_at files 1) (u, g)) (pairs_named 4 u targets) (λ g. numbered_replay u g (word_at files 1)))
 numbered_command Refute files targets size = numbered_universe 2 (word_at files 0) _ (λ u. numbered_judged 3 (λ g. refute_then (word_at files 1) (u, g)) (pairs_named 4 u targets) (λ g. numbered_refute u g (word_at files 1)))
 numbered_command Sim files targets size = numbered_universe 2 (word_at files 0) _ (λ u. numbered_sim u (word_at files 1))
+numbered_command Crew files targets size = numbered_universe 2 (word_at files 0) _ (λ u. numbered_crew u (word_at files 1) (word_at files 2))
 numbered_command Print files targets size = numbered_universe 2 (word_at files 0) _ (λ u. tt)
 numbered_command Load files targets size = tt
 

@@ -19,6 +19,7 @@ use Rattle.metis_sim.specs.Replies.{binding_line, counts_line, instance_line, pa
 use Rattle.metis_sim.specs.Session.{Session, after_line, begin, reply as reply_to}
 use Rattle.metis_sim.specs.declared.reply.Reply.{Reply as SessionReply}
 use Rattle.metis_sim.specs.declared.reply.Reply.TheVariants as reply
+use Rattle.metis_ids.specs.declared.actions.Action.{Action}
 use Rattle.metis_universe.specs.Config.{Binding, Config}
 use Rattle.metis_text.proofs.LineFeeds.{no_feed-pair_word, no_feed-port_name_of, plan_lines_are_lines, refusal_lines_are_lines}
 use Rattle.metis_text.proofs.NamedFaults.{plan_in_named, refusal_in_named}
@@ -35,11 +36,15 @@ use Rattle.metis_ujson.specs.declared.faults.UFault.TheVariants as ufault
 use Rattle.metis_universe.specs.Universe.{IsNamed, IsTable, Universe, pair_count, pair_named, port_name_of}
 use Rattle.metis_universe.specs.declared.faults.LimitKind.{LimitKind}
 use Rattle.metis_universe.specs.declared.faults.LimitKind.TheVariants.{Pairs, Ports, Requires, States}
+use Rattle.metis_crew.specs.Crew.{start, turns}
+use Rattle.metis_crew.specs.declared.turn.Turn.{Turn}
+use Rattle.metis_crew.specs.declared.turn.Turn.TheVariants as turn
 use Rattle.metis_gen.specs.Generated.{generated, generated_targets}
 use Rattle.metis_top.specs.Answer as answer
 use Rattle.metis_top.specs.Answer.{Answer, IsAnswer}
-use Rattle.metis_top.specs.Commands.{command_script, judged, or_plan_refused, or_refusal_refused, or_universe_refused, or_word, pair_then, pairs_after, pairs_named, plan_limit, refusal_limit, refute_then, replay_then, script_from, session_limit, sim_then, targets_then, universe_then}
+use Rattle.metis_top.specs.Commands.{command_script, crew_over, crew_then, judged, or_plan_refused, or_refusal_refused, or_turns_refused, or_universe_refused, or_word, pair_then, pairs_after, pairs_named, plan_limit, refusal_limit, refute_then, replay_then, script_from, session_limit, sim_then, targets_then, turns_limit, universe_then}
 use Rattle.metis_top.specs.Course.{Ran, Says, Shown, after}
+use Rattle.metis_top.specs.Crewed.{last_line, loose_line, progress_line, turn_line}
 use Rattle.metis_top.specs.Judged as judged_specs
 use Rattle.metis_top.specs.Judged.{judgement_line}
 use Rattle.metis_top.specs.Lines.{limit_line, plan_fault_line, read_fault_line, refusal_fault_line, refusal_line, universe_line}
@@ -49,12 +54,13 @@ use Rattle.metis_top.specs.Replayed.{verdict_line}
 use Rattle.metis_top.specs.Script.{Script, Read, Refuse, Reply}
 use Rattle.metis_top.specs.Simulated.{replies_to, script_lines}
 use Rattle.metis_top.specs.TargetName.{TargetName}
+use Rattle.metis_top.specs.Turns.{turns_in}
 use Rattle.metis_top.specs.Words.{Form, word_at}
 use Rattle.metis_top.specs.declared.refusal.Refusal.{Refusal}
-use Rattle.metis_top.specs.declared.refusal.Refusal.TheVariants.{Word, TooLong}
+use Rattle.metis_top.specs.declared.refusal.Refusal.TheVariants.{Word, TooLong, Turns}
 use Rattle.metis_top.specs.declared.status.Status.{Status}
 use Rattle.metis_top.specs.declared.words.Verb.{Verb}
-use Rattle.metis_top.specs.declared.words.Verb.TheVariants.{Plan, Replay, Refute, Sim, Print, Load}
+use Rattle.metis_top.specs.declared.words.Verb.TheVariants.{Plan, Replay, Refute, Sim, Crew, Print, Load}
 use Rattle.std.specs.declared.option.Option.{Option as Known}
 
 no_lines : All IsLine []
@@ -131,10 +137,25 @@ IsLine-word place = by_number (codes "bad word ") place refl
 IsLine-too_long : (place : ℕ) → IsLine (refusal_line (TooLong place))
 IsLine-too_long place = by_number (codes "too long ") place refl
 
+IsLine-turns : (place : ℕ) → IsLine (refusal_line (Turns place))
+IsLine-turns place = by_number (codes "bad turns ") place refl
+
 IsLine-read_fault_line : (place : ℕ) → IsLine (read_fault_line place)
 IsLine-read_fault_line place = by_number (codes "read fault ") place refl
 
 -- ---- the lines of answers
+
+IsLine-turn_line : (answer : Turn) → IsLine (turn_line answer)
+IsLine-turn_line (turn.Did k) = by_number (codes "did ") k refl
+IsLine-turn_line (turn.WaitsFor k m) = by_two (codes "waits ") k (codes " ") m refl refl
+IsLine-turn_line turn.Done = IsLine-from (codes "done") refl
+IsLine-turn_line turn.Nobody = IsLine-from (codes "nobody") refl
+
+IsLine-progress_line : (done all : ℕ) → IsLine (progress_line done all)
+IsLine-progress_line done all = by_two (codes "progress ") done (codes " of ") all refl refl
+
+IsLine-loose_line : (k : ℕ) → IsLine (loose_line k)
+IsLine-loose_line k = by_number (codes "loose ") k refl
 
 module _ (u : Universe) (named : IsNamed u) where
   no_feed-fault_tokens : (f : AFault) → list_all no_feed (fault_tokens u f) ≡ true
@@ -219,6 +240,14 @@ module _ (u : Universe) (table : IsTable u) where
   sim_answers : (script : List ℕ) → AnswersLines (answer.Sim u script)
   sim_answers script lines status is = subst (All IsLine) (sym is.told) (replies_are_lines u table.named (begin u) (script_lines script))
 
+  crew_answers : (actions : List Action) (zs : List ℕ) → AnswersLines (answer.Crew u actions zs)
+  crew_answers actions zs lines status (inl bad) = just_one _ lines (IsLine-verdict_line u table.named 0 0 (Bad bad.number bad.fault)) bad.told
+  crew_answers actions zs lines status (inr (inl loose)) = just_one _ lines (IsLine-loose_line loose.number) loose.told
+  crew_answers actions zs lines status (inr (inr taken)) =
+      let answers = turns actions (start actions) zs in
+      subst (All IsLine) (sym taken.told)
+      (All-append IsLine (map turn_line answers) (last_line actions zs ∷ []) (each_line turn_line answers IsLine-turn_line) (one_line (last_line actions zs) (IsLine-progress_line _ (length actions))))
+
 print_answers : (u : Universe) → AnswersLines (answer.Print u)
 print_answers u lines status is = just_one _ lines (IsLine-canonical u) is.0
 
@@ -300,6 +329,10 @@ refusal_refuses : (r : Result RefusalParts TFault) → (r ≡ Err tfault.NoMemor
 refusal_refuses (Ok parts) named = tt
 refusal_refuses (Err fault) named = IsLine-refusal_fault_line fault (λ e. named (ap Err e))
 
+turns_refuse : (r : Result (List ℕ) ℕ) → RefusesByLine (or_turns_refused r)
+turns_refuse (Ok zs) = tt
+turns_refuse (Err place) = IsLine-turns place
+
 lines_replay : (u : Universe) → IsTable u → (g plan : List ℕ) → SaysLines (replay_then plan (u, g))
 lines_replay u table g plan = λ bytes.
     let next : Parts → Script = λ parts. Reply (answer.Replay u g parts.rows.actions) in
@@ -315,12 +348,24 @@ lines_refute u table g text = λ bytes.
 lines_sim : (u : Universe) → IsTable u → (input : List ℕ) → SaysLines (sim_then input u)
 lines_sim u table input = λ bytes. lines_if (nat_le (length bytes) session_limit) (Reply (answer.Sim u bytes)) 3 (sim_answers u table bytes)
 
+lines_crew_over : (u : Universe) → IsTable u → (actions : List Action) (name : List ℕ) → SaysLines (crew_over name u actions)
+lines_crew_over u table actions name = λ bytes.
+    let next : List ℕ → Script = λ zs. Reply (answer.Crew u actions zs) in
+    lines_if (nat_le (length bytes) turns_limit) (judged next (or_turns_refused (turns_in bytes))) 4 (lines_judged next (or_turns_refused (turns_in bytes)) (crew_answers u table actions) (turns_refuse (turns_in bytes)))
+
+lines_crew : (u : Universe) → IsTable u → (plan name : List ℕ) → SaysLines (crew_then plan name u)
+lines_crew u table plan name = λ bytes.
+    let next : Parts → Script = λ parts. crew_over name u parts.rows.actions in
+    lines_if (nat_le (length bytes) plan_limit) (judged next (or_plan_refused (plan_in u bytes))) 3
+    (lines_judged next (or_plan_refused (plan_in u bytes)) (λ parts. lines_crew_over u table parts.rows.actions name) (plan_refuses (plan_in u bytes) (plan_in_named u bytes)))
+
 -- the script of each command
 lines_command : (verb : Verb) (files : List (List ℕ)) (targets : List TargetName) (size : ℕ) → SaysLines (command_script verb files targets size)
 lines_command Plan files targets size = lines_universe 2 (word_at files 0) _ (λ u table. lines_targets 3 u targets (λ g. Reply (answer.Plan u g)) (plan_answers u table))
 lines_command Replay files targets size = lines_universe 2 (word_at files 0) _ (λ u table. lines_targets 4 u targets (λ g. replay_then (word_at files 1) (u, g)) (λ g. lines_replay u table g (word_at files 1)))
 lines_command Refute files targets size = lines_universe 2 (word_at files 0) _ (λ u table. lines_targets 4 u targets (λ g. refute_then (word_at files 1) (u, g)) (λ g. lines_refute u table g (word_at files 1)))
 lines_command Sim files targets size = lines_universe 2 (word_at files 0) _ (λ u table. lines_sim u table (word_at files 1))
+lines_command Crew files targets size = lines_universe 2 (word_at files 0) _ (λ u table. lines_crew u table (word_at files 1) (word_at files 2))
 lines_command Print files targets size = lines_universe 2 (word_at files 0) _ (λ u table. print_answers u)
 lines_command Load files targets size = load_answers size
 

@@ -203,7 +203,7 @@ without_empty_end-append [] x = refl
 without_empty_end-append (y ∷ []) x = sym (same_start (is_empty x) y [] (x ∷ []))
 without_empty_end-append (y ∷ z ∷ xs) x = ap (λ l. y ∷ l) (without_empty_end-append (z ∷ xs) x) ∙ sym (same_start (is_empty x) y (z ∷ xs) (z ∷ xs ++ x ∷ []))
 
-counted_empty : (xs : List ℕ) → nat_eq (length xs) 0 ≡ is_empty xs
+pub counted_empty : (xs : List ℕ) → nat_eq (length xs) 0 ≡ is_empty xs
 counted_empty [] = refl
 counted_empty (x ∷ xs) = grind (arith, nat_tests)
 

@@ -3,6 +3,7 @@ use Rattle.std.specs.Prelude.{◌≡◌, ℕ, List, [], ◌∷◌}
 use Rattle.metis_ids.specs.declared.actions.Action.{Action}
 use Rattle.metis_ujson.specs.Canonical.{canonical}
 use Rattle.metis_universe.specs.Universe.{Universe}
+use Rattle.metis_top.specs.Crewed.{Crewed}
 use Rattle.metis_top.specs.Judged.{Judged}
 use Rattle.metis_top.specs.Loaded.{Loaded}
 use Rattle.metis_top.specs.Planned.{PlanAnswer}
@@ -13,12 +14,14 @@ use Rattle.metis_top.specs.declared.status.Status.TheVariants.{Done}
 
 -- A plan for these targets or a refusal of them, where there may be several such texts; or what these actions came to, where
 -- the targets were asked for; or what a set of pairs comes to as a refusal of these targets; or what a session over the universe
--- replies to the lines of this script; or the universe's own document; or the counts of the plan for a generated universe.
+-- replies to the lines of this script; or what a crew over these actions answers to the turns of these instances, where the actions
+-- are a steadfast run; or the universe's own document; or the counts of the plan for a generated universe.
 pub data Answer : Type 0 where
   Plan : (u : Universe) (targets : List ℕ) → Answer
   Replay : (u : Universe) (targets : List ℕ) (actions : List Action) → Answer
   Refute : (u : Universe) (targets set : List ℕ) → Answer
   Sim : (u : Universe) (script : List ℕ) → Answer
+  Crew : (u : Universe) (actions : List Action) (zs : List ℕ) → Answer
   Print : (u : Universe) → Answer
   Load : (size : ℕ) → Answer
 
@@ -28,5 +31,6 @@ IsAnswer (Plan u targets) lines status = PlanAnswer u targets lines status
 IsAnswer (Replay u targets actions) lines status = Replayed u targets actions lines status
 IsAnswer (Refute u targets set) lines status = Judged u targets set lines status
 IsAnswer (Sim u script) lines status = Simulated u script lines status
+IsAnswer (Crew u actions zs) lines status = Crewed u actions zs lines status
 IsAnswer (Print u) lines status = (lines ≡ canonical u ∷ []) × (status ≡ Done)
 IsAnswer (Load size) lines status = Loaded size lines status

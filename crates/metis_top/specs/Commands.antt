@@ -5,8 +5,9 @@ use Rattle.metis_top.specs.declared.refusal.Refusal.{Refusal}
 use Rattle.metis_top.specs.declared.refusal.Refusal.TheVariants.{Word, TooLong}
 use Rattle.metis_top.specs.declared.refusal.Refusal.TheVariants as refusal
 use Rattle.metis_top.specs.declared.words.Verb.{Verb}
-use Rattle.metis_top.specs.declared.words.Verb.TheVariants.{Plan, Replay, Refute, Sim, Print, Load}
+use Rattle.metis_top.specs.declared.words.Verb.TheVariants.{Plan, Replay, Refute, Sim, Crew, Print, Load}
 use Rattle.metis_top.specs.Answer as answer
+use Rattle.metis_ids.specs.declared.actions.Action.{Action}
 use Rattle.metis_text.specs.Reading.{Parts, plan_in}
 use Rattle.metis_text.specs.RefusalReading.{RefusalParts, refusal_in}
 use Rattle.metis_text.specs.declared.fault.TFault.{TFault}
@@ -14,6 +15,7 @@ use Rattle.metis_ujson.specs.Document.{document_limit, universe_in}
 use Rattle.metis_ujson.specs.declared.faults.UFault.{UFault}
 use Rattle.metis_top.specs.Script.{Script, Read, Refuse, Reply}
 use Rattle.metis_top.specs.TargetName.{TargetName}
+use Rattle.metis_top.specs.Turns.{turns_in}
 use Rattle.metis_top.specs.Words.{Form, word_at, form_of}
 
 -- reads the file of the word at this place, and goes on with its bytes, where they are not too many
@@ -98,6 +100,22 @@ refusal_then place u name next = bytes_then place name refusal_limit (λ bytes. 
 abbrev pub session_limit : ℕ
 session_limit = 65536
 
+-- the most bytes of the turns of a crew
+abbrev pub turns_limit : ℕ
+turns_limit = 4194304
+
+abbrev pub or_turns_refused : Result (List ℕ) ℕ → Result (List ℕ) Refusal
+or_turns_refused (Ok zs) = Ok zs
+or_turns_refused (Err place) = Err (refusal.Turns place)
+
+-- goes on with the instances whose turns the bytes name
+abbrev pub turns_in_then : List ℕ → (List ℕ → Script) → Script
+turns_in_then bytes next = judged next (or_turns_refused (turns_in bytes))
+
+-- the same of the file of the word at this place
+abbrev pub turns_then : ℕ → List ℕ → (List ℕ → Script) → Script
+turns_then place name next = bytes_then place name turns_limit (λ bytes. turns_in_then bytes next)
+
 abbrev pub plan_script : List ℕ → List TargetName → Script
 plan_script file targets = goal_then 3 file targets (λ goal. Reply (answer.Plan goal.0 goal.1))
 
@@ -122,6 +140,18 @@ sim_then input u = bytes_then 3 input session_limit (λ bytes. Reply (answer.Sim
 abbrev pub sim_script : List ℕ → List ℕ → Script
 sim_script file input = universe_then 2 file (sim_then input)
 
+-- what a crew does once it has its universe and the plan's actions; why these are no steadfast run is told behind what is wrong with
+-- the turns
+abbrev pub crew_over : List ℕ → Universe → List Action → Script
+crew_over turns u actions = turns_then 4 turns (λ zs. Reply (answer.Crew u actions zs))
+
+-- the same once it has its universe
+abbrev pub crew_then : List ℕ → List ℕ → Universe → Script
+crew_then plan turns u = plan_then 3 u plan (λ parts. crew_over turns u parts.rows.actions)
+
+abbrev pub crew_script : List ℕ → List ℕ → List ℕ → Script
+crew_script file plan turns = universe_then 2 file (crew_then plan turns)
+
 abbrev pub print_script : List ℕ → Script
 print_script file = universe_then 2 file (λ u. Reply (answer.Print u))
 
@@ -135,6 +165,7 @@ command_script Plan files targets size = plan_script (word_at files 0) targets
 command_script Replay files targets size = replay_script (word_at files 0) (word_at files 1) targets
 command_script Refute files targets size = refute_script (word_at files 0) (word_at files 1) targets
 command_script Sim files targets size = sim_script (word_at files 0) (word_at files 1)
+command_script Crew files targets size = crew_script (word_at files 0) (word_at files 1) (word_at files 2)
 command_script Print files targets size = print_script (word_at files 0)
 command_script Load files targets size = load_script size
 

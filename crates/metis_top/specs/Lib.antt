@@ -1,6 +1,7 @@
 pub mod Answer
 pub mod Commands
 pub mod Course
+pub mod Crewed
 pub mod Deployment
 pub mod Forms
 pub mod Honest
@@ -16,4 +17,5 @@ pub mod Script
 pub mod Simulated
 pub mod Statuses
 pub mod TargetName
+pub mod Turns
 pub mod Words

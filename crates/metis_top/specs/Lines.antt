@@ -64,6 +64,7 @@ refusal_line (TooLong place) = codes "too long " ++ (decimal place ++ codes "\n"
 refusal_line (refusal.Universe fault) = universe_line fault
 refusal_line (refusal.PlanText fault) = plan_fault_line fault
 refusal_line (refusal.RefusalText fault) = refusal_fault_line fault
+refusal_line (refusal.Turns place) = codes "bad turns " ++ (decimal place ++ codes "\n")
 
 abbrev pub refusal_status : Refusal → Status
 refusal_status (Word place) = BadWords
@@ -71,6 +72,7 @@ refusal_status (TooLong place) = BadInput
 refusal_status (refusal.Universe fault) = BadInput
 refusal_status (refusal.PlanText fault) = BadInput
 refusal_status (refusal.RefusalText fault) = BadInput
+refusal_status (refusal.Turns place) = BadInput
 
 abbrev pub read_fault_line : ℕ → List ℕ
 read_fault_line place = codes "read fault " ++ (decimal place ++ codes "\n")

@@ -35,6 +35,8 @@ fn verb_named(word: &str) -> Option<Verb>
         Some(Verb::Refute)
     } else if word == "sim" {
         Some(Verb::Sim)
+    } else if word == "crew" {
+        Some(Verb::Crew)
     } else if word == "print" {
         Some(Verb::Print)
     } else if word == "load" {

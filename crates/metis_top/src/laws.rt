@@ -1,11 +1,18 @@
 //! Laws over the definitions.
-ghost use Rattle.std.specs.Prelude.{◌≡◌, ℕ, List, [], ◌∷◌, codes};
+ghost use Rattle.std.specs.Prelude.{◌≡◌, ℕ, ◌+◌, List, [], ◌∷◌, codes, length};
+ghost use Rattle.metis_ids.specs.declared.actions.Action.{Action};
 ghost use Rattle.metis_universe.specs.Universe.{Universe};
 ghost use Rattle.metis_sim.specs.Session.{Session, reply};
 ghost use Rattle.metis_sim.specs.declared.reply.Reply.TheVariants.{Bye};
+ghost use Rattle.metis_top.specs.Crewed.{crew_lines};
 ghost use Rattle.metis_top.specs.Simulated.{replies_to};
 
 /// Behind the reply to `quit` nothing is put, whatever lines follow.
 pub fn nothing_is_put_behind_quit()
     ensures { (u : Universe) (s : Session) (line : List ℕ) (lines : List (List ℕ)) → reply s line ≡ Bye → replies_to u s (line ∷ lines) ≡ codes "bye\n" ∷ [] }
+{}
+
+/// What a crew answers has a line for each turn, and one more.
+pub fn a_crew_has_a_line_for_each_turn()
+    ensures { (actions : List Action) (zs : List ℕ) → length (crew_lines actions zs) ≡ length zs + 1 }
 {}

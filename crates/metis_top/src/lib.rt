@@ -1,6 +1,7 @@
 //! The whole run of the program, over files and an output that are passed in.
 #![tactic(auto)]
 
+mod crew;
 mod grammar;
 mod in_memory;
 mod judgement_line;
@@ -16,12 +17,13 @@ mod sim;
 mod status;
 mod stop;
 mod top;
+mod turns;
 mod verdict_line;
 mod words;
 
 pub use grammar::read_words;
 pub use in_memory::run_in_memory;
-pub use laws::nothing_is_put_behind_quit;
+pub use laws::{a_crew_has_a_line_for_each_turn, nothing_is_put_behind_quit};
 pub use status::Status;
 pub use top::run;
 pub use words::{Command, TargetWord, Verb, WordFault};

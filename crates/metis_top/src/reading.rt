@@ -5,12 +5,13 @@ ghost use Rattle.metis_universe.specs.Universe.{pair_count};
 ghost use Rattle.metis_universe.specs.Numbers.{IsOf};
 ghost use Rattle.metis_text.specs.Reads.{parts_of};
 ghost use Rattle.metis_text.specs.RefusalReading.{refusal_of};
-ghost use Rattle.metis_top.specs.Commands.{bytes_then, universe_in_then, universe_then, targets_then, goal_then, plan_in_then, plan_then, refusal_in_then, refusal_then, session_limit};
+ghost use Rattle.metis_top.specs.Commands.{bytes_then, universe_in_then, universe_then, targets_then, goal_then, plan_in_then, plan_then, refusal_in_then, refusal_then, session_limit, turns_in_then, turns_then};
 ghost use Rattle.metis_top.specs.Course.{Gathers, Judges, or_stop};
 
 use crate::refusal::{Refusal, Stop};
+use crate::turns::{TurnsFault, read_turns};
 use crate::words::TargetWord;
-use metis_ids::PairIx;
+use metis_ids::{InstNo, PairIx};
 use metis_outside::{ReadAnswer, Shelf, read_whole};
 use metis_text::{PlanText, TFault, read_plan, read_refusal};
 use metis_ujson::{UFault, UNIVERSE_LIMIT, read_universe};
@@ -25,6 +26,9 @@ const REFUSAL_LIMIT: u64 = 1_048_576;
 
 /// The most bytes of the script of a session.
 const SESSION_LIMIT: u64 = 65_536;
+
+/// The most bytes of the turns of a crew.
+const TURNS_LIMIT: u64 = 4_194_304;
 
 // What a reading gives, or why it stops the run.
 fn or_stop(read: Result<Vec<u8>, ReadAnswer>, place: u32) -> Result<Vec<u8>, Stop>
@@ -187,4 +191,29 @@ pub fn session_script_from<H: Shelf>(
     ensures { Gathers H.files H.faults H.opens (λ bytes. bytes.items) (bytes_then place name.now session_limit) shelf.old shelf.new result }
 {
     bytes_from(alloc, shelf, place, name, SESSION_LIMIT)
+}
+
+/// The instances whose turns the bytes name.
+fn turns_in(alloc: Global, bytes: &[u8]) -> Result<Vec<InstNo>, Stop>
+    requires { length bytes.now < 2 ^ 32 - 1 }
+    ensures { Judges (λ turns. turns.items) (turns_in_then bytes.now) result }
+{
+    match read_turns(alloc, bytes) {
+        Ok(turns) => Ok(turns),
+        Err(TurnsFault::At(place)) => Err(Stop::Refused(Refusal::Turns(place))),
+        Err(TurnsFault::NoMemory) => Err(Stop::NoMemory),
+    }
+}
+
+/// The turns of a crew in the file of the word at this place.
+pub fn turns_from<H: Shelf>(
+    alloc: Global,
+    shelf: &mut H,
+    place: u32,
+    name: &str,
+) -> Result<Vec<InstNo>, Stop>
+    ensures { Gathers H.files H.faults H.opens (λ turns. turns.items) (turns_then place name.now) shelf.old shelf.new result }
+{
+    let bytes = bytes_from(alloc, shelf, place, name, TURNS_LIMIT)?;
+    turns_in(alloc, &bytes)
 }

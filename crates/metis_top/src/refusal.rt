@@ -18,6 +18,8 @@ pub enum Refusal {
     PlanText(TFault),
     /// The bytes are no text of a refusal.
     RefusalText(TFault),
+    /// The token at this place, from 1, of the text of turns is no number in range.
+    Turns(u32),
 }
 
 /// Why a run ends before its work.

@@ -20,6 +20,7 @@ fn refusal_line(alloc: Global, refusal: Refusal) -> Result<String, AllocError>
         Refusal::Universe(fault) => universe_line(alloc, fault),
         Refusal::PlanText(fault) => plan_fault_line(alloc, fault),
         Refusal::RefusalText(fault) => refusal_fault_line(alloc, fault),
+        Refusal::Turns(place) => format!(in alloc; "bad turns {place}\n"),
     }
 }
 

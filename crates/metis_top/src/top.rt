@@ -12,6 +12,7 @@ ghost use Rattle.metis_top.specs.Words.{form_of, word_stop};
 ghost use Rattle.metis_universe.specs.Texts.{texts};
 
 use crate::Status;
+use crate::crew::crew_file;
 use crate::grammar::read_words;
 use crate::load::load_size;
 use crate::plan::plan_file;
@@ -105,6 +106,10 @@ fn perform<H: Shelf, K: Sink>(
         Verb::Sim => {
             let (file, input) = (command.file(0), command.file(1));
             sim_file(alloc, file, input, shelf, out)
+        }
+        Verb::Crew => {
+            let (file, plan) = (command.file(0), command.file(1));
+            crew_file(alloc, file, plan, command.file(2), shelf, out)
         }
         Verb::Print => print_file(alloc, command.file(0), shelf, out),
         Verb::Load => load_size(alloc, command.size, out),

@@ -54,8 +54,9 @@ fn good_line(alloc: Global, standing: u64, actions: usize) -> Result<String, All
     format!(in alloc; "good standing {standing} actions {actions}\n")
 }
 
+/// Puts the line of an action that cannot be done, with its number and why, by one put.
 #[tactic(auto, using(metis_outside::proofs::Writing::front_of_nothing))]
-fn write_bad<K: Sink>(
+pub fn write_bad<K: Sink>(
     alloc: Global,
     u: &Universe,
     number: u32,

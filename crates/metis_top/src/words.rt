@@ -16,6 +16,8 @@ pub enum Verb {
     Refute,
     /// Runs a session.
     Sim,
+    /// Lets a crew take turns over a plan.
+    Crew,
     /// Prints the universe.
     Print,
     /// Plans for the generated universe of a size, and replays the plan.
@@ -31,6 +33,7 @@ impl Verb {
             Verb::Load => 0,
             Verb::Plan | Verb::Print => 1,
             Verb::Replay | Verb::Refute | Verb::Sim => 2,
+            Verb::Crew => 3,
         }
     }
 
@@ -40,7 +43,7 @@ impl Verb {
     {
         match self {
             Verb::Plan | Verb::Replay | Verb::Refute => 256,
-            Verb::Sim | Verb::Print | Verb::Load => 0,
+            Verb::Sim | Verb::Crew | Verb::Print | Verb::Load => 0,
         }
     }
 }
