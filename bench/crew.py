@@ -16,6 +16,7 @@ import sys
 import tempfile
 from pathlib import Path
 
+sys.dont_write_bytecode = True
 from replay import SIZES, STATES, TARGETS, document, expected, long_name
 
 RUNS = 2
