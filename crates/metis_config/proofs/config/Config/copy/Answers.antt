@@ -1,7 +1,0 @@
-use Rattle.metis_config.proofs.config.Config.copy.Goals as goal
-
-pub invariant_of-result : goal.invariant_of-result
-invariant_of-result c = ?
-
-pub returns : goal.returns
-returns c = ?
