@@ -1,0 +1,11 @@
+pub mod Adding
+pub mod AllEvents
+pub mod Befores
+pub mod Examples
+pub mod Gathering
+pub mod Holding
+pub mod InRows
+pub mod Instances
+pub mod Ranks
+pub mod Returns
+pub mod Targets

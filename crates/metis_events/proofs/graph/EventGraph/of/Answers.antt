@@ -1,0 +1,43 @@
+use Rattle.std.proofs.Common.{◌≡◌, [], List, ap, length, map, subst, sym, ◌∙◌}
+use Rattle.std.specs.List.{flat_map, range_with_len}
+use Rattle.std.specs.List.Sorted.{IsStrictlySortedBy}
+use Rattle.std.proofs.lemmas.List.{length-map}
+use Rattle.metis_ids.specs.declared.events.Event.{Event}
+use Rattle.metis_lines.proofs.Sound.{sound}
+use Rattle.metis_lines.specs.AbstractPlan.{AbstractPlan, line_count}
+use Rattle.metis_lines.specs.Events.{event_cmp, events}
+use Rattle.metis_lines.specs.LifeLines.{plan_of}
+use Rattle.metis_lines.specs.Soundness.{IsFormed}
+use Rattle.metis_events.proofs.AllEvents.{events_ascend}
+use Rattle.metis_events.proofs.Gathering.{rows_are}
+use Rattle.metis_events.proofs.Holding.{own_selected}
+use Rattle.metis_events.proofs.graph.EventGraph.of.Goals as goal
+use Rattle.metis_events.specs.declared.edges.Edge.{Edge}
+use Rattle.metis_events.specs.Edges.{before}
+use Rattle.metis_events.specs.Gathered.{Adds, edges_to, go_edges, without_supplies}
+
+pub edge_rows-requires : goal.edge_rows-requires
+edge_rows-requires c = subst (IsStrictlySortedBy event_cmp) (sym (c.deref.ensures.value ∙ c.in_ok-events.ensures.events)) (events_ascend (without_supplies c.args.l.now))
+
+pub invariant_of-result : goal.invariant_of-result
+invariant_of-result c = record {
+  each = ap length c.in_ok-edges.ensures.rows ∙ length-map c.deref.result.now (edges_to c.add_supplies.new.edges) ∙ ap length c.deref.ensures.value;
+  few = c.in_ok-events.ensures.few;
+  ascend = subst (IsStrictlySortedBy event_cmp) (sym c.in_ok-events.ensures.events) (events_ascend (without_supplies c.args.l.now));
+}
+
+pub returns : goal.returns
+returns c =
+    let u = c.args.u.now in
+    let s = c.args.s.now in
+    let x = c.args.l.now in
+    let are = c.requires.lines in
+    let w : AbstractPlan = plan_of u s x in
+    let formed : IsFormed u w = subst (λ z. IsFormed u (plan_of u s z)) (sym are.are) (sound u s c.requires.support x.targets x.own are.targets (own_selected s x are) c.keeps_invariant.ensures.universe).formed in
+    let first : List (Event × Edge) = c.add_go_edges.new.edges in
+    let all : List (Event × Edge) = c.add_supplies.new.edges in
+    let one : Adds (flat_map (go_edges w) (range_with_len 0 (line_count w))) [] first = subst (λ old. Adds (flat_map (go_edges w) (range_with_len 0 (line_count w))) old first) c.new-gathered.ensures c.in_ok-add_go_edges.ensures in
+    let listed : c.in_ok-events.events.items ≡ events w = c.in_ok-events.ensures.events in
+    let rows : c.in_ok-edges.edges.items ≡ map (before w) (events w) =
+    c.in_ok-edges.ensures.rows ∙ ap (map (edges_to all)) (c.deref.ensures.value ∙ listed) ∙ rows_are u w formed first all one c.in_ok-add_supplies.ensures c.in_ok-edges.ensures.ascend in
+    (λ i. record { events = listed i; edges = rows i })

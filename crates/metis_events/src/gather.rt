@@ -1,0 +1,167 @@
+//! All edges of the graph of life lines.
+ghost use Rattle.std.specs.Prelude.{◌≡◌, ◌<◌, ◌≤◌, ◌∷◌, ◌++◌, [], ℕ, OnOk, length, option_map};
+ghost use Rattle.std.specs.List.{flat_map, range_with_len};
+ghost use Rattle.std.specs.Option.{ForSome};
+ghost use Rattle.metis_support.specs.Support.{IsSupport, provider_at};
+ghost use Rattle.metis_lines.specs.Events.{leaving, step_count};
+ghost use Rattle.metis_lines.specs.LifeLines.{AreLines, holding, line_at, line_supplies, station_supplies, supplies_of, supply_from};
+ghost use Rattle.metis_events.specs.Gathered.{Adds, go_edges, return_edges, supply_edges, without_supplies};
+
+use crate::edges::{EdgeKind, EdgeSet};
+use metis_ids::{Event, LineIx, NoMemory, PortIx, StepIx};
+use metis_lines::Lines;
+use metis_support::Support;
+use metis_universe::Universe;
+
+/// How many events the line has.
+pub fn step_count(l: &Lines, line: LineIx) -> u32
+    requires { line < length l.now.lines }
+    ensures count { result ≡ step_count (without_supplies l.now) line }
+    ensures some { 1 ≤ result }
+    ensures few { result ≤ 65 }
+{
+    let stations = l.last(line).0 + 1;
+    if l.is_target(line) {
+        stations
+    } else {
+        stations + 1
+    }
+}
+
+/// What the line leaves the station by.
+pub fn leaving(l: &Lines, line: LineIx, station: StepIx) -> Event
+    requires line { line < length l.now.lines }
+    requires station { station < length (line_at l.now line) }
+    ensures { result ≡ leaving (without_supplies l.now) line station }
+{
+    let last = l.last(line);
+    if l.is_target(line) && station == last {
+        Event::End
+    } else {
+        Event::At(line, StepIx(station.0 + 1))
+    }
+}
+
+/// Adds the go edges of all lines.
+pub fn add_go_edges(edges: &mut EdgeSet, l: &Lines) -> Result<(), NoMemory>
+    ensures { OnOk result (Adds (flat_map (go_edges (without_supplies l.now)) (range_with_len 0 (length l.now.lines))) edges.old edges.new) }
+{
+    for number in 0..l.count() {
+        add_go_edges_of(edges, l, LineIx(number))?;
+    }
+    Ok(())
+}
+
+// From each event of the line to its next one, and from the entry into its last station to the end.
+fn add_go_edges_of(edges: &mut EdgeSet, l: &Lines, line: LineIx) -> Result<(), NoMemory>
+    requires { line < length l.now.lines }
+    ensures { OnOk result (Adds (go_edges (without_supplies l.now) line) edges.old edges.new) }
+{
+    for step in 0..step_count(l, line) - 1 {
+        let next = Event::At(line, StepIx(step + 1));
+        edges.add(Event::At(line, StepIx(step)), EdgeKind::Go, next)?;
+    }
+    edges.add(Event::At(line, l.last(line)), EdgeKind::Go, Event::End)?;
+    Ok(())
+}
+
+/// Adds the start and return edges of all supplies.
+pub fn add_supplies(
+    edges: &mut EdgeSet,
+    u: &Universe,
+    s: &Support,
+    l: &Lines,
+) -> Result<(), NoMemory>
+    requires support { IsSupport u.now s.now }
+    requires lines { AreLines s.now l.now }
+    ensures { OnOk result (Adds (flat_map (supply_edges (without_supplies l.now)) (supplies_of u.now s.now l.now)) edges.old edges.new) }
+{
+    for number in 0..l.count() {
+        add_line_supplies(edges, u, s, l, LineIx(number))?;
+    }
+    Ok(())
+}
+
+// Adds those of the supplies of the line's stations.
+fn add_line_supplies(
+    edges: &mut EdgeSet,
+    u: &Universe,
+    s: &Support,
+    l: &Lines,
+    line: LineIx,
+) -> Result<(), NoMemory>
+    requires support { IsSupport u.now s.now }
+    requires lines { AreLines s.now l.now }
+    requires line { line < length l.now.lines }
+    ensures { OnOk result (Adds (flat_map (supply_edges (without_supplies l.now)) (line_supplies u.now s.now l.now line)) edges.old edges.new) }
+{
+    for station in 0..l.last(line).0 + 1 {
+        add_station_supplies(edges, u, s, l, line, StepIx(station))?;
+    }
+    Ok(())
+}
+
+// Adds those of the supplies of one station.
+fn add_station_supplies(
+    edges: &mut EdgeSet,
+    u: &Universe,
+    s: &Support,
+    l: &Lines,
+    line: LineIx,
+    station: StepIx,
+) -> Result<(), NoMemory>
+    requires support { IsSupport u.now s.now }
+    requires lines { AreLines s.now l.now }
+    requires line { line < length l.now.lines }
+    requires station { station < length (line_at l.now line) }
+    ensures { OnOk result (Adds (flat_map (supply_edges (without_supplies l.now)) (station_supplies u.now s.now l.now line station)) edges.old edges.new) }
+{
+    for port in u.requires_(l.station(line, station)) {
+        if let Some(holder) = holder_of(s, l, *port) {
+            add_supply(edges, l, (line, station), holder)?;
+        }
+    }
+    Ok(())
+}
+
+// The line that holds the port's provider, with its station there.
+fn holder_of(s: &Support, l: &Lines, port: PortIx) -> Option<(LineIx, StepIx)>
+    requires { AreLines s.now l.now }
+    ensures holder { result ≡ option_map (holding l.now) (provider_at s.now port) }
+    ensures within { ForSome result (λ held. (held.0 < length l.now.lines) × (held.1 < length (line_at l.now held.0))) }
+{
+    let _kept = s.selected();
+    let provider = s.provider(port)?;
+    l.holder(provider)
+}
+
+// Adds the edges of a supply: the station starts after the place is entered, and the place is left after the station.
+fn add_supply(
+    edges: &mut EdgeSet,
+    l: &Lines,
+    taker: (LineIx, StepIx),
+    holder: (LineIx, StepIx),
+) -> Result<(), NoMemory>
+    requires taker { taker.0 < length l.now.lines }
+    requires station { taker.1 < length (line_at l.now taker.0) }
+    requires holder { holder.0 < length l.now.lines }
+    requires place { holder.1 < length (line_at l.now holder.0) }
+    ensures { (r : ℕ) → OnOk result (Adds (supply_edges (without_supplies l.now) (supply_from taker.0 taker.1 r holder)) edges.old edges.new) }
+{
+    let (line, station) = taker;
+    let (other, place) = holder;
+    let entry = Event::At(line, station);
+    edges.add(Event::At(other, place), EdgeKind::Start, entry)?;
+    add_return(edges, leaving(l, line, station), leaving(l, other, place))?;
+    Ok(())
+}
+
+// Adds the return edge, but not one into the end.
+fn add_return(edges: &mut EdgeSet, from: Event, to: Event) -> Result<(), NoMemory>
+    ensures { OnOk result (Adds (return_edges from to) edges.old edges.new) }
+{
+    match to {
+        Event::At(_, _) => edges.add(from, EdgeKind::Return, to),
+        Event::End => Ok(()),
+    }
+}

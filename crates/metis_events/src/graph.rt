@@ -1,0 +1,103 @@
+//! The graph of events.
+ghost use Rattle.std.specs.Prelude.{◌≡◌, ◌<◌, ◌≤◌, ◌+◌, ◌^◌, ◌++◌, length, IfOk, OnOk};
+ghost use Rattle.metis_support.specs.Support.{IsSupport};
+ghost use Rattle.metis_lines.specs.Events.{events, events_of};
+ghost use Rattle.metis_lines.specs.LifeLines.{AreLines, plan_of};
+ghost use Rattle.metis_events.specs.Edges.{edges_into, event_at, graph_of, node_of};
+ghost use Rattle.metis_events.specs.Gathered.{without_supplies};
+
+use crate::edges::{Edge, EdgeSet};
+use crate::gather::{add_go_edges, add_supplies, step_count};
+use crate::rows::{EdgeRow, edge_rows, place_of};
+use metis_ids::{Event, LineIx, NoMemory, NodeIx, StepIx};
+use metis_lines::Lines;
+use metis_support::Support;
+use metis_universe::Universe;
+use std::alloc::Global;
+use std::marker::Model;
+
+/// The events, numbered from 0, with the edges into each.
+#[derive(Drop)]
+pub struct EventGraph {
+    events: Vec<Event>,
+    edges: Vec<EdgeRow>,
+}
+
+impl Model for EventGraph {
+    ghost use Rattle.metis_events.specs.Edges as model;
+
+    ghost Value = { model.EventGraph };
+
+    ghost view = { λ a. record { events = a.events.items; edges = a.edges.items } };
+
+    ghost invariant = { λ a. model.IsKept a.events.items a.edges.items };
+}
+
+impl EventGraph {
+    /// The graph of the lines over a support. It goes once over the events and the supplies, and sorts the edges.
+    pub fn of(alloc: Global, u: &Universe, s: &Support, l: &Lines) -> Result<EventGraph, NoMemory>
+        requires support { IsSupport u.now s.now }
+        requires lines { AreLines s.now l.now }
+        ensures { IfOk result (λ g. g ≡ graph_of (plan_of u.now s.now l.now)) }
+    {
+        u.keeps_invariant();
+        let events = all_events(alloc, l)?;
+        let mut gathered = EdgeSet::new(alloc);
+        add_go_edges(&mut gathered, l)?;
+        add_supplies(&mut gathered, u, s, l)?;
+        let edges = edge_rows(alloc, &events, gathered)?;
+        Ok(EventGraph { events, edges })
+    }
+
+    /// The edges into an event, by the events that they lead from; none into one that is not of the graph.
+    pub fn before(&self, e: Event) -> &[Edge]
+        ensures { result.now ≡ edges_into self.now e }
+    {
+        match place_of(&self.events, &e) {
+            Some(place) => self.edges[place].as_slice(),
+            None => &[],
+        }
+    }
+
+    /// The number of an event; none where it is not one of the graph.
+    pub fn node(&self, e: Event) -> Option<NodeIx>
+        ensures { result ≡ node_of self.now e }
+    {
+        let _rows = &self.edges;
+        let place = place_of(&self.events, &e)?;
+        Some(NodeIx(place as u32))
+    }
+
+    /// The event of a number.
+    pub fn event(&self, n: NodeIx) -> Event
+        requires { n < length self.now.events }
+        ensures { result ≡ event_at self.now n }
+    {
+        self.events[n.0 as usize]
+    }
+}
+
+// All events of the lines, in order.
+fn all_events(alloc: Global, l: &Lines) -> Result<Vec<Event>, NoMemory>
+    ensures events { IfOk result (λ all. all.items ≡ events (without_supplies l.now)) }
+    ensures few { IfOk result (λ all. length all.items < 2 ^ 32) }
+{
+    let mut all = Vec::new(alloc);
+    for number in 0..l.count() {
+        add_events(&mut all, l, LineIx(number))?;
+    }
+    all.push(Event::End)?;
+    Ok(all)
+}
+
+// Appends the events of the line.
+fn add_events(all: &mut Vec<Event>, l: &Lines, line: LineIx) -> Result<(), NoMemory>
+    requires { line < length l.now.lines }
+    ensures events { OnOk result (all.new.items ≡ all.old.items ++ events_of (without_supplies l.now) line) }
+    ensures few { OnOk result (length all.new.items ≤ length all.old.items + 65) }
+{
+    for step in 0..step_count(l, line) {
+        all.push(Event::At(line, StepIx(step)))?;
+    }
+    Ok(())
+}

@@ -1,0 +1,17 @@
+//! What has to happen before what on life lines, as a graph.
+#![tactic(auto)]
+
+mod edges;
+mod gather;
+pub mod graph;
+mod laws;
+mod rows;
+
+pub use edges::{Edge, EdgeKind};
+pub use graph::EventGraph;
+pub use laws::{
+    all_events_are_listed, cycles_of_lines_return, cycles_return_into_moves, edges_are_listed,
+    edges_ascend, edges_into_events, edges_join_events, events_ascend, events_have_nodes,
+    last_stations_make_no_cycle, no_loose_no_cycle, no_return_no_cycle, nodes_have_events,
+    returns_are_of_loose_holders, returns_are_of_supplies,
+};

@@ -1,0 +1,101 @@
+//! The edges into each event.
+ghost use Rattle.std.specs.Prelude.{◌≡◌, ◌++◌, ◌∷◌, [], List, length, map, position, IfOk, OnOk};
+ghost use Rattle.std.specs.List.Sorted.{IsStrictlySortedBy};
+ghost use Rattle.metis_lines.specs.Events.{event_cmp, same_event};
+ghost use Rattle.metis_events.specs.Edges.{edge_of};
+ghost use Rattle.metis_events.specs.Gathered.{edges_to, target_cmp};
+ghost use Rattle.metis_events.specs.declared.edges.Edge.{Edge};
+ghost use Rattle.metis_ids.specs.declared.events.Event.{Event};
+
+use crate::edges::{Edge, EdgeKind, EdgeSet, events_are_ordered};
+use metis_ids::{Event, NoMemory};
+use std::alloc::Global;
+use std::marker::Model;
+
+/// The edges into an event.
+#[derive(Drop)]
+pub struct EdgeRow {
+    edges: Vec<Edge>,
+}
+
+impl Model for EdgeRow {
+    ghost use Rattle.std.specs.Prelude.{List};
+    ghost use Rattle.metis_events.specs.declared.edges.Edge.{Edge};
+
+    ghost Value = { List Edge };
+
+    ghost view = { λ a. a.edges.items };
+}
+
+impl EdgeRow {
+    pub fn new(alloc: Global) -> EdgeRow
+        ensures { result ≡ [] }
+    {
+        EdgeRow {
+            edges: Vec::new(alloc),
+        }
+    }
+
+    pub fn push(&mut self, from: Event, kind: EdgeKind) -> Result<(), NoMemory>
+        ensures { OnOk result (self.new ≡ self.old ++ edge_of from kind ∷ []) }
+    {
+        self.edges.push(Edge { from, kind })?;
+        Ok(())
+    }
+
+    pub fn as_slice(&self) -> &[Edge]
+        ensures { result.now ≡ self.now }
+    {
+        self.edges.as_slice()
+    }
+}
+
+/// The edges of the set that lead into each of the events, which ascend.
+pub fn edge_rows(alloc: Global, events: &[Event], edges: EdgeSet) -> Result<Vec<EdgeRow>, NoMemory>
+    requires { IsStrictlySortedBy event_cmp events.now }
+    ensures rows { IfOk result (λ rows. rows.items ≡ map (edges_to edges) events.now) }
+    ensures ascend { OnOk result (IsStrictlySortedBy target_cmp edges) }
+{
+    let mut rows = empty_rows(alloc, events)?;
+    for (to, edge) in edges.into_edges() {
+        add_edge(&mut rows, events, &to, edge)?;
+    }
+    Ok(rows)
+}
+
+// Adds the edge to the row of the event that it leads into.
+fn add_edge(
+    rows: &mut Vec<EdgeRow>,
+    events: &[Event],
+    to: &Event,
+    edge: Edge,
+) -> Result<(), NoMemory>
+    requires ascend { IsStrictlySortedBy event_cmp events.now }
+    requires each { length rows.old.items ≡ length events.now }
+    ensures { (xs : List (Event × Edge)) → rows.old.items ≡ map (edges_to xs) events.now → OnOk result (rows.new.items ≡ map (edges_to (xs ++ (to.now, edge) ∷ [])) events.now) }
+{
+    if let Some(place) = place_of(events, to) {
+        rows[place].push(edge.from, edge.kind)?;
+    }
+    Ok(())
+}
+
+// No edge into any event.
+fn empty_rows(alloc: Global, events: &[Event]) -> Result<Vec<EdgeRow>, NoMemory>
+    ensures { IfOk result (λ rows. rows.items ≡ map (λ _. []) events.now) }
+{
+    let mut rows = Vec::new(alloc);
+    for _event in events {
+        rows.push(EdgeRow::new(alloc))?;
+    }
+    Ok(rows)
+}
+
+/// The place of the event among these, which ascend.
+pub fn place_of(events: &[Event], e: &Event) -> Option<usize>
+    requires { IsStrictlySortedBy event_cmp events.now }
+    ensures { result ≡ position (same_event e.now) events.now }
+{
+    events_are_ordered();
+    events.binary_search(e).ok()
+}
