@@ -47,6 +47,22 @@ module _ (s : Session) where
     other : Refused f ≡ Ended → ⊥
     other e = cc
 
+  -- ---- a session that has not ended
+
+  abbrev IsNotEnded : Answer → Type 0
+  IsNotEnded w = w.0 ≢ Ended
+
+  -- it does not reply that it has
+  pub reply_not_ended : s.ended ≡ false → (line : List ℕ) → reply s line ≢ Ended
+  reply_not_ended live = each_answer s IsNotEnded (λ r still. still.live) (λ _ a of none e. cc) (λ c earlier is e. cc) (λ e. cc) (λ ended. absurd (false≢true (sym live ∙ ended)))
+
+  abbrev GoesOn : Answer → Type 0
+  GoesOn w = w.0 ≢ Bye → w.1.ended ≡ false
+
+  -- it ends by `quit` alone
+  pub goes_on : s.ended ≡ false → (line : List ℕ) → reply s line ≢ Bye → (after_line s line).ended ≡ false
+  goes_on live = each_answer s GoesOn (λ r still other. live) (λ _ a of none other. live) (λ c earlier is other. live) (λ other. absurd (other refl)) (λ ended other. live)
+
   -- ---- undo
 
   abbrev IsTakenBack : Answer → Type 0
