@@ -147,7 +147,6 @@ impl<'a> Session<'a> {
         ensures ok { IfOk result (λ r. (r, self.new) ≡ done self.old a.now) }
         ensures err { OnErr result (self.new ≡ self.old) }
     {
-        self.universe.keeps_invariant();
         self.config.keeps_invariant();
         let change = Change::of(&self.config, a)?;
         match apply(self.universe, &mut self.config, a) {
