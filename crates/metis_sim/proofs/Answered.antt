@@ -59,7 +59,7 @@ either : (P : Answer → Type 0) (b : Bool) (x y : Answer) → (b ≡ true → P
 either P true x y p q = p refl
 either P false x y p q = q refl
 
-module _ (s : Session) (P : Answer → Type 0) (still : (r : Reply) → IsStill s r → P (r, s)) (did : s.ended ≡ false → (a : Action) → IsOf s.universe a → fault_of s.universe s.config a ≡ None → P (done_by s a None)) (back : (c : Config) (earlier : List Config) → s.earlier ≡ c ∷ earlier → P (Undone, session_of s.universe c earlier s.ended)) (bye : P (Bye, session_of s.universe s.config s.earlier true)) where
+module _ (s : Session) (P : Answer → Type 0) (line : List ℕ) (still : (r : Reply) → IsStill s r → P (r, s)) (did : s.ended ≡ false → (a : Action) → IsOf s.universe a → fault_of s.universe s.config a ≡ None → P (done_by s a None)) (back : (c : Config) (earlier : List Config) → s.earlier ≡ c ∷ earlier → P (Undone, session_of s.universe c earlier s.ended)) (bye : bytes_eq line (codes "quit") ≡ true → P (Bye, session_of s.universe s.config s.earlier true)) where
   by_fault : s.ended ≡ false → (a : Action) → IsOf s.universe a → (o : Option AFault) → fault_of s.universe s.config a ≡ o → P (done_by s a o)
   by_fault live a of None is = did live a of is
   by_fault live a of (Some f) is = still (Refused f) (record { live = λ e. cc; calm = refl; numbers = λ k over. fault_low s.universe k s.config over a f is })
@@ -79,12 +79,17 @@ module _ (s : Session) (P : Answer → Type 0) (still : (r : Reply) → IsStill 
       (λ _. still (check_reply s.universe s.config words) (record { live = check_live s.universe s.config words; calm = check_calm s.universe s.config words; numbers = λ k over. check_low s.universe s.config words }))
       (λ _. by_action live (action_in s.universe s.config verb words) (action_is_of s.universe s.config verb words))
 
-  by_line : s.ended ≡ false → (line : List ℕ) → P (answer_to_line s line)
-  by_line live line =
+  by_line : s.ended ≡ false → P (answer_to_line s line)
+  by_line live =
       either P (bytes_eq line (codes "undo")) (undone s) _ (λ _. by_earlier s.earlier refl) (λ _.
-      either P (bytes_eq line (codes "quit")) (Bye, session_of s.universe s.config s.earlier true) _ (λ _. bye) (λ _.
+      either P (bytes_eq line (codes "quit")) (Bye, session_of s.universe s.config s.earlier true) _ bye (λ _.
       either P (bytes_eq line (codes "show")) (Show, s) (answer_to_words s (tokens line)) (λ _. still Show (record { live = λ e. cc; calm = refl; numbers = λ k over. tt })) (λ _. by_words live (tokens line))))
 
-  -- what each kind of answer has, the answer to a line has
+  -- what each kind of answer to the line has, the answer to it has
+  pub answer_to : (s.ended ≡ true → P (Ended, s)) → P (answer s line)
+  answer_to ended = either P s.ended (Ended, s) (answer_to_line s line) ended by_line
+
+module _ (s : Session) (P : Answer → Type 0) (still : (r : Reply) → IsStill s r → P (r, s)) (did : s.ended ≡ false → (a : Action) → IsOf s.universe a → fault_of s.universe s.config a ≡ None → P (done_by s a None)) (back : (c : Config) (earlier : List Config) → s.earlier ≡ c ∷ earlier → P (Undone, session_of s.universe c earlier s.ended)) (bye : P (Bye, session_of s.universe s.config s.earlier true)) where
+  -- what each kind of answer has, the answer to any line has
   pub each_answer : (s.ended ≡ true → P (Ended, s)) → (line : List ℕ) → P (answer s line)
-  each_answer ended line = either P s.ended (Ended, s) (answer_to_line s line) ended (λ live. by_line live line)
+  each_answer ended line = answer_to s P line still did back (λ _. bye) ended

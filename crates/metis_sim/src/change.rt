@@ -1,6 +1,6 @@
 //! What an action changed, and how it is undone.
-ghost use Rattle.std.specs.Prelude.{◌≡◌, IfOk};
-ghost use Rattle.metis_sim.specs.Changes.{IsUndoable, before, change_of};
+ghost use Rattle.std.specs.Prelude.{◌≡◌, IfOk, IsTrue, OnErr};
+ghost use Rattle.metis_sim.specs.Changes.{IsUndoable, before, change_of, takes_away};
 
 use metis_config::Config;
 use metis_ids::{Action, InstNo, NoMemory, PairIx, PortIx};
@@ -19,9 +19,10 @@ pub enum Change {
 }
 
 impl Change {
-    /// What the action will change in the configuration. Only an `Unbind` and a `Delete` take memory, for a copy.
+    /// What the action will change in the configuration. Only what takes something away takes memory, for a copy.
     pub fn of(c: &Config, a: &Action) -> Result<Change, NoMemory>
-        ensures { IfOk result (λ change. change ≡ change_of c.now a.now) }
+        ensures ok { IfOk result (λ change. change ≡ change_of c.now a.now) }
+        ensures memory { OnErr result (IsTrue (takes_away a.now)) }
     {
         Ok(match *a {
             Action::New { inst, .. } => Change::Made(inst),

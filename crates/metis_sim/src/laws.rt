@@ -1,5 +1,5 @@
 //! Laws over the definitions.
-ghost use Rattle.std.specs.Prelude.{◌≡◌, ◌≢◌, ℕ, List, ◌∷◌, IsFalse, codes, map};
+ghost use Rattle.std.specs.Prelude.{◌≡◌, ◌≢◌, ℕ, List, ◌∷◌, IsFalse, IsTrue, codes, map};
 ghost use Rattle.std.specs.List.{AllByRecursion};
 ghost use Rattle.metis_universe.specs.Config.{Correct};
 ghost use Rattle.metis_universe.specs.Universe.{Universe, IsUniverse};
@@ -32,7 +32,8 @@ pub fn only_ended_sessions_say_so()
     ensures { (s : Session) (line : List ℕ) → IsFalse s.ended → reply s line ≢ Ended }
 {}
 
-/// A session ends by `quit` alone, with the reply `Bye`.
+/// A session ends by the line `quit` alone, and where it does not reply `Bye` it goes on.
 pub fn only_quit_ends_a_session()
-    ensures { (s : Session) (line : List ℕ) → IsFalse s.ended → reply s line ≢ Bye → IsFalse (after_line s line).ended }
+    ensures line { (s : Session) (line : List ℕ) → IsFalse s.ended → IsTrue (after_line s line).ended → line ≡ codes "quit" }
+    ensures reply { (s : Session) (line : List ℕ) → IsFalse s.ended → reply s line ≢ Bye → IsFalse (after_line s line).ended }
 {}

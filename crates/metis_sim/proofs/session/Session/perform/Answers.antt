@@ -11,7 +11,7 @@ pub invariant_of-self : goal.invariant_of-self
 invariant_of-self c =
     let s = c.self.inside in
     subst (IsSound s.universe.now c.apply.new.c) (sym c.in-Ok-keep.ensures.ok)
-    (IsSound-more s.universe.now s.config c.keeps_invariant.ensures c.args.a.now c.apply.new.c c.in-Ok.ensures.step c.in_ok-change.change c.in_ok-change.ensures s.earlier c.self.invariant c.in-Ok.ensures.correct c.in-Ok.ensures.over)
+    (IsSound-more s.universe.now s.config c.keeps_invariant.ensures c.args.a.now c.apply.new.c c.in-Ok.ensures.step c.in_ok-change.change c.in_ok-change.ensures.ok s.earlier c.self.invariant c.in-Ok.ensures.correct c.in-Ok.ensures.over)
 
 pub returns-in-Ok-keep-clause-ok : goal.returns-in-Ok-keep-clause-ok
 returns-in-Ok-keep-clause-ok c =
@@ -20,20 +20,20 @@ returns-in-Ok-keep-clause-ok c =
     let d = c.apply.new.c in
     let old = session_of s.universe.now s.config (befores s.config s.earlier) s.ended in
     let earlier : befores d c.keep.new.self ≡ s.config ∷ befores s.config s.earlier =
-    ap (befores d) c.in-Ok-keep.ensures.ok ∙ befores_is s.universe.now s.config c.keeps_invariant.ensures a d c.in-Ok.ensures.step c.in_ok-change.change c.in_ok-change.ensures s.earlier in
+    ap (befores d) c.in-Ok-keep.ensures.ok ∙ befores_is s.universe.now s.config c.keeps_invariant.ensures a d c.in-Ok.ensures.step c.in_ok-change.change c.in_ok-change.ensures.ok s.earlier in
     (λ i. (Did, session_of s.universe.now (c.in-Ok.ensures.step.1 i) (earlier i) s.ended))
     ∙ sym (ap (done_by old a) c.in-Ok.ensures.answers.0) ∙ ap (λ (w : Session). done w a) c.self.view_is
 
 pub undo-requires : goal.undo-requires
 undo-requires c =
     let s = c.self.inside in
-    is_undoable s.universe.now s.config c.keeps_invariant.ensures c.args.a.now c.apply.new.c c.in-Ok.ensures.step c.in-Err-keep.failed.value (c.in-Err-keep.ensures.back ∙ c.in_ok-change.ensures)
+    is_undoable s.universe.now s.config c.keeps_invariant.ensures c.args.a.now c.apply.new.c c.in-Ok.ensures.step c.in-Err-keep.failed.value (c.in-Err-keep.ensures.back ∙ c.in_ok-change.ensures.ok)
 
 -- where the change is not kept, it is undone
 as_before : (c : goal.After-undo) → c.undo.new.c ≡ c.self.inside.config
 as_before c =
     let s = c.self.inside in
-    c.undo.ensures ∙ undone_is s.universe.now s.config c.keeps_invariant.ensures c.args.a.now c.apply.new.c c.in-Ok.ensures.step c.in-Err-keep.failed.value (c.in-Err-keep.ensures.back ∙ c.in_ok-change.ensures)
+    c.undo.ensures ∙ undone_is s.universe.now s.config c.keeps_invariant.ensures c.args.a.now c.apply.new.c c.in-Ok.ensures.step c.in-Err-keep.failed.value (c.in-Err-keep.ensures.back ∙ c.in_ok-change.ensures.ok)
 
 pub invariant_of-self-in-Err-keep : goal.invariant_of-self-in-Err-keep
 invariant_of-self-in-Err-keep c =
