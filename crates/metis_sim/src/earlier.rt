@@ -1,8 +1,11 @@
 //! The changes that a session keeps.
-ghost use Rattle.std.specs.Prelude.{◌≡◌, [], ◌∷◌, IfErr, OnErr, OnOk, MatchOption, length};
+ghost use Rattle.std.specs.Prelude.{◌≡◌, [], ◌∷◌, OnErr, OnOk, MatchOption, length};
+ghost use Rattle.metis_sim.specs.Changes.{IsUndoable, before};
 
 use crate::change::Change;
-use std::alloc::{AllocFailed, Global};
+use metis_config::Config;
+use metis_ids::NoMemory;
+use std::alloc::Global;
 use std::marker::Model;
 
 /// Changes, of which the last one that was kept comes first.
@@ -30,13 +33,21 @@ impl Earlier {
         }
     }
 
-    /// Keeps one more. Where memory runs out, it comes back.
-    pub fn keep(&mut self, change: Change) -> Result<(), AllocFailed<Change>>
+    /// Keeps the change that led to the configuration. Where memory runs out, it is undone.
+    pub fn keep(&mut self, change: Change, c: &mut Config) -> Result<(), NoMemory>
+        requires { IsUndoable c.old change }
         ensures ok { OnOk result (self.new ≡ change ∷ self.old) }
+        ensures same { OnOk result (c.new ≡ c.old) }
         ensures err { OnErr result (self.new ≡ self.old) }
-        ensures back { IfErr result (λ failed. failed.value ≡ change) }
+        ensures undone { OnErr result (c.new ≡ before c.old change) }
     {
-        self.kept.push(change)
+        match self.kept.push(change) {
+            Ok(()) => Ok(()),
+            Err(failed) => {
+                failed.value.undo(c);
+                Err(NoMemory)
+            }
+        }
     }
 
     /// Takes the last one away, if there is one.

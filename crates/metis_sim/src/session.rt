@@ -150,13 +150,10 @@ impl<'a> Session<'a> {
         self.config.keeps_invariant();
         let change = Change::of(&self.config, a)?;
         match apply(self.universe, &mut self.config, a) {
-            Ok(()) => match self.earlier.keep(change) {
-                Ok(()) => Ok(Reply::Did),
-                Err(failed) => {
-                    failed.value.undo(&mut self.config);
-                    Err(NoMemory)
-                }
-            },
+            Ok(()) => {
+                self.earlier.keep(change, &mut self.config)?;
+                Ok(Reply::Did)
+            }
             Err(AFault::NoMemory) => Err(NoMemory),
             Err(fault) => Ok(Reply::Refused(fault)),
         }
