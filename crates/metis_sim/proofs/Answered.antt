@@ -1,5 +1,5 @@
 -- What every answer has, where each kind of answer has it.
---     IsStill s r      a reply with which nothing changes, and whose numbers are the universe's
+--     IsStill s r      a reply of a session that has not ended, with which nothing changes, and whose numbers are the universe's
 use Rattle.std.proofs.Common.{◌≡◌, ℕ, Bool, true, false, cond, List, [], ◌∷◌, codes, Option, Some, None, Result, Ok, Err, refl}
 use Rattle.std.specs.Prelude.{◌≢◌, IfOk}
 use Rattle.std.specs.Str.{bytes_eq}
@@ -15,7 +15,7 @@ use Rattle.metis_actions.specs.declared.faults.AFault.{AFault}
 use Rattle.metis_actions.specs.declared.faults.AFault.TheVariants as faults
 use Rattle.metis_replay.proofs.Reasons.{never_memory}
 use Rattle.metis_sim.proofs.ActionNumbers.{action_is_of}
-use Rattle.metis_sim.proofs.CheckNumbers.{check_calm, check_low}
+use Rattle.metis_sim.proofs.CheckNumbers.{check_calm, check_live, check_low}
 use Rattle.metis_sim.specs.Checks.{check_reply}
 use Rattle.metis_sim.specs.Orders.{action_in}
 use Rattle.metis_sim.specs.Replies.{IsReplyOf}
@@ -46,44 +46,50 @@ module _ (u : Universe) (k : IsUniverse u) (c : Config) (over : IsOver u c) (a :
 -- ---- the kinds of answers
 
 pub record IsStill (s : Session) (r : Reply) : Type 0 where
+  pub live : r ≢ Ended
   pub calm : changes r ≡ false
   pub numbers : IsUniverse s.universe → IsOver s.universe s.config → IsReplyOf s.universe r
 
 told_still : (s : Session) (wrong : Misread) → IsStill s (told wrong)
-told_still s Form = record { calm = refl; numbers = λ k over. tt }
-told_still s Name = record { calm = refl; numbers = λ k over. tt }
-told_still s (Absent z) = record { calm = refl; numbers = λ k over. tt }
+told_still s Form = record { live = λ e. cc; calm = refl; numbers = λ k over. tt }
+told_still s Name = record { live = λ e. cc; calm = refl; numbers = λ k over. tt }
+told_still s (Absent z) = record { live = λ e. cc; calm = refl; numbers = λ k over. tt }
 
 either : (P : Answer → Type 0) (b : Bool) (x y : Answer) → (b ≡ true → P x) → (b ≡ false → P y) → P (cond b x y)
 either P true x y p q = p refl
 either P false x y p q = q refl
 
-module _ (s : Session) (P : Answer → Type 0) (still : (r : Reply) → IsStill s r → P (r, s)) (did : s.ended ≡ false → (a : Action) → IsOf s.universe a → fault_of s.universe s.config a ≡ None → P (done_by s a None)) (back : (c : Config) (earlier : List Config) → s.earlier ≡ c ∷ earlier → P (Undone, session_of s.universe c earlier s.ended)) (bye : P (Bye, session_of s.universe s.config s.earlier true)) where
+module _ (s : Session) (P : Answer → Type 0) (line : List ℕ) (still : (r : Reply) → IsStill s r → P (r, s)) (did : s.ended ≡ false → (a : Action) → IsOf s.universe a → fault_of s.universe s.config a ≡ None → P (done_by s a None)) (back : (c : Config) (earlier : List Config) → s.earlier ≡ c ∷ earlier → P (Undone, session_of s.universe c earlier s.ended)) (bye : bytes_eq line (codes "quit") ≡ true → P (Bye, session_of s.universe s.config s.earlier true)) where
   by_fault : s.ended ≡ false → (a : Action) → IsOf s.universe a → (o : Option AFault) → fault_of s.universe s.config a ≡ o → P (done_by s a o)
   by_fault live a of None is = did live a of is
-  by_fault live a of (Some f) is = still (Refused f) (record { calm = refl; numbers = λ k over. fault_low s.universe k s.config over a f is })
+  by_fault live a of (Some f) is = still (Refused f) (record { live = λ e. cc; calm = refl; numbers = λ k over. fault_low s.universe k s.config over a f is })
 
   by_action : s.ended ≡ false → (r : Result Action Misread) → IfOk r (IsOf s.universe) → P (acted s r)
   by_action live (Err wrong) of = still (told wrong) (told_still s wrong)
   by_action live (Ok a) of = by_fault live a of (fault_of s.universe s.config a) refl
 
   by_earlier : (earlier : List Config) → s.earlier ≡ earlier → P (undone_by s earlier)
-  by_earlier [] is = still Nothing (record { calm = refl; numbers = λ k over. tt })
+  by_earlier [] is = still Nothing (record { live = λ e. cc; calm = refl; numbers = λ k over. tt })
   by_earlier (c ∷ earlier) is = back c earlier is
 
   by_words : s.ended ≡ false → (ts : List (List ℕ)) → P (answer_to_words s ts)
-  by_words live [] = still BadLine (record { calm = refl; numbers = λ k over. tt })
+  by_words live [] = still BadLine (record { live = λ e. cc; calm = refl; numbers = λ k over. tt })
   by_words live (verb ∷ words) =
       either P (bytes_eq verb (codes "check")) (check_reply s.universe s.config words, s) (acted s (action_in s.universe s.config verb words))
-      (λ _. still (check_reply s.universe s.config words) (record { calm = check_calm s.universe s.config words; numbers = λ k over. check_low s.universe s.config words }))
+      (λ _. still (check_reply s.universe s.config words) (record { live = check_live s.universe s.config words; calm = check_calm s.universe s.config words; numbers = λ k over. check_low s.universe s.config words }))
       (λ _. by_action live (action_in s.universe s.config verb words) (action_is_of s.universe s.config verb words))
 
-  by_line : s.ended ≡ false → (line : List ℕ) → P (answer_to_line s line)
-  by_line live line =
+  by_line : s.ended ≡ false → P (answer_to_line s line)
+  by_line live =
       either P (bytes_eq line (codes "undo")) (undone s) _ (λ _. by_earlier s.earlier refl) (λ _.
-      either P (bytes_eq line (codes "quit")) (Bye, session_of s.universe s.config s.earlier true) _ (λ _. bye) (λ _.
-      either P (bytes_eq line (codes "show")) (Show, s) (answer_to_words s (tokens line)) (λ _. still Show (record { calm = refl; numbers = λ k over. tt })) (λ _. by_words live (tokens line))))
+      either P (bytes_eq line (codes "quit")) (Bye, session_of s.universe s.config s.earlier true) _ bye (λ _.
+      either P (bytes_eq line (codes "show")) (Show, s) (answer_to_words s (tokens line)) (λ _. still Show (record { live = λ e. cc; calm = refl; numbers = λ k over. tt })) (λ _. by_words live (tokens line))))
 
-  -- what each kind of answer has, the answer to a line has
+  -- what each kind of answer to the line has, the answer to it has
+  pub answer_to : (s.ended ≡ true → P (Ended, s)) → P (answer s line)
+  answer_to ended = either P s.ended (Ended, s) (answer_to_line s line) ended by_line
+
+module _ (s : Session) (P : Answer → Type 0) (still : (r : Reply) → IsStill s r → P (r, s)) (did : s.ended ≡ false → (a : Action) → IsOf s.universe a → fault_of s.universe s.config a ≡ None → P (done_by s a None)) (back : (c : Config) (earlier : List Config) → s.earlier ≡ c ∷ earlier → P (Undone, session_of s.universe c earlier s.ended)) (bye : P (Bye, session_of s.universe s.config s.earlier true)) where
+  -- what each kind of answer has, the answer to any line has
   pub each_answer : (s.ended ≡ true → P (Ended, s)) → (line : List ℕ) → P (answer s line)
-  each_answer ended line = either P s.ended (Ended, s) (answer_to_line s line) ended (λ live. by_line live line)
+  each_answer ended line = answer_to s P line still did back (λ _. bye) ended

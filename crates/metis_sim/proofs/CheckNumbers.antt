@@ -1,8 +1,8 @@
--- A check changes nothing, and what it says is missing is a pair of the universe.
+-- A check changes nothing, does not say that the session has ended, and what it says is missing is a pair of the universe.
 use Rattle.std.proofs.Common.{◌≡◌, ℕ, ◌<◌, ◌&&◌, Bool, true, false, cond, nat_le, List, [], ◌∷◌, ◌++◌, length, Option, Some, None, refl}
 use Rattle.std.specs.List.{All, list_all}
 use Rattle.std.specs.Option.{option_and_then}
-use Rattle.std.specs.Prelude.{IfSome}
+use Rattle.std.specs.Prelude.{◌≢◌, IfSome}
 use Rattle.std.proofs.lemmas.List.Elements.{All-append, All-from_recursion}
 use Rattle.metis_universe.proofs.TypePlaces.{state_named-within}
 use Rattle.metis_universe.specs.Config.{Config}
@@ -15,7 +15,7 @@ use Rattle.metis_sim.specs.Replies.{IsReplyOf}
 use Rattle.metis_sim.specs.Session.{changes}
 use Rattle.metis_sim.specs.Words.{is_pair_word, pair_of_word}
 use Rattle.metis_sim.specs.declared.reply.Reply.{Reply}
-use Rattle.metis_sim.specs.declared.reply.Reply.TheVariants.{BadLine}
+use Rattle.metis_sim.specs.declared.reply.Reply.TheVariants.{BadLine, Ended}
 
 either : (P : Reply → Type 0) (b : Bool) (x y : Reply) → P x → P y → P (cond b x y)
 either P true x y p q = p
@@ -31,6 +31,17 @@ calm_reply c (Some g) = calm_said (shortage c g)
 
 pub check_calm : (u : Universe) (c : Config) (words : List (List ℕ)) → changes (check_reply u c words) ≡ false
 check_calm u c words = either (λ r. changes r ≡ false) (nat_le (length words) most_targets && list_all is_pair_word words) (reply_on c (pairs_of u words)) BadLine (calm_reply c (pairs_of u words)) refl
+
+live_said : (o : Option (ℕ × ℕ × ℕ)) → said_by o ≢ Ended
+live_said None = λ e. cc
+live_said (Some s) = λ e. cc
+
+live_reply : (c : Config) (o : Option (List ℕ)) → reply_on c o ≢ Ended
+live_reply c None = λ e. cc
+live_reply c (Some g) = live_said (shortage c g)
+
+pub check_live : (u : Universe) (c : Config) (words : List (List ℕ)) → check_reply u c words ≢ Ended
+check_live u c words = either (λ r. r ≢ Ended) (nat_le (length words) most_targets && list_all is_pair_word words) (reply_on c (pairs_of u words)) BadLine (live_reply c (pairs_of u words)) (λ e. cc)
 
 module _ (u : Universe) where
   abbrev IsLow : ℕ → Type 0

@@ -3,6 +3,7 @@ use Rattle.std.proofs.Common.{◌≡◌, ℕ, true, false, List, [], ◌∷◌, 
 use Rattle.std.specs.Prelude.{◌≢◌}
 use Rattle.std.specs.List.{AllByRecursion}
 use Rattle.std.proofs.lemmas.Bool.{cond-false, cond-true, false≢true}
+use Rattle.std.proofs.lemmas.Slice.Eq.{bytes_eq-Decides}
 use Rattle.metis_ids.specs.declared.actions.Action.{Action}
 use Rattle.metis_universe.proofs.Kept.{IsConfig-after, IsConfig-empty}
 use Rattle.metis_universe.specs.Config.{Config, Correct, IsConfig}
@@ -15,7 +16,7 @@ use Rattle.metis_actions.proofs.Causes.{over_after, step-no_fault}
 use Rattle.metis_actions.specs.Faults.{fault_of}
 use Rattle.metis_actions.specs.declared.faults.AFault.{AFault}
 use Rattle.metis_actions.specs.declared.faults.AFault.TheVariants as faults
-use Rattle.metis_sim.proofs.Answered.{each_answer}
+use Rattle.metis_sim.proofs.Answered.{answer_to, each_answer}
 use Rattle.metis_sim.specs.Replies.{IsReplyOf}
 use Rattle.metis_sim.specs.Session.{Answer, Session, after_line, after_lines, answer, answer_to_line, begin, changes, done_by, replies, reply, undone_by}
 use Rattle.metis_sim.specs.declared.reply.Reply.{Reply}
@@ -46,6 +47,29 @@ module _ (s : Session) where
   never_for_memory k over line f is memory = subst (IsReplyOf s.universe) (is ∙ ap Refused memory) (numbered k over line (λ ended. other (sym is ∙ ended))) where
     other : Refused f ≡ Ended → ⊥
     other e = cc
+
+  -- ---- a session that has not ended
+
+  abbrev IsNotEnded : Answer → Type 0
+  IsNotEnded w = w.0 ≢ Ended
+
+  -- it does not reply that it has
+  pub reply_not_ended : s.ended ≡ false → (line : List ℕ) → reply s line ≢ Ended
+  reply_not_ended live = each_answer s IsNotEnded (λ r still. still.live) (λ _ a of none e. cc) (λ c earlier is e. cc) (λ e. cc) (λ ended. absurd (false≢true (sym live ∙ ended)))
+
+  abbrev GoesOn : Answer → Type 0
+  GoesOn w = w.0 ≢ Bye → w.1.ended ≡ false
+
+  -- it ends by `quit` alone
+  pub goes_on : s.ended ≡ false → (line : List ℕ) → reply s line ≢ Bye → (after_line s line).ended ≡ false
+  goes_on live = each_answer s GoesOn (λ r still other. live) (λ _ a of none other. live) (λ c earlier is other. live) (λ other. absurd (other refl)) (λ ended other. live)
+
+  pub quit_ends : s.ended ≡ false → (line : List ℕ) → (after_line s line).ended ≡ true → line ≡ codes "quit"
+  quit_ends live line =
+      answer_to s (λ w. w.1.ended ≡ true → line ≡ codes "quit") line (λ r still. none) (λ _ a of fine. none) (λ c earlier is. none)
+      (λ quit _. (bytes_eq-Decides line (codes "quit")).0 quit) (λ _. none) where
+        none : s.ended ≡ true → line ≡ codes "quit"
+        none ended = absurd (false≢true (sym live ∙ ended))
 
   -- ---- undo
 

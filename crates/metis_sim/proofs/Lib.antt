@@ -4,4 +4,5 @@ pub mod CheckNumbers
 pub mod Courses
 pub mod Numbers
 pub mod ShownNumbers
+pub mod Undone
 pub mod WordLists

@@ -1,5 +1,5 @@
+pub mod Changes
 pub mod Checks
-pub mod Earlier
 pub mod Orders
 pub mod Replies
 pub mod Session

@@ -4,7 +4,8 @@
 --     told wrong, answer s line      what is said of a line without an action;  the reply to a line, and the session after it
 --     after_line s line, after_lines s lines      that session;  the one after a list of lines
 --     reply s line, replies s lines      that reply;  those to a list of lines
---     IsSound s      the configuration and the earlier ones are correct, and their numbers the universe's
+--     IsSound u c xs      c, and the earlier configurations that the changes xs give, the last first, are correct, and their numbers
+--                         the universe's; and each of the changes can be undone
 --     changes r      the replies with which a session changes
 --     takes_none s line      whether no memory is taken
 use Rattle.std.specs.Prelude.{ℕ, Bool, true, false, ◌||◌, List, [], ◌∷◌, codes, Option, Some, None, Result, Ok, Err, if◌then◌else◌}
@@ -17,10 +18,11 @@ use Rattle.metis_universe.specs.Universe.{Universe}
 use Rattle.metis_text.specs.Tokens.{tokens}
 use Rattle.metis_actions.specs.Faults.{fault_of}
 use Rattle.metis_actions.specs.declared.faults.AFault.{AFault}
+use Rattle.metis_sim.specs.Changes.{AreUndoable, IsFit, befores}
 use Rattle.metis_sim.specs.Checks.{check_reply}
-use Rattle.metis_sim.specs.Earlier.{IsFit}
 use Rattle.metis_sim.specs.Orders.{action_in}
 use Rattle.metis_actions.specs.declared.faults.AFault.TheVariants.{NoInstance}
+use Rattle.metis_sim.specs.declared.change.Change.{Change}
 use Rattle.metis_sim.specs.declared.misread.Misread.{Misread}
 use Rattle.metis_sim.specs.declared.misread.Misread.TheVariants.{Absent, Form, Name}
 use Rattle.metis_sim.specs.declared.reply.Reply.{Reply}
@@ -38,9 +40,10 @@ session_of u c earlier ended = record { universe = u; config = c; earlier = earl
 abbrev pub begin : Universe → Session
 begin u = session_of u empty [] false
 
-pub record IsSound (u : Universe) (c : Config) (before : List Config) : Type 0 where
+pub record IsSound (u : Universe) (c : Config) (xs : List Change) : Type 0 where
   pub config : IsFit u c
-  pub earlier : AllByRecursion (IsFit u) before
+  pub earlier : AllByRecursion (IsFit u) (befores c xs)
+  pub undoable : AreUndoable c xs
 
 -- a reply, and the session after it
 abbrev pub Answer : Type 0

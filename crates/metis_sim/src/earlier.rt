@@ -1,23 +1,26 @@
-//! The configurations that a session keeps.
-ghost use Rattle.std.specs.Prelude.{◌≡◌, [], ◌∷◌, IfErr, OnErr, OnOk, MatchOption, length};
+//! The changes that a session keeps.
+ghost use Rattle.std.specs.Prelude.{◌≡◌, [], ◌∷◌, OnErr, OnOk, MatchOption, length};
+ghost use Rattle.metis_sim.specs.Changes.{IsUndoable, before};
 
+use crate::change::Change;
 use metis_config::Config;
-use std::alloc::{AllocFailed, Global};
+use metis_ids::NoMemory;
+use std::alloc::Global;
 use std::marker::Model;
 
-/// Configurations, of which the last one that was kept comes first.
+/// Changes, of which the last one that was kept comes first.
 #[derive(Drop)]
 pub struct Earlier {
-    configs: Vec<Config>,
+    kept: Vec<Change>,
 }
 
 impl Model for Earlier {
     ghost use Rattle.std.specs.Prelude.{List, reverse};
-    ghost use Rattle.metis_universe.specs.Config.{Config};
+    ghost use Rattle.metis_sim.specs.declared.change.Change.{Change};
 
-    ghost Value = { List Config };
+    ghost Value = { List Change };
 
-    ghost view = { λ e. reverse e.configs.items };
+    ghost view = { λ e. reverse e.kept.items };
 }
 
 impl Earlier {
@@ -26,31 +29,39 @@ impl Earlier {
         ensures { result ≡ [] }
     {
         Earlier {
-            configs: Vec::new(alloc),
+            kept: Vec::new(alloc),
         }
     }
 
-    /// Keeps one more. Where memory runs out, it comes back.
-    pub fn keep(&mut self, c: Config) -> Result<(), AllocFailed<Config>>
-        ensures ok { OnOk result (self.new ≡ c ∷ self.old) }
+    /// Keeps the change that led to the configuration. Where memory runs out, it is undone.
+    pub fn keep(&mut self, change: Change, c: &mut Config) -> Result<(), NoMemory>
+        requires { IsUndoable c.old change }
+        ensures ok { OnOk result (self.new ≡ change ∷ self.old) }
+        ensures same { OnOk result (c.new ≡ c.old) }
         ensures err { OnErr result (self.new ≡ self.old) }
-        ensures back { IfErr result (λ failed. failed.value ≡ c) }
+        ensures undone { OnErr result (c.new ≡ before c.old change) }
     {
-        self.configs.push(c)
+        match self.kept.push(change) {
+            Ok(()) => Ok(()),
+            Err(failed) => {
+                failed.value.undo(c);
+                Err(NoMemory)
+            }
+        }
     }
 
     /// Takes the last one away, if there is one.
-    pub fn take(&mut self) -> Option<Config>
-        ensures last { MatchOption result (self.old ≡ []) (λ c. self.old ≡ c ∷ self.new) }
+    pub fn take(&mut self) -> Option<Change>
+        ensures last { MatchOption result (self.old ≡ []) (λ change. self.old ≡ change ∷ self.new) }
         ensures none { MatchOption result (self.new ≡ []) (λ _. self.old ≡ self.old) }
     {
-        self.configs.pop()
+        self.kept.pop()
     }
 
     /// How many are kept.
     pub fn len(&self) -> u64
         ensures { result ≡ length self.now }
     {
-        self.configs.len() as u64
+        self.kept.len() as u64
     }
 }

@@ -1,5 +1,5 @@
 //! Laws over the definitions.
-ghost use Rattle.std.specs.Prelude.{◌≡◌, ℕ, List, ◌∷◌, IsFalse, codes, map};
+ghost use Rattle.std.specs.Prelude.{◌≡◌, ◌≢◌, ℕ, List, ◌∷◌, IsFalse, IsTrue, codes, map};
 ghost use Rattle.std.specs.List.{AllByRecursion};
 ghost use Rattle.metis_universe.specs.Config.{Correct};
 ghost use Rattle.metis_universe.specs.Universe.{Universe, IsUniverse};
@@ -25,4 +25,15 @@ pub fn nothing_else_changes()
 pub fn nothing_follows_quit()
     ensures replies { (s : Session) (line : List ℕ) (lines : List (List ℕ)) → reply s line ≡ Bye → replies (after_line s line) lines ≡ map (λ _. Ended) lines }
     ensures session { (s : Session) (line : List ℕ) (lines : List (List ℕ)) → reply s line ≡ Bye → after_lines (after_line s line) lines ≡ after_line s line }
+{}
+
+/// A session that has not ended never replies `Ended`.
+pub fn only_ended_sessions_say_so()
+    ensures { (s : Session) (line : List ℕ) → IsFalse s.ended → reply s line ≢ Ended }
+{}
+
+/// A session ends by the line `quit` alone, and where it does not reply `Bye` it goes on.
+pub fn only_quit_ends_a_session()
+    ensures line { (s : Session) (line : List ℕ) → IsFalse s.ended → IsTrue (after_line s line).ended → line ≡ codes "quit" }
+    ensures reply { (s : Session) (line : List ℕ) → IsFalse s.ended → reply s line ≢ Bye → IsFalse (after_line s line).ended }
 {}

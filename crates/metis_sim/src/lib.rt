@@ -3,6 +3,7 @@
 
 mod actions;
 mod bytes;
+mod change;
 mod check;
 mod earlier;
 mod laws;
@@ -12,7 +13,8 @@ mod session;
 mod write;
 
 pub use laws::{
-    kept_configurations_are_correct, nothing_else_changes, nothing_follows_quit, undo_takes_back,
+    kept_configurations_are_correct, nothing_else_changes, nothing_follows_quit,
+    only_ended_sessions_say_so, only_quit_ends_a_session, undo_takes_back,
 };
 pub use reply::Reply;
 pub use session::Session;

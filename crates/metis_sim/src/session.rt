@@ -10,6 +10,7 @@ ghost use Rattle.metis_sim.specs.Session.{acted, answer, answer_to_words, begin,
 use crate::Reply;
 use crate::actions::action_in;
 use crate::bytes::is;
+use crate::change::Change;
 use crate::check::check_reply;
 use crate::earlier::Earlier;
 use crate::misread::Misread;
@@ -27,18 +28,19 @@ pub struct Session<'a> {
     alloc: Global,
     universe: &'a Universe,
     config: Config,
-    /// The configuration before each action that was done and not undone.
+    /// What each action changed that was done and not undone.
     earlier: Earlier,
     /// Whether `quit` was read.
     ended: bool,
 }
 
 impl<'a> Model for Session<'a> {
+    ghost use Rattle.metis_sim.specs.Changes.{befores};
     ghost use Rattle.metis_sim.specs.Session as model;
 
     ghost Value = { model.Session };
 
-    ghost view = { λ s. model.session_of s.universe.now s.config s.earlier s.ended };
+    ghost view = { λ s. model.session_of s.universe.now s.config (befores s.config s.earlier) s.ended };
 
     ghost invariant = { λ s. model.IsSound s.universe.now s.config s.earlier };
 }
@@ -139,21 +141,19 @@ impl<'a> Session<'a> {
         }
     }
 
-    // Does the action where it is not refused. The configuration before it is copied first.
+    // Does the action where it is not refused, and keeps what it changed.
     fn perform(&mut self, a: &Action) -> Result<Reply, NoMemory>
         requires { IsOf self.old.universe a.now }
         ensures ok { IfOk result (λ r. (r, self.new) ≡ done self.old a.now) }
         ensures err { OnErr result (self.new ≡ self.old) }
     {
-        let before = self.config.copy()?;
+        self.config.keeps_invariant();
+        let change = Change::of(&self.config, a)?;
         match apply(self.universe, &mut self.config, a) {
-            Ok(()) => match self.earlier.keep(before) {
-                Ok(()) => Ok(Reply::Did),
-                Err(failed) => {
-                    self.config = failed.value;
-                    Err(NoMemory)
-                }
-            },
+            Ok(()) => {
+                self.earlier.keep(change, &mut self.config)?;
+                Ok(Reply::Did)
+            }
             Err(AFault::NoMemory) => Err(NoMemory),
             Err(fault) => Ok(Reply::Refused(fault)),
         }
@@ -164,8 +164,8 @@ impl<'a> Session<'a> {
         ensures { (result, self.new) ≡ undone self.old }
     {
         match self.earlier.take() {
-            Some(config) => {
-                self.config = config;
+            Some(change) => {
+                change.undo(&mut self.config);
                 Reply::Undone
             }
             None => Reply::Nothing,
