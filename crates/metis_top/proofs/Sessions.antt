@@ -18,7 +18,7 @@ use Rattle.metis_actions.specs.Faults.{fault_of}
 use Rattle.metis_actions.specs.declared.faults.AFault.{AFault}
 use Rattle.metis_replay.specs.Progress.{shortage}
 use Rattle.metis_sim.proofs.Answered.{each_answer}
-use Rattle.metis_sim.proofs.Courses.{answer_after_quit, over_by_bye}
+use Rattle.metis_sim.proofs.Courses.{answer_after_quit, goes_on, over_by_bye, reply_not_ended}
 use Rattle.metis_sim.specs.Checks.{check_reply, most_targets, pairs_of, reply_on, said_by}
 use Rattle.metis_sim.specs.Orders.{action_in}
 use Rattle.metis_sim.specs.Replies.{reply_lines}
@@ -56,67 +56,9 @@ bye_is_the_last u s line lines bye =
     ap (λ q. reply_lines u (after_line s line).config q ++ replies_to u (after_line s line) lines) bye
     ∙ ap (λ l. codes "bye\n" ∷ l) (replies_to-ended u (after_line s line) (over_by_bye s line bye) lines)
 
--- ---- a session that has not ended
+-- ---- after a line
 
 module _ (s : Session) where
-  abbrev IsNotEnded : Answer → Type 0
-  IsNotEnded w = w.0 ≢ Ended
-
-  done_not_ended : (a : Action) (o : Option AFault) → IsNotEnded (done_by s a o)
-  done_not_ended a None = λ e. cc
-  done_not_ended a (Some f) = λ e. cc
-
-  acted_not_ended : (r : Result Action Misread) → IsNotEnded (acted s r)
-  acted_not_ended (Err Form) = λ e. cc
-  acted_not_ended (Err Name) = λ e. cc
-  acted_not_ended (Err (Absent z)) = λ e. cc
-  acted_not_ended (Ok a) = done_not_ended a (fault_of s.universe s.config a)
-
-  undone_not_ended : (earlier : List Config) → IsNotEnded (undone_by s earlier)
-  undone_not_ended [] = λ e. cc
-  undone_not_ended (c ∷ earlier) = λ e. cc
-
-  said_not_ended : (o : Option (ℕ × ℕ × ℕ)) → said_by o ≢ Ended
-  said_not_ended None = λ e. cc
-  said_not_ended (Some p) = λ e. cc
-
-  replied_not_ended : (o : Option (List ℕ)) → reply_on s.config o ≢ Ended
-  replied_not_ended None = λ e. cc
-  replied_not_ended (Some g) = said_not_ended (shortage s.config g)
-
-  checked_not_ended : (b : Bool) (o : Option (List ℕ)) → cond b (reply_on s.config o) BadLine ≢ Ended
-  checked_not_ended true o = replied_not_ended o
-  checked_not_ended false o = λ e. cc
-
-  either : (b : Bool) (w v : Answer) → IsNotEnded w → IsNotEnded v → IsNotEnded (cond b w v)
-  either true w v p q = p
-  either false w v p q = q
-
-  words_not_ended : (ts : List (List ℕ)) → IsNotEnded (answer_to_words s ts)
-  words_not_ended [] = λ e. cc
-  words_not_ended (verb ∷ words) =
-      either (bytes_eq verb (codes "check")) (check_reply s.universe s.config words, s) (acted s (action_in s.universe s.config verb words))
-      (checked_not_ended (nat_le (length words) most_targets && list_all is_pair_word words) (pairs_of s.universe words)) (acted_not_ended (action_in s.universe s.config verb words))
-
-  line_not_ended : (line : List ℕ) → IsNotEnded (answer_to_line s line)
-  line_not_ended line =
-      either (bytes_eq line (codes "undo")) (undone s) _ (undone_not_ended s.earlier)
-      (either (bytes_eq line (codes "quit")) (Bye, session_of s.universe s.config s.earlier true) _ (λ e. cc)
-      (either (bytes_eq line (codes "show")) (Show, s) (answer_to_words s (tokens line)) (λ e. cc) (words_not_ended (tokens line))))
-
-  -- while it has not ended, it does not reply that it has
-  pub reply_not_ended : s.ended ≡ false → (line : List ℕ) → reply s line ≢ Ended
-  reply_not_ended live line =
-      let P : Bool → Type 0 = λ b. IsNotEnded (cond b (Ended, s) (answer_to_line s line)) in
-      subst P (sym live) (line_not_ended line)
-
-  abbrev GoesOn : Answer → Type 0
-  GoesOn w = w.0 ≢ Bye → w.1.ended ≡ false
-
-  -- it ends by `quit` alone
-  pub goes_on : s.ended ≡ false → (line : List ℕ) → reply s line ≢ Bye → (after_line s line).ended ≡ false
-  goes_on live = each_answer s GoesOn (λ r still other. live) (λ _ a of none other. live) (λ c earlier is other. live) (λ other. absurd (other refl)) (λ ended other. live)
-
   abbrev KeepsUniverse : Answer → Type 0
   KeepsUniverse w = w.1.universe ≡ s.universe
 
