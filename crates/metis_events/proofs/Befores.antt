@@ -132,7 +132,7 @@ same_itself (At l j) = and_from (nat_eq l l) (nat_eq j j) (eq-eqb l l refl) (eq-
 same_itself End = refl
 
 module _ (u : Universe) (w : AbstractPlan) (formed : IsFormed u w) (f : Event) where
-  edge_precedes : (k : EdgeKind) (e : Event) → is_edge w k e f ≡ true → precedes w e f ≡ true
+  pub edge_precedes : (k : EdgeKind) (e : Event) → is_edge w k e f ≡ true → precedes w e f ≡ true
   edge_precedes Go e h = or_left (is_go w e f || is_start w e f) (is_return w e f) (or_left (is_go w e f) (is_start w e f) h)
   edge_precedes Start e h = or_left (is_go w e f || is_start w e f) (is_return w e f) (or_right (is_go w e f) (is_start w e f) h)
   edge_precedes Return e h = or_right (is_go w e f || is_start w e f) (is_return w e f) h
@@ -146,7 +146,7 @@ module _ (u : Universe) (w : AbstractPlan) (formed : IsFormed u w) (f : Event) w
       by true is rest = (is, rest)
       by false is rest = rest
 
-  all_pass : AllByRecursion (λ (y : Edge). is_edge w y.kind y.from f ≡ true) (before w f)
+  pub all_pass : AllByRecursion (λ (y : Edge). is_edge w y.kind y.from f ≡ true) (before w f)
   all_pass = each_joined (λ (y : Edge). is_edge w y.kind y.from f ≡ true) (edges_from w f) (λ x. Unit {0}) (events w) (units (events w)) (λ x _. each_passes x) where
     units : (xs : List Event) → AllByRecursion (λ x. Unit {0}) xs
     units [] = tt
@@ -185,7 +185,7 @@ pub place_low : (e : Event) (xs : List Event) → is_among xs e ≡ true → pos
 place_low e xs h = (first_passes (same_event e) xs End (any_turned e xs ∙ h)).low
 
 module _ (w : AbstractPlan) where
-  found : (e : Event) → is_event w e ≡ true → (position_or_len (same_event e) (events w) < length (events w)) × (get_or (events w) (position_or_len (same_event e) (events w)) End ≡ e)
+  pub found : (e : Event) → is_event w e ≡ true → (position_or_len (same_event e) (events w) < length (events w)) × (get_or (events w) (position_or_len (same_event e) (events w)) End ≡ e)
   found e h =
       let f = first_passes (same_event e) (events w) End (any_turned e (events w) ∙ all_events w e ∙ h) in
       (f.low, sym (same_events e (get_or (events w) (position_or_len (same_event e) (events w)) End) f.passes))
@@ -200,15 +200,21 @@ module _ (w : AbstractPlan) where
       let at = found e h in
       (position_or_len (same_event e) (events w), cond-true (nat_lt (position_or_len (same_event e) (events w)) (length (events w))) _ _ (lt-ltb (position_or_len (same_event e) (events w)) (length (events w)) at.0), at.0, at.1)
 
-  pub node_of_event : (n : ℕ) → n < length (events w) → node_of (graph_of w) (event_at (graph_of w) n) ≡ Some n
-  node_of_event n low =
+  -- the first place of the event of a number is that number
+  pub number_of_event : (n : ℕ) → n < length (events w) → position_or_len (same_event (get_or (events w) n End)) (events w) ≡ n
+  number_of_event n low =
       let e = get_or (events w) n End in
-      let first : position_or_len (same_event e) (events w) ≡ n = position_or_len_is (same_event e) (events w) n End (omega arith)
+      position_or_len_is (same_event e) (events w) n End (omega arith)
       (λ k before. false_from_ne_true (same_event e (get_or (events w) k End)) (λ same.
       not_less (get_or (events w) k End) (Less-from_sorted event_cmp (events w) k n End (events_ascend w) before low ∙ refl) (same_events e (get_or (events w) k End) same)))
-      (λ _. same_itself e) in
-      cond-true (nat_lt (position_or_len (same_event e) (events w)) (length (events w))) _ _ (lt-ltb (position_or_len (same_event e) (events w)) (length (events w)) (omega arith)) ∙ ap Some first where
+      (λ _. same_itself e) where
         not_less : (a : Event) → event_cmp a (get_or (events w) n End) ≡ Less → get_or (events w) n End ≡ a → ⊥
         not_less a less same = clash (sym (ap (event_cmp a) same ∙ event_equal a) ∙ less) where
           clash : Equal ≡ Less → ⊥
           clash h = cc
+
+  pub node_of_event : (n : ℕ) → n < length (events w) → node_of (graph_of w) (event_at (graph_of w) n) ≡ Some n
+  node_of_event n low =
+      let e = get_or (events w) n End in
+      let first : position_or_len (same_event e) (events w) ≡ n = number_of_event n low in
+      cond-true (nat_lt (position_or_len (same_event e) (events w)) (length (events w))) _ _ (lt-ltb (position_or_len (same_event e) (events w)) (length (events w)) (omega arith)) ∙ ap Some first

@@ -6,6 +6,8 @@ pub mod Gathering
 pub mod Holding
 pub mod InRows
 pub mod Instances
+pub mod Joins
+pub mod Numbered
 pub mod Ranks
 pub mod Returns
 pub mod Targets

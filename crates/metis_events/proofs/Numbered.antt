@@ -1,5 +1,5 @@
 -- The graph of the events' numbers has an edge where one event precedes another.
-use Rattle.std.proofs.Common.{◌≡◌, ℕ, zero, suc, ◌+◌, ◌-◌, ◌<◌, ◌≤◌, Bool, true, false, ◌&&◌, ◌||◌, List, [], ◌∷◌, ◌++◌, length, get_or, map, refl, sym, ap, ◌∙◌, subst, arith, nat_eq, inl, inr, length-append}
+use Rattle.std.proofs.Common.{◌≡◌, ℕ, ◌<◌, Bool, true, ◌&&◌, ◌||◌, List, [], ◌∷◌, length, get_or, map, refl, sym, ap, ◌∙◌, subst, arith, nat_eq, inl, inr, length-append}
 use Rattle.std.specs.List.{All, AllByRecursion, Contains, flat_map, list_any, range_with_len}
 use Rattle.std.proofs.lemmas.Bool.{and_from, and_parts, eq-eqb, eqb-true, or_cases, or_left, or_right}
 use Rattle.std.proofs.lemmas.List.{get_or-map}
@@ -11,9 +11,10 @@ use Rattle.metis_universe.proofs.FirstSights.{list_any-map}
 use Rattle.metis_universe.specs.Universe.{Universe}
 use Rattle.metis_support.proofs.Lists.{any_in_row, each_in_row, member, same_test}
 use Rattle.metis_lines.specs.AbstractPlan.{AbstractPlan, line_count}
-use Rattle.metis_lines.specs.Events.{events, events_of, is_event, is_go, is_return, is_start, precedes, same_event}
+use Rattle.metis_lines.specs.Events.{events, events_of, is_go, is_return, is_start, precedes, same_event}
 use Rattle.metis_lines.specs.Soundness.{IsFormed}
 use Rattle.metis_events.proofs.AllEvents.{edges_join_events, in_row}
+use Rattle.metis_events.proofs.Joins.{each_made}
 use Rattle.metis_events.proofs.Befores.{all_pass, before_has, edge_precedes, found, number_of_event}
 use Rattle.metis_events.proofs.Ranks.{same_events}
 use Rattle.metis_events.specs.declared.edges.Edge.{Edge}
@@ -29,10 +30,6 @@ any_weaker t v (x ∷ xs) weaker h = elim (or_cases (t x) (list_any t xs) h) [
   | inl now ↦ or_left (v x) (list_any v xs) (weaker x now)
   | inr later ↦ or_right (v x) (list_any v xs) (any_weaker t v xs weaker later)
 ]
-
-each_made : {X Y : Type 0} (P : X → Type 0) (Q : Y → Type 0) (f : X → Y) (xs : List X) → ((x : X) → P x → Q (f x)) → AllByRecursion P xs → AllByRecursion Q (map f xs)
-each_made P Q f [] made all = tt
-each_made P Q f (x ∷ xs) made all = (made x all.0, each_made P Q f xs made all.1)
 
 module _ (u : Universe) (w : AbstractPlan) (formed : IsFormed u w) where
   abbrev number : Event → ℕ

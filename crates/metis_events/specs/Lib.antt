@@ -1,3 +1,4 @@
 pub mod Edges
 pub mod Gathered
+pub mod Numbered
 pub mod Returns

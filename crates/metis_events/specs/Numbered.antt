@@ -1,4 +1,5 @@
 -- The graph of the events' numbers.
+--     graph_by events edges      the graph of these lists
 --     number_of g e      the number of an event of the graph
 --     joins_into g b      the edges into event b, as pairs of numbers
 --     dag_of g      the graph whose nodes are these numbers, and whose last node is the last of them
@@ -14,6 +15,9 @@ use Rattle.metis_lines.specs.AbstractPlan.{AbstractPlan}
 use Rattle.metis_lines.specs.Events.{events, precedes, same_event}
 use Rattle.metis_events.specs.declared.edges.Edge.{Edge}
 use Rattle.metis_events.specs.Edges.{EventGraph}
+
+abbrev pub graph_by : List Event → List (List Edge) → EventGraph
+graph_by events edges = record { events = events; edges = edges }
 
 abbrev pub number_of : EventGraph → Event → ℕ
 number_of g e = position_or_len (same_event e) g.events

@@ -1,16 +1,20 @@
 //! The graph of events.
-ghost use Rattle.std.specs.Prelude.{◌≡◌, ◌<◌, ◌≤◌, ◌+◌, ◌^◌, ◌++◌, length, IfOk, OnOk};
+ghost use Rattle.std.specs.Prelude.{◌≡◌, ◌<◌, ◌≤◌, ◌+◌, ◌^◌, ◌++◌, length, map, IfOk, OnOk};
+ghost use Rattle.std.specs.List.{All, position_or_len};
+ghost use Rattle.std.specs.List.Sorted.{IsStrictlySortedBy};
 ghost use Rattle.metis_support.specs.Support.{IsSupport};
-ghost use Rattle.metis_lines.specs.Events.{events, events_of};
+ghost use Rattle.metis_lines.specs.Events.{event_cmp, events, events_of, same_event};
 ghost use Rattle.metis_lines.specs.LifeLines.{AreLines, plan_of};
-ghost use Rattle.metis_events.specs.Edges.{edges_into, event_at, graph_of, node_of};
+ghost use Rattle.metis_events.specs.Edges.{IsKept, edges_into, event_at, graph_of, node_of};
 ghost use Rattle.metis_events.specs.Gathered.{without_supplies};
+ghost use Rattle.metis_events.specs.Numbered.{IsJoined, dag_of, graph_by};
 
 use crate::edges::{Edge, EdgeSet};
 use crate::gather::{add_go_edges, add_supplies, step_count};
 use crate::rows::{EdgeRow, edge_rows, place_of};
 use metis_ids::{Event, LineIx, NoMemory, NodeIx, StepIx};
 use metis_lines::Lines;
+use metis_sort::Dag;
 use metis_support::Support;
 use metis_universe::Universe;
 use std::alloc::Global;
@@ -75,6 +79,59 @@ impl EventGraph {
     {
         self.events[n.0 as usize]
     }
+
+    /// The graph of the events' numbers, with the last of them as its last node. It goes once over the edges.
+    pub fn dag(&self, alloc: Global) -> Result<Dag, NoMemory>
+        requires { IsJoined self.now }
+        ensures { IfOk result (λ g. g ≡ dag_of self.now) }
+    {
+        let joins = all_joins(alloc, &self.events, &self.edges)?;
+        // A graph counts its edges in 32 bits; no memory holds more.
+        if joins.len() >= 1 << 32 {
+            return Err(NoMemory);
+        }
+        let count = self.events.len() as u32;
+        Dag::new(alloc, count, joins, NodeIx(count - 1))
+    }
+}
+
+// The edges into all events, as pairs of numbers.
+fn all_joins(
+    alloc: Global,
+    events: &[Event],
+    rows: &[EdgeRow],
+) -> Result<Vec<(NodeIx, NodeIx)>, NoMemory>
+    requires kept { IsKept events.now rows.now }
+    requires joined { IsJoined (graph_by events.now rows.now) }
+    ensures joins { IfOk result (λ joins. joins.items ≡ (dag_of (graph_by events.now rows.now)).edges) }
+    ensures from { IfOk result (λ joins. All (λ e. e.0 < length events.now) joins.items) }
+    ensures to { IfOk result (λ joins. All (λ e. e.1 < length events.now) joins.items) }
+{
+    let mut joins = Vec::new(alloc);
+    for number in 0..rows.len() {
+        let to = NodeIx(number as u32);
+        add_joins(&mut joins, events, rows[number].as_slice(), to)?;
+    }
+    Ok(joins)
+}
+
+// Appends the edges into an event, as pairs of numbers.
+fn add_joins(
+    joins: &mut Vec<(NodeIx, NodeIx)>,
+    events: &[Event],
+    row: &[Edge],
+    to: NodeIx,
+) -> Result<(), NoMemory>
+    requires ascend { IsStrictlySortedBy event_cmp events.now }
+    requires few { length events.now < 2 ^ 32 }
+    requires from { All (λ e. position_or_len (same_event e.from) events.now < length events.now) row.now }
+    ensures { OnOk result (joins.new.items ≡ joins.old.items ++ map (λ e. (position_or_len (same_event e.from) events.now, to)) row.now) }
+{
+    for edge in row {
+        let from = place_of(events, &edge.from).unwrap();
+        joins.push((NodeIx(from as u32), to))?;
+    }
+    Ok(())
 }
 
 // All events of the lines, in order.

@@ -10,8 +10,8 @@ mod rows;
 pub use edges::{Edge, EdgeKind};
 pub use graph::EventGraph;
 pub use laws::{
-    all_events_are_listed, cycles_of_lines_return, cycles_return_into_moves, edges_are_listed,
-    edges_ascend, edges_into_events, edges_join_events, events_ascend, events_have_nodes,
-    last_stations_make_no_cycle, no_loose_no_cycle, no_return_no_cycle, nodes_have_events,
-    returns_are_of_loose_holders, returns_are_of_supplies,
+    all_events_are_listed, cycles_of_lines_return, cycles_return_into_moves, dag_is_of_the_plan,
+    edges_are_listed, edges_ascend, edges_into_events, edges_join_events, events_ascend,
+    events_have_nodes, last_stations_make_no_cycle, no_loose_no_cycle, no_return_no_cycle,
+    nodes_have_events, returns_are_of_loose_holders, returns_are_of_supplies,
 };
