@@ -1,9 +1,9 @@
 //! Life lines.
-ghost use Rattle.std.specs.Prelude.{ℕ, ◌≡◌, ◌<◌, ◌≤◌, ◌+◌, ◌++◌, ◌∷◌, [], length, map, IfOk, OnOk, OnErr, IsTrue, nat_lt};
+ghost use Rattle.std.specs.Prelude.{ℕ, ◌≡◌, ◌<◌, ◌≤◌, ◌+◌, ◌++◌, ◌∷◌, [], length, IfOk, OnOk, OnErr, IsTrue, nat_lt};
 ghost use Rattle.std.specs.List.{slice_index_or};
-ghost use Rattle.metis_support.specs.Support.{IsKept, is_selected, path_to, provider_pairs};
+ghost use Rattle.metis_support.specs.Support.{is_selected};
 ghost use Rattle.metis_universe.specs.Universe.{has};
-ghost use Rattle.metis_lines.specs.LifeLines.{AreLines, LifeLines, holder_of, is_loose, line_at, lines_of, loose, other_ends};
+ghost use Rattle.metis_lines.specs.LifeLines.{AreLines, holder_of, is_loose, line_at, lines_of, loose};
 
 use crate::first::first_lines;
 use crate::held::{count_loose, first_holders, holder_in};
