@@ -1,11 +1,16 @@
 //! Prints what inner calls answer: for each line of the file `probes.txt`, in the folder that it runs in, the tables of a
-//! universe, what names mean in it, its layers, or the waits of a plan's actions.
+//! universe, what names mean in it, its layers, the waits of a plan's actions, or the life lines for some targets with the graph
+//! of their events.
 #![tactic(auto)]
 
+mod event_graph;
+mod goals;
 mod layers;
+mod life_lines;
 mod lists;
 mod names;
 mod probe;
+mod rounds;
 mod stop;
 mod tables;
 mod waits;

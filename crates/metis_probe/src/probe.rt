@@ -1,5 +1,6 @@
 use crate::layers::print_layers;
 use crate::names::print_names;
+use crate::rounds::{print_counts, print_rounds};
 use crate::stop::Stop;
 use crate::tables::print_tables;
 use crate::waits::print_waits;
@@ -38,6 +39,8 @@ fn make_probe<R: Files + Print + AllocGlobal>(rt: &R, words: &[&str]) -> Result<
         ("names", names) => print_names(rt, &universe, names),
         ("layers", []) => print_layers(rt, &universe),
         ("waits", [plan]) => print_waits(rt, &universe, plan),
+        ("rounds", targets) => print_rounds(rt, &universe, targets),
+        ("graph", targets) => print_counts(rt, &universe, targets),
         _ => Err(Stop::NoProbe),
     }
 }
