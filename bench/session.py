@@ -52,6 +52,39 @@ def binding():
     return lines
 
 
+def bound(room):
+    """As many bindings between a few instances as there is room for, each as the words behind the verb, with the lines that make them."""
+    count = 72
+    lines = [f"new {number} A" for number in range(count)]
+    size, made = sum(len(line) + 1 for line in lines), []
+    for inst in range(count):
+        for to in range(count):
+            words = f"p {inst} {to}"
+            if inst != to and size + len(words) + 6 <= room:
+                made.append(words)
+                size += len(words) + 6
+    return lines + [f"bind {words}" for words in made], size, made
+
+
+def unbinding():
+    """Bindings, and then each of them ended: before each end the session keeps a copy."""
+    lines, size, made = bound(LIMIT * 11 // 24)
+    for words in reversed(made):
+        if size + len(words) + 8 <= LIMIT:
+            lines.append(f"unbind {words}")
+            size += len(words) + 8
+    return lines
+
+
+def rebinding():
+    """Bindings, of which one is ended again and again, and each end undone at once."""
+    lines, size, made = bound(LIMIT // 2)
+    while size + len(made[-1]) + 13 <= LIMIT:
+        lines += [f"unbind {made[-1]}", "undo"]
+        size += len(made[-1]) + 13
+    return lines
+
+
 def showing():
     """Half the script makes instances, and the other half shows them all again and again."""
     lines, size, number = [], 0, 0
@@ -94,7 +127,7 @@ def run(program, folder, lines):
 
 def answer_is_right(lines, out):
     """Whether each action was done, each undo undone, and each configuration shown with all that was made."""
-    made = 0
+    made, last = 0, ""
     with open(out) as text:
         for line in lines:
             if line == "show":
@@ -103,13 +136,14 @@ def answer_is_right(lines, out):
                 for _ in range(made):
                     text.readline()
             elif line == "undo":
-                made -= 1
+                made -= last.startswith("new")
                 if text.readline() != "undone\n":
                     return False
             else:
                 made += line.startswith("new")
                 if text.readline() != "ok\n":
                     return False
+            last = line
         return text.read() == ""
 
 
@@ -121,7 +155,7 @@ def main():
     with tempfile.TemporaryDirectory() as name:
         folder = Path(name)
         (folder / "universe.json").write_text(json.dumps(document()))
-        for kind in (making, binding, showing, undoing):
+        for kind in (making, binding, unbinding, rebinding, showing, undoing):
             lines = kind()
             status, out, seconds, megabytes, size = run(sys.argv[1], folder, lines)
             if status != 0 or not answer_is_right(lines, out):

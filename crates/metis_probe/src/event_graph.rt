@@ -1,9 +1,12 @@
-ghost use Rattle.std.specs.Prelude.{◌≡◌, length};
+ghost use Rattle.std.specs.Prelude.{◌≡◌, ◌<◌, IfOk, length, map};
+ghost use Rattle.std.specs.List.{All};
+ghost use Rattle.metis_events.specs.Edges.{event_at};
 
 use crate::stop::Stop;
 use metis_events::{EdgeKind, EventGraph};
 use metis_ids::{Event, NodeIx};
 use metis_sort::Sorted;
+use std::alloc::Global;
 
 /// Prints the edges into each of so many events.
 pub fn print_edges<R: Print>(rt: &R, graph: &EventGraph, count: u32) -> Result<(), Stop>
@@ -44,6 +47,18 @@ fn print_event<R: Print>(rt: &R, event: &Event) -> Result<(), Stop> {
         Event::End => print!(rt; " end")?,
     }
     Ok(())
+}
+
+/// The events of these nodes.
+pub fn events_of(alloc: Global, graph: &EventGraph, nodes: &[NodeIx]) -> Result<Vec<Event>, Stop>
+    requires { All (λ n. n < length graph.now.events) nodes.now }
+    ensures { IfOk result (λ events. events.items ≡ map (event_at graph.now) nodes.now) }
+{
+    let mut events = Vec::new(alloc);
+    for node in nodes {
+        events.push(graph.event(*node))?;
+    }
+    Ok(events)
 }
 
 /// How many edges lead into so many events.

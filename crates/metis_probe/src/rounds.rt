@@ -3,23 +3,27 @@ ghost use Rattle.metis_universe.specs.Universe.{has};
 ghost use Rattle.metis_support.specs.Support.{IsSupport, is_selected};
 ghost use Rattle.metis_lines.specs.LifeLines.{AreLines, plan_of};
 ghost use Rattle.metis_events.specs.Edges.{graph_of};
+ghost use Rattle.metis_events.specs.Numbered.{dag_of};
+ghost use Rattle.metis_ids.specs.Order.{IsOrder};
+ghost use Rattle.metis_sort.specs.Sorted.{IsSorted};
 
-use crate::event_graph::{count_edges, print_edges, print_sorted};
+use crate::event_graph::{count_edges, events_of, print_edges, print_sorted};
 use crate::goals::targets_in;
 use crate::life_lines::{first_loose, print_lines};
 use crate::stop::Stop;
 use metis_choice::{Choice, choose};
-use metis_events::{EventGraph, graphs_are_joined};
-use metis_ids::PairIx;
+use metis_emit::{emit, least_order_ends_late, sorted_numbers_are_least};
+use metis_events::{EventGraph, dag_is_of_the_plan, graphs_are_joined};
+use metis_ids::{NodeIx, PairIx, order_is_a_sorting};
 use metis_layers::layers;
-use metis_lines::{Lines, lines_are_sound};
+use metis_lines::Lines;
 use metis_sort::{Dag, Reach, Sorted, sort};
 use metis_support::Support;
 use metis_universe::Universe;
 use std::alloc::Global;
 
 /// Prints the life lines for the targets, the edges between their events, and the order or the cycle of these; and while there is
-/// a cycle, the same again with a line of its own for the first pair whose line goes on from it.
+/// a cycle, the same again with a line of its own for the first pair whose line goes on from it. At last the actions of the order.
 pub fn print_rounds<R: Print + AllocGlobal>(
     rt: &R,
     u: &Universe,
@@ -102,7 +106,56 @@ fn print_round<R: Print + AllocGlobal>(
     print_edges(rt, &graph, dag.nodes())?;
     let sorted = sort(rt.alloc(), &dag)?;
     print_sorted(rt, &graph, dag.nodes(), &sorted)?;
-    Ok(matches!(sorted, Sorted::Cycle(_)))
+    print_order(rt, u, s, lines, &graph, &sorted)
+}
+
+// Prints the actions where there is an order, and tells whether there is a cycle.
+fn print_order<R: Print + AllocGlobal>(
+    rt: &R,
+    u: &Universe,
+    s: &Support,
+    lines: &Lines,
+    graph: &EventGraph,
+    sorted: &Sorted,
+) -> Result<bool, Stop>
+    requires over { IsSupport u.now s.now }
+    requires lines { AreLines s.now lines.now }
+    requires graph { graph.now ≡ graph_of (plan_of u.now s.now lines.now) }
+    requires sorted { IsSorted (dag_of graph.now) sorted.now }
+{
+    match sorted {
+        Sorted::Order(nodes) => {
+            print_actions(rt, u, s, lines, graph, nodes)?;
+            Ok(false)
+        }
+        Sorted::Cycle(_) => Ok(true),
+    }
+}
+
+// Prints the actions of the events, where they stand in an order of the graph.
+fn print_actions<R: Print + AllocGlobal>(
+    rt: &R,
+    u: &Universe,
+    s: &Support,
+    lines: &Lines,
+    graph: &EventGraph,
+    nodes: &[NodeIx],
+) -> Result<(), Stop>
+    requires over { IsSupport u.now s.now }
+    requires lines { AreLines s.now lines.now }
+    requires graph { graph.now ≡ graph_of (plan_of u.now s.now lines.now) }
+    requires order { IsOrder (dag_of graph.now) nodes.now }
+{
+    u.keeps_invariant();
+    dag_is_of_the_plan();
+    order_is_a_sorting();
+    sorted_numbers_are_least();
+    least_order_ends_late();
+    let events = events_of(rt.alloc(), graph, nodes)?;
+    for action in &emit(rt.alloc(), u, s, lines, &events)? {
+        println!(rt; "{action:?}")?;
+    }
+    Ok(())
 }
 
 fn counts<R: Print + AllocGlobal>(
@@ -144,10 +197,9 @@ fn dag_over(
     requires over { IsSupport u.now s.now }
     requires lines { AreLines s.now lines.now }
     requires graph { graph.now ≡ graph_of (plan_of u.now s.now lines.now) }
-    ensures { IfOk result (λ d. d.nodes ≡ length graph.now.events) }
+    ensures { IfOk result (λ d. d ≡ dag_of graph.now) }
 {
     u.keeps_invariant();
-    lines_are_sound();
     graphs_are_joined();
     Ok(graph.dag(alloc)?)
 }
