@@ -86,7 +86,7 @@ impl EventGraph {
         ensures { IfOk result (λ g. g ≡ dag_of self.now) }
     {
         let joins = all_joins(alloc, &self.events, &self.edges)?;
-        // A graph counts its edges in 32 bits; no memory holds more.
+        // A graph counts its edges in 32 bits. The lines of a universe never have so many.
         if joins.len() >= 1 << 32 {
             return Err(NoMemory);
         }
