@@ -1,2 +1,3 @@
-pub mod Sources
 pub mod Outcomes
+pub mod Rounds
+pub mod UnderWay

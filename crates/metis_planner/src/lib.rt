@@ -1,11 +1,12 @@
 //! From a universe and a list of targets to a plan, or to a set of pairs that shows why there is none.
 #![tactic(auto)]
 
-mod lines;
+mod doubled;
+mod laws;
 mod outcome;
 mod planner;
-mod sources;
-mod standing;
+mod round;
 
+pub use laws::{nothing_is_doubled_without_a_cycle, rounds_come_to_one_plan};
 pub use outcome::Outcome;
 pub use planner::plan;

@@ -1,24 +1,32 @@
 //! Plans for lists of targets.
-ghost use Rattle.std.specs.Prelude.{◌≡◌, ◌<◌, ◌≤◌, ◌+◌, ◌*◌, ◌^◌, [], IfOk, IsTrue, is_some, length, map, not};
-ghost use Rattle.std.specs.List.{All, find};
+ghost use Rattle.std.specs.Prelude.{◌≡◌, ◌<◌, ◌≤◌, ◌+◌, ◌*◌, ◌^◌, ℕ, [], IfOk, IsSome, IsTrue, OnOk, length};
+ghost use Rattle.std.specs.List.{All};
 ghost use Rattle.metis_universe.specs.Closed.{Refusal};
 ghost use Rattle.metis_universe.specs.Config.{empty};
 ghost use Rattle.metis_universe.specs.Goal.{Attains, Holds, IsAttainedSet};
+ghost use Rattle.metis_universe.specs.Layers.{layer_of};
 ghost use Rattle.metis_universe.specs.Numbers.{IsOf, NamesBelow};
 ghost use Rattle.metis_universe.specs.Steadfast.{is_steadfast};
 ghost use Rattle.metis_universe.specs.Step.{IsRun, after_all};
-ghost use Rattle.metis_universe.specs.Universe.{IsTable, pair_count};
-ghost use Rattle.metis_layers.specs.LayerOrder.{holder_of, instances_of, layer_order, line_ends, lines_from, path_to};
-ghost use Rattle.metis_layers.specs.Layers.{IsLayers, layer_at};
-ghost use Rattle.metis_planner.specs.Outcomes.{IsLean, IsPlanWhere, IfPlan, IfClosed};
+ghost use Rattle.metis_universe.specs.Tidy.{IsTidy};
+ghost use Rattle.metis_universe.specs.Universe.{pair_count};
+ghost use Rattle.metis_layers.specs.LayerOrder.{instances_of};
+ghost use Rattle.metis_support.specs.Support.{support_of};
+ghost use Rattle.metis_lines.specs.AbstractPlan.{stations};
+ghost use Rattle.metis_lines.specs.Justified.{is_justified};
+ghost use Rattle.metis_lines.specs.LifeLines.{loose};
+ghost use Rattle.metis_emit.specs.Realized.{entered};
+ghost use Rattle.metis_planner.specs.Outcomes.{IsLean, IsPlanWhere, IfPlan, IfClosed, EventBelow};
+ghost use Rattle.metis_planner.specs.Rounds.{IsByRounds, IsForced, graph_after};
+ghost use Rattle.metis_planner.specs.UnderWay.{IsUnderWay};
 
-use crate::lines::add_line;
 use crate::outcome::Outcome;
-use crate::sources::Sources;
-use crate::standing::standing_pairs;
-use metis_ids::{Action, InstNo, NoMemory, PairIx, Plan};
+use crate::round::{Round, run_round};
+use metis_choice::{Choice, choose};
+use metis_ids::{Dup, NoMemory, PairIx, Plan};
 use metis_layers::layers;
-use metis_layers::table::Layers;
+use metis_lines::Lines;
+use metis_support::Support;
 use metis_universe::Universe;
 use std::alloc::Global;
 
@@ -39,6 +47,9 @@ pub fn plan(alloc: Global, u: &Universe, targets: &[PairIx]) -> Result<Outcome, 
     ensures numbers { IfPlan result (λ plan. All (IsOf u.now) plan.actions) }
     ensures named { IfPlan result (λ plan. All (NamesBelow (2 ^ 32)) plan.actions) }
 
+    // At its end only the targets and what serves them remain.
+    ensures tidy { IfPlan result (λ plan. IsTidy u.now targets.now (after_all u.now empty plan.actions)) }
+
     // It counts its instances, which are few, also since a universe has at most 2,000 pairs, and so are the actions of
     // each.
     ensures instances { IfPlan result (λ plan. plan.instances ≡ instances_of plan.actions) }
@@ -46,9 +57,17 @@ pub fn plan(alloc: Global, u: &Universe, targets: &[PairIx]) -> Result<Outcome, 
     ensures bounded { IfPlan result (λ plan. plan.instances ≤ 2256) }
     ensures short { IfPlan result (λ plan. length plan.actions ≤ 321 * plan.instances) }
 
-    // The actions are those in the order of the layers, and nothing is doubled.
-    ensures actions { IfPlan result (λ plan. plan.actions ≡ layer_order u.now targets.now) }
-    ensures dups { IfPlan result (λ plan. plan.dups ≡ []) }
+    // The instances are the life lines for the targets and the pairs of the dups, and each goes through its line's pairs.
+    // Each dup is forced by its cycle, and they are no more than the instances.
+    ensures lines { IfPlan result (λ plan. (l : ℕ) → entered u.now l plan.actions ≡ stations (graph_after u.now targets.now plan.dups) l) }
+    ensures justified { IfPlan result (λ plan. IsTrue (is_justified u.now targets.now plan.dups)) }
+    ensures dups { IfPlan result (λ plan. length plan.dups ≤ plan.instances) }
+    ensures doubled { IfPlan result (λ plan. All (λ d. d.pair < pair_count u.now) plan.dups) }
+    ensures cycles { IfPlan result (λ plan. All (λ d. 2 ≤ length d.cycle) plan.dups) }
+    ensures events { IfPlan result (λ plan. All (λ d. All (EventBelow (2 ^ 32)) d.cycle) plan.dups) }
+
+    // It is the one plan that rounds come to.
+    ensures rounds { IfPlan result (IsByRounds u.now targets.now) }
 
     // What comes in place of a plan refuses the targets.
     ensures size { IfClosed result (λ set _. set.size ≡ pair_count u.now) }
@@ -56,57 +75,65 @@ pub fn plan(alloc: Global, u: &Universe, targets: &[PairIx]) -> Result<Outcome, 
     ensures refusal { IfClosed result (λ set lacking. Refusal u.now targets.now set.members lacking) }
     ensures lacking { IfClosed result (λ _ lacking. lacking < pair_count u.now) }
 {
+    u.keeps_invariant();
     let layers = layers(alloc, u)?;
-    match lacking(&layers, targets) {
-        Some(target) => Ok(Outcome::Closed(layers.into_attained(), target)),
-        None => Ok(Outcome::Plan(plan_by(alloc, u, &layers, targets)?)),
+    match choose(alloc, u, &layers, targets)? {
+        Choice::Lacks(target) => Ok(Outcome::Closed(layers.into_attained(), target)),
+        Choice::Support(support) => {
+            let plan = plan_by_rounds(alloc, u, &support, targets)?;
+            Ok(Outcome::Plan(plan))
+        }
     }
 }
 
-// The first target that has no layer.
-fn lacking(layers: &Layers, targets: &[PairIx]) -> Option<PairIx>
-    ensures { result ≡ find (λ p. not (is_some (layer_at layers.now p))) targets.now }
-{
-    targets
-        .iter()
-        .copied()
-        .find(|target| layers.of(*target).is_none())
-}
-
-// The plan in the order of the layers.
-fn plan_by(
+// Goes from round to round, with a line more for each cycle, until there is an order.
+fn plan_by_rounds(
     alloc: Global,
     u: &Universe,
-    layers: &Layers,
+    s: &Support,
     targets: &[PairIx],
 ) -> Result<Plan, NoMemory>
-    requires layers { IsLayers u.now layers.now }
-    requires table { IsTable u.now }
     requires few { length targets.now ≤ 256 }
-    requires within { All (λ p. p < pair_count u.now) targets.now }
-    ensures actions { IfOk result (λ plan. plan.actions ≡ layer_order u.now targets.now) }
-    ensures instances { IfOk result (λ plan. plan.instances ≡ length (line_ends u.now targets.now)) }
-    ensures dups { IfOk result (λ plan. plan.dups ≡ []) }
+    requires layered { All (λ p. IsSome (layer_of u.now p)) targets.now }
+    requires support { s.now ≡ support_of u.now targets.now }
+    ensures { IfOk result (IsByRounds u.now targets.now) }
 {
-    let mut ends = standing_pairs(alloc, u, layers)?;
-    let sources = Sources::new(alloc, u, layers, &ends)?;
-    ends.extend_from_slice(targets)?;
-    Ok(Plan {
-        actions: all_lines(alloc, &sources, &ends)?,
-        dups: Vec::new(alloc),
-        instances: ends.len() as u32,
-    })
+    u.keeps_invariant();
+    let mut lines = Lines::new(alloc, s, targets)?;
+    let mut dups = Vec::new(alloc);
+    loop {
+        match run_round(alloc, u, s, &lines)? {
+            Round::Order(actions) => {
+                return Ok(Plan {
+                    actions,
+                    dups,
+                    instances: lines.count(),
+                });
+            }
+            Round::Cycle(dup) => double(alloc, u, s, targets, &mut lines, dup, &mut dups)?,
+        }
+    }
 }
 
-// The lines of the instances that end in these pairs.
-fn all_lines(alloc: Global, sources: &Sources<'_>, ends: &[PairIx]) -> Result<Vec<Action>, NoMemory>
-    requires few { length ends.now < 2 ^ 32 }
-    requires within { All (λ p. p < pair_count sources.now) ends.now }
-    ensures { IfOk result (λ actions. actions.items ≡ lines_from sources.now (holder_of sources.now) 0 (map (path_to sources.now) ends.now)) }
+// Gives the dup's pair a line of its own.
+fn double(
+    alloc: Global,
+    u: &Universe,
+    s: &Support,
+    targets: &[PairIx],
+    lines: &mut Lines,
+    dup: Dup,
+    dups: &mut Vec<Dup>,
+) -> Result<(), NoMemory>
+    requires layered { All (λ p. IsSome (layer_of u.now p)) targets.now }
+    requires support { s.now ≡ support_of u.now targets.now }
+    requires under_way { IsUnderWay u.now targets.now lines.old dups.old.items }
+    requires forced { IsForced (graph_after u.now targets.now dups.old.items) dup }
+    ensures under_way { OnOk result (IsUnderWay u.now targets.now lines.new dups.new.items) }
+    ensures loose { OnOk result (loose lines.new < loose lines.old) }
 {
-    let mut actions = Vec::new(alloc);
-    for (number, pair) in ends.iter().enumerate() {
-        add_line(alloc, sources, InstNo(number as u32), *pair, &mut actions)?;
-    }
-    Ok(actions)
+    u.keeps_invariant();
+    lines.own_line(alloc, s, dup.pair)?;
+    dups.push(dup)?;
+    Ok(())
 }

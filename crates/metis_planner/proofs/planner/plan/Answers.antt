@@ -1,128 +1,214 @@
-use Rattle.std.proofs.Common.{◌∙◌, ap, sym, ◌^◌, subst, refl, arith, length}
+use Rattle.std.proofs.Common.{◌∙◌, List, Ok, refl, sym, ap, subst, ℕ}
 use Rattle.std.proofs.lemmas.Bool.{false≢true}
+use Rattle.std.specs.List.{All}
+use Rattle.std.specs.Prelude.{IsSome}
+use Rattle.metis_choice.specs.Choices.{IfLacks, IfSupport, IsFirstWithout}
+use Rattle.metis_choice.specs.declared.choice.Choice.{Choice}
 use Rattle.metis_universe.proofs.Inside.{refused}
 use Rattle.metis_universe.specs.Closed.{Refusal}
-use Rattle.metis_layers.proofs.Order.{attained_set, deploys}
-use Rattle.metis_layers.proofs.Short.{order_short}
-use Rattle.std.specs.List.{All}
-use Rattle.std.specs.Prelude.{IsTrue}
-use Rattle.metis_universe.specs.Config.{empty}
-use Rattle.metis_universe.specs.Goal.{Holds, IsAttainedSet}
-use Rattle.metis_universe.specs.Numbers.{IsOf, NamesBelow}
-use Rattle.metis_universe.specs.Steadfast.{is_steadfast}
-use Rattle.metis_universe.specs.Step.{IsRun, after_all}
-use Rattle.metis_layers.specs.LayerOrder.{attained_pairs, instances_of, layer_order}
-use Rattle.metis_planner.proofs.Ends.{ends_count, made, named_below}
-use Rattle.metis_planner.proofs.Planning.{all_layered, lacking_low, refuses}
+use Rattle.metis_universe.specs.Goal.{IsAttainedSet}
+use Rattle.metis_universe.specs.Layers.{layer_of}
+use Rattle.metis_layers.proofs.Order.{attained_set}
+use Rattle.metis_layers.specs.LayerOrder.{attained_pairs}
+use Rattle.metis_planner.proofs.Forced.{all_justified, cycles_of_two, events_low, pairs_low}
+use Rattle.metis_planner.proofs.Planning.{lacking_low, layered_each, refuses}
+use Rattle.metis_planner.proofs.Rounded.{bounded, dups_at_most, holds, instances_counted, lean, named, realizes, short_enough, tidy}
 use Rattle.metis_planner.proofs.planner.plan.Goals as goal
 
-pub returns-in-Some-clause-attains : goal.returns-in-Some-clause-attains
-returns-in-Some-clause-attains c =
+pub returns-in-Lacks-clause-attains : goal.returns-in-Lacks-clause-attains
+returns-in-Lacks-clause-attains c =
     let u = c.args.u.now in
     let g = c.args.targets.now in
-    let k = c.in_ok-layers.ensures in
-    let refusal = refuses u c.in_ok-layers.layers k.layers g c.requires.within k.table.universe c.in-Some.target (sym c.lacking.ensures ∙ c.in-Some.is) in
-    (λ same. absurd (false≢true same), λ attains. absurd (refused u g _ c.in-Some.target refusal attains))
+    let table = c.keeps_invariant.ensures in
+    let first = subst (λ (x : Choice). IfLacks (Ok x) (IsFirstWithout u g)) c.in-Lacks.is c.in_ok-target.ensures.lacks in
+    (λ same. absurd (false≢true same), λ attains. absurd (refused u g (attained_pairs u) c.in-Lacks.target (refuses u table.universe g c.in-Lacks.target first) attains))
 
-pub returns-in-Some-clause-members : goal.returns-in-Some-clause-members
-returns-in-Some-clause-members c =
+pub returns-in-Lacks-clause-members : goal.returns-in-Lacks-clause-members
+returns-in-Lacks-clause-members c =
     let k = c.in_ok-layers.ensures in
     subst (IsAttainedSet c.args.u.now) (sym (ap (λ s. s.members) c.into_attained.ensures ∙ k.layers.attained)) (attained_set c.args.u.now k.table.universe)
 
-pub returns-in-Some-clause-refusal : goal.returns-in-Some-clause-refusal
-returns-in-Some-clause-refusal c =
+pub returns-in-Lacks-clause-refusal : goal.returns-in-Lacks-clause-refusal
+returns-in-Lacks-clause-refusal c =
     let u = c.args.u.now in
     let g = c.args.targets.now in
-    let k = c.in_ok-layers.ensures in
-    subst (λ s. Refusal u g s c.in-Some.target) (sym (ap (λ s. s.members) c.into_attained.ensures ∙ k.layers.attained))
-    (refuses u c.in_ok-layers.layers k.layers g c.requires.within k.table.universe c.in-Some.target (sym c.lacking.ensures ∙ c.in-Some.is))
+    let table = c.keeps_invariant.ensures in
+    let first = subst (λ (x : Choice). IfLacks (Ok x) (IsFirstWithout u g)) c.in-Lacks.is c.in_ok-target.ensures.lacks in
+    subst (λ (s : List ℕ). Refusal u g s c.in-Lacks.target) (sym (ap (λ s. s.members) c.into_attained.ensures ∙ c.in_ok-layers.ensures.layers.attained)) (refuses u table.universe g c.in-Lacks.target first)
 
-pub returns-in-Some-clause-lacking : goal.returns-in-Some-clause-lacking
-returns-in-Some-clause-lacking c = lacking_low c.args.u.now c.in_ok-layers.layers c.in_ok-layers.ensures.layers c.args.targets.now c.requires.within c.in-Some.target (sym c.lacking.ensures ∙ c.in-Some.is)
-
-pub returns-in_ok-plan_by-in-None-clause-attains : goal.returns-in_ok-plan_by-in-None-clause-attains
-returns-in_ok-plan_by-in-None-clause-attains c =
+pub returns-in-Lacks-clause-lacking : goal.returns-in-Lacks-clause-lacking
+returns-in-Lacks-clause-lacking c =
     let u = c.args.u.now in
     let g = c.args.targets.now in
-    let k = c.in_ok-layers.ensures in
-    let is = c.in_ok-plan_by-in-None.ensures.actions in
-    let all = all_layered u c.in_ok-layers.layers k.layers g c.requires.within (sym c.lacking.ensures ∙ c.in-None.is) in
-    let d = deploys u g k.table.universe all in
-    (λ same. (layer_order u g, d.runs, d.holds), λ attains. refl)
+    let first = subst (λ (x : Choice). IfLacks (Ok x) (IsFirstWithout u g)) c.in-Lacks.is c.in_ok-target.ensures.lacks in
+    lacking_low u g c.in-Lacks.target c.requires.within first
 
-pub returns-in_ok-plan_by-in-None-clause-run : goal.returns-in_ok-plan_by-in-None-clause-run
-returns-in_ok-plan_by-in-None-clause-run c =
+pub returns-in_ok-plan-in-Support-clause-attains : goal.returns-in_ok-plan-in-Support-clause-attains
+returns-in_ok-plan-in-Support-clause-attains c =
     let u = c.args.u.now in
     let g = c.args.targets.now in
-    let k = c.in_ok-layers.ensures in
-    let is = c.in_ok-plan_by-in-None.ensures.actions in
-    let all = all_layered u c.in_ok-layers.layers k.layers g c.requires.within (sym c.lacking.ensures ∙ c.in-None.is) in
-    let d = deploys u g k.table.universe all in
-    subst (λ l. IsRun u empty l) (sym is) d.runs
+    let table = c.keeps_invariant.ensures in
+    let all = layered_each u g (subst (λ (x : Choice). IfSupport (Ok x) (λ _. All (λ p. IsSome (layer_of u p)) g)) c.in-Support.is c.in_ok-target.ensures.layered) in
+    let plan = c.in_ok-plan-in-Support.plan in
+    let by = c.in_ok-plan-in-Support.ensures in
+    (λ same. (plan.actions, (realizes u table g all plan by).runs, holds u table g all plan by), λ attains. refl)
 
-pub returns-in_ok-plan_by-in-None-clause-holds : goal.returns-in_ok-plan_by-in-None-clause-holds
-returns-in_ok-plan_by-in-None-clause-holds c =
+pub returns-in_ok-plan-in-Support-clause-run : goal.returns-in_ok-plan-in-Support-clause-run
+returns-in_ok-plan-in-Support-clause-run c =
     let u = c.args.u.now in
     let g = c.args.targets.now in
-    let k = c.in_ok-layers.ensures in
-    let is = c.in_ok-plan_by-in-None.ensures.actions in
-    let all = all_layered u c.in_ok-layers.layers k.layers g c.requires.within (sym c.lacking.ensures ∙ c.in-None.is) in
-    let d = deploys u g k.table.universe all in
-    subst (λ l. Holds (after_all u empty l) g) (sym is) d.holds
+    let table = c.keeps_invariant.ensures in
+    let all = layered_each u g (subst (λ (x : Choice). IfSupport (Ok x) (λ _. All (λ p. IsSome (layer_of u p)) g)) c.in-Support.is c.in_ok-target.ensures.layered) in
+    let plan = c.in_ok-plan-in-Support.plan in
+    let by = c.in_ok-plan-in-Support.ensures in
+    (realizes u table g all plan by).runs
 
-pub returns-in_ok-plan_by-in-None-clause-steadfast : goal.returns-in_ok-plan_by-in-None-clause-steadfast
-returns-in_ok-plan_by-in-None-clause-steadfast c =
+pub returns-in_ok-plan-in-Support-clause-holds : goal.returns-in_ok-plan-in-Support-clause-holds
+returns-in_ok-plan-in-Support-clause-holds c =
     let u = c.args.u.now in
     let g = c.args.targets.now in
-    let k = c.in_ok-layers.ensures in
-    let is = c.in_ok-plan_by-in-None.ensures.actions in
-    let all = all_layered u c.in_ok-layers.layers k.layers g c.requires.within (sym c.lacking.ensures ∙ c.in-None.is) in
-    let d = deploys u g k.table.universe all in
-    subst (λ l. IsTrue (is_steadfast u l)) (sym is) d.steadfast
+    let table = c.keeps_invariant.ensures in
+    let all = layered_each u g (subst (λ (x : Choice). IfSupport (Ok x) (λ _. All (λ p. IsSome (layer_of u p)) g)) c.in-Support.is c.in_ok-target.ensures.layered) in
+    let plan = c.in_ok-plan-in-Support.plan in
+    let by = c.in_ok-plan-in-Support.ensures in
+    holds u table g all plan by
 
-pub returns-in_ok-plan_by-in-None-clause-numbers : goal.returns-in_ok-plan_by-in-None-clause-numbers
-returns-in_ok-plan_by-in-None-clause-numbers c =
+pub returns-in_ok-plan-in-Support-clause-steadfast : goal.returns-in_ok-plan-in-Support-clause-steadfast
+returns-in_ok-plan-in-Support-clause-steadfast c =
     let u = c.args.u.now in
     let g = c.args.targets.now in
-    let k = c.in_ok-layers.ensures in
-    let is = c.in_ok-plan_by-in-None.ensures.actions in
-    let all = all_layered u c.in_ok-layers.layers k.layers g c.requires.within (sym c.lacking.ensures ∙ c.in-None.is) in
-    let d = deploys u g k.table.universe all in
-    subst (λ l. All (IsOf u) l) (sym is) d.numbers
+    let table = c.keeps_invariant.ensures in
+    let all = layered_each u g (subst (λ (x : Choice). IfSupport (Ok x) (λ _. All (λ p. IsSome (layer_of u p)) g)) c.in-Support.is c.in_ok-target.ensures.layered) in
+    let plan = c.in_ok-plan-in-Support.plan in
+    let by = c.in_ok-plan-in-Support.ensures in
+    (realizes u table g all plan by).steadfast
 
-pub returns-in_ok-plan_by-in-None-clause-instances : goal.returns-in_ok-plan_by-in-None-clause-instances
-returns-in_ok-plan_by-in-None-clause-instances c =
+pub returns-in_ok-plan-in-Support-clause-numbers : goal.returns-in_ok-plan-in-Support-clause-numbers
+returns-in_ok-plan-in-Support-clause-numbers c =
     let u = c.args.u.now in
     let g = c.args.targets.now in
-    let k = c.in_ok-layers.ensures in
-    let is = c.in_ok-plan_by-in-None.ensures.actions in
-    let all = all_layered u c.in_ok-layers.layers k.layers g c.requires.within (sym c.lacking.ensures ∙ c.in-None.is) in
-    let d = deploys u g k.table.universe all in
-    c.in_ok-plan_by-in-None.ensures.instances ∙ sym (made u g) ∙ ap instances_of (sym is)
+    let table = c.keeps_invariant.ensures in
+    let all = layered_each u g (subst (λ (x : Choice). IfSupport (Ok x) (λ _. All (λ p. IsSome (layer_of u p)) g)) c.in-Support.is c.in_ok-target.ensures.layered) in
+    let plan = c.in_ok-plan-in-Support.plan in
+    let by = c.in_ok-plan-in-Support.ensures in
+    (realizes u table g all plan by).numbers
 
-pub returns-in_ok-plan_by-in-None-clause-lean : goal.returns-in_ok-plan_by-in-None-clause-lean
-returns-in_ok-plan_by-in-None-clause-lean c =
+pub returns-in_ok-plan-in-Support-clause-named : goal.returns-in_ok-plan-in-Support-clause-named
+returns-in_ok-plan-in-Support-clause-named c =
     let u = c.args.u.now in
     let g = c.args.targets.now in
-    let k = c.in_ok-layers.ensures in
-    let is = c.in_ok-plan_by-in-None.ensures.actions in
-    let all = all_layered u c.in_ok-layers.layers k.layers g c.requires.within (sym c.lacking.ensures ∙ c.in-None.is) in
-    let d = deploys u g k.table.universe all in
-    record { attained = attained_pairs u; all = attained_set u k.table.universe; few = omega (arith, d.few, c.in_ok-plan_by-in-None.ensures.instances, made u g) }
+    let table = c.keeps_invariant.ensures in
+    let all = layered_each u g (subst (λ (x : Choice). IfSupport (Ok x) (λ _. All (λ p. IsSome (layer_of u p)) g)) c.in-Support.is c.in_ok-target.ensures.layered) in
+    let plan = c.in_ok-plan-in-Support.plan in
+    let by = c.in_ok-plan-in-Support.ensures in
+    named u table g all plan by c.requires.few
 
-pub returns-in_ok-plan_by-in-None-clause-bounded : goal.returns-in_ok-plan_by-in-None-clause-bounded
-returns-in_ok-plan_by-in-None-clause-bounded c = omega (arith, ends_count c.args.u.now c.args.targets.now c.in_ok-layers.ensures.table c.requires.few, c.in_ok-plan_by-in-None.ensures.instances)
-
-pub returns-in_ok-plan_by-in-None-clause-short : goal.returns-in_ok-plan_by-in-None-clause-short
-returns-in_ok-plan_by-in-None-clause-short c =
+pub returns-in_ok-plan-in-Support-clause-tidy : goal.returns-in_ok-plan-in-Support-clause-tidy
+returns-in_ok-plan-in-Support-clause-tidy c =
     let u = c.args.u.now in
     let g = c.args.targets.now in
-    let k = c.in_ok-layers.ensures in
-    let is = c.in_ok-plan_by-in-None.ensures.actions in
-    let all = all_layered u c.in_ok-layers.layers k.layers g c.requires.within (sym c.lacking.ensures ∙ c.in-None.is) in
-    let d = deploys u g k.table.universe all in
-    omega (arith, order_short u g k.table all, c.in_ok-plan_by-in-None.ensures.instances, made u g, ap length is)
+    let table = c.keeps_invariant.ensures in
+    let all = layered_each u g (subst (λ (x : Choice). IfSupport (Ok x) (λ _. All (λ p. IsSome (layer_of u p)) g)) c.in-Support.is c.in_ok-target.ensures.layered) in
+    let plan = c.in_ok-plan-in-Support.plan in
+    let by = c.in_ok-plan-in-Support.ensures in
+    tidy u table g all plan by
 
-pub returns-in_ok-plan_by-in-None-clause-named : goal.returns-in_ok-plan_by-in-None-clause-named
-returns-in_ok-plan_by-in-None-clause-named c =
-    subst (λ l. All (NamesBelow (2 ^ 32)) l) (sym c.in_ok-plan_by-in-None.ensures.actions) (named_below c.args.u.now c.args.targets.now c.in_ok-layers.ensures.table c.requires.few)
+pub returns-in_ok-plan-in-Support-clause-instances : goal.returns-in_ok-plan-in-Support-clause-instances
+returns-in_ok-plan-in-Support-clause-instances c =
+    let u = c.args.u.now in
+    let g = c.args.targets.now in
+    let table = c.keeps_invariant.ensures in
+    let all = layered_each u g (subst (λ (x : Choice). IfSupport (Ok x) (λ _. All (λ p. IsSome (layer_of u p)) g)) c.in-Support.is c.in_ok-target.ensures.layered) in
+    let plan = c.in_ok-plan-in-Support.plan in
+    let by = c.in_ok-plan-in-Support.ensures in
+    instances_counted u table g all plan by
+
+pub returns-in_ok-plan-in-Support-clause-lean : goal.returns-in_ok-plan-in-Support-clause-lean
+returns-in_ok-plan-in-Support-clause-lean c =
+    let u = c.args.u.now in
+    let g = c.args.targets.now in
+    let table = c.keeps_invariant.ensures in
+    let all = layered_each u g (subst (λ (x : Choice). IfSupport (Ok x) (λ _. All (λ p. IsSome (layer_of u p)) g)) c.in-Support.is c.in_ok-target.ensures.layered) in
+    let plan = c.in_ok-plan-in-Support.plan in
+    let by = c.in_ok-plan-in-Support.ensures in
+    lean u table g all plan by
+
+pub returns-in_ok-plan-in-Support-clause-bounded : goal.returns-in_ok-plan-in-Support-clause-bounded
+returns-in_ok-plan-in-Support-clause-bounded c =
+    let u = c.args.u.now in
+    let g = c.args.targets.now in
+    let table = c.keeps_invariant.ensures in
+    let all = layered_each u g (subst (λ (x : Choice). IfSupport (Ok x) (λ _. All (λ p. IsSome (layer_of u p)) g)) c.in-Support.is c.in_ok-target.ensures.layered) in
+    let plan = c.in_ok-plan-in-Support.plan in
+    let by = c.in_ok-plan-in-Support.ensures in
+    bounded u table g all plan by c.requires.few
+
+pub returns-in_ok-plan-in-Support-clause-short : goal.returns-in_ok-plan-in-Support-clause-short
+returns-in_ok-plan-in-Support-clause-short c =
+    let u = c.args.u.now in
+    let g = c.args.targets.now in
+    let table = c.keeps_invariant.ensures in
+    let all = layered_each u g (subst (λ (x : Choice). IfSupport (Ok x) (λ _. All (λ p. IsSome (layer_of u p)) g)) c.in-Support.is c.in_ok-target.ensures.layered) in
+    let plan = c.in_ok-plan-in-Support.plan in
+    let by = c.in_ok-plan-in-Support.ensures in
+    short_enough u table g all plan by
+
+pub returns-in_ok-plan-in-Support-clause-lines : goal.returns-in_ok-plan-in-Support-clause-lines
+returns-in_ok-plan-in-Support-clause-lines c =
+    let u = c.args.u.now in
+    let g = c.args.targets.now in
+    let table = c.keeps_invariant.ensures in
+    let all = layered_each u g (subst (λ (x : Choice). IfSupport (Ok x) (λ _. All (λ p. IsSome (layer_of u p)) g)) c.in-Support.is c.in_ok-target.ensures.layered) in
+    let plan = c.in_ok-plan-in-Support.plan in
+    let by = c.in_ok-plan-in-Support.ensures in
+    (realizes u table g all plan by).paths
+
+pub returns-in_ok-plan-in-Support-clause-justified : goal.returns-in_ok-plan-in-Support-clause-justified
+returns-in_ok-plan-in-Support-clause-justified c =
+    let u = c.args.u.now in
+    let g = c.args.targets.now in
+    let table = c.keeps_invariant.ensures in
+    let all = layered_each u g (subst (λ (x : Choice). IfSupport (Ok x) (λ _. All (λ p. IsSome (layer_of u p)) g)) c.in-Support.is c.in_ok-target.ensures.layered) in
+    let plan = c.in_ok-plan-in-Support.plan in
+    let by = c.in_ok-plan-in-Support.ensures in
+    all_justified u table g all plan.dups by.forced
+
+pub returns-in_ok-plan-in-Support-clause-dups : goal.returns-in_ok-plan-in-Support-clause-dups
+returns-in_ok-plan-in-Support-clause-dups c =
+    let u = c.args.u.now in
+    let g = c.args.targets.now in
+    let table = c.keeps_invariant.ensures in
+    let all = layered_each u g (subst (λ (x : Choice). IfSupport (Ok x) (λ _. All (λ p. IsSome (layer_of u p)) g)) c.in-Support.is c.in_ok-target.ensures.layered) in
+    let plan = c.in_ok-plan-in-Support.plan in
+    let by = c.in_ok-plan-in-Support.ensures in
+    dups_at_most u table g all plan by
+
+pub returns-in_ok-plan-in-Support-clause-doubled : goal.returns-in_ok-plan-in-Support-clause-doubled
+returns-in_ok-plan-in-Support-clause-doubled c =
+    let u = c.args.u.now in
+    let g = c.args.targets.now in
+    let table = c.keeps_invariant.ensures in
+    let all = layered_each u g (subst (λ (x : Choice). IfSupport (Ok x) (λ _. All (λ p. IsSome (layer_of u p)) g)) c.in-Support.is c.in_ok-target.ensures.layered) in
+    let plan = c.in_ok-plan-in-Support.plan in
+    let by = c.in_ok-plan-in-Support.ensures in
+    pairs_low u table g all plan.dups by.forced
+
+pub returns-in_ok-plan-in-Support-clause-cycles : goal.returns-in_ok-plan-in-Support-clause-cycles
+returns-in_ok-plan-in-Support-clause-cycles c =
+    let u = c.args.u.now in
+    let g = c.args.targets.now in
+    let table = c.keeps_invariant.ensures in
+    let all = layered_each u g (subst (λ (x : Choice). IfSupport (Ok x) (λ _. All (λ p. IsSome (layer_of u p)) g)) c.in-Support.is c.in_ok-target.ensures.layered) in
+    let plan = c.in_ok-plan-in-Support.plan in
+    let by = c.in_ok-plan-in-Support.ensures in
+    cycles_of_two u table g all plan.dups by.forced
+
+pub returns-in_ok-plan-in-Support-clause-events : goal.returns-in_ok-plan-in-Support-clause-events
+returns-in_ok-plan-in-Support-clause-events c =
+    let u = c.args.u.now in
+    let g = c.args.targets.now in
+    let table = c.keeps_invariant.ensures in
+    let all = layered_each u g (subst (λ (x : Choice). IfSupport (Ok x) (λ _. All (λ p. IsSome (layer_of u p)) g)) c.in-Support.is c.in_ok-target.ensures.layered) in
+    let plan = c.in_ok-plan-in-Support.plan in
+    let by = c.in_ok-plan-in-Support.ensures in
+    events_low u table g all plan.dups by.forced c.requires.few

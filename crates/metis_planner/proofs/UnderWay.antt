@@ -1,0 +1,56 @@
+-- From one round to the next.
+use Rattle.std.proofs.Common.{◌≡◌, ℕ, true, List, [], ◌∷◌, ◌++◌, length, Some, sym, ap, ◌∙◌, subst, arith, inl, inr}
+use Rattle.std.specs.List.{slice_get}
+use Rattle.std.specs.Prelude.{IsSome, take}
+use Rattle.std.proofs.lemmas.Bool.{cases_lt}
+use Rattle.std.proofs.lemmas.List.{length-append, map-append}
+use Rattle.metis_ids.specs.Plans.{Dup}
+use Rattle.metis_universe.specs.Layers.{layer_of}
+use Rattle.metis_universe.specs.Universe.{Universe, IsTable, has}
+use Rattle.metis_support.specs.Support.{support_of}
+use Rattle.metis_lines.specs.Justified.{lines_for, own_pairs}
+use Rattle.metis_lines.specs.LifeLines.{AreLines, LifeLines, is_loose, lines_of}
+use Rattle.metis_planner.proofs.Forced.{lines_for_own, providers, selected_own, support, targets}
+use Rattle.metis_planner.proofs.Leads.{doubled}
+use Rattle.metis_planner.proofs.Lists.{get_behind, get_front, get_low, take_front, take_whole}
+use Rattle.metis_planner.specs.Rounds.{IsForced, graph_after}
+use Rattle.metis_planner.specs.UnderWay.{AreForced, IsUnderWay}
+
+module _ (u : Universe) (g : List ℕ) where
+  -- one more that is forced over those before it
+  pub forced_push : (ds : List Dup) (d : Dup) → AreForced u g ds → IsForced (graph_after u g ds) d → AreForced u g (ds ++ d ∷ [])
+  forced_push ds d forced last k e is = elim (cases_lt k (length ds)) [
+    | inl low ↦ subst (λ es. IsForced (graph_after u g es) e) (sym (take_front ds (d ∷ []) k (omega arith))) (forced k e (sym (get_front ds (d ∷ []) k low) ∙ is))
+    | inr high ↦
+        let short = get_low (ds ++ d ∷ []) k e is in
+        let at : k ≡ length ds = omega (arith, length-append ds (d ∷ [])) in
+        let same : d ≡ e = some_same d e (sym (get_behind ds d) ∙ ap (slice_get (ds ++ d ∷ [])) (sym at) ∙ is) in
+        let front : take k (ds ++ d ∷ []) ≡ ds = ap (λ n. take n (ds ++ d ∷ [])) at ∙ take_front ds (d ∷ []) (length ds) (omega arith) ∙ take_whole ds in
+        subst (λ x. IsForced (graph_after u g (take k (ds ++ d ∷ []))) x) same (subst (λ es. IsForced (graph_after u g es) d) (sym front) last)
+  ] where
+    some_same : (a b : Dup) → Some a ≡ Some b → a ≡ b
+    some_same a b e = cc
+
+  pub pairs_push : (ds : List Dup) (d : Dup) → own_pairs (ds ++ d ∷ []) ≡ own_pairs ds ++ d.pair ∷ []
+  pairs_push ds d = map-append (λ (e : Dup). e.pair) ds (d ∷ [])
+
+  module _ (table : IsTable u) (layered : (p : ℕ) → has g p ≡ true → IsSome (layer_of u p)) (x : LifeLines) (ds : List Dup) (way : IsUnderWay u g x ds) where
+    pub lines_now : AreLines (support_of u g) x
+    lines_now = subst (AreLines (support_of u g)) (sym way.lines) (lines_for_own u table g layered (own_pairs ds) (providers u table g layered ds way.forced))
+
+    module _ (d : Dup) (forced : IsForced (graph_after u g ds) d) where
+      pub provider_now : has x.providers d.pair ≡ true
+      provider_now =
+          let own = providers u table g layered ds way.forced in
+          ap (λ (y : LifeLines). has y.providers d.pair) way.lines ∙ (doubled u (support_of u g) g (own_pairs ds) table.universe (support u table g layered) (targets u table g layered) (selected_own u table g layered (own_pairs ds) own) d.cycle d.pair forced.pair).provider
+
+      pub loose_now : is_loose x d.pair ≡ true
+      loose_now =
+          let own = providers u table g layered ds way.forced in
+          ap (λ y. is_loose y d.pair) way.lines ∙ (doubled u (support_of u g) g (own_pairs ds) table.universe (support u table g layered) (targets u table g layered) (selected_own u table g layered (own_pairs ds) own) d.cycle d.pair forced.pair).loose
+
+      pub with_dup : (y : LifeLines) → y ≡ lines_of (support_of u g) x.targets (x.own ++ d.pair ∷ []) → IsUnderWay u g y (ds ++ d ∷ [])
+      with_dup y is = record {
+        lines = is ∙ (λ i. lines_of (support_of u g) (way.lines i).targets ((way.lines i).own ++ d.pair ∷ [])) ∙ ap (lines_for u g) (sym (pairs_push ds d));
+        forced = forced_push ds d way.forced forced;
+      }

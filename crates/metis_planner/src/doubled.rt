@@ -1,0 +1,115 @@
+//! Which pair a cycle doubles.
+ghost use Rattle.std.specs.Prelude.{◌≡◌, ◌<◌, ◌&&◌, None, Some, IsTrue, length, nat_le, nat_lt, if◌then◌else◌};
+ghost use Rattle.std.specs.List.{All};
+ghost use Rattle.metis_events.specs.declared.edges.EdgeKind.TheVariants.{Return};
+ghost use Rattle.metis_events.specs.Edges.{edges_into, graph_of, has_edge};
+ghost use Rattle.metis_lines.specs.Events.{is_cycle, is_event, is_return_into_move};
+ghost use Rattle.metis_lines.specs.LifeLines.{AreLines, line_at, plan_of};
+ghost use Rattle.metis_planner.specs.Rounds.{doubled_by, left_by};
+ghost use Rattle.metis_planner.specs.UnderWay.{place_after};
+ghost use Rattle.metis_support.specs.Support.{IsSupport};
+
+use metis_events::{EdgeKind, EventGraph};
+use metis_ids::{Event, LineIx, PairIx, StepIx};
+use metis_lines::Lines;
+use metis_support::Support;
+use metis_universe::Universe;
+
+/// The pair that is left by the first move of the cycle with a return edge into it from the event that follows there. Each cycle
+/// has such a move.
+pub fn doubled_by(
+    u: &Universe,
+    s: &Support,
+    lines: &Lines,
+    graph: &EventGraph,
+    cycle: &[Event],
+) -> PairIx
+    requires support { IsSupport u.now s.now }
+    requires lines { AreLines s.now lines.now }
+    requires graph { graph.now ≡ graph_of (plan_of u.now s.now lines.now) }
+    requires events { All (λ e. IsTrue (is_event (plan_of u.now s.now lines.now) e)) cycle.now }
+    requires cycle { IsTrue (is_cycle (plan_of u.now s.now lines.now) cycle.now) }
+    ensures { doubled_by (plan_of u.now s.now lines.now) cycle.now ≡ Some result }
+{
+    u.keeps_invariant();
+    match first_left(u, s, lines, graph, cycle) {
+        Some(pair) => pair,
+        None => unreachable!(),
+    }
+}
+
+// The same for any events, where there is such a move.
+fn first_left(
+    u: &Universe,
+    s: &Support,
+    lines: &Lines,
+    graph: &EventGraph,
+    events: &[Event],
+) -> Option<PairIx>
+    requires support { IsSupport u.now s.now }
+    requires lines { AreLines s.now lines.now }
+    requires graph { graph.now ≡ graph_of (plan_of u.now s.now lines.now) }
+    requires events { All (λ e. IsTrue (is_event (plan_of u.now s.now lines.now) e)) events.now }
+    ensures { result ≡ doubled_by (plan_of u.now s.now lines.now) events.now }
+{
+    for place in 0..events.len() {
+        let next = events[place_after(events.len(), place)];
+        let left = left_after(u, s, lines, graph, next, events[place]);
+        if left.is_some() {
+            return left;
+        }
+    }
+    None
+}
+
+// The place that follows around a list of so many.
+fn place_after(count: usize, place: usize) -> usize
+    requires { place < count }
+    ensures next { result ≡ place_after count place }
+    ensures low { result < count }
+{
+    if place + 1 < count { place + 1 } else { 0 }
+}
+
+// The pair that the second event leaves, where it is a move with a return edge from the first.
+fn left_after(
+    u: &Universe,
+    s: &Support,
+    lines: &Lines,
+    graph: &EventGraph,
+    from: Event,
+    to: Event,
+) -> Option<PairIx>
+    requires support { IsSupport u.now s.now }
+    requires lines { AreLines s.now lines.now }
+    requires graph { graph.now ≡ graph_of (plan_of u.now s.now lines.now) }
+    requires event { IsTrue (is_event (plan_of u.now s.now lines.now) to) }
+    ensures { result ≡ (if is_return_into_move (plan_of u.now s.now lines.now) from to then left_by (plan_of u.now s.now lines.now) to else None) }
+{
+    u.keeps_invariant();
+    let Event::At(line, step) = to else {
+        return None;
+    };
+    if is_move(lines, line, step) && returns(graph, from, to) {
+        return Some(lines.station(line, StepIx(step.0 - 1)));
+    }
+    None
+}
+
+// Whether the step enters a station from another.
+fn is_move(lines: &Lines, line: LineIx, step: StepIx) -> bool
+    requires { line < length lines.now.lines }
+    ensures { result ≡ (nat_le 1 step && nat_lt step (length (line_at lines.now line))) }
+{
+    1 <= step.0 && step.0 <= lines.last(line).0
+}
+
+// Whether a return edge leads from the first event into the second.
+fn returns(graph: &EventGraph, from: Event, to: Event) -> bool
+    ensures { result ≡ has_edge (edges_into graph.now to) from Return }
+{
+    graph
+        .before(to)
+        .iter()
+        .any(|edge| edge.from == from && edge.kind == EdgeKind::Return)
+}

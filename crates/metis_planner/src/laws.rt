@@ -1,0 +1,17 @@
+//! Laws of plans by rounds.
+ghost use Rattle.std.specs.Prelude.{◌≡◌, ℕ, List, []};
+ghost use Rattle.metis_ids.specs.Cycle.{HasCycle};
+ghost use Rattle.metis_ids.specs.Plans.{Plan};
+ghost use Rattle.metis_universe.specs.Universe.{Universe};
+ghost use Rattle.metis_lines.specs.Justified.{graph_for};
+ghost use Rattle.metis_planner.specs.Rounds.{IsByRounds, numbered};
+
+/// Rounds come to one plan alone, so it is a function of the universe and the targets.
+pub fn rounds_come_to_one_plan()
+    ensures { (u : Universe) (g : List ℕ) (p q : Plan) → IsByRounds u g p → IsByRounds u g q → p ≡ q }
+{}
+
+/// Where the events of the lines for the targets alone have no cycle, nothing is doubled.
+pub fn nothing_is_doubled_without_a_cycle()
+    ensures { (u : Universe) (g : List ℕ) (p : Plan) → IsByRounds u g p → (HasCycle (numbered (graph_for u g [])) → ⊥) → p.dups ≡ [] }
+{}
