@@ -37,7 +37,7 @@ cases = [
     ('turns from the input', ['crew', 'web.json', 'web.plan', '-'], b'1 1 0\t0\r\n1 7', 'pipe', 0, b'did 3\nwaits 4 2\ndid 1\ndid 2\ndid 4\nnobody\nprogress 4 of 5\n'),
     ('the answers to a full device', ['crew', 'web.json', 'web.plan', '-'], b'0', 'full', 5, b''),
     ('the third file may not be read', ['crew', 'web.json', 'web.plan', 'secret.json'], b'', 'pipe', 4, b'read fault 4\n'),
-    ('a generated universe', ['load', '3'], b'', 'pipe', 0, b'load 3 pairs 24 targets 6 instances 15 actions 72 dups 0 good\n'),
+    ('a generated universe', ['load', '3'], b'', 'pipe', 0, b'load 3 pairs 24 targets 6 instances 9 actions 51 dups 3 good\n'),
     ('its line to a full device', ['load', '3'], b'', 'full', 5, b''),
     ('an empty file', ['print', 'empty.json'], b'', 'pipe', 3, b'bad universe U1\n'),
     ('a full device', ['plan', 'web.json', 'Web:run'], b'', 'full', 5, b''),
