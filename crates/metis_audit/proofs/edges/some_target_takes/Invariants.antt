@@ -1,0 +1,9 @@
+use Rattle.std.proofs.Common.{◌≡◌, ◌<◌, ℕ, false}
+use Rattle.metis_events.specs.Gathered.{without_supplies}
+use Rattle.metis_lines.specs.AbstractPlan.{last}
+use Rattle.metis_audit.specs.Takes.{takes}
+use Rattle.metis_audit.proofs.edges.some_target_takes.Given as goal
+
+-- none of the lines before takes from the place
+abbrev pub invariant-loop-number : goal.invariant-loop-number
+invariant-loop-number l = (m : ℕ) → m < l.number → takes l.u l.s l.l m (last (without_supplies l.l) m) l.held.0 l.held.1 ≡ false

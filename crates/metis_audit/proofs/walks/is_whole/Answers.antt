@@ -1,0 +1,8 @@
+use Rattle.std.proofs.Common.{subst}
+use Rattle.metis_lines.specs.LifeLines.{line_at}
+use Rattle.metis_audit.proofs.WalkFacts.{off_not_whole}
+use Rattle.metis_audit.specs.Walks.{IsWalk}
+use Rattle.metis_audit.proofs.walks.is_whole.Goals as goal
+
+pub returns-in-None : goal.returns-in-None
+returns-in-None c = λ pairs walk. off_not_whole (line_at c.args.l.now c.args.line) pairs (subst (IsWalk (line_at c.args.l.now c.args.line) pairs) c.in-None.is walk)
