@@ -8,10 +8,13 @@ pub mod Misfits
 pub mod NeverLoose
 pub mod Openings
 pub mod OverFiles
+pub mod PrintedAudits
 pub mod ReadFaults
 pub mod Refused
 pub mod Replies
+pub mod Said
 pub mod SaidLines
 pub mod Sessions
+pub mod Searches
 pub mod Shown
 pub mod TurnsRead

@@ -1,7 +1,7 @@
--- A plan for the targets of a generated universe is good, and its counts are those of the plan in the order of the layers.
-use Rattle.std.proofs.Common.{◌≡◌, ℕ, List, [], ◌∷◌, refl, sym, ap, ◌∙◌, subst}
+-- The plan that rounds come to for the targets of a generated universe is good.
+use Rattle.std.proofs.Common.{◌≡◌, ℕ, List, [], refl, sym, ap, ◌∙◌, subst}
 use Rattle.std.specs.List.{All}
-use Rattle.metis_ids.specs.Plans.{Dup, Plan}
+use Rattle.metis_ids.specs.Plans.{Plan}
 use Rattle.metis_ids.specs.declared.actions.Action.{Action}
 use Rattle.metis_universe.specs.Config.{empty}
 use Rattle.metis_universe.specs.Goal.{Holds}
@@ -13,37 +13,30 @@ use Rattle.metis_replay.specs.Exact.{Tells}
 use Rattle.metis_replay.specs.declared.verdict.Verdict.{Verdict}
 use Rattle.metis_replay.specs.declared.verdict.Verdict.TheVariants.{Good, Bad, Missing}
 use Rattle.metis_gen.specs.Generated.{generated, generated_targets}
-use Rattle.metis_top.specs.Loaded.{Loaded, Loads, Summed, load_line, planned, load_lines}
+use Rattle.metis_top.specs.Loaded.{Loaded, Loads, Summed, load_lines}
 use Rattle.metis_top.specs.Replayed.{verdict_status}
 use Rattle.metis_top.specs.declared.status.Status.{Status}
 use Rattle.metis_top.specs.declared.status.Status.TheVariants.{No}
-use Rattle.metis_top.proofs.Replies.{counts_as_made}
-use Rattle.metis_layers.specs.LayerOrder.{instances_of, layer_order}
+use Rattle.metis_planner.specs.Rounds.{IsByRounds}
 
 -- the verdict on a run that holds the targets
 good_alone : (u : Universe) (actions : List Action) (g : List ℕ) (v : Verdict) → IsUniverse u → All (IsOf u) actions → IsRun u empty actions → Holds (after_all u empty actions) g → Tells u actions g v → v ≡ Good
 good_alone u actions g v k of runs holds tells = sym ((exact u actions g v k of).1 tells) ∙ (exact u actions g Good k of).1 (runs, holds)
 
-pub loaded_by_summary : (n : ℕ) (u : Universe) (g : List ℕ) (plan : Plan) → IsUniverse u → u ≡ generated n → g ≡ generated_targets n → plan ≡ planned u g → All (IsOf u) plan.actions → IsRun u empty plan.actions
-    → Holds (after_all u empty plan.actions) g → (lines : List (List ℕ)) (status : Status) → Summed n u g plan lines status → Loaded n lines status
-loaded_by_summary n u g plan k made aimed is of runs holds lines status s =
+pub loaded_by_summary : (n : ℕ) (u : Universe) (g : List ℕ) (plan : Plan) → IsUniverse u → u ≡ generated n → g ≡ generated_targets n → IsByRounds u g plan → ((other : Plan) → IsByRounds u g other → other ≡ plan)
+    → All (IsOf u) plan.actions → IsRun u empty plan.actions → Holds (after_all u empty plan.actions) g → (lines : List (List ℕ)) (status : Status) → Summed n u g plan lines status → Loaded n lines status
+loaded_by_summary n u g plan k made aimed rounds alone of runs holds lines status s =
     let good = good_alone u plan.actions g s.verdict k of runs holds s.tells in
     let P : Universe → List ℕ → Type 0 = λ v h. Loads n v h lines status in
     subst (λ v. P v (generated_targets n)) made (subst (P u) aimed (record {
-      runs = subst (λ (p : Plan). IsRun u empty p.actions) is runs;
-      holds = subst (λ (p : Plan). Holds (after_all u empty p.actions) g) is holds;
-      told = s.told ∙ ap (load_lines n u g plan) good ∙ ap (λ p. load_line n u g p ∷ []) is;
+      plan = plan;
+      rounds = rounds;
+      alone = alone;
+      runs = runs;
+      holds = holds;
+      told = s.told ∙ ap (load_lines n u g plan) good;
       is = s.is ∙ ap verdict_status good;
     }))
-
-abbrev plan_of : List Action → List Dup → ℕ → Plan
-plan_of actions dups instances = record { actions = actions; dups = dups; instances = instances }
-
--- a plan with these actions, which doubles none and counts its instances
-pub planned_is : (u : Universe) (g : List ℕ) (p : Plan) → p.actions ≡ layer_order u g → p.dups ≡ [] → p.instances ≡ instances_of p.actions → p ≡ planned u g
-planned_is u g p actions dups counted =
-    let count = counted ∙ ap instances_of actions ∙ counts_as_made (layer_order u g) in
-    ap (λ a. plan_of a p.dups p.instances) actions ∙ ap (λ d. plan_of (layer_order u g) d p.instances) dups ∙ ap (plan_of (layer_order u g) []) count
 
 -- a plan that is not good has no line
 pub summed_not_good : (n : ℕ) (u : Universe) (g : List ℕ) (p : Plan) (v : Verdict) → Tells u p.actions g v → (v ≡ Good → ⊥) → Summed n u g p [] No

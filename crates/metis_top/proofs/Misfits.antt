@@ -10,7 +10,7 @@ use Rattle.std.specs.Option.{option_map_or}
 use Rattle.metis_top.specs.TargetName.{TargetName}
 use Rattle.metis_top.specs.Words.{file_fits, fits_after, is_dash, target_fits, target_of, unless_misfit}
 use Rattle.metis_universe.specs.Universe.{is_empty}
-use Rattle.metis_planner.proofs.Origins.{first_of_all}
+use Rattle.metis_top.proofs.Searches.{first_of_all}
 
 pub misfit_at : {X : Type 0} (t : ℕ → Bool) (first n k : ℕ) (x : X) → k < n → find t (range_with_len 0 k) ≡ None → t k ≡ true → unless_misfit first (find t (range_with_len 0 n)) x ≡ Err (first + k)
 misfit_at t first n k x low none bad = ap (λ o. unless_misfit first o x) (sym (first_of_all t n k low none bad))

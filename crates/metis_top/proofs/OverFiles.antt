@@ -1,18 +1,23 @@
 -- Runs over files whose bytes are told, without faults.
-use Rattle.std.proofs.Common.{◌≡◌, ◌≢◌, ℕ, ◌≤◌, List, [], ◌∷◌, length, ◌+◌, take, Ok, None, Some, IfSome, true, refl, ap, ◌∙◌, subst, inl, inr, arith, nat_le, if◌then◌else◌}
+use Rattle.std.proofs.Common.{◌≡◌, ◌≢◌, sym, ℕ, ◌≤◌, List, [], ◌∷◌, length, ◌+◌, take, Ok, None, Some, IfSome, true, refl, ap, ◌∙◌, subst, inl, inr, arith, nat_le, if◌then◌else◌}
 use Rattle.std.proofs.lemmas.List.{take_all}
 use Rattle.std.proofs.lemmas.Bool.Decides.{nat_tests}
 use Rattle.std.specs.declared.option.Option.{Option}
 use Rattle.metis_outside.specs.Faults.{Rose}
 use Rattle.metis_top.specs.declared.refusal.Refusal.TheVariants.{TooLong}
 use Rattle.metis_top.specs.declared.status.Status.{Status}
-use Rattle.metis_top.specs.declared.status.Status.TheVariants.{NoMemory}
-use Rattle.metis_top.specs.Answer.{Plan}
+use Rattle.metis_top.specs.declared.status.Status.TheVariants.{Done, No, NoMemory}
+use Rattle.metis_ids.specs.Plans.{Plan}
+use Rattle.metis_outside.specs.Writes.{Appends}
+use Rattle.metis_universe.specs.Tidy.{IsTidy}
+use Rattle.metis_top.specs.Answer.{Plan as PlanOf}
 use Rattle.metis_top.specs.Commands.{pairs_named, plan_script, script_from, universe_in_then, targets_then}
 use Rattle.metis_top.specs.Course.{Ran, Shown, Says, OnShelf, AreTaken, after}
 use Rattle.metis_ujson.specs.Document.{document_limit, universe_in}
 use Rattle.metis_top.proofs.Deployments.{OrderLaws, answer_deploys}
-use Rattle.metis_top.specs.Honest.{over, Tells, Headline}
+use Rattle.metis_top.specs.Honest.{over, Tells, Headline, PlansHave}
+use Rattle.metis_top.specs.Deployment.{EndsTidy}
+use Rattle.metis_top.specs.Planned.{PlanAnswer, Plans, plan_text}
 use Rattle.metis_top.specs.Script.{Script, Read, Refuse, Reply}
 use Rattle.metis_top.specs.TargetName.{TargetName}
 use Rattle.metis_top.specs.Words.{form_of}
@@ -64,24 +69,47 @@ over-universe file bytes taken u next is fits means =
 
 -- accepted words and an accepted document come to what is to be said of the targets
 over-plan : (file : List ℕ → List ℕ) (name : List ℕ) (targets : List TargetName) (u : Universe) (g : List ℕ) → length (file name) ≤ document_limit → universe_in (file name) ≡ Ok u
-    → pairs_named 3 u targets ≡ Ok g → over file (plan_script name targets) ≡ Reply (Plan u g)
+    → pairs_named 3 u targets ≡ Ok g → over file (plan_script name targets) ≡ Reply (PlanOf u g)
 over-plan file name targets u g fits means found =
-    over-universe file (file name) (take (document_limit + 1) (file name)) u (λ v. targets_then 3 v targets (λ pairs. Reply (Plan v pairs))) (take_all (document_limit + 1) (file name) (omega arith)) fits means
+    over-universe file (file name) (take (document_limit + 1) (file name)) u (λ v. targets_then 3 v targets (λ pairs. Reply (PlanOf v pairs))) (take_all (document_limit + 1) (file name) (omega arith)) fits means
     ∙ rw found
 
-pub tells_plans : OrderLaws → (words : List (List ℕ)) (file : List ℕ → List ℕ) (old new : Option (List (List ℕ))) (status : Status) → Tells file (script_from (form_of words)) old new status → Headline words file old new status
+tells_plans : OrderLaws → (words : List (List ℕ)) (file : List ℕ → List ℕ) (old new : Option (List (List ℕ))) (status : Status) → Tells file (script_from (form_of words)) old new status → Headline words file old new status
 tells_plans laws words file old new status t = λ name targets u g is fits means found.
-    let ends : over file (script_from (form_of words)) ≡ Reply (Plan u g) = ap (λ f. over file (script_from f)) is ∙ over-plan file name targets u g fits means found in
+    let ends : over file (script_from (form_of words)) ≡ Reply (PlanOf u g) = ap (λ f. over file (script_from f)) is ∙ over-plan file name targets u g fits means found in
     (t.lines, answer_deploys laws u g t.lines status (subst (λ s. Says s t.lines status) ends t.says), t.put)
 
-if_some_headline : OrderLaws → (words : List (List ℕ)) (files : Option (List ℕ → List ℕ)) (P Q R : Type 0) (old new : Option (List (List ℕ))) (status : Status)
-    → IfSome files (λ file. P → Q → R → Tells file (script_from (form_of words)) old new status) → IfSome files (λ file. P → Q → R → Headline words file old new status)
-if_some_headline laws words None P Q R old new status t = tt
-if_some_headline laws words (Some file) P Q R old new status t = λ p q r. tells_plans laws words file old new status (t p q r)
+-- what holds of each plan that is answered holds of the one that is put
+plans_have : (P : Universe → List ℕ → Plan → Type 0) → ((u : Universe) (g : List ℕ) (lines : List (List ℕ)) (p : Plans u g lines) → P u g p.plan)
+    → (words : List (List ℕ)) (file : List ℕ → List ℕ) (old new : Option (List (List ℕ))) (status : Status) → Tells file (script_from (form_of words)) old new status → PlansHave P words file old new status
+plans_have P each words file old new status t = λ name targets u g is fits means found done.
+    let ends : over file (script_from (form_of words)) ≡ Reply (PlanOf u g) = ap (λ f. over file (script_from f)) is ∙ over-plan file name targets u g fits means found in
+    by u g done (subst (λ s. Says s t.lines status) ends t.says) where
+      done_no : Done ≡ No → ⊥
+      done_no e = cc
 
-pub ran_headline : OrderLaws → {S K : Type 0} (files : S → Option (List ℕ → List ℕ)) (faults opens : S → ℕ) (written : K → Option (List (List ℕ))) (sink_faults : K → ℕ)
-    (words : List (List ℕ)) (shelf shelf' : S) (sink sink' : K) (status : Status)
-    → Ran files faults opens written sink_faults (script_from (form_of words)) shelf shelf' sink sink' status
-    → IfSome (files shelf) (λ file. (Rose (faults shelf) (faults shelf') → ⊥) → (Rose (sink_faults sink) (sink_faults sink') → ⊥) → status ≢ NoMemory → Headline words file (written sink) (written sink') status)
-ran_headline laws files faults opens written sink_faults words shelf shelf' sink sink' status r =
-    if_some_headline laws words (files shelf) _ _ _ (written sink) (written sink') status (ran_tells files faults opens written sink_faults _ shelf shelf' sink sink' status r)
+      by : (u : Universe) (g : List ℕ) → status ≡ Done → PlanAnswer u g t.lines status → (plan : Plan) × P u g plan × Appends old new (plan_text u plan)
+      by u g done (inl (is, plans)) = (plans.plan, each u g t.lines plans, subst (λ ls. Appends old new ls) plans.told t.put)
+      by u g done (inr (is, refuses)) = absurd (done_no (sym done ∙ is))
+
+pub tidy_in_any_order : OrderLaws → (u : Universe) (g : List ℕ) (lines : List (List ℕ)) (p : Plans u g lines) → EndsTidy u g p.plan
+tidy_in_any_order laws u g lines p ks kept complete = subst (IsTidy u g) (sym (laws.alike u p.plan.actions ks p.is.runs p.is.steadfast kept complete)) p.tidy
+
+if_some : {F : Type 0} (files : Option F) (P Q R : Type 0) (S T : F → Type 0) → ((f : F) → S f → T f) → IfSome files (λ f. P → Q → R → S f) → IfSome files (λ f. P → Q → R → T f)
+if_some None P Q R S T step t = tt
+if_some (Some f) P Q R S T step t = λ p q r. step f (t p q r)
+
+module _ {S K : Type 0} (files : S → Option (List ℕ → List ℕ)) (faults opens : S → ℕ) (written : K → Option (List (List ℕ))) (sink_faults : K → ℕ)
+    (words : List (List ℕ)) (shelf shelf' : S) (sink sink' : K) (status : Status) (ran : Ran files faults opens written sink_faults (script_from (form_of words)) shelf shelf' sink sink' status) where
+  -- without faults, and where memory did not run out
+  abbrev Calmly : ((List ℕ → List ℕ) → Type 0) → Type 0
+  Calmly T = IfSome (files shelf) (λ file. (Rose (faults shelf) (faults shelf') → ⊥) → (Rose (sink_faults sink) (sink_faults sink') → ⊥) → status ≢ NoMemory → T file)
+
+  calmly : (T : (List ℕ → List ℕ) → Type 0) → ((file : List ℕ → List ℕ) → Tells file (script_from (form_of words)) (written sink) (written sink') status → T file) → Calmly T
+  calmly T step = if_some (files shelf) _ _ _ (λ file. Tells file (script_from (form_of words)) (written sink) (written sink') status) T step (ran_tells files faults opens written sink_faults _ shelf shelf' sink sink' status ran)
+
+  pub ran_headline : OrderLaws → Calmly (λ file. Headline words file (written sink) (written sink') status)
+  ran_headline laws = calmly (λ file. Headline words file (written sink) (written sink') status) (λ file. tells_plans laws words file (written sink) (written sink') status)
+
+  pub ran_plans : (P : Universe → List ℕ → Plan → Type 0) → ((u : Universe) (g : List ℕ) (lines : List (List ℕ)) (p : Plans u g lines) → P u g p.plan) → Calmly (λ file. PlansHave P words file (written sink) (written sink') status)
+  ran_plans P each = calmly (λ file. PlansHave P words file (written sink) (written sink') status) (λ file. plans_have P each words file (written sink) (written sink') status)

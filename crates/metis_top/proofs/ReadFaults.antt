@@ -8,7 +8,7 @@ use Rattle.metis_top.specs.declared.refusal.Refusal.TheVariants as refusal
 use Rattle.metis_top.specs.declared.status.Status.{Status}
 use Rattle.metis_top.specs.declared.status.Status.TheVariants.{Done, No, ReadFault}
 use Rattle.metis_top.specs.declared.words.Verb.{Verb}
-use Rattle.metis_top.specs.declared.words.Verb.TheVariants.{Plan, Replay, Refute, Sim, Crew, Print, Load}
+use Rattle.metis_top.specs.declared.words.Verb.TheVariants.{Plan, Replay, Refute, Audit, Sim, Crew, Print, Load}
 use Rattle.metis_top.specs.Answer as answer
 use Rattle.metis_top.specs.Answer.{Answer, IsAnswer}
 use Rattle.metis_replay.specs.declared.verdict.Verdict.{Verdict}
@@ -16,9 +16,12 @@ use Rattle.metis_replay.specs.declared.verdict.Verdict.TheVariants.{Good, Bad, M
 use Rattle.metis_ids.specs.declared.actions.Action.{Action}
 use Rattle.metis_text.specs.Reading.{plan_in}
 use Rattle.metis_text.specs.RefusalReading.{refusal_in}
-use Rattle.metis_top.specs.Commands.{universe_then, crew_over, crew_then, judged, or_plan_refused, or_refusal_refused, or_turns_refused, or_universe_refused, pairs_named, plan_limit, refusal_limit, refute_then, replay_then, session_limit, sim_then, turns_limit, command_script, script_from}
+use Rattle.metis_top.specs.Commands.{audit_then, plan_said, universe_then, crew_over, crew_then, judged, or_plan_refused, or_refusal_refused, or_turns_refused, or_universe_refused, pairs_named, plan_limit, refusal_limit, refute_then, replay_then, session_limit, sim_then, turns_limit, command_script, script_from}
 use Rattle.metis_refusal.specs.declared.verdict.Verdict2.{Verdict2}
 use Rattle.metis_refusal.specs.declared.verdict.Verdict2.TheVariants.{Closed, NotFree, Open, LacksNone}
+use Rattle.metis_audit.specs.declared.answers.Answer.{Answer as AuditAnswer}
+use Rattle.metis_audit.specs.declared.answers.Answer.TheVariants as audit
+use Rattle.metis_top.specs.Audited.{audit_status}
 use Rattle.metis_top.specs.Judged.{judgement_status}
 use Rattle.metis_top.specs.Replayed.{verdict_status}
 use Rattle.metis_top.specs.Course.{Ran, Shown, Says, OnShelf, after}
@@ -42,12 +45,22 @@ judgement_ends (NotFree p) status is = inr is
 judgement_ends (Open p q) status is = inr is
 judgement_ends LacksNone status is = inr is
 
+audit_ends : (a : AuditAnswer) (status : Status) → status ≡ audit_status a → (status ≡ Done) ⊎ (status ≡ No)
+audit_ends audit.Justified status is = inl is
+audit_ends (audit.NotAttained p) status is = inr is
+audit_ends (audit.NoCycle k) status is = inr is
+audit_ends (audit.Count have want) status is = inr is
+audit_ends (audit.Path l) status is = inr is
+audit_ends (audit.Loose k) status is = inr is
+audit_ends (audit.After k) status is = inr is
+
 -- an answer has the status `Done` or `No`
 answer_status : (said : Answer) (lines : List (List ℕ)) (status : Status) → IsAnswer said lines status → (status ≡ Done) ⊎ (status ≡ No)
 answer_status (answer.Plan u targets) lines status (inl is) = inl is.0
 answer_status (answer.Plan u targets) lines status (inr is) = inr is.0
 answer_status (answer.Replay u targets actions) lines status is = verdict_ends is.verdict status is.is
 answer_status (answer.Refute u targets set) lines status is = judgement_ends is.verdict status is.is
+answer_status (answer.Audit u targets plan after) lines status is = audit_ends is.answer status is.is
 answer_status (answer.Sim u script) lines status is = inl is.is
 answer_status (answer.Crew u actions zs) lines status (inl bad) = inr bad.is
 answer_status (answer.Crew u actions zs) lines status (inr (inl loose)) = inr loose.is
@@ -111,6 +124,13 @@ numbered_replay u g plan = (
       (numbered_judged 4 (λ parts. Reply (answer.Replay u g parts.rows.actions)) (or_plan_refused (plan_in u bytes)) (λ parts. tt)),
 )
 
+numbered_audit : (u : Universe) (g plan : List ℕ) → Numbered 3 (audit_then plan (u, g))
+numbered_audit u g plan = (
+  refl,
+  λ bytes. numbered_if 4 (nat_le (length bytes) plan_limit) (judged (λ parts. Reply (answer.Audit u g (plan_said parts) parts.rows.after)) (or_plan_refused (plan_in u bytes))) (TooLong 3)
+      (numbered_judged 4 (λ parts. Reply (answer.Audit u g (plan_said parts) parts.rows.after)) (or_plan_refused (plan_in u bytes)) (λ parts. tt)),
+)
+
 numbered_refute : (u : Universe) (g text : List ℕ) → Numbered 3 (refute_then text (u, g))
 numbered_refute u g text = (
   refl,
@@ -140,6 +160,7 @@ numbered_command : (verb : Verb) (files : List (List ℕ)) (targets : List Targe
 numbered_command Plan files targets size = numbered_universe 2 (word_at files 0) _ (λ u. numbered_judged 3 (λ g. Reply (answer.Plan u g)) (pairs_named 3 u targets) (λ g. tt))
 numbered_command Replay files targets size = numbered_universe 2 (word_at files 0) _ (λ u. numbered_judged 3 (λ g. replay_then (word_at files 1) (u, g)) (pairs_named 4 u targets) (λ g. numbered_replay u g (word_at files 1)))
 numbered_command Refute files targets size = numbered_universe 2 (word_at files 0) _ (λ u. numbered_judged 3 (λ g. refute_then (word_at files 1) (u, g)) (pairs_named 4 u targets) (λ g. numbered_refute u g (word_at files 1)))
+numbered_command Audit files targets size = numbered_universe 2 (word_at files 0) _ (λ u. numbered_judged 3 (λ g. audit_then (word_at files 1) (u, g)) (pairs_named 4 u targets) (λ g. numbered_audit u g (word_at files 1)))
 numbered_command Sim files targets size = numbered_universe 2 (word_at files 0) _ (λ u. numbered_sim u (word_at files 1))
 numbered_command Crew files targets size = numbered_universe 2 (word_at files 0) _ (λ u. numbered_crew u (word_at files 1) (word_at files 2))
 numbered_command Print files targets size = numbered_universe 2 (word_at files 0) _ (λ u. tt)

@@ -1,13 +1,18 @@
 -- Runs that come to their answer.
-use Rattle.std.proofs.Common.{◌≡◌, ℕ, ◌<◌, ◌≤◌, ◌^◌, List, [], ◌∷◌, length, Ok, refl, sym, ap, ◌∙◌, subst, inl, inr, arith}
+use Rattle.std.proofs.Common.{◌≡◌, ℕ, ◌+◌, ◌*◌, ◌<◌, ◌≤◌, ◌^◌, List, [], ◌∷◌, length, get_or, Ok, refl, sym, ap, ◌∙◌, subst, inl, inr, arith}
 use Rattle.std.specs.List.{All, count_by}
 use Rattle.std.specs.Prelude.{IsTrue}
 use Rattle.std.specs.declared.option.Option.{Option}
 use Rattle.metis_ids.specs.declared.actions.Action.{Action}
-use Rattle.metis_ids.specs.Plans.{Dup, Plan}
-use Rattle.metis_layers.specs.LayerOrder.{instances_of, layer_order}
+use Rattle.metis_ids.specs.Plans.{Plan}
+use Rattle.metis_ids.specs.Cycle.{HasCycle}
+use Rattle.metis_ids.specs.declared.events.Event.{Event}
+use Rattle.metis_ids.specs.declared.events.Event.TheVariants.{At, End}
+use Rattle.metis_layers.specs.LayerOrder.{instances_of}
+use Rattle.metis_lines.specs.AbstractPlan.{stations}
+use Rattle.metis_lines.specs.Justified.{graph_for, is_justified}
+use Rattle.metis_emit.specs.Realized.{entered}
 use Rattle.metis_text.proofs.WrittenRun.{run_formed}
-use Rattle.std.proofs.lemmas.List.Elements.{All-nil}
 use Rattle.std.proofs.lemmas.List.Sums.{length-filter}
 use Rattle.metis_universe.proofs.Inside.{refused}
 use Rattle.metis_universe.specs.Closed.{Refusal}
@@ -15,9 +20,11 @@ use Rattle.metis_universe.specs.Config.{empty}
 use Rattle.metis_universe.specs.Goal.{Holds, IsAttainedSet}
 use Rattle.metis_universe.specs.Steadfast.{is_steadfast}
 use Rattle.metis_universe.specs.Step.{IsRun, after_all}
+use Rattle.metis_universe.specs.Tidy.{IsTidy}
 use Rattle.metis_universe.specs.Numbers.{IsOf, NamesBelow}
 use Rattle.metis_universe.specs.Universe.{IsTable, Universe, pair_count}
-use Rattle.metis_planner.specs.Outcomes.{IsLean}
+use Rattle.metis_planner.specs.Outcomes.{EventBelow, IsLean}
+use Rattle.metis_planner.specs.Rounds.{IsByRounds, graph_after, numbered}
 use Rattle.metis_replay.specs.Exact.{Tells}
 use Rattle.metis_replay.specs.declared.verdict.Verdict.{Verdict}
 use Rattle.metis_replay.specs.declared.verdict.Verdict.TheVariants.{Good, Bad, Missing}
@@ -26,7 +33,7 @@ use Rattle.metis_top.specs.Course.{Gathers, Ran, Shown, Says, OnShelf}
 use Rattle.metis_text.specs.InRange.{IsEventInRange}
 use Rattle.metis_ids.specs.Action.{makes}
 use Rattle.metis_text.specs.PlanText.{IsWellFormed}
-use Rattle.metis_top.specs.Planned.{IsPlan, PlanAnswer, others, plan_text}
+use Rattle.metis_top.specs.Planned.{IsDoubledByNeed, IsPlan, PlanAnswer, others, plan_text}
 use Rattle.metis_text.specs.RefusalText.{refusal_lines}
 use Rattle.metis_top.specs.Replayed.{Replayed, good_line, standing_after, verdict_line, verdict_status}
 use Rattle.metis_top.specs.Script.{Script, Reply}
@@ -56,15 +63,44 @@ ran_at_once files faults opens written sink_faults shelf sink sink' answer statu
 pub counts_as_made : (actions : List Action) → instances_of actions ≡ count_by makes actions
 counts_as_made actions = length-filter makes actions
 
+-- what is known of a plan that rounds come to
+pub record IsPlanned (u : Universe) (g : List ℕ) (p : Plan) : Type 0 where
+  pub table : IsTable u
+  pub runs : IsRun u empty p.actions
+  pub holds : Holds (after_all u empty p.actions) g
+  pub steadfast : IsTrue (is_steadfast u p.actions)
+  pub numbers : All (IsOf u) p.actions
+  pub named : All (NamesBelow (2 ^ 32)) p.actions
+  pub tidy : IsTidy u g (after_all u empty p.actions)
+  pub counts : p.instances ≡ instances_of p.actions
+  pub lean : IsLean u p.instances g
+  pub bounded : p.instances ≤ 2256
+  pub short : length p.actions ≤ 321 * p.instances
+  pub lines : (l : ℕ) → entered u l p.actions ≡ stations (graph_after u g p.dups) l
+  pub justified : IsTrue (is_justified u g p.dups)
+  pub few_dups : length p.dups ≤ p.instances
+  pub doubled : All (λ d. d.pair < pair_count u) p.dups
+  pub cycles : All (λ d. 2 ≤ length d.cycle) p.dups
+  pub events : All (λ d. All (EventBelow (2 ^ 32)) d.cycle) p.dups
+  pub rounds : IsByRounds u g p
+  pub without_cycle : (HasCycle (numbered (graph_for u g [])) → ⊥) → p.dups ≡ []
+
+event_in_range : (e : Event) → EventBelow (2 ^ 32) e → IsEventInRange e
+event_in_range (At l j) h = h
+event_in_range End h = tt
+
 -- the lines of a plan answer
-pub answer_by_plan : (u : Universe) (g : List ℕ) (p : Plan) → IsTable u → IsRun u empty p.actions → Holds (after_all u empty p.actions) g → IsTrue (is_steadfast u p.actions) → All (IsOf u) p.actions → All (NamesBelow (2 ^ 32)) p.actions
-    → p.instances ≡ instances_of p.actions → IsLean u p.instances g → length p.actions < 2 ^ 32 → p.actions ≡ layer_order u g → p.dups ≡ [] → PlanAnswer u g (plan_text u p) Done
-answer_by_plan u g p table runs holds steadfast of named counts lean few by_layers undoubled =
-    let counted : p.instances ≡ count_by makes p.actions = counts ∙ counts_as_made p.actions in
-    let is : IsPlan u g p.actions = record { runs = runs; holds = holds; steadfast = steadfast; attained = lean.attained; all = lean.all; few = omega (arith, counted, lean.few) } in
-    let none : (P : Dup → Type 0) → All P p.dups = λ P. subst (λ l. All P l) (sym undoubled) (All-nil P) in
-    let formed : IsWellFormed u p (others p.actions) = run_formed u p table runs of (none (λ d. d.pair < pair_count u)) (none (λ d. 2 ≤ length d.cycle)) (record { actions = named; events = none (λ d. All IsEventInRange d.cycle) }) counted few (omega (arith, ap length undoubled)) in
-    inl (refl, record { attains = (p.actions, runs, holds); plan = p; is = is; by_layers = by_layers; counted = counted; undoubled = undoubled; formed = formed; told = refl })
+pub answer_by_plan : (u : Universe) (g : List ℕ) (p : Plan) → IsPlanned u g p → PlanAnswer u g (plan_text u p) Done
+answer_by_plan u g p k =
+    let counted : p.instances ≡ count_by makes p.actions = k.counts ∙ counts_as_made p.actions in
+    let lean = k.lean.few in
+    let few = k.short in
+    let bounded = k.bounded in
+    let few_dups = k.few_dups in
+    let is : IsPlan u g p.actions = record { runs = k.runs; holds = k.holds; steadfast = k.steadfast; attained = k.lean.attained; all = k.lean.all; few = omega (arith, counted, lean) } in
+    let formed : IsWellFormed u p (others p.actions) = run_formed u p k.table k.runs k.numbers k.doubled k.cycles (record { actions = k.named; events = λ i d low j e short. event_in_range (get_or (get_or p.dups i d).cycle j e) (k.events i d low j e short) }) counted (omega arith) (omega arith) in
+    let needed : IsDoubledByNeed u g p = record { counted = sym counted ∙ k.rounds.instances; lines = k.lines; justified = k.justified; without_cycle = k.without_cycle } in
+    inl (refl, record { attains = (p.actions, k.runs, k.holds); plan = p; is = is; rounds = k.rounds; needed = needed; tidy = k.tidy; counted = counted; formed = formed; told = refl })
 
 -- the lines of a refusal answer
 pub answer_by_refusal : (u : Universe) (g s : List ℕ) (p : ℕ) → IsAttainedSet u s → Refusal u g s p → PlanAnswer u g (refusal_lines u s p) No

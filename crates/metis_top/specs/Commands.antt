@@ -1,13 +1,16 @@
 -- What each command does with its files.
-use Rattle.std.specs.Prelude.{ℕ, ◌+◌, List, [], ◌∷◌, ◌++◌, length, nat_le, Option, Some, None, Result, Ok, Err, if◌then◌else◌}
+use Rattle.std.specs.Prelude.{ℕ, ◌+◌, List, [], ◌∷◌, ◌++◌, length, map, nat_le, Option, Some, None, Result, Ok, Err, if◌then◌else◌}
 use Rattle.metis_universe.specs.Universe.{Universe, pair_named}
 use Rattle.metis_top.specs.declared.refusal.Refusal.{Refusal}
 use Rattle.metis_top.specs.declared.refusal.Refusal.TheVariants.{Word, TooLong}
 use Rattle.metis_top.specs.declared.refusal.Refusal.TheVariants as refusal
 use Rattle.metis_top.specs.declared.words.Verb.{Verb}
-use Rattle.metis_top.specs.declared.words.Verb.TheVariants.{Plan, Replay, Refute, Sim, Crew, Print, Load}
+use Rattle.metis_top.specs.declared.words.Verb.TheVariants.{Plan, Replay, Refute, Audit, Sim, Crew, Print, Load}
 use Rattle.metis_top.specs.Answer as answer
 use Rattle.metis_ids.specs.declared.actions.Action.{Action}
+use Rattle.metis_ids.specs.Plans as plans
+use Rattle.metis_ids.specs.Plans.{Dup}
+use Rattle.metis_text.specs.DupLine.{DupRow}
 use Rattle.metis_text.specs.Reading.{Parts, plan_in}
 use Rattle.metis_text.specs.RefusalReading.{RefusalParts, refusal_in}
 use Rattle.metis_text.specs.declared.fault.TFault.{TFault}
@@ -133,6 +136,20 @@ refute_then text goal = refusal_then 3 goal.0 text (λ parts. Reply (answer.Refu
 abbrev pub refute_script : List ℕ → List ℕ → List TargetName → Script
 refute_script file text targets = goal_then 4 file targets (refute_then text)
 
+-- a dup, and a plan, as a text says them
+abbrev pub dup_said : DupRow → Dup
+dup_said row = record { pair = row.0; cycle = row.1 }
+
+abbrev pub plan_said : Parts → plans.Plan
+plan_said parts = record { actions = parts.rows.actions; dups = map dup_said parts.dups; instances = parts.instances }
+
+-- what an audit does once it has its universe and its targets
+abbrev pub audit_then : List ℕ → Universe × List ℕ → Script
+audit_then plan goal = plan_then 3 goal.0 plan (λ parts. Reply (answer.Audit goal.0 goal.1 (plan_said parts) parts.rows.after))
+
+abbrev pub audit_script : List ℕ → List ℕ → List TargetName → Script
+audit_script file plan targets = goal_then 4 file targets (audit_then plan)
+
 -- what a simulation does once it has its universe
 abbrev pub sim_then : List ℕ → Universe → Script
 sim_then input u = bytes_then 3 input session_limit (λ bytes. Reply (answer.Sim u bytes))
@@ -164,6 +181,7 @@ abbrev pub command_script : Verb → List (List ℕ) → List TargetName → ℕ
 command_script Plan files targets size = plan_script (word_at files 0) targets
 command_script Replay files targets size = replay_script (word_at files 0) (word_at files 1) targets
 command_script Refute files targets size = refute_script (word_at files 0) (word_at files 1) targets
+command_script Audit files targets size = audit_script (word_at files 0) (word_at files 1) targets
 command_script Sim files targets size = sim_script (word_at files 0) (word_at files 1)
 command_script Crew files targets size = crew_script (word_at files 0) (word_at files 1) (word_at files 2)
 command_script Print files targets size = print_script (word_at files 0)

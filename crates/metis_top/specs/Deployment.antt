@@ -1,6 +1,7 @@
 -- What the headline promises of the plan that is printed.
 --     InAnyOrder u g actions      run from the empty configuration in any order that keeps their waits, the actions meet only correct configurations, and end with every target
 --     Deploys u g lines      the lines are the text of a plan whose actions do so, and that makes few instances
+--     EndsTidy u g plan      run to the end in any order that keeps their waits, its actions leave the targets standing, and what serves them
 --     DeploysOrRefuses u g lines status      the lines are those of such a plan where some list of actions attains the targets, and else of a closed set of pairs that lacks one
 use Rattle.std.specs.Prelude.{◌≡◌, ◌⊎◌, ℕ, ◌+◌, ◌≤◌, List, length, IsTrue}
 use Rattle.std.specs.List.{count_by}
@@ -10,6 +11,7 @@ use Rattle.metis_ids.specs.declared.actions.Action.{Action}
 use Rattle.metis_universe.specs.Config.{Config, empty}
 use Rattle.metis_universe.specs.Goal.{Attains, Holds, IsAttainedSet}
 use Rattle.metis_universe.specs.Step.{IsRun, after_all}
+use Rattle.metis_universe.specs.Tidy.{IsTidy}
 use Rattle.metis_universe.specs.Universe.{Universe}
 use Rattle.metis_universe.specs.Waits.{IsKept, is_complete, numbers, picked}
 use Rattle.metis_top.specs.Planned.{Refuses, plan_text}
@@ -39,3 +41,7 @@ pub record Deploys (u : Universe) (g : List ℕ) (lines : List (List ℕ)) : Typ
 
 abbrev pub DeploysOrRefuses : Universe → List ℕ → List (List ℕ) → Status → Type 0
 DeploysOrRefuses u g lines status = ((status ≡ Done) × Deploys u g lines) ⊎ ((status ≡ No) × Refuses u g lines)
+
+-- What is left standing at the end, in every complete order that keeps the waits: the targets, and what they stand on.
+abbrev pub EndsTidy : Universe → List ℕ → Plan → Type 0
+EndsTidy u g plan = (ks : List ℕ) → IsKept plan.actions ks → IsTrue (is_complete plan.actions ks) → IsTidy u g (after_all u empty (picked plan.actions ks))

@@ -1,17 +1,20 @@
 -- Runs over files whose bytes are told.
 use Rattle.std.specs.Prelude.{◌≡◌, ℕ, ◌+◌, ◌≤◌, List, [], ◌∷◌, length, take, Ok}
 use Rattle.std.specs.declared.option.Option.{Option}
+use Rattle.metis_ids.specs.Plans.{Plan}
 use Rattle.metis_outside.specs.Writes.{Appends}
 use Rattle.metis_top.specs.Course.{Says}
 use Rattle.metis_ujson.specs.Document.{document_limit, universe_in}
 use Rattle.metis_top.specs.Commands.{pairs_named}
 use Rattle.metis_top.specs.Deployment.{DeploysOrRefuses}
+use Rattle.metis_top.specs.Planned.{plan_text}
 use Rattle.metis_universe.specs.Universe.{Universe}
 use Rattle.metis_top.specs.Script.{Script, Read}
 use Rattle.metis_top.specs.TargetName.{TargetName}
 use Rattle.metis_top.specs.Words.{form_of}
 use Rattle.metis_top.specs.declared.status.Status.{Status}
-use Rattle.metis_top.specs.declared.words.Verb.TheVariants.{Plan}
+use Rattle.metis_top.specs.declared.status.Status.TheVariants.{Done}
+use Rattle.metis_top.specs.declared.words.Verb.TheVariants.{Plan as PlanVerb}
 
 -- what the script comes to where each file is read with success
 abbrev pub over : (List ℕ → List ℕ) → Script → Script
@@ -29,6 +32,14 @@ pub record Tells (file : List ℕ → List ℕ) (script : Script) (old new : Opt
 -- In any order that keeps its waits the plan meets only correct configurations, and ends with every target.
 abbrev pub Headline : List (List ℕ) → (List ℕ → List ℕ) → Option (List (List ℕ)) → Option (List (List ℕ)) → Status → Type 0
 Headline words file old new status = (name : List ℕ) (targets : List TargetName) (u : Universe) (g : List ℕ)
-    → form_of words ≡ Ok (record { verb = Plan; files = name ∷ []; targets = targets; size = 0 })
+    → form_of words ≡ Ok (record { verb = PlanVerb; files = name ∷ []; targets = targets; size = 0 })
     → length (file name) ≤ document_limit → universe_in (file name) ≡ Ok u → pairs_named 3 u targets ≡ Ok g
     → (lines : List (List ℕ)) × DeploysOrRefuses u g lines status × Appends old new lines
+
+-- For accepted words, an accepted universe and targets in it, where the status is `Done` what is put is the text of one plan, line by
+-- line, of which P holds.
+abbrev pub PlansHave : (Universe → List ℕ → Plan → Type 0) → List (List ℕ) → (List ℕ → List ℕ) → Option (List (List ℕ)) → Option (List (List ℕ)) → Status → Type 0
+PlansHave P words file old new status = (name : List ℕ) (targets : List TargetName) (u : Universe) (g : List ℕ)
+    → form_of words ≡ Ok (record { verb = PlanVerb; files = name ∷ []; targets = targets; size = 0 })
+    → length (file name) ≤ document_limit → universe_in (file name) ≡ Ok u → pairs_named 3 u targets ≡ Ok g → status ≡ Done
+    → (plan : Plan) × P u g plan × Appends old new (plan_text u plan)

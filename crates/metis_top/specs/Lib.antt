@@ -1,4 +1,5 @@
 pub mod Answer
+pub mod Audited
 pub mod Commands
 pub mod Course
 pub mod Crewed

@@ -2,22 +2,19 @@
 --     counts_line n .., load_line n u g plan      the size, and so many pairs, targets, instances, actions and dups;  as many as the universe u, the targets g and the plan have
 --     load_lines n u g plan v      this line where the verdict v on the plan is good, and else none
 --     Summed n u g plan lines status      the lines are these for the verdict that is true of the plan's actions and the targets g
---     planned u g      the plan in the order of the layers
---     Loads n u g lines status      this plan is good, and the one line has its counts
+--     Loads n u g lines status      the plan that rounds come to is good, and the one line has its counts
 --     Loaded n lines status      the same for the generated universe of size n and its targets
 use Rattle.std.specs.Prelude.{◌≡◌, ℕ, List, [], ◌∷◌, ◌++◌, length, codes, decimal}
-use Rattle.std.specs.List.{count_by}
-use Rattle.metis_ids.specs.Action.{makes}
 use Rattle.metis_ids.specs.Plans.{Plan}
 use Rattle.metis_universe.specs.Config.{empty}
 use Rattle.metis_universe.specs.Goal.{Holds}
 use Rattle.metis_universe.specs.Step.{IsRun, after_all}
 use Rattle.metis_universe.specs.Universe.{Universe, pair_count}
-use Rattle.metis_layers.specs.LayerOrder.{layer_order}
 use Rattle.metis_replay.specs.Exact.{Tells}
 use Rattle.metis_replay.specs.declared.verdict.Verdict.{Verdict}
 use Rattle.metis_replay.specs.declared.verdict.Verdict.TheVariants.{Good, Bad, Missing}
 use Rattle.metis_gen.specs.Generated.{generated, generated_targets}
+use Rattle.metis_planner.specs.Rounds.{IsByRounds}
 use Rattle.metis_top.specs.Replayed.{verdict_status}
 use Rattle.metis_top.specs.declared.status.Status.{Status}
 use Rattle.metis_top.specs.declared.status.Status.TheVariants.{Done}
@@ -41,14 +38,14 @@ pub record Summed (n : ℕ) (u : Universe) (g : List ℕ) (plan : Plan) (lines :
   pub told : lines ≡ load_lines n u g plan verdict
   pub is : status ≡ verdict_status verdict
 
-abbrev pub planned : Universe → List ℕ → Plan
-planned u g = record { actions = layer_order u g; dups = []; instances = count_by makes (layer_order u g) }
-
--- its actions are a run from the empty configuration that holds the targets
+-- its actions are a run from the empty configuration that holds the targets, and there is no other such plan
 pub record Loads (n : ℕ) (u : Universe) (g : List ℕ) (lines : List (List ℕ)) (status : Status) : Type 0 where
-  pub runs : IsRun u empty (layer_order u g)
-  pub holds : Holds (after_all u empty (layer_order u g)) g
-  pub told : lines ≡ load_line n u g (planned u g) ∷ []
+  pub plan : Plan
+  pub rounds : IsByRounds u g plan
+  pub alone : (other : Plan) → IsByRounds u g other → other ≡ plan
+  pub runs : IsRun u empty plan.actions
+  pub holds : Holds (after_all u empty plan.actions) g
+  pub told : lines ≡ load_line n u g plan ∷ []
   pub is : status ≡ Done
 
 abbrev pub Loaded : ℕ → List (List ℕ) → Status → Type 0

@@ -1,5 +1,6 @@
 -- What is said of targets in a universe: a plan, or a refusal.
 --     IsPlan u g actions      run from the empty configuration, the actions meet only correct configurations and end with every target, and no provider leaves its pair while a binding to it stands
+--     IsDoubledByNeed u g plan      its instances are the life lines for the targets and the pairs of its dups, and each dup is forced by its cycle
 --     plan_text u p      the lines of the text of a plan in which each action names the actions of other instances that it waits for
 --     IsRefusal u g s p      s is the set of all attainable pairs, it is closed, and p is the first target that it lacks
 --     PlanAnswer u g lines status      the lines are those of such a plan where some actions attain the targets, and else of such a refusal
@@ -12,13 +13,18 @@ use Rattle.metis_universe.specs.Config.{empty}
 use Rattle.metis_universe.specs.Step.{IsRun, after_all}
 use Rattle.metis_universe.specs.Goal.{Holds, Attains, IsAttainedSet}
 use Rattle.metis_universe.specs.Steadfast.{is_steadfast}
+use Rattle.metis_universe.specs.Tidy.{IsTidy}
 use Rattle.metis_universe.specs.Closed.{Refusal}
-use Rattle.metis_layers.specs.LayerOrder.{layer_order}
 use Rattle.metis_ids.specs.Action.{makes}
 use Rattle.metis_text.specs.PlanText.{IsWellFormed, plan_lines}
 use Rattle.metis_universe.specs.Waits.{numbers}
 use Rattle.metis_waits.specs.Waits.{waits_on_others}
 use Rattle.metis_text.specs.RefusalText.{refusal_lines}
+use Rattle.metis_ids.specs.Cycle.{HasCycle}
+use Rattle.metis_lines.specs.AbstractPlan.{line_count, stations}
+use Rattle.metis_lines.specs.Justified.{graph_for, is_justified}
+use Rattle.metis_emit.specs.Realized.{entered}
+use Rattle.metis_planner.specs.Rounds.{IsByRounds, graph_after, numbered}
 use Rattle.metis_top.specs.declared.status.Status.{Status}
 use Rattle.metis_top.specs.declared.status.Status.TheVariants.{Done, No}
 
@@ -31,6 +37,15 @@ pub record IsPlan (u : Universe) (g : List ℕ) (actions : List Action) : Type 0
   pub all : IsAttainedSet u attained
   pub few : count_by makes actions ≤ length attained + length g
 
+-- Its instances are the life lines for the targets and the pairs of its dups: as many, and instance l goes through the pairs of line l
+-- and through no other. Each dup is forced by the cycle that it shows, in the graph for those before it; so where the lines for the targets
+-- alone have no cycle, there is no dup.
+pub record IsDoubledByNeed (u : Universe) (g : List ℕ) (plan : Plan) : Type 0 where
+  pub counted : count_by makes plan.actions ≡ line_count (graph_after u g plan.dups)
+  pub lines : (l : ℕ) → entered u l plan.actions ≡ stations (graph_after u g plan.dups) l
+  pub justified : IsTrue (is_justified u g plan.dups)
+  pub without_cycle : (HasCycle (numbered (graph_for u g [])) → ⊥) → plan.dups ≡ []
+
 pub record IsRefusal (u : Universe) (g s : List ℕ) (p : ℕ) : Type 0 where
   pub refusal : Refusal u g s p
   pub all : IsAttainedSet u s
@@ -42,15 +57,16 @@ others actions = map (waits_on_others actions) (numbers actions)
 abbrev pub plan_text : Universe → Plan → List (List ℕ)
 plan_text u p = plan_lines u p (others p.actions)
 
--- It counts its instances, doubles none, and its actions are those in the order of the layers. With what they wait for it is
--- well formed, so that its text is read again.
+-- It is the plan that rounds come to, it counts its instances, and with what its actions wait for it is well formed, so that its
+-- text is read again.
 pub record Plans (u : Universe) (g : List ℕ) (lines : List (List ℕ)) : Type 0 where
   pub attains : Attains u g
   pub plan : Plan
   pub is : IsPlan u g plan.actions
-  pub by_layers : plan.actions ≡ layer_order u g
+  pub rounds : IsByRounds u g plan
+  pub needed : IsDoubledByNeed u g plan
+  pub tidy : IsTidy u g (after_all u empty plan.actions)
   pub counted : plan.instances ≡ count_by makes plan.actions
-  pub undoubled : plan.dups ≡ []
   pub formed : IsWellFormed u plan (others plan.actions)
   pub told : lines ≡ plan_text u plan
 

@@ -18,7 +18,7 @@ use Rattle.metis_top.specs.Forms.{file_count, target_limit}
 use Rattle.metis_top.specs.TargetName.{TargetName}
 use Rattle.metis_top.specs.declared.words.Command.{Command}
 use Rattle.metis_top.specs.declared.words.Verb.{Verb}
-use Rattle.metis_top.specs.declared.words.Verb.TheVariants.{Plan, Replay, Refute, Sim, Crew, Print, Load}
+use Rattle.metis_top.specs.declared.words.Verb.TheVariants.{Plan, Replay, Refute, Audit, Sim, Crew, Print, Load}
 use Rattle.metis_top.specs.declared.words.WordFault.{WordFault}
 use Rattle.metis_top.specs.declared.words.WordFault.TheVariants.{At, NoMemory}
 use Rattle.metis_top.specs.declared.refusal.Refusal.TheVariants.{Word}
@@ -110,6 +110,7 @@ verb_named word =
     if bytes_eq word (codes "plan") then Some Plan
     else if bytes_eq word (codes "replay") then Some Replay
     else if bytes_eq word (codes "refute") then Some Refute
+    else if bytes_eq word (codes "audit") then Some Audit
     else if bytes_eq word (codes "sim") then Some Sim
     else if bytes_eq word (codes "crew") then Some Crew
     else if bytes_eq word (codes "print") then Some Print

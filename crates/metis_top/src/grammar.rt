@@ -33,6 +33,8 @@ fn verb_named(word: &str) -> Option<Verb>
         Some(Verb::Replay)
     } else if word == "refute" {
         Some(Verb::Refute)
+    } else if word == "audit" {
+        Some(Verb::Audit)
     } else if word == "sim" {
         Some(Verb::Sim)
     } else if word == "crew" {

@@ -43,7 +43,8 @@ fn judgement_line(alloc: Global, u: &Universe, judgement: &Verdict2) -> Result<S
     }
 }
 
-fn pair_line(alloc: Global, u: &Universe, start: &str, p: PairIx) -> Result<String, AllocError>
+/// A word, and then the pair's.
+pub fn pair_line(alloc: Global, u: &Universe, start: &str, p: PairIx) -> Result<String, AllocError>
     requires { p < pair_count u.now }
     ensures { IfOk result (λ line. string_bytes line ≡ pair_line start.now (pair_word u.now p)) }
 {

@@ -1,6 +1,8 @@
 //! The whole run of the program, over files and an output that are passed in.
 #![tactic(auto)]
 
+mod audit;
+mod audit_line;
 mod crew;
 mod grammar;
 mod in_memory;
@@ -23,7 +25,9 @@ mod words;
 
 pub use grammar::read_words;
 pub use in_memory::run_in_memory;
-pub use laws::{a_crew_has_a_line_for_each_turn, nothing_is_put_behind_quit};
+pub use laws::{
+    a_crew_has_a_line_for_each_turn, nothing_is_put_behind_quit, printed_plans_are_justified,
+};
 pub use status::Status;
 pub use top::run;
 pub use words::{Command, TargetWord, Verb, WordFault};

@@ -9,10 +9,11 @@ ghost use Rattle.metis_universe.specs.Numbers.{IsOf};
 ghost use Rattle.metis_universe.specs.Step.{IsRun, after_all};
 ghost use Rattle.metis_universe.specs.Universe.{pair_count};
 ghost use Rattle.metis_replay.specs.Exact.{Tells};
+ghost use Rattle.metis_planner.specs.Rounds.{IsByRounds};
 ghost use Rattle.metis_gen.specs.Generated.{generated, generated_targets};
 ghost use Rattle.metis_top.specs.Answer as answer;
 ghost use Rattle.metis_top.specs.Course.{Shown};
-ghost use Rattle.metis_top.specs.Loaded.{Summed, counts_line, load_line, planned};
+ghost use Rattle.metis_top.specs.Loaded.{Summed, counts_line, load_line};
 
 use crate::Status;
 use crate::replay::replayed;
@@ -20,7 +21,7 @@ use crate::stop::said;
 use metis_gen::{closed_sets_hold_all, targets_are_pairs, targets_of, universe_of};
 use metis_ids::{Action, NoMemory, PairIx, Plan};
 use metis_outside::{Sink, Trouble};
-use metis_planner::{Outcome, plan};
+use metis_planner::{Outcome, plan, rounds_come_to_one_plan};
 use metis_replay::Verdict;
 use metis_text::put_line;
 use metis_universe::Universe;
@@ -57,6 +58,7 @@ fn put_load<K: Sink>(alloc: Global, n: u32, u: &Universe, targets: &[PairIx], ou
     requires targets { targets.now ≡ generated_targets n }
     ensures { Shown (answer.IsAnswer (answer.Load n)) (K.written out.old) (K.written out.new) (K.faults out.old) (K.faults out.new) result }
 {
+    rounds_come_to_one_plan();
     match plan_for(alloc, n, u, targets) {
         Ok(plan) => put_summary(alloc, n, u, &plan, targets, out),
         Err(_) => Status::NoMemory,
@@ -68,7 +70,7 @@ fn plan_for(alloc: Global, n: u32, u: &Universe, targets: &[PairIx]) -> Result<P
     requires at_most { n ≤ 128 }
     requires universe { u.now ≡ generated n }
     requires targets { targets.now ≡ generated_targets n }
-    ensures plan { IfOk result (λ plan. plan ≡ planned u.now targets.now) }
+    ensures plan { IfOk result (IsByRounds u.now targets.now) }
     ensures runs { IfOk result (λ plan. IsRun u.now empty plan.actions) }
     ensures holds { IfOk result (λ plan. Holds (after_all u.now empty plan.actions) targets.now) }
     ensures numbers { IfOk result (λ plan. All (IsOf u.now) plan.actions) }

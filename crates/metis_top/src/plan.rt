@@ -1,5 +1,5 @@
 //! The command that plans.
-ghost use Rattle.std.specs.Prelude.{◌≡◌, ◌<◌, ◌≤◌, ◌-◌, ◌^◌, [], IfOk, IsTrue, length};
+ghost use Rattle.std.specs.Prelude.{◌≡◌, ◌<◌, ◌≤◌, ◌-◌, ◌^◌, IfOk, IsTrue, length};
 ghost use Rattle.std.specs.List.{All};
 ghost use Rattle.metis_universe.specs.Numbers.{IsOf};
 ghost use Rattle.metis_universe.specs.Steadfast.{is_steadfast};
@@ -18,7 +18,7 @@ use crate::stop::{end, said};
 use crate::words::TargetWord;
 use metis_ids::{Action, NoMemory, PairIx, Plan};
 use metis_outside::{Shelf, Sink, Trouble};
-use metis_planner::{Outcome, plan};
+use metis_planner::{Outcome, nothing_is_doubled_without_a_cycle, plan};
 use metis_text::{Refusal, write_plan, write_refusal};
 use metis_universe::Universe;
 use metis_waits::{WFault, Waits, waits};
@@ -47,6 +47,7 @@ fn put_plan<K: Sink>(alloc: Global, u: &Universe, targets: &[PairIx], out: &mut 
     ensures { Shown (answer.IsAnswer (answer.Plan u.now targets.now)) (K.written out.old) (K.written out.new) (K.faults out.old) (K.faults out.new) result }
 {
     u.keeps_invariant();
+    nothing_is_doubled_without_a_cycle();
     match plan(alloc, u, targets) {
         Ok(Outcome::Plan(plan)) => said(write_actions(alloc, u, &plan, out), Status::Done),
         Ok(Outcome::Closed(pairs, lacks)) => {
@@ -68,7 +69,7 @@ fn write_actions<K: Sink>(
     requires numbers { All (IsOf u.now) plan.now.actions }
     requires steadfast { IsTrue (is_steadfast u.now plan.now.actions) }
     requires few { length plan.now.actions < 2 ^ 32 - 1 }
-    requires dups { plan.now.dups ≡ [] }
+    requires dups { All (λ d. d.pair < pair_count u.now) plan.now.dups }
     ensures text { Writes (plan_text u.now plan.now) (K.written out.old) (K.written out.new) result }
     ensures cause { CountsFault (K.faults out.old) (K.faults out.new) result }
 {

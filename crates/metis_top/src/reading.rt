@@ -3,7 +3,8 @@ ghost use Rattle.std.specs.Prelude.{◌≡◌, ◌<◌, ◌≤◌, ◌-◌, ◌^
 ghost use Rattle.std.specs.List.{All};
 ghost use Rattle.metis_universe.specs.Universe.{pair_count};
 ghost use Rattle.metis_universe.specs.Numbers.{IsOf};
-ghost use Rattle.metis_text.specs.Reads.{parts_of};
+ghost use Rattle.metis_text.specs.PlanText.{IsWellFormed};
+ghost use Rattle.metis_text.specs.Reads.{lists_of, parts_of};
 ghost use Rattle.metis_text.specs.RefusalReading.{refusal_of};
 ghost use Rattle.metis_top.specs.Commands.{bytes_then, universe_in_then, universe_then, targets_then, goal_then, plan_in_then, plan_then, refusal_in_then, refusal_then, session_limit, turns_in_then, turns_then};
 ghost use Rattle.metis_top.specs.Course.{Gathers, Judges, or_stop};
@@ -129,6 +130,7 @@ fn plan_in(alloc: Global, u: &Universe, bytes: &[u8]) -> Result<PlanText, Stop>
     ensures judges { Judges parts_of (plan_in_then u.now bytes.now) result }
     ensures numbers { IfOk result (λ text. All (IsOf u.now) text.plan.actions) }
     ensures few { IfOk result (λ text. length text.plan.actions < 2 ^ 32 - 1) }
+    ensures formed { IfOk result (λ text. IsWellFormed u.now text.plan (lists_of text)) }
 {
     match read_plan(alloc, u, bytes) {
         Ok(text) => Ok(text),
@@ -148,6 +150,7 @@ pub fn plan_from<H: Shelf>(
     ensures gathers { Gathers H.files H.faults H.opens parts_of (plan_then place u.now name.now) shelf.old shelf.new result }
     ensures numbers { IfOk result (λ text. All (IsOf u.now) text.plan.actions) }
     ensures few { IfOk result (λ text. length text.plan.actions < 2 ^ 32 - 1) }
+    ensures formed { IfOk result (λ text. IsWellFormed u.now text.plan (lists_of text)) }
 {
     let bytes = bytes_from(alloc, shelf, place, name, PLAN_LIMIT)?;
     plan_in(alloc, u, &bytes)

@@ -3,15 +3,19 @@ ghost use Rattle.std.specs.Prelude.{◌≡◌, ◌≢◌, IfSome};
 ghost use Rattle.metis_outside.specs.Faults.{Rose};
 ghost use Rattle.metis_top.specs.Commands.{script_of, command_script};
 ghost use Rattle.metis_top.specs.Course.{Ran};
-ghost use Rattle.metis_top.specs.Honest.{Tells, Headline};
+ghost use Rattle.metis_planner.specs.Rounds.{IsByRounds};
+ghost use Rattle.metis_top.specs.Deployment.{EndsTidy};
+ghost use Rattle.metis_top.specs.Honest.{Tells, Headline, PlansHave};
 ghost use Rattle.metis_top.specs.Numbered.{TellsReadFault};
 ghost use Rattle.metis_top.specs.Openings.{OpensFiles};
+ghost use Rattle.metis_top.specs.Planned.{IsDoubledByNeed};
 ghost use Rattle.metis_top.specs.PutLines.{PutsLines};
 ghost use Rattle.metis_top.specs.Statuses.{IsVerdict};
 ghost use Rattle.metis_top.specs.Words.{form_of, word_stop};
 ghost use Rattle.metis_universe.specs.Texts.{texts};
 
 use crate::Status;
+use crate::audit::audit_file;
 use crate::crew::crew_file;
 use crate::grammar::read_words;
 use crate::load::load_size;
@@ -57,6 +61,21 @@ pub fn run<H: Shelf, K: Sink>(alloc: Global, words: &[String], shelf: &mut H, ou
     ensures headline { IfSome (H.files shelf.old) (λ file.
         (Rose (H.faults shelf.old) (H.faults shelf.new) → ⊥) → (Rose (K.faults out.old) (K.faults out.new) → ⊥) → result ≢ Status.NoMemory
         → Headline (texts words.now) file (K.written out.old) (K.written out.new) result) }
+
+    // An instance of the plan is doubled only where a printed cycle stands in the way.
+    ensures doubled { IfSome (H.files shelf.old) (λ file.
+        (Rose (H.faults shelf.old) (H.faults shelf.new) → ⊥) → (Rose (K.faults out.old) (K.faults out.new) → ⊥) → result ≢ Status.NoMemory
+        → PlansHave IsDoubledByNeed (texts words.now) file (K.written out.old) (K.written out.new) result) }
+
+    // At its end only the targets and what serves them remain.
+    ensures tidy { IfSome (H.files shelf.old) (λ file.
+        (Rose (H.faults shelf.old) (H.faults shelf.new) → ⊥) → (Rose (K.faults out.old) (K.faults out.new) → ⊥) → result ≢ Status.NoMemory
+        → PlansHave EndsTidy (texts words.now) file (K.written out.old) (K.written out.new) result) }
+
+    // Which plan it is: the one that rounds come to.
+    ensures rounds { IfSome (H.files shelf.old) (λ file.
+        (Rose (H.faults shelf.old) (H.faults shelf.new) → ⊥) → (Rose (K.faults out.old) (K.faults out.new) → ⊥) → result ≢ Status.NoMemory
+        → PlansHave IsByRounds (texts words.now) file (K.written out.old) (K.written out.new) result) }
 {
     kept_order_is_a_run();
     complete_order_ends_alike();
@@ -102,6 +121,10 @@ fn perform<H: Shelf, K: Sink>(
         Verb::Refute => {
             let (file, text) = (command.file(0), command.file(1));
             refute_file(alloc, file, text, command.targets(), shelf, out)
+        }
+        Verb::Audit => {
+            let (file, plan) = (command.file(0), command.file(1));
+            audit_file(alloc, file, plan, command.targets(), shelf, out)
         }
         Verb::Sim => {
             let (file, input) = (command.file(0), command.file(1));

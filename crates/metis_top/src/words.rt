@@ -14,6 +14,8 @@ pub enum Verb {
     Replay,
     /// Checks a refusal of target words.
     Refute,
+    /// Audits the dups and the instances of a plan for target words.
+    Audit,
     /// Runs a session.
     Sim,
     /// Lets a crew take turns over a plan.
@@ -32,7 +34,7 @@ impl Verb {
         match self {
             Verb::Load => 0,
             Verb::Plan | Verb::Print => 1,
-            Verb::Replay | Verb::Refute | Verb::Sim => 2,
+            Verb::Replay | Verb::Refute | Verb::Audit | Verb::Sim => 2,
             Verb::Crew => 3,
         }
     }
@@ -42,7 +44,7 @@ impl Verb {
         ensures { result ≡ target_limit self }
     {
         match self {
-            Verb::Plan | Verb::Replay | Verb::Refute => 256,
+            Verb::Plan | Verb::Replay | Verb::Refute | Verb::Audit => 256,
             Verb::Sim | Verb::Crew | Verb::Print | Verb::Load => 0,
         }
     }

@@ -2,7 +2,7 @@ use Rattle.std.proofs.Common.{◌≡◌, ◌<◌, ◌+◌, ◌∙◌, not, ap, s
 use Rattle.std.proofs.lemmas.List.{length_push}
 use Rattle.metis_universe.specs.Texts.{texts}
 use Rattle.metis_top.specs.Words.{file_fits, fits_after}
-use Rattle.metis_planner.proofs.Origins.{none_further}
+use Rattle.metis_top.proofs.Searches.{none_further}
 use Rattle.metis_top.proofs.Misfits.{file_fits_is, file_missing, misfit_at, texts_next}
 use Rattle.metis_top.proofs.grammar.read_files.Goals as goal
 

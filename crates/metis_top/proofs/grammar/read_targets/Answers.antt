@@ -4,7 +4,7 @@ use Rattle.std.specs.List.{filter_map}
 use Rattle.std.specs.Prelude.{is_some}
 use Rattle.metis_universe.specs.Texts.{texts}
 use Rattle.metis_top.specs.Words.{target_fits, target_of}
-use Rattle.metis_planner.proofs.Origins.{none_further}
+use Rattle.metis_top.proofs.Searches.{none_further}
 use Rattle.metis_top.proofs.Misfits.{misfit_at, target_fits_is, target_past, targets_next}
 use Rattle.metis_top.proofs.grammar.read_targets.Goals as goal
 

@@ -16,4 +16,4 @@ returns-in-Ok g c =
     let found = c.in-Ok.ensures in
     let k = subst IsUniverse (sym (c.requires.universe ∙ generated_tables n (omega arith))) (tables_universe n) in
     shown_weaker (Summed n u targets plan) (Loaded n) _ _ _ _ _
-    (loaded_by_summary n u targets plan k c.requires.universe c.requires.targets found.plan found.numbers found.runs found.holds) c.put_summary.ensures
+    (loaded_by_summary n u targets plan k c.requires.universe c.requires.targets found.plan (λ other by. c.rounds_come_to_one_plan.ensures u targets other plan by found.plan) found.numbers found.runs found.holds) c.put_summary.ensures

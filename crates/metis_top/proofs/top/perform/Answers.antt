@@ -11,5 +11,8 @@ returns-in-Replay g c = rw c.in-Replay.is (rw (c.file-file.ensures, c.file-plan.
 pub returns-in-Refute : goal.returns-in-Refute
 returns-in-Refute g c = rw c.in-Refute.is (rw (c.file-file-in-Refute.ensures, c.file-text.ensures, c.targets-in-Refute.ensures.words) at c.refute_file.ensures)
 
+pub returns-in-Audit : goal.returns-in-Audit
+returns-in-Audit g c = rw c.in-Audit.is (rw (c.file-file-in-Audit.ensures, c.file-plan-in-Audit.ensures, c.targets-in-Audit.ensures.words) at c.audit_file.ensures)
+
 pub returns-in-Load : goal.returns-in-Load
 returns-in-Load g c = rw c.in-Load.is (ran_at_once _ _ _ _ _ _ _ _ (Load c.args.command.now.size) _ c.load_size.ensures)
