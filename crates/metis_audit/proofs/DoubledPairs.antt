@@ -1,5 +1,5 @@
 -- Forced dups one after another: each is of a provider pair that is not yet doubled, and leaves one pair less whose holder goes on.
-use Rattle.std.proofs.Common.{◌≡◌, ℕ, zero, suc, ◌+◌, ◌<◌, ◌≤◌, Bool, true, false, ◌||◌, List, [], ◌∷◌, ◌++◌, length, get_or, take, Some, refl, sym, ap, ◌∙◌, subst, arith, nat_eq, inl, inr}
+use Rattle.std.proofs.Common.{◌≡◌, ℕ, zero, suc, ◌+◌, ◌<◌, ◌≤◌, Bool, true, ◌||◌, List, [], ◌∷◌, ◌++◌, length, get_or, take, refl, sym, ap, ◌∙◌, subst, arith, nat_eq, inl, inr}
 use Rattle.std.specs.Prelude.{IsSome}
 use Rattle.std.specs.List.{IsDistinct, list_all, list_any, range_with_len}
 use Rattle.std.specs.Set.{is_member}
@@ -28,7 +28,6 @@ use Rattle.metis_audit.proofs.DupLines.{forced_here, own_more}
 use Rattle.metis_audit.proofs.Loose.{goes_on}
 use Rattle.metis_audit.specs.Audits.{IsAttained, IsAudited}
 use Rattle.metis_audit.specs.Doubled.{IsDoubled}
-use Rattle.metis_audit.specs.Forced.{is_forced}
 
 pub at_range : (t : ℕ → Bool) (a n i : ℕ) → list_all t (range_with_len a n) ≡ true → a ≤ i → i < a + n → t i ≡ true
 at_range t a zero i all low high = absurd (omega arith)
