@@ -6,7 +6,6 @@ use Rattle.std.specs.Set.{is_member}
 use Rattle.std.proofs.lemmas.Bool.{and_parts, eq-eqb, eqb-true, cases_eq, false≢true}
 use Rattle.std.proofs.lemmas.Cmp.{nat_eq_equiv}
 use Rattle.std.proofs.lemmas.List.{get_or_default, length-append, length-map, take_all}
-use Rattle.std.proofs.lemmas.List.Elements.{All-contains}
 use Rattle.std.proofs.lemmas.Map.Keys.{IsDistinct-from_apart, IsDistinct-push}
 use Rattle.std.proofs.lemmas.Option.{slice_get-get_or}
 use Rattle.metis_ids.specs.Plans.{Dup, Plan}
@@ -15,7 +14,7 @@ use Rattle.metis_universe.specs.Layers.{layer_of}
 use Rattle.metis_universe.specs.Selection.{provider_pairs as provider_pairs_in}
 use Rattle.metis_universe.specs.Universe.{Universe, IsTable, IsUniverse, has}
 use Rattle.metis_support.proofs.Kept.{kept}
-use Rattle.metis_support.proofs.Lists.{has-append_cases, has_one, member, same_test}
+use Rattle.metis_support.proofs.Lists.{has-append_cases, has_one, same_test}
 use Rattle.metis_support.proofs.Selections.{is_support, same_provider_pairs, targets_selected}
 use Rattle.metis_support.specs.Support.{Support, IsKept, is_number, is_selected, provider_pairs, support_of}
 use Rattle.metis_lines.proofs.Few.{apart_first, few, still_apart}
@@ -24,9 +23,10 @@ use Rattle.metis_lines.proofs.Instances.{graph_sound}
 use Rattle.metis_lines.proofs.OwnLines.{less_loose, not_own}
 use Rattle.metis_lines.specs.Justified.{is_justified, is_justified_at, own_pairs}
 use Rattle.metis_lines.specs.LifeLines.{AreApart, AreLines, lines_of, loose, other_ends}
+use Rattle.metis_audit.proofs.Audited.{each_layered}
 use Rattle.metis_audit.proofs.DupLines.{forced_here, own_more}
 use Rattle.metis_audit.proofs.Loose.{goes_on}
-use Rattle.metis_audit.specs.Audits.{IsAttained, IsAudited}
+use Rattle.metis_audit.specs.Audits.{IsAudited}
 use Rattle.metis_audit.specs.Doubled.{IsDoubled}
 
 pub at_range : (t : ℕ → Bool) (a n i : ℕ) → list_all t (range_with_len a n) ≡ true → a ≤ i → i < a + n → t i ≡ true
@@ -41,11 +41,6 @@ flipped p [] = refl
 flipped p (x ∷ xs) = λ i. turned i || flipped p xs i where
   turned : nat_eq p x ≡ nat_eq x p
   turned = same_test (nat_eq p x) (nat_eq x p) (λ h. eq-eqb x p (sym (eqb-true p x h))) (λ h. eq-eqb p x (sym (eqb-true x p h)))
-
-pub each_layered : (u : Universe) (g : List ℕ) → IsAttained u g → (q : ℕ) → has g q ≡ true → IsSome (layer_of u q)
-each_layered u g attained q there =
-    let m = member (λ x. nat_eq x q) g there in
-    subst (λ x. IsSome (layer_of u x)) (eqb-true m.item q m.passes) (All-contains (λ x. IsSome (layer_of u x)) g m.item attained m.there)
 
 module _ (u : Universe) (g : List ℕ) (table : IsTable u) (layered : (q : ℕ) → has g q ≡ true → IsSome (layer_of u q)) where
   universe : IsUniverse u
