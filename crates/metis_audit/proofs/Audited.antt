@@ -1,7 +1,7 @@
 -- From what a choice and the dups give to the tests of an audit.
 use Rattle.std.proofs.Common.{◌≡◌, ℕ, zero, suc, ◌+◌, ◌<◌, ◌≤◌, Bool, true, List, [], length, refl, sym, ap, ◌∙◌, subst, arith, nat_eq}
 use Rattle.std.specs.Prelude.{IsSome}
-use Rattle.std.specs.List.{All, list_all, range_with_len}
+use Rattle.std.specs.List.{list_all, range_with_len}
 use Rattle.std.proofs.lemmas.Bool.{and_from, eqb-true}
 use Rattle.std.proofs.lemmas.List.Elements.{All-contains}
 use Rattle.metis_ids.specs.Plans.{Dup, Plan}
@@ -15,12 +15,13 @@ use Rattle.metis_support.specs.Support.{Support, is_selected, support_of}
 use Rattle.metis_audit.specs.Audits.{IsAttained, IsFirstUnjustified, IsForced, audited_lines}
 use Rattle.metis_audit.specs.Forced.{IsFirstUnforced, is_forced_at}
 
+pub each_layered : (u : Universe) (g : List ℕ) → IsAttained u g → (q : ℕ) → has g q ≡ true → IsSome (layer_of u q)
+each_layered u g attained q there =
+    let m = member (λ x. nat_eq x q) g there in
+    subst (λ x. IsSome (layer_of u x)) (eqb-true m.item q m.passes) (All-contains (λ x. IsSome (layer_of u x)) g m.item attained m.there)
+
 pub targets_chosen : (u : Universe) (g : List ℕ) (s : Support) → IsUniverse u → IsAttained u g → s ≡ support_of u g → (p : ℕ) → has g p ≡ true → is_selected s p ≡ true
-targets_chosen u g s universe attained is p h = subst (λ x. is_selected x p ≡ true) (sym is) (targets_selected u universe g each p h) where
-  each : (q : ℕ) → has g q ≡ true → IsSome (layer_of u q)
-  each q there =
-      let m = member (λ x. nat_eq x q) g there in
-      subst (λ x. IsSome (layer_of u x)) (eqb-true m.item q m.passes) (All-contains (λ x. IsSome (layer_of u x)) g m.item attained m.there)
+targets_chosen u g s universe attained is p h = subst (λ x. is_selected x p ≡ true) (sym is) (targets_selected u universe g (each_layered u g attained) p h)
 
 each_in_range : (t : ℕ → Bool) (a n : ℕ) → ((i : ℕ) → a ≤ i → i < a + n → t i ≡ true) → list_all t (range_with_len a n) ≡ true
 each_in_range t a zero each = refl

@@ -1,5 +1,5 @@
 -- Dups one after another.
-use Rattle.std.proofs.Common.{◌≡◌, ℕ, ◌+◌, false, List, [], ◌∷◌, ◌++◌, get_or, map, take, Option, Some, sym, ap, ◌∙◌, length, ◌<◌}
+use Rattle.std.proofs.Common.{◌≡◌, ℕ, ◌+◌, false, List, [], ◌∷◌, ◌++◌, get_or, take, Some, sym, ap, ◌∙◌, length, ◌<◌}
 use Rattle.std.specs.Prelude.{slice_get}
 use Rattle.std.specs.Option.{option_map_or}
 use Rattle.std.proofs.lemmas.List.{map-append, take_more}

@@ -1,6 +1,9 @@
 pub mod Audited
+pub mod DoubledPairs
 pub mod DupLines
+pub mod Examples
 pub mod Loose
+pub mod OneAnswer
 pub mod OtherLists
 pub mod Rounds
 pub mod Supplies

@@ -1,16 +1,16 @@
 -- What a forced dup gives: its pair is a provider pair whose holder goes on, so that it can have a line of its own.
-use Rattle.std.proofs.Common.{◌≡◌, ℕ, ◌-◌, ◌<◌, Bool, true, false, cond, not, ◌&&◌, List, [], ◌∷◌, ◌++◌, length, get_or, map, take, Option, Some, None, refl, sym, ap, ◌∙◌, subst, arith, nat_eq, nat_lt, inl, inr}
+use Rattle.std.proofs.Common.{◌≡◌, ℕ, ◌-◌, ◌<◌, Bool, true, false, cond, ◌&&◌, List, [], length, get_or, Some, None, refl, sym, ap, ◌∙◌, subst, arith, nat_lt}
 use Rattle.std.specs.List.{list_all, list_any}
 use Rattle.std.specs.Option.{option_map_or}
-use Rattle.std.proofs.lemmas.Bool.{and_parts, cases_Bool, eqb-true, false_from_ne_true, false≢true, ltb-true, not_from_false}
+use Rattle.std.proofs.lemmas.Bool.{and_parts, eqb-true, false_from_ne_true, false≢true, ltb-true, not_from_false}
 use Rattle.metis_ids.specs.declared.events.Event.{Event}
 use Rattle.metis_universe.proofs.Rounds.{has-filter}
 use Rattle.metis_universe.specs.Universe.{Universe, has}
 use Rattle.metis_layers.specs.LayerOrder.{place_of}
 use Rattle.metis_support.proofs.Paths.{place_at_end}
-use Rattle.metis_support.specs.Support.{Support, IsKept, is_number, is_selected, provider_pairs}
+use Rattle.metis_support.specs.Support.{Support, IsKept, is_number, is_selected}
 use Rattle.metis_lines.proofs.Holders.{end_is, held, way_at}
-use Rattle.metis_lines.specs.AbstractPlan.{AbstractPlan, last}
+use Rattle.metis_lines.specs.AbstractPlan.{last}
 use Rattle.metis_lines.specs.Events.{is_cycle, is_event}
 use Rattle.metis_lines.specs.Justified.{leads_on}
 use Rattle.metis_lines.specs.LifeLines.{AreLines, LifeLines, ends_in, holder_line, holder_of, holding, is_loose, line_at, line_ends, lines_of, plan_of}

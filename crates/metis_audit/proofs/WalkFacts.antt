@@ -1,16 +1,16 @@
 -- What one more action does to how far the instances are, and what is so at the end.
-use Rattle.std.proofs.Common.{◌≡◌, ℕ, ◌+◌, ◌<◌, ◌≤◌, Bool, true, false, cond, List, [], ◌∷◌, ◌++◌, length, get_or, set, take, Option, Some, None, refl, sym, ap, ◌∙◌, subst, arith, nat_eq, inl, inr, append_assoc, append-nil}
-use Rattle.std.specs.Prelude.{◌≢◌, MatchBool, MatchOption}
-use Rattle.std.specs.List.{filter_map, cons_option}
+use Rattle.std.proofs.Common.{◌≡◌, ℕ, ◌+◌, ◌<◌, ◌≤◌, cond, List, [], ◌∷◌, ◌++◌, length, get_or, set, take, Option, Some, None, refl, sym, ap, ◌∙◌, subst, arith, nat_eq, inl, inr, append_assoc, append-nil}
+use Rattle.std.specs.Prelude.{◌≢◌}
+use Rattle.std.specs.List.{cons_option}
 use Rattle.std.specs.Option.{option_and_then}
-use Rattle.std.proofs.lemmas.Bool.{cases_eq, cases_lt, eq-eqb, ne_eqb, cond-true, cond-false}
-use Rattle.std.proofs.lemmas.List.{get_or-append_right, get_or-append-add, get_or_append_left, get_or-set_same, get_or-set_other, length-append, length_push, length-take-le, length-set, take_all, take_more}
+use Rattle.std.proofs.lemmas.Bool.{cases_eq, eq-eqb, ne_eqb, cond-true, cond-false}
+use Rattle.std.proofs.lemmas.List.{get_or-append-add, get_or-set_same, get_or-set_other, length-append, length-take-le, length-set, take_all, take_more}
 use Rattle.metis_ids.specs.declared.actions.Action.{Action}
 use Rattle.metis_ids.specs.declared.actions.Action.TheVariants.{New, Delete, Bind, Unbind, Move}
 use Rattle.metis_universe.specs.Universe.{Universe}
 use Rattle.metis_emit.specs.Realized.{entered, entered_by}
 use Rattle.metis_lines.specs.LifeLines.{LifeLines, line_at}
-use Rattle.metis_audit.specs.Walks.{AreWalks, IsFirstAstray, IsWalk, entry_of}
+use Rattle.metis_audit.specs.Walks.{AreWalks, IsWalk, entry_of}
 
 -- ---- one line
 

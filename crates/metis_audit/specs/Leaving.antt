@@ -3,7 +3,7 @@
 --     IsNoLeaving x e      it is that of no station, unless it is the end
 --     IsTakenByTarget u s x h k      some target's line takes from that place at its last station
 --     IsTakenByNoTarget u s x h k      none does
-use Rattle.std.specs.Prelude.{ℕ, ◌≡◌, ◌<◌, ◌-◌, length, nat_lt, IsTrue, IsFalse}
+use Rattle.std.specs.Prelude.{ℕ, ◌≡◌, ◌<◌, length, IsTrue, IsFalse}
 use Rattle.metis_ids.specs.declared.events.Event.{Event}
 use Rattle.metis_universe.specs.Universe.{Universe}
 use Rattle.metis_events.specs.Gathered.{without_supplies}

@@ -1,4 +1,5 @@
 pub mod Audits
+pub mod Doubled
 pub mod Forced
 pub mod Leaving
 pub mod Takes

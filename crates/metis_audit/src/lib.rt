@@ -6,8 +6,10 @@ mod auditing;
 mod cycles;
 mod dups;
 mod edges;
+mod laws;
 mod others;
 mod walks;
 
 pub use answers::Answer;
 pub use auditing::audit;
+pub use laws::{answers_are_one, justified_texts_double_few};

@@ -1,4 +1,4 @@
-use Rattle.std.proofs.Common.{◌≡◌, ◌∙◌, ℕ, false, arith, get_or, nat_lt, sym}
+use Rattle.std.proofs.Common.{◌≡◌, ◌∙◌, false, arith, get_or, sym}
 use Rattle.std.proofs.lemmas.Bool.{lt-ltb}
 use Rattle.std.proofs.lemmas.List.{get_or_read}
 use Rattle.metis_ids.specs.declared.events.Event.TheVariants.{End}

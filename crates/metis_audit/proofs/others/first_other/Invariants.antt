@@ -1,4 +1,4 @@
-use Rattle.std.proofs.Common.{◌≡◌, ◌<◌, ◌≤◌, ℕ, List, map}
+use Rattle.std.proofs.Common.{◌≡◌, ◌≤◌, ℕ, List, map}
 use Rattle.metis_ids.specs.declared.actions.Action.{Action}
 use Rattle.metis_text.specs.PlanText.{after_of}
 use Rattle.metis_waits.specs.Waits.{AreWaits, waits_on_others}

@@ -1,0 +1,131 @@
+-- Forced dups one after another: each is of a provider pair that is not yet doubled, and leaves one pair less whose holder goes on.
+use Rattle.std.proofs.Common.{◌≡◌, ℕ, zero, suc, ◌+◌, ◌<◌, ◌≤◌, Bool, true, ◌||◌, List, [], ◌∷◌, ◌++◌, length, get_or, take, refl, sym, ap, ◌∙◌, subst, arith, nat_eq, inl, inr}
+use Rattle.std.specs.Prelude.{IsSome}
+use Rattle.std.specs.List.{IsDistinct, list_all, list_any, range_with_len}
+use Rattle.std.specs.Set.{is_member}
+use Rattle.std.proofs.lemmas.Bool.{and_parts, eq-eqb, eqb-true, cases_eq, false≢true}
+use Rattle.std.proofs.lemmas.Cmp.{nat_eq_equiv}
+use Rattle.std.proofs.lemmas.List.{get_or_default, length-append, length-map, take_all}
+use Rattle.std.proofs.lemmas.Map.Keys.{IsDistinct-from_apart, IsDistinct-push}
+use Rattle.std.proofs.lemmas.Option.{slice_get-get_or}
+use Rattle.metis_ids.specs.Plans.{Dup, Plan}
+use Rattle.metis_universe.proofs.Rounds.{has-filter}
+use Rattle.metis_universe.specs.Layers.{layer_of}
+use Rattle.metis_universe.specs.Selection.{provider_pairs as provider_pairs_in}
+use Rattle.metis_universe.specs.Universe.{Universe, IsTable, IsUniverse, has}
+use Rattle.metis_support.proofs.Kept.{kept}
+use Rattle.metis_support.proofs.Lists.{has-append_cases, has_one, same_test}
+use Rattle.metis_support.proofs.Selections.{is_support, same_provider_pairs, targets_selected}
+use Rattle.metis_support.specs.Support.{Support, IsKept, is_number, is_selected, provider_pairs, support_of}
+use Rattle.metis_lines.proofs.Few.{apart_first, few, still_apart}
+use Rattle.metis_lines.proofs.Holders.{count}
+use Rattle.metis_lines.proofs.Instances.{graph_sound}
+use Rattle.metis_lines.proofs.OwnLines.{less_loose, not_own}
+use Rattle.metis_lines.specs.Justified.{is_justified, is_justified_at, own_pairs}
+use Rattle.metis_lines.specs.LifeLines.{AreApart, AreLines, lines_of, loose, other_ends}
+use Rattle.metis_audit.proofs.Audited.{each_layered}
+use Rattle.metis_audit.proofs.DupLines.{forced_here, own_more}
+use Rattle.metis_audit.proofs.Loose.{goes_on}
+use Rattle.metis_audit.specs.Audits.{IsAudited}
+use Rattle.metis_audit.specs.Doubled.{IsDoubled}
+
+pub at_range : (t : ℕ → Bool) (a n i : ℕ) → list_all t (range_with_len a n) ≡ true → a ≤ i → i < a + n → t i ≡ true
+at_range t a zero i all low high = absurd (omega arith)
+at_range t a (suc n) i all low high = elim (cases_eq a i) [
+  | inl same ↦ ap t (sym same) ∙ (and_parts (t a) (list_all t (range_with_len (a + 1) n)) all).0
+  | inr other ↦ at_range t (a + 1) n i (and_parts (t a) (list_all t (range_with_len (a + 1) n)) all).1 (omega arith) (omega arith)
+]
+
+flipped : (p : ℕ) (xs : List ℕ) → is_member nat_eq xs p ≡ has xs p
+flipped p [] = refl
+flipped p (x ∷ xs) = λ i. turned i || flipped p xs i where
+  turned : nat_eq p x ≡ nat_eq x p
+  turned = same_test (nat_eq p x) (nat_eq x p) (λ h. eq-eqb x p (sym (eqb-true p x h))) (λ h. eq-eqb p x (sym (eqb-true x p h)))
+
+module _ (u : Universe) (g : List ℕ) (table : IsTable u) (layered : (q : ℕ) → has g q ≡ true → IsSome (layer_of u q)) where
+  universe : IsUniverse u
+  universe = table.universe
+
+  abbrev s : Support
+  s = support_of u g
+
+  keeps : IsKept s
+  keeps = kept u table s (is_support u universe g layered)
+
+  targets : (q : ℕ) → has g q ≡ true → is_selected s q ≡ true
+  targets = targets_selected u universe g layered
+
+  provider_chosen : (q : ℕ) → has (provider_pairs s) q ≡ true → is_selected s q ≡ true
+  provider_chosen q h = (and_parts (list_any (is_number q) s.providers) (is_selected s q) (sym (has-filter (λ p. list_any (is_number p) s.providers) q s.selected.members) ∙ h)).1
+
+  -- what is so of some doubled pairs
+  record AreDoubled (d : List ℕ) (n : ℕ) : Type 0 where
+    providers : (q : ℕ) → has d q ≡ true → has (provider_pairs s) q ≡ true
+    once : IsDistinct nat_eq d
+    apart : AreApart s g d
+    fewer : loose (lines_of s g d) + n ≡ loose (lines_of s g [])
+
+  none : AreDoubled [] 0
+  none = record { providers = λ q h. absurd (false≢true h); once = IsDistinct-from_apart nat_eq [] (λ i j d low high. absurd (omega arith)); apart = apart_first s g keeps; fewer = omega arith }
+
+  module _ (ds : List Dup) (forced : is_justified u g ds ≡ true) where
+    one_more : (i : ℕ) → i < length ds → AreDoubled (own_pairs (take i ds)) i → AreDoubled (own_pairs (take (i + 1) ds)) (i + 1)
+    one_more i low before =
+        let first = first_dup ds low in
+        let d = own_pairs (take i ds) in
+        let e : Dup = get_or ds i first in
+        let p = e.pair in
+        let are : AreLines s (lines_of s g d) = record { are = refl; targets = targets; own = before.providers } in
+        let own : (q : ℕ) → has d q ≡ true → is_selected s q ≡ true = λ q h. provider_chosen q (before.providers q h) in
+        let here = sym (forced_here u s g ds i e (lines_of s g d) (slice_get-get_or ds i first low) refl) ∙ at_range (is_justified_at u g ds) 0 (length ds) i forced (omega arith) (omega arith) in
+        let on = goes_on s (lines_of s g d) are keeps u p e.cycle here in
+        let new = not_own s keeps.origin keeps.ascends g d p targets own on.listed on.loose in
+        let less = less_loose s keeps.origin keeps.ascends g d p targets own on.listed on.loose in
+        let sum = before.fewer in
+        subst (λ ps. AreDoubled ps (i + 1)) (sym (own_more ds i e low (get_or_itself ds i first low))) (record {
+          providers = λ q h. elim (has-append_cases d (p ∷ []) q h) [
+            | inl old ↦ before.providers q old
+            | inr now ↦ subst (λ r. has (provider_pairs s) r ≡ true) (has_one p q now) on.listed
+          ];
+          once = IsDistinct-push nat_eq_equiv d p before.once (flipped p d ∙ new);
+          apart = still_apart s keeps g d targets own p on.loose before.apart;
+          fewer = omega arith;
+        }) where
+          first_dup : (ds : List Dup) → i < length ds → Dup
+          first_dup [] low = absurd (omega arith)
+          first_dup (d ∷ ds) low = d
+
+          get_or_itself : (ds : List Dup) (i : ℕ) (d : Dup) → i < length ds → get_or ds i d ≡ get_or ds i (get_or ds i d)
+          get_or_itself ds i d low = get_or_default ds i d (get_or ds i d) low
+
+    so_far : (i : ℕ) → i ≤ length ds → AreDoubled (own_pairs (take i ds)) i
+    so_far zero low = none
+    so_far (suc i) low = let step : i + 1 ≡ suc i = omega arith in subst (λ k. AreDoubled (own_pairs (take k ds)) k) step (one_more i (omega arith) (so_far i (omega arith)))
+
+    all : AreDoubled (own_pairs ds) (length ds)
+    all = subst (λ es. AreDoubled (own_pairs es) (length ds)) (take_all (length ds) ds (omega arith)) (so_far (length ds) (omega arith))
+
+pub doubled : (u : Universe) (g : List ℕ) (p : Plan) (after : List (List ℕ)) → IsTable u → IsAudited u g p after → IsDoubled u g p
+doubled u g p after table audited =
+    let followed = audited.steady.followed in
+    let layered = each_layered u g followed.counted.forced.attained in
+    let are = all u g table layered p.dups followed.counted.forced.justified in
+    let same = same_provider_pairs u table.universe g layered in
+    let listed : (q : ℕ) → has (own_pairs p.dups) q ≡ true → has (provider_pairs_in u g) q ≡ true = λ q h. ap (λ ps. has ps q) (sym same) ∙ are.providers q h in
+    let own : (q : ℕ) → has (own_pairs p.dups) q ≡ true → is_selected (support_of u g) q ≡ true = λ q h. provider_chosen u g table layered q (are.providers q h) in
+    let made = followed.counted.count in
+    let lines = count (support_of u g) (keeps u g table layered).origin g (own_pairs p.dups) (targets u g table layered) own in
+    let first = count (support_of u g) (keeps u g table layered).origin g [] (targets u g table layered) (λ q h. absurd (false≢true h)) in
+    let pairs = length-map p.dups (λ (d : Dup). d.pair) in
+    let ends = length-append (g ++ other_ends (support_of u g) g) (own_pairs p.dups) in
+    let first_ends = length-append (g ++ other_ends (support_of u g) g) [] in
+    let most = few (support_of u g) (keeps u g table layered) g (own_pairs p.dups) (targets u g table layered) own are.apart in
+    record {
+      providers = listed;
+      once = are.once;
+      sound = graph_sound u g (own_pairs p.dups) table.universe layered listed;
+      paths = λ l low. followed.each l low;
+      instances = omega arith;
+      fewer = are.fewer;
+      few = omega arith;
+    }
