@@ -1,8 +1,8 @@
 -- The plan that is printed is justified.
-use Rattle.std.proofs.Common.{◌≡◌, ℕ, zero, suc, ◌+◌, ◌<◌, ◌≤◌, Bool, true, false, not, ◌||◌, List, [], ◌∷◌, length, map, get_or, Option, Some, None, refl, sym, ap, ◌∙◌, subst, arith, nat_eq, inl, inr}
-use Rattle.std.specs.List.{All, find, list_any, range_with_len}
+use Rattle.std.proofs.Common.{◌≡◌, ℕ, zero, suc, ◌+◌, ◌<◌, ◌≤◌, Bool, true, not, List, [], ◌∷◌, length, get_or, Option, Some, None, refl, ap, ◌∙◌, arith, nat_eq, inl, inr}
+use Rattle.std.specs.List.{find, list_any}
 use Rattle.std.specs.Prelude.{IsSome}
-use Rattle.std.proofs.lemmas.Bool.{both_ways, cases_Bool, eq-eqb, eqb-true, false≢true, or_cases, or_left, or_right, true_from_ne_false}
+use Rattle.std.proofs.lemmas.Bool.{both_ways, eq-eqb, eqb-true, false≢true, or_cases, or_left, or_right, true_from_ne_false}
 use Rattle.std.proofs.lemmas.List.{get_or-map}
 use Rattle.std.proofs.lemmas.List.Elements.{All-from_get_or}
 use Rattle.std.proofs.lemmas.List.FromFn.{get_or-range_with_len, length-range_with_len}
@@ -14,7 +14,7 @@ use Rattle.metis_universe.specs.Layers.{layer_of}
 use Rattle.metis_universe.specs.Universe.{IsUniverse, Universe, has}
 use Rattle.metis_universe.specs.Waits.{numbers}
 use Rattle.metis_layers.specs.LayerOrder.{attained_pairs}
-use Rattle.metis_audit.specs.Audits.{IsAnswer, IsAttained, IsAudited}
+use Rattle.metis_audit.specs.Audits.{IsAnswer, IsAttained}
 use Rattle.metis_audit.specs.declared.answers.Answer.TheVariants.{Justified}
 use Rattle.metis_planner.proofs.Leads.{not_found}
 use Rattle.metis_planner.proofs.Planning.{has_layer}

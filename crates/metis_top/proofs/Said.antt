@@ -1,6 +1,6 @@
 -- A plan is what its text says.
 use Rattle.std.proofs.Common.{◌≡◌, List, [], ◌∷◌, map, refl, ap}
-use Rattle.metis_ids.specs.Plans.{Dup, Plan}
+use Rattle.metis_ids.specs.Plans.{Dup}
 use Rattle.metis_text.specs.Reads.{dup_row}
 use Rattle.metis_top.specs.Commands.{dup_said}
 

@@ -1,33 +1,20 @@
 -- The replies to the lines of a session, one after the other.
-use Rattle.std.proofs.Common.{◌≡◌, ◌≢◌, ℕ, suc, ◌+◌, ◌-◌, ◌<◌, ◌≤◌, nat_eq, Bool, true, false, cond, List, [], ◌∷◌, ◌++◌, map, take, drop, get_or, codes, Option, Some, None, Result, Ok, Err, refl, sym, ap, ◌∙◌, subst, append_assoc, append-nil, arith}
+use Rattle.std.proofs.Common.{◌≡◌, ◌≢◌, ℕ, suc, ◌+◌, ◌-◌, ◌<◌, ◌≤◌, nat_eq, Bool, true, false, cond, List, [], ◌∷◌, ◌++◌, map, take, drop, get_or, codes, refl, sym, ap, ◌∙◌, subst, append_assoc, append-nil, arith}
 use Rattle.std.proofs.Math.Seq.{drop-cons}
 use Rattle.std.proofs.lemmas.Bool.{cond-false, cond-true}
 use Rattle.std.proofs.lemmas.Bool.Decides.{nat_tests}
 use Rattle.std.proofs.lemmas.List.{map-append, take-append-drop, take_all, take_more}
-use Rattle.std.specs.Str.{bytes_eq}
-use Rattle.std.specs.List.{list_all}
-use Rattle.std.specs.Prelude.{nat_le, length, ◌&&◌}
+use Rattle.std.specs.Prelude.{length}
 use Rattle.std.specs.declared.option.Option.{Option as Known}
-use Rattle.metis_ids.specs.declared.actions.Action.{Action}
-use Rattle.metis_universe.specs.Config.{Config}
 use Rattle.metis_universe.specs.Universe.{Universe, is_empty}
-use Rattle.metis_text.specs.Tokens.{tokens}
 use Rattle.metis_outside.proofs.Writing.{Appends-trans, front_of_first, front_of_second}
 use Rattle.metis_outside.specs.Writes.{Appends, AppendsFront}
-use Rattle.metis_actions.specs.Faults.{fault_of}
-use Rattle.metis_actions.specs.declared.faults.AFault.{AFault}
-use Rattle.metis_replay.specs.Progress.{shortage}
 use Rattle.metis_sim.proofs.Answered.{each_answer}
 use Rattle.metis_sim.proofs.Courses.{answer_after_quit, goes_on, over_by_bye, reply_not_ended}
-use Rattle.metis_sim.specs.Checks.{check_reply, most_targets, pairs_of, reply_on, said_by}
-use Rattle.metis_sim.specs.Orders.{action_in}
 use Rattle.metis_sim.specs.Replies.{reply_lines}
-use Rattle.metis_sim.specs.Session.{Answer, Session, acted, after_line, after_lines, answer, answer_to_line, answer_to_words, done_by, reply, session_of, undone, undone_by}
-use Rattle.metis_sim.specs.Words.{is_pair_word}
-use Rattle.metis_sim.specs.declared.misread.Misread.{Misread}
-use Rattle.metis_sim.specs.declared.misread.Misread.TheVariants.{Absent, Form, Name}
+use Rattle.metis_sim.specs.Session.{Answer, Session, after_line, after_lines, answer, reply}
 use Rattle.metis_sim.specs.declared.reply.Reply.{Reply}
-use Rattle.metis_sim.specs.declared.reply.Reply.TheVariants.{BadLine, Bye, Ended, Show}
+use Rattle.metis_sim.specs.declared.reply.Reply.TheVariants.{Bye, Ended}
 use Rattle.metis_top.specs.Simulated.{replies_to, without_empty_end}
 
 -- ---- some lines, and then others

@@ -1,4 +1,4 @@
-use Rattle.std.proofs.Common.{◌≡◌, List, refl, sym, ap}
+use Rattle.std.proofs.Common.{◌≡◌, List, ap}
 use Rattle.metis_ids.specs.Plans.{Dup, Plan}
 use Rattle.metis_text.specs.Reading.{Parts}
 use Rattle.metis_text.specs.Reads.{lists_of, parts_of}

@@ -1,4 +1,4 @@
-use Rattle.std.proofs.Common.{[], ◌∷◌, ◌∙◌, ap, refl, subst}
+use Rattle.std.proofs.Common.{[], ◌∷◌, refl}
 use Rattle.metis_audit.specs.Audits.{IsAnswer}
 use Rattle.metis_audit.specs.declared.answers.Answer.{Answer}
 use Rattle.metis_audit.specs.declared.answers.Answer.TheVariants as audit
