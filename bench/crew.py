@@ -1,7 +1,7 @@
 #!/usr/bin/env python3
 """Times how a crew takes turns over plans, up to one near the largest, with as many turns as actions, and checks the answers.
 
-    crew.py PROGRAM [TYPES ..]
+    crew.py PROGRAM [TARGETS ..]
 
 PROGRAM is the built planner, as crates/metis/out/metis. The plans are those of replay.py. Each is printed by `plan`, and then a
 crew takes turns over it in three orders. Whose turn it is, and what an answer may be, is told by the plan's text. The least time of
@@ -17,7 +17,7 @@ import tempfile
 from pathlib import Path
 
 sys.dont_write_bytecode = True
-from replay import SIZES, STATES, TARGETS, document, expected, long_name
+from replay import SIZES, document, expected, goals
 
 RUNS = 2
 
@@ -90,22 +90,21 @@ def timed(command, out):
     return os.waitstatus_to_exitcode(status), best, most
 
 
-def printed(program, folder, types):
+def printed(program, folder, size):
     """The universe, the plan's file and its text; or none where it does not have the actions that it has to have."""
     universe, plan = folder / "u.json", folder / "p.txt"
-    universe.write_text(json.dumps(document(types), separators=(",", ":")) + "\n")
-    targets = [f"{long_name('t0')}:{long_name(f's{STATES - 1}')}"] * TARGETS
+    universe.write_text(json.dumps(document(), separators=(",", ":")) + "\n")
     with open(plan, "wb") as out:
-        subprocess.run([program, "plan", str(universe), *targets], stdin=subprocess.DEVNULL, stdout=out, check=False)
+        subprocess.run([program, "plan", str(universe), *goals(size)], stdin=subprocess.DEVNULL, stdout=out, check=False)
     text = plan.read_text()
-    instances, actions = expected(types)
+    instances, actions = expected(size)
     head = f"metis plan 1\ninstances {instances} actions {actions} dups 0\n"
     return (universe, plan, text) if text.startswith(head) else None
 
 
 def main(words):
     if not words:
-        print("usage: crew.py PROGRAM [TYPES ..]", file=sys.stderr)
+        print("usage: crew.py PROGRAM [TARGETS ..]", file=sys.stderr)
         return 2
     program, sizes = words[0], [int(word) for word in words[1:]] or SIZES
     print("| " + " | ".join(COLUMNS) + " |")
@@ -113,10 +112,10 @@ def main(words):
     before = {}
     with tempfile.TemporaryDirectory() as name:
         folder = Path(name)
-        for types in sizes:
-            files = printed(program, folder, types)
+        for size in sizes:
+            files = printed(program, folder, size)
             if files is None:
-                print(f"crew.py: {types} types: the plan is not the one that has to come", file=sys.stderr)
+                print(f"crew.py: {size} targets: the plan is not the one that has to come", file=sys.stderr)
                 return 1
             universe, plan, text = files
             actors, after = actions_of(text)
@@ -127,7 +126,7 @@ def main(words):
                 status, seconds, megabytes = timed([program, "crew", str(universe), str(plan), str(script)], out)
                 with open(out) as lines:
                     if status != 0 or not answers_are_right(turns, actors, after, lines):
-                        print(f"crew.py: {types} types, {kind.__name__}: a wrong answer", file=sys.stderr)
+                        print(f"crew.py: {size} targets, {kind.__name__}: a wrong answer", file=sys.stderr)
                         return 1
                 each = seconds / len(actors)
                 ratio = f"{each / before[kind]:.2f}" if kind in before else "-"

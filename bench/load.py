@@ -35,8 +35,8 @@ def main():
     for size in SIZES:
         runs = [run(sys.argv[1], size) for _ in range(RUNS)]
         words = runs[0][0].split()
-        begins = ["load", str(size), "pairs", str(8 * size), "targets", str(2 * size), "instances"]
-        if words[:7] != begins or words[-1] != "good" or words[10:12] != ["dups", "0"]:
+        counts = {"load": size, "pairs": 8 * size, "targets": 2 * size, "instances": 3 * size, "actions": 18 * size - 3, "dups": size}
+        if words != [word for name, count in counts.items() for word in (name, str(count))] + ["good"]:
             sys.exit(f"load {size}: {runs[0][0]}")
         seconds = min(time for _, time in runs)
         ratio = "-" if before is None else f"{seconds / before:.2f}"

@@ -3,8 +3,8 @@
 
     replay.py PROGRAM
 
-PROGRAM is the built planner, as crates/metis/out/metis. The largest universe is near the limits, and so is its plan.
-Each plan is printed by `plan`, then read by `replay` with its last line cut off, which ends the run before the replay,
+PROGRAM is the built planner, as crates/metis/out/metis. The universe is near the limits, and the plans are for up to as many
+targets as there may be. Each plan is printed by `plan`, then read by `replay` with its last line cut off, which ends the run before the replay,
 and at last replayed whole. The status is 1 where an answer is not the one that has to come. docs/BENCHMARKS.md says how
 to read the table.
 """
@@ -17,11 +17,11 @@ import time
 from pathlib import Path
 
 STATES = 64
-SIZES = (4, 8, 16, 31)
-TARGETS = 256
+TYPES = 31
+SIZES = (32, 64, 128, 256)
 RUNS = 3
 
-COLUMNS = ("types", "actions", "MB", "written", "read", "read and replayed", "read, by the MB", "replayed, by the MB")
+COLUMNS = ("targets", "actions", "MB", "written", "read", "read and replayed", "read, by the MB", "replayed, by the MB")
 
 
 def long_name(short):
@@ -49,11 +49,11 @@ def chain(number):
     return {"name": long_name(f"t{number}"), "initial": states[0]["name"], "states": states}
 
 
-def document(types):
-    """The universe: one type that provides the common ports from the start, and so many chains."""
+def document():
+    """The universe: one type that provides the common ports from the start, and the chains."""
     common = {"name": long_name("up"), "provide": [port(one) for one in range(4)]}
     first = {"name": long_name("common"), "initial": common["name"], "states": [common]}
-    return {"aeolus": 1, "types": [first] + [chain(number) for number in range(types)]}
+    return {"aeolus": 1, "types": [first] + [chain(number) for number in range(TYPES)]}
 
 
 def actions_to(place):
@@ -62,12 +62,14 @@ def actions_to(place):
     return 1 if place == 0 else 1 + 5 * place - 2
 
 
-def expected(types):
-    """The instances and actions of the plan: one instance for each pair, since each is the first provider of a port, and
-    one for each target."""
-    standing = types * STATES + 1
-    actions = 1 + types * sum(actions_to(place) for place in range(STATES)) + TARGETS * actions_to(STATES - 1)
-    return standing + TARGETS, actions
+def goals(targets):
+    """So many target words: the last states of the types in turn."""
+    return [f"{long_name(f't{k % TYPES}')}:{long_name(f's{STATES - 1}')}" for k in range(targets)]
+
+
+def expected(targets):
+    """The instances and actions of the plan: one instance for each target, and the one that provides the common ports."""
+    return targets + 1, 1 + targets * actions_to(STATES - 1)
 
 
 def timed(command, out):
@@ -86,12 +88,12 @@ def fault_of(what, told, wanted):
     return None if told == wanted else f"{what} is {told}, and has to be {wanted}"
 
 
-def measure(program, folder, types):
+def measure(program, folder, size):
     """The numbers of one row: actions, bytes, and three times in seconds; or what is wrong with an answer."""
     universe, plan, verdict = folder / "u.json", folder / "p.txt", folder / "v.txt"
-    universe.write_text(json.dumps(document(types), separators=(",", ":")) + "\n")
-    targets = [f"{long_name('t0')}:{long_name(f's{STATES - 1}')}"] * TARGETS
-    instances, actions = expected(types)
+    universe.write_text(json.dumps(document(), separators=(",", ":")) + "\n")
+    targets = goals(size)
+    instances, actions = expected(size)
 
     written, status = timed([program, "plan", str(universe), *targets], plan)
     with open(plan, "rb") as text:
@@ -123,15 +125,15 @@ def main(words):
     print("| " + " | ".join("---" for _ in COLUMNS) + " |", flush=True)
     first = None
     with tempfile.TemporaryDirectory() as name:
-        for types in SIZES:
-            row, fault = measure(words[0], Path(name), types)
+        for targets in SIZES:
+            row, fault = measure(words[0], Path(name), targets)
             if fault is not None:
-                print(f"replay.py: {types} types: {fault}", file=sys.stderr)
+                print(f"replay.py: {targets} targets: {fault}", file=sys.stderr)
                 return 1
             actions, size, written, read, replayed = row
             each = (read / size, (replayed - read) / size)
             first = first or each
-            cells = (types, actions, f"{size / 1e6:.1f}", f"{written:.2f} s", f"{read:.2f} s", f"{replayed:.2f} s")
+            cells = (targets, actions, f"{size / 1e6:.1f}", f"{written:.2f} s", f"{read:.2f} s", f"{replayed:.2f} s")
             print("| " + " | ".join(map(str, cells)) + f" | {each[0] / first[0]:.2f} | {each[1] / first[1]:.2f} |", flush=True)
     return 0
 

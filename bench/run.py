@@ -17,7 +17,7 @@ from pathlib import Path
 
 sys.dont_write_bytecode = True
 
-from universes import KINDS, document, providers_among, width_of
+from universes import KINDS, document, width_of
 
 SIZES = (500, 1000, 2000)
 RUNS = 3
@@ -28,19 +28,17 @@ COLUMNS = ("kind", "pairs", "instances", "actions", "to 500 pairs", "to the size
 def expected(kind, pairs):
     """How many instances and actions the plan has to have.
 
-    There is one instance for each standing pair (the first provider of some port, needed or not) and one for the
-    target. Here each of them is made in off and moved to on: one `new`, one `move`, and one `bind` for each port that
-    on requires. Nothing is unbound, since off requires nothing.
+    There is one instance for the target and one for each pair that serves it. Here each of them is made in off and moved to
+    on: one `new`, one `move`, and one `bind` for each port that on requires. Nothing is unbound, since off requires nothing, and
+    nothing is doubled, since no on goes on.
     """
     types = pairs // 2
     if kind == "chain":
-        # Each type's on provides a port that no other pair provides, the last one's too. So all of them are standing,
-        # and the last one has a second instance, the target. All but the first type's bind one port.
-        standing, binds = types, (types - 1) + 1
+        # Each type's on serves that of the next one, and all but the first type's bind one port.
+        instances, binds = types, types - 1
     else:
-        # Each provider's on is standing and binds nothing. No user's is, so only the target binds ports.
-        standing, binds = providers_among(types), width_of(types)
-    instances = standing + 1
+        # Each port that the target requires is of another provider, whose on binds nothing.
+        instances, binds = width_of(types) + 1, width_of(types)
     return instances, 2 * instances + binds
 
 
