@@ -6,6 +6,7 @@ pub mod Gathered
 pub mod Loads
 pub mod Misfits
 pub mod NeverLoose
+pub mod NumbersRead
 pub mod Openings
 pub mod OverFiles
 pub mod PrintedAudits
@@ -17,4 +18,5 @@ pub mod SaidLines
 pub mod Sessions
 pub mod Searches
 pub mod Shown
+pub mod Starts
 pub mod TurnsRead

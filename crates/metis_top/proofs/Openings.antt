@@ -8,9 +8,9 @@ use Rattle.metis_top.specs.declared.refusal.Refusal.{Refusal}
 use Rattle.metis_top.specs.declared.refusal.Refusal.TheVariants.{TooLong, Word}
 use Rattle.metis_top.specs.declared.status.Status.{Status}
 use Rattle.metis_top.specs.declared.words.Verb.{Verb}
-use Rattle.metis_top.specs.declared.words.Verb.TheVariants.{Plan, Replay, Refute, Audit, Sim, Crew, Print, Load}
+use Rattle.metis_top.specs.declared.words.Verb.TheVariants.{Plan, Replay, Refute, Audit, Sim, Crew, Waves, Print, Load}
 use Rattle.metis_top.specs.Answer as answer
-use Rattle.metis_top.specs.Commands.{audit_then, plan_said, crew_over, crew_then, judged, or_plan_refused, or_refusal_refused, or_turns_refused, or_universe_refused, pairs_named, plan_limit, refusal_limit, refute_then, replay_then, session_limit, sim_then, turns_limit, command_script, script_from, universe_then}
+use Rattle.metis_top.specs.Commands.{waves_then, audit_then, plan_said, crew_over, crew_then, judged, or_plan_refused, or_refusal_refused, or_turns_refused, or_universe_refused, pairs_named, plan_limit, refusal_limit, refute_then, replay_then, session_limit, sim_then, turns_limit, command_script, script_from, universe_then}
 use Rattle.metis_top.specs.Course.{Ran, AreTaken, IsRead, OnShelf, after}
 use Rattle.metis_ujson.specs.Document.{document_limit, universe_in}
 use Rattle.metis_top.specs.Forms.{file_count}
@@ -58,6 +58,11 @@ at_most_audit u g plan = λ bytes.
     at_most_if 0 (nat_le (length bytes) plan_limit) (judged (λ parts. Reply (answer.Audit u g (plan_said parts) parts.rows.after)) (or_plan_refused (plan_in u bytes))) (TooLong 3)
     (at_most_judged 0 (λ parts. Reply (answer.Audit u g (plan_said parts) parts.rows.after)) (or_plan_refused (plan_in u bytes)) (λ parts. tt))
 
+at_most_waves : (u : Universe) (plan numbers : List ℕ) → IsAtMost 1 (waves_then plan numbers u)
+at_most_waves u plan numbers = λ bytes.
+    at_most_if 0 (nat_le (length bytes) plan_limit) (judged (λ parts. Reply (answer.Waves u parts.rows.actions numbers)) (or_plan_refused (plan_in u bytes))) (TooLong 3)
+    (at_most_judged 0 (λ parts. Reply (answer.Waves u parts.rows.actions numbers)) (or_plan_refused (plan_in u bytes)) (λ parts. tt))
+
 at_most_refute : (u : Universe) (g text : List ℕ) → IsAtMost 1 (refute_then text (u, g))
 at_most_refute u g text = λ bytes.
     at_most_if 0 (nat_le (length bytes) refusal_limit) (judged (λ parts. Reply (answer.Refute u g parts.pairs)) (or_refusal_refused (refusal_in u bytes))) (TooLong 3)
@@ -77,25 +82,27 @@ at_most_crew u plan name = λ bytes.
     (at_most_judged 1 (λ parts. crew_over name u parts.rows.actions) (or_plan_refused (plan_in u bytes)) (λ parts. at_most_crew_over u parts.rows.actions name))
 
 -- the files of each command
-at_most_command : (verb : Verb) (files : List (List ℕ)) (targets : List TargetName) (size : ℕ) → IsAtMost (file_count verb) (command_script verb files targets size)
-at_most_command Plan files targets size = at_most_universe 0 2 (word_at files 0) _ (λ u. at_most_judged 0 (λ g. Reply (answer.Plan u g)) (pairs_named 3 u targets) (λ g. tt))
-at_most_command Replay files targets size = at_most_universe 1 2 (word_at files 0) _ (λ u. at_most_judged 1 (λ g. replay_then (word_at files 1) (u, g)) (pairs_named 4 u targets) (λ g. at_most_replay u g (word_at files 1)))
-at_most_command Refute files targets size = at_most_universe 1 2 (word_at files 0) _ (λ u. at_most_judged 1 (λ g. refute_then (word_at files 1) (u, g)) (pairs_named 4 u targets) (λ g. at_most_refute u g (word_at files 1)))
-at_most_command Audit files targets size = at_most_universe 1 2 (word_at files 0) _ (λ u. at_most_judged 1 (λ g. audit_then (word_at files 1) (u, g)) (pairs_named 4 u targets) (λ g. at_most_audit u g (word_at files 1)))
-at_most_command Sim files targets size = at_most_universe 1 2 (word_at files 0) _ (λ u. at_most_sim u (word_at files 1))
-at_most_command Crew files targets size = at_most_universe 2 2 (word_at files 0) _ (λ u. at_most_crew u (word_at files 1) (word_at files 2))
-at_most_command Print files targets size = at_most_universe 0 2 (word_at files 0) _ (λ u. tt)
-at_most_command Load files targets size = tt
+at_most_command : (verb : Verb) (files : List (List ℕ)) (targets : List TargetName) (size : ℕ) (numbers : List ℕ) → IsAtMost (file_count verb) (command_script verb files targets size numbers)
+at_most_command Plan files targets size numbers = at_most_universe 0 2 (word_at files 0) _ (λ u. at_most_judged 0 (λ g. Reply (answer.Plan u g)) (pairs_named 3 u targets) (λ g. tt))
+at_most_command Replay files targets size numbers = at_most_universe 1 2 (word_at files 0) _ (λ u. at_most_judged 1 (λ g. replay_then (word_at files 1) (u, g)) (pairs_named 4 u targets) (λ g. at_most_replay u g (word_at files 1)))
+at_most_command Refute files targets size numbers = at_most_universe 1 2 (word_at files 0) _ (λ u. at_most_judged 1 (λ g. refute_then (word_at files 1) (u, g)) (pairs_named 4 u targets) (λ g. at_most_refute u g (word_at files 1)))
+at_most_command Audit files targets size numbers = at_most_universe 1 2 (word_at files 0) _ (λ u. at_most_judged 1 (λ g. audit_then (word_at files 1) (u, g)) (pairs_named 4 u targets) (λ g. at_most_audit u g (word_at files 1)))
+at_most_command Sim files targets size numbers = at_most_universe 1 2 (word_at files 0) _ (λ u. at_most_sim u (word_at files 1))
+at_most_command Crew files targets size numbers = at_most_universe 2 2 (word_at files 0) _ (λ u. at_most_crew u (word_at files 1) (word_at files 2))
+at_most_command Waves files targets size numbers = at_most_universe 1 2 (word_at files 0) _ (λ u. at_most_waves u (word_at files 1) numbers)
+at_most_command Print files targets size numbers = at_most_universe 0 2 (word_at files 0) _ (λ u. tt)
+at_most_command Load files targets size numbers = tt
 
-first_read : (verb : Verb) (files : List (List ℕ)) (targets : List TargetName) (size : ℕ) → 1 ≤ file_count verb → IsRead (command_script verb files targets size)
-first_read Plan files targets size some = tt
-first_read Replay files targets size some = tt
-first_read Refute files targets size some = tt
-first_read Audit files targets size some = tt
-first_read Sim files targets size some = tt
-first_read Crew files targets size some = tt
-first_read Print files targets size some = tt
-first_read Load files targets size some = absurd (omega (arith, some))
+first_read : (verb : Verb) (files : List (List ℕ)) (targets : List TargetName) (size : ℕ) (numbers : List ℕ) → 1 ≤ file_count verb → IsRead (command_script verb files targets size numbers)
+first_read Plan files targets size numbers some = tt
+first_read Replay files targets size numbers some = tt
+first_read Refute files targets size numbers some = tt
+first_read Audit files targets size numbers some = tt
+first_read Sim files targets size numbers some = tt
+first_read Crew files targets size numbers some = tt
+first_read Waves files targets size numbers some = tt
+first_read Print files targets size numbers some = tt
+first_read Load files targets size numbers some = absurd (omega (arith, some))
 
 -- what is left of a script after so many files
 record Left (n : ℕ) (taken : List (List ℕ)) (script : Script) : Type 0 where
@@ -147,7 +154,7 @@ pub ran_opens : {S K : Type 0} (files : S → Known (List ℕ → List ℕ)) (fa
     (form : Result Form ℕ) (shelf shelf' : S) (sink sink' : K) (status : Status) → Ran files faults opens written sink_faults (script_from form) shelf shelf' sink sink' status
     → OpensFiles form status (opens shelf) (opens shelf')
 ran_opens files faults opens written sink_faults (Ok form) shelf shelf' sink sink' status r =
-    let script = command_script form.verb form.files form.targets form.size in
-    let left = left_after (files shelf) (file_count form.verb) r.taken script (at_most_command form.verb form.files form.targets form.size) r.asked in
-    opens_some (file_count form.verb) r.taken (after r.taken script) _ _ _ _ _ _ status left (some_taken (file_count form.verb) r.taken script (first_read form.verb form.files form.targets form.size)) r.reads
+    let script = command_script form.verb form.files form.targets form.size form.numbers in
+    let left = left_after (files shelf) (file_count form.verb) r.taken script (at_most_command form.verb form.files form.targets form.size form.numbers) r.asked in
+    opens_some (file_count form.verb) r.taken (after r.taken script) _ _ _ _ _ _ status left (some_taken (file_count form.verb) r.taken script (first_read form.verb form.files form.targets form.size form.numbers)) r.reads
 ran_opens files faults opens written sink_faults (Err place) shelf shelf' sink sink' status r = none_taken (files shelf) place r.taken _ _ _ _ _ _ status r.asked r.reads

@@ -8,7 +8,7 @@ use Rattle.metis_top.specs.declared.refusal.Refusal.TheVariants as refusal
 use Rattle.metis_top.specs.declared.status.Status.{Status}
 use Rattle.metis_top.specs.declared.status.Status.TheVariants.{Done, No, ReadFault}
 use Rattle.metis_top.specs.declared.words.Verb.{Verb}
-use Rattle.metis_top.specs.declared.words.Verb.TheVariants.{Plan, Replay, Refute, Audit, Sim, Crew, Print, Load}
+use Rattle.metis_top.specs.declared.words.Verb.TheVariants.{Plan, Replay, Refute, Audit, Sim, Crew, Waves, Print, Load}
 use Rattle.metis_top.specs.Answer as answer
 use Rattle.metis_top.specs.Answer.{Answer, IsAnswer}
 use Rattle.metis_replay.specs.declared.verdict.Verdict.{Verdict}
@@ -16,7 +16,7 @@ use Rattle.metis_replay.specs.declared.verdict.Verdict.TheVariants.{Good, Bad, M
 use Rattle.metis_ids.specs.declared.actions.Action.{Action}
 use Rattle.metis_text.specs.Reading.{plan_in}
 use Rattle.metis_text.specs.RefusalReading.{refusal_in}
-use Rattle.metis_top.specs.Commands.{audit_then, plan_said, universe_then, crew_over, crew_then, judged, or_plan_refused, or_refusal_refused, or_turns_refused, or_universe_refused, pairs_named, plan_limit, refusal_limit, refute_then, replay_then, session_limit, sim_then, turns_limit, command_script, script_from}
+use Rattle.metis_top.specs.Commands.{waves_then, audit_then, plan_said, universe_then, crew_over, crew_then, judged, or_plan_refused, or_refusal_refused, or_turns_refused, or_universe_refused, pairs_named, plan_limit, refusal_limit, refute_then, replay_then, session_limit, sim_then, turns_limit, command_script, script_from}
 use Rattle.metis_refusal.specs.declared.verdict.Verdict2.{Verdict2}
 use Rattle.metis_refusal.specs.declared.verdict.Verdict2.TheVariants.{Closed, NotFree, Open, LacksNone}
 use Rattle.metis_audit.specs.declared.answers.Answer.{Answer as AuditAnswer}
@@ -65,6 +65,9 @@ answer_status (answer.Sim u script) lines status is = inl is.is
 answer_status (answer.Crew u actions zs) lines status (inl bad) = inr bad.is
 answer_status (answer.Crew u actions zs) lines status (inr (inl loose)) = inr loose.is
 answer_status (answer.Crew u actions zs) lines status (inr (inr taken)) = inl taken.is
+answer_status (answer.Waves u actions numbers) lines status (inl bad) = inr bad.is
+answer_status (answer.Waves u actions numbers) lines status (inr (inl loose)) = inr loose.is
+answer_status (answer.Waves u actions numbers) lines status (inr (inr scheduled)) = inl scheduled.is
 answer_status (answer.Print u) lines status is = inl is.1
 answer_status (answer.Load size) lines status is = inl is.is
 
@@ -131,6 +134,13 @@ numbered_audit u g plan = (
       (numbered_judged 4 (λ parts. Reply (answer.Audit u g (plan_said parts) parts.rows.after)) (or_plan_refused (plan_in u bytes)) (λ parts. tt)),
 )
 
+numbered_waves : (u : Universe) (plan numbers : List ℕ) → Numbered 3 (waves_then plan numbers u)
+numbered_waves u plan numbers = (
+  refl,
+  λ bytes. numbered_if 4 (nat_le (length bytes) plan_limit) (judged (λ parts. Reply (answer.Waves u parts.rows.actions numbers)) (or_plan_refused (plan_in u bytes))) (TooLong 3)
+      (numbered_judged 4 (λ parts. Reply (answer.Waves u parts.rows.actions numbers)) (or_plan_refused (plan_in u bytes)) (λ parts. tt)),
+)
+
 numbered_refute : (u : Universe) (g text : List ℕ) → Numbered 3 (refute_then text (u, g))
 numbered_refute u g text = (
   refl,
@@ -156,18 +166,19 @@ numbered_crew u plan name = (
 )
 
 -- the script of each command
-numbered_command : (verb : Verb) (files : List (List ℕ)) (targets : List TargetName) (size : ℕ) → Numbered 2 (command_script verb files targets size)
-numbered_command Plan files targets size = numbered_universe 2 (word_at files 0) _ (λ u. numbered_judged 3 (λ g. Reply (answer.Plan u g)) (pairs_named 3 u targets) (λ g. tt))
-numbered_command Replay files targets size = numbered_universe 2 (word_at files 0) _ (λ u. numbered_judged 3 (λ g. replay_then (word_at files 1) (u, g)) (pairs_named 4 u targets) (λ g. numbered_replay u g (word_at files 1)))
-numbered_command Refute files targets size = numbered_universe 2 (word_at files 0) _ (λ u. numbered_judged 3 (λ g. refute_then (word_at files 1) (u, g)) (pairs_named 4 u targets) (λ g. numbered_refute u g (word_at files 1)))
-numbered_command Audit files targets size = numbered_universe 2 (word_at files 0) _ (λ u. numbered_judged 3 (λ g. audit_then (word_at files 1) (u, g)) (pairs_named 4 u targets) (λ g. numbered_audit u g (word_at files 1)))
-numbered_command Sim files targets size = numbered_universe 2 (word_at files 0) _ (λ u. numbered_sim u (word_at files 1))
-numbered_command Crew files targets size = numbered_universe 2 (word_at files 0) _ (λ u. numbered_crew u (word_at files 1) (word_at files 2))
-numbered_command Print files targets size = numbered_universe 2 (word_at files 0) _ (λ u. tt)
-numbered_command Load files targets size = tt
+numbered_command : (verb : Verb) (files : List (List ℕ)) (targets : List TargetName) (size : ℕ) (numbers : List ℕ) → Numbered 2 (command_script verb files targets size numbers)
+numbered_command Plan files targets size numbers = numbered_universe 2 (word_at files 0) _ (λ u. numbered_judged 3 (λ g. Reply (answer.Plan u g)) (pairs_named 3 u targets) (λ g. tt))
+numbered_command Replay files targets size numbers = numbered_universe 2 (word_at files 0) _ (λ u. numbered_judged 3 (λ g. replay_then (word_at files 1) (u, g)) (pairs_named 4 u targets) (λ g. numbered_replay u g (word_at files 1)))
+numbered_command Refute files targets size numbers = numbered_universe 2 (word_at files 0) _ (λ u. numbered_judged 3 (λ g. refute_then (word_at files 1) (u, g)) (pairs_named 4 u targets) (λ g. numbered_refute u g (word_at files 1)))
+numbered_command Audit files targets size numbers = numbered_universe 2 (word_at files 0) _ (λ u. numbered_judged 3 (λ g. audit_then (word_at files 1) (u, g)) (pairs_named 4 u targets) (λ g. numbered_audit u g (word_at files 1)))
+numbered_command Sim files targets size numbers = numbered_universe 2 (word_at files 0) _ (λ u. numbered_sim u (word_at files 1))
+numbered_command Crew files targets size numbers = numbered_universe 2 (word_at files 0) _ (λ u. numbered_crew u (word_at files 1) (word_at files 2))
+numbered_command Waves files targets size numbers = numbered_universe 2 (word_at files 0) _ (λ u. numbered_waves u (word_at files 1) numbers)
+numbered_command Print files targets size numbers = numbered_universe 2 (word_at files 0) _ (λ u. tt)
+numbered_command Load files targets size numbers = tt
 
 numbered_script : (form : Result Form ℕ) → Numbered 2 (script_from form)
-numbered_script (Ok form) = numbered_command form.verb form.files form.targets form.size
+numbered_script (Ok form) = numbered_command form.verb form.files form.targets form.size form.numbers
 numbered_script (Err place) = tt
 
 pub ran_read_fault : {S K : Type 0} (files : S → Known (List ℕ → List ℕ)) (faults opens : S → ℕ) (written : K → Known (List (List ℕ))) (sink_faults : K → ℕ)

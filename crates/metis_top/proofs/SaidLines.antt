@@ -2,13 +2,13 @@
 --     SaysLines script      what is said where the script ends so is lines, whatever its files have
 use Rattle.std.proofs.Common.{◌≡◌, ◌≢◌, ℕ, ◌+◌, Bool, true, false, List, [], ◌∷◌, ◌++◌, length, map, Option, Some, None, Result, Ok, Err, refl, sym, ap, subst, inl, inr, nat_le, if◌then◌else◌, decimal, arith}
 use Rattle.std.specs.Prelude.{codes}
-use Rattle.std.specs.List.{All, list_all}
+use Rattle.std.specs.List.{All, list_all, zip}
 use Rattle.std.proofs.lemmas.Bool.{and_from}
 use Rattle.metis_actions.specs.Faults.{fault_text, fault_tokens}
-use Rattle.std.proofs.lemmas.List.Elements.{All-append, All-cons}
+use Rattle.std.proofs.lemmas.List.Elements.{All-append, All-cons, All-nil}
 use Rattle.metis_actions.specs.declared.faults.AFault.{AFault}
 use Rattle.metis_actions.specs.declared.faults.AFault.TheVariants as afault
-use Rattle.metis_outside.proofs.Feeds.{IsLine-append, IsLine-from, no_feed, no_feed-decimal, no_feed-join_with_byte, one_line}
+use Rattle.metis_outside.proofs.Feeds.{IsLine-append, IsLine-from, no_feed, no_feed-append, no_feed-decimal, no_feed-join_with_byte, one_line}
 use Rattle.metis_outside.proofs.Writing.{front_of_all, front_of_kept}
 use Rattle.metis_outside.specs.Pieces.{IsLine}
 use Rattle.metis_refusal.specs.declared.verdict.Verdict2.{Verdict2}
@@ -24,6 +24,7 @@ use Rattle.metis_universe.specs.Config.{Binding, Config}
 use Rattle.metis_text.proofs.LineFeeds.{no_feed-pair_word, no_feed-port_name_of, plan_lines_are_lines, refusal_lines_are_lines}
 use Rattle.metis_text.proofs.NamedFaults.{plan_in_named, refusal_in_named}
 use Rattle.metis_universe.specs.PairWords.{pair_word}
+use Rattle.metis_text.specs.Line.{added, numbered}
 use Rattle.metis_text.specs.Reading.{Parts, plan_in}
 use Rattle.metis_text.specs.RefusalReading.{RefusalParts, refusal_in}
 use Rattle.metis_text.specs.declared.fault.TFault.{TFault}
@@ -42,7 +43,7 @@ use Rattle.metis_crew.specs.declared.turn.Turn.TheVariants as turn
 use Rattle.metis_gen.specs.Generated.{generated, generated_targets}
 use Rattle.metis_top.specs.Answer as answer
 use Rattle.metis_top.specs.Answer.{Answer, IsAnswer}
-use Rattle.metis_top.specs.Commands.{audit_then, plan_said, command_script, crew_over, crew_then, judged, or_plan_refused, or_refusal_refused, or_turns_refused, or_universe_refused, or_word, pair_then, pairs_after, pairs_named, plan_limit, refusal_limit, refute_then, replay_then, script_from, session_limit, sim_then, targets_then, turns_limit, universe_then}
+use Rattle.metis_top.specs.Commands.{waves_then, audit_then, plan_said, command_script, crew_over, crew_then, judged, or_plan_refused, or_refusal_refused, or_turns_refused, or_universe_refused, or_word, pair_then, pairs_after, pairs_named, plan_limit, refusal_limit, refute_then, replay_then, script_from, session_limit, sim_then, targets_then, turns_limit, universe_then}
 use Rattle.metis_top.specs.Course.{Ran, Says, Shown, after}
 use Rattle.metis_top.specs.Crewed.{last_line, loose_line, progress_line, turn_line}
 use Rattle.metis_top.specs.Judged as judged_specs
@@ -64,7 +65,8 @@ use Rattle.metis_audit.specs.declared.answers.Answer.{Answer as AuditAnswer}
 use Rattle.metis_audit.specs.declared.answers.Answer.TheVariants as audit
 use Rattle.metis_ids.specs.Plans as plans
 use Rattle.metis_top.specs.Audited.{audit_line}
-use Rattle.metis_top.specs.declared.words.Verb.TheVariants.{Plan, Replay, Refute, Audit, Sim, Crew, Print, Load}
+use Rattle.metis_top.specs.Waved.{chain_line, end_lines, finish_line, start_line, start_lines}
+use Rattle.metis_top.specs.declared.words.Verb.TheVariants.{Plan, Replay, Refute, Audit, Sim, Crew, Waves, Print, Load}
 use Rattle.std.specs.declared.option.Option.{Option as Known}
 
 no_lines : All IsLine []
@@ -161,6 +163,20 @@ IsLine-progress_line done all = by_two (codes "progress ") done (codes " of ") a
 IsLine-loose_line : (k : ℕ) → IsLine (loose_line k)
 IsLine-loose_line k = by_number (codes "loose ") k refl
 
+no_feed-added_numbers : (ks : List ℕ) → no_feed (added (map decimal ks)) ≡ true
+no_feed-added_numbers [] = refl
+no_feed-added_numbers (k ∷ ks) = no_feed-append (codes " " ++ decimal k) (added (map decimal ks)) (no_feed-append (codes " ") (decimal k) refl (no_feed-decimal k)) (no_feed-added_numbers ks)
+
+IsLine-chain_line : (ks : List ℕ) → IsLine (chain_line ks)
+IsLine-chain_line ks = IsLine-from (codes "chain" ++ added (map decimal ks)) (no_feed-append (codes "chain") (added (map decimal ks)) refl (no_feed-added_numbers ks))
+
+IsLine-start_line : (k : ℕ) (row : ℕ × ℕ) → IsLine (start_line k row)
+IsLine-start_line k row = IsLine-append (decimal k) (codes " at " ++ (decimal row.0 ++ (codes " to " ++ (decimal row.1 ++ codes "\n")))) (no_feed-decimal k) (by_two (codes " at ") row.0 (codes " to ") row.1 refl refl)
+
+starts_are_lines : (k : ℕ) (rows : List (ℕ × ℕ)) → All IsLine (numbered start_line k rows)
+starts_are_lines k [] = All-nil IsLine
+starts_are_lines k (row ∷ rows) = All-cons IsLine (start_line k row) (numbered start_line (k + 1) rows) (IsLine-start_line k row) (starts_are_lines (k + 1) rows)
+
 module _ (u : Universe) (named : IsNamed u) where
   no_feed-fault_tokens : (f : AFault) → list_all no_feed (fault_tokens u f) ≡ true
   no_feed-fault_tokens (afault.InUse z) = and_from _ _ (no_feed-decimal z) refl
@@ -255,6 +271,15 @@ module _ (u : Universe) (table : IsTable u) where
 
   sim_answers : (script : List ℕ) → AnswersLines (answer.Sim u script)
   sim_answers script lines status is = subst (All IsLine) (sym is.told) (replies_are_lines u table.named (begin u) (script_lines script))
+
+  waves_answers : (actions : List Action) (numbers : List ℕ) → AnswersLines (answer.Waves u actions numbers)
+  waves_answers actions numbers lines status (inl bad) = just_one _ lines (IsLine-verdict_line u table.named 0 0 (Bad bad.number bad.fault)) bad.told
+  waves_answers actions numbers lines status (inr (inl loose)) = just_one _ lines (IsLine-loose_line loose.number) loose.told
+  waves_answers actions numbers lines status (inr (inr scheduled)) =
+      let w = scheduled.schedules in
+      subst (All IsLine) (sym scheduled.told)
+      (All-append IsLine (start_lines w.earliest w.latest) (end_lines w.finish w.chain) (starts_are_lines 1 (zip w.earliest w.latest))
+      (All-cons IsLine (finish_line w.finish) (chain_line w.chain ∷ []) (by_number (codes "finish ") w.finish refl) (one_line (chain_line w.chain) (IsLine-chain_line w.chain))))
 
   crew_answers : (actions : List Action) (zs : List ℕ) → AnswersLines (answer.Crew u actions zs)
   crew_answers actions zs lines status (inl bad) = just_one _ lines (IsLine-verdict_line u table.named 0 0 (Bad bad.number bad.fault)) bad.told
@@ -361,6 +386,12 @@ lines_audit u table g plan = λ bytes.
     lines_if (nat_le (length bytes) plan_limit) (judged next (or_plan_refused (plan_in u bytes))) 3
     (lines_judged next (or_plan_refused (plan_in u bytes)) (audit_answers u table g) (plan_refuses (plan_in u bytes) (plan_in_named u bytes)))
 
+lines_waves : (u : Universe) → IsTable u → (plan numbers : List ℕ) → SaysLines (waves_then plan numbers u)
+lines_waves u table plan numbers = λ bytes.
+    let next : Parts → Script = λ parts. Reply (answer.Waves u parts.rows.actions numbers) in
+    lines_if (nat_le (length bytes) plan_limit) (judged next (or_plan_refused (plan_in u bytes))) 3
+    (lines_judged next (or_plan_refused (plan_in u bytes)) (λ parts. waves_answers u table parts.rows.actions numbers) (plan_refuses (plan_in u bytes) (plan_in_named u bytes)))
+
 lines_refute : (u : Universe) → IsTable u → (g text : List ℕ) → SaysLines (refute_then text (u, g))
 lines_refute u table g text = λ bytes.
     let next : RefusalParts → Script = λ parts. Reply (answer.Refute u g parts.pairs) in
@@ -382,18 +413,19 @@ lines_crew u table plan name = λ bytes.
     (lines_judged next (or_plan_refused (plan_in u bytes)) (λ parts. lines_crew_over u table parts.rows.actions name) (plan_refuses (plan_in u bytes) (plan_in_named u bytes)))
 
 -- the script of each command
-lines_command : (verb : Verb) (files : List (List ℕ)) (targets : List TargetName) (size : ℕ) → SaysLines (command_script verb files targets size)
-lines_command Plan files targets size = lines_universe 2 (word_at files 0) _ (λ u table. lines_targets 3 u targets (λ g. Reply (answer.Plan u g)) (plan_answers u table))
-lines_command Replay files targets size = lines_universe 2 (word_at files 0) _ (λ u table. lines_targets 4 u targets (λ g. replay_then (word_at files 1) (u, g)) (λ g. lines_replay u table g (word_at files 1)))
-lines_command Refute files targets size = lines_universe 2 (word_at files 0) _ (λ u table. lines_targets 4 u targets (λ g. refute_then (word_at files 1) (u, g)) (λ g. lines_refute u table g (word_at files 1)))
-lines_command Audit files targets size = lines_universe 2 (word_at files 0) _ (λ u table. lines_targets 4 u targets (λ g. audit_then (word_at files 1) (u, g)) (λ g. lines_audit u table g (word_at files 1)))
-lines_command Sim files targets size = lines_universe 2 (word_at files 0) _ (λ u table. lines_sim u table (word_at files 1))
-lines_command Crew files targets size = lines_universe 2 (word_at files 0) _ (λ u table. lines_crew u table (word_at files 1) (word_at files 2))
-lines_command Print files targets size = lines_universe 2 (word_at files 0) _ (λ u table. print_answers u)
-lines_command Load files targets size = load_answers size
+lines_command : (verb : Verb) (files : List (List ℕ)) (targets : List TargetName) (size : ℕ) (numbers : List ℕ) → SaysLines (command_script verb files targets size numbers)
+lines_command Plan files targets size numbers = lines_universe 2 (word_at files 0) _ (λ u table. lines_targets 3 u targets (λ g. Reply (answer.Plan u g)) (plan_answers u table))
+lines_command Replay files targets size numbers = lines_universe 2 (word_at files 0) _ (λ u table. lines_targets 4 u targets (λ g. replay_then (word_at files 1) (u, g)) (λ g. lines_replay u table g (word_at files 1)))
+lines_command Refute files targets size numbers = lines_universe 2 (word_at files 0) _ (λ u table. lines_targets 4 u targets (λ g. refute_then (word_at files 1) (u, g)) (λ g. lines_refute u table g (word_at files 1)))
+lines_command Audit files targets size numbers = lines_universe 2 (word_at files 0) _ (λ u table. lines_targets 4 u targets (λ g. audit_then (word_at files 1) (u, g)) (λ g. lines_audit u table g (word_at files 1)))
+lines_command Sim files targets size numbers = lines_universe 2 (word_at files 0) _ (λ u table. lines_sim u table (word_at files 1))
+lines_command Crew files targets size numbers = lines_universe 2 (word_at files 0) _ (λ u table. lines_crew u table (word_at files 1) (word_at files 2))
+lines_command Waves files targets size numbers = lines_universe 2 (word_at files 0) _ (λ u table. lines_waves u table (word_at files 1) numbers)
+lines_command Print files targets size numbers = lines_universe 2 (word_at files 0) _ (λ u table. print_answers u)
+lines_command Load files targets size numbers = load_answers size
 
 lines_script : (form : Result Form ℕ) → SaysLines (script_from form)
-lines_script (Ok form) = lines_command form.verb form.files form.targets form.size
+lines_script (Ok form) = lines_command form.verb form.files form.targets form.size form.numbers
 lines_script (Err place) = IsLine-word place
 
 -- ---- runs

@@ -11,6 +11,7 @@ use Rattle.metis_top.specs.Loaded.{Loaded}
 use Rattle.metis_top.specs.Planned.{PlanAnswer}
 use Rattle.metis_top.specs.Replayed.{Replayed}
 use Rattle.metis_top.specs.Simulated.{Simulated}
+use Rattle.metis_top.specs.Waved.{Waved}
 use Rattle.metis_top.specs.declared.status.Status.{Status}
 use Rattle.metis_top.specs.declared.status.Status.TheVariants.{Done}
 
@@ -18,7 +19,7 @@ use Rattle.metis_top.specs.declared.status.Status.TheVariants.{Done}
 -- the targets were asked for; or what a set of pairs comes to as a refusal of these targets; or what a plan with these numbers behind its
 -- actions comes to as one for these targets whose dups are forced; or what a session over the universe
 -- replies to the lines of this script; or what a crew over these actions answers to the turns of these instances, where the actions
--- are a steadfast run; or the universe's own document; or the counts of the plan for a generated universe.
+-- are a steadfast run; or when each of these actions may start, by durations of these numbers, where they are a steadfast run; or the universe's own document; or the counts of the plan for a generated universe.
 pub data Answer : Type 0 where
   Plan : (u : Universe) (targets : List ℕ) → Answer
   Replay : (u : Universe) (targets : List ℕ) (actions : List Action) → Answer
@@ -26,6 +27,7 @@ pub data Answer : Type 0 where
   Audit : (u : Universe) (targets : List ℕ) (plan : plans.Plan) (after : List (List ℕ)) → Answer
   Sim : (u : Universe) (script : List ℕ) → Answer
   Crew : (u : Universe) (actions : List Action) (zs : List ℕ) → Answer
+  Waves : (u : Universe) (actions : List Action) (numbers : List ℕ) → Answer
   Print : (u : Universe) → Answer
   Load : (size : ℕ) → Answer
 
@@ -37,5 +39,6 @@ IsAnswer (Refute u targets set) lines status = Judged u targets set lines status
 IsAnswer (Audit u targets plan after) lines status = Audited u targets plan after lines status
 IsAnswer (Sim u script) lines status = Simulated u script lines status
 IsAnswer (Crew u actions zs) lines status = Crewed u actions zs lines status
+IsAnswer (Waves u actions numbers) lines status = Waved u actions numbers lines status
 IsAnswer (Print u) lines status = (lines ≡ canonical u ∷ []) × (status ≡ Done)
 IsAnswer (Load size) lines status = Loaded size lines status

@@ -5,7 +5,7 @@ use Rattle.metis_top.specs.declared.refusal.Refusal.{Refusal}
 use Rattle.metis_top.specs.declared.refusal.Refusal.TheVariants.{Word, TooLong}
 use Rattle.metis_top.specs.declared.refusal.Refusal.TheVariants as refusal
 use Rattle.metis_top.specs.declared.words.Verb.{Verb}
-use Rattle.metis_top.specs.declared.words.Verb.TheVariants.{Plan, Replay, Refute, Audit, Sim, Crew, Print, Load}
+use Rattle.metis_top.specs.declared.words.Verb.TheVariants.{Plan, Replay, Refute, Audit, Sim, Crew, Waves, Print, Load}
 use Rattle.metis_top.specs.Answer as answer
 use Rattle.metis_ids.specs.declared.actions.Action.{Action}
 use Rattle.metis_ids.specs.Plans as plans
@@ -169,6 +169,13 @@ crew_then plan turns u = plan_then 3 u plan (λ parts. crew_over turns u parts.r
 abbrev pub crew_script : List ℕ → List ℕ → List ℕ → Script
 crew_script file plan turns = universe_then 2 file (crew_then plan turns)
 
+-- what the start times of actions want once there is a universe; why these are no steadfast run is told in their place
+abbrev pub waves_then : List ℕ → List ℕ → Universe → Script
+waves_then plan numbers u = plan_then 3 u plan (λ parts. Reply (answer.Waves u parts.rows.actions numbers))
+
+abbrev pub waves_script : List ℕ → List ℕ → List ℕ → Script
+waves_script file plan numbers = universe_then 2 file (waves_then plan numbers)
+
 abbrev pub print_script : List ℕ → Script
 print_script file = universe_then 2 file (λ u. Reply (answer.Print u))
 
@@ -177,19 +184,20 @@ abbrev pub load_script : ℕ → Script
 load_script size = Reply (answer.Load size)
 
 -- the script of each command
-abbrev pub command_script : Verb → List (List ℕ) → List TargetName → ℕ → Script
-command_script Plan files targets size = plan_script (word_at files 0) targets
-command_script Replay files targets size = replay_script (word_at files 0) (word_at files 1) targets
-command_script Refute files targets size = refute_script (word_at files 0) (word_at files 1) targets
-command_script Audit files targets size = audit_script (word_at files 0) (word_at files 1) targets
-command_script Sim files targets size = sim_script (word_at files 0) (word_at files 1)
-command_script Crew files targets size = crew_script (word_at files 0) (word_at files 1) (word_at files 2)
-command_script Print files targets size = print_script (word_at files 0)
-command_script Load files targets size = load_script size
+abbrev pub command_script : Verb → List (List ℕ) → List TargetName → ℕ → List ℕ → Script
+command_script Plan files targets size numbers = plan_script (word_at files 0) targets
+command_script Replay files targets size numbers = replay_script (word_at files 0) (word_at files 1) targets
+command_script Refute files targets size numbers = refute_script (word_at files 0) (word_at files 1) targets
+command_script Audit files targets size numbers = audit_script (word_at files 0) (word_at files 1) targets
+command_script Sim files targets size numbers = sim_script (word_at files 0) (word_at files 1)
+command_script Crew files targets size numbers = crew_script (word_at files 0) (word_at files 1) (word_at files 2)
+command_script Waves files targets size numbers = waves_script (word_at files 0) (word_at files 1) numbers
+command_script Print files targets size numbers = print_script (word_at files 0)
+command_script Load files targets size numbers = load_script size
 
 -- the script of a run from its words
 abbrev pub script_from : Result Form ℕ → Script
-script_from (Ok form) = command_script form.verb form.files form.targets form.size
+script_from (Ok form) = command_script form.verb form.files form.targets form.size form.numbers
 script_from (Err place) = Refuse (Word place)
 
 abbrev pub script_of : List (List ℕ) → Script

@@ -1,7 +1,7 @@
 -- How many words of each kind a command has.
 use Rattle.std.specs.Prelude.{ℕ}
 use Rattle.metis_top.specs.declared.words.Verb.{Verb}
-use Rattle.metis_top.specs.declared.words.Verb.TheVariants.{Plan, Replay, Refute, Audit, Sim, Crew, Print, Load}
+use Rattle.metis_top.specs.declared.words.Verb.TheVariants.{Plan, Replay, Refute, Audit, Sim, Crew, Waves, Print, Load}
 
 -- exactly so many file words
 abbrev pub file_count : Verb → ℕ
@@ -11,6 +11,7 @@ file_count Refute = 2
 file_count Audit = 2
 file_count Sim = 2
 file_count Crew = 3
+file_count Waves = 2
 file_count Print = 1
 file_count Load = 0
 
@@ -22,6 +23,7 @@ target_limit Refute = 256
 target_limit Audit = 256
 target_limit Sim = 0
 target_limit Crew = 0
+target_limit Waves = 0
 target_limit Print = 0
 target_limit Load = 0
 
@@ -34,3 +36,8 @@ least_size _ = 0
 abbrev pub size_limit : Verb → ℕ
 size_limit Load = 128
 size_limit _ = 0
+
+-- exactly so many numbers
+abbrev pub number_count : Verb → ℕ
+number_count Waves = 5
+number_count _ = 0

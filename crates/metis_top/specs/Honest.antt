@@ -32,7 +32,7 @@ pub record Tells (file : List ℕ → List ℕ) (script : Script) (old new : Opt
 -- In any order that keeps its waits the plan meets only correct configurations, and ends with every target.
 abbrev pub Headline : List (List ℕ) → (List ℕ → List ℕ) → Option (List (List ℕ)) → Option (List (List ℕ)) → Status → Type 0
 Headline words file old new status = (name : List ℕ) (targets : List TargetName) (u : Universe) (g : List ℕ)
-    → form_of words ≡ Ok (record { verb = PlanVerb; files = name ∷ []; targets = targets; size = 0 })
+    → form_of words ≡ Ok (record { verb = PlanVerb; files = name ∷ []; targets = targets; size = 0; numbers = [] })
     → length (file name) ≤ document_limit → universe_in (file name) ≡ Ok u → pairs_named 3 u targets ≡ Ok g
     → (lines : List (List ℕ)) × DeploysOrRefuses u g lines status × Appends old new lines
 
@@ -40,6 +40,6 @@ Headline words file old new status = (name : List ℕ) (targets : List TargetNam
 -- line, of which P holds.
 abbrev pub PlansHave : (Universe → List ℕ → Plan → Type 0) → List (List ℕ) → (List ℕ → List ℕ) → Option (List (List ℕ)) → Option (List (List ℕ)) → Status → Type 0
 PlansHave P words file old new status = (name : List ℕ) (targets : List TargetName) (u : Universe) (g : List ℕ)
-    → form_of words ≡ Ok (record { verb = PlanVerb; files = name ∷ []; targets = targets; size = 0 })
+    → form_of words ≡ Ok (record { verb = PlanVerb; files = name ∷ []; targets = targets; size = 0; numbers = [] })
     → length (file name) ≤ document_limit → universe_in (file name) ≡ Ok u → pairs_named 3 u targets ≡ Ok g → status ≡ Done
     → (plan : Plan) × P u g plan × Appends old new (plan_text u plan)

@@ -19,4 +19,5 @@ pub mod Simulated
 pub mod Statuses
 pub mod TargetName
 pub mod Turns
+pub mod Waved
 pub mod Words

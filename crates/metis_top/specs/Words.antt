@@ -2,9 +2,11 @@
 --     target_of word      the names of a type and of a state, with a colon between them
 --     file_fits words k      word k of these is a file word, where those before it are file words too
 --     size_of word      the number that the word is, where it is one from 1 to 128
+--     duration_of word      the number that the word is, where it is at most 1,000,000
+--     numbers_after found place n words      so many such numbers, and nothing behind them
 --     target_fits limit words k      word k of these is a target word, and not past the limit
 --     form_of words      the command that the words are, or the place of the first that does not fit
-use Rattle.std.specs.Prelude.{◌≡◌, ℕ, ◌+◌, nat_le, nat_lt, List, [], ◌∷◌, length, drop, take, Result, Ok, Err, Option, Some, None, Bool, false, not, ◌&&◌, if◌then◌else◌, codes, option_map, slice_get, unwrap_or}
+use Rattle.std.specs.Prelude.{◌≡◌, ℕ, zero, suc, ◌+◌, ◌++◌, nat_le, nat_lt, List, [], ◌∷◌, length, drop, take, Result, Ok, Err, Option, Some, None, Bool, false, not, ◌&&◌, if◌then◌else◌, codes, option_map, slice_get, unwrap_or}
 use Rattle.std.specs.List.{filter_map, find, list_any, range_with_len}
 use Rattle.std.specs.Option.{option_and_then, option_map_or}
 use Rattle.std.specs.Result.{result_ok}
@@ -14,11 +16,11 @@ use Rattle.metis_text.specs.Tokens.{number_in}
 use Rattle.metis_universe.specs.PairWords.{pair_names}
 use Rattle.metis_universe.specs.Texts.{texts}
 use Rattle.metis_universe.specs.Universe.{is_empty}
-use Rattle.metis_top.specs.Forms.{file_count, target_limit}
+use Rattle.metis_top.specs.Forms.{file_count, number_count, target_limit}
 use Rattle.metis_top.specs.TargetName.{TargetName}
 use Rattle.metis_top.specs.declared.words.Command.{Command}
 use Rattle.metis_top.specs.declared.words.Verb.{Verb}
-use Rattle.metis_top.specs.declared.words.Verb.TheVariants.{Plan, Replay, Refute, Audit, Sim, Crew, Print, Load}
+use Rattle.metis_top.specs.declared.words.Verb.TheVariants.{Plan, Replay, Refute, Audit, Sim, Crew, Waves, Print, Load}
 use Rattle.metis_top.specs.declared.words.WordFault.{WordFault}
 use Rattle.metis_top.specs.declared.words.WordFault.TheVariants.{At, NoMemory}
 use Rattle.metis_top.specs.declared.refusal.Refusal.TheVariants.{Word}
@@ -32,6 +34,7 @@ pub record Form : Type 0 where
   pub files : List (List ℕ)
   pub targets : List TargetName
   pub size : ℕ
+  pub numbers : List ℕ
 
 abbrev pub target_name : List ℕ × List ℕ → TargetName
 target_name names = record { kind = names.0; state = names.1 }
@@ -75,7 +78,7 @@ targets_in first limit words = unless_misfit first (target_misfit limit words) (
 
 abbrev pub with_targets : Verb → List (List ℕ) → Result (List TargetName) ℕ → Result Form ℕ
 with_targets verb files (Err place) = Err place
-with_targets verb files (Ok targets) = Ok (record { verb = verb; files = files; targets = targets; size = 0 })
+with_targets verb files (Ok targets) = Ok (record { verb = verb; files = files; targets = targets; size = 0; numbers = [] })
 
 abbrev pub with_files : Verb → Result (List (List ℕ)) ℕ → List (List ℕ) → Result Form ℕ
 with_files verb (Err place) rest = Err place
@@ -93,7 +96,7 @@ size_of word = option_and_then size_if_fits (result_ok (number_in word))
 
 abbrev pub form_with_size : Option ℕ → List (List ℕ) → Result Form ℕ
 form_with_size None more = Err 2
-form_with_size (Some size) [] = Ok (record { verb = Load; files = []; targets = []; size = size })
+form_with_size (Some size) [] = Ok (record { verb = Load; files = []; targets = []; size = size; numbers = [] })
 form_with_size (Some size) (word ∷ more) = Err 3
 
 -- a size, and nothing behind it
@@ -101,8 +104,39 @@ abbrev pub sized_form : List (List ℕ) → Result Form ℕ
 sized_form [] = Err 2
 sized_form (word ∷ more) = form_with_size (size_of word) more
 
+abbrev pub duration_if_fits : ℕ → Option ℕ
+duration_if_fits n = if nat_le n 1000000 then Some n else None
+
+abbrev pub duration_of : List ℕ → Option ℕ
+duration_of word = option_and_then duration_if_fits (result_ok (number_in word))
+
+-- goes on with a number, unless there is none
+abbrev pub number_then : Option ℕ → ℕ → (ℕ → Result (List ℕ) ℕ) → Result (List ℕ) ℕ
+number_then None place next = Err place
+number_then (Some n) place next = next n
+
+-- so many numbers and nothing behind them, from this place on, behind those that were found
+abbrev pub numbers_after : List ℕ → ℕ → ℕ → List (List ℕ) → Result (List ℕ) ℕ
+numbers_after found place zero [] = Ok found
+numbers_after found place zero (word ∷ words) = Err place
+numbers_after found place (suc n) [] = Err place
+numbers_after found place (suc n) (word ∷ words) = number_then (duration_of word) place (λ d. numbers_after (found ++ d ∷ []) (place + 1) n words)
+
+abbrev pub with_numbers : Verb → List (List ℕ) → Result (List ℕ) ℕ → Result Form ℕ
+with_numbers verb files (Err place) = Err place
+with_numbers verb files (Ok numbers) = Ok (record { verb = verb; files = files; targets = []; size = 0; numbers = numbers })
+
+abbrev pub with_files_and_numbers : Verb → Result (List (List ℕ)) ℕ → List (List ℕ) → Result Form ℕ
+with_files_and_numbers verb (Err place) rest = Err place
+with_files_and_numbers verb (Ok files) rest = with_numbers verb files (numbers_after [] (file_count verb + 2) (number_count verb) rest)
+
+-- the file words of the verb, and then its numbers
+abbrev pub form_with_numbers : Verb → List (List ℕ) → Result Form ℕ
+form_with_numbers verb words = with_files_and_numbers verb (files_in (file_count verb) words) (drop (file_count verb) words)
+
 abbrev pub form_with : Verb → List (List ℕ) → Result Form ℕ
 form_with Load words = sized_form words
+form_with Waves words = form_with_numbers Waves words
 form_with verb words = form_with_files verb words
 
 abbrev pub verb_named : List ℕ → Option Verb
@@ -113,6 +147,7 @@ verb_named word =
     else if bytes_eq word (codes "audit") then Some Audit
     else if bytes_eq word (codes "sim") then Some Sim
     else if bytes_eq word (codes "crew") then Some Crew
+    else if bytes_eq word (codes "waves") then Some Waves
     else if bytes_eq word (codes "print") then Some Print
     else if bytes_eq word (codes "load") then Some Load
     else None
@@ -126,7 +161,7 @@ form_of [] = Err 1
 form_of (verb ∷ words) = with_verb (verb_named verb) words
 
 abbrev pub form : Command → Form
-form c = record { verb = c.verb; files = texts c.files.items; targets = c.targets.items; size = c.size }
+form c = record { verb = c.verb; files = texts c.files.items; targets = c.targets.items; size = c.size; numbers = c.numbers.items }
 
 -- what was read, seen by view, is what the words mean, unless memory ran out
 abbrev pub ReadsWords : {X Y : Type 0} → (Y → X) → Result Y WordFault → Result X ℕ → Type 0

@@ -1,10 +1,8 @@
 //! The command that lets a crew take turns over a plan.
-ghost use Rattle.std.specs.Prelude.{◌≡◌, ◌<◌, ◌-◌, ◌^◌, [], ◌∷◌, IfOk, IfSome, None, length, string_bytes};
+ghost use Rattle.std.specs.Prelude.{◌≡◌, ◌<◌, ◌-◌, ◌^◌, [], ◌∷◌, IfOk, length, string_bytes};
 ghost use Rattle.std.specs.List.{All};
-ghost use Rattle.metis_actions.specs.Faults.{IsFaultOf};
 ghost use Rattle.metis_outside.specs.Faults.{CountsFault};
 ghost use Rattle.metis_outside.specs.Writes.{Writes};
-ghost use Rattle.metis_replay.specs.Exact.{IsFirstBad};
 ghost use Rattle.metis_universe.specs.Config.{empty};
 ghost use Rattle.metis_universe.specs.Numbers.{IsOf};
 ghost use Rattle.metis_universe.specs.Step.{IsRun};
@@ -12,18 +10,16 @@ ghost use Rattle.metis_waits.specs.Waits.{AreWaits};
 ghost use Rattle.metis_top.specs.Answer as answer;
 ghost use Rattle.metis_top.specs.Commands.{crew_over, crew_script, crew_then};
 ghost use Rattle.metis_top.specs.Course.{Ran, Shown};
-ghost use Rattle.metis_top.specs.Crewed.{crew_lines, loose_line, progress_line, turn_line};
+ghost use Rattle.metis_top.specs.Crewed.{crew_lines, progress_line, turn_line};
 
 use crate::Status;
 use crate::reading::{plan_from, turns_from, universe_from};
-use crate::replay::replayed;
+use crate::steady::{first_bad, write_loose};
 use crate::stop::{end, said};
 use crate::verdict_line::write_bad;
-use metis_actions::AFault;
 use metis_crew::{Crew, Turn};
-use metis_ids::{Action, InstNo, NoMemory};
+use metis_ids::{Action, InstNo};
 use metis_outside::{Shelf, Sink, Trouble};
-use metis_replay::Verdict;
 use metis_text::put_line;
 use metis_universe::Universe;
 use metis_waits::{WFault, Waits, waits};
@@ -101,25 +97,6 @@ fn put_crew<K: Sink>(
     }
 }
 
-// The number of the first action that cannot be done from the empty configuration on, and why.
-fn first_bad(
-    alloc: Global,
-    u: &Universe,
-    actions: &[Action],
-) -> Result<Option<(u32, AFault)>, NoMemory>
-    requires numbers { All (IsOf u.now) actions.now }
-    requires few { length actions.now < 2 ^ 32 - 1 }
-    ensures bad { IfOk result (λ bad. IfSome bad (λ b. IsFirstBad u.now actions.now b.0 b.1)) }
-    ensures numbers { IfOk result (λ bad. IfSome bad (λ b. IsFaultOf u.now b.1)) }
-    ensures runs { IfOk result (λ bad. bad ≡ None → IsRun u.now empty actions.now) }
-{
-    let (verdict, _) = replayed(alloc, u, actions, &[])?;
-    match verdict {
-        Verdict::Bad(number, fault) => Ok(Some((number, fault))),
-        Verdict::Good | Verdict::Missing(..) => Ok(None),
-    }
-}
-
 // Puts the first action that is not steadfast, or else the answers to the turns.
 fn put_turns<K: Sink>(
     alloc: Global,
@@ -141,21 +118,6 @@ fn put_turns<K: Sink>(
         Err(WFault::Loose(number)) => said(write_loose(alloc, number, out), Status::No),
         Err(WFault::NoMemory) => Status::NoMemory,
     }
-}
-
-#[tactic(auto, using(metis_outside::proofs::Writing::front_of_nothing))]
-fn write_loose<K: Sink>(alloc: Global, number: u32, out: &mut K) -> Result<(), Trouble>
-    ensures text { Writes (loose_line number ∷ []) (K.written out.old) (K.written out.new) result }
-    ensures cause { CountsFault (K.faults out.old) (K.faults out.new) result }
-{
-    let line = loose_line(alloc, number)?;
-    put_line(line.as_bytes(), out)
-}
-
-fn loose_line(alloc: Global, number: u32) -> Result<String, AllocError>
-    ensures { IfOk result (λ line. string_bytes line ≡ loose_line number) }
-{
-    format!(in alloc; "loose {number}\n")
 }
 
 // Puts the answers to the turns, one after the other, and then how many actions are done.

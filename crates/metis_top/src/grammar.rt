@@ -1,9 +1,9 @@
 //! From words to a command.
-ghost use Rattle.std.specs.Prelude.{◌≡◌, ◌+◌, ◌≤◌, IfOk, drop, length, string_bytes};
-ghost use Rattle.std.specs.List.{list_any};
+ghost use Rattle.std.specs.Prelude.{◌≡◌, ◌+◌, ◌≤◌, [], IfOk, IfSome, drop, length, string_bytes};
+ghost use Rattle.std.specs.List.{All, list_any};
 ghost use Rattle.metis_universe.specs.Texts.{texts};
-ghost use Rattle.metis_top.specs.Forms.{least_size};
-ghost use Rattle.metis_top.specs.Words.{files_in, fits_after, form, form_of, form_with, form_with_files, is_dash, size_of, sized_form, target_of, targets_in, verb_named, ReadsWords};
+ghost use Rattle.metis_top.specs.Forms.{least_size, number_count};
+ghost use Rattle.metis_top.specs.Words.{duration_of, files_in, fits_after, form, form_of, form_with, form_with_files, form_with_numbers, is_dash, numbers_after, size_of, sized_form, target_of, targets_in, verb_named, ReadsWords};
 
 use crate::words::{Command, TargetWord, Verb, WordFault};
 use metis_text::number_in;
@@ -39,6 +39,8 @@ fn verb_named(word: &str) -> Option<Verb>
         Some(Verb::Sim)
     } else if word == "crew" {
         Some(Verb::Crew)
+    } else if word == "waves" {
+        Some(Verb::Waves)
     } else if word == "print" {
         Some(Verb::Print)
     } else if word == "load" {
@@ -53,6 +55,7 @@ fn read_form(alloc: Global, verb: Verb, words: &[String]) -> Result<Command, Wor
 {
     match verb {
         Verb::Load => read_size(alloc, words),
+        Verb::Waves => read_over_numbers(alloc, verb, words),
         _ => read_over_files(alloc, verb, words),
     }
 }
@@ -70,6 +73,7 @@ fn read_size(alloc: Global, words: &[String]) -> Result<Command, WordFault>
                 files: Vec::new(alloc),
                 targets: Vec::new(alloc),
                 size,
+                numbers: Vec::new(alloc),
             }),
             None => Err(WordFault::At(2)),
         },
@@ -88,7 +92,8 @@ fn size_of(word: &str) -> Option<u32>
 
 // The file words of the verb, and then target words.
 fn read_over_files(alloc: Global, verb: Verb, words: &[String]) -> Result<Command, WordFault>
-    requires { least_size verb ≡ 0 }
+    requires size { least_size verb ≡ 0 }
+    requires numbers { number_count verb ≡ 0 }
     ensures { ReadsWords form result (form_with_files verb (texts words.now)) }
 {
     let count = verb.file_count();
@@ -100,8 +105,69 @@ fn read_over_files(alloc: Global, verb: Verb, words: &[String]) -> Result<Comman
             files,
             targets,
             size: 0,
+            numbers: Vec::new(alloc),
         }),
         Err(fault) => Err(fault),
+    }
+}
+
+// The file words of the verb, and then its numbers.
+fn read_over_numbers(alloc: Global, verb: Verb, words: &[String]) -> Result<Command, WordFault>
+    requires { least_size verb ≡ 0 }
+    ensures { ReadsWords form result (form_with_numbers verb (texts words.now)) }
+{
+    let count = verb.file_count();
+    let files = read_files(alloc, count, words)?;
+    let rest = &words[count..];
+    match read_numbers(alloc, count as u32 + 2, verb.number_count(), rest) {
+        Ok(numbers) => Ok(Command {
+            verb,
+            files,
+            targets: Vec::new(alloc),
+            size: 0,
+            numbers,
+        }),
+        Err(fault) => Err(fault),
+    }
+}
+
+// So many numbers, and nothing behind them. The first of them has this place.
+fn read_numbers(
+    alloc: Global,
+    first: u32,
+    count: usize,
+    words: &[String],
+) -> Result<Vec<u32>, WordFault>
+    requires first { first ≤ 5 }
+    requires count { count ≤ 5 }
+    ensures numbers { ReadsWords (λ numbers. numbers.items) result (numbers_after [] first count (texts words.now)) }
+    ensures all { IfOk result (λ numbers. length numbers.items ≡ count) }
+    ensures small { IfOk result (λ numbers. All (λ n. n ≤ 1000000) numbers.items) }
+{
+    let mut numbers = Vec::new(alloc);
+    for (k, word) in words.iter().enumerate() {
+        if k >= count {
+            return Err(WordFault::At(first + k as u32));
+        }
+        match duration_of(word.as_str()) {
+            Some(number) => numbers.push(number)?,
+            None => return Err(WordFault::At(first + k as u32)),
+        }
+    }
+    if numbers.len() < count {
+        return Err(WordFault::At(first + numbers.len() as u32));
+    }
+    Ok(numbers)
+}
+
+// The number that the word is, where it is at most 1,000,000.
+fn duration_of(word: &str) -> Option<u32>
+    ensures value { result ≡ duration_of word.now }
+    ensures small { IfSome result (λ n. n ≤ 1000000) }
+{
+    match number_in(word.as_bytes()) {
+        Ok(n) if n <= 1_000_000 => Some(n),
+        _ => None,
     }
 }
 

@@ -17,10 +17,12 @@ mod refute;
 mod replay;
 mod sim;
 mod status;
+mod steady;
 mod stop;
 mod top;
 mod turns;
 mod verdict_line;
+mod waves;
 mod words;
 
 pub use grammar::read_words;

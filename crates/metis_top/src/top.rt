@@ -26,6 +26,7 @@ use crate::refute::refute_file;
 use crate::replay::replay_file;
 use crate::sim::sim_file;
 use crate::stop::end;
+use crate::waves::waves_file;
 use crate::words::{Command, Verb, WordFault};
 use metis_outside::{Shelf, Sink};
 use metis_waits::{complete_order_ends_alike, kept_order_is_a_run, own_order_is_kept};
@@ -110,7 +111,7 @@ fn perform<H: Shelf, K: Sink>(
     shelf: &mut H,
     out: &mut K,
 ) -> Status
-    ensures { Ran H.files H.faults H.opens K.written K.faults (command_script command.now.verb (texts command.now.files.items) command.now.targets.items command.now.size) shelf.old shelf.new out.old out.new result }
+    ensures { Ran H.files H.faults H.opens K.written K.faults (command_script command.now.verb (texts command.now.files.items) command.now.targets.items command.now.size command.now.numbers.items) shelf.old shelf.new out.old out.new result }
 {
     match command.verb {
         Verb::Plan => plan_file(alloc, command.file(0), command.targets(), shelf, out),
@@ -133,6 +134,10 @@ fn perform<H: Shelf, K: Sink>(
         Verb::Crew => {
             let (file, plan) = (command.file(0), command.file(1));
             crew_file(alloc, file, plan, command.file(2), shelf, out)
+        }
+        Verb::Waves => {
+            let (file, plan) = (command.file(0), command.file(1));
+            waves_file(alloc, file, plan, command.numbers(), shelf, out)
         }
         Verb::Print => print_file(alloc, command.file(0), shelf, out),
         Verb::Load => load_size(alloc, command.size, out),

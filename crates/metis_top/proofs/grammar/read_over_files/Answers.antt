@@ -1,4 +1,4 @@
-use Rattle.std.proofs.Common.{◌≡◌, ◌+◌, ◌-◌, List, length, take, drop, Ok, Err, subst, arith, length-drop}
+use Rattle.std.proofs.Common.{◌≡◌, ◌∙◌, ℕ, ◌+◌, ◌-◌, ap, sym, List, length, take, drop, Ok, Err, subst, arith, length-drop}
 use Rattle.std.proofs.lemmas.List.{take_all}
 use Rattle.metis_top.proofs.FormRead.{form_misread, form_read}
 use Rattle.metis_top.specs.Forms.{file_count, target_limit}
@@ -16,6 +16,7 @@ returns-in-Ok c =
     let rest : take (length words - n) (drop n words) ≡ drop n words = take_all (length words - n) (drop n words) (omega (arith, length-drop n words)) in
     form_read c.args.verb words c.in_ok-files.files.items c.in-Ok.targets.items files
     (subst (λ l. targets_in (n + 2) (target_limit c.args.verb) (texts l) ≡ Ok c.in-Ok.targets.items) rest targets)
+    ∙ ap (λ (ns : List ℕ). Ok (record { verb = c.args.verb; files = texts c.in_ok-files.files.items; targets = c.in-Ok.targets.items; size = 0; numbers = ns })) (sym c.new.ensures.items)
 
 pub returns-in-Err : goal.returns-in-Err
 returns-in-Err c =
