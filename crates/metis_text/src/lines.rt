@@ -9,6 +9,9 @@ use metis_ids::{Action, Dup, Event, Ix, PairIx};
 use metis_universe::Universe;
 use std::alloc::{AllocError, Global};
 
+/// The room that a line of an action begins with. A longer one takes more.
+const LINE_ROOM: usize = 128;
+
 pub fn counts_line(
     alloc: Global,
     instances: u32,
@@ -64,16 +67,27 @@ fn action_words(
     }
 }
 
+// An empty line with room for most lines, so that it seldom has to grow.
+fn roomy_line(alloc: Global) -> Result<String, AllocError>
+    ensures { IfOk result (λ line. string_bytes line ≡ []) }
+{
+    String::with_capacity(alloc, LINE_ROOM)
+}
+
 fn new_words(alloc: Global, number: u32, z: u32, kind: &str) -> Result<String, AllocError>
     ensures { IfOk result (λ text. string_bytes text ≡ words (decimal number ∷ codes "new" ∷ decimal z ∷ kind.now ∷ [])) }
 {
-    format!(in alloc; "{number} new {z} {kind}")
+    let mut line = roomy_line(alloc)?;
+    write!(line, "{number} new {z} {kind}")?;
+    Ok(line)
 }
 
 fn delete_words(alloc: Global, number: u32, z: u32) -> Result<String, AllocError>
     ensures { IfOk result (λ text. string_bytes text ≡ words (decimal number ∷ codes "delete" ∷ decimal z ∷ [])) }
 {
-    format!(in alloc; "{number} delete {z}")
+    let mut line = roomy_line(alloc)?;
+    write!(line, "{number} delete {z}")?;
+    Ok(line)
 }
 
 fn tie_words(
@@ -86,7 +100,9 @@ fn tie_words(
 ) -> Result<String, AllocError>
     ensures { IfOk result (λ text. string_bytes text ≡ words (decimal number ∷ verb.now ∷ port.now ∷ decimal z ∷ decimal y ∷ [])) }
 {
-    format!(in alloc; "{number} {verb} {port} {z} {y}")
+    let mut line = roomy_line(alloc)?;
+    write!(line, "{number} {verb} {port} {z} {y}")?;
+    Ok(line)
 }
 
 fn move_words(
@@ -98,7 +114,9 @@ fn move_words(
 ) -> Result<String, AllocError>
     ensures { IfOk result (λ text. string_bytes text ≡ words (decimal number ∷ codes "move" ∷ decimal z ∷ from.now ∷ to.now ∷ [])) }
 {
-    format!(in alloc; "{number} move {z} {from} {to}")
+    let mut line = roomy_line(alloc)?;
+    write!(line, "{number} move {z} {from} {to}")?;
+    Ok(line)
 }
 
 fn push_after(line: &mut String, after: &[u32]) -> Result<(), AllocError>

@@ -175,7 +175,7 @@ fn read_texts_at(alloc: Global, value: &Value, key: &str) -> Result<Option<Vec<S
 fn read_texts(alloc: Global, items: &[Value]) -> Result<Option<Vec<String>>, AllocError>
     ensures { IfOk result (λ list. option_map (λ v. texts v.items) list ≡ texts_in (items_view items.now)) }
 {
-    let mut list = Vec::new(alloc);
+    let mut list = Vec::with_capacity(alloc, items.len())?;
     for item in items {
         match item.as_str() {
             Some(text) => list.push(String::from_str(alloc, text)?)?,

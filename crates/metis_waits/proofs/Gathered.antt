@@ -15,6 +15,7 @@ use Rattle.metis_universe.specs.Universe.{has}
 use Rattle.metis_universe.specs.Waits.{before, enters, is_release_of, is_wait, last_number, numbers, releases, standing}
 use Rattle.metis_waits.proofs.Pushed.{get_past}
 use Rattle.metis_waits.proofs.Risen.{range_sorted, same_sorted}
+use Rattle.metis_waits.specs.Summary.{has_number}
 use Rattle.metis_waits.specs.Waits.{is_by}
 
 pub last_low : (p : Action → Bool) (xs : List Action) → last_number p xs ≤ length xs
@@ -55,15 +56,11 @@ module _ (earlier : List Action) where
         none ∙ sym (ap (λ b. b && has (numbers earlier) (suc i)) none)
   ]
 
-  module _ (z own : ℕ) (ks ks1 : List ℕ) (empty : ks ≡ []) (is : own ≡ last_number (is_by z) earlier) (first : (m : ℕ) → has ks1 m ≡ ((nat_lt 0 m && nat_eq m own) || has ks m)) where
+  -- h m tells whether m is the actor's previous action
+  module _ (z own : ℕ) (h : ℕ → Bool) (is : own ≡ last_number (is_by z) earlier) (first : (m : ℕ) → h m ≡ has_number own m) where
     -- the actor's previous action alone
-    pub own_alone : (m : ℕ) → has ks1 m ≡ (nat_eq m (last_number (is_by z) earlier) && has (numbers earlier) m)
-    own_alone m =
-        first m ∙ (λ i. (nat_lt 0 m && nat_eq m (is i)) || has (empty i) m) ∙ or_none (nat_lt 0 m && nat_eq m (last_number (is_by z) earlier))
-        ∙ number_within (last_number (is_by z) earlier) m (last_low (is_by z) earlier) where
-          or_none : (b : Bool) → (b || false) ≡ b
-          or_none true = refl
-          or_none false = refl
+    pub own_alone : (m : ℕ) → h m ≡ (nat_eq m (last_number (is_by z) earlier) && has (numbers earlier) m)
+    own_alone m = first m ∙ (λ i. nat_lt 0 m && nat_eq m (is i)) ∙ number_within (last_number (is_by z) earlier) m (last_low (is_by z) earlier)
 
     both : (a b r : Bool) → ((b && r) || (a && r)) ≡ ((a || b) && r)
     both true true true = refl
@@ -74,17 +71,17 @@ module _ (earlier : List Action) where
     both false false r = refl
 
     -- and the provider's entry
-    pub own_and_entry : (y entry : ℕ) (ks2 : List ℕ) → entry ≡ last_number (enters y) earlier → ((m : ℕ) → has ks2 m ≡ ((nat_lt 0 m && nat_eq m entry) || has ks1 m)) →
-        (m : ℕ) → has ks2 m ≡ ((nat_eq m (last_number (is_by z) earlier) || nat_eq m (last_number (enters y) earlier)) && has (numbers earlier) m)
-    own_and_entry y entry ks2 at second m =
+    pub own_and_entry : (y entry : ℕ) (ks : List ℕ) → entry ≡ last_number (enters y) earlier → ((m : ℕ) → has ks m ≡ (has_number entry m || h m)) →
+        (m : ℕ) → has ks m ≡ ((nat_eq m (last_number (is_by z) earlier) || nat_eq m (last_number (enters y) earlier)) && has (numbers earlier) m)
+    own_and_entry y entry ks at second m =
         second m ∙ (λ i. (nat_lt 0 m && nat_eq m (at i)) || own_alone m i)
         ∙ ap (λ b. b || (nat_eq m (last_number (is_by z) earlier) && has (numbers earlier) m)) (number_within (last_number (enters y) earlier) m (last_low (enters y) earlier))
         ∙ both (nat_eq m (last_number (is_by z) earlier)) (nat_eq m (last_number (enters y) earlier)) (has (numbers earlier) m)
 
     -- and the releases
-    pub own_and_releases : (y : ℕ) (ks2 : List ℕ) → ((m : ℕ) → has ks2 m ≡ (is_release_of y earlier m || has ks1 m)) →
-        (m : ℕ) → has ks2 m ≡ ((nat_eq m (last_number (is_by z) earlier) || is_release_of y earlier m) && has (numbers earlier) m)
-    own_and_releases y ks2 second m =
+    pub own_and_releases : (y : ℕ) (ks : List ℕ) → ((m : ℕ) → has ks m ≡ (is_release_of y earlier m || h m)) →
+        (m : ℕ) → has ks m ≡ ((nat_eq m (last_number (is_by z) earlier) || is_release_of y earlier m) && has (numbers earlier) m)
+    own_and_releases y ks second m =
         second m ∙ (λ i. release_within y m i || own_alone m i)
         ∙ both (nat_eq m (last_number (is_by z) earlier)) (is_release_of y earlier m) (has (numbers earlier) m)
 

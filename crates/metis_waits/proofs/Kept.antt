@@ -2,7 +2,6 @@
 use Rattle.std.proofs.Common.{◌≡◌, ℕ, ◌+◌, Bool, true, false, cond, ◌||◌, List, [], ◌∷◌, ◌++◌, length, Some, refl, sym, ap, ◌∙◌, arith, nat_eq, nat_cmp}
 use Rattle.std.proofs.lemmas.Bool.Decides.{nat_tests}
 use Rattle.std.proofs.lemmas.List.Folds.{list_any-append}
-use Rattle.std.specs.BTreeMap.{insert_entry}
 use Rattle.std.specs.BTreeSet.{insert_key}
 use Rattle.std.specs.List.{list_any}
 use Rattle.std.specs.Map.{lookup}
@@ -10,8 +9,6 @@ use Rattle.std.specs.Prelude.{unwrap_or}
 use Rattle.metis_ids.specs.declared.actions.Action.{Action}
 use Rattle.metis_ids.specs.declared.actions.Action.TheVariants.{New}
 use Rattle.metis_universe.proofs.Ascending.{has-insert_key}
-use Rattle.metis_universe.proofs.Edits.{pair_of-put}
-use Rattle.metis_universe.specs.Config.{config_of}
 use Rattle.metis_universe.specs.Steadfast.{is_new}
 use Rattle.metis_universe.specs.Universe.{has}
 use Rattle.metis_waits.proofs.Pushed.{last_pushed}
@@ -20,16 +17,16 @@ use Rattle.metis_waits.specs.Summary.{AreLasts, AreMade, number_at}
 pub turned : (a b : ℕ) → nat_eq a b ≡ nat_eq b a
 turned a b = grind (arith, nat_tests)
 
-pub number_at-insert : (es : List (ℕ × ℕ)) (z v q : ℕ) → number_at (insert_entry nat_cmp es z v) q ≡ cond (nat_eq q z) v (number_at es q)
-number_at-insert es z v q =
-    ap (λ o. unwrap_or o 0) (pair_of-put (config_of es []) z v q)
+pub number_at-insert : (es es' : List (ℕ × ℕ)) (z v q : ℕ) → lookup (nat_eq q) es' ≡ cond (nat_eq z q) (Some v) (lookup (nat_eq q) es) → number_at es' q ≡ cond (nat_eq q z) v (number_at es q)
+number_at-insert es es' z v q is =
+    ap (λ o. unwrap_or o 0) (is ∙ ap (λ b. cond b (Some v) (lookup (nat_eq q) es)) (turned z q))
     ∙ elim (nat_eq q z) as (λ b. unwrap_or (cond b (Some v) (lookup (nat_eq q) es)) 0 ≡ cond b v (unwrap_or (lookup (nat_eq q) es) 0)) [ true ↦ refl | false ↦ refl ]
 
 module _ (p : ℕ → Action → Bool) (earlier : List Action) (a : Action) where
   -- the action is the last one of instance z
-  pub marked : (es es' : List (ℕ × ℕ)) (z v : ℕ) → es' ≡ insert_entry nat_cmp es z v → v ≡ length earlier + 1 → ((q : ℕ) → p q a ≡ nat_eq q z) → AreLasts p earlier es → AreLasts p (earlier ++ a ∷ []) es'
+  pub marked : (es es' : List (ℕ × ℕ)) (z v : ℕ) → ((q : ℕ) → lookup (nat_eq q) es' ≡ cond (nat_eq z q) (Some v) (lookup (nat_eq q) es)) → v ≡ length earlier + 1 → ((q : ℕ) → p q a ≡ nat_eq q z) → AreLasts p earlier es → AreLasts p (earlier ++ a ∷ []) es'
   marked es es' z v is last test old = λ q.
-      ap (λ l. number_at l q) is ∙ number_at-insert es z v q ∙ (λ i. cond (sym (test q) i) (last i) (old q i)) ∙ sym (last_pushed (p q) earlier a)
+      number_at-insert es es' z v q (is q) ∙ (λ i. cond (sym (test q) i) (last i) (old q i)) ∙ sym (last_pushed (p q) earlier a)
 
 module _ (earlier : List Action) where
   new_pushed : (a : Action) (z : ℕ) → list_any (is_new z) (earlier ++ a ∷ []) ≡ (is_new z a || list_any (is_new z) earlier)

@@ -19,3 +19,4 @@ pub mod Rests
 pub mod Risen
 pub mod Tied
 pub mod Timely
+pub mod TwoNumbers

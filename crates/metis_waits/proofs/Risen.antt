@@ -10,7 +10,7 @@ use Rattle.metis_universe.proofs.Ascending.{none_above}
 use Rattle.metis_universe.proofs.Sorted.{below_all}
 use Rattle.metis_universe.specs.Universe.{has}
 
-less_is : (a b : ℕ) → a < b → nat_cmp a b ≡ Less
+pub less_is : (a b : ℕ) → a < b → nat_cmp a b ≡ Less
 less_is a b l = grind (arith, nat_tests)
 
 not_in : (x y : ℕ) (ys : List ℕ) → x < y → AllByRecursion (λ z. nat_cmp y z ≡ Less) ys → has (y ∷ ys) x ≡ false

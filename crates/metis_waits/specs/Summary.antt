@@ -5,8 +5,9 @@
 --     AreMade earlier zs      the instances that the actions made
 --     released y earlier m, AreReleases, has_pair pairs y m      whether action m ended a binding to y on the requirer's side;  the pairs of such y and m;  whether y and m are among them
 --     ArePlaces u earlier entries      the pair of each instance after these actions
+--     has_number n m      whether n, where it is not 0, is m
 --     IsSummary u earlier s      what these actions come to
-use Rattle.std.specs.Prelude.{◌≡◌, ℕ, ◌<◌, ◌==◌, Bool, false, ◌&&◌, List, Option, Some}
+use Rattle.std.specs.Prelude.{◌≡◌, ℕ, ◌<◌, ◌==◌, Bool, false, ◌&&◌, List, Option, Some, nat_lt}
 use Rattle.std.specs.List.{list_any}
 use Rattle.std.specs.Map.{lookup}
 use Rattle.std.specs.Option.{option_map_or, unwrap_or}
@@ -41,6 +42,9 @@ AreReleases earlier pairs = (y m : ℕ) → has_pair pairs y m ≡ released y ea
 
 abbrev pub AreMade : List Action → List ℕ → Type 0
 AreMade earlier zs = (z : ℕ) → has zs z ≡ list_any (is_new z) earlier
+
+abbrev pub has_number : ℕ → ℕ → Bool
+has_number n m = nat_lt 0 m && (m == n)
 
 -- the pair of each instance, and each is one of the universe
 pub record ArePlaces (u : Universe) (earlier : List Action) (entries : List (ℕ × ℕ)) : Type 0 where

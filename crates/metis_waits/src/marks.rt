@@ -5,19 +5,19 @@ ghost use Rattle.metis_universe.specs.Waits.{enters};
 ghost use Rattle.metis_waits.specs.Summary.{AreLasts, AreMade, IsEntering, number_at};
 ghost use Rattle.metis_waits.specs.Waits.{is_by};
 
-use metis_ids::{Action, InstNo, NoMemory};
-use std::collections::{BTreeMap, BTreeSet};
+use metis_ids::{Action, InstNo, Ix, NoMemory};
+use std::collections::{BTreeSet, HashMap};
 
 /// The number that is kept for the instance, and 0 where there is none.
-pub fn number_at(marks: &BTreeMap<InstNo, u32>, z: InstNo) -> u32
+pub fn number_at(marks: &HashMap<u32, u32>, z: InstNo) -> u32
     ensures { result ≡ number_at marks.now.entries z }
 {
-    marks.get(&z).copied().unwrap_or(0)
+    marks.get(&z.number()).copied().unwrap_or(0)
 }
 
 /// Notes that the action is its instance's last.
 pub fn note_last(
-    lasts: &mut BTreeMap<InstNo, u32>,
+    lasts: &mut HashMap<u32, u32>,
     earlier: &[Action],
     action: &Action,
 ) -> Result<(), NoMemory>
@@ -25,13 +25,13 @@ pub fn note_last(
     requires lasts { AreLasts is_by earlier.now lasts.old.entries }
     ensures { OnOk result (AreLasts is_by (earlier.now ++ action.now ∷ []) lasts.new.entries) }
 {
-    lasts.insert(action.actor(), earlier.len() as u32 + 1)?;
+    lasts.insert(action.actor().number(), earlier.len() as u32 + 1)?;
     Ok(())
 }
 
 /// Notes the action where it puts its instance into a pair.
 pub fn note_entry(
-    entered: &mut BTreeMap<InstNo, u32>,
+    entered: &mut HashMap<u32, u32>,
     earlier: &[Action],
     action: &Action,
 ) -> Result<(), NoMemory>
@@ -40,7 +40,7 @@ pub fn note_entry(
     ensures { OnOk result (AreLasts enters (earlier.now ++ action.now ∷ []) entered.new.entries) }
 {
     if let Some(inst) = entering(action) {
-        entered.insert(inst, earlier.len() as u32 + 1)?;
+        entered.insert(inst.number(), earlier.len() as u32 + 1)?;
     }
     Ok(())
 }

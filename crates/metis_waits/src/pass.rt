@@ -30,8 +30,8 @@ pub fn waits(alloc: Global, u: &Universe, actions: &[Action]) -> Result<Waits, W
         if !summary.is_steadfast(u, earlier, action) {
             return Err(WFault::Loose(index as u32 + 1));
         }
-        let numbers = summary.waits_of(alloc, u, earlier, action)?;
         let previous = summary.own_previous(u, earlier, action);
+        let numbers = summary.waits_of(alloc, u, earlier, action, previous)?;
         others.push(&without(alloc, &numbers, previous)?)?;
         each.push(&numbers)?;
         summary.add(alloc, u, earlier, action)?;

@@ -1,5 +1,5 @@
 //! What the actions so far come to.
-ghost use Rattle.std.specs.Prelude.{◌≡◌, ◌<◌, ℕ, ◌-◌, ◌^◌, ◌==◌, ◌++◌, ◌∷◌, ◌&&◌, ◌||◌, [], IfOk, IsTrue, OnOk, length, nat_lt};
+ghost use Rattle.std.specs.Prelude.{◌≡◌, ◌<◌, ℕ, ◌-◌, ◌^◌, ◌==◌, ◌++◌, ◌∷◌, ◌&&◌, ◌||◌, [], IfOk, IsTrue, OnOk, length, nat_lt, not};
 ghost use Rattle.metis_universe.specs.Universe.{has};
 ghost use Rattle.std.specs.List.{filter};
 ghost use Rattle.std.specs.List.Sorted.{IsStrictlySortedBy};
@@ -8,7 +8,7 @@ ghost use Rattle.metis_ids.specs.Action.{actor_of};
 ghost use Rattle.metis_universe.specs.Numbers.{IsOf};
 ghost use Rattle.metis_universe.specs.Steadfast.{is_steadfast_after};
 ghost use Rattle.metis_universe.specs.Waits.{is_release_of, is_wait, last_number, numbers};
-ghost use Rattle.metis_waits.specs.Summary.{IsSummary};
+ghost use Rattle.metis_waits.specs.Summary.{IsSummary, has_number};
 ghost use Rattle.metis_waits.specs.Waits.{is_by};
 
 use crate::marks::{is_made, note_entry, note_last, note_made, number_at};
@@ -18,15 +18,15 @@ use crate::standing_bindings::StandingBindings;
 use metis_ids::{Action, InstNo, NoMemory, PairIx};
 use metis_universe::Universe;
 use std::alloc::Global;
-use std::collections::{BTreeMap, BTreeSet};
+use std::collections::{BTreeMap, BTreeSet, HashMap};
 
 /// What the actions so far come to. Their numbers count from 1.
 #[derive(Drop)]
 pub struct Summary {
     /// The last action of each instance.
-    lasts: BTreeMap<InstNo, u32>,
+    lasts: HashMap<u32, u32>,
     /// The last New or Move of each instance.
-    entered: BTreeMap<InstNo, u32>,
+    entered: HashMap<u32, u32>,
     /// The pair in which each instance is.
     places: BTreeMap<InstNo, PairIx>,
     /// The instances that were made.
@@ -43,8 +43,8 @@ impl Summary {
         ensures { IsSummary u.now [] result }
     {
         Summary {
-            lasts: BTreeMap::new(alloc),
-            entered: BTreeMap::new(alloc),
+            lasts: HashMap::new(alloc),
+            entered: HashMap::new(alloc),
             places: BTreeMap::new(alloc),
             made: BTreeSet::new(alloc),
             bindings: StandingBindings::new(alloc),
@@ -96,45 +96,52 @@ impl Summary {
         number_at(&self.lasts, action.actor())
     }
 
-    /// The numbers that the action waits for, ascending.
+    /// The numbers that the action waits for, ascending. The last action of its own instance is given.
     pub fn waits_of(
         &self,
         alloc: Global,
         u: &Universe,
         earlier: &[Action],
         action: &Action,
+        previous: u32,
     ) -> Result<Vec<u32>, NoMemory>
         requires few { length earlier.now < 2 ^ 32 - 1 }
         requires summary { IsSummary u.now earlier.now self.now }
+        requires previous { previous ≡ last_number (is_by (actor_of action.now)) earlier.now }
         ensures { IfOk result (λ waits. waits.items ≡ filter (is_wait earlier.now action.now) (numbers earlier.now)) }
     {
-        let mut waits = BTreeSet::new(alloc);
-        self.gather(u, earlier, action, &mut waits)?;
-        Ok(listed(alloc, &waits)?)
+        match *action {
+            Action::Bind { to, .. } => Ok(both(alloc, previous, number_at(&self.entered, to))?),
+            Action::Delete { inst } => {
+                Ok(self.with_releases(alloc, u, earlier, inst, previous)?)
+            }
+            Action::Move { inst, .. } => {
+                Ok(self.with_releases(alloc, u, earlier, inst, previous)?)
+            }
+            Action::New { .. } => Ok(both(alloc, previous, 0)?),
+            Action::Unbind { .. } => Ok(both(alloc, previous, 0)?),
+        }
     }
 
-    // Puts the numbers that the action waits for into the empty set.
-    fn gather(
+    // The number, and those that ended a binding to the instance since it came into its pair.
+    fn with_releases(
         &self,
+        alloc: Global,
         u: &Universe,
         earlier: &[Action],
-        action: &Action,
-        waits: &mut BTreeSet<u32>,
-    ) -> Result<(), NoMemory>
+        y: InstNo,
+        previous: u32,
+    ) -> Result<Vec<u32>, NoMemory>
         requires few { length earlier.now < 2 ^ 32 - 1 }
         requires summary { IsSummary u.now earlier.now self.now }
-        requires none { waits.old.keys ≡ [] }
-        ensures { OnOk result ((m : ℕ) → has waits.new.keys m ≡ (is_wait earlier.now action.now m && has (numbers earlier.now) m)) }
+        ensures sorted { IfOk result (λ waits. IsStrictlySortedBy nat_cmp waits.items) }
+        ensures members { IfOk result (λ waits. (m : ℕ) → has waits.items m ≡ (is_release_of y earlier.now m || has_number previous m)) }
     {
-        add_number(waits, self.own_previous(u, earlier, action))?;
-        match *action {
-            Action::Bind { to, .. } => add_number(waits, number_at(&self.entered, to))?,
-            Action::Delete { inst } => self.gather_releases(u, earlier, inst, waits)?,
-            Action::Move { inst, .. } => self.gather_releases(u, earlier, inst, waits)?,
-            Action::New { .. } => (),
-            Action::Unbind { .. } => (),
-        }
-        Ok(())
+        let mut found = BTreeSet::new(alloc);
+        add_number(&mut found, previous)?;
+        self.gather_releases(u, earlier, y, &mut found)?;
+        let waits = listed(alloc, &found)?;
+        Ok(waits)
     }
 
     // Adds the numbers that ended a binding to the instance since it came into its pair.
@@ -162,9 +169,49 @@ fn listed(alloc: Global, numbers: &BTreeSet<u32>) -> Result<Vec<u32>, NoMemory>
     Ok(numbers.iter().copied().collect(alloc)?)
 }
 
+// Those of the two numbers that are not 0, ascending and once.
+fn both(alloc: Global, a: u32, b: u32) -> Result<Vec<u32>, NoMemory>
+    ensures sorted { IfOk result (λ list. IsStrictlySortedBy nat_cmp list.items) }
+    ensures members { IfOk result (λ list. (m : ℕ) → has list.items m ≡ (has_number b m || has_number a m)) }
+{
+    let mut list = Vec::with_capacity(alloc, 2)?;
+    if a < b {
+        push_two(&mut list, a, b)?;
+        return Ok(list);
+    }
+    if b < a {
+        push_two(&mut list, b, a)?;
+        return Ok(list);
+    }
+    push_number(&mut list, a)?;
+    Ok(list)
+}
+
+// Puts those of the two numbers that are not 0 into the empty list.
+fn push_two(list: &mut Vec<u32>, low: u32, high: u32) -> Result<(), NoMemory>
+    requires ordered { low < high }
+    requires none { list.old.items ≡ [] }
+    ensures sorted { OnOk result (IsStrictlySortedBy nat_cmp list.new.items) }
+    ensures members { OnOk result ((m : ℕ) → has list.new.items m ≡ (has_number high m || has_number low m)) }
+{
+    push_number(list, low)?;
+    push_number(list, high)?;
+    Ok(())
+}
+
+// Adds the number at the end where it is not 0.
+fn push_number(list: &mut Vec<u32>, number: u32) -> Result<(), NoMemory>
+    ensures { OnOk result (list.new.items ≡ list.old.items ++ filter (λ m. not (m == 0)) (number ∷ [])) }
+{
+    if number != 0 {
+        list.push(number)?;
+    }
+    Ok(())
+}
+
 // Adds the number where it is one, and not 0.
 fn add_number(numbers: &mut BTreeSet<u32>, number: u32) -> Result<(), NoMemory>
-    ensures { OnOk result ((m : ℕ) → has numbers.new.keys m ≡ ((nat_lt 0 m && (m == number)) || has numbers.old.keys m)) }
+    ensures { OnOk result ((m : ℕ) → has numbers.new.keys m ≡ (has_number number m || has numbers.old.keys m)) }
 {
     if number != 0 {
         numbers.insert(number)?;

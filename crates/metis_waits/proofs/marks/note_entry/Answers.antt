@@ -1,9 +1,9 @@
-use Rattle.std.proofs.Common.{◌+◌, ◌∙◌, length, arith}
+use Rattle.std.proofs.Common.{◌+◌, ◌∙◌, ap, sym, length, nat_eq, arith}
 use Rattle.metis_universe.specs.Waits.{enters}
 use Rattle.metis_waits.proofs.Kept.{marked, turned}
 use Rattle.metis_waits.proofs.marks.note_entry.Goals as goal
 
 pub returns-in_ok-insert : goal.returns-in_ok-insert
 returns-in_ok-insert c =
-    marked enters c.args.earlier.now c.args.action.now c.args.entered.now.entries c.insert.new.self.entries c.in-Some.inst (length c.args.earlier.now + 1)
-    c.in_ok-insert.ensures.entries (omega arith) (λ q. c.in-Some.ensures q ∙ turned c.in-Some.inst q) c.requires.entered
+    marked enters c.args.earlier.now c.args.action.now c.args.entered.now.entries c.insert.new.self.entries c.number.result (length c.args.earlier.now + 1)
+    c.in_ok-insert.ensures.updates.0 (omega arith) (λ q. c.in-Some.ensures q ∙ turned c.in-Some.inst q ∙ ap (nat_eq q) (sym c.number.ensures)) c.requires.entered

@@ -6,5 +6,5 @@ use Rattle.metis_waits.proofs.marks.note_last.Goals as goal
 
 pub returns : goal.returns
 returns c =
-    marked is_by c.args.earlier.now c.args.action.now c.args.lasts.now.entries c.insert.new.self.entries c.actor.result (length c.args.earlier.now + 1)
-    c.in_ok-insert.ensures.entries (omega arith) (λ q. turned (actor_of c.args.action.now) q ∙ ap (nat_eq q) (sym c.actor.ensures)) c.requires.lasts
+    marked is_by c.args.earlier.now c.args.action.now c.args.lasts.now.entries c.insert.new.self.entries c.number.result (length c.args.earlier.now + 1)
+    c.in_ok-insert.ensures.updates.0 (omega arith) (λ q. turned (actor_of c.args.action.now) q ∙ ap (nat_eq q) (sym (c.number.ensures ∙ c.actor.ensures))) c.requires.lasts
