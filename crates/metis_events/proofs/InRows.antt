@@ -8,7 +8,7 @@ use Rattle.std.specs.Result.{result_ok}
 use Rattle.std.specs.declared.cmp.Ordering.{Ordering}
 use Rattle.std.specs.declared.cmp.Ordering.TheVariants.{Less, Equal, Greater}
 use Rattle.std.proofs.lemmas.Bool.{cases_Bool, cond-false, cond-true, false_from_ne_true, cases_lt, le-ltb, ltb-false, lt-ltb}
-use Rattle.std.proofs.lemmas.List.{map-append}
+use Rattle.std.proofs.lemmas.List.{get_or_read, map-append}
 use Rattle.std.proofs.lemmas.List.Elements.{filter-append}
 use Rattle.std.proofs.lemmas.List.Sorted.{searchable_from_sorted}
 use Rattle.std.proofs.lemmas.List.Sums.{position_or_len_is}
@@ -154,3 +154,12 @@ module _ (xs : List Event) (sorted : IsStrictlySortedBy event_cmp xs) (e : Event
       ])
       (λ low. absurd (omega arith)) in
       sym (cond-false (nat_lt (position_or_len (same_event e) xs) (length xs)) (Some (position_or_len (same_event e) xs)) None (le-ltb (position_or_len (same_event e) xs) (length xs) (omega arith)))
+
+  -- an event that stands at a place is found there
+  pub place_known : (i : ℕ) (x : Event) → i < length xs → x ≡ get_or xs i x → same_event e x ≡ true → Some i ≡ position (same_event e) xs
+  place_known i x low at same =
+      let here : (d : Event) → get_or xs i d ≡ e = λ d. sym (get_or_read xs i x low at d) ∙ sym (same_events e x same) in
+      let first : position_or_len (same_event e) xs ≡ i = position_or_len_is (same_event e) xs i End (omega arith)
+      (λ k before. apart_from k (ap (event_cmp (get_or xs k End)) (sym (here End)) ∙ Less-from_sorted event_cmp xs k i End sorted before low))
+      (λ _. ap (same_event e) (here End) ∙ same_itself e) in
+      sym (cond-true (nat_lt (position_or_len (same_event e) xs) (length xs)) (Some (position_or_len (same_event e) xs)) None (lt-ltb (position_or_len (same_event e) xs) (length xs) (omega arith)) ∙ ap Some first)

@@ -24,6 +24,8 @@ use std::marker::Model;
 #[derive(Drop)]
 pub struct EventGraph {
     events: Vec<Event>,
+    /// Where the events of each line start.
+    starts: Vec<usize>,
     edges: Vec<EdgeRow>,
 }
 
@@ -46,18 +48,23 @@ impl EventGraph {
     {
         u.keeps_invariant();
         let events = all_events(alloc, l)?;
+        let starts = line_starts(alloc, l)?;
         let mut gathered = EdgeSet::new(alloc);
         add_go_edges(&mut gathered, l)?;
         add_supplies(&mut gathered, u, s, l)?;
-        let edges = edge_rows(alloc, &events, gathered)?;
-        Ok(EventGraph { events, edges })
+        let edges = edge_rows(alloc, &events, &starts, gathered)?;
+        Ok(EventGraph {
+            events,
+            starts,
+            edges,
+        })
     }
 
     /// The edges into an event, by the events that they lead from; none into one that is not of the graph.
     pub fn before(&self, e: Event) -> &[Edge]
         ensures { result.now ≡ edges_into self.now e }
     {
-        match place_of(&self.events, &e) {
+        match place_of(&self.events, &self.starts, &e) {
             Some(place) => self.edges[place].as_slice(),
             None => &[],
         }
@@ -68,7 +75,7 @@ impl EventGraph {
         ensures { result ≡ node_of self.now e }
     {
         let _rows = &self.edges;
-        let place = place_of(&self.events, &e)?;
+        let place = place_of(&self.events, &self.starts, &e)?;
         Some(NodeIx(place as u32))
     }
 
@@ -85,7 +92,7 @@ impl EventGraph {
         requires { IsJoined self.now }
         ensures { IfOk result (λ g. g ≡ dag_of self.now) }
     {
-        let joins = all_joins(alloc, &self.events, &self.edges)?;
+        let joins = all_joins(alloc, &self.events, &self.starts, &self.edges)?;
         // A graph counts its edges in 32 bits. The lines of a universe never have so many.
         if joins.len() >= 1 << 32 {
             return Err(NoMemory);
@@ -99,6 +106,7 @@ impl EventGraph {
 fn all_joins(
     alloc: Global,
     events: &[Event],
+    starts: &[usize],
     rows: &[EdgeRow],
 ) -> Result<Vec<(NodeIx, NodeIx)>, NoMemory>
     requires kept { IsKept events.now rows.now }
@@ -110,7 +118,7 @@ fn all_joins(
     let mut joins = Vec::new(alloc);
     for number in 0..rows.len() {
         let to = NodeIx(number as u32);
-        add_joins(&mut joins, events, rows[number].as_slice(), to)?;
+        add_joins(&mut joins, events, starts, rows[number].as_slice(), to)?;
     }
     Ok(joins)
 }
@@ -119,6 +127,7 @@ fn all_joins(
 fn add_joins(
     joins: &mut Vec<(NodeIx, NodeIx)>,
     events: &[Event],
+    starts: &[usize],
     row: &[Edge],
     to: NodeIx,
 ) -> Result<(), NoMemory>
@@ -128,7 +137,7 @@ fn add_joins(
     ensures { OnOk result (joins.new.items ≡ joins.old.items ++ map (λ e. (position_or_len (same_event e.from) events.now, to)) row.now) }
 {
     for edge in row {
-        let from = place_of(events, &edge.from).unwrap();
+        let from = place_of(events, starts, &edge.from).unwrap();
         joins.push((NodeIx(from as u32), to))?;
     }
     Ok(())
@@ -145,6 +154,17 @@ fn all_events(alloc: Global, l: &Lines) -> Result<Vec<Event>, NoMemory>
     }
     all.push(Event::End)?;
     Ok(all)
+}
+
+// Where the events of each line start.
+fn line_starts(alloc: Global, l: &Lines) -> Result<Vec<usize>, NoMemory> {
+    let mut starts = Vec::new(alloc);
+    let mut start: usize = 0;
+    for number in 0..l.count() {
+        starts.push(start)?;
+        start = start.saturating_add(step_count(l, LineIx(number)) as usize);
+    }
+    Ok(starts)
 }
 
 // Appends the events of the line.

@@ -51,14 +51,19 @@ impl EdgeRow {
 }
 
 /// The edges of the set that lead into each of the events, which ascend.
-pub fn edge_rows(alloc: Global, events: &[Event], edges: EdgeSet) -> Result<Vec<EdgeRow>, NoMemory>
+pub fn edge_rows(
+    alloc: Global,
+    events: &[Event],
+    starts: &[usize],
+    edges: EdgeSet,
+) -> Result<Vec<EdgeRow>, NoMemory>
     requires { IsStrictlySortedBy event_cmp events.now }
     ensures rows { IfOk result (λ rows. rows.items ≡ map (edges_to edges) events.now) }
     ensures ascend { OnOk result (IsStrictlySortedBy target_cmp edges) }
 {
     let mut rows = empty_rows(alloc, events)?;
     for (to, edge) in edges.into_edges() {
-        add_edge(&mut rows, events, &to, edge)?;
+        add_edge(&mut rows, events, starts, &to, edge)?;
     }
     Ok(rows)
 }
@@ -67,6 +72,7 @@ pub fn edge_rows(alloc: Global, events: &[Event], edges: EdgeSet) -> Result<Vec<
 fn add_edge(
     rows: &mut Vec<EdgeRow>,
     events: &[Event],
+    starts: &[usize],
     to: &Event,
     edge: Edge,
 ) -> Result<(), NoMemory>
@@ -74,7 +80,7 @@ fn add_edge(
     requires each { length rows.old.items ≡ length events.now }
     ensures { (xs : List (Event × Edge)) → rows.old.items ≡ map (edges_to xs) events.now → OnOk result (rows.new.items ≡ map (edges_to (xs ++ (to.now, edge) ∷ [])) events.now) }
 {
-    if let Some(place) = place_of(events, to) {
+    if let Some(place) = place_of(events, starts, to) {
         rows[place].push(edge.from, edge.kind)?;
     }
     Ok(())
@@ -91,8 +97,47 @@ fn empty_rows(alloc: Global, events: &[Event]) -> Result<Vec<EdgeRow>, NoMemory>
     Ok(rows)
 }
 
-/// The place of the event among these, which ascend.
-pub fn place_of(events: &[Event], e: &Event) -> Option<usize>
+/// The place of the event among these, which ascend. It is looked for first where the starts of the lines say, then by halves.
+pub fn place_of(events: &[Event], starts: &[usize], e: &Event) -> Option<usize>
+    requires { IsStrictlySortedBy event_cmp events.now }
+    ensures { result ≡ position (same_event e.now) events.now }
+{
+    let place = likely_place(events.len(), starts, e);
+    if place < events.len() && is_same(&events[place], e) {
+        return Some(place);
+    }
+    searched(events, e)
+}
+
+// Where the event stands, if its line starts where it is said.
+fn likely_place(count: usize, starts: &[usize], e: &Event) -> usize {
+    match *e {
+        Event::At(line, step) => match starts.get(line.0 as usize) {
+            Some(start) => start.saturating_add(step.0 as usize),
+            None => count,
+        },
+        Event::End => count.saturating_sub(1),
+    }
+}
+
+// Whether the two are one event.
+fn is_same(a: &Event, b: &Event) -> bool
+    ensures { result ≡ same_event b.now a.now }
+{
+    match *a {
+        Event::At(line, step) => match *b {
+            Event::At(other, place) => other == line && place == step,
+            Event::End => false,
+        },
+        Event::End => match *b {
+            Event::At(_, _) => false,
+            Event::End => true,
+        },
+    }
+}
+
+// The place of the event among these, by halves.
+fn searched(events: &[Event], e: &Event) -> Option<usize>
     requires { IsStrictlySortedBy event_cmp events.now }
     ensures { result ≡ position (same_event e.now) events.now }
 {
