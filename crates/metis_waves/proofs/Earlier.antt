@@ -18,10 +18,10 @@ pub waits_earlier : (A : List Action) (k m : ℕ) → has (waits A k) m ≡ true
 waits_earlier A k m h =
     let earlier = last_places.waits_earlier A k m h in
     record { first = earlier.0; below = earlier.1; last = by_action (action_at A k) refl } where
-  there : (k : ℕ) (a : Action) → action_at A k ≡ Some a → k ≤ length A
-  there zero a e = omega arith
-  there (suc k) a e = let less = place_below A k a e in omega arith
+      there : (k : ℕ) (a : Action) → action_at A k ≡ Some a → k ≤ length A
+      there zero a e = omega arith
+      there (suc k) a e = let less = place_below A k a e in omega arith
 
-  by_action : (o : Option Action) → action_at A k ≡ o → k ≤ length A
-  by_action None e = absurd (false≢true (sym (ap (λ o. has (option_map_or (λ a. filter (is_wait (before k A) a) (numbers (before k A))) o []) m) e) ∙ h))
-  by_action (Some a) e = there k a e
+      by_action : (o : Option Action) → action_at A k ≡ o → k ≤ length A
+      by_action None e = absurd (false≢true (sym (ap (λ o. has (option_map_or (λ a. filter (is_wait (before k A) a) (numbers (before k A))) o []) m) e) ∙ h))
+      by_action (Some a) e = there k a e

@@ -8,14 +8,14 @@ use Rattle.std.specs.declared.cmp.Ordering.TheVariants.{Less, Equal, Greater}
 use Rattle.std.proofs.lemmas.Bool.{eq-eqb, or_left, or_right, cases_lt, cases_eq}
 use Rattle.std.proofs.lemmas.List.{get_or-append_right, length-map, map-append, take_more}
 use Rattle.std.proofs.lemmas.List.Folds.{find-append, list_any_at}
-use Rattle.std.proofs.lemmas.List.FromFn.{get_or-map-range_with_len, length-range_with_len}
+use Rattle.std.proofs.lemmas.List.FromFn.{length-range_with_len}
 use Rattle.std.proofs.Math.ListN.{get_or-append}
 use Rattle.metis_ids.specs.declared.actions.Action.{Action}
 use Rattle.metis_ids.specs.declared.actions.Action.TheVariants.{New, Delete, Bind, Unbind, Move}
 use Rattle.metis_universe.specs.Universe.{has}
 use Rattle.metis_universe.specs.Waits.{action_at, numbers, waits}
 use Rattle.metis_waits.proofs.Risen.{range_push}
-use Rattle.metis_waits.specs.Waits.{AreWaits, WaitLists, list_of}
+use Rattle.metis_waits.specs.Waits.{AreWaits, WaitLists}
 use Rattle.metis_waves.specs.Schedule.{AreShort, duration_of, end_of, greatest, start_of, takes}
 use Rattle.metis_waves.specs.declared.durations.Durations.{Durations}
 use Rattle.metis_waves.proofs.Bounds.{greatest_below}

@@ -1,12 +1,12 @@
--- The earliest and the latest schedule, and a chain of waits as long as they are.
+-- The earliest and the latest schedule, and the critical chain, which lasts as long as they do.
 --     WaveLists      the starts of both, when they end, and the numbers of the chain
---     IsLeastEnd actions d t      some schedule ends at t, and none ends earlier
 --     first_ending d actions s t      the least number that ends at t
 --     tight_wait d actions s k      the least number that k waits for and that ends when k starts
 --     IsLinked d actions s ks      before each number stands its tight wait
 --     last_of ks      the last number, if there is one
---     IsChain actions d s t ks      from a number without waits to the least number that ends at t
-use Rattle.std.specs.Prelude.{◌≡◌, ◌≤◌, ◌==◌, ℕ, List, [], ◌∷◌, Option, Some, None, IfSome, ⊤, length}
+--     IsChain actions d s t ks      linked, from a number without waits to the least number that ends at t, and its durations sum to t
+--     AreWaves actions d w      all that is said of the answer
+use Rattle.std.specs.Prelude.{◌≡◌, ◌≤◌, ◌==◌, ℕ, List, [], ◌∷◌, Option, Some, None, IfSome, ⊤}
 use Rattle.std.specs.List.{find, slice_get, sum_by}
 use Rattle.metis_ids.specs.declared.actions.Action.{Action}
 use Rattle.metis_universe.specs.Waits.{numbers, waits}
@@ -41,7 +41,9 @@ pub record IsChain (actions : List Action) (d : Durations) (s : List ℕ) (t : �
   pub begins : IfSome (slice_get ks 0) (λ k. waits actions k ≡ [])
   pub takes : sum_by (takes d actions) ks ≡ t
 
--- both schedules end at the finish, no schedule ends earlier, and each schedule keeps their bounds
+-- All that is said of the answer. Both lists are schedules that end with the finish, and no schedule ends earlier.
+-- No schedule starts an action before its earliest start, and none that ends with the finish starts it after its latest.
+-- The chain goes from an action without waits to the first that ends with the finish, and lasts as long as all.
 pub record AreWaves (actions : List Action) (d : Durations) (w : WaveLists) : Type 0 where
   pub earliest : IsSchedule actions d w.earliest
   pub earliest_ends : end_of_all d actions w.earliest ≡ w.finish
@@ -50,5 +52,4 @@ pub record AreWaves (actions : List Action) (d : Durations) (w : WaveLists) : Ty
   pub least : (s : List ℕ) → IsSchedule actions d s → w.finish ≤ end_of_all d actions s
   pub early : (s : List ℕ) (k : ℕ) → IsSchedule actions d s → start_of w.earliest k ≤ start_of s k
   pub late : (s : List ℕ) (k : ℕ) → IsSchedule actions d s → end_of_all d actions s ≡ w.finish → start_of s k ≤ start_of w.latest k
-  pub empty : length actions ≡ 0 → w.chain ≡ []
   pub chain : IsChain actions d w.earliest w.finish w.chain

@@ -51,13 +51,7 @@ fn first(actions: &[Action], d: &Durations, starts: &[u64], time: u64) -> Option
 }
 
 // The first action that action k waits for and that ends when action k starts.
-fn tight_wait(
-    actions: &[Action],
-    w: &Waits,
-    d: &Durations,
-    earliest: &[u64],
-    k: u32,
-) -> Option<u32>
+fn tight_wait(actions: &[Action], w: &Waits, d: &Durations, earliest: &[u64], k: u32) -> Option<u32>
     requires waits { AreWaits actions.now w.now }
     requires first { 1 ≤ k }
     requires last { k ≤ length actions.now }

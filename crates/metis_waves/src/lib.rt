@@ -1,4 +1,4 @@
-//! When each action of a list can start at the earliest and at the latest.
+//! Schedules of the actions of a list: when each starts at the earliest and at the latest, and the least time for all.
 #![tactic(auto)]
 
 mod chain;
@@ -11,6 +11,6 @@ mod least;
 mod wave_lists;
 
 pub use durations::Durations;
-pub use laws::schedule_order_is_kept;
+pub use laws::{schedule_order_is_kept, waves_are_unique};
 pub use least::waves;
-pub use wave_lists::Waves;
+pub use wave_lists::{Starts, Waves};

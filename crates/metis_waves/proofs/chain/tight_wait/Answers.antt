@@ -1,6 +1,4 @@
-use Rattle.std.proofs.Common.{◌∙◌, ap, arith, nat_eq}
-use Rattle.std.specs.List.{find}
-use Rattle.metis_waves.specs.Schedule.{end_of}
+use Rattle.std.proofs.Common.{arith}
 use Rattle.metis_waves.proofs.Steps.{listed_earlier, waits_long}
 use Rattle.metis_waves.proofs.chain.tight_wait.Goals as goal
 
