@@ -1,16 +1,22 @@
--- The order of a schedule's starts keeps the waits.
+-- The order of a schedule's starts is there, and keeps the waits.
 use Rattle.std.proofs.Common.{◌≡◌, ℕ, ◌<◌, ◌≤◌, Bool, true, false, ◌||◌, List, [], ◌∷◌, refl, sym, ap, ◌∙◌, subst, arith, length, nat_eq, nat_cmp, inl, inr}
-use Rattle.std.specs.Cmp.{nat_cmp_is}
+use Rattle.std.specs.BTreeSet.{insert_key}
+use Rattle.std.specs.Cmp.{IsTotalOrder, nat_cmp_is}
 use Rattle.std.specs.Ordering.{ordering_then}
+use Rattle.std.specs.declared.cmp.Ordering.{Ordering}
 use Rattle.std.specs.declared.cmp.Ordering.TheVariants.{Less, Equal, Greater}
 use Rattle.std.specs.List.{AllByRecursion}
 use Rattle.std.specs.List.Sorted.{IsStrictlySortedBy}
 use Rattle.std.proofs.lemmas.Bool.{false≢true, cases_lt, eq-eqb, eqb-true, or_cases, or_left, or_right, cases_Bool}
+use Rattle.std.proofs.lemmas.Bool.Decides.{nat_tests}
+use Rattle.std.proofs.lemmas.Cmp.{nat_cmp_total, on_total, then_total}
 use Rattle.metis_ids.specs.declared.actions.Action.{Action}
 use Rattle.metis_universe.specs.Universe.{has}
 use Rattle.metis_universe.specs.Waits.{IsKeptFrom, IsKept, is_complete, numbers, waits}
 use Rattle.metis_universe.proofs.Correctness.{all_from_has}
+use Rattle.metis_universe.proofs.Edits.{any-insert_key}
 use Rattle.metis_universe.proofs.Ranges.{has_range}
+use Rattle.metis_universe.proofs.Sorted.{IsStrictlySortedBy-insert_key}
 use Rattle.metis_waves.specs.Schedule.{IsByStart, IsSchedule, start_cmp, start_of}
 use Rattle.metis_waves.specs.declared.durations.Durations.{Durations}
 use Rattle.metis_waves.proofs.Earlier.{waits_earlier}
@@ -94,3 +100,39 @@ module _ (A : List Action) (d : Durations) (s : List ℕ) (schedule : IsSchedule
 
 pub complete : (A : List Action) (s ks : List ℕ) → IsByStart A s ks → is_complete A ks ≡ true
 complete A s ks order = all_from_has (has ks) (numbers A) (λ m there. order.same m ∙ there)
+
+-- ---- such an order is there
+
+start_total : (s : List ℕ) → IsTotalOrder (start_cmp s)
+start_total s = then_total (on_total (start_of s) nat_cmp_total) nat_cmp_total
+
+equal_numbers : (a b : ℕ) → nat_cmp a b ≡ Equal → a ≡ b
+equal_numbers a b h = grind (arith, nat_tests)
+
+second_equal : (o p : Ordering) → ordering_then o p ≡ Equal → p ≡ Equal
+second_equal Less p h = absurd (apart h) where
+  apart : Less ≡ Equal → ⊥
+  apart h = cc
+second_equal Equal p h = h
+second_equal Greater p h = absurd (apart h) where
+  apart : Greater ≡ Equal → ⊥
+  apart h = cc
+
+start_exact : (s : List ℕ) (a b : ℕ) → start_cmp s a b ≡ Equal → a ≡ b
+start_exact s a b tied = equal_numbers a b (second_equal (nat_cmp (start_of s a) (start_of s b)) (nat_cmp a b) tied)
+
+abbrev in_start_order : List ℕ → List ℕ → List ℕ
+in_start_order s [] = []
+in_start_order s (k ∷ ks) = insert_key (start_cmp s) (in_start_order s ks) k
+
+order_sorted : (s ks : List ℕ) → IsStrictlySortedBy (start_cmp s) (in_start_order s ks)
+unfolding IsStrictlySortedBy
+order_sorted s [] = tt
+order_sorted s (k ∷ ks) = IsStrictlySortedBy-insert_key (start_total s) (in_start_order s ks) k (order_sorted s ks)
+
+order_same : (s ks : List ℕ) (m : ℕ) → has (in_start_order s ks) m ≡ has ks m
+order_same s [] m = refl
+order_same s (k ∷ ks) m = any-insert_key (start_cmp s) (start_exact s) (λ x. nat_eq x m) k (in_start_order s ks) ∙ ap (λ b. nat_eq k m || b) (order_same s ks m)
+
+pub there : (A : List Action) (s : List ℕ) → (ks : List ℕ) × IsByStart A s ks
+there A s = (in_start_order s (numbers A), record { in_order = order_sorted s (numbers A); same = order_same s (numbers A) })
