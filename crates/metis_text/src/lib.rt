@@ -29,6 +29,7 @@ pub use laws::{
     accepted_is_written, accepted_refusal_is_written, plan_has_lines, refusal_has_lines,
     refusal_is_read, well_formed_is_read, written_run_is_read, written_run_is_well_formed,
 };
+pub use lines::push_numbers;
 pub use missing::write_missing;
 pub use plan_text::PlanText;
 pub use put::put_line;

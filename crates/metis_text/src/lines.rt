@@ -129,7 +129,8 @@ fn push_after(line: &mut String, after: &[u32]) -> Result<(), AllocError>
     push_numbers(line, after)
 }
 
-fn push_numbers(line: &mut String, numbers: &[u32]) -> Result<(), AllocError>
+/// Appends the numbers, each behind a space.
+pub fn push_numbers(line: &mut String, numbers: &[u32]) -> Result<(), AllocError>
     ensures { OnOk result (string_bytes line.new ≡ string_bytes line.old ++ added (map decimal numbers.now)) }
 {
     for number in numbers {

@@ -1,9 +1,8 @@
 //! The command that tells when a plan's actions may start.
-ghost use Rattle.std.specs.Prelude.{◌≡◌, ◌<◌, ◌≤◌, ◌-◌, ◌^◌, ◌++◌, [], ◌∷◌, IfOk, OnOk, codes, decimal, length, map, string_bytes};
+ghost use Rattle.std.specs.Prelude.{◌≡◌, ◌<◌, ◌≤◌, ◌-◌, ◌^◌, [], ◌∷◌, IfOk, length, string_bytes};
 ghost use Rattle.std.specs.List.{All};
 ghost use Rattle.metis_outside.specs.Faults.{CountsFault};
 ghost use Rattle.metis_outside.specs.Writes.{Writes};
-ghost use Rattle.metis_text.specs.Line.{added};
 ghost use Rattle.metis_universe.specs.Config.{empty};
 ghost use Rattle.metis_universe.specs.Numbers.{IsOf};
 ghost use Rattle.metis_universe.specs.Step.{IsRun};
@@ -19,7 +18,7 @@ use crate::stop::{end, said};
 use crate::verdict_line::write_bad;
 use metis_ids::Action;
 use metis_outside::{Shelf, Sink, Trouble};
-use metis_text::put_line;
+use metis_text::{push_numbers, put_line};
 use metis_universe::Universe;
 use metis_waits::{WFault, Waits, waits};
 use metis_waves::{Durations, Waves, waves};
@@ -218,19 +217,4 @@ fn chain_line(alloc: Global, chain: &[u32]) -> Result<String, AllocError>
     push_numbers(&mut line, chain)?;
     line.push_str("\n")?;
     Ok(line)
-}
-
-fn push_numbers(line: &mut String, numbers: &[u32]) -> Result<(), AllocError>
-    ensures { OnOk result (string_bytes line.new ≡ string_bytes line.old ++ added (map decimal numbers.now)) }
-{
-    for number in numbers {
-        push_number(line, *number)?;
-    }
-    Ok(())
-}
-
-fn push_number(line: &mut String, number: u32) -> Result<(), AllocError>
-    ensures { OnOk result (string_bytes line.new ≡ string_bytes line.old ++ (codes " " ++ decimal number)) }
-{
-    write!(line, " {number}")
 }
