@@ -21,22 +21,22 @@ pub fn waves(alloc: Global, actions: &[Action], w: &Waits, d: &Durations) -> Res
     requires short { AreShort d.now }
 
     // Both lists are schedules that end with the finish, and no schedule ends earlier.
-    ensures earliest { IfOk result (λ w. IsSchedule actions.now d.now w.earliest) }
-    ensures earliest_ends { IfOk result (λ w. end_of_all d.now actions.now w.earliest ≡ w.finish) }
-    ensures latest { IfOk result (λ w. IsSchedule actions.now d.now w.latest) }
-    ensures latest_ends { IfOk result (λ w. end_of_all d.now actions.now w.latest ≡ w.finish) }
-    ensures least { IfOk result (λ w. (s : List ℕ) → IsSchedule actions.now d.now s → w.finish ≤ end_of_all d.now actions.now s) }
+    ensures earliest { IfOk result (λ waves. IsSchedule actions.now d.now waves.earliest) }
+    ensures earliest_ends { IfOk result (λ waves. end_of_all d.now actions.now waves.earliest ≡ waves.finish) }
+    ensures latest { IfOk result (λ waves. IsSchedule actions.now d.now waves.latest) }
+    ensures latest_ends { IfOk result (λ waves. end_of_all d.now actions.now waves.latest ≡ waves.finish) }
+    ensures least { IfOk result (λ waves. (s : List ℕ) → IsSchedule actions.now d.now s → waves.finish ≤ end_of_all d.now actions.now s) }
 
     // No schedule starts an action before its earliest start, and none that ends with the finish starts it after its latest.
-    ensures early { IfOk result (λ w. (s : List ℕ) (k : ℕ) → IsSchedule actions.now d.now s → start_of w.earliest k ≤ start_of s k) }
-    ensures late { IfOk result (λ w. (s : List ℕ) (k : ℕ) → IsSchedule actions.now d.now s → end_of_all d.now actions.now s ≡ w.finish → start_of s k ≤ start_of w.latest k) }
+    ensures early { IfOk result (λ waves. (s : List ℕ) (k : ℕ) → IsSchedule actions.now d.now s → start_of waves.earliest k ≤ start_of s k) }
+    ensures late { IfOk result (λ waves. (s : List ℕ) (k : ℕ) → IsSchedule actions.now d.now s → end_of_all d.now actions.now s ≡ waves.finish → start_of s k ≤ start_of waves.latest k) }
 
     // The critical chain goes from an action without waits to the first that ends with the finish, and lasts as long as all.
-    ensures chain_empty { IfOk result (λ w. actions.now ≡ [] → w.chain ≡ []) }
-    ensures chain_ends { IfOk result (λ w. last_of w.chain ≡ first_ending d.now actions.now w.earliest w.finish) }
-    ensures chain_linked { IfOk result (λ w. IsLinked d.now actions.now w.earliest w.chain) }
-    ensures chain_begins { IfOk result (λ w. IfSome (slice_get w.chain 0) (λ k. waits actions.now k ≡ [])) }
-    ensures chain_takes { IfOk result (λ w. sum_by (takes d.now actions.now) w.chain ≡ w.finish) }
+    ensures chain_empty { IfOk result (λ waves. actions.now ≡ [] → waves.chain ≡ []) }
+    ensures chain_ends { IfOk result (λ waves. last_of waves.chain ≡ first_ending d.now actions.now waves.earliest waves.finish) }
+    ensures chain_linked { IfOk result (λ waves. IsLinked d.now actions.now waves.earliest waves.chain) }
+    ensures chain_begins { IfOk result (λ waves. IfSome (slice_get waves.chain 0) (λ k. waits actions.now k ≡ [])) }
+    ensures chain_takes { IfOk result (λ waves. sum_by (takes d.now actions.now) waves.chain ≡ waves.finish) }
 {
     let _count = w.count();
     let earliest = earliest(alloc, actions, w, d)?;
