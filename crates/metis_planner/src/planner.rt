@@ -1,5 +1,5 @@
 //! Plans for lists of targets.
-ghost use Rattle.std.specs.Prelude.{◌≡◌, ◌<◌, ◌≤◌, ◌+◌, ◌*◌, ◌^◌, ℕ, [], IfOk, IsSome, IsTrue, OnOk, length};
+ghost use Rattle.std.specs.Prelude.{◌≡◌, ◌<◌, ◌≤◌, ◌*◌, ◌^◌, ℕ, IfOk, IsSome, IsTrue, OnOk, length};
 ghost use Rattle.std.specs.List.{All};
 ghost use Rattle.metis_universe.specs.Closed.{Refusal};
 ghost use Rattle.metis_universe.specs.Config.{empty};

@@ -3,7 +3,6 @@ ghost use Rattle.std.specs.Prelude.{◌≡◌, ◌<◌, IfOk, length, map};
 ghost use Rattle.std.specs.List.{All};
 ghost use Rattle.metis_ids.specs.Cycle.{HasCycle, cycle_of};
 ghost use Rattle.metis_ids.specs.Order.{IsOrder};
-ghost use Rattle.metis_universe.specs.Universe.{IsUniverse};
 ghost use Rattle.metis_support.specs.Support.{IsSupport};
 ghost use Rattle.metis_lines.specs.LifeLines.{AreLines, plan_of};
 ghost use Rattle.metis_events.specs.Edges.{event_at, graph_of};

@@ -1,16 +1,13 @@
 -- The words of a dup's line for a pair and for an event are read as these just where they are what is written for them.
-use Rattle.std.proofs.Common.{◌≡◌, ℕ, ◌+◌, ◌<◌, ◌^◌, Bool, true, false, ◌&&◌, List, ◌∷◌, ◌++◌, length, Some, None, Result, Ok, Err, refl, sym, ap, ◌∙◌, subst, arith, decimal, inl, inr}
+use Rattle.std.proofs.Common.{◌≡◌, ℕ, ◌+◌, ◌<◌, ◌^◌, Bool, true, false, ◌&&◌, List, ◌∷◌, ◌++◌, length, Some, None, Result, Ok, Err, refl, sym, ap, ◌∙◌, subst, arith, decimal}
 use Rattle.std.specs.Prelude.{codes}
-use Rattle.std.specs.Bool.{if◌then◌else◌, nat_le}
-use Rattle.std.specs.List.{after_first, before_first, position_or_len}
+use Rattle.std.specs.Bool.{if◌then◌else◌}
+use Rattle.std.specs.List.{after_first, before_first}
 use Rattle.std.specs.Option.{option_and_then}
 use Rattle.std.specs.Str.{bytes_eq}
-use Rattle.std.proofs.lemmas.Bool.{and_from, and_parts, cases_lt, eqb-true}
-use Rattle.std.proofs.lemmas.Bool.Decides.{nat_tests}
+use Rattle.std.proofs.lemmas.Bool.{and_from, and_parts, eqb-true}
 use Rattle.std.proofs.lemmas.Fmt.{decimal_nonempty}
-use Rattle.std.proofs.lemmas.List.{drop_all}
 use Rattle.std.proofs.lemmas.List.Folds.{list_all-append}
-use Rattle.std.proofs.lemmas.List.Sums.{passes_at_first, split_at_first}
 use Rattle.std.proofs.lemmas.Slice.Eq.{bytes_eq-Decides}
 use Rattle.metis_ids.specs.declared.events.Event.{Event}
 use Rattle.metis_ids.specs.declared.events.Event.TheVariants.{At, End}
@@ -28,7 +25,7 @@ use Rattle.metis_text.specs.declared.flaw.Flaw.TheVariants.{Form}
 use Rattle.metis_text.proofs.Cuts.{after_cut, before_cut}
 use Rattle.metis_text.proofs.NameTokens.{and_then_some, bytes_apart, state_at, state_is, type_at, type_is}
 use Rattle.metis_text.proofs.NumberTokens.{number_is, number_read}
-use Rattle.metis_text.proofs.Outcomes.{both_is, found_is, if_is, made_is}
+use Rattle.metis_text.proofs.Outcomes.{both_is, found_is, made_is}
 use Rattle.metis_text.proofs.Printed.{no_colon_name, no_point_decimal, printed, printed_decimal, printed_name}
 
 -- ---- two parts of a token

@@ -3,7 +3,7 @@ ghost use Rattle.std.specs.Prelude.{◌≡◌, ◌+◌, IfOk, Ok, [], length, ma
 ghost use Rattle.std.specs.Option.{option_map};
 ghost use Rattle.metis_ids.specs.declared.actions.Action.TheVariants.{Delete};
 ghost use Rattle.metis_text.specs.ActionLine.{action_in, after_in, bind_action, delete_words, due, ends_in, kind_in, move_action, move_words, new_in, new_words, rise, row_in, row_of, states_in, tie_words, unbind_action};
-ghost use Rattle.metis_text.specs.Flaws.{all_behind, made};
+ghost use Rattle.metis_text.specs.Flaws.{made};
 ghost use Rattle.metis_text.specs.Tokens.{number_in};
 
 use crate::bytes::is;

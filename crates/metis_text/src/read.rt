@@ -3,7 +3,7 @@ ghost use Rattle.std.specs.Prelude.{◌≡◌, ◌<◌, ◌-◌, ◌^◌, ◌&&�
 ghost use Rattle.std.specs.Str.{bytes_eq};
 ghost use Rattle.metis_text.specs.Flaws.{made};
 ghost use Rattle.metis_text.specs.Reading.{counts_in, counts_of_tokens, counted, dups_from, parts, plan_in, read_next, rows_from, rows_of};
-ghost use Rattle.metis_text.specs.Reads.{Reads, IsTextOf, ReadsPlan, dup_row, numbers_of, parts_of};
+ghost use Rattle.metis_text.specs.Reads.{Reads, IsTextOf, ReadsPlan, dup_row, numbers_of};
 
 use crate::action_line::row_in;
 use crate::bytes::is;

@@ -1,5 +1,5 @@
 //! From words to a command.
-ghost use Rattle.std.specs.Prelude.{◌≡◌, ◌+◌, ◌≤◌, [], IfOk, IfSome, drop, length, string_bytes};
+ghost use Rattle.std.specs.Prelude.{◌≡◌, ◌+◌, ◌≤◌, [], IfOk, IfSome, length, string_bytes};
 ghost use Rattle.std.specs.List.{All, list_any};
 ghost use Rattle.metis_universe.specs.Texts.{texts};
 ghost use Rattle.metis_top.specs.Forms.{least_size, number_count};

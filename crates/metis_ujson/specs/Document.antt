@@ -4,7 +4,7 @@
 --     rows_of d, rows_in bytes      the rows that the value, or the bytes, spell, or the first place whose form is wrong
 --     fault_of_row fault      a fault of the rows, as a fault of the document
 --     universe_in bytes      the universe that the bytes mean, or why they mean none: a wrong form first, then a fault of the rows
-use Rattle.std.specs.Prelude.{ℕ, ◌≡◌, ◌≢◌, ◌+◌, ◌-◌, ◌==◌, Bool, true, false, List, [], ◌∷◌, length, take, Option, Some, None, option_and_then, Result, Ok, Err, if◌then◌else◌, codes, slice_index}
+use Rattle.std.specs.Prelude.{ℕ, ◌+◌, ◌-◌, ◌==◌, Bool, true, false, List, [], ◌∷◌, length, take, Option, Some, None, option_and_then, Result, Ok, Err, if◌then◌else◌, codes, slice_index}
 use Rattle.std.specs.Str.{is_utf8}
 use Rattle.serde_json.specs.Data.{Data, Items, no_items, item}
 use Rattle.serde_json.specs.Find.{get, as_str, as_array, as_number, as_u64}

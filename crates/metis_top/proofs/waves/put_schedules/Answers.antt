@@ -1,7 +1,6 @@
 use Rattle.std.proofs.Common.{inl, inr, refl, subst}
 use Rattle.metis_waves.specs.Waves.{AreWaves}
 use Rattle.metis_top.proofs.Shown.{shown_by_writer}
-use Rattle.metis_top.specs.Waved.{durations_of}
 use Rattle.metis_top.proofs.waves.put_schedules.Goals as goal
 
 pub returns-in-Ok-waves : goal.returns-in-Ok-waves
