@@ -4,16 +4,16 @@
     replay.py PROGRAM
 
 PROGRAM is the built planner, as crates/metis/out/metis. The universe is near the limits, and the plans are for up to as many
-targets as there may be. Each plan is printed by `plan`, then read by `replay` with its last line cut off, which ends the run before the replay,
-and at last replayed whole. The status is 1 where an answer is not the one that has to come. docs/BENCHMARKS.md says how
-to read the table.
+targets as there may be. Each plan is printed by `plan`, then read by `replay` with its last line cut off, which ends the run before the
+replay, and at last replayed whole. The least time of three runs counts, and it is that of the processor. The status is 1 where an answer
+is not the one that has to come. docs/BENCHMARKS.md says how to read the table.
 """
 
 import json
+import os
 import subprocess
 import sys
 import tempfile
-import time
 from pathlib import Path
 
 STATES = 64
@@ -21,7 +21,7 @@ TYPES = 31
 SIZES = (32, 64, 128, 256)
 RUNS = 3
 
-COLUMNS = ("targets", "actions", "MB", "written", "read", "read and replayed", "read, by the MB", "replayed, by the MB")
+COLUMNS = ("targets", "actions", "MB", "written", "read", "read and replayed", "to the size before, by the action")
 
 
 def long_name(short):
@@ -73,15 +73,15 @@ def expected(targets):
 
 
 def timed(command, out):
-    """The least time of a few runs, in seconds, and the status. Its text goes into the file."""
+    """The least seconds of the processor of a few runs, and the status. Its text goes into the file."""
     best = None
     for _ in range(RUNS):
         with open(out, "wb") as text:
-            begin = time.perf_counter()
-            done = subprocess.run(command, stdin=subprocess.DEVNULL, stdout=text, check=False)
-            seconds = time.perf_counter() - begin
+            child = subprocess.Popen(command, stdin=subprocess.DEVNULL, stdout=text)
+            _, status, usage = os.wait4(child.pid, 0)
+        seconds = usage.ru_utime + usage.ru_stime
         best = seconds if best is None else min(best, seconds)
-    return best, done.returncode
+    return best, os.waitstatus_to_exitcode(status)
 
 
 def fault_of(what, told, wanted):
@@ -123,7 +123,7 @@ def main(words):
         return 2
     print("| " + " | ".join(COLUMNS) + " |")
     print("| " + " | ".join("---" for _ in COLUMNS) + " |", flush=True)
-    first = None
+    before = None
     with tempfile.TemporaryDirectory() as name:
         for targets in SIZES:
             row, fault = measure(words[0], Path(name), targets)
@@ -131,10 +131,11 @@ def main(words):
                 print(f"replay.py: {targets} targets: {fault}", file=sys.stderr)
                 return 1
             actions, size, written, read, replayed = row
-            each = (read / size, (replayed - read) / size)
-            first = first or each
-            cells = (targets, actions, f"{size / 1e6:.1f}", f"{written:.2f} s", f"{read:.2f} s", f"{replayed:.2f} s")
-            print("| " + " | ".join(map(str, cells)) + f" | {each[0] / first[0]:.2f} | {each[1] / first[1]:.2f} |", flush=True)
+            each = replayed / actions
+            ratio = f"{each / before:.2f}" if before else "-"
+            before = each
+            cells = (targets, f"{actions:,}", f"{size / 1e6:.1f}", f"{written:.2f}", f"{read:.2f}", f"{replayed:.2f}", ratio)
+            print("| " + " | ".join(map(str, cells)) + " |", flush=True)
     return 0
 
 
