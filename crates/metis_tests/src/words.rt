@@ -21,7 +21,7 @@ fn words_are_read_into_a_command(rt: HostRuntime) -> Result<(), Fail> {
     let parts = format!(in alloc; "{command:?}")?;
     assert_eq!(rt;
         parts.as_str(),
-        "Command { verb: Plan, files: [\"-\"], targets: [TargetWord { kind: \"Svc-1.a/b@c\", state: \"_x\" }], size: 0 }"
+        "Command { verb: Plan, files: [\"-\"], targets: [TargetWord { kind: \"Svc-1.a/b@c\", state: \"_x\" }], size: 0, numbers: [] }"
     );
     let words = words_in(alloc, "print,f.json")?;
     let command = read_words(alloc, &words).ok().ok_or("no command")?;
