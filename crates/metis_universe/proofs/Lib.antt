@@ -12,6 +12,7 @@ pub mod FirstPairs
 pub mod FirstSights
 pub mod Frames
 pub mod FromRows
+pub mod GoalExamples
 pub mod Initials
 pub mod Inside
 pub mod Kept
@@ -27,6 +28,7 @@ pub mod RowTables
 pub mod Same
 pub mod SeenNumbers
 pub mod Selected
+pub mod Served
 pub mod Settling
 pub mod Sorted
 pub mod Standing

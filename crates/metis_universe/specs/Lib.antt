@@ -1,6 +1,7 @@
 pub mod Closed
 pub mod Config
 pub mod Goal
+pub mod Goals
 pub mod Kinds
 pub mod Layers
 pub mod Names

@@ -3,6 +3,7 @@
 
 mod check;
 mod faults;
+mod goal_laws;
 mod laws;
 mod names;
 mod reading;
@@ -11,6 +12,7 @@ mod sights;
 mod universe;
 
 pub use faults::{LimitKind, RowFault};
+pub use goal_laws::{lacked_goals_are_not_held, pairs_are_goals, refused_goals_are_not_attained};
 pub use laws::{
     first_fault_comes_first, layer_is_least, layers_are_closed, origin_is_the_least_below,
     pair_is_of_the_last_action, provider_comes_first, refused_is_not_attained, runs_stay_inside,

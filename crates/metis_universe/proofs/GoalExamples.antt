@@ -1,0 +1,76 @@
+-- Goals on small universes: what serves them, what holds them, and what lacks them.
+use Rattle.std.proofs.Common.{◌≡◌, ◌+◌, ◌≤◌, ◌||◌, ℕ, lit≤, lit<, true, false, cond, [], ◌∷◌, map, None, refl, sym, subst, take, arith, nat_eq, inl, inr}
+use Rattle.std.specs.Prelude.{IsTrue}
+use Rattle.std.specs.List.{find}
+use Rattle.std.proofs.lemmas.Bool.{and_parts, eqb-true, false≢true, or_cases}
+use Rattle.metis_ids.specs.declared.goals.Goal.TheVariants.{Pair, Port}
+use Rattle.metis_ids.specs.declared.actions.Action.TheVariants.{New, Move}
+use Rattle.metis_universe.specs.Universe.{Universe, has, is_empty, is_initial, next_of, provides, required_of, requires}
+use Rattle.metis_universe.specs.Config.{Config, empty}
+use Rattle.metis_universe.specs.Step.{after_all}
+use Rattle.metis_universe.specs.Closed.{Closed, IsProvidedIn}
+use Rattle.metis_universe.specs.Goals.{AttainsGoals, GoalRefusal, HoldsGoals, lacks, occupied, serving}
+use Rattle.metis_universe.proofs.Correctness.{Correct-from_is_correct}
+use Rattle.metis_universe.proofs.PlanExamples.{kind, pair, web}
+
+-- a database that is on, beside one that is off, and a web server that is off: pairs Db:off 0, Db:on 1, Web:off 2, Web:run 3, port sql 0
+abbrev on_and_off : Config
+on_and_off = after_all web empty (New 0 0 ∷ Move 0 0 1 ∷ New 1 0 ∷ New 2 1 ∷ [])
+
+on_and_off_occupied : occupied on_and_off ≡ 1 ∷ 0 ∷ 2 ∷ []
+on_and_off_occupied = refl
+
+on_and_off_serving : map (serving web on_and_off) (Pair 0 ∷ Pair 1 ∷ Pair 2 ∷ Pair 3 ∷ Port 0 ∷ []) ≡ 1 ∷ 1 ∷ 1 ∷ 0 ∷ 1 ∷ []
+on_and_off_serving = refl
+
+on_and_off_lacks : map (lacks web (occupied on_and_off)) (Pair 0 ∷ Pair 1 ∷ Pair 2 ∷ Pair 3 ∷ Port 0 ∷ []) ≡ false ∷ false ∷ false ∷ true ∷ false ∷ []
+on_and_off_lacks = refl
+
+-- one database that is on serves its pair and its port at once
+abbrev one_on : Config
+one_on = after_all web empty (New 0 0 ∷ Move 0 0 1 ∷ [])
+
+pair_and_port : HoldsGoals web one_on (Pair 1 ∷ Port 0 ∷ [])
+pair_and_port (Pair p) = elim (nat_eq 1 p) as (λ b. 0 + cond b 1 0 + 0 ≤ 0 + cond b 1 0) [ true ↦ lit≤ tt | false ↦ lit≤ tt ]
+pair_and_port (Port r) = elim (nat_eq 0 r) as (λ b. 0 + 0 + cond b 1 0 ≤ 0 + cond (b || false) 1 0) [ true ↦ lit≤ tt | false ↦ lit≤ tt ]
+
+pair_and_port_attained : AttainsGoals web (Pair 1 ∷ Port 0 ∷ [])
+pair_and_port_attained =
+    let now = λ (k : ℕ). Correct-from_is_correct web (after_all web empty (take k (New 0 0 ∷ Move 0 0 1 ∷ []))) in
+    (New 0 0 ∷ Move 0 0 1 ∷ [], ((lit< tt, refl), now 1 refl, ((refl, refl), now 2 refl, tt)), pair_and_port)
+
+-- but not its port twice, and not the web server
+port_twice : HoldsGoals web one_on (Port 0 ∷ Port 0 ∷ []) → ⊥
+port_twice held = let two : 2 ≤ 1 = held (Port 0) in omega (arith, two)
+
+port_and_web : HoldsGoals web one_on (Port 0 ∷ Pair 3 ∷ []) → ⊥
+port_and_web held = let one : 1 ≤ 0 = held (Pair 3) in omega (arith, one)
+
+-- Y: y0 > y1(+p -p), which needs another one to be there first; pairs y0 0, y1 1, port p 0
+abbrev alone : Universe
+alone = record { kinds = kind 0 ∷ []; pairs = pair 0 [] [] (1 ∷ []) ∷ pair 0 (0 ∷ []) (0 ∷ []) [] ∷ []; ports = (112 ∷ []) ∷ [] }
+
+one_of : (x p : ℕ) → IsTrue (has (x ∷ []) p) → x ≡ p
+one_of x p h = elim (or_cases (nat_eq x p) false h) [ inl here ↦ eqb-true x p here | inr none ↦ absurd (false≢true none) ]
+
+-- what y0 is in provides nothing
+y0_provides : (r : ℕ) → IsProvidedIn alone (0 ∷ []) r → ⊥
+y0_provides r h = false≢true (subst (λ y. IsTrue (provides alone y r)) (sym (one_of 0 h.0 h.1)) h.2)
+
+y0_closed : Closed alone (0 ∷ [])
+y0_closed = record {
+  free = λ p h. (and_parts (is_initial alone p) (is_empty (required_of alone p)) h).0;
+  moves = λ p q here step needs.
+      subst (λ x. IsTrue (has (next_of alone x) q) → IsTrue (has (0 ∷ []) q)) (one_of 0 p here)
+      (λ next. absurd (y0_provides 0 (needs 0 (subst (λ x. IsTrue (requires alone x 0)) (one_of 1 q next) refl)))) step;
+}
+
+-- the first goal that the set lacks is told
+port_refused : GoalRefusal alone (Pair 0 ∷ Port 0 ∷ Pair 1 ∷ []) (0 ∷ []) (Port 0)
+port_refused = (y0_closed, refl)
+
+pair_refused : GoalRefusal alone (Pair 0 ∷ Pair 1 ∷ Port 0 ∷ []) (0 ∷ []) (Pair 1)
+pair_refused = (y0_closed, refl)
+
+none_refused : find (lacks alone (0 ∷ 1 ∷ [])) (Pair 0 ∷ Port 0 ∷ Pair 1 ∷ []) ≡ None
+none_refused = refl
