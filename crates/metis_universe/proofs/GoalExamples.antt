@@ -1,6 +1,6 @@
--- Goals on small universes: what serves them, what holds them, and what lacks them.
-use Rattle.std.proofs.Common.{◌≡◌, ◌+◌, ◌≤◌, ◌||◌, ℕ, lit≤, lit<, true, false, cond, [], ◌∷◌, map, None, refl, sym, subst, take, arith, nat_eq, inl, inr}
-use Rattle.std.specs.Prelude.{IsTrue}
+-- Goals on small universes: what serves them, what holds them, what lacks them, and their words.
+use Rattle.std.proofs.Common.{◌≡◌, ◌+◌, ◌≤◌, ◌||◌, ℕ, lit≤, lit<, true, false, cond, [], ◌∷◌, map, None, Some, refl, sym, subst, take, arith, nat_eq, inl, inr}
+use Rattle.std.specs.Prelude.{IsTrue, codes}
 use Rattle.std.specs.List.{find}
 use Rattle.std.proofs.lemmas.Bool.{and_parts, eqb-true, false≢true, or_cases}
 use Rattle.metis_ids.specs.declared.goals.Goal.TheVariants.{Pair, Port}
@@ -9,6 +9,7 @@ use Rattle.metis_universe.specs.Universe.{Universe, has, is_empty, is_initial, n
 use Rattle.metis_universe.specs.Config.{Config, empty}
 use Rattle.metis_universe.specs.Step.{after_all}
 use Rattle.metis_universe.specs.Closed.{Closed, IsProvidedIn}
+use Rattle.metis_universe.specs.GoalWords.{goal_named, goal_word}
 use Rattle.metis_universe.specs.Goals.{AttainsGoals, GoalRefusal, HoldsGoals, lacks, occupied, serving}
 use Rattle.metis_universe.proofs.Correctness.{Correct-from_is_correct}
 use Rattle.metis_universe.proofs.PlanExamples.{kind, pair, web}
@@ -74,3 +75,28 @@ pair_refused = (y0_closed, refl)
 
 none_refused : find (lacks alone (0 ∷ 1 ∷ [])) (Pair 0 ∷ Port 0 ∷ Pair 1 ∷ []) ≡ None
 none_refused = refl
+
+-- ---- words
+
+web_port_word : goal_named web (codes "port") (codes "sql") ≡ Some (Port 0)
+web_port_word = refl
+
+web_no_port : goal_named web (codes "port") (codes "on") ≡ None
+web_no_port = refl
+
+web_port_is_written : goal_word web (Port 0) ≡ codes "port:sql"
+web_port_is_written = refl
+
+-- a type that is named `port`, whose state is named as a port is
+abbrev named_port : Universe
+named_port = record {
+  kinds = record { name = codes "port"; initial = 0 } ∷ [];
+  pairs = record { kind = 0; state = codes "sql"; provided = 0 ∷ []; required = []; next = [] } ∷ [];
+  ports = codes "sql" ∷ codes "other" ∷ [];
+}
+
+type_comes_first : goal_named named_port (codes "port") (codes "sql") ≡ Some (Pair 0)
+type_comes_first = refl
+
+type_hides_ports : goal_named named_port (codes "port") (codes "other") ≡ None
+type_hides_ports = refl

@@ -2,6 +2,7 @@ pub mod Closed
 pub mod Config
 pub mod Goal
 pub mod Goals
+pub mod GoalWords
 pub mod Kinds
 pub mod Layers
 pub mod Names

@@ -4,6 +4,7 @@
 mod check;
 mod faults;
 mod goal_laws;
+mod goal_words;
 mod laws;
 mod names;
 mod reading;
