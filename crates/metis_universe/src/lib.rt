@@ -4,7 +4,7 @@
 mod check;
 mod faults;
 mod goal_laws;
-mod goal_words;
+mod goals;
 mod laws;
 mod names;
 mod reading;

@@ -1,17 +1,27 @@
-//! The names by which goals are asked for.
+//! What serves a goal, and the names by which goals are asked for.
 ghost use Rattle.std.specs.Prelude.{◌≡◌, IfSome, option_map};
 ghost use Rattle.metis_ids.specs.declared.goals.Goal.TheVariants.{Pair, Port};
-ghost use Rattle.metis_universe.specs.Goals.{IsGoalOf};
+ghost use Rattle.metis_universe.specs.Goals.{IsGoalOf, serves};
 ghost use Rattle.metis_universe.specs.GoalWords.{IsWordable, goal_named, goal_names, means_port};
 ghost use Rattle.metis_universe.specs.Universe.{pair_named, port_named};
 
 use crate::Universe;
-use metis_ids::Goal;
+use metis_ids::{Goal, PairIx};
 
 /// The name with which a word for a port begins.
 const PORT: &str = "port";
 
 impl Universe {
+    /// Whether an instance in the pair serves the goal: it is in that pair, or the pair provides that port.
+    pub fn serves(&self, p: PairIx, goal: Goal) -> bool
+        ensures { result ≡ serves self.now p goal }
+    {
+        match goal {
+            Goal::Pair(asked) => p == asked,
+            Goal::Port(port) => p.0 < self.pairs() && self.provides(p, port),
+        }
+    }
+
     /// The goal that these two names ask for: the pair of a type and its state, or a port behind the name `port`. In a universe
     /// that has a type named `port` each word asks for a pair.
     pub fn goal_named(&self, kind: &str, name: &str) -> Option<Goal>
