@@ -2,4 +2,5 @@ pub mod Adding
 pub mod Below
 pub mod Chosen
 pub mod Lacking
+pub mod Resolving
 pub mod UnderWay
