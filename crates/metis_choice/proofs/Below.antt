@@ -19,7 +19,7 @@ use Rattle.metis_choice.specs.Origins.{LeadsUp, IsLeastBelow, IsFirstBelow, AreF
 module _ (u : Universe) where
   -- ---- origins and providers are pairs of the universe
 
-  pair_low : (p l : ℕ) → layer_of u p ≡ Some l → p < pair_count u
+  pub pair_low : (p l : ℕ) → layer_of u p ≡ Some l → p < pair_count u
   pair_low p l is = let there = in_range 0 (pair_count u) p (layer_pair u p l is) in omega (arith, there.1)
 
   pub origin_low : (q p : ℕ) → origin_of u q ≡ Some p → p < pair_count u

@@ -1,5 +1,7 @@
 pub mod Adding
 pub mod Below
 pub mod Chosen
+pub mod Examples
 pub mod Lacking
+pub mod Resolving
 pub mod UnderWay

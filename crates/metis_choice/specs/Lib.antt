@@ -1,3 +1,4 @@
 pub mod Choices
 pub mod Origins
+pub mod Resolutions
 pub mod WorkList
