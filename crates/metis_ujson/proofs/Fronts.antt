@@ -1,6 +1,7 @@
 -- Lists that are read from the front: what was read, before what the rest means.
-use Rattle.std.proofs.Common.{◌≡◌, ℕ, ◌+◌, ◌<◌, List, [], ◌∷◌, ◌++◌, Option, Some, None, Result, Ok, Err, refl, sym, ap, ◌∙◌, append_assoc, drop, get_or, length}
-use Rattle.std.proofs.lemmas.List.{at_drop_more}
+use Rattle.std.proofs.Common.{◌≡◌, ℕ, ◌+◌, ◌<◌, List, [], ◌∷◌, ◌++◌, Option, Some, None, Result, Ok, Err, refl, sym, ap, ◌∙◌, append_assoc, drop, get_or, length, map, take}
+use Rattle.std.proofs.lemmas.List.{at_drop_more, map-append, take_more}
+use Rattle.serde_json.specs.Data.{string}
 use Rattle.serde_json.specs.View.{items_view, view}
 use Rattle.serde_json.specs.declared.value.Value.{Value}
 use Rattle.metis_universe.specs.RowShapes.{StateRow, TypeRow}
@@ -42,3 +43,11 @@ pub states-next : (kind : ℕ) (front : List StateRow) (values : List Value) (i 
 states-next kind front values i v low is =
     let rest = states_from kind (i + 1) (items_view (drop (i + 1) values)) in
     at_drop_more (λ vs. behind front (states_from kind i (items_view vs))) values i v low ∙ ap (λ x. behind front (with_state (state_in (view x)) (StateForm kind i) rest)) (sym is)
+
+-- one name more of a list
+pub names-next : (name : ℕ → List ℕ) (names names' : List Value) (xs : List ℕ) (i x : ℕ) (v : Value) → i < length xs → x ≡ get_or xs i x → names' ≡ names ++ v ∷ [] → view v ≡ string (name x) →
+    map view names ≡ map string (map name (take i xs)) → map view names' ≡ map string (map name (take (i + 1) xs))
+names-next name names names' xs i x v low is more named old =
+    ap (map view) more ∙ map-append view names (v ∷ []) ∙ (λ j. old j ++ named j ∷ [])
+    ∙ sym (ap (λ l. map string (map name l)) (take_more xs i x low) ∙ ap (λ y. map string (map name (take i xs ++ y ∷ []))) (sym is)
+    ∙ ap (map string) (map-append name (take i xs) (x ∷ [])) ∙ map-append string (map name (take i xs)) (name x ∷ []))
