@@ -1,7 +1,7 @@
 //! A configuration, its reads and its edits.
-ghost use Rattle.std.specs.Prelude.{◌≡◌, ◌≢◌, ◌<◌, ◌↔◌, ℕ, Some, IsTrue, IsFalse, IsSome, IsNone, IfOk, MatchOption, OnOk, OnErr, length, nat_lt, None};
+ghost use Rattle.std.specs.Prelude.{◌≡◌, ◌≢◌, ◌<◌, ◌↔◌, ℕ, Some, IsTrue, IsFalse, IsSome, IsNone, IfOk, MatchOption, OnOk, OnErr, length, nat_lt, None, []};
 ghost use Rattle.std.specs.List.{list_all};
-ghost use Rattle.metis_universe.specs.Config.{IsConfig, empty, Correct, pair_of, is_bound, put, remove, tie, untie};
+ghost use Rattle.metis_universe.specs.Config.{IsConfig, config_of, empty, Correct, pair_of, is_bound, put, remove, tie, untie};
 ghost use Rattle.metis_universe.specs.Goal.{holding};
 ghost use Rattle.metis_universe.specs.Universe.{pair_count};
 ghost use Rattle.metis_config.specs.Over.{IsOver};
@@ -10,7 +10,7 @@ ghost use Rattle.metis_config.specs.Unmet.{unmet, is_unmet, IsLeast, changed};
 use crate::crowds::Crowds;
 use crate::ends::Ends;
 use crate::lists::{Instances, Ties};
-use crate::met;
+use crate::met::earlier_of;
 use metis_ids::{InstNo, NoMemory, PairIx, PortIx};
 use metis_universe::Universe;
 use std::alloc::Global;
@@ -25,7 +25,7 @@ pub struct Config {
     /// The bindings again, by provider and by requirer.
     ends: Ends,
     /// In which pairs the providers of each port of each requirer are.
-    crowds: Crowds,
+    pub(crate) crowds: Crowds,
 }
 
 impl Model for Config {
@@ -151,7 +151,7 @@ impl Config {
         ensures correct { IsNone result ↔ Correct u.now self.now }
     {
         u.keeps_invariant();
-        met::first_unmet(u, &self.instances, &self.bindings, &self.crowds)
+        self.first_unmet(u, &self.instances)
     }
 
     /// What `unmet` would be if the instance were in the pair, or gone. It looks at the instance, and at those bound to it
@@ -163,17 +163,10 @@ impl Config {
         ensures { result ≡ unmet u.now (changed self.now z to) }
     {
         u.keeps_invariant();
-        let own = met::unmet_own(u, &self.instances, &self.bindings, &self.crowds, z, &to);
-        let lost = met::first_lost(
-            u,
-            &self.instances,
-            &self.bindings,
-            &self.crowds,
-            &self.ends.by_provider,
-            z,
-            &to,
-        );
-        met::earlier_of(z, own, lost)
+        self.keeps_invariant();
+        let own = self.unmet_own(u, z, &to);
+        let lost = self.first_lost(u, &self.ends.by_provider, z, &to);
+        earlier_of(z, own, lost)
     }
 
     /// What `unmet` would be without the binding. It looks at its requirer's port.
@@ -189,7 +182,8 @@ impl Config {
         ensures { result ≡ unmet u.now (untie self.now r z y) }
     {
         u.keeps_invariant();
-        if met::loses_tie(u, &self.instances, &self.bindings, &self.crowds, r, z, y) {
+        self.keeps_invariant();
+        if self.loses_tie(u, r, z, y) {
             Some((z, r))
         } else {
             None
@@ -211,7 +205,7 @@ impl Config {
         requires { IsSome (pair_of self.old z) }
         ensures { self.new ≡ put self.old z p }
     {
-        let from = met::pair_in(&self.instances, z).unwrap();
+        let from = pair_in(&self.instances, z).unwrap();
         self.crowds.shift_all(&self.ends.by_provider, z, from, p);
         // Only a new key takes memory.
         match self.instances.insert(z, p) {
@@ -229,7 +223,7 @@ impl Config {
         ensures ok { OnOk result (self.new ≡ tie self.old r z y) }
         ensures err { OnErr result (self.new ≡ self.old) }
     {
-        let pair = met::pair_in(&self.instances, y).unwrap();
+        let pair = pair_in(&self.instances, y).unwrap();
         self.crowds.enter(z, r, pair)?;
         if self.ends.add(r, z, y).is_err() {
             self.crowds.leave(z, r, pair);
@@ -248,7 +242,7 @@ impl Config {
         requires { IsTrue (is_bound self.old r z y) }
         ensures { self.new ≡ untie self.old r z y }
     {
-        let pair = met::pair_in(&self.instances, y).unwrap();
+        let pair = pair_in(&self.instances, y).unwrap();
         self.bindings.remove(&(r, z, y));
         self.ends.take(r, z, y);
         self.crowds.leave(z, r, pair);
@@ -282,6 +276,13 @@ impl Config {
         let (y, r) = self.ends.first_from(z)?;
         Some((r, y))
     }
+}
+
+// The pair of the instance, if it is there.
+fn pair_in(instances: &BTreeMap<InstNo, PairIx>, z: InstNo) -> Option<PairIx>
+    ensures { result ≡ pair_of (config_of instances.now.entries []) z }
+{
+    instances.get(&z).copied()
 }
 
 // Whether each pair has a number below this.

@@ -1,5 +1,5 @@
 //! The rows of the types of a place.
-ghost use Rattle.std.specs.Prelude.{◌≡◌, ◌<◌, [], ◌∷◌, ◌++◌, IfOk};
+ghost use Rattle.std.specs.Prelude.{◌≡◌, ◌<◌, [], ◌∷◌, ◌++◌, IfOk, codes};
 ghost use Rattle.metis_universe.specs.Texts.{texts};
 ghost use Rattle.metis_gen.specs.Generated.{three_digits, earlier_z, state_row, left_row, right_row, generated_rows};
 
@@ -57,26 +57,109 @@ fn state(
     })
 }
 
+/// A state without ports, which leads to another.
+fn first(alloc: Global, name: &str, next: &str) -> Result<StateRow, AllocError>
+    ensures { IfOk result (λ row. row ≡ state_row name.now [] [] (next.now ∷ [])) }
+{
+    let next = one(alloc, next)?;
+    state(alloc, name, Vec::new(alloc), Vec::new(alloc), next)
+}
+
+/// A state that provides this port of the place, and leads to another.
+fn provider(
+    alloc: Global,
+    name: &str,
+    word: &str,
+    i: u32,
+    next: &str,
+) -> Result<StateRow, AllocError>
+    requires { i < 1000 }
+    ensures { IfOk result (λ row. row ≡ state_row name.now ((word.now ++ three_digits i) ∷ []) [] (next.now ∷ [])) }
+{
+    let next = one(alloc, next)?;
+    let provide = port(alloc, word, i)?;
+    state(alloc, name, provide, Vec::new(alloc), next)
+}
+
+/// A state that requires this port of the place, and leads to another.
+fn requirer(
+    alloc: Global,
+    name: &str,
+    word: &str,
+    i: u32,
+    next: &str,
+) -> Result<StateRow, AllocError>
+    requires { i < 1000 }
+    ensures { IfOk result (λ row. row ≡ state_row name.now [] ((word.now ++ three_digits i) ∷ []) (next.now ∷ [])) }
+{
+    let next = one(alloc, next)?;
+    let require = port(alloc, word, i)?;
+    state(alloc, name, Vec::new(alloc), require, next)
+}
+
+/// The left state that provides x, and requires the port z of the place before.
+fn link(alloc: Global, i: u32) -> Result<StateRow, AllocError>
+    requires { i < 1000 }
+    ensures { IfOk result (λ row. row ≡ state_row (codes "a1") ((codes "x" ++ three_digits i) ∷ []) (earlier_z i) (codes "a2" ∷ [])) }
+{
+    let next = one(alloc, "a2")?;
+    let provide = port(alloc, "x", i)?;
+    let require = earlier(alloc, i)?;
+    state(alloc, "a1", provide, require, next)
+}
+
+/// The right state that provides z, and is the last.
+fn end(alloc: Global, i: u32) -> Result<StateRow, AllocError>
+    requires { i < 1000 }
+    ensures { IfOk result (λ row. row ≡ state_row (codes "b3") ((codes "z" ++ three_digits i) ∷ []) [] []) }
+{
+    let provide = port(alloc, "z", i)?;
+    state(alloc, "b3", provide, Vec::new(alloc), Vec::new(alloc))
+}
+
+/// The states of the left type.
+fn left_states(alloc: Global, i: u32) -> Result<Vec<StateRow>, AllocError>
+    requires { i < 1000 }
+    ensures { IfOk result (λ rows. rows.items ≡ (left_row i).states) }
+{
+    let mut states = Vec::new(alloc);
+    states.push(first(alloc, "a0", "a1")?)?;
+    states.push(link(alloc, i)?)?;
+    states.push(requirer(alloc, "a2", "y", i, "a3")?)?;
+    states.push(state(
+        alloc,
+        "a3",
+        Vec::new(alloc),
+        Vec::new(alloc),
+        Vec::new(alloc),
+    )?)?;
+    Ok(states)
+}
+
+/// The states of the right type.
+fn right_states(alloc: Global, i: u32) -> Result<Vec<StateRow>, AllocError>
+    requires { i < 1000 }
+    ensures { IfOk result (λ rows. rows.items ≡ (right_row i).states) }
+{
+    let mut states = Vec::new(alloc);
+    states.push(first(alloc, "b0", "b1")?)?;
+    states.push(provider(alloc, "b1", "y", i, "b2")?)?;
+    states.push(requirer(alloc, "b2", "x", i, "b3")?)?;
+    states.push(end(alloc, i)?)?;
+    Ok(states)
+}
+
 /// The left type of the place.
 fn left(alloc: Global, i: u32) -> Result<TypeRow, AllocError>
     requires { i < 1000 }
     ensures { IfOk result (λ row. row ≡ left_row i) }
 {
-    let none = || Vec::new(alloc);
-    let mut states = Vec::new(alloc);
-    states.push(state(alloc, "a0", none(), none(), one(alloc, "a1")?)?)?;
-    states.push(state(
-        alloc,
-        "a1",
-        port(alloc, "x", i)?,
-        earlier(alloc, i)?,
-        one(alloc, "a2")?,
-    )?)?;
-    states.push(state(alloc, "a2", none(), port(alloc, "y", i)?, one(alloc, "a3")?)?)?;
-    states.push(state(alloc, "a3", none(), none(), none())?)?;
+    let states = left_states(alloc, i)?;
+    let name = numbered(alloc, "left", i)?;
+    let initial = String::from_str(alloc, "a0")?;
     Ok(TypeRow {
-        name: numbered(alloc, "left", i)?,
-        initial: String::from_str(alloc, "a0")?,
+        name,
+        initial,
         states,
     })
 }
@@ -86,15 +169,12 @@ fn right(alloc: Global, i: u32) -> Result<TypeRow, AllocError>
     requires { i < 1000 }
     ensures { IfOk result (λ row. row ≡ right_row i) }
 {
-    let none = || Vec::new(alloc);
-    let mut states = Vec::new(alloc);
-    states.push(state(alloc, "b0", none(), none(), one(alloc, "b1")?)?)?;
-    states.push(state(alloc, "b1", port(alloc, "y", i)?, none(), one(alloc, "b2")?)?)?;
-    states.push(state(alloc, "b2", none(), port(alloc, "x", i)?, one(alloc, "b3")?)?)?;
-    states.push(state(alloc, "b3", port(alloc, "z", i)?, none(), none())?)?;
+    let states = right_states(alloc, i)?;
+    let name = numbered(alloc, "right", i)?;
+    let initial = String::from_str(alloc, "b0")?;
     Ok(TypeRow {
-        name: numbered(alloc, "right", i)?,
-        initial: String::from_str(alloc, "b0")?,
+        name,
+        initial,
         states,
     })
 }

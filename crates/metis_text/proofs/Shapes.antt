@@ -10,6 +10,7 @@ use Rattle.metis_text.specs.ActionLine.{Words, action_in, after_in, due, row_of,
 use Rattle.metis_text.specs.DupLine.{DupRow, dup_of, dup_with}
 use Rattle.metis_text.specs.Flaws.{both, made}
 use Rattle.metis_text.specs.Reading.{counts_of_tokens}
+use Rattle.metis_text.specs.Tokens.{number_in}
 use Rattle.metis_universe.specs.Universe.{Universe}
 
 abbrev texts : List (Bor (List ℕ)) → List (List ℕ)
@@ -39,6 +40,27 @@ counts_many (a ∷ b ∷ c ∷ d ∷ []) many = refl
 counts_many (a ∷ b ∷ c ∷ d ∷ e ∷ []) many = refl
 counts_many (a ∷ b ∷ c ∷ d ∷ e ∷ f ∷ []) many = absurd (omega (arith, many))
 counts_many (a ∷ b ∷ c ∷ d ∷ e ∷ f ∷ g ∷ ts) many = refl
+
+counts_six : (ts : List (Bor (List ℕ))) (d : Bor (List ℕ)) → length ts ≡ 6 →
+    counts_of_tokens (texts ts)
+    ≡ cond (bytes_eq (get_or ts 0 d).now (codes "instances") && bytes_eq (get_or ts 2 d).now (codes "actions") && bytes_eq (get_or ts 4 d).now (codes "dups"))
+    (both (number_in (get_or ts 1 d).now) (both (number_in (get_or ts 3 d).now) (number_in (get_or ts 5 d).now))) (Err Form)
+counts_six [] d six = absurd (omega (arith, six))
+counts_six (a ∷ []) d six = absurd (omega (arith, six))
+counts_six (a ∷ b ∷ []) d six = absurd (omega (arith, six))
+counts_six (a ∷ b ∷ c ∷ []) d six = absurd (omega (arith, six))
+counts_six (a ∷ b ∷ c ∷ e ∷ []) d six = absurd (omega (arith, six))
+counts_six (a ∷ b ∷ c ∷ e ∷ f ∷ []) d six = absurd (omega (arith, six))
+counts_six (a ∷ b ∷ c ∷ e ∷ f ∷ g ∷ []) d six = refl
+counts_six (a ∷ b ∷ c ∷ e ∷ f ∷ g ∷ h ∷ ts) d six = absurd (omega (arith, six))
+
+-- the same, where it is known whether the words are there
+pub counts_worded : (ts : List (Bor (List ℕ))) (d : Bor (List ℕ)) (words : Bool) → 6 ≤ length ts → length ts < 7
+    → words ≡ (bytes_eq (get_or ts 0 d).now (codes "instances") && bytes_eq (get_or ts 2 d).now (codes "actions") && bytes_eq (get_or ts 4 d).now (codes "dups"))
+    → cond words (both (number_in (get_or ts 1 d).now) (both (number_in (get_or ts 3 d).now) (number_in (get_or ts 5 d).now))) (Err Form) ≡ counts_of_tokens (texts ts)
+counts_worded ts d words least below is =
+    ap (λ b. cond b (both (number_in (get_or ts 1 d).now) (both (number_in (get_or ts 3 d).now) (number_in (get_or ts 5 d).now))) (Err Form)) is
+    ∙ sym (counts_six ts d (omega (arith, least, below)))
 
 -- ---- a view of parts, after they are put together and before
 

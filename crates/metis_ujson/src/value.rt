@@ -55,10 +55,12 @@ fn state_value(alloc: Global, u: &Universe, p: PairIx) -> Result<Value, AllocErr
     requires { p < pair_count u.now }
     ensures { IfOk result (λ v. view v ≡ state_value (state_row u.now (pair_at u.now p))) }
 {
-    let next = state_names(alloc, u, u.next(p))?;
-    let provide = port_names(alloc, u, u.provided(p))?;
-    let require = port_names(alloc, u, u.requires_(p))?;
-    json!(in alloc; {"name": u.state_name(p), "next": next, "provide": provide, "require": require})
+    json!(in alloc; {
+        "name": u.state_name(p),
+        "next": state_names(alloc, u, u.next(p))?,
+        "provide": port_names(alloc, u, u.provided(p))?,
+        "require": port_names(alloc, u, u.requires_(p))?
+    })
 }
 
 fn state_names(alloc: Global, u: &Universe, pairs: &[PairIx]) -> Result<Value, AllocError>

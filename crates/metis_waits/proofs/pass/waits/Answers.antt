@@ -1,4 +1,4 @@
-use Rattle.std.proofs.Common.{◌++◌, ◌∷◌, ◌∙◌, [], Some, ap, sym, subst, arith, take}
+use Rattle.std.proofs.Common.{◌++◌, ◌∷◌, ◌∙◌, [], Some, ap, refl, sym, subst, arith, take}
 use Rattle.std.proofs.lemmas.List.{take_more}
 use Rattle.std.proofs.lemmas.Option.{slice_get-get_or}
 use Rattle.metis_ids.specs.declared.actions.Action.{Action}
@@ -19,11 +19,9 @@ loop-index-preserved c =
     let is = slice_get-get_or actions i a c.loop-index-test.true ∙ ap Some (sym c.index-actions-index.is) in
     let more = take_more actions i a c.loop-index-test.true ∙ ap (λ (x : Action). take i actions ++ x ∷ []) (sym c.index-actions-index.is) in
     record {
-      summary = subst (λ l. IsSummary u l c.add.new.self) (sym more) c.in_ok-add.ensures;
-      each = mapped (waits actions) i c.loop-index.each c.push-in-loop-index.new.self c.deref-in-loop-index-2.result.now c.in_ok-push-2.ensures.ok c.loop-index.invariant.each (c.deref-in-loop-index-2.ensures.value ∙ c.in_ok-numbers.ensures ∙ sym (waits_next actions i a is));
-      others =
-          mapped (waits_on_others actions) i c.loop-index.others c.push.new.self c.deref-in-loop-index.result.now c.in_ok-push.ensures.ok c.loop-index.invariant.others
-          (c.deref-in-loop-index.ensures.value ∙ c.in_ok-without.ensures ∙ others_next actions i a is c.deref.result.now c.own_previous-previous.result (c.deref.ensures.value ∙ c.in_ok-numbers.ensures) c.own_previous-previous.ensures);
+      summary = subst (λ l. IsSummary u l c.take_in.new.summary) (sym more) c.in_ok-take_in.ensures.summary;
+      each = mapped (waits actions) i c.loop-index.lists.each c.take_in.new.lists.each _ c.in_ok-take_in.ensures.each c.loop-index.invariant.each (sym (waits_next actions i a is));
+      others = mapped (waits_on_others actions) i c.loop-index.lists.others c.take_in.new.lists.others _ c.in_ok-take_in.ensures.others c.loop-index.invariant.others (others_next actions i a is _ _ refl refl);
       steadfast = one_more (is_steadfast_at u actions) i c.loop-index.invariant.steadfast (steadfast_next actions i a is u ∙ sym c.if-not-is_steadfast.ensures);
     }
 
@@ -42,4 +40,4 @@ pub returns-clause-steadfast : goal.returns-clause-steadfast
 returns-clause-steadfast c = all_steadfast c.args.u.now c.args.actions.now c.loop-index.index c.loop-index-test.false c.loop-index.invariant.steadfast
 
 pub new-requires : goal.new-requires
-new-requires c = numbered c.args.actions.now c.loop-index.index c.loop-index.each c.loop-index.others c.loop-index.invariant.each c.loop-index.invariant.others (omega arith)
+new-requires c = numbered c.args.actions.now c.loop-index.index c.loop-index.lists.each c.loop-index.lists.others c.loop-index.invariant.each c.loop-index.invariant.others (omega arith)

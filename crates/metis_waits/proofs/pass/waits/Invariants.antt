@@ -9,7 +9,7 @@ use Rattle.metis_waits.proofs.pass.waits.Given as goal
 abbrev pub invariant-loop-index : goal.invariant-loop-index
 invariant-loop-index l = record {
   summary : IsSummary l.u (take l.index l.actions) l.summary;
-  each : l.each ≡ map (waits l.actions) (range_with_len 1 l.index);
-  others : l.others ≡ map (waits_on_others l.actions) (range_with_len 1 l.index);
+  each : l.lists.each ≡ map (waits l.actions) (range_with_len 1 l.index);
+  others : l.lists.others ≡ map (waits_on_others l.actions) (range_with_len 1 l.index);
   steadfast : (j : ℕ) → j ≤ l.index → is_steadfast_at l.u l.actions j ≡ true;
 }

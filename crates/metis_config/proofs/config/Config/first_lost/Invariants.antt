@@ -1,15 +1,14 @@
 use Rattle.std.proofs.Common.{◌≡◌}
 use Rattle.std.specs.List.{AllByRecursion, find}
-use Rattle.metis_universe.specs.Config.{config_of}
 use Rattle.metis_config.proofs.GivenUp.{is_in}
 use Rattle.metis_config.proofs.Prefixes.{IsRest}
 use Rattle.metis_config.proofs.Unmets.{lost_client}
-use Rattle.metis_config.proofs.met.first_lost.Given as goal
+use Rattle.metis_config.proofs.config.Config.first_lost.Given as goal
 
 abbrev pub invariant-loop-client : goal.invariant-loop-client
 invariant-loop-client l = record {
-  left : find (lost_client l.u (config_of l.instances.entries l.bindings.keys) l.z l.to) l.client-iterator
-      ≡ find (lost_client l.u (config_of l.instances.entries l.bindings.keys) l.z l.to) l.clients.keys;
+  left : find (lost_client l.u l.self l.z l.to) l.client-iterator
+      ≡ find (lost_client l.u l.self l.z l.to) l.clients.keys;
   rest : IsRest (l.z, 0, 0) l.client-iterator;
   there : AllByRecursion (is_in l.clients.keys) l.client-iterator;
 }
