@@ -12,6 +12,7 @@ pub mod FirstPairs
 pub mod FirstSights
 pub mod Frames
 pub mod FromRows
+pub mod InOrder
 pub mod Initials
 pub mod Inside
 pub mod Kept
