@@ -8,11 +8,12 @@ use Rattle.std.proofs.lemmas.Bool.{false≢true, and_from, and_parts, or_cases, 
 use Rattle.std.proofs.lemmas.List.Folds.{list_any-append}
 use Rattle.std.proofs.lemmas.Map.Keys.{sorted_from_strictly_increasing}
 use Rattle.metis_universe.proofs.Ranges.{has_range}
+use Rattle.metis_universe.proofs.InOrder.{same_members}
 use Rattle.metis_universe.proofs.Selected.{selected-least}
 use Rattle.metis_universe.specs.Selection.{needs_of, origin_of, provider_of, providers_needed, selected, IsLeastSelection}
 use Rattle.metis_universe.specs.Universe.{Universe, all_pairs, has, pair_count, required_of}
 use Rattle.metis_layers.proofs.Ways.{all_has}
-use Rattle.metis_support.proofs.Lists.{has-append_cases, has_itself, has_one, same_members, same_test}
+use Rattle.metis_support.proofs.Lists.{has-append_cases, has_itself, has_one, same_test}
 use Rattle.metis_support.proofs.Selections.{ascending, has_option, mapped_from}
 use Rattle.metis_choice.proofs.Below.{origin_low, provider_low}
 use Rattle.metis_choice.specs.WorkList.{WorkList, Adds}

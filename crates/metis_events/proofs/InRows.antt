@@ -1,5 +1,5 @@
 -- The edges into each event, in rows: where an event has its row, and what one more edge does.
-use Rattle.std.proofs.Common.{◌≡◌, ℕ, suc, ◌+◌, ◌<◌, ◌≤◌, Bool, true, false, cond, not, List, [], ◌∷◌, ◌++◌, length, get_or, map, set, Some, None, Result, Ok, Err, refl, sym, ap, ◌∙◌, arith, nat_lt, inl, inr}
+use Rattle.std.proofs.Common.{◌≡◌, ℕ, zero, suc, ◌+◌, ◌<◌, ◌≤◌, Bool, true, false, cond, not, List, [], ◌∷◌, ◌++◌, length, get_or, map, set, take, drop, Some, None, Result, Ok, Err, refl, sym, ap, ◌∙◌, arith, nat_lt, inl, inr}
 use Rattle.std.specs.Prelude.{position}
 use Rattle.std.specs.List.{AllByRecursion, filter, position_or_len}
 use Rattle.std.specs.List.Sorted.{IsBinarySearchResult, IsNonDecreasingBy, IsSearchInRange, IsStrictlySortedBy}
@@ -163,3 +163,21 @@ module _ (xs : List Event) (sorted : IsStrictlySortedBy event_cmp xs) (e : Event
       (λ k before. apart_from k (ap (event_cmp (get_or xs k End)) (sym (here End)) ∙ Less-from_sorted event_cmp xs k i End sorted before low))
       (λ _. ap (same_event e) (here End) ∙ same_itself e) in
       sym (cond-true (nat_lt (position_or_len (same_event e) xs) (length xs)) (Some (position_or_len (same_event e) xs)) None (lt-ltb (position_or_len (same_event e) xs) (length xs) (omega arith)) ∙ ap Some first)
+
+-- ---- rows that are changed one after another
+
+module _ {X : Type 0} (f : X → X) where
+  get_next : (xs : List X) (i : ℕ) (d : X) → i < length xs → get_or (map f (take i xs) ++ drop i xs) i d ≡ get_or xs i d
+  get_next [] i d low = absurd (omega arith)
+  get_next (x ∷ xs) zero d low = refl
+  get_next (x ∷ xs) (suc i) d low = get_next xs i d (omega arith)
+
+  set_next : (xs : List X) (i : ℕ) (d : X) → i < length xs → set (map f (take i xs) ++ drop i xs) i (f (get_or xs i d)) ≡ map f (take (suc i) xs) ++ drop (suc i) xs
+  set_next [] i d low = absurd (omega arith)
+  set_next (x ∷ xs) zero d low = refl
+  set_next (x ∷ xs) (suc i) d low = ap (λ ys. f x ∷ ys) (set_next xs i d (omega arith))
+
+  pub changed_more : (xs now : List X) (i : ℕ) (old new : X) → i < length xs → now ≡ map f (take i xs) ++ drop i xs → old ≡ get_or now i old → new ≡ f old → set now i new ≡ map f (take (i + 1) xs) ++ drop (i + 1) xs
+  changed_more xs now i old new low are is made =
+      let next : suc i ≡ i + 1 = omega arith in
+      (λ j. set (are j) i ((made ∙ ap f (is ∙ ap (λ ys. get_or ys i old) are ∙ get_next xs i old low)) j)) ∙ set_next xs i old low ∙ ap (λ n. map f (take n xs) ++ drop n xs) next

@@ -1,24 +1,30 @@
--- Edges with the events that they lead into, as a set: their order is total, and what is added is there.
-use Rattle.std.proofs.Common.{◌≡◌, ℕ, Bool, true, false, ◌||◌, List, [], ◌∷◌, ◌++◌, refl, sym, ap, ◌∙◌, subst, arith, inl, inr}
+-- Edges with the events that they lead into: what is added is there. Edges in order: their order is total, and those put in order are the same.
+use Rattle.std.proofs.Common.{◌≡◌, ℕ, Bool, true, false, ◌||◌, cond, nat_eq, List, [], ◌∷◌, ◌++◌, fold, refl, sym, ap, ◌∙◌, subst, arith, inl, inr}
 use Rattle.std.specs.BTreeSet.{insert_key}
 use Rattle.std.specs.Cmp.{IsTotalOrder}
-use Rattle.std.specs.List.{AllByRecursion, list_any}
-use Rattle.std.specs.List.Sorted.{IsStrictlySortedBy}
-use Rattle.std.specs.Ordering.{match_ordering, nat_cmp, ordering_reverse, ordering_then}
+use Rattle.std.specs.List.{AllByRecursion, dedup, dedup_from, list_any}
+use Rattle.std.specs.List.Retain.{DiffersFromLast, IsFiltered}
+use Rattle.std.specs.List.Sorted.{IsPermutation, IsSorted, IsStrictlySortedBy}
+use Rattle.std.specs.Ordering.{eq_by_cmp, is_eq, match_ordering, nat_cmp, ordering_reverse, ordering_then}
 use Rattle.std.specs.declared.cmp.Ordering.{Ordering}
 use Rattle.std.specs.declared.cmp.Ordering.TheVariants.{Less, Equal, Greater}
-use Rattle.std.proofs.lemmas.Bool.{eq-eqb, false_from_ne_true, false≢true, or_cases, or_left}
+use Rattle.std.proofs.Math.Bool.{or_comm}
+use Rattle.std.proofs.lemmas.Bool.{and_from, and_parts, eq-eqb, false_from_ne_true, false≢true, or_cases, or_left}
 use Rattle.std.proofs.lemmas.Bool.Decides.{nat_tests}
 use Rattle.std.proofs.lemmas.Cmp.{nat_cmp_total, on_total, then_total, tied_itself}
+use Rattle.std.proofs.lemmas.List.Filters.{dedup_is}
 use Rattle.std.proofs.lemmas.List.Folds.{list_any-append}
+use Rattle.std.proofs.lemmas.List.Kept.{IsStrictlySortedBy-dedup}
+use Rattle.std.proofs.lemmas.List.Sorted.{list_any-IsPermutation}
 use Rattle.metis_ids.specs.declared.events.Event.{Event}
 use Rattle.metis_ids.specs.declared.events.Event.TheVariants.{At, End}
+use Rattle.metis_universe.proofs.Sorted.{IsStrictlySortedBy-insert_key}
 use Rattle.metis_lines.specs.Events.{event_cmp, same_event}
-use Rattle.metis_events.proofs.Befores.{same_kinds}
+use Rattle.metis_events.proofs.Befores.{same_itself, same_kinds}
 use Rattle.metis_events.proofs.Ranks.{same_events}
 use Rattle.metis_events.specs.declared.edges.Edge.{Edge}
-use Rattle.metis_events.specs.Edges.{edge_cmp, kind_cmp, kind_number}
-use Rattle.metis_events.specs.Gathered.{Adds, has_target, same_target, target_cmp}
+use Rattle.metis_events.specs.Edges.{edge_cmp, edge_of, kind_cmp, kind_number}
+use Rattle.metis_events.specs.Gathered.{Adds, has_target, in_order, same_edge, same_target}
 
 -- ---- the order
 
@@ -47,9 +53,6 @@ event_total = subst IsTotalOrder (λ i e f. in_parts e f i) (then_total (on_tota
 
 pub edge_total : IsTotalOrder edge_cmp
 edge_total = then_total (on_total (λ (a : Edge). a.from) event_total) (on_total (λ (a : Edge). kind_number a.kind) nat_cmp_total)
-
-pub target_total : IsTotalOrder target_cmp
-target_total = then_total (on_total (λ (a : Event × Edge). a.0) event_total) (on_total (λ (a : Event × Edge). a.1) edge_total)
 
 -- ---- what is equal is one
 
@@ -82,12 +85,19 @@ equal_edges a b h =
     let both = both_equal (event_cmp a.from b.from) (kind_cmp a.kind b.kind) h in
     (λ i. record { from = equal_events a.from b.from both.0 i; kind = same_kinds a.kind b.kind (eq-eqb (kind_number a.kind) (kind_number b.kind) (equal_numbers (kind_number a.kind) (kind_number b.kind) both.1)) i })
 
-pub equal_targets : (x y : Event × Edge) → target_cmp x y ≡ Equal → x ≡ y
-equal_targets x y h =
-    let both = both_equal (event_cmp x.0 y.0) (edge_cmp x.1 y.1) h in
-    (λ i. (equal_events x.0 y.0 both.0 i, equal_edges x.1 y.1 both.1 i))
+pub one_edge : (a b : Edge) → same_edge a b ≡ true → a ≡ b
+one_edge a b h =
+    let both = and_parts (same_event a.from b.from) (nat_eq (kind_number a.kind) (kind_number b.kind)) h in
+    (λ i. edge_of (same_events a.from b.from both.0 i) (same_kinds a.kind b.kind both.1 i))
+
+pub edge_itself : (a : Edge) → same_edge a a ≡ true
+edge_itself a = and_from (same_event a.from a.from) (nat_eq (kind_number a.kind) (kind_number a.kind)) (same_itself a.from) (eq-eqb (kind_number a.kind) (kind_number a.kind) refl)
 
 -- ---- what is added
+
+or_false : (b : Bool) → b ≡ (b || false)
+or_false true = refl
+or_false false = refl
 
 or_again : (b c : Bool) → (b || c) ≡ (b || (b || c))
 or_again true c = refl
@@ -103,20 +113,8 @@ or_three true true c = refl
 or_three true false c = refl
 or_three false b c = refl
 
-or_none : (b c : Bool) → (b || c) ≡ ((b || false) || c)
-or_none true c = refl
-or_none false c = refl
-
-has-insert : (xs : List (Event × Edge)) (k x : Event × Edge) → has_target (insert_key target_cmp xs k) x ≡ (same_target k x || has_target xs x)
-has-insert [] k x = refl
-has-insert (y ∷ xs) k x = by (has-insert xs k x) (target_cmp k y) refl where
-  by : has_target (insert_key target_cmp xs k) x ≡ (same_target k x || has_target xs x) → (o : Ordering) → target_cmp k y ≡ o → has_target (match_ordering o (k ∷ y ∷ xs) (y ∷ xs) (y ∷ insert_key target_cmp xs k)) x ≡ (same_target k x || has_target (y ∷ xs) x)
-  by later Less at = refl
-  by later Equal at = or_again (same_target y x) (has_target xs x) ∙ ap (λ z. same_target z x || (same_target y x || has_target xs x)) (sym (equal_targets k y at))
-  by later Greater at = ap (λ b. same_target y x || b) later ∙ or_swap (same_target y x) (same_target k x) (has_target xs x)
-
-pub adds_one : (k : Event × Edge) (old new : List (Event × Edge)) → new ≡ insert_key target_cmp old k → Adds (k ∷ []) old new
-adds_one k old new is = λ x. ap (λ xs. has_target xs x) is ∙ has-insert old k x ∙ or_none (same_target k x) (has_target old x)
+pub adds_one : (k : Event × Edge) (old : List (Event × Edge)) → Adds (k ∷ []) old (old ++ k ∷ [])
+adds_one k old = λ x. list_any-append (λ y. same_target y x) old (k ∷ []) ∙ or_comm (has_target old x) (has_target (k ∷ []) x)
 
 pub adds_none : (old : List (Event × Edge)) → Adds [] old old
 adds_none old = λ x. refl
@@ -183,9 +181,69 @@ module _ {X : Type 0} (cmp : X → X → Ordering) (total : IsTotalOrder cmp) (s
       let rest = same_lists xs ys one.1 two.1 (λ q. rest_same x xs ys q (not_there x xs one.0) (ap (has_one ys) first ∙ not_there y ys two.0) (both q ∙ ap (λ z. has_one (z ∷ ys) q) (sym first))) in
       (λ i. first i ∷ rest i)
 
-pub none_sorted : IsStrictlySortedBy target_cmp []
+  -- ---- elements put in one after another, each once
+
+  module _ (tied : (x y : X) → cmp x y ≡ Equal → x ≡ y) where
+    has-insert : (xs : List X) (k q : X) → has_one (insert_key cmp xs k) q ≡ (same k q || has_one xs q)
+    has-insert [] k q = refl
+    has-insert (y ∷ xs) k q = by (has-insert xs k q) (cmp k y) refl where
+      by : has_one (insert_key cmp xs k) q ≡ (same k q || has_one xs q) → (o : Ordering) → cmp k y ≡ o → has_one (match_ordering o (k ∷ y ∷ xs) (y ∷ xs) (y ∷ insert_key cmp xs k)) q ≡ (same k q || has_one (y ∷ xs) q)
+      by later Less at = refl
+      by later Equal at = or_again (same y q) (has_one xs q) ∙ ap (λ z. same z q || (same y q || has_one xs q)) (sym (tied k y at))
+      by later Greater at = ap (λ b. same y q || b) later ∙ or_swap (same y q) (same k q) (has_one xs q)
+
+    pub has-fold : (q : X) (keys xs : List X) → has_one (fold (insert_key cmp) keys xs) q ≡ (has_one xs q || has_one keys q)
+    has-fold q keys [] = refl
+    has-fold q keys (x ∷ xs) = has-fold q (insert_key cmp keys x) xs ∙ ap (λ b. has_one xs q || b) (has-insert keys x q) ∙ or_three (same x q) (has_one xs q) (has_one keys q)
+
+    pub sorted_fold : (keys xs : List X) → IsStrictlySortedBy cmp keys → IsStrictlySortedBy cmp (fold (insert_key cmp) keys xs)
+    sorted_fold keys [] s = s
+    sorted_fold keys (x ∷ xs) s = sorted_fold (insert_key cmp keys x) xs (IsStrictlySortedBy-insert_key total keys x s)
+
+    has-dedup_from : (q x : X) (xs : List X) → has_one (dedup_from same x xs) q ≡ (same x q || has_one xs q)
+    has-dedup_from q x [] = refl
+    has-dedup_from q x (y ∷ ys) = by (has-dedup_from q x ys) (has-dedup_from q y ys) (same y x) refl where
+      by : has_one (dedup_from same x ys) q ≡ (same x q || has_one ys q) → has_one (dedup_from same y ys) q ≡ (same y q || has_one ys q) →
+          (b : Bool) → same y x ≡ b → has_one (cond b (dedup_from same x ys) (x ∷ dedup_from same y ys)) q ≡ (same x q || has_one (y ∷ ys) q)
+      by one two true at = one ∙ or_again (same x q) (has_one ys q) ∙ ap (λ z. same x q || (same z q || has_one ys q)) (sym (is_one y x at))
+      by one two false at = ap (λ b. same x q || b) two
+
+    has-dedup : (q : X) (xs : List X) → has_one (dedup same xs) q ≡ has_one xs q
+    has-dedup q [] = refl
+    has-dedup q (x ∷ xs) = has-dedup_from q x xs
+
+    ties : (x y : X) → same x y ≡ eq_by_cmp cmp x y
+    ties x y = by (same x y) refl where
+      apart : same x y ≡ false → (o : Ordering) → cmp x y ≡ o → false ≡ is_eq o
+      apart other Less at = refl
+      apart other Equal at = absurd (false≢true (sym other ∙ ap (same x) (sym (tied x y at)) ∙ itself x))
+      apart other Greater at = refl
+
+      by : (b : Bool) → same x y ≡ b → b ≡ eq_by_cmp cmp x y
+      by true at = ap is_eq (sym (tied_itself total x) ∙ ap (cmp x) (is_one x y at))
+      by false at = apart at (cmp x y) refl
+
+    -- to sort, and to leave out what stands twice, is to put them in
+    pub sorted_once : (xs sorted kept : List X) → IsStrictlySortedBy cmp [] → IsPermutation xs sorted → IsSorted cmp sorted → IsFiltered (DiffersFromLast same) [] sorted kept → kept ≡ fold (insert_key cmp) [] xs
+    sorted_once xs sorted kept none moved rises filtered =
+        dedup_is same sorted kept filtered
+        ∙ same_lists (dedup same sorted) (fold (insert_key cmp) [] xs) (IsStrictlySortedBy-dedup total ties sorted rises) (sorted_fold [] xs none)
+        (λ q. has-dedup q sorted ∙ sym (list_any-IsPermutation (λ x. same x q) xs sorted moved) ∙ or_false (has_one xs q) ∙ sym (has-fold q [] xs))
+
+-- ---- edges in order
+
+none_sorted : IsStrictlySortedBy edge_cmp []
 unfolding IsStrictlySortedBy
 none_sorted = tt
+
+pub in_order_sorted : (es : List Edge) → IsStrictlySortedBy edge_cmp (in_order es)
+in_order_sorted es = sorted_fold edge_cmp edge_total same_edge one_edge edge_itself equal_edges [] es none_sorted
+
+pub in_order_has : (es : List Edge) (a : Edge) → list_any (λ x. same_edge x a) (in_order es) ≡ list_any (λ x. same_edge x a) es
+in_order_has es a = has-fold edge_cmp edge_total same_edge one_edge edge_itself equal_edges a [] es ∙ sym (or_false (list_any (λ x. same_edge x a) es))
+
+pub in_order_is : (es sorted kept : List Edge) → IsPermutation es sorted → IsSorted edge_cmp sorted → IsFiltered (DiffersFromLast same_edge) [] sorted kept → kept ≡ in_order es
+in_order_is es sorted kept moved rises filtered = sorted_once edge_cmp edge_total same_edge one_edge edge_itself equal_edges es sorted kept none_sorted moved rises filtered
 
 -- ---- equal events
 

@@ -1,26 +1,26 @@
 -- All edges of a graph, each with the event that it leads into.
---     target_cmp      how two stand: by the events that they lead into, then as edges
---     same_target x y, has_target xs x      whether two are one;  whether x is among them
+--     same_edge a b, same_target x y      whether two edges are one;  the same with the events that they lead into
+--     has_target xs x      whether x is among them
 --     Adds xs old new      these are added to those that were there
 --     without_supplies x      the plan of the lines alone
 --     next_edge l j, go_edges w l      the go edge from step j of line l;  all go edges of the line
 --     return_edges e f, supply_edges w s      the return edge from e to f, unless f is the end;  the start and the return edge of a supply
 --     edges_to xs f      the edges into f among these
-use Rattle.std.specs.Prelude.{ℕ, ◌≡◌, ◌==◌, ◌+◌, ◌-◌, Bool, ◌&&◌, ◌||◌, List, [], ◌∷◌, ◌++◌, length, map, if◌then◌else◌}
+--     in_order es      the edges by the events that they lead from and then by kind, each once
+use Rattle.std.specs.Prelude.{ℕ, ◌≡◌, ◌==◌, ◌+◌, ◌-◌, Bool, ◌&&◌, ◌||◌, List, [], ◌∷◌, ◌++◌, length, map, fold, if◌then◌else◌}
 use Rattle.std.specs.List.{filter, list_any, range_with_len}
-use Rattle.std.specs.Ordering.{ordering_then}
-use Rattle.std.specs.declared.cmp.Ordering.{Ordering}
+use Rattle.std.specs.BTreeSet.{insert_key}
 use Rattle.metis_ids.specs.declared.events.Event.{Event}
 use Rattle.metis_ids.specs.declared.events.Event.TheVariants.{At, End}
 use Rattle.metis_events.specs.declared.edges.Edge.{Edge}
 use Rattle.metis_events.specs.declared.edges.EdgeKind.TheVariants.{Go, Start, Return}
 use Rattle.metis_events.specs.Edges.{edge_cmp, edge_of, kind_number}
 use Rattle.metis_lines.specs.AbstractPlan.{AbstractPlan, Supply, last}
-use Rattle.metis_lines.specs.Events.{event_cmp, is_end, leaving, same_event, step_count}
+use Rattle.metis_lines.specs.Events.{is_end, leaving, same_event, step_count}
 use Rattle.metis_lines.specs.LifeLines.{LifeLines}
 
-abbrev pub target_cmp : Event × Edge → Event × Edge → Ordering
-target_cmp a b = ordering_then (event_cmp a.0 b.0) (edge_cmp a.1 b.1)
+abbrev pub same_edge : Edge → Edge → Bool
+same_edge a b = same_event a.from b.from && (kind_number a.kind == kind_number b.kind)
 
 abbrev pub same_target : Event × Edge → Event × Edge → Bool
 same_target x y = same_event x.0 y.0 && same_event x.1.from y.1.from && (kind_number x.1.kind == kind_number y.1.kind)
@@ -48,3 +48,6 @@ supply_edges w s = (At s.line s.station, edge_of (At s.holder s.place) Start) �
 
 abbrev pub edges_to : List (Event × Edge) → Event → List Edge
 edges_to xs f = map (λ (x : Event × Edge). x.1) (filter (λ (x : Event × Edge). same_event x.0 f) xs)
+
+abbrev pub in_order : List Edge → List Edge
+in_order es = fold (insert_key edge_cmp) [] es

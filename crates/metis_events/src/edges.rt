@@ -1,15 +1,13 @@
 //! Edges of the graph of events.
 ghost use Rattle.std.specs.Prelude.{◌≡◌, ◌∷◌, [], OnOk};
-ghost use Rattle.std.specs.List.Sorted.{IsStrictlySortedBy};
 ghost use Rattle.metis_ids.specs.declared.events.Event.{Event};
 ghost use Rattle.metis_lines.specs.Events.{event_cmp};
-ghost use Rattle.metis_events.specs.Edges.{edge_of};
-ghost use Rattle.metis_events.specs.Gathered.{Adds, target_cmp};
+ghost use Rattle.metis_events.specs.Edges.{edge_cmp, edge_of};
+ghost use Rattle.metis_events.specs.Gathered.{Adds, same_edge};
 ghost use Rattle.metis_events.specs.declared.edges.Edge.{Edge};
 
 use metis_ids::{Event, NoMemory};
 use std::alloc::Global;
-use std::collections::BTreeSet;
 use std::marker::Model;
 
 /// Why one event has to come before another: it is the line's last one before it, it enters the station that the other takes
@@ -33,55 +31,51 @@ pub fn events_are_ordered()
     ensures { (a b : Event) → ⟦<Event as Ord>⟧.cmp a b ≡ event_cmp a b }
 {}
 
-// Edges with the events that they lead into are ordered by these, then by the events that they lead from, then by kind.
-fn edges_are_ordered()
-    ensures { (a b : Event × Edge) → ⟦<(Event, Edge) as Ord>⟧.cmp a b ≡ target_cmp a b }
+/// Edges are ordered by the events that they lead from, and then by kind.
+pub fn edges_are_ordered()
+    ensures { (a b : Edge) → ⟦<Edge as Ord>⟧.cmp a b ≡ edge_cmp a b }
 {}
 
-/// A set of edges with the events that they lead into. Contracts see it as their list, in order.
+/// Edges are equal where they are of one kind and lead from one event.
+pub fn edges_are_told_apart()
+    ensures { (a b : Edge) → ⟦<Edge as PartialEq>⟧.eq a b ≡ same_edge a b }
+{}
+
+/// Edges with the events that they lead into, as they were added: one may stand there again.
 #[derive(Drop)]
-pub struct EdgeSet {
-    edges: BTreeSet<(Event, Edge)>,
+pub struct EdgeList {
+    edges: Vec<(Event, Edge)>,
 }
 
-impl Model for EdgeSet {
+impl Model for EdgeList {
     ghost use Rattle.std.specs.Prelude.{List};
     ghost use Rattle.metis_ids.specs.declared.events.Event.{Event};
     ghost use Rattle.metis_events.specs.declared.edges.Edge.{Edge};
 
     ghost Value = { List (Event × Edge) };
 
-    ghost use Rattle.std.specs.List.Sorted.{IsStrictlySortedBy};
-    ghost use Rattle.metis_events.specs.Gathered.{target_cmp};
-
-    ghost view = { λ s. s.edges.keys };
-
-    ghost invariant = { λ s. IsStrictlySortedBy target_cmp s.edges.keys };
+    ghost view = { λ s. s.edges.items };
 }
 
-impl EdgeSet {
-    pub fn new(alloc: Global) -> EdgeSet
+impl EdgeList {
+    pub fn new(alloc: Global) -> EdgeList
         ensures { result ≡ [] }
     {
-        EdgeSet {
-            edges: BTreeSet::new(alloc),
+        EdgeList {
+            edges: Vec::new(alloc),
         }
     }
 
-    /// Adds the edge, if it is not there.
     pub fn add(&mut self, from: Event, kind: EdgeKind, to: Event) -> Result<(), NoMemory>
         ensures { OnOk result (Adds ((to, edge_of from kind) ∷ []) self.old self.new) }
     {
-        edges_are_ordered();
-        self.edges.insert((to, Edge { from, kind }))?;
+        self.edges.push((to, Edge { from, kind }))?;
         Ok(())
     }
 
-    /// The edges, in order.
-    pub fn into_edges(self) -> BTreeSet<(Event, Edge)>
-        ensures edges { result.keys ≡ self }
-        ensures ascend { IsStrictlySortedBy target_cmp self }
+    pub fn as_slice(&self) -> &[(Event, Edge)]
+        ensures { result.now ≡ self.now }
     {
-        self.edges
+        self.edges.as_slice()
     }
 }

@@ -7,7 +7,7 @@ ghost use Rattle.metis_lines.specs.Events.{leaving, step_count};
 ghost use Rattle.metis_lines.specs.LifeLines.{AreLines, holding, line_at, line_supplies, station_supplies, supplies_of, supply_from};
 ghost use Rattle.metis_events.specs.Gathered.{Adds, go_edges, return_edges, supply_edges, without_supplies};
 
-use crate::edges::{EdgeKind, EdgeSet};
+use crate::edges::{EdgeKind, EdgeList};
 use metis_ids::{Event, LineIx, NoMemory, PortIx, StepIx};
 use metis_lines::Lines;
 use metis_support::Support;
@@ -43,7 +43,7 @@ pub fn leaving(l: &Lines, line: LineIx, station: StepIx) -> Event
 }
 
 /// Adds the go edges of all lines.
-pub fn add_go_edges(edges: &mut EdgeSet, l: &Lines) -> Result<(), NoMemory>
+pub fn add_go_edges(edges: &mut EdgeList, l: &Lines) -> Result<(), NoMemory>
     ensures { OnOk result (Adds (flat_map (go_edges (without_supplies l.now)) (range_with_len 0 (length l.now.lines))) edges.old edges.new) }
 {
     for number in 0..l.count() {
@@ -53,7 +53,7 @@ pub fn add_go_edges(edges: &mut EdgeSet, l: &Lines) -> Result<(), NoMemory>
 }
 
 // From each event of the line to its next one, and from the entry into its last station to the end.
-fn add_go_edges_of(edges: &mut EdgeSet, l: &Lines, line: LineIx) -> Result<(), NoMemory>
+fn add_go_edges_of(edges: &mut EdgeList, l: &Lines, line: LineIx) -> Result<(), NoMemory>
     requires { line < length l.now.lines }
     ensures { OnOk result (Adds (go_edges (without_supplies l.now) line) edges.old edges.new) }
 {
@@ -67,7 +67,7 @@ fn add_go_edges_of(edges: &mut EdgeSet, l: &Lines, line: LineIx) -> Result<(), N
 
 /// Adds the start and return edges of all supplies.
 pub fn add_supplies(
-    edges: &mut EdgeSet,
+    edges: &mut EdgeList,
     u: &Universe,
     s: &Support,
     l: &Lines,
@@ -84,7 +84,7 @@ pub fn add_supplies(
 
 // Adds those of the supplies of the line's stations.
 fn add_line_supplies(
-    edges: &mut EdgeSet,
+    edges: &mut EdgeList,
     u: &Universe,
     s: &Support,
     l: &Lines,
@@ -103,7 +103,7 @@ fn add_line_supplies(
 
 // Adds those of the supplies of one station.
 fn add_station_supplies(
-    edges: &mut EdgeSet,
+    edges: &mut EdgeList,
     u: &Universe,
     s: &Support,
     l: &Lines,
@@ -137,7 +137,7 @@ fn holder_of(s: &Support, l: &Lines, port: PortIx) -> Option<(LineIx, StepIx)>
 
 // Adds the edges of a supply: the station starts after the place is entered, and the place is left after the station.
 fn add_supply(
-    edges: &mut EdgeSet,
+    edges: &mut EdgeList,
     l: &Lines,
     taker: (LineIx, StepIx),
     holder: (LineIx, StepIx),
@@ -157,7 +157,7 @@ fn add_supply(
 }
 
 // Adds the return edge, but not one into the end.
-fn add_return(edges: &mut EdgeSet, from: Event, to: Event) -> Result<(), NoMemory>
+fn add_return(edges: &mut EdgeList, from: Event, to: Event) -> Result<(), NoMemory>
     ensures { OnOk result (Adds (return_edges from to) edges.old edges.new) }
 {
     match to {

@@ -9,7 +9,7 @@ ghost use Rattle.metis_events.specs.Edges.{IsKept, edges_into, event_at, graph_o
 ghost use Rattle.metis_events.specs.Gathered.{without_supplies};
 ghost use Rattle.metis_events.specs.Numbered.{IsJoined, dag_of, graph_by};
 
-use crate::edges::{Edge, EdgeSet};
+use crate::edges::{Edge, EdgeList};
 use crate::gather::{add_go_edges, add_supplies, step_count};
 use crate::rows::{EdgeRow, edge_rows, place_of};
 use metis_ids::{Event, LineIx, NoMemory, NodeIx, StepIx};
@@ -49,10 +49,10 @@ impl EventGraph {
         u.keeps_invariant();
         let events = all_events(alloc, l)?;
         let starts = line_starts(alloc, l)?;
-        let mut gathered = EdgeSet::new(alloc);
+        let mut gathered = EdgeList::new(alloc);
         add_go_edges(&mut gathered, l)?;
         add_supplies(&mut gathered, u, s, l)?;
-        let edges = edge_rows(alloc, &events, &starts, gathered)?;
+        let edges = edge_rows(alloc, &events, &starts, &gathered)?;
         Ok(EventGraph {
             events,
             starts,

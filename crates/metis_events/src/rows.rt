@@ -3,11 +3,13 @@ ghost use Rattle.std.specs.Prelude.{◌≡◌, ◌++◌, ◌∷◌, [], List, le
 ghost use Rattle.std.specs.List.Sorted.{IsStrictlySortedBy};
 ghost use Rattle.metis_lines.specs.Events.{event_cmp, same_event};
 ghost use Rattle.metis_events.specs.Edges.{edge_of};
-ghost use Rattle.metis_events.specs.Gathered.{edges_to, target_cmp};
+ghost use Rattle.metis_events.specs.Gathered.{edges_to, in_order};
 ghost use Rattle.metis_events.specs.declared.edges.Edge.{Edge};
 ghost use Rattle.metis_ids.specs.declared.events.Event.{Event};
 
-use crate::edges::{Edge, EdgeKind, EdgeSet, events_are_ordered};
+use crate::edges::{
+    Edge, EdgeKind, EdgeList, edges_are_ordered, edges_are_told_apart, events_are_ordered,
+};
 use metis_ids::{Event, NoMemory};
 use std::alloc::Global;
 use std::marker::Model;
@@ -43,6 +45,16 @@ impl EdgeRow {
         Ok(())
     }
 
+    /// Puts the edges in order, each once.
+    pub fn put_in_order(&mut self)
+        ensures { self.new ≡ in_order self.old }
+    {
+        edges_are_ordered();
+        edges_are_told_apart();
+        self.edges.sort_unstable();
+        self.edges.dedup();
+    }
+
     pub fn as_slice(&self) -> &[Edge]
         ensures { result.now ≡ self.now }
     {
@@ -50,22 +62,31 @@ impl EdgeRow {
     }
 }
 
-/// The edges of the set that lead into each of the events, which ascend.
+/// The edges that lead into each of the events, which ascend: in order, each once.
 pub fn edge_rows(
     alloc: Global,
     events: &[Event],
     starts: &[usize],
-    edges: EdgeSet,
+    edges: &EdgeList,
 ) -> Result<Vec<EdgeRow>, NoMemory>
     requires { IsStrictlySortedBy event_cmp events.now }
-    ensures rows { IfOk result (λ rows. rows.items ≡ map (edges_to edges) events.now) }
-    ensures ascend { OnOk result (IsStrictlySortedBy target_cmp edges) }
+    ensures { IfOk result (λ rows. rows.items ≡ map (λ f. in_order (edges_to edges.now f)) events.now) }
 {
     let mut rows = empty_rows(alloc, events)?;
-    for (to, edge) in edges.into_edges() {
-        add_edge(&mut rows, events, starts, &to, edge)?;
+    for (to, edge) in edges.as_slice() {
+        add_edge(&mut rows, events, starts, to, *edge)?;
     }
+    put_in_order(&mut rows);
     Ok(rows)
+}
+
+// Puts the edges of each row in order, each once.
+fn put_in_order(rows: &mut Vec<EdgeRow>)
+    ensures { rows.new.items ≡ map in_order rows.old.items }
+{
+    for place in 0..rows.len() {
+        rows[place].put_in_order();
+    }
 }
 
 // Adds the edge to the row of the event that it leads into.

@@ -13,6 +13,7 @@ pub mod FirstSights
 pub mod Frames
 pub mod FromRows
 pub mod GoalExamples
+pub mod InOrder
 pub mod Initials
 pub mod Inside
 pub mod Kept

@@ -1,11 +1,12 @@
 //! The first fault of rows.
-ghost use Rattle.std.specs.Prelude.{◌≡◌, ◌+◌, ◌<◌, ◌≤◌, ◌^◌, length, not, position, option_map, IfOk};
+ghost use Rattle.std.specs.Prelude.{◌≡◌, ◌+◌, ◌<◌, ◌≤◌, ◌^◌, length, not, position, option_map, sum_by, IfOk};
 ghost use Rattle.std.specs.Str.{bytes_eq};
 ghost use Rattle.std.specs.String.{string_bytes};
 ghost use Rattle.metis_universe.specs.Names.{is_name};
-ghost use Rattle.metis_universe.specs.Rows.{first_from, unless, limit_fault, has_state, port_fault, state_twice, state_fault, next_fault, head_fault, link_fault, fault_after, type_fault, first_fault, StateFits, TypeFits, RowsFit, state_total, ports_of};
+ghost use Rattle.metis_universe.specs.Rows.{first_from, unless, limit_fault, has_state, port_fault, state_twice, state_fault, next_fault, head_fault, link_fault, fault_after, type_fault, first_fault, StateFits, TypeFits, RowsFit, state_total, require_total, ports_of};
 ghost use Rattle.metis_universe.specs.Texts.{texts};
 ghost use Rattle.metis_universe.specs.declared.faults.RowFault.TheVariants.{TypeTwice};
+ghost use Rattle.metis_universe.specs.declared.faults.LimitKind.TheVariants.{Requires};
 ghost use Rattle.indexmap.specs.IndexSet.{index_set_len};
 
 use crate::faults::{LimitKind, RowFault};
@@ -162,6 +163,28 @@ fn fault_of_head(row: &TypeRow, t: u32, seen: &IndexSet<String>) -> Option<RowFa
     name.or(twice.or(states))
 }
 
+/// How many entries the lists of what the type's states require have.
+fn require_entries(row: &TypeRow) -> u64
+    requires { sum_by (λ state. length state.require) row.now.states < 2 ^ 64 }
+    ensures { result ≡ sum_by (λ state. length state.require) row.now.states }
+{
+    row.states
+        .iter()
+        .map(|state| state.require.len() as u64)
+        .sum()
+}
+
+/// More ports are required than a type may. Repeated entries are looked for only where all entries are more than that.
+fn fault_of_required(alloc: Global, row: &TypeRow) -> Result<Option<RowFault>, AllocError>
+    requires { TypeFits row.now }
+    ensures { IfOk result (λ found. found ≡ limit_fault Requires 128 (require_total row.now)) }
+{
+    if require_entries(row) <= 128 {
+        return Ok(None);
+    }
+    Ok(fault_of_count(LimitKind::Requires, 128, require_total(alloc, row)?))
+}
+
 /// The fault of a type, where the set has the names of the types before it.
 fn fault_of_type(
     alloc: Global,
@@ -181,7 +204,7 @@ fn fault_of_type(
     if states.is_some() {
         return Ok(states);
     }
-    let required = fault_of_count(LimitKind::Requires, 128, require_total(alloc, row)?);
+    let required = fault_of_required(alloc, row)?;
     Ok(required.or(fault_of_links(row, t)))
 }
 

@@ -9,12 +9,13 @@ use Rattle.std.specs.List.Sorted.{IsStrictlySortedBy}
 use Rattle.std.specs.Option.{option_map_or}
 use Rattle.metis_ids.specs.declared.actions.Action.{Action}
 use Rattle.metis_universe.proofs.Ascending.{has-insert_key}
+use Rattle.metis_universe.proofs.InOrder.{same_members}
 use Rattle.metis_universe.proofs.Ranges.{has_range, in_range}
 use Rattle.metis_universe.proofs.Rounds.{has-filter}
 use Rattle.metis_universe.specs.Universe.{has}
 use Rattle.metis_universe.specs.Waits.{before, enters, is_release_of, is_wait, last_number, numbers, releases, standing}
 use Rattle.metis_waits.proofs.Pushed.{get_past}
-use Rattle.metis_waits.proofs.Risen.{range_sorted, same_sorted}
+use Rattle.metis_waits.proofs.Risen.{range_sorted}
 use Rattle.metis_waits.specs.Summary.{has_number}
 use Rattle.metis_waits.specs.Waits.{is_by}
 
@@ -87,5 +88,5 @@ module _ (earlier : List Action) where
 
   -- in order they are the list
   pub listed : (a : Action) (ks : List ℕ) → IsStrictlySortedBy nat_cmp ks → ((m : ℕ) → has ks m ≡ (is_wait earlier a m && has (numbers earlier) m)) → ks ≡ filter (is_wait earlier a) (numbers earlier)
-  listed a ks s h = same_sorted ks (filter (is_wait earlier a) (numbers earlier)) s (IsStrictlySortedBy-filter nat_cmp (is_wait earlier a) (numbers earlier) (range_sorted 1 (length earlier)))
+  listed a ks s h = same_members ks (filter (is_wait earlier a) (numbers earlier)) s (IsStrictlySortedBy-filter nat_cmp (is_wait earlier a) (numbers earlier) (range_sorted 1 (length earlier)))
       (λ m. h m ∙ sym (has-filter (is_wait earlier a) m (numbers earlier)))

@@ -7,7 +7,7 @@ use Rattle.std.specs.List.{filter}
 use Rattle.std.specs.List.Sorted.{IsStrictlySortedBy}
 use Rattle.metis_universe.proofs.Rounds.{has-filter}
 use Rattle.metis_universe.specs.Universe.{has}
-use Rattle.metis_waits.proofs.Risen.{less_is}
+use Rattle.metis_universe.proofs.InOrder.{less_is}
 use Rattle.metis_waits.specs.Summary.{has_number}
 
 -- the numbers of the one list and then of the other

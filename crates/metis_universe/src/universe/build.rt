@@ -15,7 +15,6 @@ use crate::rows::{StateRow, TypeRow};
 use indexmap::{IndexMap, IndexSet};
 use metis_ids::{PairIx, PortIx, TypeIx};
 use std::alloc::{AllocError, Global};
-use std::collections::BTreeSet;
 
 /// The number of the port of this name.
 fn port_number(ports: &IndexSet<String>, name: &str) -> PortIx
@@ -34,11 +33,13 @@ fn port_numbers(
     requires { index_set_len ports.now < 2 ^ 32 }
     ensures { IfOk result (λ numbers. numbers.items ≡ ascending (map (number_of (texts ports.now.keys)) (texts names.now))) }
 {
-    let mut numbers = BTreeSet::new(alloc);
+    let mut numbers = Vec::with_capacity(alloc, names.len())?;
     for name in names {
-        numbers.insert(port_number(ports, name.as_str()))?;
+        numbers.push(port_number(ports, name.as_str()))?;
     }
-    numbers.into_iter().collect(alloc)
+    numbers.sort_unstable();
+    numbers.dedup();
+    Ok(numbers)
 }
 
 /// The place of the state of this name in its type.
@@ -59,11 +60,13 @@ fn next_numbers(
     requires { first + length row.now.states < 2 ^ 32 }
     ensures { IfOk result (λ numbers. numbers.items ≡ ascending (map (λ name. first + state_number row.now name) (texts names.now))) }
 {
-    let mut numbers = BTreeSet::new(alloc);
+    let mut numbers = Vec::with_capacity(alloc, names.len())?;
     for name in names {
-        numbers.insert(PairIx(first + state_number(row, name.as_str())))?;
+        numbers.push(PairIx(first + state_number(row, name.as_str())))?;
     }
-    numbers.into_iter().collect(alloc)
+    numbers.sort_unstable();
+    numbers.dedup();
+    Ok(numbers)
 }
 
 /// The pair of a type and one of its states, where the type's first pair is this one.

@@ -1,8 +1,13 @@
-use Rattle.std.proofs.Common.{◌∷◌, ◌++◌, [], sym, ap, ◌∙◌, append_assoc}
+use Rattle.std.proofs.Common.{ap, map, ◌∙◌}
+use Rattle.std.proofs.lemmas.List.{take_all}
+use Rattle.std.proofs.lemmas.Simd.{map-map}
 use Rattle.metis_events.proofs.rows.edge_rows.Goals as goal
+use Rattle.metis_events.specs.Gathered.{edges_to, in_order}
 
-pub loop-to-preserved : goal.loop-to-preserved
-loop-to-preserved c = record {
-  left = append_assoc c.loop-to.yielded ((c.in-Some.to, c.in-Some.edge) ∷ []) c.next.new.self ∙ ap (λ xs. c.loop-to.yielded ++ xs) (sym c.in-Some.ensures.steps) ∙ c.loop-to.invariant.left;
-  rows = c.in_ok-add_edge.ensures c.loop-to.yielded c.loop-to.invariant.rows;
-}
+pub returns : goal.returns
+returns c =
+    let events = c.args.events.now in
+    let items = c.as_slice-to-items.result.now in
+    c.put_in_order.ensures
+    ∙ ap (map in_order) (c.loop-to.invariant ∙ ap (λ xs. map (edges_to xs) events) (take_all c.loop-to.to-index items c.loop-to-test.false ∙ c.as_slice-to-items.ensures))
+    ∙ map-map in_order (edges_to c.args.edges.now) events

@@ -14,14 +14,14 @@ use Rattle.metis_events.proofs.Holding.{own_selected}
 use Rattle.metis_events.proofs.graph.EventGraph.of.Goals as goal
 use Rattle.metis_events.specs.declared.edges.Edge.{Edge}
 use Rattle.metis_events.specs.Edges.{before}
-use Rattle.metis_events.specs.Gathered.{Adds, edges_to, go_edges, without_supplies}
+use Rattle.metis_events.specs.Gathered.{Adds, edges_to, go_edges, in_order, without_supplies}
 
 pub edge_rows-requires : goal.edge_rows-requires
 edge_rows-requires c = subst (IsStrictlySortedBy event_cmp) (sym (c.deref.ensures.value ∙ c.in_ok-events.ensures.events)) (events_ascend (without_supplies c.args.l.now))
 
 pub invariant_of-result : goal.invariant_of-result
 invariant_of-result c = record {
-  each = ap length c.in_ok-edges.ensures.rows ∙ length-map c.deref.result.now (edges_to c.add_supplies.new.edges) ∙ ap length c.deref.ensures.value;
+  each = ap length c.in_ok-edges.ensures ∙ length-map c.deref.result.now (λ f. in_order (edges_to c.add_supplies.new.edges f)) ∙ ap length c.deref.ensures.value;
   few = c.in_ok-events.ensures.few;
   ascend = subst (IsStrictlySortedBy event_cmp) (sym c.in_ok-events.ensures.events) (events_ascend (without_supplies c.args.l.now));
 }
@@ -39,5 +39,5 @@ returns c =
     let one : Adds (flat_map (go_edges w) (range_with_len 0 (line_count w))) [] first = subst (λ old. Adds (flat_map (go_edges w) (range_with_len 0 (line_count w))) old first) c.new-gathered.ensures c.in_ok-add_go_edges.ensures in
     let listed : c.in_ok-events.events.items ≡ events w = c.in_ok-events.ensures.events in
     let rows : c.in_ok-edges.edges.items ≡ map (before w) (events w) =
-    c.in_ok-edges.ensures.rows ∙ ap (map (edges_to all)) (c.deref.ensures.value ∙ listed) ∙ rows_are u w formed first all one c.in_ok-add_supplies.ensures c.in_ok-edges.ensures.ascend in
+    c.in_ok-edges.ensures ∙ ap (map (λ f. in_order (edges_to all f))) (c.deref.ensures.value ∙ listed) ∙ rows_are u w formed first all one c.in_ok-add_supplies.ensures in
     (λ i. record { events = listed i; edges = rows i })
