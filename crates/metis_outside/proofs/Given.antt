@@ -1,7 +1,7 @@
 -- Words that are given in turn.
 use Rattle.std.proofs.Common.{◌≡◌, ℕ, suc, ◌+◌, ◌≤◌, List, [], ◌∷◌, ◌++◌, length, take, drop, slice_get, Some, None, IfSome, length-append, refl, sym, ap, ◌∙◌, subst, arith}
 use Rattle.std.specs.declared.option.Option.{Option}
-use Rattle.std.proofs.lemmas.List.{take_all, length-drop}
+use Rattle.std.proofs.lemmas.List.{take_all}
 use Rattle.metis_outside.specs.Arguments.{IsGiven, AreGiven}
 
 some_same : (a b : List ℕ) → Some a ≡ Some b → a ≡ b

@@ -1,9 +1,11 @@
 //! Tests of what no transcript of a command shows and no clause says: adapters over a system that is made up, files and output
-//! in memory, texts of plans with dups, and words.
+//! in memory, runs of which a call fails, texts of plans with dups, and words.
 #![tactic(auto)]
 
 #[cfg(test)]
 mod edges;
+#[cfg(test)]
+mod failures;
 #[cfg(test)]
 mod memory;
 #[cfg(test)]

@@ -5,7 +5,7 @@ use std::alloc::{AllocError, Global};
 use std::test::Fail;
 
 /// The words between the commas of the line.
-fn words_in(alloc: Global, line: &str) -> Result<Vec<String>, AllocError> {
+pub(crate) fn words_in(alloc: Global, line: &str) -> Result<Vec<String>, AllocError> {
     let mut words = Vec::new(alloc);
     for word in line.split(',') {
         words.push(String::from_str(alloc, word)?)?;
