@@ -3,6 +3,7 @@ ghost use Rattle.std.specs.Prelude.{◌≡◌, ◌≢◌, ◌<◌, ◌↔◌, �
 ghost use Rattle.std.specs.List.{list_all};
 ghost use Rattle.metis_universe.specs.Config.{IsConfig, config_of, empty, Correct, pair_of, is_bound, put, remove, tie, untie};
 ghost use Rattle.metis_universe.specs.Goal.{holding};
+ghost use Rattle.metis_universe.specs.Goals.{serving};
 ghost use Rattle.metis_universe.specs.Universe.{pair_count};
 ghost use Rattle.metis_config.specs.Over.{IsOver};
 ghost use Rattle.metis_config.specs.Unmet.{unmet, is_unmet, IsLeast, changed};
@@ -11,7 +12,7 @@ use crate::crowds::Crowds;
 use crate::ends::Ends;
 use crate::lists::{Instances, Ties};
 use crate::met::earlier_of;
-use metis_ids::{InstNo, NoMemory, PairIx, PortIx};
+use metis_ids::{Goal, InstNo, NoMemory, PairIx, PortIx};
 use metis_universe::Universe;
 use std::alloc::Global;
 use std::collections::{BTreeMap, BTreeSet};
@@ -123,6 +124,16 @@ impl Config {
         ensures { result ≡ holding self.now p }
     {
         self.instances.iter().filter(|(_, q)| **q == p).count() as u64
+    }
+
+    /// How many instances serve the goal: they are in that pair, or in pairs that provide that port.
+    pub fn serving(&self, u: &Universe, goal: Goal) -> u64
+        ensures { result ≡ serving u.now self.now goal }
+    {
+        self.instances
+            .iter()
+            .filter(|(_, p)| u.serves(**p, goal))
+            .count() as u64
     }
 
     /// Whether each instance's pair and each binding's port is the universe's.
