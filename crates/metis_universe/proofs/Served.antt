@@ -55,7 +55,7 @@ count_wider t t' wide (x ∷ xs) = by (t x) refl (count-cons t x xs) (count_wide
 
 -- ---- one goal
 
-same_itself : (g : Goal) → same_goal g g ≡ true
+pub same_itself : (g : Goal) → same_goal g g ≡ true
 same_itself (Pair p) = eq-eqb p p refl
 same_itself (Port r) = eq-eqb r r refl
 
