@@ -6,7 +6,7 @@ use Rattle.std.proofs.lemmas.Bool.{cond-true, cond-false, lt-ltb}
 use Rattle.metis_ids.specs.declared.actions.Action.{Action}
 use Rattle.metis_text.specs.declared.flaw.Flaw.{Flaw}
 use Rattle.metis_text.specs.declared.flaw.Flaw.TheVariants.{Form}
-use Rattle.metis_text.specs.ActionLine.{Words, action_in, after_in, due, row_of, row_with}
+use Rattle.metis_text.specs.ActionLine.{Words, action_in, after_in, due, ends_in, move_action, move_words, new_in, new_words, row_of, row_with, states_in, tie_words}
 use Rattle.metis_text.specs.DupLine.{DupRow, dup_of, dup_with}
 use Rattle.metis_text.specs.Flaws.{both, made}
 use Rattle.metis_text.specs.Reading.{counts_of_tokens}
@@ -15,6 +15,10 @@ use Rattle.metis_universe.specs.Universe.{Universe}
 
 abbrev texts : List (Bor (List ℕ)) → List (List ℕ)
 texts ts = map (λ t. t.now) ts
+
+-- the token where there is none
+abbrev pub no_token : Bor (List ℕ)
+no_token = record { ref_ptr = (0, 0); now = [] }
 
 -- the tokens behind the first n, as a pattern gives them
 abbrev behind : ℕ → List (Bor (List ℕ)) → List (Bor (List ℕ))
@@ -78,6 +82,28 @@ both_view view (Ok a) (Ok b) = refl
 both_view view (Ok a) (Err f) = refl
 both_view view (Err f) (Ok b) = refl
 both_view view (Err f) (Err g) = refl
+
+-- ---- the words of an action
+
+module _ (u : Universe) where
+  pub new_two : (ts : List (Bor (List ℕ))) (d : Bor (List ℕ)) (action : Result Action Flaw) → 2 ≤ length ts → action ≡ new_in u (get_or ts 0 d).now (get_or ts 1 d).now → Some (action, texts (behind 2 ts)) ≡ new_words u (texts ts)
+  new_two [] d action many is = absurd (omega (arith, many))
+  new_two (a ∷ []) d action many is = absurd (omega (arith, many))
+  new_two (a ∷ b ∷ ts) d action many is = λ i. Some (is i, texts (take_rest (a ∷ b ∷ ts) 2 i))
+
+  pub tie_three : (make : ℕ × (ℕ × ℕ) → Action) (ts : List (Bor (List ℕ))) (d : Bor (List ℕ)) (action : Result Action Flaw) → 3 ≤ length ts
+      → action ≡ made make (ends_in u (get_or ts 0 d).now (get_or ts 1 d).now (get_or ts 2 d).now) → Some (action, texts (behind 3 ts)) ≡ tie_words u make (texts ts)
+  tie_three make [] d action many is = absurd (omega (arith, many))
+  tie_three make (a ∷ []) d action many is = absurd (omega (arith, many))
+  tie_three make (a ∷ b ∷ []) d action many is = absurd (omega (arith, many))
+  tie_three make (a ∷ b ∷ c ∷ ts) d action many is = λ i. Some (is i, texts (take_rest (a ∷ b ∷ c ∷ ts) 3 i))
+
+  pub move_three : (earlier : List Action) (ts : List (Bor (List ℕ))) (d : Bor (List ℕ)) (action : Result Action Flaw) → 3 ≤ length ts
+      → action ≡ made move_action (states_in u earlier (get_or ts 0 d).now (get_or ts 1 d).now (get_or ts 2 d).now) → Some (action, texts (behind 3 ts)) ≡ move_words u earlier (texts ts)
+  move_three earlier [] d action many is = absurd (omega (arith, many))
+  move_three earlier (a ∷ []) d action many is = absurd (omega (arith, many))
+  move_three earlier (a ∷ b ∷ []) d action many is = absurd (omega (arith, many))
+  move_three earlier (a ∷ b ∷ c ∷ ts) d action many is = λ i. Some (is i, texts (take_rest (a ∷ b ∷ c ∷ ts) 3 i))
 
 -- ---- the line of an action
 
