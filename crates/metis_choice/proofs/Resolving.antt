@@ -212,10 +212,13 @@ module _ (u : Universe) where
   -- ---- which goals are attained
 
   module _ (universe : IsUniverse u) where
-    pub chosen_attained : (goals : List Goal) (pairs : List ℕ) → AllZip IsChosen goals pairs → AttainsGoals u goals
-    chosen_attained goals pairs chosen =
+    pub pairs_attained : (goals : List Goal) (pairs : List ℕ) → AllZip IsChosen goals pairs → Attains u pairs
+    pairs_attained goals pairs chosen =
         let d = deploys u pairs universe (λ p h. all_has (λ q. IsSome (layer_of u q)) pairs p (all_layered goals pairs chosen) h) in
-        pairs_attain goals pairs (pairs_chosen goals pairs chosen) (layer_order u pairs, d.runs, d.holds)
+        (layer_order u pairs, d.runs, d.holds)
+
+    pub chosen_attained : (goals : List Goal) (pairs : List ℕ) → AllZip IsChosen goals pairs → AttainsGoals u goals
+    chosen_attained goals pairs chosen = pairs_attain goals pairs (pairs_chosen goals pairs chosen) (pairs_attained goals pairs chosen)
 
     pub first_refused : (goals : List Goal) (g : Goal) → find (lacks u (attained_pairs u)) goals ≡ Some g → GoalRefusal u goals (attained_pairs u) g
     first_refused goals g is = (Closed-layers u universe, is)

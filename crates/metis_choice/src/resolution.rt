@@ -1,6 +1,7 @@
 //! From a list of goals to a list of pairs.
 ghost use Rattle.std.specs.Prelude.{◌≡◌, ◌<◌, IsFalse, IsSome};
 ghost use Rattle.std.specs.List.{All};
+ghost use Rattle.metis_universe.specs.Goal.{Attains};
 ghost use Rattle.metis_universe.specs.Goals.{AttainsGoals, GoalRefusal, IsGoalOf, lacks};
 ghost use Rattle.metis_universe.specs.Layers.{layer_of};
 ghost use Rattle.metis_universe.specs.Universe.{pair_count};
@@ -39,10 +40,11 @@ pub fn resolve(
     ensures none { IfPairs result (λ _. All (λ g. IsFalse (lacks u.now (attained_pairs u.now) g)) goals.now) }
 
     // Otherwise there is the pair for each goal in order. It is the universe's, and has a layer. Some list of actions attains the
-    // goals.
+    // pairs, and so the goals.
     ensures pairs { IfPairs result (ArePairsFor u.now goals.now) }
     ensures of_universe { IfPairs result (All (λ p. p < pair_count u.now)) }
     ensures layered { IfPairs result (All (λ p. IsSome (layer_of u.now p))) }
+    ensures pairs_attained { IfPairs result (Attains u.now) }
     ensures attained { IfPairs result (λ _. AttainsGoals u.now goals.now) }
 {
     u.keeps_invariant();

@@ -13,10 +13,10 @@ use Rattle.metis_ids.specs.declared.events.Event.{Event}
 use Rattle.metis_ids.specs.declared.events.Event.TheVariants.{At, End}
 use Rattle.metis_universe.specs.Names.{is_name}
 use Rattle.metis_universe.specs.Universe.{IsNamed, IsUniverse, Universe, pair_count, pair_named, state_name_of, state_named, type_name_of, type_named, type_of}
-use Rattle.metis_universe.specs.PairWords.{if_names, is_colon, pair_word}
-use Rattle.metis_universe.proofs.NameBytes.{cut_back, name_some}
-use Rattle.metis_text.specs.DupLine.{at_event, event_in, is_point, pair_in, pair_of_names}
-use Rattle.metis_text.specs.Flaws.{both, found, made}
+use Rattle.metis_universe.specs.PairWords.{pair_word}
+use Rattle.metis_universe.proofs.NameBytes.{cut_back}
+use Rattle.metis_text.specs.DupLine.{at_event, event_in, is_point, pair_in}
+use Rattle.metis_text.specs.Flaws.{both, made}
 use Rattle.metis_text.specs.InRange.{IsEventInRange}
 use Rattle.metis_text.specs.PlanText.{event_token}
 use Rattle.metis_text.specs.Tokens.{number_in}
@@ -25,8 +25,9 @@ use Rattle.metis_text.specs.declared.flaw.Flaw.TheVariants.{Form}
 use Rattle.metis_text.proofs.Cuts.{after_cut, before_cut}
 use Rattle.metis_text.proofs.NameTokens.{and_then_some, bytes_apart, state_at, state_is, type_at, type_is}
 use Rattle.metis_text.proofs.NumberTokens.{number_is, number_read}
-use Rattle.metis_text.proofs.Outcomes.{both_is, found_is, made_is}
-use Rattle.metis_text.proofs.Printed.{no_colon_name, no_point_decimal, printed, printed_decimal, printed_name}
+use Rattle.metis_text.proofs.Outcomes.{both_is, made_is}
+use Rattle.metis_text.proofs.Printed.{no_point_decimal, printed, printed_decimal}
+use Rattle.metis_text.proofs.TwoNames.{word_is, word_printed, word_read}
 
 -- ---- two parts of a token
 
@@ -36,39 +37,33 @@ number_some t n h = let number = number_is t n h in subst (λ s. 0 < length s) (
 -- ---- the pair
 
 module _ (u : Universe) where
-  of_names_is : (b : Bool) (kind state : List ℕ) (p : ℕ) → pair_of_names u (if b then Some (kind, state) else None) ≡ Ok p → (b ≡ true) × (found (pair_named u kind state) ≡ Ok p)
-  of_names_is true kind state p h = (refl, h)
-  of_names_is false kind state p h = cc
-
-  pub pair_is : (word : List ℕ) (p : ℕ) → pair_in u word ≡ Ok p → (word ≡ pair_word u p) × (p < pair_count u)
-  pair_is word p h =
-      let kind = before_first is_colon word in
-      let state = after_first is_colon word in
-      let form = of_names_is (is_name kind && is_name state) kind state p h in
-      let names = and_parts (is_name kind) (is_name state) form.0 in
-      let pair = and_then_some (λ t. state_named u t state) (type_named u kind) p (found_is (pair_named u kind state) p form.1) in
+  -- the pair that is found by two names has these names
+  pub named_pair : (kind state : List ℕ) (p : ℕ) → pair_named u kind state ≡ Some p → (kind ++ (58 ∷ state) ≡ pair_word u p) × (p < pair_count u)
+  named_pair kind state p h =
+      let pair = and_then_some (λ t. state_named u t state) (type_named u kind) p h in
       let type = type_is u kind pair.0 pair.1 in
       let at = state_is u state pair.0 p pair.2 in
       let kind_is : kind ≡ type_name_of u (type_of u p) = type.1 ∙ ap (type_name_of u) (sym at.1) in
-      (cut_back is_colon 58 word (λ x is. eqb-true x 58 is) (name_some state names.1) ∙ (λ i. kind_is i ++ (58 ∷ at.2 i)), at.0)
+      ((λ i. kind_is i ++ (58 ∷ at.2 i)), at.0)
+
+  pub pair_is : (word : List ℕ) (p : ℕ) → pair_in u word ≡ Ok p → (word ≡ pair_word u p) × (p < pair_count u)
+  pair_is word p h =
+      let found = word_is (pair_named u) word p h in
+      let named = named_pair found.kind found.name p found.at in
+      (found.is ∙ named.0, named.1)
 
   module _ (is : IsUniverse u) (names : IsNamed u) (p : ℕ) (low : p < pair_count u) where
+    pub kind_is_name : is_name (type_name_of u (type_of u p)) ≡ true
+    kind_is_name = names.types (type_of u p) (is.types p low)
+
+    pub pair_at : pair_named u (type_name_of u (type_of u p)) (state_name_of u p) ≡ Some p
+    pair_at = ap (λ o. option_and_then (λ t. state_named u t (state_name_of u p)) o) (type_at u names (type_of u p) (is.types p low)) ∙ state_at u names (type_of u p) p low refl
+
     pub pair_printed : printed (pair_word u p) ≡ true
-    pair_printed =
-        let kind = type_name_of u (type_of u p) in
-        list_all-append _ kind (58 ∷ state_name_of u p)
-        ∙ and_from _ _ (printed_name kind (names.types (type_of u p) (is.types p low))) (printed_name (state_name_of u p) (names.states p low))
+    pair_printed = word_printed (type_name_of u (type_of u p)) (state_name_of u p) kind_is_name (names.states p low)
 
     pub pair_read : pair_in u (pair_word u p) ≡ Ok p
-    pair_read =
-        let kind = type_name_of u (type_of u p) in
-        let state = state_name_of u p in
-        let kind_name = names.types (type_of u p) (is.types p low) in
-        let no_colon = no_colon_name kind kind_name in
-        let pair : pair_named u kind state ≡ Some p = ap (λ o. option_and_then (λ t. state_named u t state) o) (type_at u names (type_of u p) (is.types p low)) ∙ state_at u names (type_of u p) p low refl in
-        (λ i. pair_of_names u (if_names (before_cut is_colon kind 58 state no_colon refl i) (after_cut is_colon kind 58 state no_colon refl i)))
-        ∙ ap (λ b. pair_of_names u (if b then Some (kind, state) else None)) (and_from _ _ kind_name (names.states p low))
-        ∙ ap found pair
+    pair_read = word_read (pair_named u) (type_name_of u (type_of u p)) (state_name_of u p) p kind_is_name (names.states p low) pair_at
 
 -- ---- the events
 

@@ -11,6 +11,7 @@ pub mod DupWords
 pub mod DupsRead
 pub mod Faults
 pub mod Formed
+pub mod GoalTokens
 pub mod Items
 pub mod KindsKept
 pub mod Lengths
@@ -43,6 +44,7 @@ pub mod SameLines
 pub mod Shapes
 pub mod TextBytes
 pub mod Texts
+pub mod TwoNames
 pub mod WaitRows
 pub mod WholeLines
 pub mod Words

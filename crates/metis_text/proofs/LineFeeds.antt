@@ -8,6 +8,9 @@ use Rattle.std.proofs.lemmas.Bool.{and_from, and_parts, cases_lt}
 use Rattle.std.proofs.lemmas.Bool.Decides.{nat_tests}
 use Rattle.std.proofs.lemmas.List.Elements.{All-append, All-cons, All-map}
 use Rattle.std.proofs.lemmas.List.Folds.{list_all-append}
+use Rattle.metis_ids.specs.declared.goals.Goal.{Goal}
+use Rattle.metis_ids.specs.declared.goals.Goal.TheVariants.{Pair, Port}
+use Rattle.metis_universe.specs.GoalWords.{goal_word}
 use Rattle.metis_ids.specs.declared.actions.Action.{Action}
 use Rattle.metis_ids.specs.declared.actions.Action.TheVariants.{New, Delete, Bind, Unbind, Move}
 use Rattle.metis_ids.specs.declared.events.Event.{Event}
@@ -53,6 +56,10 @@ module _ (u : Universe) (named : IsNamed u) where
 
   pub no_feed-pair_word : (p : ℕ) → no_feed (pair_word u p) ≡ true
   no_feed-pair_word p = no_feed-append (type_name_of u (type_of u p)) (codes ":" ++ state_name_of u p) (no_feed-type_name_of (type_of u p)) (no_feed-state_name_of p)
+
+  pub no_feed-goal_word : (g : Goal) → no_feed (goal_word u g) ≡ true
+  no_feed-goal_word (Pair p) = no_feed-pair_word p
+  no_feed-goal_word (Port r) = no_feed-append (codes "port") (codes ":" ++ port_name_of u r) refl (no_feed-port_name_of r)
 
 -- ---- lines of tokens
 
@@ -107,8 +114,8 @@ module _ (u : Universe) (named : IsNamed u) where
       (list_all-append no_feed (dup_tokens u k d.pair) (map event_token d.cycle)
       ∙ and_from _ _ (and_from _ _ (no_feed-decimal k) (and_from _ _ (no_feed-pair_word u named d.pair) refl)) (event_tokens d.cycle))
 
-  IsLine-lacks_line : (p : ℕ) → IsLine (lacks_line u p)
-  IsLine-lacks_line p = IsLine-line (codes "lacks" ∷ pair_word u p ∷ []) (and_from _ _ (no_feed-pair_word u named p) refl)
+  IsLine-lacks_line : (g : Goal) → IsLine (lacks_line u g)
+  IsLine-lacks_line g = IsLine-line (codes "lacks" ∷ goal_word u g ∷ []) (and_from _ _ (no_feed-goal_word u named g) refl)
 
   IsLine-pair_line : (p : ℕ) → IsLine (pair_line u p)
   IsLine-pair_line p = IsLine-line (pair_word u p ∷ []) (and_from _ _ (no_feed-pair_word u named p) refl)
@@ -127,7 +134,7 @@ module _ (u : Universe) (named : IsNamed u) where
       All-cons IsLine plan_header (plan_body u p after) (IsLine-line (codes "metis" ∷ codes "plan" ∷ codes "1" ∷ []) refl)
       (All-cons IsLine (counts_line p.instances (length p.actions) (length p.dups)) (plan_rest u p after) (IsLine-counts_line p.instances (length p.actions) (length p.dups)) rest)
 
-  refusal_lines_of_numbers : (set : List ℕ) (lacks : ℕ) → All IsLine (refusal_lines u set lacks)
+  refusal_lines_of_numbers : (set : List ℕ) (lacks : Goal) → All IsLine (refusal_lines u set lacks)
   refusal_lines_of_numbers set lacks =
       let pairs = All-map IsLine (pair_line u) set (λ k d within. IsLine-pair_line _) in
       let rest = All-append IsLine (map (pair_line u) set) (end_line ∷ []) pairs (one_line end_line end_is_line) in
@@ -137,5 +144,5 @@ module _ (u : Universe) (named : IsNamed u) where
 pub plan_lines_are_lines : (u : Universe) (p : Plan) (after : List (List ℕ)) → IsTable u → All IsLine (plan_lines u p after)
 plan_lines_are_lines u p after table = plan_lines_of_numbers u table.named p after
 
-pub refusal_lines_are_lines : (u : Universe) (set : List ℕ) (lacks : ℕ) → IsTable u → All IsLine (refusal_lines u set lacks)
+pub refusal_lines_are_lines : (u : Universe) (set : List ℕ) (lacks : Goal) → IsTable u → All IsLine (refusal_lines u set lacks)
 refusal_lines_are_lines u set lacks table = refusal_lines_of_numbers u table.named set lacks

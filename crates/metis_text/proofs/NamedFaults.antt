@@ -3,6 +3,7 @@ use Rattle.std.proofs.Common.{◌≡◌, ℕ, zero, suc, ◌+◌, true, false, L
 use Rattle.std.specs.Prelude.{codes}
 use Rattle.std.specs.Bool.{◌==◌, if◌then◌else◌}
 use Rattle.std.specs.List.{count_by}
+use Rattle.metis_ids.specs.declared.goals.Goal.{Goal}
 use Rattle.metis_universe.specs.Universe.{Universe}
 use Rattle.metis_text.specs.ActionLine.{row_in}
 use Rattle.metis_text.specs.DupLine.{DupRow, dup_in}
@@ -92,7 +93,7 @@ module _ (u : Universe) where
       and_then_named (read_next (exactly (codes "end")) l) (λ e. and_then (ended e.1) (λ _. Ok r)) (read_next_named (exactly (codes "end")) l)
       (λ e. and_then_named (ended e.1) (λ _. Ok r) (ended_named e.1) (λ _ h. cc))
 
-  set_named : (lacks : ℕ) (l : Lines) → IsNamed (refusal_set_from u lacks l)
+  set_named : (lacks : Goal) (l : Lines) → IsNamed (refusal_set_from u lacks l)
   set_named lacks l =
       and_then_named (read_next size_in l) (λ size. and_then (pairs_from u size.0 [] size.1) (λ pairs. refusal_end_from (refusal_parts lacks pairs.0) pairs.1)) (read_next_named size_in l)
       (λ size. and_then_named (pairs_from u size.0 [] size.1) (λ pairs. refusal_end_from (refusal_parts lacks pairs.0) pairs.1) (pairs_named size.0 [] size.1) (λ pairs. refusal_end_named (refusal_parts lacks pairs.0) pairs.1))

@@ -4,6 +4,7 @@ use Rattle.std.specs.Prelude.{codes}
 use Rattle.std.specs.Bool.{if◌then◌else◌, ◌==◌}
 use Rattle.std.proofs.lemmas.Bool.Decides.{nat_tests}
 use Rattle.std.proofs.lemmas.List.{length-append, length-map}
+use Rattle.metis_ids.specs.declared.goals.Goal.{Goal}
 use Rattle.metis_outside.specs.Pieces.{bytes_of}
 use Rattle.metis_universe.specs.Universe.{IsTable, Universe}
 use Rattle.metis_text.specs.Faults.{IsRefusalFault}
@@ -49,10 +50,10 @@ last_reads : (r : RefusalParts) → IsReader (last_from r)
 last_reads r = then_reads (read_next (exactly (codes "end"))) (λ _ l. Ok (r, l)) (read_next_reads (exactly (codes "end"))) (λ _. done_reads r)
 
 module _ (u : Universe) where
-  abbrev pub pairs_then : ℕ → ℕ → Lines → Result (RefusalParts × Lines) TFault
+  abbrev pub pairs_then : Goal → ℕ → Lines → Result (RefusalParts × Lines) TFault
   pairs_then lacks size l = and_then (pairs_from u size [] l) (λ pairs. last_from (refusal_parts lacks pairs.0) pairs.1)
 
-  abbrev pub set_then : ℕ → Lines → Result (RefusalParts × Lines) TFault
+  abbrev pub set_then : Goal → Lines → Result (RefusalParts × Lines) TFault
   set_then lacks l = and_then (read_next size_in l) (λ size. pairs_then lacks size.0 size.1)
 
   abbrev pub lacks_then : Lines → Result (RefusalParts × Lines) TFault
@@ -61,12 +62,12 @@ module _ (u : Universe) where
   abbrev pub lines_from : Lines → Result (RefusalParts × Lines) TFault
   lines_from l = and_then (read_next (exactly (codes "metis refusal 1")) l) (λ header. lacks_then header.1)
 
-  pairs_whole : (lacks size : ℕ) (l : Lines) → and_then (pairs_from u size [] l) (λ pairs. refusal_end_from (refusal_parts lacks pairs.0) pairs.1) ≡ and_then (pairs_then lacks size l) closed
+  pairs_whole : (lacks : Goal) (size : ℕ) (l : Lines) → and_then (pairs_from u size [] l) (λ pairs. refusal_end_from (refusal_parts lacks pairs.0) pairs.1) ≡ and_then (pairs_then lacks size l) closed
   pairs_whole lacks size l =
       and_then_behind (pairs_from u size [] l) (λ pairs. last_from (refusal_parts lacks pairs.0) pairs.1) closed (λ pairs. refusal_end_from (refusal_parts lacks pairs.0) pairs.1)
       (λ pairs. end_whole (refusal_parts lacks pairs.0) pairs.1)
 
-  set_whole : (lacks : ℕ) (l : Lines) → refusal_set_from u lacks l ≡ and_then (set_then lacks l) closed
+  set_whole : (lacks : Goal) (l : Lines) → refusal_set_from u lacks l ≡ and_then (set_then lacks l) closed
   set_whole lacks l =
       and_then_behind (read_next size_in l) (λ size. pairs_then lacks size.0 size.1) closed
       (λ size. and_then (pairs_from u size.0 [] size.1) (λ pairs. refusal_end_from (refusal_parts lacks pairs.0) pairs.1))
@@ -86,10 +87,10 @@ module _ (u : Universe) where
   pairs_reads (suc left) pairs =
       then_reads (read_next (next_pair_in u pairs)) (λ p. pairs_from u left (pairs ++ p ∷ [])) (read_next_reads (next_pair_in u pairs)) (λ p. pairs_reads left (pairs ++ p ∷ []))
 
-  pairs_then_reads : (lacks size : ℕ) → IsReader (pairs_then lacks size)
+  pairs_then_reads : (lacks : Goal) (size : ℕ) → IsReader (pairs_then lacks size)
   pairs_then_reads lacks size = then_reads (pairs_from u size []) (λ pairs. last_from (refusal_parts lacks pairs)) (pairs_reads size []) (λ pairs. last_reads (refusal_parts lacks pairs))
 
-  set_then_reads : (lacks : ℕ) → IsReader (set_then lacks)
+  set_then_reads : (lacks : Goal) → IsReader (set_then lacks)
   set_then_reads lacks = then_reads (read_next size_in) (pairs_then lacks) (read_next_reads size_in) (pairs_then_reads lacks)
 
   lacks_then_reads : IsReader lacks_then
@@ -109,7 +110,7 @@ module _ (u : Universe) where
       let next = and_then_is (read_next (next_pair_in u pairs) l) (λ p. pairs_from u left (pairs ++ p.0 ∷ []) p.1) p h in
       omega (arith, read_next_number (next_pair_in u pairs) l next.0 next.1, pairs_number left (pairs ++ next.0.0 ∷ []) next.0.1 p next.2)
 
-  pairs_then_number : (lacks size : ℕ) (l : Lines) (w : RefusalParts × Lines) → pairs_then lacks size l ≡ Ok w → w.1.number ≡ l.number + (length w.0.pairs + 1)
+  pairs_then_number : (lacks : Goal) (size : ℕ) (l : Lines) (w : RefusalParts × Lines) → pairs_then lacks size l ≡ Ok w → w.1.number ≡ l.number + (length w.0.pairs + 1)
   pairs_then_number lacks size l w h =
       let pairs = and_then_is (pairs_from u size [] l) (λ pairs. last_from (refusal_parts lacks pairs.0) pairs.1) w h in
       let last = and_then_is (read_next (exactly (codes "end")) pairs.0.1) (λ e. Ok (refusal_parts lacks pairs.0.0, e.1)) w pairs.2 in
@@ -130,7 +131,7 @@ module _ (u : Universe) where
       let rest = pairs_then_number lacks.0.0 size.0.0 size.0.1 w size.2 in
       omega (arith, one, two, three, rest)
 
-  many_lines : (set : List ℕ) (lacks : ℕ) → length (refusal_lines u set lacks) ≡ length set + 4
+  many_lines : (set : List ℕ) (lacks : Goal) → length (refusal_lines u set lacks) ≡ length set + 4
   many_lines set lacks = omega (arith, length-append (map (pair_line u) set) (end_line ∷ []), length-map set (pair_line u))
 
   -- ---- each fault that is told is one
@@ -182,7 +183,7 @@ module _ (u : Universe) where
 
   -- ---- bytes behind the end are told
 
-  pub past_end_told : IsTable u → (set : List ℕ) (lacks : ℕ) (more : List ℕ) → IsRefusal u set lacks → 1 ≤ length more
+  pub past_end_told : IsTable u → (set : List ℕ) (lacks : Goal) (more : List ℕ) → IsRefusal u set lacks → 1 ≤ length more
       → refusal_in u (refusal_bytes u set lacks ++ more) ≡ Err (Line (length (refusal_lines u set lacks) + 1))
   past_end_told table set lacks more is some =
       let bytes = refusal_bytes u set lacks in

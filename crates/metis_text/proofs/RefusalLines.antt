@@ -6,22 +6,24 @@ use Rattle.std.specs.List.{list_all}
 use Rattle.std.specs.Str.{bytes_eq}
 use Rattle.std.proofs.lemmas.Bool.{and_from}
 use Rattle.std.proofs.lemmas.Slice.Eq.{bytes_eq-Decides}
+use Rattle.metis_ids.specs.declared.goals.Goal.{Goal}
+use Rattle.metis_universe.specs.GoalWords.{IsWordable, goal_word}
 use Rattle.metis_universe.specs.Universe.{IsNamed, IsUniverse, Universe, pair_count}
-use Rattle.metis_text.specs.DupLine.{pair_in}
 use Rattle.metis_text.specs.Flaws.{right}
 use Rattle.metis_text.specs.Line.{words}
 use Rattle.metis_universe.specs.PairWords.{pair_word}
-use Rattle.metis_text.specs.RefusalReading.{above, lacks_in, lacks_of_tokens, next_pair_in, pair_of_tokens, size_in, size_of_tokens}
+use Rattle.metis_text.specs.RefusalReading.{above, goal_in, lacks_in, lacks_of_tokens, next_pair_in, pair_of_tokens, size_in, size_of_tokens}
 use Rattle.metis_text.specs.Tokens.{number_in, tokens}
 use Rattle.metis_text.specs.declared.flaw.Flaw.TheVariants.{Form, Number}
 use Rattle.metis_text.proofs.Cuts.{tokens_of_words, words_of_tokens}
 use Rattle.metis_text.proofs.DupWords.{pair_is, pair_printed, pair_read}
+use Rattle.metis_text.proofs.GoalTokens.{goal_is, goal_printed, goal_read}
 use Rattle.metis_text.proofs.NumberTokens.{number_is, number_read}
 use Rattle.metis_text.proofs.Outcomes.{if_is, right_is}
 use Rattle.metis_text.proofs.Printed.{printed, printed_decimal}
 
-abbrev pub lacks_tokens : Universe → ℕ → List (List ℕ)
-lacks_tokens u p = codes "lacks" ∷ pair_word u p ∷ []
+abbrev pub lacks_tokens : Universe → Goal → List (List ℕ)
+lacks_tokens u g = codes "lacks" ∷ goal_word u g ∷ []
 
 abbrev pub size_tokens : ℕ → List (List ℕ)
 size_tokens n = codes "pairs" ∷ decimal n ∷ []
@@ -32,16 +34,16 @@ pair_tokens u p = pair_word u p ∷ []
 -- ---- a line that is read was written
 
 module _ (u : Universe) where
-  lacks_of_is : (ts : List (List ℕ)) (p : ℕ) → lacks_of_tokens u ts ≡ Ok p → (ts ≡ lacks_tokens u p) × (p < pair_count u)
-  lacks_of_is (lacks ∷ word ∷ []) p h =
-      let form = if_is (bytes_eq lacks (codes "lacks")) (pair_in u word) Form p h in
+  lacks_of_is : (ts : List (List ℕ)) (g : Goal) → lacks_of_tokens u ts ≡ Ok g → (ts ≡ lacks_tokens u g) × IsWordable u g
+  lacks_of_is (lacks ∷ word ∷ []) g h =
+      let form = if_is (bytes_eq lacks (codes "lacks")) (goal_in u word) Form g h in
       let same = (bytes_eq-Decides lacks (codes "lacks")).0 form.0 in
-      let pair = pair_is u word p form.1 in
-      (λ i. same i ∷ pair.0 i ∷ [], pair.1)
-  lacks_of_is _ p h = cc
+      let goal = goal_is u word g form.1 in
+      (λ i. same i ∷ goal.0 i ∷ [], goal.1)
+  lacks_of_is _ g h = cc
 
-  pub lacks_is : (line : List ℕ) (p : ℕ) → lacks_in u line ≡ Ok p → (line ≡ words (lacks_tokens u p)) × (p < pair_count u)
-  lacks_is line p h = let all = lacks_of_is (tokens line) p h in (sym (words_of_tokens line) ∙ ap words all.0, all.1)
+  pub lacks_is : (line : List ℕ) (g : Goal) → lacks_in u line ≡ Ok g → (line ≡ words (lacks_tokens u g)) × IsWordable u g
+  lacks_is line g h = let all = lacks_of_is (tokens line) g h in (sym (words_of_tokens line) ∙ ap words all.0, all.1)
 
   pair_of_is : (ts : List (List ℕ)) (p : ℕ) → pair_of_tokens u ts ≡ Ok p → (ts ≡ pair_tokens u p) × (p < pair_count u)
   pair_of_is (word ∷ []) p h = let pair = pair_is u word p h in (λ i. pair.0 i ∷ [], pair.1)
@@ -66,13 +68,14 @@ size_is line n h = let all = size_of_is (tokens line) n h in (sym (words_of_toke
 
 -- ---- and what is written there is read
 
+module _ (u : Universe) (is : IsUniverse u) (names : IsNamed u) (g : Goal) (its : IsWordable u g) where
+  pub lacks_printed : list_all printed (lacks_tokens u g) ≡ true
+  lacks_printed = and_from _ _ (goal_printed u is names g its) refl
+
+  pub lacks_read : lacks_in u (words (lacks_tokens u g)) ≡ Ok g
+  lacks_read = ap (lacks_of_tokens u) (tokens_of_words (codes "lacks") (goal_word u g ∷ []) lacks_printed) ∙ goal_read u is names g its
+
 module _ (u : Universe) (is : IsUniverse u) (names : IsNamed u) (p : ℕ) (low : p < pair_count u) where
-  pub lacks_printed : list_all printed (lacks_tokens u p) ≡ true
-  lacks_printed = and_from _ _ (pair_printed u is names p low) refl
-
-  pub lacks_read : lacks_in u (words (lacks_tokens u p)) ≡ Ok p
-  lacks_read = ap (lacks_of_tokens u) (tokens_of_words (codes "lacks") (pair_word u p ∷ []) lacks_printed) ∙ pair_read u is names p low
-
   pub pair_tokens_printed : list_all printed (pair_tokens u p) ≡ true
   pair_tokens_printed = and_from _ _ (pair_printed u is names p low) refl
 

@@ -2,6 +2,8 @@
 use Rattle.std.proofs.Common.{◌≡◌, ℕ, ◌+◌, ◌<◌, ◌^◌, List, [], ◌∷◌, ◌++◌, length, Result, Ok, Err, refl, sym, ap, ◌∙◌, subst, append_assoc, arith}
 use Rattle.std.specs.Prelude.{IfOk, codes}
 use Rattle.std.specs.List.{flat_map}
+use Rattle.metis_ids.specs.declared.goals.Goal.{Goal}
+use Rattle.metis_universe.specs.GoalWords.{IsWordable}
 use Rattle.metis_universe.specs.Universe.{IsTable, Universe, pair_count}
 use Rattle.metis_text.specs.Line.{line, words}
 use Rattle.metis_text.specs.PlanText.{end_line}
@@ -35,12 +37,12 @@ line_behind l ts bytes rest text is says behind = is ∙ (λ i. says i ++ (10 �
 
 module _ (u : Universe) where
   -- what was read behind the pair that the set lacks
-  record SetRead (lacks : ℕ) (l : Lines) (q : RefusalParts) : Type 0 where
+  record SetRead (lacks : Goal) (l : Lines) (q : RefusalParts) : Type 0 where
     lacking : lacks ≡ q.lacks
     are : ArePairs u [] q.pairs
     text : l.rest ≡ set_bytes u q.pairs
 
-  set_is : (lacks : ℕ) (l : Lines) (q : RefusalParts) → refusal_set_from u lacks l ≡ Ok q → SetRead lacks l q
+  set_is : (lacks : Goal) (l : Lines) (q : RefusalParts) → refusal_set_from u lacks l ≡ Ok q → SetRead lacks l q
   set_is lacks l q h =
       let size = and_then_is (read_next size_in l) (λ size. and_then (pairs_from u size.0 [] size.1) (λ pairs. refusal_end_from (refusal_parts lacks pairs.0) pairs.1)) q h in
       let first = read_next_is size_in l size.0 size.1 in
@@ -68,12 +70,12 @@ module _ (u : Universe) where
       let ascend = pairs_ascend u q.pairs set.are in
       let body : header.0.1.rest ≡ body_bytes u q.pairs q.lacks = line_behind header.0.1 (lacks_tokens u lacks.0.0) second.0 lacks.0.1.rest (set_bytes u q.pairs) second.2 names.0 set.text ∙ ap (λ p. body_bytes u q.pairs p) set.lacking in (
         first.2 ∙ (λ i. says i ++ (10 ∷ body i)) ∙ sym (refusal_bytes_by_parts u q.pairs q.lacks),
-        record { lacking = subst (λ p. p < pair_count u) set.lacking names.1; ascending = ascend.0; pairs = ascend.1 },
+        record { lacking = subst (IsWordable u) set.lacking names.1; ascending = ascend.0; pairs = ascend.1 },
       )
 
   -- ---- what was written is read
 
-  module _ (table : IsTable u) (set : List ℕ) (lacks : ℕ) (is : IsRefusal u set lacks) where
+  module _ (table : IsTable u) (set : List ℕ) (lacks : Goal) (is : IsRefusal u set lacks) where
     abbrev said : RefusalParts
     said = refusal_parts lacks set
 
@@ -101,7 +103,7 @@ module _ (u : Universe) where
 
 -- ---- what a reader gives
 
-pub read_lacking : (u : Universe) (bytes : List ℕ) (r : Result Refusal TFault) → ReadsRefusal r (refusal_in u bytes) → IfOk r (λ r. r.lacks < pair_count u)
+pub read_lacking : (u : Universe) (bytes : List ℕ) (r : Result Refusal TFault) → ReadsRefusal r (refusal_in u bytes) → IfOk r (λ r. IsWordable u r.lacks)
 read_lacking u bytes (Ok r) read = (refusal_is u bytes (refusal_of r) read).1.lacking
 read_lacking u bytes (Err fault) read = tt
 

@@ -4,6 +4,7 @@
 use Rattle.std.proofs.Common.{◌≡◌, ℕ, List, [], ◌∷◌, ◌++◌, length, map, refl, ap, ◌∙◌, append-nil}
 use Rattle.std.proofs.lemmas.List.Folds.{concat-append}
 use Rattle.std.specs.List.{flat_map}
+use Rattle.metis_ids.specs.declared.goals.Goal.{Goal}
 use Rattle.metis_ids.specs.Plans.{Plan}
 use Rattle.metis_outside.specs.Pieces.{bytes_of}
 use Rattle.metis_universe.specs.Universe.{Universe}
@@ -20,7 +21,7 @@ rest_bytes u set = flat_map (pair_line u) set ++ end_line
 abbrev pub set_bytes : Universe → List ℕ → List ℕ
 set_bytes u set = pairs_line (length set) ++ rest_bytes u set
 
-abbrev pub body_bytes : Universe → List ℕ → ℕ → List ℕ
+abbrev pub body_bytes : Universe → List ℕ → Goal → List ℕ
 body_bytes u set lacks = lacks_line u lacks ++ set_bytes u set
 
 -- lines, and the last line
@@ -37,6 +38,6 @@ plan_bytes_by_parts u p after =
     let actions = action_lines u p.actions after in
     ap (λ l. plan_header ++ (counts_of p ++ l)) (concat-append actions (plan_end u p.dups) ∙ ap (λ l. bytes_of actions ++ l) (bytes_of-last (dup_lines u p.dups) end_line))
 
-pub refusal_bytes_by_parts : (u : Universe) (set : List ℕ) (lacks : ℕ) → refusal_bytes u set lacks ≡ refusal_header ++ body_bytes u set lacks
+pub refusal_bytes_by_parts : (u : Universe) (set : List ℕ) (lacks : Goal) → refusal_bytes u set lacks ≡ refusal_header ++ body_bytes u set lacks
 refusal_bytes_by_parts u set lacks =
     ap (λ l. refusal_header ++ (lacks_line u lacks ++ (pairs_line (length set) ++ l))) (bytes_of-last (map (pair_line u) set) end_line ∙ ap (λ l. l ++ end_line) (bytes_of-map (pair_line u) set))

@@ -1,4 +1,5 @@
 -- A line of a dup that is read.
+--     of_names find names      what is found by the two names of a word, if it is two names
 --     pair_in u word      the pair whose type and state the word names, with a colon between them
 --     event_in t      the end, or a line and a step with a point between them
 --     dup_in u k line      the pair and its cycle, in the line of dup number k
@@ -18,12 +19,12 @@ use Rattle.metis_universe.specs.Universe.{Universe, pair_named}
 abbrev pub is_point : ℕ → Bool
 is_point byte = byte == 46
 
-abbrev pub pair_of_names : Universe → Option (List ℕ × List ℕ) → Result ℕ Flaw
-pair_of_names u None = Err Form
-pair_of_names u (Some names) = found (pair_named u names.0 names.1)
+abbrev pub of_names : {A : Type 0} → (List ℕ → List ℕ → Option A) → Option (List ℕ × List ℕ) → Result A Flaw
+of_names find None = Err Form
+of_names find (Some names) = found (find names.0 names.1)
 
 abbrev pub pair_in : Universe → List ℕ → Result ℕ Flaw
-pair_in u word = pair_of_names u (pair_names word)
+pair_in u word = of_names (pair_named u) (pair_names word)
 
 abbrev pub at_event : ℕ × ℕ → Event
 at_event p = At p.0 p.1

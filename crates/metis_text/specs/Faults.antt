@@ -8,6 +8,7 @@
 --     IsPastRefusal u bytes f, IsRefusalFault u bytes f      more stands behind the text of a refusal;  all faults of refusals
 use Rattle.std.specs.Prelude.{◌≡◌, ◌≢◌, ◌<◌, ◌≤◌, ◌^◌, ◌+◌, ℕ, List, ◌++◌, length, Result, Err}
 use Rattle.std.specs.List.{All, count_by}
+use Rattle.metis_ids.specs.declared.goals.Goal.{Goal}
 use Rattle.metis_ids.specs.Action.{makes}
 use Rattle.metis_ids.specs.Plans.{Plan}
 use Rattle.metis_outside.specs.Pieces.{IsLine, bytes_of}
@@ -67,7 +68,7 @@ pub data IsFault (u : Universe) (bytes : List ℕ) (f : TFault) : Type 0 where
 
 pub record IsPastRefusal (u : Universe) (bytes : List ℕ) (f : TFault) : Type 0 where
   pub set : List ℕ
-  pub lacks : ℕ
+  pub lacks : Goal
   pub more : List ℕ
   pub text : bytes ≡ refusal_bytes u set lacks ++ more
   pub formed : IsRefusal u set lacks

@@ -1,5 +1,6 @@
 -- What the text of a refusal says, line by line, or its first fault.
---     lacks_of_tokens u tokens, size_of_tokens tokens      the pair that the set lacks, by the tokens of its line;  how many pairs the set has
+--     goal_in u word      the goal that the word asks for
+--     lacks_of_tokens u tokens, size_of_tokens tokens      the goal that the set lacks, by the tokens of its line;  how many pairs the set has
 --     pair_of_tokens u tokens      the pair that stands alone in its line
 --     above pairs p, follows last p      the pair stands behind all of these in the universe;  and behind the last one, if there is one
 --     RefusalParts, refusal_in u bytes      what a refusal's text says;  what these bytes say
@@ -7,22 +8,28 @@
 use Rattle.std.specs.Prelude.{◌≡◌, ◌≢◌, ℕ, zero, suc, nat_lt, Bool, true, List, [], ◌∷◌, ◌++◌, codes, Option, Some, None, Result, Ok, Err, if◌then◌else◌}
 use Rattle.std.specs.List.{list_all}
 use Rattle.std.specs.Str.{bytes_eq}
+use Rattle.metis_ids.specs.declared.goals.Goal.{Goal}
 use Rattle.metis_text.specs.declared.fault.TFault.{TFault}
 use Rattle.metis_text.specs.declared.fault.TFault.TheVariants.{NoMemory}
 use Rattle.metis_text.specs.declared.flaw.Flaw.{Flaw}
 use Rattle.metis_text.specs.declared.flaw.Flaw.TheVariants.{Form}
 use Rattle.metis_text.specs.declared.refusal_text.Refusal.{Refusal}
-use Rattle.metis_text.specs.DupLine.{pair_in}
+use Rattle.metis_text.specs.DupLine.{of_names, pair_in}
 use Rattle.metis_text.specs.Flaws.{right}
 use Rattle.metis_text.specs.Reading.{Lines, and_then, ended, exactly, lines_of, read_next}
 use Rattle.metis_text.specs.Tokens.{number_in, tokens}
+use Rattle.metis_universe.specs.GoalWords.{goal_named}
+use Rattle.metis_universe.specs.PairWords.{pair_names}
 use Rattle.metis_universe.specs.Universe.{Universe}
 
-abbrev pub lacks_of_tokens : Universe → List (List ℕ) → Result ℕ Flaw
-lacks_of_tokens u (lacks ∷ word ∷ []) = if bytes_eq lacks (codes "lacks") then pair_in u word else Err Form
+abbrev pub goal_in : Universe → List ℕ → Result Goal Flaw
+goal_in u word = of_names (goal_named u) (pair_names word)
+
+abbrev pub lacks_of_tokens : Universe → List (List ℕ) → Result Goal Flaw
+lacks_of_tokens u (lacks ∷ word ∷ []) = if bytes_eq lacks (codes "lacks") then goal_in u word else Err Form
 lacks_of_tokens u _ = Err Form
 
-abbrev pub lacks_in : Universe → List ℕ → Result ℕ Flaw
+abbrev pub lacks_in : Universe → List ℕ → Result Goal Flaw
 lacks_in u line = lacks_of_tokens u (tokens line)
 
 abbrev pub size_of_tokens : List (List ℕ) → Result ℕ Flaw
@@ -55,10 +62,10 @@ pairs_from u zero pairs l = Ok (pairs, l)
 pairs_from u (suc left) pairs l = and_then (read_next (next_pair_in u pairs) l) (λ p. pairs_from u left (pairs ++ p.0 ∷ []) p.1)
 
 pub record RefusalParts : Type 0 where
-  pub lacks : ℕ
+  pub lacks : Goal
   pub pairs : List ℕ
 
-abbrev pub refusal_parts : ℕ → List ℕ → RefusalParts
+abbrev pub refusal_parts : Goal → List ℕ → RefusalParts
 refusal_parts lacks pairs = record { lacks = lacks; pairs = pairs }
 
 -- the last line, and nothing behind it
@@ -66,7 +73,7 @@ abbrev pub refusal_end_from : RefusalParts → Lines → Result RefusalParts TFa
 refusal_end_from r l = and_then (read_next (exactly (codes "end")) l) (λ e. and_then (ended e.1) (λ _. Ok r))
 
 -- the set, of which the first line says how many pairs it has
-abbrev pub refusal_set_from : Universe → ℕ → Lines → Result RefusalParts TFault
+abbrev pub refusal_set_from : Universe → Goal → Lines → Result RefusalParts TFault
 refusal_set_from u lacks l =
     and_then (read_next size_in l) (λ size.
     and_then (pairs_from u size.0 [] size.1) (λ pairs.

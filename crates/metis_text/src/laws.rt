@@ -2,6 +2,7 @@
 ghost use Rattle.std.specs.Prelude.{◌≡◌, ◌≢◌, ◌<◌, ◌≤◌, ◌-◌, ◌^◌, ◌+◌, ℕ, List, ◌++◌, Ok, Err, length, map};
 ghost use Rattle.std.specs.List.{All, count_by};
 ghost use Rattle.metis_ids.specs.Plans.{Plan};
+ghost use Rattle.metis_ids.specs.declared.goals.Goal.{Goal};
 ghost use Rattle.metis_outside.specs.Pieces.{IsLine};
 ghost use Rattle.metis_universe.specs.Config.{empty};
 ghost use Rattle.metis_universe.specs.Numbers.{IsOf};
@@ -87,12 +88,12 @@ pub fn written_run_is_read()
 
 /// A text that is read is that of the refusal that it says, whose pairs are the universe's and ascend.
 pub fn accepted_refusal_is_written()
-    ensures { (u : Universe) (bytes set : List ℕ) (lacks : ℕ) → refusal_in u bytes ≡ Ok (refusal_parts lacks set) → (bytes ≡ refusal_bytes u set lacks) × IsRefusal u set lacks }
+    ensures { (u : Universe) (bytes set : List ℕ) (lacks : Goal) → refusal_in u bytes ≡ Ok (refusal_parts lacks set) → (bytes ≡ refusal_bytes u set lacks) × IsRefusal u set lacks }
 {}
 
 /// And the text of a refusal whose pairs are the universe's and ascend is read as this refusal.
 pub fn refusal_is_read()
-    ensures { (u : Universe) → IsTable u → (set : List ℕ) (lacks : ℕ) → IsRefusal u set lacks → refusal_in u (refusal_bytes u set lacks) ≡ Ok (refusal_parts lacks set) }
+    ensures { (u : Universe) → IsTable u → (set : List ℕ) (lacks : Goal) → IsRefusal u set lacks → refusal_in u (refusal_bytes u set lacks) ≡ Ok (refusal_parts lacks set) }
 {}
 
 /// Each line of the text of a plan ends with a line feed, and has no other.
@@ -102,12 +103,12 @@ pub fn plan_has_lines()
 
 /// And so does each line of the text of a refusal.
 pub fn refusal_has_lines()
-    ensures { (u : Universe) (set : List ℕ) (lacks : ℕ) → IsTable u → All IsLine (refusal_lines u set lacks) }
+    ensures { (u : Universe) (set : List ℕ) (lacks : Goal) → IsTable u → All IsLine (refusal_lines u set lacks) }
 {}
 
 /// Each front of the text of a refusal, but the text, is read as short.
 pub fn refusal_front_is_short()
-    ensures { (u : Universe) (set : List ℕ) (lacks : ℕ) (front more : List ℕ) → IsTable u → IsRefusal u set lacks → refusal_bytes u set lacks ≡ front ++ more → 1 ≤ length more → refusal_in u front ≡ Err Short }
+    ensures { (u : Universe) (set : List ℕ) (lacks : Goal) (front more : List ℕ) → IsTable u → IsRefusal u set lacks → refusal_bytes u set lacks ≡ front ++ more → 1 ≤ length more → refusal_in u front ≡ Err Short }
 {}
 
 /// No text that is read as a refusal begins with bytes of which another fault than `Short` is told.
@@ -122,7 +123,7 @@ pub fn told_refusal_fault_is_one()
 
 /// Where bytes stand behind the text of a refusal, the line behind the last one is told.
 pub fn bytes_past_a_refusal_are_told()
-    ensures { (u : Universe) (set : List ℕ) (lacks : ℕ) (more : List ℕ) → IsTable u → IsRefusal u set lacks → 1 ≤ length more
+    ensures { (u : Universe) (set : List ℕ) (lacks : Goal) (more : List ℕ) → IsTable u → IsRefusal u set lacks → 1 ≤ length more
         → refusal_in u (refusal_bytes u set lacks ++ more) ≡ Err (Line (length (refusal_lines u set lacks) + 1)) }
 {}
 

@@ -5,16 +5,16 @@ ghost use Rattle.metis_text.specs.RefusalReading.{follows, lacks_of_tokens, pair
 
 use crate::bytes::is;
 use crate::flaw::Flaw;
-use crate::tokens::{number_in, pair_in};
-use metis_ids::PairIx;
+use crate::tokens::{goal_in, number_in, pair_in};
+use metis_ids::{Goal, PairIx};
 use metis_universe::Universe;
 
-/// The pair that the set lacks, by the tokens of its line.
-pub fn lacks_of(u: &Universe, tokens: &[&[u8]]) -> Result<PairIx, Flaw>
+/// The goal that the set lacks, by the tokens of its line.
+pub fn lacks_of(u: &Universe, tokens: &[&[u8]]) -> Result<Goal, Flaw>
     ensures { result ≡ lacks_of_tokens u.now (map (λ t. t.now) tokens.now) }
 {
     match tokens {
-        [lacks, word] if is(lacks, "lacks") => pair_in(u, word),
+        [lacks, word] if is(lacks, "lacks") => goal_in(u, word),
         _ => Err(Flaw::Form),
     }
 }

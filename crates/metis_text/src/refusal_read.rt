@@ -4,6 +4,7 @@ ghost use Rattle.metis_text.specs.Reading.{read_next};
 ghost use Rattle.metis_text.specs.Reads.{Reads};
 ghost use Rattle.metis_text.specs.RefusalReading.{ReadsRefusal, lacks_in, pairs_from, refusal_in, size_in};
 ghost use Rattle.metis_text.specs.RefusalText.{refusal_bytes};
+ghost use Rattle.metis_universe.specs.GoalWords.{IsWordable};
 ghost use Rattle.metis_universe.specs.Universe.{pair_count};
 
 use crate::cursor::{Lines, read_exactly};
@@ -11,7 +12,7 @@ use crate::fault::TFault;
 use crate::refusal_lines::{lacks_of, next_pair_of, size_of};
 use crate::refusal_text::Refusal;
 use crate::tokens::tokens_of;
-use metis_ids::{PairIx, PairSet};
+use metis_ids::{Goal, PairSet};
 use metis_universe::Universe;
 use std::alloc::Global;
 
@@ -20,7 +21,7 @@ pub fn read_refusal(alloc: Global, u: &Universe, bytes: &[u8]) -> Result<Refusal
     requires { length bytes.now < 2 ^ 32 - 1 }
     ensures read { ReadsRefusal result (refusal_in u.now bytes.now) }
     ensures size { IfOk result (λ r. r.pairs.size ≡ pair_count u.now) }
-    ensures lacks { IfOk result (λ r. r.lacks < pair_count u.now) }
+    ensures lacks { IfOk result (λ r. IsWordable u.now r.lacks) }
 
     // So the bytes are the text of what is read.
     ensures text { IfOk result (λ r. bytes.now ≡ refusal_bytes u.now r.pairs.members r.lacks) }
@@ -43,13 +44,13 @@ fn read_text(alloc: Global, u: &Universe, bytes: &[u8]) -> Result<Refusal, TFaul
     Ok(Refusal { lacks, pairs })
 }
 
-fn read_lacks(alloc: Global, u: &Universe, lines: &mut Lines<'_>) -> Result<PairIx, TFault>
-    ensures { Reads (λ p. p) result lines.new (read_next (lacks_in u.now) lines.old) }
+fn read_lacks(alloc: Global, u: &Universe, lines: &mut Lines<'_>) -> Result<Goal, TFault>
+    ensures { Reads (λ g. g) result lines.new (read_next (lacks_in u.now) lines.old) }
 {
     let line = lines.next_line()?;
     let tokens = tokens_of(alloc, line)?;
     match lacks_of(u, &tokens) {
-        Ok(pair) => Ok(pair),
+        Ok(goal) => Ok(goal),
         Err(flaw) => Err(flaw.at(lines.number())),
     }
 }

@@ -1,9 +1,9 @@
 //! What the text of a refusal says.
-use metis_ids::{PairIx, PairSet};
+use metis_ids::{Goal, PairSet};
 
-/// A set of pairs, and the pair that it is said to lack.
+/// A set of pairs, and the goal that it is said to lack.
 #[derive(Drop)]
 pub struct Refusal {
-    pub lacks: PairIx,
+    pub lacks: Goal,
     pub pairs: PairSet,
 }

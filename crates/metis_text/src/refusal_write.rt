@@ -2,17 +2,19 @@
 ghost use Rattle.std.specs.Prelude.{◌≡◌, ◌<◌, [], ◌∷◌, length, map};
 ghost use Rattle.metis_outside.specs.Faults.{CountsFault};
 ghost use Rattle.metis_outside.specs.Writes.{Writes};
+ghost use Rattle.metis_universe.specs.GoalWords.{IsWordable};
+ghost use Rattle.metis_universe.specs.Goals.{IsGoalOf};
 ghost use Rattle.metis_universe.specs.Universe.{pair_count};
 ghost use Rattle.metis_text.specs.RefusalText.{lacks_line, pair_line, pairs_line, refusal_body, refusal_lines, refusal_rest, refusal_set};
 
 use crate::put::put_line;
 use crate::refusal_text::Refusal;
-use metis_ids::{PairIx, PairSet};
+use metis_ids::{Goal, PairIx, PairSet};
 use metis_outside::{Sink, Trouble};
 use metis_universe::Universe;
 use std::alloc::Global;
 
-/// Puts the text of the refusal, each line as one piece.
+/// Puts the text of the refusal, each line as one piece. Where it lacks a port, no type of the universe is named `port`.
 #[tactic(auto, using(metis_outside::proofs::Writing::front_of_line, metis_outside::proofs::Writing::writes_behind))]
 pub fn write_refusal<K: Sink>(
     alloc: Global,
@@ -21,7 +23,7 @@ pub fn write_refusal<K: Sink>(
     out: &mut K,
 ) -> Result<(), Trouble>
     requires size { r.now.pairs.size ≡ pair_count u.now }
-    requires lacks { r.now.lacks < pair_count u.now }
+    requires lacks { IsWordable u.now r.now.lacks }
     ensures text { Writes (refusal_lines u.now r.now.pairs.members r.now.lacks) (K.written out.old) (K.written out.new) result }
     ensures cause { CountsFault (K.faults out.old) (K.faults out.new) result }
 {
@@ -32,7 +34,7 @@ pub fn write_refusal<K: Sink>(
 #[tactic(auto, using(metis_outside::proofs::Writing::front_of_line, metis_outside::proofs::Writing::writes_behind))]
 fn write_body<K: Sink>(alloc: Global, u: &Universe, r: &Refusal, out: &mut K) -> Result<(), Trouble>
     requires size { r.now.pairs.size ≡ pair_count u.now }
-    requires lacks { r.now.lacks < pair_count u.now }
+    requires lacks { IsWordable u.now r.now.lacks }
     ensures text { Writes (refusal_body u.now r.now.pairs.members r.now.lacks) (K.written out.old) (K.written out.new) result }
     ensures cause { CountsFault (K.faults out.old) (K.faults out.new) result }
 {
@@ -74,15 +76,15 @@ fn write_rest<K: Sink>(
 fn write_lacks<K: Sink>(
     alloc: Global,
     u: &Universe,
-    pair: PairIx,
+    goal: Goal,
     out: &mut K,
 ) -> Result<(), Trouble>
-    requires { pair < pair_count u.now }
-    ensures text { Writes (lacks_line u.now pair ∷ []) (K.written out.old) (K.written out.new) result }
+    requires { IsGoalOf u.now goal }
+    ensures text { Writes (lacks_line u.now goal ∷ []) (K.written out.old) (K.written out.new) result }
     ensures cause { CountsFault (K.faults out.old) (K.faults out.new) result }
 {
-    let (kind, state) = (u.type_name(u.type_of(pair)), u.state_name(pair));
-    let line = format!(in alloc; "lacks {kind}:{state}\n")?;
+    let (kind, name) = u.goal_names(goal);
+    let line = format!(in alloc; "lacks {kind}:{name}\n")?;
     put_line(line.as_bytes(), out)
 }
 

@@ -3,12 +3,13 @@ ghost use Rattle.std.specs.Prelude.{◌≡◌, ◌==◌, IfOk, map};
 ghost use Rattle.std.specs.List.{after_first, before_first};
 ghost use Rattle.metis_text.specs.ActionLine.{due, state_in};
 ghost use Rattle.metis_text.specs.DupLine.{event_in, pair_in};
+ghost use Rattle.metis_text.specs.RefusalReading.{goal_in};
 ghost use Rattle.metis_text.specs.Tokens.{is_number, named, number_in, starts_number, tokens};
 ghost use Rattle.metis_universe.specs.Universe.{port_named, type_named};
 
 use crate::bytes::{is, place_of};
 use crate::flaw::{Flaw, both, found};
-use metis_ids::{Event, LineIx, PairIx, PortIx, StepIx, TypeIx};
+use metis_ids::{Event, Goal, LineIx, PairIx, PortIx, StepIx, TypeIx};
 use metis_universe::{Universe, name_in, pair_names};
 use std::alloc::{AllocError, Global};
 
@@ -103,6 +104,16 @@ pub fn pair_in(u: &Universe, word: &[u8]) -> Result<PairIx, Flaw>
 {
     match pair_names(word) {
         Some((kind, state)) => found(u.pair_named(kind, state)),
+        None => Err(Flaw::Form),
+    }
+}
+
+/// The goal that the word asks for.
+pub fn goal_in(u: &Universe, word: &[u8]) -> Result<Goal, Flaw>
+    ensures { result ≡ goal_in u.now word.now }
+{
+    match pair_names(word) {
+        Some((kind, name)) => found(u.goal_named(kind, name)),
         None => Err(Flaw::Form),
     }
 }

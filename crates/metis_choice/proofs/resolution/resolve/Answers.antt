@@ -3,7 +3,7 @@ use Rattle.std.specs.List.{AllZip}
 use Rattle.std.proofs.lemmas.List.{take_all}
 use Rattle.std.proofs.lemmas.List.Elements.{All-get_or}
 use Rattle.metis_universe.specs.Goals.{IsGoalOf}
-use Rattle.metis_choice.proofs.Resolving.{IsChosen, all_layered, all_low, chosen_attained, chosen_by, chosen_more, first_lacked, first_refused, first_unattained, lacked_by, none_lacked, pairs_chosen}
+use Rattle.metis_choice.proofs.Resolving.{IsChosen, all_layered, all_low, chosen_attained, chosen_by, chosen_more, first_lacked, first_refused, first_unattained, lacked_by, none_lacked, pairs_attained, pairs_chosen}
 use Rattle.metis_choice.proofs.resolution.resolve.Goals as goal
 
 pub loop-goal-init : goal.loop-goal-init
@@ -50,3 +50,6 @@ returns-clause-layered c = all_layered c.args.u.now c.args.goals.now c.loop-goal
 
 pub returns-clause-attained : goal.returns-clause-attained
 returns-clause-attained c = chosen_attained c.args.u.now c.keeps_invariant.ensures.universe c.args.goals.now c.loop-goal.pairs.items (all_chosen c)
+
+pub returns-clause-pairs_attained : goal.returns-clause-pairs_attained
+returns-clause-pairs_attained c = pairs_attained c.args.u.now c.keeps_invariant.ensures.universe c.args.goals.now c.loop-goal.pairs.items (all_chosen c)
