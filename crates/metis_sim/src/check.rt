@@ -1,12 +1,12 @@
 //! Whether the configuration holds the targets of a line.
 ghost use Rattle.std.specs.Prelude.{◌≡◌, IfOk, map, option_map};
 ghost use Rattle.std.specs.List.{list_all};
-ghost use Rattle.metis_sim.specs.Checks.{check_reply, pairs_of, reply_on, said_of};
-ghost use Rattle.metis_sim.specs.Words.{is_pair_word, pair_of_word};
+ghost use Rattle.metis_sim.specs.Checks.{check_reply, goals_of, reply_on, said_of};
+ghost use Rattle.metis_sim.specs.Words.{goal_of_word, is_pair_word};
 
 use crate::Reply;
 use metis_config::Config;
-use metis_ids::{NoMemory, PairIx};
+use metis_ids::{Goal, NoMemory};
 use metis_replay::shortage;
 use metis_universe::{Universe, pair_names};
 use std::alloc::Global;
@@ -26,8 +26,8 @@ pub fn check_reply(
     if words.len() > MOST_TARGETS || !are_pair_words(words) {
         return Ok(Reply::BadLine);
     }
-    Ok(match pairs_of(alloc, u, words)? {
-        Some(targets) => said_of(c, &targets),
+    Ok(match goals_of(alloc, u, words)? {
+        Some(goals) => said_of(u, c, &goals),
         None => Reply::Unknown,
     })
 }
@@ -39,12 +39,12 @@ fn is_pair_word(word: &[u8]) -> bool
     pair_names(word).is_some()
 }
 
-// The pair whose type and state the word names, if it is there.
-fn pair_of_word(u: &Universe, word: &[u8]) -> Option<PairIx>
-    ensures { result ≡ pair_of_word u.now word.now }
+// The goal that the word asks for, if it is there.
+fn goal_of_word(u: &Universe, word: &[u8]) -> Option<Goal>
+    ensures { result ≡ goal_of_word u.now word.now }
 {
     match pair_names(word) {
-        Some((kind, state)) => u.pair_named(kind, state),
+        Some((kind, name)) => u.goal_named(kind, name),
         None => None,
     }
 }
@@ -56,26 +56,26 @@ fn are_pair_words(words: &[&[u8]]) -> bool
     words.iter().all(|word| is_pair_word(word))
 }
 
-// The pairs that the words name, if each names one.
-fn pairs_of(alloc: Global, u: &Universe, words: &[&[u8]]) -> Result<Option<Vec<PairIx>>, NoMemory>
-    ensures { IfOk result (λ g. option_map (λ pairs. pairs.items) g ≡ pairs_of u.now (map (λ t. t.now) words.now)) }
+// The goals that the words ask for, if each asks for one.
+fn goals_of(alloc: Global, u: &Universe, words: &[&[u8]]) -> Result<Option<Vec<Goal>>, NoMemory>
+    ensures { IfOk result (λ g. option_map (λ goals. goals.items) g ≡ goals_of u.now (map (λ t. t.now) words.now)) }
 {
-    let mut pairs = Vec::new(alloc);
+    let mut goals = Vec::new(alloc);
     for word in words {
-        match pair_of_word(u, word) {
-            Some(pair) => pairs.push(pair)?,
+        match goal_of_word(u, word) {
+            Some(goal) => goals.push(goal)?,
             None => return Ok(None),
         }
     }
-    Ok(Some(pairs))
+    Ok(Some(goals))
 }
 
-// The first target that is short, or that there is none.
-fn said_of(c: &Config, targets: &[PairIx]) -> Reply
-    ensures { result ≡ said_of c.now targets.now }
+// The first goal that is short, or that there is none.
+fn said_of(u: &Universe, c: &Config, goals: &[Goal]) -> Reply
+    ensures { result ≡ said_of u.now c.now goals.now }
 {
-    match shortage(c, targets) {
-        Some((pair, have, want)) => Reply::Missing(pair, have, want),
+    match shortage(u, c, goals) {
+        Some((goal, have, want)) => Reply::Missing(goal, have, want),
         None => Reply::Holds,
     }
 }

@@ -1,6 +1,6 @@
 //! What a session answers to a line.
 use metis_actions::AFault;
-use metis_ids::PairIx;
+use metis_ids::Goal;
 
 /// What a session answers to a line.
 #[derive(Clone, Copy, Debug, PartialEq, Eq)]
@@ -17,13 +17,13 @@ pub enum Reply {
     Nothing,
     /// The configuration holds the targets.
     Holds,
-    /// The first target of which there are too few instances: how many there are, and how many are wanted.
-    Missing(PairIx, u64, u64),
+    /// The first target that too few instances serve: how many do, and how many are wanted.
+    Missing(Goal, u64, u64),
     /// The session has ended.
     Bye,
     /// The line has no form of a line.
     BadLine,
-    /// A type, a port, a state or a pair is not there.
+    /// A type, a port, a state or what a target asks for is not there.
     Unknown,
     /// The session had ended before.
     Ended,

@@ -38,7 +38,7 @@ pub fn write_reply<K: Sink>(
         Reply::Undone => put_line(b"undone\n", out),
         Reply::Nothing => put_line(b"nothing\n", out),
         Reply::Holds => put_line(b"holds\n", out),
-        Reply::Missing(pair, have, want) => write_missing(alloc, u, pair, have, want, out),
+        Reply::Missing(goal, have, want) => write_missing(alloc, u, goal, have, want, out),
         Reply::Bye => put_line(b"bye\n", out),
         Reply::BadLine => put_line(b"bad line\n", out),
         Reply::Unknown => put_line(b"unknown\n", out),

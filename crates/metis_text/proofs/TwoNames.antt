@@ -19,7 +19,7 @@ module _ {A : Type 0} (find : List ℕ → List ℕ → Option A) where
   form_is false kind name a h = cc
 
   -- the two names of the word, by which it was found
-  record Found (word : List ℕ) (a : A) : Type 0 where
+  pub record Found (word : List ℕ) (a : A) : Type 0 where
     pub kind : List ℕ
     pub name : List ℕ
     pub is : word ≡ kind ++ (58 ∷ name)

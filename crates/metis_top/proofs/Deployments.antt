@@ -1,7 +1,12 @@
 -- A plan deploys its targets in any order that keeps its waits, by the laws of these orders.
-use Rattle.std.proofs.Common.{◌≡◌, ℕ, List, inl, inr}
+use Rattle.std.proofs.Common.{◌≡◌, ◌≤◌, ◌+◌, ℕ, List, length, inl, inr, subst}
+use Rattle.std.specs.List.{count_by}
 use Rattle.std.specs.Prelude.{IsTrue}
+use Rattle.metis_choice.proofs.Resolving.{pairs_count, pairs_hold}
+use Rattle.metis_choice.specs.Resolutions.{ArePairsFor}
+use Rattle.metis_ids.specs.Action.{makes}
 use Rattle.metis_ids.specs.declared.actions.Action.{Action}
+use Rattle.metis_ids.specs.declared.goals.Goal.{Goal}
 use Rattle.metis_universe.specs.Config.{empty}
 use Rattle.metis_universe.specs.Steadfast.{is_steadfast}
 use Rattle.metis_universe.specs.Step.{IsRun, after_all}
@@ -19,29 +24,29 @@ pub record OrderLaws : Type 0 where
   pub complete : (actions : List Action) → IsTrue (is_complete actions (numbers actions))
   pub same : (actions : List Action) → picked actions (numbers actions) ≡ actions
 
-module _ (laws : OrderLaws) (u : Universe) (g : List ℕ) where
-  in_any_order : (actions : List Action) → IsPlan u g actions → InAnyOrder u g actions
-  in_any_order actions p = record {
+module _ (laws : OrderLaws) (u : Universe) (goals : List Goal) where
+  in_any_order : (actions : List Action) (pairs : List ℕ) → ArePairsFor u goals pairs → IsPlan u pairs actions → InAnyOrder u goals actions
+  in_any_order actions pairs resolved p = record {
     runs = λ ks kept. laws.runs u actions ks p.runs p.steadfast kept;
     last = after_all u empty actions;
     ends_alike = λ ks kept complete. laws.alike u actions ks p.runs p.steadfast kept complete;
-    holds = p.holds;
+    holds = pairs_hold u (after_all u empty actions) goals pairs resolved p.holds;
     own_kept = laws.kept actions;
     own_complete = laws.complete actions;
     own_same = laws.same actions;
   }
 
-  deploys : (lines : List (List ℕ)) → Plans u g lines → Deploys u g lines
+  deploys : (lines : List (List ℕ)) → Plans u goals lines → Deploys u goals lines
   deploys lines p = record {
     attains = p.attains;
-    plan = p.plan;
-    any_order = in_any_order p.plan.actions p.is;
-    attained = p.is.attained;
-    all = p.is.all;
-    few = p.is.few;
-    told = p.told;
+    plan = p.for_pairs.plan;
+    any_order = in_any_order p.for_pairs.plan.actions p.pairs p.resolved p.for_pairs.is;
+    attained = p.for_pairs.is.attained;
+    all = p.for_pairs.is.all;
+    few = subst (λ n. count_by makes p.for_pairs.plan.actions ≤ length p.for_pairs.is.attained + n) (pairs_count u goals p.pairs p.resolved) p.for_pairs.is.few;
+    told = p.for_pairs.told;
   }
 
-  pub answer_deploys : (lines : List (List ℕ)) (status : Status) → PlanAnswer u g lines status → DeploysOrRefuses u g lines status
+  pub answer_deploys : (lines : List (List ℕ)) (status : Status) → PlanAnswer u goals lines status → DeploysOrRefuses u goals lines status
   answer_deploys lines status (inl (is, plans)) = inl (is, deploys lines plans)
   answer_deploys lines status (inr (is, refuses)) = inr (is, refuses)

@@ -1,6 +1,7 @@
 -- A run opens a file at least, and no more than its words name.
 use Rattle.std.proofs.Common.{◌≡◌, ℕ, zero, suc, ◌-◌, ◌≤◌, min, List, [], ◌∷◌, length, Result, Ok, Err, Bool, true, false, subst, inl, inr, nat_le, if◌then◌else◌, arith}
 use Rattle.std.specs.declared.option.Option.{Option as Known}
+use Rattle.metis_ids.specs.declared.goals.Goal.{Goal}
 use Rattle.metis_ids.specs.declared.actions.Action.{Action}
 use Rattle.metis_text.specs.Reading.{plan_in}
 use Rattle.metis_text.specs.RefusalReading.{refusal_in}
@@ -10,7 +11,7 @@ use Rattle.metis_top.specs.declared.status.Status.{Status}
 use Rattle.metis_top.specs.declared.words.Verb.{Verb}
 use Rattle.metis_top.specs.declared.words.Verb.TheVariants.{Plan, Replay, Refute, Audit, Sim, Crew, Waves, Print, Load}
 use Rattle.metis_top.specs.Answer as answer
-use Rattle.metis_top.specs.Commands.{waves_then, audit_then, plan_said, crew_over, crew_then, judged, or_plan_refused, or_refusal_refused, or_turns_refused, or_universe_refused, pairs_named, plan_limit, refusal_limit, refute_then, replay_then, session_limit, sim_then, turns_limit, command_script, script_from, universe_then}
+use Rattle.metis_top.specs.Commands.{waves_then, audit_then, plan_said, crew_over, crew_then, judged, or_plan_refused, or_refusal_refused, or_turns_refused, or_universe_refused, goals_named, plan_limit, refusal_limit, refute_then, replay_then, session_limit, sim_then, turns_limit, command_script, script_from, universe_then}
 use Rattle.metis_top.specs.Course.{Ran, AreTaken, IsRead, OnShelf, after}
 use Rattle.metis_ujson.specs.Document.{document_limit, universe_in}
 use Rattle.metis_top.specs.Forms.{file_count}
@@ -48,12 +49,12 @@ at_most_universe : (n place : ℕ) (name : List ℕ) (next : Universe → Script
 at_most_universe n place name next most = λ bytes.
     at_most_if n (nat_le (length bytes) document_limit) (judged next (or_universe_refused (universe_in bytes))) (TooLong place) (at_most_judged n next (or_universe_refused (universe_in bytes)) most)
 
-at_most_replay : (u : Universe) (g plan : List ℕ) → IsAtMost 1 (replay_then plan (u, g))
+at_most_replay : (u : Universe) (g : List Goal) (plan : List ℕ) → IsAtMost 1 (replay_then plan (u, g))
 at_most_replay u g plan = λ bytes.
     at_most_if 0 (nat_le (length bytes) plan_limit) (judged (λ parts. Reply (answer.Replay u g parts.rows.actions)) (or_plan_refused (plan_in u bytes))) (TooLong 3)
     (at_most_judged 0 (λ parts. Reply (answer.Replay u g parts.rows.actions)) (or_plan_refused (plan_in u bytes)) (λ parts. tt))
 
-at_most_audit : (u : Universe) (g plan : List ℕ) → IsAtMost 1 (audit_then plan (u, g))
+at_most_audit : (u : Universe) (g : List Goal) (plan : List ℕ) → IsAtMost 1 (audit_then plan (u, g))
 at_most_audit u g plan = λ bytes.
     at_most_if 0 (nat_le (length bytes) plan_limit) (judged (λ parts. Reply (answer.Audit u g (plan_said parts) parts.rows.after)) (or_plan_refused (plan_in u bytes))) (TooLong 3)
     (at_most_judged 0 (λ parts. Reply (answer.Audit u g (plan_said parts) parts.rows.after)) (or_plan_refused (plan_in u bytes)) (λ parts. tt))
@@ -63,7 +64,7 @@ at_most_waves u plan numbers = λ bytes.
     at_most_if 0 (nat_le (length bytes) plan_limit) (judged (λ parts. Reply (answer.Waves u parts.rows.actions numbers)) (or_plan_refused (plan_in u bytes))) (TooLong 3)
     (at_most_judged 0 (λ parts. Reply (answer.Waves u parts.rows.actions numbers)) (or_plan_refused (plan_in u bytes)) (λ parts. tt))
 
-at_most_refute : (u : Universe) (g text : List ℕ) → IsAtMost 1 (refute_then text (u, g))
+at_most_refute : (u : Universe) (g : List Goal) (text : List ℕ) → IsAtMost 1 (refute_then text (u, g))
 at_most_refute u g text = λ bytes.
     at_most_if 0 (nat_le (length bytes) refusal_limit) (judged (λ parts. Reply (answer.Refute u g parts.pairs)) (or_refusal_refused (refusal_in u bytes))) (TooLong 3)
     (at_most_judged 0 (λ parts. Reply (answer.Refute u g parts.pairs)) (or_refusal_refused (refusal_in u bytes)) (λ parts. tt))
@@ -83,10 +84,10 @@ at_most_crew u plan name = λ bytes.
 
 -- the files of each command
 at_most_command : (verb : Verb) (files : List (List ℕ)) (targets : List TargetName) (size : ℕ) (numbers : List ℕ) → IsAtMost (file_count verb) (command_script verb files targets size numbers)
-at_most_command Plan files targets size numbers = at_most_universe 0 2 (word_at files 0) _ (λ u. at_most_judged 0 (λ g. Reply (answer.Plan u g)) (pairs_named 3 u targets) (λ g. tt))
-at_most_command Replay files targets size numbers = at_most_universe 1 2 (word_at files 0) _ (λ u. at_most_judged 1 (λ g. replay_then (word_at files 1) (u, g)) (pairs_named 4 u targets) (λ g. at_most_replay u g (word_at files 1)))
-at_most_command Refute files targets size numbers = at_most_universe 1 2 (word_at files 0) _ (λ u. at_most_judged 1 (λ g. refute_then (word_at files 1) (u, g)) (pairs_named 4 u targets) (λ g. at_most_refute u g (word_at files 1)))
-at_most_command Audit files targets size numbers = at_most_universe 1 2 (word_at files 0) _ (λ u. at_most_judged 1 (λ g. audit_then (word_at files 1) (u, g)) (pairs_named 4 u targets) (λ g. at_most_audit u g (word_at files 1)))
+at_most_command Plan files targets size numbers = at_most_universe 0 2 (word_at files 0) _ (λ u. at_most_judged 0 (λ g. Reply (answer.Plan u g)) (goals_named 3 u targets) (λ g. tt))
+at_most_command Replay files targets size numbers = at_most_universe 1 2 (word_at files 0) _ (λ u. at_most_judged 1 (λ g. replay_then (word_at files 1) (u, g)) (goals_named 4 u targets) (λ g. at_most_replay u g (word_at files 1)))
+at_most_command Refute files targets size numbers = at_most_universe 1 2 (word_at files 0) _ (λ u. at_most_judged 1 (λ g. refute_then (word_at files 1) (u, g)) (goals_named 4 u targets) (λ g. at_most_refute u g (word_at files 1)))
+at_most_command Audit files targets size numbers = at_most_universe 1 2 (word_at files 0) _ (λ u. at_most_judged 1 (λ g. audit_then (word_at files 1) (u, g)) (goals_named 4 u targets) (λ g. at_most_audit u g (word_at files 1)))
 at_most_command Sim files targets size numbers = at_most_universe 1 2 (word_at files 0) _ (λ u. at_most_sim u (word_at files 1))
 at_most_command Crew files targets size numbers = at_most_universe 2 2 (word_at files 0) _ (λ u. at_most_crew u (word_at files 1) (word_at files 2))
 at_most_command Waves files targets size numbers = at_most_universe 1 2 (word_at files 0) _ (λ u. at_most_waves u (word_at files 1) numbers)

@@ -7,17 +7,19 @@ use Rattle.metis_outside.specs.Faults.{Rose}
 use Rattle.metis_top.specs.declared.refusal.Refusal.TheVariants.{TooLong}
 use Rattle.metis_top.specs.declared.status.Status.{Status}
 use Rattle.metis_top.specs.declared.status.Status.TheVariants.{Done, No, NoMemory}
+use Rattle.metis_choice.specs.Resolutions.{ArePairsFor}
 use Rattle.metis_ids.specs.Plans.{Plan}
+use Rattle.metis_ids.specs.declared.goals.Goal.{Goal}
 use Rattle.metis_outside.specs.Writes.{Appends}
 use Rattle.metis_universe.specs.Tidy.{IsTidy}
 use Rattle.metis_top.specs.Answer.{Plan as PlanOf}
-use Rattle.metis_top.specs.Commands.{pairs_named, plan_script, script_from, universe_in_then, targets_then}
+use Rattle.metis_top.specs.Commands.{goals_named, plan_script, script_from, universe_in_then, targets_then}
 use Rattle.metis_top.specs.Course.{Ran, Shown, Says, OnShelf, AreTaken, after}
 use Rattle.metis_ujson.specs.Document.{document_limit, universe_in}
 use Rattle.metis_top.proofs.Deployments.{OrderLaws, answer_deploys}
 use Rattle.metis_top.specs.Honest.{over, Tells, Headline, PlansHave}
 use Rattle.metis_top.specs.Deployment.{EndsTidy}
-use Rattle.metis_top.specs.Planned.{PlanAnswer, Plans, plan_text}
+use Rattle.metis_top.specs.Planned.{PlanAnswer, PlansPairs, plan_text}
 use Rattle.metis_top.specs.Script.{Script, Read, Refuse, Reply}
 use Rattle.metis_top.specs.TargetName.{TargetName}
 use Rattle.metis_top.specs.Words.{form_of}
@@ -68,10 +70,10 @@ over-universe file bytes taken u next is fits means =
     ap (λ t. over file (if nat_le (length t) document_limit then universe_in_then t next else Refuse (TooLong 2))) is ∙ rw (passes, means)
 
 -- accepted words and an accepted document come to what is to be said of the targets
-over-plan : (file : List ℕ → List ℕ) (name : List ℕ) (targets : List TargetName) (u : Universe) (g : List ℕ) → length (file name) ≤ document_limit → universe_in (file name) ≡ Ok u
-    → pairs_named 3 u targets ≡ Ok g → over file (plan_script name targets) ≡ Reply (PlanOf u g)
+over-plan : (file : List ℕ → List ℕ) (name : List ℕ) (targets : List TargetName) (u : Universe) (g : List Goal) → length (file name) ≤ document_limit → universe_in (file name) ≡ Ok u
+    → goals_named 3 u targets ≡ Ok g → over file (plan_script name targets) ≡ Reply (PlanOf u g)
 over-plan file name targets u g fits means found =
-    over-universe file (file name) (take (document_limit + 1) (file name)) u (λ v. targets_then 3 v targets (λ pairs. Reply (PlanOf v pairs))) (take_all (document_limit + 1) (file name) (omega arith)) fits means
+    over-universe file (file name) (take (document_limit + 1) (file name)) u (λ v. targets_then 3 v targets (λ goals. Reply (PlanOf v goals))) (take_all (document_limit + 1) (file name) (omega arith)) fits means
     ∙ rw found
 
 tells_plans : OrderLaws → (words : List (List ℕ)) (file : List ℕ → List ℕ) (old new : Option (List (List ℕ))) (status : Status) → Tells file (script_from (form_of words)) old new status → Headline words file old new status
@@ -80,7 +82,7 @@ tells_plans laws words file old new status t = λ name targets u g is fits means
     (t.lines, answer_deploys laws u g t.lines status (subst (λ s. Says s t.lines status) ends t.says), t.put)
 
 -- what holds of each plan that is answered holds of the one that is put
-plans_have : (P : Universe → List ℕ → Plan → Type 0) → ((u : Universe) (g : List ℕ) (lines : List (List ℕ)) (p : Plans u g lines) → P u g p.plan)
+plans_have : (P : Universe → List ℕ → Plan → Type 0) → ((u : Universe) (g : List ℕ) (lines : List (List ℕ)) (p : PlansPairs u g lines) → P u g p.plan)
     → (words : List (List ℕ)) (file : List ℕ → List ℕ) (old new : Option (List (List ℕ))) (status : Status) → Tells file (script_from (form_of words)) old new status → PlansHave P words file old new status
 plans_have P each words file old new status t = λ name targets u g is fits means found done.
     let ends : over file (script_from (form_of words)) ≡ Reply (PlanOf u g) = ap (λ f. over file (script_from f)) is ∙ over-plan file name targets u g fits means found in
@@ -88,11 +90,13 @@ plans_have P each words file old new status t = λ name targets u g is fits mean
       done_no : Done ≡ No → ⊥
       done_no e = cc
 
-      by : (u : Universe) (g : List ℕ) → status ≡ Done → PlanAnswer u g t.lines status → (plan : Plan) × P u g plan × Appends old new (plan_text u plan)
-      by u g done (inl (is, plans)) = (plans.plan, each u g t.lines plans, subst (λ ls. Appends old new ls) plans.told t.put)
-      by u g done (inr (is, refuses)) = absurd (done_no (sym done ∙ is))
+      by : (u : Universe) (goals : List Goal) → status ≡ Done → PlanAnswer u goals t.lines status → (plan : Plan) × ((pairs : List ℕ) × ArePairsFor u goals pairs × P u pairs plan) × Appends old new (plan_text u plan)
+      by u goals done (inl (is, plans)) =
+          let p = plans.for_pairs in
+          (p.plan, (plans.pairs, plans.resolved, each u plans.pairs t.lines p), subst (λ ls. Appends old new ls) p.told t.put)
+      by u goals done (inr (is, refuses)) = absurd (done_no (sym done ∙ is))
 
-pub tidy_in_any_order : OrderLaws → (u : Universe) (g : List ℕ) (lines : List (List ℕ)) (p : Plans u g lines) → EndsTidy u g p.plan
+pub tidy_in_any_order : OrderLaws → (u : Universe) (g : List ℕ) (lines : List (List ℕ)) (p : PlansPairs u g lines) → EndsTidy u g p.plan
 tidy_in_any_order laws u g lines p ks kept complete = subst (IsTidy u g) (sym (laws.alike u p.plan.actions ks p.is.runs p.is.steadfast kept complete)) p.tidy
 
 if_some : {F : Type 0} (files : Option F) (P Q R : Type 0) (S T : F → Type 0) → ((f : F) → S f → T f) → IfSome files (λ f. P → Q → R → S f) → IfSome files (λ f. P → Q → R → T f)
@@ -111,5 +115,5 @@ module _ {S K : Type 0} (files : S → Option (List ℕ → List ℕ)) (faults o
   pub ran_headline : OrderLaws → Calmly (λ file. Headline words file (written sink) (written sink') status)
   ran_headline laws = calmly (λ file. Headline words file (written sink) (written sink') status) (λ file. tells_plans laws words file (written sink) (written sink') status)
 
-  pub ran_plans : (P : Universe → List ℕ → Plan → Type 0) → ((u : Universe) (g : List ℕ) (lines : List (List ℕ)) (p : Plans u g lines) → P u g p.plan) → Calmly (λ file. PlansHave P words file (written sink) (written sink') status)
+  pub ran_plans : (P : Universe → List ℕ → Plan → Type 0) → ((u : Universe) (g : List ℕ) (lines : List (List ℕ)) (p : PlansPairs u g lines) → P u g p.plan) → Calmly (λ file. PlansHave P words file (written sink) (written sink') status)
   ran_plans P each = calmly (λ file. PlansHave P words file (written sink) (written sink') status) (λ file. plans_have P each words file (written sink) (written sink') status)

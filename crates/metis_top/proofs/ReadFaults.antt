@@ -1,6 +1,7 @@
 -- The line of a failed read tells how many files were opened.
 use Rattle.std.proofs.Common.{◌≡◌, ◌⊎◌, ℕ, suc, ◌+◌, List, [], ◌∷◌, length, Result, Ok, Err, Bool, true, false, refl, sym, ap, ◌∙◌, subst, inl, inr, arith, nat_le, if◌then◌else◌}
 use Rattle.std.specs.declared.option.Option.{Option as Known}
+use Rattle.metis_ids.specs.declared.goals.Goal.{Goal}
 use Rattle.metis_outside.specs.Writes.{Appends}
 use Rattle.metis_top.specs.declared.refusal.Refusal.{Refusal}
 use Rattle.metis_top.specs.declared.refusal.Refusal.TheVariants.{Word, TooLong}
@@ -16,7 +17,7 @@ use Rattle.metis_replay.specs.declared.verdict.Verdict.TheVariants.{Good, Bad, M
 use Rattle.metis_ids.specs.declared.actions.Action.{Action}
 use Rattle.metis_text.specs.Reading.{plan_in}
 use Rattle.metis_text.specs.RefusalReading.{refusal_in}
-use Rattle.metis_top.specs.Commands.{waves_then, audit_then, plan_said, universe_then, crew_over, crew_then, judged, or_plan_refused, or_refusal_refused, or_turns_refused, or_universe_refused, pairs_named, plan_limit, refusal_limit, refute_then, replay_then, session_limit, sim_then, turns_limit, command_script, script_from}
+use Rattle.metis_top.specs.Commands.{waves_then, audit_then, plan_said, universe_then, crew_over, crew_then, judged, or_plan_refused, or_refusal_refused, or_turns_refused, or_universe_refused, goals_named, plan_limit, refusal_limit, refute_then, replay_then, session_limit, sim_then, turns_limit, command_script, script_from}
 use Rattle.metis_refusal.specs.declared.verdict.Verdict2.{Verdict2}
 use Rattle.metis_refusal.specs.declared.verdict.Verdict2.TheVariants.{Closed, NotFree, Open, LacksNone}
 use Rattle.metis_audit.specs.declared.answers.Answer.{Answer as AuditAnswer}
@@ -56,11 +57,12 @@ audit_ends (audit.After k) status is = inr is
 
 -- an answer has the status `Done` or `No`
 answer_status : (said : Answer) (lines : List (List ℕ)) (status : Status) → IsAnswer said lines status → (status ≡ Done) ⊎ (status ≡ No)
-answer_status (answer.Plan u targets) lines status (inl is) = inl is.0
-answer_status (answer.Plan u targets) lines status (inr is) = inr is.0
-answer_status (answer.Replay u targets actions) lines status is = verdict_ends is.verdict status is.is
-answer_status (answer.Refute u targets set) lines status is = judgement_ends is.verdict status is.is
-answer_status (answer.Audit u targets plan after) lines status is = audit_ends is.answer status is.is
+answer_status (answer.Plan u goals) lines status (inl is) = inl is.0
+answer_status (answer.Plan u goals) lines status (inr is) = inr is.0
+answer_status (answer.Replay u goals actions) lines status is = verdict_ends is.verdict status is.is
+answer_status (answer.Refute u goals set) lines status is = judgement_ends is.verdict status is.is
+answer_status (answer.Audit u goals plan after) lines status (inl is) = audit_ends is.for_pairs.answer status is.for_pairs.is
+answer_status (answer.Audit u goals plan after) lines status (inr is) = inr is.is
 answer_status (answer.Sim u script) lines status is = inl is.is
 answer_status (answer.Crew u actions zs) lines status (inl bad) = inr bad.is
 answer_status (answer.Crew u actions zs) lines status (inr (inl loose)) = inr loose.is
@@ -120,14 +122,14 @@ numbered_judged k next (Err refusal) n = tt
 numbered_universe : (place : ℕ) (name : List ℕ) (next : Universe → Script) → ((u : Universe) → Numbered (suc place) (next u)) → Numbered place (universe_then place name next)
 numbered_universe place name next n = (refl, λ bytes. numbered_if (suc place) (nat_le (length bytes) document_limit) (judged next (or_universe_refused (universe_in bytes))) (TooLong place) (numbered_judged (suc place) next (or_universe_refused (universe_in bytes)) n))
 
-numbered_replay : (u : Universe) (g plan : List ℕ) → Numbered 3 (replay_then plan (u, g))
+numbered_replay : (u : Universe) (g : List Goal) (plan : List ℕ) → Numbered 3 (replay_then plan (u, g))
 numbered_replay u g plan = (
   refl,
   λ bytes. numbered_if 4 (nat_le (length bytes) plan_limit) (judged (λ parts. Reply (answer.Replay u g parts.rows.actions)) (or_plan_refused (plan_in u bytes))) (TooLong 3)
       (numbered_judged 4 (λ parts. Reply (answer.Replay u g parts.rows.actions)) (or_plan_refused (plan_in u bytes)) (λ parts. tt)),
 )
 
-numbered_audit : (u : Universe) (g plan : List ℕ) → Numbered 3 (audit_then plan (u, g))
+numbered_audit : (u : Universe) (g : List Goal) (plan : List ℕ) → Numbered 3 (audit_then plan (u, g))
 numbered_audit u g plan = (
   refl,
   λ bytes. numbered_if 4 (nat_le (length bytes) plan_limit) (judged (λ parts. Reply (answer.Audit u g (plan_said parts) parts.rows.after)) (or_plan_refused (plan_in u bytes))) (TooLong 3)
@@ -141,7 +143,7 @@ numbered_waves u plan numbers = (
       (numbered_judged 4 (λ parts. Reply (answer.Waves u parts.rows.actions numbers)) (or_plan_refused (plan_in u bytes)) (λ parts. tt)),
 )
 
-numbered_refute : (u : Universe) (g text : List ℕ) → Numbered 3 (refute_then text (u, g))
+numbered_refute : (u : Universe) (g : List Goal) (text : List ℕ) → Numbered 3 (refute_then text (u, g))
 numbered_refute u g text = (
   refl,
   λ bytes. numbered_if 4 (nat_le (length bytes) refusal_limit) (judged (λ parts. Reply (answer.Refute u g parts.pairs)) (or_refusal_refused (refusal_in u bytes))) (TooLong 3)
@@ -167,10 +169,10 @@ numbered_crew u plan name = (
 
 -- the script of each command
 numbered_command : (verb : Verb) (files : List (List ℕ)) (targets : List TargetName) (size : ℕ) (numbers : List ℕ) → Numbered 2 (command_script verb files targets size numbers)
-numbered_command Plan files targets size numbers = numbered_universe 2 (word_at files 0) _ (λ u. numbered_judged 3 (λ g. Reply (answer.Plan u g)) (pairs_named 3 u targets) (λ g. tt))
-numbered_command Replay files targets size numbers = numbered_universe 2 (word_at files 0) _ (λ u. numbered_judged 3 (λ g. replay_then (word_at files 1) (u, g)) (pairs_named 4 u targets) (λ g. numbered_replay u g (word_at files 1)))
-numbered_command Refute files targets size numbers = numbered_universe 2 (word_at files 0) _ (λ u. numbered_judged 3 (λ g. refute_then (word_at files 1) (u, g)) (pairs_named 4 u targets) (λ g. numbered_refute u g (word_at files 1)))
-numbered_command Audit files targets size numbers = numbered_universe 2 (word_at files 0) _ (λ u. numbered_judged 3 (λ g. audit_then (word_at files 1) (u, g)) (pairs_named 4 u targets) (λ g. numbered_audit u g (word_at files 1)))
+numbered_command Plan files targets size numbers = numbered_universe 2 (word_at files 0) _ (λ u. numbered_judged 3 (λ g. Reply (answer.Plan u g)) (goals_named 3 u targets) (λ g. tt))
+numbered_command Replay files targets size numbers = numbered_universe 2 (word_at files 0) _ (λ u. numbered_judged 3 (λ g. replay_then (word_at files 1) (u, g)) (goals_named 4 u targets) (λ g. numbered_replay u g (word_at files 1)))
+numbered_command Refute files targets size numbers = numbered_universe 2 (word_at files 0) _ (λ u. numbered_judged 3 (λ g. refute_then (word_at files 1) (u, g)) (goals_named 4 u targets) (λ g. numbered_refute u g (word_at files 1)))
+numbered_command Audit files targets size numbers = numbered_universe 2 (word_at files 0) _ (λ u. numbered_judged 3 (λ g. audit_then (word_at files 1) (u, g)) (goals_named 4 u targets) (λ g. numbered_audit u g (word_at files 1)))
 numbered_command Sim files targets size numbers = numbered_universe 2 (word_at files 0) _ (λ u. numbered_sim u (word_at files 1))
 numbered_command Crew files targets size numbers = numbered_universe 2 (word_at files 0) _ (λ u. numbered_crew u (word_at files 1) (word_at files 2))
 numbered_command Waves files targets size numbers = numbered_universe 2 (word_at files 0) _ (λ u. numbered_waves u (word_at files 1) numbers)

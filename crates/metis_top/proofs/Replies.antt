@@ -14,10 +14,12 @@ use Rattle.metis_lines.specs.Justified.{graph_for, is_justified}
 use Rattle.metis_emit.specs.Realized.{entered}
 use Rattle.metis_text.proofs.WrittenRun.{run_formed}
 use Rattle.std.proofs.lemmas.List.Sums.{length-filter}
-use Rattle.metis_universe.proofs.Inside.{refused}
-use Rattle.metis_universe.specs.Closed.{Refusal}
+use Rattle.metis_choice.specs.Resolutions.{ArePairsFor}
+use Rattle.metis_ids.specs.declared.goals.Goal.{Goal}
+use Rattle.metis_universe.proofs.Served.{goals_refused}
+use Rattle.metis_universe.specs.Goals.{AttainsGoals, GoalRefusal}
 use Rattle.metis_universe.specs.Config.{empty}
-use Rattle.metis_universe.specs.Goal.{Holds, IsAttainedSet}
+use Rattle.metis_universe.specs.Goal.{Attains, Holds, IsAttainedSet}
 use Rattle.metis_universe.specs.Steadfast.{is_steadfast}
 use Rattle.metis_universe.specs.Step.{IsRun, after_all}
 use Rattle.metis_universe.specs.Tidy.{IsTidy}
@@ -33,7 +35,7 @@ use Rattle.metis_top.specs.Course.{Gathers, Ran, Shown, Says, OnShelf}
 use Rattle.metis_text.specs.InRange.{IsEventInRange}
 use Rattle.metis_ids.specs.Action.{makes}
 use Rattle.metis_text.specs.PlanText.{IsWellFormed}
-use Rattle.metis_top.specs.Planned.{IsDoubledByNeed, IsPlan, PlanAnswer, others, plan_text}
+use Rattle.metis_top.specs.Planned.{IsDoubledByNeed, IsPlan, PlanAnswer, PutsPlan, others, plan_text}
 use Rattle.metis_text.specs.RefusalText.{refusal_lines}
 use Rattle.metis_top.specs.Replayed.{Replayed, good_line, standing_after, verdict_line, verdict_status}
 use Rattle.metis_top.specs.Script.{Script, Reply}
@@ -90,7 +92,7 @@ event_in_range (At l j) h = h
 event_in_range End h = tt
 
 -- the lines of a plan answer
-pub answer_by_plan : (u : Universe) (g : List ℕ) (p : Plan) → IsPlanned u g p → PlanAnswer u g (plan_text u p) Done
+pub answer_by_plan : (u : Universe) (g : List ℕ) (p : Plan) → IsPlanned u g p → PutsPlan u g (plan_text u p) Done
 answer_by_plan u g p k =
     let counted : p.instances ≡ count_by makes p.actions = k.counts ∙ counts_as_made p.actions in
     let lean = k.lean.few in
@@ -100,14 +102,19 @@ answer_by_plan u g p k =
     let is : IsPlan u g p.actions = record { runs = k.runs; holds = k.holds; steadfast = k.steadfast; attained = k.lean.attained; all = k.lean.all; few = omega (arith, counted, lean) } in
     let formed : IsWellFormed u p (others p.actions) = run_formed u p k.table k.runs k.numbers k.doubled k.cycles (record { actions = k.named; events = λ i d low j e short. event_in_range (get_or (get_or p.dups i d).cycle j e) (k.events i d low j e short) }) counted (omega arith) (omega arith) in
     let needed : IsDoubledByNeed u g p = record { counted = sym counted ∙ k.rounds.instances; lines = k.lines; justified = k.justified; without_cycle = k.without_cycle } in
-    inl (refl, record { attains = (p.actions, k.runs, k.holds); plan = p; is = is; rounds = k.rounds; needed = needed; tidy = k.tidy; counted = counted; formed = formed; told = refl })
+    (refl, record { attains = (p.actions, k.runs, k.holds); plan = p; is = is; rounds = k.rounds; needed = needed; tidy = k.tidy; counted = counted; formed = formed; told = refl })
+
+-- what answers the pairs for goals answers the goals
+pub answer_for_goals : (u : Universe) (goals : List Goal) (pairs : List ℕ) → ArePairsFor u goals pairs → (Attains u pairs → AttainsGoals u goals)
+    → (lines : List (List ℕ)) (status : Status) → PutsPlan u pairs lines status → PlanAnswer u goals lines status
+answer_for_goals u goals pairs resolved attains lines status (is, p) = inl (is, record { attains = attains p.attains; pairs = pairs; resolved = resolved; for_pairs = p })
 
 -- the lines of a refusal answer
-pub answer_by_refusal : (u : Universe) (g s : List ℕ) (p : ℕ) → IsAttainedSet u s → Refusal u g s p → PlanAnswer u g (refusal_lines u s p) No
-answer_by_refusal u g s p all refusal = inr (refl, record { unattained = refused u g s p refusal; set = s; lacking = p; refusal = record { refusal = refusal; all = all }; told = refl })
+pub answer_by_refusal : (u : Universe) (goals : List Goal) (s : List ℕ) (g : Goal) → IsAttainedSet u s → GoalRefusal u goals s g → PlanAnswer u goals (refusal_lines u s g) No
+answer_by_refusal u goals s g all refusal = inr (refl, record { unattained = goals_refused u goals s g refusal; set = s; lacking = g; refusal = record { refusal = refusal; all = all }; told = refl })
 
 -- the line of a verdict answers
-pub answer_by_verdict : (u : Universe) (g : List ℕ) (actions : List Action) (v : Verdict) (standing : ℕ) → Tells u actions g v → (v ≡ Good → standing ≡ standing_after u actions)
+pub answer_by_verdict : (u : Universe) (g : List Goal) (actions : List Action) (v : Verdict) (standing : ℕ) → Tells u actions g v → (v ≡ Good → standing ≡ standing_after u actions)
     → Replayed u g actions (verdict_line u standing (length actions) v ∷ []) (verdict_status v)
 answer_by_verdict u g actions Good standing tells stands = record { verdict = Good; tells = tells; told = ap (λ n. good_line n (length actions) ∷ []) (stands refl); is = refl }
 answer_by_verdict u g actions (Bad n f) standing tells stands = record { verdict = Bad n f; tells = tells; told = refl; is = refl }

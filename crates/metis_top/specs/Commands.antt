@@ -1,6 +1,8 @@
 -- What each command does with its files.
 use Rattle.std.specs.Prelude.{ℕ, ◌+◌, List, [], ◌∷◌, ◌++◌, length, map, nat_le, Option, Some, None, Result, Ok, Err, if◌then◌else◌}
-use Rattle.metis_universe.specs.Universe.{Universe, pair_named}
+use Rattle.metis_ids.specs.declared.goals.Goal.{Goal}
+use Rattle.metis_universe.specs.GoalWords.{goal_named}
+use Rattle.metis_universe.specs.Universe.{Universe}
 use Rattle.metis_top.specs.declared.refusal.Refusal.{Refusal}
 use Rattle.metis_top.specs.declared.refusal.Refusal.TheVariants.{Word, TooLong}
 use Rattle.metis_top.specs.declared.refusal.Refusal.TheVariants as refusal
@@ -42,30 +44,30 @@ universe_in_then bytes next = judged next (or_universe_refused (universe_in byte
 abbrev pub universe_then : ℕ → List ℕ → (Universe → Script) → Script
 universe_then place name next = bytes_then place name document_limit (λ bytes. universe_in_then bytes next)
 
-abbrev pub or_word : ℕ → Option ℕ → Result ℕ Refusal
+abbrev pub or_word : ℕ → Option Goal → Result Goal Refusal
 or_word place None = Err (Word place)
-or_word place (Some p) = Ok p
+or_word place (Some g) = Ok g
 
--- goes on with a pair, unless there is none
-abbrev pub pair_then : Result ℕ Refusal → (ℕ → Result (List ℕ) Refusal) → Result (List ℕ) Refusal
-pair_then (Ok p) next = next p
-pair_then (Err refusal) next = Err refusal
+-- goes on with a goal, unless there is none
+abbrev pub goal_found_then : Result Goal Refusal → (Goal → Result (List Goal) Refusal) → Result (List Goal) Refusal
+goal_found_then (Ok g) next = next g
+goal_found_then (Err refusal) next = Err refusal
 
--- the pairs that target words name from this place on, behind those that were found
-abbrev pub pairs_after : List ℕ → ℕ → Universe → List TargetName → Result (List ℕ) Refusal
-pairs_after found place u [] = Ok found
-pairs_after found place u (target ∷ targets) = pair_then (or_word place (pair_named u target.kind target.state)) (λ p. pairs_after (found ++ p ∷ []) (place + 1) u targets)
+-- the goals that target words ask for from this place on, behind those that were found
+abbrev pub goals_after : List Goal → ℕ → Universe → List TargetName → Result (List Goal) Refusal
+goals_after found place u [] = Ok found
+goals_after found place u (target ∷ targets) = goal_found_then (or_word place (goal_named u target.kind target.state)) (λ g. goals_after (found ++ g ∷ []) (place + 1) u targets)
 
--- the pairs of all target words, which begin at this place, or the first word that names none
-abbrev pub pairs_named : ℕ → Universe → List TargetName → Result (List ℕ) Refusal
-pairs_named place u targets = pairs_after [] place u targets
+-- the goals of all target words, which begin at this place, or the first word that asks for none
+abbrev pub goals_named : ℕ → Universe → List TargetName → Result (List Goal) Refusal
+goals_named place u targets = goals_after [] place u targets
 
-abbrev pub targets_then : ℕ → Universe → List TargetName → (List ℕ → Script) → Script
-targets_then place u targets next = judged next (pairs_named place u targets)
+abbrev pub targets_then : ℕ → Universe → List TargetName → (List Goal → Script) → Script
+targets_then place u targets next = judged next (goals_named place u targets)
 
--- reads the universe, and goes on with it and the pairs of the targets, whose words begin at this place
-abbrev pub goal_then : ℕ → List ℕ → List TargetName → (Universe × List ℕ → Script) → Script
-goal_then place file targets next = universe_then 2 file (λ u. targets_then place u targets (λ pairs. next (u, pairs)))
+-- reads the universe, and goes on with it and the goals of the targets, whose words begin at this place
+abbrev pub goals_then : ℕ → List ℕ → List TargetName → (Universe × List Goal → Script) → Script
+goals_then place file targets next = universe_then 2 file (λ u. targets_then place u targets (λ goals. next (u, goals)))
 
 -- the most bytes of a plan's text
 abbrev pub plan_limit : ℕ
@@ -120,21 +122,21 @@ abbrev pub turns_then : ℕ → List ℕ → (List ℕ → Script) → Script
 turns_then place name next = bytes_then place name turns_limit (λ bytes. turns_in_then bytes next)
 
 abbrev pub plan_script : List ℕ → List TargetName → Script
-plan_script file targets = goal_then 3 file targets (λ goal. Reply (answer.Plan goal.0 goal.1))
+plan_script file targets = goals_then 3 file targets (λ asked. Reply (answer.Plan asked.0 asked.1))
 
 -- what a replay does once it has its universe and its targets
-abbrev pub replay_then : List ℕ → Universe × List ℕ → Script
-replay_then plan goal = plan_then 3 goal.0 plan (λ parts. Reply (answer.Replay goal.0 goal.1 parts.rows.actions))
+abbrev pub replay_then : List ℕ → Universe × List Goal → Script
+replay_then plan asked = plan_then 3 asked.0 plan (λ parts. Reply (answer.Replay asked.0 asked.1 parts.rows.actions))
 
 abbrev pub replay_script : List ℕ → List ℕ → List TargetName → Script
-replay_script file plan targets = goal_then 4 file targets (replay_then plan)
+replay_script file plan targets = goals_then 4 file targets (replay_then plan)
 
--- what the check of a refusal does once it has its universe and its targets; the target that the text names is not used
-abbrev pub refute_then : List ℕ → Universe × List ℕ → Script
-refute_then text goal = refusal_then 3 goal.0 text (λ parts. Reply (answer.Refute goal.0 goal.1 parts.pairs))
+-- what the check of a refusal does once it has its universe and its targets; the goal that the text names is not used
+abbrev pub refute_then : List ℕ → Universe × List Goal → Script
+refute_then text asked = refusal_then 3 asked.0 text (λ parts. Reply (answer.Refute asked.0 asked.1 parts.pairs))
 
 abbrev pub refute_script : List ℕ → List ℕ → List TargetName → Script
-refute_script file text targets = goal_then 4 file targets (refute_then text)
+refute_script file text targets = goals_then 4 file targets (refute_then text)
 
 -- a dup, and a plan, as a text says them
 abbrev pub dup_said : DupRow → Dup
@@ -144,11 +146,11 @@ abbrev pub plan_said : Parts → plans.Plan
 plan_said parts = record { actions = parts.rows.actions; dups = map dup_said parts.dups; instances = parts.instances }
 
 -- what an audit does once it has its universe and its targets
-abbrev pub audit_then : List ℕ → Universe × List ℕ → Script
-audit_then plan goal = plan_then 3 goal.0 plan (λ parts. Reply (answer.Audit goal.0 goal.1 (plan_said parts) parts.rows.after))
+abbrev pub audit_then : List ℕ → Universe × List Goal → Script
+audit_then plan asked = plan_then 3 asked.0 plan (λ parts. Reply (answer.Audit asked.0 asked.1 (plan_said parts) parts.rows.after))
 
 abbrev pub audit_script : List ℕ → List ℕ → List TargetName → Script
-audit_script file plan targets = goal_then 4 file targets (audit_then plan)
+audit_script file plan targets = goals_then 4 file targets (audit_then plan)
 
 -- what a simulation does once it has its universe
 abbrev pub sim_then : List ℕ → Universe → Script

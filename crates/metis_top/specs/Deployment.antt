@@ -1,15 +1,17 @@
 -- What the headline promises of the plan that is printed.
---     InAnyOrder u g actions      run from the empty configuration in any order that keeps their waits, the actions meet only correct configurations, and end with every target
---     Deploys u g lines      the lines are the text of a plan whose actions do so, and that makes few instances
---     EndsTidy u g plan      run to the end in any order that keeps their waits, its actions leave the targets standing, and what serves them
---     DeploysOrRefuses u g lines status      the lines are those of such a plan where some list of actions attains the targets, and else of a closed set of pairs that lacks one
+--     InAnyOrder u goals actions      run from the empty configuration in any order that keeps their waits, the actions meet only correct configurations, and end with every goal held
+--     Deploys u goals lines      the lines are the text of a plan whose actions do so, and that makes few instances
+--     EndsTidy u g plan      run to the end in any order that keeps their waits, its actions leave the pairs g standing, and what serves them
+--     DeploysOrRefuses u goals lines status      the lines are those of such a plan where some list of actions attains the goals, and else of a closed set of pairs that lacks one
 use Rattle.std.specs.Prelude.{◌≡◌, ◌⊎◌, ℕ, ◌+◌, ◌≤◌, List, length, IsTrue}
 use Rattle.std.specs.List.{count_by}
 use Rattle.metis_ids.specs.Action.{makes}
 use Rattle.metis_ids.specs.Plans.{Plan}
 use Rattle.metis_ids.specs.declared.actions.Action.{Action}
 use Rattle.metis_universe.specs.Config.{Config, empty}
-use Rattle.metis_universe.specs.Goal.{Attains, Holds, IsAttainedSet}
+use Rattle.metis_ids.specs.declared.goals.Goal.{Goal}
+use Rattle.metis_universe.specs.Goal.{IsAttainedSet}
+use Rattle.metis_universe.specs.Goals.{AttainsGoals, HoldsGoals}
 use Rattle.metis_universe.specs.Step.{IsRun, after_all}
 use Rattle.metis_universe.specs.Tidy.{IsTidy}
 use Rattle.metis_universe.specs.Universe.{Universe}
@@ -19,29 +21,29 @@ use Rattle.metis_top.specs.declared.status.Status.{Status}
 use Rattle.metis_top.specs.declared.status.Status.TheVariants.{Done, No}
 
 -- Each order that keeps the waits, complete or not, is a run from the empty configuration, so it meets only correct
--- configurations. All that are complete end in one configuration, which holds every target. The order of the text is one of them.
-pub record InAnyOrder (u : Universe) (g : List ℕ) (actions : List Action) : Type 0 where
+-- configurations. All that are complete end in one configuration, which holds every goal. The order of the text is one of them.
+pub record InAnyOrder (u : Universe) (goals : List Goal) (actions : List Action) : Type 0 where
   pub runs : (ks : List ℕ) → IsKept actions ks → IsRun u empty (picked actions ks)
   pub last : Config
   pub ends_alike : (ks : List ℕ) → IsKept actions ks → IsTrue (is_complete actions ks) → after_all u empty (picked actions ks) ≡ last
-  pub holds : Holds last g
+  pub holds : HoldsGoals u last goals
   pub own_kept : IsKept actions (numbers actions)
   pub own_complete : IsTrue (is_complete actions (numbers actions))
   pub own_same : picked actions (numbers actions) ≡ actions
 
--- It makes no more instances than there are attainable pairs and targets.
-pub record Deploys (u : Universe) (g : List ℕ) (lines : List (List ℕ)) : Type 0 where
-  pub attains : Attains u g
+-- It makes no more instances than there are attainable pairs and goals.
+pub record Deploys (u : Universe) (goals : List Goal) (lines : List (List ℕ)) : Type 0 where
+  pub attains : AttainsGoals u goals
   pub plan : Plan
-  pub any_order : InAnyOrder u g plan.actions
+  pub any_order : InAnyOrder u goals plan.actions
   pub attained : List ℕ
   pub all : IsAttainedSet u attained
-  pub few : count_by makes plan.actions ≤ length attained + length g
+  pub few : count_by makes plan.actions ≤ length attained + length goals
   pub told : lines ≡ plan_text u plan
 
-abbrev pub DeploysOrRefuses : Universe → List ℕ → List (List ℕ) → Status → Type 0
-DeploysOrRefuses u g lines status = ((status ≡ Done) × Deploys u g lines) ⊎ ((status ≡ No) × Refuses u g lines)
+abbrev pub DeploysOrRefuses : Universe → List Goal → List (List ℕ) → Status → Type 0
+DeploysOrRefuses u goals lines status = ((status ≡ Done) × Deploys u goals lines) ⊎ ((status ≡ No) × Refuses u goals lines)
 
--- What is left standing at the end, in every complete order that keeps the waits: the targets, and what they stand on.
+-- What is left standing at the end, in every complete order that keeps the waits: the pairs that are asked for, and what they stand on.
 abbrev pub EndsTidy : Universe → List ℕ → Plan → Type 0
 EndsTidy u g plan = (ks : List ℕ) → IsKept plan.actions ks → IsTrue (is_complete plan.actions ks) → IsTidy u g (after_all u empty (picked plan.actions ks))

@@ -5,7 +5,9 @@ use Rattle.metis_ids.specs.Plans.{Plan}
 use Rattle.metis_outside.specs.Writes.{Appends}
 use Rattle.metis_top.specs.Course.{Says}
 use Rattle.metis_ujson.specs.Document.{document_limit, universe_in}
-use Rattle.metis_top.specs.Commands.{pairs_named}
+use Rattle.metis_ids.specs.declared.goals.Goal.{Goal}
+use Rattle.metis_choice.specs.Resolutions.{ArePairsFor}
+use Rattle.metis_top.specs.Commands.{goals_named}
 use Rattle.metis_top.specs.Deployment.{DeploysOrRefuses}
 use Rattle.metis_top.specs.Planned.{plan_text}
 use Rattle.metis_universe.specs.Universe.{Universe}
@@ -29,17 +31,17 @@ pub record Tells (file : List ℕ → List ℕ) (script : Script) (old new : Opt
 
 -- The headline. For accepted words, an accepted universe and targets in it, what is put is the text of a plan, line by line,
 -- with status `Done`, exactly where some list of actions attains the targets, and else that of a refusal, with status `No`.
--- In any order that keeps its waits the plan meets only correct configurations, and ends with every target.
+-- In any order that keeps its waits the plan meets only correct configurations, and ends with every target, a pair or a port.
 abbrev pub Headline : List (List ℕ) → (List ℕ → List ℕ) → Option (List (List ℕ)) → Option (List (List ℕ)) → Status → Type 0
-Headline words file old new status = (name : List ℕ) (targets : List TargetName) (u : Universe) (g : List ℕ)
+Headline words file old new status = (name : List ℕ) (targets : List TargetName) (u : Universe) (goals : List Goal)
     → form_of words ≡ Ok (record { verb = PlanVerb; files = name ∷ []; targets = targets; size = 0; numbers = [] })
-    → length (file name) ≤ document_limit → universe_in (file name) ≡ Ok u → pairs_named 3 u targets ≡ Ok g
-    → (lines : List (List ℕ)) × DeploysOrRefuses u g lines status × Appends old new lines
+    → length (file name) ≤ document_limit → universe_in (file name) ≡ Ok u → goals_named 3 u targets ≡ Ok goals
+    → (lines : List (List ℕ)) × DeploysOrRefuses u goals lines status × Appends old new lines
 
 -- For accepted words, an accepted universe and targets in it, where the status is `Done` what is put is the text of one plan, line by
--- line, of which P holds.
+-- line, of which P holds, with the pairs that the targets are or that provide them.
 abbrev pub PlansHave : (Universe → List ℕ → Plan → Type 0) → List (List ℕ) → (List ℕ → List ℕ) → Option (List (List ℕ)) → Option (List (List ℕ)) → Status → Type 0
-PlansHave P words file old new status = (name : List ℕ) (targets : List TargetName) (u : Universe) (g : List ℕ)
+PlansHave P words file old new status = (name : List ℕ) (targets : List TargetName) (u : Universe) (goals : List Goal)
     → form_of words ≡ Ok (record { verb = PlanVerb; files = name ∷ []; targets = targets; size = 0; numbers = [] })
-    → length (file name) ≤ document_limit → universe_in (file name) ≡ Ok u → pairs_named 3 u targets ≡ Ok g → status ≡ Done
-    → (plan : Plan) × P u g plan × Appends old new (plan_text u plan)
+    → length (file name) ≤ document_limit → universe_in (file name) ≡ Ok u → goals_named 3 u targets ≡ Ok goals → status ≡ Done
+    → (plan : Plan) × ((pairs : List ℕ) × ArePairsFor u goals pairs × P u pairs plan) × Appends old new (plan_text u plan)

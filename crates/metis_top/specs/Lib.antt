@@ -1,3 +1,4 @@
+pub mod Aims
 pub mod Answer
 pub mod Audited
 pub mod Commands

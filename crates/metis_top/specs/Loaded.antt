@@ -8,6 +8,7 @@ use Rattle.std.specs.Prelude.{◌≡◌, ℕ, List, [], ◌∷◌, ◌++◌, len
 use Rattle.metis_ids.specs.Plans.{Plan}
 use Rattle.metis_universe.specs.Config.{empty}
 use Rattle.metis_universe.specs.Goal.{Holds}
+use Rattle.metis_universe.specs.Goals.{pair_goals}
 use Rattle.metis_universe.specs.Step.{IsRun, after_all}
 use Rattle.metis_universe.specs.Universe.{Universe, pair_count}
 use Rattle.metis_replay.specs.Exact.{Tells}
@@ -30,11 +31,11 @@ load_line n u g plan = counts_line n (pair_count u) (length g) plan.instances (l
 abbrev pub load_lines : ℕ → Universe → List ℕ → Plan → Verdict → List (List ℕ)
 load_lines n u g plan Good = load_line n u g plan ∷ []
 load_lines n u g plan (Bad k f) = []
-load_lines n u g plan (Missing p have want) = []
+load_lines n u g plan (Missing goal have want) = []
 
 pub record Summed (n : ℕ) (u : Universe) (g : List ℕ) (plan : Plan) (lines : List (List ℕ)) (status : Status) : Type 0 where
   pub verdict : Verdict
-  pub tells : Tells u plan.actions g verdict
+  pub tells : Tells u plan.actions (pair_goals g) verdict
   pub told : lines ≡ load_lines n u g plan verdict
   pub is : status ≡ verdict_status verdict
 

@@ -1,9 +1,10 @@
--- What is said of targets in a universe: a plan, or a refusal.
+-- What is said of goals in a universe: a plan, or a refusal. A plan is for the pairs g that are the goals, or that provide them.
 --     IsPlan u g actions      run from the empty configuration, the actions meet only correct configurations and end with every target, and no provider leaves its pair while a binding to it stands
 --     IsDoubledByNeed u g plan      its instances are the life lines for the targets and the pairs of its dups, and each dup is forced by its cycle
 --     plan_text u p      the lines of the text of a plan in which each action names the actions of other instances that it waits for
---     IsRefusal u g s p      s is the set of all attainable pairs, it is closed, and p is the first target that it lacks
---     PlanAnswer u g lines status      the lines are those of such a plan where some actions attain the targets, and else of such a refusal
+--     IsRefusal u goals s g      s is the set of all attainable pairs, it is closed, and g is the first goal that it lacks
+--     PlansPairs u g lines, Plans u goals lines      the lines are those of such a plan for pairs, which some actions attain;  for the pairs for these goals
+--     PlanAnswer u goals lines status      the lines are those of such a plan where some actions attain the goals, and else of such a refusal
 use Rattle.std.specs.Prelude.{◌≡◌, ◌⊎◌, ℕ, ◌+◌, ◌≤◌, List, [], length, map, IsTrue}
 use Rattle.std.specs.List.{count_by}
 use Rattle.metis_ids.specs.declared.actions.Action.{Action}
@@ -14,7 +15,9 @@ use Rattle.metis_universe.specs.Step.{IsRun, after_all}
 use Rattle.metis_universe.specs.Goal.{Holds, Attains, IsAttainedSet}
 use Rattle.metis_universe.specs.Steadfast.{is_steadfast}
 use Rattle.metis_universe.specs.Tidy.{IsTidy}
-use Rattle.metis_universe.specs.Closed.{Refusal}
+use Rattle.metis_universe.specs.Goals.{AttainsGoals, GoalRefusal}
+use Rattle.metis_ids.specs.declared.goals.Goal.{Goal}
+use Rattle.metis_choice.specs.Resolutions.{ArePairsFor}
 use Rattle.metis_ids.specs.Action.{makes}
 use Rattle.metis_text.specs.PlanText.{IsWellFormed, plan_lines}
 use Rattle.metis_universe.specs.Waits.{numbers}
@@ -46,8 +49,8 @@ pub record IsDoubledByNeed (u : Universe) (g : List ℕ) (plan : Plan) : Type 0 
   pub justified : IsTrue (is_justified u g plan.dups)
   pub without_cycle : (HasCycle (numbered (graph_for u g [])) → ⊥) → plan.dups ≡ []
 
-pub record IsRefusal (u : Universe) (g s : List ℕ) (p : ℕ) : Type 0 where
-  pub refusal : Refusal u g s p
+pub record IsRefusal (u : Universe) (goals : List Goal) (s : List ℕ) (g : Goal) : Type 0 where
+  pub refusal : GoalRefusal u goals s g
   pub all : IsAttainedSet u s
 
 -- what each action waits for of the other instances
@@ -59,7 +62,7 @@ plan_text u p = plan_lines u p (others p.actions)
 
 -- It is the plan that rounds come to, it counts its instances, and with what its actions wait for it is well formed, so that its
 -- text is read again.
-pub record Plans (u : Universe) (g : List ℕ) (lines : List (List ℕ)) : Type 0 where
+pub record PlansPairs (u : Universe) (g : List ℕ) (lines : List (List ℕ)) : Type 0 where
   pub attains : Attains u g
   pub plan : Plan
   pub is : IsPlan u g plan.actions
@@ -70,12 +73,22 @@ pub record Plans (u : Universe) (g : List ℕ) (lines : List (List ℕ)) : Type 
   pub formed : IsWellFormed u plan (others plan.actions)
   pub told : lines ≡ plan_text u plan
 
-pub record Refuses (u : Universe) (g : List ℕ) (lines : List (List ℕ)) : Type 0 where
-  pub unattained : Attains u g → ⊥
+abbrev pub PutsPlan : Universe → List ℕ → List (List ℕ) → Status → Type 0
+PutsPlan u g lines status = (status ≡ Done) × PlansPairs u g lines
+
+-- The pairs are the goals, or the providers of the ports among them.
+pub record Plans (u : Universe) (goals : List Goal) (lines : List (List ℕ)) : Type 0 where
+  pub attains : AttainsGoals u goals
+  pub pairs : List ℕ
+  pub resolved : ArePairsFor u goals pairs
+  pub for_pairs : PlansPairs u pairs lines
+
+pub record Refuses (u : Universe) (goals : List Goal) (lines : List (List ℕ)) : Type 0 where
+  pub unattained : AttainsGoals u goals → ⊥
   pub set : List ℕ
-  pub lacking : ℕ
-  pub refusal : IsRefusal u g set lacking
+  pub lacking : Goal
+  pub refusal : IsRefusal u goals set lacking
   pub told : lines ≡ refusal_lines u set lacking
 
-abbrev pub PlanAnswer : Universe → List ℕ → List (List ℕ) → Status → Type 0
-PlanAnswer u g lines status = ((status ≡ Done) × Plans u g lines) ⊎ ((status ≡ No) × Refuses u g lines)
+abbrev pub PlanAnswer : Universe → List Goal → List (List ℕ) → Status → Type 0
+PlanAnswer u goals lines status = ((status ≡ Done) × Plans u goals lines) ⊎ ((status ≡ No) × Refuses u goals lines)

@@ -1,12 +1,15 @@
 //! Writes the line of an audit.
-ghost use Rattle.std.specs.Prelude.{◌≡◌, ◌<◌, [], ◌∷◌, IfOk, string_bytes};
+ghost use Rattle.std.specs.Prelude.{◌≡◌, [], ◌∷◌, IfOk, codes, string_bytes};
 ghost use Rattle.metis_outside.specs.Faults.{CountsFault};
 ghost use Rattle.metis_outside.specs.Writes.{Writes};
+ghost use Rattle.metis_universe.specs.GoalWords.{goal_word};
+ghost use Rattle.metis_universe.specs.Goals.{IsGoalOf};
+ghost use Rattle.metis_top.specs.Judged.{word_line};
 ghost use Rattle.metis_top.specs.Audited.{NamesPairOf, audit_line, count_line, justified_line, number_line};
 
-use crate::judgement_line::pair_line;
+use crate::judgement_line::goal_line;
 use metis_audit::Answer;
-use metis_ids::Plan;
+use metis_ids::{Goal, Plan};
 use metis_outside::{Sink, Trouble};
 use metis_text::put_line;
 use metis_universe::Universe;
@@ -30,6 +33,23 @@ pub fn write_audit<K: Sink>(
     }
 }
 
+/// Puts the line of a goal that is not attained, by one put.
+pub fn write_lacking<K: Sink>(
+    alloc: Global,
+    u: &Universe,
+    goal: Goal,
+    out: &mut K,
+) -> Result<(), Trouble>
+    requires { IsGoalOf u.now goal }
+    ensures text { Writes (word_line (codes "notattained") (goal_word u.now goal) ∷ []) (K.written out.old) (K.written out.new) result }
+    ensures cause { CountsFault (K.faults out.old) (K.faults out.new) result }
+{
+    match goal_line(alloc, u, "notattained", goal) {
+        Ok(line) => put_line(line.as_bytes(), out),
+        Err(_) => Err(Trouble::NoMemory),
+    }
+}
+
 fn audit_line(
     alloc: Global,
     u: &Universe,
@@ -41,7 +61,7 @@ fn audit_line(
 {
     match *answer {
         Answer::Justified => justified_line(alloc, plan.instances, plan.dups.len()),
-        Answer::NotAttained(p) => pair_line(alloc, u, "notattained", p),
+        Answer::NotAttained(p) => goal_line(alloc, u, "notattained", Goal::Pair(p)),
         Answer::NoCycle(number) => number_line(alloc, "nocycle", number),
         Answer::Count(have, want) => count_line(alloc, have, want),
         Answer::Path(line) => number_line(alloc, "path", line),

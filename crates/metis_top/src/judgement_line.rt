@@ -2,12 +2,14 @@
 ghost use Rattle.std.specs.Prelude.{◌≡◌, ◌<◌, [], ◌∷◌, ◌++◌, IfOk, codes, string_bytes};
 ghost use Rattle.metis_outside.specs.Faults.{CountsFault};
 ghost use Rattle.metis_outside.specs.Writes.{Writes};
+ghost use Rattle.metis_universe.specs.GoalWords.{goal_word};
+ghost use Rattle.metis_universe.specs.Goals.{IsGoalOf};
 ghost use Rattle.metis_universe.specs.PairWords.{pair_word};
 ghost use Rattle.metis_universe.specs.Universe.{pair_count};
 ghost use Rattle.metis_refusal.specs.Claims.{NamesPairsOf};
-ghost use Rattle.metis_top.specs.Judged.{judgement_line, open_line, pair_line};
+ghost use Rattle.metis_top.specs.Judged.{judgement_line, open_line, word_line};
 
-use metis_ids::PairIx;
+use metis_ids::{Goal, PairIx};
 use metis_outside::{Sink, Trouble};
 use metis_refusal::Verdict2;
 use metis_text::put_line;
@@ -36,25 +38,26 @@ fn judgement_line(alloc: Global, u: &Universe, judgement: &Verdict2) -> Result<S
     ensures { IfOk result (λ line. string_bytes line ≡ judgement_line u.now judgement.now) }
 {
     match *judgement {
-        Verdict2::Closed(p) => pair_line(alloc, u, "closed lacks", p),
-        Verdict2::NotFree(p) => pair_line(alloc, u, "notfree", p),
+        Verdict2::Closed(goal) => goal_line(alloc, u, "closed lacks", goal),
+        Verdict2::NotFree(p) => goal_line(alloc, u, "notfree", Goal::Pair(p)),
         Verdict2::Open(p, q) => open_line(alloc, u, p, q),
         Verdict2::LacksNone => String::from_str(alloc, "lacksnone\n"),
     }
 }
 
-/// A word, and then the pair's.
-pub fn pair_line(alloc: Global, u: &Universe, start: &str, p: PairIx) -> Result<String, AllocError>
-    requires { p < pair_count u.now }
-    ensures { IfOk result (λ line. string_bytes line ≡ pair_line start.now (pair_word u.now p)) }
+/// A word, and then the goal's.
+pub fn goal_line(alloc: Global, u: &Universe, start: &str, goal: Goal) -> Result<String, AllocError>
+    requires { IsGoalOf u.now goal }
+    ensures { IfOk result (λ line. string_bytes line ≡ word_line start.now (goal_word u.now goal)) }
 {
-    named_line(alloc, start, u.type_name(u.type_of(p)), u.state_name(p))
+    let (kind, name) = u.goal_names(goal);
+    named_line(alloc, start, kind, name)
 }
 
-fn named_line(alloc: Global, start: &str, kind: &str, state: &str) -> Result<String, AllocError>
-    ensures { IfOk result (λ line. string_bytes line ≡ pair_line start.now (kind.now ++ (codes ":" ++ state.now))) }
+fn named_line(alloc: Global, start: &str, kind: &str, name: &str) -> Result<String, AllocError>
+    ensures { IfOk result (λ line. string_bytes line ≡ word_line start.now (kind.now ++ (codes ":" ++ name.now))) }
 {
-    format!(in alloc; "{start} {kind}:{state}\n")
+    format!(in alloc; "{start} {kind}:{name}\n")
 }
 
 fn open_line(alloc: Global, u: &Universe, p: PairIx, q: PairIx) -> Result<String, AllocError>

@@ -1,6 +1,7 @@
 //! Laws over the definitions.
 ghost use Rattle.std.specs.Prelude.{◌≡◌, ℕ, ◌+◌, List, [], ◌∷◌, codes, length};
 ghost use Rattle.metis_ids.specs.declared.actions.Action.{Action};
+ghost use Rattle.metis_ids.specs.declared.goals.Goal.{Goal};
 ghost use Rattle.metis_audit.specs.Audits.{IsAnswer};
 ghost use Rattle.metis_audit.specs.declared.answers.Answer.TheVariants.{Justified};
 ghost use Rattle.metis_universe.specs.Universe.{IsUniverse, Universe};
@@ -20,7 +21,8 @@ pub fn a_crew_has_a_line_for_each_turn()
     ensures { (actions : List Action) (zs : List ℕ) → length (crew_lines actions zs) ≡ length zs + 1 }
 {}
 
-/// The plan that is printed is justified, with the numbers that stand behind its actions.
+/// The plan that is printed is justified for the pairs for its goals, with the numbers that stand behind its actions.
 pub fn printed_plans_are_justified()
-    ensures { (u : Universe) (g : List ℕ) (lines : List (List ℕ)) → IsUniverse u → (p : Plans u g lines) → IsAnswer u g p.plan (others p.plan.actions) Justified }
+    ensures { (u : Universe) (goals : List Goal) (lines : List (List ℕ)) → IsUniverse u → (p : Plans u goals lines)
+        → IsAnswer u p.pairs p.for_pairs.plan (others p.for_pairs.plan.actions) Justified }
 {}

@@ -1,6 +1,7 @@
 //! The whole run of the program, over files and an output that are passed in.
 #![tactic(auto)]
 
+mod aim;
 mod audit;
 mod audit_line;
 mod crew;

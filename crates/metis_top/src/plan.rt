@@ -1,6 +1,9 @@
 //! The command that plans.
 ghost use Rattle.std.specs.Prelude.{◌<◌, ◌≤◌, ◌-◌, ◌^◌, IfOk, IsTrue, length};
 ghost use Rattle.std.specs.List.{All};
+ghost use Rattle.metis_universe.specs.Goal.{Attains};
+ghost use Rattle.metis_universe.specs.GoalWords.{IsWordable};
+ghost use Rattle.metis_universe.specs.Goals.{IsGoalOf};
 ghost use Rattle.metis_universe.specs.Numbers.{IsOf};
 ghost use Rattle.metis_universe.specs.Steadfast.{is_steadfast};
 ghost use Rattle.metis_universe.specs.Universe.{pair_count};
@@ -8,18 +11,20 @@ ghost use Rattle.metis_waits.specs.Waits.{AreWaits};
 ghost use Rattle.metis_top.specs.Answer as answer;
 ghost use Rattle.metis_top.specs.Commands.{plan_script};
 ghost use Rattle.metis_top.specs.Course.{Ran, Shown};
-ghost use Rattle.metis_top.specs.Planned.{plan_text};
+ghost use Rattle.metis_top.specs.Planned.{PutsPlan, plan_text};
 ghost use Rattle.metis_outside.specs.Faults.{CountsFault};
 ghost use Rattle.metis_outside.specs.Writes.{Writes};
 
 use crate::Status;
-use crate::reading::goal_from;
+use crate::aim::{Aim, aim_of};
+use crate::reading::goals_from;
 use crate::stop::{end, said};
 use crate::words::TargetWord;
-use metis_ids::{Action, NoMemory, PairIx, Plan};
+use metis_choice::pairs_for_goals_hold_them;
+use metis_ids::{Action, Goal, NoMemory, PairIx, Plan};
 use metis_outside::{Shelf, Sink, Trouble};
 use metis_planner::{Outcome, nothing_is_doubled_without_a_cycle, plan};
-use metis_text::{Refusal, write_plan, write_refusal};
+use metis_text::{write_plan, write_refusal};
 use metis_universe::Universe;
 use metis_waits::{WFault, Waits, waits};
 use std::alloc::Global;
@@ -35,25 +40,38 @@ pub fn plan_file<H: Shelf, K: Sink>(
     requires { length targets.now ≤ 256 }
     ensures { Ran H.files H.faults H.opens K.written K.faults (plan_script file.now targets.now) shelf.old shelf.new out.old out.new result }
 {
-    match goal_from(alloc, shelf, file, 3, targets) {
-        Ok((universe, pairs)) => put_plan(alloc, &universe, &pairs, out),
+    match goals_from(alloc, shelf, file, 3, targets) {
+        Ok((universe, goals)) => put_plan(alloc, &universe, &goals, out),
         Err(stop) => end(alloc, stop, out),
     }
 }
 
-fn put_plan<K: Sink>(alloc: Global, u: &Universe, targets: &[PairIx], out: &mut K) -> Status
-    requires few { length targets.now ≤ 256 }
-    requires within { All (λ p. p < pair_count u.now) targets.now }
-    ensures { Shown (answer.IsAnswer (answer.Plan u.now targets.now)) (K.written out.old) (K.written out.new) (K.faults out.old) (K.faults out.new) result }
+fn put_plan<K: Sink>(alloc: Global, u: &Universe, goals: &[Goal], out: &mut K) -> Status
+    requires few { length goals.now ≤ 256 }
+    requires within { All (IsGoalOf u.now) goals.now }
+    requires wordable { All (IsWordable u.now) goals.now }
+    ensures { Shown (answer.IsAnswer (answer.Plan u.now goals.now)) (K.written out.old) (K.written out.new) (K.faults out.old) (K.faults out.new) result }
+{
+    pairs_for_goals_hold_them();
+    match aim_of(alloc, u, goals) {
+        Ok(Aim::Pairs(pairs)) => put_plan_for(alloc, u, &pairs, out),
+        Ok(Aim::Lacks(refusal)) => said(write_refusal(alloc, u, &refusal, out), Status::No),
+        Err(_) => Status::NoMemory,
+    }
+}
+
+// Puts a plan for the pairs. There is one, since some list of actions attains them.
+fn put_plan_for<K: Sink>(alloc: Global, u: &Universe, pairs: &[PairIx], out: &mut K) -> Status
+    requires few { length pairs.now ≤ 256 }
+    requires within { All (λ p. p < pair_count u.now) pairs.now }
+    requires attained { Attains u.now pairs.now }
+    ensures { Shown (PutsPlan u.now pairs.now) (K.written out.old) (K.written out.new) (K.faults out.old) (K.faults out.new) result }
 {
     u.keeps_invariant();
     nothing_is_doubled_without_a_cycle();
-    match plan(alloc, u, targets) {
+    match plan(alloc, u, pairs) {
         Ok(Outcome::Plan(plan)) => said(write_actions(alloc, u, &plan, out), Status::Done),
-        Ok(Outcome::Closed(pairs, lacks)) => {
-            let refusal = Refusal { lacks, pairs };
-            said(write_refusal(alloc, u, &refusal, out), Status::No)
-        }
+        Ok(Outcome::Closed(..)) => unreachable!(),
         Err(_) => Status::NoMemory,
     }
 }

@@ -1,18 +1,20 @@
 //! From files to what they mean.
 ghost use Rattle.std.specs.Prelude.{◌≡◌, ◌<◌, ◌≤◌, ◌-◌, ◌^◌, length, IfOk};
 ghost use Rattle.std.specs.List.{All};
+ghost use Rattle.metis_universe.specs.GoalWords.{IsWordable};
+ghost use Rattle.metis_universe.specs.Goals.{IsGoalOf};
 ghost use Rattle.metis_universe.specs.Universe.{pair_count};
 ghost use Rattle.metis_universe.specs.Numbers.{IsOf};
 ghost use Rattle.metis_text.specs.PlanText.{IsWellFormed};
 ghost use Rattle.metis_text.specs.Reads.{lists_of, parts_of};
 ghost use Rattle.metis_text.specs.RefusalReading.{refusal_of};
-ghost use Rattle.metis_top.specs.Commands.{bytes_then, universe_in_then, universe_then, targets_then, goal_then, plan_in_then, plan_then, refusal_in_then, refusal_then, session_limit, turns_in_then, turns_then};
+ghost use Rattle.metis_top.specs.Commands.{bytes_then, universe_in_then, universe_then, targets_then, goals_then, plan_in_then, plan_then, refusal_in_then, refusal_then, session_limit, turns_in_then, turns_then};
 ghost use Rattle.metis_top.specs.Course.{Gathers, Judges, or_stop};
 
 use crate::refusal::{Refusal, Stop};
 use crate::turns::{TurnsFault, read_turns};
 use crate::words::TargetWord;
-use metis_ids::{InstNo, PairIx};
+use metis_ids::{Goal, InstNo};
 use metis_outside::{ReadAnswer, Shelf, read_whole};
 use metis_text::{PlanText, TFault, read_plan, read_refusal};
 use metis_ujson::{UFault, UNIVERSE_LIMIT, read_universe};
@@ -82,46 +84,48 @@ pub fn universe_from<H: Shelf>(
     universe_in(alloc, &bytes)
 }
 
-/// The pairs that the target words name, the first of which is the word at this place.
-fn pairs_in(
+/// The goals that the target words ask for, the first of which is the word at this place.
+fn goals_in(
     alloc: Global,
     u: &Universe,
     place: u32,
     targets: &[TargetWord],
-) -> Result<Vec<PairIx>, Stop>
+) -> Result<Vec<Goal>, Stop>
     requires few { length targets.now ≤ 256 }
     requires place { place ≤ 4 }
-    ensures judges { Judges (λ pairs. pairs.items) (targets_then place u.now targets.now) result }
-    ensures few { IfOk result (λ pairs. length pairs.items ≤ 256) }
-    ensures within { IfOk result (λ pairs. All (λ p. p < pair_count u.now) pairs.items) }
+    ensures judges { Judges (λ goals. goals.items) (targets_then place u.now targets.now) result }
+    ensures few { IfOk result (λ goals. length goals.items ≤ 256) }
+    ensures within { IfOk result (λ goals. All (IsGoalOf u.now) goals.items) }
+    ensures wordable { IfOk result (λ goals. All (IsWordable u.now) goals.items) }
 {
-    let mut pairs = Vec::new(alloc);
+    let mut goals = Vec::new(alloc);
     for (k, target) in targets.iter().enumerate() {
-        match u.pair_named(target.kind.as_str(), target.state.as_str()) {
-            Some(pair) => pairs.push(pair)?,
+        match u.goal_named(target.kind.as_str(), target.state.as_str()) {
+            Some(goal) => goals.push(goal)?,
             None => return Err(Stop::Refused(Refusal::Word(place + k as u32))),
         }
     }
-    Ok(pairs)
+    Ok(goals)
 }
 
-/// The universe in the file, and the pairs in it that the target words name, the first of which is the word at this place.
-pub fn goal_from<H: Shelf>(
+/// The universe in the file, and the goals in it that the target words ask for, the first of which is the word at this place.
+pub fn goals_from<H: Shelf>(
     alloc: Global,
     shelf: &mut H,
     file: &str,
     place: u32,
     targets: &[TargetWord],
-) -> Result<(Universe, Vec<PairIx>), Stop>
+) -> Result<(Universe, Vec<Goal>), Stop>
     requires few { length targets.now ≤ 256 }
     requires place { place ≤ 4 }
-    ensures gathers { Gathers H.files H.faults H.opens (λ goal. (goal.0, goal.1.items)) (goal_then place file.now targets.now) shelf.old shelf.new result }
-    ensures few { IfOk result (λ goal. length goal.1.items ≤ 256) }
-    ensures within { IfOk result (λ goal. All (λ p. p < pair_count goal.0) goal.1.items) }
+    ensures gathers { Gathers H.files H.faults H.opens (λ asked. (asked.0, asked.1.items)) (goals_then place file.now targets.now) shelf.old shelf.new result }
+    ensures few { IfOk result (λ asked. length asked.1.items ≤ 256) }
+    ensures within { IfOk result (λ asked. All (IsGoalOf asked.0) asked.1.items) }
+    ensures wordable { IfOk result (λ asked. All (IsWordable asked.0) asked.1.items) }
 {
     let universe = universe_from(alloc, shelf, 2, file)?;
-    let pairs = pairs_in(alloc, &universe, place, targets)?;
-    Ok((universe, pairs))
+    let goals = goals_in(alloc, &universe, place, targets)?;
+    Ok((universe, goals))
 }
 
 /// What the bytes say as the text of a plan.

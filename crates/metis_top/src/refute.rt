@@ -1,6 +1,7 @@
 //! The command that checks a refusal.
 ghost use Rattle.std.specs.Prelude.{◌≡◌, ◌<◌, ◌≤◌, length};
 ghost use Rattle.std.specs.List.{All};
+ghost use Rattle.metis_universe.specs.Goals.{IsGoalOf};
 ghost use Rattle.metis_universe.specs.Universe.{pair_count};
 ghost use Rattle.metis_top.specs.Answer as answer;
 ghost use Rattle.metis_top.specs.Commands.{refute_script, refute_then};
@@ -9,10 +10,10 @@ ghost use Rattle.metis_top.specs.Judged.{judgement_status};
 
 use crate::Status;
 use crate::judgement_line::write_judgement;
-use crate::reading::{goal_from, refusal_from};
+use crate::reading::{goals_from, refusal_from};
 use crate::stop::{end, said};
 use crate::words::TargetWord;
-use metis_ids::{PairIx, PairSet};
+use metis_ids::{Goal, PairSet};
 use metis_outside::{Shelf, Sink};
 use metis_refusal::{Verdict2, check_closed};
 use metis_universe::Universe;
@@ -30,26 +31,26 @@ pub fn refute_file<H: Shelf, K: Sink>(
     requires { length targets.now ≤ 256 }
     ensures { Ran H.files H.faults H.opens K.written K.faults (refute_script file.now text.now targets.now) shelf.old shelf.new out.old out.new result }
 {
-    match goal_from(alloc, shelf, file, 4, targets) {
-        Ok((universe, pairs)) => refute_text(alloc, text, &universe, &pairs, shelf, out),
+    match goals_from(alloc, shelf, file, 4, targets) {
+        Ok((universe, goals)) => refute_text(alloc, text, &universe, &goals, shelf, out),
         Err(stop) => end(alloc, stop, out),
     }
 }
 
-// The same where the universe is known, and the targets' pairs in it.
+// The same where the universe is known, and the goals in it.
 fn refute_text<H: Shelf, K: Sink>(
     alloc: Global,
     text: &str,
     u: &Universe,
-    targets: &[PairIx],
+    goals: &[Goal],
     shelf: &mut H,
     out: &mut K,
 ) -> Status
-    requires { All (λ p. p < pair_count u.now) targets.now }
-    ensures { Ran H.files H.faults H.opens K.written K.faults (refute_then text.now (u.now, targets.now)) shelf.old shelf.new out.old out.new result }
+    requires { All (IsGoalOf u.now) goals.now }
+    ensures { Ran H.files H.faults H.opens K.written K.faults (refute_then text.now (u.now, goals.now)) shelf.old shelf.new out.old out.new result }
 {
     match refusal_from(alloc, shelf, 3, u, text) {
-        Ok(refusal) => put_judgement(alloc, u, &refusal.pairs, targets, out),
+        Ok(refusal) => put_judgement(alloc, u, &refusal.pairs, goals, out),
         Err(stop) => end(alloc, stop, out),
     }
 }
@@ -58,14 +59,14 @@ fn put_judgement<K: Sink>(
     alloc: Global,
     u: &Universe,
     set: &PairSet,
-    targets: &[PairIx],
+    goals: &[Goal],
     out: &mut K,
 ) -> Status
     requires size { set.now.size ≡ pair_count u.now }
-    requires within { All (λ p. p < pair_count u.now) targets.now }
-    ensures { Shown (answer.IsAnswer (answer.Refute u.now targets.now set.now.members)) (K.written out.old) (K.written out.new) (K.faults out.old) (K.faults out.new) result }
+    requires within { All (IsGoalOf u.now) goals.now }
+    ensures { Shown (answer.IsAnswer (answer.Refute u.now goals.now set.now.members)) (K.written out.old) (K.written out.new) (K.faults out.old) (K.faults out.new) result }
 {
-    let judgement = check_closed(u, set, targets);
+    let judgement = check_closed(u, set, goals);
     let put = write_judgement(alloc, u, &judgement, out);
     said(put, status_of(&judgement))
 }

@@ -4,18 +4,18 @@ ghost use Rattle.std.specs.List.{All};
 ghost use Rattle.metis_replay.specs.Exact.{Tells};
 ghost use Rattle.metis_replay.specs.Progress.{IsVerdictOf};
 ghost use Rattle.metis_universe.specs.Numbers.{IsOf};
-ghost use Rattle.metis_universe.specs.Universe.{pair_count};
+ghost use Rattle.metis_universe.specs.Goals.{IsGoalOf};
 ghost use Rattle.metis_top.specs.Answer as answer;
 ghost use Rattle.metis_top.specs.Commands.{replay_script, replay_then};
 ghost use Rattle.metis_top.specs.Course.{Ran, Shown};
 ghost use Rattle.metis_top.specs.Replayed.{standing_after, verdict_status};
 
 use crate::Status;
-use crate::reading::{goal_from, plan_from};
+use crate::reading::{goals_from, plan_from};
 use crate::stop::{end, said};
 use crate::verdict_line::write_verdict;
 use crate::words::TargetWord;
-use metis_ids::{Action, NoMemory, PairIx};
+use metis_ids::{Action, Goal, NoMemory};
 use metis_outside::{Shelf, Sink};
 use metis_replay::{Replay, Verdict, replay_is_exact, replay_keeps_what_was_done};
 use metis_universe::Universe;
@@ -33,26 +33,26 @@ pub fn replay_file<H: Shelf, K: Sink>(
     requires { length targets.now ≤ 256 }
     ensures { Ran H.files H.faults H.opens K.written K.faults (replay_script file.now plan.now targets.now) shelf.old shelf.new out.old out.new result }
 {
-    match goal_from(alloc, shelf, file, 4, targets) {
-        Ok((universe, pairs)) => replay_plan(alloc, plan, &universe, &pairs, shelf, out),
+    match goals_from(alloc, shelf, file, 4, targets) {
+        Ok((universe, goals)) => replay_plan(alloc, plan, &universe, &goals, shelf, out),
         Err(stop) => end(alloc, stop, out),
     }
 }
 
-// The same where the universe is known, and the targets' pairs in it.
+// The same where the universe is known, and the goals in it.
 fn replay_plan<H: Shelf, K: Sink>(
     alloc: Global,
     plan: &str,
     u: &Universe,
-    targets: &[PairIx],
+    goals: &[Goal],
     shelf: &mut H,
     out: &mut K,
 ) -> Status
-    requires { All (λ p. p < pair_count u.now) targets.now }
-    ensures { Ran H.files H.faults H.opens K.written K.faults (replay_then plan.now (u.now, targets.now)) shelf.old shelf.new out.old out.new result }
+    requires { All (IsGoalOf u.now) goals.now }
+    ensures { Ran H.files H.faults H.opens K.written K.faults (replay_then plan.now (u.now, goals.now)) shelf.old shelf.new out.old out.new result }
 {
     match plan_from(alloc, shelf, 3, u, plan) {
-        Ok(text) => put_verdict(alloc, u, &text.plan.actions, targets, out),
+        Ok(text) => put_verdict(alloc, u, &text.plan.actions, goals, out),
         Err(stop) => end(alloc, stop, out),
     }
 }
@@ -61,15 +61,15 @@ fn put_verdict<K: Sink>(
     alloc: Global,
     u: &Universe,
     actions: &[Action],
-    targets: &[PairIx],
+    goals: &[Goal],
     out: &mut K,
 ) -> Status
     requires numbers { All (IsOf u.now) actions.now }
     requires few { length actions.now < 2 ^ 32 - 1 }
-    requires within { All (λ p. p < pair_count u.now) targets.now }
-    ensures { Shown (answer.IsAnswer (answer.Replay u.now targets.now actions.now)) (K.written out.old) (K.written out.new) (K.faults out.old) (K.faults out.new) result }
+    requires within { All (IsGoalOf u.now) goals.now }
+    ensures { Shown (answer.IsAnswer (answer.Replay u.now goals.now actions.now)) (K.written out.old) (K.written out.new) (K.faults out.old) (K.faults out.new) result }
 {
-    match replayed(alloc, u, actions, targets) {
+    match replayed(alloc, u, actions, goals) {
         Ok((verdict, standing)) => {
             let put = write_verdict(alloc, u, standing, actions.len(), &verdict, out);
             said(put, status_of(&verdict))
@@ -83,12 +83,12 @@ pub fn replayed(
     alloc: Global,
     u: &Universe,
     actions: &[Action],
-    targets: &[PairIx],
+    goals: &[Goal],
 ) -> Result<(Verdict, u64), NoMemory>
     requires numbers { All (IsOf u.now) actions.now }
     requires few { length actions.now < 2 ^ 32 - 1 }
-    requires within { All (λ p. p < pair_count u.now) targets.now }
-    ensures tells { IfOk result (λ r. Tells u.now actions.now targets.now r.0) }
+    requires within { All (IsGoalOf u.now) goals.now }
+    ensures tells { IfOk result (λ r. Tells u.now actions.now goals.now r.0) }
     ensures numbers { IfOk result (λ r. IsVerdictOf u.now r.0) }
     ensures standing { IfOk result (λ r. r.0 ≡ Verdict.Good → r.1 ≡ standing_after u.now actions.now) }
 {
@@ -99,7 +99,7 @@ pub fn replayed(
     for action in actions {
         replay.feed(action)?;
     }
-    Ok((replay.finish(targets), replay.config().count()))
+    Ok((replay.finish(goals), replay.config().count()))
 }
 
 fn status_of(verdict: &Verdict) -> Status

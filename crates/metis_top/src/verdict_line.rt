@@ -30,7 +30,7 @@ pub fn write_verdict<K: Sink>(
     match *verdict {
         Verdict::Good => write_good(alloc, standing, actions, out),
         Verdict::Bad(number, fault) => write_bad(alloc, u, number, &fault, out),
-        Verdict::Missing(pair, have, want) => write_missing(alloc, u, pair, have, want, out),
+        Verdict::Missing(goal, have, want) => write_missing(alloc, u, goal, have, want, out),
     }
 }
 

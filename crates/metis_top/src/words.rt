@@ -63,7 +63,7 @@ impl Verb {
     }
 }
 
-/// A word that names a pair by its type and its state.
+/// A word that names a pair by its type and its state, or a port behind `port`.
 #[derive(Debug, Drop)]
 pub struct TargetWord {
     pub kind: String,

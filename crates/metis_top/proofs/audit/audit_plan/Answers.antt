@@ -13,12 +13,12 @@ use Rattle.metis_top.proofs.audit.audit_plan.Goals as goal
 pub returns-in-Ok : goal.returns-in-Ok
 returns-in-Ok g c =
     let u = c.args.u.now in
-    let targets = c.args.targets.now in
+    let goals = c.args.goals.now in
     let text = c.in-Ok.text in
     let is : plan_said (parts_of text) ≡ text.plan = ap (λ (ds : List Dup). record { actions = text.plan.actions; dups = ds; instances = text.plan.instances }) (dups_said text.plan.dups) in
-    ran_replied _ _ _ _ _ parts_of (plan_then 3 u c.args.plan.now) (λ (parts : Parts). Reply (answer.Audit u targets (plan_said parts) parts.rows.after)) _ _ _ _
-    text (answer.Audit u targets text.plan (lists_of text)) _ c.in-Ok.ensures.gathers (ap (λ (p : Plan). Reply (answer.Audit u targets p (lists_of text))) is) c.put_audit.ensures
+    ran_replied _ _ _ _ _ parts_of (plan_then 3 u c.args.plan.now) (λ (parts : Parts). Reply (answer.Audit u goals (plan_said parts) parts.rows.after)) _ _ _ _
+    text (answer.Audit u goals text.plan (lists_of text)) _ c.in-Ok.ensures.gathers (ap (λ (p : Plan). Reply (answer.Audit u goals p (lists_of text))) is) c.put_audit.ensures
 
 pub returns-in-Err : goal.returns-in-Err
 returns-in-Err g c =
-    ran_stopped _ _ _ _ _ parts_of (plan_then 3 c.args.u.now c.args.plan.now) (λ (parts : Parts). Reply (answer.Audit c.args.u.now c.args.targets.now (plan_said parts) parts.rows.after)) _ _ _ _ c.in-Err.stop _ c.in-Err.ensures.gathers c.end.ensures
+    ran_stopped _ _ _ _ _ parts_of (plan_then 3 c.args.u.now c.args.plan.now) (λ (parts : Parts). Reply (answer.Audit c.args.u.now c.args.goals.now (plan_said parts) parts.rows.after)) _ _ _ _ c.in-Err.stop _ c.in-Err.ensures.gathers c.end.ensures

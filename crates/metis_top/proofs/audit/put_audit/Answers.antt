@@ -1,29 +1,30 @@
-use Rattle.std.proofs.Common.{[], ◌∷◌, refl}
-use Rattle.metis_audit.specs.Audits.{IsAnswer}
-use Rattle.metis_audit.specs.declared.answers.Answer.{Answer}
-use Rattle.metis_audit.specs.declared.answers.Answer.TheVariants as audit
-use Rattle.metis_planner.proofs.Planning.{lacking_low}
+use Rattle.std.proofs.Common.{[], ◌∷◌, codes, inl, inr, refl}
 use Rattle.metis_text.specs.Reads.{lists_of}
-use Rattle.metis_top.proofs.Shown.{shown_by_writer}
+use Rattle.metis_universe.proofs.Served.{goals_refused}
+use Rattle.metis_universe.specs.GoalWords.{goal_word}
+use Rattle.metis_top.proofs.Shown.{shown_by_writer, shown_weaker}
+use Rattle.metis_top.specs.Audited.{Audited, AuditedFor, TellsLacking}
+use Rattle.metis_top.specs.Judged.{word_line}
+use Rattle.metis_top.specs.declared.status.Status.TheVariants.{No}
 use Rattle.metis_top.proofs.audit.put_audit.Goals as goal
-use Rattle.metis_top.specs.Audited.{Audited, NamesPairOf, audit_line, audit_status}
 
-pub write_audit-put-requires : goal.write_audit-put-requires
-write_audit-put-requires g c = by c.in-Ok.answer c.in-Ok.ensures where
-  by : (a : Answer) → IsAnswer c.args.u.now c.args.targets.now c.args.text.now.plan (lists_of c.args.text.now) a → NamesPairOf c.args.u.now a
-  by audit.Justified is = tt
-  by (audit.NotAttained p) is = lacking_low c.args.u.now c.args.targets.now p c.requires.within is
-  by (audit.NoCycle k) is = tt
-  by (audit.Count have want) is = tt
-  by (audit.Path l) is = tt
-  by (audit.Loose k) is = tt
-  by (audit.After k) is = tt
-
-pub returns-in-Ok : goal.returns-in-Ok
-returns-in-Ok g c =
-    let a = c.in-Ok.answer in
+pub returns-in-Ok-Pairs : goal.returns-in-Ok-Pairs
+returns-in-Ok-Pairs g c =
     let u = c.args.u.now in
-    let plan = c.args.text.now.plan in
-    let answer : Audited u c.args.targets.now plan (lists_of c.args.text.now) (audit_line u plan a ∷ []) (audit_status a) =
-    record { answer = a; is_true = c.in-Ok.ensures; told = refl; is = refl } in
-    rw (c.said.ensures, c.status_of.ensures) (shown_by_writer _ _ _ _ _ _ _ c.write_audit-put.result answer c.write_audit-put.ensures.text c.write_audit-put.ensures.cause)
+    let goals = c.args.goals.now in
+    let text = c.args.text.now in
+    let pairs = c.in-Ok-Pairs.pairs.items in
+    let aim = rw c.in-Ok-Pairs.field-0-is at c.in-Ok-Pairs.ensures in
+    let attains = c.pairs_for_goals_hold_them.ensures.attains u goals pairs aim.resolved aim.attained in
+    shown_weaker (AuditedFor u pairs text.plan (lists_of text)) (Audited u goals text.plan (lists_of text)) _ _ _ _ _
+    (λ lines status is. inl (record { attains = attains; pairs = pairs; resolved = aim.resolved; for_pairs = is })) c.put_audit_for.ensures
+
+pub returns-in-Ok-Lacks : goal.returns-in-Ok-Lacks
+returns-in-Ok-Lacks g c =
+    let u = c.args.u.now in
+    let goals = c.args.goals.now in
+    let refusal = c.in-Ok-Lacks.refusal in
+    let aim = rw c.in-Ok-Lacks.field-0-is at c.in-Ok-Lacks.ensures in
+    let lacking : TellsLacking u goals (word_line (codes "notattained") (goal_word u refusal.lacks) ∷ []) No =
+    record { unattained = goals_refused u goals refusal.pairs.members refusal.lacks aim.refusal; set = refusal.pairs.members; all = aim.all; lacking = refusal.lacks; refusal = aim.refusal; told = refl; is = refl } in
+    rw c.said.ensures (shown_by_writer _ _ _ _ _ _ _ c.write_lacking.result (inr lacking) c.write_lacking.ensures.text c.write_lacking.ensures.cause)

@@ -1,35 +1,19 @@
-use Rattle.metis_top.proofs.Replies.{IsPlanned, answer_by_plan, answer_by_refusal}
-use Rattle.metis_top.proofs.Shown.{shown_by_writer}
+use Rattle.metis_top.proofs.Replies.{answer_by_refusal, answer_for_goals}
+use Rattle.metis_top.proofs.Shown.{shown_by_writer, shown_weaker}
+use Rattle.metis_top.specs.Planned.{PlanAnswer, PutsPlan}
 use Rattle.metis_top.proofs.plan.put_plan.Goals as goal
 
-pub returns-in-Ok-Plan : goal.returns-in-Ok-Plan
-returns-in-Ok-Plan g c =
-    let found = rw c.in-Ok-Plan.field-0-is at c.in-Ok-Plan.ensures in
-    let known : IsPlanned c.args.u.now c.args.targets.now c.in-Ok-Plan.plan = record {
-      table = c.keeps_invariant.ensures;
-      runs = found.run;
-      holds = found.holds;
-      steadfast = found.steadfast;
-      numbers = found.numbers;
-      named = found.named;
-      tidy = found.tidy;
-      counts = found.instances;
-      lean = found.lean;
-      bounded = found.bounded;
-      short = found.short;
-      lines = found.lines;
-      justified = found.justified;
-      few_dups = found.dups;
-      doubled = found.doubled;
-      cycles = found.cycles;
-      events = found.events;
-      rounds = found.rounds;
-      without_cycle = c.nothing_is_doubled_without_a_cycle.ensures c.args.u.now c.args.targets.now c.in-Ok-Plan.plan found.rounds;
-    } in
-    rw c.said.ensures (shown_by_writer _ _ _ _ _ _ _ c.write_actions.result (answer_by_plan c.args.u.now c.args.targets.now c.in-Ok-Plan.plan known) c.write_actions.ensures.text c.write_actions.ensures.cause)
+pub returns-in-Ok-Pairs : goal.returns-in-Ok-Pairs
+returns-in-Ok-Pairs g c =
+    let u = c.args.u.now in
+    let goals = c.args.goals.now in
+    let pairs = c.in-Ok-Pairs.pairs.items in
+    let aim = rw c.in-Ok-Pairs.field-0-is at c.in-Ok-Pairs.ensures in
+    shown_weaker (PutsPlan u pairs) (PlanAnswer u goals) _ _ _ _ _
+    (answer_for_goals u goals pairs aim.resolved (c.pairs_for_goals_hold_them.ensures.attains u goals pairs aim.resolved)) c.put_plan_for.ensures
 
-pub returns-in-Ok-Closed : goal.returns-in-Ok-Closed
-returns-in-Ok-Closed g c =
-    let found = rw c.in-Ok-Closed.field-0-is at c.in-Ok-Closed.ensures in
-    let answer = answer_by_refusal c.args.u.now c.args.targets.now c.in-Ok-Closed.pairs.members c.in-Ok-Closed.lacks found.members found.refusal in
-    rw c.said-in-Ok-Closed.ensures (shown_by_writer _ _ _ _ _ _ _ c.write_refusal.result answer c.write_refusal.ensures.text c.write_refusal.ensures.cause)
+pub returns-in-Ok-Lacks : goal.returns-in-Ok-Lacks
+returns-in-Ok-Lacks g c =
+    let aim = rw c.in-Ok-Lacks.field-0-is at c.in-Ok-Lacks.ensures in
+    let answer = answer_by_refusal c.args.u.now c.args.goals.now c.in-Ok-Lacks.refusal.pairs.members c.in-Ok-Lacks.refusal.lacks aim.all aim.refusal in
+    rw c.said.ensures (shown_by_writer _ _ _ _ _ _ _ c.write_refusal.result answer c.write_refusal.ensures.text c.write_refusal.ensures.cause)

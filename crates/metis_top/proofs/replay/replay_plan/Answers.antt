@@ -12,9 +12,9 @@ use Rattle.metis_top.proofs.replay.replay_plan.Goals as goal
 pub returns-in-Ok : goal.returns-in-Ok
 returns-in-Ok g c =
     let actions = ap (λ (p : PlanText). p.plan.actions) c.text.view_is in
-    ran_replied _ _ _ _ _ parts_of (plan_then 3 c.args.u.now c.args.plan.now) (λ (parts : Parts). Reply (answer.Replay c.args.u.now c.args.targets.now parts.rows.actions)) _ _ _ _
-    c.in-Ok.text (answer.Replay c.args.u.now c.args.targets.now c.in-Ok.text.plan.actions) _ c.in-Ok.ensures.gathers refl (rw (← actions) (rw c.deref.ensures.value at c.put_verdict.ensures))
+    ran_replied _ _ _ _ _ parts_of (plan_then 3 c.args.u.now c.args.plan.now) (λ (parts : Parts). Reply (answer.Replay c.args.u.now c.args.goals.now parts.rows.actions)) _ _ _ _
+    c.in-Ok.text (answer.Replay c.args.u.now c.args.goals.now c.in-Ok.text.plan.actions) _ c.in-Ok.ensures.gathers refl (rw (← actions) (rw c.deref.ensures.value at c.put_verdict.ensures))
 
 pub returns-in-Err : goal.returns-in-Err
 returns-in-Err g c =
-    ran_stopped _ _ _ _ _ parts_of (plan_then 3 c.args.u.now c.args.plan.now) (λ (parts : Parts). Reply (answer.Replay c.args.u.now c.args.targets.now parts.rows.actions)) _ _ _ _ c.in-Err.stop _ c.in-Err.ensures.gathers c.end.ensures
+    ran_stopped _ _ _ _ _ parts_of (plan_then 3 c.args.u.now c.args.plan.now) (λ (parts : Parts). Reply (answer.Replay c.args.u.now c.args.goals.now parts.rows.actions)) _ _ _ _ c.in-Err.stop _ c.in-Err.ensures.gathers c.end.ensures

@@ -1,9 +1,9 @@
-use Rattle.std.proofs.Common.{ap, sym, ◌∙◌, ◌≡◌, ◌<◌, subst, length, arith}
+use Rattle.std.proofs.Common.{ap, sym, ◌∙◌, ◌≡◌, subst, length, arith}
 use Rattle.std.proofs.lemmas.List.{take_all}
 use Rattle.std.specs.List.{All}
 use Rattle.metis_universe.specs.Config.{Config}
 use Rattle.metis_universe.specs.Numbers.{IsOf}
-use Rattle.metis_universe.specs.Universe.{pair_count}
+use Rattle.metis_universe.specs.Goals.{IsGoalOf}
 use Rattle.metis_replay.proofs.Feeding.{fed_next, fed_universe}
 use Rattle.metis_replay.specs.Progress.{IsVerdictOf, after_feeding, fed, start, verdict}
 use Rattle.metis_replay.specs.declared.verdict.Verdict.TheVariants.{Good}
@@ -27,15 +27,15 @@ loop-action-preserved c =
 
 pub returns-clause-numbers : goal.returns-clause-numbers
 returns-clause-numbers c =
-    let g = c.args.targets.now in
+    let g = c.args.goals.now in
     let same = ap (λ s. s.universe) c.loop-action.invariant.fed ∙ fed_universe (start c.args.u.now) (take c.loop-action.action-index c.args.actions.now) in
-    subst (λ v. IsVerdictOf v c.finish.result) same (c.finish.ensures.numbers (subst (λ v. All (λ p. p < pair_count v) g) (sym same) c.requires.within))
+    subst (λ v. IsVerdictOf v c.finish.result) same (c.finish.ensures.numbers (subst (λ v. All (IsGoalOf v) g) (sym same) c.requires.within))
 
 pub returns-clause-standing : goal.returns-clause-standing
 returns-clause-standing c = λ good.
     let u = c.args.u.now in
     let actions = c.args.actions.now in
-    let g = c.args.targets.now in
+    let g = c.args.goals.now in
     let k = c.keeps_invariant.ensures.universe in
     let all : c.loop-action.replay ≡ after_feeding u actions = c.loop-action.invariant.fed ∙ ap (after_feeding u) (take_all c.loop-action.action-index actions (omega (arith, c.loop-action-test.false))) in
     let said : verdict (after_feeding u actions) g ≡ Good = ap (λ s. verdict s g) (sym all) ∙ sym c.finish.ensures.verdict ∙ good in
