@@ -53,14 +53,7 @@ impl Config {
     }
 
     // Whether the requirer's port is bound to the instance, and this pair gives it.
-    fn serves(
-        &self,
-        u: &Universe,
-        z: InstNo,
-        pair: Option<PairIx>,
-        w: InstNo,
-        r: PortIx,
-    ) -> bool
+    fn serves(&self, u: &Universe, z: InstNo, pair: Option<PairIx>, w: InstNo, r: PortIx) -> bool
         requires { (q : ℕ) → pair ≡ Some q → q < pair_count u.now }
         ensures { result ≡ (is_bound self.now r w z && option_map_or (λ q. provides u.now q r) pair false) }
     {
@@ -81,14 +74,7 @@ impl Config {
 
     /// Whether the port r of w is met, where z is taken to be in another pair, or gone: by z itself, or by others of those that
     /// give it now.
-    fn is_met_if(
-        &self,
-        u: &Universe,
-        z: InstNo,
-        to: &Option<PairIx>,
-        w: InstNo,
-        r: PortIx,
-    ) -> bool
+    fn is_met_if(&self, u: &Universe, z: InstNo, to: &Option<PairIx>, w: InstNo, r: PortIx) -> bool
         requires over { IsOver u.now self.now }
         requires to { (q : ℕ) → to.now ≡ Some q → q < pair_count u.now }
         ensures { result ≡ is_met_if u.now self.now z to.now w r }
