@@ -1,4 +1,6 @@
-use Rattle.std.proofs.Common.{◌&&◌, None, not, sym, ap, ◌∙◌}
+use Rattle.std.proofs.Common.{◌&&◌, None, false, not, sym, ap, ◌∙◌}
+use Rattle.std.specs.Option.{option_map_or}
+use Rattle.metis_universe.specs.Universe.{provides}
 use Rattle.metis_config.specs.Unmet.{is_met_if, is_required}
 use Rattle.metis_config.proofs.GivenUp.{given_tie}
 use Rattle.metis_config.proofs.config.Config.loses_tie.Goals as goal
