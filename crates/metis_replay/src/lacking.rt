@@ -22,12 +22,7 @@ pub fn shortage(u: &Universe, c: &Config, goals: &[Goal]) -> Option<(Goal, u64, 
 }
 
 // The goal, with how many instances serve it and how many places it has.
-fn counted(
-    u: &Universe,
-    c: &Config,
-    goals: &[Goal],
-    goal: Option<Goal>,
-) -> Option<(Goal, u64, u64)>
+fn counted(u: &Universe, c: &Config, goals: &[Goal], goal: Option<Goal>) -> Option<(Goal, u64, u64)>
     ensures { result ≡ option_map (λ g. (g, serving u.now c.now g, places_of goals.now g)) goal }
 {
     match &goal {
