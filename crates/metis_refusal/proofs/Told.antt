@@ -1,20 +1,22 @@
--- A verdict is the one that is true of the set and the targets.
+-- A verdict is the one that is true of the set and the goals.
 use Rattle.std.proofs.Common.{◌≡◌, ℕ, zero, suc, ◌+◌, ◌<◌, ◌≤◌, Bool, true, false, cond, not, ◌||◌, List, [], ◌∷◌, nat_eq, Option, Some, None, refl, sym, ap, ◌∙◌, subst, arith, inl, inr}
-use Rattle.std.proofs.lemmas.Bool.{and_from, and_parts, both_ways, cases_lt, eq-eqb, eqb-true, false≢true, not-false, not-true, not_from_false, or_cases, or_left, or_right, true_from_ne_false}
+use Rattle.std.proofs.lemmas.Bool.{and_from, and_parts, both_ways, cases_lt, eq-eqb, eqb-true, false≢true, not-true, not_from_false, or_cases, or_left, or_right, true_from_ne_false}
 use Rattle.std.proofs.lemmas.List.{get_or_default, get_or_past}
-use Rattle.std.proofs.lemmas.List.Elements.{All-head, All-tail}
+use Rattle.std.proofs.lemmas.List.Elements.{All-cons, All-contains_itself, All-head, All-nil, All-tail}
 use Rattle.std.proofs.lemmas.List.Folds.{Any-from_list_any}
-use Rattle.std.specs.List.{All, find, list_any, range_with_len}
+use Rattle.std.specs.List.{All, Contains, find, list_any, range_with_len}
 use Rattle.std.specs.List.Sorted.{IsStrictlyIncreasing}
 use Rattle.std.specs.Option.{option_and_then}
 use Rattle.std.specs.Prelude.{is_some, option_map, slice_index, ◌⊎◌}
+use Rattle.metis_ids.specs.declared.goals.Goal.{Goal}
 use Rattle.metis_universe.proofs.Correctness.{all_from_has, all_has}
 use Rattle.metis_universe.proofs.Ranges.{has_range, in_range}
 use Rattle.metis_universe.proofs.Selected.{any_at}
 use Rattle.metis_universe.specs.Universe.{Universe, IsUniverse, all_pairs, has, initial_of, is_free, is_initial, next_of, no_kind, no_pair, pair_count, provides, required_of, requires, type_of}
 use Rattle.metis_universe.specs.Closed as closed
+use Rattle.metis_universe.specs.Goals.{IsGoalOf, lacks}
 use Rattle.metis_universe.specs.Layers.{is_provided, is_supplied}
-use Rattle.metis_refusal.specs.Claims.{HasFree, IsLeastUnfree, IsLeastWayOut, NamesPairsOf, IsWayOut, Tells, first_unfree, first_way_out, has_way_out, is_unfree, is_way, lacked, verdict, verdict_by, way_out}
+use Rattle.metis_refusal.specs.Claims.{HasFree, HasGoals, IsLeastUnfree, IsLeastWayOut, NamesOf, IsWayOut, Tells, first_unfree, first_way_out, has_way_out, is_unfree, is_way, lacked, verdict, verdict_by, way_out}
 use Rattle.metis_refusal.specs.declared.verdict.Verdict2.{Verdict2}
 use Rattle.metis_refusal.specs.declared.verdict.Verdict2.TheVariants.{Closed, NotFree, Open, LacksNone}
 
@@ -77,36 +79,22 @@ least_found t (x ∷ xs) p up is =
       }
     ] refl is
 
-none_passes : (t : ℕ → Bool) (xs : List ℕ) → find t xs ≡ None → (q : ℕ) → has xs q ≡ true → t q ≡ false
-none_passes t [] none q there = absurd (false≢true there)
-none_passes t (x ∷ xs) none q there =
-    elim (t x) as (λ b. t x ≡ b → cond b (Some x) (find t xs) ≡ None → t q ≡ false) [
-      | true ↦ λ _ e. absurd (none≢some (sym e))
-      | false ↦ λ fails e. elim (or_cases (nat_eq x q) (has xs q) there) [
-        | inl here ↦ ap t (sym (eqb-true x q here)) ∙ fails
-        | inr later ↦ none_passes t xs e q later
-      ]
-    ] refl none
-
-record Found (t : ℕ → Bool) (xs : List ℕ) (p : ℕ) : Type 0 where
-  there : has xs p ≡ true
-  passes : t p ≡ true
-
-found : (t : ℕ → Bool) (xs : List ℕ) (p : ℕ) → find t xs ≡ Some p → Found t xs p
-found t [] p is = absurd (none≢some is)
-found t (x ∷ xs) p is =
-    elim (t x) as (λ b. t x ≡ b → cond b (Some x) (find t xs) ≡ Some p → Found t (x ∷ xs) p) [
-      | true ↦ λ at e. let same : x ≡ p = some_same e in record { there = or_left _ _ (eq-eqb x p same); passes = ap t (sym same) ∙ at }
-      | false ↦ λ _ e. let rest = found t xs p e in record { there = or_right _ _ rest.there; passes = rest.passes }
+-- what is found passes the test, and has what all have
+found : {X : Type 0} (P : X → Type 0) (t : X → Bool) (xs : List X) (x : X) → All P xs → find t xs ≡ Some x → P x × (t x ≡ true)
+found P t [] x all is = absurd (none≢some is)
+found P t (y ∷ xs) x all is =
+    elim (t y) as (λ b. t y ≡ b → cond b (Some y) (find t xs) ≡ Some x → P x × (t x ≡ true)) [
+      | true ↦ λ at e. let same : y ≡ x = some_same e in (subst P same (All-head P y xs all), ap t (sym same) ∙ at)
+      | false ↦ λ _ e. found P t xs x (All-tail P y xs all) e
     ] refl is
 
-some_member : (t : ℕ → Bool) (xs : List ℕ) → list_any t xs ≡ true → (q : ℕ) × (has xs q ≡ true) × (t q ≡ true)
-some_member t [] h = absurd (false≢true h)
-some_member t (x ∷ xs) h =
-    elim (t x) as (λ b. t x ≡ b → (b || list_any t xs) ≡ true → (q : ℕ) × (has (x ∷ xs) q ≡ true) × (t q ≡ true)) [
-      | true ↦ λ at _. (x, or_left _ _ (eq-eqb x x refl), at)
-      | false ↦ λ _ rest. let one = some_member t xs rest in (one.0, or_right _ _ one.1, one.2)
-    ] refl h
+none_found : {X : Type 0} (t : X → Bool) (xs : List X) → find t xs ≡ None → All (λ x. t x ≡ false) xs
+none_found t [] none = All-nil (λ x. t x ≡ false)
+none_found t (x ∷ xs) none =
+    elim (t x) as (λ b. t x ≡ b → cond b (Some x) (find t xs) ≡ None → All (λ y. t y ≡ false) (x ∷ xs)) [
+      | true ↦ λ _ e. absurd (none≢some (sym e))
+      | false ↦ λ fails e. All-cons (λ y. t y ≡ false) x xs fails (none_found t xs e)
+    ] refl none
 
 all_at : (P : ℕ → Type 0) (q : ℕ) (xs : List ℕ) → All P xs → has xs q ≡ true → P q
 all_at P q [] all h = absurd (false≢true h)
@@ -115,6 +103,17 @@ all_at P q (x ∷ xs) all h =
       | inl now ↦ subst P (eqb-true x q now) (All-head P x xs all)
       | inr later ↦ all_at P q xs (All-tail P x xs all) later
     ]
+
+none_passes : (t : ℕ → Bool) (xs : List ℕ) → find t xs ≡ None → (q : ℕ) → has xs q ≡ true → t q ≡ false
+none_passes t xs none q there = all_at (λ x. t x ≡ false) q xs (none_found t xs none) there
+
+some_member : (t : ℕ → Bool) (xs : List ℕ) → list_any t xs ≡ true → (q : ℕ) × (has xs q ≡ true) × (t q ≡ true)
+some_member t [] h = absurd (false≢true h)
+some_member t (x ∷ xs) h =
+    elim (t x) as (λ b. t x ≡ b → (b || list_any t xs) ≡ true → (q : ℕ) × (has (x ∷ xs) q ≡ true) × (t q ≡ true)) [
+      | true ↦ λ at _. (x, or_left _ _ (eq-eqb x x refl), at)
+      | false ↦ λ _ rest. let one = some_member t xs rest in (one.0, or_right _ _ one.1, one.2)
+    ] refl h
 
 -- ---- pairs of a universe
 
@@ -190,7 +189,7 @@ module _ (u : Universe) (k : IsUniverse u) where
     no_ways none p q way = by (find (has_way_out u s) s) refl none where
       by : (o : Option ℕ) → find (has_way_out u s) s ≡ o → way_of o ≡ None → ⊥
       by None is e = both_ways _ (none_passes (has_way_out u s) s is p way.inside) (leaves p q way)
-      by (Some x) is e = at (way_out u s x) (found (has_way_out u s) s x is).passes e where
+      by (Some x) is e = at (way_out u s x) (found (Contains s) (has_way_out u s) s x (All-contains_itself s) is).1 e where
         at : (o : Option ℕ) → is_some o ≡ true → way_from_to x o ≡ None → ⊥
         at None some e = false≢true some
         at (Some y) some e = none≢some (sym e)
@@ -225,14 +224,14 @@ module _ (u : Universe) (k : IsUniverse u) where
 
     -- ---- the verdict
 
-    module _ (g : List ℕ) where
-      pub told : Rises s → Tells u s g (verdict u s g)
-      told up = by (first_unfree u s) (first_way_out u s) (lacked s g) refl refl refl where
-        by : (a : Option ℕ) (w : Option (ℕ × ℕ)) (t : Option ℕ) → first_unfree u s ≡ a → first_way_out u s ≡ w → lacked s g ≡ t → Tells u s g (verdict_by a w t)
+    module _ (goals : List Goal) where
+      pub told : Rises s → Tells u s goals (verdict u s goals)
+      told up = by (first_unfree u s) (first_way_out u s) (lacked u s goals) refl refl refl where
+        by : (a : Option ℕ) (w : Option (ℕ × ℕ)) (t : Option Goal) → first_unfree u s ≡ a → first_way_out u s ≡ w → lacked u s goals ≡ t → Tells u s goals (verdict_by a w t)
         by (Some p) w t a b c = least_unfree p a
         by None (Some w) t a b c = (has_free a, least_way up w b)
-        by None None (Some p) a b c = (is_closed (has_free a) (no_ways b), c)
-        by None None None a b c = (is_closed (has_free a) (no_ways b), λ p there. not-false _ (none_passes (λ x. not (has s x)) g c p there))
+        by None None (Some g) a b c = (is_closed (has_free a) (no_ways b), c)
+        by None None None a b c = (is_closed (has_free a) (no_ways b), none_found (lacks u s) goals c)
 
       unfree_not : (p : ℕ) → IsLeastUnfree u s p → HasFree u s → ⊥
       unfree_not p least free = both_ways _ least.away (free p least.free)
@@ -240,8 +239,8 @@ module _ (u : Universe) (k : IsUniverse u) where
       way_not : (p q : ℕ) → IsLeastWayOut u s p q → closed.Closed u s → ⊥
       way_not p q least closed = both_ways _ least.way.outside (closed.moves p q least.way.inside least.way.leads least.way.supplied)
 
-      lack_not : (p : ℕ) → lacked s g ≡ Some p → ((q : ℕ) → has g q ≡ true → has s q ≡ true) → ⊥
-      lack_not p is all = let one = found (λ x. not (has s x)) g p is in both_ways _ (not-true _ one.passes) (all p one.there)
+      lack_not : (g : Goal) → lacked u s goals ≡ Some g → HasGoals u s goals → ⊥
+      lack_not g is all = let one = found (λ h. lacks u s h ≡ false) (lacks u s) goals g all is in both_ways _ one.0 one.1
 
       same_way : (p q x y : ℕ) → IsLeastWayOut u s p q → IsLeastWayOut u s x y → (p ≡ x) × (q ≡ y)
       same_way p q x y a b = by (a.least x y b.way) (b.least p q a.way) where
@@ -252,7 +251,7 @@ module _ (u : Universe) (k : IsUniverse u) where
         by (inr one) (inr two) = (one.0, omega (arith, one.1, two.1))
 
       -- only one verdict is true
-      pub unique : (v w : Verdict2) → Tells u s g v → Tells u s g w → v ≡ w
+      pub unique : (v w : Verdict2) → Tells u s goals v → Tells u s goals w → v ≡ w
       unique (NotFree p) (NotFree q) a b = let same : p ≡ q = omega (arith, a.least q b.free b.away, b.least p a.free a.away) in ap NotFree same
       unique (NotFree p) (Open x y) a b = absurd (unfree_not p a b.0)
       unique (NotFree p) LacksNone a b = absurd (unfree_not p a b.0.free)
@@ -270,8 +269,8 @@ module _ (u : Universe) (k : IsUniverse u) where
       unique (Closed p) LacksNone a b = absurd (lack_not p a.1 b.1)
       unique (Closed p) (Closed x) a b = ap Closed (some_same (sym a.1 ∙ b.1))
 
-      pub told_of : All (λ p. p < pair_count u) s → All (λ p. p < pair_count u) g → (v : Verdict2) → Tells u s g v → NamesPairsOf u v
-      told_of s_low g_low (NotFree p) t = initial_low p (and_parts _ _ t.free).0
-      told_of s_low g_low (Open p q) t = let low = all_at (λ x. x < pair_count u) p s s_low t.1.way.inside in (low, next_low p q low t.1.way.leads)
-      told_of s_low g_low LacksNone t = tt
-      told_of s_low g_low (Closed p) t = all_at (λ x. x < pair_count u) p g g_low (found (λ x. not (has s x)) g p t.1).there
+      pub told_of : All (λ p. p < pair_count u) s → All (IsGoalOf u) goals → (v : Verdict2) → Tells u s goals v → NamesOf u v
+      told_of s_low of (NotFree p) t = initial_low p (and_parts _ _ t.free).0
+      told_of s_low of (Open p q) t = let low = all_at (λ x. x < pair_count u) p s s_low t.1.way.inside in (low, next_low p q low t.1.way.leads)
+      told_of s_low of LacksNone t = tt
+      told_of s_low of (Closed g) t = (found (IsGoalOf u) (lacks u s) goals g of t.1).0

@@ -1,17 +1,20 @@
--- What a claim comes to that the set s of pairs is closed and lacks a target.
+-- What a claim comes to that the set s of pairs is closed and lacks a goal.
 --     first_unfree u s      the least free pair that is not in s
 --     way_out u s p      the first pair outside s to which p leads and which is supplied
 --     first_way_out u s      the first pair of s with a way out, and its way out
---     lacked s g      the first target that is not in s
---     verdict u s g      the first of these that there is
+--     lacked u s goals      the first of the goals that s lacks
+--     verdict u s goals      the first of these that there is
 --     IsLeastUnfree, IsWayOut, IsLeastWayOut      what these pairs are, without a search
---     Tells u s g v      what v says of s and the targets
---     NamesPairsOf u v      the pairs of v are the universe's
+--     HasFree u s, HasGoals u s goals      s has each free pair;  s lacks none of the goals
+--     Tells u s goals v      what v says of s and the goals
+--     NamesOf u v      the pairs of v, or its goal, are the universe's
 use Rattle.std.specs.Prelude.{◌≡◌, ◌<◌, ◌≤◌, ◌⊎◌, ℕ, Bool, not, ◌&&◌, List, Option, Some, None, option_map, is_some, IsTrue, IsFalse, ⊤}
-use Rattle.std.specs.List.{list_any, list_all, find}
+use Rattle.std.specs.List.{All, find}
 use Rattle.std.specs.Option.{option_and_then}
-use Rattle.metis_universe.specs.Universe.{Universe, all_pairs, has, is_free, next_of, pair_count, provides, required_of, requires}
+use Rattle.metis_ids.specs.declared.goals.Goal.{Goal}
+use Rattle.metis_universe.specs.Universe.{Universe, all_pairs, has, is_free, next_of, pair_count, requires}
 use Rattle.metis_universe.specs.Closed as closed
+use Rattle.metis_universe.specs.Goals.{GoalRefusal, IsGoalOf, lacks}
 use Rattle.metis_universe.specs.Layers.{is_supplied}
 use Rattle.metis_refusal.specs.declared.verdict.Verdict2.{Verdict2}
 use Rattle.metis_refusal.specs.declared.verdict.Verdict2.TheVariants.{Closed, NotFree, Open, LacksNone}
@@ -38,17 +41,17 @@ has_way_out u s p = is_some (way_out u s p)
 abbrev pub first_way_out : Universe → List ℕ → Option (ℕ × ℕ)
 first_way_out u s = option_and_then (λ p. option_map (λ q. (p, q)) (way_out u s p)) (find (has_way_out u s) s)
 
-abbrev pub lacked : List ℕ → List ℕ → Option ℕ
-lacked s g = find (λ p. not (has s p)) g
+abbrev pub lacked : Universe → List ℕ → List Goal → Option Goal
+lacked u s goals = find (lacks u s) goals
 
-abbrev pub verdict_by : Option ℕ → Option (ℕ × ℕ) → Option ℕ → Verdict2
-verdict_by (Some p) way target = NotFree p
-verdict_by None (Some way) target = Open way.0 way.1
-verdict_by None None (Some p) = Closed p
+abbrev pub verdict_by : Option ℕ → Option (ℕ × ℕ) → Option Goal → Verdict2
+verdict_by (Some p) way goal = NotFree p
+verdict_by None (Some way) goal = Open way.0 way.1
+verdict_by None None (Some g) = Closed g
 verdict_by None None None = LacksNone
 
-abbrev pub verdict : Universe → List ℕ → List ℕ → Verdict2
-verdict u s g = verdict_by (first_unfree u s) (first_way_out u s) (lacked s g)
+abbrev pub verdict : Universe → List ℕ → List Goal → Verdict2
+verdict u s goals = verdict_by (first_unfree u s) (first_way_out u s) (lacked u s goals)
 
 -- ---- what it says
 
@@ -74,18 +77,18 @@ pub record IsLeastWayOut (u : Universe) (s : List ℕ) (p q : ℕ) : Type 0 wher
 abbrev pub HasFree : Universe → List ℕ → Type 0
 HasFree u s = (p : ℕ) → IsTrue (is_free u p) → IsTrue (has s p)
 
--- each target is in s
-abbrev pub HasTargets : List ℕ → List ℕ → Type 0
-HasTargets s g = (p : ℕ) → IsTrue (has g p) → IsTrue (has s p)
+-- none of the goals is lacking: each pair of them is in s, and each port is provided by a pair of s
+abbrev pub HasGoals : Universe → List ℕ → List Goal → Type 0
+HasGoals u s goals = All (λ g. IsFalse (lacks u s g)) goals
 
-abbrev pub Tells : Universe → List ℕ → List ℕ → Verdict2 → Type 0
-Tells u s g (Closed p) = closed.Refusal u g s p
-Tells u s g (NotFree p) = IsLeastUnfree u s p
-Tells u s g (Open p q) = HasFree u s × IsLeastWayOut u s p q
-Tells u s g LacksNone = closed.Closed u s × HasTargets s g
+abbrev pub Tells : Universe → List ℕ → List Goal → Verdict2 → Type 0
+Tells u s goals (Closed g) = GoalRefusal u goals s g
+Tells u s goals (NotFree p) = IsLeastUnfree u s p
+Tells u s goals (Open p q) = HasFree u s × IsLeastWayOut u s p q
+Tells u s goals LacksNone = closed.Closed u s × HasGoals u s goals
 
-abbrev pub NamesPairsOf : Universe → Verdict2 → Type 0
-NamesPairsOf u (Closed p) = p < pair_count u
-NamesPairsOf u (NotFree p) = p < pair_count u
-NamesPairsOf u (Open p q) = (p < pair_count u) × (q < pair_count u)
-NamesPairsOf u LacksNone = ⊤
+abbrev pub NamesOf : Universe → Verdict2 → Type 0
+NamesOf u (Closed g) = IsGoalOf u g
+NamesOf u (NotFree p) = p < pair_count u
+NamesOf u (Open p q) = (p < pair_count u) × (q < pair_count u)
+NamesOf u LacksNone = ⊤

@@ -1,31 +1,31 @@
 //! Whether a set of pairs is closed, and what it lacks.
-ghost use Rattle.std.specs.Prelude.{◌≡◌, ◌<◌, ◌↔◌, ◌&&◌, ℕ, not};
+ghost use Rattle.std.specs.Prelude.{◌≡◌, ◌<◌, ◌↔◌, ◌&&◌, not};
 ghost use Rattle.std.specs.List.{All};
-ghost use Rattle.metis_universe.specs.Closed.{Refusal};
-ghost use Rattle.metis_universe.specs.Goal.{Attains};
+ghost use Rattle.metis_ids.specs.declared.goals.Goal.{Goal};
+ghost use Rattle.metis_universe.specs.Goals.{AttainsGoals, GoalRefusal, IsGoalOf, lacks};
 ghost use Rattle.metis_universe.specs.Universe.{has, is_free, pair_count};
-ghost use Rattle.metis_refusal.specs.Claims.{NamesPairsOf, Tells, is_unfree, first_unfree, first_way_out, lacked, verdict, way_out};
-ghost use Rattle.metis_refusal.specs.Supplies.{AreSupplied, flag};
+ghost use Rattle.metis_refusal.specs.Claims.{NamesOf, Tells, is_unfree, first_unfree, first_way_out, lacked, verdict, way_out};
+ghost use Rattle.metis_refusal.specs.Supplies.{AreProvided, AreSupplied, flag};
 
 use crate::Verdict2;
-use crate::supply::{PAIR_LIMIT, supplied_by};
-use metis_ids::{PairIx, PairSet};
+use crate::supply::{PAIR_LIMIT, PORT_LIMIT, provided_by, supplied_by};
+use metis_ids::{Goal, PairIx, PairSet};
 use metis_universe::Universe;
 
-/// Whether the set is closed, and which target it lacks. It takes no memory, and goes once over the pairs, over the ports that
-/// pairs require and provide, over the transitions and over the targets.
-pub fn check_closed(u: &Universe, set: &PairSet, targets: &[PairIx]) -> Verdict2
+/// Whether the set is closed, and which goal it lacks. It takes no memory, and goes once over the pairs, over the ports that
+/// pairs require and provide, over the transitions and over the goals.
+pub fn check_closed(u: &Universe, set: &PairSet, targets: &[Goal]) -> Verdict2
     requires size { set.now.size ≡ pair_count u.now }
-    requires targets { All (λ p. p < pair_count u.now) targets.now }
+    requires targets { All (IsGoalOf u.now) targets.now }
     ensures verdict { result ≡ verdict u.now set.now.members targets.now }
 
-    // It is the verdict that is true of the set and the targets.
+    // It is the verdict that is true of the set and the goals.
     ensures exactly { (v : Verdict2) → (result ≡ v) ↔ Tells u.now set.now.members targets.now v }
 
-    // So `Closed` comes where the pair is what refuses the targets, and then no list of actions attains them.
-    ensures closed { (p : ℕ) → (result ≡ Verdict2.Closed p) ↔ Refusal u.now targets.now set.now.members p }
-    ensures unattained { (p : ℕ) → result ≡ Verdict2.Closed p → Attains u.now targets.now → ⊥ }
-    ensures pairs { NamesPairsOf u.now result }
+    // So `Closed` comes where the set refuses the goals by this one, and then no list of actions attains them.
+    ensures closed { (g : Goal) → (result ≡ Verdict2.Closed g) ↔ GoalRefusal u.now targets.now set.now.members g }
+    ensures unattained { (g : Goal) → result ≡ Verdict2.Closed g → AttainsGoals u.now targets.now → ⊥ }
+    ensures names { NamesOf u.now result }
 {
     u.keeps_invariant();
     set.keeps_invariant();
@@ -33,18 +33,20 @@ pub fn check_closed(u: &Universe, set: &PairSet, targets: &[PairIx]) -> Verdict2
 }
 
 // The first of what the claim may come to.
-fn judged(u: &Universe, set: &PairSet, targets: &[PairIx]) -> Verdict2
+fn judged(u: &Universe, set: &PairSet, goals: &[Goal]) -> Verdict2
     requires size { set.now.size ≡ pair_count u.now }
-    ensures { result ≡ verdict u.now set.now.members targets.now }
+    requires goals { All (IsGoalOf u.now) goals.now }
+    ensures { result ≡ verdict u.now set.now.members goals.now }
 {
     if let Some(pair) = first_unfree(u, set) {
         return Verdict2::NotFree(pair);
     }
-    if let Some((from, to)) = first_way_out(u, set) {
+    let provided = provided_by(u, set);
+    if let Some((from, to)) = first_way_out(u, set, &provided) {
         return Verdict2::Open(from, to);
     }
-    match lacked(set, targets) {
-        Some(target) => Verdict2::Closed(target),
+    match lacked(u, set, &provided, goals) {
+        Some(goal) => Verdict2::Closed(goal),
         None => Verdict2::LacksNone,
     }
 }
@@ -79,11 +81,16 @@ fn is_free(u: &Universe, pair: PairIx) -> bool
 }
 
 // The least pair of the set from which a move leads out of it, and the least to which one leads.
-fn first_way_out(u: &Universe, set: &PairSet) -> Option<(PairIx, PairIx)>
-    requires { set.now.size ≡ pair_count u.now }
+fn first_way_out(
+    u: &Universe,
+    set: &PairSet,
+    provided: &[bool; PORT_LIMIT],
+) -> Option<(PairIx, PairIx)>
+    requires size { set.now.size ≡ pair_count u.now }
+    requires provided { AreProvided u.now set.now.members provided.now }
     ensures { result ≡ first_way_out u.now set.now.members }
 {
-    let supplied = supplied_by(u, set);
+    let supplied = supplied_by(u, provided);
     for from in set.iter() {
         if let Some(to) = way_out(u, set, &supplied, from) {
             return Some((from, to));
@@ -120,9 +127,34 @@ fn is_way(set: &PairSet, supplied: &[bool; PAIR_LIMIT], to: PairIx) -> bool
     !set.has(to) && supplied[to.0 as usize]
 }
 
-// The first target that is not in the set.
-fn lacked(set: &PairSet, targets: &[PairIx]) -> Option<PairIx>
-    ensures { result ≡ lacked set.now.members targets.now }
+// The first goal that the set lacks.
+fn lacked(
+    u: &Universe,
+    set: &PairSet,
+    provided: &[bool; PORT_LIMIT],
+    goals: &[Goal],
+) -> Option<Goal>
+    requires provided { AreProvided u.now set.now.members provided.now }
+    requires goals { All (IsGoalOf u.now) goals.now }
+    ensures { result ≡ lacked u.now set.now.members goals.now }
 {
-    targets.iter().copied().find(|p| !set.has(*p))
+    for goal in goals {
+        if lacks(u, set, provided, *goal) {
+            return Some(*goal);
+        }
+    }
+    None
+}
+
+// Whether the pair is not in the set, or no pair of the set provides the port.
+fn lacks(u: &Universe, set: &PairSet, provided: &[bool; PORT_LIMIT], goal: Goal) -> bool
+    requires provided { AreProvided u.now set.now.members provided.now }
+    requires goal { IsGoalOf u.now goal }
+    ensures { result ≡ lacks u.now set.now.members goal }
+{
+    u.keeps_invariant();
+    match goal {
+        Goal::Pair(pair) => !set.has(pair),
+        Goal::Port(port) => !provided[port.0 as usize],
+    }
 }

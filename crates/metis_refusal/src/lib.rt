@@ -1,4 +1,4 @@
-//! Checks a set of pairs that is claimed to be closed and to lack a target.
+//! Checks a set of pairs that is claimed to be closed and to lack a goal.
 #![tactic(auto)]
 
 mod check;

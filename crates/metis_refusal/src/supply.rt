@@ -1,5 +1,5 @@
 //! Which ports the pairs of a set provide, and which pairs need no others.
-ghost use Rattle.std.specs.Prelude.{◌≡◌, ◌<◌, ◌||◌, ℕ};
+ghost use Rattle.std.specs.Prelude.{◌≡◌, ◌<◌, ◌||◌, ℕ, List};
 ghost use Rattle.std.specs.List.{All, list_all};
 ghost use Rattle.metis_universe.specs.Universe.{has, pair_count};
 ghost use Rattle.metis_refusal.specs.Supplies.{flag, AreProvided, AreSupplied};
@@ -11,24 +11,23 @@ use metis_universe::Universe;
 pub const PAIR_LIMIT: usize = 2000;
 
 /// No universe has more ports.
-const PORT_LIMIT: usize = 4000;
+pub const PORT_LIMIT: usize = 4000;
 
-/// The pairs whose required ports are all provided by pairs of the set.
-pub fn supplied_by(u: &Universe, set: &PairSet) -> [bool; PAIR_LIMIT]
-    requires { set.now.size ≡ pair_count u.now }
-    ensures { AreSupplied u.now set.now.members result }
+/// The pairs whose required ports all have their flags set. Where these are the ports that pairs of a set provide, they are the
+/// pairs that the set supplies.
+pub fn supplied_by(u: &Universe, provided: &[bool; PORT_LIMIT]) -> [bool; PAIR_LIMIT]
+    ensures { (s : List ℕ) → AreProvided u.now s provided.now → AreSupplied u.now s result }
 {
     u.keeps_invariant();
-    let provided = provided_by(u, set);
     let mut supplied = [false; PAIR_LIMIT];
     for number in 0..u.pairs() {
-        supplied[number as usize] = are_set(&provided, u.requires_(PairIx(number)));
+        supplied[number as usize] = are_set(provided, u.requires_(PairIx(number)));
     }
     supplied
 }
 
-// The ports that pairs of the set provide.
-fn provided_by(u: &Universe, set: &PairSet) -> [bool; PORT_LIMIT]
+/// The ports that pairs of the set provide.
+pub fn provided_by(u: &Universe, set: &PairSet) -> [bool; PORT_LIMIT]
     requires { set.now.size ≡ pair_count u.now }
     ensures { AreProvided u.now set.now.members result }
 {

@@ -1,75 +1,71 @@
--- The first target of which there are fewer instances than places.
-use Rattle.std.proofs.Common.{◌≡◌, ℕ, ◌+◌, ◌<◌, ◌≤◌, Bool, true, false, cond, ◌||◌, List, [], ◌∷◌, ◌++◌, nat_eq, nat_lt, Option, Some, None, refl, ap, sym, ◌∙◌, subst, inl, inr, arith}
-use Rattle.std.proofs.lemmas.Bool.{false≢true, eqb-true, eq-eqb, or_left, or_right, or_cases}
+-- The first goal that fewer instances serve than it has places.
+use Rattle.std.proofs.Common.{◌≡◌, ℕ, ◌+◌, ◌<◌, ◌≤◌, Bool, true, false, cond, List, [], ◌∷◌, ◌++◌, nat_lt, Option, Some, None, refl, ap, sym, ◌∙◌, subst, inl, inr, arith}
 use Rattle.std.proofs.lemmas.Bool.Decides.{nat_tests}
-use Rattle.std.proofs.lemmas.List.Sums.{sum_by-cons}
-use Rattle.std.proofs.lemmas.List.Elements.{All-tail}
-use Rattle.std.specs.List.{All, find}
-use Rattle.std.specs.Prelude.{option_map}
+use Rattle.std.proofs.lemmas.List.Elements.{All-cons, All-contains, All-contains_itself, All-head, All-nil, All-tail, All-weaker}
+use Rattle.std.specs.List.{All, Contains, find}
+use Rattle.std.specs.Prelude.{option_map, ◌⊎◌}
+use Rattle.metis_ids.specs.declared.goals.Goal.{Goal}
+use Rattle.metis_universe.proofs.Served.{count-cons, same_is}
 use Rattle.metis_universe.specs.Config.{Config}
-use Rattle.metis_universe.specs.Goal.{Holds, holding}
-use Rattle.metis_universe.specs.Universe.{has}
+use Rattle.metis_universe.specs.Goals.{HoldsGoals, places_of, same_goal, serving}
+use Rattle.metis_universe.specs.Universe.{Universe}
 use Rattle.metis_replay.specs.Exact.{IsFirstMissing}
-use Rattle.metis_replay.specs.Progress.{first_short, places, shortage}
+use Rattle.metis_replay.specs.Progress.{first_short, shortage}
 
 -- ---- searches
 
-none_found : (t : ℕ → Bool) (xs : List ℕ) → ((x : ℕ) → t x ≡ false) → find t xs ≡ None
+none_found : (t : Goal → Bool) (xs : List Goal) → ((x : Goal) → t x ≡ false) → find t xs ≡ None
 none_found t [] fails = refl
 none_found t (x ∷ xs) fails = ap (λ b. cond b (Some x) (find t xs)) (fails x) ∙ none_found t xs fails
 
-first_found : (t : ℕ → Bool) (before : List ℕ) (p : ℕ) (later : List ℕ) → ((q : ℕ) → has before q ≡ true → t q ≡ false) → t p ≡ true → find t (before ++ p ∷ later) ≡ Some p
-first_found t [] p later fails passes = ap (λ b. cond b (Some p) (find t later)) passes
-first_found t (x ∷ before) p later fails passes =
-    ap (λ b. cond b (Some x) (find t (before ++ p ∷ later))) (fails x (or_left (nat_eq x x) (has before x) (eq-eqb x x refl)))
-    ∙ first_found t before p later (λ q there. fails q (or_right (nat_eq x q) (has before q) there)) passes
+first_found : (t : Goal → Bool) (before : List Goal) (g : Goal) (later : List Goal) → All (λ h. t h ≡ false) before → t g ≡ true → find t (before ++ g ∷ later) ≡ Some g
+first_found t [] g later fails passes = ap (λ b. cond b (Some g) (find t later)) passes
+first_found t (x ∷ before) g later fails passes =
+    ap (λ b. cond b (Some x) (find t (before ++ g ∷ later))) (All-head (λ h. t h ≡ false) x before fails)
+    ∙ first_found t before g later (All-tail (λ h. t h ≡ false) x before fails) passes
 
-record Found (t : ℕ → Bool) (xs : List ℕ) (p : ℕ) : Type 0 where
-  before : List ℕ
-  later : List ℕ
-  parts : xs ≡ before ++ p ∷ later
-  fails : (q : ℕ) → has before q ≡ true → t q ≡ false
-  passes : t p ≡ true
+record Found (t : Goal → Bool) (xs : List Goal) (g : Goal) : Type 0 where
+  before : List Goal
+  later : List Goal
+  parts : xs ≡ before ++ g ∷ later
+  fails : All (λ h. t h ≡ false) before
+  passes : t g ≡ true
 
-found_at : (t : ℕ → Bool) (xs : List ℕ) (p : ℕ) → find t xs ≡ Some p → Found t xs p
-found_at t [] p is = cc
-found_at t (x ∷ xs) p is =
-    elim (t x) as (λ b. t x ≡ b → cond b (Some x) (find t xs) ≡ Some p → Found t (x ∷ xs) p) [
-      | true ↦ λ passes e. let same : x ≡ p = cc in record { before = []; later = xs; parts = ap (λ y. y ∷ xs) same; fails = λ q there. absurd (false≢true there); passes = subst (λ y. t y ≡ true) same passes }
-      | false ↦ λ not_it e. let rest = found_at t xs p e in record {
+found_at : (t : Goal → Bool) (xs : List Goal) (g : Goal) → find t xs ≡ Some g → Found t xs g
+found_at t [] g is = cc
+found_at t (x ∷ xs) g is =
+    elim (t x) as (λ b. t x ≡ b → cond b (Some x) (find t xs) ≡ Some g → Found t (x ∷ xs) g) [
+      | true ↦ λ passes e. let same : x ≡ g = cc in record { before = []; later = xs; parts = ap (λ y. y ∷ xs) same; fails = All-nil (λ h. t h ≡ false); passes = subst (λ y. t y ≡ true) same passes }
+      | false ↦ λ not_it e. let rest = found_at t xs g e in record {
         before = x ∷ rest.before;
         later = rest.later;
         parts = ap (λ l. x ∷ l) rest.parts;
-        fails = λ q there. elim (or_cases (nat_eq x q) (has rest.before q) there) [
-          | inl same ↦ subst (λ y. t y ≡ false) (eqb-true x q same) not_it
-          | inr further ↦ rest.fails q further
-        ];
+        fails = All-cons (λ h. t h ≡ false) x rest.before not_it rest.fails;
         passes = rest.passes;
       }
     ] refl is
 
-all_fail : (t : ℕ → Bool) (xs : List ℕ) → find t xs ≡ None → (q : ℕ) → has xs q ≡ true → t q ≡ false
-all_fail t [] none q there = absurd (false≢true there)
-all_fail t (x ∷ xs) none q there =
-    elim (t x) as (λ b. t x ≡ b → cond b (Some x) (find t xs) ≡ None → t q ≡ false) [
+all_fail : (t : Goal → Bool) (xs : List Goal) → find t xs ≡ None → All (λ h. t h ≡ false) xs
+all_fail t [] none = All-nil (λ h. t h ≡ false)
+all_fail t (x ∷ xs) none =
+    elim (t x) as (λ b. t x ≡ b → cond b (Some x) (find t xs) ≡ None → All (λ h. t h ≡ false) (x ∷ xs)) [
       | true ↦ λ _ e. cc
-      | false ↦ λ not_it e. elim (or_cases (nat_eq x q) (has xs q) there) [
-        | inl same ↦ subst (λ y. t y ≡ false) (eqb-true x q same) not_it
-        | inr further ↦ all_fail t xs e q further
-      ]
+      | false ↦ λ not_it e. All-cons (λ h. t h ≡ false) x xs not_it (all_fail t xs e)
     ] refl none
 
 -- ---- places
 
--- a pair that is not in the list has no place in it
-no_place : (xs : List ℕ) (p : ℕ) → has xs p ≡ false → places xs p ≡ 0
-no_place [] p away = refl
-no_place (x ∷ xs) p away =
-    sum_by-cons (λ (q : ℕ). cond (nat_eq q p) 1 0) x xs
-    ∙ elim (nat_eq x p) as (λ b. (b || has xs p) ≡ false → cond b 1 0 + places xs p ≡ 0) [
-      | true ↦ λ e. cc
-      | false ↦ λ e. let rest = no_place xs p e in omega (arith, rest)
-    ] away
+-- a goal has no place in the list, or what all goals of the list have
+placed : (P : Goal → Type 0) (goals : List Goal) (g : Goal) → All P goals → (places_of goals g ≡ 0) ⊎ P g
+placed P [] g all = inl refl
+placed P (x ∷ goals) g all =
+    elim (same_goal x g) as (λ b. same_goal x g ≡ b → (places_of (x ∷ goals) g ≡ 0) ⊎ P g) [
+      | true ↦ λ same. inr (subst P (same_is x g same) (All-head P x goals all))
+      | false ↦ λ other. elim (placed P goals g (All-tail P x goals all)) [
+        | inl none ↦ let step = count-cons (λ h. same_goal h g) x goals ∙ ap (λ b. cond b 1 0 + places_of goals g) other in inl (omega (arith, step, none))
+        | inr has ↦ inr has
+      ]
+    ] refl
 
 few : (k n : ℕ) → n ≤ k → nat_lt k n ≡ false
 few k n h = grind (arith, nat_tests)
@@ -83,65 +79,65 @@ many k n h = grind (arith, nat_tests)
 fewer : (k n : ℕ) → nat_lt k n ≡ true → k < n
 fewer k n h = grind (arith, nat_tests)
 
-module _ (c : Config) (g : List ℕ) where
-  abbrev is_short : ℕ → Bool
-  is_short p = nat_lt (holding c p) (places g p)
+module _ (u : Universe) (c : Config) (goals : List Goal) where
+  abbrev is_short : Goal → Bool
+  is_short g = nat_lt (serving u c g) (places_of goals g)
 
-  abbrev counted : ℕ → ℕ × ℕ × ℕ
-  counted p = (p, holding c p, places g p)
+  abbrev is_enough : Goal → Type 0
+  is_enough g = places_of goals g ≤ serving u c g
 
-  pub holds_none : Holds c g → shortage c g ≡ None
-  holds_none holds = ap (option_map counted) (none_found is_short g (λ p. few (holding c p) (places g p) (holds p)))
+  abbrev counted : Goal → Goal × ℕ × ℕ
+  counted g = (g, serving u c g, places_of goals g)
 
-  no_short_holds : first_short c g ≡ None → Holds c g
-  no_short_holds none p = elim (has g p) as (λ b. has g p ≡ b → places g p ≤ holding c p) [
-    | true ↦ λ there. enough (holding c p) (places g p) (all_fail is_short g none p there)
-    | false ↦ λ away. let zero = no_place g p away in omega (arith, zero)
-  ] refl
+  pub holds_none : HoldsGoals u c goals → shortage u c goals ≡ None
+  holds_none holds = ap (option_map counted) (none_found is_short goals (λ g. few (serving u c g) (places_of goals g) (holds g)))
 
-  pub none_holds : shortage c g ≡ None → Holds c g
-  none_holds none = by (first_short c g) refl none where
-    by : (o : Option ℕ) → first_short c g ≡ o → option_map counted o ≡ None → Holds c g
+  all_enough : (xs : List Goal) → All (λ h. is_short h ≡ false) xs → All is_enough xs
+  all_enough xs = All-weaker (λ h. is_short h ≡ false) is_enough (λ h. enough (serving u c h) (places_of goals h)) xs
+
+  no_short_holds : first_short u c goals ≡ None → HoldsGoals u c goals
+  no_short_holds none g = elim (placed is_enough goals g (all_enough goals (all_fail is_short goals none))) [
+    | inl away ↦ omega (arith, away)
+    | inr held ↦ held
+  ]
+
+  pub none_holds : shortage u c goals ≡ None → HoldsGoals u c goals
+  none_holds none = by (first_short u c goals) refl none where
+    by : (o : Option Goal) → first_short u c goals ≡ o → option_map counted o ≡ None → HoldsGoals u c goals
     by None is e = no_short_holds is
-    by (Some p) is e = cc
+    by (Some g) is e = cc
 
-  first_is : (p have want : ℕ) → IsFirstMissing c g p have want → first_short c g ≡ Some p
-  first_is p have want m =
+  first_is : (g : Goal) (have want : ℕ) → IsFirstMissing u c goals g have want → first_short u c goals ≡ Some g
+  first_is g have want m =
+      let before_fail = All-weaker (Contains m.before) (λ h. is_short h ≡ false) (λ h there. few (serving u c h) (places_of goals h) (m.enough h there)) m.before (All-contains_itself m.before) in
       ap (find is_short) m.parts
-      ∙ first_found is_short m.before p m.later (λ q there. few (holding c q) (places g q) (m.enough q there)) (many (holding c p) (places g p) (omega (arith, m.fewer, m.have_is, m.want_is)))
+      ∙ first_found is_short m.before g m.later before_fail (many (serving u c g) (places_of goals g) (omega (arith, m.fewer, m.have_is, m.want_is)))
 
-  pub missing_short : (p have want : ℕ) → IsFirstMissing c g p have want → shortage c g ≡ Some (p, have, want)
-  missing_short p have want m = ap (option_map counted) (first_is p have want m) ∙ ap (λ n. Some (p, n, places g p)) (sym m.have_is) ∙ ap (λ n. Some (p, have, n)) (sym m.want_is)
+  pub missing_short : (g : Goal) (have want : ℕ) → IsFirstMissing u c goals g have want → shortage u c goals ≡ Some (g, have, want)
+  missing_short g have want m = ap (option_map counted) (first_is g have want m) ∙ ap (λ n. Some (g, n, places_of goals g)) (sym m.have_is) ∙ ap (λ n. Some (g, have, n)) (sym m.want_is)
 
-  first_missing : (p : ℕ) → first_short c g ≡ Some p → IsFirstMissing c g p (holding c p) (places g p)
-  first_missing p is = let f = found_at is_short g p is in record {
+  first_missing : (g : Goal) → first_short u c goals ≡ Some g → IsFirstMissing u c goals g (serving u c g) (places_of goals g)
+  first_missing g is = let f = found_at is_short goals g is in record {
     before = f.before;
     later = f.later;
     parts = f.parts;
-    enough = λ q there. enough (holding c q) (places g q) (f.fails q there);
+    enough = λ h there. All-contains is_enough f.before h (all_enough f.before f.fails) there;
     have_is = refl;
     want_is = refl;
-    fewer = fewer (holding c p) (places g p) f.passes;
+    fewer = fewer (serving u c g) (places_of goals g) f.passes;
   }
 
-  pub short_missing : (s : ℕ × ℕ × ℕ) → shortage c g ≡ Some s → IsFirstMissing c g s.0 s.1 s.2
-  short_missing s found = by (first_short c g) refl found where
-    by : (o : Option ℕ) → first_short c g ≡ o → option_map counted o ≡ Some s → IsFirstMissing c g s.0 s.1 s.2
+  pub short_missing : (s : Goal × ℕ × ℕ) → shortage u c goals ≡ Some s → IsFirstMissing u c goals s.0 s.1 s.2
+  short_missing s found = by (first_short u c goals) refl found where
+    by : (o : Option Goal) → first_short u c goals ≡ o → option_map counted o ≡ Some s → IsFirstMissing u c goals s.0 s.1 s.2
     by None is e = cc
-    by (Some p) is e = let same : counted p ≡ s = cc in subst (λ s. IsFirstMissing c g s.0 s.1 s.2) same (first_missing p is)
+    by (Some g) is e = let same : counted g ≡ s = cc in subst (λ s. IsFirstMissing u c goals s.0 s.1 s.2) same (first_missing g is)
 
--- what all numbers of a list have, the one that is found has
-found_among : (P : ℕ → Type 0) (t : ℕ → Bool) (xs : List ℕ) (p : ℕ) → All P xs → find t xs ≡ Some p → P p
-found_among P t [] p all is = cc
-found_among P t (x ∷ xs) p all is =
-    elim (t x) as (λ b. cond b (Some x) (find t xs) ≡ Some p → P p) [
-      | true ↦ λ e. let same : x ≡ p = cc in subst P same (all 0 x (omega arith))
-      | false ↦ λ e. found_among P t xs p (All-tail P x xs all) e
-    ] is
-
--- and so the pair of a shortage has what all targets have
-pub short_among : (P : ℕ → Type 0) (c : Config) (g : List ℕ) (s : ℕ × ℕ × ℕ) → All P g → shortage c g ≡ Some s → P s.0
-short_among P c g s all is = by (first_short c g) refl is where
-  by : (o : Option ℕ) → first_short c g ≡ o → option_map (λ p. (p, holding c p, places g p)) o ≡ Some s → P s.0
-  by None at e = cc
-  by (Some p) at e = let same : (p, holding c p, places g p) ≡ s = cc in subst (λ s. P s.0) same (found_among P (λ p. nat_lt (holding c p) (places g p)) g p all at)
+  -- what all goals have, the one of a shortage has
+  pub short_among : (P : Goal → Type 0) (s : Goal × ℕ × ℕ) → All P goals → shortage u c goals ≡ Some s → P s.0
+  short_among P s all is =
+      let m = short_missing s is in
+      elim (placed P goals s.0 all) [
+        | inl none ↦ absurd (omega (arith, none, m.fewer, m.want_is))
+        | inr has ↦ has
+      ]

@@ -1,17 +1,19 @@
 -- How far a replay has come.
 --     Progress      the universe, the configuration, how many actions were fed, and the first that was refused with its fault
 --     start u, fed s a, after_feeding u actions      before the first action;  after one more;  after a list of them
---     verdict s g      what is said where the targets are g;  first_short c g, the first that lacks an instance;  shortage c g, with how many there are and should be
+--     first_short u c goals      the first of the goals that fewer instances serve than it has places;  shortage u c goals, with how many do and how many places
+--     verdict s goals      what is said where these goals were asked for
 --     IsSound u c refused      the configuration is the universe's and correct, and the numbers of the fault are the universe's
---     IsVerdictOf u v      the verdict's fault or pair is the universe's
-use Rattle.std.specs.Prelude.{ℕ, ◌+◌, ◌==◌, nat_lt, List, [], ◌∷◌, Option, Some, None, option_map, IfSome, ⊤, ◌<◌}
-use Rattle.std.specs.List.{count_by, find}
+--     IsVerdictOf u v      the verdict's fault or goal is the universe's
+use Rattle.std.specs.Prelude.{ℕ, ◌+◌, nat_lt, List, [], ◌∷◌, Option, Some, None, option_map, IfSome, ⊤}
+use Rattle.std.specs.List.{find}
 use Rattle.std.specs.Option.{option_map_or}
 use Rattle.metis_ids.specs.declared.actions.Action.{Action}
+use Rattle.metis_ids.specs.declared.goals.Goal.{Goal}
 use Rattle.metis_universe.specs.Config.{Config, Correct, empty}
-use Rattle.metis_universe.specs.Goal.{holding}
+use Rattle.metis_universe.specs.Goals.{IsGoalOf, places_of, serving}
 use Rattle.metis_universe.specs.Step.{after}
-use Rattle.metis_universe.specs.Universe.{Universe, pair_count}
+use Rattle.metis_universe.specs.Universe.{Universe}
 use Rattle.metis_config.specs.Over.{IsOver}
 use Rattle.metis_actions.specs.Faults.{IsFaultOf, fault_of}
 use Rattle.metis_actions.specs.declared.faults.AFault.{AFault}
@@ -55,26 +57,22 @@ fed_all s (a ∷ rest) = fed_all (fed s a) rest
 abbrev pub after_feeding : Universe → List Action → Progress
 after_feeding u actions = fed_all (start u) actions
 
--- how many places the pair has in the list
-abbrev pub places : List ℕ → ℕ → ℕ
-places g p = count_by (λ q. q == p) g
+abbrev pub first_short : Universe → Config → List Goal → Option Goal
+first_short u c goals = find (λ g. nat_lt (serving u c g) (places_of goals g)) goals
 
-abbrev pub first_short : Config → List ℕ → Option ℕ
-first_short c g = find (λ p. nat_lt (holding c p) (places g p)) g
+-- that goal, with how many instances serve it and how many places it has
+abbrev pub shortage : Universe → Config → List Goal → Option (Goal × ℕ × ℕ)
+shortage u c goals = option_map (λ g. (g, serving u c g, places_of goals g)) (first_short u c goals)
 
--- that target, with how many instances there are of it and how many places
-abbrev pub shortage : Config → List ℕ → Option (ℕ × ℕ × ℕ)
-shortage c g = option_map (λ p. (p, holding c p, places g p)) (first_short c g)
-
-abbrev pub verdict_by : Option (ℕ × AFault) → Option (ℕ × ℕ × ℕ) → Verdict
+abbrev pub verdict_by : Option (ℕ × AFault) → Option (Goal × ℕ × ℕ) → Verdict
 verdict_by (Some first) short = Bad first.0 first.1
 verdict_by None (Some s) = Missing s.0 s.1 s.2
 verdict_by None None = Good
 
-abbrev pub verdict : Progress → List ℕ → Verdict
-verdict s g = verdict_by s.refused (shortage s.config g)
+abbrev pub verdict : Progress → List Goal → Verdict
+verdict s goals = verdict_by s.refused (shortage s.universe s.config goals)
 
 abbrev pub IsVerdictOf : Universe → Verdict → Type 0
 IsVerdictOf u Good = ⊤
 IsVerdictOf u (Bad k f) = IsFaultOf u f
-IsVerdictOf u (Missing p have want) = p < pair_count u
+IsVerdictOf u (Missing g have want) = IsGoalOf u g

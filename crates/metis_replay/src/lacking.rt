@@ -1,47 +1,56 @@
-//! The target that a configuration lacks.
-ghost use Rattle.std.specs.Prelude.{◌≡◌, ◌<◌, ◌↔◌, ℕ, Some, IsNone, IfSome, option_map};
+//! The goal that a configuration lacks.
+ghost use Rattle.std.specs.Prelude.{◌≡◌, ◌↔◌, ℕ, Some, IsNone, IfSome, option_map};
 ghost use Rattle.std.specs.List.{All};
-ghost use Rattle.metis_universe.specs.Goal.{Holds, holding};
+ghost use Rattle.metis_ids.specs.declared.goals.Goal.{Goal};
+ghost use Rattle.metis_universe.specs.Goals.{HoldsGoals, IsGoalOf, places_of, same_goal, serving};
 ghost use Rattle.metis_replay.specs.Exact.{IsFirstMissing};
-ghost use Rattle.metis_replay.specs.Progress.{first_short, places, shortage};
+ghost use Rattle.metis_replay.specs.Progress.{first_short, shortage};
 
 use metis_config::Config;
-use metis_ids::PairIx;
+use metis_ids::Goal;
+use metis_universe::Universe;
 
-/// The first target of which there are fewer instances than places in the list, with how many instances there are, and how
-/// many places. `None` where the configuration holds all of them.
-pub fn shortage(c: &Config, targets: &[PairIx]) -> Option<(PairIx, u64, u64)>
-    ensures is { result ≡ shortage c.now targets.now }
-    ensures first { (p have want : ℕ) → (result ≡ Some (p, have, want)) ↔ IsFirstMissing c.now targets.now p have want }
-    ensures none { IsNone result ↔ Holds c.now targets.now }
-    ensures within { (n : ℕ) → All (λ p. p < n) targets.now → IfSome result (λ s. s.0 < n) }
+/// The first goal that fewer instances serve than it has places in the list, with how many instances serve it, and how many
+/// places it has. `None` where the configuration holds all of them.
+pub fn shortage(u: &Universe, c: &Config, goals: &[Goal]) -> Option<(Goal, u64, u64)>
+    ensures is { result ≡ shortage u.now c.now goals.now }
+    ensures first { (g : Goal) (have want : ℕ) → (result ≡ Some (g, have, want)) ↔ IsFirstMissing u.now c.now goals.now g have want }
+    ensures none { IsNone result ↔ HoldsGoals u.now c.now goals.now }
+    ensures within { All (IsGoalOf u.now) goals.now → IfSome result (λ s. IsGoalOf u.now s.0) }
 {
-    counted(c, targets, first_short(c, targets))
+    counted(u, c, goals, first_short(u, c, goals))
 }
 
-// The pair, with how many instances there are of it and how many places.
-fn counted(c: &Config, targets: &[PairIx], pair: Option<PairIx>) -> Option<(PairIx, u64, u64)>
-    ensures { result ≡ option_map (λ p. (p, holding c.now p, places targets.now p)) pair }
+// The goal, with how many instances serve it and how many places it has.
+fn counted(u: &Universe, c: &Config, goals: &[Goal], goal: Option<Goal>) -> Option<(Goal, u64, u64)>
+    ensures { result ≡ option_map (λ g. (g, serving u.now c.now g, places_of goals.now g)) goal }
 {
-    match pair {
-        Some(pair) => Some((pair, c.holding(pair), places(targets, pair))),
+    match &goal {
+        Some(goal) => Some((*goal, c.serving(u, *goal), places(goals, *goal))),
         None => None,
     }
 }
 
-// The first target of which there are fewer instances than places in the list.
-fn first_short(c: &Config, targets: &[PairIx]) -> Option<PairIx>
-    ensures { result ≡ first_short c.now targets.now }
+// The first goal that fewer instances serve than it has places in the list.
+fn first_short(u: &Universe, c: &Config, goals: &[Goal]) -> Option<Goal>
+    ensures { result ≡ first_short u.now c.now goals.now }
 {
-    targets
+    goals
         .iter()
         .copied()
-        .find(|p| c.holding(*p) < places(targets, *p))
+        .find(|g| c.serving(u, *g) < places(goals, *g))
 }
 
-// How many places the pair has in the list.
-fn places(targets: &[PairIx], p: PairIx) -> u64
-    ensures { result ≡ places targets.now p }
+// How many places the goal has in the list.
+fn places(goals: &[Goal], g: Goal) -> u64
+    ensures { result ≡ places_of goals.now g }
 {
-    targets.iter().filter(|q| **q == p).count() as u64
+    goals.iter().filter(|h| is_same(**h, g)).count() as u64
+}
+
+// Whether the two are one goal.
+fn is_same(h: Goal, g: Goal) -> bool
+    ensures { result ≡ same_goal h g }
+{
+    h == g
 }

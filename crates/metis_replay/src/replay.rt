@@ -2,8 +2,8 @@
 ghost use Rattle.std.specs.Prelude.{◌≡◌, ◌<◌, ◌-◌, ◌^◌, IsTrue, IfOk, IfSome, OnOk, OnErr, None};
 ghost use Rattle.std.specs.List.{All};
 ghost use Rattle.metis_universe.specs.Config.{Correct};
+ghost use Rattle.metis_universe.specs.Goals.{IsGoalOf};
 ghost use Rattle.metis_universe.specs.Numbers.{IsOf};
-ghost use Rattle.metis_universe.specs.Universe.{pair_count};
 ghost use Rattle.metis_config.specs.Over.{IsOver};
 ghost use Rattle.metis_actions.specs.Faults.{IsFaultOf, fault_of, takes_memory};
 ghost use Rattle.metis_replay.specs.Progress.{IsVerdictOf, fed, left_by, start, verdict};
@@ -12,7 +12,7 @@ use crate::Verdict;
 use crate::lacking::shortage;
 use metis_actions::{AFault, apply};
 use metis_config::Config;
-use metis_ids::{Action, NoMemory, PairIx};
+use metis_ids::{Action, Goal, NoMemory};
 use metis_universe::Universe;
 use std::alloc::Global;
 use std::marker::Model;
@@ -78,16 +78,16 @@ impl<'a> Replay<'a> {
         u64::from(self.number)
     }
 
-    /// What the actions came to, where the targets were asked for.
-    pub fn finish(&self, targets: &[PairIx]) -> Verdict
+    /// What the actions came to, where the targets, pairs or ports, were asked for.
+    pub fn finish(&self, targets: &[Goal]) -> Verdict
         ensures verdict { result ≡ verdict self.now targets.now }
-        ensures numbers { All (λ p. p < pair_count self.now.universe) targets.now → IsVerdictOf self.now.universe result }
+        ensures numbers { All (IsGoalOf self.now.universe) targets.now → IsVerdictOf self.now.universe result }
     {
         if let Some((number, fault)) = self.refused {
             return Verdict::Bad(number, fault);
         }
-        match shortage(&self.config, targets) {
-            Some((pair, have, want)) => Verdict::Missing(pair, have, want),
+        match shortage(self.universe, &self.config, targets) {
+            Some((goal, have, want)) => Verdict::Missing(goal, have, want),
             None => Verdict::Good,
         }
     }
