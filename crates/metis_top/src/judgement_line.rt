@@ -6,7 +6,7 @@ ghost use Rattle.metis_universe.specs.GoalWords.{goal_word};
 ghost use Rattle.metis_universe.specs.Goals.{IsGoalOf};
 ghost use Rattle.metis_universe.specs.PairWords.{pair_word};
 ghost use Rattle.metis_universe.specs.Universe.{pair_count};
-ghost use Rattle.metis_refusal.specs.Claims.{NamesPairsOf};
+ghost use Rattle.metis_refusal.specs.Claims.{NamesOf};
 ghost use Rattle.metis_top.specs.Judged.{judgement_line, open_line, word_line};
 
 use metis_ids::{Goal, PairIx};
@@ -23,7 +23,7 @@ pub fn write_judgement<K: Sink>(
     judgement: &Verdict2,
     out: &mut K,
 ) -> Result<(), Trouble>
-    requires { NamesPairsOf u.now judgement.now }
+    requires { NamesOf u.now judgement.now }
     ensures text { Writes (judgement_line u.now judgement.now ∷ []) (K.written out.old) (K.written out.new) result }
     ensures cause { CountsFault (K.faults out.old) (K.faults out.new) result }
 {
@@ -34,7 +34,7 @@ pub fn write_judgement<K: Sink>(
 }
 
 fn judgement_line(alloc: Global, u: &Universe, judgement: &Verdict2) -> Result<String, AllocError>
-    requires { NamesPairsOf u.now judgement.now }
+    requires { NamesOf u.now judgement.now }
     ensures { IfOk result (λ line. string_bytes line ≡ judgement_line u.now judgement.now) }
 {
     match *judgement {

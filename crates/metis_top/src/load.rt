@@ -120,9 +120,20 @@ fn verdict_on(
     requires within { All (λ p. p < pair_count u.now) targets.now }
     ensures { IfOk result (Tells u.now actions.now (pair_goals targets.now)) }
 {
-    let goals: Vec<Goal> = targets.iter().map(|p| Goal::Pair(*p)).collect(alloc)?;
+    let goals = goals_of(alloc, targets)?;
     let (verdict, _) = replayed(alloc, u, actions, &goals)?;
     Ok(verdict)
+}
+
+// The goals that are these pairs.
+fn goals_of(alloc: Global, pairs: &[PairIx]) -> Result<Vec<Goal>, NoMemory>
+    ensures { IfOk result (λ goals. goals.items ≡ pair_goals pairs.now) }
+{
+    let mut goals = Vec::new(alloc);
+    for pair in pairs {
+        goals.push(Goal::Pair(*pair))?;
+    }
+    Ok(goals)
 }
 
 #[tactic(auto, using(metis_outside::proofs::Writing::front_of_nothing))]

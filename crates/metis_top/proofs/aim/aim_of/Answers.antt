@@ -1,4 +1,4 @@
-use Rattle.std.proofs.Common.{List, Ok, sym, ap, subst, ℕ, ◌∙◌}
+use Rattle.std.proofs.Common.{◌<◌, List, Ok, sym, ap, subst, ℕ, ◌∙◌}
 use Rattle.std.specs.List.{All}
 use Rattle.metis_choice.specs.Resolutions.{ArePairsFor, IfLacksGoal, IfPairs}
 use Rattle.metis_choice.specs.declared.resolution.Resolved.{Resolved}
@@ -16,7 +16,7 @@ pub returns-in-Pairs : goal.returns-in-Pairs
 returns-in-Pairs c =
     let u = c.args.u.now in
     let goals = c.args.goals.now in
-    let r = c.in_ok-resolve.ensures in
+    let r = c.in_ok-pairs.ensures in
     let resolved = subst (λ (x : Resolved). IfPairs (Ok x) (ArePairsFor u goals)) c.in-Pairs.is r.pairs in
     record {
       resolved = resolved;
@@ -31,7 +31,7 @@ returns-in-Lacks c =
     let goals = c.args.goals.now in
     let table = c.keeps_invariant.ensures in
     let k = c.in_ok-layers.ensures in
-    let refusal = subst (λ (x : Resolved). IfLacksGoal (Ok x) (GoalRefusal u goals (attained_pairs u))) c.in-Lacks.is c.in_ok-resolve.ensures.lacks in
+    let refusal = subst (λ (x : Resolved). IfLacksGoal (Ok x) (GoalRefusal u goals (attained_pairs u))) c.in-Lacks.is c.in_ok-pairs.ensures.lacks in
     let same = ap (λ s. s.members) c.into_attained.ensures ∙ k.layers.attained in
     record {
       size = ap (λ s. s.size) c.into_attained.ensures ∙ k.layers.size;

@@ -17,7 +17,7 @@ returns-in-Ok-Pairs g c =
     let aim = rw c.in-Ok-Pairs.field-0-is at c.in-Ok-Pairs.ensures in
     let attains = c.pairs_for_goals_hold_them.ensures.attains u goals pairs aim.resolved aim.attained in
     shown_weaker (AuditedFor u pairs text.plan (lists_of text)) (Audited u goals text.plan (lists_of text)) _ _ _ _ _
-    (λ lines status is. inl (record { attains = attains; pairs = pairs; resolved = aim.resolved; for_pairs = is })) c.put_audit_for.ensures
+    (λ lines status is. inl (record { attains = attains; pairs = pairs; resolved = aim.resolved; for_pairs = is })) (rw c.deref.ensures.value at c.put_audit_for.ensures)
 
 pub returns-in-Ok-Lacks : goal.returns-in-Ok-Lacks
 returns-in-Ok-Lacks g c =

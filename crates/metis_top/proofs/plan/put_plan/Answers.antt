@@ -1,7 +1,18 @@
+use Rattle.std.proofs.Common.{arith}
 use Rattle.metis_top.proofs.Replies.{answer_by_refusal, answer_for_goals}
 use Rattle.metis_top.proofs.Shown.{shown_by_writer, shown_weaker}
 use Rattle.metis_top.specs.Planned.{PlanAnswer, PutsPlan}
 use Rattle.metis_top.proofs.plan.put_plan.Goals as goal
+
+pub put_plan_for-requires-clause-few : goal.put_plan_for-requires-clause-few
+put_plan_for-requires-clause-few g c =
+    let aim = rw c.in-Ok-Pairs.field-0-is at c.in-Ok-Pairs.ensures in
+    rw c.deref.ensures.value (omega (arith, aim.few, c.requires.few))
+
+pub put_plan_for-requires-clause-attained : goal.put_plan_for-requires-clause-attained
+put_plan_for-requires-clause-attained g c =
+    let aim = rw c.in-Ok-Pairs.field-0-is at c.in-Ok-Pairs.ensures in
+    rw c.deref.ensures.value aim.attained
 
 pub returns-in-Ok-Pairs : goal.returns-in-Ok-Pairs
 returns-in-Ok-Pairs g c =
@@ -10,7 +21,7 @@ returns-in-Ok-Pairs g c =
     let pairs = c.in-Ok-Pairs.pairs.items in
     let aim = rw c.in-Ok-Pairs.field-0-is at c.in-Ok-Pairs.ensures in
     shown_weaker (PutsPlan u pairs) (PlanAnswer u goals) _ _ _ _ _
-    (answer_for_goals u goals pairs aim.resolved (c.pairs_for_goals_hold_them.ensures.attains u goals pairs aim.resolved)) c.put_plan_for.ensures
+    (answer_for_goals u goals pairs aim.resolved (c.pairs_for_goals_hold_them.ensures.attains u goals pairs aim.resolved)) (rw c.deref.ensures.value at c.put_plan_for.ensures)
 
 pub returns-in-Ok-Lacks : goal.returns-in-Ok-Lacks
 returns-in-Ok-Lacks g c =

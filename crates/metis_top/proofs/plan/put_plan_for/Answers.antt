@@ -1,4 +1,3 @@
-use Rattle.metis_universe.proofs.Inside.{refused}
 use Rattle.metis_top.proofs.Replies.{IsPlanned, answer_by_plan}
 use Rattle.metis_top.proofs.Shown.{shown_by_writer}
 use Rattle.metis_top.proofs.plan.put_plan_for.Goals as goal
@@ -28,8 +27,3 @@ returns-in-Ok-Plan g c =
       without_cycle = c.nothing_is_doubled_without_a_cycle.ensures c.args.u.now c.args.pairs.now c.in-Ok-Plan.plan found.rounds;
     } in
     rw c.said.ensures (shown_by_writer _ _ _ _ _ _ _ c.write_actions.result (answer_by_plan c.args.u.now c.args.pairs.now c.in-Ok-Plan.plan known) c.write_actions.ensures.text c.write_actions.ensures.cause)
-
-pub unreachable-in-Ok-Closed : goal.unreachable-in-Ok-Closed
-unreachable-in-Ok-Closed g c =
-    let found = rw c.in-Ok-Closed.field-0-is at c.in-Ok-Closed.ensures in
-    refused c.args.u.now c.args.pairs.now _ _ found.refusal c.requires.attained
