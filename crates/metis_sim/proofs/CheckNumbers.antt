@@ -86,7 +86,7 @@ module _ (u : Universe) where
   module _ (c : Config) where
     said_low : (goals : List Goal) → All (IsGoalOf u) goals → (o : Option (Goal × ℕ × ℕ)) → shortage u c goals ≡ o → IsReplyOf u (said_by o)
     said_low goals all None is = tt
-    said_low goals all (Some s) is = short_among (IsGoalOf u) u c goals s all is
+    said_low goals all (Some s) is = short_among u c goals (IsGoalOf u) s all is
 
     reply_low : (o : Option (List Goal)) → IfSome o (All (IsGoalOf u)) → IsReplyOf u (reply_on u c o)
     reply_low None all = tt

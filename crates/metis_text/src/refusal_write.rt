@@ -73,12 +73,7 @@ fn write_rest<K: Sink>(
 }
 
 #[tactic(auto, using(metis_outside::proofs::Writing::front_of_nothing))]
-fn write_lacks<K: Sink>(
-    alloc: Global,
-    u: &Universe,
-    goal: Goal,
-    out: &mut K,
-) -> Result<(), Trouble>
+fn write_lacks<K: Sink>(alloc: Global, u: &Universe, goal: Goal, out: &mut K) -> Result<(), Trouble>
     requires { IsGoalOf u.now goal }
     ensures text { Writes (lacks_line u.now goal ∷ []) (K.written out.old) (K.written out.new) result }
     ensures cause { CountsFault (K.faults out.old) (K.faults out.new) result }

@@ -1,3 +1,4 @@
+pub mod Aims
 pub mod CrewTurns
 pub mod Deployments
 pub mod FileBytes
