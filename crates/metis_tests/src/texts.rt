@@ -1,6 +1,7 @@
 //! Texts of plans with dups and of refusals, read and written again, and outputs of which a put fails.
 ghost use Rattle.std.specs.Prelude.{◌≡◌, ◌<◌, IfOk, length};
 ghost use Rattle.std.specs.List.{All};
+ghost use Rattle.metis_universe.specs.GoalWords.{IsWordable};
 ghost use Rattle.metis_universe.specs.Numbers.{IsOf};
 ghost use Rattle.metis_universe.specs.Universe.{pair_count};
 
@@ -71,7 +72,7 @@ fn a_plan_with_dups_is_written(rt: HostRuntime) -> Result<(), Fail> {
 /// The refusal that the text says.
 fn refusal_in(rt: &impl Abort, alloc: Global, u: &Universe, text: &str) -> Result<Refusal, Fail>
     ensures size { IfOk result (λ r. r.pairs.size ≡ pair_count u.now) }
-    ensures lacks { IfOk result (λ r. r.lacks < pair_count u.now) }
+    ensures lacks { IfOk result (λ r. IsWordable u.now r.lacks) }
 {
     assert!(rt; text.len() < 10_000);
     let read = read_refusal(alloc, u, text.as_bytes());
@@ -96,6 +97,7 @@ fn a_refusal_is_read_and_written(rt: HostRuntime) -> Result<(), Fail> {
     for text in [
         "metis refusal 1\nlacks Web:run\npairs 2\nDb:off\nWeb:off\nend\n",
         "metis refusal 1\nlacks Db:off\npairs 0\nend\n",
+        "metis refusal 1\nlacks port:sql\npairs 3\nDb:off\nWeb:off\nWeb:run\nend\n",
         "metis refusal 1\nlacks Db:on\npairs 4\nDb:off\nDb:on\nWeb:off\nWeb:run\nend\n",
     ] {
         let mut out = MemSink::new(alloc, Vec::new(alloc));
