@@ -1,12 +1,12 @@
 -- The goals that are found have words.
-use Rattle.std.proofs.Common.{◌≡◌, ℕ, Bool, true, false, cond, List, [], ◌∷◌, Some, None, refl, subst}
+use Rattle.std.proofs.Common.{◌≡◌, ◌<◌, ℕ, Bool, true, false, cond, List, [], ◌∷◌, Some, None, refl, subst}
 use Rattle.std.proofs.lemmas.List.Elements.{All-from_recursion, All-head, All-tail, recursion_from_All}
 use Rattle.std.specs.List.{All, AllByRecursion, find}
 use Rattle.metis_ids.specs.declared.goals.Goal.{Goal}
 use Rattle.metis_ids.specs.declared.goals.Goal.TheVariants.{Pair, Port}
 use Rattle.metis_universe.specs.GoalWords.{IsWordable}
-use Rattle.metis_universe.specs.Goals.{IsGoalOf}
-use Rattle.metis_universe.specs.Universe.{Universe}
+use Rattle.metis_universe.specs.Goals.{IsGoalOf, pair_goals}
+use Rattle.metis_universe.specs.Universe.{Universe, pair_count}
 
 -- what all have, the one that is found has
 pub found_among : {X : Type 0} (P : X → Type 0) (t : X → Bool) (xs : List X) (x : X) → All P xs → find t xs ≡ Some x → P x
@@ -28,3 +28,11 @@ wordable_each u (g ∷ goals) all = (wordable_is u g all.0, wordable_each u goal
 -- goals that have words are the universe's
 pub wordable_all : (u : Universe) (goals : List Goal) → All (IsWordable u) goals → All (IsGoalOf u) goals
 wordable_all u goals all = All-from_recursion (IsGoalOf u) goals (wordable_each u goals (recursion_from_All (IsWordable u) goals all))
+
+pairs_each : (u : Universe) (pairs : List ℕ) → AllByRecursion (λ p. p < pair_count u) pairs → AllByRecursion (IsGoalOf u) (pair_goals pairs)
+pairs_each u [] all = tt
+pairs_each u (p ∷ pairs) all = (all.0, pairs_each u pairs all.1)
+
+-- pairs of the universe are goals of it
+pub pairs_are_goals : (u : Universe) (pairs : List ℕ) → All (λ p. p < pair_count u) pairs → All (IsGoalOf u) (pair_goals pairs)
+pairs_are_goals u pairs all = All-from_recursion (IsGoalOf u) (pair_goals pairs) (pairs_each u pairs (recursion_from_All (λ p. p < pair_count u) pairs all))

@@ -44,10 +44,17 @@ pub fn write_lacking<K: Sink>(
     ensures text { Writes (word_line (codes "notattained") (goal_word u.now goal) ∷ []) (K.written out.old) (K.written out.new) result }
     ensures cause { CountsFault (K.faults out.old) (K.faults out.new) result }
 {
-    match goal_line(alloc, u, "notattained", goal) {
+    match lacking_line(alloc, u, goal) {
         Ok(line) => put_line(line.as_bytes(), out),
         Err(_) => Err(Trouble::NoMemory),
     }
+}
+
+fn lacking_line(alloc: Global, u: &Universe, goal: Goal) -> Result<String, AllocError>
+    requires { IsGoalOf u.now goal }
+    ensures { IfOk result (λ line. string_bytes line ≡ word_line (codes "notattained") (goal_word u.now goal)) }
+{
+    goal_line(alloc, u, "notattained", goal)
 }
 
 fn audit_line(

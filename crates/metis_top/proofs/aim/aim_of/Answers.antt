@@ -32,9 +32,9 @@ returns-in-Lacks c =
     let table = c.keeps_invariant.ensures in
     let k = c.in_ok-layers.ensures in
     let refusal = subst (λ (x : Resolved). IfLacksGoal (Ok x) (GoalRefusal u goals (attained_pairs u))) c.in-Lacks.is c.in_ok-pairs.ensures.lacks in
-    let same = ap (λ s. s.members) c.into_attained.ensures ∙ k.layers.attained in
+    let same = ap (λ s. s.members) c.into_attained-pairs.ensures ∙ k.layers.attained in
     record {
-      size = ap (λ s. s.size) c.into_attained.ensures ∙ k.layers.size;
+      size = ap (λ s. s.size) c.into_attained-pairs.ensures ∙ k.layers.size;
       all = subst (IsAttainedSet u) (sym same) (attained_set u table.universe);
       refusal = subst (λ (s : List ℕ). GoalRefusal u goals s c.in-Lacks.lacks) (sym same) refusal;
       wordable = found_among (IsWordable u) (lacks u (attained_pairs u)) goals c.in-Lacks.lacks c.requires.wordable refusal.1;
