@@ -2,7 +2,6 @@ use Rattle.std.proofs.Common.{◌<◌, List, Ok, sym, ap, subst, ℕ, ◌∙◌}
 use Rattle.std.specs.List.{All}
 use Rattle.metis_choice.specs.Resolutions.{ArePairsFor, IfLacksGoal, IfPairs}
 use Rattle.metis_choice.specs.declared.resolution.Resolved.{Resolved}
-use Rattle.metis_ids.specs.declared.goals.Goal.{Goal}
 use Rattle.metis_layers.proofs.Order.{attained_set}
 use Rattle.metis_layers.specs.LayerOrder.{attained_pairs}
 use Rattle.metis_universe.specs.Goal.{Attains, IsAttainedSet}
