@@ -131,11 +131,11 @@ fn expect_fronts(
     keep: u32,
 ) -> Result<(), Fail> {
     assert!(rt; text.len() < 1_000);
-    let mut start = 0;
-    let mut put = 0;
+    let mut start: usize = 0;
+    let mut put: u32 = 0;
     for piece in text.split_inclusive('\n') {
-        put += 1;
-        let end = start + piece.len().min(keep as usize);
+        put = put.saturating_add(1);
+        let end = start.saturating_add(piece.len().min(keep as usize));
         let front = text.as_bytes().get(..end).ok_or("no front")?;
         expect_run(
             rt,
@@ -145,13 +145,13 @@ fn expect_fronts(
             Status::WriteFault,
             front,
         )?;
-        start += piece.len();
+        start = start.saturating_add(piece.len());
     }
     expect_run(
         rt,
         alloc,
         line,
-        Failing::put(put + 1, keep),
+        Failing::put(put.saturating_add(1), keep),
         Status::Done,
         text.as_bytes(),
     )
