@@ -1,0 +1,48 @@
+use Rattle.std.proofs.Common.{◌≡◌, ◌++◌, ◌∷◌, [], ℕ, zero, suc, ◌+◌, ◌<◌, ◌≤◌, length, List, Some, refl, sym, ◌∙◌, arith}
+use Rattle.std.proofs.lemmas.Map.Entries.{length-keys_of}
+use Rattle.std.specs.Map.{keys_of}
+use Rattle.metis_ids.specs.declared.actions.Action.{Action}
+use Rattle.metis_ids.specs.declared.actions.Action.TheVariants.{Delete}
+use Rattle.metis_universe.specs.Config.{Config, remove}
+use Rattle.metis_rollout.specs.Rollout.{loose_deletes, loose_deletes_within, members, next_loose}
+use Rattle.metis_rollout.proofs.Loops.{Left, left_done, left_next, loose_none}
+use Rattle.metis_rollout.proofs.clearing.delete_loose.Goals as goal
+
+-- one left at least
+step : (m n i : ℕ) (start now new all : List Action) (c d e : Config) (z : ℕ) → m + i ≡ n → i < n → Left m start now all c d → next_loose d ≡ Some z → new ≡ now ++ Delete z ∷ [] → e ≡ remove d z
+    → record { left : ℕ; counts : left + (i + 1) ≡ n; goes : Left left start new all c e }
+step zero n i start now new all c d e z counts low l some pushed removed = absurd (omega arith)
+step (suc m) n i start now new all c d e z counts low l some pushed removed = record { left = m; counts = omega arith; goes = left_next m start now new all c d e z l some pushed removed }
+
+none_left : (m n i : ℕ) (d : Config) → m + i ≡ n → n ≤ i → loose_deletes_within m d ≡ []
+none_left zero n i d counts high = refl
+none_left (suc m) n i d counts high = absurd (omega arith)
+
+many : (es : List (ℕ × ℕ)) → length (keys_of es) ≡ length es
+many es = length-keys_of es
+
+pub loop-init : goal.loop-init
+loop-init c = record { left = length (members c.args.c.now); counts = omega arith; goes = record { actions = refl; config = λ u. refl } }
+
+pub loop-preserved : goal.loop-preserved
+loop-preserved c =
+    step c.loop.invariant.left (length (members c.args.c.now)) c.loop.counter c.args.actions.now.items c.loop.actions.items c.push.new.self.items (loose_deletes c.args.c.now) c.args.c.now c.loop.c c.remove.new.self c.in-Some.z
+    c.loop.invariant.counts (omega (arith, c.loop-test.true, c.count-end.ensures, many c.args.c.now.instances)) c.loop.invariant.goes (sym c.next_loose.ensures ∙ c.in-Some.is) c.in_ok-push.ensures.items c.remove.ensures
+
+pub returns-in_default-clause-actions : goal.returns-in_default-clause-actions
+returns-in_default-clause-actions c =
+    (left_done c.loop.invariant.left c.args.actions.now.items c.loop.actions.items (loose_deletes c.args.c.now) c.args.c.now c.loop.c c.loop.invariant.goes (loose_none c.loop.invariant.left c.loop.c (sym c.in_default.ensures))).0
+
+pub returns-in_default-clause-config : goal.returns-in_default-clause-config
+returns-in_default-clause-config c =
+    (left_done c.loop.invariant.left c.args.actions.now.items c.loop.actions.items (loose_deletes c.args.c.now) c.args.c.now c.loop.c c.loop.invariant.goes (loose_none c.loop.invariant.left c.loop.c (sym c.in_default.ensures))).1
+
+pub returns-clause-actions : goal.returns-clause-actions
+returns-clause-actions c =
+    (left_done c.loop.invariant.left c.args.actions.now.items c.loop.actions.items (loose_deletes c.args.c.now) c.args.c.now c.loop.c c.loop.invariant.goes
+    (none_left c.loop.invariant.left (length (members c.args.c.now)) c.loop.counter c.loop.c c.loop.invariant.counts (omega (arith, c.loop-test.false, c.count-end.ensures, many c.args.c.now.instances)))).0
+
+pub returns-clause-config : goal.returns-clause-config
+returns-clause-config c =
+    (left_done c.loop.invariant.left c.args.actions.now.items c.loop.actions.items (loose_deletes c.args.c.now) c.args.c.now c.loop.c c.loop.invariant.goes
+    (none_left c.loop.invariant.left (length (members c.args.c.now)) c.loop.counter c.loop.c c.loop.invariant.counts (omega (arith, c.loop-test.false, c.count-end.ensures, many c.args.c.now.instances)))).1
