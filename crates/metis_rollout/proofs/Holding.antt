@@ -13,7 +13,7 @@ use Rattle.metis_universe.specs.Step.{after_all}
 use Rattle.metis_universe.proofs.Edits.{pair_of-remove}
 use Rattle.metis_layers.proofs.Going.{GoesOn, at}
 use Rattle.metis_rollout.specs.Rollout.{fresh_name, renumbered}
-use Rattle.metis_rollout.specs.Standing.{is_used}
+use Rattle.metis_rollout.specs.Standing.{is_made}
 use Rattle.metis_rollout.proofs.Quiet.{has-keys, keys-has}
 use Rattle.metis_rollout.proofs.Rebinding.{AllUnlike, sorted_unlike}
 use Rattle.metis_rollout.proofs.Removal.{left_config}
@@ -86,7 +86,7 @@ renumbered_holds u old fresh go p =
     let d = at u (renumbered old fresh) in
     let good = left_config u fresh go in
     let r = fresh_renamed u old fresh go in
-    let used : (z : ℕ) → has (keys_of c.instances) z ≡ true → is_used fresh z ≡ true = λ z h. pair_touched (At (is_used fresh)) u z fresh (touches_own u fresh go) (has-keys c.instances z h) in
+    let used : (z : ℕ) → has (keys_of c.instances) z ≡ true → is_made fresh z ≡ true = λ z h. pair_touched (At (is_made fresh)) u z fresh (touches_own u fresh go) (has-keys c.instances z h) in
     let count = fits p (fresh_name old fresh) c.instances d.instances (sorted_unlike (keys_of c.instances) good.ascending)
     (λ z w h g e. r.apart z w (used z h) (used w g) e)
     (λ z q h. r.pairs z (used z (keys-has c.instances z (subst IsSome (sym h) refl))) ∙ h) in

@@ -13,7 +13,7 @@ use Rattle.metis_universe.specs.Config.{Binding, Config, binding_cmp, is_bound, 
 use Rattle.metis_universe.specs.Step.{after_all}
 use Rattle.metis_universe.proofs.Edits.{tie_is}
 use Rattle.metis_layers.proofs.Going.{after_all-append}
-use Rattle.metis_rollout.specs.Rollout.{loose_deletes_within, next_loose, unbind}
+use Rattle.metis_rollout.specs.Rollout.{unreferenced_deletes_within, next_unreferenced, unbind}
 use Rattle.metis_rollout.proofs.Quiet.{is_in, not_below_itself, unbinds_bound}
 
 below_at : (b : Binding) (xs : List Binding) (i : ℕ) (d : Binding) → AllByRecursion (λ x. binding_cmp b x ≡ Less) xs → i < length xs → binding_cmp b (get_or xs i d) ≡ Less
@@ -48,25 +48,25 @@ config_next u c now new bs i b low is untied before =
 
 -- ---- deletes
 
-pub loose_none : (n : ℕ) (c : Config) → next_loose c ≡ None → loose_deletes_within n c ≡ []
-loose_none zero c none = refl
-loose_none (suc n) c none = ap (λ o. option_map_or (λ z. Delete z ∷ loose_deletes_within n (remove c z)) o []) none
+pub unreferenced_none : (n : ℕ) (c : Config) → next_unreferenced c ≡ None → unreferenced_deletes_within n c ≡ []
+unreferenced_none zero c none = refl
+unreferenced_none (suc n) c none = ap (λ o. option_map_or (λ z. Delete z ∷ unreferenced_deletes_within n (remove c z)) o []) none
 
-pub loose_some : (n : ℕ) (c : Config) (z : ℕ) → next_loose c ≡ Some z → loose_deletes_within (suc n) c ≡ Delete z ∷ loose_deletes_within n (remove c z)
-loose_some n c z some = ap (λ o. option_map_or (λ z. Delete z ∷ loose_deletes_within n (remove c z)) o []) some
+pub unreferenced_some : (n : ℕ) (c : Config) (z : ℕ) → next_unreferenced c ≡ Some z → unreferenced_deletes_within (suc n) c ≡ Delete z ∷ unreferenced_deletes_within n (remove c z)
+unreferenced_some n c z some = ap (λ o. option_map_or (λ z. Delete z ∷ unreferenced_deletes_within n (remove c z)) o []) some
 
 -- what is left to do, as a record that a loop keeps
 pub record Left (left : ℕ) (start now : List Action) (all : List Action) (c d : Config) : Type 0 where
-  pub actions : start ++ all ≡ now ++ loose_deletes_within left d
-  pub config : (u : Universe) → after_all u c all ≡ after_all u d (loose_deletes_within left d)
+  pub actions : start ++ all ≡ now ++ unreferenced_deletes_within left d
+  pub config : (u : Universe) → after_all u c all ≡ after_all u d (unreferenced_deletes_within left d)
 
-pub left_next : (n : ℕ) (start now new all : List Action) (c d e : Config) (z : ℕ) → Left (suc n) start now all c d → next_loose d ≡ Some z → new ≡ now ++ Delete z ∷ [] → e ≡ remove d z → Left n start new all c e
+pub left_next : (n : ℕ) (start now new all : List Action) (c d e : Config) (z : ℕ) → Left (suc n) start now all c d → next_unreferenced d ≡ Some z → new ≡ now ++ Delete z ∷ [] → e ≡ remove d z → Left n start new all c e
 left_next n start now new all c d e z l some pushed removed = record {
-  actions = l.actions ∙ ap (λ x. now ++ x) (loose_some n d z some) ∙ sym (append_assoc now (Delete z ∷ []) (loose_deletes_within n (remove d z))) ∙ (λ i. sym pushed i ++ loose_deletes_within n (sym removed i));
-  config = λ u. l.config u ∙ ap (after_all u d) (loose_some n d z some) ∙ ap (λ f. after_all u f (loose_deletes_within n f)) (sym removed);
+  actions = l.actions ∙ ap (λ x. now ++ x) (unreferenced_some n d z some) ∙ sym (append_assoc now (Delete z ∷ []) (unreferenced_deletes_within n (remove d z))) ∙ (λ i. sym pushed i ++ unreferenced_deletes_within n (sym removed i));
+  config = λ u. l.config u ∙ ap (after_all u d) (unreferenced_some n d z some) ∙ ap (λ f. after_all u f (unreferenced_deletes_within n f)) (sym removed);
 }
 
-pub left_done : (n : ℕ) (start now all : List Action) (c d : Config) → Left n start now all c d → loose_deletes_within n d ≡ [] → (now ≡ start ++ all) × ((u : Universe) → d ≡ after_all u c all)
+pub left_done : (n : ℕ) (start now all : List Action) (c d : Config) → Left n start now all c d → unreferenced_deletes_within n d ≡ [] → (now ≡ start ++ all) × ((u : Universe) → d ≡ after_all u c all)
 left_done n start now all c d l none = (
   sym (l.actions ∙ ap (λ x. now ++ x) none ∙ append-nil now),
   λ u. sym (l.config u ∙ ap (after_all u d) none),

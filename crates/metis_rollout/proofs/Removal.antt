@@ -13,10 +13,10 @@ use Rattle.metis_universe.specs.Steadfast.{is_new}
 use Rattle.metis_universe.proofs.Kept.{IsConfig-after, IsConfig-after_all, IsConfig-empty}
 use Rattle.metis_universe.proofs.Same.{same_config}
 use Rattle.metis_layers.proofs.Going.{GoesOn, GoesOn-append, after_all-append, at, run_from_going}
-use Rattle.metis_rollout.specs.Rollout.{circle_removal, idle_unbinds, loose_deletes, members, removal, renumbered, rollout, scaffold_name}
-use Rattle.metis_rollout.specs.Standing.{IsCleared, IsSteady, IsUntied, is_used}
+use Rattle.metis_rollout.specs.Rollout.{cycle_removal, idle_unbinds, unreferenced_deletes, members, removal, renumbered, rollout, scaffold_name}
+use Rattle.metis_rollout.specs.Standing.{IsCleared, IsSteady, IsUntied, is_made}
 use Rattle.metis_rollout.proofs.Going.{Correct-empty, going_from_steady, steady_from_going}
-use Rattle.metis_rollout.proofs.Quiet.{QuietFrom, QuietFrom-append, idle_bound, idle_pair, idle_quiet, is_required, keys-has, loose_bound, loose_ends, loose_pair, loose_quiet, quiet_goes, quiet_makes_none}
+use Rattle.metis_rollout.proofs.Quiet.{QuietFrom, QuietFrom-append, idle_bound, idle_pair, idle_quiet, is_required, keys-has, unreferenced_bound, unreferenced_ends, unreferenced_pair, unreferenced_quiet, quiet_goes, quiet_makes_none}
 use Rattle.metis_rollout.proofs.Together.{beside, fresh_goes, fresh_unused}
 use Rattle.metis_rollout.proofs.Touching.{At, pair_touched}
 use Rattle.metis_rollout.proofs.Together.{touches_own}
@@ -43,14 +43,14 @@ none_bound c k r z y none = elim (is_bound c r z y) as (λ b. is_bound c r z y �
   | false ↦ λ _. refl
 ] refl
 
-none_made : (u : Universe) (xs : List Action) → GoesOn u [] xs → (z : ℕ) → is_used xs z ≡ false → pair_of (at u xs) z ≡ None
-none_made u xs go z off = by_value (pair_of (at u xs) z) (λ h. pair_touched (At (is_used xs)) u z xs (touches_own u xs go) h) where
-  by_value : (o : Option ℕ) → (IsSome o → is_used xs z ≡ true) → o ≡ None
+none_made : (u : Universe) (xs : List Action) → GoesOn u [] xs → (z : ℕ) → is_made xs z ≡ false → pair_of (at u xs) z ≡ None
+none_made u xs go z off = by_value (pair_of (at u xs) z) (λ h. pair_touched (At (is_made xs)) u z xs (touches_own u xs go) h) where
+  by_value : (o : Option ℕ) → (IsSome o → is_made xs z ≡ true) → o ≡ None
   by_value None f = refl
   by_value (Some p) f = absurd (false≢true (sym off ∙ f refl))
 
 -- The second list between two parts of the first, which leaves nothing.
-pub alone : (u : Universe) (xs ys rest : List Action) → GoesOn u [] (xs ++ rest) → GoesOn u [] ys → ((z : ℕ) → is_used ys z ≡ true → is_used (xs ++ rest) z ≡ false) → ((z : ℕ) → pair_of (at u (xs ++ rest)) z ≡ None)
+pub alone : (u : Universe) (xs ys rest : List Action) → GoesOn u [] (xs ++ rest) → GoesOn u [] ys → ((z : ℕ) → is_made ys z ≡ true → is_made (xs ++ rest) z ≡ false) → ((z : ℕ) → pair_of (at u (xs ++ rest)) z ≡ None)
     → IsSteady u (xs ++ (ys ++ rest)) × (at u (xs ++ (ys ++ rest)) ≡ at u ys)
 alone u xs ys rest one two apart gone =
     let mine = xs ++ rest in
@@ -59,20 +59,20 @@ alone u xs ys rest one two apart gone =
     let k = left_config u whole both.0 in
     let k1 = left_config u mine one in
     let k2 = left_config u ys two in
-    let other : (z : ℕ) → is_used mine z ≡ true → pair_of (at u ys) z ≡ None = λ z h. none_made u ys two z (unused ys mine z (apart z) h) in (
+    let other : (z : ℕ) → is_made mine z ≡ true → pair_of (at u ys) z ≡ None = λ z h. none_made u ys two z (unused ys mine z (apart z) h) in (
       steady_from_going u whole both.0,
       same_config (at u whole) (at u ys) k k2
-          (λ z. elim (is_used mine z) as (λ b. is_used mine z ≡ b → pair_of (at u whole) z ≡ pair_of (at u ys) z) [
+          (λ z. elim (is_made mine z) as (λ b. is_made mine z ≡ b → pair_of (at u whole) z ≡ pair_of (at u ys) z) [
             | true ↦ λ h. both.1.old_pairs z h ∙ gone z ∙ sym (other z h)
             | false ↦ λ h. both.1.new_pairs z h
           ] refl)
-          (λ r z y. elim (is_used mine z) as (λ b. is_used mine z ≡ b → is_bound (at u whole) r z y ≡ is_bound (at u ys) r z y) [
+          (λ r z y. elim (is_made mine z) as (λ b. is_made mine z ≡ b → is_bound (at u whole) r z y ≡ is_bound (at u ys) r z y) [
             | true ↦ λ h. both.1.old_bindings r z y h ∙ none_bound (at u mine) k1 r z y (gone z) ∙ sym (none_bound (at u ys) k2 r z y (other z h))
             | false ↦ λ h. both.1.new_bindings r z y h
           ] refl),
     ) where
-      unused : (ys mine : List Action) (z : ℕ) → (is_used ys z ≡ true → is_used mine z ≡ false) → is_used mine z ≡ true → is_used ys z ≡ false
-      unused ys mine z f h = elim (is_used ys z) as (λ b. (b ≡ true → is_used mine z ≡ false) → b ≡ false) [
+      unused : (ys mine : List Action) (z : ℕ) → (is_made ys z ≡ true → is_made mine z ≡ false) → is_made mine z ≡ true → is_made ys z ≡ false
+      unused ys mine z f h = elim (is_made ys z) as (λ b. (b ≡ true → is_made mine z ≡ false) → b ≡ false) [
         | true ↦ λ g. absurd (false≢true (sym (g refl) ∙ h))
         | false ↦ λ _. refl
       ] f
@@ -87,13 +87,13 @@ module _ (u : Universe) (old : List Action) where
   untied = after_all u stood (idle_unbinds u stood)
 
   abbrev pub left : Config
-  left = after_all u untied (loose_deletes untied)
+  left = after_all u untied (unreferenced_deletes untied)
 
   abbrev pub cleared : List Action
-  cleared = idle_unbinds u stood ++ loose_deletes untied
+  cleared = idle_unbinds u stood ++ unreferenced_deletes untied
 
   pub left-is : after_all u stood cleared ≡ left
-  left-is = after_all-append u stood (idle_unbinds u stood) (loose_deletes untied)
+  left-is = after_all-append u stood (idle_unbinds u stood) (unreferenced_deletes untied)
 
   quiet_config : (c : Config) (xs : List Action) → IsConfig c → QuietFrom u c xs → IsConfig (after_all u c xs) × (Correct u c → Correct u (after_all u c xs))
   quiet_config c [] k quiet = (k, λ h. h)
@@ -108,14 +108,14 @@ module _ (u : Universe) (old : List Action) where
     untied_good : IsConfig untied × Correct u untied
     untied_good = let good = quiet_config stood (idle_unbinds u stood) (left_config u old go) idle_goes in (good.0, good.1 (left_correct u old go))
 
-    loose_goes : QuietFrom u untied (loose_deletes untied)
-    loose_goes = loose_quiet u (length (members untied)) untied untied_good.0 untied_good.1
+    unreferenced_goes : QuietFrom u untied (unreferenced_deletes untied)
+    unreferenced_goes = unreferenced_quiet u (length (members untied)) untied untied_good.0 untied_good.1
 
     pub left_good : IsConfig left × Correct u left
-    left_good = let good = quiet_config untied (loose_deletes untied) untied_good.0 loose_goes in (good.0, good.1 untied_good.1)
+    left_good = let good = quiet_config untied (unreferenced_deletes untied) untied_good.0 unreferenced_goes in (good.0, good.1 untied_good.1)
 
     pub cleared_quiet : QuietFrom u stood cleared
-    cleared_quiet = QuietFrom-append u stood (idle_unbinds u stood) (loose_deletes untied) idle_goes loose_goes
+    cleared_quiet = QuietFrom-append u stood (idle_unbinds u stood) (unreferenced_deletes untied) idle_goes unreferenced_goes
 
     pub cleared_goes : GoesOn u [] (old ++ cleared)
     cleared_goes = GoesOn-append u [] old cleared go (quiet_goes u old cleared cleared_quiet)
@@ -123,8 +123,8 @@ module _ (u : Universe) (old : List Action) where
     pub cleared_leaves : at u (old ++ cleared) ≡ left
     cleared_leaves = after_all-append u empty old cleared ∙ left-is
 
-    pub cleared_makes : (z : ℕ) → is_used (old ++ cleared) z ≡ is_used old z
-    cleared_makes z = list_any-append (is_new z) old cleared ∙ ap (λ b. is_used old z || b) (quiet_makes_none u stood cleared z cleared_quiet) ∙ nothing (is_used old z) where
+    pub cleared_makes : (z : ℕ) → is_made (old ++ cleared) z ≡ is_made old z
+    cleared_makes z = list_any-append (is_new z) old cleared ∙ ap (λ b. is_made old z || b) (quiet_makes_none u stood cleared z cleared_quiet) ∙ nothing (is_made old z) where
       nothing : (b : Bool) → (b || false) ≡ b
       nothing true = refl
       nothing false = refl
@@ -141,11 +141,11 @@ module _ (u : Universe) (old : List Action) where
     pub left_cleared : IsCleared u stood left
     left_cleared = record {
       correct = left_good.1;
-      pairs = λ z p h. sym (idle_pair u stood z) ∙ loose_pair u (length (members untied)) untied z p h;
+      pairs = λ z p h. sym (idle_pair u stood z) ∙ unreferenced_pair u (length (members untied)) untied z p h;
       bindings = λ r z y h.
-          let parts = and_parts (is_required u stood r z) (is_bound stood r z y) (sym (idle_bound u stood r z y) ∙ loose_bound u (length (members untied)) untied r z y h) in
+          let parts = and_parts (is_required u stood r z) (is_bound stood r z y) (sym (idle_bound u stood r z y) ∙ unreferenced_bound u (length (members untied)) untied r z y h) in
           (parts.1, required_and stood r z parts.0);
-      pointed = λ z h. pointer left.bindings z (loose_ends u (length (members untied)) untied (omega arith) z h);
+      pointed = λ z h. pointer left.bindings z (unreferenced_ends u (length (members untied)) untied (omega arith) z h);
     } where
       pointer : (bs : List Binding) (z : ℕ) → list_any (λ b. nat_eq b.2 z) bs ≡ true → (r : ℕ) × (x : ℕ) × (list_any (is_tie r x z) bs ≡ true)
       pointer [] z h = absurd (false≢true h)
@@ -179,7 +179,7 @@ empty_members c none z = by_value (pair_of c z) (λ h. keys-has c.instances z h)
 -- what is to be shown of the removal: it goes on after old, makes nothing that the fresh list makes, and leaves nothing
 pub record Removes (u : Universe) (old rest new : List Action) : Type 0 where
   pub goes : GoesOn u [] (old ++ rest)
-  pub apart : (z : ℕ) → is_used new z ≡ true → is_used (old ++ rest) z ≡ false
+  pub apart : (z : ℕ) → is_made new z ≡ true → is_made (old ++ rest) z ≡ false
   pub gone : (z : ℕ) → pair_of (at u (old ++ rest)) z ≡ None
 
 pub replaces : (u : Universe) (old fresh rest : List Action) → IsSteady u fresh → Removes u old rest (renumbered old fresh)
@@ -197,8 +197,8 @@ cleared_removes u old fresh s t none =
 
 -- the list, where the two first steps leave nothing
 pub short : (u : Universe) (old fresh : List Action) → is_empty (members (left u old)) ≡ true → removal u (scaffold_name old fresh) (after_all u empty old) ≡ cleared u old
-short u old fresh none = ap (λ b. idle_unbinds u (stood u old) ++ (loose_deletes (untied u old) ++ cond b [] (circle_removal u (scaffold_name old fresh) (left u old)))) none
-    ∙ ap (λ l. idle_unbinds u (stood u old) ++ l) (append-nil (loose_deletes (untied u old)))
+short u old fresh none = ap (λ b. idle_unbinds u (stood u old) ++ (unreferenced_deletes (untied u old) ++ cond b [] (cycle_removal u (scaffold_name old fresh) (left u old)))) none
+    ∙ ap (λ l. idle_unbinds u (stood u old) ++ l) (append-nil (unreferenced_deletes (untied u old)))
 
 pub short_rollout : (u : Universe) (old fresh : List Action) → IsSteady u old → IsSteady u fresh → is_empty (members (after_all u empty (old ++ cleared u old))) ≡ true
     → IsSteady u (rollout u old fresh) × (after_all u empty (rollout u old fresh) ≡ after_all u empty (renumbered old fresh))

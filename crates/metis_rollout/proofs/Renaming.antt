@@ -13,7 +13,7 @@ use Rattle.metis_universe.specs.Steadfast.{is_new, is_steadfast_after}
 use Rattle.metis_universe.proofs.Frames.{pair_step, pair_steps, pair_of-after_all, bound_step}
 use Rattle.metis_layers.proofs.Going.{GoesOn, at, at-next}
 use Rattle.metis_rollout.specs.Rollout.{renumber}
-use Rattle.metis_rollout.specs.Standing.{is_used}
+use Rattle.metis_rollout.specs.Standing.{is_made}
 use Rattle.metis_rollout.proofs.Going.{Unpointed, Unpointed-standing, standing-Unpointed}
 use Rattle.metis_rollout.proofs.Serving.{served}
 use Rattle.metis_rollout.proofs.Sides.{bound_steps, is_bound-after_all}
@@ -69,9 +69,9 @@ module _ (u : Universe) (f : ℕ → ℕ) (K : ℕ → Bool) (apart : (z w : ℕ
   pub bound_ren : (r z y : ℕ) (xs : List Action) → K z ≡ true → K y ≡ true → is_bound (after_all u empty (ren xs)) r (f z) (f y) ≡ is_bound (after_all u empty xs) r z y
   bound_ren r z y xs at_z at_y = is_bound-after_all u empty (ren xs) r (f z) (f y) ∙ bounds_ren r z y xs false at_z at_y ∙ sym (is_bound-after_all u empty xs r z y)
 
-  news_ren : (z : ℕ) (xs : List Action) → K z ≡ true → is_used (ren xs) (f z) ≡ is_used xs z
+  news_ren : (z : ℕ) (xs : List Action) → K z ≡ true → is_made (ren xs) (f z) ≡ is_made xs z
   news_ren z [] at = refl
-  news_ren z (a ∷ xs) at = ap (λ b. b || is_used (ren xs) (f z)) (one a) ∙ ap (λ b. is_new z a || b) (news_ren z xs at) where
+  news_ren z (a ∷ xs) at = ap (λ b. b || is_made (ren xs) (f z)) (one a) ∙ ap (λ b. is_new z a || b) (news_ren z xs at) where
     one : (a : Action) → is_new (f z) (renumber f a) ≡ is_new z a
     one (New x t) = name_same z x at
     one (Delete x) = refl

@@ -12,7 +12,7 @@ use Rattle.metis_universe.specs.Step.{after_all}
 use Rattle.metis_universe.proofs.Kept.{IsConfig-empty}
 use Rattle.metis_layers.proofs.Going.{GoesOn, at}
 use Rattle.metis_rollout.specs.Rollout.{fresh_name, news_of, renumbered}
-use Rattle.metis_rollout.specs.Standing.{AreTogether, IsRenamed, IsSteady, is_used}
+use Rattle.metis_rollout.specs.Standing.{AreTogether, IsRenamed, IsSteady, is_made}
 use Rattle.metis_rollout.proofs.FreeNumbers.{free_number-apart, free_number-free, same_place}
 use Rattle.metis_rollout.proofs.Going.{going_from_steady, steady_from_going}
 use Rattle.metis_rollout.proofs.Renaming.{bound_ren, pair_ren, ren_goes, touches_ren}
@@ -23,10 +23,10 @@ none_there : (u : Universe) (P : ℕ → Type 0) (z : ℕ) → IsSome (pair_of (
 none_there u P z h = absurd (false≢true h)
 
 -- a steady list touches what it makes
-pub touches_own : (u : Universe) (xs : List Action) → GoesOn u [] xs → AllTouch (At (is_used xs)) xs
-touches_own u xs go = going_touches u (At (is_used xs)) [] xs go IsConfig-empty (none_there u (At (is_used xs))) (λ z h. h)
+pub touches_own : (u : Universe) (xs : List Action) → GoesOn u [] xs → AllTouch (At (is_made xs)) xs
+touches_own u xs go = going_touches u (At (is_made xs)) [] xs go IsConfig-empty (none_there u (At (is_made xs))) (λ z h. h)
 
-pub touches_made : (u : Universe) (P : ℕ → Type 0) (xs : List Action) → GoesOn u [] xs → ((z : ℕ) → is_used xs z ≡ true → P z) → AllTouch P xs
+pub touches_made : (u : Universe) (P : ℕ → Type 0) (xs : List Action) → GoesOn u [] xs → ((z : ℕ) → is_made xs z ≡ true → P z) → AllTouch P xs
 touches_made u P xs go made = going_touches u P [] xs go IsConfig-empty (none_there u P) made
 
 split1 : (P : ℕ → Type 0) (xs ys : List Action) → AllTouch P (xs ++ ys) → AllTouch P xs
@@ -38,10 +38,10 @@ split2 P [] ys all = all
 split2 P (a ∷ xs) ys all = split2 P xs ys all.1
 
 -- The second list between two parts of the first: each does as if it were alone.
-pub beside : (u : Universe) (xs ys rest : List Action) → GoesOn u [] (xs ++ rest) → GoesOn u [] ys → ((z : ℕ) → is_used ys z ≡ true → is_used (xs ++ rest) z ≡ false)
+pub beside : (u : Universe) (xs ys rest : List Action) → GoesOn u [] (xs ++ rest) → GoesOn u [] ys → ((z : ℕ) → is_made ys z ≡ true → is_made (xs ++ rest) z ≡ false)
     → GoesOn u [] (xs ++ (ys ++ rest)) × AreTogether u (xs ++ rest) ys (at u (xs ++ (ys ++ rest)))
 beside u xs ys rest one two apart =
-    let S = is_used (xs ++ rest) in
+    let S = is_made (xs ++ rest) in
     let T : ℕ → Bool = λ z. not (S z) in
     let o : AreOpposite S T = λ z. refl in
     let o' : AreOpposite T S = λ z. twice (S z) in
@@ -73,7 +73,7 @@ beside u xs ys rest one two apart =
 
 -- ---- the fresh list under its numbers
 
-pub has-news : (xs : List Action) (z : ℕ) → has (news_of xs) z ≡ is_used xs z
+pub has-news : (xs : List Action) (z : ℕ) → has (news_of xs) z ≡ is_made xs z
 has-news [] z = refl
 has-news (New x t ∷ xs) z = ap (λ b. nat_eq x z || b) (has-news xs z)
 has-news (Delete x ∷ xs) z = has-news xs z
@@ -82,29 +82,29 @@ has-news (Unbind r x y ∷ xs) z = has-news xs z
 has-news (Move x p q ∷ xs) z = has-news xs z
 
 module _ (u : Universe) (old fresh : List Action) where
-  pub names_apart : (z w : ℕ) → is_used fresh z ≡ true → fresh_name old fresh z ≡ fresh_name old fresh w → z ≡ w
+  pub names_apart : (z w : ℕ) → is_made fresh z ≡ true → fresh_name old fresh z ≡ fresh_name old fresh w → z ≡ w
   names_apart z w h e = same_place (news_of fresh) z w (has-news fresh z ∙ h) (free_number-apart (news_of old) _ _ e)
 
-  name_free : (z : ℕ) → is_used old (fresh_name old fresh z) ≡ false
+  name_free : (z : ℕ) → is_made old (fresh_name old fresh z) ≡ false
   name_free z = sym (has-news old (fresh_name old fresh z)) ∙ free_number-free (news_of old) _
 
   pub fresh_goes : GoesOn u [] fresh → GoesOn u [] (renumbered old fresh)
-  fresh_goes go = ren_goes u (fresh_name old fresh) (is_used fresh) names_apart [] fresh tt (touches_own u fresh go) go
+  fresh_goes go = ren_goes u (fresh_name old fresh) (is_made fresh) names_apart [] fresh tt (touches_own u fresh go) go
 
   -- what the renumbered list makes is made by fresh under another name
-  pub fresh_images : GoesOn u [] fresh → AllTouch (λ x. (z : ℕ) × (is_used fresh z ≡ true) × (fresh_name old fresh z ≡ x)) (renumbered old fresh)
-  fresh_images go = touches_ren u (fresh_name old fresh) (is_used fresh) names_apart fresh (touches_own u fresh go)
+  pub fresh_images : GoesOn u [] fresh → AllTouch (λ x. (z : ℕ) × (is_made fresh z ≡ true) × (fresh_name old fresh z ≡ x)) (renumbered old fresh)
+  fresh_images go = touches_ren u (fresh_name old fresh) (is_made fresh) names_apart fresh (touches_own u fresh go)
 
-  pub fresh_unused : GoesOn u [] fresh → (x : ℕ) → is_used (renumbered old fresh) x ≡ true → is_used old x ≡ false
+  pub fresh_unused : GoesOn u [] fresh → (x : ℕ) → is_made (renumbered old fresh) x ≡ true → is_made old x ≡ false
   fresh_unused go x h =
       let of = used_touched _ x (renumbered old fresh) (fresh_images go) h in
-      ap (is_used old) (sym of.2) ∙ name_free of.0
+      ap (is_made old) (sym of.2) ∙ name_free of.0
 
   pub fresh_renamed : GoesOn u [] fresh → IsRenamed (fresh_name old fresh) fresh (at u fresh) (at u (renumbered old fresh))
   fresh_renamed go = record {
     apart = λ z w h k e. names_apart z w h e;
-    pairs = λ z h. pair_ren u (fresh_name old fresh) (is_used fresh) names_apart z fresh h;
-    bindings = λ r z y h k. bound_ren u (fresh_name old fresh) (is_used fresh) names_apart r z y fresh h k;
+    pairs = λ z h. pair_ren u (fresh_name old fresh) (is_made fresh) names_apart z fresh h;
+    bindings = λ r z y h k. bound_ren u (fresh_name old fresh) (is_made fresh) names_apart r z y fresh h k;
     only = λ x h. pair_touched _ u x (renumbered old fresh) (fresh_images go) h;
   }
 
@@ -115,7 +115,7 @@ together u old fresh s t =
     let go = going_from_steady u old s in
     let going = going_from_steady u fresh t in
     let e = append-nil old in
-    let both = beside u old new [] (subst (GoesOn u []) (sym e) go) (fresh_goes u old fresh going) (λ z h. ap (λ l. is_used l z) e ∙ fresh_unused u old fresh going z h) in
+    let both = beside u old new [] (subst (GoesOn u []) (sym e) go) (fresh_goes u old fresh going) (λ z h. ap (λ l. is_made l z) e ∙ fresh_unused u old fresh going z h) in
     let f = ap (λ l. old ++ l) (append-nil new) in (
       steady_from_going u (old ++ new) (subst (GoesOn u []) f both.0),
       subst (λ l. AreTogether u old new (at u l)) f (subst (λ l. AreTogether u l new (at u (old ++ (new ++ [])))) e both.1),

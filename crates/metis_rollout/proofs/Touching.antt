@@ -12,7 +12,7 @@ use Rattle.metis_universe.specs.Steadfast.{is_new}
 use Rattle.metis_universe.proofs.Frames.{pair_of-after, pair_step, pair_steps, pair_of-after_all, bound_step}
 use Rattle.metis_universe.proofs.Kept.{IsConfig-after}
 use Rattle.metis_layers.proofs.Going.{GoesOn, at, at-next}
-use Rattle.metis_rollout.specs.Standing.{is_used}
+use Rattle.metis_rollout.specs.Standing.{is_made}
 use Rattle.metis_rollout.proofs.Sides.{AllKeep, AreOpposite, Keeps, bound_steps, is_bound-after_all, on}
 
 module _ (P : ℕ → Type 0) where
@@ -83,9 +83,9 @@ module _ (P : ℕ → Type 0) where
   new_touched z (Unbind r x y) at h = absurd (false≢true h)
   new_touched z (Move x p q) at h = absurd (false≢true h)
 
-  pub used_touched : (z : ℕ) (xs : List Action) → AllTouch xs → is_used xs z ≡ true → P z
+  pub used_touched : (z : ℕ) (xs : List Action) → AllTouch xs → is_made xs z ≡ true → P z
   used_touched z [] all h = absurd (false≢true h)
-  used_touched z (a ∷ xs) all h = elim (or_cases (is_new z a) (is_used xs z) h) [
+  used_touched z (a ∷ xs) all h = elim (or_cases (is_new z a) (is_made xs z) h) [
     | inl now ↦ new_touched z a all.0 now
     | inr later ↦ used_touched z xs all.1 later
   ]
@@ -163,13 +163,13 @@ module _ (u : Universe) (P : ℕ → Type 0) where
   known_after : (c : Config) (a : Action) → Touches P a → ((z : ℕ) → IsSome (pair_of c z) → P z) → (z : ℕ) → IsSome (pair_of (after u c a) z) → P z
   known_after c a at known z h = step_touched P u z a (pair_of c z) at (known z) (subst IsSome (pair_of-after u c a z) h)
 
-  pub going_touches : (earlier rest : List Action) → GoesOn u earlier rest → IsConfig (at u earlier) → ((z : ℕ) → IsSome (pair_of (at u earlier) z) → P z) → ((z : ℕ) → is_used rest z ≡ true → P z) → AllTouch P rest
+  pub going_touches : (earlier rest : List Action) → GoesOn u earlier rest → IsConfig (at u earlier) → ((z : ℕ) → IsSome (pair_of (at u earlier) z) → P z) → ((z : ℕ) → is_made rest z ≡ true → P z) → AllTouch P rest
   going_touches earlier [] go k known new = tt
   going_touches earlier (a ∷ rest) go k known new =
-      let now = allowed_touches (at u earlier) a k known (λ z h. new z (or_left (is_new z a) (is_used rest z) h)) go.0 in (
+      let now = allowed_touches (at u earlier) a k known (λ z h. new z (or_left (is_new z a) (is_made rest z) h)) go.0 in (
         now,
         going_touches (earlier ++ a ∷ []) rest go.3
             (subst IsConfig (sym (at-next u earlier a)) (IsConfig-after u (at u earlier) a k go.0))
             (λ z h. known_after (at u earlier) a now known z (subst (λ c. IsSome (pair_of c z)) (at-next u earlier a) h))
-            (λ z h. new z (or_right (is_new z a) (is_used rest z) h)),
+            (λ z h. new z (or_right (is_new z a) (is_made rest z) h)),
       )

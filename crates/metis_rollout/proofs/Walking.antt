@@ -21,7 +21,7 @@ use Rattle.metis_universe.specs.Step.{Allows, IsRun, after, after_all}
 use Rattle.std.specs.BTreeMap.{insert_entry}
 use Rattle.metis_universe.specs.Steadfast.{is_steadfast, is_steadfast_after}
 use Rattle.metis_universe.proofs.Edits.{pair_of-put}
-use Rattle.metis_rollout.specs.Standing.{is_used}
+use Rattle.metis_rollout.specs.Standing.{is_made}
 use Rattle.metis_rollout.proofs.FreeNumbers.{free_number-low}
 use Rattle.metis_rollout.proofs.Together.{has-news}
 use Rattle.metis_universe.proofs.Places.{run_at, steadfast_at}
@@ -137,7 +137,7 @@ nothing_made (Move z p q) other = refl
 pub named_next : (u : Universe) (used : List ℕ) (xs : List Action) (i : ℕ) (a : Action) (table new : List (ℕ × ℕ)) (next next' z t : ℕ) → is_steadfast u xs ≡ true → i < length xs → a ≡ get_or xs i a → Named used (news_of (take i xs)) table next → a ≡ New z t
     → new ≡ insert_entry nat_cmp table z next → next' ≡ next_free used (next + 1) → Named used (news_of (take (i + 1) xs)) new next'
 named_next u used xs i a table new next next' z t steady low is n made now then =
-    let unused : has (news_of (take i xs)) z ≡ false = has-news (take i xs) z ∙ not_true (is_used (take i xs) z) (subst (λ b. is_steadfast_after u (take i xs) b ≡ true) made (steadfast_at u xs i a steady (item_at xs i a low ∙ ap Some (sym is)))) in
+    let unused : has (news_of (take i xs)) z ≡ false = has-news (take i xs) z ∙ not_true (is_made (take i xs) z) (subst (λ b. is_steadfast_after u (take i xs) b ≡ true) made (steadfast_at u xs i a steady (item_at xs i a low ∙ ap Some (sym is)))) in
     let e : next + 1 ≡ suc next = omega arith in
     let news : news_of (take (i + 1) xs) ≡ news_of (take i xs) ++ z ∷ [] = news_next xs i a low is ∙ ap (λ b. news_of (take i xs) ++ cons_option (made_by b) []) made in
     subst (λ l. Named used l new next') (sym news)

@@ -1,4 +1,4 @@
--- The whole list: the old instances are removed, those bound in a circle beside a scaffold, and the fresh ones stand alone.
+-- The whole list: the old instances are removed, those bound in a cycle beside a scaffold, and the fresh ones stand alone.
 use Rattle.std.proofs.Common.{◌≡◌, ℕ, zero, suc, ◌+◌, ◌<◌, ◌≤◌, Bool, true, false, cond, ◌||◌, List, [], ◌∷◌, ◌++◌, Option, Some, None, refl, sym, ap, ◌∙◌, subst, arith, nat_eq, map, length, append_assoc, append-nil, inl, inr}
 use Rattle.std.specs.Prelude.{IsSome, slice_get}
 use Rattle.std.specs.List.{count_by}
@@ -19,9 +19,9 @@ use Rattle.metis_layers.proofs.Going.{GoesOn, GoesOn-append, after_all-append, a
 use Rattle.metis_layers.proofs.Deploying.{Stand, ends_need}
 use Rattle.metis_layers.proofs.LayerFacts.{HasLayer, layer_by}
 use Rattle.metis_layers.specs.LayerOrder.{place_of}
-use Rattle.metis_rollout.specs.Rollout.{circle_removal, cleared_by, fresh_name, idle_unbinds, loose_deletes, members, news_of, pairs_in, removal, renumber, renumbered, rollout, scaffold_holder, scaffold_list, scaffold_name, scaffold_pairs}
-use Rattle.metis_rollout.specs.Standing.{AreTogether, IsSteady, is_used}
-use Rattle.metis_rollout.proofs.Circle.{Scene, taken_down, taken_down_goes, taken_down_gone}
+use Rattle.metis_rollout.specs.Rollout.{cycle_removal, cleared_by, fresh_name, idle_unbinds, unreferenced_deletes, members, news_of, pairs_in, removal, renumber, renumbered, rollout, scaffold_holder, scaffold_list, scaffold_name, scaffold_pairs}
+use Rattle.metis_rollout.specs.Standing.{AreTogether, IsSteady, is_made}
+use Rattle.metis_rollout.proofs.Cycles.{Scene, taken_down, taken_down_goes, taken_down_gone}
 use Rattle.metis_rollout.proofs.FreeNumbers.{free_number-apart, free_number-free}
 use Rattle.metis_rollout.proofs.Going.{going_from_steady}
 use Rattle.metis_rollout.proofs.Holding.{renumbered_holds}
@@ -88,7 +88,7 @@ module _ (u : Universe) (k : IsUniverse u) (old fresh : List Action) (s : IsStea
   list = scaffold_list u g
 
   abbrev S : ℕ → Bool
-  S = is_used old
+  S = is_made old
 
   -- ---- names
 
@@ -99,7 +99,7 @@ module _ (u : Universe) (k : IsUniverse u) (old fresh : List Action) (s : IsStea
   names_apart n m e = let h = free_number-apart (news_of old) (length (news_of fresh) + n) (length (news_of fresh) + m) e in omega arith
 
   -- no fresh instance has the name of one of the scaffold
-  names_other : (x n : ℕ) → is_used fresh x ≡ true → fresh_name old fresh x ≡ f n → ⊥
+  names_other : (x n : ℕ) → is_made fresh x ≡ true → fresh_name old fresh x ≡ f n → ⊥
   names_other x n used e =
       let h = free_number-apart (news_of old) (place_of (news_of fresh) x) (length (news_of fresh) + n) e in
       let low = below_length (news_of fresh) x (has-news fresh x ∙ used) in
@@ -116,7 +116,7 @@ module _ (u : Universe) (k : IsUniverse u) (old fresh : List Action) (s : IsStea
   stand = (scaffold_goes u k g).1
 
   abbrev K : ℕ → Bool
-  K = is_used list
+  K = is_made list
 
   made : (n : ℕ) → n < length ends → K n ≡ true
   made n low = pair_touched (At K) u n list (touches_own u list list_goes) (subst IsSome (sym (stand.pairs n)) (inside ends n low))
@@ -150,14 +150,14 @@ module _ (u : Universe) (k : IsUniverse u) (old fresh : List Action) (s : IsStea
   abbrev cut : List Action
   cut = old ++ cleared u old
 
-  cut_used : (z : ℕ) → is_used cut z ≡ S z
+  cut_used : (z : ℕ) → is_made cut z ≡ S z
   cut_used z = cleared_makes u old going z
 
   beside_cut : GoesOn u [] (cut ++ scaffold) × AreTogether u cut scaffold (at u (cut ++ scaffold))
   beside_cut =
       let e = append-nil cut in
       let two = beside u cut scaffold [] (subst (GoesOn u []) (sym e) (cleared_goes u old going)) scaffold_going
-      (λ z h. ap (λ l. is_used l z) e ∙ cut_used z ∙ (let of = used_touched Image z scaffold images h in ap S (sym of.2) ∙ names_free of.0)) in
+      (λ z h. ap (λ l. is_made l z) e ∙ cut_used z ∙ (let of = used_touched Image z scaffold images h in ap S (sym of.2) ∙ names_free of.0)) in
       let w = ap (λ l. cut ++ l) (append-nil scaffold) in (
         subst (GoesOn u []) w two.0,
         subst (λ l. AreTogether u cut scaffold (at u l)) w (subst (λ l. AreTogether u l scaffold (at u (cut ++ (scaffold ++ [])))) e two.1),
@@ -178,7 +178,7 @@ module _ (u : Universe) (k : IsUniverse u) (old fresh : List Action) (s : IsStea
   scene = record {
     good = (left_good u old going).0;
     correct = left_correct u (cut ++ scaffold) beside_cut.0;
-    olds = λ z h. sym (cut_used z) ∙ pair_touched (At (is_used cut)) u z cut (touches_own u cut (cleared_goes u old going)) (subst IsSome (sym (ap (λ d. pair_of d z) leaves)) h);
+    olds = λ z h. sym (cut_used z) ∙ pair_touched (At (is_made cut)) u z cut (touches_own u cut (cleared_goes u old going)) (subst IsSome (sym (ap (λ d. pair_of d z) leaves)) h);
     names = names_free;
     injective = names_apart;
     old_pairs = λ z h. beside_cut.1.old_pairs z (cut_used z ∙ h) ∙ ap (λ d. pair_of d z) leaves;
@@ -212,20 +212,20 @@ module _ (u : Universe) (k : IsUniverse u) (old fresh : List Action) (s : IsStea
   rest_gone : (z : ℕ) → pair_of (at u (old ++ rest)) z ≡ None
   rest_gone z = ap (λ l. pair_of (at u l) z) (sym same_list) ∙ ap (λ d. pair_of d z) (after_all-append u empty (cut ++ scaffold) (taken_down u what c S f holder ends scene)) ∙ taken_down_gone u what c S f holder ends scene z
 
-  rest_apart : (z : ℕ) → is_used (renumbered old fresh) z ≡ true → is_used (old ++ rest) z ≡ false
+  rest_apart : (z : ℕ) → is_made (renumbered old fresh) z ≡ true → is_made (old ++ rest) z ≡ false
   rest_apart z h =
       let of = used_touched _ z (renumbered old fresh) (fresh_images u old fresh fresh_going) h in
-      ap (λ l. is_used l z) (sym same_list)
+      ap (λ l. is_made l z) (sym same_list)
       ∙ list_any-append (is_new z) (cut ++ scaffold) (taken_down u what c S f holder ends scene)
-      ∙ ap (λ b. is_used (cut ++ scaffold) z || b) (quiet_makes_none u c (taken_down u what c S f holder ends scene) z (taken_down_goes u what c S f holder ends scene))
-      ∙ ap (λ b. b || false) (list_any-append (is_new z) cut scaffold ∙ ap (λ b. b || is_used scaffold z) (cut_used z ∙ fresh_unused u old fresh fresh_going z h))
-      ∙ ap (λ b. b || false) (not_all (is_used scaffold z) (λ is. let by = used_touched Image z scaffold images is in names_other of.0 by.0 of.1 (of.2 ∙ sym by.2)))
+      ∙ ap (λ b. is_made (cut ++ scaffold) z || b) (quiet_makes_none u c (taken_down u what c S f holder ends scene) z (taken_down_goes u what c S f holder ends scene))
+      ∙ ap (λ b. b || false) (list_any-append (is_new z) cut scaffold ∙ ap (λ b. b || is_made scaffold z) (cut_used z ∙ fresh_unused u old fresh fresh_going z h))
+      ∙ ap (λ b. b || false) (not_all (is_made scaffold z) (λ is. let by = used_touched Image z scaffold images is in names_other of.0 by.0 of.1 (of.2 ∙ sym by.2)))
 
   -- with a scaffold
   long : is_empty (members what) ≡ false → IsSteady u (rollout u old fresh) × (after_all u empty (rollout u old fresh) ≡ after_all u empty (renumbered old fresh))
   long some =
-      let shape : removal u f (stood u old) ≡ rest = ap (λ b. idle_unbinds u (stood u old) ++ (loose_deletes (untied u old) ++ cond b [] (circle_removal u f what))) some
-      ∙ sym (append_assoc (idle_unbinds u (stood u old)) (loose_deletes (untied u old)) (circle_removal u f what)) in
+      let shape : removal u f (stood u old) ≡ rest = ap (λ b. idle_unbinds u (stood u old) ++ (unreferenced_deletes (untied u old) ++ cond b [] (cycle_removal u f what))) some
+      ∙ sym (append_assoc (idle_unbinds u (stood u old)) (unreferenced_deletes (untied u old)) (cycle_removal u f what)) in
       let e : rollout u old fresh ≡ old ++ (renumbered old fresh ++ rest) = ap (λ l. old ++ (renumbered old fresh ++ l)) shape in
       let done = replaces u old fresh rest t (record { goes = rest_goes; apart = rest_apart; gone = rest_gone }) in
       (subst (IsSteady u) (sym e) done.0, ap (after_all u empty) e ∙ done.1)

@@ -6,8 +6,9 @@ ghost use Rattle.metis_config.specs.Over.{IsOver};
 ghost use Rattle.metis_universe.specs.Universe.{Universe};
 ghost use Rattle.metis_universe.specs.Config.{IsConfig, binding_cmp, is_bound};
 ghost use Rattle.metis_universe.specs.Step.{after_all};
-ghost use Rattle.metis_rollout.specs.Rollout.{idle_unbinds, is_idle, is_pointed, loose_deletes, next_loose, unbind};
+ghost use Rattle.metis_rollout.specs.Rollout.{idle_unbinds, is_idle, unreferenced_deletes, unbind};
 
+use crate::unreferenced::{ends_of, let_go, unreferenced_of};
 use metis_config::Config;
 use metis_ids::{Action, InstNo, NoMemory, PortIx};
 use metis_universe::Universe;
@@ -73,39 +74,24 @@ fn untie_all(
     Ok(())
 }
 
-/// Again and again removes the least instance to which no binding points.
-pub fn delete_loose(c: &mut Config, actions: &mut Vec<Action>) -> Result<(), NoMemory>
-    ensures actions { OnOk result (actions.new.items ≡ actions.old.items ++ loose_deletes c.old) }
-    ensures config { OnOk result ((u : Universe) → c.new ≡ after_all u c.old (loose_deletes c.old)) }
+/// Again and again removes the least instance to which no binding points. Each removal looks at the bindings of the one that
+/// goes, and not at the other instances.
+pub fn delete_unreferenced(
+    alloc: Global,
+    c: &mut Config,
+    actions: &mut Vec<Action>,
+) -> Result<(), NoMemory>
+    ensures actions { OnOk result (actions.new.items ≡ actions.old.items ++ unreferenced_deletes c.old) }
+    ensures config { OnOk result ((u : Universe) → c.new ≡ after_all u c.old (unreferenced_deletes c.old)) }
 {
+    let mut ends = ends_of(alloc, c)?;
+    let mut unreferenced = unreferenced_of(alloc, c, &ends)?;
     for _ in 0..c.count() {
-        let Some(z) = next_loose(c) else {
+        let Some(z) = unreferenced.pop_first() else {
             return Ok(());
         };
         actions.push(Action::Delete { inst: z })?;
-        c.remove(z);
+        let_go(c, &mut ends, &mut unreferenced, z)?;
     }
     Ok(())
-}
-
-fn next_loose(c: &Config) -> Option<InstNo>
-    ensures { result ≡ next_loose c.now }
-{
-    for (z, _) in c.instances() {
-        if !is_pointed(c, z) {
-            return Some(z);
-        }
-    }
-    None
-}
-
-fn is_pointed(c: &Config, z: InstNo) -> bool
-    ensures { result ≡ is_pointed c.now z }
-{
-    for tie in c.bindings() {
-        if tie.2 == z {
-            return true;
-        }
-    }
-    false
 }

@@ -1,4 +1,4 @@
-//! From what stands to what is wanted, where no instances are bound in a circle.
+//! From what stands to what is wanted, where no instances are bound in a cycle.
 ghost use Rattle.std.specs.Prelude.{◌≡◌, ◌+◌, ◌-◌, ◌<◌, ◌^◌, ◌++◌, ℕ, List, IfOk, IsTrue, length};
 ghost use Rattle.std.specs.List.{All};
 ghost use Rattle.metis_universe.specs.Config.{empty};
@@ -9,7 +9,7 @@ ghost use Rattle.metis_universe.specs.Universe.{is_empty};
 ghost use Rattle.metis_rollout.specs.Rollout.{cleared_by, members, renumbered, rollout};
 ghost use Rattle.metis_rollout.specs.Standing.{AreTogether, IsSteady};
 
-use crate::clearing::{delete_loose, unbind_idle};
+use crate::clearing::{delete_unreferenced, unbind_idle};
 use crate::names::{made_by, names_for, push_renumbered};
 use crate::standing::left_by;
 use metis_ids::{Action, NoMemory};
@@ -17,7 +17,7 @@ use metis_universe::Universe;
 use std::alloc::Global;
 
 /// The old actions, the fresh ones beside what they leave, and then the removal of the old instances.
-pub fn rollout(
+pub fn rollout_without_scaffold(
     alloc: Global,
     u: &Universe,
     old: &[Action],
@@ -28,7 +28,7 @@ pub fn rollout(
     requires old_ours { All (IsOf u.now) old.now }
     requires fresh_ours { All (IsOf u.now) fresh.now }
     requires few { length old.now + length fresh.now < 2 ^ 29 }
-    requires loose { IsTrue (is_empty (members (after_all u.now empty (old.now ++ cleared_by u.now old.now)))) }
+    requires unreferenced { IsTrue (is_empty (members (after_all u.now empty (old.now ++ cleared_by u.now old.now)))) }
     ensures list { IfOk result (λ list. list.items ≡ rollout u.now old.now fresh.now) }
     ensures steady { IfOk result (λ list. IsSteady u.now list.items) }
     ensures end { IfOk result (λ list. after_all u.now empty list.items ≡ after_all u.now empty (renumbered old.now fresh.now)) }
@@ -45,6 +45,6 @@ pub fn rollout(
     push_renumbered(&names, fresh, &mut actions)?;
     let mut c = left_by(alloc, u, old)?;
     unbind_idle(alloc, u, &mut c, &mut actions)?;
-    delete_loose(&mut c, &mut actions)?;
+    delete_unreferenced(alloc, &mut c, &mut actions)?;
     Ok(actions)
 }

@@ -109,11 +109,11 @@ module _ (u : Universe) (left c : Config) (S : ℕ → Bool) (f holder : ℕ →
     abbrev bound : Config
     bound = after_all u c (map bind ties)
 
-    abbrev loosened : Config
-    loosened = after_all u bound (map unbind left.bindings)
+    abbrev unreferencedned : Config
+    unreferencedned = after_all u bound (map unbind left.bindings)
 
     abbrev bare : Config
-    bare = after_all u loosened (deletes (members left))
+    bare = after_all u unreferencedned (deletes (members left))
 
     keys : AllUnlike (keys_of left.instances)
     keys = sorted_unlike (keys_of left.instances) s.good.ascending
@@ -168,33 +168,33 @@ module _ (u : Universe) (left c : Config) (S : ℕ → Bool) (f holder : ℕ →
           gives = held.gives;
         }
 
-    loosened_pair : (z : ℕ) → pair_of loosened z ≡ pair_of c z
-    loosened_pair z = unbinds_pair u bound left.bindings z ∙ binds_pair u c ties z
+    unreferencedned_pair : (z : ℕ) → pair_of unreferencedned z ≡ pair_of c z
+    unreferencedned_pair z = unbinds_pair u bound left.bindings z ∙ binds_pair u c ties z
 
-    loosened_is : (r z y : ℕ) → is_bound left r z y ≡ false → is_bound loosened r z y ≡ (is_in ties r z y || is_bound c r z y)
-    loosened_is r z y off = unbinds_bound u bound left.bindings r z y ∙ ap (λ b. not b && is_bound bound r z y) off ∙ bound_is r z y
+    unreferencedned_is : (r z y : ℕ) → is_bound left r z y ≡ false → is_bound unreferencedned r z y ≡ (is_in ties r z y || is_bound c r z y)
+    unreferencedned_is r z y off = unbinds_bound u bound left.bindings r z y ∙ ap (λ b. not b && is_bound bound r z y) off ∙ bound_is r z y
 
-    loosened_correct : Correct u loosened
-    loosened_correct z p r there needs =
-        let was = sym (loosened_pair z) ∙ there in
-        elim (S z) as (λ b. S z ≡ b → IsMet u loosened z r) [
-          | true ↦ λ mine. met_by_scaffold loosened z p r (sym (s.old_pairs z mine) ∙ was) needs (λ y is off. loosened_is r z y off ∙ or_left (is_in ties r z y) (is_bound c r z y) is) loosened_pair
-          | false ↦ λ other. served_still u c loosened r z (s.correct z p r was needs) (λ y q is g. (
-            loosened_is r z y (not_all (is_bound left r z y) (λ e. differ (S z) (s.olds z (s.good.requirer r z y e)) other)) ∙ or_right (is_in ties r z y) (is_bound c r z y) is,
-            loosened_pair y ∙ g,
+    unreferencedned_correct : Correct u unreferencedned
+    unreferencedned_correct z p r there needs =
+        let was = sym (unreferencedned_pair z) ∙ there in
+        elim (S z) as (λ b. S z ≡ b → IsMet u unreferencedned z r) [
+          | true ↦ λ mine. met_by_scaffold unreferencedned z p r (sym (s.old_pairs z mine) ∙ was) needs (λ y is off. unreferencedned_is r z y off ∙ or_left (is_in ties r z y) (is_bound c r z y) is) unreferencedned_pair
+          | false ↦ λ other. served_still u c unreferencedned r z (s.correct z p r was needs) (λ y q is g. (
+            unreferencedned_is r z y (not_all (is_bound left r z y) (λ e. differ (S z) (s.olds z (s.good.requirer r z y e)) other)) ∙ or_right (is_in ties r z y) (is_bound c r z y) is,
+            unreferencedned_pair y ∙ g,
           ))
         ] refl
 
     unbinds_go : QuietFrom u bound (map unbind left.bindings)
-    unbinds_go = unbinds_quiet u bound left.bindings s.good.in_order (still left.bindings (all_among left.bindings left.bindings (λ t g. g))) loosened_correct
+    unbinds_go = unbinds_quiet u bound left.bindings s.good.in_order (still left.bindings (all_among left.bindings left.bindings (λ t g. g))) unreferencedned_correct
 
     -- what is bound now: an old instance to the scaffold, or the scaffold to itself
     pub record IsTieOrNew (r x y : ℕ) : Type 0 where
       pub of_old : S x ≡ true → IsSome (pair_of left x) × (h r ≡ y)
       pub of_new : S x ≡ false → is_bound c r x y ≡ true
 
-    loosened_bound : (r x y : ℕ) → is_bound loosened r x y ≡ true → IsTieOrNew r x y
-    loosened_bound r x y is =
+    unreferencedned_bound : (r x y : ℕ) → is_bound unreferencedned r x y ≡ true → IsTieOrNew r x y
+    unreferencedned_bound r x y is =
         let parts = and_parts (not (is_bound left r x y)) (is_bound bound r x y) (sym (unbinds_bound u bound left.bindings r x y) ∙ is) in
         let cases = or_cases (is_in ties r x y) (is_bound c r x y) (sym (bound_is r x y) ∙ parts.1) in record {
           of_old = λ mine. elim cases [
@@ -209,26 +209,26 @@ module _ (u : Universe) (left c : Config) (S : ℕ → Bool) (f holder : ℕ →
 
     -- ---- the removal of the old instances
 
-    none_to : (z : ℕ) → S z ≡ true → Unpointed loosened z
-    none_to z mine r x = not_all (is_bound loosened r x z) (λ is.
-        let of = loosened_bound r x z is in
+    none_to : (z : ℕ) → S z ≡ true → Unpointed unreferencedned z
+    none_to z mine r x = not_all (is_bound unreferencedned r x z) (λ is.
+        let of = unreferencedned_bound r x z is in
         elim (S x) as (λ b. S x ≡ b → ⊥) [
           | true ↦ λ one. differ (S z) mine (ap S (sym (of.of_old one).1) ∙ s.names (holder r))
           | false ↦ λ other. let d = s.new_bound r x z other (of.of_new other) in differ (S z) mine (ap S (sym d.5) ∙ s.names d.1)
         ] refl)
 
-    there_all : (zs : List ℕ) → ((z : ℕ) → has zs z ≡ true → IsSome (pair_of left z)) → AllByRecursion (λ z. IsSome (pair_of loosened z)) zs
+    there_all : (zs : List ℕ) → ((z : ℕ) → has zs z ≡ true → IsSome (pair_of left z)) → AllByRecursion (λ z. IsSome (pair_of unreferencedned z)) zs
     there_all [] all = tt
     there_all (z ∷ zs) all =
         let one = all z (or_left (nat_eq z z) (has zs z) (eq-eqb z z refl)) in
-        (subst IsSome (sym (loosened_pair z ∙ s.old_pairs z (s.olds z one))) one, there_all zs (λ y g. all y (or_right (nat_eq z y) (has zs y) g)))
+        (subst IsSome (sym (unreferencedned_pair z ∙ s.old_pairs z (s.olds z one))) one, there_all zs (λ y g. all y (or_right (nat_eq z y) (has zs y) g)))
 
-    none_all : (zs : List ℕ) → ((z : ℕ) → has zs z ≡ true → IsSome (pair_of left z)) → AllByRecursion (Unpointed loosened) zs
+    none_all : (zs : List ℕ) → ((z : ℕ) → has zs z ≡ true → IsSome (pair_of left z)) → AllByRecursion (Unpointed unreferencedned) zs
     none_all [] all = tt
     none_all (z ∷ zs) all = (none_to z (s.olds z (all z (or_left (nat_eq z z) (has zs z) (eq-eqb z z refl)))), none_all zs (λ y g. all y (or_right (nat_eq z y) (has zs y) g)))
 
-    removes_go : QuietFrom u loosened (deletes (members left))
-    removes_go = deletes_quiet u loosened (members left) loosened_correct (there_all (members left) (λ z g. has-keys left.instances z g)) (none_all (members left) (λ z g. has-keys left.instances z g)) keys
+    removes_go : QuietFrom u unreferencedned (deletes (members left))
+    removes_go = deletes_quiet u unreferencedned (members left) unreferencedned_correct (there_all (members left) (λ z g. has-keys left.instances z g)) (none_all (members left) (λ z g. has-keys left.instances z g)) keys
 
     correct_after : (c : Config) (xs : List Action) → Correct u c → QuietFrom u c xs → Correct u (after_all u c xs)
     correct_after c [] k quiet = k
@@ -236,15 +236,15 @@ module _ (u : Universe) (left c : Config) (S : ℕ → Bool) (f holder : ℕ →
 
     ladder : Ladder u f s.injective (length ends) bare
     ladder = record {
-      correct = correct_after loosened (deletes (members left)) loosened_correct removes_go;
-      stands = λ k low. subst IsSome (sym (deletes_pair u loosened (members left) (f k) ∙ ap (λ b. cond b None (pair_of loosened (f k))) (not_old k) ∙ loosened_pair (f k) ∙ s.new_pairs k low)) (inside ends k low);
+      correct = correct_after unreferencedned (deletes (members left)) unreferencedned_correct removes_go;
+      stands = λ k low. subst IsSome (sym (deletes_pair u unreferencedned (members left) (f k) ∙ ap (λ b. cond b None (pair_of unreferencedned (f k))) (not_old k) ∙ unreferencedned_pair (f k) ∙ s.new_pairs k low)) (inside ends k low);
       only = λ z is.
-          let was = kept z (subst IsSome (deletes_pair u loosened (members left) z) is) in
-          let now = subst IsSome (loosened_pair z) was.1 in
+          let was = kept z (subst IsSome (deletes_pair u unreferencedned (members left) z) is) in
+          let now = subst IsSome (unreferencedned_pair z) was.1 in
           s.new_only z (not_all (S z) (λ mine. differ (has (members left) z) (keys-has left.instances z (subst IsSome (s.old_pairs z mine) now)) was.0)) now;
       down = λ r x y is.
-          let was = deletes_bound u loosened (members left) r x y is in
-          let of = loosened_bound r x y was.0 in
+          let was = deletes_bound u unreferencedned (members left) r x y is in
+          let of = unreferencedned_bound r x y was.0 in
           let other : S x ≡ false = not_all (S x) (λ mine. differ (has (members left) x) (keys-has left.instances x (of.of_old mine).0) was.1) in
           s.new_bound r x y other (of.of_new other);
     } where
@@ -256,8 +256,8 @@ module _ (u : Universe) (left c : Config) (S : ℕ → Bool) (f holder : ℕ →
       inside (x ∷ xs) zero low = refl
       inside (x ∷ xs) (suc k) low = inside xs k (omega arith)
 
-      kept : (z : ℕ) → IsSome (cond (has (members left) z) None (pair_of loosened z)) → (has (members left) z ≡ false) × IsSome (pair_of loosened z)
-      kept z is = elim (has (members left) z) as (λ b. IsSome (cond b None (pair_of loosened z)) → (b ≡ false) × IsSome (pair_of loosened z)) [
+      kept : (z : ℕ) → IsSome (cond (has (members left) z) None (pair_of unreferencedned z)) → (has (members left) z ≡ false) × IsSome (pair_of unreferencedned z)
+      kept z is = elim (has (members left) z) as (λ b. IsSome (cond b None (pair_of unreferencedned z)) → (b ≡ false) × IsSome (pair_of unreferencedned z)) [
         | true ↦ λ g. absurd (false≢true g)
         | false ↦ λ g. (refl, g)
       ] is
@@ -270,8 +270,8 @@ module _ (u : Universe) (left c : Config) (S : ℕ → Bool) (f holder : ℕ →
     pub taken_down_goes : QuietFrom u c taken_down
     taken_down_goes = QuietFrom-append u c (map bind ties) (map unbind left.bindings ++ (deletes (members left) ++ deletes (map f (downward (length ends))))) binds_go
         (QuietFrom-append u bound (map unbind left.bindings) (deletes (members left) ++ deletes (map f (downward (length ends)))) unbinds_go
-        (QuietFrom-append u loosened (deletes (members left)) (deletes (map f (downward (length ends)))) removes_go (ladder_goes u f s.injective (length ends) bare ladder)))
+        (QuietFrom-append u unreferencedned (deletes (members left)) (deletes (map f (downward (length ends)))) removes_go (ladder_goes u f s.injective (length ends) bare ladder)))
 
     pub taken_down_gone : (z : ℕ) → pair_of (after_all u c taken_down) z ≡ None
-    taken_down_gone z = ap (λ d. pair_of d z) (after_all-append u c (map bind ties) _ ∙ after_all-append u bound (map unbind left.bindings) _ ∙ after_all-append u loosened (deletes (members left)) _)
+    taken_down_gone z = ap (λ d. pair_of d z) (after_all-append u c (map bind ties) _ ∙ after_all-append u bound (map unbind left.bindings) _ ∙ after_all-append u unreferencedned (deletes (members left)) _)
         ∙ ladder_gone u f s.injective (length ends) bare ladder z
