@@ -1,6 +1,6 @@
 -- The unreferenced instances, and the bindings by their ends, while instances are removed.
 use Rattle.std.proofs.Common.{◌≡◌, ℕ, ◌<◌, ◌≤◌, Bool, true, false, cond, not, ◌&&◌, ◌||◌, List, [], ◌∷◌, Option, Some, None, refl, sym, ap, ◌∙◌, subst, arith, nat_eq, length, inl, inr}
-use Rattle.std.specs.Prelude.{is_some, option_map, IsSome}
+use Rattle.std.specs.Prelude.{is_some, option_map}
 use Rattle.std.specs.List.{All, AllByRecursion, filter, find, list_any}
 use Rattle.std.specs.List.Sorted.{IsStrictlySortedBy}
 use Rattle.std.specs.BTreeMap.Range.{IsLtBy}
@@ -16,17 +16,17 @@ use Rattle.std.proofs.lemmas.Bool.Decides.{nat_tests}
 use Rattle.std.proofs.lemmas.List.Elements.{recursion_from_All}
 use Rattle.std.proofs.lemmas.Map.Views.{any-filter_same}
 use Rattle.metis_universe.specs.Universe.{has}
-use Rattle.metis_universe.specs.Config.{Binding, Config, IsConfig, binding_cmp, config_of, is_bound, is_tie, names, pair_of, remove, untie}
-use Rattle.metis_universe.proofs.Edits.{is_bound-tie, is_bound-untie, remove_key-bindings, tie_is}
+use Rattle.metis_universe.specs.Config.{Binding, Config, IsConfig, binding_cmp, config_of, is_bound, is_tie, remove, untie}
+use Rattle.metis_universe.proofs.Edits.{is_bound-tie, remove_key-bindings, tie_is}
 use Rattle.metis_universe.proofs.Sorted.{keys_of-filter}
-use Rattle.metis_config.specs.Clients.{AreEnds, AreNeeds, IsIndexed, has_client, has_need}
+use Rattle.metis_config.specs.Clients.{AreEnds, IsIndexed, has_client, has_need}
 use Rattle.metis_config.proofs.Firsts.{head, short, served_none, served_some}
 use Rattle.metis_config.proofs.Indexed.{AreEnds-gone, AreEnds-untie}
 use Rattle.metis_config.proofs.Removed.{others}
 use Rattle.metis_rollout.specs.Unreferenced.{AreUnreferenced, AreUnreferencedBut, is_unreferenced, points_to}
 use Rattle.metis_rollout.specs.Rollout.{is_referenced, members, next_unreferenced}
-use Rattle.metis_rollout.proofs.Going.{Unpointed, pointed_none, unpointed}
-use Rattle.metis_rollout.proofs.Quiet.{find_none, find_some, keys-has}
+use Rattle.metis_rollout.proofs.Going.{pointed_none, unpointed}
+use Rattle.metis_rollout.proofs.Quiet.{find_some, keys-has}
 
 differ : (b : Bool) → b ≡ true → b ≡ false → ⊥
 differ b t f = false≢true (sym f ∙ t)

@@ -84,7 +84,11 @@ fn cut(c: &mut Config, ends: &mut Ends, r: PortIx, z: InstNo, y: InstNo)
 }
 
 // Puts the instance in where no binding points to it.
-fn add_unreferenced(ends: &Ends, y: InstNo, unreferenced: &mut BTreeSet<InstNo>) -> Result<(), NoMemory>
+fn add_unreferenced(
+    ends: &Ends,
+    y: InstNo,
+    unreferenced: &mut BTreeSet<InstNo>,
+) -> Result<(), NoMemory>
     ensures { OnOk result ((z : ℕ) → has unreferenced.new.keys z ≡ (has unreferenced.old.keys z || ((z == y) && not (points_to ends.now.by_provider.keys y)))) }
 {
     if first_at(&ends.by_provider, y).is_none() {

@@ -1,4 +1,4 @@
-use Rattle.std.proofs.Common.{◌≡◌, ◌++◌, ◌∷◌, [], ℕ, zero, suc, ◌+◌, ◌<◌, ◌≤◌, length, List, Some, refl, sym, ◌∙◌, arith}
+use Rattle.std.proofs.Common.{◌≡◌, ◌++◌, ◌∷◌, [], ℕ, zero, suc, ◌+◌, ◌<◌, ◌≤◌, length, List, Some, refl, arith}
 use Rattle.std.proofs.lemmas.Map.Entries.{length-keys_of}
 use Rattle.std.specs.Map.{keys_of}
 use Rattle.metis_ids.specs.declared.actions.Action.{Action}
@@ -41,7 +41,7 @@ pub loop-preserved : goal.loop-preserved
 loop-preserved c =
     let least = next_is c.loop.c c.loop.unreferenced.keys c.pop_first.new.self.keys c.in-Some.z c.loop.invariant.ends.by_provider.config c.loop.invariant.unreferenced c.in-Some.ensures.removal c.in-Some.ensures.all_above in
     let s = step c.loop.invariant.left (length (members c.args.c.now)) c.loop.counter c.args.actions.now.items c.loop.actions.items c.push.new.self.items (unreferenced_deletes c.args.c.now) c.args.c.now c.loop.c c.let_go.new.c c.in-Some.z
-        c.loop.invariant.counts (omega (arith, c.loop-test.true, c.count-end.ensures, many c.args.c.now.instances)) c.loop.invariant.goes least c.in_ok-push.ensures.items c.in_ok-let_go.ensures.config in
+    c.loop.invariant.counts (omega (arith, c.loop-test.true, c.count-end.ensures, many c.args.c.now.instances)) c.loop.invariant.goes least c.in_ok-push.ensures.items c.in_ok-let_go.ensures.config in
     record { left = s.left; counts = s.counts; goes = s.goes; ends = c.in_ok-let_go.ensures.ends; unreferenced = c.in_ok-let_go.ensures.unreferenced }
 
 pub returns-in_default-clause-actions : goal.returns-in_default-clause-actions

@@ -1,4 +1,4 @@
-use Rattle.std.proofs.Common.{◌≡◌, ℕ, length}
+use Rattle.std.proofs.Common.{◌≡◌, length}
 use Rattle.metis_config.specs.Clients.{AreEnds}
 use Rattle.metis_config.proofs.Removed.{others}
 use Rattle.metis_rollout.specs.Unreferenced.{AreUnreferencedBut}
