@@ -30,6 +30,7 @@ pub fn unbind_idle(
     untie_all(c, &ties, actions)
 }
 
+// The bindings whose port their requirer does not require.
 fn idle(alloc: Global, u: &Universe, c: &Config) -> Result<Vec<(PortIx, InstNo, InstNo)>, NoMemory>
     requires { IsOver u.now c.now }
     ensures { IfOk result (λ ties. ties.items ≡ filter (is_idle u.now c.now) c.now.bindings) }
@@ -43,6 +44,7 @@ fn idle(alloc: Global, u: &Universe, c: &Config) -> Result<Vec<(PortIx, InstNo, 
     Ok(ties)
 }
 
+// Whether the instance does not require the port.
 fn is_idle(u: &Universe, c: &Config, r: PortIx, z: InstNo) -> bool
     requires { IsOver u.now c.now }
     ensures { (y : ℕ) → result ≡ is_idle u.now c.now (r, z, y) }
@@ -53,6 +55,7 @@ fn is_idle(u: &Universe, c: &Config, r: PortIx, z: InstNo) -> bool
     }
 }
 
+// Ends these bindings, one after the other.
 fn untie_all(
     c: &mut Config,
     ties: &[(PortIx, InstNo, InstNo)],

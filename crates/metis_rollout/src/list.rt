@@ -30,10 +30,10 @@ pub fn rollout_without_scaffold(
     requires fresh_ours { All (IsOf u.now) fresh.now }
     requires few { length old.now + length fresh.now < 2 ^ 29 }
 
-    // There is none exactly where instances are left when the unreferenced ones are deleted.
-    ensures none { IfOk result (λ list. is_some list ≡ is_empty (members (after_all u.now empty (old.now ++ cleared_by u.now old.now)))) }
+    // There is a list exactly where no instance is left when the unreferenced ones are deleted.
+    ensures some { IfOk result (λ list. is_some list ≡ is_empty (members (after_all u.now empty (old.now ++ cleared_by u.now old.now)))) }
 
-    // Else it is the rollout, and that has no scaffold.
+    // It is the rollout, and that has no scaffold then.
     ensures list { IfOk result (λ list. IfSome list (λ list. list.items ≡ rollout u.now old.now fresh.now)) }
     ensures parts { IfOk result (λ list. IfSome list (λ list. list.items ≡ old.now ++ (renumbered old.now fresh.now ++ cleared_by u.now old.now))) }
 

@@ -25,14 +25,14 @@ emptied c =
     ap (λ d. is_empty (members d)) (sym (left_is c.args.u.now c.args.old.now c.in_ok-c.c c.unbind_idle.new.c c.delete_unreferenced.new.c c.in_ok-c.ensures c.in_ok-unbind_idle.ensures.config (c.in_ok-delete_unreferenced.ensures.config c.args.u.now)))
     ∙ none_left c.delete_unreferenced.new.c.instances (omega (arith, c.count.ensures, c.if-count-gt0.false))
 
-pub returns-then-count-gt0-clause-none : goal.returns-then-count-gt0-clause-none
-returns-then-count-gt0-clause-none c = sym (
+pub returns-then-count-gt0-clause-some : goal.returns-then-count-gt0-clause-some
+returns-then-count-gt0-clause-some c = sym (
     ap (λ d. is_empty (members d)) (sym (left_is c.args.u.now c.args.old.now c.in_ok-c.c c.unbind_idle.new.c c.delete_unreferenced.new.c c.in_ok-c.ensures c.in_ok-unbind_idle.ensures.config (c.in_ok-delete_unreferenced.ensures.config c.args.u.now)))
     ∙ some_left c.delete_unreferenced.new.c.instances (omega (arith, c.count.ensures, c.if-count-gt0.true))
     )
 
-pub returns-clause-none : goal.returns-clause-none
-returns-clause-none c = sym (emptied c)
+pub returns-clause-some : goal.returns-clause-some
+returns-clause-some c = sym (emptied c)
 
 is_list : (c : goal.After-drop-used-2) → c.delete_unreferenced.new.actions.items ≡ rollout c.args.u.now c.args.old.now c.args.fresh.now
 is_list c =
