@@ -1,0 +1,77 @@
+-- Steady lists, action by action.
+use Rattle.std.proofs.Common.{◌≡◌, ℕ, suc, ◌||◌, ◌&&◌, Bool, true, false, List, [], ◌∷◌, ◌++◌, Some, None, refl, sym, ap, ◌∙◌, subst, nat_eq, take, append_assoc, append-nil}
+use Rattle.std.specs.Prelude.{slice_get}
+use Rattle.std.specs.List.{list_any}
+use Rattle.std.proofs.lemmas.Bool.{and_from, eq-eqb, false≢true, or_left}
+use Rattle.metis_ids.specs.declared.actions.Action.{Action}
+use Rattle.metis_universe.specs.Universe.{Universe}
+use Rattle.metis_universe.specs.Config.{Binding, Config, Correct, empty, is_bound, is_tie}
+use Rattle.metis_universe.specs.Step.{Allows, after}
+use Rattle.metis_universe.specs.Steadfast.{is_steadfast_after}
+use Rattle.metis_universe.specs.Waits.{standing}
+use Rattle.metis_universe.proofs.Frames.{bindings-after_all}
+use Rattle.metis_universe.proofs.Places.{run_at, steadfast_at}
+use Rattle.metis_layers.proofs.Going.{GoesOn, at, run_from_going, steadfast_from_going}
+use Rattle.metis_rollout.specs.Standing.{IsSteady}
+
+-- what the action needs after these earlier ones
+abbrev pub Goes : Universe → List Action → Action → Type 0
+Goes u earlier a = Allows u (at u earlier) a × Correct u (after u (at u earlier) a) × (is_steadfast_after u earlier a ≡ true)
+
+goes_from : (u : Universe) (earlier rest : List Action) → ((i : ℕ) (a : Action) → slice_get rest i ≡ Some a → Goes u (earlier ++ take i rest) a) → GoesOn u earlier rest
+goes_from u earlier [] all = tt
+goes_from u earlier (a ∷ rest) all =
+    let first = subst (λ e. Goes u e a) (append-nil earlier) (all 0 a refl) in
+    (first.0, first.1, first.2, goes_from u (earlier ++ a ∷ []) rest (λ i b h. subst (λ e. Goes u e b) (sym (append_assoc earlier (a ∷ []) (take i rest))) (all (suc i) b h)))
+
+pub going_from_steady : (u : Universe) (actions : List Action) → IsSteady u actions → GoesOn u [] actions
+going_from_steady u actions s = goes_from u [] actions (λ i a h. let ran = run_at u actions i a s.runs h in (ran.0, ran.1, steadfast_at u actions i a s.steadfast h))
+
+pub steady_from_going : (u : Universe) (actions : List Action) → GoesOn u [] actions → IsSteady u actions
+steady_from_going u actions go = record { runs = run_from_going u [] actions go; steadfast = steadfast_from_going u actions go }
+
+pub Correct-empty : (u : Universe) → Correct u empty
+Correct-empty u z p r h needs = absurd (none≢some p h) where
+  none≢some : (p : ℕ) → None ≡ Some p → ⊥
+  none≢some p h = cc
+
+-- ---- no binding to an instance
+
+true_false : (b : Bool) → b ≡ true → b ≡ false → ⊥
+true_false b t f = false≢true (sym f ∙ t)
+
+none_tied : (z : ℕ) (bs : List Binding) → ((r x : ℕ) → list_any (is_tie r x z) bs ≡ false) → list_any (λ b. nat_eq b.2 z) bs ≡ false
+none_tied z [] none = refl
+none_tied z (b ∷ bs) none =
+    elim (nat_eq b.2 z) as (λ v. nat_eq b.2 z ≡ v → (v || list_any (λ c. nat_eq c.2 z) bs) ≡ false) [
+      | true ↦ λ is. absurd (true_false _ (or_left (is_tie b.0 b.1 z b) (list_any (is_tie b.0 b.1 z) bs) (and_from _ _ (and_from _ _ (eq-eqb b.0 b.0 refl) (eq-eqb b.1 b.1 refl)) is)) (none b.0 b.1))
+      | false ↦ λ _. none_tied z bs (λ r x. rest_false (is_tie r x z b) (list_any (is_tie r x z) bs) (none r x))
+    ] refl where
+      rest_false : (v w : Bool) → (v || w) ≡ false → w ≡ false
+      rest_false true w h = absurd (false≢true (sym h))
+      rest_false false w h = h
+
+tied_none : (z r x : ℕ) (bs : List Binding) → list_any (λ b. nat_eq b.2 z) bs ≡ false → list_any (is_tie r x z) bs ≡ false
+tied_none z r x [] none = refl
+tied_none z r x (b ∷ bs) none = both (nat_eq b.0 r) (nat_eq b.1 x) (nat_eq b.2 z) (list_any (λ b. nat_eq b.2 z) bs) (list_any (is_tie r x z) bs) none (tied_none z r x bs) where
+  both : (p q v w t : Bool) → (v || w) ≡ false → (w ≡ false → t ≡ false) → (((p && q) && v) || t) ≡ false
+  both p q true w t h rest = absurd (false≢true (sym h))
+  both true true false w t h rest = rest h
+  both true false false w t h rest = rest h
+  both false q false w t h rest = rest h
+
+-- no binding of the configuration points to the instance
+abbrev pub Unpointed : Config → ℕ → Type 0
+Unpointed c y = (r x : ℕ) → is_bound c r x y ≡ false
+
+pub unpointed : (c : Config) (y : ℕ) → list_any (λ b. nat_eq b.2 y) c.bindings ≡ false → Unpointed c y
+unpointed c y none r x = tied_none y r x c.bindings none
+
+pub pointed_none : (c : Config) (y : ℕ) → Unpointed c y → list_any (λ b. nat_eq b.2 y) c.bindings ≡ false
+pointed_none c y none = none_tied y c.bindings none
+
+pub Unpointed-standing : (u : Universe) (earlier : List Action) (y : ℕ) → list_any (λ b. nat_eq b.2 y) (standing earlier) ≡ false → Unpointed (at u earlier) y
+Unpointed-standing u earlier y none = unpointed (at u earlier) y (ap (list_any (λ b. nat_eq b.2 y)) (bindings-after_all u empty earlier) ∙ none)
+
+pub standing-Unpointed : (u : Universe) (earlier : List Action) (y : ℕ) → Unpointed (at u earlier) y → list_any (λ b. nat_eq b.2 y) (standing earlier) ≡ false
+standing-Unpointed u earlier y none = ap (list_any (λ b. nat_eq b.2 y)) (sym (bindings-after_all u empty earlier)) ∙ pointed_none (at u earlier) y none

@@ -1,0 +1,298 @@
+-- The unreferenced instances, and the bindings by their ends, while instances are removed.
+use Rattle.std.proofs.Common.{◌≡◌, ℕ, ◌<◌, ◌≤◌, Bool, true, false, cond, not, ◌&&◌, ◌||◌, List, [], ◌∷◌, Option, Some, None, refl, sym, ap, ◌∙◌, subst, arith, nat_eq, length, inl, inr}
+use Rattle.std.specs.Prelude.{is_some, option_map}
+use Rattle.std.specs.List.{All, AllByRecursion, filter, find, list_any}
+use Rattle.std.specs.List.Sorted.{IsStrictlySortedBy}
+use Rattle.std.specs.BTreeMap.Range.{IsLtBy}
+use Rattle.std.specs.BTreeSet.{insert_key}
+use Rattle.std.specs.Set.{remove_key}
+use Rattle.std.specs.BTreeMap.{is_at}
+use Rattle.metis_universe.proofs.Ascending.{has-insert_key}
+use Rattle.std.specs.Map.{keys_of}
+use Rattle.std.specs.Ordering.{nat_cmp}
+use Rattle.std.specs.declared.cmp.Ordering.TheVariants.{Less}
+use Rattle.std.proofs.lemmas.Bool.{and_parts, cases_eq, eq-eqb, eqb-true, false_from_ne_true, false≢true, ne_eqb, or_cases, or_left, or_right}
+use Rattle.std.proofs.lemmas.Bool.Decides.{nat_tests}
+use Rattle.std.proofs.lemmas.List.Elements.{recursion_from_All}
+use Rattle.std.proofs.lemmas.Map.Views.{any-filter_same}
+use Rattle.metis_universe.specs.Universe.{has}
+use Rattle.metis_universe.specs.Config.{Binding, Config, IsConfig, binding_cmp, config_of, is_bound, is_tie, remove, untie}
+use Rattle.metis_universe.proofs.Edits.{is_bound-tie, remove_key-bindings, tie_is}
+use Rattle.metis_universe.proofs.Sorted.{keys_of-filter}
+use Rattle.metis_config.specs.Clients.{AreEnds, IsIndexed, has_client, has_need}
+use Rattle.metis_config.proofs.Firsts.{head, short, served_none, served_some}
+use Rattle.metis_config.proofs.Indexed.{AreEnds-gone, AreEnds-untie}
+use Rattle.metis_config.proofs.Removed.{others}
+use Rattle.metis_rollout.specs.Unreferenced.{AreUnreferenced, AreUnreferencedBut, is_unreferenced, points_to}
+use Rattle.metis_rollout.specs.Rollout.{is_referenced, members, next_unreferenced}
+use Rattle.metis_rollout.proofs.Going.{pointed_none, unpointed}
+use Rattle.metis_rollout.proofs.Quiet.{find_some, keys-has}
+
+differ : (b : Bool) → b ≡ true → b ≡ false → ⊥
+differ b t f = false≢true (sym f ∙ t)
+
+same_tests : (a b : ℕ) → nat_eq a b ≡ nat_eq b a
+same_tests a b = elim (cases_eq a b) [ inl same ↦ eq-eqb a b same ∙ sym (eq-eqb b a (sym same)) | inr other ↦ ne_eqb a b other ∙ sym (ne_eqb b a (λ e. other (sym e))) ]
+
+-- ---- whether a binding points to an instance
+
+pub bound_points : (c : Config) (r z y : ℕ) → is_bound c r z y ≡ true → is_referenced c y ≡ true
+bound_points c r z y h = elim (is_referenced c y) as (λ b. is_referenced c y ≡ b → b ≡ true) [
+  | true ↦ λ _. refl
+  | false ↦ λ none. absurd (differ (is_bound c r z y) h (unpointed c y none r z))
+] refl
+
+pub points_is : (c : Config) (clients : List Binding) → IsIndexed c clients → (y : ℕ) → points_to clients y ≡ is_referenced c y
+points_is c clients k y = elim (find (head y) clients) as (λ o. find (head y) clients ≡ o → is_some o ≡ is_referenced c y) [
+  | None ↦ λ is. sym (pointed_none c y (λ r x. served_none c clients k y (sym (ap (option_map short) is)) r x))
+  | Some b ↦ λ is. sym (bound_points c b.2 b.1 y (served_some c clients k b.2 b.1 y (sym (ap (option_map short) is))))
+] refl
+
+-- ---- the least unreferenced instance
+
+above_head : (x n : ℕ) (xs : List ℕ) → AllByRecursion (λ y. nat_cmp x y ≡ Less) xs → has xs n ≡ true → x < n
+above_head x n [] all h = absurd (false≢true h)
+above_head x n (y ∷ xs) all h = elim (or_cases (nat_eq y n) (has xs n) h) [
+  | inl now ↦ less y (eqb-true y n now) all.0
+  | inr later ↦ above_head x n xs all.1 later
+] where
+  less : (y : ℕ) → y ≡ n → nat_cmp x y ≡ Less → x < n
+  less y e h = grind (arith, nat_tests)
+
+above_rest : (x n : ℕ) (xs : List ℕ) → AllByRecursion (IsLtBy nat_cmp x) xs → has xs n ≡ true → x ≤ n
+above_rest x n [] all h = absurd (false≢true h)
+above_rest x n (y ∷ xs) all h =
+    elim (or_cases (nat_eq y n) (has xs n) h) [
+      | inl now ↦ let e = eqb-true y n now in let l = all.0 in grind (arith, nat_tests)
+      | inr later ↦ above_rest x n xs all.1 later
+    ]
+
+find_first : (t : ℕ → Bool) (xs : List ℕ) (z : ℕ) → IsStrictlySortedBy nat_cmp xs → has xs z ≡ true → t z ≡ true → ((w : ℕ) → has xs w ≡ true → t w ≡ true → z ≤ w) → find t xs ≡ Some z
+unfolding IsStrictlySortedBy
+find_first t [] z s h pass least = absurd (false≢true h)
+find_first t (x ∷ xs) z s h pass least = elim (t x) as (λ b. t x ≡ b → cond b (Some x) (find t xs) ≡ Some z) [
+  | true ↦ λ at. elim (or_cases (nat_eq x z) (has xs z) h) [
+    | inl now ↦ ap Some (eqb-true x z now)
+    | inr later ↦
+        let above = above_head x z xs s.0 later in
+        let low = least x (or_left (nat_eq x x) (has xs x) (eq-eqb x x refl)) at in
+        absurd (omega arith)
+  ]
+  | false ↦ λ out. elim (or_cases (nat_eq x z) (has xs z) h) [
+    | inl now ↦ absurd (differ (t z) pass (ap t (sym (eqb-true x z now)) ∙ out))
+    | inr later ↦ find_first t xs z s.1 later pass (λ w there passes. least w (or_right (nat_eq x w) (has xs w) there) passes)
+  ]
+] refl
+
+pub next_is : (c : Config) (unreferenced rest : List ℕ) (z : ℕ) → IsConfig c → AreUnreferenced c unreferenced → unreferenced ≡ z ∷ rest → All (IsLtBy nat_cmp z) rest → next_unreferenced c ≡ Some z
+next_is c unreferenced rest z k same is above =
+    let there : is_unreferenced c z ≡ true = sym (same z) ∙ ap (λ l. has l z) is ∙ or_left (nat_eq z z) (has rest z) (eq-eqb z z refl) in
+    let parts = and_parts (has (members c) z) (not (is_referenced c z)) there in
+    find_first (λ z. not (is_referenced c z)) (members c) z k.ascending parts.0 parts.1
+    (λ w member free. low w (ap (λ l. has l w) (sym is) ∙ same w ∙ (λ i. member i && free i))) where
+      low : (w : ℕ) → (nat_eq z w || has rest w) ≡ true → z ≤ w
+      low w h = elim (or_cases (nat_eq z w) (has rest w) h) [
+        | inl now ↦ let e = eqb-true z w now in omega arith
+        | inr later ↦ above_rest z w rest (recursion_from_All (IsLtBy nat_cmp z) rest above) later
+      ]
+
+pub none_is : (c : Config) (unreferenced : List ℕ) → AreUnreferenced c unreferenced → unreferenced ≡ [] → next_unreferenced c ≡ None
+none_is c unreferenced same is = elim (next_unreferenced c) as (λ o. next_unreferenced c ≡ o → o ≡ None) [
+  | None ↦ λ _. refl
+  | Some z ↦ λ found.
+      let first = find_some (λ z. not (is_referenced c z)) (members c) z found in
+      absurd (differ (has unreferenced z) (same z ∙ (λ i. first.0 i && first.1 i)) (ap (λ l. has l z) is))
+] refl
+
+-- what is left where the least is taken out
+pub but_first : (c : Config) (unreferenced rest : List ℕ) (z : ℕ) → AreUnreferenced c unreferenced → unreferenced ≡ z ∷ rest → All (IsLtBy nat_cmp z) rest → AreUnreferencedBut c z rest
+but_first c unreferenced rest z same is above = λ w. elim (cases_eq w z) [
+  | inl here ↦ subst (λ v. has rest v ≡ (not (nat_eq v z) && is_unreferenced c v)) (sym here) (false_from_ne_true (has rest z) not_there ∙ sym (ap (λ b. not b && is_unreferenced c z) (eq-eqb z z refl)))
+  | inr other ↦ ap (λ b. b || has rest w) (sym (ne_eqb z w (λ e. other (sym e)))) ∙ ap (λ l. has l w) (sym is) ∙ same w ∙ sym (ap (λ b. not b && is_unreferenced c w) (ne_eqb w z other))
+] where
+  below : (xs : List ℕ) → AllByRecursion (IsLtBy nat_cmp z) xs → has xs z ≡ true → ⊥
+  below [] all h = false≢true h
+  below (y ∷ xs) all h = elim (or_cases (nat_eq y z) (has xs z) h) [
+    | inl now ↦ let e = eqb-true y z now in let l = all.0 in grind (arith, nat_tests)
+    | inr later ↦ below xs all.1 later
+  ]
+
+  not_there : has rest z ≡ true → ⊥
+  not_there h = below rest (recursion_from_All (IsLtBy nat_cmp z) rest above) h
+
+pub first_free : (c : Config) (unreferenced rest : List ℕ) (z : ℕ) → AreUnreferenced c unreferenced → unreferenced ≡ z ∷ rest → is_referenced c z ≡ false
+first_free c unreferenced rest z same is =
+    let there : is_unreferenced c z ≡ true = sym (same z) ∙ ap (λ l. has l z) is ∙ or_left (nat_eq z z) (has rest z) (eq-eqb z z refl) in
+    not_true (is_referenced c z) (and_parts (has (members c) z) (not (is_referenced c z)) there).1 where
+      not_true : (b : Bool) → not b ≡ true → b ≡ false
+      not_true true h = absurd (false≢true h)
+      not_true false h = refl
+
+-- ---- one binding is cut
+
+is_referenced-untie : (c : Config) (r z y w : ℕ) → nat_eq w y ≡ false → is_referenced (untie c r z y) w ≡ is_referenced c w
+is_referenced-untie c r z y w other = any-filter_same (λ b. nat_eq b.2 w) (λ b. not (is_tie r z y b)) true (λ b at. kept b at) c.bindings where
+  kept : (b : Binding) → nat_eq b.2 w ≡ true → not (is_tie r z y b) ≡ true
+  kept b at = ap not (false_from_ne_true (is_tie r z y b) (λ h. differ (nat_eq w y) (eq-eqb w y (sym (eqb-true b.2 w at) ∙ ap (λ (x : Binding). x.2) (tie_is r z y b h))) other))
+
+pub but_cut : (c d : Config) (clients needs : List Binding) (unreferenced unreferenced' : List ℕ) (r z y : ℕ) → IsConfig c → is_bound c r z y ≡ true → d ≡ untie c r z y → AreEnds d clients needs → AreUnreferencedBut c z unreferenced
+    → ((w : ℕ) → has unreferenced' w ≡ (has unreferenced w || (nat_eq w y && not (points_to clients y)))) → AreUnreferencedBut d z unreferenced'
+but_cut c d clients needs unreferenced unreferenced' r z y k bound is ends same now = subst (λ e. AreUnreferencedBut e z unreferenced') (sym is) (λ w. elim (cases_eq w y) [
+  | inl here ↦ subst (λ v. has unreferenced' v ≡ (not (nat_eq v z) && is_unreferenced (untie c r z y) v)) (sym here) at_provider
+  | inr other ↦ now w ∙ ap (λ b. has unreferenced w || (b && not (points_to clients y))) (ne_eqb w y other) ∙ or_false (has unreferenced w) ∙ same w
+      ∙ ap (λ b. not (nat_eq w z) && (has (members c) w && not b)) (sym (is_referenced-untie c r z y w (ne_eqb w y other)))
+]) where
+  or_false : (b : Bool) → (b || false) ≡ b
+  or_false true = refl
+  or_false false = refl
+
+  and_false : (b : Bool) → (b && false) ≡ false
+  and_false true = refl
+  and_false false = refl
+
+  member : has (members c) y ≡ true
+  member = keys-has c.instances y (k.provider r z y bound)
+
+  apart : nat_eq y z ≡ false
+  apart = ne_eqb y z (λ e. k.apart r z y bound (sym e))
+
+  was : has unreferenced y ≡ false
+  was = same y ∙ ap (λ b. not (nat_eq y z) && (has (members c) y && not b)) (bound_points c r z y bound) ∙ ap (λ b. not (nat_eq y z) && b) (and_false (has (members c) y)) ∙ and_false (not (nat_eq y z))
+
+  at_provider : has unreferenced' y ≡ (not (nat_eq y z) && is_unreferenced (untie c r z y) y)
+  at_provider = now y ∙ (λ i. was i || (eq-eqb y y refl i && not (points_is d clients ends.by_provider y i))) ∙ ap (λ (e : Config). not (is_referenced e y)) is
+      ∙ sym (λ i. not (apart i) && (member i && not (is_referenced (untie c r z y) y)))
+
+-- ---- the instance goes
+
+assoc : (a b c : Bool) → (a && (b && c)) ≡ ((a && b) && c)
+assoc true b c = refl
+assoc false b c = refl
+
+pub gone : (c d e : Config) (clients needs : List Binding) (unreferenced : List ℕ) (z : ℕ) → d.instances ≡ c.instances → others z d.bindings ≡ others z c.bindings → others z d.bindings ≡ d.bindings
+    → AreEnds d clients needs → AreUnreferencedBut d z unreferenced → e ≡ remove d z → (e ≡ remove c z) × AreEnds e clients needs × AreUnreferenced e unreferenced
+gone c d e clients needs unreferenced z instances bindings all ends same is = (
+  is ∙ (λ i. config_of (filter (λ e. not (nat_eq e.0 z)) (instances i)) (bindings i)),
+  subst (λ f. AreEnds f clients needs) (sym (is ∙ ap (config_of (filter (λ e. not (nat_eq e.0 z)) d.instances)) all)) (AreEnds-gone d clients needs z all ends),
+  subst (λ f. AreUnreferenced f unreferenced) (sym is) (λ w. same w ∙ assoc (not (nat_eq w z)) (has (members d) w) (not (is_referenced d w))
+      ∙ (λ i. sym (member w) i && not (sym (pointed w) i))),
+) where
+  member : (w : ℕ) → has (members (remove d z)) w ≡ (not (nat_eq w z) && has (members d) w)
+  member w = ap (λ l. has l w) (keys_of-filter (λ k. not (nat_eq k z)) d.instances) ∙ any-filter_same (λ x. nat_eq x w) (λ k. not (nat_eq k z)) (not (nat_eq w z)) (λ x at. ap (λ k. not (nat_eq k z)) (eqb-true x w at)) (members d)
+
+  pointed : (w : ℕ) → is_referenced (remove d z) w ≡ is_referenced d w
+  pointed w = ap (list_any (λ b. nat_eq b.2 w)) all
+
+-- ---- the bindings one by one
+
+turned : (a b c : Bool) → (a && b && c) ≡ (c && b && a)
+turned true true true = refl
+turned true true false = refl
+turned true false true = refl
+turned true false false = refl
+turned false true true = refl
+turned false true false = refl
+turned false false true = refl
+turned false false false = refl
+
+moved : (a b c : Bool) → (a && b && c) ≡ (c && a && b)
+moved true true true = refl
+moved true true false = refl
+moved true false true = refl
+moved true false false = refl
+moved false true true = refl
+moved false true false = refl
+moved false false true = refl
+moved false false false = refl
+
+swapped : (a b c : Bool) → (a || (b || c)) ≡ ((b || a) || c)
+swapped true true c = refl
+swapped true false c = refl
+swapped false true c = refl
+swapped false false c = refl
+
+-- the bindings of c are those that were put in and those to come
+pub record AreEndsWith (c : Config) (clients needs rest : List Binding) : Type 0 where
+  pub by_provider : (r z y : ℕ) → is_bound c r z y ≡ (has_client clients y z r || list_any (is_tie r z y) rest)
+  pub by_requirer : (r z y : ℕ) → is_bound c r z y ≡ (has_need needs z y r || list_any (is_tie r z y) rest)
+
+pub with_next : (c : Config) (clients needs clients' needs' old rest : List Binding) (b : Binding) → AreEndsWith c clients needs old → old ≡ b ∷ rest → clients' ≡ insert_key binding_cmp clients (b.2, b.1, b.0) → needs' ≡ insert_key binding_cmp needs (b.1, b.2, b.0)
+    → AreEndsWith c clients' needs' rest
+with_next c clients needs clients' needs' old rest b e is provided required = record {
+  by_provider = λ r z y. e.by_provider r z y ∙ ap (λ l. has_client clients y z r || list_any (is_tie r z y) l) is
+      ∙ swapped (has_client clients y z r) (is_tie r z y b) (list_any (is_tie r z y) rest)
+      ∙ ap (λ v. (v || has_client clients y z r) || list_any (is_tie r z y) rest) (turned (nat_eq b.0 r) (nat_eq b.1 z) (nat_eq b.2 y))
+      ∙ ap (λ v. v || list_any (is_tie r z y) rest) (sym (is_bound-tie (config_of [] clients) b.2 b.1 b.0 y z r) ∙ ap (λ l. has_client l y z r) (sym provided));
+  by_requirer = λ r z y. e.by_requirer r z y ∙ ap (λ l. has_need needs z y r || list_any (is_tie r z y) l) is
+      ∙ swapped (has_need needs z y r) (is_tie r z y b) (list_any (is_tie r z y) rest)
+      ∙ ap (λ v. (v || has_need needs z y r) || list_any (is_tie r z y) rest) (sym (moved (nat_eq b.1 z) (nat_eq b.2 y) (nat_eq b.0 r)))
+      ∙ ap (λ v. v || list_any (is_tie r z y) rest) (sym (is_bound-tie (config_of [] needs) b.1 b.2 b.0 z y r) ∙ ap (λ l. has_need l z y r) (sym required));
+}
+
+pub ends_are : (c : Config) (clients needs rest : List Binding) → IsConfig c → IsStrictlySortedBy binding_cmp clients → IsStrictlySortedBy binding_cmp needs → AreEndsWith c clients needs rest → rest ≡ [] → AreEnds c clients needs
+ends_are c clients needs rest k s t e is = record {
+  by_provider = record { config = k; in_order = s; same = λ r z y. sym (e.by_provider r z y ∙ ap (λ l. has_client clients y z r || list_any (is_tie r z y) l) is ∙ or_false (has_client clients y z r)) };
+  by_requirer = record { in_order = t; same = λ r z y. sym (e.by_requirer r z y ∙ ap (λ l. has_need needs z y r || list_any (is_tie r z y) l) is ∙ or_false (has_need needs z y r)) };
+} where
+  or_false : (b : Bool) → (b || false) ≡ b
+  or_false true = refl
+  or_false false = refl
+
+-- ---- the unreferenced instances one by one
+
+-- the unreferenced instances are those that were put in and those among the instances to come
+abbrev pub AreUnreferencedWith : Config → List ℕ → List (ℕ × ℕ) → Type 0
+AreUnreferencedWith c unreferenced rest = (z : ℕ) → is_unreferenced c z ≡ (has unreferenced z || (has (keys_of rest) z && not (is_referenced c z)))
+
+pub unreferenced_next : (c : Config) (clients needs : List Binding) (unreferenced unreferenced' : List ℕ) (old rest : List (ℕ × ℕ)) (e : ℕ × ℕ) → AreEnds c clients needs → AreUnreferencedWith c unreferenced old → old ≡ e ∷ rest
+    → ((w : ℕ) → has unreferenced' w ≡ (has unreferenced w || (nat_eq w e.0 && not (points_to clients e.0)))) → AreUnreferencedWith c unreferenced' rest
+unreferenced_next c clients needs unreferenced unreferenced' old rest e ends same is now = λ w.
+    same w ∙ ap (λ l. has unreferenced w || (has (keys_of l) w && not (is_referenced c w))) is
+    ∙ split (has unreferenced w) (nat_eq e.0 w) (has (keys_of rest) w) (not (is_referenced c w))
+    ∙ ap (λ b. (has unreferenced w || b) || (has (keys_of rest) w && not (is_referenced c w))) (own w)
+    ∙ ap (λ b. b || (has (keys_of rest) w && not (is_referenced c w))) (sym (now w)) where
+      split : (a b d f : Bool) → (a || ((b || d) && f)) ≡ ((a || (b && f)) || (d && f))
+      split true b d f = refl
+      split false true true true = refl
+      split false true true false = refl
+      split false true false true = refl
+      split false true false false = refl
+      split false false d f = refl
+
+      own : (w : ℕ) → (nat_eq e.0 w && not (is_referenced c w)) ≡ (nat_eq w e.0 && not (points_to clients e.0))
+      own w = elim (cases_eq w e.0) [
+        | inl here ↦ λ i. same_tests e.0 w i && not (sym (points_is c clients ends.by_provider e.0 ∙ ap (is_referenced c) (sym here)) i)
+        | inr other ↦ ap (λ b. b && not (is_referenced c w)) (ne_eqb e.0 w (λ x. other (sym x))) ∙ sym (ap (λ b. b && not (points_to clients e.0)) (ne_eqb w e.0 other))
+      ]
+
+pub unreferenced_are : (c : Config) (unreferenced : List ℕ) (rest : List (ℕ × ℕ)) → AreUnreferencedWith c unreferenced rest → rest ≡ [] → AreUnreferenced c unreferenced
+unreferenced_are c unreferenced rest same is = λ z. sym (same z ∙ ap (λ l. has unreferenced z || (has (keys_of l) z && not (is_referenced c z))) is ∙ or_false (has unreferenced z)) where
+  or_false : (b : Bool) → (b || false) ≡ b
+  or_false true = refl
+  or_false false = refl
+
+pub no_keys : (ks : List ℕ) → (0 < length ks → false ≡ true) → ks ≡ []
+no_keys [] h = refl
+no_keys (k ∷ ks) h = absurd (false≢true (h (omega arith)))
+
+pub inserted : (clients : List Binding) (y : ℕ) (unreferenced unreferenced' : List ℕ) → is_some (option_map short (find (head y) clients)) ≡ false → unreferenced' ≡ insert_key nat_cmp unreferenced y
+    → (z : ℕ) → has unreferenced' z ≡ (has unreferenced z || (nat_eq z y && not (points_to clients y)))
+inserted clients y unreferenced unreferenced' none is z =
+    ap (λ l. has l z) is ∙ has-insert_key z y unreferenced ∙ ap (λ b. b || has unreferenced z) (same_tests y z) ∙ turn (nat_eq z y) (has unreferenced z)
+    ∙ sym (ap (λ b. has unreferenced z || (nat_eq z y && not b)) (missing (find (head y) clients) none)) where
+      turn : (a b : Bool) → (a || b) ≡ (b || (a && true))
+      turn true true = refl
+      turn true false = refl
+      turn false true = refl
+      turn false false = refl
+
+      missing : (o : Option Binding) → is_some (option_map short o) ≡ false → is_some o ≡ false
+      missing None h = refl
+      missing (Some b) h = h
+
+pub cut_ends : (c d : Config) (clients needs clients' needs' : List Binding) (r z y : ℕ) → AreEnds c clients needs → d ≡ untie c r z y → clients' ≡ remove_key (is_at (binding_cmp (y, z, r))) clients → needs' ≡ remove_key (is_at (binding_cmp (z, y, r))) needs → AreEnds d clients' needs'
+cut_ends c d clients needs clients' needs' r z y ends is provided required =
+    let p = provided ∙ remove_key-bindings y z r clients ends.by_provider.in_order in
+    let q = required ∙ remove_key-bindings z y r needs ends.by_requirer.in_order in
+    subst (λ e. AreEnds e clients' needs') (sym is)
+    (subst (λ l. AreEnds (untie c r z y) l needs') (sym p) (subst (λ l. AreEnds (untie c r z y) (filter (λ b. not (is_tie y z r b)) clients) l) (sym q) (AreEnds-untie c clients needs r z y ends)))

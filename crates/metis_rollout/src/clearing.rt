@@ -1,0 +1,100 @@
+//! The removal of what stands: first the bindings that nothing requires, then the instances to which nothing is bound.
+ghost use Rattle.std.specs.Prelude.{◌≡◌, ◌++◌, ℕ, IfOk, OnOk, IsTrue, map};
+ghost use Rattle.std.specs.List.{All, filter};
+ghost use Rattle.std.specs.List.Sorted.{IsStrictlySortedBy};
+ghost use Rattle.metis_config.specs.Over.{IsOver};
+ghost use Rattle.metis_universe.specs.Universe.{Universe};
+ghost use Rattle.metis_universe.specs.Config.{IsConfig, binding_cmp, is_bound};
+ghost use Rattle.metis_universe.specs.Step.{after_all};
+ghost use Rattle.metis_rollout.specs.Rollout.{idle_unbinds, is_idle, unreferenced_deletes, unbind};
+
+use crate::unreferenced::{ends_of, let_go, unreferenced_of};
+use metis_config::Config;
+use metis_ids::{Action, InstNo, NoMemory, PortIx};
+use metis_universe::Universe;
+use std::alloc::Global;
+
+/// Ends each binding whose port its requirer does not require.
+pub fn unbind_idle(
+    alloc: Global,
+    u: &Universe,
+    c: &mut Config,
+    actions: &mut Vec<Action>,
+) -> Result<(), NoMemory>
+    requires { IsOver u.now c.old }
+    ensures actions { OnOk result (actions.new.items ≡ actions.old.items ++ idle_unbinds u.now c.old) }
+    ensures config { OnOk result (c.new ≡ after_all u.now c.old (idle_unbinds u.now c.old)) }
+{
+    c.keeps_invariant();
+    let ties = idle(alloc, u, c)?;
+    untie_all(c, &ties, actions)
+}
+
+// The bindings whose port their requirer does not require.
+fn idle(alloc: Global, u: &Universe, c: &Config) -> Result<Vec<(PortIx, InstNo, InstNo)>, NoMemory>
+    requires { IsOver u.now c.now }
+    ensures { IfOk result (λ ties. ties.items ≡ filter (is_idle u.now c.now) c.now.bindings) }
+{
+    let mut ties = Vec::new(alloc);
+    for tie in c.bindings() {
+        if is_idle(u, c, tie.0, tie.1) {
+            ties.push(tie)?;
+        }
+    }
+    Ok(ties)
+}
+
+// Whether the instance does not require the port.
+fn is_idle(u: &Universe, c: &Config, r: PortIx, z: InstNo) -> bool
+    requires { IsOver u.now c.now }
+    ensures { (y : ℕ) → result ≡ is_idle u.now c.now (r, z, y) }
+{
+    match c.pair_of(z) {
+        Some(p) => !u.requires_(p).contains(&r),
+        None => true,
+    }
+}
+
+// Ends these bindings, one after the other.
+fn untie_all(
+    c: &mut Config,
+    ties: &[(PortIx, InstNo, InstNo)],
+    actions: &mut Vec<Action>,
+) -> Result<(), NoMemory>
+    requires ascending { IsStrictlySortedBy binding_cmp ties.now }
+    requires bound { All (λ b. IsTrue (is_bound c.old b.0 b.1 b.2)) ties.now }
+    ensures actions { OnOk result (actions.new.items ≡ actions.old.items ++ map unbind ties.now) }
+    ensures config { OnOk result ((u : Universe) → c.new ≡ after_all u c.old (map unbind ties.now)) }
+{
+    for tie in ties {
+        actions.push(Action::Unbind {
+            port: tie.0,
+            inst: tie.1,
+            to: tie.2,
+        })?;
+        c.untie(tie.0, tie.1, tie.2);
+    }
+    Ok(())
+}
+
+/// Again and again removes the least instance to which no binding points. Each removal looks at the bindings of the one that
+/// goes, and not at the other instances.
+pub fn delete_unreferenced(
+    alloc: Global,
+    c: &mut Config,
+    actions: &mut Vec<Action>,
+) -> Result<(), NoMemory>
+    ensures actions { OnOk result (actions.new.items ≡ actions.old.items ++ unreferenced_deletes c.old) }
+    ensures config { OnOk result ((u : Universe) → c.new ≡ after_all u c.old (unreferenced_deletes c.old)) }
+{
+    let mut ends = ends_of(alloc, c)?;
+    let mut unreferenced = unreferenced_of(alloc, c, &ends)?;
+    for _ in 0..c.count() {
+        let Some(z) = unreferenced.pop_first() else {
+            return Ok(());
+        };
+        actions.push(Action::Delete { inst: z })?;
+        let_go(c, &mut ends, &mut unreferenced, z)?;
+    }
+    Ok(())
+}
