@@ -1,10 +1,11 @@
 //! The agents of all instances.
-ghost use Rattle.std.specs.Prelude.{◌≡◌, ◌<◌, ◌-◌, ◌≤◌, ◌^◌, ◌==◌, ℕ, List, IfOk, IsSome, length};
+ghost use Rattle.std.specs.Prelude.{◌≡◌, ◌<◌, ◌-◌, ◌≤◌, ◌^◌, ◌==◌, ◌++◌, ◌∷◌, [], ℕ, List, IfOk, OnOk, IsSome, length};
 ghost use Rattle.std.specs.List.Sorted.{IsStrictlySortedBy};
 ghost use Rattle.std.specs.Map.{keys_of, lookup};
 ghost use Rattle.std.specs.Ordering.{nat_cmp};
 ghost use Rattle.metis_crew.specs.Crew.{actor_at, start};
-ghost use Rattle.metis_control.specs.Fields.{AreOwned, IsDoneOrNext, IsHeard, IsOrdered, counts_of, state_of};
+ghost use Rattle.metis_control.specs.Fields.{AreOwned, IsAdded, IsDoneOrNext, IsHeard, IsOrdered, agent_at, counts_of, state_of};
+ghost use Rattle.metis_control.specs.Owned.{IsRising};
 ghost use Rattle.metis_control.specs.World.{came};
 ghost use Rattle.metis_control.specs.declared.happening.Packet.TheVariants as packet;
 
@@ -21,11 +22,30 @@ pub fn agents_of(alloc: Global, actions: &[Action]) -> Result<BTreeMap<InstNo, A
     ensures owned { IfOk result (λ agents. AreOwned actions.now agents.entries) }
 {
     let mut agents = BTreeMap::new(alloc);
-    for action in actions {
-        let agent = Agent::new(alloc, action.actor(), actions)?;
-        agents.insert(action.actor(), agent)?;
+    for (index, action) in actions.iter().enumerate() {
+        add(alloc, &mut agents, action.actor(), index as u32 + 1)?;
     }
     Ok(agents)
+}
+
+// The action is the instance's, behind its others.
+fn add(
+    alloc: Global,
+    agents: &mut BTreeMap<InstNo, Agent>,
+    z: InstNo,
+    number: u32,
+) -> Result<(), NoMemory>
+    requires rising { IsRising 0 ((agent_at agents.old.entries z).own ++ number ∷ []) }
+    requires few { length (agent_at agents.old.entries z).own < 2 ^ 32 - 1 }
+    ensures { OnOk result (IsAdded agents.old.entries z number agents.new.entries) }
+{
+    if let Some(agent) = agents.get_mut(&z) {
+        return agent.take_on(number);
+    }
+    let mut agent = Agent::idle(alloc, z);
+    agent.take_on(number)?;
+    agents.insert(z, agent)?;
+    Ok(())
 }
 
 // The order of action k at the agent of instance z.
