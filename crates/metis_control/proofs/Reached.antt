@@ -15,6 +15,7 @@ use Rattle.metis_waits.proofs.LastPlaces.{waits_earlier}
 use Rattle.metis_crew.specs.Crew.{actor_at, is_done, next_of}
 use Rattle.metis_crew.proofs.Counts.{none_are_done, one_more_done}
 use Rattle.metis_crew.proofs.Turns.{find_no, find_none, is_next}
+use Rattle.metis_control.proofs.Flagged.{has_pushed}
 use Rattle.metis_control.specs.World.{IsReached, WorldState, at_first, packet_at, next_number, with_packet, with_acked, with_run, first_wait, held_or_sent, ordered, came, delivered, restarted, hear, after_events}
 use Rattle.metis_control.specs.declared.happening.Happening.{Happening}
 use Rattle.metis_control.specs.declared.happening.Happening.TheVariants as event
@@ -43,13 +44,6 @@ got [] p q zero h = inr (same_packet p q h)
 got [] p q (suc i) h = absurd (none_packet q h)
 got (x ∷ ps) p q zero h = inl h
 got (x ∷ ps) p q (suc i) h = got ps p q i h
-
-has_pushed : (xs : List ℕ) (k m : ℕ) → has (xs ++ k ∷ []) m ≡ (has xs m || nat_eq k m)
-has_pushed xs k m = list_any-append (λ x. nat_eq x m) xs (k ∷ []) ∙ right (has xs m) (nat_eq k m) where
-  right : (a b : Bool) → (a || (b || false)) ≡ (a || b)
-  right true b = refl
-  right false true = refl
-  right false false = refl
 
 still : (xs : List ℕ) (k m : ℕ) → has xs m ≡ true → has (xs ++ k ∷ []) m ≡ true
 still xs k m h = has_pushed xs k m ∙ or_left _ _ h

@@ -5,6 +5,7 @@ ghost use Rattle.metis_universe.specs.Universe.{has};
 ghost use Rattle.metis_waits.specs.Waits.{AreWaits, list_of};
 ghost use Rattle.metis_control.specs.Controller.{leave};
 
+use crate::acknowledged::Acknowledged;
 use crate::happening::Leave;
 use metis_ids::{Action, NoMemory};
 use metis_waits::Waits;
@@ -15,30 +16,29 @@ use std::marker::Model;
 #[derive(Drop)]
 pub struct Controller<'a> {
     waits: &'a Waits,
-    acked: Vec<u32>,
+    acked: Acknowledged,
 }
 
 impl<'a> Model for Controller<'a> {
+    ghost use Rattle.std.specs.Prelude.{◌≡◌, length};
     ghost use Rattle.metis_control.specs.Controller.{ControllerState};
 
     ghost Value = { ControllerState };
 
-    ghost view = { λ c. record { each = c.waits.now.each; acked = c.acked.items } };
+    ghost view = { λ c. record { each = c.waits.now.each; acked = c.acked.numbers } };
+
+    ghost invariant = { λ c. c.acked.size ≡ length c.waits.now.each };
 }
 
 impl<'a> Controller<'a> {
     /// Nothing is acknowledged.
-    pub fn new(
-        alloc: Global,
-        actions: &[Action],
-        w: &'a Waits,
-    ) -> Result<Controller<'a>, NoMemory>
+    pub fn new(alloc: Global, actions: &[Action], w: &'a Waits) -> Result<Controller<'a>, NoMemory>
         requires { AreWaits actions.now w.now }
         ensures { IfOk result (λ c. c ≡ record { each = w.now.each; acked = [] }) }
     {
         Ok(Controller {
             waits: w,
-            acked: Vec::new(alloc),
+            acked: Acknowledged::none(alloc, w.count())?,
         })
     }
 
@@ -49,7 +49,7 @@ impl<'a> Controller<'a> {
         if k == 0 || k as usize > self.waits.count() {
             return Leave::NoAction;
         }
-        if self.acked.contains(&k) {
+        if self.acked.has(k) {
             return Leave::Acked;
         }
         match first_missing(&self.acked, self.waits.of(k)) {
@@ -60,15 +60,17 @@ impl<'a> Controller<'a> {
 
     /// Notes that the action was done. Whether this is new.
     pub fn note(&mut self, k: u32) -> Result<bool, NoMemory>
+        requires first { 1 ≤ k }
+        requires last { k ≤ length self.old.each }
         ensures each { self.new.each ≡ self.old.each }
         ensures answer { IfOk result (λ fresh. fresh ≡ not (has self.old.acked k)) }
         ensures noted { IfOk result (λ fresh. self.new.acked ≡ (if fresh then self.old.acked ++ k ∷ [] else self.old.acked)) }
         ensures err { OnErr result (self.new.acked ≡ self.old.acked) }
     {
-        if self.acked.contains(&k) {
+        if self.acked.has(k) {
             return Ok(false);
         }
-        self.acked.push(k)?;
+        self.acked.add(k)?;
         Ok(true)
     }
 
@@ -81,7 +83,7 @@ impl<'a> Controller<'a> {
         if n as usize > self.acked.len() {
             return false;
         }
-        self.acked.truncate(n as usize);
+        self.acked.keep(n as usize);
         true
     }
 
@@ -94,11 +96,11 @@ impl<'a> Controller<'a> {
 }
 
 // The first number of the row that is not acknowledged.
-fn first_missing(acked: &[u32], row: &[u32]) -> Option<u32>
-    ensures { result ≡ find (λ m. not (has acked.now m)) row.now }
+fn first_missing(acked: &Acknowledged, row: &[u32]) -> Option<u32>
+    ensures { result ≡ find (λ m. not (has acked.now.numbers m)) row.now }
 {
     for m in row {
-        if !acked.contains(m) {
+        if !acked.has(*m) {
             return Some(*m);
         }
     }

@@ -1,6 +1,7 @@
 //! A controller and one agent for each instance, over a net that loses, repeats and reorders.
 #![tactic(auto)]
 
+mod acknowledged;
 mod agent;
 mod agents;
 mod controller;
