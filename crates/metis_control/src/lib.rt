@@ -7,6 +7,7 @@ mod agents;
 mod controller;
 mod happening;
 mod laws;
+mod script;
 mod world;
 
 pub use agent::Agent;
@@ -16,4 +17,5 @@ pub use laws::{
     acknowledged_has_run, agents_are_never_ahead, counts_are_what_has_run, crew_does_what_has_run,
     ran_is_kept, some_order_is_sent,
 };
+pub use script::write_answers;
 pub use world::World;
