@@ -160,7 +160,6 @@ fn numbers_line(alloc: Global, word: &str, n: u32, then: &str, m: u32) -> Result
 }
 
 // Puts what was executed, and the counts.
-#[tactic(auto, using(metis_outside::proofs::Writing::front_of_line, metis_outside::proofs::Writing::writes_behind))]
 fn write_end<K: Sink>(
     alloc: Global,
     world: &World<'_>,
@@ -171,9 +170,22 @@ fn write_end<K: Sink>(
     ensures text { Writes (end_lines world.now.actions world.now.state) (K.written out.old) (K.written out.new) result }
     ensures cause { CountsFault (K.faults out.old) (K.faults out.new) result }
 {
-    write_ran(alloc, world.ran(), out)?;
-    let (executed, acknowledged) = (world.ran().len(), world.acknowledged().len());
-    write_counts(alloc, executed, all, acknowledged, out)
+    write_last(alloc, world.ran(), all, world.acknowledged(), out)
+}
+
+#[tactic(auto, using(metis_outside::proofs::Writing::front_of_line, metis_outside::proofs::Writing::writes_behind))]
+fn write_last<K: Sink>(
+    alloc: Global,
+    ran: &[u32],
+    all: usize,
+    acknowledged: &[u32],
+    out: &mut K,
+) -> Result<(), Trouble>
+    ensures text { Writes (ran_line ran.now ∷ counts_line (length ran.now) all (length acknowledged.now) ∷ []) (K.written out.old) (K.written out.new) result }
+    ensures cause { CountsFault (K.faults out.old) (K.faults out.new) result }
+{
+    write_ran(alloc, ran, out)?;
+    write_counts(alloc, ran.len(), all, acknowledged.len(), out)
 }
 
 #[tactic(auto, using(metis_outside::proofs::Writing::front_of_nothing))]
