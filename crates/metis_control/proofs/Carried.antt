@@ -7,14 +7,13 @@ use Rattle.std.specs.List.Sorted.{IsStrictlySortedBy}
 use Rattle.std.specs.Map.{lookup, keys_of, set_value}
 use Rattle.std.specs.Ordering.{match_ordering}
 use Rattle.std.specs.declared.cmp.Ordering.TheVariants.{Less, Equal, Greater}
-use Rattle.std.proofs.lemmas.Bool.{cases_eq, ne_eqb, false≢true, and_parts, and_from, both_ways, cases_Bool, eq-eqb, eqb-true}
+use Rattle.std.proofs.lemmas.Bool.{cases_eq, ne_eqb, false≢true, and_parts, both_ways, cases_Bool, eq-eqb, eqb-true}
 use Rattle.std.proofs.lemmas.Map.Steps.{set_value_same}
 use Rattle.metis_ids.specs.Action.{actor_of}
 use Rattle.metis_ids.specs.declared.actions.Action.{Action}
 use Rattle.metis_universe.specs.Universe.{has, is_empty}
 use Rattle.metis_universe.specs.Waits.{numbers}
 use Rattle.metis_universe.proofs.Ranges.{has_range}
-use Rattle.metis_universe.proofs.Rounds.{has-filter}
 use Rattle.std.specs.List.{filter, range_with_len}
 use Rattle.std.specs.Option.{option_map_or}
 use Rattle.std.proofs.lemmas.Option.{slice_get-get_or}
@@ -29,7 +28,7 @@ use Rattle.std.proofs.lemmas.Bool.Decides.{nat_tests}
 use Rattle.std.proofs.lemmas.List.FromFn.{length-range_with_len}
 use Rattle.metis_control.specs.Owned.{IsRising}
 use Rattle.metis_crew.proofs.OwnActions.{filter_short, own_has, own_listed, own_self, rising}
-use Rattle.metis_control.specs.Agent.{AgentState, heard, idle, with_number}
+use Rattle.metis_control.specs.Agent.{AgentState, idle, with_number}
 use Rattle.metis_control.specs.Fields.{AreOwned, IsAdded, agent_at, IsAnswered, IsDoneOrNext, IsOrdered, after_order, counts_of, state_of}
 use Rattle.metis_control.specs.World.{WorldState, came, next_number, with_packet, with_run}
 use Rattle.metis_control.specs.declared.happening.Packet.{Packet}

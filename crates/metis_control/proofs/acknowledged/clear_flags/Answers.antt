@@ -1,5 +1,4 @@
-use Rattle.std.proofs.Common.{◌≡◌, ◌∙◌, ◌-◌, false, get_or, set, subst, sym, ap, arith, ◌&&◌, ℕ, not, take, ◌+◌}
-use Rattle.metis_universe.specs.Universe.{has}
+use Rattle.std.proofs.Common.{◌∙◌, get_or, ap, arith}
 use Rattle.metis_control.specs.Acknowledged.{flag_at}
 use Rattle.metis_control.proofs.Flagged.{cleared_all, cleared_first, cleared_more, has_item}
 use Rattle.metis_control.proofs.acknowledged.clear_flags.Goals as goal
