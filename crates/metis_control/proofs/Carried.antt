@@ -23,6 +23,7 @@ use Rattle.metis_waits.specs.Waits.{is_by}
 use Rattle.metis_crew.specs.Crew.{actor_at, count_of, is_done, is_own, next_of, none_done, one_more, own_numbers, start}
 use Rattle.metis_crew.proofs.Looked.{by_cmp, known_start, set_is_put}
 use Rattle.metis_crew.proofs.Made.{at_key}
+use Rattle.metis_crew.proofs.Turns.{not_empty}
 use Rattle.metis_crew.proofs.Fronts.{rising_filter}
 use Rattle.std.proofs.lemmas.Bool.Decides.{nat_tests}
 use Rattle.std.proofs.lemmas.List.FromFn.{length-range_with_len}
@@ -251,10 +252,6 @@ agents_end A i es past g = record {
 } where
   all : (z : ℕ) → filter (is_own A z) (range_with_len 1 i) ≡ own_numbers A z
   all z = let e : i ≡ length A = omega (arith, past, g.within) in ap (λ n. filter (is_own A z) (range_with_len 1 n)) e
-
-not_empty : (xs : List ℕ) (k : ℕ) → has xs k ≡ true → is_empty xs ≡ false
-not_empty [] k h = absurd (false≢true h)
-not_empty (x ∷ xs) k h = refl
 
 module _ (A : List Action) (i : ℕ) (a : Action) (es : Agents) (low : i < length A) (is : slice_get A i ≡ Some a) (g : IsGathered A i es) where
   -- the numbers of its actor's actions, with this one
