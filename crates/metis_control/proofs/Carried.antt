@@ -7,14 +7,13 @@ use Rattle.std.specs.List.Sorted.{IsStrictlySortedBy}
 use Rattle.std.specs.Map.{lookup, keys_of, set_value}
 use Rattle.std.specs.Ordering.{match_ordering}
 use Rattle.std.specs.declared.cmp.Ordering.TheVariants.{Less, Equal, Greater}
-use Rattle.std.proofs.lemmas.Bool.{cases_eq, ne_eqb, false≢true, and_parts, and_from, both_ways, cases_Bool, eq-eqb, eqb-true}
+use Rattle.std.proofs.lemmas.Bool.{cases_eq, ne_eqb, false≢true, and_parts, both_ways, cases_Bool, eq-eqb, eqb-true}
 use Rattle.std.proofs.lemmas.Map.Steps.{set_value_same}
 use Rattle.metis_ids.specs.Action.{actor_of}
 use Rattle.metis_ids.specs.declared.actions.Action.{Action}
 use Rattle.metis_universe.specs.Universe.{has, is_empty}
 use Rattle.metis_universe.specs.Waits.{numbers}
 use Rattle.metis_universe.proofs.Ranges.{has_range}
-use Rattle.metis_universe.proofs.Rounds.{has-filter}
 use Rattle.std.specs.List.{filter, range_with_len}
 use Rattle.std.specs.Option.{option_map_or}
 use Rattle.std.proofs.lemmas.Option.{slice_get-get_or}
@@ -24,12 +23,13 @@ use Rattle.metis_waits.specs.Waits.{is_by}
 use Rattle.metis_crew.specs.Crew.{actor_at, count_of, is_done, is_own, next_of, none_done, one_more, own_numbers, start}
 use Rattle.metis_crew.proofs.Looked.{by_cmp, known_start, set_is_put}
 use Rattle.metis_crew.proofs.Made.{at_key}
+use Rattle.metis_crew.proofs.Turns.{not_empty}
 use Rattle.metis_crew.proofs.Fronts.{rising_filter}
 use Rattle.std.proofs.lemmas.Bool.Decides.{nat_tests}
 use Rattle.std.proofs.lemmas.List.FromFn.{length-range_with_len}
 use Rattle.metis_control.specs.Owned.{IsRising}
 use Rattle.metis_crew.proofs.OwnActions.{filter_short, own_has, own_listed, own_self, rising}
-use Rattle.metis_control.specs.Agent.{AgentState, heard, idle, with_number}
+use Rattle.metis_control.specs.Agent.{AgentState, idle, with_number}
 use Rattle.metis_control.specs.Fields.{AreOwned, IsAdded, agent_at, IsAnswered, IsDoneOrNext, IsOrdered, after_order, counts_of, state_of}
 use Rattle.metis_control.specs.World.{WorldState, came, next_number, with_packet, with_run}
 use Rattle.metis_control.specs.declared.happening.Packet.{Packet}
@@ -252,10 +252,6 @@ agents_end A i es past g = record {
 } where
   all : (z : ℕ) → filter (is_own A z) (range_with_len 1 i) ≡ own_numbers A z
   all z = let e : i ≡ length A = omega (arith, past, g.within) in ap (λ n. filter (is_own A z) (range_with_len 1 n)) e
-
-not_empty : (xs : List ℕ) (k : ℕ) → has xs k ≡ true → is_empty xs ≡ false
-not_empty [] k h = absurd (false≢true h)
-not_empty (x ∷ xs) k h = refl
 
 module _ (A : List Action) (i : ℕ) (a : Action) (es : Agents) (low : i < length A) (is : slice_get A i ≡ Some a) (g : IsGathered A i es) where
   -- the numbers of its actor's actions, with this one

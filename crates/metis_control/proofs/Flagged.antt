@@ -1,7 +1,7 @@
 -- Flags that are set and cleared.
 use Rattle.std.proofs.Common.{◌≡◌, ℕ, zero, suc, ◌+◌, ◌-◌, ◌<◌, ◌≤◌, Bool, true, false, not, cond, ◌||◌, ◌&&◌, List, [], ◌∷◌, ◌++◌, refl, sym, ap, ◌∙◌, subst, arith, inl, inr, nat_eq, nat_le, length, get_or, set, take, drop}
-use Rattle.std.proofs.lemmas.Bool.{and_from, and_parts, both_ways, cases_Bool, cases_eq, cases_lt, eq-eqb, eqb-true, false≢true, false_from_ne_true, le-leb, leb-true, ne_eqb, or_cases, or_from, or_left, or_parts, or_right}
-use Rattle.std.proofs.lemmas.List.{get_or-set_same, get_or-set_other, get_or_past, length-drop, length-set, take-append-drop, take-append-le, take_all}
+use Rattle.std.proofs.lemmas.Bool.{and_parts, both_ways, cases_eq, cases_lt, eq-eqb, eqb-true, false≢true, false_from_ne_true, le-leb, leb-true, ne_eqb, or_cases, or_from, or_parts, or_right}
+use Rattle.std.proofs.lemmas.List.{get_or-set_same, get_or-set_other, get_or_past, length-drop, take-append-drop, take-append-le, take_all}
 use Rattle.std.proofs.lemmas.List.Folds.{list_any-append}
 use Rattle.metis_universe.specs.Universe.{has}
 use Rattle.metis_control.specs.Acknowledged.{AreFlagged, IsOnce, flag_at}
@@ -146,11 +146,6 @@ flagged_as {xs} {xs'} {flags} {flags'} same alike f = subst (λ ys. AreFlagged y
 
 pub rest_of : (xs : List ℕ) (n : ℕ) → take (length xs - n) (drop n xs) ≡ drop n xs
 rest_of xs n = take_all (length xs - n) (drop n xs) (let long = length-drop n xs in omega arith)
-
-pub has_item : (xs : List ℕ) (i : ℕ) → i < length xs → has xs (get_or xs i 0) ≡ true
-has_item [] i low = absurd (omega arith)
-has_item (x ∷ xs) zero low = or_left _ _ (eq-eqb x x refl)
-has_item (x ∷ xs) (suc i) low = or_right (nat_eq x (get_or xs i 0)) _ (has_item xs i (omega arith))
 
 pub cleared_more : (xs : List ℕ) (flags old : List Bool) (i : ℕ) → i < length xs → 1 ≤ get_or xs i 0 → get_or xs i 0 ≤ length flags → ((k : ℕ) → flag_at flags k ≡ (flag_at old k && not (has (take i xs) k))) →
     (k : ℕ) → flag_at (set flags (get_or xs i 0 - 1) false) k ≡ (flag_at old k && not (has (take (i + 1) xs) k))

@@ -152,6 +152,7 @@ impl<'a> World<'a> {
         self.agents.get(&z)
     }
 
+    /// The controller.
     pub fn controller(&self) -> &Controller<'a>
         ensures { result.now.acked ≡ self.now.state.acked }
     {

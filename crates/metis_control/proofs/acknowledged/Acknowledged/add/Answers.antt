@@ -1,6 +1,6 @@
-use Rattle.std.proofs.Common.{◌≡◌, ◌∙◌, ◌-◌, ◌++◌, ◌∷◌, [], ℕ, List, Bool, true, false, ap, sym, subst, arith, length, set, take, drop, length-set}
+use Rattle.std.proofs.Common.{◌≡◌, ◌∙◌, ◌-◌, true, ap, arith, length, set, drop, length-set}
 use Rattle.metis_universe.specs.Universe.{has}
-use Rattle.metis_control.specs.Acknowledged.{AcknowledgedState, AreFlagged}
+use Rattle.metis_control.specs.Acknowledged.{AcknowledgedState}
 use Rattle.metis_control.proofs.Flagged.{flagged_as, flagged_more, written}
 use Rattle.metis_control.proofs.acknowledged.Acknowledged.add.Goals as goal
 
