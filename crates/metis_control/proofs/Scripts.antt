@@ -1,13 +1,13 @@
 -- A script, a line further.
-use Rattle.std.proofs.Common.{◌≡◌, ℕ, suc, ◌+◌, ◌≤◌, ◌<◌, Bool, true, false, cond, not, List, [], ◌∷◌, ◌++◌, length, drop, get_or, map, Option, Some, None, refl, sym, ap, ◌∙◌, subst, append_assoc, length-append, arith}
+use Rattle.std.proofs.Common.{◌≡◌, ℕ, suc, ◌+◌, ◌≤◌, ◌<◌, Bool, true, false, cond, not, List, [], ◌∷◌, ◌++◌, length, drop, get_or, map, Option, Some, None, refl, sym, ap, ◌∙◌, append_assoc, length-append, arith}
 use Rattle.std.proofs.Math.Seq.{drop-cons}
 use Rattle.std.specs.Option.{option_map_or}
 use Rattle.metis_ids.specs.declared.actions.Action.{Action}
 use Rattle.metis_universe.specs.Universe.{has}
 use Rattle.metis_universe.specs.Waits.{numbers}
 use Rattle.metis_crew.specs.Crew.{is_done}
-use Rattle.metis_control.specs.Script.{after_lines, answer_of, answer_to, answers, happening_in}
-use Rattle.metis_control.specs.World.{WorldState, came, first_wait, hear, held_or_sent, packet_at, restarted, with_packet}
+use Rattle.metis_control.specs.Script.{after_lines, answer_of, answer_to, answers, events_of, happening_in}
+use Rattle.metis_control.specs.World.{WorldState, after_events, came, first_wait, hear, held_or_sent, packet_at}
 use Rattle.metis_control.specs.declared.happening.Happening.{Happening}
 use Rattle.metis_control.specs.declared.happening.Happening.TheVariants as event
 use Rattle.metis_control.specs.declared.happening.Packet.{Packet}
@@ -78,3 +78,13 @@ pub answers_from : (A : List Action) (w : WorldState) (line : List ℕ) (lines l
     → all ++ end ≡ put ++ ((answer_to A w line).0 ∷ answers A (answer_to A w line).1 lines ++ end)
 answers_from A w line lines left put all end next before =
     ap (λ l. l ++ end) (sym before ∙ ap (λ l. put ++ answers A w l) next) ∙ append_assoc put ((answer_to A w line).0 ∷ answers A (answer_to A w line).1 lines) end
+
+-- ---- the events of the lines
+
+pub lines_are_events : (A : List Action) (w : WorldState) (lines : List (List ℕ)) → after_lines A w lines ≡ after_events A w (events_of lines)
+lines_are_events A w [] = refl
+lines_are_events A w (line ∷ lines) = by_event (λ v. lines_are_events A v lines) (happening_in line) where
+  by_event : ((v : WorldState) → after_lines A v lines ≡ after_events A v (events_of lines)) → (o : Option Happening)
+      → after_lines A (answer_of A w o).1 lines ≡ after_events A w (option_map_or (λ e. e ∷ events_of lines) o (events_of lines))
+  by_event others None = others w
+  by_event others (Some e) = others (hear A w e).1

@@ -1,12 +1,13 @@
 -- The lines of a script for the world machine, and what is put for them.
 --     happening_in line      what the line says may happen next, if it is such a line
+--     events_of lines      what may happen by the lines of a script, one after the other;  a line that says nothing of this is left out
 --     told_line t      the line of an answer;  want of memory has none
 --     answer_to A w line      the line that is put for a line of the script, and the state after it
 --     answers A w lines, after_lines A w lines      what is put for these lines, in order;  the state after them
 --     end_lines A w      which actions were executed, in their order, and then how many, of how many, and how many are acknowledged
 --     script_answers A lines      what is put for a whole script
 use Rattle.std.specs.Prelude.{ℕ, List, [], ◌∷◌, ◌++◌, length, map, codes, decimal, Option, Some, None, if◌then◌else◌}
-use Rattle.std.specs.Option.{option_and_then}
+use Rattle.std.specs.Option.{option_and_then, option_map_or}
 use Rattle.std.specs.Result.{result_ok}
 use Rattle.std.specs.Str.{bytes_eq}
 use Rattle.metis_ids.specs.declared.actions.Action.{Action}
@@ -32,6 +33,10 @@ happening_of _ = None
 
 abbrev pub happening_in : List ℕ → Option Happening
 happening_in line = happening_of (tokens line)
+
+abbrev pub events_of : List (List ℕ) → List Happening
+events_of [] = []
+events_of (line ∷ lines) = option_map_or (λ e. e ∷ events_of lines) (happening_in line) (events_of lines)
 
 -- ---- answers
 
