@@ -1,0 +1,90 @@
+-- A script, a line further.
+use Rattle.std.proofs.Common.{◌≡◌, ℕ, suc, ◌+◌, ◌≤◌, ◌<◌, Bool, true, false, cond, not, List, [], ◌∷◌, ◌++◌, length, drop, get_or, map, Option, Some, None, refl, sym, ap, ◌∙◌, append_assoc, length-append, arith}
+use Rattle.std.proofs.Math.Seq.{drop-cons}
+use Rattle.std.specs.Option.{option_map_or}
+use Rattle.metis_ids.specs.declared.actions.Action.{Action}
+use Rattle.metis_universe.specs.Universe.{has}
+use Rattle.metis_universe.specs.Waits.{numbers}
+use Rattle.metis_crew.specs.Crew.{is_done}
+use Rattle.metis_control.specs.Script.{after_lines, answer_of, answer_to, answers, events_of, happening_in}
+use Rattle.metis_control.specs.World.{WorldState, after_events, came, first_wait, hear, held_or_sent, packet_at}
+use Rattle.metis_control.specs.declared.happening.Happening.{Happening}
+use Rattle.metis_control.specs.declared.happening.Happening.TheVariants as event
+use Rattle.metis_control.specs.declared.happening.Packet.{Packet}
+use Rattle.metis_control.specs.declared.happening.Packet.TheVariants as packet
+use Rattle.metis_control.specs.declared.happening.Told.{Told}
+
+-- ---- at most one packet more
+
+module _ (A : List Action) (w : WorldState) where
+  abbrev IsFew : Told × WorldState → Type 0
+  IsFew heard = length heard.1.packets ≤ length w.packets + 1
+
+  either : (b : Bool) (x y : Told × WorldState) → IsFew x → IsFew y → IsFew (cond b x y)
+  either true x y p q = p
+  either false x y p q = q
+
+  same : length w.packets ≤ length w.packets + 1
+  same = omega arith
+
+  one_more : (p : Packet) → length (w.packets ++ p ∷ []) ≤ length w.packets + 1
+  one_more p = omega (arith, length-append w.packets (p ∷ []))
+
+  sent_few : (k : ℕ) (o : Option ℕ) → IsFew (held_or_sent w k o)
+  sent_few k None = one_more (packet.Order k)
+  sent_few k (Some m) = same
+
+  came_few : (p : Packet) → IsFew (came A w p)
+  came_few (packet.Order k) = either (is_done A w.counts k) _ _ (one_more (packet.Ack k)) (one_more (packet.Ack k))
+  came_few (packet.Ack k) = either (has w.acked k) _ _ same same
+
+  delivered_few : (n : ℕ) (o : Option Packet) (none : Told × WorldState) → IsFew none → IsFew (option_map_or (came A w) o none)
+  delivered_few n None none few = few
+  delivered_few n (Some p) none few = came_few p
+
+  hear_few : (e : Happening) → IsFew (hear A w e)
+  hear_few (event.Order k) = either (not (has (numbers A) k)) _ _ same (either (has w.acked k) _ _ same (sent_few k (first_wait A w.acked k)))
+  hear_few (event.Deliver n) = delivered_few n (packet_at w.packets n) _ same
+  hear_few (event.Restart n) = either _ _ _ same same
+
+  of_few : (o : Option Happening) → length (answer_of A w o).1.packets ≤ length w.packets + 1
+  of_few None = same
+  of_few (Some e) = hear_few e
+
+  pub answer_few : (line : List ℕ) → length (answer_to A w line).1.packets ≤ length w.packets + 1
+  answer_few line = of_few (happening_in line)
+
+-- ---- the lines that are left
+
+-- the next line, and those behind it
+pub next_line : {X : Type 0} (bytes : X → List ℕ) (xs : List X) (i : ℕ) (d : X) → i < length xs → map bytes (drop i xs) ≡ bytes (get_or xs i d) ∷ map bytes (drop (i + 1) xs)
+next_line bytes xs i d low =
+    let step : suc i ≡ i + 1 = omega arith in
+    ap (map bytes) (drop-cons xs i d low) ∙ ap (λ n. bytes (get_or xs i d) ∷ map bytes (drop n xs)) step
+
+module _ (A : List Action) (w after : WorldState) (line : List ℕ) (lines left : List (List ℕ)) (next : left ≡ line ∷ lines) (is : after ≡ (answer_to A w line).1) where
+  pub rest_more : (put all : List (List ℕ)) → put ++ answers A w left ≡ all → (put ++ (answer_to A w line).0 ∷ []) ++ answers A after lines ≡ all
+  rest_more put all before =
+      append_assoc put ((answer_to A w line).0 ∷ []) (answers A after lines)
+      ∙ ap (λ v. put ++ (answer_to A w line).0 ∷ answers A v lines) is
+      ∙ ap (λ l. put ++ answers A w l) (sym next)
+      ∙ before
+
+  pub last_more : (last : WorldState) → after_lines A w left ≡ last → after_lines A after lines ≡ last
+  last_more last before = ap (λ v. after_lines A v lines) is ∙ ap (after_lines A w) (sym next) ∙ before
+
+-- a script's answers, from a line on
+pub answers_from : (A : List Action) (w : WorldState) (line : List ℕ) (lines left put all end : List (List ℕ)) → left ≡ line ∷ lines → put ++ answers A w left ≡ all
+    → all ++ end ≡ put ++ ((answer_to A w line).0 ∷ answers A (answer_to A w line).1 lines ++ end)
+answers_from A w line lines left put all end next before =
+    ap (λ l. l ++ end) (sym before ∙ ap (λ l. put ++ answers A w l) next) ∙ append_assoc put ((answer_to A w line).0 ∷ answers A (answer_to A w line).1 lines) end
+
+-- ---- the events of the lines
+
+pub lines_are_events : (A : List Action) (w : WorldState) (lines : List (List ℕ)) → after_lines A w lines ≡ after_events A w (events_of lines)
+lines_are_events A w [] = refl
+lines_are_events A w (line ∷ lines) = by_event (λ v. lines_are_events A v lines) (happening_in line) where
+  by_event : ((v : WorldState) → after_lines A v lines ≡ after_events A v (events_of lines)) → (o : Option Happening)
+      → after_lines A (answer_of A w o).1 lines ≡ after_events A w (option_map_or (λ e. e ∷ events_of lines) o (events_of lines))
+  by_event others None = others w
+  by_event others (Some e) = others (hear A w e).1
