@@ -1,0 +1,4 @@
+pub mod Holding
+pub mod Placement
+pub mod Settled
+pub mod Shortest
