@@ -16,4 +16,5 @@ pub mod FurtherIs
 pub mod Tallies
 pub mod Holdings
 pub mod Placed
+pub mod Trees
 pub mod Examples

@@ -2,12 +2,12 @@
 #![tactic(auto)]
 
 mod fault;
-mod free;
 mod further;
 mod holds;
 mod hosts;
 mod laws;
 mod placing;
+mod rooms;
 mod seats;
 
 pub use fault::PFault;

@@ -9,8 +9,8 @@ ghost use Rattle.metis_place.specs.Placement.{IfNoRoom, IsNoRoom, is_placed, sea
 ghost use Rattle.metis_place.specs.Settled.{IsSettled};
 
 use crate::fault::PFault;
-use crate::free::{first_free, greatest};
 use crate::hosts::Hosts;
+use crate::rooms::Rooms;
 use metis_ids::{Action, InstNo};
 use metis_universe::Universe;
 use std::alloc::Global;
@@ -20,7 +20,7 @@ use std::collections::BTreeMap;
 #[derive(Drop)]
 pub struct Settled {
     /// The free room of each host.
-    free: Vec<u64>,
+    free: Rooms,
     /// The size and the host of each instance that was made.
     pub at: BTreeMap<InstNo, (u32, u32)>,
     /// The host of each instance, in the order in which they were made.
@@ -55,19 +55,21 @@ fn settle(
     match actions[index] {
         Action::New { inst, kind } => {
             let size = h.size(kind);
-            match first_free(&s.free, size) {
+            match s.free.first(size) {
                 Some(host) => {
-                    s.free[host as usize] -= u64::from(size);
+                    let room = s.free.room(host);
+                    s.free.set(host, room - u64::from(size));
                     s.at.insert(inst, (size, host))?;
                     s.hosts.push(host)?;
                     Ok(())
                 }
-                None => Err(PFault::NoRoom(index as u32 + 1, size, greatest(&s.free))),
+                None => Err(PFault::NoRoom(index as u32 + 1, size, s.free.most())),
             }
         }
         Action::Delete { inst } => {
             if let Some((size, host)) = place_in(&s.at, inst) {
-                s.free[host as usize] += u64::from(size);
+                let room = s.free.room(host);
+                s.free.set(host, room + u64::from(size));
             }
             Ok(())
         }
@@ -90,7 +92,7 @@ pub fn seat(alloc: Global, u: &Universe, actions: &[Action], h: &Hosts) -> Resul
         free.push(u64::from(h.room(place)))?;
     }
     let mut settled = Settled {
-        free,
+        free: Rooms::of(alloc, &free)?,
         at: BTreeMap::new(alloc),
         hosts: Vec::new(alloc),
     };
