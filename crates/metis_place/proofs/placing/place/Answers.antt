@@ -1,0 +1,21 @@
+use Rattle.std.proofs.Common.{arith, length}
+use Rattle.metis_universe.proofs.Correctness.{all_from_has}
+use Rattle.metis_universe.proofs.Ranges.{in_range}
+use Rattle.metis_universe.specs.Waits.{numbers}
+use Rattle.metis_place.specs.Placement.{is_placed_at}
+use Rattle.metis_place.proofs.Placed.{no_more_held}
+use Rattle.metis_place.proofs.placing.place.Goals as goal
+
+pub returns-clause-placing : goal.returns-clause-placing
+returns-clause-placing c =
+    let settled = c.in_ok-settled.ensures.settled in
+    record {
+      hosts = settled.hosts;
+      holds = c.in_ok-holds.ensures;
+      placed = all_from_has (is_placed_at c.args.h.now c.args.actions.now) (numbers c.args.actions.now) (λ j there.
+          let range = in_range 1 (length c.args.actions.now) j there in
+          settled.placed j (omega (arith, range.1)));
+    }
+
+pub returns-clause-roomy : goal.returns-clause-roomy
+returns-clause-roomy c = no_more_held c.args.u.now c.args.h.now c.args.actions.now c.requires.run c.requires.steadfast _ c.in_ok-holds.ensures
