@@ -1,6 +1,4 @@
-pub mod Places
 pub mod Orders
-pub mod OwnOrder
 pub mod Once
 pub mod Presence
 pub mod Totals
