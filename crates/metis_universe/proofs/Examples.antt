@@ -13,11 +13,12 @@ use Rattle.metis_universe.specs.Names.{is_name}
 use Rattle.metis_universe.specs.RowShapes.{TypeRow, StateRow}
 use Rattle.metis_universe.specs.Rows.{first_fault, ports_of, meaning_of}
 use Rattle.metis_universe.specs.Sights.{first_sights}
-use Rattle.metis_universe.specs.Universe.{Universe, Kind, Pair, has, is_initial, is_empty, required_of, next_of, provided_of, provides, requires, type_count, pair_count, port_count, type_of, initial_of, state_place_of, type_named, pair_named, port_names_of_pair, IsBySight, IsUniverse}
-use Rattle.metis_universe.specs.Config.{empty, is_correct}
-use Rattle.metis_universe.specs.Step.{after_all, IsRun}
+use Rattle.metis_universe.specs.Universe.{Universe, Kind, Pair, has, is_initial, is_empty, further_of, required_of, next_of, provided_of, provides, requires, type_count, pair_count, port_count, type_of, initial_of, state_place_of, type_named, pair_named, port_names_of_pair, IsBySight, IsUniverse}
+use Rattle.metis_universe.specs.Config.{Config, IsConfig, empty, is_correct}
+use Rattle.metis_universe.specs.Step.{Allows, after, after_all, IsRun}
 use Rattle.metis_universe.specs.Closed.{Closed, IsProvidedIn, Refusal}
 use Rattle.metis_universe.proofs.Correctness.{Correct-from_is_correct}
+use Rattle.metis_universe.proofs.Kept.{IsConfig-after, IsConfig-empty}
 
 -- ---- rows
 
@@ -28,7 +29,7 @@ abbrev row : List ℕ → List ℕ → List StateRow → TypeRow
 row name initial states = record { name = name; initial = initial; states = states }
 
 abbrev pair : ℕ → List ℕ → List ℕ → List ℕ → List ℕ → Pair
-pair kind state provided required next = record { kind = kind; state = state; provided = provided; required = required; next = next }
+pair kind state provided required next = record { kind = kind; state = state; provided = provided; required = required; further = map (λ _. 0) required; next = next }
 
 abbrev kind : List ℕ → ℕ → Kind
 kind name initial = record { name = name; initial = initial }
@@ -54,6 +55,7 @@ web_rows =
 -- pairs Db:off 0, Db:on 1, Web:off 2, Web:run 3
 abbrev web : Universe
 web = record {
+  version = 1;
   kinds = kind (codes "Db") 0 ∷ kind (codes "Web") 2 ∷ [];
   pairs = pair 0 off [] [] (1 ∷ []) ∷ pair 0 on (0 ∷ []) [] [] ∷ pair 1 off [] [] (3 ∷ []) ∷ pair 1 running [] (0 ∷ []) [] ∷ [];
   ports = sql ∷ [];
@@ -88,6 +90,7 @@ repeats_ports : ports_of repeats ≡ codes "z" ∷ codes "y" ∷ codes "x" ∷ [
 repeats_ports = refl
 
 repeats_from_rows : meaning_of repeats ≡ Ok (record {
+  version = 1;
   kinds = kind (codes "T") 1 ∷ [];
   pairs = pair 0 off (0 ∷ []) (0 ∷ 1 ∷ []) (0 ∷ 1 ∷ []) ∷ pair 0 on (2 ∷ []) (0 ∷ []) [] ∷ [];
   ports = codes "z" ∷ codes "y" ∷ codes "x" ∷ [];
@@ -160,16 +163,27 @@ too_late = refl
 one≢zero : ◌≢◌ {A = ℕ} 1 0
 one≢zero h = omega arith
 
+-- each action is allowed, and what it leaves passes the test
+abbrev pub PassesEach : Universe → Config → List Action → Type 0
+PassesEach u c [] = Unit {0}
+PassesEach u c (a ∷ rest) = Allows u c a × (is_correct u (after u c a) ≡ true) × PassesEach u (after u c a) rest
+
+pub run_by_tests : (u : Universe) (c : Config) (actions : List Action) → IsConfig c → PassesEach u c actions → IsRun u c actions
+run_by_tests u c [] k passes = tt
+run_by_tests u c (a ∷ rest) k passes =
+    let next = IsConfig-after u c a k passes.0 in
+    (passes.0, Correct-from_is_correct u (after u c a) next passes.1, run_by_tests u (after u c a) rest next passes.2)
+
 session_runs : IsRun web empty session
-session_runs =
-    let now = λ (k : ℕ). Correct-from_is_correct web (after_all web empty (take k session)) in
-    ((lit< tt, refl), now 1 refl, ((lit< tt, refl), now 2 refl, (record { apart = one≢zero; requirer = refl; provider = refl; unbound = refl }, now 3 refl, ((refl, refl), now 4 refl, ((refl, refl), now 5 refl, tt)))))
+session_runs = run_by_tests web empty session IsConfig-empty
+    ((lit< tt, refl), refl, ((lit< tt, refl), refl, (record { apart = one≢zero; requirer = refl; provider = refl; unbound = refl }, refl, ((refl, refl), refl, ((refl, refl), refl, tt)))))
 
 -- ---- a refusal
 
 -- A: off > on(+x -y), B: off > on(+y -x): each needs the other to be on first
 abbrev lock : Universe
 lock = record {
+  version = 1;
   kinds = kind (codes "A") 0 ∷ kind (codes "B") 2 ∷ [];
   pairs = pair 0 off [] [] (1 ∷ []) ∷ pair 0 on (0 ∷ []) (1 ∷ []) [] ∷ pair 1 off [] [] (3 ∷ []) ∷ pair 1 on (1 ∷ []) (0 ∷ []) [] ∷ [];
   ports = codes "x" ∷ codes "y" ∷ [];
@@ -214,6 +228,7 @@ lock_by_sight = refl
 -- the same with the numbers of its ports exchanged: x is seen first, and yet is number 1
 abbrev exchanged : Universe
 exchanged = record {
+  version = 1;
   kinds = lock.kinds;
   pairs = pair 0 off [] [] (1 ∷ []) ∷ pair 0 on (1 ∷ []) (0 ∷ []) [] ∷ pair 1 off [] [] (3 ∷ []) ∷ pair 1 on (0 ∷ []) (1 ∷ []) [] ∷ [];
   ports = codes "y" ∷ codes "x" ∷ [];
@@ -229,7 +244,7 @@ one_rises : (x : ℕ) → IsStrictlyIncreasing (x ∷ [])
 one_rises x = λ k h. absurd (omega arith)
 
 web_is_universe : IsUniverse web
-web_is_universe = record { by_type = IsNonDecreasingBy-from_all_adjacent (λ p. p.kind) web.pairs adjacent; types = types; initials = initials; provided = provided; required = required; next = next } where
+web_is_universe = record { version = inl refl; single = λ _. single; by_type = IsNonDecreasingBy-from_all_adjacent (λ p. p.kind) web.pairs adjacent; types = types; initials = initials; provided = provided; required = required; demands = demands; next = next } where
   adjacent : AllAdjacentBelow (λ x y. x.kind ≤ y.kind) web.pairs (length web.pairs)
   adjacent zero d h = lit≤ tt
   adjacent (suc zero) d h = lit≤ tt
@@ -261,6 +276,20 @@ web_is_universe = record { by_type = IsNonDecreasingBy-from_all_adjacent (λ p. 
   required (suc (suc zero)) h = (none_rises, All-from_recursion (λ r. r < port_count web) [] tt)
   required (suc (suc (suc zero))) h = (one_rises 0, All-from_recursion (λ r. r < port_count web) (0 ∷ []) (lit< tt, tt))
   required (suc (suc (suc (suc k)))) h = absurd (omega arith)
+
+  single : (p : ℕ) → p < pair_count web → All (λ n. n ≡ 0) (further_of web p)
+  single zero h = All-from_recursion (λ n. n ≡ 0) [] tt
+  single (suc zero) h = All-from_recursion (λ n. n ≡ 0) [] tt
+  single (suc (suc zero)) h = All-from_recursion (λ n. n ≡ 0) [] tt
+  single (suc (suc (suc zero))) h = All-from_recursion (λ n. n ≡ 0) (0 ∷ []) (refl, tt)
+  single (suc (suc (suc (suc k)))) h = absurd (omega arith)
+
+  demands : (p : ℕ) → p < pair_count web → (length (further_of web p) ≡ length (required_of web p)) × All (λ n. n < 16) (further_of web p)
+  demands zero h = (refl, All-from_recursion (λ n. n < 16) [] tt)
+  demands (suc zero) h = (refl, All-from_recursion (λ n. n < 16) [] tt)
+  demands (suc (suc zero)) h = (refl, All-from_recursion (λ n. n < 16) [] tt)
+  demands (suc (suc (suc zero))) h = (refl, All-from_recursion (λ n. n < 16) (0 ∷ []) (lit< tt, tt))
+  demands (suc (suc (suc (suc k)))) h = absurd (omega arith)
 
   next : (p : ℕ) → p < pair_count web → IsStrictlyIncreasing (next_of web p) × All (λ q. (q < pair_count web) × (type_of web q ≡ type_of web p)) (next_of web p)
   next zero h = (one_rises 1, All-from_recursion (λ q. (q < pair_count web) × (type_of web q ≡ 0)) (1 ∷ []) ((lit< tt, refl), tt))

@@ -1,5 +1,5 @@
 -- The universe of rows without a fault has what every universe has.
-use Rattle.std.proofs.Common.{◌≡◌, ℕ, suc, ◌+◌, ◌<◌, ◌≤◌, Bool, true, IsTrue, List, [], ◌∷◌, length, take, get_or, map, sum_by, position, flat_map, None, inl, inr, ap, sym, ◌∙◌, subst, zero-add, arith}
+use Rattle.std.proofs.Common.{◌≡◌, ℕ, suc, ◌+◌, ◌<◌, ◌≤◌, Bool, true, IsTrue, List, [], ◌∷◌, length, take, get_or, map, sum, sum_by, position, flat_map, None, inl, inr, refl, ap, sym, ◌∙◌, subst, zero-add, arith}
 use Rattle.std.specs.List.{list_any, AllByRecursion, All}
 use Rattle.std.specs.List.Sorted.{IsNonDecreasingBy, IsStrictlyIncreasing}
 use Rattle.std.specs.Str.{bytes_eq}
@@ -13,7 +13,7 @@ use Rattle.std.proofs.lemmas.Slice.Eq.{bytes_eq-Decides}
 use Rattle.metis_universe.specs.Names.{is_name}
 use Rattle.metis_universe.specs.RowShapes.{TypeRow, StateRow}
 use Rattle.metis_universe.specs.Sights.{first_sights}
-use Rattle.metis_universe.specs.Universe.{Kind, Pair, no_kind, no_pair, kind_at, pair_at, type_of, type_count, pair_count, port_count, initial_of, states_of_type, IsUniverse, IsNamed, IsWithinLimits, IsTable}
+use Rattle.metis_universe.specs.Universe.{Kind, Pair, no_kind, no_pair, kind_at, pair_at, type_of, type_count, pair_count, port_count, initial_of, demand_total, states_of_type, IsUniverse, IsNamed, IsWithinLimits, IsTable}
 use Rattle.metis_universe.specs.Rows.{ports_of_state, ports_of_type, ports_of, state_total, has_state, first_fault, earlier_type, number_of, state_number, ascending, pair_from, pairs_of_type, pairs_from, kind_from, universe_from}
 use Rattle.metis_universe.proofs.Ascending.{number_within, IsStrictlyIncreasing-ascending, All-ascending, each_map, each_weaker, length-ascending}
 use Rattle.metis_universe.proofs.Blocks.{no_state, no_row, row_at, states_at, first_of, state_total-cons, length-pairs_from, length-kinds_from, get_or-kinds_from, get_or-pairs_from, Place, place_of, first_of-more, first_of-within}
@@ -63,6 +63,28 @@ ports_of_names rows names h =
           (each_map P (number_of (ports_of rows)) names (each_weaker Q (λ name. P (number_of (ports_of rows) name)) names (λ name e. number_within (bytes_eq name) (ports_of rows) e) h)),
     )
 
+-- for no port more than one
+abbrev zeros : List ℕ → List ℕ
+zeros xs = map (λ _. 0) xs
+
+none_further : (xs : List ℕ) → (length (zeros xs) ≡ length xs) × All (λ n. n < 16) (zeros xs)
+none_further xs = (same xs, All-from_recursion (λ n. n < 16) (zeros xs) (each xs)) where
+  same : (xs : List ℕ) → length (zeros xs) ≡ length xs
+  same [] = refl
+  same (x ∷ xs) = ap suc (same xs)
+
+  each : (xs : List ℕ) → AllByRecursion (λ n. n < 16) (zeros xs)
+  each [] = tt
+  each (x ∷ xs) = (omega arith, each xs)
+
+all_zero : (xs : List ℕ) → AllByRecursion (λ n. n ≡ 0) (zeros xs)
+all_zero [] = tt
+all_zero (x ∷ xs) = (refl, all_zero xs)
+
+sum_zeros : (xs : List ℕ) → sum (zeros xs) ≡ 0
+sum_zeros [] = refl
+sum_zeros (x ∷ xs) = sum_zeros xs
+
 seen_in : (rows : List TypeRow) (t i : ℕ) → t < length rows → i < length (states_at rows t) → AllByRecursion (λ name. IsTrue (list_any (bytes_eq name) (ports_of rows))) (ports_of_state (state_at rows t i))
 seen_in rows t i l m =
     let Q : List ℕ → Type 0 = λ name. IsTrue (list_any (bytes_eq name) (ports_of rows)) in
@@ -106,6 +128,16 @@ IsUniverse-universe_from rows clear = record {
       let T : Pair → Type 0 = λ x. IsStrictlyIncreasing x.required × All (λ r. r < port_count (universe_from rows)) x.required in
       let state = state_at rows at.t at.i in
       subst T (sym (pair_at_place rows p at)) (ports_of_names rows state.require (each_parts _ state.provide state.require (seen_in rows at.t at.i at.within at.below)).1);
+  version = inl refl;
+  single = λ _ p h.
+      let at = place rows p h in
+      let required = ascending (map (number_of (ports_of rows)) (state_at rows at.t at.i).require) in
+      subst (λ (x : Pair). All (λ n. n ≡ 0) x.further) (sym (pair_at_place rows p at)) (All-from_recursion (λ n. n ≡ 0) (zeros required) (all_zero required));
+  demands = λ p h.
+      let at = place rows p h in
+      let T : Pair → Type 0 = λ x. (length x.further ≡ length x.required) × All (λ n. n < 16) x.further in
+      let required = ascending (map (number_of (ports_of rows)) (state_at rows at.t at.i).require) in
+      subst T (sym (pair_at_place rows p at)) (none_further required);
   next = λ p h.
       let at = place rows p h in
       let row = row_at rows at.t in
@@ -200,12 +232,13 @@ types-le rows clear =
     λ t d l. let m = number_within (λ (state : StateRow). bytes_eq (get_or rows t d).initial state.name) (get_or rows t d).states (clear.types t d l).initial in omega arith in
     omega (arith, length-le-state_total rows each, clear.pairs)
 
-required-le : (ports : List (List ℕ)) (t f : ℕ) (row : TypeRow) → sum_by (λ (p : Pair). length p.required) (pairs_of_type ports t f row) ≤ sum_by (λ (state : StateRow). length (first_sights state.require)) row.states
+required-le : (ports : List (List ℕ)) (t f : ℕ) (row : TypeRow) → sum_by demand_total (pairs_of_type ports t f row) ≤ sum_by (λ (state : StateRow). length (first_sights state.require)) row.states
 required-le ports t f row =
-    let own = λ (state : StateRow). length (ascending (map (number_of ports) state.require)) in
+    let numbers = λ (state : StateRow). ascending (map (number_of ports) state.require) in
+    let own = λ (state : StateRow). length (numbers state) + sum (zeros (numbers state)) in
     let named = λ (state : StateRow). length (first_sights state.require) in
-    let e : sum_by (λ (p : Pair). length p.required) (pairs_of_type ports t f row) ≡ sum_by own row.states = fold-map (λ (n : ℕ) (p : Pair). n + length p.required) (pair_from ports t f row) 0 row.states in
-    let le : sum_by own row.states ≤ sum_by named row.states = sum_by-le-sum_by own named row.states (λ state. length-ascending (number_of ports) state.require) in
+    let e : sum_by demand_total (pairs_of_type ports t f row) ≡ sum_by own row.states = fold-map (λ (n : ℕ) (p : Pair). n + demand_total p) (pair_from ports t f row) 0 row.states in
+    let le : sum_by own row.states ≤ sum_by named row.states = sum_by-le-sum_by own named row.states (λ state. omega (arith, length-ascending (number_of ports) state.require, sum_zeros (numbers state))) in
     omega arith
 
 IsWithinLimits-universe_from : (rows : List TypeRow) → IsClear rows → IsWithinLimits (universe_from rows)
@@ -220,7 +253,7 @@ IsWithinLimits-universe_from rows clear = record {
         omega (arith, (clear.types some.k no_row some.within).few)
   ];
   required = λ t.
-      let total = λ (pairs : List Pair). sum_by (λ (p : Pair). length p.required) pairs in
+      let total = λ (pairs : List Pair). sum_by demand_total pairs in
       elim (of_type (ports_of rows) 0 0 rows t) [
         | inl none ↦ omega (arith, ap total none)
         | inr some ↦

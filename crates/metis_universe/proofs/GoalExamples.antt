@@ -11,7 +11,8 @@ use Rattle.metis_universe.specs.Step.{after_all}
 use Rattle.metis_universe.specs.Closed.{Closed, IsProvidedIn}
 use Rattle.metis_universe.specs.GoalWords.{goal_named, goal_word}
 use Rattle.metis_universe.specs.Goals.{AttainsGoals, GoalRefusal, HoldsGoals, lacks, occupied, serving}
-use Rattle.metis_universe.proofs.Correctness.{Correct-from_is_correct}
+use Rattle.metis_universe.proofs.Examples.{run_by_tests}
+use Rattle.metis_universe.proofs.Kept.{IsConfig-empty}
 use Rattle.metis_universe.proofs.PlanExamples.{kind, pair, web}
 
 -- a database that is on, beside one that is off, and a web server that is off: pairs Db:off 0, Db:on 1, Web:off 2, Web:run 3, port sql 0
@@ -37,8 +38,7 @@ pair_and_port (Port r) = elim (nat_eq 0 r) as (λ b. 0 + 0 + cond b 1 0 ≤ 0 + 
 
 pair_and_port_attained : AttainsGoals web (Pair 1 ∷ Port 0 ∷ [])
 pair_and_port_attained =
-    let now = λ (k : ℕ). Correct-from_is_correct web (after_all web empty (take k (New 0 0 ∷ Move 0 0 1 ∷ []))) in
-    (New 0 0 ∷ Move 0 0 1 ∷ [], ((lit< tt, refl), now 1 refl, ((refl, refl), now 2 refl, tt)), pair_and_port)
+    (New 0 0 ∷ Move 0 0 1 ∷ [], run_by_tests web empty (New 0 0 ∷ Move 0 0 1 ∷ []) IsConfig-empty ((lit< tt, refl), refl, ((refl, refl), refl, tt)), pair_and_port)
 
 -- but not its port twice, and not the web server
 port_twice : HoldsGoals web one_on (Port 0 ∷ Port 0 ∷ []) → ⊥
@@ -49,7 +49,7 @@ port_and_web held = let one : 1 ≤ 0 = held (Pair 3) in omega (arith, one)
 
 -- Y: y0 > y1(+p -p), which needs another one to be there first; pairs y0 0, y1 1, port p 0
 abbrev alone : Universe
-alone = record { kinds = kind 0 ∷ []; pairs = pair 0 [] [] (1 ∷ []) ∷ pair 0 (0 ∷ []) (0 ∷ []) [] ∷ []; ports = (112 ∷ []) ∷ [] }
+alone = record { version = 1; kinds = kind 0 ∷ []; pairs = pair 0 [] [] (1 ∷ []) ∷ pair 0 (0 ∷ []) (0 ∷ []) [] ∷ []; ports = (112 ∷ []) ∷ [] }
 
 one_of : (x p : ℕ) → IsTrue (has (x ∷ []) p) → x ≡ p
 one_of x p h = elim (or_cases (nat_eq x p) false h) [ inl here ↦ eqb-true x p here | inr none ↦ absurd (false≢true none) ]
@@ -90,8 +90,9 @@ web_port_is_written = refl
 -- a type that is named `port`, whose state is named as a port is
 abbrev named_port : Universe
 named_port = record {
+  version = 1;
   kinds = record { name = codes "port"; initial = 0 } ∷ [];
-  pairs = record { kind = 0; state = codes "sql"; provided = 0 ∷ []; required = []; next = [] } ∷ [];
+  pairs = record { kind = 0; state = codes "sql"; provided = 0 ∷ []; required = []; further = []; next = [] } ∷ [];
   ports = codes "sql" ∷ codes "other" ∷ [];
 }
 

@@ -5,6 +5,7 @@ pub mod Blocks
 pub mod BySight
 pub mod ClearRows
 pub mod Correctness
+pub mod Demands
 pub mod Edits
 pub mod Examples
 pub mod FirstFault
@@ -13,6 +14,7 @@ pub mod FirstSights
 pub mod Frames
 pub mod FromRows
 pub mod GoalExamples
+pub mod Greatest
 pub mod InOrder
 pub mod Initials
 pub mod Inside
@@ -20,6 +22,7 @@ pub mod Kept
 pub mod NameBytes
 pub mod Named
 pub mod OfType
+pub mod Once
 pub mod Places
 pub mod PlanExamples
 pub mod PortRows

@@ -15,6 +15,7 @@ pub mod Rows
 pub mod Selection
 pub mod Settled
 pub mod Sights
+pub mod Single
 pub mod Steadfast
 pub mod Step
 pub mod Texts

@@ -141,6 +141,7 @@ pair_from ports t first row state = record {
   state = state.name;
   provided = ascending (map (number_of ports) state.provide);
   required = ascending (map (number_of ports) state.require);
+  further = map (λ _. 0) (ascending (map (number_of ports) state.require));
   next = ascending (map (λ name. first + state_number row name) state.next);
 }
 
@@ -160,7 +161,7 @@ kinds_from first [] = []
 kinds_from first (row ∷ rows) = kind_from first row ∷ kinds_from (first + length row.states) rows
 
 abbrev pub universe_from : List TypeRow → Universe
-universe_from rows = universe_of (kinds_from 0 rows) (pairs_from (ports_of rows) 0 0 rows) (ports_of rows)
+universe_from rows = universe_of 1 (kinds_from 0 rows) (pairs_from (ports_of rows) 0 0 rows) (ports_of rows)
 
 abbrev pub or_universe : Option RowFault → Universe → Result Universe RowFault
 or_universe None u = Ok u

@@ -4,6 +4,8 @@
 --     type_of, provided_of, required_of, next_of, state_name_of      of a pair: its type, its ports, the pairs that its type may go to from it, its state's name
 --     initial_of u t, is_initial u p      the initial pair of a type;  whether p is one
 --     provides, requires      whether the pair p has port r among its provided, or its required, ports
+--     greatest_demand u      the largest demand of any pair, and 1 where none requires a port
+--     demand_of u p r      how many different providers the pair p needs of port r, 0 where it does not require the port
 --     type_provides, type_requires      whether some pair of the type does
 --     is_free u p      whether p is initial and requires nothing
 --     has xs n      whether n is in the list
@@ -16,8 +18,8 @@
 --     IsUniverse u      what holds of the numbers of every universe that a document gives
 --     IsNamed u, IsWithinLimits u, IsTable u      what holds of its names;  of its counts;  all of these, and that its ports are by sight
 --     IsIndexed u providers requirers, IsIndexedTable u providers requirers      the rows are the providers and the requirers of each port;  that, and all that IsTable says
-use Rattle.std.specs.Prelude.{ℕ, ◌≡◌, ◌≤◌, ◌<◌, ◌==◌, Bool, true, false, ◌&&◌, Option, List, [], ◌∷◌, ◌++◌, length, map, flat_map, take, position, sum_by, IsTrue}
-use Rattle.std.specs.List.{list_any, filter, slice_index_or, range_with_len, All}
+use Rattle.std.specs.Prelude.{ℕ, ◌≡◌, ◌≤◌, ◌<◌, ◌==◌, ◌⊎◌, ◌+◌, Bool, true, false, ◌&&◌, Option, List, [], ◌∷◌, ◌++◌, length, map, flat_map, fold, nat_lt, take, position, sum, sum_by, IsTrue, if◌then◌else◌}
+use Rattle.std.specs.List.{list_any, filter, slice_index_or, position_or_len, range_with_len, All}
 use Rattle.std.specs.List.Sorted.{IsNonDecreasingBy, IsStrictlyIncreasing}
 use Rattle.std.specs.Option.{option_and_then}
 use Rattle.std.specs.Str.{bytes_eq}
@@ -30,20 +32,27 @@ abbrev pub is_empty : List ℕ → Bool
 is_empty [] = true
 is_empty (x ∷ xs) = false
 
+abbrev pub larger : ℕ → ℕ → ℕ
+larger a b = if nat_lt a b then b else a
+
 -- a type: its name and its initial pair
 pub record Kind : Type 0 where
   pub name : List ℕ
   pub initial : ℕ
 
--- a pair: its type, the name of its state, and three ascending lists: the ports that it provides, those that it requires, and the next pairs
+-- a pair: its type, the name of its state, and three ascending lists: the ports that it provides, those that it requires, and the next pairs;
+-- further has, for each required port in turn, how many different providers it needs besides one
 pub record Pair : Type 0 where
   pub kind : ℕ
   pub state : List ℕ
   pub provided : List ℕ
   pub required : List ℕ
+  pub further : List ℕ
   pub next : List ℕ
 
+-- version 2 may demand several providers of a port, version 1 one of each
 pub record Universe : Type 0 where
+  pub version : ℕ
   pub kinds : List Kind
   pub pairs : List Pair
   pub ports : List (List ℕ)
@@ -52,7 +61,7 @@ abbrev pub no_kind : Kind
 no_kind = record { name = []; initial = 0 }
 
 abbrev pub no_pair : Pair
-no_pair = record { kind = 0; state = []; provided = []; required = []; next = [] }
+no_pair = record { kind = 0; state = []; provided = []; required = []; further = []; next = [] }
 
 abbrev pub type_count : Universe → ℕ
 type_count u = length u.kinds
@@ -75,6 +84,9 @@ provided_of u p = (pair_at u p).provided
 abbrev pub required_of : Universe → ℕ → List ℕ
 required_of u p = (pair_at u p).required
 
+abbrev pub further_of : Universe → ℕ → List ℕ
+further_of u p = (pair_at u p).further
+
 abbrev pub next_of : Universe → ℕ → List ℕ
 next_of u p = (pair_at u p).next
 
@@ -95,6 +107,13 @@ provides u p r = has (provided_of u p) r
 
 abbrev pub requires : Universe → ℕ → ℕ → Bool
 requires u p r = has (required_of u p) r
+
+-- one, and as many more as the list has at the port's place
+abbrev pub demand_of : Universe → ℕ → ℕ → ℕ
+demand_of u p r = if requires u p r then 1 + slice_index_or (further_of u p) (position_or_len (λ s. s == r) (required_of u p)) 0 else 0
+
+abbrev pub greatest_demand : Universe → ℕ
+greatest_demand u = 1 + fold (λ most p. fold larger most p.further) 0 u.pairs
 
 abbrev pub type_provides : Universe → ℕ → ℕ → Bool
 type_provides u t r = list_any (λ p. (p.kind == t) && has p.provided r) u.pairs
@@ -138,17 +157,20 @@ providers_of u r = filter (λ p. provides u p r) (all_pairs u)
 abbrev pub requirers_of : Universe → ℕ → List ℕ
 requirers_of u r = filter (λ p. requires u p r) (all_pairs u)
 
-abbrev pub universe_of : List Kind → List Pair → List (List ℕ) → Universe
-universe_of kinds pairs ports = record { kinds = kinds; pairs = pairs; ports = ports }
+abbrev pub universe_of : ℕ → List Kind → List Pair → List (List ℕ) → Universe
+universe_of version kinds pairs ports = record { version = version; kinds = kinds; pairs = pairs; ports = ports }
 
 -- What holds of every universe that a document gives, names and limits aside: the types' pairs stand type by type,
 -- each type's initial pair is one of its own, and each pair's lists ascend and stay within the universe.
 pub record IsUniverse (u : Universe) : Type 0 where
+  pub version : (u.version ≡ 1) ⊎ (u.version ≡ 2)
+  pub single : u.version ≡ 1 → (p : ℕ) → p < pair_count u → All (λ n. n ≡ 0) (further_of u p)
   pub by_type : IsNonDecreasingBy (λ p. p.kind) u.pairs
   pub types : (p : ℕ) → p < pair_count u → type_of u p < type_count u
   pub initials : (t : ℕ) → t < type_count u → (initial_of u t < pair_count u) × (type_of u (initial_of u t) ≡ t)
   pub provided : (p : ℕ) → p < pair_count u → IsStrictlyIncreasing (provided_of u p) × All (λ r. r < port_count u) (provided_of u p)
   pub required : (p : ℕ) → p < pair_count u → IsStrictlyIncreasing (required_of u p) × All (λ r. r < port_count u) (required_of u p)
+  pub demands : (p : ℕ) → p < pair_count u → (length (further_of u p) ≡ length (required_of u p)) × All (λ n. n < 16) (further_of u p)
   pub next : (p : ℕ) → p < pair_count u → IsStrictlyIncreasing (next_of u p) × All (λ q. (q < pair_count u) × (type_of u q ≡ type_of u p)) (next_of u p)
 
 -- Names are names, no two types have one name, nor two states of one type, nor two ports.
@@ -160,16 +182,20 @@ pub record IsNamed (u : Universe) : Type 0 where
   pub states_apart : (p q : ℕ) → p < pair_count u → q < pair_count u → type_of u p ≡ type_of u q → state_name_of u p ≡ state_name_of u q → p ≡ q
   pub ports_apart : (r s : ℕ) → r < port_count u → s < port_count u → port_name_of u r ≡ port_name_of u s → r ≡ s
 
--- how many pairs the type has, and how many ports they require together
+-- the pairs of the type
 abbrev pub states_of_type : Universe → ℕ → List Pair
 states_of_type u t = filter (λ p. p.kind == t) u.pairs
+
+-- how many providers the pair demands of all its ports together
+abbrev pub demand_total : Pair → ℕ
+demand_total p = length p.required + sum p.further
 
 pub record IsWithinLimits (u : Universe) : Type 0 where
   pub types : type_count u ≤ 2000
   pub pairs : pair_count u ≤ 2000
   pub ports : port_count u ≤ 4000
   pub states : (t : ℕ) → length (states_of_type u t) ≤ 64
-  pub required : (t : ℕ) → sum_by (λ p. length p.required) (states_of_type u t) ≤ 128
+  pub required : (t : ℕ) → sum_by demand_total (states_of_type u t) ≤ 128
 
 -- the names of a pair's ports, those that it provides and then those that it requires
 abbrev pub port_names_of_pair : Universe → Pair → List (List ℕ)

@@ -4,12 +4,13 @@ ghost use Rattle.std.specs.Bool.{Decides};
 ghost use Rattle.std.specs.List.{list_any};
 ghost use Rattle.metis_ids.specs.declared.actions.Action.{Action};
 ghost use Rattle.metis_ids.specs.declared.actions.Action.TheVariants.{New, Delete, Move};
-ghost use Rattle.metis_universe.specs.Config.{empty, is_tie};
+ghost use Rattle.metis_universe.specs.Config.{Config, Correct, IsConfig, IsMet, empty, is_correct, is_met, is_tie};
+ghost use Rattle.metis_universe.specs.Single.{HasProviders, IsSingle};
 ghost use Rattle.metis_universe.specs.Step.{IsRun};
 ghost use Rattle.metis_universe.specs.Steadfast.{pair_after};
 ghost use Rattle.metis_universe.specs.Settled.{IsLast, NoneSettles, IsLower};
 ghost use Rattle.metis_universe.specs.Waits.{standing, IsStanding};
-ghost use Rattle.metis_universe.specs.Universe.{Universe, IsUniverse, pair_count, has, next_of, initial_of, provides};
+ghost use Rattle.metis_universe.specs.Universe.{Universe, IsUniverse, demand_of, greatest_demand, pair_count, has, next_of, initial_of, provides, requires};
 ghost use Rattle.metis_universe.specs.RowShapes.{TypeRow};
 ghost use Rattle.metis_universe.specs.Rows.{first_fault};
 ghost use Rattle.metis_universe.specs.RowFaults.{HasFault, all_faults, first_of};
@@ -81,4 +82,39 @@ pub fn origin_is_the_least_below()
 pub fn first_fault_comes_first()
     ensures first { (rows : List TypeRow) → first_fault rows ≡ first_of (all_faults rows) }
     ensures listed { (rows : List TypeRow) (f : RowFault) → Contains (all_faults rows) f ↔ HasFault rows f }
+{}
+
+/// A port that is required is required of one provider or more.
+pub fn what_is_required_is_demanded()
+    ensures { (u : Universe) (p r : ℕ) → IsTrue (requires u p r) → 1 ≤ demand_of u p r }
+{}
+
+/// No demand is greater than the greatest.
+pub fn no_demand_is_greater()
+    ensures { (u : Universe) (p r : ℕ) → demand_of u p r ≤ greatest_demand u }
+{}
+
+/// Each demand of a universe is 16 at most.
+pub fn demands_are_limited()
+    ensures { (u : Universe) → IsUniverse u → greatest_demand u ≤ 16 }
+{}
+
+/// A universe of version 1 demands one provider of each port.
+pub fn version_1_is_single()
+    ensures { (u : Universe) → IsUniverse u → u.version ≡ 1 → IsSingle u }
+{}
+
+/// So many bindings of a port lead to instances that provide it as it has different providers.
+pub fn bindings_count_providers()
+    ensures { (u : Universe) (c : Config) (z r n : ℕ) → IsConfig c → Decides (is_met u c z r n) (IsMet u c z r n) }
+{}
+
+/// The test of a correct configuration decides it.
+pub fn correctness_is_decided()
+    ensures { (u : Universe) (c : Config) → IsConfig c → Decides (is_correct u c) (Correct u c) }
+{}
+
+/// Where each port is required of one provider, a configuration is correct exactly where each port that an instance's pair requires has a provider.
+pub fn one_provider_is_correct()
+    ensures { (u : Universe) (c : Config) → IsSingle u → Correct u c ↔ HasProviders u c }
 {}

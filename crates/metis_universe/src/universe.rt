@@ -1,10 +1,10 @@
 //! A universe: its types, its pairs in document order, and its ports.
-ghost use Rattle.std.specs.Prelude.{◌≡◌, ◌≤◌, ◌<◌, ◌==◌, ◌&&◌, length, nat_lt, position, IsTrue, ◌↔◌};
-ghost use Rattle.std.specs.List.{All, filter, list_any, slice_index_or};
+ghost use Rattle.std.specs.Prelude.{◌≡◌, ◌≤◌, ◌<◌, ◌==◌, ◌+◌, ◌&&◌, length, fold, nat_lt, position, IsTrue, ◌↔◌, if◌then◌else◌};
+ghost use Rattle.std.specs.List.{All, filter, list_any, position_or_len, slice_index_or};
 ghost use Rattle.metis_universe.specs.Kinds.{kinds_of};
 ghost use Rattle.std.specs.List.Sorted.{IsStrictlyIncreasing, IsNonDecreasingBy};
 ghost use Rattle.std.specs.Str.{bytes_eq};
-ghost use Rattle.metis_universe.specs.Universe.{has, no_kind, pair_count, type_count, port_count, type_of, state_place_of, initial_of, is_initial, next_of, provided_of, required_of, provides, type_requires, type_provides, providers_of, requirers_of, type_named, port_named, state_named, pair_named, type_name_of, state_name_of, port_name_of, states_of_type, IsTable};
+ghost use Rattle.metis_universe.specs.Universe.{has, no_kind, pair_count, type_count, port_count, type_of, state_place_of, initial_of, is_initial, next_of, provided_of, required_of, demand_of, greatest_demand, larger, provides, type_requires, type_provides, providers_of, requirers_of, type_named, port_named, state_named, pair_named, type_name_of, state_name_of, port_name_of, states_of_type, IsTable};
 ghost use Rattle.metis_universe.specs.Numbers.{IsOf};
 ghost use Rattle.metis_universe.specs.Rows.{RowsFit, IsMade};
 
@@ -26,6 +26,8 @@ struct PairRow {
     state: String,
     provided: Vec<PortIx>,
     required: Vec<PortIx>,
+    /// Of each required port, how many providers it needs besides one.
+    further: Vec<u32>,
     next: Vec<PairIx>,
 }
 
@@ -35,7 +37,7 @@ impl Model for PairRow {
 
     ghost Value = { Pair };
 
-    ghost view = { λ a. record { kind = a.kind; state = string_bytes a.state; provided = a.provided.items; required = a.required.items; next = a.next.items } };
+    ghost view = { λ a. record { kind = a.kind; state = string_bytes a.state; provided = a.provided.items; required = a.required.items; further = a.further.items; next = a.next.items } };
 }
 
 /// The pairs that provide a port, or those that require it, ascending.
@@ -55,6 +57,7 @@ impl Model for PortRow {
 /// Component types and their states.
 #[derive(Drop)]
 pub struct Universe {
+    version: u32,
     /// The initial pair of each type, by the type's name.
     kinds: IndexMap<String, PairIx>,
     pairs: Vec<PairRow>,
@@ -72,9 +75,9 @@ impl Model for Universe {
 
     ghost Value = { tables.Universe };
 
-    ghost view = { λ a. tables.universe_of (kinds_of a.kinds.entries) a.pairs.items (texts a.ports.keys) };
+    ghost view = { λ a. tables.universe_of a.version (kinds_of a.kinds.entries) a.pairs.items (texts a.ports.keys) };
 
-    ghost invariant = { λ a. tables.IsIndexedTable (tables.universe_of (kinds_of a.kinds.entries) a.pairs.items (texts a.ports.keys)) a.providers.items a.requirers.items };
+    ghost invariant = { λ a. tables.IsIndexedTable (tables.universe_of a.version (kinds_of a.kinds.entries) a.pairs.items (texts a.ports.keys)) a.providers.items a.requirers.items };
 }
 
 impl Universe {
@@ -97,6 +100,21 @@ impl Universe {
         ensures { IsTable self.now }
     {
         let _tables = &self.kinds;
+    }
+
+    /// The version, 1 or 2. In version 1 each demand is 1.
+    pub fn version(&self) -> u32
+        ensures { result ≡ self.now.version }
+    {
+        let _tables = &self.pairs;
+        self.version
+    }
+
+    /// The largest demand of any pair, and 1 where none requires a port.
+    pub fn greatest_demand(&self) -> u32
+        ensures { result ≡ greatest_demand self.now }
+    {
+        1 + most_further(&self.pairs)
     }
 
     /// How many pairs there are.
@@ -197,6 +215,15 @@ impl Universe {
     {
         let row = &self.pairs[p.0 as usize];
         row.required.as_slice()
+    }
+
+    /// How many different providers of the port the pair needs, at most 16: 0 where it does not require the port.
+    pub fn demand(&self, p: PairIx, r: PortIx) -> u32
+        requires { p < pair_count self.now }
+        ensures { result ≡ demand_of self.now p r }
+    {
+        let row = &self.pairs[p.0 as usize];
+        demand_among(&row.required, &row.further, r)
     }
 
     /// Whether the pair provides the port.
@@ -337,6 +364,49 @@ fn block_of(pairs: &[PairRow], t: TypeIx) -> &[PairRow]
     let start = pairs.partition_point(|pair| pair.kind < t);
     let end = pairs.partition_point(|pair| pair.kind <= t);
     &pairs[start..end]
+}
+
+/// The place of the port among these.
+fn place_among(ports: &[PortIx], r: PortIx) -> Option<usize>
+    ensures { result ≡ position (λ s. s == r) ports.now }
+{
+    ports.iter().position(|s| *s == r)
+}
+
+/// One, and as many more as the other list has at the port's place; 0 where the port is none of these.
+fn demand_among(ports: &[PortIx], further: &[u32], r: PortIx) -> u32
+    requires places { length further.now ≡ length ports.now }
+    requires few { All (λ n. n < 16) further.now }
+    ensures { result ≡ (if has ports.now r then 1 + slice_index_or further.now (position_or_len (λ s. s == r) ports.now) 0 else 0) }
+{
+    match place_among(ports, r) {
+        Some(place) => 1 + further[place],
+        None => 0,
+    }
+}
+
+/// The largest of these numbers and the start.
+fn largest(start: u32, counts: &[u32]) -> u32
+    ensures { result ≡ fold larger start counts.now }
+{
+    let mut most = start;
+    for n in counts {
+        if most < *n {
+            most = *n;
+        }
+    }
+    most
+}
+
+/// The largest number that any of the pairs needs besides one.
+fn most_further(pairs: &[PairRow]) -> u32
+    ensures { result ≡ fold (λ most p. fold larger most p.further) 0 pairs.now }
+{
+    let mut most = 0;
+    for pair in pairs {
+        most = largest(most, &pair.further);
+    }
+    most
 }
 
 /// Whether one of the pairs requires the port.

@@ -69,6 +69,17 @@ fn next_numbers(
     Ok(numbers)
 }
 
+/// For each of these ports no provider besides one.
+fn no_further(alloc: Global, ports: &[PortIx]) -> Result<Vec<u32>, AllocError>
+    ensures { IfOk result (λ counts. counts.items ≡ map (λ _. 0) ports.now) }
+{
+    let mut counts = Vec::new(alloc);
+    for _r in ports {
+        counts.push(0)?;
+    }
+    Ok(counts)
+}
+
 /// The pair of a type and one of its states, where the type's first pair is this one.
 fn pair_of(
     alloc: Global,
@@ -82,11 +93,13 @@ fn pair_of(
     requires first { first + length row.now.states < 2 ^ 32 }
     ensures { IfOk result (λ pair. pair ≡ pair_from (texts ports.now.keys) t first row.now state.now) }
 {
+    let required = port_numbers(alloc, ports, &state.require)?;
     Ok(PairRow {
         kind: t,
         state: state.name.clone()?,
         provided: port_numbers(alloc, ports, &state.provide)?,
-        required: port_numbers(alloc, ports, &state.require)?,
+        further: no_further(alloc, &required)?,
+        required,
         next: next_numbers(alloc, row, first, &state.next)?,
     })
 }
@@ -230,6 +243,7 @@ pub fn tables(
     let (kinds, pairs) = type_tables(alloc, rows, &ports)?;
     let (providers, requirers) = index_rows(alloc, &pairs, ports.len())?;
     Ok(Universe {
+        version: 1,
         kinds,
         pairs,
         ports,
