@@ -6,14 +6,14 @@ use Rattle.std.specs.Option.{option_or}
 use Rattle.std.specs.Str.{bytes_eq}
 use Rattle.std.proofs.lemmas.Bool.Decides.{nat_tests}
 use Rattle.std.proofs.lemmas.List.Elements.{All-contains, All-from_recursion, Contains-append_left, Contains-append_right}
-use Rattle.metis_universe.specs.Names.{is_name}
-use Rattle.metis_universe.specs.RowShapes.{StateRow, TypeRow}
-use Rattle.metis_universe.specs.Rows.{first_from, unless, limit_fault, has_state, port_fault, state_twice, state_fault, next_fault, earlier_type, type_fault, first_fault, require_total, state_total, ports_of}
+use Rattle.metis_universe.specs.Names.{is_between, is_name}
+use Rattle.metis_universe.specs.RowShapes.{StateRow, TypeRow, names_needed}
+use Rattle.metis_universe.specs.Rows.{first_from, unless, limit_fault, has_state, port_fault, demand_fault, state_twice, state_fault, next_fault, earlier_type, type_fault, first_fault, require_total, state_total, ports_of}
 use Rattle.metis_universe.specs.RowFaults.{StateAt, HasFault, first_of, listed, faults_of_state, faults_of_next, faults_of_type, all_faults}
 use Rattle.metis_universe.specs.declared.faults.LimitKind.{LimitKind}
 use Rattle.metis_universe.specs.declared.faults.LimitKind.TheVariants.{States, Requires, Pairs, Ports}
 use Rattle.metis_universe.specs.declared.faults.RowFault.{RowFault}
-use Rattle.metis_universe.specs.declared.faults.RowFault.TheVariants.{TypeName, TypeTwice, StateName, StateTwice, NoInitial, UnknownNext, PortName, Limit, NoMemory}
+use Rattle.metis_universe.specs.declared.faults.RowFault.TheVariants.{TypeName, TypeTwice, StateName, StateTwice, NoInitial, UnknownNext, PortName, Demand, Limit, NoMemory}
 use Rattle.metis_universe.proofs.FirstSights.{each_append}
 
 -- ---- the first of all
@@ -55,11 +55,15 @@ regroup (Some f) b c d = refl
 
 first-state : (row : TypeRow) (t s : ℕ) (state : StateRow) → first_of (faults_of_state row t s state) ≡ state_fault row t s state
 first-state row t s state =
-    let ports = first-listed (λ k name. option_to_list (unless (is_name name) (PortName t s k))) (port_fault t s) (λ k name. first-option (port_fault t s k name)) 0 (state.provide ++ state.require)
-    ∙ first_from-append (port_fault t s) 0 state.provide state.require
-    ∙ ap (λ m. option_or (first_from 0 (port_fault t s) state.provide) (first_from m (port_fault t s) state.require)) (zero-add (length state.provide)) in
+    let ports = first-listed (λ k name. option_to_list (unless (is_name name) (PortName t s k))) (port_fault t s) (λ k name. first-option (port_fault t s k name)) 0 (state.provide ++ names_needed state.require)
+    ∙ first_from-append (port_fault t s) 0 state.provide (names_needed state.require)
+    ∙ ap (λ m. option_or (first_from 0 (port_fault t s) state.provide) (first_from m (port_fault t s) (names_needed state.require))) (zero-add (length state.provide)) in
+    let demands = first-listed (λ k need. option_to_list (unless (is_between 1 16 need.count) (Demand t s k))) (demand_fault t s) (λ k need. first-option (demand_fault t s k need)) 0 state.require in
+    let entries = first-append (listed 0 (λ k name. option_to_list (unless (is_name name) (PortName t s k))) (state.provide ++ names_needed state.require)) _
+    ∙ (λ i. option_or (ports i) (demands i))
+    ∙ sym (or_assoc (first_from 0 (port_fault t s) state.provide) (first_from (length state.provide) (port_fault t s) (names_needed state.require)) (first_from 0 (demand_fault t s) state.require)) in
     first-cons (unless (is_name state.name) (StateName t s)) _
-    ∙ ap (option_or (unless (is_name state.name) (StateName t s))) (first-cons (state_twice row t s state) _ ∙ ap (option_or (state_twice row t s state)) ports)
+    ∙ ap (option_or (unless (is_name state.name) (StateName t s))) (first-cons (state_twice row t s state) _ ∙ ap (option_or (state_twice row t s state)) entries)
 
 first-next : (row : TypeRow) (t s : ℕ) (state : StateRow) → first_of (faults_of_next row t s state) ≡ next_fault row t s state
 first-next row t s state =
@@ -128,8 +132,10 @@ module _ (rows : List TypeRow) where
   each_of_state t s row state at =
       each_append Has _ _ (each_unless Has (is_name state.name) (StateName t s) (λ h. (row, state, at, h)))
       (each_append Has _ _ (each_map Has (λ first. StateTwice t s first) (position (λ earlier. bytes_eq state.name earlier.name) (take s row.states)) (λ n h. (row, state, at, h)))
-      (each_from_start Has (λ k name. option_to_list (unless (is_name name) (PortName t s k))) (state.provide ++ state.require)
-      (λ k name there. each_unless Has (is_name name) (PortName t s k) (λ h. (row, state, name, at, there, h)))))
+      (each_append Has _ _ (each_from_start Has (λ k name. option_to_list (unless (is_name name) (PortName t s k))) (state.provide ++ names_needed state.require)
+      (λ k name there. each_unless Has (is_name name) (PortName t s k) (λ h. (row, state, name, at, there, h))))
+      (each_from_start Has (λ k need. option_to_list (unless (is_between 1 16 need.count) (Demand t s k))) state.require
+      (λ k need there. each_unless Has (is_between 1 16 need.count) (Demand t s k) (λ h. (row, state, need, at, there, h))))))
 
   each_of_next : (t s : ℕ) (row : TypeRow) (state : StateRow) → StateAt rows t s row state → AllByRecursion Has (faults_of_next row t s state)
   each_of_next t s row state at =
@@ -202,7 +208,11 @@ module _ (rows : List TypeRow) where
       of_type t h.0 _ h.2.of_type (in_state t h.0 _ s h.1 h.2.of_state (Contains-append_right (option_to_list (unless (is_name h.1.name) (StateName t s))) _ _ (Contains-append_left _ _ _ (there_option _ _ (ap (option_map (λ first. StateTwice t s first)) h.3)))))
   is_there (PortName t s k) h =
       of_type t h.0 _ h.3.of_type (in_state t h.0 _ s h.1 h.3.of_state (Contains-append_right (option_to_list (unless (is_name h.1.name) (StateName t s))) _ _ (Contains-append_right (option_to_list (state_twice h.0 t s h.1)) _ _
-      (there_from_start (λ k name. option_to_list (unless (is_name name) (PortName t s k))) (h.1.provide ++ h.1.require) k h.2 _ h.4 (there_option _ _ (unless_so _ _ h.5))))))
+      (Contains-append_left _ _ _ (there_from_start (λ k name. option_to_list (unless (is_name name) (PortName t s k))) (h.1.provide ++ names_needed h.1.require) k h.2 _ h.4 (there_option _ _ (unless_so _ _ h.5)))))))
+  is_there (Demand t s k) h =
+      of_type t h.0 _ h.3.of_type (in_state t h.0 _ s h.1 h.3.of_state (Contains-append_right (option_to_list (unless (is_name h.1.name) (StateName t s))) _ _ (Contains-append_right (option_to_list (state_twice h.0 t s h.1)) _ _
+      (Contains-append_right (listed 0 (λ k name. option_to_list (unless (is_name name) (PortName t s k))) (h.1.provide ++ names_needed h.1.require)) _ _
+      (there_from_start (λ k need. option_to_list (unless (is_between 1 16 need.count) (Demand t s k))) h.1.require k h.2 _ h.4 (there_option _ _ (unless_so _ _ h.5)))))))
   is_there (NoInitial t) h =
       of_type t h.0 _ h.1 (after_states t h.0 _ (Contains-append_right (option_to_list (limit_fault Requires 128 (require_total h.0))) _ _ (Contains-append_left _ _ _ (there_option _ _ (unless_so _ _ h.2)))))
   is_there (UnknownNext t s k) h =

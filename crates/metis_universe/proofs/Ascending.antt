@@ -46,7 +46,7 @@ sorted_fold : (keys xs : List ℕ) → IsStrictlySortedBy nat_cmp keys → IsStr
 sorted_fold keys [] s = s
 sorted_fold keys (x ∷ xs) s = sorted_fold (insert_key nat_cmp keys x) xs (IsStrictlySortedBy-insert_key nat_cmp_total keys x s)
 
-sorted_none : IsStrictlySortedBy nat_cmp []
+pub sorted_none : IsStrictlySortedBy nat_cmp []
 unfolding IsStrictlySortedBy
 sorted_none = tt
 
@@ -92,7 +92,7 @@ none_above k (x ∷ xs) h = or_from (nat_eq x k) (has xs k) (less_apart k x h.0)
 greater_apart : (k x : ℕ) → nat_cmp k x ≡ Greater → nat_eq x k ≡ false
 greater_apart k x h = grind (arith, nat_tests)
 
-insert_key-present : (k : ℕ) (xs : List ℕ) → IsStrictlySortedBy nat_cmp xs → has xs k ≡ true → insert_key nat_cmp xs k ≡ xs
+pub insert_key-present : (k : ℕ) (xs : List ℕ) → IsStrictlySortedBy nat_cmp xs → has xs k ≡ true → insert_key nat_cmp xs k ≡ xs
 unfolding IsStrictlySortedBy
 insert_key-present k [] s h = absurd (false≢true h)
 insert_key-present k (x ∷ xs) s h =
@@ -102,15 +102,6 @@ insert_key-present k (x ∷ xs) s h =
       | Greater ↦ λ e. ap (λ ys. x ∷ ys) (insert_key-present k xs s.1 (ap (λ b. b || has xs k) (sym (greater_apart k x e)) ∙ h))
     ] refl
 
-length-insert_key : (xs : List ℕ) (k : ℕ) → length (insert_key nat_cmp xs k) ≤ length xs + 1
-length-insert_key [] k = omega arith
-length-insert_key (x ∷ xs) k =
-    elim (nat_cmp k x) as (λ o. length (match_ordering o (k ∷ x ∷ xs) (x ∷ xs) (x ∷ insert_key nat_cmp xs k)) ≤ suc (length xs) + 1) [
-      | Less ↦ omega arith
-      | Equal ↦ omega arith
-      | Greater ↦ omega (arith, length-insert_key xs k)
-    ]
-
 pub at_seen : (P : List ℕ → Type 0) (seen : List (List ℕ)) (name : List ℕ) → AllByRecursion P seen → list_any (bytes_eq name) seen ≡ true → P name
 at_seen P [] name h e = absurd (false≢true e)
 at_seen P (x ∷ seen) name h e =
@@ -118,27 +109,3 @@ at_seen P (x ∷ seen) name h e =
       | inl here ↦ subst P (sym ((bytes_eq-Decides name x).0 here)) h.0
       | inr there ↦ at_seen P seen name h.1 there
     ]
-
-length-numbers : (f : List ℕ → ℕ) (keys : List ℕ) (seen names : List (List ℕ)) → IsStrictlySortedBy nat_cmp keys → length keys ≤ length seen → AllByRecursion (λ name. IsTrue (has keys (f name))) seen →
-    length (fold (insert_key nat_cmp) keys (map f names)) ≤ length (sights_after seen names)
-length-numbers f keys seen [] s l h = l
-length-numbers f keys seen (name ∷ names) s l h =
-    let has_now : (m : List ℕ) → IsTrue (has keys (f m)) → IsTrue (has (insert_key nat_cmp keys (f name)) (f m)) =
-    λ m e. has-insert_key (f m) (f name) keys ∙ or_right (nat_eq (f name) (f m)) (has keys (f m)) e in
-    let has_new : IsTrue (has (insert_key nat_cmp keys (f name)) (f name)) =
-    has-insert_key (f name) (f name) keys ∙ or_left (nat_eq (f name) (f name)) (has keys (f name)) (eq-eqb (f name) (f name) refl) in
-    let P : List ℕ → Type 0 = λ m. IsTrue (has keys (f m)) in
-    let Q : List ℕ → Type 0 = λ m. IsTrue (has (insert_key nat_cmp keys (f name)) (f m)) in
-    length-numbers f (insert_key nat_cmp keys (f name)) (with_name seen name) names
-    (IsStrictlySortedBy-insert_key nat_cmp_total keys (f name) s)
-    (elim (list_any (bytes_eq name) seen) as (λ b. list_any (bytes_eq name) seen ≡ b → length (insert_key nat_cmp keys (f name)) ≤ length (cond b seen (seen ++ name ∷ []))) [
-      | true ↦ λ e. let same : length (insert_key nat_cmp keys (f name)) ≡ length keys = ap length (insert_key-present (f name) keys s (at_seen P seen name h e)) in omega arith
-      | false ↦ λ e. omega (arith, length-insert_key keys (f name), length_push seen name)
-    ] refl)
-    (elim (list_any (bytes_eq name) seen) as (λ b. AllByRecursion Q (cond b seen (seen ++ name ∷ []))) [
-      | true ↦ each_weaker P Q seen has_now h
-      | false ↦ each_append Q seen (name ∷ []) (each_weaker P Q seen has_now h) (has_new, tt)
-    ])
-
-pub length-ascending : (f : List ℕ → ℕ) (names : List (List ℕ)) → length (ascending (map f names)) ≤ length (first_sights names)
-length-ascending f names = length-numbers f [] [] names sorted_none (omega arith) tt

@@ -6,7 +6,7 @@ use Rattle.std.proofs.lemmas.List.{append-nil, get_or-take, length-take-le, map-
 use Rattle.std.proofs.lemmas.List.Concat.{flat_map-append}
 use Rattle.std.proofs.lemmas.List.Elements.{All-from_recursion}
 use Rattle.std.proofs.lemmas.List.Sums.{fold-append}
-use Rattle.metis_universe.specs.RowShapes.{StateRow, TypeRow}
+use Rattle.metis_universe.specs.RowShapes.{StateRow, TypeRow, names_needed}
 use Rattle.metis_universe.specs.Rows.{ports_of_state, ports_of_type, ports_of, number_of, ascending, pair_from, pairs_of_type, pairs_from, universe_from}
 use Rattle.metis_universe.specs.Sights.{with_name, sights_after}
 use Rattle.metis_universe.specs.Universe.{Pair, has, IsBySight}
@@ -86,9 +86,9 @@ module _ (ports : List (List ℕ)) (apart : Apart ports) where
   Retold-state : (t first : ℕ) (row : TypeRow) (state : StateRow) → Retold ports (ports_of_state state) (names_of_pair (pair_from ports t first row state))
   Retold-state t first row state =
       let provided = ascending (map (number_of ports) state.provide) in
-      let required = ascending (map (number_of ports) state.require) in
+      let required = ascending (map (number_of ports) (names_needed state.require)) in
       subst (Retold ports (ports_of_state state)) (sym (map-append (λ r. get_or ports r []) provided required))
-      (Retold-append ports state.provide (names_of ports provided) state.require (names_of ports required) (Retold-ascending state.provide) (Retold-ascending state.require))
+      (Retold-append ports state.provide (names_of ports provided) (names_needed state.require) (names_of ports required) (Retold-ascending state.provide) (Retold-ascending (names_needed state.require)))
 
   Retold-states : (t first : ℕ) (row : TypeRow) (states : List StateRow) → Retold ports (flat_map ports_of_state states) (flat_map names_of_pair (map (pair_from ports t first row) states))
   Retold-states t first row [] = λ _ _ _ _ e. e
@@ -105,8 +105,8 @@ module _ (ports : List (List ℕ)) (apart : Apart ports) where
       (Retold-append ports (ports_of_type row) (flat_map names_of_pair own) (flat_map ports_of_type rows) (flat_map names_of_pair later)
       (Retold-states t first row row.states) (Retold-rows (t + 1) (first + length row.states) rows))
 
-pub IsBySight-universe_from : (rows : List TypeRow) → Apart (ports_of rows) → IsBySight (universe_from rows)
-IsBySight-universe_from rows apart =
+pub IsBySight-universe_from : (version : ℕ) (rows : List TypeRow) → Apart (ports_of rows) → IsBySight (universe_from version rows)
+IsBySight-universe_from version rows apart =
     let ports = ports_of rows in
     let all : take (length ports) ports ≡ ports = take_all (length ports) ports (omega arith) in
     Retold-rows ports apart 0 0 rows 0 (length ports) (omega arith) (omega arith) (sym all) ∙ all

@@ -1,16 +1,19 @@
 -- What rows without a fault have.
-use Rattle.std.proofs.Common.{◌≡◌, ℕ, suc, zero, ◌+◌, ◌<◌, ◌≤◌, Bool, true, false, cond, IsTrue, List, [], ◌∷◌, length, take, get_or, position, nat_lt, Option, Some, None, option_map, refl, ap, sym, ◌∙◌, zero-add, arith}
-use Rattle.std.specs.List.{AllByRecursion}
+use Rattle.std.proofs.Common.{◌≡◌, ℕ, suc, zero, ◌+◌, ◌<◌, ◌≤◌, Bool, true, false, cond, IsTrue, List, [], ◌∷◌, length, take, get_or, position, nat_le, nat_lt, Option, Some, None, option_map, refl, ap, sym, ◌∙◌, zero-add, arith}
+use Rattle.std.specs.List.{All, AllByRecursion}
 use Rattle.std.specs.Str.{bytes_eq}
-use Rattle.std.proofs.lemmas.Bool.{ltb-false}
+use Rattle.std.proofs.lemmas.Bool.{and_parts, ltb-false}
+use Rattle.std.proofs.lemmas.Bool.Decides.{nat_tests}
+use Rattle.std.proofs.lemmas.List.Elements.{All-from_recursion}
 use Rattle.std.proofs.lemmas.Option.{none-some}
 use Rattle.metis_universe.specs.declared.faults.RowFault.{RowFault}
-use Rattle.metis_universe.specs.declared.faults.RowFault.TheVariants.{TypeName, TypeTwice, StateName, StateTwice, NoInitial, UnknownNext, PortName, Limit}
+use Rattle.metis_universe.specs.declared.faults.RowFault.TheVariants.{TypeName, TypeTwice, StateName, StateTwice, NoInitial, UnknownNext, PortName, Demand, Limit}
 use Rattle.metis_universe.specs.declared.faults.LimitKind.{LimitKind}
 use Rattle.metis_universe.specs.declared.faults.LimitKind.TheVariants.{States, Requires, Pairs, Ports}
-use Rattle.metis_universe.specs.Names.{is_name}
-use Rattle.metis_universe.specs.RowShapes.{TypeRow, StateRow}
+use Rattle.metis_universe.specs.Names.{is_between, is_name}
+use Rattle.metis_universe.specs.RowShapes.{NeedRow, StateRow, TypeRow, names_needed}
 use Rattle.metis_universe.specs.Rows.{first_from, unless, limit_fault, has_state, port_fault, state_twice, state_fault, next_fault, head_fault, earlier_type, type_fault, first_fault, require_total, state_total, ports_of}
+use Rattle.metis_universe.proofs.Ascending.{each_weaker}
 use Rattle.metis_universe.proofs.FirstFault.{option_or-none, option_map-none}
 
 -- a state's names are names, none before it in its type has its name, and its next states are there
@@ -18,7 +21,8 @@ pub record IsClearState (row : TypeRow) (s : ℕ) (state : StateRow) : Type 0 wh
   pub name : IsTrue (is_name state.name)
   pub apart : position (λ earlier. bytes_eq state.name earlier.name) (take s row.states) ≡ None
   pub provide : AllByRecursion (λ name. IsTrue (is_name name)) state.provide
-  pub require : AllByRecursion (λ name. IsTrue (is_name name)) state.require
+  pub require : AllByRecursion (λ name. IsTrue (is_name name)) (names_needed state.require)
+  pub demands : AllByRecursion (λ n. IsTrue (is_between 1 16 n.count)) state.require
   pub next : AllByRecursion (λ name. IsTrue (has_state row name)) state.next
 
 pub record IsClearType (rows : List TypeRow) (t : ℕ) (row : TypeRow) : Type 0 where
@@ -55,22 +59,32 @@ limit_fault-none kind most count h =
       | false ↦ λ e _. ltb-false most count e
     ] refl h
 
-each_passes : (p : List ℕ → Bool) (fault : ℕ → RowFault) (place : ℕ) (xs : List (List ℕ)) → first_from place (λ k x. unless (p x) (fault k)) xs ≡ None → AllByRecursion (λ x. IsTrue (p x)) xs
+each_passes : {A : Type 0} (p : A → Bool) (fault : ℕ → RowFault) (place : ℕ) (xs : List A) → first_from place (λ k x. unless (p x) (fault k)) xs ≡ None → AllByRecursion (λ x. IsTrue (p x)) xs
 each_passes p fault place [] h = tt
 each_passes p fault place (x ∷ xs) h =
     let parts = option_or-none (unless (p x) (fault place)) _ h in
     (unless-none (p x) (fault place) parts.0, each_passes p fault (place + 1) xs parts.1)
+
+clear_demands : (row : TypeRow) (t s : ℕ) (state : StateRow) → state_fault row t s state ≡ None → AllByRecursion (λ n. IsTrue (is_between 1 16 n.count)) state.require
+clear_demands row t s state f =
+    let a = option_or-none (unless (is_name state.name) (StateName t s)) _ f in
+    let b = option_or-none (state_twice row t s state) _ a.1 in
+    let c = option_or-none (first_from 0 (port_fault t s) state.provide) _ b.1 in
+    let d = option_or-none (first_from (length state.provide) (port_fault t s) (names_needed state.require)) _ c.1 in
+    each_passes (λ (n : NeedRow). is_between 1 16 n.count) (λ k. Demand t s k) 0 state.require d.1
 
 clear_state : (row : TypeRow) (t s : ℕ) (state : StateRow) → state_fault row t s state ≡ None → next_fault row t s state ≡ None → IsClearState row s state
 clear_state row t s state f n =
     let a = option_or-none (unless (is_name state.name) (StateName t s)) _ f in
     let b = option_or-none (state_twice row t s state) _ a.1 in
     let c = option_or-none (first_from 0 (port_fault t s) state.provide) _ b.1 in
+    let d = option_or-none (first_from (length state.provide) (port_fault t s) (names_needed state.require)) _ c.1 in
     record {
       name = unless-none (is_name state.name) (StateName t s) a.0;
       apart = option_map-none (λ first. StateTwice t s first) _ b.0;
       provide = each_passes is_name (λ k. PortName t s k) 0 state.provide c.0;
-      require = each_passes is_name (λ k. PortName t s k) (length state.provide) state.require c.1;
+      require = each_passes is_name (λ k. PortName t s k) (length state.provide) (names_needed state.require) d.0;
+      demands = clear_demands row t s state f;
       next = each_passes (has_state row) (λ k. UnknownNext t s k) 0 state.next n;
     }
 
@@ -100,3 +114,26 @@ IsClear-from_first_fault rows f =
       pairs = limit_fault-none Pairs 2000 (state_total rows) b.0;
       ports = limit_fault-none Ports 4000 (length (ports_of rows)) b.1;
     }
+
+-- ---- counts
+
+pub low_counts : (needs : List NeedRow) → AllByRecursion (λ n. IsTrue (is_between 1 16 n.count)) needs → All (λ n. n.count ≤ 16) needs
+low_counts needs all = All-from_recursion (λ (n : NeedRow). n.count ≤ 16) needs (each_weaker (λ (n : NeedRow). IsTrue (is_between 1 16 n.count)) (λ n. n.count ≤ 16) needs (λ n h. within n.count h) all) where
+  within : (c : ℕ) → IsTrue (is_between 1 16 c) → c ≤ 16
+  within c h = let parts = and_parts (nat_le 1 c) (nat_le c 16) h in grind (arith, nat_tests)
+
+pub some_counts : (needs : List NeedRow) → AllByRecursion (λ n. IsTrue (is_between 1 16 n.count)) needs → AllByRecursion (λ n. 1 ≤ n.count) needs
+some_counts needs all = each_weaker (λ (n : NeedRow). IsTrue (is_between 1 16 n.count)) (λ n. 1 ≤ n.count) needs (λ n h. within n.count h) all where
+  within : (c : ℕ) → IsTrue (is_between 1 16 c) → 1 ≤ c
+  within c h = let parts = and_parts (nat_le 1 c) (nat_le c 16) h in grind (arith, nat_tests)
+
+-- where no state of the type has a fault, no count is above 16
+pub counts_low : (t : ℕ) (row : TypeRow) → first_from 0 (state_fault row t) row.states ≡ None → All (λ state. All (λ n. n.count ≤ 16) state.require) row.states
+counts_low t row none = λ s d l. low_counts (get_or row.states s d).require (clear_demands row t s (get_or row.states s d) (first_from_none_at (state_fault row t) row.states none s d l))
+
+-- and where the type itself has none, its states are 64 at most
+pub states_few : (earlier : Option ℕ) (t : ℕ) (row : TypeRow) → head_fault earlier t row ≡ None → length row.states ≤ 64
+states_few earlier t row none =
+    let b = option_or-none (unless (is_name row.name) (TypeName t)) _ none in
+    let c = option_or-none (option_map (λ first. TypeTwice t first) earlier) _ b.1 in
+    limit_fault-none States 64 (length row.states) c.1

@@ -67,7 +67,7 @@ seen_stays p seen (name ∷ names) h = seen_stays p (with_name seen name) names 
 pub same_bytes : (name : List ℕ) → bytes_eq name name ≡ true
 same_bytes name = (bytes_eq-Decides name name).1 refl
 
-seen_now : (seen : List (List ℕ)) (name : List ℕ) → list_any (bytes_eq name) (with_name seen name) ≡ true
+pub seen_now : (seen : List (List ℕ)) (name : List ℕ) → list_any (bytes_eq name) (with_name seen name) ≡ true
 seen_now seen name = elim (list_any (bytes_eq name) seen) as (λ b. list_any (bytes_eq name) seen ≡ b → list_any (bytes_eq name) (cond b seen (seen ++ name ∷ [])) ≡ true) [
   | true ↦ λ e. e
   | false ↦ λ e. list_any-append (bytes_eq name) seen (name ∷ []) ∙ or_right (list_any (bytes_eq name) seen) _ (or_left (bytes_eq name name) false (same_bytes name))

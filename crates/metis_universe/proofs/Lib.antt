@@ -6,6 +6,7 @@ pub mod BySight
 pub mod ClearRows
 pub mod Correctness
 pub mod Demands
+pub mod DemandSums
 pub mod Edits
 pub mod Examples
 pub mod FirstFault
@@ -13,6 +14,7 @@ pub mod FirstPairs
 pub mod FirstSights
 pub mod Frames
 pub mod FromRows
+pub mod Gathered
 pub mod GoalExamples
 pub mod Greatest
 pub mod InOrder

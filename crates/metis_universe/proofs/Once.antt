@@ -1,20 +1,11 @@
--- Where one provider of each port is demanded, a configuration is correct exactly where each port has one.
-use Rattle.std.proofs.Common.{◌≡◌, ℕ, zero, suc, ◌+◌, ◌≤◌, true, false, cond, nat_eq, List, [], ◌∷◌, refl, sym, ap, ◌∙◌, subst, inl, inr}
+-- A universe of version 1 demands one provider of each port.
+use Rattle.std.proofs.Common.{◌≡◌, ℕ, zero, suc, ◌+◌, ◌≤◌, true, false, cond, nat_eq, List, [], ◌∷◌, refl, sym, ap, ◌∙◌, inl, inr}
 use Rattle.std.specs.List.{AllByRecursion, position_or_len, slice_index_or}
 use Rattle.std.proofs.lemmas.Bool.{cases_lt, false≢true}
 use Rattle.std.proofs.lemmas.List.{get_or_past}
 use Rattle.std.proofs.lemmas.List.Elements.{recursion_from_All}
-use Rattle.std.specs.Prelude.{◌↔◌}
 use Rattle.metis_universe.specs.Universe.{IsUniverse, Pair, Universe, demand_of, further_of, has, no_pair, pair_count, required_of, requires}
-use Rattle.metis_universe.specs.Config.{Config, Correct, IsMet}
-use Rattle.metis_universe.specs.Single.{HasProviders, IsSingle}
-use Rattle.metis_universe.proofs.Demands.{IsMet-one, one_provider}
-
-pub Correct-single : (u : Universe) (c : Config) → IsSingle u → Correct u c ↔ HasProviders u c
-Correct-single u c single = (
-  λ correct z p r there needs. one_provider u c z p r needs (correct z p r there needs),
-  λ served z p r there needs. let x = served z p r there needs in subst (IsMet u c z r) (sym (single p r needs)) (IsMet-one u c z r x.0 x.1),
-)
+use Rattle.metis_universe.specs.Single.{IsSingle}
 
 no_more_zeros : (xs : List ℕ) (k : ℕ) → AllByRecursion (λ n. n ≡ 0) xs → slice_index_or xs k 0 ≡ 0
 no_more_zeros [] zero all = refl

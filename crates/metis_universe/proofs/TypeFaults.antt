@@ -1,6 +1,6 @@
 -- The names of the types so far, and how many states there are.
 use Rattle.std.proofs.Common.{◌≡◌, ℕ, ◌+◌, ◌*◌, ◌<◌, ◌≤◌, ◌^◌, false, cond, List, [], ◌∷◌, ◌++◌, map, take, get_or, length, position, is_some, option_map, ap, sym, ◌∙◌, Option, Some, None, arith, nat_lt, sum_by}
-use Rattle.std.specs.List.{list_any}
+use Rattle.std.specs.List.{All, list_any}
 use Rattle.std.specs.Str.{bytes_eq}
 use Rattle.std.proofs.lemmas.List.{map_more}
 use Rattle.std.proofs.lemmas.Bool.Decides.{nat_tests}
@@ -9,23 +9,34 @@ use Rattle.metis_universe.specs.declared.faults.RowFault.{RowFault}
 use Rattle.metis_universe.specs.declared.faults.RowFault.TheVariants.{TypeName, TypeTwice, Limit}
 use Rattle.metis_universe.specs.declared.faults.LimitKind.TheVariants.{Requires}
 use Rattle.metis_universe.specs.Names.{is_name}
-use Rattle.metis_universe.specs.RowShapes.{TypeRow}
-use Rattle.metis_universe.specs.Sights.{with_name, first_sights}
-use Rattle.metis_universe.specs.Rows.{TypeFits, RowsFit, unless, limit_fault, earlier_type, head_fault, fault_after, type_fault, state_total, require_total}
-use Rattle.metis_universe.proofs.FirstSights.{length-sights_after}
+use Rattle.metis_universe.specs.RowShapes.{NeedRow, StateRow, TypeRow}
+use Rattle.metis_universe.specs.Sights.{with_name}
+use Rattle.metis_universe.specs.Rows.{StateFits, TypeFits, demand_sum, RowsFit, unless, limit_fault, earlier_type, head_fault, fault_after, type_fault, state_total, require_total}
+use Rattle.metis_universe.proofs.Gathered.{demand_sum-le}
 use Rattle.metis_universe.proofs.Named.{position-map}
 use Rattle.metis_universe.proofs.FirstFault.{none_from_is_some, option_or-none, option_map-none, list_any-from_position}
+
+-- the counts of a state's entries, and so what they demand
+pub state_counts-le : (state : StateRow) → StateFits state → All (λ n. n.count ≤ 16) state.require → sum_by (λ n. n.count) state.require ≤ 2 ^ 35
+state_counts-le state fit low =
+    let e : sum_by (λ n. n.count) state.require ≤ length state.require * 16 = sum_by-le (λ (n : NeedRow). n.count) 16 state.require low in
+    let few = fit.require in
+    omega arith
 
 pub state_total-fits : (rows : List TypeRow) → RowsFit rows → state_total rows < 2 ^ 64
 state_total-fits rows fit = let e : state_total rows ≤ length rows * 2 ^ 31 = sum_by-le (λ row. length row.states) (2 ^ 31) rows (λ k d h. let s = (fit.each k d h).states in omega arith) in let n = fit.types in omega arith
 
-pub require_entries-fit : (row : TypeRow) → TypeFits row → sum_by (λ state. length state.require) row.states < 2 ^ 64
-require_entries-fit row fit = let e : sum_by (λ state. length state.require) row.states ≤ length row.states * 2 ^ 31 = sum_by-le (λ state. length state.require) (2 ^ 31) row.states (λ k d h. let s = (fit.each k d h).require in omega arith) in let n = fit.states in omega arith
+-- all counts together are far from the greatest number
+pub counts-fit : (row : TypeRow) → TypeFits row → length row.states ≤ 64 → All (λ state. All (λ n. n.count ≤ 16) state.require) row.states → sum_by (λ state. sum_by (λ n. n.count) state.require) row.states < 2 ^ 64
+counts-fit row fit few low =
+    let each : All (λ (state : StateRow). sum_by (λ n. n.count) state.require ≤ 2 ^ 35) row.states = λ k d h. state_counts-le (get_or row.states k d) (fit.each k d h) (low k d h) in
+    let e : sum_by (λ state. sum_by (λ n. n.count) state.require) row.states ≤ length row.states * 2 ^ 35 = sum_by-le (λ (state : StateRow). sum_by (λ n. n.count) state.require) (2 ^ 35) row.states each in
+    omega arith
 
--- entries that are no more than the limit name no more ports than it
-pub limit_fault-entries : (row : TypeRow) (most : ℕ) → sum_by (λ state. length state.require) row.states ≤ most → limit_fault Requires most (require_total row) ≡ None
-limit_fault-entries row most few =
-    let total : require_total row ≤ sum_by (λ state. length state.require) row.states = sum_by-le-sum_by (λ state. length (first_sights state.require)) (λ state. length state.require) row.states (λ state. omega (arith, length-sights_after [] state.require)) in
+-- entries that count no more than the limit demand no more than it
+pub limit_fault-counts : (row : TypeRow) (most : ℕ) → sum_by (λ state. sum_by (λ n. n.count) state.require) row.states ≤ most → limit_fault Requires most (require_total row) ≡ None
+limit_fault-counts row most few =
+    let total : require_total row ≤ sum_by (λ state. sum_by (λ n. n.count) state.require) row.states = sum_by-le-sum_by (λ (state : StateRow). demand_sum state.require) (λ state. sum_by (λ n. n.count) state.require) row.states (λ state. demand_sum-le state.require) in
     ap (λ b. cond b (Some (Limit Requires (require_total row))) None) (not_below (omega arith)) where
       not_below : require_total row ≤ most → nat_lt most (require_total row) ≡ false
       not_below h = grind (arith, nat_tests)

@@ -6,6 +6,7 @@ pub mod GoalWords
 pub mod Kinds
 pub mod Layers
 pub mod Names
+pub mod Needs
 pub mod Numbers
 pub mod PairWords
 pub mod PortRows

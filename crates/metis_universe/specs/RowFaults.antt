@@ -6,12 +6,12 @@
 --     first_of xs      the first element, if there is one
 use Rattle.std.specs.Prelude.{◌≡◌, ◌<◌, ℕ, ◌+◌, List, [], ◌∷◌, ◌++◌, length, take, position, slice_get, Option, Some, None, option_map, option_to_list, IsFalse}
 use Rattle.std.specs.Str.{bytes_eq}
-use Rattle.metis_universe.specs.Names.{is_name}
-use Rattle.metis_universe.specs.RowShapes.{StateRow, TypeRow}
+use Rattle.metis_universe.specs.Names.{is_between, is_name}
+use Rattle.metis_universe.specs.RowShapes.{NeedRow, StateRow, TypeRow, names_needed}
 use Rattle.metis_universe.specs.Rows.{ports_of, state_total, require_total, has_state, earlier_type, state_twice, unless, limit_fault}
 use Rattle.metis_universe.specs.declared.faults.LimitKind.TheVariants.{States, Requires, Pairs, Ports}
 use Rattle.metis_universe.specs.declared.faults.RowFault.{RowFault}
-use Rattle.metis_universe.specs.declared.faults.RowFault.TheVariants.{TypeName, TypeTwice, StateName, StateTwice, NoInitial, UnknownNext, PortName, Limit, NoMemory}
+use Rattle.metis_universe.specs.declared.faults.RowFault.TheVariants.{TypeName, TypeTwice, StateName, StateTwice, NoInitial, UnknownNext, PortName, Demand, Limit, NoMemory}
 
 -- state s of type t, with the type's row
 pub record StateAt (rows : List TypeRow) (t s : ℕ) (row : TypeRow) (state : StateRow) : Type 0 where
@@ -25,7 +25,9 @@ HasFault rows (StateName t s) = (row : TypeRow) × (state : StateRow) × StateAt
 HasFault rows (StateTwice t s first) =
     (row : TypeRow) × (state : StateRow) × StateAt rows t s row state × (position (λ earlier. bytes_eq state.name earlier.name) (take s row.states) ≡ Some first)
 HasFault rows (PortName t s k) =
-    (row : TypeRow) × (state : StateRow) × (name : List ℕ) × StateAt rows t s row state × (slice_get (state.provide ++ state.require) k ≡ Some name) × IsFalse (is_name name)
+    (row : TypeRow) × (state : StateRow) × (name : List ℕ) × StateAt rows t s row state × (slice_get (state.provide ++ names_needed state.require) k ≡ Some name) × IsFalse (is_name name)
+HasFault rows (Demand t s k) =
+    (row : TypeRow) × (state : StateRow) × (need : NeedRow) × StateAt rows t s row state × (slice_get state.require k ≡ Some need) × IsFalse (is_between 1 16 need.count)
 HasFault rows (NoInitial t) = (row : TypeRow) × (slice_get rows t ≡ Some row) × IsFalse (has_state row row.initial)
 HasFault rows (UnknownNext t s k) =
     (row : TypeRow) × (state : StateRow) × (name : List ℕ) × StateAt rows t s row state × (slice_get state.next k ≡ Some name) × IsFalse (has_state row name)
@@ -49,7 +51,8 @@ abbrev pub faults_of_state : TypeRow → ℕ → ℕ → StateRow → List RowFa
 faults_of_state row t s state =
     option_to_list (unless (is_name state.name) (StateName t s))
     ++ (option_to_list (state_twice row t s state)
-    ++ listed 0 (λ k name. option_to_list (unless (is_name name) (PortName t s k))) (state.provide ++ state.require))
+    ++ (listed 0 (λ k name. option_to_list (unless (is_name name) (PortName t s k))) (state.provide ++ names_needed state.require)
+    ++ listed 0 (λ k need. option_to_list (unless (is_between 1 16 need.count) (Demand t s k))) state.require))
 
 abbrev pub faults_of_next : TypeRow → ℕ → ℕ → StateRow → List RowFault
 faults_of_next row t s state = listed 0 (λ k name. option_to_list (unless (has_state row name) (UnknownNext t s k))) state.next

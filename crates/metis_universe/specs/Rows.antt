@@ -1,23 +1,26 @@
 -- The rows of a universe, as a document spells them, and what they mean.
---     TypeRow, StateRow      a type and a state, with all that they name
+--     TypeRow, StateRow, NeedRow      a type, a state and an entry of what it requires, with all that they name
+--     greatest_count needs name      the greatest of the counts that stand at the name, 0 where none does
+--     demand_sum needs      how many providers the entries demand of all ports together
 --     first_fault rows      the first reason why the rows are no universe
---     universe_from rows      the universe that rows without a fault stand for
---     meaning_of rows      the one or the other
---     IsMade result rows      what `Universe::new` gives for the rows
-use Rattle.std.specs.Prelude.{◌≡◌, ◌≢◌, ◌<◌, ◌^◌, ℕ, ◌+◌, Bool, nat_lt, List, [], ◌∷◌, ◌++◌, length, map, take, fold, position, sum_by, Option, Some, None, unwrap_or, option_map, Result, Ok, Err, if◌then◌else◌}
-use Rattle.std.specs.List.{list_any, flat_map, All}
+--     IsOfVersion version rows      the version is 1 or 2, and in version 1 each count is 1
+--     universe_from version rows      the universe that rows without a fault stand for
+--     meaning_of version rows      the one or the other
+--     IsMade result version rows      what `Universe::new` gives for the rows
+use Rattle.std.specs.Prelude.{◌≡◌, ◌≢◌, ◌<◌, ◌⊎◌, ◌^◌, ℕ, ◌+◌, ◌-◌, Bool, nat_lt, List, [], ◌∷◌, ◌++◌, length, map, take, fold, max, position, sum_by, Option, Some, None, unwrap_or, option_map, Result, Ok, Err, if◌then◌else◌}
+use Rattle.std.specs.List.{list_any, flat_map, slice_index_or, All}
 use Rattle.std.specs.Option.{option_or}
 use Rattle.std.specs.BTreeSet.{insert_key}
 use Rattle.std.specs.Ordering.{nat_cmp}
 use Rattle.std.specs.Str.{bytes_eq}
-use Rattle.metis_universe.specs.Names.{is_name}
-use Rattle.metis_universe.specs.RowShapes.{StateRow, TypeRow}
+use Rattle.metis_universe.specs.Names.{is_between, is_name}
+use Rattle.metis_universe.specs.RowShapes.{NeedRow, StateRow, TypeRow, names_needed}
 use Rattle.metis_universe.specs.Sights.{first_sights}
 use Rattle.metis_universe.specs.Universe.{Universe, Kind, Pair, universe_of}
 use Rattle.metis_universe.specs.declared.faults.LimitKind.{LimitKind}
 use Rattle.metis_universe.specs.declared.faults.LimitKind.TheVariants.{States, Requires, Pairs, Ports}
 use Rattle.metis_universe.specs.declared.faults.RowFault.{RowFault}
-use Rattle.metis_universe.specs.declared.faults.RowFault.TheVariants.{TypeName, TypeTwice, StateName, StateTwice, NoInitial, UnknownNext, PortName, Limit, NoMemory}
+use Rattle.metis_universe.specs.declared.faults.RowFault.TheVariants.{TypeName, TypeTwice, StateName, StateTwice, NoInitial, UnknownNext, PortName, Demand, Limit, NoMemory}
 
 -- No list is longer than its places can be counted.
 pub record StateFits (row : StateRow) : Type 0 where
@@ -35,7 +38,7 @@ pub record RowsFit (rows : List TypeRow) : Type 0 where
 
 -- a state's ports: those that it provides, then those that it requires
 abbrev pub ports_of_state : StateRow → List (List ℕ)
-ports_of_state row = row.provide ++ row.require
+ports_of_state row = row.provide ++ names_needed row.require
 
 abbrev pub ports_of_type : TypeRow → List (List ℕ)
 ports_of_type row = flat_map ports_of_state row.states
@@ -48,9 +51,16 @@ ports_of rows = first_sights (flat_map ports_of_type rows)
 abbrev pub state_total : List TypeRow → ℕ
 state_total rows = sum_by (λ row. length row.states) rows
 
--- how many ports a type's states require, where an entry that a list repeats counts once
+abbrev pub greatest_count : List NeedRow → List ℕ → ℕ
+greatest_count needs name = fold (λ most n. max most (if bytes_eq name n.port then n.count else 0)) 0 needs
+
+-- a port that stands several times counts once, with the greatest of its counts
+abbrev pub demand_sum : List NeedRow → ℕ
+demand_sum needs = sum_by (greatest_count needs) (first_sights (names_needed needs))
+
+-- how many providers a type's states demand, of all ports together
 abbrev pub require_total : TypeRow → ℕ
-require_total row = sum_by (λ state. length (first_sights state.require)) row.states
+require_total row = sum_by (λ state. demand_sum state.require) row.states
 
 -- ---- faults
 
@@ -77,12 +87,18 @@ port_fault t s k name = unless (is_name name) (PortName t s k)
 abbrev pub state_twice : TypeRow → ℕ → ℕ → StateRow → Option RowFault
 state_twice row t s state = option_map (λ first. StateTwice t s first) (position (λ earlier. bytes_eq state.name earlier.name) (take s row.states))
 
--- of a state: its name is no name, an earlier state has it, or a port's name is none, where ports are counted through both lists
+abbrev pub demand_fault : ℕ → ℕ → ℕ → NeedRow → Option RowFault
+demand_fault t s k need = unless (is_between 1 16 need.count) (Demand t s k)
+
+-- of a state: its name is no name, an earlier state has it, a port's name is none, where ports are counted through both lists,
+-- or the count of an entry of what it requires is not 1 to 16
 abbrev pub state_fault : TypeRow → ℕ → ℕ → StateRow → Option RowFault
 state_fault row t s state =
     option_or (unless (is_name state.name) (StateName t s))
     (option_or (state_twice row t s state)
-    (option_or (first_from 0 (port_fault t s) state.provide) (first_from (length state.provide) (port_fault t s) state.require)))
+    (option_or (first_from 0 (port_fault t s) state.provide)
+    (option_or (first_from (length state.provide) (port_fault t s) (names_needed state.require))
+    (first_from 0 (demand_fault t s) state.require))))
 
 abbrev pub next_fault : TypeRow → ℕ → ℕ → StateRow → Option RowFault
 next_fault row t s state = first_from 0 (λ k name. unless (has_state row name) (UnknownNext t s k)) state.next
@@ -98,7 +114,7 @@ head_fault earlier t row =
 abbrev pub link_fault : ℕ → TypeRow → Option RowFault
 link_fault t row = option_or (unless (has_state row row.initial) (NoInitial t)) (first_from 0 (next_fault row t) row.states)
 
--- the type itself, then its states one by one, then the ports that they require together, then the states that it names
+-- the type itself, then its states one by one, then the providers that they demand together, then the states that it names
 abbrev pub fault_after : Option ℕ → ℕ → TypeRow → Option RowFault
 fault_after earlier t row =
     option_or (head_fault earlier t row)
@@ -134,14 +150,18 @@ state_number row name = unwrap_or (position (λ state. bytes_eq name state.name)
 abbrev pub ascending : List ℕ → List ℕ
 ascending numbers = fold (insert_key nat_cmp) [] numbers
 
+-- for each of these ports, by number, how many providers are demanded besides one
+abbrev pub further_from : List (List ℕ) → List NeedRow → List ℕ → List ℕ
+further_from ports needs numbers = map (λ r. greatest_count needs (slice_index_or ports r []) - 1) numbers
+
 -- of type t, whose first pair is this one
 abbrev pub pair_from : List (List ℕ) → ℕ → ℕ → TypeRow → StateRow → Pair
 pair_from ports t first row state = record {
   kind = t;
   state = state.name;
   provided = ascending (map (number_of ports) state.provide);
-  required = ascending (map (number_of ports) state.require);
-  further = map (λ _. 0) (ascending (map (number_of ports) state.require));
+  required = ascending (map (number_of ports) (names_needed state.require));
+  further = further_from ports state.require (ascending (map (number_of ports) (names_needed state.require)));
   next = ascending (map (λ name. first + state_number row name) state.next);
 }
 
@@ -160,17 +180,22 @@ abbrev pub kinds_from : ℕ → List TypeRow → List Kind
 kinds_from first [] = []
 kinds_from first (row ∷ rows) = kind_from first row ∷ kinds_from (first + length row.states) rows
 
-abbrev pub universe_from : List TypeRow → Universe
-universe_from rows = universe_of 1 (kinds_from 0 rows) (pairs_from (ports_of rows) 0 0 rows) (ports_of rows)
+-- In version 1 each port is required of one provider.
+pub record IsOfVersion (v : ℕ) (rows : List TypeRow) : Type 0 where
+  pub version : (v ≡ 1) ⊎ (v ≡ 2)
+  pub single : v ≡ 1 → All (λ row. All (λ state. All (λ n. n.count ≡ 1) state.require) row.states) rows
+
+abbrev pub universe_from : ℕ → List TypeRow → Universe
+universe_from version rows = universe_of version (kinds_from 0 rows) (pairs_from (ports_of rows) 0 0 rows) (ports_of rows)
 
 abbrev pub or_universe : Option RowFault → Universe → Result Universe RowFault
 or_universe None u = Ok u
 or_universe (Some fault) u = Err fault
 
-abbrev pub meaning_of : List TypeRow → Result Universe RowFault
-meaning_of rows = or_universe (first_fault rows) (universe_from rows)
+abbrev pub meaning_of : ℕ → List TypeRow → Result Universe RowFault
+meaning_of version rows = or_universe (first_fault rows) (universe_from version rows)
 
 -- the result is what the rows mean, unless memory ran out
-abbrev pub IsMade : Result Universe RowFault → List TypeRow → Type 0
-IsMade (Ok u) rows = meaning_of rows ≡ Ok u
-IsMade (Err fault) rows = fault ≢ NoMemory → meaning_of rows ≡ Err fault
+abbrev pub IsMade : Result Universe RowFault → ℕ → List TypeRow → Type 0
+IsMade (Ok u) version rows = meaning_of version rows ≡ Ok u
+IsMade (Err fault) version rows = fault ≢ NoMemory → meaning_of version rows ≡ Err fault

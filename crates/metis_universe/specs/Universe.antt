@@ -18,7 +18,7 @@
 --     IsUniverse u      what holds of the numbers of every universe that a document gives
 --     IsNamed u, IsWithinLimits u, IsTable u      what holds of its names;  of its counts;  all of these, and that its ports are by sight
 --     IsIndexed u providers requirers, IsIndexedTable u providers requirers      the rows are the providers and the requirers of each port;  that, and all that IsTable says
-use Rattle.std.specs.Prelude.{ℕ, ◌≡◌, ◌≤◌, ◌<◌, ◌==◌, ◌⊎◌, ◌+◌, Bool, true, false, ◌&&◌, Option, List, [], ◌∷◌, ◌++◌, length, map, flat_map, fold, nat_lt, take, position, sum, sum_by, IsTrue, if◌then◌else◌}
+use Rattle.std.specs.Prelude.{ℕ, ◌≡◌, ◌≤◌, ◌<◌, ◌==◌, ◌⊎◌, ◌+◌, Bool, true, false, ◌&&◌, Option, List, [], ◌∷◌, ◌++◌, length, map, flat_map, fold, max, take, position, sum, sum_by, IsTrue, if◌then◌else◌}
 use Rattle.std.specs.List.{list_any, filter, slice_index_or, position_or_len, range_with_len, All}
 use Rattle.std.specs.List.Sorted.{IsNonDecreasingBy, IsStrictlyIncreasing}
 use Rattle.std.specs.Option.{option_and_then}
@@ -31,9 +31,6 @@ use Rattle.metis_universe.specs.Sights.{first_sights}
 abbrev pub is_empty : List ℕ → Bool
 is_empty [] = true
 is_empty (x ∷ xs) = false
-
-abbrev pub larger : ℕ → ℕ → ℕ
-larger a b = if nat_lt a b then b else a
 
 -- a type: its name and its initial pair
 pub record Kind : Type 0 where
@@ -113,7 +110,7 @@ abbrev pub demand_of : Universe → ℕ → ℕ → ℕ
 demand_of u p r = if requires u p r then 1 + slice_index_or (further_of u p) (position_or_len (λ s. s == r) (required_of u p)) 0 else 0
 
 abbrev pub greatest_demand : Universe → ℕ
-greatest_demand u = 1 + fold (λ most p. fold larger most p.further) 0 u.pairs
+greatest_demand u = 1 + fold (λ most p. fold max most p.further) 0 u.pairs
 
 abbrev pub type_provides : Universe → ℕ → ℕ → Bool
 type_provides u t r = list_any (λ p. (p.kind == t) && has p.provided r) u.pairs

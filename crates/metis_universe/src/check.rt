@@ -1,9 +1,11 @@
 //! The first fault of rows.
-ghost use Rattle.std.specs.Prelude.{◌≡◌, ◌+◌, ◌<◌, ◌≤◌, ◌^◌, length, not, position, option_map, sum_by, IfOk};
+ghost use Rattle.std.specs.Prelude.{◌≡◌, ◌+◌, ◌<◌, ◌≤◌, ◌^◌, length, not, position, option_map, IfOk};
+ghost use Rattle.std.specs.List.{All};
 ghost use Rattle.std.specs.Str.{bytes_eq};
 ghost use Rattle.std.specs.String.{string_bytes};
-ghost use Rattle.metis_universe.specs.Names.{is_name};
-ghost use Rattle.metis_universe.specs.Rows.{first_from, unless, limit_fault, has_state, port_fault, state_twice, state_fault, next_fault, head_fault, link_fault, fault_after, type_fault, first_fault, StateFits, TypeFits, RowsFit, state_total, require_total, ports_of};
+ghost use Rattle.metis_universe.specs.Names.{is_between, is_name};
+ghost use Rattle.metis_universe.specs.RowShapes.{names_needed};
+ghost use Rattle.metis_universe.specs.Rows.{first_from, unless, limit_fault, has_state, port_fault, demand_fault, state_twice, state_fault, next_fault, head_fault, link_fault, fault_after, type_fault, first_fault, StateFits, TypeFits, RowsFit, state_total, require_total, ports_of};
 ghost use Rattle.metis_universe.specs.Texts.{texts};
 ghost use Rattle.metis_universe.specs.declared.faults.RowFault.TheVariants.{TypeTwice};
 ghost use Rattle.metis_universe.specs.declared.faults.LimitKind.TheVariants.{Requires};
@@ -11,10 +13,14 @@ ghost use Rattle.indexmap.specs.IndexSet.{index_set_len};
 
 use crate::faults::{LimitKind, RowFault};
 use crate::names::is_name;
-use crate::rows::{StateRow, TypeRow};
-use crate::sights::{add_name, require_total};
+use crate::needs::{count_total, require_total};
+use crate::rows::{NeedRow, StateRow, TypeRow};
+use crate::sights::add_name;
 use indexmap::IndexSet;
 use std::alloc::{AllocError, Global};
+
+/// The most providers that one entry may ask for.
+const MOST_DEMANDED: u64 = 16;
 
 /// The fault, unless the test passed.
 fn unless(passes: bool, fault: RowFault) -> Option<RowFault>
@@ -48,6 +54,22 @@ fn place_of_no_name(names: &[String]) -> Option<usize>
     names.iter().position(|name| !is_name(name.as_str()))
 }
 
+/// The place of the first entry whose port's name is none.
+fn place_of_no_port(needs: &[NeedRow]) -> Option<usize>
+    ensures { result ≡ position (λ n. not (is_name n.port)) needs.now }
+{
+    needs.iter().position(|need| !is_name(need.port.as_str()))
+}
+
+/// The place of the first entry whose count is not 1 to 16.
+fn place_of_bad_count(needs: &[NeedRow]) -> Option<usize>
+    ensures { result ≡ position (λ n. not (is_between 1 16 n.count)) needs.now }
+{
+    needs
+        .iter()
+        .position(|need| need.count < 1 || MOST_DEMANDED < need.count)
+}
+
 /// The place of the first name that no state of the type has.
 fn place_of_unknown(row: &TypeRow, names: &[String]) -> Option<usize>
     ensures { result ≡ position (λ name. not (has_state row.now (string_bytes name))) names.now }
@@ -71,6 +93,24 @@ fn fault_of_ports(t: u32, s: u32, place: u32, names: &[String]) -> Option<RowFau
     Some(RowFault::PortName(t, s, place + k as u32))
 }
 
+/// The first of these entries whose port's name is none, where they are counted from the place on.
+fn fault_of_needed(t: u32, s: u32, place: u32, needs: &[NeedRow]) -> Option<RowFault>
+    requires { place + length needs.now < 2 ^ 32 }
+    ensures { result ≡ first_from place (port_fault t s) (names_needed needs.now) }
+{
+    let k = place_of_no_port(needs)?;
+    Some(RowFault::PortName(t, s, place + k as u32))
+}
+
+/// The first of these entries whose count is not 1 to 16.
+fn fault_of_demands(t: u32, s: u32, needs: &[NeedRow]) -> Option<RowFault>
+    requires { length needs.now < 2 ^ 32 }
+    ensures { result ≡ first_from 0 (demand_fault t s) needs.now }
+{
+    let k = place_of_bad_count(needs)?;
+    Some(RowFault::Demand(t, s, k as u32))
+}
+
 /// A state before this place has the state's name.
 fn fault_of_earlier_state(row: &TypeRow, t: u32, s: u32, state: &StateRow) -> Option<RowFault>
     requires fits { TypeFits row.now }
@@ -92,8 +132,9 @@ fn fault_of_state(row: &TypeRow, t: u32, s: u32, state: &StateRow) -> Option<Row
     let name = unless(is_name(state.name.as_str()), RowFault::StateName(t, s));
     let twice = fault_of_earlier_state(row, t, s, state);
     let provided = fault_of_ports(t, s, 0, &state.provide);
-    let required = fault_of_ports(t, s, state.provide.len() as u32, &state.require);
-    name.or(twice.or(provided.or(required)))
+    let required = fault_of_needed(t, s, state.provide.len() as u32, &state.require);
+    let demands = fault_of_demands(t, s, &state.require);
+    name.or(twice.or(provided.or(required.or(demands))))
 }
 
 /// The first fault of the type's states, their next states aside.
@@ -163,23 +204,14 @@ fn fault_of_head(row: &TypeRow, t: u32, seen: &IndexSet<String>) -> Option<RowFa
     name.or(twice.or(states))
 }
 
-/// How many entries the lists of what the type's states require have.
-fn require_entries(row: &TypeRow) -> u64
-    requires { sum_by (λ state. length state.require) row.now.states < 2 ^ 64 }
-    ensures { result ≡ sum_by (λ state. length state.require) row.now.states }
-{
-    row.states
-        .iter()
-        .map(|state| state.require.len() as u64)
-        .sum()
-}
-
-/// More ports are required than a type may. Repeated entries are looked for only where all entries are more than that.
+/// More providers are demanded than a type may. Repeated entries are looked for only where all entries ask for more than that.
 fn fault_of_required(alloc: Global, row: &TypeRow) -> Result<Option<RowFault>, AllocError>
-    requires { TypeFits row.now }
+    requires fits { TypeFits row.now }
+    requires few { length row.now.states ≤ 64 }
+    requires counts { All (λ state. All (λ n. n.count ≤ 16) state.require) row.now.states }
     ensures { IfOk result (λ found. found ≡ limit_fault Requires 128 (require_total row.now)) }
 {
-    if require_entries(row) <= 128 {
+    if count_total(row) <= 128 {
         return Ok(None);
     }
     Ok(fault_of_count(LimitKind::Requires, 128, require_total(alloc, row)?))

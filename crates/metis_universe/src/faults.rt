@@ -6,7 +6,7 @@ use std::alloc::{AllocError, AllocFailed};
 pub enum LimitKind {
     /// The states of one type, at most 64.
     States,
-    /// The ports that the states of one type require, at most 128.
+    /// The providers that the states of one type demand, of all ports together, at most 128.
     Requires,
     /// The pairs of all types, at most 2,000.
     Pairs,
@@ -31,6 +31,8 @@ pub enum RowFault {
     UnknownNext(u32, u32, u32),
     /// The entry, counted through what the state provides and then through what it requires, is no name.
     PortName(u32, u32, u32),
+    /// The count of the entry, counted through what the state requires, is not 1 to 16.
+    Demand(u32, u32, u32),
     /// More are counted than the limit allows.
     Limit(LimitKind, u64),
     NoMemory,

@@ -4,14 +4,32 @@ ghost use Rattle.metis_universe.specs.Rows.{StateFits, TypeFits, RowsFit};
 
 use std::marker::Model;
 
+/// An entry of what a state requires.
+#[derive(Debug, Drop)]
+pub struct NeedRow {
+    /// The name of the port.
+    pub port: String,
+    /// How many different providers of it.
+    pub count: u64,
+}
+
+impl Model for NeedRow {
+    ghost use Rattle.std.specs.String.{string_bytes};
+    ghost use Rattle.metis_universe.specs.RowShapes as rows;
+
+    ghost Value = { rows.NeedRow };
+
+    ghost view = { λ n. record { port = string_bytes n.port; count = n.count } };
+}
+
 /// A state of a type.
 #[derive(Debug, Drop)]
 pub struct StateRow {
     pub name: String,
     /// The names of the ports that the state provides.
     pub provide: Vec<String>,
-    /// The names of the ports that the state requires.
-    pub require: Vec<String>,
+    /// The ports that the state requires. One that stands several times has the greatest of its counts.
+    pub require: Vec<NeedRow>,
     /// The names of the states that may follow.
     pub next: Vec<String>,
 }
@@ -23,7 +41,7 @@ impl Model for StateRow {
 
     ghost Value = { rows.StateRow };
 
-    ghost view = { λ s. record { name = string_bytes s.name; provide = texts s.provide.items; require = texts s.require.items; next = texts s.next.items } };
+    ghost view = { λ s. record { name = string_bytes s.name; provide = texts s.provide.items; require = s.require.items; next = texts s.next.items } };
 }
 
 /// A type.

@@ -1,12 +1,12 @@
 //! A universe: its types, its pairs in document order, and its ports.
-ghost use Rattle.std.specs.Prelude.{◌≡◌, ◌≤◌, ◌<◌, ◌==◌, ◌+◌, ◌&&◌, length, fold, nat_lt, position, IsTrue, ◌↔◌, if◌then◌else◌};
+ghost use Rattle.std.specs.Prelude.{◌≡◌, ◌≤◌, ◌<◌, ◌==◌, ◌+◌, ◌&&◌, length, fold, max, nat_lt, position, IsTrue, ◌↔◌, if◌then◌else◌};
 ghost use Rattle.std.specs.List.{All, filter, list_any, position_or_len, slice_index_or};
 ghost use Rattle.metis_universe.specs.Kinds.{kinds_of};
 ghost use Rattle.std.specs.List.Sorted.{IsStrictlyIncreasing, IsNonDecreasingBy};
 ghost use Rattle.std.specs.Str.{bytes_eq};
-ghost use Rattle.metis_universe.specs.Universe.{has, no_kind, pair_count, type_count, port_count, type_of, state_place_of, initial_of, is_initial, next_of, provided_of, required_of, demand_of, greatest_demand, larger, provides, type_requires, type_provides, providers_of, requirers_of, type_named, port_named, state_named, pair_named, type_name_of, state_name_of, port_name_of, states_of_type, IsTable};
+ghost use Rattle.metis_universe.specs.Universe.{has, no_kind, pair_count, type_count, port_count, type_of, state_place_of, initial_of, is_initial, next_of, provided_of, required_of, demand_of, greatest_demand, provides, type_requires, type_provides, providers_of, requirers_of, type_named, port_named, state_named, pair_named, type_name_of, state_name_of, port_name_of, states_of_type, IsTable};
 ghost use Rattle.metis_universe.specs.Numbers.{IsOf};
-ghost use Rattle.metis_universe.specs.Rows.{RowsFit, IsMade};
+ghost use Rattle.metis_universe.specs.Rows.{IsOfVersion, RowsFit, IsMade};
 
 mod build;
 
@@ -27,7 +27,7 @@ struct PairRow {
     provided: Vec<PortIx>,
     required: Vec<PortIx>,
     /// Of each required port, how many providers it needs besides one.
-    further: Vec<u32>,
+    further: Vec<u64>,
     next: Vec<PairIx>,
 }
 
@@ -83,16 +83,18 @@ impl Model for Universe {
 impl Universe {
     /// The universe that the rows stand for. Types, pairs and ports are numbered from 0: types in the order of the rows,
     /// pairs by types in order and then states in order, ports by first sight (for each state what it provides, then
-    /// what it requires). The error is the first fault of the rows: type after type, and of all types together at last.
-    pub fn new(alloc: Global, rows: Vec<TypeRow>) -> Result<Universe, RowFault>
-        requires { RowsFit rows.items }
-        ensures { IsMade result rows.items }
+    /// what it requires). In version 1 each port is required of one provider, in version 2 of 1 to 16.
+    /// The error is the first fault of the rows: type after type, and of all types together at last.
+    pub fn new(alloc: Global, version: u32, rows: Vec<TypeRow>) -> Result<Universe, RowFault>
+        requires version { IsOfVersion version rows.items }
+        requires fits { RowsFit rows.items }
+        ensures { IsMade result version rows.items }
     {
         let ports = ports_of(alloc, &rows)?;
         if let Some(fault) = first_fault(alloc, &rows, ports.len() as u64)? {
             return Err(fault);
         }
-        Ok(build::tables(alloc, &rows, ports)?)
+        Ok(build::tables(alloc, version, &rows, ports)?)
     }
 
     /// It does nothing: what every universe keeps.
@@ -114,7 +116,7 @@ impl Universe {
     pub fn greatest_demand(&self) -> u32
         ensures { result ≡ greatest_demand self.now }
     {
-        1 + most_further(&self.pairs)
+        1 + most_further(&self.pairs) as u32
     }
 
     /// How many pairs there are.
@@ -374,33 +376,31 @@ fn place_among(ports: &[PortIx], r: PortIx) -> Option<usize>
 }
 
 /// One, and as many more as the other list has at the port's place; 0 where the port is none of these.
-fn demand_among(ports: &[PortIx], further: &[u32], r: PortIx) -> u32
+fn demand_among(ports: &[PortIx], further: &[u64], r: PortIx) -> u32
     requires places { length further.now ≡ length ports.now }
     requires few { All (λ n. n < 16) further.now }
     ensures { result ≡ (if has ports.now r then 1 + slice_index_or further.now (position_or_len (λ s. s == r) ports.now) 0 else 0) }
 {
     match place_among(ports, r) {
-        Some(place) => 1 + further[place],
+        Some(place) => 1 + further[place] as u32,
         None => 0,
     }
 }
 
 /// The largest of these numbers and the start.
-fn largest(start: u32, counts: &[u32]) -> u32
-    ensures { result ≡ fold larger start counts.now }
+fn largest(start: u64, counts: &[u64]) -> u64
+    ensures { result ≡ fold max start counts.now }
 {
     let mut most = start;
     for n in counts {
-        if most < *n {
-            most = *n;
-        }
+        most = most.max(*n);
     }
     most
 }
 
 /// The largest number that any of the pairs needs besides one.
-fn most_further(pairs: &[PairRow]) -> u32
-    ensures { result ≡ fold (λ most p. fold larger most p.further) 0 pairs.now }
+fn most_further(pairs: &[PairRow]) -> u64
+    ensures { result ≡ fold (λ most p. fold max most p.further) 0 pairs.now }
 {
     let mut most = 0;
     for pair in pairs {

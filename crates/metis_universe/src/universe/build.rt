@@ -7,11 +7,13 @@ ghost use Rattle.std.specs.String.{string_bytes};
 ghost use Rattle.indexmap.specs.IndexSet.{index_set_len};
 ghost use Rattle.metis_universe.specs.Kinds.{kind_of, kinds_of};
 ghost use Rattle.metis_universe.specs.Texts.{texts};
-ghost use Rattle.metis_universe.specs.Rows.{number_of, state_number, ascending, kind_from, kinds_from, pair_from, pairs_from, pairs_of_type, universe_from, first_fault, ports_of};
+ghost use Rattle.metis_universe.specs.RowShapes.{names_needed};
+ghost use Rattle.metis_universe.specs.Rows.{IsOfVersion, number_of, state_number, ascending, kind_from, kinds_from, pair_from, pairs_from, pairs_of_type, universe_from, first_fault, ports_of};
 
 use super::{PairRow, PortRow, Universe};
 use crate::check::place_of_state;
-use crate::rows::{StateRow, TypeRow};
+use crate::needs::further_numbers;
+use crate::rows::{NeedRow, StateRow, TypeRow};
 use indexmap::{IndexMap, IndexSet};
 use metis_ids::{PairIx, PortIx, TypeIx};
 use std::alloc::{AllocError, Global};
@@ -22,6 +24,15 @@ fn port_number(ports: &IndexSet<String>, name: &str) -> PortIx
     ensures { result ≡ number_of (texts ports.now.keys) name.now }
 {
     PortIx(ports.get_index_of(name).unwrap_or(0) as u32)
+}
+
+/// The numbers, ascending and each once.
+fn in_order(mut numbers: Vec<PortIx>) -> Vec<PortIx>
+    ensures { result.items ≡ ascending numbers.items }
+{
+    numbers.sort_unstable();
+    numbers.dedup();
+    numbers
 }
 
 /// The numbers of these ports, ascending.
@@ -37,9 +48,23 @@ fn port_numbers(
     for name in names {
         numbers.push(port_number(ports, name.as_str()))?;
     }
-    numbers.sort_unstable();
-    numbers.dedup();
-    Ok(numbers)
+    Ok(in_order(numbers))
+}
+
+/// The numbers of the ports of these entries, ascending.
+fn numbers_needed(
+    alloc: Global,
+    ports: &IndexSet<String>,
+    needs: &[NeedRow],
+) -> Result<Vec<PortIx>, AllocError>
+    requires { index_set_len ports.now < 2 ^ 32 }
+    ensures { IfOk result (λ numbers. numbers.items ≡ ascending (map (number_of (texts ports.now.keys)) (names_needed needs.now))) }
+{
+    let mut numbers = Vec::with_capacity(alloc, needs.len())?;
+    for need in needs {
+        numbers.push(port_number(ports, need.port.as_str()))?;
+    }
+    Ok(in_order(numbers))
 }
 
 /// The place of the state of this name in its type.
@@ -69,17 +94,6 @@ fn next_numbers(
     Ok(numbers)
 }
 
-/// For each of these ports no provider besides one.
-fn no_further(alloc: Global, ports: &[PortIx]) -> Result<Vec<u32>, AllocError>
-    ensures { IfOk result (λ counts. counts.items ≡ map (λ _. 0) ports.now) }
-{
-    let mut counts = Vec::new(alloc);
-    for _r in ports {
-        counts.push(0)?;
-    }
-    Ok(counts)
-}
-
 /// The pair of a type and one of its states, where the type's first pair is this one.
 fn pair_of(
     alloc: Global,
@@ -93,12 +107,12 @@ fn pair_of(
     requires first { first + length row.now.states < 2 ^ 32 }
     ensures { IfOk result (λ pair. pair ≡ pair_from (texts ports.now.keys) t first row.now state.now) }
 {
-    let required = port_numbers(alloc, ports, &state.require)?;
+    let required = numbers_needed(alloc, ports, &state.require)?;
     Ok(PairRow {
         kind: t,
         state: state.name.clone()?,
         provided: port_numbers(alloc, ports, &state.provide)?,
-        further: no_further(alloc, &required)?,
+        further: further_numbers(alloc, ports, &state.require, &required)?,
         required,
         next: next_numbers(alloc, row, first, &state.next)?,
     })
@@ -233,17 +247,19 @@ fn type_tables(
 /// The universe of rows that have no fault, with their ports.
 pub fn tables(
     alloc: Global,
+    version: u32,
     rows: &[TypeRow],
     ports: IndexSet<String>,
 ) -> Result<Universe, AllocError>
+    requires version { IsOfVersion version rows.now }
     requires sound { first_fault rows.now ≡ None }
     requires ports { texts ports.keys ≡ ports_of rows.now }
-    ensures { IfOk result (λ u. u ≡ universe_from rows.now) }
+    ensures { IfOk result (λ u. u ≡ universe_from version rows.now) }
 {
     let (kinds, pairs) = type_tables(alloc, rows, &ports)?;
     let (providers, requirers) = index_rows(alloc, &pairs, ports.len())?;
     Ok(Universe {
-        version: 1,
+        version,
         kinds,
         pairs,
         ports,

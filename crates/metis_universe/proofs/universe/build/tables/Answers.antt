@@ -14,8 +14,8 @@ index_rows-requires-clause-provided c =
     let rows = c.args.rows.now in
     let kinds = c.in_ok-kinds.ensures.kinds in
     let pairs = c.in_ok-kinds.ensures.pairs in
-    let u = universe_of 1 (kinds_of c.in_ok-kinds.kinds.entries) c.in_ok-kinds.pairs.items (texts c.args.ports.keys) in
-    let table : IsTable u = subst IsTable (sym (λ j. universe_of 1 (kinds j) (pairs j) (c.requires.ports j))) (IsTable-universe_from rows c.requires.sound) in
+    let u = universe_of c.args.version (kinds_of c.in_ok-kinds.kinds.entries) c.in_ok-kinds.pairs.items (texts c.args.ports.keys) in
+    let table : IsTable u = subst IsTable (sym (λ j. universe_of c.args.version (kinds j) (pairs j) (c.requires.ports j))) (IsTable-universe_from c.args.version rows c.requires.version c.requires.sound) in
     let count : c.len.result ≡ port_count u = c.len.ensures.len ∙ sym (length-map c.args.ports.keys (λ t. string_bytes t)) in
     subst (λ n. All (λ (x : Pair). All (λ r. r < n) x.provided) c.deref.result.now) (sym count)
     (subst (λ (ps : List Pair). All (λ (x : Pair). All (λ r. r < port_count u) x.provided) ps) (sym c.deref.ensures.value) (provided_within u table.universe))
@@ -25,8 +25,8 @@ index_rows-requires-clause-required c =
     let rows = c.args.rows.now in
     let kinds = c.in_ok-kinds.ensures.kinds in
     let pairs = c.in_ok-kinds.ensures.pairs in
-    let u = universe_of 1 (kinds_of c.in_ok-kinds.kinds.entries) c.in_ok-kinds.pairs.items (texts c.args.ports.keys) in
-    let table : IsTable u = subst IsTable (sym (λ j. universe_of 1 (kinds j) (pairs j) (c.requires.ports j))) (IsTable-universe_from rows c.requires.sound) in
+    let u = universe_of c.args.version (kinds_of c.in_ok-kinds.kinds.entries) c.in_ok-kinds.pairs.items (texts c.args.ports.keys) in
+    let table : IsTable u = subst IsTable (sym (λ j. universe_of c.args.version (kinds j) (pairs j) (c.requires.ports j))) (IsTable-universe_from c.args.version rows c.requires.version c.requires.sound) in
     let count : c.len.result ≡ port_count u = c.len.ensures.len ∙ sym (length-map c.args.ports.keys (λ t. string_bytes t)) in
     subst (λ n. All (λ (x : Pair). All (λ r. r < n) x.required) c.deref.result.now) (sym count)
     (subst (λ (ps : List Pair). All (λ (x : Pair). All (λ r. r < port_count u) x.required) ps) (sym c.deref.ensures.value) (required_within u table.universe))
@@ -36,8 +36,8 @@ index_rows-requires-clause-few c =
     let rows = c.args.rows.now in
     let kinds = c.in_ok-kinds.ensures.kinds in
     let pairs = c.in_ok-kinds.ensures.pairs in
-    let u = universe_of 1 (kinds_of c.in_ok-kinds.kinds.entries) c.in_ok-kinds.pairs.items (texts c.args.ports.keys) in
-    let table : IsTable u = subst IsTable (sym (λ j. universe_of 1 (kinds j) (pairs j) (c.requires.ports j))) (IsTable-universe_from rows c.requires.sound) in
+    let u = universe_of c.args.version (kinds_of c.in_ok-kinds.kinds.entries) c.in_ok-kinds.pairs.items (texts c.args.ports.keys) in
+    let table : IsTable u = subst IsTable (sym (λ j. universe_of c.args.version (kinds j) (pairs j) (c.requires.ports j))) (IsTable-universe_from c.args.version rows c.requires.version c.requires.sound) in
     let few : length c.in_ok-kinds.pairs.items ≤ 2000 = table.limits.pairs in
     let same : length c.deref.result.now ≡ length c.in_ok-kinds.pairs.items = ap length c.deref.ensures.value in
     omega arith
@@ -47,8 +47,8 @@ invariant_of-result c =
     let rows = c.args.rows.now in
     let kinds = c.in_ok-kinds.ensures.kinds in
     let pairs = c.in_ok-kinds.ensures.pairs in
-    let u = universe_of 1 (kinds_of c.in_ok-kinds.kinds.entries) c.in_ok-kinds.pairs.items (texts c.args.ports.keys) in
-    let table : IsTable u = subst IsTable (sym (λ j. universe_of 1 (kinds j) (pairs j) (c.requires.ports j))) (IsTable-universe_from rows c.requires.sound) in
+    let u = universe_of c.args.version (kinds_of c.in_ok-kinds.kinds.entries) c.in_ok-kinds.pairs.items (texts c.args.ports.keys) in
+    let table : IsTable u = subst IsTable (sym (λ j. universe_of c.args.version (kinds j) (pairs j) (c.requires.ports j))) (IsTable-universe_from c.args.version rows c.requires.version c.requires.sound) in
     let count : c.len.result ≡ port_count u = c.len.ensures.len ∙ sym (length-map c.args.ports.keys (λ t. string_bytes t)) in
     let providers = c.in_ok-providers.ensures.providers ∙ (λ j. port_rows (λ x. x.provided) (count j) (c.deref.ensures.value j)) in
     let requirers = c.in_ok-providers.ensures.requirers ∙ (λ j. port_rows (λ x. x.required) (count j) (c.deref.ensures.value j)) in
