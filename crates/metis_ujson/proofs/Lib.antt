@@ -5,6 +5,7 @@ pub mod Grouped
 pub mod Law
 pub mod NamedFaults
 pub mod Numbers
+pub mod OfVersion
 pub mod OneLine
 pub mod Plain
 pub mod Rebuilt

@@ -6,13 +6,13 @@ use Rattle.serde_json.specs.Data.{Data, Items, no_items, item}
 use Rattle.metis_universe.proofs.FromRows.{IsTable-universe_from}
 use Rattle.metis_universe.specs.Names.{is_name}
 use Rattle.metis_universe.specs.RowShapes.{StateRow, TypeRow}
-use Rattle.metis_universe.specs.Rows.{first_fault, first_from, has_state, head_fault, limit_fault, link_fault, next_fault, or_universe, port_fault, ports_of, require_total, state_fault, state_total, state_twice, type_fault, universe_from, unless, earlier_type}
+use Rattle.metis_universe.specs.Rows.{first_fault, first_from, has_state, head_fault, limit_fault, link_fault, next_fault, or_universe, port_fault, demand_fault, ports_of, require_total, state_fault, state_total, state_twice, type_fault, universe_from, unless, earlier_type}
 use Rattle.metis_universe.specs.Universe.{IsTable, Universe}
 use Rattle.metis_universe.specs.declared.faults.LimitKind.{LimitKind}
 use Rattle.metis_universe.specs.declared.faults.LimitKind.TheVariants.{Pairs, Ports, Requires, States}
 use Rattle.metis_universe.specs.declared.faults.RowFault.{RowFault}
 use Rattle.metis_universe.specs.declared.faults.RowFault.TheVariants as row
-use Rattle.metis_ujson.specs.Document.{fault_of_row, json_of, list_at, or_form_fault, or_row_fault, rows_in, rows_or_not_json, state_in, states_from, text_at, type_in, type_of_states, type_with, types_from, types_with, universe_in, with_state, with_type, is_version_one}
+use Rattle.metis_ujson.specs.Document.{fault_of_row, json_of, list_at, or_form_fault, or_row_fault, rows_in, rows_or_not_json, state_in, states_from, text_at, type_in, type_of_states, type_with, types_from, types_with, universe_in, with_state, with_type, spelled, version_in, Spelled}
 use Rattle.metis_ujson.specs.declared.faults.UFault.{UFault}
 use Rattle.metis_ujson.specs.declared.faults.UFault.TheVariants.{NoMemory, StateForm}
 
@@ -25,37 +25,41 @@ module _ (row : Option StateRow) (fault : UFault) (rest : Result (List StateRow)
     | Some s ↦ elim rest as (λ r. (r ≡ Err NoMemory → ⊥) → with_state (Some s) fault r ≡ Err NoMemory → ⊥) [ Err later ↦ λ n h. n h | Ok rows ↦ λ n h. cc ] rest_named
   ]
 
-states_named : (t s : ℕ) (ds : Items) → states_from t s ds ≡ Err NoMemory → ⊥
-states_named t s no_items h = cc
-states_named t s (item d ds) h = with_state_named (state_in d) (StateForm t s) (states_from t (s + 1) ds) (λ e. cc) (states_named t (s + 1) ds) h
+states_named : (v t s : ℕ) (ds : Items) → states_from v t s ds ≡ Err NoMemory → ⊥
+states_named v t s no_items h = cc
+states_named v t s (item d ds) h = with_state_named (state_in v d) (StateForm t s) (states_from v t (s + 1) ds) (λ e. cc) (states_named v t (s + 1) ds) h
 
 type_of_states_named : (name initial : List ℕ) (states : Result (List StateRow) UFault) → (states ≡ Err NoMemory → ⊥) → type_of_states name initial states ≡ Err NoMemory → ⊥
 type_of_states_named name initial (Err fault) named h = named (cc)
 type_of_states_named name initial (Ok states) named h = cc
 
-type_with_named : (t : ℕ) (name initial : Option (List ℕ)) (states : Option Items) → type_with t name initial states ≡ Err NoMemory → ⊥
-type_with_named t None initial states h = cc
-type_with_named t (Some name) None states h = cc
-type_with_named t (Some name) (Some initial) None h = cc
-type_with_named t (Some name) (Some initial) (Some states) h = type_of_states_named name initial (states_from t 0 states) (states_named t 0 states) h
+type_with_named : (v t : ℕ) (name initial : Option (List ℕ)) (states : Option Items) → type_with v t name initial states ≡ Err NoMemory → ⊥
+type_with_named v t None initial states h = cc
+type_with_named v t (Some name) None states h = cc
+type_with_named v t (Some name) (Some initial) None h = cc
+type_with_named v t (Some name) (Some initial) (Some states) h = type_of_states_named name initial (states_from v t 0 states) (states_named v t 0 states) h
 
 with_type_named : (row : Result TypeRow UFault) (rest : Result (List TypeRow) UFault) → (row ≡ Err NoMemory → ⊥) → (rest ≡ Err NoMemory → ⊥) → with_type row rest ≡ Err NoMemory → ⊥
 with_type_named (Err fault) rest named rest_named h = named (cc)
 with_type_named (Ok row) (Err later) named rest_named h = rest_named h
 with_type_named (Ok row) (Ok rows) named rest_named h = cc
 
-types_named : (t : ℕ) (ds : Items) → types_from t ds ≡ Err NoMemory → ⊥
-types_named t no_items h = cc
-types_named t (item d ds) h = with_type_named (type_in t d) (types_from (t + 1) ds) (type_with_named t (text_at (codes "name") d) (text_at (codes "initial") d) (list_at (codes "states") d)) (types_named (t + 1) ds) h
+types_named : (v t : ℕ) (ds : Items) → types_from v t ds ≡ Err NoMemory → ⊥
+types_named v t no_items h = cc
+types_named v t (item d ds) h = with_type_named (type_in v t d) (types_from v (t + 1) ds) (type_with_named v t (text_at (codes "name") d) (text_at (codes "initial") d) (list_at (codes "states") d)) (types_named v (t + 1) ds) h
 
-types_with_named : (version : Bool) (types : Option Items) → types_with version types ≡ Err NoMemory → ⊥
-types_with_named false types h = cc
-types_with_named true None h = cc
-types_with_named true (Some types) h = types_named 0 types h
+spelled_named : (v : ℕ) (types : Result (List TypeRow) UFault) → (types ≡ Err NoMemory → ⊥) → spelled v types ≡ Err NoMemory → ⊥
+spelled_named v (Err fault) named h = named (cc)
+spelled_named v (Ok types) named h = cc
+
+types_with_named : (version : Option ℕ) (types : Option Items) → types_with version types ≡ Err NoMemory → ⊥
+types_with_named None types h = cc
+types_with_named (Some v) None h = cc
+types_with_named (Some v) (Some types) h = spelled_named v (types_from v 0 types) (types_named v 0 types) h
 
 rows_named : (json : Option Data) → rows_or_not_json json ≡ Err NoMemory → ⊥
 rows_named None h = cc
-rows_named (Some d) h = types_with_named (is_version_one d) _ h
+rows_named (Some d) h = types_with_named (version_in d) _ h
 
 -- ---- the first fault of rows
 
@@ -87,7 +91,9 @@ state_fault_named r t s state =
     let port : (k : ℕ) (name : List ℕ) → IsNamed (port_fault t s k name) = λ k name. unless_named (is_name name) (row.PortName t s k) (λ e. cc) in
     or_named (unless (is_name state.name) (row.StateName t s)) _ (unless_named (is_name state.name) (row.StateName t s) (λ e. cc))
     (or_named (state_twice r t s state) _ (map_named (λ first. row.StateTwice t s first) _ (λ n e. cc))
-    (or_named (first_from 0 (port_fault t s) state.provide) _ (first_named 0 (port_fault t s) state.provide port) (first_named (length state.provide) (port_fault t s) state.require port)))
+    (or_named (first_from 0 (port_fault t s) state.provide) _ (first_named 0 (port_fault t s) state.provide port)
+    (or_named (first_from (length state.provide) (port_fault t s) (names_needed state.require)) _ (first_named (length state.provide) (port_fault t s) (names_needed state.require) port)
+    (first_named 0 (demand_fault t s) state.require (λ k need. unless_named (is_between 1 16 need.count) (row.Demand t s k) (λ e. cc))))))
 
 next_fault_named : (r : TypeRow) (t s : ℕ) (state : StateRow) → IsNamed (next_fault r t s state)
 next_fault_named r t s state = first_named 0 (λ k name. unless (has_state r name) (row.UnknownNext t s k)) state.next (λ k name. unless_named (has_state r name) (row.UnknownNext t s k) (λ e. cc))
@@ -122,6 +128,7 @@ fault_of_row_named (row.StateTwice t s first) named h = cc
 fault_of_row_named (row.NoInitial t) named h = cc
 fault_of_row_named (row.UnknownNext t s k) named h = cc
 fault_of_row_named (row.PortName t s k) named h = cc
+fault_of_row_named (row.Demand t s k) named h = cc
 fault_of_row_named (row.Limit kind count) named h = cc
 fault_of_row_named row.NoMemory named h = named refl
 
@@ -129,22 +136,22 @@ made_named : (o : Option RowFault) (u : Universe) → IsNamed o → or_row_fault
 made_named None u named h = cc
 made_named (Some fault) u named h = fault_of_row_named fault (λ e. named (cc)) (cc)
 
-meant_named : (r : Result (List TypeRow) UFault) → (r ≡ Err NoMemory → ⊥) → or_form_fault r ≡ Err NoMemory → ⊥
+meant_named : (r : Result Spelled UFault) → (r ≡ Err NoMemory → ⊥) → or_form_fault r ≡ Err NoMemory → ⊥
 meant_named (Err fault) named h = named (cc)
-meant_named (Ok rows) named h = made_named (first_fault rows) (universe_from rows) (first_fault_named rows) h
+meant_named (Ok s) named h = made_named (first_fault s.types) (universe_from s.version s.types) (first_fault_named s.types) h
 
 -- a fault of a document is no want of memory
 pub universe_in_named : (bytes : List ℕ) → universe_in bytes ≡ Err NoMemory → ⊥
 universe_in_named bytes h = meant_named (rows_in bytes) (rows_named (json_of bytes)) h
 
-made_table : (rows : List TypeRow) (o : Option RowFault) (u : Universe) → first_fault rows ≡ o → or_row_fault (or_universe o (universe_from rows)) ≡ Ok u → IsTable u
-made_table rows None u is h = let same : universe_from rows ≡ u = cc in subst IsTable same (IsTable-universe_from rows is)
-made_table rows (Some fault) u is h = cc
+made_table : (s : Spelled) → IsOfVersion s.version s.types → (o : Option RowFault) (u : Universe) → first_fault s.types ≡ o → or_row_fault (or_universe o (universe_from s.version s.types)) ≡ Ok u → IsTable u
+made_table s fits None u is h = let same : universe_from s.version s.types ≡ u = cc in subst IsTable same (IsTable-universe_from s.version s.types fits is)
+made_table s fits (Some fault) u is h = cc
 
-meant_table : (r : Result (List TypeRow) UFault) (u : Universe) → or_form_fault r ≡ Ok u → IsTable u
-meant_table (Err fault) u h = cc
-meant_table (Ok rows) u h = made_table rows (first_fault rows) u refl h
+meant_table : (r : Result Spelled UFault) (u : Universe) → ((s : Spelled) → r ≡ Ok s → IsOfVersion s.version s.types) → or_form_fault r ≡ Ok u → IsTable u
+meant_table (Err fault) u fits h = cc
+meant_table (Ok s) u fits h = made_table s (fits s refl) (first_fault s.types) u refl h
 
 -- a universe that is read has what IsTable says
 pub universe_in_table : (bytes : List ℕ) (u : Universe) → universe_in bytes ≡ Ok u → IsTable u
-universe_in_table bytes u h = meant_table (rows_in bytes) u h
+universe_in_table bytes u h = meant_table (rows_in bytes) u (rows_in-of_version bytes) h

@@ -10,7 +10,7 @@ use std::alloc::{AllocError, AllocFailed};
 pub enum UFault {
     /// They are no JSON.
     NotJson,
-    /// The root is no object with `aeolus` 1 and a list `types`.
+    /// The root is no object with `aeolus` 1 or 2 and a list `types`.
     NotUniverse,
     /// The type is no object with a text `name`, a text `initial` and a list `states`.
     TypeForm(u32),
@@ -18,7 +18,8 @@ pub enum UFault {
     TypeName(u32),
     /// The type has the name of an earlier one, which comes second.
     TypeTwice(u32, u32),
-    /// The state, the second place, is no object with a text `name` and lists of texts.
+    /// The state, the second place, is no object with a text `name` and lists of texts, whose list `require` may in version 2
+    /// also have objects with a text `port` and a whole number `count`.
     StateForm(u32, u32),
     /// The state's name is no name.
     StateName(u32, u32),
@@ -30,6 +31,8 @@ pub enum UFault {
     UnknownNext(u32, u32, u32),
     /// The entry, counted through what the state provides and then through what it requires, is no name.
     PortName(u32, u32, u32),
+    /// The count of the entry, counted through what the state requires, is not 1 to 16.
+    Demand(u32, u32, u32),
     /// More are counted than the limit allows.
     Limit(LimitKind, u64),
     NoMemory,
@@ -48,6 +51,7 @@ impl UFault {
             RowFault::NoInitial(t) => UFault::NoInitial(t),
             RowFault::UnknownNext(t, s, k) => UFault::UnknownNext(t, s, k),
             RowFault::PortName(t, s, k) => UFault::PortName(t, s, k),
+            RowFault::Demand(t, s, k) => UFault::Demand(t, s, k),
             RowFault::Limit(kind, count) => UFault::Limit(kind, count),
             RowFault::NoMemory => UFault::NoMemory,
         }

@@ -1,19 +1,34 @@
 //! The rows that a universe document spells.
-ghost use Rattle.std.specs.Prelude.{◌≡◌, ◌<◌, ◌^◌, ◌↔◌, length, IsTrue, IfOk, option_map};
+ghost use Rattle.std.specs.Prelude.{◌≡◌, ◌<◌, ◌^◌, ◌↔◌, codes, length, IsTrue, IfOk, option_map};
 ghost use Rattle.metis_universe.specs.Texts.{texts};
 ghost use Rattle.serde_json.specs.Find.{get};
 ghost use Rattle.serde_json.specs.View.{view, items_view};
-ghost use Rattle.metis_ujson.specs.Document.{json_of, without_last_newline, texts_in, texts_or_none, text_at, list_at, state_in, states_from, type_in, types_from, is_version_one, rows_of, rows_in};
+ghost use Rattle.metis_ujson.specs.Document.{json_of, without_last_newline, texts_in, texts_or_none, text_at, number_at, list_at, need_in, need_object, needs_in, needs_or_none, state_in, states_from, type_in, types_from, version_in, rows_of, rows_in};
 ghost use Rattle.metis_ujson.specs.Reads.{Reads, ReadsJson};
 
 use crate::faults::UFault;
-use metis_universe::{StateRow, TypeRow};
+use metis_universe::{NeedRow, StateRow, TypeRow};
 use serde_json::{Category, Value};
 use std::alloc::{AllocError, Global};
+use std::marker::Model;
 
-/// The rows that the bytes spell.
-pub fn read_rows(alloc: Global, bytes: &[u8]) -> Result<Vec<TypeRow>, UFault>
-    ensures { Reads (λ rows. rows.items) result (rows_in bytes.now) }
+/// What a document spells: its version, and the rows of its types.
+pub struct Spelled {
+    pub version: u32,
+    pub types: Vec<TypeRow>,
+}
+
+impl Model for Spelled {
+    ghost use Rattle.metis_ujson.specs.Document as document;
+
+    ghost Value = { document.Spelled };
+
+    ghost view = { λ s. record { version = s.version; types = s.types.items } };
+}
+
+/// The version and the rows that the bytes spell.
+pub fn read_rows(alloc: Global, bytes: &[u8]) -> Result<Spelled, UFault>
+    ensures { Reads (λ s. s) result (rows_in bytes.now) }
 {
     let root = read_json(alloc, strip_newline(bytes))?;
     read_types(alloc, &root)
@@ -41,13 +56,22 @@ fn read_json(alloc: Global, text: &[u8]) -> Result<Value, UFault>
     }
 }
 
-// Whether `aeolus` is the whole number 1.
-fn is_version_one(root: &Value) -> bool
-    ensures { result ≡ is_version_one (view root.now) }
+// The version, where `aeolus` is the whole number 1 or 2.
+fn version_in(root: &Value) -> Option<u32>
+    ensures { result ≡ version_in (view root.now) }
 {
-    match root.get("aeolus") {
-        Some(version) => version.as_u64() == Some(1),
-        None => false,
+    match number_at(root, "aeolus") {
+        Some(version) if version == 1 || version == 2 => Some(version as u32),
+        _ => None,
+    }
+}
+
+fn number_at(value: &Value, key: &str) -> Option<u64>
+    ensures { result ≡ number_at key.now (view value.now) }
+{
+    match value.get(key) {
+        Some(number) => number.as_u64(),
+        None => None,
     }
 }
 
@@ -69,16 +93,14 @@ fn list_at<'a>(value: &'a Value, key: &str) -> Option<&'a Vec<Value>>
     }
 }
 
-fn read_types(alloc: Global, root: &Value) -> Result<Vec<TypeRow>, UFault>
-    ensures { Reads (λ rows. rows.items) result (rows_of (view root.now)) }
+fn read_types(alloc: Global, root: &Value) -> Result<Spelled, UFault>
+    ensures { Reads (λ s. s) result (rows_of (view root.now)) }
 {
-    if !is_version_one(root) {
+    let (Some(version), Some(types)) = (version_in(root), list_at(root, "types")) else {
         return Err(UFault::NotUniverse);
-    }
-    match list_at(root, "types") {
-        Some(types) => read_type_list(alloc, types),
-        None => Err(UFault::NotUniverse),
-    }
+    };
+    let types = read_type_list(alloc, version, types)?;
+    Ok(Spelled { version, types })
 }
 
 // Whether each place of the list has a number. No list that memory holds is longer.
@@ -88,22 +110,31 @@ fn can_count(values: &[Value]) -> bool
     (values.len() as u64) < 1 << 32
 }
 
-fn read_type_list(alloc: Global, types: &[Value]) -> Result<Vec<TypeRow>, UFault>
-    ensures { Reads (λ rows. rows.items) result (types_from 0 (items_view types.now)) }
+fn read_type_list(
+    alloc: Global,
+    version: u32,
+    types: &[Value],
+) -> Result<Vec<TypeRow>, UFault>
+    ensures { Reads (λ rows. rows.items) result (types_from version 0 (items_view types.now)) }
 {
     if !can_count(types) {
         return Err(UFault::NoMemory);
     }
     let mut rows = Vec::new(alloc);
     for (place, value) in types.iter().enumerate() {
-        let row = read_type(alloc, place as u32, value)?;
+        let row = read_type(alloc, version, place as u32, value)?;
         rows.push(row)?;
     }
     Ok(rows)
 }
 
-fn read_type(alloc: Global, place: u32, value: &Value) -> Result<TypeRow, UFault>
-    ensures { Reads (λ row. row) result (type_in place (view value.now)) }
+fn read_type(
+    alloc: Global,
+    version: u32,
+    place: u32,
+    value: &Value,
+) -> Result<TypeRow, UFault>
+    ensures { Reads (λ row. row) result (type_in version place (view value.now)) }
 {
     let (Some(name), Some(initial), Some(states)) = (
         text_at(value, "name"),
@@ -112,7 +143,7 @@ fn read_type(alloc: Global, place: u32, value: &Value) -> Result<TypeRow, UFault
     ) else {
         return Err(UFault::TypeForm(place));
     };
-    let states = read_state_list(alloc, place, states)?;
+    let states = read_state_list(alloc, version, place, states)?;
     Ok(TypeRow {
         name: String::from_str(alloc, name)?,
         initial: String::from_str(alloc, initial)?,
@@ -120,15 +151,20 @@ fn read_type(alloc: Global, place: u32, value: &Value) -> Result<TypeRow, UFault
     })
 }
 
-fn read_state_list(alloc: Global, kind: u32, states: &[Value]) -> Result<Vec<StateRow>, UFault>
-    ensures { Reads (λ rows. rows.items) result (states_from kind 0 (items_view states.now)) }
+fn read_state_list(
+    alloc: Global,
+    version: u32,
+    kind: u32,
+    states: &[Value],
+) -> Result<Vec<StateRow>, UFault>
+    ensures { Reads (λ rows. rows.items) result (states_from version kind 0 (items_view states.now)) }
 {
     if !can_count(states) {
         return Err(UFault::NoMemory);
     }
     let mut rows = Vec::new(alloc);
     for (place, value) in states.iter().enumerate() {
-        match read_state(alloc, value)? {
+        match read_state(alloc, version, value)? {
             Some(row) => rows.push(row)?,
             None => return Err(UFault::StateForm(kind, place as u32)),
         }
@@ -136,8 +172,12 @@ fn read_state_list(alloc: Global, kind: u32, states: &[Value]) -> Result<Vec<Sta
     Ok(rows)
 }
 
-fn read_state(alloc: Global, value: &Value) -> Result<Option<StateRow>, AllocError>
-    ensures { IfOk result (λ row. row ≡ state_in (view value.now)) }
+fn read_state(
+    alloc: Global,
+    version: u32,
+    value: &Value,
+) -> Result<Option<StateRow>, AllocError>
+    ensures { IfOk result (λ row. row ≡ state_in version (view value.now)) }
 {
     let Some(name) = text_at(value, "name") else {
         return Ok(None);
@@ -145,7 +185,7 @@ fn read_state(alloc: Global, value: &Value) -> Result<Option<StateRow>, AllocErr
     let Some(provide) = read_texts_at(alloc, value, "provide")? else {
         return Ok(None);
     };
-    let Some(require) = read_texts_at(alloc, value, "require")? else {
+    let Some(require) = read_needs_at(alloc, version, value)? else {
         return Ok(None);
     };
     let Some(next) = read_texts_at(alloc, value, "next")? else {
@@ -183,4 +223,71 @@ fn read_texts(alloc: Global, items: &[Value]) -> Result<Option<Vec<String>>, All
         }
     }
     Ok(Some(list))
+}
+
+// The entries of the list `require`, none where there is no such key.
+fn read_needs_at(
+    alloc: Global,
+    version: u32,
+    value: &Value,
+) -> Result<Option<Vec<NeedRow>>, AllocError>
+    ensures { IfOk result (λ list. option_map (λ v. v.items) list ≡ needs_or_none version (get (codes "require") (view value.now))) }
+{
+    match value.get("require") {
+        Some(list) => match list.as_array() {
+            Some(items) => read_needs(alloc, version, items),
+            None => Ok(None),
+        },
+        None => Ok(Some(Vec::new(alloc))),
+    }
+}
+
+fn read_needs(
+    alloc: Global,
+    version: u32,
+    items: &[Value],
+) -> Result<Option<Vec<NeedRow>>, AllocError>
+    ensures { IfOk result (λ list. option_map (λ v. v.items) list ≡ needs_in version (items_view items.now)) }
+{
+    let mut list = Vec::with_capacity(alloc, items.len())?;
+    for item in items {
+        match read_need(alloc, version, item)? {
+            Some(need) => list.push(need)?,
+            None => return Ok(None),
+        }
+    }
+    Ok(Some(list))
+}
+
+// An entry of required ports: a text, or in version 2 also an object.
+fn read_need(
+    alloc: Global,
+    version: u32,
+    item: &Value,
+) -> Result<Option<NeedRow>, AllocError>
+    ensures { IfOk result (λ need. need ≡ need_in version (view item.now)) }
+{
+    match item.as_str() {
+        Some(port) => Ok(Some(need_of(alloc, port, 1)?)),
+        None if version == 2 => read_need_object(alloc, item),
+        None => Ok(None),
+    }
+}
+
+fn read_need_object(alloc: Global, item: &Value) -> Result<Option<NeedRow>, AllocError>
+    ensures { IfOk result (λ need. need ≡ need_object 2 (view item.now)) }
+{
+    let (Some(port), Some(count)) = (text_at(item, "port"), number_at(item, "count")) else {
+        return Ok(None);
+    };
+    Ok(Some(need_of(alloc, port, count)?))
+}
+
+fn need_of(alloc: Global, port: &str, count: u64) -> Result<NeedRow, AllocError>
+    ensures { IfOk result (λ need. need ≡ record { port = port.now; count = count }) }
+{
+    Ok(NeedRow {
+        port: String::from_str(alloc, port)?,
+        count,
+    })
 }

@@ -1,6 +1,7 @@
 //! The universe that a document means.
 ghost use Rattle.metis_ujson.specs.Document.{rows_made, universe_in};
 ghost use Rattle.metis_ujson.specs.Reads.{Reads};
+ghost use Rattle.metis_universe.specs.Rows.{IsOfVersion};
 
 use crate::faults::UFault;
 use crate::forms::read_rows;
@@ -14,18 +15,19 @@ pub const UNIVERSE_LIMIT: u64 = 4_194_304;
 pub fn read_universe(alloc: Global, bytes: &[u8]) -> Result<Universe, UFault>
     ensures { Reads (λ u. u) result (universe_in bytes.now) }
 {
-    let rows = read_rows(alloc, bytes)?;
-    made(alloc, rows)
+    let spelled = read_rows(alloc, bytes)?;
+    made(alloc, spelled.version, spelled.types)
 }
 
 // The universe of the rows. Rows that could not be numbered are more than memory holds.
-fn made(alloc: Global, rows: Vec<TypeRow>) -> Result<Universe, UFault>
-    ensures { Reads (λ u. u) result (rows_made rows.items) }
+fn made(alloc: Global, version: u32, types: Vec<TypeRow>) -> Result<Universe, UFault>
+    requires { IsOfVersion version types.items }
+    ensures { Reads (λ u. u) result (rows_made (record { version = version; types = types.items })) }
 {
-    if !rows_fit(&rows) {
+    if !rows_fit(&types) {
         return Err(UFault::NoMemory);
     }
-    match Universe::new(alloc, rows) {
+    match Universe::new(alloc, version, types) {
         Ok(universe) => Ok(universe),
         Err(fault) => Err(UFault::of_row(fault)),
     }

@@ -3,8 +3,8 @@ ghost use Rattle.std.specs.Prelude.{◌≡◌, ◌<◌, map, IfOk};
 ghost use Rattle.std.specs.List.{All};
 ghost use Rattle.serde_json.specs.Data.{string};
 ghost use Rattle.serde_json.specs.View.{view};
-ghost use Rattle.metis_universe.specs.Universe.{pair_at, pair_count, type_count, port_count, port_name_of, state_name_of, states_of_type};
-ghost use Rattle.metis_ujson.specs.Canonical.{state_row, type_row, rows_of_universe, list_of, state_value, type_value, document_of};
+ghost use Rattle.metis_universe.specs.Universe.{pair_at, pair_count, type_count, port_count, port_name_of, required_of, state_name_of, states_of_type};
+ghost use Rattle.metis_ujson.specs.Canonical.{need_row, state_row, type_row, rows_of_universe, list_of, need_value, state_value, type_value, document_of};
 
 use metis_ids::{PairIx, PortIx, TypeIx};
 use metis_universe::Universe;
@@ -13,10 +13,10 @@ use std::alloc::{AllocError, Global};
 
 /// The whole document.
 pub fn document_of(alloc: Global, u: &Universe) -> Result<Value, AllocError>
-    ensures { IfOk result (λ v. view v ≡ document_of (rows_of_universe u.now)) }
+    ensures { IfOk result (λ v. view v ≡ document_of u.now.version (rows_of_universe u.now)) }
 {
     let types = type_list(alloc, u)?;
-    json!(in alloc; {"aeolus": 1u64, "types": types})
+    json!(in alloc; {"aeolus": u64::from(u.version()), "types": types})
 }
 
 fn type_list(alloc: Global, u: &Universe) -> Result<Value, AllocError>
@@ -59,7 +59,7 @@ fn state_value(alloc: Global, u: &Universe, p: PairIx) -> Result<Value, AllocErr
         "name": u.state_name(p),
         "next": state_names(alloc, u, u.next(p))?,
         "provide": port_names(alloc, u, u.provided(p))?,
-        "require": port_names(alloc, u, u.requires_(p))?
+        "require": need_list(alloc, u, p)?
     })
 }
 
@@ -83,4 +83,26 @@ fn port_names(alloc: Global, u: &Universe, ports: &[PortIx]) -> Result<Value, Al
         names.push(Value::try_from_str(alloc, u.port_name(*port))?)?;
     }
     Ok(Value::Array(names))
+}
+
+// An entry for each port that the pair requires.
+fn need_list(alloc: Global, u: &Universe, p: PairIx) -> Result<Value, AllocError>
+    requires { p < pair_count u.now }
+    ensures { IfOk result (λ v. view v ≡ list_of need_value (map (need_row u.now (pair_at u.now p)) (required_of u.now p))) }
+{
+    let mut needs = Vec::new(alloc);
+    for port in u.requires_(p) {
+        needs.push(need_value(alloc, u.port_name(*port), u.demand(p, *port))?)?;
+    }
+    Ok(Value::Array(needs))
+}
+
+// The port's name where it asks for one provider, else an object.
+fn need_value(alloc: Global, port: &str, count: u32) -> Result<Value, AllocError>
+    ensures { IfOk result (λ v. view v ≡ need_value (record { port = port.now; count = count })) }
+{
+    if count == 1 {
+        return Value::try_from_str(alloc, port);
+    }
+    json!(in alloc; {"count": u64::from(count), "port": port})
 }

@@ -161,7 +161,7 @@ module _ (version : ℕ) where
       ]
 
   IsUniverse-universe_from : (rows : List TypeRow) → IsOfVersion version rows → IsClear rows → IsUniverse (universe_from version rows)
-  IsUniverse-universe_from version rows clear = record {
+  IsUniverse-universe_from rows fits clear = record {
     by_type = nondecreasing rows;
     types = λ p h. let at = place rows p h in omega (arith, type_at_place rows p at, at.within, length-kinds_from 0 rows);
     initials = λ t h.
@@ -306,10 +306,10 @@ module _ (version : ℕ) where
   }
 
   pub IsTable-universe_from : (rows : List TypeRow) → IsOfVersion version rows → first_fault rows ≡ None → IsTable (universe_from version rows)
-  IsTable-universe_from version rows none =
+  IsTable-universe_from rows fits none =
       let clear = IsClear-from_first_fault rows none in
-      let named = IsNamed-universe_from version rows clear in
-      record { universe = IsUniverse-universe_from version rows clear; named = named; limits = IsWithinLimits-universe_from version rows clear; sights = IsBySight-universe_from version rows named.ports_apart }
+      let named = IsNamed-universe_from rows clear in
+      record { universe = IsUniverse-universe_from rows fits clear; named = named; limits = IsWithinLimits-universe_from rows clear; sights = IsBySight-universe_from version rows named.ports_apart }
 
 -- ---- while the tables are made
 

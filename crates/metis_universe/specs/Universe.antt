@@ -5,7 +5,7 @@
 --     initial_of u t, is_initial u p      the initial pair of a type;  whether p is one
 --     provides, requires      whether the pair p has port r among its provided, or its required, ports
 --     greatest_demand u      the largest demand of any pair, and 1 where none requires a port
---     demand_of u p r      how many different providers the pair p needs of port r, 0 where it does not require the port
+--     demand_in p r, demand_of u p r      how many different providers the pair p needs of port r, 0 where it does not require the port
 --     type_provides, type_requires      whether some pair of the type does
 --     is_free u p      whether p is initial and requires nothing
 --     has xs n      whether n is in the list
@@ -106,8 +106,11 @@ abbrev pub requires : Universe → ℕ → ℕ → Bool
 requires u p r = has (required_of u p) r
 
 -- one, and as many more as the list has at the port's place
+abbrev pub demand_in : Pair → ℕ → ℕ
+demand_in p r = if has p.required r then 1 + slice_index_or p.further (position_or_len (λ s. s == r) p.required) 0 else 0
+
 abbrev pub demand_of : Universe → ℕ → ℕ → ℕ
-demand_of u p r = if requires u p r then 1 + slice_index_or (further_of u p) (position_or_len (λ s. s == r) (required_of u p)) 0 else 0
+demand_of u p r = demand_in (pair_at u p) r
 
 abbrev pub greatest_demand : Universe → ℕ
 greatest_demand u = 1 + fold (λ most p. fold max most p.further) 0 u.pairs
