@@ -28,6 +28,7 @@ pairs_ask_for_more held = let two : 2 ≤ 1 = held 1 in omega (arith, two)
 -- A: a0 > a1 > a2(+r), B: b0 > b1(+r): the pair a2 has the lower number, and b1 the lower layer
 abbrev two_providers : Universe
 two_providers = record {
+  version = 1;
   kinds = kind 0 ∷ kind 3 ∷ [];
   pairs = pair 0 [] [] (1 ∷ []) ∷ pair 0 [] [] (2 ∷ []) ∷ pair 0 (0 ∷ []) [] [] ∷ pair 1 [] [] (4 ∷ []) ∷ pair 1 (0 ∷ []) [] [] ∷ [];
   ports = (114 ∷ []) ∷ [];
@@ -41,7 +42,7 @@ lower_layer = (refl, (refl, tt))
 
 -- Y: y0 > y1(+p -p), which needs another one to be there first: the first goal that is lacking is told, be it a pair or a port
 abbrev alone : Universe
-alone = record { kinds = kind 0 ∷ []; pairs = pair 0 [] [] (1 ∷ []) ∷ pair 0 (0 ∷ []) (0 ∷ []) [] ∷ []; ports = (112 ∷ []) ∷ [] }
+alone = record { version = 1; kinds = kind 0 ∷ []; pairs = pair 0 [] [] (1 ∷ []) ∷ pair 0 (0 ∷ []) (0 ∷ []) [] ∷ []; ports = (112 ∷ []) ∷ [] }
 
 alone_attained : attained_pairs alone ≡ 0 ∷ []
 alone_attained = refl

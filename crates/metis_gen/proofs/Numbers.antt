@@ -1,11 +1,11 @@
 -- The numbers of the tables are those of a universe.
-use Rattle.std.proofs.Common.{◌≡◌, ℕ, suc, zero, ◌+◌, ◌*◌, ◌/◌, ◌<◌, List, [], ◌∷◌, get_or, ap, sym, ◌∙◌, subst, arith}
+use Rattle.std.proofs.Common.{◌≡◌, ℕ, suc, zero, ◌+◌, ◌*◌, ◌/◌, ◌<◌, List, [], ◌∷◌, length, get_or, inl, refl, ap, sym, ◌∙◌, subst, arith}
 use Rattle.std.specs.List.{All}
 use Rattle.std.specs.List.Sorted.{IsNonDecreasingBy, IsStrictlyIncreasing}
 use Rattle.std.proofs.lemmas.List.{get_or_default}
 use Rattle.std.proofs.lemmas.List.Elements.{All-from_recursion}
-use Rattle.metis_universe.specs.Universe.{Pair, no_kind, no_pair, type_of, pair_count, initial_of, provided_of, required_of, next_of, IsUniverse}
-use Rattle.metis_gen.specs.Tables.{kinds_at, pairs_at, earlier_z_number, tables}
+use Rattle.metis_universe.specs.Universe.{Pair, no_kind, no_pair, pair_at, type_of, pair_count, initial_of, provided_of, required_of, next_of, IsUniverse}
+use Rattle.metis_gen.specs.Tables.{kinds_at, pair_row, pairs_at, earlier_z_number, tables}
 use Rattle.metis_gen.proofs.Places.{types_counted, pairs_counted, ports_counted, each_of_two, each_of_eight, each_kind, each_pair}
 
 -- ---- lists of at most one number
@@ -56,6 +56,26 @@ required_part n = each_pair n (λ p row. IsPart (3 * n) row.required) (λ i k li
     (none_part (3 * n)) (earlier_part n i li) (one_part (3 * n) (3 * i + 1) (omega arith)) (none_part (3 * n))
     (none_part (3 * n)) (none_part (3 * n)) (one_part (3 * n) (3 * i) (omega arith)) (none_part (3 * n)) k)
 
+-- ---- demands
+
+abbrev OneOfEach : Pair → Type 0
+OneOfEach p = (length p.further ≡ length p.required) × All (λ n. n ≡ 0) p.further
+
+none_of_none : (kind : ℕ) (state provided next : List ℕ) → OneOfEach (pair_row kind state provided [] next)
+none_of_none kind state provided next = (refl, none_all (λ n. n ≡ 0))
+
+one_of_one : (kind : ℕ) (state provided next : List ℕ) (r : ℕ) → OneOfEach (pair_row kind state provided (r ∷ []) next)
+one_of_one kind state provided next r = (refl, one_all (λ n. n ≡ 0) 0 refl)
+
+earlier_one : (i kind : ℕ) (state provided next : List ℕ) → OneOfEach (pair_row kind state provided (earlier_z_number i) next)
+earlier_one zero kind state provided next = none_of_none kind state provided next
+earlier_one (suc h) kind state provided next = one_of_one kind state provided next (3 * h + 2)
+
+one_of_each : (n p : ℕ) → p < 8 * n → OneOfEach (pair_at (tables n) p)
+one_of_each n = each_pair n (λ p row. OneOfEach row) (λ i k li. each_of_eight (λ k. OneOfEach (get_or (pairs_at i) k no_pair))
+    (none_of_none _ _ _ _) (earlier_one i _ _ _ _) (one_of_one _ _ _ _ _) (none_of_none _ _ _ _)
+    (none_of_none _ _ _ _) (none_of_none _ _ _ _) (one_of_one _ _ _ _ _) (none_of_none _ _ _ _) k)
+
 -- ---- next pairs
 
 abbrev Leads : ℕ → ℕ → List ℕ → Type 0
@@ -93,8 +113,17 @@ by_type n i j d le l =
     let second : (get_or pairs j d).kind ≡ j / 4 = ap (λ (p : Pair). p.kind) (get_or_default pairs j d no_pair l) ∙ type_is n j lj in
     omega arith
 
+version_is : (n : ℕ) → (tables n).version ≡ 1
+unfolding tables
+version_is n = refl
+
 pub tables_universe : (n : ℕ) → IsUniverse (tables n)
 tables_universe n = record {
+  version = inl (version_is n);
+  single = λ _ p l. (one_of_each n p (omega (arith, pairs_counted n))).1;
+  demands = λ p l.
+      let one = one_of_each n p (omega (arith, pairs_counted n)) in
+      (one.0, λ k d m. let none = one.1 k d m in omega arith);
   by_type = by_type n;
   types = λ p l. let w : p < 8 * n = omega (arith, pairs_counted n) in omega (arith, type_is n p w, types_counted n);
   initials = λ t l.

@@ -4,7 +4,7 @@ use Rattle.std.specs.List.{flat_map, filter, range_with_len, AllByRecursion}
 use Rattle.std.proofs.lemmas.Bool.{cases_lt, eq-eqb}
 use Rattle.std.proofs.lemmas.Bool.Decides.{nat_tests}
 use Rattle.std.proofs.lemmas.List.Elements.{filter-append}
-use Rattle.metis_universe.specs.Universe.{Pair, states_of_type, IsWithinLimits}
+use Rattle.metis_universe.specs.Universe.{Pair, demand_total, states_of_type, IsWithinLimits}
 use Rattle.metis_gen.specs.Tables.{left_pairs, right_pairs, pairs_at, tables}
 use Rattle.metis_gen.proofs.Places.{types_counted, pairs_counted, ports_counted}
 
@@ -93,7 +93,7 @@ none_of_type n t l = earlier_places t 0 n (omega arith)
 
 -- a type's pairs are four, or none where there is no such type, and they require few ports
 abbrev Few : List Pair → Type 0
-Few ps = (length ps ≤ 4) × (sum_by (λ p. length p.required) ps ≤ 2)
+Few ps = (length ps ≤ 4) × (sum_by demand_total ps ≤ 2)
 
 left_few : (i : ℕ) → Few (left_pairs i)
 left_few zero = (omega arith, omega arith)

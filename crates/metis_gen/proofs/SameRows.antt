@@ -1,18 +1,20 @@
 -- The generated rows are those that spell the tables, and so they have no fault and stand for them.
-use Rattle.std.proofs.Common.{◌≡◌, ℕ, suc, zero, ◌+◌, ◌*◌, ◌/◌, ◌%◌, ◌<◌, ◌≤◌, List, [], ◌∷◌, length, map, get_or, None, Ok, refl, ap, sym, ◌∙◌, subst, zero-add, arith}
+use Rattle.std.proofs.Common.{◌≡◌, ℕ, suc, zero, ◌+◌, ◌*◌, ◌/◌, ◌%◌, ◌<◌, ◌≤◌, ◌||◌, Bool, true, false, not, cond, nat_eq, inl, List, [], ◌∷◌, length, map, get_or, None, Ok, refl, ap, sym, ◌∙◌, subst, zero-add, arith}
 use Rattle.std.specs.Prelude.{codes}
-use Rattle.std.specs.List.{range_with_len}
+use Rattle.std.specs.List.{All, AllByRecursion, range_with_len, slice_index_or}
+use Rattle.std.proofs.lemmas.Bool.{eq-eqb}
 use Rattle.std.proofs.lemmas.List.Elements.{All-from_recursion}
 use Rattle.std.proofs.lemmas.List.FromFn.{fill_by_all}
-use Rattle.metis_universe.specs.RowShapes.{StateRow, TypeRow}
-use Rattle.metis_universe.specs.Rows.{first_fault, universe_from, or_universe, meaning_of, RowsFit, TypeFits, StateFits}
-use Rattle.metis_universe.specs.Universe.{Kind, Pair, no_pair, type_count, initial_of, state_name_of, port_name_of, states_of_type, IsTable}
+use Rattle.metis_universe.specs.RowShapes.{NeedRow, StateRow, TypeRow}
+use Rattle.metis_universe.specs.Rows.{IsOfVersion, first_fault, universe_from, or_universe, meaning_of, RowsFit, TypeFits, StateFits}
+use Rattle.metis_universe.specs.Universe.{Kind, Pair, demand_in, no_pair, type_count, initial_of, state_name_of, port_name_of, states_of_type, IsTable}
 use Rattle.metis_universe.proofs.FirstSights.{flat_map_each}
-use Rattle.metis_ujson.specs.Canonical.{state_row, type_row, rows_of_universe}
+use Rattle.metis_ujson.specs.Canonical.{need_row, state_row, type_row, rows_of_universe}
 use Rattle.metis_ujson.proofs.Clear.{no_fault}
 use Rattle.metis_ujson.proofs.Rebuilt.{rebuilt}
-use Rattle.metis_gen.specs.Generated.{earlier_z, x_port, y_port, z_port, left_row, right_row, rows_at, generated_rows, generated}
-use Rattle.metis_gen.specs.Tables.{pairs_at, left_pairs, right_pairs, earlier_z_number, tables}
+use Rattle.metis_gen.specs.Generated.{earlier_z, one_of, x_port, y_port, z_port, left_row, right_row, rows_at, generated_rows, generated}
+use Rattle.metis_gen.specs.Tables.{pair_row, pairs_at, left_pairs, right_pairs, earlier_z_number, tables}
+use Rattle.metis_gen.specs.Generated as gen
 use Rattle.metis_gen.proofs.BySight.{tables_by_sight}
 use Rattle.metis_gen.proofs.Named.{tables_named}
 use Rattle.metis_gen.proofs.Numbers.{tables_universe}
@@ -43,11 +45,19 @@ module _ (n i : ℕ) (l : i < n) where
   state_in : (k : ℕ) → k < 8 → state_name_of (tables n) (8 * i + k) ≡ (get_or (pairs_at i) k no_pair).state
   state_in k lk = ap (λ (p : Pair). p.state) (pair_in n i k l lk)
 
-earlier_name : (n i : ℕ) → i < n → map (port_name_of (tables n)) (earlier_z_number i) ≡ earlier_z i
-earlier_name n zero l = refl
-earlier_name n (suc h) l = ap (λ name. name ∷ []) (z_name n h (omega arith))
+-- a pair that requires one port demands one provider of it
+one_demanded : (n k r : ℕ) (state provided next name : List ℕ) → port_name_of (tables n) r ≡ name → map (need_row (tables n) (pair_row k state provided (r ∷ []) next)) (r ∷ []) ≡ map one_of (name ∷ [])
+one_demanded n k r state provided next name is =
+    let test : nat_eq r r ≡ true = eq-eqb r r refl in
+    let more = λ (b : Bool). 1 + slice_index_or (0 ∷ []) (cond (not b) (1 + 0) 0) 0 in
+    let one : demand_in (pair_row k state provided (r ∷ []) next) r ≡ 1 = (λ i. cond (test i || false) (more (test i)) 0) in
+    (λ i. record { port = is i; count = one i } ∷ [])
 
-abbrev spelled : List ℕ → List (List ℕ) → List (List ℕ) → List (List ℕ) → StateRow
+earlier_demanded : (n i k : ℕ) (state provided next : List ℕ) → i < n → map (need_row (tables n) (pair_row k state provided (earlier_z_number i) next)) (earlier_z_number i) ≡ map one_of (earlier_z i)
+earlier_demanded n zero k state provided next l = refl
+earlier_demanded n (suc h) k state provided next l = one_demanded n k (3 * h + 2) state provided next (z_port h) (z_name n h (omega arith))
+
+abbrev spelled : List ℕ → List (List ℕ) → List NeedRow → List (List ℕ) → StateRow
 spelled name provide require next = record { name = name; provide = provide; require = require; next = next }
 
 -- what the tables name, place by place
@@ -64,8 +74,8 @@ module _ (n i : ℕ) (l : i < n) where
   left_states : map (state_row (tables n)) (left_pairs i) ≡ (left_row i).states
   left_states = λ j.
       spelled (codes "a0") [] [] (next_in 1 (omega arith) j)
-      ∷ spelled (codes "a1") (x_name n i l j ∷ []) (earlier_name n i l j) (next_in 2 (omega arith) j)
-      ∷ spelled (codes "a2") [] (y_name n i l j ∷ []) (next_in 3 (omega arith) j)
+      ∷ spelled (codes "a1") (x_name n i l j ∷ []) (earlier_demanded n i (2 * i) (codes "a1") ((3 * i) ∷ []) ((8 * i + 2) ∷ []) l j) (next_in 2 (omega arith) j)
+      ∷ spelled (codes "a2") [] (one_demanded n (2 * i) (3 * i + 1) (codes "a2") [] ((8 * i + 3) ∷ []) (y_port i) (y_name n i l) j) (next_in 3 (omega arith) j)
       ∷ spelled (codes "a3") [] [] []
       ∷ []
 
@@ -73,7 +83,7 @@ module _ (n i : ℕ) (l : i < n) where
   right_states = λ j.
       spelled (codes "b0") [] [] (next_in 5 (omega arith) j)
       ∷ spelled (codes "b1") (y_name n i l j ∷ []) [] (next_in 6 (omega arith) j)
-      ∷ spelled (codes "b2") [] (x_name n i l j ∷ []) (next_in 7 (omega arith) j)
+      ∷ spelled (codes "b2") [] (one_demanded n (2 * i + 1) (3 * i) (codes "b2") [] ((8 * i + 7) ∷ []) (x_port i) (x_name n i l) j) (next_in 7 (omega arith) j)
       ∷ spelled (codes "b3") (z_name n i l j ∷ []) [] []
       ∷ []
 
@@ -133,21 +143,45 @@ rows_without_fault n most =
     ap first_fault (rows_same n) ∙ no_fault (tables n) t.universe t.named t.limits t.sights
 
 pub generated_tables : (n : ℕ) → n ≤ 250 → generated n ≡ tables n
-unfolding generated
+unfolding generated tables
 generated_tables n most =
     let t = tables_are_a_table n most in
-    ap universe_from (rows_same n) ∙ rebuilt (tables n) t.universe t.named t.sights
+    ap (universe_from 1) (rows_same n) ∙ rebuilt (tables n) t.universe t.named t.sights
 
-pub rows_mean : (n : ℕ) → n ≤ 250 → meaning_of (generated_rows n) ≡ Ok (generated n)
-unfolding generated
-rows_mean n most = ap (λ o. or_universe o (universe_from (generated_rows n))) (rows_without_fault n most)
+pub rows_mean : (n : ℕ) → n ≤ 250 → meaning_of 1 (generated_rows n) ≡ Ok (generated n)
+unfolding generated tables
+rows_mean n most = ap (λ o. or_universe o (universe_from 1 (generated_rows n))) (rows_without_fault n most)
+
+-- ---- each port is required of one provider
+
+ones : (names : List (List ℕ)) → AllByRecursion (λ n. n.count ≡ 1) (map one_of names)
+ones [] = tt
+ones (name ∷ names) = (refl, ones names)
+
+abbrev OneEach : StateRow → Type 0
+OneEach state = All (λ n. n.count ≡ 1) state.require
+
+one_each : (name : List ℕ) (provide require next : List (List ℕ)) → OneEach (gen.state_row name provide require next)
+one_each name provide require next = All-from_recursion (λ (n : NeedRow). n.count ≡ 1) (map one_of require) (ones require)
+
+pub rows_of_version : (n : ℕ) → IsOfVersion 1 (generated_rows n)
+unfolding generated_rows
+rows_of_version n = record {
+  version = inl refl;
+  single = λ _. All-from_recursion (λ row. All OneEach row.states) (generated_rows n) (flat_map_each (λ row. All OneEach row.states) rows_at (range_with_len 0 n) (λ k d l. let i = get_or (range_with_len 0 n) k d in (left i, (right i, tt))));
+} where
+  left : (i : ℕ) → All OneEach (left_row i).states
+  left i = All-from_recursion OneEach (left_row i).states (one_each _ _ [] _, (one_each _ _ (earlier_z i) _, (one_each _ _ (y_port i ∷ []) _, (one_each _ _ [] _, tt))))
+
+  right : (i : ℕ) → All OneEach (right_row i).states
+  right i = All-from_recursion OneEach (right_row i).states (one_each _ _ [] _, (one_each _ _ [] _, (one_each _ _ (x_port i ∷ []) _, (one_each _ _ [] _, tt))))
 
 -- ---- no list of theirs is long
 
 short_state : (row : StateRow) → length row.provide ≤ 1 → length row.require ≤ 1 → length row.next ≤ 1 → StateFits row
 short_state row a b c = record { provide = omega arith; require = omega arith; next = omega arith }
 
-earlier_short : (i : ℕ) → length (earlier_z i) ≤ 1
+earlier_short : (i : ℕ) → length (map one_of (earlier_z i)) ≤ 1
 earlier_short zero = omega arith
 earlier_short (suc h) = omega arith
 

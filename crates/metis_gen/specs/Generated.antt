@@ -6,9 +6,9 @@
 --     generated_rows n      all types, place after place
 --     generated n      the universe that they stand for
 --     generated_targets n      the last pairs of all types: of place i they are the pairs 8 i + 3 and 8 i + 7
-use Rattle.std.specs.Prelude.{ℕ, suc, zero, ◌+◌, ◌*◌, ◌/◌, ◌%◌, List, [], ◌∷◌, ◌++◌, codes}
+use Rattle.std.specs.Prelude.{ℕ, suc, zero, ◌+◌, ◌*◌, ◌/◌, ◌%◌, List, [], ◌∷◌, ◌++◌, map, codes}
 use Rattle.std.specs.List.{flat_map, range_with_len}
-use Rattle.metis_universe.specs.RowShapes.{StateRow, TypeRow}
+use Rattle.metis_universe.specs.RowShapes.{NeedRow, StateRow, TypeRow}
 use Rattle.metis_universe.specs.Rows.{universe_from}
 use Rattle.metis_universe.specs.Universe.{Universe}
 
@@ -34,8 +34,12 @@ earlier_z (suc h) = z_port h ∷ []
 
 -- ---- types
 
+-- one provider of the port is asked for
+abbrev pub one_of : List ℕ → NeedRow
+one_of port = record { port = port; count = 1 }
+
 abbrev pub state_row : List ℕ → List (List ℕ) → List (List ℕ) → List (List ℕ) → StateRow
-state_row name provide require next = record { name = name; provide = provide; require = require; next = next }
+state_row name provide require next = record { name = name; provide = provide; require = map one_of require; next = next }
 
 abbrev pub left_row : ℕ → TypeRow
 left_row i = record {
@@ -68,7 +72,7 @@ unfoldable pub generated_rows : ℕ → List TypeRow
 generated_rows n = flat_map rows_at (range_with_len 0 n)
 
 unfoldable pub generated : ℕ → Universe
-generated n = universe_from (generated_rows n)
+generated n = universe_from 1 (generated_rows n)
 
 -- ---- targets
 

@@ -2,7 +2,7 @@
 -- x, y and z as 3 i, 3 i + 1 and 3 i + 2.
 --     kinds_at i, pairs_at i, ports_at i      what place i has of each
 --     tables n      the universe of all places below n
-use Rattle.std.specs.Prelude.{ℕ, suc, zero, ◌+◌, ◌*◌, List, [], ◌∷◌, ◌++◌, codes}
+use Rattle.std.specs.Prelude.{ℕ, suc, zero, ◌+◌, ◌*◌, List, [], ◌∷◌, ◌++◌, map, codes}
 use Rattle.std.specs.List.{flat_map, range_with_len}
 use Rattle.metis_universe.specs.Universe.{Universe, Kind, Pair, universe_of}
 use Rattle.metis_gen.specs.Generated.{three_digits, x_port, y_port, z_port}
@@ -17,7 +17,7 @@ abbrev pub kinds_at : ℕ → List Kind
 kinds_at i = kind_row (codes "left" ++ three_digits i) (8 * i) ∷ kind_row (codes "right" ++ three_digits i) (8 * i + 4) ∷ []
 
 abbrev pub pair_row : ℕ → List ℕ → List ℕ → List ℕ → List ℕ → Pair
-pair_row kind state provided required next = record { kind = kind; state = state; provided = provided; required = required; next = next }
+pair_row kind state provided required next = record { kind = kind; state = state; provided = provided; required = required; further = map (λ _. 0) required; next = next }
 
 -- the number of z of the place before; the first place has none
 abbrev pub earlier_z_number : ℕ → List ℕ
@@ -44,4 +44,4 @@ abbrev pub pairs_at : ℕ → List Pair
 pairs_at i = left_pairs i ++ right_pairs i
 
 unfoldable pub tables : ℕ → Universe
-tables n = universe_of (flat_map kinds_at (range_with_len 0 n)) (flat_map pairs_at (range_with_len 0 n)) (flat_map ports_at (range_with_len 0 n))
+tables n = universe_of 1 (flat_map kinds_at (range_with_len 0 n)) (flat_map pairs_at (range_with_len 0 n)) (flat_map ports_at (range_with_len 0 n))

@@ -13,7 +13,7 @@ pub fn universe_of(alloc: Global, n: u32) -> Result<Universe, NoMemory>
     requires at_most { n ≤ 128 }
     ensures { IfOk result (λ u. u ≡ generated n) }
 {
-    match Universe::new(alloc, generated_rows(alloc, n)?) {
+    match Universe::new(alloc, 1, generated_rows(alloc, n)?) {
         Ok(u) => Ok(u),
         Err(fault) => match fault {
             RowFault::NoMemory => Err(NoMemory),

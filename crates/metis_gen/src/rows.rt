@@ -1,10 +1,10 @@
 //! The rows of the types of a place.
-ghost use Rattle.std.specs.Prelude.{◌≡◌, ◌<◌, [], ◌∷◌, ◌++◌, IfOk, codes};
+ghost use Rattle.std.specs.Prelude.{◌≡◌, ◌<◌, [], ◌∷◌, ◌++◌, map, IfOk, codes};
 ghost use Rattle.metis_universe.specs.Texts.{texts};
-ghost use Rattle.metis_gen.specs.Generated.{three_digits, earlier_z, state_row, left_row, right_row, generated_rows};
+ghost use Rattle.metis_gen.specs.Generated.{three_digits, earlier_z, one_of, state_row, left_row, right_row, generated_rows};
 
 use crate::names::numbered;
-use metis_universe::{StateRow, TypeRow};
+use metis_universe::{NeedRow, StateRow, TypeRow};
 use std::alloc::{AllocError, Global};
 
 /// The list of one name.
@@ -26,15 +26,28 @@ fn port(alloc: Global, word: &str, i: u32) -> Result<Vec<String>, AllocError>
     Ok(names)
 }
 
-/// The port z of the place before. The first place has none.
-fn earlier(alloc: Global, i: u32) -> Result<Vec<String>, AllocError>
+/// The list of one provider of one port of the place.
+fn need(alloc: Global, word: &str, i: u32) -> Result<Vec<NeedRow>, AllocError>
     requires { i < 1000 }
-    ensures { IfOk result (λ names. texts names.items ≡ earlier_z i) }
+    ensures { IfOk result (λ needs. needs.items ≡ map one_of ((word.now ++ three_digits i) ∷ [])) }
+{
+    let mut needs = Vec::new(alloc);
+    needs.push(NeedRow {
+        port: numbered(alloc, word, i)?,
+        count: 1,
+    })?;
+    Ok(needs)
+}
+
+/// One provider of the port z of the place before. The first place needs none.
+fn earlier(alloc: Global, i: u32) -> Result<Vec<NeedRow>, AllocError>
+    requires { i < 1000 }
+    ensures { IfOk result (λ needs. needs.items ≡ map one_of (earlier_z i)) }
 {
     if i == 0 {
         Ok(Vec::new(alloc))
     } else {
-        port(alloc, "z", i - 1)
+        need(alloc, "z", i - 1)
     }
 }
 
@@ -43,10 +56,10 @@ fn state(
     alloc: Global,
     name: &str,
     provide: Vec<String>,
-    require: Vec<String>,
+    require: Vec<NeedRow>,
     next: Vec<String>,
 ) -> Result<StateRow, AllocError>
-    ensures { IfOk result (λ row. row ≡ state_row name.now (texts provide.items) (texts require.items) (texts next.items)) }
+    ensures { IfOk result (λ row. row ≡ record { name = name.now; provide = texts provide.items; require = require.items; next = texts next.items }) }
 {
     let name = String::from_str(alloc, name)?;
     Ok(StateRow {
@@ -93,7 +106,7 @@ fn requirer(
     ensures { IfOk result (λ row. row ≡ state_row name.now [] ((word.now ++ three_digits i) ∷ []) (next.now ∷ [])) }
 {
     let next = one(alloc, next)?;
-    let require = port(alloc, word, i)?;
+    let require = need(alloc, word, i)?;
     state(alloc, name, Vec::new(alloc), require, next)
 }
 

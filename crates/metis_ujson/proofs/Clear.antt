@@ -4,26 +4,26 @@ use Rattle.std.specs.List.{AllByRecursion, list_any}
 use Rattle.std.specs.Option.{option_or}
 use Rattle.std.specs.Str.{bytes_eq}
 use Rattle.std.proofs.lemmas.Bool.Decides.{nat_tests}
-use Rattle.std.proofs.lemmas.List.{get_or-map, get_or-take, length-map, length-take-le}
+use Rattle.std.proofs.lemmas.List.{get_or_default, get_or-map, get_or-take, length-map, length-take-le}
 use Rattle.std.proofs.lemmas.List.Elements.{recursion_from_All}
 use Rattle.std.proofs.lemmas.List.Folds.{fold-map, list_any_at}
 use Rattle.std.proofs.lemmas.List.FromFn.{length-map-range_with_len, get_or-map-range_with_len}
 use Rattle.std.proofs.lemmas.List.Quantifiers.{position-Some}
-use Rattle.std.proofs.lemmas.List.Sums.{sum_by-le-sum_by}
+use Rattle.std.proofs.lemmas.List.Sums.{sum_by-cons}
 use Rattle.metis_universe.specs.declared.faults.RowFault.{RowFault}
-use Rattle.metis_universe.specs.declared.faults.RowFault.TheVariants.{TypeName, TypeTwice, StateName, StateTwice, NoInitial, UnknownNext, PortName, Limit}
+use Rattle.metis_universe.specs.declared.faults.RowFault.TheVariants.{TypeName, TypeTwice, StateName, StateTwice, NoInitial, UnknownNext, PortName, Demand, Limit}
 use Rattle.metis_universe.specs.declared.faults.LimitKind.{LimitKind}
 use Rattle.metis_universe.specs.declared.faults.LimitKind.TheVariants.{States, Requires, Pairs, Ports}
-use Rattle.metis_universe.specs.Names.{is_name}
-use Rattle.metis_universe.specs.RowShapes.{TypeRow, StateRow}
-use Rattle.metis_universe.specs.Rows.{first_from, unless, limit_fault, has_state, port_fault, state_twice, state_fault, next_fault, head_fault, earlier_type, type_fault, first_fault, require_total, state_total, ports_of}
-use Rattle.metis_universe.specs.Universe.{Universe, Pair, no_pair, pair_at, type_of, type_count, pair_count, port_count, initial_of, type_name_of, state_name_of, port_name_of, IsUniverse, IsNamed, IsWithinLimits, IsBySight}
+use Rattle.metis_universe.specs.Names.{is_between, is_name}
+use Rattle.metis_universe.specs.RowShapes.{NeedRow, StateRow, TypeRow, names_needed}
+use Rattle.metis_universe.specs.Rows.{demand_sum, first_from, unless, limit_fault, has_state, port_fault, state_twice, state_fault, next_fault, head_fault, earlier_type, type_fault, first_fault, require_total, state_total, ports_of}
+use Rattle.metis_universe.specs.Universe.{Universe, Pair, no_pair, pair_at, demand_in, demand_total, type_of, type_count, pair_count, port_count, initial_of, type_name_of, state_name_of, port_name_of, IsUniverse, IsNamed, IsWithinLimits, IsBySight}
 use Rattle.metis_universe.proofs.Ascending.{each_map, each_weaker}
 use Rattle.metis_universe.proofs.Blocks.{length-pairs_from}
 use Rattle.metis_universe.proofs.ClearRows.{IsClear, IsClearState, IsClearType}
-use Rattle.metis_universe.proofs.FirstSights.{length-sights_after}
-use Rattle.metis_ujson.specs.Canonical.{state_row, type_row, rows_of_universe}
-use Rattle.metis_universe.specs.Sights.{first_sights}
+use Rattle.metis_universe.proofs.Gathered.{demand_sum-le}
+use Rattle.metis_ujson.specs.Canonical.{need_row, state_row, type_row, rows_of_universe}
+use Rattle.metis_ujson.proofs.Demanded.{demands_between, demands_in_all, names_are}
 use Rattle.metis_ujson.proofs.Numbers.{bytes_apart, position_never}
 use Rattle.metis_ujson.proofs.Rebuilt.{own, first, own_is, own_within, own_type, own_apart, spot_of, state_place, pairs_same, ports_same}
 
@@ -48,7 +48,7 @@ none_from place test (x ∷ xs) h =
 none_at : {A : Type 0} (test : ℕ → A → Option RowFault) (xs : List A) → ((i : ℕ) (d : A) → i < length xs → test i (get_or xs i d) ≡ None) → first_from 0 test xs ≡ None
 none_at test xs h = none_from 0 test xs (λ i d l. ap (λ n. test n (get_or xs i d)) (zero-add i) ∙ h i d l)
 
-all_pass : (p : List ℕ → Bool) (fault : ℕ → RowFault) (place : ℕ) (xs : List (List ℕ)) → AllByRecursion (λ x. IsTrue (p x)) xs → first_from place (λ k x. unless (p x) (fault k)) xs ≡ None
+all_pass : {A : Type 0} (p : A → Bool) (fault : ℕ → RowFault) (place : ℕ) (xs : List A) → AllByRecursion (λ x. IsTrue (p x)) xs → first_from place (λ k x. unless (p x) (fault k)) xs ≡ None
 all_pass p fault place [] h = refl
 all_pass p fault place (x ∷ xs) h = neither (unless (p x) (fault place)) _ (passes (p x) (fault place) h.0) (all_pass p fault (place + 1) xs h.1)
 
@@ -57,7 +57,8 @@ clear_of_state row t s state c =
     neither (unless (is_name state.name) (StateName t s)) _ (passes (is_name state.name) (StateName t s) c.name)
     (neither (state_twice row t s state) _ (ap (option_map (λ n. StateTwice t s n)) c.apart)
     (neither (first_from 0 (port_fault t s) state.provide) _ (all_pass is_name (λ k. PortName t s k) 0 state.provide c.provide)
-    (all_pass is_name (λ k. PortName t s k) (length state.provide) state.require c.require)))
+    (neither (first_from (length state.provide) (port_fault t s) (names_needed state.require)) _ (all_pass is_name (λ k. PortName t s k) (length state.provide) (names_needed state.require) c.require)
+    (all_pass (λ (n : NeedRow). is_between 1 16 n.count) (λ k. Demand t s k) 0 state.require c.demands))))
 
 clear_of_next : (row : TypeRow) (t s : ℕ) (state : StateRow) → IsClearState row s state → next_fault row t s state ≡ None
 clear_of_next row t s state c = all_pass (has_state row) (λ k. UnknownNext t s k) 0 state.next c.next
@@ -114,6 +115,16 @@ module _ (u : Universe) (is : IsUniverse u) (named : IsNamed u) where
       ap (λ (row : StateRow). bytes_eq name row.name) there
       ∙ bytes_apart name (get_or (own u is t) k no_pair).state (λ e. let same : s ≡ k = own_apart u is named t s k l (omega arith) e in omega arith))
 
+  demands_pass : (q : ℕ) → q < pair_count u → AllByRecursion (λ n. IsTrue (is_between 1 16 n.count)) (map (need_row u (pair_at u q)) (pair_at u q).required)
+  demands_pass q w =
+      let p = pair_at u q in
+      let Between : ℕ → Type 0 = λ r. (1 ≤ demand_in p r) × (demand_in p r ≤ 16) in
+      let Passes : NeedRow → Type 0 = λ n. IsTrue (is_between 1 16 n.count) in
+      let low = recursion_from_All (λ n. n < 16) p.further (is.demands q w).1 in
+      each_map Passes (need_row u p) p.required (each_weaker Between (λ r. Passes (need_row u p r)) p.required (λ r h. between (demand_in p r) h.0 h.1) (demands_between p (is.required q w).0 (is.demands q w).0 low)) where
+        between : (n : ℕ) → 1 ≤ n → n ≤ 16 → is_between 1 16 n ≡ true
+        between n least most = grind (arith, nat_tests)
+
   clear_state : (t q s : ℕ) → q ≡ first u is t + s → s < length (own u is t) → IsClearState (type_row u t) s (state_row u (pair_at u q))
   clear_state t q s at l =
       let w : q < pair_count u = omega (arith, own_within u is t s l) in
@@ -128,7 +139,8 @@ module _ (u : Universe) (is : IsUniverse u) (named : IsNamed u) where
         name = named.states q w;
         apart = subst N (sym here) (none_before t s l);
         provide = names_of_ports p.provided (recursion_from_All R p.provided (is.provided q w).1);
-        require = names_of_ports p.required (recursion_from_All R p.required (is.required q w).1);
+        require = subst (AllByRecursion (λ name. IsTrue (is_name name))) (sym (names_are u p p.required)) (names_of_ports p.required (recursion_from_All R p.required (is.required q w).1));
+        demands = demands_pass q w;
         next = each_map P (state_name_of u) p.next (each_weaker Q (λ x. P (state_name_of u x)) p.next (λ x h. has_own t x h.0 (h.1 ∙ of)) (recursion_from_All Q p.next (is.next q w).1));
       }
 
@@ -142,15 +154,26 @@ module _ (u : Universe) (is : IsUniverse u) (named : IsNamed u) where
       ap (λ (row : TypeRow). bytes_eq (type_name_of u t) row.name) there
       ∙ bytes_apart (type_name_of u t) (type_name_of u k) (λ e. let same : t ≡ k = named.types_apart t k l (omega arith) e in omega arith))
 
+  -- what the entries of a pair's required ports demand together is what the pair does
+  state_demands-le : (q : ℕ) → q < pair_count u → demand_sum (map (need_row u (pair_at u q)) (pair_at u q).required) ≤ demand_total (pair_at u q)
+  state_demands-le q w =
+      let p = pair_at u q in
+      omega (arith, demand_sum-le (map (need_row u p) p.required), counts_are p p.required, demands_in_all p (is.required q w).0 (is.demands q w).0) where
+        counts_are : (p : Pair) (rs : List ℕ) → sum_by (λ n. n.count) (map (need_row u p) rs) ≡ sum_by (demand_in p) rs
+        counts_are p rs = fold-map (λ (m : ℕ) (n : NeedRow). m + n.count) (need_row u p) 0 rs
+
   required_fit : IsWithinLimits u → (t : ℕ) → require_total (type_row u t) ≤ 128
   required_fit limits t =
-      let each : Pair → ℕ = λ p. length (first_sights (map (port_name_of u) p.required)) in
-      let whole : Pair → ℕ = λ p. length p.required in
-      let e : require_total (type_row u t) ≡ sum_by each (own u is t) = fold-map (λ (n : ℕ) (row : StateRow). n + length (first_sights row.require)) (state_row u) 0 (own u is t) in
-      let le : sum_by each (own u is t) ≤ sum_by whole (own u is t) =
-      sum_by-le-sum_by each whole (own u is t) (λ p. omega (arith, length-sights_after [] (map (port_name_of u) p.required), length-map p.required (port_name_of u))) in
-      let most : sum_by whole (own u is t) ≤ 128 = limits.required t in
-      omega arith
+      let each : Pair → ℕ = λ p. demand_sum (map (need_row u p) p.required) in
+      let Low : Pair → Type 0 = λ p. each p ≤ demand_total p in
+      let e : require_total (type_row u t) ≡ sum_by each (own u is t) = fold-map (λ (n : ℕ) (row : StateRow). n + demand_sum row.require) (state_row u) 0 (own u is t) in
+      let all = recursion_from_All Low (own u is t) (λ k d m. subst Low (own_is u is t k m ∙ get_or_default (own u is t) k no_pair d m) (state_demands-le (first u is t + k) (own_within u is t k m))) in
+      let le : sum_by each (own u is t) ≤ sum_by demand_total (own u is t) = sum_each (own u is t) each demand_total all in
+      let most : sum_by demand_total (own u is t) ≤ 128 = limits.required t in
+      omega arith where
+        sum_each : (ps : List Pair) (f g : Pair → ℕ) → AllByRecursion (λ p. f p ≤ g p) ps → sum_by f ps ≤ sum_by g ps
+        sum_each [] f g all = omega arith
+        sum_each (p ∷ ps) f g all = omega (arith, all.0, sum_each ps f g all.1, sum_by-cons f p ps, sum_by-cons g p ps)
 
   clear_type : IsWithinLimits u → (t : ℕ) → t < type_count u → IsClearType (rows_of_universe u) t (type_row u t)
   clear_type limits t l =

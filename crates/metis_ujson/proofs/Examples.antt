@@ -6,7 +6,7 @@ use Rattle.metis_universe.specs.Universe.{Universe, universe_of}
 use Rattle.metis_ujson.specs.Canonical.{canonical}
 
 no_types : Universe
-no_types = universe_of [] [] []
+no_types = universe_of 1 [] [] []
 
 canonical-no_types : canonical no_types ≡ codes "{\"aeolus\":1,\"types\":[]}\n"
 unfolding no_types digits escape_byte
@@ -15,12 +15,13 @@ canonical-no_types = refl
 -- Db goes from off to on, which provides sql; Web goes from off to run, which requires it
 web : Universe
 web = record {
+  version = 1;
   kinds = record { name = codes "Db"; initial = 0 } ∷ record { name = codes "Web"; initial = 2 } ∷ [];
   pairs =
-      record { kind = 0; state = codes "off"; provided = []; required = []; next = 1 ∷ [] }
-      ∷ record { kind = 0; state = codes "on"; provided = 0 ∷ []; required = []; next = [] }
-      ∷ record { kind = 1; state = codes "off"; provided = []; required = []; next = 3 ∷ [] }
-      ∷ record { kind = 1; state = codes "run"; provided = []; required = 0 ∷ []; next = [] } ∷ [];
+      record { kind = 0; state = codes "off"; provided = []; required = []; further = []; next = 1 ∷ [] }
+      ∷ record { kind = 0; state = codes "on"; provided = 0 ∷ []; required = []; further = []; next = [] }
+      ∷ record { kind = 1; state = codes "off"; provided = []; required = []; further = []; next = 3 ∷ [] }
+      ∷ record { kind = 1; state = codes "run"; provided = []; required = 0 ∷ []; further = 0 ∷ []; next = [] } ∷ [];
   ports = codes "sql" ∷ [];
 }
 
@@ -29,3 +30,20 @@ canonical-web : canonical web ≡
     ++ codes "{\"initial\":\"off\",\"name\":\"Web\",\"states\":[{\"name\":\"off\",\"next\":[\"run\"],\"provide\":[],\"require\":[]},{\"name\":\"run\",\"next\":[],\"provide\":[],\"require\":[\"sql\"]}]}]}\n"
 unfolding web digits escape_byte
 canonical-web = refl
+
+-- in version 2 a web server may ask for three of them
+web_of_three : Universe
+web_of_three = record {
+  version = 2;
+  kinds = record { name = codes "Web"; initial = 0 } ∷ [];
+  pairs =
+      record { kind = 0; state = codes "off"; provided = []; required = []; further = []; next = 1 ∷ [] }
+      ∷ record { kind = 0; state = codes "run"; provided = []; required = 0 ∷ 1 ∷ []; further = 2 ∷ 0 ∷ []; next = [] } ∷ [];
+  ports = codes "sql" ∷ codes "log" ∷ [];
+}
+
+canonical-web_of_three : canonical web_of_three ≡
+    codes "{\"aeolus\":2,\"types\":[{\"initial\":\"off\",\"name\":\"Web\",\"states\":[{\"name\":\"off\",\"next\":[\"run\"],\"provide\":[],\"require\":[]},"
+    ++ codes "{\"name\":\"run\",\"next\":[],\"provide\":[],\"require\":[{\"count\":3,\"port\":\"sql\"},\"log\"]}]}]}\n"
+unfolding web_of_three digits escape_byte
+canonical-web_of_three = refl

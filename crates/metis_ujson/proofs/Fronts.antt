@@ -5,7 +5,7 @@ use Rattle.serde_json.specs.Data.{string}
 use Rattle.serde_json.specs.View.{items_view, view}
 use Rattle.serde_json.specs.declared.value.Value.{Value}
 use Rattle.metis_universe.specs.RowShapes.{StateRow, TypeRow}
-use Rattle.metis_ujson.specs.Document.{state_in, states_from, type_in, types_from, with_text, with_state, with_type}
+use Rattle.metis_ujson.specs.Document.{state_in, states_from, type_in, types_from, with_first, with_state, with_type}
 use Rattle.metis_ujson.specs.declared.faults.UFault.{UFault}
 use Rattle.metis_ujson.specs.declared.faults.UFault.TheVariants.{StateForm}
 
@@ -17,9 +17,9 @@ abbrev pub behind : {A : Type 0} → List A → Result (List A) UFault → Resul
 behind front (Err fault) = Err fault
 behind front (Ok rest) = Ok (front ++ rest)
 
-pub after_front-text : (front : List (List ℕ)) (text : List ℕ) (rest : Option (List (List ℕ))) → after_front front (with_text (Some text) rest) ≡ after_front (front ++ text ∷ []) rest
-after_front-text front text None = refl
-after_front-text front text (Some rest) = ap Some (sym (append_assoc front (text ∷ []) rest))
+pub after_front-first : {A : Type 0} (front : List A) (x : A) (rest : Option (List A)) → after_front front (with_first (Some x) rest) ≡ after_front (front ++ x ∷ []) rest
+after_front-first front x None = refl
+after_front-first front x (Some rest) = ap Some (sym (append_assoc front (x ∷ []) rest))
 
 pub behind-state : (front : List StateRow) (row : StateRow) (fault : UFault) (rest : Result (List StateRow) UFault)
     → behind front (with_state (Some row) fault rest) ≡ behind (front ++ row ∷ []) rest
@@ -32,17 +32,17 @@ behind-type front row (Ok rest) = ap Ok (sym (append_assoc front (row ∷ []) re
 
 -- ---- one value more of a list, which stands at this place
 
-pub types-next : (front : List TypeRow) (values : List Value) (i : ℕ) (v : Value) → i < length values → v ≡ get_or values i v →
-    behind front (types_from i (items_view (drop i values))) ≡ behind front (with_type (type_in i (view v)) (types_from (i + 1) (items_view (drop (i + 1) values))))
-types-next front values i v low is =
-    let rest = types_from (i + 1) (items_view (drop (i + 1) values)) in
-    at_drop_more (λ vs. behind front (types_from i (items_view vs))) values i v low ∙ ap (λ x. behind front (with_type (type_in i (view x)) rest)) (sym is)
+pub types-next : (version : ℕ) (front : List TypeRow) (values : List Value) (i : ℕ) (v : Value) → i < length values → v ≡ get_or values i v →
+    behind front (types_from version i (items_view (drop i values))) ≡ behind front (with_type (type_in version i (view v)) (types_from version (i + 1) (items_view (drop (i + 1) values))))
+types-next version front values i v low is =
+    let rest = types_from version (i + 1) (items_view (drop (i + 1) values)) in
+    at_drop_more (λ vs. behind front (types_from version i (items_view vs))) values i v low ∙ ap (λ x. behind front (with_type (type_in version i (view x)) rest)) (sym is)
 
-pub states-next : (kind : ℕ) (front : List StateRow) (values : List Value) (i : ℕ) (v : Value) → i < length values → v ≡ get_or values i v →
-    behind front (states_from kind i (items_view (drop i values))) ≡ behind front (with_state (state_in (view v)) (StateForm kind i) (states_from kind (i + 1) (items_view (drop (i + 1) values))))
-states-next kind front values i v low is =
-    let rest = states_from kind (i + 1) (items_view (drop (i + 1) values)) in
-    at_drop_more (λ vs. behind front (states_from kind i (items_view vs))) values i v low ∙ ap (λ x. behind front (with_state (state_in (view x)) (StateForm kind i) rest)) (sym is)
+pub states-next : (version kind : ℕ) (front : List StateRow) (values : List Value) (i : ℕ) (v : Value) → i < length values → v ≡ get_or values i v →
+    behind front (states_from version kind i (items_view (drop i values))) ≡ behind front (with_state (state_in version (view v)) (StateForm kind i) (states_from version kind (i + 1) (items_view (drop (i + 1) values))))
+states-next version kind front values i v low is =
+    let rest = states_from version kind (i + 1) (items_view (drop (i + 1) values)) in
+    at_drop_more (λ vs. behind front (states_from version kind i (items_view vs))) values i v low ∙ ap (λ x. behind front (with_state (state_in version (view x)) (StateForm kind i) rest)) (sym is)
 
 -- one name more of a list
 pub names-next : (name : ℕ → List ℕ) (names names' : List Value) (xs : List ℕ) (i x : ℕ) (v : Value) → i < length xs → x ≡ get_or xs i x → names' ≡ names ++ v ∷ [] → view v ≡ string (name x) →

@@ -10,9 +10,10 @@ use Rattle.metis_universe.specs.Universe.{Universe, IsTable}
 use Rattle.metis_ujson.specs.Canonical.{rows_of_universe, document_of, canonical}
 use Rattle.metis_ujson.specs.Document.{without_last_newline, json_of_text, json_of, rows_or_not_json, or_form_fault, or_row_fault, universe_in}
 use Rattle.metis_ujson.proofs.Clear.{no_fault}
+use Rattle.metis_ujson.proofs.Fitting.{FitRows, rows_fit}
 use Rattle.metis_ujson.proofs.Rebuilt.{rebuilt}
 use Rattle.metis_ujson.proofs.Spelled.{rows_back}
-use Rattle.metis_ujson.proofs.Utf8.{IsUtf8-compact_text}
+use Rattle.metis_ujson.proofs.Utf8.{IsUtf8-compact_text, version_low}
 use Rattle.metis_ujson.proofs.ValueRead.{read-compact_text}
 
 last_left_off : (text : List ℕ) → without_last_newline (text ++ 10 ∷ []) ≡ text
@@ -25,17 +26,20 @@ last_left_off text =
     ∙ take-append_seam text (10 ∷ [])
 
 module _ (u : Universe) (table : IsTable u) where
-  json_back : json_of (canonical u) ≡ Some (document_of (rows_of_universe u))
+  fit : FitRows u.version (rows_of_universe u)
+  fit = rows_fit u table.universe
+
+  json_back : json_of (canonical u) ≡ Some (document_of u.version (rows_of_universe u))
   json_back =
-      let text = compact_text (document_of (rows_of_universe u)) in
+      let text = compact_text (document_of u.version (rows_of_universe u)) in
       ap json_of_text (last_left_off text)
       ∙ ap (λ b. if b then read text else None) (is_utf8-from_IsUtf8 text (IsUtf8-compact_text u table.universe table.named))
-      ∙ read-compact_text (rows_of_universe u)
+      ∙ read-compact_text u.version (rows_of_universe u) (version_low u.version table.universe.version) fit
 
   pub read_back : universe_in (canonical u) ≡ Ok u
   read_back =
       let rows = rows_of_universe u in
       ap (λ o. or_form_fault (rows_or_not_json o)) json_back
-      ∙ ap or_form_fault (rows_back rows)
-      ∙ ap (λ o. or_row_fault (or_universe o (universe_from rows))) (no_fault u table.universe table.named table.limits table.sights)
+      ∙ ap or_form_fault (rows_back u.version table.universe.version rows fit)
+      ∙ ap (λ o. or_row_fault (or_universe o (universe_from u.version rows))) (no_fault u table.universe table.named table.limits table.sights)
       ∙ ap Ok (rebuilt u table.universe table.named table.sights)

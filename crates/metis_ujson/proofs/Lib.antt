@@ -1,5 +1,7 @@
 pub mod Clear
+pub mod Demanded
 pub mod Examples
+pub mod Fitting
 pub mod Fronts
 pub mod Grouped
 pub mod Law

@@ -95,4 +95,4 @@ mutual
   no_feed-members_text false (member k d ms) = one_member k d (members_text true ms) (no_feed-compact_text d) (no_feed-members_text true ms)
 
 pub IsLine-canonical : (u : Universe) → IsLine (canonical u)
-IsLine-canonical u = let d = document_of (rows_of_universe u) in IsLine-from (compact_text d) (no_feed-compact_text d)
+IsLine-canonical u = let d = document_of u.version (rows_of_universe u) in IsLine-from (compact_text d) (no_feed-compact_text d)

@@ -10,10 +10,11 @@ use Rattle.std.proofs.lemmas.List.Elements.{filter_passes, recursion_from_All}
 use Rattle.std.proofs.lemmas.List.Folds.{flat_map-map}
 use Rattle.std.proofs.lemmas.Simd.{map-map}
 use Rattle.metis_universe.specs.RowShapes.{StateRow}
-use Rattle.metis_universe.specs.Rows.{ports_of_state, ports_of_type, ports_of, number_of, state_number, ascending, pair_from, pairs_of_type, pairs_from, kind_from, kinds_from, universe_from}
+use Rattle.metis_universe.specs.Rows.{further_from, ports_of_state, ports_of_type, ports_of, number_of, state_number, ascending, pair_from, pairs_of_type, pairs_from, kind_from, kinds_from, universe_from}
 use Rattle.metis_universe.specs.Universe.{Universe, Pair, no_kind, no_pair, universe_of, kind_at, pair_at, type_of, type_count, pair_count, port_count, initial_of, type_name_of, state_name_of, port_name_of, provided_of, required_of, next_of, IsUniverse, IsNamed, port_names_of_pair, IsBySight}
 use Rattle.metis_universe.proofs.Named.{position-map}
-use Rattle.metis_ujson.specs.Canonical.{state_row, type_row, rows_of_universe}
+use Rattle.metis_ujson.specs.Canonical.{need_row, state_row, type_row, rows_of_universe}
+use Rattle.metis_ujson.proofs.Demanded.{further_back, names_are}
 use Rattle.metis_universe.specs.Sights.{first_sights}
 use Rattle.metis_ujson.proofs.Grouped.{is_of, below, of_type, AtLeast, Stands, stands, none_below, all_below, one_more, first_more, first_within, own_at, Spot, spot}
 use Rattle.metis_ujson.proofs.Numbers.{place_of_name, ascending-same}
@@ -108,9 +109,11 @@ module _ (u : Universe) (is : IsUniverse u) (named : IsNamed u) where
   pair_back t q l e =
       let kind = sym e in
       let provided = ports_back (provided_of u q) (is.provided q l).0 (is.provided q l).1 in
-      let required = ports_back (required_of u q) (is.required q l).0 (is.required q l).1 in
+      let p = pair_at u q in
+      let required = ap (λ names. ascending (map (number_of u.ports) names)) (names_are u p p.required) ∙ ports_back (required_of u q) (is.required q l).0 (is.required q l).1 in
+      let further = ap (further_from u.ports (map (need_row u p) p.required)) required ∙ further_back u named p (is.required q l).0 (is.required q l).1 (is.demands q l).0 in
       let next = next_back t q l e in
-      λ j. record { kind = kind j; state = state_name_of u q; provided = provided j; required = required j; next = next j }
+      λ j. record { kind = kind j; state = state_name_of u q; provided = provided j; required = required j; further = further j; next = next j }
 
   block_back : (t : ℕ) → pairs_of_type u.ports t (first u is t) (type_row u t) ≡ own u is t
   block_back t =
@@ -150,6 +153,7 @@ module _ (u : Universe) (is : IsUniverse u) (named : IsNamed u) where
   names_of_type : (t : ℕ) → ports_of_type (type_row u t) ≡ flat_map (port_names_of_pair u) (own u is t)
   names_of_type t =
       flat_map-map ports_of_state (state_row u) (own u is t)
+      ∙ (λ j. flat_map (λ (p : Pair). map (port_name_of u) p.provided ++ names_are u p p.required j) (own u is t))
       ∙ (λ j. flat_map (λ (p : Pair). (sym (map-append (port_name_of u) p.provided p.required)) j) (own u is t))
 
   names_back : (n t : ℕ) → t + n ≡ type_count u → flat_map (port_names_of_pair u) (below t u.pairs) ++ flat_map ports_of_type (map (type_row u) (range_with_len t n)) ≡ flat_map (port_names_of_pair u) u.pairs
@@ -180,9 +184,9 @@ module _ (u : Universe) (is : IsUniverse u) (named : IsNamed u) where
   ports_same sights =
       ap first_sights (ap (λ l. flat_map (port_names_of_pair u) l ++ flat_map ports_of_type (rows_of_universe u)) (sym none_first) ∙ names_back (type_count u) 0 (omega arith)) ∙ sights
 
-  pub rebuilt : IsBySight u → universe_from (rows_of_universe u) ≡ u
+  pub rebuilt : IsBySight u → universe_from u.version (rows_of_universe u) ≡ u
   rebuilt sights =
       let ports = ports_same sights in
       let pairs = pairs_same in
       let kinds = kinds_same in
-      (λ j. universe_of (kinds_from 0 (rows_of_universe u)) (pairs_from (ports j) 0 0 (rows_of_universe u)) (ports j)) ∙ (λ j. universe_of (kinds j) (pairs j) u.ports)
+      (λ j. universe_of u.version (kinds_from 0 (rows_of_universe u)) (pairs_from (ports j) 0 0 (rows_of_universe u)) (ports j)) ∙ (λ j. universe_of u.version (kinds j) (pairs j) u.ports)

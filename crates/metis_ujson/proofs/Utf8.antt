@@ -1,22 +1,23 @@
 -- The text of a universe's document is UTF-8.
-use Rattle.std.proofs.Common.{◌≡◌, ℕ, suc, zero, ◌+◌, ◌<◌, ◌≤◌, ◌&&◌, Bool, true, false, IsTrue, nat_lt, List, [], ◌∷◌, ◌++◌, get_or, map, codes, decimal, IsUtf8, refl, ap, ◌∙◌, subst, arith}
-use Rattle.std.specs.Fmt.{digits}
+use Rattle.std.proofs.Common.{◌≡◌, ℕ, suc, zero, ◌+◌, ◌<◌, ◌≤◌, ◌⊎◌, ◌&&◌, Bool, true, false, cond, nat_eq, inl, inr, IsTrue, nat_lt, List, [], ◌∷◌, ◌++◌, get_or, map, codes, decimal, IsUtf8, refl, ap, ◌∙◌, subst, arith}
 use Rattle.std.specs.List.{AllByRecursion, list_all, range_with_len}
 use Rattle.std.proofs.lemmas.Bool.{and_parts}
 use Rattle.std.proofs.lemmas.Bool.Decides.{nat_tests}
 use Rattle.std.proofs.lemmas.List.{get_or_default}
 use Rattle.std.proofs.lemmas.List.Elements.{recursion_from_All}
-use Rattle.std.proofs.lemmas.Str.{IsUtf8-append}
+use Rattle.std.proofs.lemmas.Fmt.{IsAscii-decimal}
+use Rattle.std.proofs.lemmas.Str.{IsUtf8-append, IsUtf8-from_ascii}
 use Rattle.json.specs.Print.{quoted}
 use Rattle.json.proofs.Printed.Utf8.{are_ascii, IsUtf8-are_ascii, IsUtf8-quoted, IsUtf8-boolean}
 use Rattle.serde_json.specs.Data.{Data, null, boolean, number, string, array, object, Items, no_items, item, Members, no_members, member}
 use Rattle.serde_json.specs.Written.{number_text, compact_text, items_text, members_text}
 use Rattle.metis_universe.specs.Names.{is_name, is_name_byte}
-use Rattle.metis_universe.specs.RowShapes.{StateRow, TypeRow}
-use Rattle.metis_universe.specs.Universe.{Universe, Pair, no_pair, pair_at, type_count, pair_count, port_count, initial_of, state_name_of, port_name_of, IsUniverse, IsNamed}
+use Rattle.metis_universe.specs.RowShapes.{NeedRow, StateRow, TypeRow}
+use Rattle.metis_universe.specs.Universe.{Universe, Pair, demand_in, no_pair, pair_at, type_count, pair_count, port_count, initial_of, state_name_of, port_name_of, IsUniverse, IsNamed}
 use Rattle.metis_universe.proofs.Ascending.{each_map, each_weaker}
-use Rattle.metis_ujson.specs.Canonical.{list_of, state_value, type_value, document_of, state_row, type_row, rows_of_universe}
+use Rattle.metis_ujson.specs.Canonical.{counted_value, list_of, need_row, need_value, state_value, type_value, document_of, state_row, type_row, rows_of_universe}
 use Rattle.metis_ujson.proofs.Clear.{names_of_ports}
+use Rattle.metis_ujson.proofs.Demanded.{demands_between}
 use Rattle.metis_ujson.proofs.Rebuilt.{own, first, own_is, own_within}
 
 -- ---- names
@@ -88,7 +89,7 @@ names xs h = list string xs (each_weaker (λ n. IsTrue (is_name n)) (λ n. HasTe
 key : (k : List ℕ) → are_ascii k ≡ true → IsUtf8 k
 key k e = IsUtf8-are_ascii k e
 
-state_texts : (row : StateRow) → IsTrue (is_name row.name) → HasTexts (list_of string row.next) → HasTexts (list_of string row.provide) → HasTexts (list_of string row.require) → HasTexts (state_value row)
+state_texts : (row : StateRow) → IsTrue (is_name row.name) → HasTexts (list_of string row.next) → HasTexts (list_of string row.provide) → HasTexts (list_of need_value row.require) → HasTexts (state_value row)
 state_texts row named next provide require =
     (key (codes "name") refl, (name row.name named, (key (codes "next") refl, (next, (key (codes "provide") refl, (provide, (key (codes "require") refl, (require, tt))))))))
 
@@ -96,13 +97,31 @@ type_texts : (row : TypeRow) → IsTrue (is_name row.name) → IsTrue (is_name r
 type_texts row named initial states =
     (key (codes "initial") refl, (name row.initial initial, (key (codes "name") refl, (name row.name named, (key (codes "states") refl, (states, tt))))))
 
-one : IsUtf8 (decimal 1)
-unfolding digits
-one = IsUtf8-are_ascii (decimal 1) refl
+number_texts : (n : ℕ) → n ≤ 16 → IsUtf8 (decimal n)
+number_texts n low = IsUtf8-from_ascii (decimal n) (IsAscii-decimal n (omega arith))
+
+need_texts : (n : NeedRow) → IsTrue (is_name n.port) → n.count ≤ 16 → HasTexts (need_value n)
+need_texts n named low = elim (nat_eq n.count 1) as (λ b. HasTexts (cond b (string n.port) (counted_value n))) [
+  | true ↦ name n.port named
+  | false ↦ (key (codes "count") refl, (number_texts n.count low, (key (codes "port") refl, (name n.port named, tt))))
+]
+
+pub version_low : (v : ℕ) → (v ≡ 1) ⊎ (v ≡ 2) → v ≤ 16
+version_low v of = elim of [ inl one ↦ omega arith | inr two ↦ omega arith ]
 
 -- ---- the document of a universe
 
 module _ (u : Universe) (is : IsUniverse u) (named : IsNamed u) where
+  each_need : (q : ℕ) → q < pair_count u → AllByRecursion (λ r. HasTexts (need_value (need_row u (pair_at u q) r))) (pair_at u q).required
+  each_need q l =
+      let p = pair_at u q in
+      let low = demands_between p (is.required q l).0 (is.demands q l).0 (recursion_from_All (λ n. n < 16) p.further (is.demands q l).1) in
+      let within = recursion_from_All (λ r. r < port_count u) p.required (is.required q l).1 in
+      both p.required within low where
+        both : (rs : List ℕ) → AllByRecursion (λ r. r < port_count u) rs → AllByRecursion (λ r. (1 ≤ demand_in (pair_at u q) r) × (demand_in (pair_at u q) r ≤ 16)) rs → AllByRecursion (λ r. HasTexts (need_value (need_row u (pair_at u q) r))) rs
+        both [] h k = tt
+        both (r ∷ rs) h k = (need_texts (need_row u (pair_at u q) r) (named.ports r h.0) k.0.1, both rs h.1 k.1)
+
   each_state : (q : ℕ) → q < pair_count u → HasTexts (state_value (state_row u (pair_at u q)))
   each_state q l =
       let p = pair_at u q in
@@ -111,7 +130,7 @@ module _ (u : Universe) (is : IsUniverse u) (named : IsNamed u) where
       state_texts (state_row u p) (named.states q l)
       (names (map (state_name_of u) p.next) (each_map N (state_name_of u) p.next (recursion_from_All (λ x. N (state_name_of u x)) p.next (λ k d m. named.states (get_or p.next k d) ((is.next q l).1 k d m).0))))
       (names (map (port_name_of u) p.provided) (names_of_ports u is named p.provided (recursion_from_All R p.provided (is.provided q l).1)))
-      (names (map (port_name_of u) p.required) (names_of_ports u is named p.required (recursion_from_All R p.required (is.required q l).1)))
+      (list need_value (map (need_row u p) p.required) (each_map (λ n. HasTexts (need_value n)) (need_row u p) p.required (each_need q l)))
 
   each_type : (t : ℕ) → t < type_count u → HasTexts (type_value (type_row u t))
   each_type t l =
@@ -125,7 +144,7 @@ module _ (u : Universe) (is : IsUniverse u) (named : IsNamed u) where
   types_from zero t l = tt
   types_from (suc n) t l = (each_type t (omega arith), types_from n (t + 1) (omega arith))
 
-  pub IsUtf8-compact_text : IsUtf8 (compact_text (document_of (rows_of_universe u)))
+  pub IsUtf8-compact_text : IsUtf8 (compact_text (document_of u.version (rows_of_universe u)))
   IsUtf8-compact_text =
       let types = list type_value (rows_of_universe u) (each_map (λ row. HasTexts (type_value row)) (type_row u) (range_with_len 0 (type_count u)) (types_from (type_count u) 0 (omega arith))) in
-      text (document_of (rows_of_universe u)) (key (codes "aeolus") refl, (one, (key (codes "types") refl, (types, tt))))
+      text (document_of u.version (rows_of_universe u)) (key (codes "aeolus") refl, (number_texts u.version (version_low u.version is.version), (key (codes "types") refl, (types, tt))))

@@ -41,14 +41,14 @@ rows_of_universe u = map (type_row u) (range_with_len 0 (type_count u))
 abbrev pub list_of : {A : Type 0} → (A → Data) → List A → Data
 list_of value xs = array (items_of (map value xs))
 
-abbrev pub need_object : NeedRow → Data
-need_object need =
+abbrev pub counted_value : NeedRow → Data
+counted_value need =
     object (member (codes "count") (number (unsigned need.count))
     (member (codes "port") (string need.port)
     no_members))
 
 abbrev pub need_value : NeedRow → Data
-need_value need = if need.count == 1 then string need.port else need_object need
+need_value need = if need.count == 1 then string need.port else counted_value need
 
 abbrev pub state_value : StateRow → Data
 state_value row =

@@ -13,6 +13,7 @@ use std::alloc::{AllocError, Global};
 use std::marker::Model;
 
 /// What a document spells: its version, and the rows of its types.
+#[derive(Drop)]
 pub struct Spelled {
     pub version: u32,
     pub types: Vec<TypeRow>,

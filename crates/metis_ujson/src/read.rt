@@ -4,7 +4,7 @@ ghost use Rattle.metis_ujson.specs.Reads.{Reads};
 ghost use Rattle.metis_universe.specs.Rows.{IsOfVersion};
 
 use crate::faults::UFault;
-use crate::forms::read_rows;
+use crate::forms::{Spelled, read_rows};
 use metis_universe::{TypeRow, Universe, rows_fit};
 use std::alloc::Global;
 
@@ -15,8 +15,8 @@ pub const UNIVERSE_LIMIT: u64 = 4_194_304;
 pub fn read_universe(alloc: Global, bytes: &[u8]) -> Result<Universe, UFault>
     ensures { Reads (λ u. u) result (universe_in bytes.now) }
 {
-    let spelled = read_rows(alloc, bytes)?;
-    made(alloc, spelled.version, spelled.types)
+    let Spelled { version, types } = read_rows(alloc, bytes)?;
+    made(alloc, version, types)
 }
 
 // The universe of the rows. Rows that could not be numbered are more than memory holds.

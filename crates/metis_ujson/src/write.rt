@@ -19,7 +19,6 @@ pub fn write_universe<K: Sink>(alloc: Global, u: &Universe, out: &mut K) -> Resu
     out.put(text.as_bytes())
 }
 
-#[tactic(auto, using(crate::proofs::Plain::no_float))]
 fn text_of(alloc: Global, u: &Universe) -> Result<String, AllocError>
     ensures { IfOk result (λ text. string_bytes text ≡ canonical u.now) }
 {

@@ -16,6 +16,7 @@ use Rattle.metis_universe.specs.Needs.{count_in, greatest_needs, need_of, needs_
 use Rattle.metis_universe.specs.RowShapes.{NeedRow, names_needed}
 use Rattle.metis_universe.specs.Rows.{demand_sum, further_from, greatest_count}
 use Rattle.metis_universe.specs.Sights.{first_sights, sights_after, with_name}
+use Rattle.metis_universe.proofs.Ascending.{each_weaker}
 use Rattle.metis_universe.proofs.FirstSights.{distinct_none, same_bytes, seen_now, seen_stays, sights_distinct}
 
 -- ---- the greatest count of a port
@@ -27,19 +28,30 @@ count_at name n = cond (bytes_eq name n.port) n.count 0
 pub greatest-push : (needs : List NeedRow) (n : NeedRow) (name : List ℕ) → greatest_count (needs ++ n ∷ []) name ≡ max (greatest_count needs name) (count_at name n)
 greatest-push needs n name = fold-append (λ most m. max most (count_at name m)) 0 needs (n ∷ [])
 
+greatest_from-le : (needs : List NeedRow) (name : List ℕ) (start most : ℕ) → start ≤ most → AllByRecursion (λ n. count_at name n ≤ most) needs → fold (λ most n. max most (count_at name n)) start needs ≤ most
+greatest_from-le [] name start most h all = h
+greatest_from-le (n ∷ needs) name start most h all = greatest_from-le needs name (max start (count_at name n)) most (max-le h all.0) all.1
+
+pub greatest-at_most : (needs : List NeedRow) (name : List ℕ) (most : ℕ) → AllByRecursion (λ n. count_at name n ≤ most) needs → greatest_count needs name ≤ most
+greatest-at_most needs name most all = greatest_from-le needs name 0 most (omega arith) all
+
 count_at-le : (name : List ℕ) (n : NeedRow) (most : ℕ) → n.count ≤ most → count_at name n ≤ most
 count_at-le name n most h = elim (bytes_eq name n.port) as (λ b. cond b n.count 0 ≤ most) [ true ↦ h | false ↦ omega arith ]
 
-greatest_from-le : (needs : List NeedRow) (name : List ℕ) (start most : ℕ) → start ≤ most → AllByRecursion (λ n. n.count ≤ most) needs → fold (λ most n. max most (count_at name n)) start needs ≤ most
-greatest_from-le [] name start most h all = h
-greatest_from-le (n ∷ needs) name start most h all = greatest_from-le needs name (max start (count_at name n)) most (max-le h (count_at-le name n most all.0)) all.1
-
 pub greatest-le : (needs : List NeedRow) (name : List ℕ) (most : ℕ) → AllByRecursion (λ n. n.count ≤ most) needs → greatest_count needs name ≤ most
-greatest-le needs name most all = greatest_from-le needs name 0 most (omega arith) all
+greatest-le needs name most all = greatest-at_most needs name most (each_weaker (λ (n : NeedRow). n.count ≤ most) (λ n. count_at name n ≤ most) needs (λ n h. count_at-le name n most h) all)
 
 greatest_from-start : (needs : List NeedRow) (name : List ℕ) (start : ℕ) → start ≤ fold (λ most n. max most (count_at name n)) start needs
 greatest_from-start [] name start = omega arith
 greatest_from-start (n ∷ needs) name start = omega (arith, greatest_from-start needs name (max start (count_at name n)), le-max_left start (count_at name n))
+
+greatest_from-at_least : (needs : List NeedRow) (name : List ℕ) (start k : ℕ) (d : NeedRow) → k < length needs → count_at name (get_or needs k d) ≤ fold (λ most n. max most (count_at name n)) start needs
+greatest_from-at_least [] name start k d h = absurd (omega arith)
+greatest_from-at_least (n ∷ needs) name start zero d h = omega (arith, greatest_from-start needs name (max start (count_at name n)), le-max_right start (count_at name n))
+greatest_from-at_least (n ∷ needs) name start (suc k) d h = greatest_from-at_least needs name (max start (count_at name n)) k d (omega arith)
+
+pub greatest-at_least : (needs : List NeedRow) (name : List ℕ) (k : ℕ) (d : NeedRow) → k < length needs → count_at name (get_or needs k d) ≤ greatest_count needs name
+greatest-at_least needs name k d h = greatest_from-at_least needs name 0 k d h
 
 greatest_from-some : (needs : List NeedRow) (name : List ℕ) (start : ℕ) → AllByRecursion (λ n. 1 ≤ n.count) needs → list_any (bytes_eq name) (names_needed needs) ≡ true → 1 ≤ fold (λ most n. max most (count_at name n)) start needs
 greatest_from-some [] name start some h = absurd (true≢false (sym h))

@@ -5,4 +5,4 @@ use Rattle.metis_ujson.proofs.Fronts.{behind}
 use Rattle.metis_ujson.proofs.forms.read_state_list.Given as goal
 
 abbrev pub invariant-loop-place : goal.invariant-loop-place
-invariant-loop-place l = behind l.rows.items (states_from l.kind l.place (items_view (drop l.place l.states))) ≡ states_from l.kind 0 (items_view l.states)
+invariant-loop-place l = behind l.rows.items (states_from l.version l.kind l.place (items_view (drop l.place l.states))) ≡ states_from l.version l.kind 0 (items_view l.states)

@@ -5,4 +5,4 @@ use Rattle.metis_ujson.proofs.Fronts.{behind}
 use Rattle.metis_ujson.proofs.forms.read_type_list.Given as goal
 
 abbrev pub invariant-loop-place : goal.invariant-loop-place
-invariant-loop-place l = behind l.rows.items (types_from l.place (items_view (drop l.place l.types))) ≡ types_from 0 (items_view l.types)
+invariant-loop-place l = behind l.rows.items (types_from l.version l.place (items_view (drop l.place l.types))) ≡ types_from l.version 0 (items_view l.types)
