@@ -1,11 +1,11 @@
 -- The rows of a universe have entries that a document of its version may have.
-use Rattle.std.proofs.Common.{◌≡◌, ℕ, zero, suc, ◌+◌, ◌<◌, ◌≤◌, List, [], ◌∷◌, length, map, sym, ◌∙◌, subst, arith}
+use Rattle.std.proofs.Common.{◌≡◌, ℕ, zero, suc, ◌+◌, ◌<◌, ◌≤◌, List, [], ◌∷◌, ◌∙◌, subst}
 use Rattle.std.specs.List.{AllByRecursion, range_with_len}
 use Rattle.std.proofs.lemmas.List.{get_or_default}
 use Rattle.std.proofs.lemmas.List.Elements.{recursion_from_All}
 use Rattle.metis_universe.specs.RowShapes.{NeedRow, StateRow, TypeRow}
 use Rattle.metis_universe.specs.Universe.{IsUniverse, Pair, Universe, demand_in, no_pair, pair_at, pair_count, type_count}
-use Rattle.metis_universe.proofs.Ascending.{each_map, each_weaker}
+use Rattle.metis_universe.proofs.Ascending.{each_map}
 use Rattle.metis_ujson.specs.Canonical.{need_row, rows_of_universe, state_row, type_row}
 use Rattle.metis_ujson.proofs.Demanded.{demands_between, demands_one}
 use Rattle.metis_ujson.proofs.Rebuilt.{first, own, own_is, own_within}

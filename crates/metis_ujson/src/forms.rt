@@ -111,11 +111,7 @@ fn can_count(values: &[Value]) -> bool
     (values.len() as u64) < 1 << 32
 }
 
-fn read_type_list(
-    alloc: Global,
-    version: u32,
-    types: &[Value],
-) -> Result<Vec<TypeRow>, UFault>
+fn read_type_list(alloc: Global, version: u32, types: &[Value]) -> Result<Vec<TypeRow>, UFault>
     ensures { Reads (λ rows. rows.items) result (types_from version 0 (items_view types.now)) }
 {
     if !can_count(types) {
@@ -129,12 +125,7 @@ fn read_type_list(
     Ok(rows)
 }
 
-fn read_type(
-    alloc: Global,
-    version: u32,
-    place: u32,
-    value: &Value,
-) -> Result<TypeRow, UFault>
+fn read_type(alloc: Global, version: u32, place: u32, value: &Value) -> Result<TypeRow, UFault>
     ensures { Reads (λ row. row) result (type_in version place (view value.now)) }
 {
     let (Some(name), Some(initial), Some(states)) = (
@@ -173,11 +164,7 @@ fn read_state_list(
     Ok(rows)
 }
 
-fn read_state(
-    alloc: Global,
-    version: u32,
-    value: &Value,
-) -> Result<Option<StateRow>, AllocError>
+fn read_state(alloc: Global, version: u32, value: &Value) -> Result<Option<StateRow>, AllocError>
     ensures { IfOk result (λ row. row ≡ state_in version (view value.now)) }
 {
     let Some(name) = text_at(value, "name") else {
@@ -261,11 +248,7 @@ fn read_needs(
 }
 
 // An entry of required ports: a text, or in version 2 also an object.
-fn read_need(
-    alloc: Global,
-    version: u32,
-    item: &Value,
-) -> Result<Option<NeedRow>, AllocError>
+fn read_need(alloc: Global, version: u32, item: &Value) -> Result<Option<NeedRow>, AllocError>
     ensures { IfOk result (λ need. need ≡ need_in version (view item.now)) }
 {
     match item.as_str() {

@@ -1,5 +1,5 @@
 -- Numbers of names, in ascending order.
-use Rattle.std.proofs.Common.{◌≡◌, ℕ, suc, ◌+◌, ◌<◌, ◌≤◌, Bool, true, false, cond, ◌||◌, IsTrue, nat_eq, List, [], ◌∷◌, ◌++◌, length, map, fold, position, unwrap_or, Some, None, refl, ap, sym, ◌∙◌, subst, inl, inr, arith}
+use Rattle.std.proofs.Common.{◌≡◌, ℕ, ◌+◌, ◌<◌, ◌≤◌, Bool, true, false, ◌||◌, nat_eq, List, [], ◌∷◌, length, map, fold, position, unwrap_or, Some, None, refl, ap, sym, ◌∙◌, subst, inl, inr, arith}
 use Rattle.std.specs.List.{list_any, AllByRecursion, All}
 use Rattle.std.specs.List.Sorted.{IsStrictlySortedBy, IsStrictlyIncreasing}
 use Rattle.std.specs.Str.{bytes_eq}
@@ -7,19 +7,16 @@ use Rattle.std.specs.Cmp.{nat_cmp_total}
 use Rattle.std.specs.Ordering.{nat_cmp, match_ordering}
 use Rattle.std.specs.declared.cmp.Ordering.TheVariants.{Less, Equal, Greater}
 use Rattle.std.specs.BTreeSet.{insert_key}
-use Rattle.std.proofs.lemmas.Bool.{both_ways, false≢true, or_cases, or_from, or_left, or_right, eq-eqb}
+use Rattle.std.proofs.lemmas.Bool.{both_ways, false≢true, or_cases, or_from}
 use Rattle.std.proofs.lemmas.Bool.Decides.{nat_tests}
-use Rattle.std.proofs.lemmas.List.{length_push}
 use Rattle.std.proofs.lemmas.List.Elements.{All-from_recursion}
 use Rattle.std.proofs.lemmas.Map.Keys.{below_from_sorted}
 use Rattle.std.proofs.lemmas.Slice.Eq.{bytes_eq-Decides}
 use Rattle.metis_universe.specs.Universe.{has}
 use Rattle.metis_universe.specs.RowShapes.{TypeRow}
 use Rattle.metis_universe.specs.Rows.{ascending, state_number}
-use Rattle.metis_universe.specs.Sights.{with_name, sights_after, first_sights}
 use Rattle.metis_universe.proofs.Edits.{any-insert_key}
 use Rattle.metis_universe.proofs.FirstFault.{list_any-from_position}
-use Rattle.metis_universe.proofs.FirstSights.{each_append}
 use Rattle.metis_universe.proofs.Named.{position_within}
 use Rattle.metis_universe.proofs.Sorted.{IsStrictlySortedBy-insert_key, all_insert, below_all}
 

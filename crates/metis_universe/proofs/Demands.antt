@@ -1,5 +1,5 @@
 -- Demands of required ports, and of others.
-use Rattle.std.proofs.Common.{◌≡◌, ℕ, ◌+◌, ◌≤◌, Bool, true, false, cond, sym, ap, subst, nat_eq, arith}
+use Rattle.std.proofs.Common.{◌≡◌, ℕ, ◌+◌, ◌≤◌, true, false, cond, sym, ap, subst, nat_eq, arith}
 use Rattle.std.specs.List.{position_or_len, slice_index_or}
 use Rattle.metis_universe.specs.Universe.{Universe, demand_of, further_of, required_of, requires}
 

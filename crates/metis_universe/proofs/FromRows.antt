@@ -281,8 +281,9 @@ module _ (version : ℕ) where
       let Seen : List ℕ → Type 0 = λ name. IsTrue (list_any (bytes_eq name) (ports_of rows)) in
       let Both : StateRow → Type 0 = λ state. AllByRecursion Seen (names_needed state.require) × AllByRecursion (λ n. 1 ≤ n.count) state.require in
       recursion_from_All Both (states_at rows t) (All-from_get_or Both (states_at rows t) no_state (λ i m. (
-      (each_parts Seen (state_at rows t i).provide (names_needed (state_at rows t i).require) (seen_in rows t i l m)).1,
-      some_counts (state_at rows t i).require ((clear.types t no_row l).states i no_state m).demands)))
+        (each_parts Seen (state_at rows t i).provide (names_needed (state_at rows t i).require) (seen_in rows t i l m)).1,
+        some_counts (state_at rows t i).require ((clear.types t no_row l).states i no_state m).demands,
+      )))
 
   IsWithinLimits-universe_from : (rows : List TypeRow) → IsClear rows → IsWithinLimits (universe_from version rows)
   IsWithinLimits-universe_from rows clear = record {

@@ -1,14 +1,14 @@
 -- The greatest counts of entries, as they are gathered.
-use Rattle.std.proofs.Common.{◌≡◌, ℕ, suc, zero, ◌+◌, ◌*◌, ◌-◌, ◌<◌, ◌≤◌, ◌||◌, Bool, true, false, cond, IsTrue, List, [], ◌∷◌, ◌++◌, length, map, take, get_or, fold, max, unwrap_or, Some, sum_by, String, string_bytes, string_eq, refl, ap, sym, ◌∙◌, subst, append_assoc, arith}
+use Rattle.std.proofs.Common.{◌≡◌, ℕ, suc, zero, ◌+◌, ◌-◌, ◌<◌, ◌≤◌, ◌||◌, true, false, cond, List, [], ◌∷◌, ◌++◌, length, map, take, get_or, fold, max, unwrap_or, Some, sum_by, String, string_bytes, string_eq, refl, ap, sym, ◌∙◌, subst, append_assoc, arith}
 use Rattle.std.specs.declared.alloc.Global.{Global}
 use Rattle.std.specs.List.{list_any, All, AllByRecursion, IsDistinct, slice_index_or}
 use Rattle.std.specs.Map.{lookup}
 use Rattle.std.specs.Str.{bytes_eq}
-use Rattle.std.proofs.Math.Nat.{le-max_left, le-max_right, max-le, max-zero, max_comm, zero-max}
-use Rattle.std.proofs.lemmas.Bool.{both_ways, or_left, or_right, true≢false}
+use Rattle.std.proofs.Math.Nat.{le-max_left, le-max_right, max-le, max-zero, zero-max}
+use Rattle.std.proofs.lemmas.Bool.{both_ways, true≢false}
 use Rattle.std.proofs.lemmas.List.{append-nil, map-append, take_more}
 use Rattle.std.proofs.lemmas.List.Elements.{recursion_from_All}
-use Rattle.std.proofs.lemmas.List.Sums.{fold-append, sum_by-append, sum_by-cons}
+use Rattle.std.proofs.lemmas.List.Sums.{fold-append, sum_by-cons}
 use Rattle.std.proofs.lemmas.Map.Keys.{IsDistinct-head, IsDistinct-tail}
 use Rattle.std.proofs.lemmas.Slice.Eq.{bytes_eq-Decides}
 use Rattle.indexmap.specs.IndexMap.{insert_entry}
@@ -82,10 +82,10 @@ named_is_seen (x ∷ names) seen name h =
       | true ↦ λ is. absurd (both_ways _ h (seen_stays (bytes_eq name) (with_name seen x) names (seen_with seen x name is)))
       | false ↦ λ _. named_is_seen names (with_name seen x) name h
     ] refl where
-  seen_with : (seen : List (List ℕ)) (x name : List ℕ) → bytes_eq name x ≡ true → list_any (bytes_eq name) (with_name seen x) ≡ true
-  seen_with seen x name is =
-      let same : name ≡ x = (bytes_eq-Decides name x).0 is in
-      subst (λ m. list_any (bytes_eq m) (with_name seen x) ≡ true) (sym same) (seen_now seen x)
+      seen_with : (seen : List (List ℕ)) (x name : List ℕ) → bytes_eq name x ≡ true → list_any (bytes_eq name) (with_name seen x) ≡ true
+      seen_with seen x name is =
+          let same : name ≡ x = (bytes_eq-Decides name x).0 is in
+          subst (λ m. list_any (bytes_eq m) (with_name seen x) ≡ true) (sym same) (seen_now seen x)
 
 -- ---- an entry more
 

@@ -1,7 +1,6 @@
 -- The greatest demand is 16 at most, and no demand is greater.
-use Rattle.std.proofs.Common.{◌≡◌, ℕ, zero, suc, ◌+◌, ◌-◌, ◌<◌, ◌≤◌, Bool, true, false, cond, List, [], ◌∷◌, length, fold, max, nat_lt, refl, sym, ap, ◌∙◌, subst, arith, nat_eq}
+use Rattle.std.proofs.Common.{ℕ, zero, suc, ◌+◌, ◌-◌, ◌<◌, ◌≤◌, true, false, cond, List, [], ◌∷◌, length, fold, max, arith, nat_eq}
 use Rattle.std.specs.List.{All, AllByRecursion, position_or_len, slice_index_or}
-use Rattle.std.proofs.lemmas.Bool.{cases_Bool}
 use Rattle.std.proofs.Math.Nat.{le-max_left, le-max_right, max-le}
 use Rattle.std.proofs.lemmas.List.Elements.{recursion_from_All}
 use Rattle.metis_universe.specs.Universe.{IsUniverse, Pair, Universe, demand_of, further_of, greatest_demand, has, no_pair, required_of}

@@ -4,7 +4,7 @@
 --     goal_names u g      the two names of its word
 --     goal_word u g      these, with a colon between them
 --     IsWordable u g      the goal is the universe's, and is the one that its own word asks for: no type is named `port` where it is a port
-use Rattle.std.specs.Prelude.{◌≡◌, ℕ, Bool, ◌&&◌, List, ◌++◌, codes, Option, Some, None, option_map, if◌then◌else◌, is_none}
+use Rattle.std.specs.Prelude.{◌≡◌, ℕ, Bool, ◌&&◌, List, ◌++◌, codes, Option, None, option_map, if◌then◌else◌, is_none}
 use Rattle.std.specs.Str.{bytes_eq}
 use Rattle.metis_ids.specs.declared.goals.Goal.{Goal}
 use Rattle.metis_ids.specs.declared.goals.Goal.TheVariants.{Pair, Port}

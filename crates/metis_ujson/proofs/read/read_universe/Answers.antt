@@ -1,5 +1,4 @@
 use Rattle.std.proofs.Common.{ap, sym, ◌∙◌, Ok}
-use Rattle.metis_ujson.specs.Document.{rows_in}
 use Rattle.metis_ujson.proofs.OfVersion.{rows_in-of_version}
 use Rattle.metis_ujson.proofs.read.read_universe.Goals as goal
 

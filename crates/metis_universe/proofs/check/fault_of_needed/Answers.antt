@@ -1,4 +1,4 @@
-use Rattle.std.proofs.Common.{◌+◌, map, not, position, sym, ap, ◌∙◌, option_map}
+use Rattle.std.proofs.Common.{◌+◌, not, sym, ap, ◌∙◌, option_map}
 use Rattle.metis_universe.specs.Names.{is_name}
 use Rattle.metis_universe.specs.RowShapes.{NeedRow, names_needed}
 use Rattle.metis_universe.specs.declared.faults.RowFault.TheVariants.{PortName}

@@ -1,8 +1,8 @@
-use Rattle.std.proofs.Common.{◌≡◌, ◌-◌, ◌∷◌, [], ◌++◌, IfOk, take, get_or, ap, sym, ◌∙◌, subst, refl}
+use Rattle.std.proofs.Common.{◌≡◌, ◌-◌, ◌∷◌, [], ◌++◌, IfOk, get_or, ap, sym, ◌∙◌, subst, refl}
 use Rattle.std.specs.List.{slice_index_or}
 use Rattle.std.proofs.lemmas.List.{map_more}
 use Rattle.metis_universe.specs.Needs.{count_in}
-use Rattle.metis_universe.specs.Rows.{further_from, greatest_count}
+use Rattle.metis_universe.specs.Rows.{greatest_count}
 use Rattle.metis_universe.specs.Texts.{texts}
 use Rattle.metis_universe.proofs.Gathered.{count_in-greatest, further_from-one}
 use Rattle.metis_universe.proofs.needs.further_numbers.Goals as goal
