@@ -1,11 +1,11 @@
 -- The numbers of the tables are those of a universe.
-use Rattle.std.proofs.Common.{◌≡◌, ℕ, suc, zero, ◌+◌, ◌*◌, ◌/◌, ◌<◌, List, [], ◌∷◌, length, get_or, inl, refl, ap, sym, ◌∙◌, subst, arith}
+use Rattle.std.proofs.Common.{◌≡◌, ℕ, suc, zero, ◌+◌, ◌*◌, ◌/◌, ◌<◌, List, [], ◌∷◌, length, map, get_or, inl, refl, ap, sym, ◌∙◌, subst, arith}
 use Rattle.std.specs.List.{All}
 use Rattle.std.specs.List.Sorted.{IsNonDecreasingBy, IsStrictlyIncreasing}
 use Rattle.std.proofs.lemmas.List.{get_or_default}
 use Rattle.std.proofs.lemmas.List.Elements.{All-from_recursion}
 use Rattle.metis_universe.specs.Universe.{Pair, no_kind, no_pair, pair_at, type_of, pair_count, initial_of, provided_of, required_of, next_of, IsUniverse}
-use Rattle.metis_gen.specs.Tables.{kinds_at, pair_row, pairs_at, earlier_z_number, tables}
+use Rattle.metis_gen.specs.Tables.{kinds_at, pairs_at, earlier_z_number, tables}
 use Rattle.metis_gen.proofs.Places.{types_counted, pairs_counted, ports_counted, each_of_two, each_of_eight, each_kind, each_pair}
 
 -- ---- lists of at most one number
@@ -61,20 +61,25 @@ required_part n = each_pair n (λ p row. IsPart (3 * n) row.required) (λ i k li
 abbrev OneOfEach : Pair → Type 0
 OneOfEach p = (length p.further ≡ length p.required) × All (λ n. n ≡ 0) p.further
 
-none_of_none : (kind : ℕ) (state provided next : List ℕ) → OneOfEach (pair_row kind state provided [] next)
-none_of_none kind state provided next = (refl, none_all (λ n. n ≡ 0))
+abbrev zeros : List ℕ → List ℕ
+zeros rs = map (λ _. 0) rs
 
-one_of_one : (kind : ℕ) (state provided next : List ℕ) (r : ℕ) → OneOfEach (pair_row kind state provided (r ∷ []) next)
-one_of_one kind state provided next r = (refl, one_all (λ n. n ≡ 0) 0 refl)
+abbrev Ones : List ℕ → Type 0
+Ones rs = (length (zeros rs) ≡ length rs) × All (λ n. n ≡ 0) (zeros rs)
 
-earlier_one : (i kind : ℕ) (state provided next : List ℕ) → OneOfEach (pair_row kind state provided (earlier_z_number i) next)
-earlier_one zero kind state provided next = none_of_none kind state provided next
-earlier_one (suc h) kind state provided next = one_of_one kind state provided next (3 * h + 2)
+none_ones : Ones []
+none_ones = (refl, none_all (λ n. n ≡ 0))
+
+one_ones : (r : ℕ) → Ones (r ∷ [])
+one_ones r = (refl, one_all (λ n. n ≡ 0) 0 refl)
+
+earlier_ones : (i : ℕ) → Ones (earlier_z_number i)
+earlier_ones zero = none_ones
+earlier_ones (suc h) = one_ones (3 * h + 2)
 
 one_of_each : (n p : ℕ) → p < 8 * n → OneOfEach (pair_at (tables n) p)
 one_of_each n = each_pair n (λ p row. OneOfEach row) (λ i k li. each_of_eight (λ k. OneOfEach (get_or (pairs_at i) k no_pair))
-    (none_of_none _ _ _ _) (earlier_one i _ _ _ _) (one_of_one _ _ _ _ _) (none_of_none _ _ _ _)
-    (none_of_none _ _ _ _) (none_of_none _ _ _ _) (one_of_one _ _ _ _ _) (none_of_none _ _ _ _) k)
+    none_ones (earlier_ones i) (one_ones (3 * i + 1)) none_ones none_ones none_ones (one_ones (3 * i)) none_ones k)
 
 -- ---- next pairs
 

@@ -14,7 +14,6 @@ use Rattle.metis_ujson.proofs.Clear.{no_fault}
 use Rattle.metis_ujson.proofs.Rebuilt.{rebuilt}
 use Rattle.metis_gen.specs.Generated.{earlier_z, one_of, x_port, y_port, z_port, left_row, right_row, rows_at, generated_rows, generated}
 use Rattle.metis_gen.specs.Tables.{pair_row, pairs_at, left_pairs, right_pairs, earlier_z_number, tables}
-use Rattle.metis_gen.specs.Generated as gen
 use Rattle.metis_gen.proofs.BySight.{tables_by_sight}
 use Rattle.metis_gen.proofs.Named.{tables_named}
 use Rattle.metis_gen.proofs.Numbers.{tables_universe}
@@ -154,27 +153,37 @@ rows_mean n most = ap (λ o. or_universe o (universe_from 1 (generated_rows n)))
 
 -- ---- each port is required of one provider
 
-ones : (names : List (List ℕ)) → AllByRecursion (λ n. n.count ≡ 1) (map one_of names)
+ones : (names : List (List ℕ)) → AllByRecursion (λ (n : NeedRow). n.count ≡ 1) (map one_of names)
 ones [] = tt
 ones (name ∷ names) = (refl, ones names)
 
-abbrev OneEach : StateRow → Type 0
-OneEach state = All (λ n. n.count ≡ 1) state.require
+abbrev One : NeedRow → Type 0
+One n = n.count ≡ 1
 
-one_each : (name : List ℕ) (provide require next : List (List ℕ)) → OneEach (gen.state_row name provide require next)
-one_each name provide require next = All-from_recursion (λ (n : NeedRow). n.count ≡ 1) (map one_of require) (ones require)
+abbrev OneEach : StateRow → Type 0
+OneEach state = All One state.require
+
+abbrev OneEachOf : TypeRow → Type 0
+OneEachOf row = All OneEach row.states
+
+left_one : (i : ℕ) → OneEachOf (left_row i)
+left_one i = All-from_recursion OneEach (left_row i).states (
+  All-from_recursion One [] tt,
+  (All-from_recursion One (map one_of (earlier_z i)) (ones (earlier_z i)), (All-from_recursion One (map one_of (y_port i ∷ [])) (ones (y_port i ∷ [])), (All-from_recursion One [] tt, tt))),
+)
+
+right_one : (i : ℕ) → OneEachOf (right_row i)
+right_one i = All-from_recursion OneEach (right_row i).states (
+  All-from_recursion One [] tt,
+  (All-from_recursion One [] tt, (All-from_recursion One (map one_of (x_port i ∷ [])) (ones (x_port i ∷ [])), (All-from_recursion One [] tt, tt))),
+)
+
+one_everywhere : (n : ℕ) → All OneEachOf (generated_rows n)
+unfolding generated_rows
+one_everywhere n = All-from_recursion OneEachOf (generated_rows n) (flat_map_each OneEachOf rows_at (range_with_len 0 n) (λ k d l. let i = get_or (range_with_len 0 n) k d in (left_one i, (right_one i, tt))))
 
 pub rows_of_version : (n : ℕ) → IsOfVersion 1 (generated_rows n)
-unfolding generated_rows
-rows_of_version n = record {
-  version = inl refl;
-  single = λ _. All-from_recursion (λ row. All OneEach row.states) (generated_rows n) (flat_map_each (λ row. All OneEach row.states) rows_at (range_with_len 0 n) (λ k d l. let i = get_or (range_with_len 0 n) k d in (left i, (right i, tt))));
-} where
-  left : (i : ℕ) → All OneEach (left_row i).states
-  left i = All-from_recursion OneEach (left_row i).states (one_each _ _ [] _, (one_each _ _ (earlier_z i) _, (one_each _ _ (y_port i ∷ []) _, (one_each _ _ [] _, tt))))
-
-  right : (i : ℕ) → All OneEach (right_row i).states
-  right i = All-from_recursion OneEach (right_row i).states (one_each _ _ [] _, (one_each _ _ [] _, (one_each _ _ (x_port i ∷ []) _, (one_each _ _ [] _, tt))))
+rows_of_version n = record { version = inl refl; single = λ one. one_everywhere n }
 
 -- ---- no list of theirs is long
 
