@@ -50,12 +50,7 @@ impl Verb {
     {
         match self {
             Verb::Plan | Verb::Replay | Verb::Refute | Verb::Audit => 256,
-            Verb::Sim
-            | Verb::Crew
-            | Verb::Waves
-            | Verb::Control
-            | Verb::Print
-            | Verb::Load => 0,
+            Verb::Sim | Verb::Crew | Verb::Waves | Verb::Control | Verb::Print | Verb::Load => 0,
         }
     }
 
