@@ -154,7 +154,7 @@ named_same used first xs i a table new next next' low is n other now then =
     let news : news_of (take (i + 1) xs) ≡ news_of (take i xs) = news_next xs i a low is ∙ ap (λ o. news_of (take i xs) ++ cons_option o []) (nothing_made a other) ∙ append-nil (news_of (take i xs)) in
     subst (λ l. Named used first l new next') (sym news) (subst (λ t. Named used first (news_of (take i xs)) t next') (sym now) (subst (λ m. Named used first (news_of (take i xs)) table m) (sym then) n))
 
-news_few : (xs : List Action) → length (news_of xs) ≤ length xs
+pub news_few : (xs : List Action) → length (news_of xs) ≤ length xs
 news_few [] = omega arith
 news_few (a ∷ xs) = by (made_by a) (news_few xs) where
   by : (o : Option ℕ) → length (news_of xs) ≤ length xs → length (cons_option o (news_of xs)) ≤ suc (length xs)

@@ -30,7 +30,7 @@ pub names_for-requires-clause-next : goal.names_for-requires-clause-next
 names_for-requires-clause-next c =
     let u = c.args.u.now in
     let is = ap length (c.deref-2.ensures.value ∙ c.in_ok-scaffold.ensures.actions ∙ ap (scaffold_list u) (c.deref.ensures.value ∙ c.in_ok-pairs.ensures)) in
-    (c.requires.next.0, (c.requires.next.1, omega (arith, is, c.requires.next.2, (scaffold_short u (pairs_in c.args.c.now) c.keeps_invariant.ensures).1)))
+    (c.requires.next.0, c.requires.next.1, omega (arith, is, c.requires.next.2, (scaffold_short u (pairs_in c.args.c.now) c.keeps_invariant.ensures).1))
 
 pub bind_all-requires : goal.bind_all-requires
 bind_all-requires c = all_low c.args.u.now (pairs_in c.args.c.now) c.requires.layered

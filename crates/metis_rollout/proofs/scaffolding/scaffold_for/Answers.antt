@@ -46,7 +46,7 @@ returns-clause-actions c =
     ∙ list_is c.args.u.now c.keeps_invariant.ensures c.args.targets.now c.requires.layered c.in_ok-support.support c.in_ok-support.ensures c.args.l.now c.requires.layers c.in_ok-pairs.pairs.items c.in_ok-pairs.ensures c.in_ok-holders.holders (c.in_ok-holders.ensures ∙ ap (λ ps. map (holder_among c.args.u.now ps) (range_with_len 0 (port_count c.args.u.now))) c.deref.ensures.value)
 
 pub returns-clause-count : goal.returns-clause-count
-returns-clause-count c = c.len.ensures ∙ ap length (pairs_are c.args.u.now c.keeps_invariant.ensures c.args.targets.now c.requires.layered c.in_ok-support.support c.in_ok-support.ensures c.args.l.now c.requires.layers c.in_ok-pairs.pairs.items c.in_ok-pairs.ensures)
+returns-clause-count c = let same = ap length (pairs_are c.args.u.now c.keeps_invariant.ensures c.args.targets.now c.requires.layered c.in_ok-support.support c.in_ok-support.ensures c.args.l.now c.requires.layers c.in_ok-pairs.pairs.items c.in_ok-pairs.ensures) in omega (arith, c.len.ensures, same)
 
 pub returns-clause-holders : goal.returns-clause-holders
 returns-clause-holders c = holders_are c.args.u.now c.keeps_invariant.ensures c.args.targets.now c.requires.layered c.in_ok-support.support c.in_ok-support.ensures c.args.l.now c.requires.layers c.in_ok-pairs.pairs.items c.in_ok-pairs.ensures c.in_ok-holders.holders (c.in_ok-holders.ensures ∙ ap (λ ps. map (holder_among c.args.u.now ps) (range_with_len 0 (port_count c.args.u.now))) c.deref.ensures.value)
