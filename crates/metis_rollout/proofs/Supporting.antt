@@ -1,5 +1,5 @@
 -- What the selection of the instances' pairs says of the scaffold.
-use Rattle.std.proofs.Common.{◌≡◌, ℕ, ◌<◌, ◌≤◌, true, List, length, map, sym, ap, ◌∙◌, subst, arith, refl, slice_index_or}
+use Rattle.std.proofs.Common.{◌≡◌, ℕ, ◌<◌, true, List, length, map, sym, ap, ◌∙◌, subst, arith, refl, slice_index_or}
 use Rattle.std.specs.Prelude.{IsSome, IsTrue}
 use Rattle.std.specs.List.{All, filter, list_any, range_with_len}
 use Rattle.std.proofs.lemmas.Bool.{and_parts}

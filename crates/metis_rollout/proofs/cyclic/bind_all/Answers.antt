@@ -1,4 +1,4 @@
-use Rattle.std.proofs.Common.{◌<◌, ℕ}
+use Rattle.std.proofs.Common.{◌<◌}
 use Rattle.metis_universe.specs.Universe.{pair_count}
 use Rattle.metis_rollout.specs.Holders.{holder_at}
 use Rattle.metis_rollout.specs.Rollout.{named}

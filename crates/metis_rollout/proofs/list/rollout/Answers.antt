@@ -10,7 +10,7 @@ use Rattle.metis_universe.specs.Numbers.{IsOf}
 use Rattle.metis_universe.specs.Step.{after_all}
 use Rattle.metis_universe.specs.Universe.{has, is_empty}
 use Rattle.metis_layers.specs.LayerOrder.{place_of}
-use Rattle.metis_rollout.specs.Rollout.{cleared_by, cycle_removal, free_number, idle_unbinds, members, named, news_of, pairs_in, renumber, rollout, unreferenced_deletes}
+use Rattle.metis_rollout.specs.Rollout.{cycle_removal, free_number, idle_unbinds, members, named, news_of, pairs_in, renumber, rollout, unreferenced_deletes}
 use Rattle.metis_rollout.specs.Standing.{IsSteady}
 use Rattle.metis_rollout.proofs.Layered.{left_layered}
 use Rattle.metis_rollout.proofs.Listed.{left_is, listed, listed_long, none_left, some_left}

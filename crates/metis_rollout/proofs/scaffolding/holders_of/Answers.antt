@@ -1,7 +1,7 @@
 use Rattle.std.proofs.Common.{◌<◌, ap, ◌∙◌, arith, length, get_or}
 use Rattle.std.specs.Option.{option_map_or}
 use Rattle.metis_universe.specs.Selection.{provider_of}
-use Rattle.metis_universe.specs.Universe.{pair_count, port_count}
+use Rattle.metis_universe.specs.Universe.{port_count}
 use Rattle.metis_layers.proofs.Tables.{entries_count, pushed}
 use Rattle.metis_rollout.specs.Holders.{holder_among}
 use Rattle.metis_rollout.proofs.Tabulated.{holder_is, provider_low}
