@@ -21,7 +21,7 @@ use crate::Status;
 use crate::aim::{Aim, aim_of};
 use crate::plan::write_actions;
 use crate::reading::{goals_from, plan_from};
-use crate::steady::{first_bad, write_loose};
+use crate::steady::{first_bad, first_loose, write_loose};
 use crate::stop::{end, said};
 use crate::verdict_line::write_bad;
 use crate::words::TargetWord;
@@ -33,7 +33,6 @@ use metis_planner::{Outcome, plan};
 use metis_rollout::{rollout, rollout_replaces};
 use metis_text::write_refusal;
 use metis_universe::Universe;
-use metis_waits::{WFault, waits};
 use std::alloc::Global;
 
 /// Reads the universe and the plan, and puts a plan that begins with this one's actions, makes what the targets ask for beside
@@ -113,10 +112,10 @@ fn put_steady<K: Sink>(
     requires runs { IsRun u.now empty old.now }
     ensures { Shown (answer.IsAnswer (answer.Rollout u.now goals.now old.now)) (K.written out.old) (K.written out.new) (K.faults out.old) (K.faults out.new) result }
 {
-    match waits(alloc, u, old) {
-        Ok(_) => put_goals(alloc, u, goals, old, out),
-        Err(WFault::Loose(number)) => said(write_loose(alloc, number, out), Status::No),
-        Err(WFault::NoMemory) => Status::NoMemory,
+    match first_loose(alloc, u, old) {
+        Ok(None) => put_goals(alloc, u, goals, old, out),
+        Ok(Some(number)) => said(write_loose(alloc, number, out), Status::No),
+        Err(_) => Status::NoMemory,
     }
 }
 
