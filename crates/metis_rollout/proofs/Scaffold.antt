@@ -125,7 +125,7 @@ module _ (u : Universe) (k : IsUniverse u) (g : List ℕ) where
   pub listed_layer : (p : ℕ) → has ends p ≡ true → HasSomeLayer u p
   listed_layer p h = layer_in u p (and_parts (has (provider_pairs u g) p) (has (layered u) p) (sym (has-filter (has (provider_pairs u g)) p (layered u)) ∙ h)).1
 
-  listed_selected : (p : ℕ) → has ends p ≡ true → Selected p
+  pub listed_selected : (p : ℕ) → has ends p ≡ true → Selected p
   listed_selected p h =
       let provided = (and_parts (has (provider_pairs u g) p) (has (layered u) p) (sym (has-filter (has (provider_pairs u g)) p (layered u)) ∙ h)).0 in
       let some = some_of (λ q. has (providers_needed u q) p) (selected u g) (and_parts (list_any (λ q. has (providers_needed u q) p) (selected u g)) (has (all_pairs u) p)

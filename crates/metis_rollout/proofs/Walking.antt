@@ -87,10 +87,13 @@ none_next xs i a keys new low is before other now q = ap (λ l. has l q) now ∙
 
 -- ---- names
 
--- each of the numbers has the name of its place, and the next name is that of the next place
-pub record Named (used news : List ℕ) (table : List (ℕ × ℕ)) (next : ℕ) : Type 0 where
-  pub names : (z : ℕ) → has news z ≡ true → lookup (nat_eq z) table ≡ Some (free_number used (place_of news z))
-  pub next_is : next ≡ free_number used (length news)
+-- each of the numbers has the name of its place behind the first n, and the next name is that of the next place
+pub record Named (used : List ℕ) (n : ℕ) (news : List ℕ) (table : List (ℕ × ℕ)) (next : ℕ) : Type 0 where
+  pub names : (z : ℕ) → has news z ≡ true → lookup (nat_eq z) table ≡ Some (free_number used (n + place_of news z))
+  pub next_is : next ≡ free_number used (n + length news)
+
+pub named_none : (used : List ℕ) (n : ℕ) (table : List (ℕ × ℕ)) (next : ℕ) → next ≡ free_number used n → Named used n [] table next
+named_none used n table next is = let same : n ≡ n + 0 = omega arith in record { names = λ z h. absurd (false≢true h); next_is = is ∙ ap (free_number used) same }
 
 place_before : (xs : List ℕ) (z q : ℕ) → has xs q ≡ true → place_of (xs ++ z ∷ []) q ≡ place_of xs q
 place_before [] z q h = absurd (false≢true h)
@@ -106,18 +109,18 @@ place_last (x ∷ xs) z h = elim (nat_eq x z) as (λ b. nat_eq x z ≡ b → (b 
   | false ↦ λ other e. rw other (ap (λ n. 1 + n) (place_last xs z e) ∙ omega arith)
 ] refl h
 
-named_push : (used news : List ℕ) (table table' : List (ℕ × ℕ)) (next next' z : ℕ) → Named used news table next → has news z ≡ false → ((q : ℕ) → lookup (nat_eq q) table' ≡ cond (nat_eq q z) (Some next) (lookup (nat_eq q) table)) → next' ≡ next_free used (suc next) → Named used (news ++ z ∷ []) table' next'
-named_push used news table table' next next' z n other now is = record {
-  names = λ q h. now q ∙ elim (nat_eq q z) as (λ b. nat_eq q z ≡ b → cond b (Some next) (lookup (nat_eq q) table) ≡ Some (free_number used (place_of (news ++ z ∷ []) q))) [
-    | true ↦ λ same. ap Some (n.next_is ∙ ap (free_number used) (sym (place_last news z other) ∙ ap (place_of (news ++ z ∷ [])) (sym (eqb-true q z same))))
+named_push : (used : List ℕ) (first : ℕ) (news : List ℕ) (table table' : List (ℕ × ℕ)) (next next' z : ℕ) → Named used first news table next → has news z ≡ false → ((q : ℕ) → lookup (nat_eq q) table' ≡ cond (nat_eq q z) (Some next) (lookup (nat_eq q) table)) → next' ≡ next_free used (suc next) → Named used first (news ++ z ∷ []) table' next'
+named_push used first news table table' next next' z n other now is = record {
+  names = λ q h. now q ∙ elim (nat_eq q z) as (λ b. nat_eq q z ≡ b → cond b (Some next) (lookup (nat_eq q) table) ≡ Some (free_number used (first + place_of (news ++ z ∷ []) q))) [
+    | true ↦ λ same. ap Some (n.next_is ∙ ap (λ k. free_number used (first + k)) (sym (place_last news z other) ∙ ap (place_of (news ++ z ∷ [])) (sym (eqb-true q z same))))
     | false ↦ λ off.
         let there : has news q ≡ true = elim (or_cases (has news q) (nat_eq z q || false) (sym (list_any-append (λ x. nat_eq x q) news (z ∷ [])) ∙ h)) [
           | inl before ↦ before
           | inr last ↦ absurd (false≢true (sym off ∙ eq-eqb q z (sym (only (nat_eq z q) (λ e. eqb-true z q e) last))))
         ] in
-        n.names q there ∙ ap (λ k. Some (free_number used k)) (sym (place_before news z q there))
+        n.names q there ∙ ap (λ k. Some (free_number used (first + k))) (sym (place_before news z q there))
   ] refl;
-  next_is = is ∙ ap (λ k. next_free used (suc k)) n.next_is ∙ ap (free_number used) (sym (length_push news));
+  next_is = let more : suc (first + length news) ≡ first + length (news ++ z ∷ []) = omega (arith, length_push news) in is ∙ ap (λ k. next_free used (suc k)) n.next_is ∙ ap (free_number used) more;
 } where
   only : {q : ℕ} (b : Bool) → (b ≡ true → z ≡ q) → (b || false) ≡ true → z ≡ q
   only true f e = f refl
@@ -134,24 +137,24 @@ nothing_made (Bind r z y) other = refl
 nothing_made (Unbind r z y) other = refl
 nothing_made (Move z p q) other = refl
 
-pub named_next : (u : Universe) (used : List ℕ) (xs : List Action) (i : ℕ) (a : Action) (table new : List (ℕ × ℕ)) (next next' z t : ℕ) → is_steadfast u xs ≡ true → i < length xs → a ≡ get_or xs i a → Named used (news_of (take i xs)) table next → a ≡ New z t
-    → new ≡ insert_entry nat_cmp table z next → next' ≡ next_free used (next + 1) → Named used (news_of (take (i + 1) xs)) new next'
-named_next u used xs i a table new next next' z t steady low is n made now then =
+pub named_next : (u : Universe) (used : List ℕ) (first : ℕ) (xs : List Action) (i : ℕ) (a : Action) (table new : List (ℕ × ℕ)) (next next' z t : ℕ) → is_steadfast u xs ≡ true → i < length xs → a ≡ get_or xs i a → Named used first (news_of (take i xs)) table next → a ≡ New z t
+    → new ≡ insert_entry nat_cmp table z next → next' ≡ next_free used (next + 1) → Named used first (news_of (take (i + 1) xs)) new next'
+named_next u used first xs i a table new next next' z t steady low is n made now then =
     let unused : has (news_of (take i xs)) z ≡ false = has-news (take i xs) z ∙ not_true (is_made (take i xs) z) (subst (λ b. is_steadfast_after u (take i xs) b ≡ true) made (steadfast_at u xs i a steady (item_at xs i a low ∙ ap Some (sym is)))) in
     let e : next + 1 ≡ suc next = omega arith in
     let news : news_of (take (i + 1) xs) ≡ news_of (take i xs) ++ z ∷ [] = news_next xs i a low is ∙ ap (λ b. news_of (take i xs) ++ cons_option (made_by b) []) made in
-    subst (λ l. Named used l new next') (sym news)
-    (named_push used (news_of (take i xs)) table new next next' z n unused (λ q. ap (λ es. lookup (nat_eq q) es) now ∙ pair_of-put (config_of table []) z next q) (then ∙ ap (next_free used) e)) where
+    subst (λ l. Named used first l new next') (sym news)
+    (named_push used first (news_of (take i xs)) table new next next' z n unused (λ q. ap (λ es. lookup (nat_eq q) es) now ∙ pair_of-put (config_of table []) z next q) (then ∙ ap (next_free used) e)) where
       not_true : (b : Bool) → not b ≡ true → b ≡ false
       not_true true h = absurd (false≢true h)
       not_true false h = refl
 
-pub named_same : (used : List ℕ) (xs : List Action) (i : ℕ) (a : Action) (table new : List (ℕ × ℕ)) (next next' : ℕ) → i < length xs → a ≡ get_or xs i a → Named used (news_of (take i xs)) table next → ((z t : ℕ) → a ≡ New z t → ⊥) → new ≡ table → next' ≡ next → Named used (news_of (take (i + 1) xs)) new next'
-named_same used xs i a table new next next' low is n other now then =
+pub named_same : (used : List ℕ) (first : ℕ) (xs : List Action) (i : ℕ) (a : Action) (table new : List (ℕ × ℕ)) (next next' : ℕ) → i < length xs → a ≡ get_or xs i a → Named used first (news_of (take i xs)) table next → ((z t : ℕ) → a ≡ New z t → ⊥) → new ≡ table → next' ≡ next → Named used first (news_of (take (i + 1) xs)) new next'
+named_same used first xs i a table new next next' low is n other now then =
     let news : news_of (take (i + 1) xs) ≡ news_of (take i xs) = news_next xs i a low is ∙ ap (λ o. news_of (take i xs) ++ cons_option o []) (nothing_made a other) ∙ append-nil (news_of (take i xs)) in
-    subst (λ l. Named used l new next') (sym news) (subst (λ t. Named used (news_of (take i xs)) t next') (sym now) (subst (λ m. Named used (news_of (take i xs)) table m) (sym then) n))
+    subst (λ l. Named used first l new next') (sym news) (subst (λ t. Named used first (news_of (take i xs)) t next') (sym now) (subst (λ m. Named used first (news_of (take i xs)) table m) (sym then) n))
 
-news_few : (xs : List Action) → length (news_of xs) ≤ length xs
+pub news_few : (xs : List Action) → length (news_of xs) ≤ length xs
 news_few [] = omega arith
 news_few (a ∷ xs) = by (made_by a) (news_few xs) where
   by : (o : Option ℕ) → length (news_of xs) ≤ length xs → length (cons_option o (news_of xs)) ≤ suc (length xs)
@@ -165,8 +168,8 @@ taken_few (x ∷ xs) zero = omega arith
 taken_few (x ∷ xs) (suc i) = omega (arith, taken_few xs i)
 
 -- the next name is small
-pub next_small : (used : List ℕ) (xs : List Action) (i : ℕ) (table : List (ℕ × ℕ)) (next : ℕ) → Named used (news_of (take i xs)) table next → next ≤ length used + i
-next_small used xs i table next n = omega (arith, n.next_is, free_number-low used (length (news_of (take i xs))), news_few (take i xs), taken_few xs i)
+pub next_small : (used : List ℕ) (first : ℕ) (xs : List Action) (i : ℕ) (table : List (ℕ × ℕ)) (next : ℕ) → Named used first (news_of (take i xs)) table next → next ≤ length used + first + i
+next_small used first xs i table next n = omega (arith, n.next_is, free_number-low used (first + length (news_of (take i xs))), news_few (take i xs), taken_few xs i)
 
-pub named_all : (used : List ℕ) (xs : List Action) (i : ℕ) (table : List (ℕ × ℕ)) (next : ℕ) → Named used (news_of (take i xs)) table next → length xs ≤ i → (z : ℕ) → has (news_of xs) z ≡ true → lookup (nat_eq z) table ≡ Some (free_number used (place_of (news_of xs) z))
-named_all used xs i table next n high z h = subst (λ l. has (news_of l) z ≡ true → lookup (nat_eq z) table ≡ Some (free_number used (place_of (news_of l) z))) (taken_all xs i high) (n.names z) h
+pub named_all : (used : List ℕ) (first : ℕ) (xs : List Action) (i : ℕ) (table : List (ℕ × ℕ)) (next : ℕ) → Named used first (news_of (take i xs)) table next → length xs ≤ i → Named used first (news_of xs) table next
+named_all used first xs i table next n high = subst (λ l. Named used first (news_of l) table next) (taken_all xs i high) n

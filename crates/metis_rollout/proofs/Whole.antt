@@ -170,7 +170,7 @@ module _ (u : Universe) (k : IsUniverse u) (old fresh : List Action) (s : IsStea
   leaves = cleared_leaves u old going
 
   -- each pair that stands has a layer
-  layer : (z p : ℕ) → pair_of what z ≡ Some p → HasLayer u p (pair_count u)
+  pub layer : (z p : ℕ) → pair_of what z ≡ Some p → HasLayer u p (pair_count u)
   layer z p there = layer_by u p (pair_count u)
       (IsInside-after_all u (layer_set u (pair_count u)) empty cut (Closed-layers u k) IsConfig-empty (IsInside-empty (layer_set u (pair_count u))) (run_from_going u [] cut (cleared_goes u old going)) z p (ap (λ d. pair_of d z) leaves ∙ there))
 

@@ -9,9 +9,9 @@ use Rattle.metis_top.specs.declared.refusal.Refusal.{Refusal}
 use Rattle.metis_top.specs.declared.refusal.Refusal.TheVariants.{TooLong, Word}
 use Rattle.metis_top.specs.declared.status.Status.{Status}
 use Rattle.metis_top.specs.declared.words.Verb.{Verb}
-use Rattle.metis_top.specs.declared.words.Verb.TheVariants.{Plan, Replay, Refute, Audit, Sim, Crew, Waves, Control, Print, Load}
+use Rattle.metis_top.specs.declared.words.Verb.TheVariants.{Plan, Replay, Refute, Audit, Sim, Crew, Waves, Control, Rollout, Print, Load}
 use Rattle.metis_top.specs.Answer as answer
-use Rattle.metis_top.specs.Commands.{waves_then, control_over, control_then, audit_then, plan_said, crew_over, crew_then, judged, or_plan_refused, or_refusal_refused, or_turns_refused, or_universe_refused, goals_named, plan_limit, refusal_limit, refute_then, replay_then, session_limit, sim_then, turns_limit, command_script, script_from, universe_then}
+use Rattle.metis_top.specs.Commands.{waves_then, control_over, control_then, audit_then, plan_said, crew_over, crew_then, judged, or_plan_refused, or_refusal_refused, or_turns_refused, or_universe_refused, goals_named, plan_limit, refusal_limit, refute_then, replay_then, rollout_then, session_limit, sim_then, turns_limit, command_script, script_from, universe_then}
 use Rattle.metis_top.specs.Course.{Ran, AreTaken, IsRead, OnShelf, after}
 use Rattle.metis_ujson.specs.Document.{document_limit, universe_in}
 use Rattle.metis_top.specs.Forms.{file_count}
@@ -59,6 +59,11 @@ at_most_audit u g plan = λ bytes.
     at_most_if 0 (nat_le (length bytes) plan_limit) (judged (λ parts. Reply (answer.Audit u g (plan_said parts) parts.rows.after)) (or_plan_refused (plan_in u bytes))) (TooLong 3)
     (at_most_judged 0 (λ parts. Reply (answer.Audit u g (plan_said parts) parts.rows.after)) (or_plan_refused (plan_in u bytes)) (λ parts. tt))
 
+at_most_rollout : (u : Universe) (g : List Goal) (plan : List ℕ) → IsAtMost 1 (rollout_then plan (u, g))
+at_most_rollout u g plan = λ bytes.
+    at_most_if 0 (nat_le (length bytes) plan_limit) (judged (λ parts. Reply (answer.Rollout u g parts.rows.actions)) (or_plan_refused (plan_in u bytes))) (TooLong 3)
+    (at_most_judged 0 (λ parts. Reply (answer.Rollout u g parts.rows.actions)) (or_plan_refused (plan_in u bytes)) (λ parts. tt))
+
 at_most_waves : (u : Universe) (plan numbers : List ℕ) → IsAtMost 1 (waves_then plan numbers u)
 at_most_waves u plan numbers = λ bytes.
     at_most_if 0 (nat_le (length bytes) plan_limit) (judged (λ parts. Reply (answer.Waves u parts.rows.actions numbers)) (or_plan_refused (plan_in u bytes))) (TooLong 3)
@@ -100,6 +105,7 @@ at_most_command Sim files targets size numbers = at_most_universe 1 2 (word_at f
 at_most_command Crew files targets size numbers = at_most_universe 2 2 (word_at files 0) _ (λ u. at_most_crew u (word_at files 1) (word_at files 2))
 at_most_command Waves files targets size numbers = at_most_universe 1 2 (word_at files 0) _ (λ u. at_most_waves u (word_at files 1) numbers)
 at_most_command Control files targets size numbers = at_most_universe 2 2 (word_at files 0) _ (λ u. at_most_control u (word_at files 1) (word_at files 2))
+at_most_command Rollout files targets size numbers = at_most_universe 1 2 (word_at files 0) _ (λ u. at_most_judged 1 (λ g. rollout_then (word_at files 1) (u, g)) (goals_named 4 u targets) (λ g. at_most_rollout u g (word_at files 1)))
 at_most_command Print files targets size numbers = at_most_universe 0 2 (word_at files 0) _ (λ u. tt)
 at_most_command Load files targets size numbers = tt
 
@@ -112,6 +118,7 @@ first_read Sim files targets size numbers some = tt
 first_read Crew files targets size numbers some = tt
 first_read Waves files targets size numbers some = tt
 first_read Control files targets size numbers some = tt
+first_read Rollout files targets size numbers some = tt
 first_read Print files targets size numbers some = tt
 first_read Load files targets size numbers some = absurd (omega (arith, some))
 

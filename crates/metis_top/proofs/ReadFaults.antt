@@ -9,7 +9,7 @@ use Rattle.metis_top.specs.declared.refusal.Refusal.TheVariants as refusal
 use Rattle.metis_top.specs.declared.status.Status.{Status}
 use Rattle.metis_top.specs.declared.status.Status.TheVariants.{Done, No, ReadFault}
 use Rattle.metis_top.specs.declared.words.Verb.{Verb}
-use Rattle.metis_top.specs.declared.words.Verb.TheVariants.{Plan, Replay, Refute, Audit, Sim, Crew, Waves, Control, Print, Load}
+use Rattle.metis_top.specs.declared.words.Verb.TheVariants.{Plan, Replay, Refute, Audit, Sim, Crew, Waves, Control, Rollout, Print, Load}
 use Rattle.metis_top.specs.Answer as answer
 use Rattle.metis_top.specs.Answer.{Answer, IsAnswer}
 use Rattle.metis_replay.specs.declared.verdict.Verdict.{Verdict}
@@ -17,7 +17,7 @@ use Rattle.metis_replay.specs.declared.verdict.Verdict.TheVariants.{Good, Bad, M
 use Rattle.metis_ids.specs.declared.actions.Action.{Action}
 use Rattle.metis_text.specs.Reading.{plan_in}
 use Rattle.metis_text.specs.RefusalReading.{refusal_in}
-use Rattle.metis_top.specs.Commands.{waves_then, control_over, control_then, audit_then, plan_said, universe_then, crew_over, crew_then, judged, or_plan_refused, or_refusal_refused, or_turns_refused, or_universe_refused, goals_named, plan_limit, refusal_limit, refute_then, replay_then, session_limit, sim_then, turns_limit, command_script, script_from}
+use Rattle.metis_top.specs.Commands.{waves_then, control_over, control_then, audit_then, plan_said, universe_then, crew_over, crew_then, judged, or_plan_refused, or_refusal_refused, or_turns_refused, or_universe_refused, goals_named, plan_limit, refusal_limit, refute_then, replay_then, rollout_then, session_limit, sim_then, turns_limit, command_script, script_from}
 use Rattle.metis_refusal.specs.declared.verdict.Verdict2.{Verdict2}
 use Rattle.metis_refusal.specs.declared.verdict.Verdict2.TheVariants.{Closed, NotFree, Open, LacksNone}
 use Rattle.metis_audit.specs.declared.answers.Answer.{Answer as AuditAnswer}
@@ -55,6 +55,10 @@ audit_ends (audit.Path l) status is = inr is
 audit_ends (audit.Loose k) status is = inr is
 audit_ends (audit.After k) status is = inr is
 
+either_ends : {A B : Type 0} (status : Status) → ((status ≡ Done) × A) ⊎ ((status ≡ No) × B) → (status ≡ Done) ⊎ (status ≡ No)
+either_ends status (inl is) = inl is.0
+either_ends status (inr is) = inr is.0
+
 -- an answer has the status `Done` or `No`
 answer_status : (said : Answer) (lines : List (List ℕ)) (status : Status) → IsAnswer said lines status → (status ≡ Done) ⊎ (status ≡ No)
 answer_status (answer.Plan u goals) lines status (inl is) = inl is.0
@@ -73,6 +77,9 @@ answer_status (answer.Waves u actions numbers) lines status (inr (inr scheduled)
 answer_status (answer.Control u actions script) lines status (inl bad) = inr bad.is
 answer_status (answer.Control u actions script) lines status (inr (inl loose)) = inr loose.is
 answer_status (answer.Control u actions script) lines status (inr (inr answered)) = inl answered.is
+answer_status (answer.Rollout u goals actions) lines status (inl bad) = inr bad.is
+answer_status (answer.Rollout u goals actions) lines status (inr (inl loose)) = inr loose.is
+answer_status (answer.Rollout u goals actions) lines status (inr (inr puts)) = either_ends status puts.answer
 answer_status (answer.Print u) lines status is = inl is.1
 answer_status (answer.Load size) lines status is = inl is.is
 
@@ -139,6 +146,13 @@ numbered_audit u g plan = (
       (numbered_judged 4 (λ parts. Reply (answer.Audit u g (plan_said parts) parts.rows.after)) (or_plan_refused (plan_in u bytes)) (λ parts. tt)),
 )
 
+numbered_rollout : (u : Universe) (g : List Goal) (plan : List ℕ) → Numbered 3 (rollout_then plan (u, g))
+numbered_rollout u g plan = (
+  refl,
+  λ bytes. numbered_if 4 (nat_le (length bytes) plan_limit) (judged (λ parts. Reply (answer.Rollout u g parts.rows.actions)) (or_plan_refused (plan_in u bytes))) (TooLong 3)
+      (numbered_judged 4 (λ parts. Reply (answer.Rollout u g parts.rows.actions)) (or_plan_refused (plan_in u bytes)) (λ parts. tt)),
+)
+
 numbered_waves : (u : Universe) (plan numbers : List ℕ) → Numbered 3 (waves_then plan numbers u)
 numbered_waves u plan numbers = (
   refl,
@@ -190,6 +204,7 @@ numbered_command Sim files targets size numbers = numbered_universe 2 (word_at f
 numbered_command Crew files targets size numbers = numbered_universe 2 (word_at files 0) _ (λ u. numbered_crew u (word_at files 1) (word_at files 2))
 numbered_command Waves files targets size numbers = numbered_universe 2 (word_at files 0) _ (λ u. numbered_waves u (word_at files 1) numbers)
 numbered_command Control files targets size numbers = numbered_universe 2 (word_at files 0) _ (λ u. numbered_control u (word_at files 1) (word_at files 2))
+numbered_command Rollout files targets size numbers = numbered_universe 2 (word_at files 0) _ (λ u. numbered_judged 3 (λ g. rollout_then (word_at files 1) (u, g)) (goals_named 4 u targets) (λ g. numbered_rollout u g (word_at files 1)))
 numbered_command Print files targets size numbers = numbered_universe 2 (word_at files 0) _ (λ u. tt)
 numbered_command Load files targets size numbers = tt
 

@@ -47,7 +47,7 @@ use Rattle.metis_crew.specs.declared.turn.Turn.TheVariants as turn
 use Rattle.metis_gen.specs.Generated.{generated, generated_targets}
 use Rattle.metis_top.specs.Answer as answer
 use Rattle.metis_top.specs.Answer.{Answer, IsAnswer}
-use Rattle.metis_top.specs.Commands.{waves_then, control_over, control_then, audit_then, plan_said, command_script, crew_over, crew_then, judged, or_plan_refused, or_refusal_refused, or_turns_refused, or_universe_refused, or_word, goal_found_then, goals_after, goals_named, plan_limit, refusal_limit, refute_then, replay_then, script_from, session_limit, sim_then, targets_then, turns_limit, universe_then}
+use Rattle.metis_top.specs.Commands.{waves_then, control_over, control_then, audit_then, plan_said, command_script, crew_over, crew_then, judged, or_plan_refused, or_refusal_refused, or_turns_refused, or_universe_refused, or_word, goal_found_then, goals_after, goals_named, plan_limit, refusal_limit, refute_then, replay_then, rollout_then, script_from, session_limit, sim_then, targets_then, turns_limit, universe_then}
 use Rattle.metis_top.specs.Course.{Ran, Says, Shown, after}
 use Rattle.metis_top.specs.Crewed.{last_line, loose_line, progress_line, turn_line}
 use Rattle.metis_top.specs.Judged.{judgement_line, word_line}
@@ -68,8 +68,9 @@ use Rattle.metis_audit.specs.declared.answers.Answer.{Answer as AuditAnswer}
 use Rattle.metis_audit.specs.declared.answers.Answer.TheVariants as audit
 use Rattle.metis_ids.specs.Plans as plans
 use Rattle.metis_top.specs.Audited.{audit_line}
+use Rattle.metis_top.specs.RolledOut.{RolloutAnswer, rollout_plan}
 use Rattle.metis_top.specs.Waved.{chain_line, end_lines, finish_line, start_line, start_lines}
-use Rattle.metis_top.specs.declared.words.Verb.TheVariants.{Plan, Replay, Refute, Audit, Sim, Crew, Waves, Control, Print, Load}
+use Rattle.metis_top.specs.declared.words.Verb.TheVariants.{Plan, Replay, Refute, Audit, Sim, Crew, Waves, Control, Rollout, Print, Load}
 use Rattle.std.specs.declared.option.Option.{Option as Known}
 
 no_lines : All IsLine []
@@ -273,6 +274,15 @@ module _ (u : Universe) (table : IsTable u) where
   control_answers actions script lines status (inr (inl loose)) = just_one _ lines (IsLine-loose_line loose.number) loose.told
   control_answers actions script lines status (inr (inr answered)) = subst (All IsLine) (sym answered.told) (script_is_lines actions (script_lines script))
 
+  either_lines : (g : List Goal) (old : List Action) (lines : List (List ℕ)) (status : Status) → RolloutAnswer u g old lines status → All IsLine lines
+  either_lines g old lines status (inl (is, rolls)) = subst (All IsLine) (sym rolls.for_pairs.told) (plan_lines_are_lines u (rollout_plan u old rolls.for_pairs.fresh.actions) _ table)
+  either_lines g old lines status (inr (is, refuses)) = subst (All IsLine) (sym refuses.told) (refusal_lines_are_lines u refuses.set refuses.lacking table)
+
+  rollout_answers : (g : List Goal) (actions : List Action) → AnswersLines (answer.Rollout u g actions)
+  rollout_answers g actions lines status (inl bad) = just_one _ lines (IsLine-verdict_line u table.named 0 0 (Bad bad.number bad.fault)) bad.told
+  rollout_answers g actions lines status (inr (inl loose)) = just_one _ lines (IsLine-loose_line loose.number) loose.told
+  rollout_answers g actions lines status (inr (inr puts)) = either_lines g actions lines status puts.answer
+
   crew_answers : (actions : List Action) (zs : List ℕ) → AnswersLines (answer.Crew u actions zs)
   crew_answers actions zs lines status (inl bad) = just_one _ lines (IsLine-verdict_line u table.named 0 0 (Bad bad.number bad.fault)) bad.told
   crew_answers actions zs lines status (inr (inl loose)) = just_one _ lines (IsLine-loose_line loose.number) loose.told
@@ -378,6 +388,12 @@ lines_audit u table g plan = λ bytes.
     lines_if (nat_le (length bytes) plan_limit) (judged next (or_plan_refused (plan_in u bytes))) 3
     (lines_judged next (or_plan_refused (plan_in u bytes)) (audit_answers u table g) (plan_refuses (plan_in u bytes) (plan_in_named u bytes)))
 
+lines_rollout : (u : Universe) → IsTable u → (g : List Goal) (plan : List ℕ) → SaysLines (rollout_then plan (u, g))
+lines_rollout u table g plan = λ bytes.
+    let next : Parts → Script = λ parts. Reply (answer.Rollout u g parts.rows.actions) in
+    lines_if (nat_le (length bytes) plan_limit) (judged next (or_plan_refused (plan_in u bytes))) 3
+    (lines_judged next (or_plan_refused (plan_in u bytes)) (λ parts. rollout_answers u table g parts.rows.actions) (plan_refuses (plan_in u bytes) (plan_in_named u bytes)))
+
 lines_waves : (u : Universe) → IsTable u → (plan numbers : List ℕ) → SaysLines (waves_then plan numbers u)
 lines_waves u table plan numbers = λ bytes.
     let next : Parts → Script = λ parts. Reply (answer.Waves u parts.rows.actions numbers) in
@@ -423,6 +439,7 @@ lines_command Sim files targets size numbers = lines_universe 2 (word_at files 0
 lines_command Crew files targets size numbers = lines_universe 2 (word_at files 0) _ (λ u table. lines_crew u table (word_at files 1) (word_at files 2))
 lines_command Waves files targets size numbers = lines_universe 2 (word_at files 0) _ (λ u table. lines_waves u table (word_at files 1) numbers)
 lines_command Control files targets size numbers = lines_universe 2 (word_at files 0) _ (λ u table. lines_control u table (word_at files 1) (word_at files 2))
+lines_command Rollout files targets size numbers = lines_universe 2 (word_at files 0) _ (λ u table. lines_targets 4 u targets (λ g. rollout_then (word_at files 1) (u, g)) (λ g. lines_rollout u table g (word_at files 1)))
 lines_command Print files targets size numbers = lines_universe 2 (word_at files 0) _ (λ u table. print_answers u)
 lines_command Load files targets size numbers = load_answers size
 

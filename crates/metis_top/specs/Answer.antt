@@ -12,6 +12,7 @@ use Rattle.metis_top.specs.Judged.{Judged}
 use Rattle.metis_top.specs.Loaded.{Loaded}
 use Rattle.metis_top.specs.Planned.{PlanAnswer}
 use Rattle.metis_top.specs.Replayed.{Replayed}
+use Rattle.metis_top.specs.RolledOut.{RolledOut}
 use Rattle.metis_top.specs.Simulated.{Simulated}
 use Rattle.metis_top.specs.Waved.{Waved}
 use Rattle.metis_top.specs.declared.status.Status.{Status}
@@ -22,7 +23,8 @@ use Rattle.metis_top.specs.declared.status.Status.TheVariants.{Done}
 -- actions comes to as one for these targets whose dups are forced; or what a session over the universe
 -- replies to the lines of this script; or what a crew over these actions answers to the turns of these instances, where the actions
 -- are a steadfast run; or when each of these actions may start, by durations of these numbers, where they are a steadfast run;
--- or what a controller and its agents over these actions answer to the lines of this script, where they are a steadfast run; or the
+-- or what a controller and its agents over these actions answer to the lines of this script, where they are a steadfast run; or
+-- the rollout from these actions to these targets, where they are a steadfast run, or a refusal of the targets; or the
 -- universe's own document; or the counts of the plan for a generated universe.
 pub data Answer : Type 0 where
   Plan : (u : Universe) (goals : List Goal) → Answer
@@ -33,6 +35,7 @@ pub data Answer : Type 0 where
   Crew : (u : Universe) (actions : List Action) (zs : List ℕ) → Answer
   Waves : (u : Universe) (actions : List Action) (numbers : List ℕ) → Answer
   Control : (u : Universe) (actions : List Action) (script : List ℕ) → Answer
+  Rollout : (u : Universe) (goals : List Goal) (actions : List Action) → Answer
   Print : (u : Universe) → Answer
   Load : (size : ℕ) → Answer
 
@@ -46,5 +49,6 @@ IsAnswer (Sim u script) lines status = Simulated u script lines status
 IsAnswer (Crew u actions zs) lines status = Crewed u actions zs lines status
 IsAnswer (Waves u actions numbers) lines status = Waved u actions numbers lines status
 IsAnswer (Control u actions script) lines status = Controlled u actions script lines status
+IsAnswer (Rollout u goals actions) lines status = RolledOut u goals actions lines status
 IsAnswer (Print u) lines status = (lines ≡ canonical u ∷ []) × (status ≡ Done)
 IsAnswer (Load size) lines status = Loaded size lines status

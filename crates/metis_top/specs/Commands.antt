@@ -7,7 +7,7 @@ use Rattle.metis_top.specs.declared.refusal.Refusal.{Refusal}
 use Rattle.metis_top.specs.declared.refusal.Refusal.TheVariants.{Word, TooLong}
 use Rattle.metis_top.specs.declared.refusal.Refusal.TheVariants as refusal
 use Rattle.metis_top.specs.declared.words.Verb.{Verb}
-use Rattle.metis_top.specs.declared.words.Verb.TheVariants.{Plan, Replay, Refute, Audit, Sim, Crew, Waves, Control, Print, Load}
+use Rattle.metis_top.specs.declared.words.Verb.TheVariants.{Plan, Replay, Refute, Audit, Sim, Crew, Waves, Control, Rollout, Print, Load}
 use Rattle.metis_top.specs.Answer as answer
 use Rattle.metis_ids.specs.declared.actions.Action.{Action}
 use Rattle.metis_ids.specs.Plans as plans
@@ -190,6 +190,14 @@ control_then plan script u = plan_then 3 u plan (λ parts. control_over script u
 abbrev pub control_script : List ℕ → List ℕ → List ℕ → Script
 control_script file plan script = universe_then 2 file (control_then plan script)
 
+-- what a rollout does once it has its universe and its targets; why the plan's actions are no steadfast run, or what refuses the
+-- targets, is told in its place
+abbrev pub rollout_then : List ℕ → Universe × List Goal → Script
+rollout_then plan asked = plan_then 3 asked.0 plan (λ parts. Reply (answer.Rollout asked.0 asked.1 parts.rows.actions))
+
+abbrev pub rollout_script : List ℕ → List ℕ → List TargetName → Script
+rollout_script file plan targets = goals_then 4 file targets (rollout_then plan)
+
 abbrev pub print_script : List ℕ → Script
 print_script file = universe_then 2 file (λ u. Reply (answer.Print u))
 
@@ -207,6 +215,7 @@ command_script Sim files targets size numbers = sim_script (word_at files 0) (wo
 command_script Crew files targets size numbers = crew_script (word_at files 0) (word_at files 1) (word_at files 2)
 command_script Waves files targets size numbers = waves_script (word_at files 0) (word_at files 1) numbers
 command_script Control files targets size numbers = control_script (word_at files 0) (word_at files 1) (word_at files 2)
+command_script Rollout files targets size numbers = rollout_script (word_at files 0) (word_at files 1) targets
 command_script Print files targets size numbers = print_script (word_at files 0)
 command_script Load files targets size numbers = load_script size
 

@@ -16,6 +16,7 @@ pub mod Openings
 pub mod Planned
 pub mod PutLines
 pub mod Replayed
+pub mod RolledOut
 pub mod Script
 pub mod Simulated
 pub mod Statuses

@@ -18,6 +18,7 @@ mod reading;
 mod refusal;
 mod refute;
 mod replay;
+mod rollout;
 mod sim;
 mod status;
 mod steady;

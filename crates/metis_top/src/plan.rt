@@ -76,9 +76,9 @@ fn put_plan_for<K: Sink>(alloc: Global, u: &Universe, pairs: &[PairIx], out: &mu
     }
 }
 
-// Puts the plan, each action with the actions of other instances that it waits for.
+/// Puts the plan, each action with the actions of other instances that it waits for.
 #[tactic(auto, using(metis_outside::proofs::Writing::front_of_nothing))]
-fn write_actions<K: Sink>(
+pub fn write_actions<K: Sink>(
     alloc: Global,
     u: &Universe,
     plan: &Plan,

@@ -8,7 +8,7 @@ ghost use Rattle.metis_universe.specs.Numbers.{IsOf};
 ghost use Rattle.metis_text.specs.PlanText.{IsWellFormed};
 ghost use Rattle.metis_text.specs.Reads.{lists_of, parts_of};
 ghost use Rattle.metis_text.specs.RefusalReading.{refusal_of};
-ghost use Rattle.metis_top.specs.Commands.{bytes_then, universe_in_then, universe_then, targets_then, goals_then, plan_in_then, plan_then, refusal_in_then, refusal_then, session_limit, turns_in_then, turns_then};
+ghost use Rattle.metis_top.specs.Commands.{bytes_then, universe_in_then, universe_then, targets_then, goals_then, plan_in_then, plan_limit, plan_then, refusal_in_then, refusal_then, session_limit, turns_in_then, turns_then};
 ghost use Rattle.metis_top.specs.Course.{Gathers, Judges, or_stop};
 
 use crate::refusal::{Refusal, Stop};
@@ -134,6 +134,7 @@ fn plan_in(alloc: Global, u: &Universe, bytes: &[u8]) -> Result<PlanText, Stop>
     ensures judges { Judges parts_of (plan_in_then u.now bytes.now) result }
     ensures numbers { IfOk result (λ text. All (IsOf u.now) text.plan.actions) }
     ensures few { IfOk result (λ text. length text.plan.actions < 2 ^ 32 - 1) }
+    ensures fewer { IfOk result (λ text. length text.plan.actions < length bytes.now) }
     ensures formed { IfOk result (λ text. IsWellFormed u.now text.plan (lists_of text)) }
 {
     match read_plan(alloc, u, bytes) {
@@ -154,6 +155,7 @@ pub fn plan_from<H: Shelf>(
     ensures gathers { Gathers H.files H.faults H.opens parts_of (plan_then place u.now name.now) shelf.old shelf.new result }
     ensures numbers { IfOk result (λ text. All (IsOf u.now) text.plan.actions) }
     ensures few { IfOk result (λ text. length text.plan.actions < 2 ^ 32 - 1) }
+    ensures fewer { IfOk result (λ text. length text.plan.actions < plan_limit) }
     ensures formed { IfOk result (λ text. IsWellFormed u.now text.plan (lists_of text)) }
 {
     let bytes = bytes_from(alloc, shelf, place, name, PLAN_LIMIT)?;

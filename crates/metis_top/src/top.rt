@@ -25,6 +25,7 @@ use crate::print::print_file;
 use crate::refusal::{Refusal, Stop};
 use crate::refute::refute_file;
 use crate::replay::replay_file;
+use crate::rollout::rollout_file;
 use crate::sim::sim_file;
 use crate::stop::end;
 use crate::waves::waves_file;
@@ -143,6 +144,10 @@ fn perform<H: Shelf, K: Sink>(
         Verb::Control => {
             let (file, plan) = (command.file(0), command.file(1));
             control_file(alloc, file, plan, command.file(2), shelf, out)
+        }
+        Verb::Rollout => {
+            let (file, plan) = (command.file(0), command.file(1));
+            rollout_file(alloc, file, plan, command.targets(), shelf, out)
         }
         Verb::Print => print_file(alloc, command.file(0), shelf, out),
         Verb::Load => load_size(alloc, command.size, out),

@@ -25,6 +25,8 @@ pub enum Verb {
     Waves,
     /// Runs a controller and agents for a plan, over a net that loses and repeats.
     Control,
+    /// Goes from a plan to other targets, and removes what the plan left.
+    Rollout,
     /// Prints the universe.
     Print,
     /// Plans for the generated universe of a size, and replays the plan.
@@ -39,7 +41,8 @@ impl Verb {
         match self {
             Verb::Load => 0,
             Verb::Plan | Verb::Print => 1,
-            Verb::Replay | Verb::Refute | Verb::Audit | Verb::Sim | Verb::Waves => 2,
+            Verb::Replay | Verb::Refute | Verb::Audit | Verb::Sim | Verb::Waves | Verb::Rollout =>
+                2,
             Verb::Crew | Verb::Control => 3,
         }
     }
@@ -49,7 +52,7 @@ impl Verb {
         ensures { result ≡ target_limit self }
     {
         match self {
-            Verb::Plan | Verb::Replay | Verb::Refute | Verb::Audit => 256,
+            Verb::Plan | Verb::Replay | Verb::Refute | Verb::Audit | Verb::Rollout => 256,
             Verb::Sim | Verb::Crew | Verb::Waves | Verb::Control | Verb::Print | Verb::Load => 0,
         }
     }

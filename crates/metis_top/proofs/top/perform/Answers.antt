@@ -14,5 +14,8 @@ returns-in-Refute g c = rw c.in-Refute.is (rw (c.file-file-in-Refute.ensures, c.
 pub returns-in-Audit : goal.returns-in-Audit
 returns-in-Audit g c = rw c.in-Audit.is (rw (c.file-file-in-Audit.ensures, c.file-plan-in-Audit.ensures, c.targets-in-Audit.ensures.words) at c.audit_file.ensures)
 
+pub returns-in-Rollout : goal.returns-in-Rollout
+returns-in-Rollout g c = rw c.in-Rollout.is (rw (c.file-file-in-Rollout.ensures, c.file-plan-in-Rollout.ensures, c.targets-in-Rollout.ensures.words) at c.rollout_file.ensures)
+
 pub returns-in-Load : goal.returns-in-Load
 returns-in-Load g c = rw c.in-Load.is (ran_at_once _ _ _ _ _ _ _ _ (Load c.args.command.now.size) _ c.load_size.ensures)

@@ -1,0 +1,63 @@
+-- What the selection of the instances' pairs says of the scaffold.
+use Rattle.std.proofs.Common.{◌≡◌, ℕ, ◌<◌, true, List, length, map, sym, ap, ◌∙◌, subst, arith, refl, slice_index_or}
+use Rattle.std.specs.Prelude.{IsSome, IsTrue}
+use Rattle.std.specs.List.{All, filter, list_any, range_with_len}
+use Rattle.std.proofs.lemmas.Bool.{and_parts}
+use Rattle.metis_universe.proofs.Rounds.{has-filter}
+use Rattle.metis_universe.specs.Layers.{layer_of, layered}
+use Rattle.metis_universe.specs.Universe.{Universe, IsTable, has, pair_count, port_count}
+use Rattle.metis_layers.proofs.LayerFacts.{layer_pair}
+use Rattle.metis_layers.proofs.Ways.{all_has, in_range}
+use Rattle.metis_layers.specs.Layers.{Layers, IsLayers}
+use Rattle.metis_layers.specs.LayerOrder.{lines_from, path_to}
+use Rattle.metis_support.proofs.Lists.{has_at}
+use Rattle.metis_support.proofs.Selections.{is_support, layer_is, origin_is, same_provider_pairs, some_is}
+use Rattle.metis_support.specs.Support.{Support, IsSupport, is_number, is_selected, provider_pairs, support_of}
+use Rattle.metis_rollout.specs.Holders.{TellsTruly, holder_among, holder_at}
+use Rattle.metis_rollout.specs.Rollout.{scaffold_holder, scaffold_list, scaffold_pairs}
+use Rattle.metis_rollout.proofs.Scaffold.{listed_layer, listed_selected}
+use Rattle.metis_rollout.proofs.Tabulated.{holders_all}
+
+-- provider pairs are the universe's
+pub providers_low : (u : Universe) (s : Support) → IsSupport u s → All (λ p. p < pair_count u) (provider_pairs s)
+providers_low u s support = λ k d low.
+    let there = has_at (provider_pairs s) k d low in
+    support.pairs _ (and_parts _ _ (sym (has-filter (λ p. list_any (is_number p) s.providers) _ s.selected.members) ∙ there)).1
+
+layer_low : (u : Universe) (p : ℕ) → IsSome (layer_of u p) → p < pair_count u
+layer_low u p h = let l = some_is (layer_of u p) h in omega (arith, in_range 0 (pair_count u) p (layer_pair u p l.0 l.1))
+
+-- so are pairs that have a layer
+pub all_low : (u : Universe) (g : List ℕ) → All (λ p. IsSome (layer_of u p)) g → All (λ p. p < pair_count u) g
+all_low u g all = λ k d low. layer_low u _ (all k d low)
+
+module _ (u : Universe) (table : IsTable u) (g : List ℕ) (all : All (λ p. IsSome (layer_of u p)) g) (s : Support) (is : s ≡ support_of u g) where
+  each : (p : ℕ) → has g p ≡ true → IsSome (layer_of u p)
+  each p there = all_has (λ p. IsSome (layer_of u p)) g p all there
+
+  pub supports : IsSupport u s
+  supports = subst (IsSupport u) (sym is) (is_support u table.universe g each)
+
+  pub truth : TellsTruly u s
+  truth = subst (TellsTruly u) (sym is) (record { origins = origin_is u table.universe g each; layers = layer_is u table.universe g each })
+
+  module _ (l : Layers) (layers : IsLayers u l) (pairs : List ℕ) (found : pairs ≡ filter (has (provider_pairs s)) l.order) where
+    pub pairs_are : pairs ≡ scaffold_pairs u g
+    pairs_are = found ∙ (λ i. filter (has (provider_pairs (is i))) (layers.order i)) ∙ ap (λ ps. filter (has ps) (layered u)) (same_provider_pairs u table.universe g each)
+
+    there : (k d : ℕ) → k < length pairs → has (scaffold_pairs u g) (slice_index_or pairs k d) ≡ true
+    there k d low = ap (λ ps. has ps (slice_index_or pairs k d)) (sym pairs_are) ∙ has_at pairs k d low
+
+    pub pairs_low : All (λ p. p < pair_count u) pairs
+    pairs_low = λ k d low. let at = listed_layer u table.universe g _ (there k d low) in layer_low u _ (subst IsSome (sym at.is) refl)
+
+    pub pairs_selected : All (λ p. IsTrue (is_selected s p)) pairs
+    pairs_selected = λ k d low. subst (λ (v : Support). IsTrue (is_selected v (slice_index_or pairs k d))) (sym is) (listed_selected u table.universe g _ (there k d low))
+
+    pub holders_are : (holders : List ℕ) → holders ≡ map (holder_among u pairs) (range_with_len 0 (port_count u)) → holders ≡ map (scaffold_holder u g) (range_with_len 0 (port_count u))
+    holders_are holders made = made ∙ ap (λ ps. map (holder_among u ps) (range_with_len 0 (port_count u))) pairs_are
+
+    pub list_is : (holders : List ℕ) → holders ≡ map (holder_among u pairs) (range_with_len 0 (port_count u)) → lines_from u (holder_at holders) 0 (map (path_to u) pairs) ≡ scaffold_list u g
+    list_is holders made =
+        let holder : holder_at holders ≡ scaffold_holder u g = ap holder_at (holders_are holders made) ∙ holders_all u table.universe (scaffold_pairs u g) in
+        λ i. lines_from u (holder i) 0 (map (path_to u) (pairs_are i))

@@ -1,0 +1,13 @@
+use Rattle.std.proofs.Common.{◌≡◌, ◌<◌, ◌++◌, map}
+use Rattle.std.specs.List.{All}
+use Rattle.metis_universe.specs.Universe.{pair_count}
+use Rattle.metis_rollout.specs.Holders.{holder_at}
+use Rattle.metis_rollout.specs.Rollout.{bind, named}
+use Rattle.metis_rollout.proofs.CycleList.{bindings_of}
+use Rattle.metis_rollout.proofs.cyclic.bind_all.Given as goal
+
+abbrev pub invariant-loop-z : goal.invariant-loop-z
+invariant-loop-z l = record {
+  within : All (λ p. p < pair_count l.u) (map (λ e. e.1) l.z-iterator);
+  actions : l.initial.actions.items ++ map bind (bindings_of l.u (λ r. named l.names.entries (holder_at l.holders r)) l.c.instances) ≡ l.actions.items ++ map bind (bindings_of l.u (λ r. named l.names.entries (holder_at l.holders r)) l.z-iterator);
+}

@@ -1,0 +1,136 @@
+//! The removal of instances that are bound in cycles.
+ghost use Rattle.std.specs.Prelude.{◌≡◌, ◌+◌, ◌<◌, ◌^◌, ◌++◌, ℕ, IfOk, IsSome, OnOk, length, map};
+ghost use Rattle.std.specs.List.{All};
+ghost use Rattle.metis_universe.specs.Layers.{layer_of};
+ghost use Rattle.metis_universe.specs.Universe.{pair_count, required_of};
+ghost use Rattle.metis_layers.specs.Layers.{IsLayers};
+ghost use Rattle.metis_rollout.specs.Holders.{holder_at};
+ghost use Rattle.metis_rollout.specs.Rollout.{bind, cycle_removal, deletes, downward, free_number, members, named, pairs_in, scaffold_bindings, unbind};
+
+use crate::lines::holder_in;
+use crate::names::{name_of, names_for, push_renumbered};
+use crate::scaffolding::scaffold_for;
+use metis_config::Config;
+use metis_ids::{Action, InstNo, IxVec, NoMemory, PairIx, PortIx};
+use metis_layers::table::Layers;
+use metis_universe::Universe;
+use std::alloc::Global;
+use std::collections::{BTreeMap, BTreeSet};
+
+/// Removes all instances: a scaffold under the free numbers from `next` on is made, they are bound to it, unbound from one
+/// another and deleted, and then the scaffold is.
+pub fn remove_cycles(
+    alloc: Global,
+    u: &Universe,
+    l: &Layers,
+    used: &BTreeSet<InstNo>,
+    next: &mut u32,
+    c: &Config,
+    actions: &mut Vec<Action>,
+) -> Result<(), NoMemory>
+    requires layers { IsLayers u.now l.now }
+    requires layered { All (λ p. IsSome (layer_of u.now p)) (pairs_in c.now) }
+    requires next { (n : ℕ) × (next.old ≡ free_number used.now.keys n) × (length used.now.keys + length used.now.keys + n < 2 ^ 31) }
+    ensures { OnOk result ((n : ℕ) → next.old ≡ free_number used.now.keys n → actions.new.items ≡ actions.old.items ++ cycle_removal u.now (λ k. free_number used.now.keys (n + k)) c.now) }
+{
+    u.keeps_invariant();
+    let pairs = pairs_of(alloc, c)?;
+    let scaffold = scaffold_for(alloc, u, l, &pairs)?;
+    let names = names_for(alloc, used, next, &scaffold.actions)?;
+    push_renumbered(&names, &scaffold.actions, actions)?;
+    bind_all(u, c, &scaffold.holders, &names, actions)?;
+    unbind_all(c, actions)?;
+    delete_all(c, actions)?;
+    delete_downward(scaffold.count, &names, actions)
+}
+
+// The pairs of the instances, in the instances' order.
+fn pairs_of(alloc: Global, c: &Config) -> Result<Vec<PairIx>, NoMemory>
+    ensures { IfOk result (λ pairs. pairs.items ≡ pairs_in c.now) }
+{
+    let mut pairs = Vec::new(alloc);
+    for (_, p) in c.instances() {
+        pairs.push(p)?;
+    }
+    Ok(pairs)
+}
+
+// Binds each port that an instance requires to the scaffold's instance for it.
+fn bind_all(
+    u: &Universe,
+    c: &Config,
+    holders: &IxVec<PortIx, u32>,
+    names: &BTreeMap<InstNo, InstNo>,
+    actions: &mut Vec<Action>,
+) -> Result<(), NoMemory>
+    requires { All (λ p. p < pair_count u.now) (pairs_in c.now) }
+    ensures { OnOk result (actions.new.items ≡ actions.old.items ++ map bind (scaffold_bindings u.now (λ r. named names.now.entries (holder_at holders.now r)) c.now)) }
+{
+    for (z, p) in c.instances() {
+        bind_ports(u, holders, names, z, p, actions)?;
+    }
+    Ok(())
+}
+
+// Binds each port that the instance requires in its pair.
+fn bind_ports(
+    u: &Universe,
+    holders: &IxVec<PortIx, u32>,
+    names: &BTreeMap<InstNo, InstNo>,
+    z: InstNo,
+    p: PairIx,
+    actions: &mut Vec<Action>,
+) -> Result<(), NoMemory>
+    requires { p < pair_count u.now }
+    ensures { OnOk result (actions.new.items ≡ actions.old.items ++ map bind (map (λ r. (r, z, named names.now.entries (holder_at holders.now r))) (required_of u.now p))) }
+{
+    for port in u.requires_(p) {
+        actions.push(Action::Bind {
+            port: *port,
+            inst: z,
+            to: name_of(names, holder_in(holders, *port)),
+        })?;
+    }
+    Ok(())
+}
+
+// Ends all bindings.
+fn unbind_all(c: &Config, actions: &mut Vec<Action>) -> Result<(), NoMemory>
+    ensures { OnOk result (actions.new.items ≡ actions.old.items ++ map unbind c.now.bindings) }
+{
+    for tie in c.bindings() {
+        actions.push(Action::Unbind {
+            port: tie.0,
+            inst: tie.1,
+            to: tie.2,
+        })?;
+    }
+    Ok(())
+}
+
+// Deletes all instances.
+fn delete_all(c: &Config, actions: &mut Vec<Action>) -> Result<(), NoMemory>
+    ensures { OnOk result (actions.new.items ≡ actions.old.items ++ deletes (members c.now)) }
+{
+    for (z, _) in c.instances() {
+        actions.push(Action::Delete { inst: z })?;
+    }
+    Ok(())
+}
+
+// Deletes so many instances under their names, the last first.
+fn delete_downward(
+    count: u32,
+    names: &BTreeMap<InstNo, InstNo>,
+    actions: &mut Vec<Action>,
+) -> Result<(), NoMemory>
+    ensures { OnOk result (actions.new.items ≡ actions.old.items ++ deletes (map (named names.now.entries) (downward count))) }
+{
+    for done in 0..count {
+        let number = count - 1 - done;
+        actions.push(Action::Delete {
+            inst: name_of(names, InstNo(number)),
+        })?;
+    }
+    Ok(())
+}

@@ -1,0 +1,167 @@
+//! The scaffold: an instance for each pair from which a selection takes a port.
+ghost use Rattle.std.specs.Prelude.{◌≡◌, ◌<◌, ◌≤◌, ℕ, IfOk, IsSome, length, map, replicate};
+ghost use Rattle.std.specs.List.{All, filter, range_with_len, slice_index_or};
+ghost use Rattle.std.specs.Option.{option_map_or};
+ghost use Rattle.metis_universe.specs.Layers.{layer_of};
+ghost use Rattle.metis_universe.specs.Universe.{has, pair_count, port_count};
+ghost use Rattle.metis_layers.specs.LayerOrder.{place_of};
+ghost use Rattle.metis_layers.specs.Layers.{IsLayers};
+ghost use Rattle.metis_support.specs.Support.{IsSupport, provider_pairs, support_of};
+ghost use Rattle.metis_rollout.specs.Holders.{holder_among};
+ghost use Rattle.metis_rollout.specs.Rollout.{scaffold_holder, scaffold_list, scaffold_pairs};
+
+use crate::lines::lines_to;
+use metis_choice::{Choice, choose};
+use metis_ids::{Action, IxVec, NoMemory, PairIx, PairSet, PortIx};
+use metis_layers::table::Layers;
+use metis_support::Support;
+use metis_universe::Universe;
+use std::alloc::Global;
+
+/// What makes the instances of a scaffold, numbered from 0; how many they are; and which of them provides each port.
+#[derive(Drop)]
+pub struct Scaffold {
+    pub(crate) actions: Vec<Action>,
+    pub(crate) count: u32,
+    pub(crate) holders: IxVec<PortIx, u32>,
+}
+
+/// The scaffold for instances that are in these pairs. It goes once over the universe, and then once over the paths to its pairs.
+pub fn scaffold_for(
+    alloc: Global,
+    u: &Universe,
+    l: &Layers,
+    targets: &[PairIx],
+) -> Result<Scaffold, NoMemory>
+    requires layers { IsLayers u.now l.now }
+    requires within { All (λ p. p < pair_count u.now) targets.now }
+    requires layered { All (λ p. IsSome (layer_of u.now p)) targets.now }
+    ensures actions { IfOk result (λ s. s.actions.items ≡ scaffold_list u.now targets.now) }
+    ensures count { IfOk result (λ s. s.count ≡ length (scaffold_pairs u.now targets.now)) }
+    ensures holders { IfOk result (λ s. s.holders ≡ map (scaffold_holder u.now targets.now) (range_with_len 0 (port_count u.now))) }
+{
+    u.keeps_invariant();
+    let support = selection_for(alloc, u, l, targets)?;
+    let pairs = pairs_provided_from(alloc, u, l, &support)?;
+    let holders = holders_of(alloc, u, l, &pairs)?;
+    let actions = lines_to(alloc, u, &support, &holders, &pairs)?;
+    Ok(Scaffold {
+        actions,
+        count: pairs.len() as u32,
+        holders,
+    })
+}
+
+// The selection of pairs that have a layer.
+fn selection_for(
+    alloc: Global,
+    u: &Universe,
+    l: &Layers,
+    targets: &[PairIx],
+) -> Result<Support, NoMemory>
+    requires layers { IsLayers u.now l.now }
+    requires within { All (λ p. p < pair_count u.now) targets.now }
+    requires layered { All (λ p. IsSome (layer_of u.now p)) targets.now }
+    ensures { IfOk result (λ s. s ≡ support_of u.now targets.now) }
+{
+    match choose(alloc, u, l, targets)? {
+        Choice::Support(support) => Ok(support),
+        Choice::Lacks(_) => unreachable!(),
+    }
+}
+
+// The pairs from which some port is taken, by layer and then by number.
+fn pairs_provided_from(
+    alloc: Global,
+    u: &Universe,
+    l: &Layers,
+    s: &Support,
+) -> Result<Vec<PairIx>, NoMemory>
+    requires { IsSupport u.now s.now }
+    ensures { IfOk result (λ pairs. pairs.items ≡ filter (has (provider_pairs s.now)) l.now.order) }
+{
+    let providers = set_of(alloc, u.pairs(), s.provider_pairs())?;
+    members_among(alloc, &providers, l.in_order())
+}
+
+// Those of the pairs that are in the set.
+fn members_among(alloc: Global, set: &PairSet, pairs: &[PairIx]) -> Result<Vec<PairIx>, NoMemory>
+    ensures { IfOk result (λ members. members.items ≡ filter (has set.now.members) pairs.now) }
+{
+    let mut members = Vec::new(alloc);
+    for pair in pairs {
+        if set.has(*pair) {
+            members.push(*pair)?;
+        }
+    }
+    Ok(members)
+}
+
+// The set of these pairs.
+fn set_of(alloc: Global, size: u32, pairs: &[PairIx]) -> Result<PairSet, NoMemory>
+    requires { All (λ p. p < size) pairs.now }
+    ensures { IfOk result (λ set. (p : ℕ) → has set.members p ≡ has pairs.now p) }
+{
+    let mut set = PairSet::with_pairs(alloc, size)?;
+    for pair in pairs {
+        set.add(*pair);
+    }
+    Ok(set)
+}
+
+// For each port the place of the pair that provides it first.
+fn holders_of(
+    alloc: Global,
+    u: &Universe,
+    l: &Layers,
+    pairs: &[PairIx],
+) -> Result<IxVec<PortIx, u32>, NoMemory>
+    requires layers { IsLayers u.now l.now }
+    requires few { length pairs.now ≤ 2000 }
+    requires within { All (λ p. p < pair_count u.now) pairs.now }
+    ensures { IfOk result (λ holders. holders ≡ map (holder_among u.now pairs.now) (range_with_len 0 (port_count u.now))) }
+{
+    u.keeps_invariant();
+    let places = places_of(alloc, u.pairs(), pairs)?;
+    let mut holders = IxVec::new(alloc);
+    for number in 0..u.ports() {
+        holders.push(place_in(&places, l.first_provider(PortIx(number))))?;
+    }
+    Ok(holders)
+}
+
+// The place of the pair, and 0 where there is no pair.
+fn place_in(places: &IxVec<PairIx, u32>, pair: Option<PairIx>) -> u32
+    ensures { result ≡ option_map_or (λ p. slice_index_or places.now p 0) pair 0 }
+{
+    match pair {
+        Some(pair) => places.get(pair).copied().unwrap_or(0),
+        None => 0,
+    }
+}
+
+// The place of each pair among these, and how many they are for all others.
+fn places_of(alloc: Global, size: u32, pairs: &[PairIx]) -> Result<IxVec<PairIx, u32>, NoMemory>
+    requires few { length pairs.now ≤ 2000 }
+    requires within { All (λ p. p < size) pairs.now }
+    ensures { IfOk result (λ places. (p : ℕ) → p < size → slice_index_or places p 0 ≡ place_of pairs.now p) }
+{
+    let count = pairs.len() as u32;
+    let mut places = filled(alloc, size, count)?;
+    for later in 0..count {
+        let place = count - 1 - later;
+        places.set(pairs[place as usize], place);
+    }
+    Ok(places)
+}
+
+// So many times this number.
+fn filled(alloc: Global, size: u32, number: u32) -> Result<IxVec<PairIx, u32>, NoMemory>
+    ensures { IfOk result (λ numbers. numbers ≡ replicate size number) }
+{
+    let mut numbers = IxVec::new(alloc);
+    for _ in 0..size {
+        numbers.push(number)?;
+    }
+    Ok(numbers)
+}

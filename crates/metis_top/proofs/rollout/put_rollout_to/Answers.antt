@@ -1,0 +1,19 @@
+use Rattle.std.proofs.Common.{ap, refl}
+use Rattle.metis_ids.specs.Plans.{Plan}
+use Rattle.metis_rollout.specs.Standing.{IsSteady}
+use Rattle.metis_top.proofs.Shown.{shown_by_writer}
+use Rattle.metis_top.proofs.rollout.put_rollout_to.Goals as goal
+
+pub returns-in-Ok-Plan : goal.returns-in-Ok-Plan
+returns-in-Ok-Plan g c =
+    let u = c.args.u.now in
+    let old = c.args.old.now in
+    let fresh = c.in-Ok-Plan.fresh in
+    let found = rw c.in-Ok-Plan.field-0-is at c.in-Ok-Plan.ensures in
+    let actions = ap (λ (p : Plan). p.actions) c.fresh.view_is in
+    let steady : IsSteady u fresh.actions = record { runs = found.run; steadfast = found.steadfast } in
+    let done = c.rollout_replaces.ensures u old fresh.actions c.keeps_invariant.ensures.universe c.requires.steady steady in
+    rw c.said.ensures
+    (shown_by_writer _ _ _ _ _ _ _ c.write_rollout.result
+    (refl, record { attains = c.requires.attained; fresh = fresh; rounds = found.rounds; steady = done.0; holds = done.2 c.args.pairs.now found.holds; told = refl })
+    (rw (← actions) (rw c.deref.ensures.value at c.write_rollout.ensures.text)) c.write_rollout.ensures.cause)
