@@ -1,5 +1,7 @@
+pub mod Entries
 pub mod FirstPlace
 pub mod Holding
+pub mod HostsText
 pub mod Placement
 pub mod Rooms
 pub mod RoomsFall
