@@ -7,7 +7,7 @@ use Rattle.metis_top.specs.declared.refusal.Refusal.{Refusal}
 use Rattle.metis_top.specs.declared.refusal.Refusal.TheVariants.{Word, TooLong}
 use Rattle.metis_top.specs.declared.refusal.Refusal.TheVariants as refusal
 use Rattle.metis_top.specs.declared.words.Verb.{Verb}
-use Rattle.metis_top.specs.declared.words.Verb.TheVariants.{Plan, Replay, Refute, Audit, Sim, Crew, Waves, Print, Load}
+use Rattle.metis_top.specs.declared.words.Verb.TheVariants.{Plan, Replay, Refute, Audit, Sim, Crew, Waves, Control, Print, Load}
 use Rattle.metis_top.specs.Answer as answer
 use Rattle.metis_ids.specs.declared.actions.Action.{Action}
 use Rattle.metis_ids.specs.Plans as plans
@@ -101,7 +101,7 @@ refusal_in_then u bytes next = judged next (or_refusal_refused (refusal_in u byt
 abbrev pub refusal_then : ℕ → Universe → List ℕ → (RefusalParts → Script) → Script
 refusal_then place u name next = bytes_then place name refusal_limit (λ bytes. refusal_in_then u bytes next)
 
--- the most bytes of the script of a session
+-- the most bytes of the script of a session, and of one for a controller
 abbrev pub session_limit : ℕ
 session_limit = 65536
 
@@ -178,6 +178,18 @@ waves_then plan numbers u = plan_then 3 u plan (λ parts. Reply (answer.Waves u 
 abbrev pub waves_script : List ℕ → List ℕ → List ℕ → Script
 waves_script file plan numbers = universe_then 2 file (waves_then plan numbers)
 
+-- what a controller and its agents do once they have their universe and the plan's actions; why these are no steadfast run is told
+-- behind a script that is too long
+abbrev pub control_over : List ℕ → Universe → List Action → Script
+control_over script u actions = bytes_then 4 script session_limit (λ bytes. Reply (answer.Control u actions bytes))
+
+-- the same once there is a universe
+abbrev pub control_then : List ℕ → List ℕ → Universe → Script
+control_then plan script u = plan_then 3 u plan (λ parts. control_over script u parts.rows.actions)
+
+abbrev pub control_script : List ℕ → List ℕ → List ℕ → Script
+control_script file plan script = universe_then 2 file (control_then plan script)
+
 abbrev pub print_script : List ℕ → Script
 print_script file = universe_then 2 file (λ u. Reply (answer.Print u))
 
@@ -194,6 +206,7 @@ command_script Audit files targets size numbers = audit_script (word_at files 0)
 command_script Sim files targets size numbers = sim_script (word_at files 0) (word_at files 1)
 command_script Crew files targets size numbers = crew_script (word_at files 0) (word_at files 1) (word_at files 2)
 command_script Waves files targets size numbers = waves_script (word_at files 0) (word_at files 1) numbers
+command_script Control files targets size numbers = control_script (word_at files 0) (word_at files 1) (word_at files 2)
 command_script Print files targets size numbers = print_script (word_at files 0)
 command_script Load files targets size numbers = load_script size
 

@@ -2,6 +2,7 @@ pub mod Aims
 pub mod Answer
 pub mod Audited
 pub mod Commands
+pub mod Controlled
 pub mod Course
 pub mod Crewed
 pub mod Deployment

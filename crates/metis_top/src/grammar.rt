@@ -41,6 +41,8 @@ fn verb_named(word: &str) -> Option<Verb>
         Some(Verb::Crew)
     } else if word == "waves" {
         Some(Verb::Waves)
+    } else if word == "control" {
+        Some(Verb::Control)
     } else if word == "print" {
         Some(Verb::Print)
     } else if word == "load" {

@@ -4,11 +4,13 @@
 mod aim;
 mod audit;
 mod audit_line;
+mod control;
 mod crew;
 mod grammar;
 mod in_memory;
 mod judgement_line;
 mod laws;
+mod lines;
 mod load;
 mod plan;
 mod print;

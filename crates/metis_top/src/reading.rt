@@ -27,7 +27,7 @@ const PLAN_LIMIT: u64 = 268_435_456;
 /// The most bytes of a refusal's text.
 const REFUSAL_LIMIT: u64 = 1_048_576;
 
-/// The most bytes of the script of a session.
+/// The most bytes of the script of a session, and of one for a controller.
 const SESSION_LIMIT: u64 = 65_536;
 
 /// The most bytes of the turns of a crew.
@@ -188,14 +188,15 @@ pub fn refusal_from<H: Shelf>(
     refusal_in(alloc, u, &bytes)
 }
 
-/// The script of a session in the file of the word at this place.
+/// The script of a session, or for a controller, in the file of the word at this place.
 pub fn session_script_from<H: Shelf>(
     alloc: Global,
     shelf: &mut H,
     place: u32,
     name: &str,
 ) -> Result<Vec<u8>, Stop>
-    ensures { Gathers H.files H.faults H.opens (λ bytes. bytes.items) (bytes_then place name.now session_limit) shelf.old shelf.new result }
+    ensures gathers { Gathers H.files H.faults H.opens (λ bytes. bytes.items) (bytes_then place name.now session_limit) shelf.old shelf.new result }
+    ensures few { IfOk result (λ bytes. length bytes.items ≤ session_limit) }
 {
     bytes_from(alloc, shelf, place, name, SESSION_LIMIT)
 }

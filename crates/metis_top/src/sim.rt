@@ -1,6 +1,5 @@
 //! The command that runs a session.
 ghost use Rattle.std.specs.Prelude.{◌≡◌, IfOk, OnOk, false, map, not};
-ghost use Rattle.std.specs.List.{slice_split};
 ghost use Rattle.metis_outside.specs.Faults.{CountsFault};
 ghost use Rattle.metis_outside.specs.Writes.{Writes};
 ghost use Rattle.metis_sim.specs.Replies.{reply_lines};
@@ -8,15 +7,16 @@ ghost use Rattle.metis_sim.specs.Session.{after_line, begin, reply};
 ghost use Rattle.metis_top.specs.Answer as answer;
 ghost use Rattle.metis_top.specs.Commands.{sim_script, sim_then};
 ghost use Rattle.metis_top.specs.Course.{Ran, Shown};
-ghost use Rattle.metis_top.specs.Simulated.{is_line_feed, replies_to, without_empty_end};
+ghost use Rattle.metis_top.specs.Simulated.{replies_to};
 
 use crate::Status;
+use crate::lines::{pieces_of, without_empty_end};
 use crate::reading::{session_script_from, universe_from};
 use crate::stop::{end, said};
 use metis_outside::{Shelf, Sink, Trouble};
 use metis_sim::{Reply, Session, write_reply};
 use metis_universe::Universe;
-use std::alloc::{AllocError, Global};
+use std::alloc::Global;
 
 /// Reads the universe and the script of a session, and puts the replies to the script's lines.
 pub fn sim_file<H: Shelf, K: Sink>(
@@ -59,23 +59,6 @@ fn put_replies<K: Sink>(alloc: Global, u: &Universe, script: &[u8], out: &mut K)
             said(put, Status::Done)
         }
         Err(_) => Status::NoMemory,
-    }
-}
-
-// What stands between the line feeds of the script.
-fn pieces_of<'a>(alloc: Global, script: &'a [u8]) -> Result<Vec<&'a [u8]>, AllocError>
-    ensures { IfOk result (λ v. map (λ piece. piece.now) v.items ≡ slice_split is_line_feed script.now) }
-{
-    script.split(|byte| *byte == b'\n').collect(alloc)
-}
-
-// The lines among the pieces: behind the last line feed there is one only where something stands there.
-fn without_empty_end<'a, 'b>(pieces: &'b [&'a [u8]]) -> &'b [&'a [u8]]
-    ensures { map (λ line. line.now) result.now ≡ without_empty_end (map (λ piece. piece.now) pieces.now) }
-{
-    match pieces {
-        [lines @ .., last] => { if last.is_empty() { lines } else { pieces } }
-        [] => pieces,
     }
 }
 

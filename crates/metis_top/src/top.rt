@@ -16,6 +16,7 @@ ghost use Rattle.metis_universe.specs.Texts.{texts};
 
 use crate::Status;
 use crate::audit::audit_file;
+use crate::control::control_file;
 use crate::crew::crew_file;
 use crate::grammar::read_words;
 use crate::load::load_size;
@@ -138,6 +139,10 @@ fn perform<H: Shelf, K: Sink>(
         Verb::Waves => {
             let (file, plan) = (command.file(0), command.file(1));
             waves_file(alloc, file, plan, command.numbers(), shelf, out)
+        }
+        Verb::Control => {
+            let (file, plan) = (command.file(0), command.file(1));
+            control_file(alloc, file, plan, command.file(2), shelf, out)
         }
         Verb::Print => print_file(alloc, command.file(0), shelf, out),
         Verb::Load => load_size(alloc, command.size, out),

@@ -23,6 +23,8 @@ pub enum Verb {
     Crew,
     /// Tells when each action of a plan may start.
     Waves,
+    /// Runs a controller and agents for a plan, over a net that loses and repeats.
+    Control,
     /// Prints the universe.
     Print,
     /// Plans for the generated universe of a size, and replays the plan.
@@ -38,7 +40,7 @@ impl Verb {
             Verb::Load => 0,
             Verb::Plan | Verb::Print => 1,
             Verb::Replay | Verb::Refute | Verb::Audit | Verb::Sim | Verb::Waves => 2,
-            Verb::Crew => 3,
+            Verb::Crew | Verb::Control => 3,
         }
     }
 
@@ -48,7 +50,12 @@ impl Verb {
     {
         match self {
             Verb::Plan | Verb::Replay | Verb::Refute | Verb::Audit => 256,
-            Verb::Sim | Verb::Crew | Verb::Waves | Verb::Print | Verb::Load => 0,
+            Verb::Sim
+            | Verb::Crew
+            | Verb::Waves
+            | Verb::Control
+            | Verb::Print
+            | Verb::Load => 0,
         }
     }
 
