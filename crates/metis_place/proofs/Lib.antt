@@ -15,4 +15,9 @@ pub mod Tallies
 pub mod Holdings
 pub mod Placed
 pub mod Trees
+pub mod Within
 pub mod Examples
+pub mod Entries
+pub mod HostsRead
+pub mod HostsLines
+pub mod HostsKnown

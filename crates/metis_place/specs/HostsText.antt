@@ -15,7 +15,7 @@ use Rattle.metis_text.specs.Tokens.{number_in, tokens}
 use Rattle.metis_text.specs.declared.flaw.Flaw.{Flaw}
 use Rattle.metis_text.specs.declared.flaw.Flaw.TheVariants as flaw
 use Rattle.metis_universe.specs.Names.{is_name}
-use Rattle.metis_universe.specs.Universe.{Universe, is_empty, type_named}
+use Rattle.metis_universe.specs.Universe.{Universe, type_named}
 use Rattle.metis_place.specs.Entries.{Entries, has_name, number_of}
 use Rattle.metis_place.specs.Placement.{HostLists}
 use Rattle.metis_place.specs.declared.hosts_fault.HFault.{HFault}
@@ -57,8 +57,8 @@ with_size u n seen (Err f) = Err (fault_at n f)
 -- a host stands before all sizes, and a size behind a host
 abbrev pub with_words : Universe → ℕ → SeenLines → List ℕ → List ℕ → List ℕ → Result SeenLines HFault
 with_words u n seen word name number =
-    if bytes_eq word (codes "host") && is_empty seen.sizes then with_host n seen (entry_in name number)
-    else (if bytes_eq word (codes "size") && not (is_empty seen.hosts) then with_size u n seen (entry_in name number) else Err (Line n))
+    if bytes_eq word (codes "host") && (length seen.sizes == 0) then with_host n seen (entry_in name number)
+    else (if bytes_eq word (codes "size") && not (length seen.hosts == 0) then with_size u n seen (entry_in name number) else Err (Line n))
 
 abbrev pub with_tokens : Universe → ℕ → SeenLines → List (List ℕ) → Result SeenLines HFault
 with_tokens u n seen (word ∷ name ∷ number ∷ []) = with_words u n seen word name number
@@ -77,11 +77,11 @@ hosts_of u seen = record { hosts = seen.hosts; sizes = sizes_of u seen.sizes }
 
 -- the last line stands behind a host
 abbrev pub is_last : SeenLines → List ℕ → Bool
-is_last seen line = bytes_eq line (codes "end") && not (is_empty seen.hosts)
+is_last seen line = bytes_eq line (codes "end") && not (length seen.hosts == 0)
 
 -- line n and what stands behind it: nothing, once the last line was read
 abbrev pub end_from : Universe → SeenLines → ℕ → List (List ℕ) → List ℕ → Result HostLists HFault
-end_from u seen n lines rest = if is_empty lines && is_empty rest then Ok (hosts_of u seen) else Err (Line n)
+end_from u seen n lines rest = if (length lines == 0) && (length rest == 0) then Ok (hosts_of u seen) else Err (Line n)
 
 abbrev pub and_then : {A B : Type 0} → Result A HFault → (A → Result B HFault) → Result B HFault
 and_then (Ok a) next = next a

@@ -17,5 +17,7 @@ pub use holds::Hold;
 pub use hosts::Hosts;
 pub use hosts_fault::HFault;
 pub use hosts_text::read_hosts;
-pub use laws::{further_waits_are_earlier, no_host_is_overfull, own_order_is_held};
+pub use laws::{
+    further_waits_are_earlier, hosts_text_is_read, no_host_is_overfull, own_order_is_held,
+};
 pub use placing::{Placing, place};
