@@ -7,11 +7,14 @@ use Rattle.metis_top.specs.declared.refusal.Refusal.{Refusal}
 use Rattle.metis_top.specs.declared.refusal.Refusal.TheVariants.{Word, TooLong}
 use Rattle.metis_top.specs.declared.refusal.Refusal.TheVariants as refusal
 use Rattle.metis_top.specs.declared.words.Verb.{Verb}
-use Rattle.metis_top.specs.declared.words.Verb.TheVariants.{Plan, Replay, Refute, Audit, Sim, Crew, Waves, Control, Print, Load}
+use Rattle.metis_top.specs.declared.words.Verb.TheVariants.{Plan, Replay, Refute, Audit, Sim, Crew, Waves, Control, Place, Print, Load}
 use Rattle.metis_top.specs.Answer as answer
 use Rattle.metis_ids.specs.declared.actions.Action.{Action}
 use Rattle.metis_ids.specs.Plans as plans
 use Rattle.metis_ids.specs.Plans.{Dup}
+use Rattle.metis_place.specs.HostsText.{hosts_in}
+use Rattle.metis_place.specs.Placement.{HostLists}
+use Rattle.metis_place.specs.declared.hosts_fault.HFault.{HFault}
 use Rattle.metis_text.specs.DupLine.{DupRow}
 use Rattle.metis_text.specs.Reading.{Parts, plan_in}
 use Rattle.metis_text.specs.RefusalReading.{RefusalParts, refusal_in}
@@ -121,6 +124,22 @@ turns_in_then bytes next = judged next (or_turns_refused (turns_in bytes))
 abbrev pub turns_then : ℕ → List ℕ → (List ℕ → Script) → Script
 turns_then place name next = bytes_then place name turns_limit (λ bytes. turns_in_then bytes next)
 
+-- the most bytes of a text of hosts
+abbrev pub hosts_limit : ℕ
+hosts_limit = 65536
+
+abbrev pub or_hosts_refused : Result HostLists HFault → Result HostLists Refusal
+or_hosts_refused (Ok h) = Ok h
+or_hosts_refused (Err fault) = Err (refusal.HostsText fault)
+
+-- goes on with the hosts and the sizes that the bytes say
+abbrev pub hosts_in_then : Universe → List ℕ → (HostLists → Script) → Script
+hosts_in_then u bytes next = judged next (or_hosts_refused (hosts_in u bytes))
+
+-- the same of the file of the word at this place
+abbrev pub hosts_then : ℕ → Universe → List ℕ → (HostLists → Script) → Script
+hosts_then place u name next = bytes_then place name hosts_limit (λ bytes. hosts_in_then u bytes next)
+
 abbrev pub plan_script : List ℕ → List TargetName → Script
 plan_script file targets = goals_then 3 file targets (λ asked. Reply (answer.Plan asked.0 asked.1))
 
@@ -190,6 +209,18 @@ control_then plan script u = plan_then 3 u plan (λ parts. control_over script u
 abbrev pub control_script : List ℕ → List ℕ → List ℕ → Script
 control_script file plan script = universe_then 2 file (control_then plan script)
 
+-- what a placement does once it has its universe and the plan's actions; why these are no steadfast run is told behind what is wrong
+-- with the hosts
+abbrev pub place_over : List ℕ → Universe → List Action → Script
+place_over hosts u actions = hosts_then 4 u hosts (λ h. Reply (answer.Place u actions h))
+
+-- the same once it has its universe
+abbrev pub place_then : List ℕ → List ℕ → Universe → Script
+place_then plan hosts u = plan_then 3 u plan (λ parts. place_over hosts u parts.rows.actions)
+
+abbrev pub place_script : List ℕ → List ℕ → List ℕ → Script
+place_script file plan hosts = universe_then 2 file (place_then plan hosts)
+
 abbrev pub print_script : List ℕ → Script
 print_script file = universe_then 2 file (λ u. Reply (answer.Print u))
 
@@ -207,6 +238,7 @@ command_script Sim files targets size numbers = sim_script (word_at files 0) (wo
 command_script Crew files targets size numbers = crew_script (word_at files 0) (word_at files 1) (word_at files 2)
 command_script Waves files targets size numbers = waves_script (word_at files 0) (word_at files 1) numbers
 command_script Control files targets size numbers = control_script (word_at files 0) (word_at files 1) (word_at files 2)
+command_script Place files targets size numbers = place_script (word_at files 0) (word_at files 1) (word_at files 2)
 command_script Print files targets size numbers = print_script (word_at files 0)
 command_script Load files targets size numbers = load_script size
 

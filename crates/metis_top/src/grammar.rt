@@ -43,6 +43,8 @@ fn verb_named(word: &str) -> Option<Verb>
         Some(Verb::Waves)
     } else if word == "control" {
         Some(Verb::Control)
+    } else if word == "place" {
+        Some(Verb::Place)
     } else if word == "print" {
         Some(Verb::Print)
     } else if word == "load" {

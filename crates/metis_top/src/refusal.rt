@@ -1,6 +1,7 @@
 //! Why a run ends before its work.
 ghost use Rattle.std.specs.Prelude.{◌≡◌};
 
+use metis_place::HFault;
 use metis_text::TFault;
 use metis_ujson::UFault;
 use std::alloc::AllocFailed;
@@ -18,6 +19,8 @@ pub enum Refusal {
     PlanText(TFault),
     /// The bytes are no text of a refusal.
     RefusalText(TFault),
+    /// The bytes are no text of hosts.
+    HostsText(HFault),
     /// The token at this place, from 1, of the text of turns is no number in range.
     Turns(u32),
 }

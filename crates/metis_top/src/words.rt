@@ -25,6 +25,8 @@ pub enum Verb {
     Waves,
     /// Runs a controller and agents for a plan, over a net that loses and repeats.
     Control,
+    /// Puts a plan's instances on hosts with room.
+    Place,
     /// Prints the universe.
     Print,
     /// Plans for the generated universe of a size, and replays the plan.
@@ -40,7 +42,7 @@ impl Verb {
             Verb::Load => 0,
             Verb::Plan | Verb::Print => 1,
             Verb::Replay | Verb::Refute | Verb::Audit | Verb::Sim | Verb::Waves => 2,
-            Verb::Crew | Verb::Control => 3,
+            Verb::Crew | Verb::Control | Verb::Place => 3,
         }
     }
 
@@ -54,6 +56,7 @@ impl Verb {
             | Verb::Crew
             | Verb::Waves
             | Verb::Control
+            | Verb::Place
             | Verb::Print
             | Verb::Load => 0,
         }
