@@ -126,7 +126,7 @@ came_reached A w zero p r h = absurd (none_packet h) where
 came_reached A w (suc i) p r h = came_keeps A w i p r h
 
 pub heard_reached : (A : List Action) (t : Told) (old new : WorldState) (h : Told × WorldState) → IsHeard t old h new → IsReached A old → IsReached A h.1 → IsReached A new
-heard_reached A NoMemory old new h e r s = subst (IsReached A) (sym e) r
+heard_reached A NoMemory old new h e r s = subst (IsReached A) (sym e.0) r
 heard_reached A (Sent p) old new h e r s = subst (IsReached A) (sym e.1) s
 heard_reached A (Held k m) old new h e r s = subst (IsReached A) (sym e.1) s
 heard_reached A (Acked k) old new h e r s = subst (IsReached A) (sym e.1) s

@@ -1,5 +1,5 @@
 //! What orders actions and notes their acknowledgements.
-ghost use Rattle.std.specs.Prelude.{◌≡◌, ◌<◌, ◌≤◌, ◌^◌, ◌++◌, ◌∷◌, [], Bool, IfOk, OnErr, if◌then◌else◌, length, nat_lt, not, take};
+ghost use Rattle.std.specs.Prelude.{◌≡◌, ◌<◌, ◌≤◌, ◌^◌, ◌++◌, ◌∷◌, [], Bool, IfOk, IsFalse, OnErr, if◌then◌else◌, length, nat_lt, not, take};
 ghost use Rattle.std.specs.List.{find};
 ghost use Rattle.metis_universe.specs.Universe.{has};
 ghost use Rattle.metis_waits.specs.Waits.{AreWaits, list_of};
@@ -66,6 +66,7 @@ impl<'a> Controller<'a> {
         ensures answer { IfOk result (λ fresh. fresh ≡ not (has self.old.acked k)) }
         ensures noted { IfOk result (λ fresh. self.new.acked ≡ (if fresh then self.old.acked ++ k ∷ [] else self.old.acked)) }
         ensures err { OnErr result (self.new.acked ≡ self.old.acked) }
+        ensures cause { OnErr result (IsFalse (has self.old.acked k)) }
     {
         if self.acked.has(k) {
             return Ok(false);

@@ -54,7 +54,7 @@ impl<'a> World<'a> {
         })
     }
 
-    /// What happens next. Where there is no memory left nothing changes.
+    /// What happens next. Where there is no memory left for a packet or an acknowledgement that is to be added, nothing changes.
     pub fn event(&mut self, e: Happening) -> Told
         requires { length self.old.state.packets < 2 ^ 32 - 2 }
         ensures actions { self.new.actions ≡ self.old.actions }

@@ -9,7 +9,7 @@ use Rattle.metis_top.specs.declared.refusal.Refusal.TheVariants as refusal
 use Rattle.metis_top.specs.declared.status.Status.{Status}
 use Rattle.metis_top.specs.declared.status.Status.TheVariants.{Done, No, ReadFault}
 use Rattle.metis_top.specs.declared.words.Verb.{Verb}
-use Rattle.metis_top.specs.declared.words.Verb.TheVariants.{Plan, Replay, Refute, Audit, Sim, Crew, Waves, Print, Load}
+use Rattle.metis_top.specs.declared.words.Verb.TheVariants.{Plan, Replay, Refute, Audit, Sim, Crew, Waves, Control, Print, Load}
 use Rattle.metis_top.specs.Answer as answer
 use Rattle.metis_top.specs.Answer.{Answer, IsAnswer}
 use Rattle.metis_replay.specs.declared.verdict.Verdict.{Verdict}
@@ -17,7 +17,7 @@ use Rattle.metis_replay.specs.declared.verdict.Verdict.TheVariants.{Good, Bad, M
 use Rattle.metis_ids.specs.declared.actions.Action.{Action}
 use Rattle.metis_text.specs.Reading.{plan_in}
 use Rattle.metis_text.specs.RefusalReading.{refusal_in}
-use Rattle.metis_top.specs.Commands.{waves_then, audit_then, plan_said, universe_then, crew_over, crew_then, judged, or_plan_refused, or_refusal_refused, or_turns_refused, or_universe_refused, goals_named, plan_limit, refusal_limit, refute_then, replay_then, session_limit, sim_then, turns_limit, command_script, script_from}
+use Rattle.metis_top.specs.Commands.{waves_then, control_over, control_then, audit_then, plan_said, universe_then, crew_over, crew_then, judged, or_plan_refused, or_refusal_refused, or_turns_refused, or_universe_refused, goals_named, plan_limit, refusal_limit, refute_then, replay_then, session_limit, sim_then, turns_limit, command_script, script_from}
 use Rattle.metis_refusal.specs.declared.verdict.Verdict2.{Verdict2}
 use Rattle.metis_refusal.specs.declared.verdict.Verdict2.TheVariants.{Closed, NotFree, Open, LacksNone}
 use Rattle.metis_audit.specs.declared.answers.Answer.{Answer as AuditAnswer}
@@ -70,6 +70,9 @@ answer_status (answer.Crew u actions zs) lines status (inr (inr taken)) = inl ta
 answer_status (answer.Waves u actions numbers) lines status (inl bad) = inr bad.is
 answer_status (answer.Waves u actions numbers) lines status (inr (inl loose)) = inr loose.is
 answer_status (answer.Waves u actions numbers) lines status (inr (inr scheduled)) = inl scheduled.is
+answer_status (answer.Control u actions script) lines status (inl bad) = inr bad.is
+answer_status (answer.Control u actions script) lines status (inr (inl loose)) = inr loose.is
+answer_status (answer.Control u actions script) lines status (inr (inr answered)) = inl answered.is
 answer_status (answer.Print u) lines status is = inl is.1
 answer_status (answer.Load size) lines status is = inl is.is
 
@@ -167,6 +170,16 @@ numbered_crew u plan name = (
       (numbered_judged 4 (λ parts. crew_over name u parts.rows.actions) (or_plan_refused (plan_in u bytes)) (λ parts. numbered_crew_over u parts.rows.actions name)),
 )
 
+numbered_control_over : (u : Universe) (actions : List Action) (name : List ℕ) → Numbered 4 (control_over name u actions)
+numbered_control_over u actions name = (refl, λ bytes. numbered_if 5 (nat_le (length bytes) session_limit) (Reply (answer.Control u actions bytes)) (TooLong 4) tt)
+
+numbered_control : (u : Universe) (plan name : List ℕ) → Numbered 3 (control_then plan name u)
+numbered_control u plan name = (
+  refl,
+  λ bytes. numbered_if 4 (nat_le (length bytes) plan_limit) (judged (λ parts. control_over name u parts.rows.actions) (or_plan_refused (plan_in u bytes))) (TooLong 3)
+      (numbered_judged 4 (λ parts. control_over name u parts.rows.actions) (or_plan_refused (plan_in u bytes)) (λ parts. numbered_control_over u parts.rows.actions name)),
+)
+
 -- the script of each command
 numbered_command : (verb : Verb) (files : List (List ℕ)) (targets : List TargetName) (size : ℕ) (numbers : List ℕ) → Numbered 2 (command_script verb files targets size numbers)
 numbered_command Plan files targets size numbers = numbered_universe 2 (word_at files 0) _ (λ u. numbered_judged 3 (λ g. Reply (answer.Plan u g)) (goals_named 3 u targets) (λ g. tt))
@@ -176,6 +189,7 @@ numbered_command Audit files targets size numbers = numbered_universe 2 (word_at
 numbered_command Sim files targets size numbers = numbered_universe 2 (word_at files 0) _ (λ u. numbered_sim u (word_at files 1))
 numbered_command Crew files targets size numbers = numbered_universe 2 (word_at files 0) _ (λ u. numbered_crew u (word_at files 1) (word_at files 2))
 numbered_command Waves files targets size numbers = numbered_universe 2 (word_at files 0) _ (λ u. numbered_waves u (word_at files 1) numbers)
+numbered_command Control files targets size numbers = numbered_universe 2 (word_at files 0) _ (λ u. numbered_control u (word_at files 1) (word_at files 2))
 numbered_command Print files targets size numbers = numbered_universe 2 (word_at files 0) _ (λ u. tt)
 numbered_command Load files targets size numbers = tt
 

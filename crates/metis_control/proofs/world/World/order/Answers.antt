@@ -1,5 +1,5 @@
 use Rattle.std.proofs.Common.{◌≡◌, ◌∙◌, ◌+◌, suc, length, ap, sym, subst, arith}
-use Rattle.metis_control.specs.Fields.{IsAnswered, IsHeard, WorldValue, state_of}
+use Rattle.metis_control.specs.Fields.{Adds, IsAnswered, IsHeard, WorldValue, state_of}
 use Rattle.metis_control.specs.World.{IsReached, ordered}
 use Rattle.metis_control.specs.declared.happening.Leave.TheVariants as left
 use Rattle.metis_control.specs.declared.happening.Told.{Told}
@@ -52,14 +52,16 @@ returns-after-push-clause-heard c =
     let w = state_of f.packets.items f.controller.acked f.agents.entries f.ran.items in
     let new = state_of c.push.new.self.items f.controller.acked f.agents.entries f.ran.items in
     let now = c.args.self.now in
+    let answer = ordered_answer f.actions.now f.controller.each w c.args.k c.self.invariant.listed left.Send c.in-Send.ensures in
     elim c.match-push.branch [
       | in-Ok v ↦
-          let answer = ordered_answer f.actions.now f.controller.each w c.args.k c.self.invariant.listed left.Send c.in-Send.ensures in
           let number : c.len.result + 1 ≡ suc (length f.packets.items) = omega (arith, c.len.ensures, f.packets.ok) in
           subst (λ (t : Told). IsHeard t now.state (ordered now.actions now.state c.args.k) new) (sym v.result-is)
           (subst (λ (u : WorldValue). IsAnswered (told.Sent (c.len.result + 1)) (ordered u.actions u.state c.args.k) new) c.self.view_is
           (ap told.Sent number ∙ answer.0, ap (λ ps. state_of ps f.controller.acked f.agents.entries f.ran.items) v.in-Ok.ensures.items ∙ answer.1))
       | in-Err v ↦
-          subst (λ (t : Told). IsHeard t now.state (ordered now.actions now.state c.args.k) new) (sym v.result-is)
-          (ap (λ ps. state_of ps f.controller.acked f.agents.entries f.ran.items) v.in-Err.ensures.items ∙ ap (λ (u : WorldValue). u.state) c.self.view_is)
+          subst (λ (t : Told). IsHeard t now.state (ordered now.actions now.state c.args.k) new) (sym v.result-is) (
+            ap (λ ps. state_of ps f.controller.acked f.agents.entries f.ran.items) v.in-Err.ensures.items ∙ ap (λ (u : WorldValue). u.state) c.self.view_is,
+            subst (λ (u : WorldValue). Adds (ordered u.actions u.state c.args.k).0) c.self.view_is (subst Adds answer.0 tt),
+          )
     ]

@@ -1,0 +1,18 @@
+use Rattle.std.proofs.Common.{ℕ, List, Vec, refl}
+use Rattle.std.specs.declared.alloc.Global.{Global}
+use Rattle.metis_top.proofs.Gathered.{ran_stopped}
+use Rattle.metis_top.proofs.Replies.{ran_replied}
+use Rattle.metis_top.specs.Answer as answer
+use Rattle.metis_top.specs.Commands.{bytes_then, session_limit}
+use Rattle.metis_top.specs.Script.{Reply}
+use Rattle.metis_top.proofs.control.control_actions.Goals as goal
+
+pub returns-in-Ok : goal.returns-in-Ok
+returns-in-Ok g c =
+    ran_replied _ _ _ _ _ (λ (script : Vec ℕ Global). script.items) (bytes_then 4 c.args.script.now session_limit) (λ (script : List ℕ). Reply (answer.Control c.args.u.now c.args.actions.now script)) _ _ _ _
+    c.in-Ok.script (answer.Control c.args.u.now c.args.actions.now c.in-Ok.script.items) _ c.in-Ok.ensures.gathers refl (rw c.deref.ensures.value at c.put_control.ensures)
+
+pub returns-in-Err : goal.returns-in-Err
+returns-in-Err g c =
+    ran_stopped _ _ _ _ _ (λ (script : Vec ℕ Global). script.items) (bytes_then 4 c.args.script.now session_limit) (λ (script : List ℕ). Reply (answer.Control c.args.u.now c.args.actions.now script)) _ _ _ _
+    c.in-Err.stop _ c.in-Err.ensures.gathers c.end.ensures
