@@ -9,9 +9,10 @@ use Rattle.metis_top.specs.declared.refusal.Refusal.{Refusal}
 use Rattle.metis_top.specs.declared.refusal.Refusal.TheVariants.{TooLong, Word}
 use Rattle.metis_top.specs.declared.status.Status.{Status}
 use Rattle.metis_top.specs.declared.words.Verb.{Verb}
-use Rattle.metis_top.specs.declared.words.Verb.TheVariants.{Plan, Replay, Refute, Audit, Sim, Crew, Waves, Control, Print, Load}
+use Rattle.metis_top.specs.declared.words.Verb.TheVariants.{Plan, Replay, Refute, Audit, Sim, Crew, Waves, Control, Place, Print, Load}
 use Rattle.metis_top.specs.Answer as answer
-use Rattle.metis_top.specs.Commands.{waves_then, control_over, control_then, audit_then, plan_said, crew_over, crew_then, judged, or_plan_refused, or_refusal_refused, or_turns_refused, or_universe_refused, goals_named, plan_limit, refusal_limit, refute_then, replay_then, session_limit, sim_then, turns_limit, command_script, script_from, universe_then}
+use Rattle.metis_top.specs.Commands.{hosts_limit, or_hosts_refused, place_over, place_then, waves_then, control_over, control_then, audit_then, plan_said, crew_over, crew_then, judged, or_plan_refused, or_refusal_refused, or_turns_refused, or_universe_refused, goals_named, plan_limit, refusal_limit, refute_then, replay_then, session_limit, sim_then, turns_limit, command_script, script_from, universe_then}
+use Rattle.metis_place.specs.HostsText.{hosts_in}
 use Rattle.metis_top.specs.Course.{Ran, AreTaken, IsRead, OnShelf, after}
 use Rattle.metis_ujson.specs.Document.{document_limit, universe_in}
 use Rattle.metis_top.specs.Forms.{file_count}
@@ -90,6 +91,16 @@ at_most_control u plan name = λ bytes.
     at_most_if 1 (nat_le (length bytes) plan_limit) (judged (λ parts. control_over name u parts.rows.actions) (or_plan_refused (plan_in u bytes))) (TooLong 3)
     (at_most_judged 1 (λ parts. control_over name u parts.rows.actions) (or_plan_refused (plan_in u bytes)) (λ parts. at_most_control_over u parts.rows.actions name))
 
+at_most_place_over : (u : Universe) (actions : List Action) (name : List ℕ) → IsAtMost 1 (place_over name u actions)
+at_most_place_over u actions name = λ bytes.
+    at_most_if 0 (nat_le (length bytes) hosts_limit) (judged (λ h. Reply (answer.Place u actions h)) (or_hosts_refused (hosts_in u bytes))) (TooLong 4)
+    (at_most_judged 0 (λ h. Reply (answer.Place u actions h)) (or_hosts_refused (hosts_in u bytes)) (λ h. tt))
+
+at_most_place : (u : Universe) (plan name : List ℕ) → IsAtMost 2 (place_then plan name u)
+at_most_place u plan name = λ bytes.
+    at_most_if 1 (nat_le (length bytes) plan_limit) (judged (λ parts. place_over name u parts.rows.actions) (or_plan_refused (plan_in u bytes))) (TooLong 3)
+    (at_most_judged 1 (λ parts. place_over name u parts.rows.actions) (or_plan_refused (plan_in u bytes)) (λ parts. at_most_place_over u parts.rows.actions name))
+
 -- the files of each command
 at_most_command : (verb : Verb) (files : List (List ℕ)) (targets : List TargetName) (size : ℕ) (numbers : List ℕ) → IsAtMost (file_count verb) (command_script verb files targets size numbers)
 at_most_command Plan files targets size numbers = at_most_universe 0 2 (word_at files 0) _ (λ u. at_most_judged 0 (λ g. Reply (answer.Plan u g)) (goals_named 3 u targets) (λ g. tt))
@@ -100,6 +111,7 @@ at_most_command Sim files targets size numbers = at_most_universe 1 2 (word_at f
 at_most_command Crew files targets size numbers = at_most_universe 2 2 (word_at files 0) _ (λ u. at_most_crew u (word_at files 1) (word_at files 2))
 at_most_command Waves files targets size numbers = at_most_universe 1 2 (word_at files 0) _ (λ u. at_most_waves u (word_at files 1) numbers)
 at_most_command Control files targets size numbers = at_most_universe 2 2 (word_at files 0) _ (λ u. at_most_control u (word_at files 1) (word_at files 2))
+at_most_command Place files targets size numbers = at_most_universe 2 2 (word_at files 0) _ (λ u. at_most_place u (word_at files 1) (word_at files 2))
 at_most_command Print files targets size numbers = at_most_universe 0 2 (word_at files 0) _ (λ u. tt)
 at_most_command Load files targets size numbers = tt
 
@@ -112,6 +124,7 @@ first_read Sim files targets size numbers some = tt
 first_read Crew files targets size numbers some = tt
 first_read Waves files targets size numbers some = tt
 first_read Control files targets size numbers some = tt
+first_read Place files targets size numbers some = tt
 first_read Print files targets size numbers some = tt
 first_read Load files targets size numbers some = absurd (omega (arith, some))
 

@@ -9,15 +9,16 @@ use Rattle.metis_top.specs.declared.refusal.Refusal.TheVariants as refusal
 use Rattle.metis_top.specs.declared.status.Status.{Status}
 use Rattle.metis_top.specs.declared.status.Status.TheVariants.{Done, No, ReadFault}
 use Rattle.metis_top.specs.declared.words.Verb.{Verb}
-use Rattle.metis_top.specs.declared.words.Verb.TheVariants.{Plan, Replay, Refute, Audit, Sim, Crew, Waves, Control, Print, Load}
+use Rattle.metis_top.specs.declared.words.Verb.TheVariants.{Plan, Replay, Refute, Audit, Sim, Crew, Waves, Control, Place, Print, Load}
 use Rattle.metis_top.specs.Answer as answer
 use Rattle.metis_top.specs.Answer.{Answer, IsAnswer}
 use Rattle.metis_replay.specs.declared.verdict.Verdict.{Verdict}
 use Rattle.metis_replay.specs.declared.verdict.Verdict.TheVariants.{Good, Bad, Missing}
 use Rattle.metis_ids.specs.declared.actions.Action.{Action}
+use Rattle.metis_place.specs.HostsText.{hosts_in}
 use Rattle.metis_text.specs.Reading.{plan_in}
 use Rattle.metis_text.specs.RefusalReading.{refusal_in}
-use Rattle.metis_top.specs.Commands.{waves_then, control_over, control_then, audit_then, plan_said, universe_then, crew_over, crew_then, judged, or_plan_refused, or_refusal_refused, or_turns_refused, or_universe_refused, goals_named, plan_limit, refusal_limit, refute_then, replay_then, session_limit, sim_then, turns_limit, command_script, script_from}
+use Rattle.metis_top.specs.Commands.{hosts_limit, or_hosts_refused, place_over, place_then, waves_then, control_over, control_then, audit_then, plan_said, universe_then, crew_over, crew_then, judged, or_plan_refused, or_refusal_refused, or_turns_refused, or_universe_refused, goals_named, plan_limit, refusal_limit, refute_then, replay_then, session_limit, sim_then, turns_limit, command_script, script_from}
 use Rattle.metis_refusal.specs.declared.verdict.Verdict2.{Verdict2}
 use Rattle.metis_refusal.specs.declared.verdict.Verdict2.TheVariants.{Closed, NotFree, Open, LacksNone}
 use Rattle.metis_audit.specs.declared.answers.Answer.{Answer as AuditAnswer}
@@ -73,6 +74,10 @@ answer_status (answer.Waves u actions numbers) lines status (inr (inr scheduled)
 answer_status (answer.Control u actions script) lines status (inl bad) = inr bad.is
 answer_status (answer.Control u actions script) lines status (inr (inl loose)) = inr loose.is
 answer_status (answer.Control u actions script) lines status (inr (inr answered)) = inl answered.is
+answer_status (answer.Place u actions h) lines status (inl bad) = inr bad.is
+answer_status (answer.Place u actions h) lines status (inr (inl loose)) = inr loose.is
+answer_status (answer.Place u actions h) lines status (inr (inr (inl none))) = inr none.is
+answer_status (answer.Place u actions h) lines status (inr (inr (inr placed))) = inl placed.is
 answer_status (answer.Print u) lines status is = inl is.1
 answer_status (answer.Load size) lines status is = inl is.is
 
@@ -86,6 +91,7 @@ not_refused (TooLong place) is = cc
 not_refused (refusal.Universe fault) is = cc
 not_refused (refusal.PlanText fault) is = cc
 not_refused (refusal.RefusalText fault) is = cc
+not_refused (refusal.HostsText fault) is = cc
 not_refused (refusal.Turns place) is = cc
 
 Numbered-after : (taken : List (List ℕ)) (script : Script) (first : ℕ) → Numbered first script → Numbered (first + length taken) (after taken script)
@@ -180,6 +186,20 @@ numbered_control u plan name = (
       (numbered_judged 4 (λ parts. control_over name u parts.rows.actions) (or_plan_refused (plan_in u bytes)) (λ parts. numbered_control_over u parts.rows.actions name)),
 )
 
+numbered_place_over : (u : Universe) (actions : List Action) (name : List ℕ) → Numbered 4 (place_over name u actions)
+numbered_place_over u actions name = (
+  refl,
+  λ bytes. numbered_if 5 (nat_le (length bytes) hosts_limit) (judged (λ h. Reply (answer.Place u actions h)) (or_hosts_refused (hosts_in u bytes))) (TooLong 4)
+      (numbered_judged 5 (λ h. Reply (answer.Place u actions h)) (or_hosts_refused (hosts_in u bytes)) (λ h. tt)),
+)
+
+numbered_place : (u : Universe) (plan name : List ℕ) → Numbered 3 (place_then plan name u)
+numbered_place u plan name = (
+  refl,
+  λ bytes. numbered_if 4 (nat_le (length bytes) plan_limit) (judged (λ parts. place_over name u parts.rows.actions) (or_plan_refused (plan_in u bytes))) (TooLong 3)
+      (numbered_judged 4 (λ parts. place_over name u parts.rows.actions) (or_plan_refused (plan_in u bytes)) (λ parts. numbered_place_over u parts.rows.actions name)),
+)
+
 -- the script of each command
 numbered_command : (verb : Verb) (files : List (List ℕ)) (targets : List TargetName) (size : ℕ) (numbers : List ℕ) → Numbered 2 (command_script verb files targets size numbers)
 numbered_command Plan files targets size numbers = numbered_universe 2 (word_at files 0) _ (λ u. numbered_judged 3 (λ g. Reply (answer.Plan u g)) (goals_named 3 u targets) (λ g. tt))
@@ -190,6 +210,7 @@ numbered_command Sim files targets size numbers = numbered_universe 2 (word_at f
 numbered_command Crew files targets size numbers = numbered_universe 2 (word_at files 0) _ (λ u. numbered_crew u (word_at files 1) (word_at files 2))
 numbered_command Waves files targets size numbers = numbered_universe 2 (word_at files 0) _ (λ u. numbered_waves u (word_at files 1) numbers)
 numbered_command Control files targets size numbers = numbered_universe 2 (word_at files 0) _ (λ u. numbered_control u (word_at files 1) (word_at files 2))
+numbered_command Place files targets size numbers = numbered_universe 2 (word_at files 0) _ (λ u. numbered_place u (word_at files 1) (word_at files 2))
 numbered_command Print files targets size numbers = numbered_universe 2 (word_at files 0) _ (λ u. tt)
 numbered_command Load files targets size numbers = tt
 

@@ -37,9 +37,13 @@ on_lines h made places = map (λ e. on_line e.0 (name_of h e.1)) (zip made place
 abbrev pub hold_line : ℕ → List ℕ → List ℕ
 hold_line k ms = (codes "hold " ++ (decimal k ++ codes " after")) ++ (added (map decimal ms) ++ codes "\n")
 
+-- the line of action k, if it waits for some
+abbrev pub hold_of_action : ℕ → List ℕ → List (List ℕ)
+hold_of_action k ms = if is_empty ms then [] else hold_line k ms ∷ []
+
 abbrev pub hold_lines : ℕ → List (List ℕ) → List (List ℕ)
 hold_lines k [] = []
-hold_lines k (ms ∷ holds) = if is_empty ms then hold_lines (k + 1) holds else hold_line k ms ∷ hold_lines (k + 1) holds
+hold_lines k (ms ∷ holds) = hold_of_action k ms ++ hold_lines (k + 1) holds
 
 abbrev pub placed_line : ℕ → ℕ → List ℕ
 placed_line made hosts = codes "placed " ++ (decimal made ++ (codes " hosts " ++ (decimal hosts ++ codes "\n")))

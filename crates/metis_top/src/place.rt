@@ -1,5 +1,5 @@
 //! The command that puts a plan's instances on hosts.
-ghost use Rattle.std.specs.Prelude.{◌≡◌, ◌≤◌, ◌<◌, ◌-◌, ◌^◌, ◌++◌, [], ◌∷◌, IfOk, length, map, string_bytes};
+ghost use Rattle.std.specs.Prelude.{◌≡◌, ◌≤◌, ◌<◌, ◌-◌, ◌^◌, ◌++◌, [], ◌∷◌, IfOk, IsTrue, length, string_bytes};
 ghost use Rattle.std.specs.List.{All};
 ghost use Rattle.metis_outside.specs.Faults.{CountsFault};
 ghost use Rattle.metis_outside.specs.Writes.{Writes};
@@ -220,8 +220,8 @@ fn write_seats<K: Sink>(
     ensures text { Writes (on_lines h.now made.now places.now) (K.written out.old) (K.written out.new) result }
     ensures cause { CountsFault (K.faults out.old) (K.faults out.new) result }
 {
-    for (inst, place) in made.iter().zip(places) {
-        write_on(alloc, *inst, h.name(*place as usize), out)?;
+    for index in 0..made.len().min(places.len()) {
+        write_on(alloc, made[index], h.name(places[index] as usize), out)?;
     }
     Ok(())
 }
