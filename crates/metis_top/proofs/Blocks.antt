@@ -1,12 +1,16 @@
 -- The lines of items, some for each item, one item after another.
 use Rattle.std.proofs.Common.{◌≡◌, ℕ, zero, suc, ◌+◌, ◌<◌, ◌≤◌, List, [], ◌∷◌, ◌++◌, length, map, min, take, drop, get_or, refl, sym, ap, ◌∙◌, subst, append-nil, append_assoc, arith}
-use Rattle.std.specs.List.{zip}
+use Rattle.std.specs.List.{filter_map, zip}
+use Rattle.std.specs.Option.{option_to_list}
+use Rattle.std.specs.Prelude.{None, Option, Some}
+use Rattle.std.proofs.lemmas.List.Elements.{filter_map-append}
+use Rattle.metis_ids.specs.declared.actions.Action.{Action}
 use Rattle.std.proofs.lemmas.List.{take_more, take-append-drop, length-take-le}
-use Rattle.std.specs.declared.option.Option.{Option}
+use Rattle.std.specs.declared.option.Option.{Option as Known}
 use Rattle.metis_outside.proofs.Writing.{Appends-trans, front_of_first, front_of_second}
 use Rattle.metis_outside.specs.Writes.{Appends, AppendsFront}
 use Rattle.metis_place.specs.Placement.{HostLists, name_of}
-use Rattle.metis_top.specs.Placed.{hold_lines, hold_of_action, on_line, on_lines}
+use Rattle.metis_top.specs.Placed.{hold_lines, hold_of_action, inst_made, made_of, on_line, on_lines}
 
 abbrev pub blocks : {X : Type 0} → (ℕ → X → List (List ℕ)) → ℕ → List X → List (List ℕ)
 blocks text k [] = []
@@ -29,11 +33,11 @@ module _ {X : Type 0} (text : ℕ → X → List (List ℕ)) (xs : List X) (i : 
       ∙ ap (λ n. blocks text 1 (take i xs) ++ text n x) (omega (arith, size))
 
   -- the lines of the next item were appended to those before them
-  pub appends_block : (old mid new : Option (List (List ℕ))) → Appends old mid (blocks text 1 (take i xs)) → Appends mid new (text (i + 1) x) → Appends old new (blocks text 1 (take (i + 1) xs))
+  pub appends_block : (old mid new : Known (List (List ℕ))) → Appends old mid (blocks text 1 (take i xs)) → Appends mid new (text (i + 1) x) → Appends old new (blocks text 1 (take (i + 1) xs))
   appends_block old mid new put next = subst (λ l. Appends old new l) (sym blocks_next) (Appends-trans old mid new (blocks text 1 (take i xs)) (text (i + 1) x) put next)
 
   -- a front of them was
-  pub front_of_block : (old mid new : Option (List (List ℕ))) → Appends old mid (blocks text 1 (take i xs)) → AppendsFront mid new (text (i + 1) x) → AppendsFront old new (blocks text 1 xs)
+  pub front_of_block : (old mid new : Known (List (List ℕ))) → Appends old mid (blocks text 1 (take i xs)) → AppendsFront mid new (text (i + 1) x) → AppendsFront old new (blocks text 1 xs)
   front_of_block old mid new put front =
       let first = blocks text 1 (take i xs) in
       let next = text (i + 1) x in
@@ -70,3 +74,13 @@ zipped_at [] ys i d e low low' = absurd (omega (arith, low))
 zipped_at (x ∷ xs) [] i d e low low' = absurd (omega (arith, low'))
 zipped_at (x ∷ xs) (y ∷ ys) zero d e low low' = refl
 zipped_at (x ∷ xs) (y ∷ ys) (suc i) d e low low' = zipped_at xs ys i d e (omega (arith, low)) (omega (arith, low'))
+
+-- ---- the instances that are made
+
+pub made_next : (actions : List Action) (i : ℕ) (a d : Action) → i < length actions → a ≡ get_or actions i d → made_of (take (i + 1) actions) ≡ made_of (take i actions) ++ option_to_list (inst_made a)
+made_next actions i a d within is =
+    ap made_of (take_more actions i d within ∙ ap (λ x. take i actions ++ x ∷ []) (sym is))
+    ∙ filter_map-append inst_made (take i actions) (a ∷ []) ∙ ap (λ l. made_of (take i actions) ++ l) (one (inst_made a)) where
+  one : (o : Option ℕ) → filter_map (λ (x : Option ℕ). x) (o ∷ []) ≡ option_to_list o
+  one None = refl
+  one (Some z) = refl

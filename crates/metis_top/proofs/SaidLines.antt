@@ -63,7 +63,6 @@ use Rattle.metis_place.specs.declared.hosts_fault.HFault.{HFault}
 use Rattle.metis_place.specs.declared.hosts_fault.HFault.TheVariants as hfault
 use Rattle.metis_text.proofs.Printed.{all_weaker}
 use Rattle.metis_universe.specs.Names.{is_name_byte}
-use Rattle.metis_universe.specs.Universe.{is_empty}
 use Rattle.metis_top.specs.Placed.{hold_line, hold_lines, hold_of_action, made_of, no_room_line, on_line, on_lines, placed_line}
 use Rattle.metis_top.specs.PutLines.{PutsLines}
 use Rattle.metis_top.specs.Replayed.{verdict_line}
@@ -195,7 +194,7 @@ some_lines false line is = one_line line is
 
 holds_are_lines : (k : ℕ) (holds : List (List ℕ)) → All IsLine (hold_lines k holds)
 holds_are_lines k [] = no_lines
-holds_are_lines k (ms ∷ holds) = All-append IsLine (hold_of_action k ms) (hold_lines (k + 1) holds) (some_lines (is_empty ms) (hold_line k ms) (IsLine-hold_line k ms)) (holds_are_lines (k + 1) holds)
+holds_are_lines k (ms ∷ holds) = All-append IsLine (hold_of_action k ms) (hold_lines (k + 1) holds) (some_lines (length ms == 0) (hold_line k ms) (IsLine-hold_line k ms)) (holds_are_lines (k + 1) holds)
 
 IsLine-placed_line : (made hosts : ℕ) → IsLine (placed_line made hosts)
 IsLine-placed_line made hosts = by_two (codes "placed ") made (codes " hosts ") hosts refl refl

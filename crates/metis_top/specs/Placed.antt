@@ -7,7 +7,7 @@
 --     IsOnHosts u actions h lines status      the actions are a steadfast run, and the lines are those of its placement
 --     HasNoRoom u actions h lines status      they are one, and the one line is that of the first New for which no host has room
 --     Placed u actions h lines status      one of these, or the one line is that of the first action that cannot be done, or of the first that is not steadfast
-use Rattle.std.specs.Prelude.{◌≡◌, ◌⊎◌, ℕ, ◌+◌, List, [], ◌∷◌, ◌++◌, Option, None, Some, length, map, codes, decimal, IsTrue, if◌then◌else◌}
+use Rattle.std.specs.Prelude.{◌≡◌, ◌⊎◌, ℕ, ◌+◌, List, [], ◌∷◌, ◌++◌, ◌==◌, Option, None, Some, length, map, codes, decimal, IsTrue, if◌then◌else◌}
 use Rattle.std.specs.List.{filter_map, zip}
 use Rattle.metis_ids.specs.declared.actions.Action.{Action}
 use Rattle.metis_ids.specs.declared.actions.Action.TheVariants.{New}
@@ -16,7 +16,7 @@ use Rattle.metis_text.specs.Line.{added}
 use Rattle.metis_universe.specs.Config.{empty}
 use Rattle.metis_universe.specs.Steadfast.{is_steadfast}
 use Rattle.metis_universe.specs.Step.{IsRun}
-use Rattle.metis_universe.specs.Universe.{Universe, is_empty}
+use Rattle.metis_universe.specs.Universe.{Universe}
 use Rattle.metis_top.specs.Crewed.{HasBadAction, HasLooseAction}
 use Rattle.metis_top.specs.declared.status.Status.{Status}
 use Rattle.metis_top.specs.declared.status.Status.TheVariants.{Done, No}
@@ -39,7 +39,7 @@ hold_line k ms = (codes "hold " ++ (decimal k ++ codes " after")) ++ (added (map
 
 -- the line of action k, if it waits for some
 abbrev pub hold_of_action : ℕ → List ℕ → List (List ℕ)
-hold_of_action k ms = if is_empty ms then [] else hold_line k ms ∷ []
+hold_of_action k ms = if length ms == 0 then [] else hold_line k ms ∷ []
 
 abbrev pub hold_lines : ℕ → List (List ℕ) → List (List ℕ)
 hold_lines k [] = []

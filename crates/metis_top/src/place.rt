@@ -1,6 +1,7 @@
 //! The command that puts a plan's instances on hosts.
-ghost use Rattle.std.specs.Prelude.{◌≡◌, ◌≤◌, ◌<◌, ◌-◌, ◌^◌, ◌++◌, [], ◌∷◌, IfOk, IsTrue, length, string_bytes};
+ghost use Rattle.std.specs.Prelude.{◌≡◌, ◌≤◌, ◌<◌, ◌-◌, ◌^◌, ◌++◌, [], ◌∷◌, IfOk, IsTrue, OnOk, length, string_bytes};
 ghost use Rattle.std.specs.List.{All};
+ghost use Rattle.std.specs.Option.{option_to_list};
 ghost use Rattle.metis_outside.specs.Faults.{CountsFault};
 ghost use Rattle.metis_outside.specs.Writes.{Writes};
 ghost use Rattle.metis_universe.specs.Config.{empty};
@@ -11,11 +12,11 @@ ghost use Rattle.metis_universe.specs.Universe.{type_count};
 ghost use Rattle.metis_top.specs.Answer as answer;
 ghost use Rattle.metis_top.specs.Commands.{place_over, place_script, place_then};
 ghost use Rattle.metis_top.specs.Course.{Ran, Shown};
-ghost use Rattle.metis_top.specs.Placed.{hold_line, hold_lines, made_of, no_room_line, on_line, on_lines, placed_line, placing_lines};
+ghost use Rattle.metis_top.specs.Placed.{hold_line, hold_lines, hold_of_action, inst_made, made_of, no_room_line, on_line, on_lines, placed_line, placing_lines};
 
 use crate::Status;
 use crate::reading::{hosts_from, plan_from, universe_from};
-use crate::steady::{first_bad, write_loose};
+use crate::steady::{first_bad, first_loose, write_loose};
 use crate::stop::{end, said};
 use crate::verdict_line::write_bad;
 use metis_ids::{Action, InstNo};
@@ -23,7 +24,6 @@ use metis_outside::{Shelf, Sink, Trouble};
 use metis_place::{Hold, Hosts, PFault, Placing, place};
 use metis_text::{push_numbers, put_line};
 use metis_universe::Universe;
-use metis_waits::{WFault, waits};
 use std::alloc::{AllocError, Global};
 
 /// Reads the universe, the plan and the hosts, and puts the host of each instance that the plan makes, and what its actions wait
@@ -116,10 +116,10 @@ fn put_steady<K: Sink>(
     requires sizes { length h.now.sizes ≡ type_count u.now }
     ensures { Shown (answer.IsAnswer (answer.Place u.now actions.now h.now)) (K.written out.old) (K.written out.new) (K.faults out.old) (K.faults out.new) result }
 {
-    match waits(alloc, u, actions) {
-        Ok(_) => put_placing(alloc, u, actions, h, out),
-        Err(WFault::Loose(number)) => said(write_loose(alloc, number, out), Status::No),
-        Err(WFault::NoMemory) => Status::NoMemory,
+    match first_loose(alloc, u, actions) {
+        Ok(None) => put_placing(alloc, u, actions, h, out),
+        Ok(Some(number)) => said(write_loose(alloc, number, out), Status::No),
+        Err(_) => Status::NoMemory,
     }
 }
 
@@ -185,14 +185,9 @@ fn write_placing<K: Sink>(
     ensures cause { CountsFault (K.faults out.old) (K.faults out.new) result }
 {
     let made = made_of(alloc, actions)?;
-    write_seats(alloc, h, &made, &placing.hosts, out)?;
-    write_rest(
-        alloc,
-        &placing.holds,
-        placing.hosts.len(),
-        h.count(),
-        out,
-    )
+    let places: &[u32] = &placing.hosts;
+    write_seats(alloc, h, &made, places, out)?;
+    write_rest(alloc, &placing.holds, places.len(), h.count(), out)
 }
 
 // The instances that the actions make, in order.
@@ -201,11 +196,20 @@ fn made_of(alloc: Global, actions: &[Action]) -> Result<Vec<InstNo>, AllocError>
 {
     let mut made = Vec::new(alloc);
     for action in actions {
-        if let Action::New { inst, .. } = *action {
-            made.push(inst)?;
-        }
+        add_made(&mut made, action)?;
     }
     Ok(made)
+}
+
+// Adds the instance that the action makes, if it makes one.
+fn add_made(made: &mut Vec<InstNo>, action: &Action) -> Result<(), AllocError>
+    ensures { OnOk result (made.new.items ≡ made.old.items ++ option_to_list (inst_made action.now)) }
+{
+    if let Action::New { inst, .. } = *action {
+        made.push(inst)?;
+        return Ok(());
+    }
+    Ok(())
 }
 
 // Puts the host of each of these instances.
@@ -220,7 +224,10 @@ fn write_seats<K: Sink>(
     ensures text { Writes (on_lines h.now made.now places.now) (K.written out.old) (K.written out.new) result }
     ensures cause { CountsFault (K.faults out.old) (K.faults out.new) result }
 {
-    for index in 0..made.len().min(places.len()) {
+    for index in 0..places.len() {
+        if index >= made.len() {
+            return Ok(());
+        }
         write_on(alloc, made[index], h.name(places[index] as usize), out)?;
     }
     Ok(())
@@ -243,7 +250,6 @@ fn on_line(alloc: Global, inst: InstNo, host: &str) -> Result<String, AllocError
 }
 
 // Puts the further waits of all actions, and the counts.
-#[tactic(auto, using(metis_outside::proofs::Writing::front_of_line, metis_outside::proofs::Writing::writes_behind))]
 fn write_rest<K: Sink>(
     alloc: Global,
     holds: &[Hold],
@@ -264,15 +270,29 @@ fn write_holds<K: Sink>(alloc: Global, holds: &[Hold], out: &mut K) -> Result<()
     ensures cause { CountsFault (K.faults out.old) (K.faults out.new) result }
 {
     for (k, hold) in holds.iter().enumerate() {
-        if !hold.numbers.is_empty() {
-            write_hold(alloc, k + 1, &hold.numbers, out)?;
-        }
+        write_hold(alloc, k + 1, &hold.numbers, out)?;
     }
     Ok(())
 }
 
-#[tactic(auto, using(metis_outside::proofs::Writing::front_of_nothing))]
+// Puts the further waits of an action, if it has some.
 fn write_hold<K: Sink>(
+    alloc: Global,
+    number: usize,
+    waits: &[u32],
+    out: &mut K,
+) -> Result<(), Trouble>
+    ensures text { Writes (hold_of_action number waits.now) (K.written out.old) (K.written out.new) result }
+    ensures cause { CountsFault (K.faults out.old) (K.faults out.new) result }
+{
+    if waits.is_empty() {
+        return Ok(());
+    }
+    put_hold(alloc, number, waits, out)
+}
+
+#[tactic(auto, using(metis_outside::proofs::Writing::front_of_nothing))]
+fn put_hold<K: Sink>(
     alloc: Global,
     number: usize,
     waits: &[u32],

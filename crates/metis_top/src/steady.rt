@@ -1,5 +1,5 @@
 //! Whether a plan's actions are a steadfast run.
-ghost use Rattle.std.specs.Prelude.{◌≡◌, ◌<◌, ◌-◌, ◌^◌, [], ◌∷◌, IfOk, IfSome, None, length, string_bytes};
+ghost use Rattle.std.specs.Prelude.{◌≡◌, ◌<◌, ◌-◌, ◌^◌, [], ◌∷◌, IfOk, IfSome, IsTrue, None, length, string_bytes};
 ghost use Rattle.std.specs.List.{All};
 ghost use Rattle.metis_actions.specs.Faults.{IsFaultOf};
 ghost use Rattle.metis_outside.specs.Faults.{CountsFault};
@@ -7,7 +7,9 @@ ghost use Rattle.metis_outside.specs.Writes.{Writes};
 ghost use Rattle.metis_replay.specs.Exact.{IsFirstBad};
 ghost use Rattle.metis_universe.specs.Config.{empty};
 ghost use Rattle.metis_universe.specs.Numbers.{IsOf};
+ghost use Rattle.metis_universe.specs.Steadfast.{is_steadfast};
 ghost use Rattle.metis_universe.specs.Step.{IsRun};
+ghost use Rattle.metis_waits.specs.Waits.{IsFirstLoose};
 ghost use Rattle.metis_top.specs.Crewed.{loose_line};
 
 use crate::replay::replayed;
@@ -17,6 +19,7 @@ use metis_outside::{Sink, Trouble};
 use metis_replay::Verdict;
 use metis_text::put_line;
 use metis_universe::Universe;
+use metis_waits::{WFault, waits};
 use std::alloc::{AllocError, Global};
 
 /// The number of the first action that cannot be done from the empty configuration on, and why.
@@ -35,6 +38,20 @@ pub fn first_bad(
     match verdict {
         Verdict::Bad(number, fault) => Ok(Some((number, fault))),
         Verdict::Good | Verdict::Missing(..) => Ok(None),
+    }
+}
+
+/// The number of the first action that is not steadfast.
+pub fn first_loose(alloc: Global, u: &Universe, actions: &[Action]) -> Result<Option<u32>, NoMemory>
+    requires numbers { All (IsOf u.now) actions.now }
+    requires few { length actions.now < 2 ^ 32 - 1 }
+    ensures loose { IfOk result (λ loose. IfSome loose (λ k. IsFirstLoose u.now actions.now k)) }
+    ensures steadfast { IfOk result (λ loose. loose ≡ None → IsTrue (is_steadfast u.now actions.now)) }
+{
+    match waits(alloc, u, actions) {
+        Ok(_) => Ok(None),
+        Err(WFault::Loose(number)) => Ok(Some(number)),
+        Err(WFault::NoMemory) => Err(NoMemory),
     }
 }
 
