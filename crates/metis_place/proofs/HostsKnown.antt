@@ -1,28 +1,25 @@
 -- The text of hosts is read as them.
-use Rattle.std.proofs.Common.{◌≡◌, ℕ, suc, zero, ◌+◌, ◌-◌, ◌<◌, ◌≤◌, ◌^◌, ◌&&◌, not, Bool, true, false, List, [], ◌∷◌, ◌++◌, length, get_or, map, take, decimal, Result, Ok, Err, refl, sym, ap, ◌∙◌, append_assoc, append-nil, arith}
+use Rattle.std.proofs.Common.{◌≡◌, ℕ, ◌+◌, ◌-◌, ◌≤◌, not, Bool, true, false, List, [], ◌∷◌, ◌++◌, length, get_or, map, take, decimal, Ok, Err, refl, sym, ap, ◌∙◌, append_assoc, append-nil, arith}
 use Rattle.std.specs.Prelude.{codes}
 use Rattle.std.specs.Bool.{◌==◌, if◌then◌else◌}
-use Rattle.std.specs.List.{All, concat, list_all, slice_split}
+use Rattle.std.specs.List.{All, concat, list_all}
 use Rattle.std.specs.Option.{is_some}
-use Rattle.std.specs.Str.{bytes_eq}
 use Rattle.std.proofs.lemmas.Bool.{and_from, and_parts}
 use Rattle.std.proofs.lemmas.Bool.Decides.{nat_tests}
 use Rattle.std.proofs.lemmas.List.{get_or-append_right, length-append, take_at}
-use Rattle.std.proofs.lemmas.List.Elements.{All-append, All-cons, All-head, All-map, All-nil, All-tail}
+use Rattle.std.proofs.lemmas.List.Elements.{All-append, All-cons, All-head, All-nil, All-tail}
 use Rattle.std.proofs.lemmas.List.Splits.{slice_split_at}
-use Rattle.std.proofs.lemmas.List.Sums.{AllPass-from_list_all}
 use Rattle.metis_text.specs.Flaws.{made}
 use Rattle.metis_text.specs.Line.{words}
-use Rattle.metis_text.specs.Tokens.{number_in, tokens}
+use Rattle.metis_text.specs.Tokens.{number_in}
 use Rattle.metis_text.specs.declared.flaw.Flaw.TheVariants.{Form}
 use Rattle.metis_text.proofs.Cuts.{tokens_of_words, words_no_feed}
 use Rattle.metis_text.proofs.NumberTokens.{number_read}
 use Rattle.metis_text.proofs.Printed.{printed, printed_decimal, printed_name}
-use Rattle.metis_universe.specs.Names.{is_name}
 use Rattle.metis_universe.specs.Universe.{Universe, type_named}
 use Rattle.metis_place.specs.Entries.{Entries, has_name}
-use Rattle.metis_place.specs.HostsText.{SeenLines, and_then, end_from, entry_in, hosts_in, hosts_of, is_last, is_line_feed, last_piece, lines_from, nothing, pieces, seen_lines, text_of, whole_lines, with_host, with_line, with_size, with_tokens, with_words}
-use Rattle.metis_place.specs.HostsWritten.{IsEntry, IsHostsText, each_new, hosts_bytes, hosts_lines}
+use Rattle.metis_place.specs.HostsText.{SeenLines, and_then, end_from, entry_in, hosts_in, hosts_of, is_last, is_line_feed, last_piece, lines_from, pieces, seen_lines, text_of, whole_lines, with_host, with_line, with_size, with_tokens}
+use Rattle.metis_place.specs.HostsWritten.{IsEntry, IsHostsText, each_new, hosts_bytes}
 use Rattle.metis_place.specs.declared.hosts_fault.HFault.TheVariants.{Line, Name, Twice}
 use Rattle.metis_place.proofs.HostsRead.{fed, fed_lines, host_words, size_words, text_lines}
 
@@ -80,9 +77,9 @@ module _ (u : Universe) where
       (size_read u n hosts sizes e some (All-head IsEntry e more are) (All-head (λ e. is_some (type_named u e.0) ≡ true) e more kinds) (not_true (has_name sizes e.0) new.0))
       ∙ sizes_read (n + 1) hosts (sizes ++ e ∷ []) more some (All-tail IsEntry e more are) new.1 (All-tail (λ e. is_some (type_named u e.0) ≡ true) e more kinds)
       ∙ ap (λ l. Ok (hosts_of u (seen_lines hosts l))) (append_assoc sizes (e ∷ []) more) where
-    not_true : (b : Bool) → not b ≡ true → b ≡ false
-    not_true true h = cc
-    not_true false h = refl
+        not_true : (b : Bool) → not b ≡ true → b ≡ false
+        not_true true h = cc
+        not_true false h = refl
 
   hosts_read : (n : ℕ) (hosts more sizes : Entries) → 1 ≤ length (hosts ++ more) → All IsEntry more → each_new hosts more ≡ true → All IsEntry sizes → each_new [] sizes ≡ true → All (λ e. is_some (type_named u e.0) ≡ true) sizes
       → lines_from u (seen_lines hosts []) n ((map host_words more ++ map size_words sizes) ++ the_end) [] ≡ Ok (hosts_of u (seen_lines (hosts ++ more) sizes))
@@ -96,9 +93,9 @@ module _ (u : Universe) where
       (host_read u n hosts e (All-head IsEntry e more are) (not_true (has_name hosts e.0) new.0))
       ∙ hosts_read (n + 1) (hosts ++ e ∷ []) more sizes (omega (arith, some, ap length all)) (All-tail IsEntry e more are) new.1 s_are s_apart kinds
       ∙ ap (λ l. Ok (hosts_of u (seen_lines l sizes))) all where
-    not_true : (b : Bool) → not b ≡ true → b ≡ false
-    not_true true h = cc
-    not_true false h = refl
+        not_true : (b : Bool) → not b ≡ true → b ≡ false
+        not_true true h = cc
+        not_true false h = refl
 
 -- ---- the bytes
 
@@ -144,9 +141,9 @@ text_is_read u hosts sizes t =
     let body = map host_words hosts ++ map size_words sizes in
     let lines = text_lines hosts sizes in
     let feeds : All NoFeed lines =
-        All-cons NoFeed (codes "metis hosts 1") (body ++ the_end) refl
-        (All-append NoFeed body the_end (All-append NoFeed (map host_words hosts) (map size_words sizes) (no_feeds (codes "host") hosts refl t.hosts_are) (no_feeds (codes "size") sizes refl t.sizes_are))
-        (All-cons NoFeed (codes "end") [] refl (All-nil NoFeed))) in
+    All-cons NoFeed (codes "metis hosts 1") (body ++ the_end) refl
+    (All-append NoFeed body the_end (All-append NoFeed (map host_words hosts) (map size_words sizes) (no_feeds (codes "host") hosts refl t.hosts_are) (no_feeds (codes "size") sizes refl t.sizes_are))
+    (All-cons NoFeed (codes "end") [] refl (All-nil NoFeed))) in
     let cut : pieces (hosts_bytes hosts sizes) ≡ lines ++ [] ∷ [] = ap (λ l. pieces (concat l)) (sym (fed_lines hosts sizes)) ∙ cut_lines lines feeds in
     ap (λ ps. text_of u (whole_lines ps) (last_piece ps)) cut
     ∙ (λ i. text_of u (whole_before lines i) (nothing_last lines i))

@@ -1,5 +1,5 @@
 -- A fault of a text of hosts is no want of memory.
-use Rattle.std.proofs.Common.{◌≡◌, ℕ, ◌+◌, ◌&&◌, not, Bool, true, false, List, [], ◌∷◌, length, Result, Ok, Err, refl, sym, ap, ◌∙◌}
+use Rattle.std.proofs.Common.{◌≡◌, ℕ, ◌+◌, ◌&&◌, not, Bool, true, false, List, [], ◌∷◌, length, Result, Ok, Err}
 use Rattle.std.specs.Prelude.{codes}
 use Rattle.std.specs.Bool.{◌==◌, if◌then◌else◌}
 use Rattle.std.specs.Option.{is_some}
@@ -10,10 +10,9 @@ use Rattle.metis_text.specs.declared.flaw.Flaw.{Flaw}
 use Rattle.metis_text.specs.declared.flaw.Flaw.TheVariants as flaw
 use Rattle.metis_universe.specs.Universe.{Universe, type_named}
 use Rattle.metis_place.specs.Entries.{Entries, has_name}
-use Rattle.metis_place.specs.HostsText.{SeenLines, and_then, end_from, entry_in, fault_at, hosts_in, hosts_of, is_last, last_piece, lines_from, nothing, pieces, seen_lines, text_of, whole_lines, with_entry, with_host, with_line, with_size, with_tokens, with_words}
-use Rattle.metis_place.specs.Placement.{HostLists}
+use Rattle.metis_place.specs.HostsText.{SeenLines, and_then, entry_in, fault_at, hosts_in, hosts_of, is_last, last_piece, lines_from, nothing, pieces, text_of, whole_lines, with_entry, with_host, with_line, with_size, with_tokens, with_words}
 use Rattle.metis_place.specs.declared.hosts_fault.HFault.{HFault}
-use Rattle.metis_place.specs.declared.hosts_fault.HFault.TheVariants.{Line, Name, NoMemory, Short, Twice}
+use Rattle.metis_place.specs.declared.hosts_fault.HFault.TheVariants.{Line, NoMemory}
 
 abbrev IsNamed : {A : Type 0} → Result A HFault → Type 0
 IsNamed r = r ≡ Err NoMemory → ⊥

@@ -1,11 +1,11 @@
 -- Bytes that are read as hosts are the text of these.
-use Rattle.std.proofs.Common.{◌≡◌, ◌⊎◌, ℕ, suc, ◌+◌, ◌-◌, ◌<◌, ◌≤◌, ◌^◌, ◌&&◌, not, Bool, true, false, List, [], ◌∷◌, ◌++◌, length, get_or, map, take, decimal, Result, Ok, Err, refl, sym, ap, ◌∙◌, subst, inl, inr, append_assoc, append-nil, arith}
+use Rattle.std.proofs.Common.{◌≡◌, ◌⊎◌, ℕ, suc, ◌+◌, ◌-◌, ◌<◌, ◌≤◌, ◌^◌, ◌&&◌, not, Bool, true, false, List, [], ◌∷◌, ◌++◌, length, map, take, decimal, Result, Ok, Err, refl, sym, ap, ◌∙◌, subst, inl, inr, append_assoc, append-nil, arith}
 use Rattle.std.specs.Prelude.{IfOk, codes}
 use Rattle.std.specs.Bool.{◌==◌, if◌then◌else◌}
-use Rattle.std.specs.List.{All, concat, join_with_byte, slice_split}
+use Rattle.std.specs.List.{All, concat, join_with_byte}
 use Rattle.std.specs.Option.{is_some}
 use Rattle.std.specs.Str.{bytes_eq}
-use Rattle.std.proofs.lemmas.Bool.{and_from, and_parts, eqb-true}
+use Rattle.std.proofs.lemmas.Bool.{and_from, and_parts}
 use Rattle.std.proofs.lemmas.Bool.Decides.{nat_tests}
 use Rattle.std.proofs.lemmas.List.{length-append, length-map, length-take-le, map-append, take_all, take_more}
 use Rattle.std.proofs.lemmas.List.Elements.{All-append, All-cons, All-nil}
@@ -22,11 +22,11 @@ use Rattle.metis_text.proofs.Outcomes.{if_is, made_is}
 use Rattle.metis_universe.specs.Names.{is_name}
 use Rattle.metis_universe.specs.Universe.{Universe, type_count, type_named}
 use Rattle.metis_place.specs.Entries.{Entries, has_name}
-use Rattle.metis_place.specs.HostsText.{ReadsHosts, SeenLines, and_then, end_from, entry_in, fault_at, hosts_in, hosts_of, is_last, is_line_feed, last_piece, lines_from, nothing, pieces, seen_lines, sizes_of, text_of, whole_lines, with_entry, with_host, with_line, with_size, with_tokens, with_words}
+use Rattle.metis_place.specs.HostsText.{ReadsHosts, SeenLines, and_then, end_from, entry_in, hosts_in, hosts_of, is_last, is_line_feed, last_piece, lines_from, nothing, pieces, seen_lines, text_of, whole_lines, with_entry, with_host, with_line, with_size, with_tokens, with_words}
 use Rattle.metis_place.specs.HostsWritten.{IsEntry, IsHostsText, IsTextOf, are_apart, each_new, host_line, hosts_bytes, hosts_lines, size_line}
 use Rattle.metis_place.specs.Placement.{HostLists}
 use Rattle.metis_place.specs.declared.hosts_fault.HFault.{HFault}
-use Rattle.metis_place.specs.declared.hosts_fault.HFault.TheVariants.{Line, Name, Short, Twice}
+use Rattle.metis_place.specs.declared.hosts_fault.HFault.TheVariants.{Line, Name, Twice}
 
 -- ---- outcomes
 
@@ -48,7 +48,7 @@ none_is (x ∷ xs) h = absurd (other (length xs) h) where
   other : (n : ℕ) → (suc n == 0) ≡ true → ⊥
   other n h = grind (arith, nat_tests)
 
-some_is : {X : Type 0} (xs : List X) → not (length xs == 0) ≡ true → 1 ≤ length xs
+pub some_is : {X : Type 0} (xs : List X) → not (length xs == 0) ≡ true → 1 ≤ length xs
 some_is xs h = some (length xs) h where
   some : (n : ℕ) → not (n == 0) ≡ true → 1 ≤ n
   some n h = grind (arith, nat_tests)
@@ -142,20 +142,20 @@ each_new-push earlier (x ∷ es) e h new =
 
 -- ---- some lines
 
-abbrev all_words : SeenLines → List (List ℕ)
+abbrev pub all_words : SeenLines → List (List ℕ)
 all_words seen = map host_words seen.hosts ++ map size_words seen.sizes
 
 module _ (u : Universe) where
   -- these lines say so much
-  record Say (front : List (List ℕ)) (seen : SeenLines) : Type 0 where
-    are : front ≡ all_words seen
-    hosts_are : All IsEntry seen.hosts
-    hosts_apart : are_apart seen.hosts ≡ true
-    sizes_are : All IsEntry seen.sizes
-    sizes_apart : are_apart seen.sizes ≡ true
-    types : All (λ e. is_some (type_named u e.0) ≡ true) seen.sizes
+  pub record Say (front : List (List ℕ)) (seen : SeenLines) : Type 0 where
+    pub are : front ≡ all_words seen
+    pub hosts_are : All IsEntry seen.hosts
+    pub hosts_apart : are_apart seen.hosts ≡ true
+    pub sizes_are : All IsEntry seen.sizes
+    pub sizes_apart : are_apart seen.sizes ≡ true
+    pub types : All (λ e. is_some (type_named u e.0) ≡ true) seen.sizes
 
-  none_said : Say [] nothing
+  pub none_said : Say [] nothing
   none_said = record { are = refl; hosts_are = All-nil IsEntry; hosts_apart = refl; sizes_are = All-nil IsEntry; sizes_apart = refl; types = All-nil _ }
 
   pushed : (P : List ℕ × ℕ → Type 0) (es : Entries) (e : List ℕ × ℕ) → All P es → P e → All P (es ++ e ∷ [])
@@ -169,7 +169,7 @@ module _ (u : Universe) where
         let none_left : all_words seen ≡ map host_words hosts = ap (λ l. map host_words hosts ++ map size_words l) one.none ∙ append-nil (map host_words hosts) in
         let more : map host_words (hosts ++ e ∷ []) ≡ map host_words hosts ++ host_words e ∷ [] = map-append host_words hosts (e ∷ []) in
         let lines : front ++ line ∷ [] ≡ all_words (seen_lines (hosts ++ e ∷ []) seen.sizes) =
-            (λ i. (say.are ∙ none_left) i ++ one.is i ∷ []) ∙ sym more ∙ sym (append-nil (map host_words (hosts ++ e ∷ []))) ∙ ap (λ l. map host_words (hosts ++ e ∷ []) ++ map size_words l) (sym one.none) in
+        (λ i. (say.are ∙ none_left) i ++ one.is i ∷ []) ∙ sym more ∙ sym (append-nil (map host_words (hosts ++ e ∷ []))) ∙ ap (λ l. map host_words (hosts ++ e ∷ []) ++ map size_words l) (sym one.none) in
         subst (Say (front ++ line ∷ [])) (sym one.gives) (record {
           are = lines;
           hosts_are = pushed IsEntry hosts e say.hosts_are one.entry;
@@ -185,7 +185,7 @@ module _ (u : Universe) where
         let e = one.e in
         let more : map size_words (sizes ++ e ∷ []) ≡ map size_words sizes ++ size_words e ∷ [] = map-append size_words sizes (e ∷ []) in
         let lines : front ++ line ∷ [] ≡ all_words (seen_lines seen.hosts (sizes ++ e ∷ [])) =
-            (λ i. say.are i ++ one.is i ∷ []) ∙ append_assoc (map host_words seen.hosts) (map size_words sizes) (size_words e ∷ []) ∙ ap (λ l. map host_words seen.hosts ++ l) (sym more) in
+        (λ i. say.are i ++ one.is i ∷ []) ∙ append_assoc (map host_words seen.hosts) (map size_words sizes) (size_words e ∷ []) ∙ ap (λ l. map host_words seen.hosts ++ l) (sym more) in
         subst (Say (front ++ line ∷ [])) (sym one.gives) (record {
           are = lines;
           hosts_are = say.hosts_are;
@@ -195,7 +195,7 @@ module _ (u : Universe) where
           types = pushed (λ e. is_some (type_named u e.0) ≡ true) sizes e say.types one.kind;
         })
 
-    one_more : with_line u n seen line ≡ Ok s → Say (front ++ line ∷ []) s
+    pub one_more : with_line u n seen line ≡ Ok s → Say (front ++ line ∷ []) s
     one_more h = elim (line_is u n seen line s h) [ inl host ↦ one_host host | inr size ↦ one_size size ]
 
   -- all lines from the second one on
@@ -247,11 +247,11 @@ cut_last ps some =
     let back : length ps - 1 + 1 ≡ length ps = omega arith in
     sym (take_all (length ps) ps (omega arith)) ∙ ap (λ k. take k ps) (sym back) ∙ take_more ps (length ps - 1) [] (omega arith)
 
-fed_host : (hosts : Entries) → map fed (map host_words hosts) ≡ map host_line hosts
+pub fed_host : (hosts : Entries) → map fed (map host_words hosts) ≡ map host_line hosts
 fed_host [] = refl
 fed_host (e ∷ es) = ap (λ l. host_line e ∷ l) (fed_host es)
 
-fed_size : (sizes : Entries) → map fed (map size_words sizes) ≡ map size_line sizes
+pub fed_size : (sizes : Entries) → map fed (map size_words sizes) ≡ map size_line sizes
 fed_size [] = refl
 fed_size (e ∷ es) = ap (λ l. size_line e ∷ l) (fed_size es)
 
@@ -282,8 +282,8 @@ hosts_are_text u bytes h is =
     let hosts : h.hosts ≡ seen.hosts = ap (λ h. h.hosts) all.is in
     let lines : whole_lines ps ≡ text_lines seen.hosts seen.sizes = text.1 ∙ ap (λ l. codes "metis hosts 1" ∷ l) all.are in
     let whole : bytes ≡ hosts_bytes seen.hosts seen.sizes =
-        sym (join_with_byte-slice_split 10 bytes) ∙ ap (join_with_byte 10) (cut_last ps some) ∙ (λ i. join_with_byte 10 (lines i ++ all.ends i ∷ []))
-        ∙ joined (text_lines seen.hosts seen.sizes) ∙ ap concat (fed_lines seen.hosts seen.sizes) in
+    sym (join_with_byte-slice_split 10 bytes) ∙ ap (join_with_byte 10) (cut_last ps some) ∙ (λ i. join_with_byte 10 (lines i ++ all.ends i ∷ []))
+    ∙ joined (text_lines seen.hosts seen.sizes) ∙ ap concat (fed_lines seen.hosts seen.sizes) in
     record {
       sizes = seen.sizes;
       formed = subst (λ hs. IsHostsText u hs seen.sizes) (sym hosts) (record { some = all.some; hosts_are = say.hosts_are; hosts_apart = say.hosts_apart; sizes_are = say.sizes_are; sizes_apart = say.sizes_apart; types = say.types });

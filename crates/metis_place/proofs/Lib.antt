@@ -18,6 +18,7 @@ pub mod Trees
 pub mod Within
 pub mod Examples
 pub mod Entries
+pub mod HostsBroken
 pub mod HostsNamed
 pub mod HostsRead
 pub mod HostsLines

@@ -1,5 +1,5 @@
 -- Each seat is on one of the hosts.
-use Rattle.std.proofs.Common.{◌≡◌, ℕ, zero, suc, ◌+◌, ◌<◌, ◌≤◌, Bool, true, false, List, [], ◌∷◌, ◌++◌, length, map, take, refl, sym, ap, ◌∙◌, subst, arith}
+use Rattle.std.proofs.Common.{◌≡◌, ℕ, zero, suc, ◌+◌, ◌<◌, Bool, true, false, List, [], length, map, take, refl, sym, ap, subst, arith}
 use Rattle.std.specs.Prelude.{Option, None, Some, option_and_then, option_map, slice_get, if◌then◌else◌}
 use Rattle.std.specs.List.{All, find, range_with_len}
 use Rattle.std.specs.Option.{option_to_list}

@@ -4,13 +4,12 @@
 --     next_number hosts sizes      the number of the line behind them
 --     IsTooShort, IsOfFirst, IsOfLine, IsPastEnd u bytes f      the bytes end before the last line does;  the first line is another;  the line behind those that can be read has a fault;  more stands behind the last line
 --     IsHostsFault u bytes f      one of these
---     IsTwiceThere u hosts sizes line, IsOfNoType u line      the line has its form, and its host or its type stands on an earlier line of its kind;  it has its form, and its type is not there
-use Rattle.std.specs.Prelude.{◌≡◌, ◌≢◌, ◌⊎◌, ◌≤◌, ℕ, ◌+◌, ◌==◌, not, List, [], ◌∷◌, ◌++◌, None, Result, Ok, Err, IsTrue, IsFalse, codes, decimal, length, map, ⊤}
+--     IfFault result P      of a fault that is no want of memory
+use Rattle.std.specs.Prelude.{◌≡◌, ◌≢◌, ◌≤◌, ℕ, ◌+◌, ◌==◌, not, List, ◌∷◌, ◌++◌, Result, Ok, Err, IsTrue, IsFalse, codes, length, map, ⊤}
 use Rattle.std.specs.List.{All, concat, list_all}
 use Rattle.std.specs.Option.{is_some}
 use Rattle.metis_universe.specs.Universe.{Universe, type_named}
-use Rattle.metis_text.specs.Line.{words}
-use Rattle.metis_place.specs.Entries.{Entries, has_name}
+use Rattle.metis_place.specs.Entries.{Entries}
 use Rattle.metis_place.specs.HostsText.{is_last, seen_lines, with_line}
 use Rattle.metis_place.specs.HostsWritten.{IsEntry, IsHostsText, are_apart, host_line, hosts_bytes, hosts_header, size_line}
 use Rattle.metis_place.specs.declared.hosts_fault.HFault.{HFault}
@@ -35,7 +34,7 @@ next_number hosts sizes = length hosts + length sizes + 2
 -- nothing but the beginning of a line stands behind lines that can be read, or the first line has no end
 pub data IsTooShort (u : Universe) (bytes : List ℕ) (f : HFault) : Type 0 where
   in_first : NoFeed bytes → f ≡ Short → IsTooShort u bytes f
-  behind : (hosts sizes : Entries) (piece : List ℕ) → IsBegun u hosts sizes → bytes ≡ begun_bytes hosts sizes ++ piece → NoFeed piece → f ≡ Short → IsTooShort u bytes f
+  in_later : (hosts sizes : Entries) (piece : List ℕ) → IsBegun u hosts sizes → bytes ≡ begun_bytes hosts sizes ++ piece → NoFeed piece → f ≡ Short → IsTooShort u bytes f
 
 pub record IsOfFirst (bytes : List ℕ) (f : HFault) : Type 0 where
   pub line : List ℕ
@@ -72,7 +71,6 @@ pub data IsHostsFault (u : Universe) (bytes : List ℕ) (f : HFault) : Type 0 wh
   of_line : IsOfLine u bytes f → IsHostsFault u bytes f
   past_end : IsPastEnd u bytes f → IsHostsFault u bytes f
 
--- of a fault that is no want of memory
 abbrev pub IfFault : {A : Type 0} → Result A HFault → (HFault → Type 0) → Type 0
 IfFault (Ok x) P = ⊤
 IfFault (Err fault) P = fault ≢ NoMemory → P fault

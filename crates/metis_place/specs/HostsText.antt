@@ -6,7 +6,7 @@
 --     whole_lines bytes, last_piece bytes      the lines that end with a line feed;  what stands behind the last of them
 --     hosts_in u bytes      what the bytes say
 --     Takes result seen meaning, ReadsHosts result meaning      what was taken in, or read, is what was meant, unless memory ran out
-use Rattle.std.specs.Prelude.{◌≡◌, ◌≢◌, ℕ, ◌+◌, ◌-◌, ◌==◌, ◌&&◌, not, Bool, List, [], ◌∷◌, ◌++◌, codes, length, map, take, Option, None, Some, Result, Ok, Err, if◌then◌else◌}
+use Rattle.std.specs.Prelude.{◌≡◌, ◌≢◌, ℕ, ◌+◌, ◌-◌, ◌==◌, ◌&&◌, not, Bool, List, [], ◌∷◌, ◌++◌, codes, length, map, take, Result, Ok, Err, if◌then◌else◌}
 use Rattle.std.specs.List.{slice_index_or, slice_split}
 use Rattle.std.specs.Option.{is_some}
 use Rattle.std.specs.Str.{bytes_eq}

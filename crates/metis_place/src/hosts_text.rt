@@ -4,6 +4,7 @@ ghost use Rattle.std.specs.Str.{bytes_eq};
 ghost use Rattle.metis_text.specs.Flaws.{made};
 ghost use Rattle.metis_universe.specs.Universe.{type_count};
 ghost use Rattle.metis_place.specs.Entries.{entries_of, number_of};
+ghost use Rattle.metis_place.specs.HostsFaults.{IfFault, IsHostsFault};
 ghost use Rattle.metis_place.specs.HostsWritten.{IsTextOf};
 ghost use Rattle.metis_place.specs.HostsText.{ReadsHosts, Takes, end_from, entry_in, hosts_in, hosts_of, is_last, lines_from, nothing, pieces, sizes_of, text_of, whole_lines, last_piece, with_entry, with_host, with_line, with_size, with_tokens, with_words};
 
@@ -27,8 +28,7 @@ struct Seen {
 
 impl Model for Seen {
     ghost use Rattle.metis_place.specs.Entries.{entries_of};
-    ghost use Rattle.metis_place.specs.HostsWritten.{IsTextOf};
-ghost use Rattle.metis_place.specs.HostsText.{SeenLines, seen_lines};
+    ghost use Rattle.metis_place.specs.HostsText.{SeenLines, seen_lines};
 
     ghost Value = { SeenLines };
 
@@ -226,6 +226,9 @@ pub fn read_hosts(alloc: Global, u: &Universe, bytes: &[u8]) -> Result<Hosts, HF
 
     // So the bytes are the text of what is read.
     ensures text { IfOk result (λ h. IsTextOf u.now h bytes.now) }
+
+    // Each fault comes of the first line that is wrong, or of an end that is missing.
+    ensures fault { IfFault result (λ f. IsHostsFault u.now bytes.now f) }
     ensures few { IfOk result (λ h. length h.hosts ≤ 65536) }
     ensures sizes { IfOk result (λ h. length h.sizes ≡ type_count u.now) }
 {

@@ -1,4 +1,4 @@
-use Rattle.std.proofs.Common.{◌≡◌, ◌∙◌, ◌+◌, ℕ, List, Bor, [], map, drop, get_or, sym, ap, subst}
+use Rattle.std.proofs.Common.{◌∙◌, ◌+◌, ℕ, List, Bor, [], map, sym, ap, subst}
 use Rattle.std.proofs.lemmas.List.{take_rest}
 use Rattle.std.proofs.lemmas.Result.{err_from_is_err_and}
 use Rattle.metis_place.specs.HostsText.{ReadsHosts, end_from}
