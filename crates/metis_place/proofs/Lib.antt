@@ -15,4 +15,11 @@ pub mod Tallies
 pub mod Holdings
 pub mod Placed
 pub mod Trees
+pub mod Within
 pub mod Examples
+pub mod Entries
+pub mod HostsBroken
+pub mod HostsNamed
+pub mod HostsRead
+pub mod HostsLines
+pub mod HostsKnown

@@ -1,5 +1,9 @@
+pub mod Entries
 pub mod FirstPlace
 pub mod Holding
+pub mod HostsFaults
+pub mod HostsText
+pub mod HostsWritten
 pub mod Placement
 pub mod Rooms
 pub mod RoomsFall

@@ -1,10 +1,12 @@
-//! On which host each instance of a plan is put.
+//! Hosts with room, read from a text, and on which of them each instance of a plan is put.
 #![tactic(auto)]
 
 mod fault;
 mod further;
 mod holds;
 mod hosts;
+mod hosts_fault;
+mod hosts_text;
 mod laws;
 mod placing;
 mod rooms;
@@ -12,6 +14,10 @@ mod seats;
 
 pub use fault::PFault;
 pub use holds::Hold;
-pub use hosts::{Host, Hosts};
-pub use laws::{further_waits_are_earlier, no_host_is_overfull, own_order_is_held};
+pub use hosts::Hosts;
+pub use hosts_fault::HFault;
+pub use hosts_text::read_hosts;
+pub use laws::{
+    further_waits_are_earlier, hosts_text_is_read, no_host_is_overfull, own_order_is_held,
+};
 pub use placing::{Placing, place};

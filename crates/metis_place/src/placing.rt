@@ -1,5 +1,6 @@
 //! Instances on hosts, and what each action waits for besides.
 ghost use Rattle.std.specs.Prelude.{◌≡◌, ◌≤◌, ◌<◌, ◌-◌, ◌^◌, IfOk, IsTrue, List, ℕ, length};
+ghost use Rattle.std.specs.List.{All};
 ghost use Rattle.metis_universe.specs.Config.{empty};
 ghost use Rattle.metis_universe.specs.Steadfast.{is_steadfast};
 ghost use Rattle.metis_universe.specs.Step.{IsRun};
@@ -52,6 +53,7 @@ pub fn place(alloc: Global, u: &Universe, actions: &[Action], h: &Hosts) -> Resu
     requires hosts { length h.now.hosts < 2 ^ 32 }
     requires sizes { type_count u.now ≤ length h.now.sizes }
     ensures placing { IfOk result (IsPlacing h.now actions.now) }
+    ensures within { IfOk result (λ p. All (λ i. i < length h.now.hosts) p.hosts) }
     ensures roomy { IfOk result (λ p. (ks : List ℕ) (i : ℕ) → IsKept actions.now ks → IsHeld (hold_of p.holds) ks → load (seats h.now actions.now) (picked actions.now ks) i ≤ room_of h.now i) }
     ensures no_room { IfNoRoom result (IsNoRoom h.now actions.now) }
 {

@@ -1,5 +1,6 @@
 pub mod Aims
 pub mod CrewTurns
+pub mod Blocks
 pub mod Deployments
 pub mod FileBytes
 pub mod FormRead

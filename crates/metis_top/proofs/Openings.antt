@@ -6,12 +6,13 @@ use Rattle.metis_ids.specs.declared.actions.Action.{Action}
 use Rattle.metis_text.specs.Reading.{plan_in}
 use Rattle.metis_text.specs.RefusalReading.{refusal_in}
 use Rattle.metis_top.specs.declared.refusal.Refusal.{Refusal}
-use Rattle.metis_top.specs.declared.refusal.Refusal.TheVariants.{TooLong, Word}
+use Rattle.metis_top.specs.declared.refusal.Refusal.TheVariants.{NotYet, TooLong, Word}
 use Rattle.metis_top.specs.declared.status.Status.{Status}
 use Rattle.metis_top.specs.declared.words.Verb.{Verb}
-use Rattle.metis_top.specs.declared.words.Verb.TheVariants.{Plan, Replay, Refute, Audit, Sim, Crew, Waves, Control, Rollout, Print, Load}
+use Rattle.metis_top.specs.declared.words.Verb.TheVariants.{Plan, Replay, Refute, Audit, Sim, Crew, Waves, Control, Rollout, Place, Print, Load}
 use Rattle.metis_top.specs.Answer as answer
-use Rattle.metis_top.specs.Commands.{waves_then, control_over, control_then, audit_then, plan_said, crew_over, crew_then, judged, or_plan_refused, or_refusal_refused, or_turns_refused, or_universe_refused, goals_named, plan_limit, refusal_limit, refute_then, replay_then, rollout_then, session_limit, sim_then, turns_limit, command_script, script_from, universe_then}
+use Rattle.metis_top.specs.Commands.{any_universe_then, single_then, waves_then, control_over, control_then, audit_then, plan_said, crew_over, crew_then, judged, or_plan_refused, or_refusal_refused, or_turns_refused, or_universe_refused, goals_named, plan_limit, refusal_limit, refute_then, replay_then, rollout_then, session_limit, sim_then, turns_limit, command_script, script_from, universe_then, hosts_limit, or_hosts_refused, place_over, place_then}
+use Rattle.metis_place.specs.HostsText.{hosts_in}
 use Rattle.metis_top.specs.Course.{Ran, AreTaken, IsRead, OnShelf, after}
 use Rattle.metis_ujson.specs.Document.{document_limit, universe_in}
 use Rattle.metis_top.specs.Forms.{file_count}
@@ -20,7 +21,7 @@ use Rattle.metis_top.specs.Script.{Script, Read, Refuse, Reply}
 use Rattle.metis_top.specs.TargetName.{TargetName}
 use Rattle.metis_top.specs.Turns.{turns_in}
 use Rattle.metis_top.specs.Words.{Form, word_at}
-use Rattle.metis_universe.specs.Universe.{Universe}
+use Rattle.metis_universe.specs.Universe.{Universe, greatest_demand}
 
 -- it reads at most so many files
 abbrev IsAtMost : ℕ → Script → Type 0
@@ -45,9 +46,12 @@ at_most_if : (n : ℕ) (test : Bool) (script : Script) (refusal : Refusal) → I
 at_most_if n true script refusal most = most
 at_most_if n false script refusal most = refuses_at_most n refusal
 
-at_most_universe : (n place : ℕ) (name : List ℕ) (next : Universe → Script) → ((u : Universe) → IsAtMost n (next u)) → IsAtMost (suc n) (universe_then place name next)
-at_most_universe n place name next most = λ bytes.
+at_most_any_universe : (n place : ℕ) (name : List ℕ) (next : Universe → Script) → ((u : Universe) → IsAtMost n (next u)) → IsAtMost (suc n) (any_universe_then place name next)
+at_most_any_universe n place name next most = λ bytes.
     at_most_if n (nat_le (length bytes) document_limit) (judged next (or_universe_refused (universe_in bytes))) (TooLong place) (at_most_judged n next (or_universe_refused (universe_in bytes)) most)
+
+at_most_universe : (n place : ℕ) (name : List ℕ) (next : Universe → Script) → ((u : Universe) → IsAtMost n (next u)) → IsAtMost (suc n) (universe_then place name next)
+at_most_universe n place name next most = at_most_any_universe n place name (λ u. single_then u next) (λ u. at_most_if n (nat_le (greatest_demand u) 1) (next u) NotYet (most u))
 
 at_most_replay : (u : Universe) (g : List Goal) (plan : List ℕ) → IsAtMost 1 (replay_then plan (u, g))
 at_most_replay u g plan = λ bytes.
@@ -95,6 +99,16 @@ at_most_control u plan name = λ bytes.
     at_most_if 1 (nat_le (length bytes) plan_limit) (judged (λ parts. control_over name u parts.rows.actions) (or_plan_refused (plan_in u bytes))) (TooLong 3)
     (at_most_judged 1 (λ parts. control_over name u parts.rows.actions) (or_plan_refused (plan_in u bytes)) (λ parts. at_most_control_over u parts.rows.actions name))
 
+at_most_place_over : (u : Universe) (actions : List Action) (name : List ℕ) → IsAtMost 1 (place_over name u actions)
+at_most_place_over u actions name = λ bytes.
+    at_most_if 0 (nat_le (length bytes) hosts_limit) (judged (λ h. Reply (answer.Place u actions h)) (or_hosts_refused (hosts_in u bytes))) (TooLong 4)
+    (at_most_judged 0 (λ h. Reply (answer.Place u actions h)) (or_hosts_refused (hosts_in u bytes)) (λ h. tt))
+
+at_most_place : (u : Universe) (plan name : List ℕ) → IsAtMost 2 (place_then plan name u)
+at_most_place u plan name = λ bytes.
+    at_most_if 1 (nat_le (length bytes) plan_limit) (judged (λ parts. place_over name u parts.rows.actions) (or_plan_refused (plan_in u bytes))) (TooLong 3)
+    (at_most_judged 1 (λ parts. place_over name u parts.rows.actions) (or_plan_refused (plan_in u bytes)) (λ parts. at_most_place_over u parts.rows.actions name))
+
 -- the files of each command
 at_most_command : (verb : Verb) (files : List (List ℕ)) (targets : List TargetName) (size : ℕ) (numbers : List ℕ) → IsAtMost (file_count verb) (command_script verb files targets size numbers)
 at_most_command Plan files targets size numbers = at_most_universe 0 2 (word_at files 0) _ (λ u. at_most_judged 0 (λ g. Reply (answer.Plan u g)) (goals_named 3 u targets) (λ g. tt))
@@ -106,7 +120,8 @@ at_most_command Crew files targets size numbers = at_most_universe 2 2 (word_at 
 at_most_command Waves files targets size numbers = at_most_universe 1 2 (word_at files 0) _ (λ u. at_most_waves u (word_at files 1) numbers)
 at_most_command Control files targets size numbers = at_most_universe 2 2 (word_at files 0) _ (λ u. at_most_control u (word_at files 1) (word_at files 2))
 at_most_command Rollout files targets size numbers = at_most_universe 1 2 (word_at files 0) _ (λ u. at_most_judged 1 (λ g. rollout_then (word_at files 1) (u, g)) (goals_named 4 u targets) (λ g. at_most_rollout u g (word_at files 1)))
-at_most_command Print files targets size numbers = at_most_universe 0 2 (word_at files 0) _ (λ u. tt)
+at_most_command Place files targets size numbers = at_most_universe 2 2 (word_at files 0) _ (λ u. at_most_place u (word_at files 1) (word_at files 2))
+at_most_command Print files targets size numbers = at_most_any_universe 0 2 (word_at files 0) _ (λ u. tt)
 at_most_command Load files targets size numbers = tt
 
 first_read : (verb : Verb) (files : List (List ℕ)) (targets : List TargetName) (size : ℕ) (numbers : List ℕ) → 1 ≤ file_count verb → IsRead (command_script verb files targets size numbers)
@@ -119,6 +134,7 @@ first_read Crew files targets size numbers some = tt
 first_read Waves files targets size numbers some = tt
 first_read Control files targets size numbers some = tt
 first_read Rollout files targets size numbers some = tt
+first_read Place files targets size numbers some = tt
 first_read Print files targets size numbers some = tt
 first_read Load files targets size numbers some = absurd (omega (arith, some))
 

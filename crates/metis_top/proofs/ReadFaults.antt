@@ -9,15 +9,16 @@ use Rattle.metis_top.specs.declared.refusal.Refusal.TheVariants as refusal
 use Rattle.metis_top.specs.declared.status.Status.{Status}
 use Rattle.metis_top.specs.declared.status.Status.TheVariants.{Done, No, ReadFault}
 use Rattle.metis_top.specs.declared.words.Verb.{Verb}
-use Rattle.metis_top.specs.declared.words.Verb.TheVariants.{Plan, Replay, Refute, Audit, Sim, Crew, Waves, Control, Rollout, Print, Load}
+use Rattle.metis_top.specs.declared.words.Verb.TheVariants.{Plan, Replay, Refute, Audit, Sim, Crew, Waves, Control, Rollout, Place, Print, Load}
 use Rattle.metis_top.specs.Answer as answer
 use Rattle.metis_top.specs.Answer.{Answer, IsAnswer}
 use Rattle.metis_replay.specs.declared.verdict.Verdict.{Verdict}
 use Rattle.metis_replay.specs.declared.verdict.Verdict.TheVariants.{Good, Bad, Missing}
 use Rattle.metis_ids.specs.declared.actions.Action.{Action}
+use Rattle.metis_place.specs.HostsText.{hosts_in}
 use Rattle.metis_text.specs.Reading.{plan_in}
 use Rattle.metis_text.specs.RefusalReading.{refusal_in}
-use Rattle.metis_top.specs.Commands.{waves_then, control_over, control_then, audit_then, plan_said, universe_then, crew_over, crew_then, judged, or_plan_refused, or_refusal_refused, or_turns_refused, or_universe_refused, goals_named, plan_limit, refusal_limit, refute_then, replay_then, rollout_then, session_limit, sim_then, turns_limit, command_script, script_from}
+use Rattle.metis_top.specs.Commands.{any_universe_then, single_then, waves_then, control_over, control_then, audit_then, plan_said, universe_then, crew_over, crew_then, judged, or_plan_refused, or_refusal_refused, or_turns_refused, or_universe_refused, goals_named, plan_limit, refusal_limit, refute_then, replay_then, rollout_then, session_limit, sim_then, turns_limit, command_script, script_from, hosts_limit, or_hosts_refused, place_over, place_then}
 use Rattle.metis_refusal.specs.declared.verdict.Verdict2.{Verdict2}
 use Rattle.metis_refusal.specs.declared.verdict.Verdict2.TheVariants.{Closed, NotFree, Open, LacksNone}
 use Rattle.metis_audit.specs.declared.answers.Answer.{Answer as AuditAnswer}
@@ -33,7 +34,7 @@ use Rattle.metis_top.specs.Script.{Script, Read, Refuse, Reply}
 use Rattle.metis_top.specs.TargetName.{TargetName}
 use Rattle.metis_top.specs.Turns.{turns_in}
 use Rattle.metis_top.specs.Words.{Form, word_at}
-use Rattle.metis_universe.specs.Universe.{Universe}
+use Rattle.metis_universe.specs.Universe.{Universe, greatest_demand}
 
 verdict_ends : (v : Verdict) (status : Status) → status ≡ verdict_status v → (status ≡ Done) ⊎ (status ≡ No)
 verdict_ends Good status is = inl is
@@ -80,6 +81,10 @@ answer_status (answer.Control u actions script) lines status (inr (inr answered)
 answer_status (answer.Rollout u goals actions) lines status (inl bad) = inr bad.is
 answer_status (answer.Rollout u goals actions) lines status (inr (inl loose)) = inr loose.is
 answer_status (answer.Rollout u goals actions) lines status (inr (inr puts)) = either_ends status puts.answer
+answer_status (answer.Place u actions h) lines status (inl bad) = inr bad.is
+answer_status (answer.Place u actions h) lines status (inr (inl loose)) = inr loose.is
+answer_status (answer.Place u actions h) lines status (inr (inr (inl none))) = inr none.is
+answer_status (answer.Place u actions h) lines status (inr (inr (inr placed))) = inl placed.is
 answer_status (answer.Print u) lines status is = inl is.1
 answer_status (answer.Load size) lines status is = inl is.is
 
@@ -91,8 +96,10 @@ not_refused : (refusal : Refusal) → refusal_status refusal ≡ ReadFault → �
 not_refused (Word place) is = cc
 not_refused (TooLong place) is = cc
 not_refused (refusal.Universe fault) is = cc
+not_refused refusal.NotYet is = cc
 not_refused (refusal.PlanText fault) is = cc
 not_refused (refusal.RefusalText fault) is = cc
+not_refused (refusal.HostsText fault) is = cc
 not_refused (refusal.Turns place) is = cc
 
 Numbered-after : (taken : List (List ℕ)) (script : Script) (first : ℕ) → Numbered first script → Numbered (first + length taken) (after taken script)
@@ -129,8 +136,11 @@ numbered_judged : {X : Type 0} (k : ℕ) (next : X → Script) (r : Result X Ref
 numbered_judged k next (Ok x) n = n x
 numbered_judged k next (Err refusal) n = tt
 
+numbered_any_universe : (place : ℕ) (name : List ℕ) (next : Universe → Script) → ((u : Universe) → Numbered (suc place) (next u)) → Numbered place (any_universe_then place name next)
+numbered_any_universe place name next n = (refl, λ bytes. numbered_if (suc place) (nat_le (length bytes) document_limit) (judged next (or_universe_refused (universe_in bytes))) (TooLong place) (numbered_judged (suc place) next (or_universe_refused (universe_in bytes)) n))
+
 numbered_universe : (place : ℕ) (name : List ℕ) (next : Universe → Script) → ((u : Universe) → Numbered (suc place) (next u)) → Numbered place (universe_then place name next)
-numbered_universe place name next n = (refl, λ bytes. numbered_if (suc place) (nat_le (length bytes) document_limit) (judged next (or_universe_refused (universe_in bytes))) (TooLong place) (numbered_judged (suc place) next (or_universe_refused (universe_in bytes)) n))
+numbered_universe place name next n = numbered_any_universe place name (λ u. single_then u next) (λ u. numbered_if (suc place) (nat_le (greatest_demand u) 1) (next u) refusal.NotYet (n u))
 
 numbered_replay : (u : Universe) (g : List Goal) (plan : List ℕ) → Numbered 3 (replay_then plan (u, g))
 numbered_replay u g plan = (
@@ -194,6 +204,20 @@ numbered_control u plan name = (
       (numbered_judged 4 (λ parts. control_over name u parts.rows.actions) (or_plan_refused (plan_in u bytes)) (λ parts. numbered_control_over u parts.rows.actions name)),
 )
 
+numbered_place_over : (u : Universe) (actions : List Action) (name : List ℕ) → Numbered 4 (place_over name u actions)
+numbered_place_over u actions name = (
+  refl,
+  λ bytes. numbered_if 5 (nat_le (length bytes) hosts_limit) (judged (λ h. Reply (answer.Place u actions h)) (or_hosts_refused (hosts_in u bytes))) (TooLong 4)
+      (numbered_judged 5 (λ h. Reply (answer.Place u actions h)) (or_hosts_refused (hosts_in u bytes)) (λ h. tt)),
+)
+
+numbered_place : (u : Universe) (plan name : List ℕ) → Numbered 3 (place_then plan name u)
+numbered_place u plan name = (
+  refl,
+  λ bytes. numbered_if 4 (nat_le (length bytes) plan_limit) (judged (λ parts. place_over name u parts.rows.actions) (or_plan_refused (plan_in u bytes))) (TooLong 3)
+      (numbered_judged 4 (λ parts. place_over name u parts.rows.actions) (or_plan_refused (plan_in u bytes)) (λ parts. numbered_place_over u parts.rows.actions name)),
+)
+
 -- the script of each command
 numbered_command : (verb : Verb) (files : List (List ℕ)) (targets : List TargetName) (size : ℕ) (numbers : List ℕ) → Numbered 2 (command_script verb files targets size numbers)
 numbered_command Plan files targets size numbers = numbered_universe 2 (word_at files 0) _ (λ u. numbered_judged 3 (λ g. Reply (answer.Plan u g)) (goals_named 3 u targets) (λ g. tt))
@@ -205,7 +229,8 @@ numbered_command Crew files targets size numbers = numbered_universe 2 (word_at 
 numbered_command Waves files targets size numbers = numbered_universe 2 (word_at files 0) _ (λ u. numbered_waves u (word_at files 1) numbers)
 numbered_command Control files targets size numbers = numbered_universe 2 (word_at files 0) _ (λ u. numbered_control u (word_at files 1) (word_at files 2))
 numbered_command Rollout files targets size numbers = numbered_universe 2 (word_at files 0) _ (λ u. numbered_judged 3 (λ g. rollout_then (word_at files 1) (u, g)) (goals_named 4 u targets) (λ g. numbered_rollout u g (word_at files 1)))
-numbered_command Print files targets size numbers = numbered_universe 2 (word_at files 0) _ (λ u. tt)
+numbered_command Place files targets size numbers = numbered_universe 2 (word_at files 0) _ (λ u. numbered_place u (word_at files 1) (word_at files 2))
+numbered_command Print files targets size numbers = numbered_any_universe 2 (word_at files 0) _ (λ u. tt)
 numbered_command Load files targets size numbers = tt
 
 numbered_script : (form : Result Form ℕ) → Numbered 2 (script_from form)

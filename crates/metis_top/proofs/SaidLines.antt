@@ -1,11 +1,12 @@
 -- What a run says are lines.
 --     SaysLines script      what is said where the script ends so is lines, whatever its files have
-use Rattle.std.proofs.Common.{◌≡◌, ◌≢◌, ℕ, ◌+◌, Bool, true, false, List, [], ◌∷◌, ◌++◌, length, map, Option, Some, None, Result, Ok, Err, refl, sym, ap, subst, inl, inr, nat_le, if◌then◌else◌, decimal, arith}
+use Rattle.std.proofs.Common.{◌≡◌, ◌≢◌, ℕ, not, ◌==◌, suc, zero, ◌+◌, Bool, true, false, List, [], ◌∷◌, ◌++◌, length, map, Option, Some, None, Result, Ok, Err, refl, sym, ap, subst, inl, inr, nat_le, if◌then◌else◌, decimal, arith}
 use Rattle.std.specs.Prelude.{codes}
 use Rattle.std.specs.List.{All, list_all, zip}
-use Rattle.std.proofs.lemmas.Bool.{and_from}
+use Rattle.std.proofs.lemmas.Bool.Decides.{nat_tests}
+use Rattle.std.proofs.lemmas.Bool.{and_from, and_parts}
 use Rattle.metis_actions.specs.Faults.{fault_text, fault_tokens}
-use Rattle.std.proofs.lemmas.List.Elements.{All-append, All-cons, All-nil}
+use Rattle.std.proofs.lemmas.List.Elements.{All-append, All-cons, All-head, All-nil, All-tail, All-weaker}
 use Rattle.metis_actions.specs.declared.faults.AFault.{AFault}
 use Rattle.metis_actions.specs.declared.faults.AFault.TheVariants as afault
 use Rattle.metis_outside.proofs.Feeds.{IsLine-append, IsLine-from, no_feed, no_feed-append, no_feed-decimal, no_feed-join_with_byte, one_line}
@@ -37,7 +38,7 @@ use Rattle.metis_ujson.proofs.OneLine.{IsLine-canonical}
 use Rattle.metis_ujson.specs.Document.{document_limit, universe_in}
 use Rattle.metis_ujson.specs.declared.faults.UFault.{UFault}
 use Rattle.metis_ujson.specs.declared.faults.UFault.TheVariants as ufault
-use Rattle.metis_universe.specs.Universe.{IsNamed, IsTable, Universe, pair_count, port_name_of}
+use Rattle.metis_universe.specs.Universe.{IsNamed, IsTable, Universe, pair_count, port_name_of, greatest_demand}
 use Rattle.metis_universe.specs.declared.faults.LimitKind.{LimitKind}
 use Rattle.metis_universe.specs.declared.faults.LimitKind.TheVariants.{Pairs, Ports, Requires, States}
 use Rattle.metis_control.proofs.AnswerLines.{by_number, by_three, by_two, no_feed-added_numbers, number_then, script_is_lines}
@@ -47,12 +48,22 @@ use Rattle.metis_crew.specs.declared.turn.Turn.TheVariants as turn
 use Rattle.metis_gen.specs.Generated.{generated, generated_targets}
 use Rattle.metis_top.specs.Answer as answer
 use Rattle.metis_top.specs.Answer.{Answer, IsAnswer}
-use Rattle.metis_top.specs.Commands.{waves_then, control_over, control_then, audit_then, plan_said, command_script, crew_over, crew_then, judged, or_plan_refused, or_refusal_refused, or_turns_refused, or_universe_refused, or_word, goal_found_then, goals_after, goals_named, plan_limit, refusal_limit, refute_then, replay_then, rollout_then, script_from, session_limit, sim_then, targets_then, turns_limit, universe_then}
+use Rattle.metis_top.specs.Commands.{any_universe_then, single_then, waves_then, control_over, control_then, audit_then, plan_said, command_script, crew_over, crew_then, judged, or_plan_refused, or_refusal_refused, or_turns_refused, or_universe_refused, or_word, goal_found_then, goals_after, goals_named, plan_limit, refusal_limit, refute_then, replay_then, rollout_then, script_from, session_limit, sim_then, targets_then, turns_limit, universe_then, hosts_limit, or_hosts_refused, place_over, place_then}
 use Rattle.metis_top.specs.Course.{Ran, Says, Shown, after}
 use Rattle.metis_top.specs.Crewed.{last_line, loose_line, progress_line, turn_line}
 use Rattle.metis_top.specs.Judged.{judgement_line, word_line}
-use Rattle.metis_top.specs.Lines.{limit_line, plan_fault_line, read_fault_line, refusal_fault_line, refusal_line, universe_line}
+use Rattle.metis_top.specs.Lines.{hosts_fault_line, limit_line, plan_fault_line, read_fault_line, refusal_fault_line, refusal_line, universe_line}
 use Rattle.metis_top.specs.Loaded.{counts_line as load_counts_line, load_line}
+use Rattle.metis_place.proofs.HostsNamed.{hosts_in_named}
+use Rattle.metis_place.proofs.HostsRead.{hosts_are_text}
+use Rattle.metis_place.specs.HostsText.{hosts_in}
+use Rattle.metis_place.specs.HostsWritten.{IsEntry}
+use Rattle.metis_place.specs.Placement.{HostLists, name_of}
+use Rattle.metis_place.specs.declared.hosts_fault.HFault.{HFault}
+use Rattle.metis_place.specs.declared.hosts_fault.HFault.TheVariants as hfault
+use Rattle.metis_text.proofs.Printed.{all_weaker}
+use Rattle.metis_universe.specs.Names.{is_name_byte}
+use Rattle.metis_top.specs.Placed.{hold_line, hold_lines, hold_of_action, made_of, no_room_line, on_line, on_lines, placed_line}
 use Rattle.metis_top.specs.PutLines.{PutsLines}
 use Rattle.metis_top.specs.Replayed.{verdict_line}
 use Rattle.metis_top.specs.Script.{Script, Read, Refuse, Reply}
@@ -61,7 +72,7 @@ use Rattle.metis_top.specs.TargetName.{TargetName}
 use Rattle.metis_top.specs.Turns.{turns_in}
 use Rattle.metis_top.specs.Words.{Form, word_at}
 use Rattle.metis_top.specs.declared.refusal.Refusal.{Refusal}
-use Rattle.metis_top.specs.declared.refusal.Refusal.TheVariants.{Word, TooLong, Turns}
+use Rattle.metis_top.specs.declared.refusal.Refusal.TheVariants.{NotYet, Word, TooLong, Turns}
 use Rattle.metis_top.specs.declared.status.Status.{Status}
 use Rattle.metis_top.specs.declared.words.Verb.{Verb}
 use Rattle.metis_audit.specs.declared.answers.Answer.{Answer as AuditAnswer}
@@ -70,7 +81,7 @@ use Rattle.metis_ids.specs.Plans as plans
 use Rattle.metis_top.specs.Audited.{audit_line}
 use Rattle.metis_top.specs.RolledOut.{RolloutAnswer, rollout_plan}
 use Rattle.metis_top.specs.Waved.{chain_line, end_lines, finish_line, start_line, start_lines}
-use Rattle.metis_top.specs.declared.words.Verb.TheVariants.{Plan, Replay, Refute, Audit, Sim, Crew, Waves, Control, Rollout, Print, Load}
+use Rattle.metis_top.specs.declared.words.Verb.TheVariants.{Plan, Replay, Refute, Audit, Sim, Crew, Waves, Control, Rollout, Place, Print, Load}
 use Rattle.std.specs.declared.option.Option.{Option as Known}
 
 no_lines : All IsLine []
@@ -111,6 +122,7 @@ IsLine-universe_line (ufault.StateTwice t s f) named = by_three (codes "bad univ
 IsLine-universe_line (ufault.NoInitial t) named = by_number (codes "bad universe U9 type ") t refl
 IsLine-universe_line (ufault.UnknownNext t s k) named = by_three (codes "bad universe U10 type ") t (codes " state ") s (codes " entry ") k refl refl refl
 IsLine-universe_line (ufault.PortName t s k) named = by_three (codes "bad universe U11 type ") t (codes " state ") s (codes " entry ") k refl refl refl
+IsLine-universe_line (ufault.Demand t s k) named = by_three (codes "bad universe U13 type ") t (codes " state ") s (codes " entry ") k refl refl refl
 IsLine-universe_line (ufault.Limit kind n) named = IsLine-limit_line kind n
 IsLine-universe_line ufault.NoMemory named = absurd (named refl)
 
@@ -127,6 +139,14 @@ IsLine-refusal_fault_line tfault.Short named = IsLine-from (codes "bad refusal s
 IsLine-refusal_fault_line (tfault.Name n) named = by_number (codes "bad refusal name ") n refl
 IsLine-refusal_fault_line (tfault.Number n) named = by_number (codes "bad refusal number ") n refl
 IsLine-refusal_fault_line tfault.NoMemory named = absurd (named refl)
+
+IsLine-hosts_fault_line : (fault : HFault) → fault ≢ hfault.NoMemory → IsLine (hosts_fault_line fault)
+IsLine-hosts_fault_line (hfault.Line n) named = by_number (codes "bad hosts line ") n refl
+IsLine-hosts_fault_line hfault.Short named = IsLine-from (codes "bad hosts short") refl
+IsLine-hosts_fault_line (hfault.Number n) named = by_number (codes "bad hosts number ") n refl
+IsLine-hosts_fault_line (hfault.Name n) named = by_number (codes "bad hosts name ") n refl
+IsLine-hosts_fault_line (hfault.Twice n) named = by_number (codes "bad hosts twice ") n refl
+IsLine-hosts_fault_line hfault.NoMemory named = absurd (named refl)
 
 IsLine-word : (place : ℕ) → IsLine (refusal_line (Word place))
 IsLine-word place = by_number (codes "bad word ") place refl
@@ -163,6 +183,35 @@ IsLine-start_line k row = IsLine-append (decimal k) (codes " at " ++ (decimal ro
 starts_are_lines : (k : ℕ) (rows : List (ℕ × ℕ)) → All IsLine (numbered start_line k rows)
 starts_are_lines k [] = All-nil IsLine
 starts_are_lines k (row ∷ rows) = All-cons IsLine (start_line k row) (numbered start_line (k + 1) rows) (IsLine-start_line k row) (starts_are_lines (k + 1) rows)
+
+IsLine-hold_line : (k : ℕ) (ms : List ℕ) → IsLine (hold_line k ms)
+IsLine-hold_line k ms =
+    IsLine-append (codes "hold " ++ (decimal k ++ codes " after")) (added (map decimal ms) ++ codes "\n")
+    (no_feed-append (codes "hold ") (decimal k ++ codes " after") refl (no_feed-append (decimal k) (codes " after") (no_feed-decimal k) refl))
+    (IsLine-append (added (map decimal ms)) (codes "\n") (no_feed-added_numbers ms) feed)
+
+some_lines : (b : Bool) (line : List ℕ) → IsLine line → All IsLine (if b then [] else line ∷ [])
+some_lines true line is = no_lines
+some_lines false line is = one_line line is
+
+holds_are_lines : (k : ℕ) (holds : List (List ℕ)) → All IsLine (hold_lines k holds)
+holds_are_lines k [] = no_lines
+holds_are_lines k (ms ∷ holds) = All-append IsLine (hold_of_action k ms) (hold_lines (k + 1) holds) (some_lines (length ms == 0) (hold_line k ms) (IsLine-hold_line k ms)) (holds_are_lines (k + 1) holds)
+
+IsLine-placed_line : (made hosts : ℕ) → IsLine (placed_line made hosts)
+IsLine-placed_line made hosts = by_two (codes "placed ") made (codes " hosts ") hosts refl refl
+
+IsLine-no_room_line : (k size free : ℕ) → IsLine (no_room_line k size free)
+IsLine-no_room_line k size free = by_three (codes "noroom ") k (codes " size ") size (codes " free ") free refl refl refl
+
+-- a place that no host has has the empty name
+name_has_no_feed : (hosts : List (List ℕ × ℕ)) (sizes : List ℕ) (i : ℕ) → All (λ e. no_feed e.0 ≡ true) hosts → no_feed (name_of (record { hosts = hosts; sizes = sizes }) i) ≡ true
+name_has_no_feed [] sizes i each = refl
+name_has_no_feed (e ∷ es) sizes zero each = All-head (λ e. no_feed e.0 ≡ true) e es each
+name_has_no_feed (e ∷ es) sizes (suc i) each = name_has_no_feed es sizes i (All-tail (λ e. no_feed e.0 ≡ true) e es each)
+
+seats_are_lines : (h : HostLists) → All (λ e. no_feed e.0 ≡ true) h.hosts → (made places : List ℕ) → All IsLine (on_lines h made places)
+seats_are_lines h each made places = each_line (λ (e : ℕ × ℕ). on_line e.0 (name_of h e.1)) (zip made places) (λ e. number_then (codes "on ") e.0 (codes " " ++ (name_of h e.1 ++ codes "\n")) refl (by_word (codes " ") (name_of h e.1) refl (name_has_no_feed h.hosts h.sizes e.1 each)))
 
 module _ (u : Universe) (named : IsNamed u) where
   no_feed-fault_tokens : (f : AFault) → list_all no_feed (fault_tokens u f) ≡ true
@@ -291,6 +340,18 @@ module _ (u : Universe) (table : IsTable u) where
       subst (All IsLine) (sym taken.told)
       (All-append IsLine (map turn_line answers) (last_line actions zs ∷ []) (each_line turn_line answers IsLine-turn_line) (one_line (last_line actions zs) (IsLine-progress_line _ (length actions))))
 
+  place_answers : (actions : List Action) (h : HostLists) → All (λ e. no_feed e.0 ≡ true) h.hosts → AnswersLines (answer.Place u actions h)
+  place_answers actions h each lines status (inl bad) = just_one _ lines (IsLine-verdict_line u table.named 0 0 (Bad bad.number bad.fault)) bad.told
+  place_answers actions h each lines status (inr (inl loose)) = just_one _ lines (IsLine-loose_line loose.number) loose.told
+  place_answers actions h each lines status (inr (inr (inl none))) = just_one _ lines (IsLine-no_room_line none.number none.size none.free) none.told
+  place_answers actions h each lines status (inr (inr (inr placed))) =
+      let p = placed.placing in
+      let made = made_of actions in
+      let last = placed_line (length p.hosts) (length h.hosts) in
+      subst (All IsLine) (sym placed.told)
+      (All-append IsLine (on_lines h made p.hosts) (hold_lines 1 p.holds ++ last ∷ []) (seats_are_lines h each made p.hosts)
+      (All-append IsLine (hold_lines 1 p.holds) (last ∷ []) (holds_are_lines 1 p.holds) (one_line last (IsLine-placed_line (length p.hosts) (length h.hosts)))))
+
 print_answers : (u : Universe) → AnswersLines (answer.Print u)
 print_answers u lines status is = just_one _ lines (IsLine-canonical u) is.0
 
@@ -342,10 +403,16 @@ lines_meant : (next : Universe → Script) (r : Result Universe UFault) → ((u 
 lines_meant next (Ok u) says named = says u refl
 lines_meant next (Err fault) says named = IsLine-universe_line fault (λ e. named (ap Err e))
 
-lines_universe : (place : ℕ) (name : List ℕ) (next : Universe → Script) → ((u : Universe) → IsTable u → SaysLines (next u)) → SaysLines (universe_then place name next)
-lines_universe place name next says = λ bytes.
+lines_any_universe : (place : ℕ) (name : List ℕ) (next : Universe → Script) → ((u : Universe) → IsTable u → SaysLines (next u)) → SaysLines (any_universe_then place name next)
+lines_any_universe place name next says = λ bytes.
     lines_if (nat_le (length bytes) document_limit) (judged next (or_universe_refused (universe_in bytes))) place
     (lines_meant next (universe_in bytes) (λ u is. says u (universe_in_table bytes u is)) (universe_in_named bytes))
+
+lines_single : (u : Universe) (next : Universe → Script) → SaysLines (next u) → SaysLines (single_then u next)
+lines_single u next says = elim (nat_le (greatest_demand u) 1) as (λ b. SaysLines (if b then next u else Refuse NotYet)) [ true ↦ says | false ↦ IsLine-from (codes "not yet demand") refl ]
+
+lines_universe : (place : ℕ) (name : List ℕ) (next : Universe → Script) → ((u : Universe) → IsTable u → SaysLines (next u)) → SaysLines (universe_then place name next)
+lines_universe place name next says = lines_any_universe place name (λ u. single_then u next) (λ u table. lines_single u next (says u table))
 
 word_refuses : (place : ℕ) (o : Option Goal) → RefusesByLine (or_word place o)
 word_refuses place None = IsLine-word place
@@ -429,6 +496,28 @@ lines_control u table plan name = λ bytes.
     lines_if (nat_le (length bytes) plan_limit) (judged next (or_plan_refused (plan_in u bytes))) 3
     (lines_judged next (or_plan_refused (plan_in u bytes)) (λ parts. lines_control_over u table parts.rows.actions name) (plan_refuses (plan_in u bytes) (plan_in_named u bytes)))
 
+-- hosts that are read have names without a line feed, and a fault that is told is none of memory
+lines_hosts : (u : Universe) (next : HostLists → Script) (r : Result HostLists HFault) → ((h : HostLists) → r ≡ Ok h → SaysLines (next h)) → (r ≡ Err hfault.NoMemory → ⊥) → SaysLines (judged next (or_hosts_refused r))
+lines_hosts u next (Ok h) says named = says h refl
+lines_hosts u next (Err fault) says named = IsLine-hosts_fault_line fault (λ e. named (ap Err e))
+
+names_have_none : (es : List (List ℕ × ℕ)) → All IsEntry es → All (λ e. no_feed e.0 ≡ true) es
+names_have_none es are = All-weaker IsEntry (λ e. no_feed e.0 ≡ true) (λ e is. all_weaker is_name_byte (λ b. not (b == 10)) name_byte_feeds e.0 (and_parts _ _ is.0).1) es are where
+  name_byte_feeds : (b : ℕ) → is_name_byte b ≡ true → not (b == 10) ≡ true
+  name_byte_feeds b h = grind (arith, nat_tests)
+
+lines_place_over : (u : Universe) → IsTable u → (actions : List Action) (name : List ℕ) → SaysLines (place_over name u actions)
+lines_place_over u table actions name = λ bytes.
+    let next : HostLists → Script = λ h. Reply (answer.Place u actions h) in
+    lines_if (nat_le (length bytes) hosts_limit) (judged next (or_hosts_refused (hosts_in u bytes))) 4
+    (lines_hosts u next (hosts_in u bytes) (λ h is. place_answers u table actions h (names_have_none h.hosts (hosts_are_text u bytes h is).formed.hosts_are)) (hosts_in_named u bytes))
+
+lines_place : (u : Universe) → IsTable u → (plan name : List ℕ) → SaysLines (place_then plan name u)
+lines_place u table plan name = λ bytes.
+    let next : Parts → Script = λ parts. place_over name u parts.rows.actions in
+    lines_if (nat_le (length bytes) plan_limit) (judged next (or_plan_refused (plan_in u bytes))) 3
+    (lines_judged next (or_plan_refused (plan_in u bytes)) (λ parts. lines_place_over u table parts.rows.actions name) (plan_refuses (plan_in u bytes) (plan_in_named u bytes)))
+
 -- the script of each command
 lines_command : (verb : Verb) (files : List (List ℕ)) (targets : List TargetName) (size : ℕ) (numbers : List ℕ) → SaysLines (command_script verb files targets size numbers)
 lines_command Plan files targets size numbers = lines_universe 2 (word_at files 0) _ (λ u table. lines_targets 3 u targets (λ g. Reply (answer.Plan u g)) (plan_answers u table))
@@ -440,7 +529,8 @@ lines_command Crew files targets size numbers = lines_universe 2 (word_at files 
 lines_command Waves files targets size numbers = lines_universe 2 (word_at files 0) _ (λ u table. lines_waves u table (word_at files 1) numbers)
 lines_command Control files targets size numbers = lines_universe 2 (word_at files 0) _ (λ u table. lines_control u table (word_at files 1) (word_at files 2))
 lines_command Rollout files targets size numbers = lines_universe 2 (word_at files 0) _ (λ u table. lines_targets 4 u targets (λ g. rollout_then (word_at files 1) (u, g)) (λ g. lines_rollout u table g (word_at files 1)))
-lines_command Print files targets size numbers = lines_universe 2 (word_at files 0) _ (λ u table. print_answers u)
+lines_command Place files targets size numbers = lines_universe 2 (word_at files 0) _ (λ u table. lines_place u table (word_at files 1) (word_at files 2))
+lines_command Print files targets size numbers = lines_any_universe 2 (word_at files 0) _ (λ u table. print_answers u)
 lines_command Load files targets size numbers = load_answers size
 
 lines_script : (form : Result Form ℕ) → SaysLines (script_from form)

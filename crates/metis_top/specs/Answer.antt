@@ -4,12 +4,14 @@ use Rattle.metis_ids.specs.declared.actions.Action.{Action}
 use Rattle.metis_ids.specs.declared.goals.Goal.{Goal}
 use Rattle.metis_ids.specs.Plans as plans
 use Rattle.metis_ujson.specs.Canonical.{canonical}
+use Rattle.metis_place.specs.Placement.{HostLists}
 use Rattle.metis_universe.specs.Universe.{Universe}
 use Rattle.metis_top.specs.Audited.{Audited}
 use Rattle.metis_top.specs.Controlled.{Controlled}
 use Rattle.metis_top.specs.Crewed.{Crewed}
 use Rattle.metis_top.specs.Judged.{Judged}
 use Rattle.metis_top.specs.Loaded.{Loaded}
+use Rattle.metis_top.specs.Placed.{Placed}
 use Rattle.metis_top.specs.Planned.{PlanAnswer}
 use Rattle.metis_top.specs.Replayed.{Replayed}
 use Rattle.metis_top.specs.RolledOut.{RolledOut}
@@ -24,8 +26,9 @@ use Rattle.metis_top.specs.declared.status.Status.TheVariants.{Done}
 -- replies to the lines of this script; or what a crew over these actions answers to the turns of these instances, where the actions
 -- are a steadfast run; or when each of these actions may start, by durations of these numbers, where they are a steadfast run;
 -- or what a controller and its agents over these actions answer to the lines of this script, where they are a steadfast run; or
--- the rollout from these actions to these targets, where they are a steadfast run, or a refusal of the targets; or the
--- universe's own document; or the counts of the plan for a generated universe.
+-- the rollout from these actions to these targets, where they are a steadfast run, or a refusal of the targets; or on which of these
+-- hosts each instance that these actions make is, where they are a steadfast run; or the universe's own document; or the counts of
+-- the plan for a generated universe.
 pub data Answer : Type 0 where
   Plan : (u : Universe) (goals : List Goal) → Answer
   Replay : (u : Universe) (goals : List Goal) (actions : List Action) → Answer
@@ -36,6 +39,7 @@ pub data Answer : Type 0 where
   Waves : (u : Universe) (actions : List Action) (numbers : List ℕ) → Answer
   Control : (u : Universe) (actions : List Action) (script : List ℕ) → Answer
   Rollout : (u : Universe) (goals : List Goal) (actions : List Action) → Answer
+  Place : (u : Universe) (actions : List Action) (h : HostLists) → Answer
   Print : (u : Universe) → Answer
   Load : (size : ℕ) → Answer
 
@@ -50,5 +54,6 @@ IsAnswer (Crew u actions zs) lines status = Crewed u actions zs lines status
 IsAnswer (Waves u actions numbers) lines status = Waved u actions numbers lines status
 IsAnswer (Control u actions script) lines status = Controlled u actions script lines status
 IsAnswer (Rollout u goals actions) lines status = RolledOut u goals actions lines status
+IsAnswer (Place u actions h) lines status = Placed u actions h lines status
 IsAnswer (Print u) lines status = (lines ≡ canonical u ∷ []) × (status ≡ Done)
 IsAnswer (Load size) lines status = Loaded size lines status

@@ -2,16 +2,19 @@
 use Rattle.std.specs.Prelude.{ℕ, ◌+◌, List, [], ◌∷◌, ◌++◌, length, map, nat_le, Option, Some, None, Result, Ok, Err, if◌then◌else◌}
 use Rattle.metis_ids.specs.declared.goals.Goal.{Goal}
 use Rattle.metis_universe.specs.GoalWords.{goal_named}
-use Rattle.metis_universe.specs.Universe.{Universe}
+use Rattle.metis_universe.specs.Universe.{Universe, greatest_demand}
 use Rattle.metis_top.specs.declared.refusal.Refusal.{Refusal}
 use Rattle.metis_top.specs.declared.refusal.Refusal.TheVariants.{Word, TooLong}
 use Rattle.metis_top.specs.declared.refusal.Refusal.TheVariants as refusal
 use Rattle.metis_top.specs.declared.words.Verb.{Verb}
-use Rattle.metis_top.specs.declared.words.Verb.TheVariants.{Plan, Replay, Refute, Audit, Sim, Crew, Waves, Control, Rollout, Print, Load}
+use Rattle.metis_top.specs.declared.words.Verb.TheVariants.{Plan, Replay, Refute, Audit, Sim, Crew, Waves, Control, Rollout, Place, Print, Load}
 use Rattle.metis_top.specs.Answer as answer
 use Rattle.metis_ids.specs.declared.actions.Action.{Action}
 use Rattle.metis_ids.specs.Plans as plans
 use Rattle.metis_ids.specs.Plans.{Dup}
+use Rattle.metis_place.specs.HostsText.{hosts_in}
+use Rattle.metis_place.specs.Placement.{HostLists}
+use Rattle.metis_place.specs.declared.hosts_fault.HFault.{HFault}
 use Rattle.metis_text.specs.DupLine.{DupRow}
 use Rattle.metis_text.specs.Reading.{Parts, plan_in}
 use Rattle.metis_text.specs.RefusalReading.{RefusalParts, refusal_in}
@@ -41,8 +44,16 @@ abbrev pub universe_in_then : List ℕ → (Universe → Script) → Script
 universe_in_then bytes next = judged next (or_universe_refused (universe_in bytes))
 
 -- the same of the file of the word at this place
+abbrev pub any_universe_then : ℕ → List ℕ → (Universe → Script) → Script
+any_universe_then place name next = bytes_then place name document_limit (λ bytes. universe_in_then bytes next)
+
+-- goes on with a universe in which no port is required of several providers; others most commands do not serve yet
+abbrev pub single_then : Universe → (Universe → Script) → Script
+single_then u next = if nat_le (greatest_demand u) 1 then next u else Refuse refusal.NotYet
+
+-- goes on with such a universe in the file of the word at this place
 abbrev pub universe_then : ℕ → List ℕ → (Universe → Script) → Script
-universe_then place name next = bytes_then place name document_limit (λ bytes. universe_in_then bytes next)
+universe_then place name next = any_universe_then place name (λ u. single_then u next)
 
 abbrev pub or_word : ℕ → Option Goal → Result Goal Refusal
 or_word place None = Err (Word place)
@@ -121,6 +132,22 @@ turns_in_then bytes next = judged next (or_turns_refused (turns_in bytes))
 abbrev pub turns_then : ℕ → List ℕ → (List ℕ → Script) → Script
 turns_then place name next = bytes_then place name turns_limit (λ bytes. turns_in_then bytes next)
 
+-- the most bytes of a text of hosts
+abbrev pub hosts_limit : ℕ
+hosts_limit = 65536
+
+abbrev pub or_hosts_refused : Result HostLists HFault → Result HostLists Refusal
+or_hosts_refused (Ok h) = Ok h
+or_hosts_refused (Err fault) = Err (refusal.HostsText fault)
+
+-- goes on with the hosts and the sizes that the bytes say
+abbrev pub hosts_in_then : Universe → List ℕ → (HostLists → Script) → Script
+hosts_in_then u bytes next = judged next (or_hosts_refused (hosts_in u bytes))
+
+-- the same of the file of the word at this place
+abbrev pub hosts_then : ℕ → Universe → List ℕ → (HostLists → Script) → Script
+hosts_then place u name next = bytes_then place name hosts_limit (λ bytes. hosts_in_then u bytes next)
+
 abbrev pub plan_script : List ℕ → List TargetName → Script
 plan_script file targets = goals_then 3 file targets (λ asked. Reply (answer.Plan asked.0 asked.1))
 
@@ -197,9 +224,20 @@ rollout_then plan asked = plan_then 3 asked.0 plan (λ parts. Reply (answer.Roll
 
 abbrev pub rollout_script : List ℕ → List ℕ → List TargetName → Script
 rollout_script file plan targets = goals_then 4 file targets (rollout_then plan)
+-- what a placement does once it has its universe and the plan's actions; why these are no steadfast run is told behind what is wrong
+-- with the hosts
+abbrev pub place_over : List ℕ → Universe → List Action → Script
+place_over hosts u actions = hosts_then 4 u hosts (λ h. Reply (answer.Place u actions h))
+
+-- the same once it has its universe
+abbrev pub place_then : List ℕ → List ℕ → Universe → Script
+place_then plan hosts u = plan_then 3 u plan (λ parts. place_over hosts u parts.rows.actions)
+
+abbrev pub place_script : List ℕ → List ℕ → List ℕ → Script
+place_script file plan hosts = universe_then 2 file (place_then plan hosts)
 
 abbrev pub print_script : List ℕ → Script
-print_script file = universe_then 2 file (λ u. Reply (answer.Print u))
+print_script file = any_universe_then 2 file (λ u. Reply (answer.Print u))
 
 -- a command that reads no file
 abbrev pub load_script : ℕ → Script
@@ -216,6 +254,7 @@ command_script Crew files targets size numbers = crew_script (word_at files 0) (
 command_script Waves files targets size numbers = waves_script (word_at files 0) (word_at files 1) numbers
 command_script Control files targets size numbers = control_script (word_at files 0) (word_at files 1) (word_at files 2)
 command_script Rollout files targets size numbers = rollout_script (word_at files 0) (word_at files 1) targets
+command_script Place files targets size numbers = place_script (word_at files 0) (word_at files 1) (word_at files 2)
 command_script Print files targets size numbers = print_script (word_at files 0)
 command_script Load files targets size numbers = load_script size
 

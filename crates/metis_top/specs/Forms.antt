@@ -1,7 +1,7 @@
 -- How many words of each kind a command has.
 use Rattle.std.specs.Prelude.{ℕ}
 use Rattle.metis_top.specs.declared.words.Verb.{Verb}
-use Rattle.metis_top.specs.declared.words.Verb.TheVariants.{Plan, Replay, Refute, Audit, Sim, Crew, Waves, Control, Rollout, Print, Load}
+use Rattle.metis_top.specs.declared.words.Verb.TheVariants.{Plan, Replay, Refute, Audit, Sim, Crew, Waves, Control, Rollout, Place, Print, Load}
 
 -- exactly so many file words
 abbrev pub file_count : Verb → ℕ
@@ -14,6 +14,7 @@ file_count Crew = 3
 file_count Waves = 2
 file_count Control = 3
 file_count Rollout = 2
+file_count Place = 3
 file_count Print = 1
 file_count Load = 0
 
@@ -28,6 +29,7 @@ target_limit Crew = 0
 target_limit Waves = 0
 target_limit Control = 0
 target_limit Rollout = 256
+target_limit Place = 0
 target_limit Print = 0
 target_limit Load = 0
 

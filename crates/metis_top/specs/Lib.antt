@@ -13,6 +13,7 @@ pub mod Lines
 pub mod Loaded
 pub mod Numbered
 pub mod Openings
+pub mod Placed
 pub mod Planned
 pub mod PutLines
 pub mod Replayed

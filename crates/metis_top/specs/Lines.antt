@@ -3,8 +3,10 @@ use Rattle.std.specs.Prelude.{ℕ, List, [], ◌++◌, codes, decimal, Result, O
 use Rattle.metis_outside.specs.declared.trouble.Trouble.{Trouble}
 use Rattle.metis_outside.specs.declared.trouble.Trouble.TheVariants as trouble
 use Rattle.metis_ujson.specs.declared.faults.UFault.{UFault}
-use Rattle.metis_ujson.specs.declared.faults.UFault.TheVariants.{NotJson, NotUniverse, TypeForm, TypeName, TypeTwice, StateForm, StateName, StateTwice, NoInitial, UnknownNext, PortName, Limit}
+use Rattle.metis_ujson.specs.declared.faults.UFault.TheVariants.{NotJson, NotUniverse, TypeForm, TypeName, TypeTwice, StateForm, StateName, StateTwice, NoInitial, UnknownNext, PortName, Demand, Limit}
 use Rattle.metis_ujson.specs.declared.faults.UFault.TheVariants as ufault
+use Rattle.metis_place.specs.declared.hosts_fault.HFault.{HFault}
+use Rattle.metis_place.specs.declared.hosts_fault.HFault.TheVariants as hfault
 use Rattle.metis_text.specs.declared.fault.TFault.{TFault}
 use Rattle.metis_text.specs.declared.fault.TFault.TheVariants as tfault
 use Rattle.metis_universe.specs.declared.faults.LimitKind.{LimitKind}
@@ -28,6 +30,7 @@ state_line (StateName t s) = codes "bad universe U7 type " ++ (decimal t ++ (cod
 state_line (StateTwice t s f) = codes "bad universe U8 type " ++ (decimal t ++ (codes " state " ++ (decimal s ++ (codes " first " ++ (decimal f ++ codes "\n")))))
 state_line (UnknownNext t s k) = codes "bad universe U10 type " ++ (decimal t ++ (codes " state " ++ (decimal s ++ (codes " entry " ++ (decimal k ++ codes "\n")))))
 state_line (PortName t s k) = codes "bad universe U11 type " ++ (decimal t ++ (codes " state " ++ (decimal s ++ (codes " entry " ++ (decimal k ++ codes "\n")))))
+state_line (Demand t s k) = codes "bad universe U13 type " ++ (decimal t ++ (codes " state " ++ (decimal s ++ (codes " entry " ++ (decimal k ++ codes "\n")))))
 state_line _ = []
 
 -- the first fault of a document; want of memory is none
@@ -58,20 +61,33 @@ refusal_fault_line (tfault.Name n) = codes "bad refusal name " ++ (decimal n ++ 
 refusal_fault_line (tfault.Number n) = codes "bad refusal number " ++ (decimal n ++ codes "\n")
 refusal_fault_line tfault.NoMemory = []
 
+-- the first fault of a text of hosts; want of memory is none
+abbrev pub hosts_fault_line : HFault → List ℕ
+hosts_fault_line (hfault.Line n) = codes "bad hosts line " ++ (decimal n ++ codes "\n")
+hosts_fault_line hfault.Short = codes "bad hosts short\n"
+hosts_fault_line (hfault.Number n) = codes "bad hosts number " ++ (decimal n ++ codes "\n")
+hosts_fault_line (hfault.Name n) = codes "bad hosts name " ++ (decimal n ++ codes "\n")
+hosts_fault_line (hfault.Twice n) = codes "bad hosts twice " ++ (decimal n ++ codes "\n")
+hosts_fault_line hfault.NoMemory = []
+
 abbrev pub refusal_line : Refusal → List ℕ
 refusal_line (Word place) = codes "bad word " ++ (decimal place ++ codes "\n")
 refusal_line (TooLong place) = codes "too long " ++ (decimal place ++ codes "\n")
 refusal_line (refusal.Universe fault) = universe_line fault
+refusal_line refusal.NotYet = codes "not yet demand\n"
 refusal_line (refusal.PlanText fault) = plan_fault_line fault
 refusal_line (refusal.RefusalText fault) = refusal_fault_line fault
+refusal_line (refusal.HostsText fault) = hosts_fault_line fault
 refusal_line (refusal.Turns place) = codes "bad turns " ++ (decimal place ++ codes "\n")
 
 abbrev pub refusal_status : Refusal → Status
 refusal_status (Word place) = BadWords
 refusal_status (TooLong place) = BadInput
 refusal_status (refusal.Universe fault) = BadInput
+refusal_status refusal.NotYet = BadInput
 refusal_status (refusal.PlanText fault) = BadInput
 refusal_status (refusal.RefusalText fault) = BadInput
+refusal_status (refusal.HostsText fault) = BadInput
 refusal_status (refusal.Turns place) = BadInput
 
 abbrev pub read_fault_line : ℕ → List ℕ

@@ -20,7 +20,7 @@ use Rattle.metis_top.specs.Forms.{file_count, number_count, target_limit}
 use Rattle.metis_top.specs.TargetName.{TargetName}
 use Rattle.metis_top.specs.declared.words.Command.{Command}
 use Rattle.metis_top.specs.declared.words.Verb.{Verb}
-use Rattle.metis_top.specs.declared.words.Verb.TheVariants.{Plan, Replay, Refute, Audit, Sim, Crew, Waves, Control, Rollout, Print, Load}
+use Rattle.metis_top.specs.declared.words.Verb.TheVariants.{Plan, Replay, Refute, Audit, Sim, Crew, Waves, Control, Rollout, Place, Print, Load}
 use Rattle.metis_top.specs.declared.words.WordFault.{WordFault}
 use Rattle.metis_top.specs.declared.words.WordFault.TheVariants.{At, NoMemory}
 use Rattle.metis_top.specs.declared.refusal.Refusal.TheVariants.{Word}
@@ -150,6 +150,7 @@ verb_named word =
     else if bytes_eq word (codes "waves") then Some Waves
     else if bytes_eq word (codes "control") then Some Control
     else if bytes_eq word (codes "rollout") then Some Rollout
+    else if bytes_eq word (codes "place") then Some Place
     else if bytes_eq word (codes "print") then Some Print
     else if bytes_eq word (codes "load") then Some Load
     else None

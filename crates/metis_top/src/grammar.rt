@@ -45,6 +45,8 @@ fn verb_named(word: &str) -> Option<Verb>
         Some(Verb::Control)
     } else if word == "rollout" {
         Some(Verb::Rollout)
+    } else if word == "place" {
+        Some(Verb::Place)
     } else if word == "print" {
         Some(Verb::Print)
     } else if word == "load" {

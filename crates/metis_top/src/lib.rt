@@ -12,6 +12,7 @@ mod judgement_line;
 mod laws;
 mod lines;
 mod load;
+mod place;
 mod plan;
 mod print;
 mod reading;

@@ -3,12 +3,12 @@ ghost use Rattle.std.specs.Prelude.{◌≡◌, ◌<◌, ◌≤◌, ◌-◌, ◌^
 ghost use Rattle.std.specs.List.{All};
 ghost use Rattle.metis_universe.specs.GoalWords.{IsWordable};
 ghost use Rattle.metis_universe.specs.Goals.{IsGoalOf};
-ghost use Rattle.metis_universe.specs.Universe.{pair_count};
+ghost use Rattle.metis_universe.specs.Universe.{pair_count, type_count};
 ghost use Rattle.metis_universe.specs.Numbers.{IsOf};
 ghost use Rattle.metis_text.specs.PlanText.{IsWellFormed};
 ghost use Rattle.metis_text.specs.Reads.{lists_of, parts_of};
 ghost use Rattle.metis_text.specs.RefusalReading.{refusal_of};
-ghost use Rattle.metis_top.specs.Commands.{bytes_then, universe_in_then, universe_then, targets_then, goals_then, plan_in_then, plan_limit, plan_then, refusal_in_then, refusal_then, session_limit, turns_in_then, turns_then};
+ghost use Rattle.metis_top.specs.Commands.{any_universe_then, bytes_then, single_then, universe_in_then, universe_then, targets_then, goals_then, plan_in_then, plan_limit, plan_then, refusal_in_then, refusal_then, session_limit, turns_in_then, turns_then, hosts_in_then, hosts_then};
 ghost use Rattle.metis_top.specs.Course.{Gathers, Judges, or_stop};
 
 use crate::refusal::{Refusal, Stop};
@@ -16,6 +16,7 @@ use crate::turns::{TurnsFault, read_turns};
 use crate::words::TargetWord;
 use metis_ids::{Goal, InstNo};
 use metis_outside::{ReadAnswer, Shelf, read_whole};
+use metis_place::{HFault, Hosts, read_hosts};
 use metis_text::{PlanText, TFault, read_plan, read_refusal};
 use metis_ujson::{UFault, UNIVERSE_LIMIT, read_universe};
 use metis_universe::Universe;
@@ -29,6 +30,9 @@ const REFUSAL_LIMIT: u64 = 1_048_576;
 
 /// The most bytes of the script of a session, and of one for a controller.
 const SESSION_LIMIT: u64 = 65_536;
+
+/// The most bytes of a text of hosts.
+const HOSTS_LIMIT: u64 = 65_536;
 
 /// The most bytes of the turns of a crew.
 const TURNS_LIMIT: u64 = 4_194_304;
@@ -72,6 +76,30 @@ fn universe_in(alloc: Global, bytes: &[u8]) -> Result<Universe, Stop>
 }
 
 /// The universe in the file of the word at this place.
+pub fn any_universe_from<H: Shelf>(
+    alloc: Global,
+    shelf: &mut H,
+    place: u32,
+    name: &str,
+) -> Result<Universe, Stop>
+    ensures { Gathers H.files H.faults H.opens (λ u. u) (any_universe_then place name.now) shelf.old shelf.new result }
+{
+    let bytes = bytes_from(alloc, shelf, place, name, UNIVERSE_LIMIT)?;
+    universe_in(alloc, &bytes)
+}
+
+/// The universe, where no port is required of several providers.
+fn single(universe: Universe) -> Result<Universe, Stop>
+    ensures { Judges (λ u. u) (single_then universe) result }
+{
+    if universe.greatest_demand() <= 1 {
+        Ok(universe)
+    } else {
+        Err(Stop::Refused(Refusal::NotYet))
+    }
+}
+
+/// The universe in the file of the word at this place, where no port is required of several providers.
 pub fn universe_from<H: Shelf>(
     alloc: Global,
     shelf: &mut H,
@@ -80,8 +108,7 @@ pub fn universe_from<H: Shelf>(
 ) -> Result<Universe, Stop>
     ensures { Gathers H.files H.faults H.opens (λ u. u) (universe_then place name.now) shelf.old shelf.new result }
 {
-    let bytes = bytes_from(alloc, shelf, place, name, UNIVERSE_LIMIT)?;
-    universe_in(alloc, &bytes)
+    single(any_universe_from(alloc, shelf, place, name)?)
 }
 
 /// The goals that the target words ask for, the first of which is the word at this place.
@@ -226,4 +253,34 @@ pub fn turns_from<H: Shelf>(
 {
     let bytes = bytes_from(alloc, shelf, place, name, TURNS_LIMIT)?;
     turns_in(alloc, &bytes)
+}
+
+/// The hosts and the sizes that the bytes say.
+fn hosts_in(alloc: Global, u: &Universe, bytes: &[u8]) -> Result<Hosts, Stop>
+    requires { length bytes.now ≤ 65536 }
+    ensures judges { Judges (λ h. h) (hosts_in_then u.now bytes.now) result }
+    ensures few { IfOk result (λ h. length h.hosts ≤ 65536) }
+    ensures sizes { IfOk result (λ h. length h.sizes ≡ type_count u.now) }
+{
+    match read_hosts(alloc, u, bytes) {
+        Ok(hosts) => Ok(hosts),
+        Err(HFault::NoMemory) => Err(Stop::NoMemory),
+        Err(fault) => Err(Stop::Refused(Refusal::HostsText(fault))),
+    }
+}
+
+/// The hosts and the sizes in the file of the word at this place.
+pub fn hosts_from<H: Shelf>(
+    alloc: Global,
+    shelf: &mut H,
+    place: u32,
+    u: &Universe,
+    name: &str,
+) -> Result<Hosts, Stop>
+    ensures gathers { Gathers H.files H.faults H.opens (λ h. h) (hosts_then place u.now name.now) shelf.old shelf.new result }
+    ensures few { IfOk result (λ h. length h.hosts ≤ 65536) }
+    ensures sizes { IfOk result (λ h. length h.sizes ≡ type_count u.now) }
+{
+    let bytes = bytes_from(alloc, shelf, place, name, HOSTS_LIMIT)?;
+    hosts_in(alloc, u, &bytes)
 }

@@ -1,6 +1,7 @@
 //! Why a run ends before its work.
 ghost use Rattle.std.specs.Prelude.{◌≡◌};
 
+use metis_place::HFault;
 use metis_text::TFault;
 use metis_ujson::UFault;
 use std::alloc::AllocFailed;
@@ -14,10 +15,14 @@ pub enum Refusal {
     TooLong(u32),
     /// The document is no universe's.
     Universe(UFault),
+    /// A port of the universe is required of several providers, which the command does not serve yet.
+    NotYet,
     /// The bytes are no text of a plan.
     PlanText(TFault),
     /// The bytes are no text of a refusal.
     RefusalText(TFault),
+    /// The bytes are no text of hosts.
+    HostsText(HFault),
     /// The token at this place, from 1, of the text of turns is no number in range.
     Turns(u32),
 }

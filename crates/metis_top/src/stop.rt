@@ -1,11 +1,12 @@
 //! How a run ends before its work.
 ghost use Rattle.std.specs.Prelude.{◌≡◌, IfOk, string_bytes};
 ghost use Rattle.metis_top.specs.Course.{Shown, StopSays, IsJust};
-ghost use Rattle.metis_top.specs.Lines.{plan_fault_line, refusal_fault_line, refusal_line, universe_line, state_line, limit_line, read_fault_line, said, refusal_status};
+ghost use Rattle.metis_top.specs.Lines.{hosts_fault_line, plan_fault_line, refusal_fault_line, refusal_line, universe_line, state_line, limit_line, read_fault_line, said, refusal_status};
 
 use crate::Status;
 use crate::refusal::{Refusal, Stop};
 use metis_outside::{Sink, Trouble};
+use metis_place::HFault;
 use metis_text::TFault;
 use metis_ujson::UFault;
 use metis_universe::LimitKind;
@@ -18,8 +19,10 @@ fn refusal_line(alloc: Global, refusal: Refusal) -> Result<String, AllocError>
         Refusal::Word(place) => format!(in alloc; "bad word {place}\n"),
         Refusal::TooLong(place) => format!(in alloc; "too long {place}\n"),
         Refusal::Universe(fault) => universe_line(alloc, fault),
+        Refusal::NotYet => String::from_str(alloc, "not yet demand\n"),
         Refusal::PlanText(fault) => plan_fault_line(alloc, fault),
         Refusal::RefusalText(fault) => refusal_fault_line(alloc, fault),
+        Refusal::HostsText(fault) => hosts_fault_line(alloc, fault),
         Refusal::Turns(place) => format!(in alloc; "bad turns {place}\n"),
     }
 }
@@ -54,6 +57,9 @@ fn state_line(alloc: Global, fault: UFault) -> Result<String, AllocError>
         }
         UFault::PortName(t, s, k) => {
             format!(in alloc; "bad universe U11 type {t} state {s} entry {k}\n")
+        }
+        UFault::Demand(t, s, k) => {
+            format!(in alloc; "bad universe U13 type {t} state {s} entry {k}\n")
         }
         _ => Ok(String::new(alloc)),
     }
@@ -91,6 +97,19 @@ fn refusal_fault_line(alloc: Global, fault: TFault) -> Result<String, AllocError
         TFault::Name(n) => format!(in alloc; "bad refusal name {n}\n"),
         TFault::Number(n) => format!(in alloc; "bad refusal number {n}\n"),
         TFault::NoMemory => Ok(String::new(alloc)),
+    }
+}
+
+fn hosts_fault_line(alloc: Global, fault: HFault) -> Result<String, AllocError>
+    ensures { IfOk result (λ line. string_bytes line ≡ hosts_fault_line fault) }
+{
+    match fault {
+        HFault::Line(n) => format!(in alloc; "bad hosts line {n}\n"),
+        HFault::Short => String::from_str(alloc, "bad hosts short\n"),
+        HFault::Number(n) => format!(in alloc; "bad hosts number {n}\n"),
+        HFault::Name(n) => format!(in alloc; "bad hosts name {n}\n"),
+        HFault::Twice(n) => format!(in alloc; "bad hosts twice {n}\n"),
+        HFault::NoMemory => Ok(String::new(alloc)),
     }
 }
 

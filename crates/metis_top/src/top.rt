@@ -20,6 +20,7 @@ use crate::control::control_file;
 use crate::crew::crew_file;
 use crate::grammar::read_words;
 use crate::load::load_size;
+use crate::place::place_file;
 use crate::plan::plan_file;
 use crate::print::print_file;
 use crate::refusal::{Refusal, Stop};
@@ -148,6 +149,10 @@ fn perform<H: Shelf, K: Sink>(
         Verb::Rollout => {
             let (file, plan) = (command.file(0), command.file(1));
             rollout_file(alloc, file, plan, command.targets(), shelf, out)
+        }
+        Verb::Place => {
+            let (file, plan) = (command.file(0), command.file(1));
+            place_file(alloc, file, plan, command.file(2), shelf, out)
         }
         Verb::Print => print_file(alloc, command.file(0), shelf, out),
         Verb::Load => load_size(alloc, command.size, out),

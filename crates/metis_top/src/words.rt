@@ -27,6 +27,8 @@ pub enum Verb {
     Control,
     /// Goes from a plan to other targets, and removes what the plan left.
     Rollout,
+    /// Puts a plan's instances on hosts with room.
+    Place,
     /// Prints the universe.
     Print,
     /// Plans for the generated universe of a size, and replays the plan.
@@ -41,9 +43,8 @@ impl Verb {
         match self {
             Verb::Load => 0,
             Verb::Plan | Verb::Print => 1,
-            Verb::Replay | Verb::Refute | Verb::Audit | Verb::Sim | Verb::Waves | Verb::Rollout =>
-                2,
-            Verb::Crew | Verb::Control => 3,
+            Verb::Replay | Verb::Refute | Verb::Audit | Verb::Sim | Verb::Waves | Verb::Rollout => 2,
+            Verb::Crew | Verb::Control | Verb::Place => 3,
         }
     }
 
@@ -53,7 +54,13 @@ impl Verb {
     {
         match self {
             Verb::Plan | Verb::Replay | Verb::Refute | Verb::Audit | Verb::Rollout => 256,
-            Verb::Sim | Verb::Crew | Verb::Waves | Verb::Control | Verb::Print | Verb::Load => 0,
+            Verb::Sim
+            | Verb::Crew
+            | Verb::Waves
+            | Verb::Control
+            | Verb::Place
+            | Verb::Print
+            | Verb::Load => 0,
         }
     }
 

@@ -1,0 +1,287 @@
+//! Reads the text of hosts.
+ghost use Rattle.std.specs.Prelude.{◌≡◌, ◌≤◌, ◌+◌, IfOk, length, map};
+ghost use Rattle.std.specs.Str.{bytes_eq};
+ghost use Rattle.metis_text.specs.Flaws.{made};
+ghost use Rattle.metis_universe.specs.Universe.{type_count};
+ghost use Rattle.metis_place.specs.Entries.{entries_of, number_of};
+ghost use Rattle.metis_place.specs.HostsFaults.{IfFault, IsHostsFault};
+ghost use Rattle.metis_place.specs.HostsWritten.{IsTextOf};
+ghost use Rattle.metis_place.specs.HostsText.{ReadsHosts, Takes, end_from, entry_in, hosts_in, hosts_of, is_last, lines_from, nothing, pieces, sizes_of, text_of, whole_lines, last_piece, with_entry, with_host, with_line, with_size, with_tokens, with_words};
+
+use crate::hosts::Hosts;
+use crate::hosts_fault::{HFault, fault_at};
+use indexmap::IndexMap;
+use metis_ids::TypeIx;
+use metis_text::{Flaw, number_in, tokens_of};
+use metis_universe::{Universe, name_in};
+use std::alloc::{AllocError, Global};
+use std::marker::Model;
+
+/// What the lines so far say.
+#[derive(Drop)]
+struct Seen {
+    /// The room of each host, by its name.
+    rooms: IndexMap<String, u32>,
+    /// The size of each type whose line was read, by its name.
+    sizes: IndexMap<String, u32>,
+}
+
+impl Model for Seen {
+    ghost use Rattle.metis_place.specs.Entries.{entries_of};
+    ghost use Rattle.metis_place.specs.HostsText.{SeenLines, seen_lines};
+
+    ghost Value = { SeenLines };
+
+    ghost view = { λ s. seen_lines (entries_of s.rooms.entries) (entries_of s.sizes.entries) };
+}
+
+impl Seen {
+    fn new(alloc: Global) -> Seen
+        ensures { result ≡ nothing }
+    {
+        Seen {
+            rooms: IndexMap::new(alloc),
+            sizes: IndexMap::new(alloc),
+        }
+    }
+
+    // Takes in the line of this number.
+    fn take(&mut self, alloc: Global, u: &Universe, number: u32, line: &[u8]) -> Result<(), HFault>
+        ensures { Takes result self.new (with_line u.now number self.old line.now) }
+    {
+        let tokens = tokens_of(alloc, line)?;
+        self.take_tokens(alloc, u, number, &tokens)
+    }
+
+    fn take_tokens(
+        &mut self,
+        alloc: Global,
+        u: &Universe,
+        number: u32,
+        tokens: &[&[u8]],
+    ) -> Result<(), HFault>
+        ensures { Takes result self.new (with_tokens u.now number self.old (map (λ t. t.now) tokens.now)) }
+    {
+        match tokens {
+            [word, name, value] => self.take_words(alloc, u, number, word, name, value),
+            _ => Err(HFault::Line(number)),
+        }
+    }
+
+    // A host stands before all sizes, and a size behind a host.
+    fn take_words(
+        &mut self,
+        alloc: Global,
+        u: &Universe,
+        number: u32,
+        word: &[u8],
+        name: &[u8],
+        value: &[u8],
+    ) -> Result<(), HFault>
+        ensures { Takes result self.new (with_words u.now number self.old word.now name.now value.now) }
+    {
+        if is(word, "host") && self.sizes.is_empty() {
+            self.take_host(alloc, number, name, value)
+        } else if is(word, "size") && !self.rooms.is_empty() {
+            self.take_size(alloc, u, number, name, value)
+        } else {
+            Err(HFault::Line(number))
+        }
+    }
+
+    fn take_host(
+        &mut self,
+        alloc: Global,
+        number: u32,
+        name: &[u8],
+        room: &[u8],
+    ) -> Result<(), HFault>
+        ensures { Takes result self.new (with_host number self.old (entry_in name.now room.now)) }
+    {
+        match entry_in(name, room) {
+            Ok((name, room)) => add_entry(alloc, &mut self.rooms, number, name, room),
+            Err(flaw) => Err(fault_at(number, flaw)),
+        }
+    }
+
+    // The type has to be there before its size is kept.
+    fn take_size(
+        &mut self,
+        alloc: Global,
+        u: &Universe,
+        number: u32,
+        name: &[u8],
+        size: &[u8],
+    ) -> Result<(), HFault>
+        ensures { Takes result self.new (with_size u.now number self.old (entry_in name.now size.now)) }
+    {
+        match entry_in(name, size) {
+            Ok((name, size)) => {
+                if u.type_named(name).is_none() {
+                    return Err(HFault::Name(number));
+                }
+                add_entry(alloc, &mut self.sizes, number, name, size)
+            }
+            Err(flaw) => Err(fault_at(number, flaw)),
+        }
+    }
+
+    // Whether this is the last line, which stands behind a host.
+    fn ends_with(&self, line: &[u8]) -> bool
+        ensures { result ≡ is_last self.now line.now }
+    {
+        is(line, "end") && !self.rooms.is_empty()
+    }
+
+    // The hosts, where nothing stands behind the last line. The line behind it has this number.
+    fn end(
+        self,
+        alloc: Global,
+        u: &Universe,
+        number: u32,
+        lines: &[&[u8]],
+        rest: &[u8],
+    ) -> Result<Hosts, HFault>
+        ensures { ReadsHosts result (end_from u.now self number (map (λ line. line.now) lines.now) rest.now) }
+    {
+        if !lines.is_empty() || !rest.is_empty() {
+            return Err(HFault::Line(number));
+        }
+        Ok(self.hosts(alloc, u)?)
+    }
+
+    // The hosts, and the size of each type.
+    fn hosts(self, alloc: Global, u: &Universe) -> Result<Hosts, AllocError>
+        ensures { IfOk result (λ h. h ≡ hosts_of u.now self) }
+    {
+        let sizes = all_sizes(alloc, u, &self.sizes)?;
+        Ok(Hosts {
+            rooms: self.rooms,
+            sizes,
+        })
+    }
+}
+
+// Whether the bytes are this text.
+fn is(bytes: &[u8], text: &str) -> bool
+    ensures { result ≡ bytes_eq bytes.now text.now }
+{
+    bytes == text.as_bytes()
+}
+
+// The name and the number that two tokens are.
+fn entry_in<'a>(name: &'a [u8], number: &[u8]) -> Result<(&'a str, u32), Flaw>
+    ensures { made (λ e. (e.0.now, e.1)) result ≡ entry_in name.now number.now }
+{
+    match (name_in(name), number_in(number)) {
+        (Some(name), Ok(value)) => Ok((name, value)),
+        (Some(_), Err(flaw)) => Err(flaw),
+        (None, _) => Err(Flaw::Form),
+    }
+}
+
+// Adds a name, which stands on no earlier line of its kind.
+fn add_entry(
+    alloc: Global,
+    entries: &mut IndexMap<String, u32>,
+    number: u32,
+    name: &str,
+    value: u32,
+) -> Result<(), HFault>
+    ensures { Takes result (entries_of entries.new.entries) (with_entry number (entries_of entries.old.entries) (name.now, value)) }
+{
+    if entries.contains_key(name) {
+        return Err(HFault::Twice(number));
+    }
+    entries.insert(String::from_str(alloc, name)?, value)?;
+    Ok(())
+}
+
+// The size of the type of this name: that of its line, or 1.
+fn size_named(sizes: &IndexMap<String, u32>, name: &str) -> u32
+    ensures { result ≡ number_of (entries_of sizes.now.entries) name.now }
+{
+    sizes.get(name).copied().unwrap_or(1)
+}
+
+// The size of each type.
+fn all_sizes(
+    alloc: Global,
+    u: &Universe,
+    sizes: &IndexMap<String, u32>,
+) -> Result<Vec<u32>, AllocError>
+    ensures { IfOk result (λ all. all.items ≡ sizes_of u.now (entries_of sizes.now.entries)) }
+{
+    let mut all = Vec::new(alloc);
+    for kind in 0..u.types() {
+        all.push(size_named(sizes, u.type_name(TypeIx(kind))))?;
+    }
+    Ok(all)
+}
+
+/// The hosts and the sizes that the bytes say, or their first fault.
+pub fn read_hosts(alloc: Global, u: &Universe, bytes: &[u8]) -> Result<Hosts, HFault>
+    requires { length bytes.now ≤ 65536 }
+    ensures read { ReadsHosts result (hosts_in u.now bytes.now) }
+
+    // So the bytes are the text of what is read.
+    ensures text { IfOk result (λ h. IsTextOf u.now h bytes.now) }
+
+    // Each fault comes of the first line that is wrong, or of an end that is missing.
+    ensures fault { IfFault result (λ f. IsHostsFault u.now bytes.now f) }
+    ensures few { IfOk result (λ h. length h.hosts ≤ 65536) }
+    ensures sizes { IfOk result (λ h. length h.sizes ≡ type_count u.now) }
+{
+    let pieces = pieces_of(alloc, bytes)?;
+    read_pieces(alloc, u, &pieces)
+}
+
+// What stands between the line feeds.
+fn pieces_of<'a>(alloc: Global, bytes: &'a [u8]) -> Result<Vec<&'a [u8]>, AllocError>
+    ensures pieces { IfOk result (λ v. map (λ piece. piece.now) v.items ≡ pieces bytes.now) }
+    ensures few { IfOk result (λ v. length v.items ≤ length bytes.now + 1) }
+{
+    bytes.split(|byte| *byte == b'\n').collect(alloc)
+}
+
+// The last piece is what stands behind the last line feed.
+fn read_pieces(alloc: Global, u: &Universe, pieces: &[&[u8]]) -> Result<Hosts, HFault>
+    requires { length pieces.now ≤ 65537 }
+    ensures { ReadsHosts result (text_of u.now (whole_lines (map (λ piece. piece.now) pieces.now)) (last_piece (map (λ piece. piece.now) pieces.now))) }
+{
+    match pieces {
+        [lines @ .., rest] => read_text(alloc, u, lines, rest),
+        [] => Err(HFault::Short),
+    }
+}
+
+fn read_text(alloc: Global, u: &Universe, lines: &[&[u8]], rest: &[u8]) -> Result<Hosts, HFault>
+    requires { length lines.now ≤ 65536 }
+    ensures { ReadsHosts result (text_of u.now (map (λ line. line.now) lines.now) rest.now) }
+{
+    match lines {
+        [header, lines @ ..] => {
+            if !is(header, "metis hosts 1") {
+                return Err(HFault::Line(1));
+            }
+            read_lines(alloc, u, lines, rest)
+        }
+        [] => Err(HFault::Short),
+    }
+}
+
+// The lines from the second on, and what stands behind the last of them.
+fn read_lines(alloc: Global, u: &Universe, lines: &[&[u8]], rest: &[u8]) -> Result<Hosts, HFault>
+    requires { length lines.now ≤ 65536 }
+    ensures { ReadsHosts result (lines_from u.now nothing 2 (map (λ line. line.now) lines.now) rest.now) }
+{
+    let mut seen = Seen::new(alloc);
+    for (k, line) in lines.iter().enumerate() {
+        let number = k as u32 + 2;
+        if seen.ends_with(line) {
+            return seen.end(alloc, u, number + 1, &lines[k + 1..], rest);
+        }
+        seen.take(alloc, u, number, line)?;
+    }
+    Err(HFault::Short)
+}
