@@ -164,7 +164,27 @@ missing Web:run have 0 want 1
 holds
 bye
 '''
-FILES = {'web.json': WEB, 'crossed.json': CROSSED, 'crossed.plan': PLAN, 'web.script': SCRIPT}
+EVENTS = '''order 1
+deliver 1
+deliver 1
+order 2
+deliver 2
+order 2
+restart 0
+quit
+'''
+ANSWERS = '''sent 1
+executed 1 sent 2
+again 1 sent 3
+held 2 1
+noted 1
+sent 4
+restarted 0
+bad line
+ran 1
+executed 1 of 15 acknowledged 0
+'''
+FILES = {'web.json': WEB, 'crossed.json': CROSSED, 'crossed.plan': PLAN, 'web.script': SCRIPT, 'crossed.script': EVENTS}
 
 # The words, the text and the status of each command.
 COMMANDS = [
@@ -174,6 +194,7 @@ COMMANDS = [
     (['audit', 'crossed.json', 'crossed.plan', 'A:a3', 'B:b3'], 'justified instances 3 dups 1\n', 0),
     (['audit', 'crossed.json', 'crossed.plan', 'A:a3'], 'nocycle 1\n', 1),
     (['sim', 'web.json', 'web.script'], REPLIES, 0),
+    (['control', 'crossed.json', 'crossed.plan', 'crossed.script'], ANSWERS, 0),
 ]
 
 # What the C library and the start of the program open and read by themselves goes to the real calls inside it, and is not counted.
