@@ -184,7 +184,18 @@ bad line
 ran 1
 executed 1 of 15 acknowledged 0
 '''
-FILES = {'web.json': WEB, 'crossed.json': CROSSED, 'crossed.plan': PLAN, 'web.script': SCRIPT, 'crossed.script': EVENTS}
+HOSTS = '''metis hosts 1
+host h1 3
+host h2 2
+size A 2
+end
+'''
+SEATS = '''on 0 h1
+on 1 h1
+on 2 h2
+placed 3 hosts 2
+'''
+FILES = {'web.json': WEB, 'crossed.json': CROSSED, 'crossed.plan': PLAN, 'web.script': SCRIPT, 'crossed.script': EVENTS, 'crossed.hosts': HOSTS}
 
 # The words, the text and the status of each command.
 COMMANDS = [
@@ -195,6 +206,7 @@ COMMANDS = [
     (['audit', 'crossed.json', 'crossed.plan', 'A:a3'], 'nocycle 1\n', 1),
     (['sim', 'web.json', 'web.script'], REPLIES, 0),
     (['control', 'crossed.json', 'crossed.plan', 'crossed.script'], ANSWERS, 0),
+    (['place', 'crossed.json', 'crossed.plan', 'crossed.hosts'], SEATS, 0),
 ]
 
 # What the C library and the start of the program open and read by themselves goes to the real calls inside it, and is not counted.

@@ -43,7 +43,7 @@ module _ {X : Type 0} (text : ℕ → X → List (List ℕ)) (xs : List X) (i : 
       let next = text (i + 1) x in
       let others = blocks text (1 + length (take (i + 1) xs)) (drop (i + 1) xs) in
       let all : blocks text 1 xs ≡ (first ++ next) ++ others =
-          ap (blocks text 1) (sym (take-append-drop (i + 1) xs)) ∙ blocks_append text 1 (take (i + 1) xs) (drop (i + 1) xs) ∙ ap (λ l. l ++ others) blocks_next in
+      ap (blocks text 1) (sym (take-append-drop (i + 1) xs)) ∙ blocks_append text 1 (take (i + 1) xs) (drop (i + 1) xs) ∙ ap (λ l. l ++ others) blocks_next in
       subst (λ l. AppendsFront old new l) (sym all) (front_of_first old new (first ++ next) others (front_of_second old mid new first next put front))
 
 -- ---- the lines of further waits
@@ -81,6 +81,6 @@ pub made_next : (actions : List Action) (i : ℕ) (a d : Action) → i < length 
 made_next actions i a d within is =
     ap made_of (take_more actions i d within ∙ ap (λ x. take i actions ++ x ∷ []) (sym is))
     ∙ filter_map-append inst_made (take i actions) (a ∷ []) ∙ ap (λ l. made_of (take i actions) ++ l) (one (inst_made a)) where
-  one : (o : Option ℕ) → filter_map (λ (x : Option ℕ). x) (o ∷ []) ≡ option_to_list o
-  one None = refl
-  one (Some z) = refl
+      one : (o : Option ℕ) → filter_map (λ (x : Option ℕ). x) (o ∷ []) ≡ option_to_list o
+      one None = refl
+      one (Some z) = refl
