@@ -1,4 +1,4 @@
-use Rattle.std.proofs.Common.{◌∙◌, ◌∷◌, [], sym, subst, ap}
+use Rattle.std.proofs.Common.{◌∙◌, ◌∷◌, [], sym, subst}
 use Rattle.std.specs.Bool.{if◌then◌else◌}
 use Rattle.metis_outside.proofs.Writing.{Appends-nil}
 use Rattle.metis_outside.specs.Writes.{Appends, Writes}

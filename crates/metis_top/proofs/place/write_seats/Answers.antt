@@ -3,7 +3,6 @@ use Rattle.std.proofs.lemmas.List.{take_all}
 use Rattle.std.proofs.lemmas.Result.{err_from_is_err_and}
 use Rattle.std.specs.List.{zip}
 use Rattle.metis_outside.specs.Writes.{Appends, AppendsFront}
-use Rattle.metis_place.specs.Placement.{name_of}
 use Rattle.metis_top.specs.Placed.{on_line}
 use Rattle.metis_top.proofs.Blocks.{appends_block, blocks, front_of_block, seat_block, seats_are, zipped_at, zipped_count}
 use Rattle.metis_top.proofs.place.write_seats.Goals as goal
