@@ -224,6 +224,7 @@ rollout_then plan asked = plan_then 3 asked.0 plan (λ parts. Reply (answer.Roll
 
 abbrev pub rollout_script : List ℕ → List ℕ → List TargetName → Script
 rollout_script file plan targets = goals_then 4 file targets (rollout_then plan)
+
 -- what a placement does once it has its universe and the plan's actions; why these are no steadfast run is told behind what is wrong
 -- with the hosts
 abbrev pub place_over : List ℕ → Universe → List Action → Script

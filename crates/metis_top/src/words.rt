@@ -43,7 +43,8 @@ impl Verb {
         match self {
             Verb::Load => 0,
             Verb::Plan | Verb::Print => 1,
-            Verb::Replay | Verb::Refute | Verb::Audit | Verb::Sim | Verb::Waves | Verb::Rollout => 2,
+            Verb::Replay | Verb::Refute | Verb::Audit | Verb::Sim | Verb::Waves | Verb::Rollout =>
+                2,
             Verb::Crew | Verb::Control | Verb::Place => 3,
         }
     }
