@@ -18,7 +18,7 @@ from crew import timed
 LIMIT = 65536
 SIZES = (100_000, 200_000, 400_000)
 UNIVERSE = '{"aeolus":1,"types":[{"name":"A","initial":"s","states":[{"name":"s"}]}]}'
-COLUMNS = ("kind", "actions", "hosts", "seconds", "megabytes", "to the size before, by the action")
+COLUMNS = ("kind", "actions", "hosts", "seconds", "to the size before, by the action")
 
 
 def hosts_of(count, room):
@@ -71,13 +71,13 @@ def main(words):
                     text, machines, said = kind(size, count)
                     plan.write_text(text)
                     hosts.write_text(machines)
-                    status, seconds, megabytes = timed([program, "place", str(universe), str(plan), str(hosts)], out)
+                    status, seconds, _ = timed([program, "place", str(universe), str(plan), str(hosts)], out)
                     if status != 0 or out.read_text() != "".join(line + "\n" for line in said):
                         print(f"place.py: {size} actions, {kind.__name__}: a wrong line", file=sys.stderr)
                         return 1
                     ratio = "-" if before is None else f"{seconds / size / before:.2f}"
                     before = seconds / size
-                    print("| " + " | ".join((f"`{kind.__name__}`", f"{size:,}", f"{count:,}", f"{seconds:.2f}", f"{megabytes:,.0f}", ratio)) + " |", flush=True)
+                    print("| " + " | ".join((f"`{kind.__name__}`", f"{size:,}", f"{count:,}", f"{seconds:.2f}", ratio)) + " |", flush=True)
     return 0
 
 
