@@ -4,7 +4,7 @@
     control.py PROGRAM [TARGETS ..]
 
 PROGRAM is the built planner, as crates/metis/out/metis. The plans are those of replay.py. Each script has as many lines as fit into the
-65,536 bytes that are read. What has to be answered is known from how a script is made. The least time of two runs counts, and it is
+65,536 bytes that are read. What has to be answered is known from how a script is made. The least time of eight runs counts, and it is
 that of the processor. The status is 1 where an answer is not one that has to come. docs/BENCHMARKS.md says how to read the table.
 """
 
@@ -13,10 +13,12 @@ import tempfile
 from pathlib import Path
 
 sys.dont_write_bytecode = True
+import crew
 from crew import actions_of, printed, timed
 from replay import SIZES
 
 LIMIT = 65536
+RUNS = 8
 COLUMNS = ("kind", "actions", "lines", "seconds", "megabytes", "seconds without a script")
 
 
@@ -76,6 +78,7 @@ def main(words):
     program, sizes = words[0], [int(word) for word in words[1:]] or SIZES
     print("| " + " | ".join(COLUMNS) + " |")
     print("| " + " | ".join("---" for _ in COLUMNS) + " |", flush=True)
+    crew.RUNS = RUNS
     with tempfile.TemporaryDirectory() as name:
         folder = Path(name)
         for size in sizes:
