@@ -29,16 +29,18 @@ pub record Tells (file : List ℕ → List ℕ) (script : Script) (old new : Opt
   pub says : Says (over file script) lines status
   pub put : Appends old new lines
 
--- The headline. For accepted words, an accepted universe in which no port is required of several providers, and targets in it, what is put is the text of a plan, line by line,
--- with status `Done`, exactly where some list of actions attains the targets, and else that of a refusal, with status `No`.
--- In any order that keeps its waits the plan meets only correct configurations, and ends with every target, a pair or a port.
+-- The headline. For accepted words, an accepted universe in which no port is required of several providers, and targets in it, what is
+-- put is the text of a plan, line by line, with status `Done`, exactly where some list of actions attains the targets, and else that of
+-- a refusal, with status `No`. In any order that keeps its waits the plan meets only correct configurations, and ends with every target,
+-- a pair or a port.
 abbrev pub Headline : List (List ℕ) → (List ℕ → List ℕ) → Option (List (List ℕ)) → Option (List (List ℕ)) → Status → Type 0
 Headline words file old new status = (name : List ℕ) (targets : List TargetName) (u : Universe) (goals : List Goal)
     → form_of words ≡ Ok (record { verb = PlanVerb; files = name ∷ []; targets = targets; size = 0; numbers = [] })
     → length (file name) ≤ document_limit → universe_in (file name) ≡ Ok u → greatest_demand u ≡ 1 → goals_named 3 u targets ≡ Ok goals
     → (lines : List (List ℕ)) × DeploysOrRefuses u goals lines status × Appends old new lines
 
--- For such words, universe and targets, where the status is `Done` what is put is the text of one plan, line by line, of which P holds, with the pairs that the targets are or that provide them.
+-- For such words, universe and targets, where the status is `Done` what is put is the text of one plan, line by line, of which P holds,
+-- with the pairs that the targets are or that provide them.
 abbrev pub PlansHave : (Universe → List ℕ → Plan → Type 0) → List (List ℕ) → (List ℕ → List ℕ) → Option (List (List ℕ)) → Option (List (List ℕ)) → Status → Type 0
 PlansHave P words file old new status = (name : List ℕ) (targets : List TargetName) (u : Universe) (goals : List Goal)
     → form_of words ≡ Ok (record { verb = PlanVerb; files = name ∷ []; targets = targets; size = 0; numbers = [] })

@@ -45,7 +45,7 @@ pub fn first_bad(
 pub fn first_loose(alloc: Global, u: &Universe, actions: &[Action]) -> Result<Option<u32>, NoMemory>
     requires numbers { All (IsOf u.now) actions.now }
     requires few { length actions.now < 2 ^ 32 - 1 }
-    ensures loose { IfOk result (λ loose. IfSome loose (IsFirstLoose u.now actions.now)) }
+    ensures loose { IfOk result (λ loose. IfSome loose (λ k. IsFirstLoose u.now actions.now k)) }
     ensures steadfast { IfOk result (λ loose. loose ≡ None → IsTrue (is_steadfast u.now actions.now)) }
 {
     match waits(alloc, u, actions) {
