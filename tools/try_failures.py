@@ -195,6 +195,28 @@ on 1 h1
 on 2 h2
 placed 3 hosts 2
 '''
+# What is left of the plan is torn down.
+TORN = '''metis plan 1
+instances 3 actions 17 dups 0
+1 new 0 A
+2 move 0 a0 a1
+3 new 1 B
+4 move 1 b0 b1
+5 bind y 0 1 after 4
+6 move 0 a1 a2
+7 move 0 a2 a3
+8 unbind y 0 1
+9 new 2 A
+10 move 2 a0 a1
+11 bind x 1 2 after 10
+12 move 1 b1 b2 after 8
+13 move 1 b2 b3
+14 unbind x 1 2
+15 delete 2 after 14
+16 delete 0
+17 delete 1
+end
+'''
 FILES = {'web.json': WEB, 'crossed.json': CROSSED, 'crossed.plan': PLAN, 'web.script': SCRIPT, 'crossed.script': EVENTS, 'crossed.hosts': HOSTS}
 
 # The words, the text and the status of each command.
@@ -206,6 +228,7 @@ COMMANDS = [
     (['audit', 'crossed.json', 'crossed.plan', 'A:a3'], 'nocycle 1\n', 1),
     (['sim', 'web.json', 'web.script'], REPLIES, 0),
     (['control', 'crossed.json', 'crossed.plan', 'crossed.script'], ANSWERS, 0),
+    (['rollout', 'crossed.json', 'crossed.plan'], TORN, 0),
     (['place', 'crossed.json', 'crossed.plan', 'crossed.hosts'], SEATS, 0),
 ]
 
