@@ -14,10 +14,11 @@ use Rattle.metis_universe.specs.RowShapes.{NeedRow, StateRow, TypeRow}
 use Rattle.metis_universe.specs.Rows.{first_fault, ports_of, meaning_of}
 use Rattle.metis_universe.specs.Sights.{first_sights}
 use Rattle.metis_universe.specs.Universe.{Universe, Kind, Pair, has, is_initial, is_empty, further_of, required_of, next_of, provided_of, provides, requires, type_count, pair_count, port_count, type_of, initial_of, state_place_of, type_named, pair_named, port_names_of_pair, IsBySight, IsUniverse}
-use Rattle.metis_universe.specs.Config.{empty, is_correct}
-use Rattle.metis_universe.specs.Step.{after_all, IsRun}
+use Rattle.metis_universe.specs.Config.{Config, IsConfig, empty, is_correct}
+use Rattle.metis_universe.specs.Step.{Allows, after, after_all, IsRun}
 use Rattle.metis_universe.specs.Closed.{Closed, IsProvidedIn, Refusal}
 use Rattle.metis_universe.proofs.Correctness.{Correct-from_is_correct}
+use Rattle.metis_universe.proofs.Kept.{IsConfig-after, IsConfig-empty}
 
 -- ---- rows
 
@@ -165,10 +166,20 @@ too_late = refl
 one≢zero : ◌≢◌ {A = ℕ} 1 0
 one≢zero h = omega arith
 
+-- each action is allowed, and what it leaves passes the test
+abbrev pub PassesEach : Universe → Config → List Action → Type 0
+PassesEach u c [] = Unit {0}
+PassesEach u c (a ∷ rest) = Allows u c a × (is_correct u (after u c a) ≡ true) × PassesEach u (after u c a) rest
+
+pub run_by_tests : (u : Universe) (c : Config) (actions : List Action) → IsConfig c → PassesEach u c actions → IsRun u c actions
+run_by_tests u c [] k passes = tt
+run_by_tests u c (a ∷ rest) k passes =
+    let next = IsConfig-after u c a k passes.0 in
+    (passes.0, Correct-from_is_correct u (after u c a) next passes.1, run_by_tests u (after u c a) rest next passes.2)
+
 session_runs : IsRun web empty session
-session_runs =
-    let now = λ (k : ℕ). Correct-from_is_correct web (after_all web empty (take k session)) in
-    ((lit< tt, refl), now 1 refl, ((lit< tt, refl), now 2 refl, (record { apart = one≢zero; requirer = refl; provider = refl; unbound = refl }, now 3 refl, ((refl, refl), now 4 refl, ((refl, refl), now 5 refl, tt)))))
+session_runs = run_by_tests web empty session IsConfig-empty
+    ((lit< tt, refl), refl, ((lit< tt, refl), refl, (record { apart = one≢zero; requirer = refl; provider = refl; unbound = refl }, refl, ((refl, refl), refl, ((refl, refl), refl, tt)))))
 
 -- ---- a refusal
 

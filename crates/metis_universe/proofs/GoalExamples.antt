@@ -1,5 +1,5 @@
 -- Goals on small universes: what serves them, what holds them, what lacks them, and their words.
-use Rattle.std.proofs.Common.{◌≡◌, ◌+◌, ◌≤◌, ◌||◌, ℕ, lit≤, lit<, true, false, cond, [], ◌∷◌, map, None, Some, refl, sym, subst, take, arith, nat_eq, inl, inr}
+use Rattle.std.proofs.Common.{◌≡◌, ◌+◌, ◌≤◌, ◌||◌, ℕ, lit≤, lit<, true, false, cond, [], ◌∷◌, map, None, Some, refl, sym, subst, arith, nat_eq, inl, inr}
 use Rattle.std.specs.Prelude.{IsTrue, codes}
 use Rattle.std.specs.List.{find}
 use Rattle.std.proofs.lemmas.Bool.{and_parts, eqb-true, false≢true, or_cases}
@@ -11,7 +11,8 @@ use Rattle.metis_universe.specs.Step.{after_all}
 use Rattle.metis_universe.specs.Closed.{Closed, IsProvidedIn}
 use Rattle.metis_universe.specs.GoalWords.{goal_named, goal_word}
 use Rattle.metis_universe.specs.Goals.{AttainsGoals, GoalRefusal, HoldsGoals, lacks, occupied, serving}
-use Rattle.metis_universe.proofs.Correctness.{Correct-from_is_correct}
+use Rattle.metis_universe.proofs.Examples.{run_by_tests}
+use Rattle.metis_universe.proofs.Kept.{IsConfig-empty}
 use Rattle.metis_universe.proofs.PlanExamples.{kind, pair, web}
 
 -- a database that is on, beside one that is off, and a web server that is off: pairs Db:off 0, Db:on 1, Web:off 2, Web:run 3, port sql 0
@@ -37,8 +38,7 @@ pair_and_port (Port r) = elim (nat_eq 0 r) as (λ b. 0 + 0 + cond b 1 0 ≤ 0 + 
 
 pair_and_port_attained : AttainsGoals web (Pair 1 ∷ Port 0 ∷ [])
 pair_and_port_attained =
-    let now = λ (k : ℕ). Correct-from_is_correct web (after_all web empty (take k (New 0 0 ∷ Move 0 0 1 ∷ []))) in
-    (New 0 0 ∷ Move 0 0 1 ∷ [], ((lit< tt, refl), now 1 refl, ((refl, refl), now 2 refl, tt)), pair_and_port)
+    (New 0 0 ∷ Move 0 0 1 ∷ [], run_by_tests web empty (New 0 0 ∷ Move 0 0 1 ∷ []) IsConfig-empty ((lit< tt, refl), refl, ((refl, refl), refl, tt)), pair_and_port)
 
 -- but not its port twice, and not the web server
 port_twice : HoldsGoals web one_on (Port 0 ∷ Port 0 ∷ []) → ⊥

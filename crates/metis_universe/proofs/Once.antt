@@ -1,11 +1,21 @@
--- A universe of version 1 demands one provider of each port.
-use Rattle.std.proofs.Common.{◌≡◌, ℕ, zero, suc, ◌+◌, ◌≤◌, true, cond, nat_eq, List, [], ◌∷◌, refl, sym, ap, ◌∙◌, inl, inr}
+-- A universe of version 1 demands one provider of each port, and a configuration is correct there where each port has one.
+use Rattle.std.proofs.Common.{◌≡◌, ℕ, zero, suc, ◌+◌, ◌≤◌, true, cond, nat_eq, List, [], ◌∷◌, refl, sym, ap, ◌∙◌, subst, arith, inl, inr}
 use Rattle.std.specs.List.{AllByRecursion, position_or_len, slice_index_or}
 use Rattle.std.proofs.lemmas.Bool.{cases_lt, false≢true}
 use Rattle.std.proofs.lemmas.List.{get_or_past}
 use Rattle.std.proofs.lemmas.List.Elements.{recursion_from_All}
-use Rattle.metis_universe.specs.Universe.{IsUniverse, Pair, Universe, further_of, has, no_pair, pair_count, required_of, requires}
-use Rattle.metis_universe.specs.Single.{IsSingle}
+use Rattle.std.specs.Prelude.{◌↔◌}
+use Rattle.metis_universe.specs.Universe.{IsUniverse, Pair, Universe, further_of, greatest_demand, has, no_pair, pair_count, required_of, requires}
+use Rattle.metis_universe.specs.Config.{Config, Correct, IsMet}
+use Rattle.metis_universe.specs.Single.{HasProviders, IsSingle}
+use Rattle.metis_universe.proofs.Demands.{IsMet-one, demand_one, one_provider}
+use Rattle.metis_universe.proofs.Greatest.{demand_least}
+
+pub Correct-single : (u : Universe) (c : Config) → IsSingle u → Correct u c ↔ HasProviders u c
+Correct-single u c single = (
+  λ correct z p r there needs. one_provider u c z p r needs (correct z p r there needs),
+  λ served z p r there needs. let x = served z p r there needs in subst (IsMet u c z r) (sym (single p r needs)) (IsMet-one u c z r x.0 x.1),
+)
 
 no_more_zeros : (xs : List ℕ) (k : ℕ) → AllByRecursion (λ n. n ≡ 0) xs → slice_index_or xs k 0 ≡ 0
 no_more_zeros [] zero all = refl
@@ -26,3 +36,6 @@ IsSingle-version u k version p r needs =
           ap (λ b. cond b (1 + slice_index_or (further_of u p) place 0) 0) needs ∙ ap (λ n. 1 + n) none
       | inr past ↦ absurd (none_past u p r past needs)
     ]
+
+pub IsSingle-greatest : (u : Universe) → greatest_demand u ≡ 1 → IsSingle u
+IsSingle-greatest u one p r needs = omega (arith, one, demand_least u p r, demand_one u p r needs)

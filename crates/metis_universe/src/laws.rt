@@ -4,8 +4,8 @@ ghost use Rattle.std.specs.Bool.{Decides};
 ghost use Rattle.std.specs.List.{list_any};
 ghost use Rattle.metis_ids.specs.declared.actions.Action.{Action};
 ghost use Rattle.metis_ids.specs.declared.actions.Action.TheVariants.{New, Delete, Move};
-ghost use Rattle.metis_universe.specs.Config.{empty, is_tie};
-ghost use Rattle.metis_universe.specs.Single.{IsSingle};
+ghost use Rattle.metis_universe.specs.Config.{Config, Correct, IsConfig, IsMet, empty, is_correct, is_met, is_tie};
+ghost use Rattle.metis_universe.specs.Single.{HasProviders, IsSingle};
 ghost use Rattle.metis_universe.specs.Step.{IsRun};
 ghost use Rattle.metis_universe.specs.Steadfast.{pair_after};
 ghost use Rattle.metis_universe.specs.Settled.{IsLast, NoneSettles, IsLower};
@@ -102,4 +102,19 @@ pub fn demands_are_limited()
 /// A universe of version 1 demands one provider of each port.
 pub fn version_1_is_single()
     ensures { (u : Universe) → IsUniverse u → u.version ≡ 1 → IsSingle u }
+{}
+
+/// So many bindings of a port lead to instances that provide it as it has different providers.
+pub fn bindings_count_providers()
+    ensures { (u : Universe) (c : Config) (z r n : ℕ) → IsConfig c → Decides (is_met u c z r n) (IsMet u c z r n) }
+{}
+
+/// The test of a correct configuration decides it.
+pub fn correctness_is_decided()
+    ensures { (u : Universe) (c : Config) → IsConfig c → Decides (is_correct u c) (Correct u c) }
+{}
+
+/// Where each port is required of one provider, a configuration is correct exactly where each port that an instance's pair requires has a provider.
+pub fn one_provider_is_correct()
+    ensures { (u : Universe) (c : Config) → IsSingle u → Correct u c ↔ HasProviders u c }
 {}
