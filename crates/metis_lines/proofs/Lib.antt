@@ -1,11 +1,14 @@
+pub mod Blocks
 pub mod Examples
 pub mod Few
-pub mod FirstTable
 pub mod FirstHeld
+pub mod FirstTable
 pub mod Holders
 pub mod Instances
+pub mod Joins
 pub mod OwnLines
 pub mod Pushes
 pub mod Sets
+pub mod SlotCounts
 pub mod Sound
 pub mod Tabled

@@ -1,20 +1,20 @@
 -- A line of its own for a provider pair whose holder goes on: the pair is then held where a line ends, and all others are held as before.
 use Rattle.std.proofs.Common.{◌≡◌, ℕ, ◌+◌, ◌-◌, ◌<◌, Bool, true, false, cond, not, ◌||◌, List, [], ◌∷◌, ◌++◌, length, get_or, map, refl, sym, ap, ◌∙◌, subst, arith, nat_eq, inl, inr, append_assoc}
-use Rattle.std.specs.List.{list_any, filter, position_or_len}
+use Rattle.std.specs.List.{list_any, filter}
 use Rattle.std.specs.List.Sorted.{IsStrictlyIncreasing, IsStrictlySortedBy}
 use Rattle.std.specs.Ordering.{nat_cmp}
-use Rattle.std.proofs.lemmas.Bool.{false≢true, both_ways, and_parts, or_left, or_right, cases_Bool, cond-true, cond-false, eq-eqb, ne_eqb, cases_eq, false_from_ne_true}
+use Rattle.std.proofs.lemmas.Bool.{false≢true, both_ways, and_parts, or_left, or_right, cases_Bool, eq-eqb, ne_eqb, cases_eq, false_from_ne_true}
 use Rattle.std.proofs.lemmas.List.{get_or_append_left, length_push, map-append}
 use Rattle.std.proofs.lemmas.List.Kept.{IsStrictlyIncreasing-filter}
 use Rattle.std.proofs.lemmas.Map.Keys.{sorted_from_strictly_increasing}
 use Rattle.metis_universe.proofs.Ascending.{none_above}
 use Rattle.metis_universe.proofs.Rounds.{has-filter}
-use Rattle.metis_universe.specs.Universe.{has}
+use Rattle.metis_universe.specs.Universe.{Universe, has}
 use Rattle.metis_layers.specs.LayerOrder.{place_of}
 use Rattle.metis_support.specs.Support.{Support, is_number, is_selected, path_to, provider_pairs}
-use Rattle.metis_lines.specs.LifeLines.{LifeLines, ends_in, goes_through, holder_line, is_loose, line_at, line_ends, lines_of, loose, other_ends}
+use Rattle.metis_lines.specs.LifeLines.{LifeLines, ends_in, holder_line, is_loose, later_ends, line_at, line_ends, lines_of, loose, other_ends}
 use Rattle.metis_lines.proofs.Pushes.{any_push, first_push}
-use Rattle.metis_lines.proofs.Holders.{held_on, on_some_line, own_not_loose}
+use Rattle.metis_lines.proofs.Holders.{held_on, other_holder, own_holder, own_not_loose}
 use Rattle.metis_support.proofs.Lists.{has-append_cases, has_itself, has_one, any-append_right}
 use Rattle.metis_support.proofs.Paths.{IsWay, OriginsFall, way}
 
@@ -48,12 +48,12 @@ one_less t v (x ∷ xs) p sorted there before after same = elim (cases_eq x p) [
 
 -- ---- the new line
 
-module _ (s : Support) (falls : OriginsFall s) (ascends : IsStrictlyIncreasing s.selected.members) (g d : List ℕ) (p : ℕ) (targets : (q : ℕ) → has g q ≡ true → is_selected s q ≡ true) (own : (q : ℕ) → has d q ≡ true → is_selected s q ≡ true) (provider : has (provider_pairs s) p ≡ true) (loose_now : is_loose (lines_of s g d) p ≡ true) where
+module _ (u : Universe) (s : Support) (falls : OriginsFall s) (ascends : IsStrictlyIncreasing s.selected.members) (g d : List ℕ) (p : ℕ) (targets : (q : ℕ) → has g q ≡ true → is_selected s q ≡ true) (own : (q : ℕ) → has d q ≡ true → is_selected s q ≡ true) (provider : has (provider_pairs s) p ≡ true) (loose_now : is_loose (lines_of u s g d) p ≡ true) where
   abbrev pub x : LifeLines
-  x = lines_of s g d
+  x = lines_of u s g d
 
   abbrev pub y : LifeLines
-  y = lines_of s g (d ++ p ∷ [])
+  y = lines_of u s g (d ++ p ∷ [])
 
   pub chosen : (q : ℕ) → has (provider_pairs s) q ≡ true → is_selected s q ≡ true
   chosen q h = (and_parts (list_any (is_number q) s.providers) (is_selected s q) (sym (has-filter (λ p. list_any (is_number p) s.providers) q s.selected.members) ∙ h)).1
@@ -62,7 +62,7 @@ module _ (s : Support) (falls : OriginsFall s) (ascends : IsStrictlyIncreasing s
   way_to = way s falls p (chosen p provider)
 
   pub lines_are : y.lines ≡ x.lines ++ path_to s p ∷ []
-  lines_are = ap (map (path_to s)) (sym (append_assoc (g ++ other_ends s g) d (p ∷ []))) ∙ map-append (path_to s) (line_ends s g d) (p ∷ [])
+  lines_are = ap (map (path_to s)) (ap (λ l. g ++ other_ends s g ++ l) (sym (append_assoc (later_ends u s) d (p ∷ []))) ∙ sym (append_assoc (g ++ other_ends s g) (later_ends u s ++ d) (p ∷ []))) ∙ map-append (path_to s) (line_ends u s g d) (p ∷ [])
 
   pub longer : length y.lines ≡ length x.lines + 1
   longer = ap length lines_are ∙ length_push x.lines (path_to s p)
@@ -71,7 +71,7 @@ module _ (s : Support) (falls : OriginsFall s) (ascends : IsStrictlyIncreasing s
   old_line l low = ap (λ ls. get_or ls l []) lines_are ∙ get_or_append_left x.lines (path_to s p ∷ []) [] l low
 
   pub not_own : has d p ≡ false
-  not_own = false_from_ne_true (has d p) (λ mine. both_ways (is_loose x p) (own_not_loose s falls g d targets own p mine) loose_now)
+  not_own = false_from_ne_true (has d p) (λ mine. both_ways (is_loose x p) (own_not_loose u s falls g d targets own p mine) loose_now)
 
   own_or_new : (q : ℕ) → has (d ++ p ∷ []) q ≡ true → is_selected s q ≡ true
   own_or_new q h = elim (has-append_cases d (p ∷ []) q h) [
@@ -83,10 +83,7 @@ module _ (s : Support) (falls : OriginsFall s) (ascends : IsStrictlyIncreasing s
   any_right xs q = any-append_right (λ r. nat_eq r q) xs (q ∷ []) (has_itself q [])
 
   new_ends : is_loose y p ≡ false
-  new_ends = own_not_loose s falls g (d ++ p ∷ []) targets own_or_new p (any_right d p)
-
-  apart : (q : ℕ) → (q ≡ p → ⊥) → ends_in q (path_to s p) ≡ false
-  apart q other = ap (λ n. nat_eq n q) way_to.end ∙ ne_eqb p q (λ e. other (sym e))
+  new_ends = own_not_loose u s falls g (d ++ p ∷ []) targets own_or_new p (any_right d p)
 
   pub same_holder : (q : ℕ) → is_selected s q ≡ true → (q ≡ p → ⊥) → holder_line y q ≡ holder_line x q
   same_holder q picked other = elim (cases_Bool (has d q)) [
@@ -95,21 +92,15 @@ module _ (s : Support) (falls : OriginsFall s) (ascends : IsStrictlyIncreasing s
         let more = length_push d p in
         let long = longer in
         let same : (length y.lines - length (d ++ p ∷ [])) + place_of (d ++ p ∷ []) q ≡ (length x.lines - length d) + place_of d q = omega arith in
-        cond-true (has (d ++ p ∷ []) q) _ _ (owned ∙ mine) ∙ same ∙ sym (cond-true (has d q) _ _ mine)
-    | inr not_mine ↦ cond-false (has (d ++ p ∷ []) q) _ _ (owned ∙ not_mine) ∙ (elim (cases_Bool (list_any (ends_in q) x.lines)) [
-      | inl ends ↦ cond-true (list_any (ends_in q) y.lines) _ _ (ended ∙ ends) ∙ ap (position_or_len (ends_in q)) lines_are ∙ first_push (ends_in q) x.lines (path_to s p) [] ends ∙ sym (cond-true (list_any (ends_in q) x.lines) _ _ ends)
-      | inr none ↦ cond-false (list_any (ends_in q) y.lines) _ _ (ended ∙ none) ∙ ap (position_or_len (goes_through q)) lines_are ∙ first_push (goes_through q) x.lines (path_to s p) [] (on_some_line s falls g d targets own q picked) ∙ sym (cond-false (list_any (ends_in q) x.lines) _ _ none)
-    ]) ∙ sym (cond-false (has d q) _ _ not_mine)
+        own_holder u s falls g (d ++ p ∷ []) targets own_or_new q (owned ∙ mine) ∙ same ∙ sym (own_holder u s falls g d targets own q mine)
+    | inr not_mine ↦ other_holder u s falls g (d ++ p ∷ []) targets own_or_new q (owned ∙ not_mine) ∙ sym (other_holder u s falls g d targets own q not_mine)
   ] where
     owned : has (d ++ p ∷ []) q ≡ has d q
     owned = any_push (λ r. nat_eq r q) d p (ne_eqb p q (λ e. other (sym e)))
 
-    ended : list_any (ends_in q) y.lines ≡ list_any (ends_in q) x.lines
-    ended = ap (list_any (ends_in q)) lines_are ∙ any_push (ends_in q) x.lines (path_to s p) (apart q other)
-
   as_before : (q : ℕ) → has (provider_pairs s) q ≡ true → (q ≡ p → ⊥) → is_loose y q ≡ is_loose x q
   as_before q listed other =
-      let on = held_on s falls g d targets own q (chosen q listed) in
+      let on = held_on u s falls g d targets own q (chosen q listed) in
       ap (λ l. not (ends_in q (line_at y l))) (same_holder q (chosen q listed) other) ∙ ap (λ line. not (ends_in q line)) (old_line (holder_line x q) on.0)
 
   pub less_loose : loose y + 1 ≡ loose x

@@ -6,6 +6,7 @@ mod held;
 mod laws;
 mod line;
 pub mod lines;
+mod slots;
 
 pub use laws::{
     first_lines_end_apart, graphs_are_sound, lines_are_few, lines_are_sound,

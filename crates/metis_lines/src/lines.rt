@@ -1,27 +1,35 @@
 //! Life lines.
 ghost use Rattle.std.specs.Prelude.{ℕ, ◌≡◌, ◌<◌, ◌≤◌, ◌+◌, ◌++◌, ◌∷◌, [], length, IfOk, OnOk, OnErr, IsTrue, nat_lt};
 ghost use Rattle.std.specs.List.{slice_index_or};
-ghost use Rattle.metis_support.specs.Support.{is_selected};
-ghost use Rattle.metis_universe.specs.Universe.{has};
-ghost use Rattle.metis_lines.specs.LifeLines.{AreLines, holder_of, is_loose, line_at, lines_of, loose};
+ghost use Rattle.metis_support.specs.Support.{IsSupport, is_selected};
+ghost use Rattle.metis_universe.specs.Universe.{Universe as Model, has};
+ghost use Rattle.metis_lines.specs.LifeLines.{AreLines, holder_of, is_loose, line_at, lines_of, loose, slots};
 
 use crate::first::first_lines;
 use crate::held::{count_loose, first_holders, holder_in};
 use crate::line::Line;
+use crate::slots::{add_later_lines, count_in, slot_counts};
 use metis_ids::{IxVec, LineIx, NoMemory, PairIx, StepIx};
 use metis_support::Support;
+use metis_universe::Universe;
 use std::alloc::Global;
 use std::marker::Model;
 
-/// The life lines for targets and own pairs, and which of them holds each provider pair.
+/// The life lines for targets and own pairs, and which of them is each slot of each provider pair.
 #[derive(Drop)]
 pub struct Lines {
     lines: Vec<Line>,
     targets: Vec<PairIx>,
     own: Vec<PairIx>,
     providers: Vec<PairIx>,
-    /// Where each pair is held, by pair.
+    /// The pairs of the lines for later slots.
+    later: Vec<PairIx>,
+    /// Where slot 1 of each pair is, by pair.
     holders: IxVec<PairIx, Option<(LineIx, StepIx)>>,
+    /// How many slots each pair has, by pair.
+    counts: IxVec<PairIx, u32>,
+    /// Which line is slot 2 of each pair, by pair.
+    seconds: IxVec<PairIx, u32>,
     loose: u32,
 }
 
@@ -31,32 +39,45 @@ impl Model for Lines {
 
     ghost Value = { model.LifeLines };
 
-    ghost view = { λ a. model.lines_by a.lines.items a.targets.items a.own.items a.providers.items };
+    ghost view = { λ a. model.lines_by a.lines.items a.targets.items a.own.items a.providers.items a.later.items };
 
-    ghost invariant = { λ a. IsTabled (model.lines_by a.lines.items a.targets.items a.own.items a.providers.items) a.holders a.loose };
+    ghost invariant = { λ a. IsTabled (model.lines_by a.lines.items a.targets.items a.own.items a.providers.items a.later.items) a.holders a.counts a.seconds a.loose };
 }
 
 impl Lines {
-    /// The lines for selected targets, and no own pairs. It goes once over the selected pairs and twice over their lines.
-    pub fn new(alloc: Global, s: &Support, targets: &[PairIx]) -> Result<Lines, NoMemory>
+    /// The lines for selected targets, and no own pairs. It goes once over the selected pairs and what they require, and twice
+    /// over their lines.
+    pub fn new(
+        alloc: Global,
+        u: &Universe,
+        s: &Support,
+        targets: &[PairIx],
+    ) -> Result<Lines, NoMemory>
+        requires support { IsSupport u.now s.now }
         requires selected { (p : ℕ) → IsTrue (has targets.now p) → IsTrue (is_selected s.now p) }
         requires few { length targets.now ≤ 256 }
-        ensures lines { IfOk result (λ x. x ≡ lines_of s.now targets.now []) }
-        ensures are { IfOk result (AreLines s.now) }
+        ensures lines { IfOk result (λ x. x ≡ lines_of u.now s.now targets.now []) }
+        ensures are { IfOk result (AreLines u.now s.now) }
     {
+        u.keeps_invariant();
         let selected = s.selected();
         let _count = selected.count();
-        let lines = first_lines(alloc, s, targets)?;
+        let mut lines = first_lines(alloc, s, targets)?;
         let providers = Vec::from_slice(alloc, s.provider_pairs())?;
         let holders = first_holders(alloc, selected.size(), &providers, &lines)?;
         let loose = count_loose(&providers, &lines, &holders);
+        let counts = slot_counts(alloc, u, s)?;
+        let later = add_later_lines(alloc, s, &counts, &mut lines)?;
         let targets = Vec::from_slice(alloc, targets)?;
         Ok(Lines {
             lines,
             targets,
             own: Vec::new(alloc),
             providers,
+            later: later.pairs,
             holders,
+            counts,
+            seconds: later.seconds,
             loose,
         })
     }
@@ -64,7 +85,7 @@ impl Lines {
     /// How many lines there are.
     pub fn count(&self) -> u32
         ensures count { result ≡ length self.now.lines }
-        ensures few { length self.now.lines ≤ 4256 }
+        ensures few { length self.now.lines ≤ 34256 }
     {
         let _table = &self.holders;
         self.lines.len() as u32
@@ -102,15 +123,31 @@ impl Lines {
         self.own.as_slice()
     }
 
-    /// The line that holds a provider pair, with the pair's station there; none where the pair is no provider pair.
-    pub fn holder(&self, p: PairIx) -> Option<(LineIx, StepIx)>
-        ensures { result ≡ holder_of self.now p }
+    /// How many slots a provider pair has: as many as a selected pair demands of a port that is taken from it; 0 where it is no
+    /// provider pair.
+    pub fn slots(&self, p: PairIx) -> u32
+        ensures { result ≡ slots self.now p }
     {
         let _lines = &self.lines;
-        holder_in(&self.holders, p)
+        count_in(&self.counts, p)
     }
 
-    /// How many provider pairs are held by a line that goes on from them.
+    /// The line that is a slot of a provider pair, with the pair's station there; none where the pair has no such slot. Slots
+    /// are numbered from 1.
+    pub fn holder(&self, p: PairIx, slot: u32) -> Option<(LineIx, StepIx)>
+        ensures { result ≡ holder_of self.now p slot }
+    {
+        if slot == 0 || slot > self.slots(p) {
+            return None;
+        }
+        if slot == 1 {
+            return holder_in(&self.holders, p);
+        }
+        let line = LineIx(count_in(&self.seconds, p) + (slot - 2));
+        Some((line, self.last(line)))
+    }
+
+    /// How many provider pairs have as slot 1 a line that goes on from them.
     pub fn loose(&self) -> u32
         ensures { result ≡ loose self.now }
     {
@@ -118,15 +155,15 @@ impl Lines {
         self.loose
     }
 
-    /// Gives a provider pair a line of its own, where the line that holds it goes on from there, and answers that line.
-    /// One pair less is then held so. Where memory runs out the lines stay as they were.
+    /// Gives a provider pair a line of its own as slot 1, where the line that is it so far goes on from there, and answers that
+    /// line. One pair less is then held so. Where memory runs out the lines stay as they were.
     pub fn own_line(&mut self, alloc: Global, s: &Support, p: PairIx) -> Result<LineIx, NoMemory>
-        requires lines { AreLines s.now self.old }
+        requires lines { (u : Model) × AreLines u s.now self.old }
         requires provider { IsTrue (has self.old.providers p) }
         requires loose { IsTrue (is_loose self.old p) }
         ensures line { IfOk result (λ l. l ≡ length self.old.lines) }
-        ensures own { OnOk result (self.new ≡ lines_of s.now self.old.targets (self.old.own ++ p ∷ [])) }
-        ensures lines { OnOk result (AreLines s.now self.new) }
+        ensures own { OnOk result ((u : Model) → AreLines u s.now self.old → self.new ≡ lines_of u s.now self.old.targets (self.old.own ++ p ∷ [])) }
+        ensures lines { OnOk result ((u : Model) → AreLines u s.now self.old → AreLines u s.now self.new) }
         ensures loose { OnOk result (loose self.new + 1 ≡ loose self.old) }
         ensures err { OnErr result (self.new ≡ self.old) }
     {
