@@ -1,12 +1,12 @@
 -- The paths along origins are ways, once the slots that pairs of lower layers need are filled.
-use Rattle.std.proofs.Common.{◌≡◌, ℕ, zero, suc, ◌+◌, ◌<◌, ◌≤◌, true, List, [], ◌∷◌, ◌++◌, length, map, Some, refl, sym, ap, ◌∙◌, subst, arith, nat_eq, inl, inr, append_assoc, append-nil, length-append}
+use Rattle.std.proofs.Common.{◌≡◌, ℕ, zero, suc, ◌+◌, ◌<◌, ◌≤◌, true, List, [], ◌∷◌, ◌++◌, map, Some, refl, sym, ap, ◌∙◌, subst, arith, nat_eq, inl, inr, append_assoc, append-nil, length-append}
 use Rattle.std.proofs.lemmas.Bool.{eqb-true, eq-eqb, false≢true, and_parts, or_cases, or_left, or_right}
 use Rattle.std.proofs.lemmas.List.Folds.{Any-from_list_any}
 use Rattle.std.specs.List.{range_with_len, All}
 use Rattle.std.specs.Option.{option_map_or}
 use Rattle.metis_universe.proofs.Initials.{is_initial-own}
 use Rattle.metis_universe.specs.Layers.{layer_of}
-use Rattle.metis_universe.specs.Universe.{Universe, IsUniverse, pair_count, type_of, initial_of, is_initial, is_empty, next_of, required_of, requires, has}
+use Rattle.metis_universe.specs.Universe.{Universe, IsUniverse, pair_count, type_of, initial_of, is_initial, is_empty, next_of, required_of, has}
 use Rattle.metis_layers.proofs.Deploying.{slice_get-before}
 use Rattle.metis_layers.proofs.LayerFacts.{HasLayer, layer_below, layer_free, layer_pair, no_origin, origin_at}
 use Rattle.metis_layers.proofs.Lines.{IsWay as IsLineWay, end_of as line_end}
