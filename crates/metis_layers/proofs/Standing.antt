@@ -16,7 +16,7 @@ use Rattle.metis_layers.proofs.LayerFacts.{among_layer, in_layer, layer_below, l
 use Rattle.metis_layers.proofs.SlotLines.{AreWays}
 use Rattle.metis_layers.proofs.SlotLists.{wants_required}
 use Rattle.metis_layers.proofs.Slots.{IsFilled}
-use Rattle.metis_layers.proofs.Ways.{FilledUpTo, all_has, ways_on, within}
+use Rattle.metis_layers.proofs.Ways.{FilledUpTo, all_has, layered_pair, ways_on}
 use Rattle.metis_layers.specs.LayerOrder.{holder_of, is_provider, is_standing, line_ends, path_to, place_of, slot_holder, standing_pairs}
 
 -- ---- lists
@@ -175,7 +175,7 @@ module _ (u : Universe) where
 
 module _ (u : Universe) (k : IsUniverse u) where
   required_port : (p l r : ℕ) → layer_of u p ≡ Some l → requires u p r ≡ true → r < port_count u
-  required_port p l r is required = all_has (λ s. s < port_count u) (required_of u p) r (k.required p (within u k (holder_of u) p l is)).1 required
+  required_port p l r is required = all_has (λ s. s < port_count u) (required_of u p) r (k.required p (layered_pair u p l is)).1 required
 
   free_requires : (p r : ℕ) → layer_of u p ≡ Some 0 → requires u p r ≡ true → ⊥
   free_requires p r is required = nothing (required_of u p) (and_parts (is_initial u p) (is_empty (required_of u p)) (layer_free u p is)).1 required where
