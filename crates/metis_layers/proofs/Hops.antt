@@ -6,9 +6,11 @@ use Rattle.std.specs.Option.{option_map_or}
 use Rattle.std.specs.Prelude.{IsSomeAnd}
 use Rattle.metis_ids.specs.declared.actions.Action.{Action}
 use Rattle.metis_ids.specs.declared.actions.Action.TheVariants.{New, Bind, Unbind, Move}
+use Rattle.metis_universe.proofs.Demands.{IsMet-one}
 use Rattle.metis_universe.proofs.Edits.{pair_of-put, is_bound-tie, is_bound-untie}
 use Rattle.metis_universe.proofs.Frames.{bindings-after_all}
-use Rattle.metis_universe.specs.Config.{Correct, empty, pair_of, is_bound, is_tie}
+use Rattle.metis_universe.specs.Config.{Correct, IsMet, empty, pair_of, is_bound, is_tie}
+use Rattle.metis_universe.specs.Single.{IsSingle}
 use Rattle.metis_universe.specs.Step.{CanBind}
 use Rattle.metis_universe.specs.Steadfast.{is_steadfast_after}
 use Rattle.metis_universe.specs.Universe.{Universe, type_of, initial_of, next_of, requires, provides, type_requires, type_provides, has}
@@ -150,19 +152,18 @@ module _ (u : Universe) (holder : ℕ → ℕ) (ends : List ℕ) where
     | inr old ↦ served x r old
   ]
 
-  pub correct_at : (p : ℕ) (t : ℕ → Bool) (earlier : List Action) → IsAt u holder ends p t earlier → AreServed u holder ends → ((r : ℕ) → requires u p r ≡ true → t r ≡ true)
+  pub correct_at : IsSingle u → (p : ℕ) (t : ℕ → Bool) (earlier : List Action) → IsAt u holder ends p t earlier → AreServed u holder ends → ((r : ℕ) → requires u p r ≡ true → t r ≡ true)
       → ((r : ℕ) → t r ≡ true → IsHeld u holder ends r) → Correct u (at u earlier)
-  correct_at p t earlier s served enough held x e r there required =
+  correct_at single p t earlier s served enough held x e r there required =
       let pair : cond (nat_eq x (length ends)) (Some p) (slice_get ends x) ≡ Some e = sym (slice_get-push ends p x) ∙ sym (s.pairs x) ∙ there in
       let needed = must (nat_eq x (length ends)) (slice_get ends x) pair in
       let h = all_held p x r t served held needed in
-      record {
-        provider = holder r;
+      subst (IsMet u (at u earlier) x r) (sym (single e r required)) (IsMet-one u (at u earlier) x r (holder r) (record {
         pair = h.pair;
         bound = s.bound r x (holder r) ∙ and_from _ _ needed (eq-eqb (holder r) (holder r) refl);
         there = s.pairs (holder r) ∙ slice_get-before ends (p ∷ []) (holder r) h.stands ∙ h.there;
         gives = h.gives;
-      } where
+      })) where
         must : (b : Bool) (o : Option ℕ) → cond b (Some p) o ≡ Some e → ((b && t r) || option_map_or (λ q. requires u q r) o false) ≡ true
         must true o is = let same : p ≡ e = cc in or_left (t r) _ (enough r (subst (λ q. requires u q r ≡ true) (sym same) required))
         must false o is = subst (λ v. option_map_or (λ q. requires u q r) v false ≡ true) (sym is) required
@@ -211,49 +212,49 @@ module _ (u : Universe) (holder : ℕ → ℕ) (ends : List ℕ) where
     | inr old ↦ held s old
   ]
 
-  pub binds_go : (p : ℕ) (rs : List ℕ) (t : ℕ → Bool) (earlier : List Action) → IsAt u holder ends p t earlier → AreServed u holder ends → ((r : ℕ) → requires u p r ≡ true → t r ≡ true)
+  pub binds_go : IsSingle u → (p : ℕ) (rs : List ℕ) (t : ℕ → Bool) (earlier : List Action) → IsAt u holder ends p t earlier → AreServed u holder ends → ((r : ℕ) → requires u p r ≡ true → t r ≡ true)
       → ((r : ℕ) → t r ≡ true → IsHeld u holder ends r) → Fresh t rs → ((r : ℕ) → has rs r ≡ true → (type_requires u (type_of u p) r ≡ true) × IsHeld u holder ends r)
       → GoesOn u earlier (binds holder (length ends) rs) × IsAt u holder ends p (with_all t rs) (earlier ++ binds holder (length ends) rs)
-  binds_go p [] t earlier s served enough held fresh all = (tt, subst (λ l. IsAt u holder ends p t l) (sym (append-nil earlier)) s)
-  binds_go p (r ∷ rs) t earlier s served enough held fresh all =
+  binds_go single p [] t earlier s served enough held fresh all = (tt, subst (λ l. IsAt u holder ends p t l) (sym (append-nil earlier)) s)
+  binds_go single p (r ∷ rs) t earlier s served enough held fresh all =
       let this = all r (or_left (nat_eq r r) (has rs r) (eq-eqb r r refl)) in
       let a = Bind r (length ends) (holder r) in
       let t' : ℕ → Bool = λ v. nat_eq v r || t v in
       let after_it = at_bind p r t earlier s in
       let held' = next_held r t this.1 held in
-      let rest = binds_go p rs t' (earlier ++ a ∷ []) after_it served (λ v h. or_right (nat_eq v r) (t v) (enough v h)) held' fresh.1 (λ v h. all v (or_right (nat_eq r v) (has rs v) h)) in (
+      let rest = binds_go single p rs t' (earlier ++ a ∷ []) after_it served (λ v h. or_right (nat_eq v r) (t v) (enough v h)) held' fresh.1 (λ v h. all v (or_right (nat_eq r v) (has rs v) h)) in (
         (
           can_bind p r t earlier s this.0 this.1 fresh.0,
-          subst (Correct u) (at-next u earlier a) (correct_at p t' (earlier ++ a ∷ []) after_it served (λ v h. or_right (nat_eq v r) (t v) (enough v h)) held'),
+          subst (Correct u) (at-next u earlier a) (correct_at single p t' (earlier ++ a ∷ []) after_it served (λ v h. or_right (nat_eq v r) (t v) (enough v h)) held'),
           steady_bind p r t earlier s this.1,
           rest.0,
         ),
         subst (λ l. IsAt u holder ends p (with_all t' rs) l) (append_assoc earlier (a ∷ []) (binds holder (length ends) rs)) rest.1,
       )
 
-  pub unbinds_go : (p : ℕ) (rs : List ℕ) (t : ℕ → Bool) (earlier : List Action) → IsAt u holder ends p t earlier → AreServed u holder ends → ((r : ℕ) → requires u p r ≡ true → t r ≡ true)
+  pub unbinds_go : IsSingle u → (p : ℕ) (rs : List ℕ) (t : ℕ → Bool) (earlier : List Action) → IsAt u holder ends p t earlier → AreServed u holder ends → ((r : ℕ) → requires u p r ≡ true → t r ≡ true)
       → ((r : ℕ) → t r ≡ true → IsHeld u holder ends r) → Ready t rs → ((r : ℕ) → has rs r ≡ true → requires u p r ≡ false)
       → GoesOn u earlier (unbinds holder (length ends) rs) × IsAt u holder ends p (without_all t rs) (earlier ++ unbinds holder (length ends) rs)
-  unbinds_go p [] t earlier s served enough held ready all = (tt, subst (λ l. IsAt u holder ends p t l) (sym (append-nil earlier)) s)
-  unbinds_go p (r ∷ rs) t earlier s served enough held ready all =
+  unbinds_go single p [] t earlier s served enough held ready all = (tt, subst (λ l. IsAt u holder ends p t l) (sym (append-nil earlier)) s)
+  unbinds_go single p (r ∷ rs) t earlier s served enough held ready all =
       let a = Unbind r (length ends) (holder r) in
       let t' : ℕ → Bool = λ v. not (nat_eq v r) && t v in
       let after_it = at_unbind p r t earlier s in
       let unneeded = all r (or_left (nat_eq r r) (has rs r) (eq-eqb r r refl)) in
       let enough' : (v : ℕ) → requires u p v ≡ true → t' v ≡ true = λ v h. and_from _ _ (ap not (ne_eqb v r (λ e. true_false _ h (ap (requires u p) e ∙ unneeded)))) (enough v h) in
       let held' : (v : ℕ) → t' v ≡ true → IsHeld u holder ends v = λ v h. held v (and_parts (not (nat_eq v r)) (t v) h).1 in
-      let rest = unbinds_go p rs t' (earlier ++ a ∷ []) after_it served enough' held' ready.1 (λ v h. all v (or_right (nat_eq r v) (has rs v) h)) in (
+      let rest = unbinds_go single p rs t' (earlier ++ a ∷ []) after_it served enough' held' ready.1 (λ v h. all v (or_right (nat_eq r v) (has rs v) h)) in (
         (
           s.bound r (length ends) (holder r) ∙ rw (ready.0, eq-eqb (length ends) (length ends) refl, eq-eqb (holder r) (holder r) refl) refl,
-          subst (Correct u) (at-next u earlier a) (correct_at p t' (earlier ++ a ∷ []) after_it served enough' held'),
+          subst (Correct u) (at-next u earlier a) (correct_at single p t' (earlier ++ a ∷ []) after_it served enough' held'),
           refl,
           rest.0,
         ),
         subst (λ l. IsAt u holder ends p (without_all t' rs) l) (append_assoc earlier (a ∷ []) (unbinds holder (length ends) rs)) rest.1,
       )
 
-  pub move_goes : (p q : ℕ) (t : ℕ → Bool) (earlier : List Action) → IsAt u holder ends p t earlier → AreServed u holder ends → has (next_of u p) q ≡ true → ((r : ℕ) → requires u q r ≡ true → t r ≡ true)
+  pub move_goes : IsSingle u → (p q : ℕ) (t : ℕ → Bool) (earlier : List Action) → IsAt u holder ends p t earlier → AreServed u holder ends → has (next_of u p) q ≡ true → ((r : ℕ) → requires u q r ≡ true → t r ≡ true)
       → ((r : ℕ) → t r ≡ true → IsHeld u holder ends r) → GoesOn u earlier (Move (length ends) p q ∷ [])
-  move_goes p q t earlier s served next enough held =
+  move_goes single p q t earlier s served next enough held =
       let a = Move (length ends) p q in
-      ((own_pair p t earlier s, next), subst (Correct u) (at-next u earlier a) (correct_at q t (earlier ++ a ∷ []) (at_move p q t earlier s) served enough held), ap not (none_to_next p t earlier s served held), tt)
+      ((own_pair p t earlier s, next), subst (Correct u) (at-next u earlier a) (correct_at single q t (earlier ++ a ∷ []) (at_move p q t earlier s) served enough held), ap not (none_to_next p t earlier s served held), tt)

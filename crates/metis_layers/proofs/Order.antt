@@ -13,6 +13,7 @@ use Rattle.metis_ids.specs.declared.actions.Action.{Action}
 use Rattle.metis_universe.proofs.Kept.{IsConfig-after_all, IsConfig-empty}
 use Rattle.metis_universe.proofs.Same.{numbers_exact, same_entries}
 use Rattle.metis_universe.specs.Config.{empty}
+use Rattle.metis_universe.specs.Single.{IsSingle}
 use Rattle.metis_universe.specs.Goal.{Attainable, IsAttainedSet, holding}
 use Rattle.metis_universe.specs.Selection.{origin_of}
 use Rattle.metis_universe.specs.Layers.{is_enabled, layer_of, layer_set}
@@ -56,11 +57,11 @@ module _ (u : Universe) where
       let same = same_entries nat_cmp_total numbers_exact c.instances (enumerate_from 0 ends) good.ascending (enumerate_ascends ends 0) (λ z. s.pairs z ∙ sym (lookup-enumerate ends 0 z) ∙ ap (λ n. lookup (nat_eq n) (enumerate_from 0 ends)) (zero-add z)) in
       ap (λ es. count_by (λ e. nat_eq e.1 p) es) same ∙ count-enumerate p 0 ends
 
-  pub order_deploys : (k : IsUniverse u) (g : List ℕ) → AllLayered u k g → Deploys u g (layer_order u g)
-  order_deploys k g all =
+  pub order_deploys : (k : IsUniverse u) → IsSingle u → (g : List ℕ) → AllLayered u k g → Deploys u g (layer_order u g)
+  order_deploys k single g all =
       let paths = map (path_to u) (line_ends u g) in
       let ways = order_ways u k g all in
-      let went = all_lines_go u k (holder_of u) paths ways in
+      let went = all_lines_go u k single (holder_of u) paths ways in
       let run = run_from_going u [] (layer_order u g) went.0 in
       let stand = subst (λ l. Stand u (holder_of u) l (layer_order u g)) (path_ends (line_ends u g)) went.1 in
       record {
@@ -80,8 +81,8 @@ pub layered_some : (u : Universe) (p : ℕ) (o : Option ℕ) → layer_of u p �
 layered_some u p None is some = absurd (false≢true some)
 layered_some u p (Some l) is some = record { layer = l; is = is }
 
-pub deploys : (u : Universe) (g : List ℕ) → IsUniverse u → ((p : ℕ) → has g p ≡ true → IsSome (layer_of u p)) → Deploys u g (layer_order u g)
-deploys u g k all = order_deploys u k g (λ p h. layered_some u p (layer_of u p) refl (all p h))
+pub deploys : (u : Universe) (g : List ℕ) → IsUniverse u → IsSingle u → ((p : ℕ) → has g p ≡ true → IsSome (layer_of u p)) → Deploys u g (layer_order u g)
+deploys u g k single all = order_deploys u k single g (λ p h. layered_some u p (layer_of u p) refl (all p h))
 
 -- ---- attainable pairs
 
@@ -108,10 +109,10 @@ layer_set_rises : (u : Universe) (k : ℕ) → IsStrictlyIncreasing (layer_set u
 layer_set_rises u zero = IsStrictlyIncreasing-from_sorted (layer_set u zero) (kept_rises (is_free u) (pair_count u) 0)
 layer_set_rises u (suc k) = IsStrictlyIncreasing-from_sorted (layer_set u (suc k)) (kept_rises (λ q. has (layer_set u k) q || is_enabled u (layer_set u k) q) (pair_count u) 0)
 
-attained : (u : Universe) (p : ℕ) → IsUniverse u → has (attained_pairs u) p ≡ true → Attainable u p
-attained u p k h =
+attained : (u : Universe) (p : ℕ) → IsUniverse u → IsSingle u → has (attained_pairs u) p ≡ true → Attainable u p
+attained u p k single h =
     let at = layer_by u p (pair_count u) h in
-    let d = order_deploys u k (p ∷ []) (λ q one. record { layer = at.layer; is = ap (layer_of u) (sym (only q one)) ∙ at.is }) in
+    let d = order_deploys u k single (p ∷ []) (λ q one. record { layer = at.layer; is = ap (layer_of u) (sym (only q one)) ∙ at.is }) in
     (layer_order u (p ∷ []), d.runs, d.holds) where
       only : (q : ℕ) → has (p ∷ []) q ≡ true → p ≡ q
       only q one = elim (or_cases (nat_eq p q) false one) [ inl same ↦ eqb-true p q same | inr none ↦ absurd (false≢true none) ]
@@ -119,9 +120,9 @@ attained u p k h =
 unattained : (u : Universe) (p : ℕ) → IsUniverse u → has (attained_pairs u) p ≡ false → Attainable u p → ⊥
 unattained u p k missing attains = refused u (p ∷ []) (attained_pairs u) p (Closed-layers u k, ap (λ b. cond (not b) (Some p) None) missing) attains
 
-pub attained_set : (u : Universe) → IsUniverse u → IsAttainedSet u (attained_pairs u)
-attained_set u k = record {
+pub attained_set : (u : Universe) → IsUniverse u → IsSingle u → IsAttainedSet u (attained_pairs u)
+attained_set u k single = record {
   ascends = layer_set_rises u (pair_count u);
-  attained = λ p h. attained u p k h;
+  attained = λ p h. attained u p k single h;
   all = λ p attains. true_from_ne_false (has (attained_pairs u) p) (λ missing. unattained u p k missing attains);
 }
