@@ -63,6 +63,13 @@ inside [] k low = absurd (omega arith)
 inside (x ∷ xs) zero low = refl
 inside (x ∷ xs) (suc k) low = inside xs k (omega arith)
 
+-- each pair that stands has a layer
+pub layer : (u : Universe) → IsUniverse u → (old : List Action) → IsSteady u old → (z p : ℕ) → pair_of (left u old) z ≡ Some p → HasLayer u p (pair_count u)
+layer u k old s z p there =
+    let going = going_from_steady u old s in
+    layer_by u p (pair_count u)
+    (IsInside-after_all u (layer_set u (pair_count u)) empty (old ++ cleared u old) (Closed-layers u k) IsConfig-empty (IsInside-empty (layer_set u (pair_count u))) (run_from_going u [] (old ++ cleared u old) (cleared_goes u old going)) z p (ap (λ d. pair_of d z) (cleared_leaves u old going) ∙ there))
+
 module _ (u : Universe) (k : IsUniverse u) (single : IsSingle u) (old fresh : List Action) (s : IsSteady u old) (t : IsSteady u fresh) where
   going : GoesOn u [] old
   going = going_from_steady u old s
@@ -170,11 +177,6 @@ module _ (u : Universe) (k : IsUniverse u) (single : IsSingle u) (old fresh : Li
   leaves : at u cut ≡ what
   leaves = cleared_leaves u old going
 
-  -- each pair that stands has a layer
-  pub layer : (z p : ℕ) → pair_of what z ≡ Some p → HasLayer u p (pair_count u)
-  layer z p there = layer_by u p (pair_count u)
-      (IsInside-after_all u (layer_set u (pair_count u)) empty cut (Closed-layers u k) IsConfig-empty (IsInside-empty (layer_set u (pair_count u))) (run_from_going u [] cut (cleared_goes u old going)) z p (ap (λ d. pair_of d z) leaves ∙ there))
-
   scene : Scene u what c S f holder ends
   scene = record {
     single = single;
@@ -197,7 +199,7 @@ module _ (u : Universe) (k : IsUniverse u) (single : IsSingle u) (old fresh : Li
         let down = scaffold_down u k g of.0.0 r parts.0 in
         let same = eqb-true of.1.0 (holder r) parts.1 in
         (of.0.0, of.1.0, made_low of.0.0 of.0.1, omega arith, of.0.2, of.1.2);
-    held = λ z p r there needs. let at_p = layer z p there in scaffold_serves u k g p at_p.layer r (some_of_pair what.instances z p there) at_p.is needs;
+    held = λ z p r there needs. let at_p = layer u k old s z p there in scaffold_serves u k g p at_p.layer r (some_of_pair what.instances z p there) at_p.is needs;
     ports = unlike_ports u k;
   }
 
