@@ -1,9 +1,8 @@
--- Edges are added one after another: what lists joined over numbers, or over ports, add.
-use Rattle.std.proofs.Common.{◌≡◌, ℕ, ◌+◌, ◌<◌, List, [], ◌∷◌, ◌++◌, length, get_or, map, take, Option, Some, None, sym, ap, ◌∙◌, subst, append-nil}
-use Rattle.std.specs.List.{cons_option, filter_map, flat_map, range_with_len}
-use Rattle.std.proofs.lemmas.List.{take_more}
+-- Edges are added one after another: what lists joined over numbers, over ports, or over slots add.
+use Rattle.std.proofs.Common.{◌≡◌, ℕ, zero, suc, ◌+◌, ◌<◌, List, [], ◌∷◌, ◌++◌, length, get_or, map, take, sym, ap, ◌∙◌, subst, arith, append-nil}
+use Rattle.std.specs.List.{flat_map, range_with_len}
+use Rattle.std.proofs.lemmas.List.{map-append, take_more}
 use Rattle.std.proofs.lemmas.List.Concat.{flat_map-append}
-use Rattle.std.proofs.lemmas.List.Elements.{filter_map-append}
 use Rattle.metis_ids.specs.declared.events.Event.{Event}
 use Rattle.metis_layers.proofs.Sets.{range_more}
 use Rattle.metis_layers.proofs.Tables.{map_more}
@@ -33,19 +32,24 @@ supplies_more g f n a b c one two =
     subst (λ xs. Adds xs a c) (sym (ap (flat_map g) (joined_more f n) ∙ flat_map-append g (flat_map f (range_with_len 0 n)) (f n)))
     (adds_both (flat_map g (flat_map f (range_with_len 0 n))) (flat_map g (f n)) a b c one two)
 
--- one more port, which has a supply or none
-module _ (g : Supply → Targets) (f : ℕ → Option Supply) (ports : List ℕ) (i r : ℕ) (low : i < length ports) (at : r ≡ get_or ports i r) (a b : Targets) (one : Adds (flat_map g (filter_map f (take i ports))) a b) where
-  ports_more : filter_map f (take (i + 1) ports) ≡ filter_map f (take i ports) ++ cons_option (f r) []
-  ports_more = ap (filter_map f) (take_more ports i r low) ∙ filter_map-append f (take i ports) (get_or ports i r ∷ []) ∙ ap (λ q. filter_map f (take i ports) ++ cons_option (f q) []) (sym at)
+-- one more port
+pub ports_more : (g : Supply → Targets) (f : ℕ → List Supply) (ports : List ℕ) (i r : ℕ) → i < length ports → r ≡ get_or ports i r → (a b c : Targets) → Adds (flat_map g (flat_map f (take i ports))) a b → Adds (flat_map g (f r)) b c → Adds (flat_map g (flat_map f (take (i + 1) ports))) a c
+ports_more g f ports i r low at a b c one two =
+    let more : flat_map f (take (i + 1) ports) ≡ flat_map f (take i ports) ++ f r =
+    ap (flat_map f) (take_more ports i r low ∙ ap (λ q. take i ports ++ q ∷ []) (sym at)) ∙ flat_map-append f (take i ports) (r ∷ []) ∙ ap (λ xs. flat_map f (take i ports) ++ xs) (append-nil (f r)) in
+    subst (λ xs. Adds xs a c) (sym (ap (flat_map g) more ∙ flat_map-append g (flat_map f (take i ports)) (f r)))
+    (adds_both (flat_map g (flat_map f (take i ports))) (flat_map g (f r)) a b c one two)
 
-  all_more : flat_map g (filter_map f (take (i + 1) ports)) ≡ flat_map g (filter_map f (take i ports)) ++ flat_map g (cons_option (f r) [])
-  all_more = ap (flat_map g) ports_more ∙ flat_map-append g (filter_map f (take i ports)) (cons_option (f r) [])
+range_from : (a n : ℕ) → range_with_len a (suc n) ≡ range_with_len a n ++ (a + n) ∷ []
+range_from a zero = ap (λ k. k ∷ []) (omega arith)
+range_from a (suc n) = ap (λ l. a ∷ l) (range_from (a + 1) n ∙ ap (λ k. range_with_len (a + 1) n ++ k ∷ []) (omega arith))
 
-  pub port_supplied : (s : Supply) (c : Targets) → f r ≡ Some s → Adds (g s) b c → Adds (flat_map g (filter_map f (take (i + 1) ports))) a c
-  port_supplied s c is two =
-      subst (λ xs. Adds xs a c) (sym (all_more ∙ ap (λ o. flat_map g (filter_map f (take i ports)) ++ flat_map g (cons_option o [])) is ∙ ap (λ xs. flat_map g (filter_map f (take i ports)) ++ xs) (append-nil (g s))))
-      (adds_both (flat_map g (filter_map f (take i ports))) (g s) a b c one two)
-
-  pub port_passed : f r ≡ None → Adds (flat_map g (filter_map f (take (i + 1) ports))) a b
-  port_passed is =
-      subst (λ xs. Adds xs a b) (sym (all_more ∙ ap (λ o. flat_map g (filter_map f (take i ports)) ++ flat_map g (cons_option o [])) is ∙ append-nil (flat_map g (filter_map f (take i ports))))) one
+-- one more slot, the slots counted from 1
+pub slots_more : (g : Supply → Targets) (f : ℕ → Supply) (n : ℕ) (a b c : Targets) → Adds (flat_map g (map f (range_with_len 1 n))) a b → Adds (g (f (n + 1))) b c → Adds (flat_map g (map f (range_with_len 1 (n + 1)))) a c
+slots_more g f n a b c one two =
+    let next : n + 1 ≡ suc n = omega arith in
+    let same : 1 + n ≡ n + 1 = omega arith in
+    let more : map f (range_with_len 1 (n + 1)) ≡ map f (range_with_len 1 n) ++ f (n + 1) ∷ [] =
+    ap (λ k. map f (range_with_len 1 k)) next ∙ ap (map f) (range_from 1 n ∙ ap (λ k. range_with_len 1 n ++ k ∷ []) same) ∙ map-append f (range_with_len 1 n) ((n + 1) ∷ []) in
+    subst (λ xs. Adds xs a c) (sym (ap (flat_map g) more ∙ flat_map-append g (map f (range_with_len 1 n)) (f (n + 1) ∷ []) ∙ ap (λ xs. flat_map g (map f (range_with_len 1 n)) ++ xs) (append-nil (g (f (n + 1))))))
+    (adds_both (flat_map g (map f (range_with_len 1 n))) (g (f (n + 1))) a b c one two)

@@ -1,48 +1,38 @@
--- What lines over a support hold: the provider of a port has a line with its place there, and stations are pairs of the universe.
-use Rattle.std.proofs.Common.{◌≡◌, ℕ, ◌<◌, true, Some, None, length, get_or, refl, sym, ap, ◌∙◌, subst, inl, inr}
+-- What lines over a support hold: the slots of what a station demands have lines with their places there, and stations are pairs of the universe.
+use Rattle.std.proofs.Common.{◌≡◌, ℕ, ◌+◌, ◌<◌, ◌≤◌, true, Some, length, get_or, sym, ap, ◌∙◌, subst, arith}
 use Rattle.std.specs.List.{list_any}
-use Rattle.std.proofs.lemmas.Bool.{and_from, and_parts, cases_lt, cond-true, eq-eqb}
-use Rattle.std.proofs.lemmas.List.{get_or_past}
+use Rattle.std.proofs.lemmas.Bool.{and_parts}
 use Rattle.metis_universe.proofs.Rounds.{has-filter}
-use Rattle.metis_universe.specs.Universe.{Universe, has, pair_count}
-use Rattle.metis_support.proofs.Lists.{any_at}
-use Rattle.metis_support.specs.Support.{Support, IsKept, IsSupport, is_number, is_selected, provider_at, provider_pairs}
-use Rattle.metis_lines.proofs.Holders.{held}
+use Rattle.metis_universe.specs.Universe.{Universe, demand_of, has, pair_count, requires}
+use Rattle.metis_support.specs.Support.{IsSupport, Support, is_number, is_selected, provider_at, provider_pairs}
+use Rattle.metis_lines.proofs.SlotCounts.{slots_are, slots_enough}
 use Rattle.metis_lines.proofs.Sound as sound
-use Rattle.metis_lines.specs.LifeLines.{AreLines, LifeLines, holder_of, holding, line_at}
+use Rattle.metis_lines.specs.LifeLines.{AreLines, LifeLines, line_at, lines_of, slots}
+use Rattle.metis_events.specs.Gathered.{IsSlotThere}
 
-module _ (s : Support) (x : LifeLines) (are : AreLines s x) where
+module _ (u : Universe) (s : Support) (k : IsSupport u s) (x : LifeLines) (are : AreLines u s x) where
   same_providers : x.providers ≡ provider_pairs s
   same_providers = ap (λ (z : LifeLines). z.providers) are.are
 
   pub own_selected : (q : ℕ) → has x.own q ≡ true → is_selected s q ≡ true
   own_selected q h = (and_parts (list_any (is_number q) s.providers) (is_selected s q) (sym (has-filter (λ p. list_any (is_number p) s.providers) q s.selected.members) ∙ ap (λ ps. has ps q) (sym same_providers) ∙ are.own q h)).1
 
-  module _ (kept : IsKept s) (r p : ℕ) (is : provider_at s r ≡ Some p) where
-    none_some : (q : ℕ) → None ≡ Some q → ⊥
-    none_some q h = cc
+  -- the station's pair is selected
+  pub pair_chosen : (l j : ℕ) → l < length x.lines → j < length (line_at x l) → is_selected s (get_or (line_at x l) j 0) ≡ true
+  pair_chosen l j low short =
+      let P : LifeLines → Type 0 = λ z. l < length z.lines → j < length (line_at z l) → is_selected s (get_or (line_at z l) j 0) ≡ true in
+      subst P (sym are.are) (sound.chosen u s k x.targets x.own are.targets own_selected l j) low short
 
-    there : r < length s.providers
-    there = elim (cases_lt r (length s.providers)) [
-      | inl low ↦ low
-      | inr past ↦ absurd (none_some p (sym (get_or_past s.providers r None past) ∙ is))
-    ]
+  pub pair_low : (l j : ℕ) → l < length x.lines → j < length (line_at x l) → get_or (line_at x l) j 0 < pair_count u
+  pair_low l j low short = k.pairs (get_or (line_at x l) j 0) (pair_chosen l j low short)
 
-    named : list_any (is_number p) s.providers ≡ true
-    named = any_at (is_number p) s.providers r None there (ap (is_number p) is ∙ eq-eqb p p refl)
-
-    listed : has x.providers p ≡ true
-    listed = ap (λ ps. has ps p) same_providers ∙ has-filter (λ q. list_any (is_number q) s.providers) p s.selected.members ∙ and_from (list_any (is_number p) s.providers) (is_selected s p) named (kept.provider p r is)
-
-    pub held_is : holder_of x p ≡ Some (holding x p)
-    held_is = cond-true (has x.providers p) (Some (holding x p)) None listed
-
-    pub within : ((holding x p).0 < length x.lines) × ((holding x p).1 < length (line_at x (holding x p).0))
-    within =
-        let h = held s kept.origin x.targets x.own are.targets own_selected p (kept.provider p r is) in
-        subst (λ z. ((holding z p).0 < length z.lines) × ((holding z p).1 < length (line_at z (holding z p).0))) (sym are.are) (h.line, h.place)
-
-pub pair_low : (u : Universe) (s : Support) (x : LifeLines) (k : IsSupport u s) (are : AreLines s x) (l j : ℕ) → l < length x.lines → j < length (line_at x l) → get_or (line_at x l) j 0 < pair_count u
-pair_low u s x k are l j low short =
-    let P : LifeLines → Type 0 = λ z. l < length z.lines → j < length (line_at z l) → is_selected s (get_or (line_at z l) j 0) ≡ true in
-    k.pairs (get_or (line_at x l) j 0) (subst P (sym are.are) (sound.chosen u s k x.targets x.own are.targets (own_selected s x are) l j) low short)
+  -- each slot that a selected pair demands of a port's provider is there
+  pub slots_there : (q r p n : ℕ) → is_selected s q ≡ true → requires u q r ≡ true → provider_at s r ≡ Some p → 1 ≤ n → n ≤ demand_of u q r → IsSlotThere x p n
+  slots_there q r p n chosen required is low high =
+      let h = k.provider q r chosen required in
+      let selected : is_selected s p ≡ true = subst (λ v. is_selected s v ≡ true) (same_some h.pair p (sym h.is ∙ is)) h.below.selected in
+      let few : n ≤ slots (lines_of u s x.targets x.own) p = omega (arith, high, slots_enough u s p q r chosen required is, slots_are u s k x.targets x.own p) in
+      let there = sound.slot_there u s k x.targets x.own are.targets own_selected p n selected low few in
+      subst (λ z. IsSlotThere z p n) (sym are.are) (record { number = few; line = there.line; place = there.place }) where
+        same_some : (a b : ℕ) → Some a ≡ Some b → a ≡ b
+        same_some a b h = cc

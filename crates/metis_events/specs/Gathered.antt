@@ -4,10 +4,11 @@
 --     Adds xs old new      these are added to those that were there
 --     without_supplies x      the plan of the lines alone
 --     next_edge l j, go_edges w l      the go edge from step j of line l;  all go edges of the line
+--     IsSlotThere x p k      the pair has the slot, and a line with a station is that slot
 --     return_edges e f, supply_edges w s      the return edge from e to f, unless f is the end;  the start and the return edge of a supply
 --     edges_to xs f      the edges into f among these
 --     in_order es      the edges by the events that they lead from and then by kind, each once
-use Rattle.std.specs.Prelude.{ℕ, ◌≡◌, ◌==◌, ◌+◌, ◌-◌, Bool, ◌&&◌, ◌||◌, List, [], ◌∷◌, ◌++◌, length, map, fold, if◌then◌else◌}
+use Rattle.std.specs.Prelude.{ℕ, ◌≡◌, ◌<◌, ◌≤◌, ◌==◌, ◌+◌, ◌-◌, Bool, ◌&&◌, ◌||◌, List, [], ◌∷◌, ◌++◌, length, map, fold, if◌then◌else◌}
 use Rattle.std.specs.List.{filter, list_any, range_with_len}
 use Rattle.std.specs.BTreeSet.{insert_key}
 use Rattle.metis_ids.specs.declared.events.Event.{Event}
@@ -17,7 +18,7 @@ use Rattle.metis_events.specs.declared.edges.EdgeKind.TheVariants.{Go, Start, Re
 use Rattle.metis_events.specs.Edges.{edge_cmp, edge_of, kind_number}
 use Rattle.metis_lines.specs.AbstractPlan.{AbstractPlan, Supply, last}
 use Rattle.metis_lines.specs.Events.{is_end, leaving, same_event, step_count}
-use Rattle.metis_lines.specs.LifeLines.{LifeLines}
+use Rattle.metis_lines.specs.LifeLines.{LifeLines, line_at, slot_holding, slots}
 
 abbrev pub same_edge : Edge → Edge → Bool
 same_edge a b = same_event a.from b.from && (kind_number a.kind == kind_number b.kind)
@@ -39,6 +40,11 @@ next_edge l j = (At l (j + 1), edge_of (At l j) Go)
 
 abbrev pub go_edges : AbstractPlan → ℕ → List (Event × Edge)
 go_edges w l = map (next_edge l) (range_with_len 0 (step_count w l - 1)) ++ (End, edge_of (At l (last w l)) Go) ∷ []
+
+pub record IsSlotThere (x : LifeLines) (p k : ℕ) : Type 0 where
+  pub number : k ≤ slots x p
+  pub line : (slot_holding x p k).0 < length x.lines
+  pub place : (slot_holding x p k).1 < length (line_at x (slot_holding x p k).0)
 
 abbrev pub return_edges : Event → Event → List (Event × Edge)
 return_edges e f = if is_end f then [] else ((f, edge_of e Return) ∷ [])

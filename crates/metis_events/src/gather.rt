@@ -1,14 +1,13 @@
 //! All edges of the graph of life lines.
-ghost use Rattle.std.specs.Prelude.{◌≡◌, ◌<◌, ◌≤◌, ℕ, OnOk, length, option_map};
+ghost use Rattle.std.specs.Prelude.{◌≡◌, ◌<◌, ◌≤◌, ℕ, OnOk, length, map};
 ghost use Rattle.std.specs.List.{flat_map, range_with_len};
-ghost use Rattle.std.specs.Option.{ForSome};
-ghost use Rattle.metis_support.specs.Support.{IsSupport, provider_at};
+ghost use Rattle.metis_support.specs.Support.{IsSupport};
 ghost use Rattle.metis_lines.specs.Events.{leaving, step_count};
-ghost use Rattle.metis_lines.specs.LifeLines.{AreLines, holding, line_at, line_supplies, station_supplies, supplies_of, supply_from};
-ghost use Rattle.metis_events.specs.Gathered.{Adds, go_edges, return_edges, supply_edges, without_supplies};
+ghost use Rattle.metis_lines.specs.LifeLines.{AreLines, line_at, line_supplies, slot_holding, station_supplies, supplies_of, supply_from};
+ghost use Rattle.metis_events.specs.Gathered.{Adds, IsSlotThere, go_edges, return_edges, supply_edges, without_supplies};
 
 use crate::edges::{EdgeKind, EdgeList};
-use metis_ids::{Event, LineIx, NoMemory, PortIx, StepIx};
+use metis_ids::{Event, LineIx, NoMemory, PairIx, StepIx};
 use metis_lines::Lines;
 use metis_support::Support;
 use metis_universe::Universe;
@@ -73,7 +72,7 @@ pub fn add_supplies(
     l: &Lines,
 ) -> Result<(), NoMemory>
     requires support { IsSupport u.now s.now }
-    requires lines { AreLines s.now l.now }
+    requires lines { AreLines u.now s.now l.now }
     ensures { OnOk result (Adds (flat_map (supply_edges (without_supplies l.now)) (supplies_of u.now s.now l.now)) edges.old edges.new) }
 {
     for number in 0..l.count() {
@@ -91,7 +90,7 @@ fn add_line_supplies(
     line: LineIx,
 ) -> Result<(), NoMemory>
     requires support { IsSupport u.now s.now }
-    requires lines { AreLines s.now l.now }
+    requires lines { AreLines u.now s.now l.now }
     requires line { line < length l.now.lines }
     ensures { OnOk result (Adds (flat_map (supply_edges (without_supplies l.now)) (line_supplies u.now s.now l.now line)) edges.old edges.new) }
 {
@@ -111,28 +110,39 @@ fn add_station_supplies(
     station: StepIx,
 ) -> Result<(), NoMemory>
     requires support { IsSupport u.now s.now }
-    requires lines { AreLines s.now l.now }
+    requires lines { AreLines u.now s.now l.now }
     requires line { line < length l.now.lines }
     requires station { station < length (line_at l.now line) }
     ensures { OnOk result (Adds (flat_map (supply_edges (without_supplies l.now)) (station_supplies u.now s.now l.now line station)) edges.old edges.new) }
 {
-    for port in u.requires_(l.station(line, station)) {
-        if let Some(holder) = holder_of(s, l, *port) {
-            add_supply(edges, l, (line, station), holder)?;
+    let pair = l.station(line, station);
+    for port in u.requires_(pair) {
+        if let Some(provider) = s.provider(*port) {
+            add_slot_supplies(edges, l, line, station, provider, u.demand(pair, *port))?;
         }
     }
     Ok(())
 }
 
-// The line that holds the port's provider, with its station there.
-fn holder_of(s: &Support, l: &Lines, port: PortIx) -> Option<(LineIx, StepIx)>
-    requires { AreLines s.now l.now }
-    ensures holder { result ≡ option_map (holding l.now) (provider_at s.now port) }
-    ensures within { ForSome result (λ held. (held.0 < length l.now.lines) × (held.1 < length (line_at l.now held.0))) }
+// Adds those of the supplies of one port: one for each slot of its provider up to what the station demands.
+fn add_slot_supplies(
+    edges: &mut EdgeList,
+    l: &Lines,
+    line: LineIx,
+    station: StepIx,
+    provider: PairIx,
+    demand: u32,
+) -> Result<(), NoMemory>
+    requires line { line < length l.now.lines }
+    requires station { station < length (line_at l.now line) }
+    requires slots { (k : ℕ) → 1 ≤ k → k ≤ demand → IsSlotThere l.now provider k }
+    ensures { (r : ℕ) → OnOk result (Adds (flat_map (supply_edges (without_supplies l.now)) (map (λ k. supply_from line station r k (slot_holding l.now provider k)) (range_with_len 1 demand))) edges.old edges.new) }
 {
-    let _kept = s.selected();
-    let provider = s.provider(port)?;
-    l.holder(provider)
+    for slot in 0..demand {
+        let holder = l.holder(provider, slot + 1).unwrap();
+        add_supply(edges, l, (line, station), holder)?;
+    }
+    Ok(())
 }
 
 // Adds the edges of a supply: the station starts after the place is entered, and the place is left after the station.
@@ -146,7 +156,7 @@ fn add_supply(
     requires station { taker.1 < length (line_at l.now taker.0) }
     requires holder { holder.0 < length l.now.lines }
     requires place { holder.1 < length (line_at l.now holder.0) }
-    ensures { (r : ℕ) → OnOk result (Adds (supply_edges (without_supplies l.now) (supply_from taker.0 taker.1 r holder)) edges.old edges.new) }
+    ensures { (r k : ℕ) → OnOk result (Adds (supply_edges (without_supplies l.now) (supply_from taker.0 taker.1 r k holder)) edges.old edges.new) }
 {
     let (line, station) = taker;
     let (other, place) = holder;

@@ -43,7 +43,7 @@ impl EventGraph {
     /// The graph of the lines over a support. It goes once over the events and the supplies, and sorts the edges.
     pub fn of(alloc: Global, u: &Universe, s: &Support, l: &Lines) -> Result<EventGraph, NoMemory>
         requires support { IsSupport u.now s.now }
-        requires lines { AreLines s.now l.now }
+        requires lines { AreLines u.now s.now l.now }
         ensures { IfOk result (λ g. g ≡ graph_of (plan_of u.now s.now l.now)) }
     {
         u.keeps_invariant();

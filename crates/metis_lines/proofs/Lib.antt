@@ -10,5 +10,6 @@ pub mod OwnLines
 pub mod Pushes
 pub mod Sets
 pub mod SlotCounts
+pub mod Slotted
 pub mod Sound
 pub mod Tabled
