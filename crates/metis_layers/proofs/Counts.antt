@@ -15,7 +15,8 @@ use Rattle.metis_universe.specs.Selection.{origin_of}
 use Rattle.metis_universe.specs.Universe.{Universe, all_pairs, has, is_free, pair_count}
 use Rattle.metis_layers.proofs.LayerFacts.{in_layer, layer_below, layer_has}
 use Rattle.metis_ids.specs.Action.{makes}
-use Rattle.metis_layers.specs.LayerOrder.{attained_pairs, binds, unbinds, gained, instances_of, is_standing, line_actions, lines_from, move_actions, moves_along, path_to, path_within, standing_pairs}
+use Rattle.metis_layers.specs.LayerOrder.{attained_pairs, instances_of, is_standing, path_to, path_within, standing_pairs}
+use Rattle.metis_layers.specs.SlotLines.{slot_binds, slot_line, slot_lines, slot_move, slot_moves, slot_unbinds, slots_gained}
 
 -- ---- kept elements
 
@@ -132,37 +133,37 @@ module _ (u : Universe) where
     | false ↦ rest
   ]
 
-  binds_make : (holder : ℕ → ℕ) (z : ℕ) (rs : List ℕ) → length (filter makes (binds holder z rs)) ≡ 0
+  binds_make : (holder : ℕ → ℕ → ℕ) (z : ℕ) (ss : List (ℕ × ℕ)) → length (filter makes (slot_binds holder z ss)) ≡ 0
   binds_make holder z [] = refl
-  binds_make holder z (r ∷ rs) = binds_make holder z rs
+  binds_make holder z (s ∷ ss) = binds_make holder z ss
 
-  unbinds_make : (holder : ℕ → ℕ) (z : ℕ) (rs : List ℕ) → length (filter makes (unbinds holder z rs)) ≡ 0
+  unbinds_make : (holder : ℕ → ℕ → ℕ) (z : ℕ) (ss : List (ℕ × ℕ)) → length (filter makes (slot_unbinds holder z ss)) ≡ 0
   unbinds_make holder z [] = refl
-  unbinds_make holder z (r ∷ rs) = unbinds_make holder z rs
+  unbinds_make holder z (s ∷ ss) = unbinds_make holder z ss
 
-  move_makes : (holder : ℕ → ℕ) (z p q : ℕ) → length (filter makes (move_actions u holder z p q)) ≡ 0
-  move_makes holder z p q = none_made (binds holder z (gained u p q)) (Move z p q ∷ unbinds holder z (gained u q p)) ∙ rw (binds_make holder z (gained u p q), unbinds_make holder z (gained u q p)) refl
+  move_makes : (holder : ℕ → ℕ → ℕ) (z p q : ℕ) → length (filter makes (slot_move u holder z p q)) ≡ 0
+  move_makes holder z p q = none_made (slot_binds holder z (slots_gained u p q)) (Move z p q ∷ slot_unbinds holder z (slots_gained u q p)) ∙ rw (binds_make holder z (slots_gained u p q), unbinds_make holder z (slots_gained u q p)) refl
 
-  moves_make : (holder : ℕ → ℕ) (z p : ℕ) (path : List ℕ) → length (filter makes (moves_along u holder z p path)) ≡ 0
+  moves_make : (holder : ℕ → ℕ → ℕ) (z p : ℕ) (path : List ℕ) → length (filter makes (slot_moves u holder z p path)) ≡ 0
   moves_make holder z p [] = refl
-  moves_make holder z p (q ∷ path) = none_made (move_actions u holder z p q) (moves_along u holder z q path) ∙ omega (arith, move_makes holder z p q, moves_make holder z q path)
+  moves_make holder z p (q ∷ path) = none_made (slot_move u holder z p q) (slot_moves u holder z q path) ∙ omega (arith, move_makes holder z p q, moves_make holder z q path)
 
   -- a line along a path that is not empty makes one
-  line_makes : (holder : ℕ → ℕ) (z q : ℕ) (path : List ℕ) → length (filter makes (line_actions u holder z (path ++ q ∷ []))) ≡ 1
+  line_makes : (holder : ℕ → ℕ → ℕ) (z q : ℕ) (path : List ℕ) → length (filter makes (slot_line u holder z (path ++ q ∷ []))) ≡ 1
   line_makes holder z q [] = refl
   line_makes holder z q (p ∷ path) = ap suc (moves_make holder z p (path ++ q ∷ []))
 
   -- and no path along origins is empty
-  path_makes : (holder : ℕ → ℕ) (z n p : ℕ) → length (filter makes (line_actions u holder z (path_within u n p))) ≡ 1
+  path_makes : (holder : ℕ → ℕ → ℕ) (z n p : ℕ) → length (filter makes (slot_line u holder z (path_within u n p))) ≡ 1
   path_makes holder z zero p = refl
   path_makes holder z (suc n) p = line_makes holder z p (option_map_or (path_within u n) (origin_of u p) [])
 
   -- so there is one for each of the pairs that the lines end in
-  pub lines_make : (holder : ℕ → ℕ) (z : ℕ) (ends : List ℕ) → instances_of (lines_from u holder z (map (path_to u) ends)) ≡ length ends
-  lines_make holder z [] = refl
-  lines_make holder z (p ∷ ends) =
+  pub slot_lines_make : (holder : ℕ → ℕ → ℕ) (z : ℕ) (ends : List ℕ) → instances_of (slot_lines u holder z (map (path_to u) ends)) ≡ length ends
+  slot_lines_make holder z [] = refl
+  slot_lines_make holder z (p ∷ ends) =
       let paths = map (path_to u) ends in
-      omega (arith, none_made (line_actions u holder z (path_to u p)) (lines_from u holder (z + 1) paths), path_makes holder z (pair_count u) p, lines_make holder (z + 1) ends)
+      omega (arith, none_made (slot_line u holder z (path_to u p)) (slot_lines u holder (z + 1) paths), path_makes holder z (pair_count u) p, slot_lines_make holder (z + 1) ends)
 
 -- ---- instances by number
 

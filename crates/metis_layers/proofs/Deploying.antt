@@ -1,5 +1,5 @@
--- Lines of instances, one after another, each of which is bound only to instances that stand already.
-use Rattle.std.proofs.Common.{◌≡◌, ℕ, zero, suc, ◌<◌, ◌≤◌, Bool, true, false, cond, not, ◌&&◌, ◌||◌, List, [], ◌∷◌, ◌++◌, length, Some, None, refl, ap, ◌∙◌, arith, nat_eq, inl, inr}
+-- Lists of instances: who holds a port where each port has one holder, and what is read at a place.
+use Rattle.std.proofs.Common.{◌≡◌, ℕ, zero, suc, ◌+◌, ◌<◌, ◌≤◌, Bool, true, false, cond, ◌&&◌, List, [], ◌∷◌, ◌++◌, length, Some, None, refl, ap, ◌∙◌, arith, nat_eq, inl, inr}
 use Rattle.std.proofs.lemmas.Bool.{eq-eqb, ne_eqb, cases_eq}
 use Rattle.std.specs.List.{list_any, slice_get}
 use Rattle.std.specs.Option.{option_map_or}
@@ -22,20 +22,7 @@ module _ (u : Universe) (holder : ℕ → ℕ) where
   abbrev pub ends_need : List ℕ → ℕ → ℕ → Bool
   ends_need ends x r = option_map_or (λ e. requires u e r) (slice_get ends x) false
 
-  -- what each instance in its end requires is held
-  abbrev pub AreServed : List ℕ → Type 0
-  AreServed ends = (x r : ℕ) → ends_need ends x r ≡ true → IsHeld ends r
-
-  -- whether instance x is bound at port r: those that stand where their ends require it, and the next one where t says so
-  abbrev pub needs : List ℕ → (ℕ → Bool) → ℕ → ℕ → Bool
-  needs ends t x r = (nat_eq x (length ends) && t r) || ends_need ends x r
-
-  -- The instances stand in their ends, and the next one is in p and bound at the ports that t has.
-  pub record IsAt (ends : List ℕ) (p : ℕ) (t : ℕ → Bool) (earlier : List Action) : Type 0 where
-    pub pairs : (x : ℕ) → pair_of (at u earlier) x ≡ slice_get (ends ++ p ∷ []) x
-    pub bound : (r x y : ℕ) → is_bound (at u earlier) r x y ≡ (needs ends t x r && nat_eq y (holder r))
-    pub news : (x : ℕ) → suc (length ends) ≤ x → list_any (is_new x) earlier ≡ false
-
+  -- the instances stand in their ends, bound to the holders of what these require
   pub record Stand (ends : List ℕ) (earlier : List Action) : Type 0 where
     pub pairs : (x : ℕ) → pair_of (at u earlier) x ≡ slice_get ends x
     pub bound : (r x y : ℕ) → is_bound (at u earlier) r x y ≡ (ends_need ends x r && nat_eq y (holder r))
@@ -68,23 +55,3 @@ slice_get-push (x ∷ xs) p (suc i) = slice_get-push xs p i ∙ ap (λ b. cond b
     | inl is ↦ rw (eq-eqb a b is, eq-eqb (suc a) (suc b) (ap suc is)) refl
     | inr other ↦ rw (ne_eqb a b other, ne_eqb (suc a) (suc b) (λ e. other (omega arith))) refl
   ]
-
--- ---- ports one after another
-
--- the ports are bound one after another
-abbrev pub Fresh : (ℕ → Bool) → List ℕ → Type 0
-Fresh t [] = Unit {0}
-Fresh t (r ∷ rs) = (t r ≡ false) × Fresh (λ s. nat_eq s r || t s) rs
-
-abbrev pub Ready : (ℕ → Bool) → List ℕ → Type 0
-Ready t [] = Unit {0}
-Ready t (r ∷ rs) = (t r ≡ true) × Ready (λ s. not (nat_eq s r) && t s) rs
-
--- the test after all of them
-abbrev pub with_all : (ℕ → Bool) → List ℕ → ℕ → Bool
-with_all t [] = t
-with_all t (r ∷ rs) = with_all (λ s. nat_eq s r || t s) rs
-
-abbrev pub without_all : (ℕ → Bool) → List ℕ → ℕ → Bool
-without_all t [] = t
-without_all t (r ∷ rs) = without_all (λ s. not (nat_eq s r) && t s) rs

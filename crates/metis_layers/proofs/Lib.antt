@@ -1,6 +1,8 @@
+pub mod Copies
 pub mod CountedTable
 pub mod CounterFacts
 pub mod Counts
+mod DemandSums
 pub mod Deploying
 pub mod Examples
 pub mod Going
@@ -14,6 +16,10 @@ pub mod Order
 pub mod RoundFacts
 pub mod Sets
 pub mod Short
+mod SlotExamples
+pub mod SlotLines
+pub mod SlotLists
+pub mod Slots
 pub mod Standing
 pub mod Tables
 pub mod TypeWeights

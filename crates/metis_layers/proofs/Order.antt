@@ -1,5 +1,6 @@
 -- The list in the order of the layers deploys the targets, and a pair is attainable exactly where it has a layer.
-use Rattle.std.proofs.Common.{◌≡◌, ℕ, zero, suc, ◌+◌, ◌<◌, ◌≤◌, Bool, true, false, cond, not, ◌||◌, List, [], ◌∷◌, ◌++◌, map, Option, Some, None, refl, sym, ap, ◌∙◌, subst, arith, nat_eq, nat_cmp, inl, inr, length-append, zero-add}
+use Rattle.std.proofs.Common.{◌≡◌, ℕ, zero, suc, ◌+◌, ◌*◌, ◌<◌, ◌≤◌, Bool, true, false, cond, not, ◌||◌, List, [], ◌∷◌, ◌++◌, length, map, Option, Some, None, refl, sym, ap, ◌∙◌, subst, arith, nat_eq, nat_cmp, inl, inr, length-append, zero-add}
+use Rattle.std.proofs.Math.Nat.{mul_comm, mul-le-mul_right}
 use Rattle.std.proofs.lemmas.Bool.{eqb-true, false≢true, true_from_ne_false, or_cases}
 use Rattle.std.specs.List.{AllByRecursion, filter, count_by, enumerate_from, range_with_len}
 use Rattle.std.specs.Map.{lookup}
@@ -17,63 +18,69 @@ use Rattle.metis_universe.specs.Goal.{Attainable, IsAttainedSet, holding}
 use Rattle.metis_universe.specs.Selection.{origin_of}
 use Rattle.metis_universe.specs.Layers.{is_enabled, layer_of, layer_set}
 use Rattle.metis_universe.specs.Step.{IsRun, after_all}
-use Rattle.metis_universe.specs.Universe.{Universe, IsUniverse, has, is_free, pair_count}
-use Rattle.metis_layers.proofs.Counts.{count-append, count-enumerate, enumerate_ascends, lines_make, lookup-enumerate, standing_few}
-use Rattle.metis_layers.proofs.Deploying.{Stand}
+use Rattle.metis_universe.specs.Universe.{Universe, IsUniverse, greatest_demand, has, is_free, pair_count}
+use Rattle.metis_layers.proofs.Copies.{copies, length-copies}
+use Rattle.metis_layers.proofs.Counts.{count-append, count-enumerate, enumerate_ascends, lookup-enumerate, slot_lines_make, standing_few}
 use Rattle.metis_layers.proofs.Going.{run_from_going, steadfast_from_going}
-use Rattle.metis_layers.proofs.Lines.{all_lines_go, end_of, last_of}
 use Rattle.metis_layers.proofs.LayerFacts.{layer_by}
-use Rattle.metis_layers.proofs.Numbers.{ways_within}
-use Rattle.metis_layers.proofs.Standing.{AllLayered, HasSomeLayer, order_ways}
+use Rattle.metis_layers.proofs.Numbers.{slot_ways_within}
+use Rattle.metis_layers.proofs.SlotLines.{end_of, last_of, slot_lines_go}
+use Rattle.metis_layers.proofs.Slots.{Stand}
+use Rattle.metis_layers.proofs.Standing.{AllLayered, HasSomeLayer, order_ways, slot_back, slot_of}
 use Rattle.metis_universe.proofs.Attained.{Closed-layers}
 use Rattle.metis_universe.proofs.Inside.{refused}
 use Rattle.std.specs.Prelude.{IsSome}
-use Rattle.metis_layers.specs.LayerOrder.{Deploys, attained_pairs, holder_of, layer_order, line_ends, path_to, path_within, standing_pairs}
+use Rattle.metis_layers.specs.LayerOrder.{Deploys, attained_pairs, layer_order, line_ends, path_to, path_within, slot_holder, standing_pairs}
 
 module _ (u : Universe) where
   -- a path ends in its pair
-  last_added : (x p : ℕ) (path : List ℕ) → last_of u (holder_of u) x (path ++ p ∷ []) ≡ p
+  last_added : (x p : ℕ) (path : List ℕ) → last_of x (path ++ p ∷ []) ≡ p
   last_added x p [] = refl
   last_added x p (y ∷ path) = last_added y p path
 
-  end_added : (p : ℕ) (path : List ℕ) → end_of u (holder_of u) (path ++ p ∷ []) ≡ p
+  end_added : (p : ℕ) (path : List ℕ) → end_of (path ++ p ∷ []) ≡ p
   end_added p [] = refl
   end_added p (x ∷ path) = last_added x p path
 
-  path_end : (n p : ℕ) → end_of u (holder_of u) (path_within u n p) ≡ p
+  path_end : (n p : ℕ) → end_of (path_within u n p) ≡ p
   path_end zero p = refl
   path_end (suc n) p = end_added p (option_map_or (path_within u n) (origin_of u p) [])
 
-  path_ends : (xs : List ℕ) → map (end_of u (holder_of u)) (map (path_to u) xs) ≡ xs
+  path_ends : (xs : List ℕ) → map end_of (map (path_to u) xs) ≡ xs
   path_ends [] = refl
   path_ends (x ∷ xs) = λ i. path_end (pair_count u) x i ∷ path_ends xs i
 
   -- each pair has as many instances as it has places among the ends
-  holds_ends : (ends : List ℕ) (actions : List Action) → IsRun u empty actions → Stand u (holder_of u) ends actions → (p : ℕ) → holding (after_all u empty actions) p ≡ count_by (λ q. nat_eq q p) ends
+  holds_ends : (ends : List ℕ) (actions : List Action) → IsRun u empty actions → Stand u (slot_holder u) (slot_of u) ends actions → (p : ℕ) → holding (after_all u empty actions) p ≡ count_by (λ q. nat_eq q p) ends
   holds_ends ends actions run s p =
       let c = after_all u empty actions in
       let good = IsConfig-after_all u empty actions IsConfig-empty run in
       let same = same_entries nat_cmp_total numbers_exact c.instances (enumerate_from 0 ends) good.ascending (enumerate_ascends ends 0) (λ z. s.pairs z ∙ sym (lookup-enumerate ends 0 z) ∙ ap (λ n. lookup (nat_eq n) (enumerate_from 0 ends)) (zero-add z)) in
       ap (λ es. count_by (λ e. nat_eq e.1 p) es) same ∙ count-enumerate p 0 ends
 
-  pub order_deploys : (k : IsUniverse u) (g : List ℕ) → AllLayered u k g → Deploys u g (layer_order u g)
+  -- no more instances than the greatest demand for each attainable pair and one for each target
+  few_ends : (g : List ℕ) → length (line_ends u g) ≤ length (attained_pairs u) * greatest_demand u + length g
+  few_ends g = omega (
+    arith,
+    length-append (copies (greatest_demand u) (standing_pairs u)) g,
+    length-copies (greatest_demand u) (standing_pairs u),
+    mul_comm (greatest_demand u) (length (standing_pairs u)),
+    mul-le-mul_right (greatest_demand u) (standing_few u),
+  )
+
+  pub order_deploys : (k : IsUniverse u) (g : List ℕ) → AllLayered u g → Deploys u g (layer_order u g)
   order_deploys k g all =
       let paths = map (path_to u) (line_ends u g) in
       let ways = order_ways u k g all in
-      let went = all_lines_go u k (holder_of u) paths ways in
+      let went = slot_lines_go u k (slot_holder u) (slot_of u) (slot_back u) paths ways in
       let run = run_from_going u [] (layer_order u g) went.0 in
-      let stand = subst (λ l. Stand u (holder_of u) l (layer_order u g)) (path_ends (line_ends u g)) went.1 in
+      let stand = subst (λ l. Stand u (slot_holder u) (slot_of u) l (layer_order u g)) (path_ends (line_ends u g)) went.1 in
       record {
         runs = run;
-        holds = λ p. subst (λ n. count_by (λ q. nat_eq q p) g ≤ n) (sym (holds_ends (line_ends u g) (layer_order u g) run stand p)) (count-append p (standing_pairs u) g);
+        holds = λ p. subst (λ n. count_by (λ q. nat_eq q p) g ≤ n) (sym (holds_ends (line_ends u g) (layer_order u g) run stand p)) (count-append p (copies (greatest_demand u) (standing_pairs u)) g);
         steadfast = steadfast_from_going u (layer_order u g) went.0;
-        numbers = ways_within u k (holder_of u) [] 0 paths ways;
-        few = omega (
-          arith,
-          lines_make u (holder_of u) 0 (line_ends u g),
-          length-append (standing_pairs u) g,
-          standing_few u,
-        );
+        numbers = slot_ways_within u k (slot_holder u) (slot_of u) [] 0 paths ways;
+        few = omega (arith, slot_lines_make u (slot_holder u) 0 (line_ends u g), few_ends g);
       }
 
 pub layered_some : (u : Universe) (p : ℕ) (o : Option ℕ) → layer_of u p ≡ o → IsSome o → HasSomeLayer u p

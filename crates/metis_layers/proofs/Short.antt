@@ -1,34 +1,85 @@
--- A line has at most 320 actions: its pairs are of one type and none comes twice, and a type has few states and requires few ports.
+-- A line has at most 320 actions: its pairs are of one type and none comes twice, and a type has few states and demands few providers.
 use Rattle.std.proofs.Common.{◌≡◌, ℕ, zero, suc, ◌+◌, ◌-◌, ◌*◌, ◌<◌, ◌≤◌, Bool, true, false, not, ◌&&◌, List, [], ◌∷◌, ◌++◌, length, map, Some, refl, sym, ap, ◌∙◌, subst, arith, nat_eq, length-append, sum_by}
 use Rattle.std.proofs.lemmas.Bool.{eq-eqb, false≢true, and_parts, and_from, or_left, or_right}
 use Rattle.std.proofs.lemmas.List.{length-map}
-use Rattle.std.proofs.lemmas.List.Sums.{count_by-le-length, length-filter, sum_by-append, sum_by-cons}
+use Rattle.std.proofs.lemmas.List.Concat.{length-flat_map}
+use Rattle.std.proofs.lemmas.List.FromFn.{length-range_with_len}
+use Rattle.std.proofs.lemmas.List.Sums.{sum_by-append, sum_by-cons, sum_by-le-sum_by}
 use Rattle.std.specs.List.{filter}
 use Rattle.std.specs.Option.{option_map_or}
 use Rattle.std.specs.Prelude.{IsSome}
+use Rattle.metis_ids.specs.declared.actions.Action.{Action}
 use Rattle.metis_ids.specs.declared.actions.Action.TheVariants.{Bind, Unbind, Move}
 use Rattle.metis_universe.proofs.Rounds.{grows_to, layers_grow}
 use Rattle.metis_universe.specs.Layers.{layer_of, layer_set}
-use Rattle.metis_universe.specs.Universe.{Universe, IsTable, IsUniverse, IsWithinLimits, all_pairs, has, next_of, pair_count, required_of, requires, type_of}
-use Rattle.metis_layers.proofs.Counts.{lines_make}
+use Rattle.metis_universe.specs.Universe.{Universe, IsTable, IsUniverse, IsWithinLimits, all_pairs, demand_of, demand_total, has, next_of, pair_at, pair_count, required_of, requires, type_of}
+use Rattle.metis_layers.proofs.Counts.{kept_fewer, slot_lines_make}
+use Rattle.metis_layers.proofs.DemandSums.{demands_within}
 use Rattle.metis_layers.proofs.LayerFacts.{layer_first, layer_has, layer_pair, no_origin, origin_at}
 use Rattle.metis_layers.proofs.Order.{layered_some}
 use Rattle.metis_layers.proofs.Standing.{AllLayered, ends_layered}
 use Rattle.metis_layers.proofs.TypeWeights.{is_of, kept_besides, kept_more, type_weight, weight}
 use Rattle.metis_layers.proofs.Ways.{all_has, within}
-use Rattle.metis_layers.specs.LayerOrder.{binds, gained, holder_of, instances_of, layer_order, line_actions, line_ends, lines_from, move_actions, moves_along, path_to, path_within, unbinds}
+use Rattle.metis_layers.specs.LayerOrder.{holder_of, instances_of, layer_order, line_ends, path_to, path_within, slot_holder}
+use Rattle.metis_layers.specs.Lines.{binds, gained, line_actions, lines_from, move_actions, moves_along, unbinds}
+use Rattle.metis_layers.specs.SlotLines.{slot_binds, slot_line, slot_lines, slot_move, slot_moves, slot_unbinds, slots_above, slots_gained}
 
 -- ---- how many actions a path asks for
 
 module _ (u : Universe) where
-  -- a pair gains at most what it requires
-  gained_few : (p q : ℕ) → length (gained u p q) ≤ length (required_of u q)
-  gained_few p q = omega (arith, length-filter (λ r. not (requires u p r)) (required_of u q), count_by-le-length (λ r. not (requires u p r)) (required_of u q))
+  -- how many providers the pair demands
+  abbrev needs : ℕ → ℕ
+  needs p = demand_total (pair_at u p)
+
+  -- moves along a path are short where each move is
+  along_short : (move : ℕ → ℕ → List Action) (moves : ℕ → List ℕ → List Action) → ((p q : ℕ) → length (move p q) ≤ needs p + needs q + 1)
+      → ((p : ℕ) → moves p [] ≡ []) → ((p q : ℕ) (path : List ℕ) → moves p (q ∷ path) ≡ move p q ++ moves q path) → (p : ℕ) (path : List ℕ) → length (moves p path) ≤ needs p + sum_by (weight u) path
+  along_short move moves short none next p [] = omega (arith, ap length (none p))
+  along_short move moves short none next p (q ∷ path) = omega (
+    arith,
+    ap length (next p q path),
+    length-append (move p q) (moves q path),
+    short p q,
+    along_short move moves short none next q path,
+    sum_by-cons (weight u) q path,
+  )
+
+  module _ (k : IsUniverse u) (holder : ℕ → ℕ → ℕ) where
+    -- a pair gains at most what it demands
+    gained_few : (p q : ℕ) → length (slots_gained u p q) ≤ needs q
+    gained_few p q =
+        let above : ℕ → List ℕ = λ r. slots_above (demand_of u p r) (demand_of u q r) in
+        let slot_at : ℕ → ℕ → ℕ × ℕ = λ r j. (r, j) in
+        let at : ℕ → List (ℕ × ℕ) = λ r. map (slot_at r) (above r) in
+        omega (
+          arith,
+          length-flat_map at (required_of u q),
+          sum_by-le-sum_by (λ r. length (at r)) (demand_of u q) (required_of u q) (λ r. omega (arith, length-map (above r) (slot_at r), length-range_with_len (demand_of u p r + 1) (demand_of u q r - demand_of u p r))),
+          demands_within u k q,
+        )
+
+    -- a move binds and unbinds at most what its two pairs demand
+    move_short : (z p q : ℕ) → length (slot_move u holder z p q) ≤ needs p + needs q + 1
+    move_short z p q =
+        let before = slot_binds holder z (slots_gained u p q) in
+        let after = slot_unbinds holder z (slots_gained u q p) in
+        omega (
+          arith,
+          length-append before (Move z p q ∷ after),
+          length-map (slots_gained u p q) (λ s. Bind s.0 z (holder s.0 s.1)),
+          length-map (slots_gained u q p) (λ s. Unbind s.0 z (holder s.0 s.1)),
+          gained_few p q,
+          gained_few q p,
+        )
+
+    line_short : (z : ℕ) (path : List ℕ) → length (slot_line u holder z path) ≤ sum_by (weight u) path
+    line_short z [] = omega arith
+    line_short z (p ∷ path) = omega (arith, along_short (slot_move u holder z) (slot_moves u holder z) (move_short z) (λ q. refl) (λ q r rest. refl) p path, sum_by-cons (weight u) p path)
 
   module _ (holder : ℕ → ℕ) where
-    -- a move binds and unbinds at most what its two pairs require
-    move_short : (z p q : ℕ) → length (move_actions u holder z p q) ≤ length (required_of u p) + length (required_of u q) + 1
-    move_short z p q =
+    -- the same where each port has one holder
+    held_move_short : (z p q : ℕ) → length (move_actions u holder z p q) ≤ needs p + needs q + 1
+    held_move_short z p q =
         let before = binds holder z (gained u p q) in
         let after = unbinds holder z (gained u q p) in
         omega (
@@ -36,23 +87,13 @@ module _ (u : Universe) where
           length-append before (Move z p q ∷ after),
           length-map (gained u p q) (λ r. Bind r z (holder r)),
           length-map (gained u q p) (λ r. Unbind r z (holder r)),
-          gained_few p q,
-          gained_few q p,
+          kept_fewer (λ r. not (requires u p r)) (required_of u q),
+          kept_fewer (λ r. not (requires u q r)) (required_of u p),
         )
 
-    moves_short : (z p : ℕ) (path : List ℕ) → length (moves_along u holder z p path) ≤ length (required_of u p) + sum_by (weight u) path
-    moves_short z p [] = omega arith
-    moves_short z p (q ∷ path) = omega (
-      arith,
-      length-append (move_actions u holder z p q) (moves_along u holder z q path),
-      move_short z p q,
-      moves_short z q path,
-      sum_by-cons (weight u) q path,
-    )
-
-    line_short : (z : ℕ) (path : List ℕ) → length (line_actions u holder z path) ≤ sum_by (weight u) path
-    line_short z [] = omega arith
-    line_short z (p ∷ path) = omega (arith, moves_short z p path, sum_by-cons (weight u) p path)
+    held_line_short : (z : ℕ) (path : List ℕ) → length (line_actions u holder z path) ≤ sum_by (weight u) path
+    held_line_short z [] = omega arith
+    held_line_short z (p ∷ path) = omega (arith, along_short (move_actions u holder z) (moves_along u holder z) (held_move_short z) (λ q. refl) (λ q r rest. refl) p path, sum_by-cons (weight u) p path)
 
   -- ---- what a path weighs
 
@@ -101,18 +142,28 @@ module _ (u : Universe) where
 
     -- ---- all lines
 
-    lines_short : (limits : IsWithinLimits u) (holder : ℕ → ℕ) (z : ℕ) (ends : List ℕ) → AllLayered u k ends → length (lines_from u holder z (map (path_to u) ends)) ≤ 320 * length ends
-    lines_short limits holder z [] all = omega arith
-    lines_short limits holder z (p ∷ ends) all =
+    -- lines along paths to pairs that have a layer are short where each is no longer than its path weighs
+    each_short : (limits : IsWithinLimits u) (line : ℕ → List ℕ → List Action) (lines : ℕ → List (List ℕ) → List Action) → ((z : ℕ) (path : List ℕ) → length (line z path) ≤ sum_by (weight u) path)
+        → ((z : ℕ) → lines z [] ≡ []) → ((z : ℕ) (path : List ℕ) (paths : List (List ℕ)) → lines z (path ∷ paths) ≡ line z path ++ lines (z + 1) paths)
+        → (z : ℕ) (ends : List ℕ) → AllLayered u ends → length (lines z (map (path_to u) ends)) ≤ 320 * length ends
+    each_short limits line lines short none next z [] all = omega (arith, ap length (none z))
+    each_short limits line lines short none next z (p ∷ ends) all =
         let paths = map (path_to u) ends in
         let at = all p (or_left (nat_eq p p) (has ends p) (eq-eqb p p refl)) in
         omega (
           arith,
-          length-append (line_actions u holder z (path_to u p)) (lines_from u holder (z + 1) paths),
-          line_short holder z (path_to u p),
+          ap length (next z (path_to u p) paths),
+          length-append (line z (path_to u p)) (lines (z + 1) paths),
+          short z (path_to u p),
           path_short limits p at.layer at.is,
-          lines_short limits holder (z + 1) ends (λ q h. all q (or_right (nat_eq p q) (has ends q) h)),
+          each_short limits line lines short none next (z + 1) ends (λ q h. all q (or_right (nat_eq p q) (has ends q) h)),
         )
+
+    slot_lines_short : (limits : IsWithinLimits u) (holder : ℕ → ℕ → ℕ) (z : ℕ) (ends : List ℕ) → AllLayered u ends → length (slot_lines u holder z (map (path_to u) ends)) ≤ 320 * length ends
+    slot_lines_short limits holder = each_short limits (slot_line u holder) (slot_lines u holder) (line_short k holder) (λ z. refl) (λ z path paths. refl)
+
+    pub lines_short : (limits : IsWithinLimits u) (holder : ℕ → ℕ) (z : ℕ) (ends : List ℕ) → AllLayered u ends → length (lines_from u holder z (map (path_to u) ends)) ≤ 320 * length ends
+    lines_short limits holder = each_short limits (line_actions u holder) (lines_from u holder) (held_line_short holder) (λ z. refl) (λ z path paths. refl)
 
 pub order_short : (u : Universe) (g : List ℕ) → IsTable u → ((p : ℕ) → has g p ≡ true → IsSome (layer_of u p)) → length (layer_order u g) ≤ 321 * instances_of (layer_order u g)
 order_short u g table all =
@@ -120,6 +171,6 @@ order_short u g table all =
     let ends = line_ends u g in
     omega (
       arith,
-      lines_short u k table.limits (holder_of u) 0 ends (ends_layered u k g (λ p h. layered_some u p (layer_of u p) refl (all p h))),
-      lines_make u (holder_of u) 0 ends,
+      slot_lines_short u k table.limits (slot_holder u) 0 ends (ends_layered u g (λ p h. layered_some u p (layer_of u p) refl (all p h))),
+      slot_lines_make u (slot_holder u) 0 ends,
     )

@@ -1,19 +1,20 @@
--- The list of actions that makes one instance for each pair that some port is taken from, in the order of the layers, and then one for each target.
+-- The list of actions that makes instances for each pair that some port is taken from, in the order of the layers, and then one for each target.
+-- Each such pair gets as many instances as the greatest demand of the universe, one after another: they are the slots of its ports.
 --     standing_pairs u      the pairs that are the first provider of some port, by layer and then by number
---     holder_of u r      the number of the instance that provides the port
+--     holder_of u r      the place among them of the port's first provider
+--     slot_holder u r k      the number of the instance that is slot k, from 1, of the port
 --     path_to u p      the pairs on the way to p along origins, from a free pair on
---     line_actions u holder z path      makes instance z and moves it along the path
+--     line_ends u g      what the instances end in
 --     layer_order u g      the whole list
 --     attained_pairs u      the pairs that have a layer
 --     instances_of actions      how many instances the actions make
 --     Deploys u g actions      a steadfast run from the empty configuration that holds the targets, with few instances
-use Rattle.std.specs.Prelude.{ℕ, zero, suc, ◌+◌, ◌==◌, ◌≤◌, Bool, false, not, List, [], ◌∷◌, ◌++◌, length, map, filter, IsTrue}
+use Rattle.std.specs.Prelude.{ℕ, zero, suc, ◌+◌, ◌-◌, ◌*◌, ◌==◌, ◌≤◌, Bool, false, List, [], ◌∷◌, ◌++◌, length, map, flat_map, filter, replicate, IsTrue}
 use Rattle.std.specs.List.{All, list_any, position_or_len, range_with_len}
 use Rattle.std.specs.Option.{option_map_or}
 use Rattle.metis_ids.specs.Action.{makes}
 use Rattle.metis_ids.specs.declared.actions.Action.{Action}
-use Rattle.metis_ids.specs.declared.actions.Action.TheVariants.{New, Bind, Unbind, Move}
-use Rattle.metis_universe.specs.Universe.{Universe, pair_count, port_count, type_of, required_of, requires}
+use Rattle.metis_universe.specs.Universe.{Universe, greatest_demand, pair_count, port_count}
 use Rattle.metis_universe.specs.Config.{empty}
 use Rattle.metis_universe.specs.Goal.{Holds}
 use Rattle.metis_universe.specs.Layers.{layer_set, layered}
@@ -21,6 +22,8 @@ use Rattle.metis_universe.specs.Selection.{provider_of, origin_of}
 use Rattle.metis_universe.specs.Numbers.{IsOf}
 use Rattle.metis_universe.specs.Steadfast.{is_steadfast}
 use Rattle.metis_universe.specs.Step.{IsRun, after_all}
+pub use Rattle.metis_layers.specs.Lines.{binds, gained, line_actions, lines_from, move_actions, moves_along, unbinds}
+use Rattle.metis_layers.specs.SlotLines.{slot_lines}
 
 -- whether the pair is the port's first provider
 abbrev pub is_provider : Universe → ℕ → ℕ → Bool
@@ -47,40 +50,15 @@ path_within u (suc n) p = option_map_or (path_within u n) (origin_of u p) [] ++ 
 abbrev pub path_to : Universe → ℕ → List ℕ
 path_to u p = path_within u (pair_count u) p
 
--- the ports that q requires and p does not, ascending
-abbrev pub gained : Universe → ℕ → ℕ → List ℕ
-gained u p q = filter (λ r. not (requires u p r)) (required_of u q)
+abbrev pub slot_holder : Universe → ℕ → ℕ → ℕ
+slot_holder u r k = greatest_demand u * holder_of u r + (k - 1)
 
--- the instance is bound to the holders of these ports, or no longer
-abbrev pub binds : (ℕ → ℕ) → ℕ → List ℕ → List Action
-binds holder z ports = map (λ r. Bind r z (holder r)) ports
-
-abbrev pub unbinds : (ℕ → ℕ) → ℕ → List ℕ → List Action
-unbinds holder z ports = map (λ r. Unbind r z (holder r)) ports
-
--- from p to q: what q requires besides is bound before the move, and what it no longer requires is unbound after it
-abbrev pub move_actions : Universe → (ℕ → ℕ) → ℕ → ℕ → ℕ → List Action
-move_actions u holder z p q = binds holder z (gained u p q) ++ (Move z p q ∷ unbinds holder z (gained u q p))
-
-abbrev pub moves_along : Universe → (ℕ → ℕ) → ℕ → ℕ → List ℕ → List Action
-moves_along u holder z p [] = []
-moves_along u holder z p (q ∷ path) = move_actions u holder z p q ++ moves_along u holder z q path
-
-abbrev pub line_actions : Universe → (ℕ → ℕ) → ℕ → List ℕ → List Action
-line_actions u holder z [] = []
-line_actions u holder z (p ∷ path) = New z (type_of u p) ∷ moves_along u holder z p path
-
--- the lines of instances from number z on
-abbrev pub lines_from : Universe → (ℕ → ℕ) → ℕ → List (List ℕ) → List Action
-lines_from u holder z [] = []
-lines_from u holder z (path ∷ paths) = line_actions u holder z path ++ lines_from u holder (z + 1) paths
-
--- what the instances end in
+-- each standing pair so often as it has instances, and the targets
 abbrev pub line_ends : Universe → List ℕ → List ℕ
-line_ends u g = standing_pairs u ++ g
+line_ends u g = flat_map (replicate (greatest_demand u)) (standing_pairs u) ++ g
 
 abbrev pub layer_order : Universe → List ℕ → List Action
-layer_order u g = lines_from u (holder_of u) 0 (map (path_to u) (line_ends u g))
+layer_order u g = slot_lines u (slot_holder u) 0 (map (path_to u) (line_ends u g))
 
 -- the pairs that have a layer, ascending
 abbrev pub attained_pairs : Universe → List ℕ
@@ -89,10 +67,10 @@ attained_pairs u = layer_set u (pair_count u)
 abbrev pub instances_of : List Action → ℕ
 instances_of actions = length (filter makes actions)
 
--- The actions are a run from the empty configuration in which each action is steadfast, and their numbers are the universe's. They hold the targets and make no more instances than there are attainable pairs and targets.
+-- The actions are a run from the empty configuration in which each action is steadfast, and their numbers are the universe's. They hold the targets and make no more instances than one for each target and, for each attainable pair, as many as the greatest demand.
 pub record Deploys (u : Universe) (g : List ℕ) (actions : List Action) : Type 0 where
   pub runs : IsRun u empty actions
   pub holds : Holds (after_all u empty actions) g
   pub steadfast : IsTrue (is_steadfast u actions)
   pub numbers : All (IsOf u) actions
-  pub few : instances_of actions ≤ length (attained_pairs u) + length g
+  pub few : instances_of actions ≤ length (attained_pairs u) * greatest_demand u + length g

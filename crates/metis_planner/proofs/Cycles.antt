@@ -14,7 +14,7 @@ use Rattle.metis_support.proofs.Lists.{any_at}
 use Rattle.metis_universe.specs.Universe.{Universe}
 use Rattle.metis_lines.specs.AbstractPlan.{AbstractPlan, station_at}
 use Rattle.metis_lines.specs.Events.{around, events, is_cycle, is_end, is_event, is_return_into_move, leaving, precedes, same_event}
-use Rattle.metis_lines.specs.Soundness.{IsSound, IsFormed}
+use Rattle.metis_lines.specs.Soundness.{IsFormed, Rises, StandsOnLower}
 use Rattle.metis_events.proofs.AllEvents.{all_events}
 use Rattle.metis_events.proofs.Numbered.{graph_of_plan}
 use Rattle.metis_events.proofs.Ranks.{cycle_returns, leaving_by}
@@ -104,7 +104,7 @@ module _ (u : Universe) (w : AbstractPlan) (formed : IsFormed u w) (h : HasCycle
   cycle_of_all_events = All-from_recursion (λ e. is_event w e ≡ true) (cycle_of_events w) (mapped_events w (cycle_of (numbered w)) all_low)
 
 -- no event precedes itself, so a round has at least two
-module _ (u : Universe) (level : ℕ → ℕ) (w : AbstractPlan) (sound : IsSound u level w) where
+module _ (u : Universe) (level : ℕ → ℕ) (w : AbstractPlan) (formed : IsFormed u w) (rises : Rises level w) (on_lower : StandsOnLower u level w) where
   same_steps : (l j m k : ℕ) → At l j ≡ At m k → (l ≡ m) × (j ≡ k)
   same_steps l j m k h = (cc, cc)
 
@@ -115,13 +115,13 @@ module _ (u : Universe) (level : ℕ → ℕ) (w : AbstractPlan) (sound : IsSoun
       let step = leaving_by w s.supply.line s.supply.station (ap is_end same) in
       let both = same_steps s.supply.line (s.supply.station + 1) s.supply.holder (s.supply.place + 1) (sym step ∙ same) in
       let station : s.supply.station ≡ s.supply.place = let next = both.1 in omega arith in
-      let lower = sound.lower.lower s.supply s.listed in
+      let lower = on_lower.lower s.supply s.listed in
       let one : level (station_at w s.supply.line s.supply.station) ≡ level (station_at w s.supply.holder s.supply.place) = (λ i. level (station_at w (both.0 i) (station i))) in
       omega arith
 
   pub round_of_two : (es : List Event) → is_cycle w es ≡ true → 2 ≤ length es
   round_of_two [] h = absurd (false≢true h)
   round_of_two (e ∷ []) h =
-      let back = cycle_returns u level w sound.formed sound.rises sound.lower (e ∷ []) h in
+      let back = cycle_returns u level w formed rises on_lower (e ∷ []) h in
       elim (or_cases (is_return_into_move w e e) false back) [ inl itself ↦ absurd (not_itself e itself) | inr none ↦ absurd (false≢true none) ]
   round_of_two (e ∷ f ∷ es) h = omega arith

@@ -11,6 +11,8 @@ use Rattle.metis_ids.specs.declared.events.Event.{Event}
 use Rattle.metis_ids.specs.declared.events.Event.TheVariants.{At, End}
 use Rattle.metis_universe.proofs.PortRows.{few_below}
 use Rattle.metis_universe.specs.Layers.{layer_of}
+use Rattle.metis_universe.specs.Selection.{provider_pairs as provider_pairs_in}
+use Rattle.metis_universe.specs.Single.{IsSingle}
 use Rattle.metis_universe.specs.Universe.{Universe, IsTable, has, pair_count}
 use Rattle.metis_support.proofs.Kept.{kept}
 use Rattle.metis_support.proofs.Lists.{has-append_cases, has_at, has_one}
@@ -18,12 +20,12 @@ use Rattle.metis_support.proofs.Selections.{is_support, same_provider_pairs, tar
 use Rattle.metis_support.specs.Support.{Support, IsKept, IsSupport, is_selected, layer_number, path_to, provider_pairs, support_of}
 use Rattle.metis_lines.proofs.Few.{apart_first, few, still_apart}
 use Rattle.metis_lines.proofs.Holders.{chosen_end, count}
-use Rattle.metis_lines.proofs.Instances.{graph_sound}
+use Rattle.metis_lines.proofs.Instances.{graph_formed, graph_rises, graph_sound, graph_stands}
 use Rattle.metis_lines.specs.AbstractPlan.{AbstractPlan, line_count, stations}
 use Rattle.metis_lines.specs.Events.{is_cycle, is_event, step_count}
 use Rattle.metis_lines.specs.Justified.{graph_for, is_justified, is_justified_at, is_justified_by, leads_on, lines_for, own_pairs}
 use Rattle.metis_lines.specs.LifeLines.{AreApart, AreLines, line_ends, other_ends}
-use Rattle.metis_lines.specs.Soundness.{IsSound}
+use Rattle.metis_lines.specs.Soundness.{IsFormed, IsSound}
 use Rattle.metis_planner.proofs.Around.{all_by_place}
 use Rattle.metis_planner.proofs.Cycles.{cycle_is_round, cycle_of_all_events, round_of_two}
 use Rattle.metis_planner.proofs.Leads.{IsDoubled, doubled, provider_is_chosen}
@@ -53,8 +55,14 @@ module _ (u : Universe) (table : IsTable u) (g : List ℕ) (layered : (p : ℕ) 
   pub selected_own : (d : List ℕ) → AreProviders d → (p : ℕ) → has d p ≡ true → is_selected s p ≡ true
   selected_own d own p h = provider_is_chosen s p (own p h)
 
-  pub sound_for : (d : List ℕ) → AreProviders d → IsSound u (layer_number u) (graph_for u g d)
-  sound_for d own = graph_sound u g d table.universe layered (λ p h. ap (λ ps. has ps p) (sym (same_provider_pairs u table.universe g layered)) ∙ own p h)
+  own_provider : (d : List ℕ) → AreProviders d → (p : ℕ) → has d p ≡ true → has (provider_pairs_in u g) p ≡ true
+  own_provider d own p h = ap (λ ps. has ps p) (sym (same_provider_pairs u table.universe g layered)) ∙ own p h
+
+  pub formed_for : (d : List ℕ) → AreProviders d → IsFormed u (graph_for u g d)
+  formed_for d own = graph_formed u g d table.universe layered (own_provider d own)
+
+  pub sound_for : IsSingle u → (d : List ℕ) → AreProviders d → IsSound u (layer_number u) (graph_for u g d)
+  sound_for single d own = graph_sound u g d table.universe layered (own_provider d own) single
 
   pub lines_for_own : (d : List ℕ) → AreProviders d → AreLines s (lines_for u g d)
   lines_for_own d own = record { are = refl; targets = targets; own = own }
@@ -133,15 +141,15 @@ module _ (u : Universe) (table : IsTable u) (g : List ℕ) (layered : (p : ℕ) 
     round_at : (k : ℕ) (d : Dup) → slice_get ds k ≡ Some d → is_cycle (graph_after u g (take k ds)) d.cycle ≡ true
     round_at k d is =
         let f = forced k d is in
-        let sound = sound_for (pairs_before k) (providers_before k (let low = get_low ds k d is in omega arith)) in
-        ap (is_cycle (graph_after u g (take k ds))) f.cycle ∙ cycle_is_round u (graph_after u g (take k ds)) sound.formed f.stuck
+        let formed = formed_for (pairs_before k) (providers_before k (let low = get_low ds k d is in omega arith)) in
+        ap (is_cycle (graph_after u g (take k ds))) f.cycle ∙ cycle_is_round u (graph_after u g (take k ds)) formed f.stuck
 
     events_at : (k : ℕ) (d : Dup) → slice_get ds k ≡ Some d → All (λ e. is_event (graph_after u g (take k ds)) e ≡ true) d.cycle
     events_at k d is =
         let f = forced k d is in
         let w = graph_after u g (take k ds) in
-        let sound = sound_for (pairs_before k) (providers_before k (let low = get_low ds k d is in omega arith)) in
-        subst (λ es. All (λ e. is_event w e ≡ true) es) (sym f.cycle) (cycle_of_all_events u w sound.formed f.stuck)
+        let formed = formed_for (pairs_before k) (providers_before k (let low = get_low ds k d is in omega arith)) in
+        subst (λ es. All (λ e. is_event w e ≡ true) es) (sym f.cycle) (cycle_of_all_events u w formed f.stuck)
 
     justified_at : (k : ℕ) (d : Dup) → slice_get ds k ≡ Some d → is_justified_by u g (pairs_before k) d.pair d.cycle ≡ true
     justified_at k d is =
@@ -170,7 +178,9 @@ module _ (u : Universe) (table : IsTable u) (g : List ℕ) (layered : (p : ℕ) 
 
     pub cycles_of_two : All (λ d. 2 ≤ length d.cycle) ds
     cycles_of_two = each (λ d. 2 ≤ length d.cycle) (λ k d is.
-        round_of_two u (layer_number u) (graph_after u g (take k ds)) (sound_for (pairs_before k) (providers_before k (let low = get_low ds k d is in omega arith))) d.cycle (round_at k d is))
+        let own = own_provider (pairs_before k) (providers_before k (let low = get_low ds k d is in omega arith)) in
+        round_of_two u (layer_number u) (graph_after u g (take k ds)) (graph_formed u g (pairs_before k) table.universe layered own) (graph_rises u g (pairs_before k) table.universe layered own)
+        (graph_stands u g (pairs_before k) table.universe layered own) d.cycle (round_at k d is))
 
     pub events_low : length g ≤ 256 → All (λ d. All (EventBelow (2 ^ 32)) d.cycle) ds
     events_low small = each (λ d. All (EventBelow (2 ^ 32)) d.cycle) (λ k d is i e low.

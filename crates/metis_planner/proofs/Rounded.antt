@@ -13,6 +13,7 @@ use Rattle.metis_universe.specs.Goal.{Holds}
 use Rattle.metis_universe.specs.Layers.{is_enabled, layer_of, layer_set}
 use Rattle.metis_universe.specs.Numbers.{NamesBelow}
 use Rattle.metis_universe.specs.Selection.{is_needed, provider_pairs, selected, selected_within}
+use Rattle.metis_universe.specs.Single.{IsSingle}
 use Rattle.metis_universe.specs.Step.{after_all}
 use Rattle.metis_universe.specs.Tidy.{IsTidy}
 use Rattle.metis_universe.specs.Universe.{Universe, IsTable, all_pairs, has, is_free, pair_count}
@@ -23,7 +24,7 @@ use Rattle.metis_support.specs.Support.{layer_number}
 use Rattle.metis_lines.specs.AbstractPlan.{AbstractPlan, line_count}
 use Rattle.metis_lines.specs.Events.{IsOrder}
 use Rattle.metis_lines.specs.Justified.{own_pairs}
-use Rattle.metis_lines.specs.Soundness.{IsSound}
+use Rattle.metis_lines.specs.Soundness.{IsFormed}
 use Rattle.metis_events.proofs.Numbered.{graph_of_plan}
 use Rattle.metis_events.specs.Numbered.{IsGraphOf}
 use Rattle.metis_emit.proofs.Joined.{joined, joined_tidy}
@@ -32,7 +33,7 @@ use Rattle.metis_emit.proofs.Numbered.{least_numbers}
 use Rattle.metis_emit.proofs.Short.{short}
 use Rattle.metis_emit.specs.Emission.{emission}
 use Rattle.metis_emit.specs.Realized.{IsLeastOrder, Realizes}
-use Rattle.metis_planner.proofs.Forced.{dups_few, lines_bounded, lines_few, providers, sound_for, support}
+use Rattle.metis_planner.proofs.Forced.{dups_few, formed_for, lines_bounded, lines_few, providers, sound_for, support}
 use Rattle.metis_planner.proofs.Named.{below, emission_below}
 use Rattle.metis_planner.proofs.Planning.{has_layer}
 use Rattle.metis_planner.specs.Outcomes.{IsLean}
@@ -70,11 +71,11 @@ module _ (u : Universe) (table : IsTable u) (g : List ℕ) (layered : (p : ℕ) 
     abbrev actions_now : List Action
     actions_now = emission u w (ordered_events w)
 
-    sound : IsSound u (layer_number u) w
-    sound = sound_for u table g layered (own_pairs p.dups) (providers u table g layered p.dups by.forced)
+    formed : IsFormed u w
+    formed = formed_for u table g layered (own_pairs p.dups) (providers u table g layered p.dups by.forced)
 
     of : IsGraphOf w (numbered w)
-    of = graph_of_plan u w sound.formed
+    of = graph_of_plan u w formed
 
     least : IsLeastOrder w (ordered_events w)
     least =
@@ -87,21 +88,6 @@ module _ (u : Universe) (table : IsTable u) (g : List ℕ) (layered : (p : ℕ) 
     own : (q : ℕ) → has (own_pairs p.dups) q ≡ true → has (provider_pairs u g) q ≡ true
     own q there = ap (λ ps. has ps q) (sym (same_provider_pairs u table.universe g layered)) ∙ providers u table g layered p.dups by.forced q there
 
-    realized : Realizes u w actions_now × Holds (after_all u empty actions_now) g
-    realized = joined u g (own_pairs p.dups) (ordered_events w) table.universe layered own order
-
-    pub realizes : Realizes u w p.actions
-    realizes = subst (Realizes u w) (sym by.actions) realized.0
-
-    pub holds : Holds (after_all u empty p.actions) g
-    holds = subst (λ l. Holds (after_all u empty l) g) (sym by.actions) realized.1
-
-    pub tidy : IsTidy u g (after_all u empty p.actions)
-    tidy = subst (λ l. IsTidy u g (after_all u empty l)) (sym by.actions) (joined_tidy u g (own_pairs p.dups) (ordered_events w) table.universe layered own order (least_is_late u w (ordered_events w) least))
-
-    pub instances_counted : p.instances ≡ instances_of p.actions
-    instances_counted = by.instances ∙ sym realizes.instances
-
     pub lean : IsLean u p.instances g
     lean =
         let count = by.instances in
@@ -112,13 +98,31 @@ module _ (u : Universe) (table : IsTable u) (g : List ℕ) (layered : (p : ℕ) 
     pub bounded : length g ≤ 256 → p.instances ≤ 2256
     bounded small = omega (arith, by.instances, lines_bounded u table g layered p.dups by.forced small)
 
-    pub short_enough : length p.actions ≤ 321 * p.instances
-    short_enough = omega (arith, short u (layer_number u) w (ordered_events w) table sound order, ap length by.actions, by.instances)
-
     pub dups_at_most : length p.dups ≤ p.instances
     dups_at_most = omega (arith, dups_few u table g layered p.dups by.forced, by.instances)
 
     pub named : length g ≤ 256 → All (NamesBelow (2 ^ 32)) p.actions
     named small =
         let few = lines_bounded u table g layered p.dups by.forced small in
-        subst (All (NamesBelow (2 ^ 32))) (sym by.actions) (below (line_count w) (omega arith) actions_now (emission_below u w sound.formed (ordered_events w) order))
+        subst (All (NamesBelow (2 ^ 32))) (sym by.actions) (below (line_count w) (omega arith) actions_now (emission_below u w formed (ordered_events w) order))
+
+    -- ---- what the actions come to, where each port is required of one provider
+
+    module _ (single : IsSingle u) where
+      realized : Realizes u w actions_now × Holds (after_all u empty actions_now) g
+      realized = joined u g (own_pairs p.dups) (ordered_events w) table.universe single layered own order
+
+      pub realizes : Realizes u w p.actions
+      realizes = subst (Realizes u w) (sym by.actions) realized.0
+
+      pub holds : Holds (after_all u empty p.actions) g
+      holds = subst (λ l. Holds (after_all u empty l) g) (sym by.actions) realized.1
+
+      pub tidy : IsTidy u g (after_all u empty p.actions)
+      tidy = subst (λ l. IsTidy u g (after_all u empty l)) (sym by.actions) (joined_tidy u g (own_pairs p.dups) (ordered_events w) table.universe single layered own order (least_is_late u w (ordered_events w) least))
+
+      pub instances_counted : p.instances ≡ instances_of p.actions
+      instances_counted = by.instances ∙ sym realizes.instances
+
+      pub short_enough : length p.actions ≤ 321 * p.instances
+      short_enough = omega (arith, short u (layer_number u) w (ordered_events w) table (sound_for u table g layered single (own_pairs p.dups) (providers u table g layered p.dups by.forced)) order, ap length by.actions, by.instances)

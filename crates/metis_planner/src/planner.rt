@@ -6,6 +6,7 @@ ghost use Rattle.metis_universe.specs.Config.{empty};
 ghost use Rattle.metis_universe.specs.Goal.{Attains, Holds, IsAttainedSet};
 ghost use Rattle.metis_universe.specs.Layers.{layer_of};
 ghost use Rattle.metis_universe.specs.Numbers.{IsOf, NamesBelow};
+ghost use Rattle.metis_universe.specs.Single.{IsSingle};
 ghost use Rattle.metis_universe.specs.Steadfast.{is_steadfast};
 ghost use Rattle.metis_universe.specs.Step.{IsRun, after_all};
 ghost use Rattle.metis_universe.specs.Tidy.{IsTidy};
@@ -33,6 +34,8 @@ use std::alloc::Global;
 /// A plan for the targets, at most 256, where some list of actions attains them; else the set of all attainable pairs,
 /// with the first target that is not in it.
 pub fn plan(alloc: Global, u: &Universe, targets: &[PairIx]) -> Result<Outcome, NoMemory>
+    // Plans with several providers of a port come later.
+    requires single { IsSingle u.now }
     requires few { length targets.now ≤ 256 }
     requires within { All (λ p. p < pair_count u.now) targets.now }
 

@@ -2,7 +2,7 @@ use Rattle.std.proofs.Common.{◌≡◌, ◌∙◌, ◌<◌, true, List, ℕ, ap
 use Rattle.std.specs.List.{All}
 use Rattle.metis_ids.specs.Cycle.{HasCycle, cycle_of}
 use Rattle.metis_ids.specs.declared.events.Event.{Event}
-use Rattle.metis_emit.proofs.OfLines.{lines_sound}
+use Rattle.metis_emit.proofs.OfLines.{lines_formed}
 use Rattle.metis_events.specs.Edges.{EventGraph, event_at, graph_of}
 use Rattle.metis_events.specs.Numbered.{dag_of, nth_event}
 use Rattle.metis_lines.specs.Events.{is_cycle, is_event}
@@ -15,7 +15,7 @@ pub events_of-requires : goal.events_of-requires
 events_of-requires c =
     let u = c.args.u.now in
     let w = plan_of u c.args.s.now c.args.lines.now in
-    let formed = (lines_sound u c.keeps_invariant.ensures.universe c.args.s.now c.requires.support c.args.lines.now c.requires.lines).formed in
+    let formed = lines_formed u c.keeps_invariant.ensures.universe c.args.s.now c.requires.support c.args.lines.now c.requires.lines in
     let stuck : HasCycle (numbered w) = subst (λ (e : EventGraph). HasCycle (dag_of e)) c.requires.graph c.requires.stuck in
     let is : c.args.nodes.now ≡ cycle_of (numbered w) = c.requires.cycle ∙ ap (λ (e : EventGraph). cycle_of (dag_of e)) c.requires.graph in
     let low = nodes_low u w formed stuck in
@@ -25,7 +25,7 @@ pub doubled_by-pair-requires-clause-events : goal.doubled_by-pair-requires-claus
 doubled_by-pair-requires-clause-events c =
     let u = c.args.u.now in
     let w = plan_of u c.args.s.now c.args.lines.now in
-    let formed = (lines_sound u c.keeps_invariant.ensures.universe c.args.s.now c.requires.support c.args.lines.now c.requires.lines).formed in
+    let formed = lines_formed u c.keeps_invariant.ensures.universe c.args.s.now c.requires.support c.args.lines.now c.requires.lines in
     let stuck : HasCycle (numbered w) = subst (λ (e : EventGraph). HasCycle (dag_of e)) c.requires.graph c.requires.stuck in
     let es : c.deref.result.now ≡ cycle_of_events w =
     c.deref.ensures.value ∙ c.in_ok-cycle.ensures ∙ ap (λ (e : EventGraph). map (event_at e) c.args.nodes.now) c.requires.graph ∙ ap (map (nth_event w)) (c.requires.cycle ∙ ap (λ (e : EventGraph). cycle_of (dag_of e)) c.requires.graph) in
@@ -35,7 +35,7 @@ pub doubled_by-pair-requires-clause-cycle : goal.doubled_by-pair-requires-clause
 doubled_by-pair-requires-clause-cycle c =
     let u = c.args.u.now in
     let w = plan_of u c.args.s.now c.args.lines.now in
-    let formed = (lines_sound u c.keeps_invariant.ensures.universe c.args.s.now c.requires.support c.args.lines.now c.requires.lines).formed in
+    let formed = lines_formed u c.keeps_invariant.ensures.universe c.args.s.now c.requires.support c.args.lines.now c.requires.lines in
     let stuck : HasCycle (numbered w) = subst (λ (e : EventGraph). HasCycle (dag_of e)) c.requires.graph c.requires.stuck in
     let es : c.deref.result.now ≡ cycle_of_events w =
     c.deref.ensures.value ∙ c.in_ok-cycle.ensures ∙ ap (λ (e : EventGraph). map (event_at e) c.args.nodes.now) c.requires.graph ∙ ap (map (nth_event w)) (c.requires.cycle ∙ ap (λ (e : EventGraph). cycle_of (dag_of e)) c.requires.graph) in
