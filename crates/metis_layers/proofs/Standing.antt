@@ -1,5 +1,5 @@
 -- The pairs by layer: in their order each provider stands before the pairs that require its port.
-use Rattle.std.proofs.Common.{◌≡◌, ℕ, zero, suc, ◌+◌, ◌-◌, ◌*◌, ◌<◌, ◌≤◌, Bool, true, false, cond, ◌||◌, List, [], ◌∷◌, ◌++◌, length, map, Some, refl, sym, ap, ◌∙◌, subst, arith, nat_eq, inl, inr, append_assoc, append-nil, length-append}
+use Rattle.std.proofs.Common.{◌≡◌, ℕ, zero, suc, ◌+◌, ◌-◌, ◌*◌, ◌<◌, ◌≤◌, Bool, true, false, cond, ◌||◌, List, [], ◌∷◌, ◌++◌, length, map, Some, refl, sym, ap, ◌∙◌, subst, arith, nat_eq, inl, inr, append_assoc, append-nil}
 use Rattle.std.proofs.Math.Nat.{mul-le-mul_left, mul-suc}
 use Rattle.std.proofs.lemmas.Bool.{eqb-true, eq-eqb, cases_lt, false≢true, leb-true, and_parts, and_from, or_cases, or_left, or_right}
 use Rattle.std.proofs.lemmas.List.Folds.{list_any-append}
@@ -16,7 +16,7 @@ use Rattle.metis_layers.proofs.LayerFacts.{among_layer, in_layer, layer_below, l
 use Rattle.metis_layers.proofs.SlotLines.{AreWays}
 use Rattle.metis_layers.proofs.SlotLists.{wants_required}
 use Rattle.metis_layers.proofs.Slots.{IsFilled}
-use Rattle.metis_layers.proofs.Ways.{FilledUpTo, all_has, ways_on, within}
+use Rattle.metis_layers.proofs.Ways.{FilledUpTo, all_has, layered_pair, ways_on}
 use Rattle.metis_layers.specs.LayerOrder.{holder_of, is_provider, is_standing, line_ends, path_to, place_of, slot_holder, standing_pairs}
 
 -- ---- lists
@@ -175,7 +175,7 @@ module _ (u : Universe) where
 
 module _ (u : Universe) (k : IsUniverse u) where
   required_port : (p l r : ℕ) → layer_of u p ≡ Some l → requires u p r ≡ true → r < port_count u
-  required_port p l r is required = all_has (λ s. s < port_count u) (required_of u p) r (k.required p (within u k (holder_of u) p l is)).1 required
+  required_port p l r is required = all_has (λ s. s < port_count u) (required_of u p) r (k.required p (layered_pair u p l is)).1 required
 
   free_requires : (p r : ℕ) → layer_of u p ≡ Some 0 → requires u p r ≡ true → ⊥
   free_requires p r is required = nothing (required_of u p) (and_parts (is_initial u p) (is_empty (required_of u p)) (layer_free u p is)).1 required where
@@ -225,8 +225,8 @@ module _ (u : Universe) (k : IsUniverse u) where
       → AreWays u (slot_holder u) (slot_of u) (copies (greatest_demand u) done) (map (path_to u) (copies (greatest_demand u) rest ++ g))
   ways_from [] done g whole all =
       subst (λ l. AreWays u (slot_holder u) (slot_of u) (copies (greatest_demand u) done) (map (path_to u) l)) (append-nil g)
-          (ways_on u k (slot_holder u) (slot_of u) g [] (copies (greatest_demand u) done) (pair_count u) (filled_below done [] (pair_count u) whole (λ q j none. absurd (false≢true none)))
-          (λ p h. let at = all p h in record { layer = at.layer; is = at.is; low = omega (arith, layer_below u p at.layer at.is) }) tt)
+      (ways_on u k (slot_holder u) (slot_of u) g [] (copies (greatest_demand u) done) (pair_count u) (filled_below done [] (pair_count u) whole (λ q j none. absurd (false≢true none)))
+      (λ p h. let at = all p h in record { layer = at.layer; is = at.is; low = omega (arith, layer_below u p at.layer at.is) }) tt)
   ways_from (p ∷ rest) done g whole all =
       let n = greatest_demand u in
       let at = standing_layer u p (ap (λ xs. has xs p) whole ∙ has-append done (p ∷ rest) p ∙ or_right (has done p) (has (p ∷ rest) p) (or_left (nat_eq p p) (has rest p) (eq-eqb p p refl))) in
@@ -237,9 +237,9 @@ module _ (u : Universe) (k : IsUniverse u) where
       ] in
       let rest_ways = ways_from rest (done ++ p ∷ []) g (whole ∙ sym (append_assoc done (p ∷ []) rest)) all in
       subst (λ l. AreWays u (slot_holder u) (slot_of u) (copies n done) (map (path_to u) l)) (sym (append_assoc (replicate n p) (copies n rest) g))
-          (ways_on u k (slot_holder u) (slot_of u) (replicate n p) (copies n rest ++ g) (copies n done) at.layer (filled_below done (p ∷ rest) at.layer whole high)
-          (λ q h. record { layer = at.layer; is = ap (layer_of u) (sym (has-replicate n p q h)) ∙ at.is; low = omega arith })
-          (subst (λ l. AreWays u (slot_holder u) (slot_of u) l (map (path_to u) (copies n rest ++ g))) (copies-push n done p) rest_ways))
+      (ways_on u k (slot_holder u) (slot_of u) (replicate n p) (copies n rest ++ g) (copies n done) at.layer (filled_below done (p ∷ rest) at.layer whole high)
+      (λ q h. record { layer = at.layer; is = ap (layer_of u) (sym (has-replicate n p q h)) ∙ at.is; low = omega arith })
+      (subst (λ l. AreWays u (slot_holder u) (slot_of u) l (map (path_to u) (copies n rest ++ g))) (copies-push n done p) rest_ways))
 
   pub order_ways : (g : List ℕ) → AllLayered u g → AreWays u (slot_holder u) (slot_of u) [] (map (path_to u) (line_ends u g))
   order_ways g all = ways_from (standing_pairs u) [] g refl all
