@@ -5,9 +5,10 @@ use Rattle.std.specs.Option.{option_map_or, option_or, option_and_then}
 use Rattle.std.proofs.lemmas.Bool.{false≢true, true≢false, both_ways, and_parts, and_from, or_right, or_cases, eq-eqb, eqb-true, ne_eqb, not-false}
 use Rattle.metis_ids.specs.declared.actions.Action.{Action}
 use Rattle.metis_ids.specs.declared.actions.Action.TheVariants.{New, Delete, Bind, Unbind, Move}
-use Rattle.metis_universe.specs.Universe.{Universe, IsUniverse, type_of, type_requires, type_provides, initial_of, pair_count, port_count}
+use Rattle.metis_universe.specs.Universe.{Universe, IsUniverse, demand_of, type_of, type_requires, type_provides, initial_of, pair_count, port_count}
 use Rattle.metis_universe.specs.Config.{Config, Binding, pair_of, is_bound, is_tie, names, put, remove, tie, untie, IsConfig, Correct}
 use Rattle.metis_universe.specs.Step.{Allows, CanBind, Step, after}
+use Rattle.metis_universe.proofs.Demands.{IsMet-map}
 use Rattle.metis_universe.proofs.Edits.{pair_of-put, pair_of-remove, is_bound-tie, is_bound-untie, is_bound-remove, tie_is}
 use Rattle.metis_universe.proofs.Kept.{IsConfig-after}
 use Rattle.metis_config.specs.Over.{IsOver}
@@ -55,8 +56,7 @@ some_there (Some x) h = refl
 
 pub Correct-tie : (u : Universe) (c : Config) (r z y : ℕ) → Correct u c → Correct u (tie c r z y)
 Correct-tie u c r z y correct w p s there needs =
-    let m = correct w p s there needs in
-    record { provider = m.provider; pair = m.pair; bound = is_bound-tie c r z y s w m.provider ∙ or_right _ _ m.bound; there = m.there; gives = m.gives }
+    IsMet-map u c (tie c r z y) w s (demand_of u p s) (λ v x. record { pair = x.pair; bound = is_bound-tie c r z y s w v ∙ or_right _ _ x.bound; there = x.there; gives = x.gives }) (correct w p s there needs)
 
 -- ---- no fault
 

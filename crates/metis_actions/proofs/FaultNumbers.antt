@@ -8,7 +8,7 @@ use Rattle.std.proofs.lemmas.List.{get_or_past}
 use Rattle.std.proofs.lemmas.List.Elements.{All-tail}
 use Rattle.metis_ids.specs.declared.actions.Action.{Action}
 use Rattle.metis_ids.specs.declared.actions.Action.TheVariants.{New, Delete, Bind, Unbind, Move}
-use Rattle.metis_universe.specs.Universe.{Universe, Pair, IsUniverse, has, next_of, no_pair, pair_count, port_count, required_of}
+use Rattle.metis_universe.specs.Universe.{Universe, demand_of, Pair, IsUniverse, has, next_of, no_pair, pair_count, port_count, required_of}
 use Rattle.metis_universe.specs.Config.{Config, is_bound, is_met, pair_of}
 use Rattle.metis_universe.specs.Step.{after}
 use Rattle.metis_config.specs.Over.{IsOver}
@@ -50,7 +50,7 @@ module _ (u : Universe) (k : IsUniverse u) where
   unmet_low c [] = tt
   unmet_low c (e ∷ es) =
       if_first (λ (x : ℕ × ℕ). x.1 < port_count u) _ _
-      (of_instance e.0 (unmet_port u c e.0 (required_of u e.1)) (if_found (λ r. r < port_count u) (λ r. not (is_met u c e.0 r)) (required_of u e.1) (required_low e.1)))
+      (of_instance e.0 (unmet_port u c e.0 e.1) (if_found (λ r. r < port_count u) (λ r. not (is_met u c e.0 r (demand_of u e.1 r))) (required_of u e.1) (required_low e.1)))
       (unmet_low c es)
 
   as_fault : (found : Option (ℕ × ℕ)) → IfSome found (λ (x : ℕ × ℕ). x.1 < port_count u) → IfSome (option_map (λ x. Unmet x.0 x.1) found) (IsFaultOf u)

@@ -5,14 +5,13 @@ use Rattle.std.specs.Option.{option_map_or, option_or, option_and_then}
 use Rattle.std.proofs.lemmas.Bool.{false≢true, true≢false, both_ways, and_parts, and_from, eq-eqb, eqb-true, ne_eqb, not-false, not-true, not_from_false, false_from_ne_true}
 use Rattle.metis_ids.specs.declared.actions.Action.{Action}
 use Rattle.metis_ids.specs.declared.actions.Action.TheVariants.{New, Delete, Bind, Unbind, Move}
-use Rattle.metis_universe.specs.Universe.{Universe, IsUniverse, has, initial_of, next_of, requires, type_of, type_requires, type_provides}
+use Rattle.metis_universe.specs.Universe.{Universe, IsUniverse, demand_of, has, initial_of, next_of, requires, type_of, type_requires, type_provides}
 use Rattle.metis_universe.specs.Config.{Config, pair_of, is_bound, is_met, IsConfig, Correct}
 use Rattle.metis_universe.specs.Numbers.{IsOf}
 use Rattle.metis_universe.specs.Step.{Allows, after}
-use Rattle.metis_universe.proofs.Correctness.{some_provides}
+use Rattle.metis_universe.proofs.Demands.{is_met-true, met, some_provides}
 use Rattle.metis_universe.proofs.Kept.{IsConfig-put, IsConfig-remove, IsConfig-untie}
 use Rattle.metis_config.specs.Unmet.{is_required, is_unmet, unmet, IsLeast}
-use Rattle.metis_config.proofs.Changes.{met, is_met-true}
 use Rattle.metis_config.proofs.Leasts.{unmet_least, unmet_is}
 use Rattle.metis_actions.specs.declared.faults.AFault.{AFault}
 use Rattle.metis_actions.specs.declared.faults.AFault.TheVariants.{InUse, NoInstance, NoState, NoTransition, SameInstance, NoSuchPort, Bound, NotBound, Unmet}
@@ -62,21 +61,25 @@ module _ (u : Universe) (d : Config) where
   Lacks-from_test z r h =
       let parts = and_parts (is_required u d z r) _ h in
       let there = some_provides (λ p. requires u p r) (pair_of d z) parts.0 in
-      record { pair = there.0; there = there.1; needs = there.2; unmet = λ m. false≢true (sym (ap not (is_met-true u d z r m)) ∙ parts.1) }
+      let n = demand_of u there.0 r in
+      let fails : not (is_met u d z r n) ≡ true = sym (ap (λ o. not (is_met u d z r (option_map_or (λ p. demand_of u p r) o 0))) there.1) ∙ parts.1 in
+      record { pair = there.0; there = there.1; needs = there.2; unmet = λ m. false≢true (sym (ap not (is_met-true u d z r n m)) ∙ fails) }
 
-  test-from_Lacks : (z r : ℕ) → Lacks u d z r → is_unmet u d z r ≡ true
-  test-from_Lacks z r l =
-      and_from _ _ (ap (λ o. option_map_or (λ p. requires u p r) o false) l.there ∙ l.needs) (ap not (false_from_ne_true (is_met u d z r) (λ e. l.unmet (met u d z r e))))
+  test-from_Lacks : IsConfig d → (z r : ℕ) → Lacks u d z r → is_unmet u d z r ≡ true
+  test-from_Lacks h z r l =
+      let n = demand_of u l.pair r in
+      and_from _ _ (ap (λ o. option_map_or (λ p. requires u p r) o false) l.there ∙ l.needs)
+      (ap (λ o. not (is_met u d z r (option_map_or (λ p. demand_of u p r) o 0))) l.there ∙ ap not (false_from_ne_true (is_met u d z r n) (λ e. l.unmet (met u d h z r n e))))
 
   module _ (k : IsUniverse u) (h : IsConfig d) where
     first_lack : (x : ℕ × ℕ) → unmet u d ≡ Some x → IsFirstLack u d x.0 x.1
     first_lack x is =
         let least : IsLeast (is_unmet u d) (Some x) = subst (IsLeast (is_unmet u d)) is (unmet_least u d k h) in
-        record { lacks = Lacks-from_test x.0 x.1 least.0; first = λ z s l. least.1 z s (test-from_Lacks z s l) }
+        record { lacks = Lacks-from_test x.0 x.1 least.0; first = λ z s l. least.1 z s (test-from_Lacks h z s l) }
 
     lack_told : (w r : ℕ) → IsFirstLack u d w r → option_map (λ x. Unmet x.0 x.1) (unmet u d) ≡ Some (Unmet w r)
     lack_told w r l =
-        ap (option_map (λ x. Unmet x.0 x.1)) (sym (unmet_is u d k h (Some (w, r)) (test-from_Lacks w r l.lacks, λ z s un. l.first z s (Lacks-from_test z s un))))
+        ap (option_map (λ x. Unmet x.0 x.1)) (sym (unmet_is u d k h (Some (w, r)) (test-from_Lacks h w r l.lacks, λ z s un. l.first z s (Lacks-from_test z s un))))
 
     if_unmet : (P : AFault → Type 0) → ((w r : ℕ) → IsFirstLack u d w r → P (Unmet w r)) → IfSome (option_map (λ x. Unmet x.0 x.1) (unmet u d)) P
     if_unmet P each = told (unmet u d) refl where

@@ -1,11 +1,11 @@
 -- When each reason why an action is refused comes: where its condition holds, and none of those before it does.
---     Lacks u d z r      the instance z is there, its pair requires the port r, and no binding meets it
+--     Lacks u d z r      the instance z is there, its pair requires the port r, and it has fewer different providers than the pair demands
 --     IsFirstLack u d w r      w is the first instance that lacks a port, and r the first port that it lacks
 --     IsFirstReason u c a f      f is the first reason why a is refused in c
 use Rattle.std.specs.Prelude.{◌≡◌, ◌≢◌, ◌⊎◌, ℕ, Some, None, IsSome, IsTrue, IsFalse}
 use Rattle.metis_ids.specs.declared.actions.Action.{Action}
 use Rattle.metis_ids.specs.declared.actions.Action.TheVariants.{New, Delete, Bind, Unbind, Move}
-use Rattle.metis_universe.specs.Universe.{Universe, has, type_of, next_of, requires, type_requires, type_provides}
+use Rattle.metis_universe.specs.Universe.{Universe, demand_of, has, type_of, next_of, requires, type_requires, type_provides}
 use Rattle.metis_universe.specs.Config.{Config, pair_of, is_bound, IsMet}
 use Rattle.metis_universe.specs.Step.{after}
 use Rattle.metis_config.specs.Unmet.{IsAtMost}
@@ -16,7 +16,7 @@ pub record Lacks (u : Universe) (d : Config) (z r : ℕ) : Type 0 where
   pub pair : ℕ
   pub there : pair_of d z ≡ Some pair
   pub needs : IsTrue (requires u pair r)
-  pub unmet : IsMet u d z r → ⊥
+  pub unmet : IsMet u d z r (demand_of u pair r) → ⊥
 
 pub record IsFirstLack (u : Universe) (d : Config) (w r : ℕ) : Type 0 where
   pub lacks : Lacks u d w r

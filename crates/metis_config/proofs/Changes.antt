@@ -1,36 +1,47 @@
 -- What is unmet after an instance came, went or moved, or after a binding went, where nothing was unmet before.
-use Rattle.std.proofs.Common.{◌≡◌, ℕ, ◌<◌, ◌≤◌, Bool, true, false, cond, not, ◌&&◌, ◌||◌, Option, Some, None, refl, ap, sym, ◌∙◌, subst, nat_eq, inl, inr, arith}
+use Rattle.std.proofs.Common.{◌≡◌, ℕ, ◌<◌, ◌≤◌, Bool, true, false, cond, not, ◌&&◌, ◌||◌, leb, length, [], Option, Some, None, refl, ap, sym, ◌∙◌, subst, nat_eq, inl, inr, arith}
 use Rattle.std.specs.Prelude.{◌==◌}
 use Rattle.std.specs.Option.{option_map_or}
-use Rattle.std.proofs.lemmas.Bool.{false≢true, both_ways, and_parts, and_from, eqb-true, ne_eqb, cases_lt, false_from_ne_true, lt-ltb, le-ltb}
+use Rattle.std.proofs.lemmas.Bool.{false≢true, both_ways, and_parts, and_from, eqb-true, ne_eqb, cases_lt, false_from_ne_true, le-leb, lt-ltb, le-ltb}
 use Rattle.std.proofs.lemmas.Bool.Decides.{nat_tests}
-use Rattle.metis_universe.specs.Universe.{Universe, provides, requires}
-use Rattle.metis_universe.specs.Config.{Config, pair_of, is_bound, is_met, names, put, remove, IsConfig, IsMet, Correct}
+use Rattle.metis_universe.specs.Universe.{Universe, demand_of, requires}
+use Rattle.metis_universe.specs.Config.{Config, pair_of, is_bound, is_met, names, put, remove, IsConfig, IsMet, IsProvider, Correct}
+use Rattle.metis_universe.proofs.Demands.{demand_none, gives, many_bound, provider_gives}
 use Rattle.metis_universe.proofs.Edits.{pair_of-put, pair_of-remove}
-use Rattle.metis_universe.proofs.TypeBlock.{any-filter}
-use Rattle.metis_universe.proofs.Correctness.{any_bound, bound_any, some_provides}
-use Rattle.metis_config.specs.Unmet.{pair_if, is_met_if, is_required, is_unmet, is_lost, IsLeast, IsAtMost, changed, earlier_of}
-use Rattle.metis_config.proofs.Unmets.{same_any}
-
-abbrev pub gives : Universe → ℕ → Option ℕ → Bool
-gives u r o = option_map_or (λ q. provides u q r) o false
+use Rattle.metis_config.specs.Unmet.{demanded, pair_if, is_met_if, is_required, is_unmet, is_lost, IsLeast, IsAtMost, changed, earlier_of}
+use Rattle.metis_config.proofs.Unmets.{filter-filter, same_count}
 
 -- ---- who meets
 
-pub met : (u : Universe) (c : Config) (z r : ℕ) → is_met u c z r ≡ true → IsMet u c z r
-met u c z r h =
-    let bound = any_bound (λ y. gives u r (pair_of c y)) r z c.bindings h in
-    let given = some_provides (λ q. provides u q r) (pair_of c bound.0) bound.2 in
-    record { provider = bound.0; pair = given.0; bound = bound.1; there = given.1; gives = given.2 }
+-- where all ports are met, each has as many providers as are demanded, and none is demanded of a port that is not required
+pub demanded_met : (u : Universe) (c : Config) → Correct u c → (w r : ℕ) → IsMet u c w r (demanded u c w r)
+demanded_met u c correct w r = by (pair_of c w) refl where
+  nothing : IsMet u c w r 0
+  nothing = record { providers = []; different = tt; enough = omega arith; each = λ y there. absurd (false≢true there) }
 
-pub is_met-true : (u : Universe) (c : Config) (z r : ℕ) → IsMet u c z r → is_met u c z r ≡ true
-is_met-true u c z r m =
-    bound_any (λ y. gives u r (pair_of c y)) r z m.provider c.bindings m.bound (ap (gives u r) m.there ∙ m.gives)
+  of_pair : (p : ℕ) → pair_of c w ≡ Some p → (b : Bool) → requires u p r ≡ b → IsMet u c w r (demand_of u p r)
+  of_pair p at true needs = correct w p r at needs
+  of_pair p at false none = subst (IsMet u c w r) (sym (demand_none u p r none)) nothing
+
+  by : (o : Option ℕ) → pair_of c w ≡ o → IsMet u c w r (option_map_or (λ p. demand_of u p r) o 0)
+  by None at = nothing
+  by (Some p) at = of_pair p at (requires u p r) refl
+
+-- a port whose providers all give it still has no fewer than are demanded now
+pub still_met : (u : Universe) (c : Config) → Correct u c → (z : ℕ) (o : Option ℕ) (w r n : ℕ) → n ≤ demanded u c w r →
+    ((y : ℕ) → IsProvider u c w r y → gives u r (pair_if c z o y) ≡ true) → is_met_if u c z o w r n ≡ true
+still_met u c correct z o w r n few keeps =
+    let m = demanded_met u c correct w r in
+    le-leb n _ (many_bound (λ y. gives u r (pair_if c z o y)) r w c.bindings m.providers n m.different (omega (arith, few, m.enough)) (λ y there. let x = m.each y there in (x.bound, keeps y x)))
+
+-- a provider that is not the one that changes gives what it gave
+pub other_gives : (u : Universe) (c : Config) (z : ℕ) (o : Option ℕ) (w r y : ℕ) → IsProvider u c w r y → nat_eq y z ≡ false → gives u r (pair_if c z o y) ≡ true
+other_gives u c z o w r y x other = ap (λ v. gives u r (cond v o (pair_of c y))) other ∙ provider_gives u c w r y x
 
 -- ---- the change of one instance
 
-pub is_met-put : (u : Universe) (c : Config) (z q w r : ℕ) → is_met u (put c z q) w r ≡ is_met_if u c z (Some q) w r
-is_met-put u c z q w r = same_any _ _ c.bindings (λ b. ap (λ o. (b.0 == r) && (b.1 == w) && gives u r o) (pair_of-put c z q b.2))
+pub is_met-put : (u : Universe) (c : Config) (z q w r n : ℕ) → is_met u (put c z q) w r n ≡ is_met_if u c z (Some q) w r n
+is_met-put u c z q w r n = ap (leb n) (same_count _ _ c.bindings (λ b. ap (λ o. (b.0 == r) && (b.1 == w) && gives u r o) (pair_of-put c z q b.2)))
 
 removed_one : (r w z : ℕ) (b0 b1 b2 : ℕ) (given gone : Bool) → nat_eq w z ≡ false → (nat_eq b2 z ≡ false → given ≡ gone) → (nat_eq b2 z ≡ true → gone ≡ false) →
     (not (nat_eq b1 z || nat_eq b2 z) && (nat_eq b0 r && nat_eq b1 w && given)) ≡ (nat_eq b0 r && nat_eq b1 w && gone)
@@ -51,12 +62,12 @@ removed_one r w z b0 b1 b2 given gone n same none =
       no_front true v = refl
       no_front false v = refl
 
-pub is_met-remove : (u : Universe) (c : Config) (z w r : ℕ) → nat_eq w z ≡ false → is_met u (remove c z) w r ≡ is_met_if u c z None w r
-is_met-remove u c z w r n =
-    any-filter (λ b. not (names z b)) (λ b. (b.0 == r) && (b.1 == w) && gives u r (pair_of (remove c z) b.2)) c.bindings
-    ∙ same_any _ _ c.bindings (λ b. removed_one r w z b.0 b.1 b.2 (gives u r (pair_of (remove c z) b.2)) (gives u r (pair_if c z None b.2)) n
+pub is_met-remove : (u : Universe) (c : Config) (z w r m : ℕ) → nat_eq w z ≡ false → is_met u (remove c z) w r m ≡ is_met_if u c z None w r m
+is_met-remove u c z w r m n =
+    ap (leb m) (ap length (filter-filter (λ b. not (names z b)) (λ b. (b.0 == r) && (b.1 == w) && gives u r (pair_of (remove c z) b.2)) c.bindings)
+    ∙ same_count _ _ c.bindings (λ b. removed_one r w z b.0 b.1 b.2 (gives u r (pair_of (remove c z) b.2)) (gives u r (pair_if c z None b.2)) n
     (λ other. ap (gives u r) (pair_of-remove c z b.2 ∙ (λ i. cond (not (other i)) (pair_of c b.2) None) ∙ (λ i. cond (sym other i) None (pair_of c b.2))))
-    (λ there. ap (λ v. gives u r (cond v None (pair_of c b.2))) there))
+    (λ there. ap (λ v. gives u r (cond v None (pair_of c b.2))) there)))
 
 pub pair_of-changed : (c : Config) (z : ℕ) (o : Option ℕ) (w : ℕ) → pair_of (changed c z o) w ≡ cond (nat_eq w z) o (pair_of c w)
 pair_of-changed c z (Some q) w = pair_of-put c z q w
@@ -65,24 +76,31 @@ pair_of-changed c z None w = pair_of-remove c z w ∙ turn (nat_eq w z) where
   turn true = refl
   turn false = refl
 
-pub is_met-changed : (u : Universe) (c : Config) (z : ℕ) (o : Option ℕ) (w r : ℕ) → nat_eq w z ≡ false → is_met u (changed c z o) w r ≡ is_met_if u c z o w r
-is_met-changed u c z (Some q) w r n = is_met-put u c z q w r
-is_met-changed u c z None w r n = is_met-remove u c z w r n
+pub is_met-changed : (u : Universe) (c : Config) (z : ℕ) (o : Option ℕ) (w r m : ℕ) → nat_eq w z ≡ false → is_met u (changed c z o) w r m ≡ is_met_if u c z o w r m
+is_met-changed u c z (Some q) w r m n = is_met-put u c z q w r m
+is_met-changed u c z None w r m n = is_met-remove u c z w r m n
 
 module _ (u : Universe) (c : Config) (k : IsConfig c) (correct : Correct u c) (z : ℕ) (o : Option ℕ) where
+  same_pair : (w : ℕ) → nat_eq w z ≡ false → pair_of (changed c z o) w ≡ pair_of c w
+  same_pair w n = pair_of-changed c z o w ∙ ap (λ v. cond v o (pair_of c w)) n
+
+  -- what is met of the others is met as they demand
+  met_alike : (w r : ℕ) → nat_eq w z ≡ false → is_met u (changed c z o) w r (demanded u (changed c z o) w r) ≡ is_met_if u c z o w r (demanded u c w r)
+  met_alike w r n =
+      ap (λ p. is_met u (changed c z o) w r (option_map_or (λ p. demand_of u p r) p 0)) (same_pair w n)
+      ∙ is_met-changed u c z o w r (demanded u c w r) n
+
   -- of the others only a client of z can lack what it needs
   only_clients : (w r : ℕ) → nat_eq w z ≡ false → is_unmet u (changed c z o) w r ≡ true → is_lost u c z o w r ≡ true
   only_clients w r n h =
       let parts = and_parts _ _ h in
-      let pair : pair_of (changed c z o) w ≡ pair_of c w = pair_of-changed c z o w ∙ ap (λ v. cond v o (pair_of c w)) n in
-      let needed : is_required u c w r ≡ true = sym (ap (λ p. option_map_or (λ p. requires u p r) p false) pair) ∙ parts.0 in
-      let there = some_provides (λ p. requires u p r) (pair_of c w) needed in
-      let m = correct w there.0 r there.1 there.2 in
-      let unmet : not (is_met_if u c z o w r) ≡ true = sym (ap not (is_met-changed u c z o w r n)) ∙ parts.1 in
-      elim (nat_eq m.provider z) as (λ v. nat_eq m.provider z ≡ v → is_lost u c z o w r ≡ true) [
-        | true ↦ λ at. and_from _ _ (and_from _ _ (subst (λ y. is_bound c r w y ≡ true) (eqb-true m.provider z at) m.bound) needed) unmet
-        | false ↦ λ other.
-            let still : is_met_if u c z o w r ≡ true = bound_any (λ y. gives u r (pair_if c z o y)) r w m.provider c.bindings m.bound (ap (λ v. gives u r (cond v o (pair_of c m.provider))) other ∙ ap (gives u r) m.there ∙ m.gives) in
+      let needed : is_required u c w r ≡ true = sym (ap (λ p. option_map_or (λ p. requires u p r) p false) (same_pair w n)) ∙ parts.0 in
+      let unmet : not (is_met_if u c z o w r (demanded u c w r)) ≡ true = sym (ap not (met_alike w r n)) ∙ parts.1 in
+      elim (is_bound c r w z) as (λ v. is_bound c r w z ≡ v → is_lost u c z o w r ≡ true) [
+        | true ↦ λ bound. and_from _ _ (and_from _ _ bound needed) unmet
+        | false ↦ λ none.
+            let still = still_met u c correct z o w r (demanded u c w r) (omega arith)
+            (λ y x. other_gives u c z o w r y x (false_from_ne_true _ (λ same. both_ways _ none (sym (ap (is_bound c r w) (eqb-true y z same)) ∙ x.bound)))) in
             absurd (false≢true (sym (ap not still) ∙ unmet))
       ] refl
 
@@ -95,8 +113,7 @@ module _ (u : Universe) (c : Config) (k : IsConfig c) (correct : Correct u c) (z
   clients_only w r h =
       let n = lost_apart w r h in
       let parts = and_parts (is_bound c r w z && is_required u c w r) _ h in
-      let pair : pair_of (changed c z o) w ≡ pair_of c w = pair_of-changed c z o w ∙ ap (λ v. cond v o (pair_of c w)) n in
-      and_from _ _ (ap (λ p. option_map_or (λ p. requires u p r) p false) pair ∙ (and_parts _ _ parts.0).1) (ap not (is_met-changed u c z o w r n) ∙ parts.1)
+      and_from _ _ (ap (λ p. option_map_or (λ p. requires u p r) p false) (same_pair w n) ∙ (and_parts _ _ parts.0).1) (ap not (met_alike w r n) ∙ parts.1)
 
   -- the least of z's own and of its clients'
   pub unmet_changed : (own : Option ℕ) (lost : Option (ℕ × ℕ)) →

@@ -1,69 +1,68 @@
 -- What a change can take from a correct configuration: the ports that the changed instance gives now and would no longer.
-use Rattle.std.proofs.Common.{◌≡◌, ℕ, Bool, true, false, cond, not, ◌&&◌, List, [], ◌∷◌, Option, Some, refl, ap, sym, ◌∙◌, nat_eq}
+use Rattle.std.proofs.Common.{◌≡◌, ℕ, ◌≤◌, Bool, true, false, cond, not, ◌&&◌, List, [], ◌∷◌, Option, Some, refl, ap, sym, ◌∙◌, nat_eq, nat_lt, arith}
 use Rattle.std.specs.List.{AllByRecursion, filter, find, list_any}
-use Rattle.std.proofs.lemmas.Bool.{and_from, and_parts, eq-eqb, eqb-true, false≢true, false_from_ne_true, ne_eqb, or_left, or_right}
-use Rattle.metis_universe.specs.Universe.{Universe, requires}
-use Rattle.metis_universe.specs.Config.{Config, Binding, Correct, IsConfig, is_bound, is_tie, pair_of}
-use Rattle.metis_universe.proofs.Correctness.{bound_any, some_provides}
-use Rattle.metis_config.specs.Unmet.{is_met_if, is_required, pair_if}
-use Rattle.metis_config.proofs.Changes.{gives}
+use Rattle.std.proofs.lemmas.Bool.{and_from, and_parts, both_ways, eqb-true, false≢true, false_from_ne_true, ltb-false, ne_eqb, or_left, or_right}
+use Rattle.metis_universe.specs.Universe.{Universe, demand_of}
+use Rattle.metis_universe.specs.Config.{Config, Binding, Correct, IsConfig, is_tie, pair_of}
+use Rattle.metis_universe.proofs.Demands.{gives, provider_gives}
+use Rattle.metis_config.specs.Unmet.{demanded, is_met_if, is_required, pair_if}
+use Rattle.metis_config.proofs.Changes.{other_gives, still_met}
 use Rattle.metis_config.proofs.Indexed.{own_tie}
 use Rattle.metis_config.proofs.Prefixes.{is_from}
+use Rattle.metis_config.proofs.Unmets.{lacks}
 
 module _ (u : Universe) (c : Config) (correct : Correct u c) (z : ℕ) (o : Option ℕ) where
+  and_false : (a : Bool) → (a && false) ≡ false
+  and_false true = refl
+  and_false false = refl
+
   -- a port that is required and would not be met is given by the instance that changes
-  pub giver : (w r : ℕ) → is_required u c w r ≡ true → not (is_met_if u c z o w r) ≡ true → gives u r (pair_of c z) ≡ true
-  giver w r needed unmet =
-      let there = some_provides (λ p. requires u p r) (pair_of c w) needed in
-      let m = correct w there.0 r there.1 there.2 in
-      elim (nat_eq m.provider z) as (λ v. nat_eq m.provider z ≡ v → gives u r (pair_of c z) ≡ true) [
-        | true ↦ λ at. ap (λ y. gives u r (pair_of c y)) (sym (eqb-true m.provider z at)) ∙ ap (gives u r) m.there ∙ m.gives
-        | false ↦ λ other.
-            let still : is_met_if u c z o w r ≡ true = bound_any (λ y. gives u r (pair_if c z o y)) r w m.provider c.bindings m.bound (ap (λ v. gives u r (cond v o (pair_of c m.provider))) other ∙ ap (gives u r) m.there ∙ m.gives) in
-            absurd (false≢true (sym (ap not still) ∙ unmet))
+  pub giver : (w r : ℕ) → lacks u c z o w r ≡ true → gives u r (pair_of c z) ≡ true
+  giver w r lost =
+      elim (gives u r (pair_of c z)) as (λ v. gives u r (pair_of c z) ≡ v → v ≡ true) [
+        | true ↦ λ _. refl
+        | false ↦ λ none.
+            let still = still_met u c correct z o w r (demanded u c w r) (omega arith)
+            (λ y x. other_gives u c z o w r y x (false_from_ne_true _ (λ same. both_ways _ none (sym (ap (λ y. gives u r (pair_of c y)) (eqb-true y z same)) ∙ provider_gives u c w r y x)))) in
+            absurd (false≢true (sym (ap not still) ∙ (and_parts (is_required u c w r) _ lost).1))
       ] refl
 
-  -- a requirer that is bound to it stays met where the new pair gives the port
-  kept : (w r : ℕ) → is_bound c r w z ≡ true → gives u r o ≡ true → is_met_if u c z o w r ≡ true
-  kept w r bound given = bound_any (λ y. gives u r (pair_if c z o y)) r w z c.bindings bound (ap (λ v. gives u r (cond v o (pair_of c z))) (eq-eqb z z refl) ∙ given)
+  -- it is not lost where the new pair gives the port too
+  kept : (w r : ℕ) → lacks u c z o w r ≡ true → gives u r o ≡ false
+  kept w r lost = false_from_ne_true _ (λ given.
+      let still = still_met u c correct z o w r (demanded u c w r) (omega arith) (λ y x. elim (nat_eq y z) as (λ v. nat_eq y z ≡ v → gives u r (pair_if c z o y) ≡ true) [
+        | true ↦ λ same. ap (λ v. gives u r (cond v o (pair_of c y))) same ∙ given
+        | false ↦ λ other. other_gives u c z o w r y x other
+      ] refl) in
+      false≢true (sym (ap not still) ∙ (and_parts (is_required u c w r) _ lost).1))
 
-  -- so it is enough to ask of those
-  pub given_up : (w r : ℕ) → is_bound c r w z ≡ true → (gives u r (pair_of c z) && not (gives u r o) && (is_required u c w r && not (is_met_if u c z o w r))) ≡ (is_required u c w r && not (is_met_if u c z o w r))
-  given_up w r bound = elim (is_required u c w r && not (is_met_if u c z o w r)) as (λ v. (is_required u c w r && not (is_met_if u c z o w r)) ≡ v → (gives u r (pair_of c z) && not (gives u r o) && v) ≡ v) [
-    | true ↦ λ at.
-        let parts = and_parts (is_required u c w r) _ at in
-        and_from _ _ (and_from _ _ (giver w r parts.0 parts.1) (ap not (false_from_ne_true _ (λ given. false≢true (sym (ap not (kept w r bound given)) ∙ parts.1))))) refl
+  -- so it is enough to ask where the instance gives the port now, and would no longer
+  pub given_up : (w r : ℕ) → (gives u r (pair_of c z) && not (gives u r o) && lacks u c z o w r) ≡ lacks u c z o w r
+  given_up w r = elim (lacks u c z o w r) as (λ v. lacks u c z o w r ≡ v → (gives u r (pair_of c z) && not (gives u r o) && v) ≡ v) [
+    | true ↦ λ lost. and_from _ _ (and_from _ _ (giver w r lost) (ap not (kept w r lost))) refl
     | false ↦ λ _. and_false (gives u r (pair_of c z) && not (gives u r o))
-  ] refl where
-    and_false : (a : Bool) → (a && false) ≡ false
-    and_false true = refl
-    and_false false = refl
+  ] refl
 
   -- and of a binding that goes where its provider gives the port
-  pub given_tie : (w r : ℕ) → (gives u r (pair_of c z) && (is_required u c w r && not (is_met_if u c z o w r))) ≡ (is_required u c w r && not (is_met_if u c z o w r))
-  given_tie w r = elim (is_required u c w r && not (is_met_if u c z o w r)) as (λ v. (is_required u c w r && not (is_met_if u c z o w r)) ≡ v → (gives u r (pair_of c z) && v) ≡ v) [
-    | true ↦ λ at. let parts = and_parts (is_required u c w r) _ at in and_from _ _ (giver w r parts.0 parts.1) refl
+  pub given_tie : (w r : ℕ) → (gives u r (pair_of c z) && lacks u c z o w r) ≡ lacks u c z o w r
+  given_tie w r = elim (lacks u c z o w r) as (λ v. lacks u c z o w r ≡ v → (gives u r (pair_of c z) && v) ≡ v) [
+    | true ↦ λ lost. and_from _ _ (giver w r lost) refl
     | false ↦ λ _. and_false (gives u r (pair_of c z))
-  ] refl where
-    and_false : (a : Bool) → (a && false) ≡ false
-    and_false true = refl
-    and_false false = refl
+  ] refl
 
-  -- what the instance requires already stays met
-  pub own_kept : IsConfig c → (r : ℕ) → is_required u c z r ≡ true → is_met_if u c z o z r ≡ true
-  own_kept k r needed =
-      let there = some_provides (λ p. requires u p r) (pair_of c z) needed in
-      let m = correct z there.0 r there.1 there.2 in
-      let other = ne_eqb m.provider z (λ e. k.apart r z m.provider m.bound (sym e)) in
-      bound_any (λ y. gives u r (pair_if c z o y)) r z m.provider c.bindings m.bound (ap (λ v. gives u r (cond v o (pair_of c m.provider))) other ∙ ap (gives u r) m.there ∙ m.gives)
+  -- the instance's own port keeps its providers, so it is met where no more are demanded than now
+  pub own_kept : IsConfig c → (r n : ℕ) → n ≤ demanded u c z r → is_met_if u c z o z r n ≡ true
+  own_kept k r n few = still_met u c correct z o z r n few (λ y x. other_gives u c z o z r y x (ne_eqb y z (λ e. k.apart r z y x.bound (sym e))))
 
-  pub new_ports : IsConfig c → (ports : List ℕ) → find (λ r. not (is_required u c z r) && not (is_met_if u c z o z r)) ports ≡ find (λ r. not (is_met_if u c z o z r)) ports
-  new_ports k [] = refl
-  new_ports k (r ∷ ports) = λ i. cond (one i) (Some r) (new_ports k ports i) where
-    one : (not (is_required u c z r) && not (is_met_if u c z o z r)) ≡ not (is_met_if u c z o z r)
-    one = elim (is_required u c z r) as (λ v. is_required u c z r ≡ v → (not v && not (is_met_if u c z o z r)) ≡ not (is_met_if u c z o z r)) [
-      | true ↦ λ at. sym (ap not (own_kept k r at))
-      | false ↦ λ _. refl
+  -- so it is enough to ask of the ports of which the new pair demands more
+  pub new_ports : IsConfig c → (q : ℕ) (ports : List ℕ) →
+      find (λ r. nat_lt (demanded u c z r) (demand_of u q r) && not (is_met_if u c z o z r (demand_of u q r))) ports ≡ find (λ r. not (is_met_if u c z o z r (demand_of u q r))) ports
+  new_ports k q [] = refl
+  new_ports k q (r ∷ ports) = λ i. cond (one i) (Some r) (new_ports k q ports i) where
+    one : (nat_lt (demanded u c z r) (demand_of u q r) && not (is_met_if u c z o z r (demand_of u q r))) ≡ not (is_met_if u c z o z r (demand_of u q r))
+    one = elim (nat_lt (demanded u c z r) (demand_of u q r)) as (λ v. nat_lt (demanded u c z r) (demand_of u q r) ≡ v → (v && not (is_met_if u c z o z r (demand_of u q r))) ≡ not (is_met_if u c z o z r (demand_of u q r))) [
+      | true ↦ λ _. refl
+      | false ↦ λ few. sym (ap not (own_kept k r (demand_of u q r) (ltb-false _ _ few)))
     ] refl
 
 -- ---- each binding of a list is in it

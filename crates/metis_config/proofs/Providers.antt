@@ -1,5 +1,5 @@
 -- How many providers of a port are in which pairs, after each edit of a configuration.
-use Rattle.std.proofs.Common.{◌≡◌, ℕ, ◌+◌, ◌<◌, Bool, true, false, cond, not, ◌&&◌, ◌||◌, List, [], ◌∷◌, Option, Some, None, refl, ap, sym, ◌∙◌, subst, nat_eq, nat_lt, arith}
+use Rattle.std.proofs.Common.{◌≡◌, ℕ, ◌+◌, ◌<◌, Bool, true, false, cond, not, ◌&&◌, ◌||◌, List, [], ◌∷◌, Option, Some, None, refl, ap, sym, ◌∙◌, subst, nat_eq, arith}
 use Rattle.std.specs.Prelude.{◌==◌, IsSome}
 use Rattle.std.specs.BTreeSet.{insert_key}
 use Rattle.std.specs.List.{AllByRecursion, count_by, filter, list_any}
@@ -7,17 +7,18 @@ use Rattle.std.specs.List.Sorted.{IsStrictlySortedBy}
 use Rattle.std.specs.Option.{option_map_or}
 use Rattle.std.specs.Ordering.{match_ordering}
 use Rattle.std.specs.declared.cmp.Ordering.TheVariants.{Less, Equal, Greater}
-use Rattle.std.proofs.lemmas.Bool.{both_ways, eq-eqb, false≢true, lt-ltb, ne_eqb}
+use Rattle.std.proofs.lemmas.Bool.{both_ways, eq-eqb, false≢true, ne_eqb}
 use Rattle.std.proofs.lemmas.Bool.Decides.{nat_tests}
-use Rattle.std.proofs.lemmas.List.Sums.{sum_by-cons}
+use Rattle.std.proofs.lemmas.List.Sums.{length-filter, sum_by-cons}
 use Rattle.metis_universe.specs.Universe.{Universe, provides}
 use Rattle.metis_universe.specs.Config.{Binding, Config, IsConfig, binding_cmp, config_of, is_bound, is_tie, pair_of, put, tie, untie}
+use Rattle.metis_universe.proofs.Demands.{gives}
 use Rattle.metis_universe.proofs.Edits.{binding_cmp-exact, pair_of-put, pair_of-remove, tie_is}
 use Rattle.metis_config.specs.Crowd.{providers_in}
-use Rattle.metis_config.specs.Unmet.{is_met_if, pair_if}
-use Rattle.metis_config.proofs.Changes.{gives}
+use Rattle.metis_config.specs.Unmet.{pair_if, providers_if}
 use Rattle.metis_config.proofs.GivenUp.{each_in, is_in}
 use Rattle.metis_config.proofs.Indexed.{neither, none_tied, own_tie}
+use Rattle.metis_config.proofs.Tallies.{split}
 
 abbrev one_if : Bool → ℕ
 one_if b = cond b 1 0
@@ -175,77 +176,42 @@ providers-gone c z none w r f =
     (ne_eqb b.2 z (λ e. both_ways _ (none b.0 b.1) (subst (λ y. is_bound c b.0 b.1 y ≡ true) e at)))))
     (each_in c.bindings))
 
--- ---- which port is met, by a count
+-- ---- how many providers a port would have, by how many it has
 
-abbrev other_test : Universe → Config → ℕ → ℕ → ℕ → Binding → Bool
-other_test u c z w r b = nat_eq b.0 r && nat_eq b.1 w && (not (nat_eq b.2 z) && gives u r (pair_of c b.2))
+-- of a binding: it is the requirer's port's, and its provider would give the port
+abbrev giver_test : Universe → Config → ℕ → Option ℕ → ℕ → ℕ → Binding → Bool
+giver_test u c z o w r b = nat_eq b.0 r && nat_eq b.1 w && gives u r (pair_if c z o b.2)
 
-any-count : (t : Binding → Bool) (bs : List Binding) → list_any t bs ≡ nat_lt 0 (count_by t bs)
-any-count t [] = refl
-any-count t (b ∷ bs) = elim (t b) as (λ v. t b ≡ v → (v || list_any t bs) ≡ nat_lt 0 (count_by t (b ∷ bs))) [
-  | true ↦ λ at. let more = count-cons t b bs ∙ ap (λ v. one_if v + count_by t bs) at in sym (lt-ltb 0 (count_by t (b ∷ bs)) (omega (arith, more)))
-  | false ↦ λ out. any-count t bs ∙ ap (nat_lt 0) (sym (count-cons t b bs ∙ ap (λ v. one_if v + count_by t bs) out ∙ omega arith))
-] refl
-
-any-either : (t s s' : Binding → Bool) (g : Bool) (bs : List Binding) → ((b : Binding) → t b ≡ ((s b && g) || s' b)) → list_any t bs ≡ ((list_any s bs && g) || list_any s' bs)
-any-either t s s' g [] h = refl
-any-either t s s' g (b ∷ bs) h = (λ i. h b i || any-either t s s' g bs h i) ∙ mix (s b) (s' b) (list_any s bs) (list_any s' bs) where
-  mix : (a a' l l' : Bool) → (((a && g) || a') || ((l && g) || l')) ≡ (((a || l) && g) || (a' || l'))
-  mix true true l l' = elim g as (λ v. (((true && v) || true) || ((l && v) || l')) ≡ (((true || l) && v) || (true || l'))) [ true ↦ refl | false ↦ refl ]
-  mix true false l l' = elim g as (λ v. (((true && v) || false) || ((l && v) || l')) ≡ (((true || l) && v) || (false || l'))) [ true ↦ refl | false ↦ no_left l l' ] where
-    no_left : (l l' : Bool) → ((l && false) || l') ≡ l'
-    no_left true l' = refl
-    no_left false l' = refl
-  mix false true l l' = elim g as (λ v. (((false && v) || true) || ((l && v) || l')) ≡ (((false || l) && v) || (true || l'))) [ true ↦ or_true (l && true) | false ↦ or_true (l && false) ] where
-    or_true : (a : Bool) → true ≡ (a || true)
-    or_true true = refl
-    or_true false = refl
-  mix false false l l' = refl
-
-more_than : (a : ℕ) (b g : Bool) → nat_lt (cond (b && g) 1 0) (a + cond b (cond g 1 0) 0) ≡ nat_lt 0 a
-more_than a true true = grind (arith, nat_tests)
-more_than a true false = ap (nat_lt 0) (omega arith)
-more_than a false g = ap (nat_lt 0) (omega arith)
-
-pub met-counted : (u : Universe) (c : Config) → IsConfig c → (z : ℕ) (o : Option ℕ) (w r : ℕ) →
-    is_met_if u c z o w r ≡ ((is_bound c r w z && gives u r o) || nat_lt (cond (is_bound c r w z && gives u r (pair_of c z)) 1 0) (providers_in c w r (λ q. provides u q r)))
-met-counted u c k z o w r =
-    any-either _ (is_tie r w z) (other_test u c z w r) (gives u r o) c.bindings parts
-    ∙ ap (λ v. (is_bound c r w z && gives u r o) || v) (any-count (other_test u c z w r) c.bindings ∙ sym (ap (λ n. nat_lt (cond (is_bound c r w z && gives u r (pair_of c z)) 1 0) n) total ∙ more_than (count_by (other_test u c z w r) c.bindings) (is_bound c r w z) (gives u r (pair_of c z)))) where
-      parts : (b : Binding) → (nat_eq b.0 r && nat_eq b.1 w && gives u r (pair_if c z o b.2)) ≡ ((is_tie r w z b && gives u r o) || other_test u c z w r b)
-      parts b = elim (nat_eq b.0 r && nat_eq b.1 w) as (λ v. (v && gives u r (cond (nat_eq b.2 z) o (pair_of c b.2))) ≡ ((v && nat_eq b.2 z && gives u r o) || (v && (not (nat_eq b.2 z) && gives u r (pair_of c b.2))))) [
-        | true ↦ elim (nat_eq b.2 z) as (λ v. (true && gives u r (cond v o (pair_of c b.2))) ≡ ((true && v && gives u r o) || (true && (not v && gives u r (pair_of c b.2))))) [
-          | true ↦ or_none (gives u r o)
-          | false ↦ refl
-        ]
-        | false ↦ refl
-      ] where
-        or_none : (a : Bool) → a ≡ (a || false)
-        or_none true = refl
-        or_none false = refl
-
-      apart : (b : Binding) → is_tie r w z b ≡ false → provider_test c w r (λ q. provides u q r) b ≡ other_test u c z w r b
-      apart b n = elim (nat_eq b.0 r && nat_eq b.1 w) as (λ v. (v && nat_eq b.2 z) ≡ false → (v && gives u r (pair_of c b.2)) ≡ (v && (not (nat_eq b.2 z) && gives u r (pair_of c b.2)))) [
-        | true ↦ λ e. sym (ap (λ v. not v && gives u r (pair_of c b.2)) e)
+-- the instance that changes counts as the pair that it is taken to be in gives, and no longer as its own does
+pub providers-changed : (u : Universe) (c : Config) → IsConfig c → (z : ℕ) (o : Option ℕ) (w r : ℕ) →
+    providers_if u c z o w r + cond (is_bound c r w z && gives u r (pair_of c z)) 1 0 ≡ providers_in c w r (λ q. provides u q r) + cond (is_bound c r w z && gives u r o) 1 0
+providers-changed u c k z o w r =
+    let all = count-apart (giver_test u c z o w r) (provider_test c w r (λ q. provides u q r)) r w z c.bindings k.in_order apart in
+    let count = length-filter (giver_test u c z o w r) c.bindings in
+    let now = ap (λ v. cond (is_bound c r w z) (cond v 1 0) 0) own_now ∙ split (is_bound c r w z) (gives u r (pair_of c z)) in
+    let then = ap (λ v. cond (is_bound c r w z) (cond v 1 0) 0) own_then ∙ split (is_bound c r w z) (gives u r o) in
+    omega (arith, all, count, now, then) where
+      apart : (b : Binding) → is_tie r w z b ≡ false → giver_test u c z o w r b ≡ provider_test c w r (λ q. provides u q r) b
+      apart b n = elim (nat_eq b.0 r && nat_eq b.1 w) as (λ v. (v && nat_eq b.2 z) ≡ false → (v && gives u r (cond (nat_eq b.2 z) o (pair_of c b.2))) ≡ (v && gives u r (pair_of c b.2))) [
+        | true ↦ λ e. ap (λ v. gives u r (cond v o (pair_of c b.2))) e
         | false ↦ λ _. refl
       ] n
 
-      front : (nat_eq r r && nat_eq w w) ≡ true
-      front = (λ i. eq-eqb r r refl i && eq-eqb w w refl i)
+      own_now : provider_test c w r (λ q. provides u q r) (r, w, z) ≡ gives u r (pair_of c z)
+      own_now = λ i. eq-eqb r r refl i && eq-eqb w w refl i && gives u r (pair_of c z)
 
-      own_other : other_test u c z w r (r, w, z) ≡ false
-      own_other = (λ i. front i && (not (eq-eqb z z refl i) && gives u r (pair_of c z)))
+      own_then : giver_test u c z o w r (r, w, z) ≡ gives u r o
+      own_then = λ i. eq-eqb r r refl i && eq-eqb w w refl i && gives u r (cond (eq-eqb z z refl i) o (pair_of c z))
 
-      own_given : provider_test c w r (λ q. provides u q r) (r, w, z) ≡ gives u r (pair_of c z)
-      own_given = ap (λ v. v && gives u r (pair_of c z)) front
+-- where the instance is gone, it only counts no longer
+pub providers-without : (u : Universe) (c : Config) → IsConfig c → (z w r : ℕ) →
+    providers_if u c z None w r + cond (is_bound c r w z && gives u r (pair_of c z)) 1 0 ≡ providers_in c w r (λ q. provides u q r)
+providers-without u c k z w r = let all = providers-changed u c k z None w r in let none = none_if (is_bound c r w z) in omega (arith, all, none) where
+  none_if : (b : Bool) → ◌≡◌ {A = ℕ} (cond (b && false) 1 0) 0
+  none_if true = refl
+  none_if false = refl
 
-      total : providers_in c w r (λ q. provides u q r) ≡ count_by (other_test u c z w r) c.bindings + cond (is_bound c r w z) (cond (gives u r (pair_of c z)) 1 0) 0
-      total =
-          let all = count-apart (provider_test c w r (λ q. provides u q r)) (other_test u c z w r) r w z c.bindings k.in_order apart in
-          let none = none_if (is_bound c r w z) in
-          let less = ap (λ v. providers_in c w r (λ q. provides u q r) + cond (is_bound c r w z) (cond v 1 0) 0) own_other in
-          let more = ap (λ v. count_by (other_test u c z w r) c.bindings + cond (is_bound c r w z) (cond v 1 0) 0) own_given in
-          omega (arith, all, none, less, more) where
-            none_if : (b : Bool) → ◌≡◌ {A = ℕ} (cond b 0 0) 0
-            none_if true = refl
-            none_if false = refl
+-- and where it is in a pair, it may count beside the others
+pub providers-beside : (u : Universe) (c : Config) → IsConfig c → (z : ℕ) (o : Option ℕ) (w r : ℕ) →
+    providers_if u c z o w r ≡ providers_if u c z None w r + cond (is_bound c r w z && gives u r o) 1 0
+providers-beside u c k z o w r = omega (arith, providers-changed u c k z o w r, providers-without u c k z w r)

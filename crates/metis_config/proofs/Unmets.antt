@@ -1,33 +1,31 @@
 -- What is unmet, and what would be.
-use Rattle.std.proofs.Common.{◌≡◌, ℕ, ◌<◌, ◌≤◌, ◌⊎◌, Bool, true, false, cond, not, ◌&&◌, ◌||◌, List, [], ◌∷◌, Option, Some, None, refl, ap, sym, ◌∙◌, subst, nat_eq, inl, inr, arith}
-use Rattle.std.specs.Prelude.{option_map, ◌==◌}
-use Rattle.std.specs.List.{list_any, find, AllByRecursion}
+use Rattle.std.proofs.Common.{◌≡◌, ℕ, ◌<◌, ◌≤◌, ◌⊎◌, Bool, true, false, cond, not, ◌&&◌, length, List, [], ◌∷◌, Option, Some, None, refl, ap, sym, ◌∙◌, subst, nat_eq, inl, inr, arith}
+use Rattle.std.specs.Prelude.{option_map}
+use Rattle.std.specs.List.{filter, list_any, find, AllByRecursion}
 use Rattle.std.specs.List.Sorted.{IsStrictlySortedBy}
-use Rattle.std.specs.Option.{option_map_or}
 use Rattle.std.specs.Ordering.{is_le}
 use Rattle.std.specs.declared.cmp.Ordering.TheVariants.{Less}
 use Rattle.std.proofs.lemmas.Bool.{false≢true, both_ways, and_parts, and_from, or_cases, or_left, or_right, eq-eqb, eqb-true, cases_lt, false_from_ne_true}
 use Rattle.std.proofs.lemmas.Bool.Decides.{nat_tests}
-use Rattle.metis_universe.specs.Universe.{Universe, provides}
-use Rattle.metis_universe.specs.Config.{Config, Binding, pair_of, is_bound, is_tie, is_met, binding_cmp}
+use Rattle.std.proofs.lemmas.List.Elements.{filter_agree}
+use Rattle.metis_universe.specs.Universe.{Universe}
+use Rattle.metis_universe.specs.Config.{Config, Binding, is_bound, is_tie, binding_cmp}
 use Rattle.metis_universe.proofs.Edits.{tie_is}
-use Rattle.metis_config.specs.Unmet.{pair_if, is_met_if, is_required, is_lost, IsLeast, IsAtMost}
+use Rattle.metis_config.specs.Unmet.{demanded, is_met_if, is_required, is_lost, IsLeast, IsAtMost}
 use Rattle.metis_config.specs.Clients.{IsIndexed, has_client}
 
-pub same_any : (t t' : Binding → Bool) (bs : List Binding) → ((b : Binding) → t b ≡ t' b) → list_any t bs ≡ list_any t' bs
-same_any t t' [] h = refl
-same_any t t' (b ∷ bs) h = λ i. h b i || same_any t t' bs h i
+-- two tests that agree count alike
+pub same_count : (t t' : Binding → Bool) (bs : List Binding) → ((b : Binding) → t b ≡ t' b) → length (filter t bs) ≡ length (filter t' bs)
+same_count t t' bs h = ap length (filter_agree t t' h bs)
 
--- an instance taken to be in its own pair changes nothing
-pub is_met_if-own : (u : Universe) (c : Config) (z w r : ℕ) → is_met_if u c z (pair_of c z) w r ≡ is_met u c w r
-is_met_if-own u c z w r =
-    same_any _ _ c.bindings (λ b. ap (λ o. (b.0 == r) && (b.1 == w) && option_map_or (λ q. provides u q r) o false) (own b.2)) where
-      own : (y : ℕ) → pair_if c z (pair_of c z) y ≡ pair_of c y
-      own y =
-          elim (nat_eq y z) as (λ b. nat_eq y z ≡ b → cond b (pair_of c z) (pair_of c y) ≡ pair_of c y) [
-            | true ↦ λ at. ap (pair_of c) (sym (eqb-true y z at))
-            | false ↦ λ _. refl
-          ] refl
+-- what a test keeps of what another keeps
+pub filter-filter : (keeps t : Binding → Bool) (bs : List Binding) → filter t (filter keeps bs) ≡ filter (λ b. keeps b && t b) bs
+filter-filter keeps t [] = refl
+filter-filter keeps t (b ∷ bs) =
+    elim (keeps b) as (λ v. filter t (cond v (b ∷ filter keeps bs) (filter keeps bs)) ≡ cond (v && t b) (b ∷ filter (λ b. keeps b && t b) bs) (filter (λ b. keeps b && t b) bs)) [
+      | true ↦ ap (λ xs. cond (t b) (b ∷ xs) xs) (filter-filter keeps t bs)
+      | false ↦ filter-filter keeps t bs
+    ]
 
 -- ---- the first that passes a test
 
@@ -46,9 +44,13 @@ least_is_one t (Some x) (Some y) a b = ap Some (at_most_both x y (a.1 y.0 y.1 b.
 
 -- ---- what a client would lack
 
--- a binding by its provider, which is required and would not be met
+-- the port is required, and would not be met
+abbrev pub lacks : Universe → Config → ℕ → Option ℕ → ℕ → ℕ → Bool
+lacks u c z o w r = is_required u c w r && not (is_met_if u c z o w r (demanded u c w r))
+
+-- the same of a binding by its provider
 abbrev pub lacking : Universe → Config → ℕ → Option ℕ → Binding → Bool
-lacking u c z o b = is_required u c b.1 b.2 && not (is_met_if u c z o b.1 b.2)
+lacking u c z o b = lacks u c z o b.1 b.2
 
 -- and whose provider is z
 abbrev pub lost_client : Universe → Config → ℕ → Option ℕ → Binding → Bool

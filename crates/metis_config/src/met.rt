@@ -1,13 +1,13 @@
 //! Which ports of a configuration are met, now or after a change.
-ghost use Rattle.std.specs.Prelude.{◌≡◌, ◌<◌, ℕ, ◌&&◌, not, if◌then◌else◌, false, Some, None, IsTrue};
+ghost use Rattle.std.specs.Prelude.{◌≡◌, ◌<◌, ℕ, ◌&&◌, not, if◌then◌else◌, nat_lt, false, Some, None, IsTrue};
 ghost use Rattle.std.specs.List.{find};
 ghost use Rattle.std.specs.Option.{option_map_or};
-ghost use Rattle.metis_universe.specs.Universe.{pair_count, provides, required_of};
-ghost use Rattle.metis_universe.specs.Config.{Correct, IsConfig, is_bound, pair_of};
+ghost use Rattle.metis_universe.specs.Universe.{demand_of, pair_count, provides, required_of};
+ghost use Rattle.metis_universe.specs.Config.{Correct, IsConfig, is_bound, is_met, pair_of};
 ghost use Rattle.metis_config.specs.Over.{IsOver};
 ghost use Rattle.metis_config.specs.Clients.{IsIndexed};
 ghost use Rattle.metis_config.specs.Crowd.{providers_in};
-ghost use Rattle.metis_config.specs.Unmet.{is_met_if, is_required, is_lost, IsLeast, unmet_port, unmet, own_unmet, earlier_of};
+ghost use Rattle.metis_config.specs.Unmet.{demanded, is_met_if, providers_if, is_required, is_lost, IsLeast, unmet_port, unmet, own_unmet, earlier_of};
 
 use crate::config::Config;
 use metis_ids::{InstNo, PairIx, PortIx};
@@ -45,11 +45,29 @@ impl Config {
         }
     }
 
+    // How many providers of the port the pair of the instance demands, and 0 where it is not there.
+    fn demanded(&self, u: &Universe, z: InstNo, r: PortIx) -> u32
+        requires { IsOver u.now self.now }
+        ensures { result ≡ demanded u.now self.now z r }
+    {
+        match self.pair_of(z) {
+            Some(p) => u.demand(p, r),
+            None => 0,
+        }
+    }
+
     // How many providers of the requirer's port give it.
     fn giving(&self, u: &Universe, w: InstNo, r: PortIx) -> usize
         ensures { result ≡ providers_in self.now w r (λ q. provides u.now q r) }
     {
         self.crowds.giving(u, w, r)
+    }
+
+    // Whether the requirer's port has n providers or more.
+    fn is_met(&self, u: &Universe, w: InstNo, r: PortIx, n: u32) -> bool
+        ensures { result ≡ is_met u.now self.now w r n }
+    {
+        n as usize <= self.giving(u, w, r)
     }
 
     // Whether the requirer's port is bound to the instance, and this pair gives it.
@@ -72,18 +90,36 @@ impl Config {
         }
     }
 
-    /// Whether the port r of w is met, where z is taken to be in another pair, or gone: by z itself, or by others of those that
-    /// give it now.
-    fn is_met_if(&self, u: &Universe, z: InstNo, to: &Option<PairIx>, w: InstNo, r: PortIx) -> bool
-        requires over { IsOver u.now self.now }
-        requires to { (q : ℕ) → to.now ≡ Some q → q < pair_count u.now }
-        ensures { result ≡ is_met_if u.now self.now z to.now w r }
+    // How many providers of the requirer's port, other than the instance, give it.
+    fn others_giving(&self, u: &Universe, z: InstNo, w: InstNo, r: PortIx) -> usize
+        requires { IsOver u.now self.now }
+        ensures { result ≡ providers_if u.now self.now z None w r }
     {
         self.keeps_invariant();
+        self.giving(u, w, r) - self.own_count(u, z, w, r)
+    }
+
+    /// Whether the port r of w has n providers or more, where z is taken to be in another pair, or gone: others of those that
+    /// give it now, and z itself where it would.
+    fn is_met_if(
+        &self,
+        u: &Universe,
+        z: InstNo,
+        to: &Option<PairIx>,
+        w: InstNo,
+        r: PortIx,
+        n: u32,
+    ) -> bool
+        requires over { IsOver u.now self.now }
+        requires to { (q : ℕ) → to.now ≡ Some q → q < pair_count u.now }
+        ensures { result ≡ is_met_if u.now self.now z to.now w r n }
+    {
+        self.keeps_invariant();
+        let others = self.others_giving(u, z, w, r);
         if self.serves(u, z, *to, w, r) {
-            true
+            n.saturating_sub(1) as usize <= others
         } else {
-            self.own_count(u, z, w, r) < self.giving(u, w, r)
+            n as usize <= others
         }
     }
 
@@ -91,9 +127,9 @@ impl Config {
     fn lacks(&self, u: &Universe, z: InstNo, to: &Option<PairIx>, w: InstNo, r: PortIx) -> bool
         requires over { IsOver u.now self.now }
         requires to { (q : ℕ) → to.now ≡ Some q → q < pair_count u.now }
-        ensures { result ≡ (is_required u.now self.now w r && not (is_met_if u.now self.now z to.now w r)) }
+        ensures { result ≡ (is_required u.now self.now w r && not (is_met_if u.now self.now z to.now w r (demanded u.now self.now w r))) }
     {
-        self.is_required(u, w, r) && !self.is_met_if(u, z, to, w, r)
+        self.is_required(u, w, r) && !self.is_met_if(u, z, to, w, r, self.demanded(u, w, r))
     }
 
     // Whether z's pair provides the port, and the other pair would not.
@@ -112,7 +148,7 @@ impl Config {
         requires correct { Correct u.now self.now }
         requires to { (q : ℕ) → to.now ≡ Some q → q < pair_count u.now }
         requires bound { IsTrue (is_bound self.now r w z) }
-        ensures { result ≡ (is_required u.now self.now w r && not (is_met_if u.now self.now z to.now w r)) }
+        ensures { result ≡ (is_required u.now self.now w r && not (is_met_if u.now self.now z to.now w r (demanded u.now self.now w r))) }
     {
         self.gives_up(u, z, to, r) && self.lacks(u, z, to, w, r)
     }
@@ -122,7 +158,7 @@ impl Config {
     pub(crate) fn loses_tie(&self, u: &Universe, r: PortIx, z: InstNo, y: InstNo) -> bool
         requires over { IsOver u.now self.now }
         requires correct { Correct u.now self.now }
-        ensures { result ≡ (is_required u.now self.now z r && not (is_met_if u.now self.now y None z r)) }
+        ensures { result ≡ (is_required u.now self.now z r && not (is_met_if u.now self.now y None z r (demanded u.now self.now z r))) }
     {
         self.provides(u, y, r) && self.lacks(u, y, &None, z, r)
     }
@@ -153,33 +189,17 @@ impl Config {
         None
     }
 
-    // The first of these ports of z that would not be met, where z is taken to be in another pair, or gone.
-    fn unmet_port(
-        &self,
-        u: &Universe,
-        z: InstNo,
-        to: &Option<PairIx>,
-        ports: &[PortIx],
-    ) -> Option<PortIx>
-        requires over { IsOver u.now self.now }
-        requires to { (q : ℕ) → to.now ≡ Some q → q < pair_count u.now }
-        ensures { result ≡ find (λ r. not (is_met_if u.now self.now z to.now z r)) ports.now }
+    // The first port of the instance that its pair requires and that has fewer providers than the pair demands.
+    fn unmet_of(&self, u: &Universe, z: InstNo, p: PairIx) -> Option<PortIx>
+        requires { p < pair_count u.now }
+        ensures { result ≡ unmet_port u.now self.now z p }
     {
-        for r in ports {
-            if !self.is_met_if(u, z, to, z, *r) {
+        for r in u.requires_(p) {
+            if !self.is_met(u, z, *r, u.demand(p, *r)) {
                 return Some(*r);
             }
         }
         None
-    }
-
-    // The first port of the instance that its pair requires and that is not met.
-    fn unmet_of(&self, u: &Universe, z: InstNo, p: PairIx) -> Option<PortIx>
-        requires over { IsOver u.now self.now }
-        requires there { pair_of self.now z ≡ Some p }
-        ensures { result ≡ unmet_port u.now self.now z (required_of u.now p) }
-    {
-        self.unmet_port(u, z, &Some(p), u.requires_(p))
     }
 
     /// The first instance and its first port that are required and not met. The instances are given.
@@ -200,8 +220,8 @@ impl Config {
         None
     }
 
-    /// The first port of z's own that would not be met, where all ports are met now. So it looks only at those that z does not
-    /// require yet.
+    /// The first port of z's own that would not be met, where all ports are met now. So it looks only at those of which the
+    /// other pair demands more providers.
     pub(crate) fn unmet_own(&self, u: &Universe, z: InstNo, to: &Option<PairIx>) -> Option<PortIx>
         requires over { IsOver u.now self.now }
         requires correct { Correct u.now self.now }
@@ -210,23 +230,19 @@ impl Config {
         ensures { result ≡ own_unmet u.now self.now z to.now }
     {
         let q = (*to)?;
-        self.new_unmet(u, z, to, u.requires_(q))
+        self.new_unmet(u, z, to, q)
     }
 
-    // The first of these ports that z does not require yet and that would not be met.
-    fn new_unmet(
-        &self,
-        u: &Universe,
-        z: InstNo,
-        to: &Option<PairIx>,
-        ports: &[PortIx],
-    ) -> Option<PortIx>
+    // The first port of z of which the pair q demands more providers than z's pair does now, and that would have fewer.
+    fn new_unmet(&self, u: &Universe, z: InstNo, to: &Option<PairIx>, q: PairIx) -> Option<PortIx>
         requires over { IsOver u.now self.now }
         requires to { (q : ℕ) → to.now ≡ Some q → q < pair_count u.now }
-        ensures { result ≡ find (λ r. not (is_required u.now self.now z r) && not (is_met_if u.now self.now z to.now z r)) ports.now }
+        requires pair { q < pair_count u.now }
+        ensures { result ≡ find (λ r. nat_lt (demanded u.now self.now z r) (demand_of u.now q r) && not (is_met_if u.now self.now z to.now z r (demand_of u.now q r))) (required_of u.now q) }
     {
-        for r in ports {
-            if !self.is_required(u, z, *r) && !self.is_met_if(u, z, to, z, *r) {
+        for r in u.requires_(q) {
+            let wanted = u.demand(q, *r);
+            if self.demanded(u, z, *r) < wanted && !self.is_met_if(u, z, to, z, *r, wanted) {
                 return Some(*r);
             }
         }
