@@ -13,6 +13,7 @@ use Rattle.metis_ids.specs.declared.actions.Action.TheVariants.{Delete, Move}
 use Rattle.metis_universe.specs.Config.{Binding, Config}
 use Rattle.metis_universe.specs.Layers.{layer_of}
 use Rattle.metis_universe.specs.Selection.{origin_of}
+use Rattle.metis_universe.specs.Single.{IsSingle}
 use Rattle.metis_universe.specs.Universe.{Universe, IsUniverse, has, pair_count, required_of, requires}
 use Rattle.metis_layers.proofs.Ways.{all_has, in_range}
 use Rattle.metis_layers.specs.LayerOrder.{binds, gained, line_actions, lines_from, move_actions, moves_along, path_to, path_within, place_of, unbinds}
@@ -123,7 +124,7 @@ downward_alike f h (suc n) same = let first = same n (omega arith) in let rest =
 abbrev pub AreNamed : List ℕ → ℕ → List (ℕ × ℕ) → List Action → Type 0
 AreNamed used first table actions = (z : ℕ) → has (news_of actions) z ≡ true → lookup (nat_eq z) table ≡ Some (free_number used (first + place_of (news_of actions) z))
 
-module _ (u : Universe) (k : IsUniverse u) (c : Config) (used : List ℕ) (first : ℕ) (table : List (ℕ × ℕ)) (layered : All (λ p. IsSome (layer_of u p)) (pairs_in c)) where
+module _ (u : Universe) (k : IsUniverse u) (single : IsSingle u) (c : Config) (used : List ℕ) (first : ℕ) (table : List (ℕ × ℕ)) (layered : All (λ p. IsSome (layer_of u p)) (pairs_in c)) where
   abbrev g : List ℕ
   g = pairs_in c
 
@@ -153,7 +154,7 @@ module _ (u : Universe) (k : IsUniverse u) (c : Config) (used : List ℕ) (first
     made_same z made = let low = in_range 0 count z (ap (λ l. has l z) (sym news) ∙ has-news list z ∙ made) in same z (omega arith)
 
     first_part : map (renumber (named table)) list ≡ map (renumber name) list
-    first_part = map_alike (At (is_made list)) (named table) name made_same list (touches_own u list (scaffold_goes u k g).0)
+    first_part = map_alike (At (is_made list)) (named table) name made_same list (touches_own u list (scaffold_goes u k g single).0)
 
     held_same : (p r : ℕ) → has g p ≡ true → requires u p r ≡ true → named table (scaffold_holder u g r) ≡ name (scaffold_holder u g r)
     held_same p r there needs =

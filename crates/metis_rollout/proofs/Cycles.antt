@@ -5,7 +5,9 @@ use Rattle.std.specs.List.{AllByRecursion}
 use Rattle.std.specs.Map.{keys_of}
 use Rattle.std.proofs.lemmas.Bool.{cases_eq, and_parts, eq-eqb, ne_eqb, false≢true, or_cases, or_left, or_right}
 use Rattle.metis_ids.specs.declared.actions.Action.{Action}
-use Rattle.metis_universe.specs.Universe.{Universe, has, required_of, requires}
+use Rattle.metis_universe.specs.Single.{IsSingle}
+use Rattle.metis_universe.proofs.Demands.{IsMet-one}
+use Rattle.metis_universe.specs.Universe.{Universe, demand_of, has, required_of, requires}
 use Rattle.metis_universe.specs.Config.{Binding, Config, Correct, IsConfig, IsMet, is_bound, names, pair_of, remove}
 use Rattle.metis_universe.specs.Step.{after, after_all}
 use Rattle.metis_universe.proofs.Edits.{is_bound-remove, pair_of-remove}
@@ -86,6 +88,7 @@ module _ (u : Universe) (f : ℕ → ℕ) (apart : (k j : ℕ) → f k ≡ f j �
 module _ (u : Universe) (left c : Config) (S : ℕ → Bool) (f holder : ℕ → ℕ) (ends : List ℕ) where
   -- c has what `left` has on the one side, and on the other the scaffold, which serves all that `left`'s instances require
   pub record Scene : Type 0 where
+    pub single : IsSingle u
     pub good : IsConfig left
     pub correct : Correct u c
     pub olds : (z : ℕ) → IsSome (pair_of left z) → S z ≡ true
@@ -158,15 +161,15 @@ module _ (u : Universe) (left c : Config) (S : ℕ → Bool) (f holder : ℕ →
     )
 
     -- each port that a pair of `left` requires is met by the scaffold
-    met_by_scaffold : (d : Config) (z p r : ℕ) → pair_of left z ≡ Some p → requires u p r ≡ true → ((y : ℕ) → is_in ties r z y ≡ true → is_bound left r z y ≡ false → is_bound d r z y ≡ true) → ((y : ℕ) → pair_of d y ≡ pair_of c y) → IsMet u d z r
+    met_by_scaffold : (d : Config) (z p r : ℕ) → pair_of left z ≡ Some p → requires u p r ≡ true → ((y : ℕ) → is_in ties r z y ≡ true → is_bound left r z y ≡ false → is_bound d r z y ≡ true) → ((y : ℕ) → pair_of d y ≡ pair_of c y) → IsMet u d z r (demand_of u p r)
     met_by_scaffold d z p r there needs bound pairs =
-        let held = s.held z p r there needs in record {
-          provider = h r;
+        let held = s.held z p r there needs in
+        subst (IsMet u d z r) (sym (s.single p r needs)) (IsMet-one u d z r (h r) (record {
           pair = held.pair;
           bound = bound (h r) (all_in u h left.instances r z p there needs) (not_all (is_bound left r z (h r)) (λ is. differ (S (h r)) (s.olds (h r) (s.good.provider r z (h r) is)) (s.names (holder r))));
           there = pairs (h r) ∙ s.new_pairs (holder r) held.stands ∙ held.there;
           gives = held.gives;
-        }
+        }))
 
     unreferencedned_pair : (z : ℕ) → pair_of unreferencedned z ≡ pair_of c z
     unreferencedned_pair z = unbinds_pair u bound left.bindings z ∙ binds_pair u c ties z
@@ -177,9 +180,9 @@ module _ (u : Universe) (left c : Config) (S : ℕ → Bool) (f holder : ℕ →
     unreferencedned_correct : Correct u unreferencedned
     unreferencedned_correct z p r there needs =
         let was = sym (unreferencedned_pair z) ∙ there in
-        elim (S z) as (λ b. S z ≡ b → IsMet u unreferencedned z r) [
+        elim (S z) as (λ b. S z ≡ b → IsMet u unreferencedned z r (demand_of u p r)) [
           | true ↦ λ mine. met_by_scaffold unreferencedned z p r (sym (s.old_pairs z mine) ∙ was) needs (λ y is off. unreferencedned_is r z y off ∙ or_left (is_in ties r z y) (is_bound c r z y) is) unreferencedned_pair
-          | false ↦ λ other. served_still u c unreferencedned r z (s.correct z p r was needs) (λ y q is g. (
+          | false ↦ λ other. served_still u c unreferencedned r z (demand_of u p r) (s.correct z p r was needs) (λ y q is g. (
             unreferencedned_is r z y (not_all (is_bound left r z y) (λ e. differ (S z) (s.olds z (s.good.requirer r z y e)) other)) ∙ or_right (is_in ties r z y) (is_bound c r z y) is,
             unreferencedned_pair y ∙ g,
           ))

@@ -40,4 +40,4 @@ each_pair Q es sorted all i d low =
 pub left_layered : (u : Universe) (old : List Action) → IsUniverse u → IsSteady u old → All (λ p. IsSome (layer_of u p)) (pairs_in (after_all u empty (old ++ cleared_by u old)))
 left_layered u old k s =
     subst (λ c. All (λ p. IsSome (layer_of u p)) (pairs_in c)) (sym (cleared_leaves u old (going_from_steady u old s)))
-    (each_pair (λ p. IsSome (layer_of u p)) (left u old).instances (left_good u old (going_from_steady u old s)).0.ascending (λ z p there. subst IsSome (sym (layer u k old [] s (record { runs = tt; steadfast = refl }) z p there).is) refl))
+    (each_pair (λ p. IsSome (layer_of u p)) (left u old).instances (left_good u old (going_from_steady u old s)).0.ascending (λ z p there. subst IsSome (sym (layer u k old s z p there).is) refl))

@@ -12,7 +12,7 @@ use Rattle.std.proofs.lemmas.List.Kept.{IsStrictlySortedBy-filter}
 use Rattle.std.proofs.lemmas.Map.Views.{any-filter_same}
 use Rattle.metis_ids.specs.declared.actions.Action.{Action}
 use Rattle.metis_ids.specs.declared.actions.Action.TheVariants.{New, Delete, Bind, Unbind, Move}
-use Rattle.metis_universe.specs.Universe.{Universe, has, provides, requires}
+use Rattle.metis_universe.specs.Universe.{Universe, demand_of, has, provides, requires}
 use Rattle.metis_universe.specs.Config.{Binding, Config, Correct, IsConfig, IsMet, binding_cmp, is_bound, is_tie, names, pair_of, remove, untie}
 use Rattle.metis_universe.specs.Step.{Allows, after, after_all}
 use Rattle.metis_universe.specs.Steadfast.{is_new, is_steadfast_after}
@@ -181,15 +181,15 @@ idle_quiet u c k correct = unbinds_quiet u c (filter (is_idle u c) c.bindings) (
   left z p r there needs =
       let was = sym (idle_pair u c z) ∙ there in
       let needed : is_required u c r z ≡ true = ap (λ o. option_map_or (λ p. requires u p r) o false) was ∙ needs in
-      served_still u c (after_all u c (idle_unbinds u c)) r z (correct z p r was needs) (λ y q h g. (idle_bound u c r z y ∙ and_from (is_required u c r z) (is_bound c r z y) needed h, idle_pair u c y ∙ g))
+      served_still u c (after_all u c (idle_unbinds u c)) r z (demand_of u p r) (correct z p r was needs) (λ y q h g. (idle_bound u c r z y ∙ and_from (is_required u c r z) (is_bound c r z y) needed h, idle_pair u c y ∙ g))
 
 -- ---- removals of instances to which nothing is bound
 
 pub remove_correct : (u : Universe) (c : Config) (z : ℕ) → Unpointed c z → Correct u c → Correct u (remove c z)
 remove_correct u c z none correct x p r there needs =
-    elim (nat_eq x z) as (λ b. nat_eq x z ≡ b → cond (not b) (pair_of c x) None ≡ Some p → IsMet u (remove c z) x r) [
+    elim (nat_eq x z) as (λ b. nat_eq x z ≡ b → cond (not b) (pair_of c x) None ≡ Some p → IsMet u (remove c z) x r (demand_of u p r)) [
       | true ↦ λ _ h. absurd (none≢some p h)
-      | false ↦ λ other h. served_still u c (remove c z) r x (correct x p r h needs) (λ y q bound there.
+      | false ↦ λ other h. served_still u c (remove c z) r x (demand_of u p r) (correct x p r h needs) (λ y q bound there.
           let apart : nat_eq y z ≡ false = elim (nat_eq y z) as (λ b. nat_eq y z ≡ b → b ≡ false) [
             | true ↦ λ is. absurd (differ (is_bound c r x y) bound (ap (is_bound c r x) (eqb-true y z is) ∙ none r x))
             | false ↦ λ _. refl

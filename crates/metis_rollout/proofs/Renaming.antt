@@ -6,7 +6,7 @@ use Rattle.std.proofs.lemmas.Bool.{cases_eq, eq-eqb, ne_eqb, false≢true}
 use Rattle.std.proofs.lemmas.List.{map-append}
 use Rattle.metis_ids.specs.declared.actions.Action.{Action}
 use Rattle.metis_ids.specs.declared.actions.Action.TheVariants.{New, Delete, Bind, Unbind, Move}
-use Rattle.metis_universe.specs.Universe.{Universe, initial_of, provides, type_of, type_requires, type_provides}
+use Rattle.metis_universe.specs.Universe.{Universe, demand_of, initial_of, provides, type_of, type_requires, type_provides}
 use Rattle.metis_universe.specs.Config.{Correct, empty, pair_of, is_bound}
 use Rattle.metis_universe.specs.Step.{Allows, after_all}
 use Rattle.metis_universe.specs.Steadfast.{is_new, is_steadfast_after}
@@ -104,7 +104,7 @@ module _ (u : Universe) (f : ℕ → ℕ) (K : ℕ → Bool) (apart : (z w : ℕ
       let of = pair_touched Image u x (ren xs) (touches_ren xs all) (some_is _ p there) in
       let z = of.0 in
       let met = correct z p r (sym (pair_ren z xs of.1) ∙ ap (pair_of (at u (ren xs))) of.2 ∙ there) needs in
-      served u (at u xs) (at u (ren xs)) f r z x met (record {
+      served u (at u xs) (at u (ren xs)) f r z x (demand_of u p r) met (record {
         bound = λ y q h g. ap (λ v. is_bound (at u (ren xs)) r v (f y)) (sym of.2) ∙ bound_ren r z y xs of.1 (pair_touched (At K) u y xs all (some_is _ q g)) ∙ h;
         there = λ y q h g. pair_ren y xs (pair_touched (At K) u y xs all (some_is _ q g)) ∙ g;
         apart = λ y w h g e. apart y w (bound_touched (At K) u r z y xs all h).1 e;

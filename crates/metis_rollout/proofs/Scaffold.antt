@@ -13,6 +13,7 @@ use Rattle.metis_universe.proofs.Rounds.{has-filter}
 use Rattle.metis_universe.proofs.Selected.{selected-least}
 use Rattle.metis_universe.specs.Layers.{layer_of, layered}
 use Rattle.metis_universe.specs.Selection.{needs_of, origin_of, provider_of, provider_pairs, providers_needed, selected}
+use Rattle.metis_universe.specs.Single.{IsSingle}
 use Rattle.metis_universe.specs.Universe.{Universe, IsUniverse, all_pairs, has, initial_of, is_empty, is_initial, next_of, no_pair, pair_count, required_of, requires, type_of}
 use Rattle.metis_layers.proofs.Going.{GoesOn}
 use Rattle.metis_layers.proofs.Deploying.{IsHeld, Stand, ends_need, slice_get-push}
@@ -259,9 +260,9 @@ module _ (u : Universe) (k : IsUniverse u) (g : List ℕ) where
   pub scaffold_within : All (IsOf u) (scaffold_list u g)
   scaffold_within = ways_within u k holder [] 0 (map (path_to u) ends) both.0
 
-  pub scaffold_goes : GoesOn u [] (scaffold_list u g) × Stand u holder ends (scaffold_list u g)
-  scaffold_goes =
-      let went = all_lines_go u k holder (map (path_to u) ends) both.0 in
+  pub scaffold_goes : IsSingle u → GoesOn u [] (scaffold_list u g) × Stand u holder ends (scaffold_list u g)
+  scaffold_goes single =
+      let went = all_lines_go u k single holder (map (path_to u) ends) both.0 in
       (went.0, subst (λ l. Stand u holder l (scaffold_list u g)) (path_ends ends) went.1)
 
   pub scaffold_down : Downward ends

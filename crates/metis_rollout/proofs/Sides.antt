@@ -8,7 +8,7 @@ use Rattle.std.proofs.lemmas.List.Elements.{filter-append}
 use Rattle.metis_ids.specs.Action.{actor_of}
 use Rattle.metis_ids.specs.declared.actions.Action.{Action}
 use Rattle.metis_ids.specs.declared.actions.Action.TheVariants.{New, Delete, Bind, Unbind, Move}
-use Rattle.metis_universe.specs.Universe.{Universe, initial_of, requires, provides, type_of, type_requires, type_provides}
+use Rattle.metis_universe.specs.Universe.{Universe, demand_of, initial_of, requires, provides, type_of, type_requires, type_provides}
 use Rattle.metis_universe.specs.Config.{Config, Correct, IsMet, empty, pair_of, is_bound, is_tie, names}
 use Rattle.metis_universe.specs.Step.{Allows, after, after_all}
 use Rattle.metis_universe.specs.Steadfast.{is_new, is_steadfast_after}
@@ -193,9 +193,9 @@ module _ (S : ℕ → Bool) where
     not_true true e = absurd (false≢true e)
     not_true false e = refl
 
-  pub met_on : (u : Universe) (xs : List Action) (z p r : ℕ) → AllKeep xs → S z ≡ true → Correct u (at u (on xs)) → pair_of (at u xs) z ≡ Some p → requires u p r ≡ true → IsMet u (at u xs) z r
+  pub met_on : (u : Universe) (xs : List Action) (z p r : ℕ) → AllKeep xs → S z ≡ true → Correct u (at u (on xs)) → pair_of (at u xs) z ≡ Some p → requires u p r ≡ true → IsMet u (at u xs) z r (demand_of u p r)
   met_on u xs z p r all at_z correct there needs =
-      served_still u (at u (on xs)) (at u xs) r z (correct z p r (sym (pair_on u z xs at_z) ∙ there) needs) (λ y q h g.
+      served_still u (at u (on xs)) (at u xs) r z (demand_of u p r) (correct z p r (sym (pair_on u z xs at_z) ∙ there) needs) (λ y q h g.
       let bound = bound_on u r z y xs all at_z ∙ h in (
         bound,
         elim (S y) as (λ v. S y ≡ v → pair_of (at u xs) y ≡ Some q) [
@@ -229,7 +229,7 @@ all_other_kept S T o (a ∷ xs) all = (other_kept S T o a all.0, all_other_kept 
 
 -- each side's instances are served on their side, so all are
 pub union_correct : (u : Universe) (S T : ℕ → Bool) → AreOpposite S T → (xs : List Action) → AllKeep S xs → Correct u (at u (on S xs)) → Correct u (at u (on T xs)) → Correct u (at u xs)
-union_correct u S T o xs all one two z p r there needs = elim (S z) as (λ v. S z ≡ v → IsMet u (at u xs) z r) [
+union_correct u S T o xs all one two z p r there needs = elim (S z) as (λ v. S z ≡ v → IsMet u (at u xs) z r (demand_of u p r)) [
   | true ↦ λ at. met_on S u xs z p r all at one there needs
   | false ↦ λ off. met_on T u xs z p r (all_other_kept S T o xs all) (o z ∙ ap not off) two there needs
 ] refl

@@ -10,6 +10,7 @@ use Rattle.metis_universe.specs.Universe.{Universe, IsUniverse, has, is_empty, p
 use Rattle.metis_universe.specs.Config.{Config, empty, is_bound, pair_of}
 use Rattle.metis_universe.specs.Goal.{Holds, holding}
 use Rattle.metis_universe.specs.Layers.{layer_set}
+use Rattle.metis_universe.specs.Single.{IsSingle}
 use Rattle.metis_universe.specs.Step.{after_all}
 use Rattle.metis_universe.specs.Steadfast.{is_new}
 use Rattle.metis_universe.proofs.Attained.{Closed-layers}
@@ -62,7 +63,14 @@ inside [] k low = absurd (omega arith)
 inside (x ∷ xs) zero low = refl
 inside (x ∷ xs) (suc k) low = inside xs k (omega arith)
 
-module _ (u : Universe) (k : IsUniverse u) (old fresh : List Action) (s : IsSteady u old) (t : IsSteady u fresh) where
+-- each pair that stands has a layer
+pub layer : (u : Universe) → IsUniverse u → (old : List Action) → IsSteady u old → (z p : ℕ) → pair_of (left u old) z ≡ Some p → HasLayer u p (pair_count u)
+layer u k old s z p there =
+    let going = going_from_steady u old s in
+    layer_by u p (pair_count u)
+    (IsInside-after_all u (layer_set u (pair_count u)) empty (old ++ cleared u old) (Closed-layers u k) IsConfig-empty (IsInside-empty (layer_set u (pair_count u))) (run_from_going u [] (old ++ cleared u old) (cleared_goes u old going)) z p (ap (λ d. pair_of d z) (cleared_leaves u old going) ∙ there))
+
+module _ (u : Universe) (k : IsUniverse u) (single : IsSingle u) (old fresh : List Action) (s : IsSteady u old) (t : IsSteady u fresh) where
   going : GoesOn u [] old
   going = going_from_steady u old s
 
@@ -110,10 +118,10 @@ module _ (u : Universe) (k : IsUniverse u) (old fresh : List Action) (s : IsStea
   -- ---- the scaffold's list
 
   list_goes : GoesOn u [] list
-  list_goes = (scaffold_goes u k g).0
+  list_goes = (scaffold_goes u k g single).0
 
   stand : Stand u holder ends list
-  stand = (scaffold_goes u k g).1
+  stand = (scaffold_goes u k g single).1
 
   abbrev K : ℕ → Bool
   K = is_made list
@@ -169,13 +177,9 @@ module _ (u : Universe) (k : IsUniverse u) (old fresh : List Action) (s : IsStea
   leaves : at u cut ≡ what
   leaves = cleared_leaves u old going
 
-  -- each pair that stands has a layer
-  pub layer : (z p : ℕ) → pair_of what z ≡ Some p → HasLayer u p (pair_count u)
-  layer z p there = layer_by u p (pair_count u)
-      (IsInside-after_all u (layer_set u (pair_count u)) empty cut (Closed-layers u k) IsConfig-empty (IsInside-empty (layer_set u (pair_count u))) (run_from_going u [] cut (cleared_goes u old going)) z p (ap (λ d. pair_of d z) leaves ∙ there))
-
   scene : Scene u what c S f holder ends
   scene = record {
+    single = single;
     good = (left_good u old going).0;
     correct = left_correct u (cut ++ scaffold) beside_cut.0;
     olds = λ z h. sym (cut_used z) ∙ pair_touched (At (is_made cut)) u z cut (touches_own u cut (cleared_goes u old going)) (subst IsSome (sym (ap (λ d. pair_of d z) leaves)) h);
@@ -195,7 +199,7 @@ module _ (u : Universe) (k : IsUniverse u) (old fresh : List Action) (s : IsStea
         let down = scaffold_down u k g of.0.0 r parts.0 in
         let same = eqb-true of.1.0 (holder r) parts.1 in
         (of.0.0, of.1.0, made_low of.0.0 of.0.1, omega arith, of.0.2, of.1.2);
-    held = λ z p r there needs. let at_p = layer z p there in scaffold_serves u k g p at_p.layer r (some_of_pair what.instances z p there) at_p.is needs;
+    held = λ z p r there needs. let at_p = layer u k old s z p there in scaffold_serves u k g p at_p.layer r (some_of_pair what.instances z p there) at_p.is needs;
     ports = unlike_ports u k;
   }
 
@@ -236,14 +240,14 @@ module _ (u : Universe) (k : IsUniverse u) (old fresh : List Action) (s : IsStea
     | false ↦ λ some. long some
   ] refl
 
-pub replaced : (u : Universe) (old fresh : List Action) → IsUniverse u → IsSteady u old → IsSteady u fresh
+pub replaced : (u : Universe) (old fresh : List Action) → IsUniverse u → IsSingle u → IsSteady u old → IsSteady u fresh
     → IsSteady u (rollout u old fresh) × (after_all u empty (rollout u old fresh) ≡ after_all u empty (renumbered old fresh)) × ((g : List ℕ) → Holds (after_all u empty fresh) g → Holds (after_all u empty (rollout u old fresh)) g)
-replaced u old fresh k s t =
-    let done = whole u k old fresh s t in
+replaced u old fresh k single s t =
+    let done = whole u k single old fresh s t in
     (done.0, done.1, λ g h p. subst (λ d. count_by (λ q. nat_eq q p) g ≤ holding d p) (sym done.1) (omega (arith, h p, renumbered_holds u old fresh (going_from_steady u fresh t) p)))
 
-pub taken_apart : (u : Universe) (old : List Action) → IsUniverse u → IsSteady u old → IsSteady u (rollout u old []) × (after_all u empty (rollout u old []) ≡ empty)
-taken_apart u old k s = whole u k old [] s (record { runs = tt; steadfast = refl })
+pub taken_apart : (u : Universe) (old : List Action) → IsUniverse u → IsSingle u → IsSteady u old → IsSteady u (rollout u old []) × (after_all u empty (rollout u old []) ≡ empty)
+taken_apart u old k single s = whole u k single old [] s (record { runs = tt; steadfast = refl })
 
 -- no scaffold is made where the two first steps leave nothing
 pub without_scaffold : (u : Universe) (old fresh : List Action) → IsSteady u old → IsSteady u fresh → is_empty (members (after_all u empty (old ++ cleared_by u old))) ≡ true

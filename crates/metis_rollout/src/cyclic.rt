@@ -2,6 +2,7 @@
 ghost use Rattle.std.specs.Prelude.{◌≡◌, ◌+◌, ◌<◌, ◌^◌, ◌++◌, ℕ, IfOk, IsSome, OnOk, length, map};
 ghost use Rattle.std.specs.List.{All};
 ghost use Rattle.metis_universe.specs.Layers.{layer_of};
+ghost use Rattle.metis_universe.specs.Single.{IsSingle};
 ghost use Rattle.metis_universe.specs.Universe.{pair_count, required_of};
 ghost use Rattle.metis_layers.specs.Layers.{IsLayers};
 ghost use Rattle.metis_rollout.specs.Holders.{holder_at};
@@ -28,6 +29,7 @@ pub fn remove_cycles(
     c: &Config,
     actions: &mut Vec<Action>,
 ) -> Result<(), NoMemory>
+    requires single { IsSingle u.now }
     requires layers { IsLayers u.now l.now }
     requires layered { All (λ p. IsSome (layer_of u.now p)) (pairs_in c.now) }
     requires next { (n : ℕ) × (next.old ≡ free_number used.now.keys n) × (length used.now.keys + length used.now.keys + n < 2 ^ 31) }

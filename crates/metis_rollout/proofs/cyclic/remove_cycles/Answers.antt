@@ -23,7 +23,7 @@ names_for-requires-clause-steadfast c =
     let u = c.args.u.now in
     let g = pairs_in c.args.c.now in
     let is = c.deref-2.ensures.value ∙ c.in_ok-scaffold.ensures.actions ∙ ap (scaffold_list u) (c.deref.ensures.value ∙ c.in_ok-pairs.ensures) in
-    (u, subst (λ l. IsTrue (is_steadfast u l)) (sym is) (steady_from_going u (scaffold_list u g) (scaffold_goes u c.keeps_invariant.ensures.universe g).0).steadfast)
+    (u, subst (λ l. IsTrue (is_steadfast u l)) (sym is) (steady_from_going u (scaffold_list u g) (scaffold_goes u c.keeps_invariant.ensures.universe g c.requires.single).0).steadfast)
 
 pub names_for-requires-clause-next : goal.names_for-requires-clause-next
 names_for-requires-clause-next c =
@@ -48,7 +48,7 @@ returns c =
     let used = c.args.used.now.keys in
     let table = c.in_ok-names.names.entries in
     on_ok_weaker c.delete_downward.result
-    (λ last n is. removed_by u k d used n table c.requires.layered (subst (AreNamed used n table) (c.deref-2.ensures.value ∙ list) (c.in_ok-names.ensures.names n is)) s.actions.items s.holders s.count
+    (λ last n is. removed_by u k c.requires.single d used n table c.requires.layered (subst (AreNamed used n table) (c.deref-2.ensures.value ∙ list) (c.in_ok-names.ensures.names n is)) s.actions.items s.holders s.count
     c.args.actions.now.items c.push_renumbered.new.actions.items c.bind_all.new.actions.items c.unbind_all.new.actions.items c.delete_all.new.actions.items c.delete_downward.new.actions.items
     list holder count (c.in_ok-push_renumbered.ensures ∙ ap (λ l. c.args.actions.now.items ++ map (renumber (named table)) l) c.deref-3.ensures.value) c.in_ok-bind_all.ensures c.in_ok-unbind_all.ensures c.in_ok-delete_all.ensures last)
     c.delete_downward.ensures
