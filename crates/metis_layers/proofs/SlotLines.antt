@@ -61,8 +61,6 @@ module _ (u : Universe) (holder slot : ℕ → ℕ → ℕ) where
   AreWays ends [] = Unit {0}
   AreWays ends (path ∷ paths) = IsWay ends path × AreWays (ends ++ end_of path ∷ []) paths
 
-  -- ---- what the end of a way needs
-
   begun_filled : (ends : List ℕ) (p : ℕ) → IsBegun u p → (r j : ℕ) → wants u p r j ≡ true → IsFilled u holder slot ends r j
   begun_filled ends p begun r j h = absurd (false≢true (sym (free_needs u p r j begun.free) ∙ h))
 
@@ -70,12 +68,12 @@ module _ (u : Universe) (holder slot : ℕ → ℕ → ℕ) where
   last_filled ends p [] hops filled = filled
   last_filled ends p (q ∷ path) hops filled = last_filled ends q path hops.1 hops.0.served
 
-  -- is filled already
+  -- what the end of a way needs is filled
   pub way_filled : (ends path : List ℕ) → IsWay ends path → (r j : ℕ) → wants u (end_of path) r j ≡ true → IsFilled u holder slot ends r j
   way_filled ends [] way = absurd way
   way_filled ends (p ∷ path) way = last_filled ends p path way.1 (begun_filled ends p way.0)
 
-  -- so that each instance needs only slots of lower numbers
+  -- each instance needs only slots of lower numbers
   abbrev pub Downward : List ℕ → Type 0
   Downward ends = (x r j : ℕ) → ends_want u ends x r j ≡ true → holder r j < x
 
