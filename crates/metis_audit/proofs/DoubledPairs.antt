@@ -12,6 +12,7 @@ use Rattle.metis_ids.specs.Plans.{Dup, Plan}
 use Rattle.metis_universe.proofs.Rounds.{has-filter}
 use Rattle.metis_universe.specs.Layers.{layer_of}
 use Rattle.metis_universe.specs.Selection.{provider_pairs as provider_pairs_in}
+use Rattle.metis_universe.specs.Single.{IsSingle}
 use Rattle.metis_universe.specs.Universe.{Universe, IsTable, IsUniverse, has}
 use Rattle.metis_support.proofs.Kept.{kept}
 use Rattle.metis_support.proofs.Lists.{has-append_cases, has_one, same_test}
@@ -105,8 +106,8 @@ module _ (u : Universe) (g : List ℕ) (table : IsTable u) (layered : (q : ℕ) 
     all : AreDoubled (own_pairs ds) (length ds)
     all = subst (λ es. AreDoubled (own_pairs es) (length ds)) (take_all (length ds) ds (omega arith)) (so_far (length ds) (omega arith))
 
-pub doubled : (u : Universe) (g : List ℕ) (p : Plan) (after : List (List ℕ)) → IsTable u → IsAudited u g p after → IsDoubled u g p
-doubled u g p after table audited =
+pub doubled : (u : Universe) (g : List ℕ) (p : Plan) (after : List (List ℕ)) → IsTable u → IsSingle u → IsAudited u g p after → IsDoubled u g p
+doubled u g p after table single audited =
     let followed = audited.steady.followed in
     let layered = each_layered u g followed.counted.forced.attained in
     let are = all u g table layered p.dups followed.counted.forced.justified in
@@ -123,7 +124,7 @@ doubled u g p after table audited =
     record {
       providers = listed;
       once = are.once;
-      sound = graph_sound u g (own_pairs p.dups) table.universe layered listed;
+      sound = graph_sound u g (own_pairs p.dups) table.universe layered listed single;
       paths = λ l low. followed.each l low;
       instances = omega arith;
       fewer = are.fewer;

@@ -20,6 +20,7 @@ use Rattle.metis_universe.specs.Selection.{origin_of}
 use Rattle.metis_universe.specs.Layers.{is_enabled, layer_of, layer_set}
 use Rattle.metis_universe.specs.Step.{IsRun, after_all}
 use Rattle.metis_universe.specs.Universe.{Universe, IsUniverse, greatest_demand, has, is_free, pair_count}
+use Rattle.metis_layers.proofs.ByLayer.{order_ways, slot_at, slot_back}
 use Rattle.metis_layers.proofs.Copies.{copies, length-copies}
 use Rattle.metis_layers.proofs.Counts.{count-append, count-enumerate, enumerate_ascends, lookup-enumerate, slot_lines_make, standing_few}
 use Rattle.metis_layers.proofs.Going.{run_from_going, steadfast_from_going}
@@ -28,7 +29,7 @@ use Rattle.metis_layers.proofs.Lines.{same_lines}
 use Rattle.metis_layers.proofs.Numbers.{slot_ways_within}
 use Rattle.metis_layers.proofs.SlotLines.{end_of, last_of, slot_lines_go}
 use Rattle.metis_layers.proofs.Slots.{Stand}
-use Rattle.metis_layers.proofs.Standing.{AllLayered, HasSomeLayer, order_ways, slot_back, slot_of}
+use Rattle.metis_layers.proofs.Standing.{AllLayered, HasSomeLayer}
 use Rattle.metis_universe.proofs.Attained.{Closed-layers}
 use Rattle.metis_universe.proofs.Inside.{refused}
 use Rattle.std.specs.Prelude.{IsSome}
@@ -53,8 +54,11 @@ module _ (u : Universe) where
   path_ends [] = refl
   path_ends (x ∷ xs) = λ i. path_end (pair_count u) x i ∷ path_ends xs i
 
+  abbrev slot_of : ℕ → ℕ → ℕ
+  slot_of = slot_at u (greatest_demand u) (standing_pairs u)
+
   -- each pair has as many instances as it has places among the ends
-  holds_ends : (ends : List ℕ) (actions : List Action) → IsRun u empty actions → Stand u (slot_holder u) (slot_of u) ends actions → (p : ℕ) → holding (after_all u empty actions) p ≡ count_by (λ q. nat_eq q p) ends
+  holds_ends : (ends : List ℕ) (actions : List Action) → IsRun u empty actions → Stand u (slot_holder u) slot_of ends actions → (p : ℕ) → holding (after_all u empty actions) p ≡ count_by (λ q. nat_eq q p) ends
   holds_ends ends actions run s p =
       let c = after_all u empty actions in
       let good = IsConfig-after_all u empty actions IsConfig-empty run in
@@ -75,14 +79,14 @@ module _ (u : Universe) where
   order_deploys k g all =
       let paths = map (path_to u) (line_ends u g) in
       let ways = order_ways u k g all in
-      let went = slot_lines_go u k (slot_holder u) (slot_of u) (slot_back u) paths ways in
+      let went = slot_lines_go u k (slot_holder u) slot_of (slot_back u (greatest_demand u) (standing_pairs u)) paths ways in
       let run = run_from_going u [] (layer_order u g) went.0 in
-      let stand = subst (λ l. Stand u (slot_holder u) (slot_of u) l (layer_order u g)) (path_ends (line_ends u g)) went.1 in
+      let stand = subst (λ l. Stand u (slot_holder u) slot_of l (layer_order u g)) (path_ends (line_ends u g)) went.1 in
       record {
         runs = run;
         holds = λ p. subst (λ n. count_by (λ q. nat_eq q p) g ≤ n) (sym (holds_ends (line_ends u g) (layer_order u g) run stand p)) (count-append p (copies (greatest_demand u) (standing_pairs u)) g);
         steadfast = steadfast_from_going u (layer_order u g) went.0;
-        numbers = slot_ways_within u k (slot_holder u) (slot_of u) [] 0 paths ways;
+        numbers = slot_ways_within u k (slot_holder u) slot_of [] 0 paths ways;
         few = omega (arith, slot_lines_make u (slot_holder u) 0 (line_ends u g), few_ends g);
       }
 

@@ -31,6 +31,17 @@ abbrev pub end_of : List ℕ → ℕ
 end_of [] = 0
 end_of (p ∷ path) = last_of p path
 
+module _ (u : Universe) where
+  needs_nothing : (xs : List ℕ) → is_empty xs ≡ true → (r : ℕ) → has xs r ≡ false
+  needs_nothing [] h r = refl
+  needs_nothing (x ∷ xs) h r = absurd (false≢true h)
+
+  -- a free pair needs no slot
+  pub free_needs : (p r j : ℕ) → is_free u p ≡ true → wants u p r j ≡ false
+  free_needs p r j free =
+      let none = needs_nothing (required_of u p) (and_parts (is_initial u p) (is_empty (required_of u p)) free).1 r in
+      ap (λ n. up_to n j) (demand_none u p r none) ∙ none_to_none j
+
 module _ (u : Universe) (holder slot : ℕ → ℕ → ℕ) where
   -- p may go to q, a pair of the same type, and the slots that q needs are filled
   pub record IsHop (ends : List ℕ) (p q : ℕ) : Type 0 where
@@ -50,30 +61,19 @@ module _ (u : Universe) (holder slot : ℕ → ℕ → ℕ) where
   AreWays ends [] = Unit {0}
   AreWays ends (path ∷ paths) = IsWay ends path × AreWays (ends ++ end_of path ∷ []) paths
 
-  -- ---- what the end of a way needs
-
-  needs_nothing : (xs : List ℕ) → is_empty xs ≡ true → (r : ℕ) → has xs r ≡ false
-  needs_nothing [] h r = refl
-  needs_nothing (x ∷ xs) h r = absurd (false≢true h)
-
-  free_needs : (p r j : ℕ) → is_free u p ≡ true → wants u p r j ≡ false
-  free_needs p r j free =
-      let none = needs_nothing (required_of u p) (and_parts (is_initial u p) (is_empty (required_of u p)) free).1 r in
-      ap (λ n. up_to n j) (demand_none u p r none) ∙ none_to_none j
-
   begun_filled : (ends : List ℕ) (p : ℕ) → IsBegun u p → (r j : ℕ) → wants u p r j ≡ true → IsFilled u holder slot ends r j
-  begun_filled ends p begun r j h = absurd (false≢true (sym (free_needs p r j begun.free) ∙ h))
+  begun_filled ends p begun r j h = absurd (false≢true (sym (free_needs u p r j begun.free) ∙ h))
 
   last_filled : (ends : List ℕ) (p : ℕ) (path : List ℕ) → AreHops ends p path → ((r j : ℕ) → wants u p r j ≡ true → IsFilled u holder slot ends r j) → (r j : ℕ) → wants u (last_of p path) r j ≡ true → IsFilled u holder slot ends r j
   last_filled ends p [] hops filled = filled
   last_filled ends p (q ∷ path) hops filled = last_filled ends q path hops.1 hops.0.served
 
-  -- is filled already
+  -- what the end of a way needs is filled
   pub way_filled : (ends path : List ℕ) → IsWay ends path → (r j : ℕ) → wants u (end_of path) r j ≡ true → IsFilled u holder slot ends r j
   way_filled ends [] way = absurd way
   way_filled ends (p ∷ path) way = last_filled ends p path way.1 (begun_filled ends p way.0)
 
-  -- so that each instance needs only slots of lower numbers
+  -- each instance needs only slots of lower numbers
   abbrev pub Downward : List ℕ → Type 0
   Downward ends = (x r j : ℕ) → ends_want u ends x r j ≡ true → holder r j < x
 
@@ -150,7 +150,7 @@ module _ (u : Universe) (k : IsUniverse u) (holder slot : ℕ → ℕ → ℕ) (
         let z = length ends in
         let a = New z (type_of u p) in
         let made = at_begin u holder slot back ends earlier (type_of u p) p s way.0.initial in
-        let none : (r j : ℕ) → wants u p r j ≡ false = λ r j. free_needs u holder slot p r j way.0.free in
+        let none : (r j : ℕ) → wants u p r j ≡ false = λ r j. free_needs u p r j way.0.free in
         let filled = begun_filled u holder slot ends p way.0 in
         let begun = at_retest u holder slot back ends p (λ r j. false) (wants u p) (earlier ++ a ∷ []) (λ r j. sym (none r j)) made in
         let rest = path_goes p path (earlier ++ a ∷ []) way.1 filled begun in

@@ -48,7 +48,7 @@ use Rattle.metis_crew.specs.declared.turn.Turn.TheVariants as turn
 use Rattle.metis_gen.specs.Generated.{generated, generated_targets}
 use Rattle.metis_top.specs.Answer as answer
 use Rattle.metis_top.specs.Answer.{Answer, IsAnswer}
-use Rattle.metis_top.specs.Commands.{any_universe_then, single_then, waves_then, control_over, control_then, audit_then, plan_said, command_script, crew_over, crew_then, judged, or_plan_refused, or_refusal_refused, or_turns_refused, or_universe_refused, or_word, goal_found_then, goals_after, goals_named, plan_limit, refusal_limit, refute_then, replay_then, rollout_then, script_from, session_limit, sim_then, targets_then, turns_limit, universe_then, hosts_limit, or_hosts_refused, place_over, place_then}
+use Rattle.metis_top.specs.Commands.{universe_then, single_then, waves_then, control_over, control_then, audit_then, plan_said, command_script, crew_over, crew_then, judged, or_plan_refused, or_refusal_refused, or_turns_refused, or_universe_refused, or_word, goal_found_then, goals_after, goals_named, plan_limit, refusal_limit, refute_then, replay_then, rollout_then, script_from, session_limit, sim_then, targets_then, turns_limit, single_universe_then, hosts_limit, or_hosts_refused, place_over, place_then}
 use Rattle.metis_top.specs.Course.{Ran, Says, Shown, after}
 use Rattle.metis_top.specs.Crewed.{last_line, loose_line, progress_line, turn_line}
 use Rattle.metis_top.specs.Judged.{judgement_line, word_line}
@@ -403,16 +403,16 @@ lines_meant : (next : Universe → Script) (r : Result Universe UFault) → ((u 
 lines_meant next (Ok u) says named = says u refl
 lines_meant next (Err fault) says named = IsLine-universe_line fault (λ e. named (ap Err e))
 
-lines_any_universe : (place : ℕ) (name : List ℕ) (next : Universe → Script) → ((u : Universe) → IsTable u → SaysLines (next u)) → SaysLines (any_universe_then place name next)
-lines_any_universe place name next says = λ bytes.
+lines_universe : (place : ℕ) (name : List ℕ) (next : Universe → Script) → ((u : Universe) → IsTable u → SaysLines (next u)) → SaysLines (universe_then place name next)
+lines_universe place name next says = λ bytes.
     lines_if (nat_le (length bytes) document_limit) (judged next (or_universe_refused (universe_in bytes))) place
     (lines_meant next (universe_in bytes) (λ u is. says u (universe_in_table bytes u is)) (universe_in_named bytes))
 
 lines_single : (u : Universe) (next : Universe → Script) → SaysLines (next u) → SaysLines (single_then u next)
 lines_single u next says = elim (nat_le (greatest_demand u) 1) as (λ b. SaysLines (if b then next u else Refuse NotYet)) [ true ↦ says | false ↦ IsLine-from (codes "not yet demand") refl ]
 
-lines_universe : (place : ℕ) (name : List ℕ) (next : Universe → Script) → ((u : Universe) → IsTable u → SaysLines (next u)) → SaysLines (universe_then place name next)
-lines_universe place name next says = lines_any_universe place name (λ u. single_then u next) (λ u table. lines_single u next (says u table))
+lines_single_universe : (place : ℕ) (name : List ℕ) (next : Universe → Script) → ((u : Universe) → IsTable u → SaysLines (next u)) → SaysLines (single_universe_then place name next)
+lines_single_universe place name next says = lines_universe place name (λ u. single_then u next) (λ u table. lines_single u next (says u table))
 
 word_refuses : (place : ℕ) (o : Option Goal) → RefusesByLine (or_word place o)
 word_refuses place None = IsLine-word place
@@ -520,17 +520,17 @@ lines_place u table plan name = λ bytes.
 
 -- the script of each command
 lines_command : (verb : Verb) (files : List (List ℕ)) (targets : List TargetName) (size : ℕ) (numbers : List ℕ) → SaysLines (command_script verb files targets size numbers)
-lines_command Plan files targets size numbers = lines_universe 2 (word_at files 0) _ (λ u table. lines_targets 3 u targets (λ g. Reply (answer.Plan u g)) (plan_answers u table))
+lines_command Plan files targets size numbers = lines_single_universe 2 (word_at files 0) _ (λ u table. lines_targets 3 u targets (λ g. Reply (answer.Plan u g)) (plan_answers u table))
 lines_command Replay files targets size numbers = lines_universe 2 (word_at files 0) _ (λ u table. lines_targets 4 u targets (λ g. replay_then (word_at files 1) (u, g)) (λ g. lines_replay u table g (word_at files 1)))
 lines_command Refute files targets size numbers = lines_universe 2 (word_at files 0) _ (λ u table. lines_targets 4 u targets (λ g. refute_then (word_at files 1) (u, g)) (λ g. lines_refute u table g (word_at files 1)))
-lines_command Audit files targets size numbers = lines_universe 2 (word_at files 0) _ (λ u table. lines_targets 4 u targets (λ g. audit_then (word_at files 1) (u, g)) (λ g. lines_audit u table g (word_at files 1)))
+lines_command Audit files targets size numbers = lines_single_universe 2 (word_at files 0) _ (λ u table. lines_targets 4 u targets (λ g. audit_then (word_at files 1) (u, g)) (λ g. lines_audit u table g (word_at files 1)))
 lines_command Sim files targets size numbers = lines_universe 2 (word_at files 0) _ (λ u table. lines_sim u table (word_at files 1))
 lines_command Crew files targets size numbers = lines_universe 2 (word_at files 0) _ (λ u table. lines_crew u table (word_at files 1) (word_at files 2))
 lines_command Waves files targets size numbers = lines_universe 2 (word_at files 0) _ (λ u table. lines_waves u table (word_at files 1) numbers)
 lines_command Control files targets size numbers = lines_universe 2 (word_at files 0) _ (λ u table. lines_control u table (word_at files 1) (word_at files 2))
-lines_command Rollout files targets size numbers = lines_universe 2 (word_at files 0) _ (λ u table. lines_targets 4 u targets (λ g. rollout_then (word_at files 1) (u, g)) (λ g. lines_rollout u table g (word_at files 1)))
+lines_command Rollout files targets size numbers = lines_single_universe 2 (word_at files 0) _ (λ u table. lines_targets 4 u targets (λ g. rollout_then (word_at files 1) (u, g)) (λ g. lines_rollout u table g (word_at files 1)))
 lines_command Place files targets size numbers = lines_universe 2 (word_at files 0) _ (λ u table. lines_place u table (word_at files 1) (word_at files 2))
-lines_command Print files targets size numbers = lines_any_universe 2 (word_at files 0) _ (λ u table. print_answers u)
+lines_command Print files targets size numbers = lines_universe 2 (word_at files 0) _ (λ u table. print_answers u)
 lines_command Load files targets size numbers = load_answers size
 
 lines_script : (form : Result Form ℕ) → SaysLines (script_from form)

@@ -4,7 +4,7 @@ ghost use Rattle.metis_top.specs.Commands.{print_script};
 ghost use Rattle.metis_top.specs.Course.{Ran, Shown};
 
 use crate::Status;
-use crate::reading::any_universe_from;
+use crate::reading::universe_from;
 use crate::stop::{end, said};
 use metis_outside::{Shelf, Sink};
 use metis_ujson::write_universe;
@@ -20,7 +20,7 @@ pub fn print_file<H: Shelf, K: Sink>(
 ) -> Status
     ensures { Ran H.files H.faults H.opens K.written K.faults (print_script file.now) shelf.old shelf.new out.old out.new result }
 {
-    match any_universe_from(alloc, shelf, 2, file) {
+    match universe_from(alloc, shelf, 2, file) {
         Ok(universe) => put_universe(alloc, &universe, out),
         Err(stop) => end(alloc, stop, out),
     }

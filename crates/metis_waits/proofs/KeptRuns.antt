@@ -7,7 +7,7 @@ use Rattle.std.proofs.lemmas.Bool.{false≢true, or_left, or_right, or_cases, eq
 use Rattle.metis_ids.specs.Action.{actor_of}
 use Rattle.metis_ids.specs.declared.actions.Action.{Action}
 use Rattle.metis_ids.specs.declared.actions.Action.TheVariants.{New, Delete, Bind, Unbind, Move}
-use Rattle.metis_universe.specs.Universe.{Universe, has, type_of, type_requires, type_provides}
+use Rattle.metis_universe.specs.Universe.{demand_of, Universe, has, type_of, type_requires, type_provides}
 use Rattle.metis_universe.specs.Config.{Config, Binding, empty, pair_of, is_bound, is_tie, Correct}
 use Rattle.metis_universe.specs.Step.{Allows, after, after_all, IsRun}
 use Rattle.metis_universe.specs.Waits.{waits, picked, IsKeptFrom, IsKept, is_complete}
@@ -16,6 +16,7 @@ use Rattle.metis_universe.specs.Steadfast.{is_steadfast}
 use Rattle.metis_universe.proofs.Edits.{tie_is}
 use Rattle.metis_universe.proofs.Frames.{pair_step, pair_of-after, bound_step, is_bound-after}
 use Rattle.metis_universe.proofs.Standing.{step_made}
+use Rattle.metis_universe.proofs.Demands.{IsMet-map}
 use Rattle.metis_universe.proofs.Correctness.{all_has}
 use Rattle.metis_universe.proofs.Kept.{IsConfig-after_all, IsConfig-empty}
 use Rattle.metis_universe.proofs.Same.{same_config}
@@ -224,17 +225,16 @@ module _ (u : Universe) (A : List Action) (run : IsRun u empty A) (steady : is_s
   pub correct_next : Correct u (after u d a)
   correct_next z p r at_p needs =
       let place = place_of A done_next closed_next z in
-      let met = Correct-config_at u A place.0 run z p r (sym (agree_next.pairs z place.0 place.1) ∙ at_p) needs in
-      let y = met.provider in
+      IsMet-map u (config_at u A place.0) (after u d a) z r (demand_of u p r) (λ y met.
       let place_y = place_of A done_next closed_next y in
       let same = same_provider u A run steady done_next closed_next r z y place.0 place_y.0 met.bound place.1 place_y.1 in
       record {
-        provider = y;
         pair = met.pair;
         bound = agree_next.ties r z y place.0 place.1 ∙ met.bound;
         there = agree_next.pairs y place_y.0 place_y.1 ∙ same ∙ met.there;
         gives = met.gives;
-      }
+      })
+      (Correct-config_at u A place.0 run z p r (sym (agree_next.pairs z place.0 place.1) ∙ at_p) needs)
 
   -- what the action needs is there
   pub allowed : Allows u d a
