@@ -27,15 +27,15 @@ each_in_range : (t : ℕ → Bool) (a n : ℕ) → ((i : ℕ) → a ≤ i → i 
 each_in_range t a zero each = refl
 each_in_range t a (suc n) each = and_from (t a) (list_all t (range_with_len (a + 1) n)) (each a (omega arith) (omega arith)) (each_in_range t (a + 1) n (λ i low high. each i (omega arith) (omega arith)))
 
-module _ (u : Universe) (g : List ℕ) (s : Support) (x : LifeLines) (is : s ≡ support_of u g) (lines : x ≡ lines_of s g []) where
+module _ (u : Universe) (g : List ℕ) (s : Support) (x : LifeLines) (is : s ≡ support_of u g) (lines : x ≡ lines_of u s g []) where
   pub unjustified : (ds : List Dup) (k : ℕ) → IsFirstUnforced u s x.targets ds k → IsFirstUnjustified u g ds k
   unjustified ds k first =
       let moved : IsFirstUnforced u (support_of u g) g ds k = subst (λ z. IsFirstUnforced u z g ds k) is (subst (λ (y : LifeLines). IsFirstUnforced u s y.targets ds k) lines first) in
       record { first = moved.first; last = moved.last; fails = moved.fails; before = moved.before }
 
-  module _ (p : Plan) (ds : List Dup) (same : ds ≡ p.dups) (y : LifeLines) (own : y ≡ lines_of s x.targets (own_pairs ds)) where
+  module _ (p : Plan) (ds : List Dup) (same : ds ≡ p.dups) (y : LifeLines) (own : y ≡ lines_of u s x.targets (own_pairs ds)) where
     whole : y ≡ audited_lines u g p
-    whole = own ∙ ap (λ (z : LifeLines). lines_of s z.targets (own_pairs ds)) lines ∙ (λ i. lines_of (is i) g (own_pairs (same i)))
+    whole = own ∙ ap (λ (z : LifeLines). lines_of u s z.targets (own_pairs ds)) lines ∙ (λ i. lines_of u (is i) g (own_pairs (same i)))
 
     targets : y.targets ≡ g
     targets = ap (λ (z : LifeLines). z.targets) whole

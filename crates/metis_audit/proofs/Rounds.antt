@@ -22,14 +22,14 @@ not_all_in_row t f a (suc n) i low high fails = elim (cases_eq a i) [
   | inr other ↦ and_right (t (f a)) (list_all t (map f (range_with_len (a + 1) n))) (not_all_in_row t f (a + 1) n i (omega arith) (omega arith) fails)
 ]
 
-some_in_row : {X : Type 0} (t : X → Bool) (f : ℕ → X) (a n i : ℕ) → a ≤ i → i < a + n → t (f i) ≡ true → list_any t (map f (range_with_len a n)) ≡ true
+pub some_in_row : {X : Type 0} (t : X → Bool) (f : ℕ → X) (a n i : ℕ) → a ≤ i → i < a + n → t (f i) ≡ true → list_any t (map f (range_with_len a n)) ≡ true
 some_in_row t f a zero i low high passes = absurd (omega arith)
 some_in_row t f a (suc n) i low high passes = elim (cases_eq a i) [
   | inl same ↦ or_left (t (f a)) (list_any t (map f (range_with_len (a + 1) n))) (ap (λ k. t (f k)) same ∙ passes)
   | inr other ↦ or_right (t (f a)) (list_any t (map f (range_with_len (a + 1) n))) (some_in_row t f (a + 1) n i (omega arith) (omega arith) passes)
 ]
 
-none_in_row : {X : Type 0} (t : X → Bool) (f : ℕ → X) (a n : ℕ) → ((i : ℕ) → a ≤ i → i < a + n → t (f i) ≡ false) → list_any t (map f (range_with_len a n)) ≡ false
+pub none_in_row : {X : Type 0} (t : X → Bool) (f : ℕ → X) (a n : ℕ) → ((i : ℕ) → a ≤ i → i < a + n → t (f i) ≡ false) → list_any t (map f (range_with_len a n)) ≡ false
 none_in_row t f a zero each = refl
 none_in_row t f a (suc n) each = ap (λ b. b || list_any t (map f (range_with_len (a + 1) n))) (each a (omega arith) (omega arith)) ∙ none_in_row t f (a + 1) n (λ i low high. each i (omega arith) (omega arith))
 

@@ -1,7 +1,7 @@
 -- Whether a cycle forces a pair to have a line of its own, over any life lines.
 --     next_around es i, turn es i      the event behind number i of a list, and the first behind the last;  both
 --     is_exit w y i f e      whether the edge from e to f is a return into the move of line y out of station i
---     is_forced u s x p es      the list is a cycle over these lines, and leads the holder of p on
+--     is_forced u s x p es      the list is a cycle over these lines, and leads the line that is slot 1 of p on
 --     is_forced_at u s g ds i      dup i, from 0, is forced over the lines for the targets and the pairs of those before it
 --     IsFirstUnforced u s g ds k      dup k, from 1, is the first that is not
 use Rattle.std.specs.Prelude.{ℕ, ◌≤◌, ◌<◌, ◌+◌, ◌-◌, Bool, false, ◌&&◌, List, length, take, slice_get, slice_index_or, IsTrue, IsFalse}
@@ -28,10 +28,10 @@ is_exit w y i f e = is_return w e f && same_event f (At y (i + 1))
 
 abbrev pub is_forced : Universe → Support → LifeLines → ℕ → List Event → Bool
 is_forced u s x p es =
-    list_all (is_event (plan_of u s x)) es && is_cycle (plan_of u s x) es && option_map_or (λ held. leads_on (plan_of u s x) es held.0 held.1) (holder_of x p) false
+    list_all (is_event (plan_of u s x)) es && is_cycle (plan_of u s x) es && option_map_or (λ held. leads_on (plan_of u s x) es held.0 held.1) (holder_of x p 1) false
 
 abbrev pub is_forced_at : Universe → Support → List ℕ → List Dup → ℕ → Bool
-is_forced_at u s g ds i = option_map_or (λ each. is_forced u s (lines_of s g (own_pairs (take i ds))) each.pair each.cycle) (slice_get ds i) false
+is_forced_at u s g ds i = option_map_or (λ each. is_forced u s (lines_of u s g (own_pairs (take i ds))) each.pair each.cycle) (slice_get ds i) false
 
 pub record IsFirstUnforced (u : Universe) (s : Support) (g : List ℕ) (ds : List Dup) (k : ℕ) : Type 0 where
   pub first : 1 ≤ k

@@ -62,7 +62,7 @@ fn audit_dups(
     ensures { IfOk result (IsAnswer u.now targets.now text.now.plan (lists_of text.now)) }
 {
     u.keeps_invariant();
-    let mut lines = Lines::new(alloc, s, targets)?;
+    let mut lines = Lines::new(alloc, u, s, targets)?;
     match first_unforced(alloc, u, s, &mut lines, &text.plan.dups)? {
         Some(number) => Ok(Answer::NoCycle(number)),
         None => audit_lines(alloc, u, &lines, text),

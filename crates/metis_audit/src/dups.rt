@@ -22,11 +22,11 @@ pub fn first_unforced(
     dups: &[Dup],
 ) -> Result<Option<u32>, NoMemory>
     requires over { IsSupport u.now s.now }
-    requires lines { AreLines s.now lines.old }
-    requires first { lines.old ≡ lines_of s.now lines.old.targets [] }
+    requires lines { AreLines u.now s.now lines.old }
+    requires first { lines.old ≡ lines_of u.now s.now lines.old.targets [] }
     requires few { length dups.now < 2 ^ 32 }
     ensures unforced { IfOk result (λ k. MatchOption k ((i : ℕ) → i < length dups.now → IsTrue (is_forced_at u.now s.now lines.old.targets dups.now i)) (IsFirstUnforced u.now s.now lines.old.targets dups.now)) }
-    ensures own { IfOk result (λ k. MatchOption k (lines.new ≡ lines_of s.now lines.old.targets (own_pairs dups.now)) (λ _. ⊤)) }
+    ensures own { IfOk result (λ k. MatchOption k (lines.new ≡ lines_of u.now s.now lines.old.targets (own_pairs dups.now)) (λ _. ⊤)) }
 {
     let _kept = s.selected();
     for index in 0..dups.len() {

@@ -1,14 +1,15 @@
 //! The edges between two events of life lines, told from the lines alone.
 ghost use Rattle.std.specs.Prelude.{◌≡◌, ◌<◌, ◌+◌, length, nat_eq, MatchBool, MatchOption};
+ghost use Rattle.metis_universe.specs.Universe.{pair_count};
 ghost use Rattle.metis_ids.specs.declared.events.Event.TheVariants.{At};
 ghost use Rattle.metis_support.specs.Support.{IsSupport};
 ghost use Rattle.metis_lines.specs.Events.{is_event, is_go, is_return, is_start, precedes, step_count};
-ghost use Rattle.metis_lines.specs.LifeLines.{AreLines, line_at, plan_of};
+ghost use Rattle.metis_lines.specs.LifeLines.{AreLines, holder_of, line_at, plan_of};
 ghost use Rattle.metis_events.specs.Gathered.{without_supplies};
 ghost use Rattle.metis_audit.specs.Leaving.{IsLeft, IsNoLeaving, IsTakenByNoTarget, IsTakenByTarget};
-ghost use Rattle.metis_audit.specs.Takes.{held_place, is_at, is_taken, takes};
+ghost use Rattle.metis_audit.specs.Takes.{has_slot_at, is_at, is_taken, takes, takes_port};
 
-use metis_ids::{Event, LineIx, PortIx, StepIx};
+use metis_ids::{Event, LineIx, PairIx, PortIx, StepIx};
 use metis_lines::Lines;
 use metis_support::Support;
 use metis_universe::Universe;
@@ -36,11 +37,11 @@ fn step_count(l: &Lines, line: LineIx) -> u32
     }
 }
 
-/// Whether some edge leads from the one event to the other. It takes as long as what one station requires, but from the end on as
-/// long as what the last stations of the targets' lines do.
+/// Whether some edge leads from the one event to the other. It takes as long as one station has slots of the ports that it requires,
+/// but from the end on as long as the last stations of the targets' lines have.
 pub fn precedes(u: &Universe, s: &Support, l: &Lines, e: &Event, f: &Event) -> bool
     requires over { IsSupport u.now s.now }
-    requires lines { AreLines s.now l.now }
+    requires lines { AreLines u.now s.now l.now }
     ensures { result ≡ precedes (plan_of u.now s.now l.now) e.now f.now }
 {
     is_go(l, e, f) || is_start(u, s, l, e, f) || is_return(u, s, l, e, f)
@@ -69,7 +70,7 @@ pub fn is_next(step: StepIx, next: StepIx) -> bool
 // Whether the line enters its station after the holder has entered the place that supplies it.
 fn is_start(u: &Universe, s: &Support, l: &Lines, e: &Event, f: &Event) -> bool
     requires over { IsSupport u.now s.now }
-    requires lines { AreLines s.now l.now }
+    requires lines { AreLines u.now s.now l.now }
     ensures { result ≡ is_start (plan_of u.now s.now l.now) e.now f.now }
 {
     let _kept = s.selected();
@@ -85,7 +86,7 @@ fn is_start(u: &Universe, s: &Support, l: &Lines, e: &Event, f: &Event) -> bool
 /// Whether a line leaves a station by the first event, and then the line that supplied it from another leaves that by the second.
 pub fn is_return(u: &Universe, s: &Support, l: &Lines, e: &Event, f: &Event) -> bool
     requires over { IsSupport u.now s.now }
-    requires lines { AreLines s.now l.now }
+    requires lines { AreLines u.now s.now l.now }
     ensures { result ≡ is_return (plan_of u.now s.now l.now) e.now f.now }
 {
     let _kept = s.selected();
@@ -98,7 +99,7 @@ pub fn is_return(u: &Universe, s: &Support, l: &Lines, e: &Event, f: &Event) -> 
 // Whether a line leaves a station by the event that is supplied from the place.
 fn is_taken(u: &Universe, s: &Support, l: &Lines, e: &Event, held: &(LineIx, StepIx)) -> bool
     requires over { IsSupport u.now s.now }
-    requires lines { AreLines s.now l.now }
+    requires lines { AreLines u.now s.now l.now }
     ensures { result ≡ is_taken u.now s.now l.now e.now held.now.0 held.now.1 }
 {
     let _kept = s.selected();
@@ -138,7 +139,7 @@ fn starts(
     held: &(LineIx, StepIx),
 ) -> bool
     requires over { IsSupport u.now s.now }
-    requires lines { AreLines s.now l.now }
+    requires lines { AreLines u.now s.now l.now }
     ensures { result ≡ is_start (plan_of u.now s.now l.now) (At held.now.0 held.now.1) (At taker.now.0 taker.now.1) }
 {
     let _kept = s.selected();
@@ -152,7 +153,7 @@ fn starts(
 // Whether the last station of some target's line takes a port from the place. The targets' lines are the first ones.
 fn some_target_takes(u: &Universe, s: &Support, l: &Lines, held: &(LineIx, StepIx)) -> bool
     requires over { IsSupport u.now s.now }
-    requires lines { AreLines s.now l.now }
+    requires lines { AreLines u.now s.now l.now }
     ensures { MatchBool result (IsTakenByTarget u.now s.now l.now held.now.0 held.now.1) (IsTakenByNoTarget u.now s.now l.now held.now.0 held.now.1) }
 {
     for number in 0..l.count() {
@@ -176,33 +177,56 @@ fn takes(
     held: &(LineIx, StepIx),
 ) -> bool
     requires over { IsSupport u.now s.now }
-    requires lines { AreLines s.now l.now }
+    requires lines { AreLines u.now s.now l.now }
     requires line { taker.now.0 < length l.now.lines }
     requires station { taker.now.1 < length (line_at l.now taker.now.0) }
     ensures { result ≡ takes u.now s.now l.now taker.now.0 taker.now.1 held.now.0 held.now.1 }
 {
-    for port in u.requires_(l.station(taker.0, taker.1)) {
-        if is_held_at(s, l, *port, held) {
+    let pair = l.station(taker.0, taker.1);
+    for port in u.requires_(pair) {
+        if takes_port(u, s, l, pair, *port, held) {
             return true;
         }
     }
     false
 }
 
-// Whether the port's provider is held at the place.
-fn is_held_at(s: &Support, l: &Lines, port: PortIx, held: &(LineIx, StepIx)) -> bool
-    ensures { result ≡ is_at held.now.0 held.now.1 (held_place s.now l.now port) }
+// Whether one of the slots that the pair demands of the port is the place.
+fn takes_port(
+    u: &Universe,
+    s: &Support,
+    l: &Lines,
+    pair: PairIx,
+    port: PortIx,
+    held: &(LineIx, StepIx),
+) -> bool
+    requires { pair < pair_count u.now }
+    ensures { result ≡ takes_port u.now s.now l.now pair held.now.0 held.now.1 port }
 {
-    match held_place(s, l, port) {
-        Some(place) => place.0 == held.0 && place.1 == held.1,
+    match s.provider(port) {
+        Some(provider) => has_slot_at(l, provider, u.demand(pair, port), held),
         None => false,
     }
 }
 
-// Where the port's provider is held.
-fn held_place(s: &Support, l: &Lines, port: PortIx) -> Option<(LineIx, StepIx)>
-    ensures { result ≡ held_place s.now l.now port }
+// Whether one of the first so many slots of the provider pair is the place.
+fn has_slot_at(l: &Lines, provider: PairIx, count: u32, held: &(LineIx, StepIx)) -> bool
+    ensures { result ≡ has_slot_at l.now held.now.0 held.now.1 provider count }
 {
-    let provider = s.provider(port)?;
-    l.holder(provider)
+    for slot in 0..count {
+        if is_slot_at(l, provider, slot + 1, held) {
+            return true;
+        }
+    }
+    false
+}
+
+// Whether the slot of the provider pair is the place.
+fn is_slot_at(l: &Lines, provider: PairIx, slot: u32, held: &(LineIx, StepIx)) -> bool
+    ensures { result ≡ is_at held.now.0 held.now.1 (holder_of l.now provider slot) }
+{
+    match l.holder(provider, slot) {
+        Some(place) => place.0 == held.0 && place.1 == held.1,
+        None => false,
+    }
 }

@@ -30,7 +30,7 @@ audit_lines-requires-clause-lines c =
     let ds = c.deref.result.now in
     let y = c.first_unforced.new.lines in
     let same = c.deref.ensures.value ∙ ap (λ (t : PlanText). t.plan.dups) c.text.view_is in
-    let own = subst (λ (o : Option ℕ). MatchOption o (y ≡ lines_of s x.targets (own_pairs ds)) (λ _. ⊤)) c.in-None.is c.in_ok-number.ensures.own in
+    let own = subst (λ (o : Option ℕ). MatchOption o (y ≡ lines_of u s x.targets (own_pairs ds)) (λ _. ⊤)) c.in-None.is c.in_ok-number.ensures.own in
     audited u c.args.targets.now s x c.requires.support c.in_ok-lines.ensures.lines c.args.text.now.plan ds same y own
 
 pub audit_lines-requires-clause-forced : goal.audit_lines-requires-clause-forced
@@ -41,6 +41,6 @@ audit_lines-requires-clause-forced c =
     let ds = c.deref.result.now in
     let y = c.first_unforced.new.lines in
     let same = c.deref.ensures.value ∙ ap (λ (t : PlanText). t.plan.dups) c.text.view_is in
-    let own = subst (λ (o : Option ℕ). MatchOption o (y ≡ lines_of s x.targets (own_pairs ds)) (λ _. ⊤)) c.in-None.is c.in_ok-number.ensures.own in
+    let own = subst (λ (o : Option ℕ). MatchOption o (y ≡ lines_of u s x.targets (own_pairs ds)) (λ _. ⊤)) c.in-None.is c.in_ok-number.ensures.own in
     let each = subst (λ o. MatchOption o ((i : ℕ) → i < length ds → is_forced_at u s x.targets ds i ≡ true) (IsFirstUnforced u s x.targets ds)) c.in-None.is c.in_ok-number.ensures.unforced in
     forced u c.args.targets.now s x c.requires.support c.in_ok-lines.ensures.lines c.args.text.now.plan ds same y own c.requires.attained each

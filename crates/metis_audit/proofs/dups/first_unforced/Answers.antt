@@ -30,7 +30,7 @@ returns-then-not-is_forced-clause-unforced c =
     }
 
 pub own_line-requires-clause-loose : goal.own_line-requires-clause-loose
-own_line-requires-clause-loose c = (goes_on c.args.s.now c.loop-index.lines c.loop-index.invariant.1 c.selected-kept.ensures.kept c.args.u.now c.dup.inside.pair c.deref.result.now (sym c.if-not-is_forced.ensures)).loose
+own_line-requires-clause-loose c = (goes_on c.args.u.now c.args.s.now c.requires.over c.loop-index.lines c.loop-index.invariant.1 c.dup.inside.pair c.deref.result.now (sym c.if-not-is_forced.ensures)).loose
 
 pub loop-index-preserved : goal.loop-index-preserved
 loop-index-preserved c =
@@ -43,9 +43,9 @@ loop-index-preserved c =
     let is = slice_get-get_or ds i d c.loop-index-test.true ∙ ap Some (sym c.index-dups-index.is) in
     let pair = ap (λ (e : Dup). e.pair) c.dup.view_is in
     let cycle = c.deref.ensures.value ∙ ap (λ (e : Dup). e.cycle) c.dup.view_is in (
-      lines_more s g (own_pairs (take i ds)) c.loop-index.lines c.own_line.new.self c.dup.inside.pair c.loop-index.invariant.0 c.in_ok-own_line.ensures.own
-          ∙ ap (lines_of s g) (ap (λ p. own_pairs (take i ds) ++ p ∷ []) pair ∙ sym (own_more ds i d c.loop-index-test.true c.index-dups-index.is)),
-      c.in_ok-own_line.ensures.lines,
+      lines_more u s g (own_pairs (take i ds)) c.loop-index.lines c.own_line.new.self c.dup.inside.pair c.loop-index.invariant.0 (c.in_ok-own_line.ensures.own u c.loop-index.invariant.1)
+          ∙ ap (lines_of u s g) (ap (λ p. own_pairs (take i ds) ++ p ∷ []) pair ∙ sym (own_more ds i d c.loop-index-test.true c.index-dups-index.is)),
+      c.in_ok-own_line.ensures.lines u c.loop-index.invariant.1,
       below_more (λ m. is_forced_at u s g ds m ≡ true) i c.loop-index.invariant.2
           (forced_here u s g ds i d c.loop-index.lines is c.loop-index.invariant.0 ∙ sym (c.if-not-is_forced.ensures ∙ (λ j. is_forced u s c.loop-index.lines (pair j) (cycle j)))),
     )
