@@ -22,7 +22,6 @@ pub fn is_forced(u: &Universe, s: &Support, l: &Lines, pair: PairIx, cycle: &[Ev
     requires lines { AreLines u.now s.now l.now }
     ensures { result ≡ is_forced u.now s.now l.now pair cycle.now }
 {
-    let _kept = s.selected();
     if !are_events(l, cycle) || !is_cycle(u, s, l, cycle) {
         return false;
     }

@@ -28,7 +28,6 @@ pub fn first_unforced(
     ensures unforced { IfOk result (λ k. MatchOption k ((i : ℕ) → i < length dups.now → IsTrue (is_forced_at u.now s.now lines.old.targets dups.now i)) (IsFirstUnforced u.now s.now lines.old.targets dups.now)) }
     ensures own { IfOk result (λ k. MatchOption k (lines.new ≡ lines_of u.now s.now lines.old.targets (own_pairs dups.now)) (λ _. ⊤)) }
 {
-    let _kept = s.selected();
     for index in 0..dups.len() {
         let dup = &dups[index];
         if !is_forced(u, s, lines, dup.pair, &dup.cycle) {

@@ -73,7 +73,6 @@ fn is_start(u: &Universe, s: &Support, l: &Lines, e: &Event, f: &Event) -> bool
     requires lines { AreLines u.now s.now l.now }
     ensures { result ≡ is_start (plan_of u.now s.now l.now) e.now f.now }
 {
-    let _kept = s.selected();
     match *f {
         Event::At(line, station) => match *e {
             Event::At(holder, place) => starts(u, s, l, &(line, station), &(holder, place)),
@@ -89,7 +88,6 @@ pub fn is_return(u: &Universe, s: &Support, l: &Lines, e: &Event, f: &Event) -> 
     requires lines { AreLines u.now s.now l.now }
     ensures { result ≡ is_return (plan_of u.now s.now l.now) e.now f.now }
 {
-    let _kept = s.selected();
     match place_left(l, f) {
         Some(held) => is_taken(u, s, l, e, &held),
         None => false,
@@ -102,7 +100,6 @@ fn is_taken(u: &Universe, s: &Support, l: &Lines, e: &Event, held: &(LineIx, Ste
     requires lines { AreLines u.now s.now l.now }
     ensures { result ≡ is_taken u.now s.now l.now e.now held.now.0 held.now.1 }
 {
-    let _kept = s.selected();
     match *e {
         Event::At(_, _) => match place_left(l, e) {
             Some(taker) => takes(u, s, l, &taker, held),
@@ -142,7 +139,6 @@ fn starts(
     requires lines { AreLines u.now s.now l.now }
     ensures { result ≡ is_start (plan_of u.now s.now l.now) (At held.now.0 held.now.1) (At taker.now.0 taker.now.1) }
 {
-    let _kept = s.selected();
     let (line, station) = *taker;
     if line.0 >= l.count() || station.0 > l.last(line).0 {
         return false;
