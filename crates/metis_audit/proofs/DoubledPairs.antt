@@ -12,7 +12,7 @@ use Rattle.metis_ids.specs.Plans.{Dup, Plan}
 use Rattle.metis_universe.proofs.Rounds.{has-filter}
 use Rattle.metis_universe.specs.Layers.{layer_of}
 use Rattle.metis_universe.specs.Selection.{provider_pairs as provider_pairs_in}
-use Rattle.metis_universe.specs.Universe.{Universe, IsTable, IsUniverse, greatest_demand, has}
+use Rattle.metis_universe.specs.Universe.{Universe, IsTable, IsUniverse, has}
 use Rattle.metis_support.proofs.Kept.{kept}
 use Rattle.metis_support.proofs.Lists.{has-append_cases, has_one, same_test}
 use Rattle.metis_support.proofs.Selections.{is_support, same_provider_pairs, targets_selected}

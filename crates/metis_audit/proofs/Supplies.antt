@@ -1,5 +1,5 @@
 -- The edges that come of supplies, told by what stations take.
-use Rattle.std.proofs.Common.{◌≡◌, ℕ, zero, suc, ◌+◌, ◌<◌, ◌≤◌, Bool, true, false, cond, not, ◌&&◌, List, [], ◌∷◌, length, get_or, map, Option, Some, None, refl, sym, ap, ◌∙◌, subst, arith, nat_eq, inl, inr}
+use Rattle.std.proofs.Common.{◌≡◌, ℕ, zero, suc, ◌+◌, ◌<◌, ◌≤◌, Bool, true, false, cond, not, ◌&&◌, List, [], length, get_or, map, Option, Some, None, refl, sym, ap, ◌∙◌, subst, arith, nat_eq, inl, inr}
 use Rattle.std.specs.Prelude.{MatchBool}
 use Rattle.std.specs.List.{All, AllByRecursion, Contains, list_any, position_or_len, range_with_len}
 use Rattle.std.specs.Option.{option_map_or}
@@ -9,7 +9,7 @@ use Rattle.metis_ids.specs.declared.events.Event.{Event}
 use Rattle.metis_ids.specs.declared.events.Event.TheVariants.{At, End}
 use Rattle.metis_universe.specs.Universe.{Universe, demand_of, has, required_of}
 use Rattle.metis_support.proofs.Lists.{any_at, any_in_row, each_in_row, first_passes, has_at, member, same_test}
-use Rattle.metis_support.specs.Support.{IsSupport, Support, is_selected, provider_at}
+use Rattle.metis_support.specs.Support.{IsSupport, Support, provider_at}
 use Rattle.metis_lines.proofs.Joins.{any_counted, any_joined, each_counted, each_joined}
 use Rattle.metis_lines.proofs.Slotted.{held_slot}
 use Rattle.metis_lines.specs.AbstractPlan.{AbstractPlan, Supply, is_target, last}

@@ -1,8 +1,8 @@
 //! The edges between two events of life lines, told from the lines alone.
-ghost use Rattle.std.specs.Prelude.{◌≡◌, ◌<◌, ◌+◌, length, nat_eq, MatchBool, MatchOption};
-ghost use Rattle.metis_universe.specs.Universe.{pair_count};
+ghost use Rattle.std.specs.Prelude.{◌≡◌, ◌<◌, ◌≤◌, ◌+◌, length, nat_eq, IsTrue, MatchBool, MatchOption};
+ghost use Rattle.metis_universe.specs.Universe.{demand_of, pair_count, requires};
 ghost use Rattle.metis_ids.specs.declared.events.Event.TheVariants.{At};
-ghost use Rattle.metis_support.specs.Support.{IsSupport};
+ghost use Rattle.metis_support.specs.Support.{IsSupport, is_selected};
 ghost use Rattle.metis_lines.specs.Events.{is_event, is_go, is_return, is_start, precedes, step_count};
 ghost use Rattle.metis_lines.specs.LifeLines.{AreLines, holder_of, line_at, plan_of};
 ghost use Rattle.metis_events.specs.Gathered.{without_supplies};
@@ -187,7 +187,7 @@ fn takes(
     false
 }
 
-// Whether one of the slots that the pair demands of the port is the place.
+// Whether one of the slots that a selected pair demands of the port is the place.
 fn takes_port(
     u: &Universe,
     s: &Support,
@@ -196,13 +196,30 @@ fn takes_port(
     port: PortIx,
     held: &(LineIx, StepIx),
 ) -> bool
-    requires { pair < pair_count u.now }
+    requires over { IsSupport u.now s.now }
+    requires lines { AreLines u.now s.now l.now }
+    requires selected { IsTrue (is_selected s.now pair) }
+    requires required { IsTrue (requires u.now pair port) }
     ensures { result ≡ takes_port u.now s.now l.now pair held.now.0 held.now.1 port }
 {
     match s.provider(port) {
-        Some(provider) => has_slot_at(l, provider, u.demand(pair, port), held),
+        Some(provider) => {
+            let count = demand(u, pair, port, l.slots(provider));
+            has_slot_at(l, provider, count, held)
+        }
         None => false,
     }
+}
+
+// How many slots the pair demands of a port whose provider has so many. The pair's ports are looked through only where that
+// leaves a choice.
+fn demand(u: &Universe, pair: PairIx, port: PortIx, slots: u32) -> u32
+    requires within { pair < pair_count u.now }
+    requires required { IsTrue (requires u.now pair port) }
+    requires enough { demand_of u.now pair port ≤ slots }
+    ensures { result ≡ demand_of u.now pair port }
+{
+    if slots == 1 { 1 } else { u.demand(pair, port) }
 }
 
 // Whether one of the first so many slots of the provider pair is the place.
