@@ -37,8 +37,8 @@ fn step_count(l: &Lines, line: LineIx) -> u32
     }
 }
 
-/// Whether some edge leads from the one event to the other. It takes as long as one station has slots of the ports that it requires,
-/// but from the end on as long as the last stations of the targets' lines have.
+/// Whether some edge leads from the one event to the other. It goes over the slots of the ports that one station requires, but from
+/// the end on over those of the last stations of the targets' lines.
 pub fn precedes(u: &Universe, s: &Support, l: &Lines, e: &Event, f: &Event) -> bool
     requires over { IsSupport u.now s.now }
     requires lines { AreLines u.now s.now l.now }
