@@ -144,7 +144,7 @@ impl Config {
         are_pairs_below(&self.instances, u.pairs()) && are_ports_below(&self.bindings, u.ports())
     }
 
-    /// Whether each port that an instance's pair requires is met.
+    /// Whether each port that an instance's pair requires has as many different providers as the pair demands.
     pub fn is_correct(&self, u: &Universe) -> bool
         requires { IsOver u.now self.now }
         ensures { IsTrue result ↔ Correct u.now self.now }
@@ -154,7 +154,8 @@ impl Config {
         self.unmet(u).is_none()
     }
 
-    /// The first instance, and its first port, that is required and not met; `None` where the configuration is correct.
+    /// The first instance, and its first port, that is required and has too few providers; `None` where the configuration is
+    /// correct.
     pub fn unmet(&self, u: &Universe) -> Option<(InstNo, PortIx)>
         requires { IsOver u.now self.now }
         ensures first { result ≡ unmet u.now self.now }

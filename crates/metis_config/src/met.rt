@@ -1,4 +1,5 @@
-//! Which ports of a configuration are met, now or after a change.
+//! Which ports of a configuration are met, now or after a change: each needs as many different providers as its requirer's pair
+//! demands.
 ghost use Rattle.std.specs.Prelude.{◌≡◌, ◌<◌, ℕ, ◌&&◌, not, if◌then◌else◌, nat_lt, false, Some, None, IsTrue};
 ghost use Rattle.std.specs.List.{find};
 ghost use Rattle.std.specs.Option.{option_map_or};

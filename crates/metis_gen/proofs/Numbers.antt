@@ -118,7 +118,7 @@ by_type n i j d le l =
     let second : (get_or pairs j d).kind ≡ j / 4 = ap (λ (p : Pair). p.kind) (get_or_default pairs j d no_pair l) ∙ type_is n j lj in
     omega arith
 
-pub version_is : (n : ℕ) → (tables n).version ≡ 1
+version_is : (n : ℕ) → (tables n).version ≡ 1
 unfolding tables
 version_is n = refl
 

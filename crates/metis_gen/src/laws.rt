@@ -4,19 +4,12 @@ ghost use Rattle.std.specs.List.{All};
 ghost use Rattle.metis_universe.specs.Universe.{has, pair_count, pair_named};
 ghost use Rattle.metis_universe.specs.Closed.{Closed, Refusal};
 ghost use Rattle.metis_universe.specs.Goal.{Attains};
-ghost use Rattle.metis_universe.specs.Single.{IsSingle};
 ghost use Rattle.metis_gen.specs.Generated.{left_row, right_row, generated, generated_targets};
 ghost use Rattle.metis_gen.specs.Tables.{tables};
 
 /// A generated universe of a size up to 128 has these types, pairs and ports, by their numbers.
 pub fn generated_has_tables()
     ensures { (n : ℕ) → n ≤ 128 → generated n ≡ tables n }
-{}
-
-/// The generated universes are of version 1, and each port of theirs is required of one provider.
-pub fn generated_universes_are_single()
-    ensures version { (n : ℕ) → (generated n).version ≡ 1 }
-    ensures single { (n : ℕ) → n ≤ 128 → IsSingle (generated n) }
 {}
 
 /// The targets are, for each place, the pair of its left type and state `a3` and then that of its right type and state `b3`.

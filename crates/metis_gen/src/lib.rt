@@ -8,6 +8,6 @@ mod rows;
 
 pub use generate::{targets_of, universe_of};
 pub use laws::{
-    closed_sets_hold_all, generated_has_tables, generated_universes_are_single,
-    targets_are_attained, targets_are_last_states, targets_are_pairs,
+    closed_sets_hold_all, generated_has_tables, targets_are_attained, targets_are_last_states,
+    targets_are_pairs,
 };

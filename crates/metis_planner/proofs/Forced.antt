@@ -1,8 +1,10 @@
 -- Dups that are forced have provider pairs of the selection, which are no own pairs before, and are justified by their cycles.
-use Rattle.std.proofs.Common.{◌≡◌, ℕ, zero, suc, ◌+◌, ◌^◌, ◌<◌, ◌≤◌, true, false, ◌&&◌, List, [], ◌∷◌, ◌++◌, length, get_or, map, Some, refl, sym, ap, ◌∙◌, subst, arith, nat_lt, inl, inr}
+use Rattle.std.proofs.Common.{◌*◌, ◌≡◌, ℕ, zero, suc, ◌+◌, ◌^◌, ◌<◌, ◌≤◌, true, false, ◌&&◌, List, [], ◌∷◌, ◌++◌, length, get_or, map, Some, refl, sym, ap, ◌∙◌, subst, arith, nat_lt, inl, inr}
 use Rattle.std.specs.List.{All, list_all, slice_get}
 use Rattle.std.specs.Option.{option_map_or}
 use Rattle.std.specs.Prelude.{IsSome, take}
+use Rattle.std.proofs.Math.Nat.{suc-mul}
+use Rattle.metis_universe.proofs.Greatest.{greatest_low}
 use Rattle.std.proofs.lemmas.Bool.{false≢true, and_from, and_parts, ltb-true, cases_lt, cond_both}
 use Rattle.std.proofs.lemmas.List.{get_or_past, get_or-map, length-map, map-append, length-append}
 use Rattle.std.proofs.lemmas.List.Elements.{All-from_get_or, All-get_or}
@@ -12,8 +14,7 @@ use Rattle.metis_ids.specs.declared.events.Event.TheVariants.{At, End}
 use Rattle.metis_universe.proofs.PortRows.{few_below}
 use Rattle.metis_universe.specs.Layers.{layer_of}
 use Rattle.metis_universe.specs.Selection.{provider_pairs as provider_pairs_in}
-use Rattle.metis_universe.specs.Single.{IsSingle}
-use Rattle.metis_universe.specs.Universe.{Universe, IsTable, has, pair_count}
+use Rattle.metis_universe.specs.Universe.{greatest_demand, Universe, IsTable, has, pair_count}
 use Rattle.metis_support.proofs.Kept.{kept}
 use Rattle.metis_support.proofs.Lists.{has-append_cases, has_at, has_one}
 use Rattle.metis_support.proofs.Selections.{is_support, same_provider_pairs, targets_selected}
@@ -24,7 +25,7 @@ use Rattle.metis_lines.proofs.Instances.{graph_formed, graph_rises, graph_sound,
 use Rattle.metis_lines.specs.AbstractPlan.{AbstractPlan, line_count, stations}
 use Rattle.metis_lines.specs.Events.{is_cycle, is_event, step_count}
 use Rattle.metis_lines.specs.Justified.{graph_for, is_justified, is_justified_at, is_justified_by, leads_on, lines_for, own_pairs}
-use Rattle.metis_lines.specs.LifeLines.{AreApart, AreLines, line_ends, other_ends}
+use Rattle.metis_lines.specs.LifeLines.{AreApart, AreLines, later_ends, line_ends, other_ends}
 use Rattle.metis_lines.specs.Soundness.{IsFormed, IsSound}
 use Rattle.metis_planner.proofs.Around.{all_by_place}
 use Rattle.metis_planner.proofs.Cycles.{cycle_is_round, cycle_of_all_events, round_of_two}
@@ -33,6 +34,10 @@ use Rattle.metis_planner.proofs.Lists.{all_in_range, get_at, get_low, some_at, t
 use Rattle.metis_planner.specs.Outcomes.{EventBelow}
 use Rattle.metis_planner.specs.Rounds.{graph_after}
 use Rattle.metis_planner.specs.UnderWay.{AreForced}
+
+sixteen_each : (n m : ℕ) → m ≤ 16 → n * m ≤ 16 * n
+sixteen_each zero m few = omega arith
+sixteen_each (suc n) m few = let rest = sixteen_each n m few in omega (arith, rest, few, suc-mul n m)
 
 module _ (u : Universe) (table : IsTable u) (g : List ℕ) (layered : (p : ℕ) → has g p ≡ true → IsSome (layer_of u p)) where
   abbrev pub s : Support
@@ -61,16 +66,17 @@ module _ (u : Universe) (table : IsTable u) (g : List ℕ) (layered : (p : ℕ) 
   pub formed_for : (d : List ℕ) → AreProviders d → IsFormed u (graph_for u g d)
   formed_for d own = graph_formed u g d table.universe layered (own_provider d own)
 
-  pub sound_for : IsSingle u → (d : List ℕ) → AreProviders d → IsSound u (layer_number u) (graph_for u g d)
-  sound_for single d own = graph_sound u g d table.universe layered (own_provider d own) single
+  pub sound_for : (d : List ℕ) → AreProviders d → IsSound u (layer_number u) (graph_for u g d)
+  sound_for d own = graph_sound u g d table.universe layered (own_provider d own)
 
-  pub lines_for_own : (d : List ℕ) → AreProviders d → AreLines s (lines_for u g d)
+  pub lines_for_own : (d : List ℕ) → AreProviders d → AreLines u s (lines_for u g d)
   lines_for_own d own = record { are = refl; targets = targets; own = own }
 
   -- lines are few and short
-  line_count_few : length g ≤ 256 → (d : List ℕ) → AreProviders d → AreApart s g d → line_count (graph_for u g d) ≤ 2256
+  line_count_few : length g ≤ 256 → (d : List ℕ) → AreProviders d → AreApart s g d → line_count (graph_for u g d) ≤ 32256
   line_count_few small d own apart =
-      let most = few s keeps g d targets (selected_own d own) apart in
+      let times = sixteen_each (length s.selected.members) (greatest_demand u) (greatest_low u table.universe) in
+      let most = few u s keeps g d targets (selected_own d own) apart in
       let below = few_below s.selected.members s.selected.size keeps.ascends (All-from_get_or (λ p. p < s.selected.size) s.selected.members 0 (λ i low. keeps.pairs _ (has_at s.selected.members i 0 low))) in
       let size = keeps.few in
       omega arith
@@ -79,12 +85,12 @@ module _ (u : Universe) (table : IsTable u) (g : List ℕ) (layered : (p : ℕ) 
   stations_short d own l = elim (cases_lt l (length ends)) [
     | inl low ↦
         let path = get_or-map (path_to s) ends l 0 [] low in
-        let short = keeps.short (get_or ends l 0) (chosen_end s keeps.origin g d targets (selected_own d own) (get_or ends l 0) (has_at ends l 0 low)) in
+        let short = keeps.short (get_or ends l 0) (chosen_end u s keeps.origin g d targets (selected_own d own) (get_or ends l 0) (has_at ends l 0 low)) in
         omega (arith, ap length path)
     | inr past ↦ let none = ap length (get_or_past (map (path_to s) ends) l [] (omega (arith, length-map ends (path_to s)))) in omega arith
   ] where
     ends : List ℕ
-    ends = line_ends s g d
+    ends = line_ends u s g d
 
   pub event_low : length g ≤ 256 → (d : List ℕ) → AreProviders d → AreApart s g d → (e : Event) → is_event (graph_for u g d) e ≡ true → EventBelow (2 ^ 32) e
   event_low small d own apart (At l j) is =
@@ -128,7 +134,7 @@ module _ (u : Universe) (table : IsTable u) (g : List ℕ) (layered : (p : ℕ) 
         let d = some_at ds k (omega arith) in
         let own = providers_before k (omega arith) in
         subst (AreApart s g) (sym (pairs_next k d.0 d.1))
-        (still_apart s keeps g (pairs_before k) targets (selected_own (pairs_before k) own) d.0.pair (doubled_at k d.0 d.1 own).loose (apart_before k (omega arith)))
+        (still_apart u s keeps g (pairs_before k) targets (selected_own (pairs_before k) own) d.0.pair (doubled_at k d.0 d.1 own).loose (apart_before k (omega arith)))
 
     pub providers : AreProviders (own_pairs ds)
     providers = subst (λ es. AreProviders (own_pairs es)) (take_whole ds) (providers_before (length ds) (omega arith))
@@ -189,15 +195,16 @@ module _ (u : Universe) (table : IsTable u) (g : List ℕ) (layered : (p : ℕ) 
 
     -- ---- and the lines for all of them
 
-    pub lines_few : line_count (graph_after u g ds) ≤ length g + length s.selected.members
-    lines_few = few s keeps g (own_pairs ds) targets (selected_own (own_pairs ds) providers) apart
+    pub lines_few : line_count (graph_after u g ds) ≤ length g + length s.selected.members * greatest_demand u
+    lines_few = few u s keeps g (own_pairs ds) targets (selected_own (own_pairs ds) providers) apart
 
-    pub lines_bounded : length g ≤ 256 → line_count (graph_after u g ds) ≤ 2256
+    pub lines_bounded : length g ≤ 256 → line_count (graph_after u g ds) ≤ 32256
     lines_bounded small = line_count_few small (own_pairs ds) providers apart
 
     pub dups_few : length ds ≤ line_count (graph_after u g ds)
     dups_few =
-        let all = count s keeps.origin g (own_pairs ds) targets (selected_own (own_pairs ds) providers) in
+        let all = count u s keeps.origin g (own_pairs ds) targets (selected_own (own_pairs ds) providers) in
         let own = length-map ds (λ (d : Dup). d.pair) in
-        let behind = length-append (g ++ other_ends s g) (own_pairs ds) in
+        let behind = length-append (g ++ other_ends s g) (later_ends u s ++ own_pairs ds) in
+        let last = length-append (later_ends u s) (own_pairs ds) in
         omega arith

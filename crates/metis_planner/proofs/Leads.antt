@@ -9,6 +9,7 @@ use Rattle.metis_universe.proofs.Rounds.{has-filter}
 use Rattle.metis_universe.specs.Universe.{Universe, IsUniverse, has}
 use Rattle.metis_support.proofs.Paths.{origins_fall}
 use Rattle.metis_support.specs.Support.{Support, IsSupport, is_number, is_selected, provider_pairs}
+use Rattle.metis_lines.proofs.Slotted.{held_first}
 use Rattle.metis_lines.proofs.Holders.{held}
 use Rattle.metis_lines.specs.AbstractPlan.{AbstractPlan, last, station_at}
 use Rattle.metis_lines.specs.Events.{around, has_return_into_move, is_cycle, is_move, is_return, is_return_into_move, same_event}
@@ -101,7 +102,7 @@ some_left w es there none = by (find t (around es)) refl none where
 
 module _ (u : Universe) (s : Support) (g d : List ℕ) (universe : IsUniverse u) (k : IsSupport u s) (targets : (p : ℕ) → has g p ≡ true → is_selected s p ≡ true) (own : (p : ℕ) → has d p ≡ true → is_selected s p ≡ true) where
   abbrev x : LifeLines
-  x = lines_of s g d
+  x = lines_of u s g d
 
   abbrev w : AbstractPlan
   w = plan_of u s x
@@ -112,7 +113,7 @@ module _ (u : Universe) (s : Support) (g d : List ℕ) (universe : IsUniverse u)
     pub loose : is_loose x p ≡ true
     pub line : ℕ
     pub station : ℕ
-    pub held_there : holder_of x p ≡ Some (line, station)
+    pub held_there : holder_of x p 1 ≡ Some (line, station)
     pub leads : leads_on w es line station ≡ true
 
   pub doubled : (es : List Event) (p : ℕ) → doubled_by w es ≡ Some p → IsDoubled es p
@@ -122,8 +123,8 @@ module _ (u : Universe) (s : Support) (g d : List ℕ) (universe : IsUniverse u)
       let return : is_return_into_move w l.from (At l.line (l.station + 1)) ≡ true = ap (λ j. is_return_into_move w l.from (At l.line j)) next ∙ l.returns in
       let from = returns_from_loose u s g d universe k targets own l.from l.line l.station return in
       let supply = return_from_supply w l.from l.line l.station return in
-      let here : holding x from.pair ≡ (l.line, l.station) = same (holding x from.pair) (l.line, l.station) (sym (cond-true (has (provider_pairs s) from.pair) (Some (holding x from.pair)) None from.provider) ∙ from.held) in
-      let at = held s (origins_fall u s k) g d targets own from.pair (selected from.pair from.provider) in
+      let here : holding x from.pair ≡ (l.line, l.station) = same (holding x from.pair) (l.line, l.station) (sym (held_first x from.pair from.provider) ∙ from.held) in
+      let at = held u s (origins_fall u s k) g d targets own from.pair (selected from.pair from.provider) in
       let is : from.pair ≡ p = sym at.pair ∙ ap (λ (c : ℕ × ℕ). station_at w c.0 c.1) here ∙ l.pair in
       let led = and_from (is_return w l.from (At l.line (suc l.station))) (same_event (At l.line (suc l.station)) (At l.line (l.station + 1)))
       (and_parts (is_return w l.from (At l.line (suc l.station))) (is_move w (At l.line (suc l.station))) l.returns).0
@@ -133,7 +134,7 @@ module _ (u : Universe) (s : Support) (g d : List ℕ) (universe : IsUniverse u)
         loose = subst (λ q. is_loose x q ≡ true) is from.loose;
         line = l.line;
         station = l.station;
-        held_there = subst (λ q. holder_of x q ≡ Some (l.line, l.station)) is from.held;
+        held_there = subst (λ q. holder_of x q 1 ≡ Some (l.line, l.station)) is from.held;
         leads = and_from (nat_lt l.station (last w l.line)) _ (lt-ltb l.station (last w l.line) supply.goes_on)
             (l.around_it (λ (c : Event × Event). is_return w c.1 c.0 && same_event c.0 (At l.line (l.station + 1))) led);
       } where
@@ -147,7 +148,7 @@ module _ (u : Universe) (s : Support) (g d : List ℕ) (universe : IsUniverse u)
   round_doubles es h none = some_left w es (rounds_return u s g d universe k targets own es h) none
 
 -- the same of lines that are these for their targets and own pairs
-pub round_doubles_over : (u : Universe) (s : Support) (x : LifeLines) → IsUniverse u → IsSupport u s → AreLines s x → (es : List Event) → is_cycle (plan_of u s x) es ≡ true → doubled_by (plan_of u s x) es ≡ None → ⊥
+pub round_doubles_over : (u : Universe) (s : Support) (x : LifeLines) → IsUniverse u → IsSupport u s → AreLines u s x → (es : List Event) → is_cycle (plan_of u s x) es ≡ true → doubled_by (plan_of u s x) es ≡ None → ⊥
 round_doubles_over u s x universe k lines es cycle none =
     let own : (p : ℕ) → has x.own p ≡ true → is_selected s p ≡ true = λ p h. provider_is_chosen s p (ap (λ (y : LifeLines). has y.providers p) (sym lines.are) ∙ lines.own p h) in
     round_doubles u s x.targets x.own universe k lines.targets own es (ap (λ y. is_cycle (plan_of u s y) es) (sym lines.are) ∙ cycle) (ap (λ y. doubled_by (plan_of u s y) es) (sym lines.are) ∙ none)

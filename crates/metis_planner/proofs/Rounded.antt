@@ -2,6 +2,7 @@
 use Rattle.std.proofs.Common.{◌≡◌, ℕ, ◌*◌, ◌^◌, zero, suc, ◌≤◌, Bool, true, false, cond, ◌||◌, List, [], ◌∷◌, length, refl, sym, ap, ◌∙◌, subst, arith, nat_eq}
 use Rattle.std.specs.List.{All, filter}
 use Rattle.std.specs.Prelude.{IsSome, is_some}
+use Rattle.std.proofs.Math.Nat.{suc-mul}
 use Rattle.std.proofs.lemmas.Bool.{and_from, and_parts, eq-eqb, false≢true, or_left, or_right}
 use Rattle.metis_ids.proofs.Orders.{order_sorts, order_without}
 use Rattle.metis_ids.specs.Order.{order_of}
@@ -13,10 +14,9 @@ use Rattle.metis_universe.specs.Goal.{Holds}
 use Rattle.metis_universe.specs.Layers.{is_enabled, layer_of, layer_set}
 use Rattle.metis_universe.specs.Numbers.{NamesBelow}
 use Rattle.metis_universe.specs.Selection.{is_needed, provider_pairs, selected, selected_within}
-use Rattle.metis_universe.specs.Single.{IsSingle}
 use Rattle.metis_universe.specs.Step.{after_all}
 use Rattle.metis_universe.specs.Tidy.{IsTidy}
-use Rattle.metis_universe.specs.Universe.{Universe, IsTable, all_pairs, has, is_free, pair_count}
+use Rattle.metis_universe.specs.Universe.{Universe, greatest_demand, IsTable, all_pairs, has, is_free, pair_count}
 use Rattle.metis_layers.proofs.Order.{attained_set}
 use Rattle.metis_layers.specs.LayerOrder.{attained_pairs, instances_of}
 use Rattle.metis_support.proofs.Selections.{layer_is, same_provider_pairs}
@@ -60,6 +60,11 @@ within_attained u g zero (suc m) into = kept_of_all u (has g) (λ q. has (layer_
 within_attained u g (suc n) zero into = kept_of_all u (λ q. has (selected_within u g n) q || is_needed u (selected_within u g n) q) (is_free u) into
 within_attained u g (suc n) (suc m) into = kept_of_all u (λ q. has (selected_within u g n) q || is_needed u (selected_within u g n) q) (λ q. has (layer_set u m) q || is_enabled u (layer_set u m) q) into
 
+more_times : (n k m : ℕ) → n ≤ k → n * m ≤ k * m
+more_times zero k m low = omega arith
+more_times (suc n) zero m low = absurd (omega (arith, low))
+more_times (suc n) (suc k) m low = let rest = more_times n k m (omega (arith, low)) in omega (arith, rest, suc-mul n m, suc-mul k m)
+
 module _ (u : Universe) (table : IsTable u) (g : List ℕ) (layered : (p : ℕ) → has g p ≡ true → IsSome (layer_of u p)) where
   selected_layered : (x : ℕ) → has (selected u g) x ≡ true → has (attained_pairs u) x ≡ true
   selected_layered x there = sym (has_layer u x) ∙ ap is_some (sym (layer_is u table.universe g layered x there)) ∙ (support u table g layered).layer x there
@@ -93,9 +98,10 @@ module _ (u : Universe) (table : IsTable u) (g : List ℕ) (layered : (p : ℕ) 
         let count = by.instances in
         let few = lines_few u table g layered p.dups by.forced in
         let attained = within_attained u g (pair_count u) (pair_count u) selected_layered in
-        record { attained = attained_pairs u; all = attained_set u table.universe; few = omega arith }
+        let times = more_times (length (selected u g)) (length (attained_pairs u)) (greatest_demand u) attained in
+        record { attained = attained_pairs u; all = attained_set u table.universe; few = omega (arith, count, few, times) }
 
-    pub bounded : length g ≤ 256 → p.instances ≤ 2256
+    pub bounded : length g ≤ 256 → p.instances ≤ 32256
     bounded small = omega (arith, by.instances, lines_bounded u table g layered p.dups by.forced small)
 
     pub dups_at_most : length p.dups ≤ p.instances
@@ -106,23 +112,22 @@ module _ (u : Universe) (table : IsTable u) (g : List ℕ) (layered : (p : ℕ) 
         let few = lines_bounded u table g layered p.dups by.forced small in
         subst (All (NamesBelow (2 ^ 32))) (sym by.actions) (below (line_count w) (omega arith) actions_now (emission_below u w formed (ordered_events w) order))
 
-    -- ---- what the actions come to, where each port is required of one provider
+    -- ---- what the actions come to
 
-    module _ (single : IsSingle u) where
-      realized : Realizes u w actions_now × Holds (after_all u empty actions_now) g
-      realized = joined u g (own_pairs p.dups) (ordered_events w) table.universe single layered own order
+    realized : Realizes u w actions_now × Holds (after_all u empty actions_now) g
+    realized = joined u g (own_pairs p.dups) (ordered_events w) table.universe layered own order
 
-      pub realizes : Realizes u w p.actions
-      realizes = subst (Realizes u w) (sym by.actions) realized.0
+    pub realizes : Realizes u w p.actions
+    realizes = subst (Realizes u w) (sym by.actions) realized.0
 
-      pub holds : Holds (after_all u empty p.actions) g
-      holds = subst (λ l. Holds (after_all u empty l) g) (sym by.actions) realized.1
+    pub holds : Holds (after_all u empty p.actions) g
+    holds = subst (λ l. Holds (after_all u empty l) g) (sym by.actions) realized.1
 
-      pub tidy : IsTidy u g (after_all u empty p.actions)
-      tidy = subst (λ l. IsTidy u g (after_all u empty l)) (sym by.actions) (joined_tidy u g (own_pairs p.dups) (ordered_events w) table.universe single layered own order (least_is_late u w (ordered_events w) least))
+    pub tidy : IsTidy u g (after_all u empty p.actions)
+    tidy = subst (λ l. IsTidy u g (after_all u empty l)) (sym by.actions) (joined_tidy u g (own_pairs p.dups) (ordered_events w) table.universe layered own order (least_is_late u w (ordered_events w) least))
 
-      pub instances_counted : p.instances ≡ instances_of p.actions
-      instances_counted = by.instances ∙ sym realizes.instances
+    pub instances_counted : p.instances ≡ instances_of p.actions
+    instances_counted = by.instances ∙ sym realizes.instances
 
-      pub short_enough : length p.actions ≤ 321 * p.instances
-      short_enough = omega (arith, short u (layer_number u) w (ordered_events w) table (sound_for u table g layered single (own_pairs p.dups) (providers u table g layered p.dups by.forced)) order, ap length by.actions, by.instances)
+    pub short_enough : length p.actions ≤ 321 * p.instances
+    short_enough = omega (arith, short u (layer_number u) w (ordered_events w) table (sound_for u table g layered (own_pairs p.dups) (providers u table g layered p.dups by.forced)) order, ap length by.actions, by.instances)

@@ -35,8 +35,8 @@ module _ (u : Universe) (g : List ℕ) where
   pairs_push ds d = map-append (λ (e : Dup). e.pair) ds (d ∷ [])
 
   module _ (table : IsTable u) (layered : (p : ℕ) → has g p ≡ true → IsSome (layer_of u p)) (x : LifeLines) (ds : List Dup) (way : IsUnderWay u g x ds) where
-    pub lines_now : AreLines (support_of u g) x
-    lines_now = subst (AreLines (support_of u g)) (sym way.lines) (lines_for_own u table g layered (own_pairs ds) (providers u table g layered ds way.forced))
+    pub lines_now : AreLines u (support_of u g) x
+    lines_now = subst (AreLines u (support_of u g)) (sym way.lines) (lines_for_own u table g layered (own_pairs ds) (providers u table g layered ds way.forced))
 
     module _ (d : Dup) (forced : IsForced (graph_after u g ds) d) where
       pub provider_now : has x.providers d.pair ≡ true
@@ -49,8 +49,8 @@ module _ (u : Universe) (g : List ℕ) where
           let own = providers u table g layered ds way.forced in
           ap (λ y. is_loose y d.pair) way.lines ∙ (doubled u (support_of u g) g (own_pairs ds) table.universe (support u table g layered) (targets u table g layered) (selected_own u table g layered (own_pairs ds) own) d.cycle d.pair forced.pair).loose
 
-      pub with_dup : (y : LifeLines) → y ≡ lines_of (support_of u g) x.targets (x.own ++ d.pair ∷ []) → IsUnderWay u g y (ds ++ d ∷ [])
+      pub with_dup : (y : LifeLines) → y ≡ lines_of u (support_of u g) x.targets (x.own ++ d.pair ∷ []) → IsUnderWay u g y (ds ++ d ∷ [])
       with_dup y is = record {
-        lines = is ∙ (λ i. lines_of (support_of u g) (way.lines i).targets ((way.lines i).own ++ d.pair ∷ [])) ∙ ap (lines_for u g) (sym (pairs_push ds d));
+        lines = is ∙ (λ i. lines_of u (support_of u g) (way.lines i).targets ((way.lines i).own ++ d.pair ∷ [])) ∙ ap (lines_for u g) (sym (pairs_push ds d));
         forced = forced_push ds d way.forced forced;
       }

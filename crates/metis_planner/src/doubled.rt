@@ -25,7 +25,7 @@ pub fn doubled_by(
     cycle: &[Event],
 ) -> PairIx
     requires support { IsSupport u.now s.now }
-    requires lines { AreLines s.now lines.now }
+    requires lines { AreLines u.now s.now lines.now }
     requires graph { graph.now ≡ graph_of (plan_of u.now s.now lines.now) }
     requires events { All (λ e. IsTrue (is_event (plan_of u.now s.now lines.now) e)) cycle.now }
     requires cycle { IsTrue (is_cycle (plan_of u.now s.now lines.now) cycle.now) }
@@ -47,7 +47,7 @@ fn first_left(
     events: &[Event],
 ) -> Option<PairIx>
     requires support { IsSupport u.now s.now }
-    requires lines { AreLines s.now lines.now }
+    requires lines { AreLines u.now s.now lines.now }
     requires graph { graph.now ≡ graph_of (plan_of u.now s.now lines.now) }
     requires events { All (λ e. IsTrue (is_event (plan_of u.now s.now lines.now) e)) events.now }
     ensures { result ≡ doubled_by (plan_of u.now s.now lines.now) events.now }
@@ -81,7 +81,7 @@ fn left_after(
     to: Event,
 ) -> Option<PairIx>
     requires support { IsSupport u.now s.now }
-    requires lines { AreLines s.now lines.now }
+    requires lines { AreLines u.now s.now lines.now }
     requires graph { graph.now ≡ graph_of (plan_of u.now s.now lines.now) }
     requires event { IsTrue (is_event (plan_of u.now s.now lines.now) to) }
     ensures { result ≡ (if is_return_into_move (plan_of u.now s.now lines.now) from to then left_by (plan_of u.now s.now lines.now) to else None) }

@@ -6,7 +6,6 @@ ghost use Rattle.metis_universe.specs.Config.{empty};
 ghost use Rattle.metis_universe.specs.Goal.{Attains, Holds, IsAttainedSet};
 ghost use Rattle.metis_universe.specs.Layers.{layer_of};
 ghost use Rattle.metis_universe.specs.Numbers.{IsOf, NamesBelow};
-ghost use Rattle.metis_universe.specs.Single.{IsSingle};
 ghost use Rattle.metis_universe.specs.Steadfast.{is_steadfast};
 ghost use Rattle.metis_universe.specs.Step.{IsRun, after_all};
 ghost use Rattle.metis_universe.specs.Tidy.{IsTidy};
@@ -34,8 +33,6 @@ use std::alloc::Global;
 /// A plan for the targets, at most 256, where some list of actions attains them; else the set of all attainable pairs,
 /// with the first target that is not in it.
 pub fn plan(alloc: Global, u: &Universe, targets: &[PairIx]) -> Result<Outcome, NoMemory>
-    // Plans with several providers of a port come later.
-    requires single { IsSingle u.now }
     requires few { length targets.now ≤ 256 }
     requires within { All (λ p. p < pair_count u.now) targets.now }
 
@@ -53,11 +50,11 @@ pub fn plan(alloc: Global, u: &Universe, targets: &[PairIx]) -> Result<Outcome, 
     // At its end only the targets and what serves them remain.
     ensures tidy { IfPlan result (λ plan. IsTidy u.now targets.now (after_all u.now empty plan.actions)) }
 
-    // It counts its instances, which are few, also since a universe has at most 2,000 pairs, and so are the actions of
-    // each.
+    // It counts its instances, which are few, also since a universe has at most 2,000 pairs and no demand above 16, and so
+    // are the actions of each.
     ensures instances { IfPlan result (λ plan. plan.instances ≡ instances_of plan.actions) }
     ensures lean { IfPlan result (λ plan. IsLean u.now plan.instances targets.now) }
-    ensures bounded { IfPlan result (λ plan. plan.instances ≤ 2256) }
+    ensures bounded { IfPlan result (λ plan. plan.instances ≤ 32256) }
     ensures short { IfPlan result (λ plan. length plan.actions ≤ 321 * plan.instances) }
 
     // The instances are the life lines for the targets and the pairs of the dups, and each goes through its line's pairs.
@@ -102,7 +99,7 @@ fn plan_by_rounds(
     ensures { IfOk result (IsByRounds u.now targets.now) }
 {
     u.keeps_invariant();
-    let mut lines = Lines::new(alloc, s, targets)?;
+    let mut lines = Lines::new(alloc, u, s, targets)?;
     let mut dups = Vec::new(alloc);
     loop {
         match run_round(alloc, u, s, &lines)? {

@@ -33,7 +33,7 @@ pub enum Round {
 /// Brings the events of the lines into their order, or finds their cycle.
 pub fn run_round(alloc: Global, u: &Universe, s: &Support, lines: &Lines) -> Result<Round, NoMemory>
     requires support { IsSupport u.now s.now }
-    requires lines { AreLines s.now lines.now }
+    requires lines { AreLines u.now s.now lines.now }
     ensures ended { IfOrder result (λ _. HasCycle (numbered (plan_of u.now s.now lines.now)) → ⊥) }
     ensures actions { IfOrder result (λ actions. actions ≡ emission u.now (plan_of u.now s.now lines.now) (ordered_events (plan_of u.now s.now lines.now))) }
     ensures forced { IfCycle result (IsForced (plan_of u.now s.now lines.now)) }
@@ -62,7 +62,7 @@ fn dag_over(
     graph: &EventGraph,
 ) -> Result<Dag, NoMemory>
     requires support { IsSupport u.now s.now }
-    requires lines { AreLines s.now lines.now }
+    requires lines { AreLines u.now s.now lines.now }
     requires graph { graph.now ≡ graph_of (plan_of u.now s.now lines.now) }
     ensures { IfOk result (λ d. d ≡ dag_of graph.now) }
 {
@@ -80,7 +80,7 @@ fn actions_of(
     nodes: &[NodeIx],
 ) -> Result<Vec<Action>, NoMemory>
     requires support { IsSupport u.now s.now }
-    requires lines { AreLines s.now lines.now }
+    requires lines { AreLines u.now s.now lines.now }
     requires graph { graph.now ≡ graph_of (plan_of u.now s.now lines.now) }
     requires order { IsOrder (dag_of graph.now) nodes.now }
     ensures { IfOk result (λ actions. actions.items ≡ emission u.now (plan_of u.now s.now lines.now) (ordered_events (plan_of u.now s.now lines.now))) }
@@ -112,7 +112,7 @@ fn dup_of(
     nodes: &[NodeIx],
 ) -> Result<Dup, NoMemory>
     requires support { IsSupport u.now s.now }
-    requires lines { AreLines s.now lines.now }
+    requires lines { AreLines u.now s.now lines.now }
     requires graph { graph.now ≡ graph_of (plan_of u.now s.now lines.now) }
     requires stuck { HasCycle (dag_of graph.now) }
     requires cycle { nodes.now ≡ cycle_of (dag_of graph.now) }

@@ -27,7 +27,7 @@ targets_chosen u g s universe layered is p h = subst (λ x. is_selected x p ≡ 
       subst (λ x. IsSome (layer_of u x)) (eqb-true m.item q m.passes) (All-contains (λ x. IsSome (layer_of u x)) g m.item layered m.there)
 
 -- the plan of these lines
-pub lines_formed : (u : Universe) (s : Support) (x : LifeLines) → IsUniverse u → IsSupport u s → AreLines s x → IsFormed u (plan_of u s x)
+pub lines_formed : (u : Universe) (s : Support) (x : LifeLines) → IsUniverse u → IsSupport u s → AreLines u s x → IsFormed u (plan_of u s x)
 lines_formed u s x universe support lines =
     let own : (p : ℕ) → has x.own p ≡ true → is_selected s p ≡ true = λ p h. provider_chosen s p (subst (λ ps. has ps p ≡ true) (ap (λ (y : LifeLines). y.providers) lines.are) (lines.own p h)) in
     subst (λ y. IsFormed u (plan_of u s y)) (sym lines.are) (sound u s support x.targets x.own lines.targets own universe).formed

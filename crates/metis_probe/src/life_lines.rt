@@ -13,7 +13,7 @@ pub fn print_lines<R: Print>(rt: &R, s: &Support, lines: &Lines) -> Result<(), S
         print_line(rt, lines, LineIx(number))?;
     }
     for pair in s.provider_pairs() {
-        print_holder(rt, lines, *pair)?;
+        print_holders(rt, lines, *pair)?;
     }
     let loose = lines.loose();
     println!(rt; "loose {loose}")?;
@@ -39,14 +39,27 @@ fn print_line<R: Print>(rt: &R, lines: &Lines, line: LineIx) -> Result<(), Stop>
     Ok(())
 }
 
-fn print_holder<R: Print>(rt: &R, lines: &Lines, pair: PairIx) -> Result<(), Stop> {
+// Prints where each slot of the pair is held.
+fn print_holders<R: Print>(rt: &R, lines: &Lines, pair: PairIx) -> Result<(), Stop> {
+    for before in 0..lines.slots(pair) {
+        print_holder(rt, lines, pair, before + 1)?;
+    }
+    Ok(())
+}
+
+fn print_holder<R: Print>(rt: &R, lines: &Lines, pair: PairIx, slot: u32) -> Result<(), Stop> {
     let number = pair.0;
-    match lines.holder(pair) {
+    if slot == 1 {
+        print!(rt; "pair {number} ")?;
+    } else {
+        print!(rt; "pair {number} slot {slot} ")?;
+    }
+    match lines.holder(pair, slot) {
         Some((line, station)) => {
             let (line, station) = (line.0, station.0);
-            println!(rt; "pair {number} is held at {line}.{station}")?;
+            println!(rt; "is held at {line}.{station}")?;
         }
-        None => println!(rt; "pair {number} is not held")?,
+        None => println!(rt; "is not held")?,
     }
     Ok(())
 }
@@ -69,7 +82,7 @@ fn goes_on(lines: &Lines, pair: PairIx) -> bool
     ensures provider { IsTrue result → IsTrue (has lines.now.providers pair) }
     ensures loose { IsTrue result → IsTrue (is_loose lines.now pair) }
 {
-    match lines.holder(pair) {
+    match lines.holder(pair, 1) {
         Some((line, _)) if line.0 < lines.count() => ends_elsewhere(lines, line, pair),
         _ => false,
     }

@@ -69,7 +69,7 @@ fn rounds<R: Print + AllocGlobal>(
     requires selected { (p : ℕ) → IsTrue (has targets.now p) → IsTrue (is_selected s.now p) }
     requires few { length targets.now ≤ 256 }
 {
-    let mut lines = Lines::new(rt.alloc(), s, targets)?;
+    let mut lines = Lines::new(rt.alloc(), u, s, targets)?;
     for _ in 0..lines.loose() {
         if !print_round(rt, u, s, &lines)? {
             return Ok(());
@@ -98,7 +98,7 @@ fn print_round<R: Print + AllocGlobal>(
     lines: &Lines,
 ) -> Result<bool, Stop>
     requires over { IsSupport u.now s.now }
-    requires lines { AreLines s.now lines.now }
+    requires lines { AreLines u.now s.now lines.now }
 {
     print_lines(rt, s, lines)?;
     let graph = EventGraph::of(rt.alloc(), u, s, lines)?;
@@ -119,7 +119,7 @@ fn print_order<R: Print + AllocGlobal>(
     sorted: &Sorted,
 ) -> Result<bool, Stop>
     requires over { IsSupport u.now s.now }
-    requires lines { AreLines s.now lines.now }
+    requires lines { AreLines u.now s.now lines.now }
     requires graph { graph.now ≡ graph_of (plan_of u.now s.now lines.now) }
     requires sorted { IsSorted (dag_of graph.now) sorted.now }
 {
@@ -142,7 +142,7 @@ fn print_actions<R: Print + AllocGlobal>(
     nodes: &[NodeIx],
 ) -> Result<(), Stop>
     requires over { IsSupport u.now s.now }
-    requires lines { AreLines s.now lines.now }
+    requires lines { AreLines u.now s.now lines.now }
     requires graph { graph.now ≡ graph_of (plan_of u.now s.now lines.now) }
     requires order { IsOrder (dag_of graph.now) nodes.now }
 {
@@ -168,7 +168,7 @@ fn counts<R: Print + AllocGlobal>(
     requires selected { (p : ℕ) → IsTrue (has targets.now p) → IsTrue (is_selected s.now p) }
     requires few { length targets.now ≤ 256 }
 {
-    let lines = Lines::new(rt.alloc(), s, targets)?;
+    let lines = Lines::new(rt.alloc(), u, s, targets)?;
     let (count, loose) = (lines.count(), lines.loose());
     println!(rt; "lines {count} loose {loose}")?;
     let graph = EventGraph::of(rt.alloc(), u, s, &lines)?;
@@ -195,7 +195,7 @@ fn dag_over(
     graph: &EventGraph,
 ) -> Result<Dag, Stop>
     requires over { IsSupport u.now s.now }
-    requires lines { AreLines s.now lines.now }
+    requires lines { AreLines u.now s.now lines.now }
     requires graph { graph.now ≡ graph_of (plan_of u.now s.now lines.now) }
     ensures { IfOk result (λ d. d ≡ dag_of graph.now) }
 {

@@ -10,7 +10,7 @@ use Rattle.metis_ids.specs.declared.goals.Goal.{Goal}
 use Rattle.metis_universe.specs.Config.{empty}
 use Rattle.metis_universe.specs.Steadfast.{is_steadfast}
 use Rattle.metis_universe.specs.Step.{IsRun, after_all}
-use Rattle.metis_universe.specs.Universe.{Universe}
+use Rattle.metis_universe.specs.Universe.{Universe, greatest_demand}
 use Rattle.metis_universe.specs.Waits.{IsKept, is_complete, numbers, picked}
 use Rattle.metis_top.specs.Deployment.{Deploys, DeploysOrRefuses, InAnyOrder}
 use Rattle.metis_top.specs.Planned.{IsPlan, PlanAnswer, Plans}
@@ -43,7 +43,7 @@ module _ (laws : OrderLaws) (u : Universe) (goals : List Goal) where
     any_order = in_any_order p.for_pairs.plan.actions p.pairs p.resolved p.for_pairs.is;
     attained = p.for_pairs.is.attained;
     all = p.for_pairs.is.all;
-    few = subst (λ n. count_by makes p.for_pairs.plan.actions ≤ length p.for_pairs.is.attained + n) (pairs_count u goals p.pairs p.resolved) p.for_pairs.is.few;
+    few = subst (λ n. count_by makes p.for_pairs.plan.actions ≤ length p.for_pairs.is.attained * greatest_demand u + n) (pairs_count u goals p.pairs p.resolved) p.for_pairs.is.few;
     told = p.for_pairs.told;
   }
 

@@ -6,12 +6,12 @@ use Rattle.metis_ids.specs.declared.actions.Action.{Action}
 use Rattle.metis_text.specs.Reading.{plan_in}
 use Rattle.metis_text.specs.RefusalReading.{refusal_in}
 use Rattle.metis_top.specs.declared.refusal.Refusal.{Refusal}
-use Rattle.metis_top.specs.declared.refusal.Refusal.TheVariants.{NotYet, TooLong, Word}
+use Rattle.metis_top.specs.declared.refusal.Refusal.TheVariants.{TooLong, Word}
 use Rattle.metis_top.specs.declared.status.Status.{Status}
 use Rattle.metis_top.specs.declared.words.Verb.{Verb}
 use Rattle.metis_top.specs.declared.words.Verb.TheVariants.{Plan, Replay, Refute, Audit, Sim, Crew, Waves, Control, Rollout, Place, Print, Load}
 use Rattle.metis_top.specs.Answer as answer
-use Rattle.metis_top.specs.Commands.{universe_then, single_then, waves_then, control_over, control_then, audit_then, plan_said, crew_over, crew_then, judged, or_plan_refused, or_refusal_refused, or_turns_refused, or_universe_refused, goals_named, plan_limit, refusal_limit, refute_then, replay_then, rollout_then, session_limit, sim_then, turns_limit, command_script, script_from, single_universe_then, hosts_limit, or_hosts_refused, place_over, place_then}
+use Rattle.metis_top.specs.Commands.{universe_then, waves_then, control_over, control_then, audit_then, plan_said, crew_over, crew_then, judged, or_plan_refused, or_refusal_refused, or_turns_refused, or_universe_refused, goals_named, plan_limit, refusal_limit, refute_then, replay_then, rollout_then, session_limit, sim_then, turns_limit, command_script, script_from, hosts_limit, or_hosts_refused, place_over, place_then}
 use Rattle.metis_place.specs.HostsText.{hosts_in}
 use Rattle.metis_top.specs.Course.{Ran, AreTaken, IsRead, OnShelf, after}
 use Rattle.metis_ujson.specs.Document.{document_limit, universe_in}
@@ -21,7 +21,7 @@ use Rattle.metis_top.specs.Script.{Script, Read, Refuse, Reply}
 use Rattle.metis_top.specs.TargetName.{TargetName}
 use Rattle.metis_top.specs.Turns.{turns_in}
 use Rattle.metis_top.specs.Words.{Form, word_at}
-use Rattle.metis_universe.specs.Universe.{Universe, greatest_demand}
+use Rattle.metis_universe.specs.Universe.{Universe}
 
 -- it reads at most so many files
 abbrev IsAtMost : ℕ → Script → Type 0
@@ -49,9 +49,6 @@ at_most_if n false script refusal most = refuses_at_most n refusal
 at_most_universe : (n place : ℕ) (name : List ℕ) (next : Universe → Script) → ((u : Universe) → IsAtMost n (next u)) → IsAtMost (suc n) (universe_then place name next)
 at_most_universe n place name next most = λ bytes.
     at_most_if n (nat_le (length bytes) document_limit) (judged next (or_universe_refused (universe_in bytes))) (TooLong place) (at_most_judged n next (or_universe_refused (universe_in bytes)) most)
-
-at_most_single_universe : (n place : ℕ) (name : List ℕ) (next : Universe → Script) → ((u : Universe) → IsAtMost n (next u)) → IsAtMost (suc n) (single_universe_then place name next)
-at_most_single_universe n place name next most = at_most_universe n place name (λ u. single_then u next) (λ u. at_most_if n (nat_le (greatest_demand u) 1) (next u) NotYet (most u))
 
 at_most_replay : (u : Universe) (g : List Goal) (plan : List ℕ) → IsAtMost 1 (replay_then plan (u, g))
 at_most_replay u g plan = λ bytes.
@@ -111,15 +108,15 @@ at_most_place u plan name = λ bytes.
 
 -- the files of each command
 at_most_command : (verb : Verb) (files : List (List ℕ)) (targets : List TargetName) (size : ℕ) (numbers : List ℕ) → IsAtMost (file_count verb) (command_script verb files targets size numbers)
-at_most_command Plan files targets size numbers = at_most_single_universe 0 2 (word_at files 0) _ (λ u. at_most_judged 0 (λ g. Reply (answer.Plan u g)) (goals_named 3 u targets) (λ g. tt))
+at_most_command Plan files targets size numbers = at_most_universe 0 2 (word_at files 0) _ (λ u. at_most_judged 0 (λ g. Reply (answer.Plan u g)) (goals_named 3 u targets) (λ g. tt))
 at_most_command Replay files targets size numbers = at_most_universe 1 2 (word_at files 0) _ (λ u. at_most_judged 1 (λ g. replay_then (word_at files 1) (u, g)) (goals_named 4 u targets) (λ g. at_most_replay u g (word_at files 1)))
 at_most_command Refute files targets size numbers = at_most_universe 1 2 (word_at files 0) _ (λ u. at_most_judged 1 (λ g. refute_then (word_at files 1) (u, g)) (goals_named 4 u targets) (λ g. at_most_refute u g (word_at files 1)))
-at_most_command Audit files targets size numbers = at_most_single_universe 1 2 (word_at files 0) _ (λ u. at_most_judged 1 (λ g. audit_then (word_at files 1) (u, g)) (goals_named 4 u targets) (λ g. at_most_audit u g (word_at files 1)))
+at_most_command Audit files targets size numbers = at_most_universe 1 2 (word_at files 0) _ (λ u. at_most_judged 1 (λ g. audit_then (word_at files 1) (u, g)) (goals_named 4 u targets) (λ g. at_most_audit u g (word_at files 1)))
 at_most_command Sim files targets size numbers = at_most_universe 1 2 (word_at files 0) _ (λ u. at_most_sim u (word_at files 1))
 at_most_command Crew files targets size numbers = at_most_universe 2 2 (word_at files 0) _ (λ u. at_most_crew u (word_at files 1) (word_at files 2))
 at_most_command Waves files targets size numbers = at_most_universe 1 2 (word_at files 0) _ (λ u. at_most_waves u (word_at files 1) numbers)
 at_most_command Control files targets size numbers = at_most_universe 2 2 (word_at files 0) _ (λ u. at_most_control u (word_at files 1) (word_at files 2))
-at_most_command Rollout files targets size numbers = at_most_single_universe 1 2 (word_at files 0) _ (λ u. at_most_judged 1 (λ g. rollout_then (word_at files 1) (u, g)) (goals_named 4 u targets) (λ g. at_most_rollout u g (word_at files 1)))
+at_most_command Rollout files targets size numbers = at_most_universe 1 2 (word_at files 0) _ (λ u. at_most_judged 1 (λ g. rollout_then (word_at files 1) (u, g)) (goals_named 4 u targets) (λ g. at_most_rollout u g (word_at files 1)))
 at_most_command Place files targets size numbers = at_most_universe 2 2 (word_at files 0) _ (λ u. at_most_place u (word_at files 1) (word_at files 2))
 at_most_command Print files targets size numbers = at_most_universe 0 2 (word_at files 0) _ (λ u. tt)
 at_most_command Load files targets size numbers = tt

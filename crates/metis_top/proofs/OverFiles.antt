@@ -4,7 +4,7 @@ use Rattle.std.proofs.lemmas.List.{take_all}
 use Rattle.std.proofs.lemmas.Bool.Decides.{nat_tests}
 use Rattle.std.specs.declared.option.Option.{Option}
 use Rattle.metis_outside.specs.Faults.{Rose}
-use Rattle.metis_top.specs.declared.refusal.Refusal.TheVariants.{NotYet, TooLong}
+use Rattle.metis_top.specs.declared.refusal.Refusal.TheVariants.{TooLong}
 use Rattle.metis_top.specs.declared.status.Status.{Status}
 use Rattle.metis_top.specs.declared.status.Status.TheVariants.{Done, No, NoMemory}
 use Rattle.metis_choice.specs.Resolutions.{ArePairsFor}
@@ -13,7 +13,7 @@ use Rattle.metis_ids.specs.declared.goals.Goal.{Goal}
 use Rattle.metis_outside.specs.Writes.{Appends}
 use Rattle.metis_universe.specs.Tidy.{IsTidy}
 use Rattle.metis_top.specs.Answer.{Plan as PlanOf}
-use Rattle.metis_top.specs.Commands.{goals_named, plan_script, script_from, single_then, universe_in_then, targets_then}
+use Rattle.metis_top.specs.Commands.{goals_named, plan_script, script_from, universe_in_then, targets_then}
 use Rattle.metis_top.specs.Course.{Ran, Shown, Says, OnShelf, AreTaken, after}
 use Rattle.metis_ujson.specs.Document.{document_limit, universe_in}
 use Rattle.metis_top.proofs.Deployments.{OrderLaws, answer_deploys}
@@ -23,7 +23,7 @@ use Rattle.metis_top.specs.Planned.{PlanAnswer, PlansPairs, plan_text}
 use Rattle.metis_top.specs.Script.{Script, Read, Refuse, Reply}
 use Rattle.metis_top.specs.TargetName.{TargetName}
 use Rattle.metis_top.specs.Words.{form_of}
-use Rattle.metis_universe.specs.Universe.{Universe, greatest_demand}
+use Rattle.metis_universe.specs.Universe.{Universe}
 
 -- no read failed, and memory did not run out, so the script has come to its end
 after-over : (file : List ℕ → List ℕ) (taken : List (List ℕ)) (script : Script) (count faults faults' opens opens' : ℕ) (old new : Option (List (List ℕ))) (status : Status)
@@ -63,30 +63,30 @@ ran_tells files faults opens written sink_faults script shelf shelf' sink sink' 
 
 -- an accepted document is gone on with
 over-universe : (file : List ℕ → List ℕ) (bytes taken : List ℕ) (u : Universe) (next : Universe → Script)
-    → taken ≡ bytes → length bytes ≤ document_limit → universe_in bytes ≡ Ok u → greatest_demand u ≡ 1
-    → over file (if nat_le (length taken) document_limit then universe_in_then taken (λ v. single_then v next) else Refuse (TooLong 2)) ≡ over file (next u)
-over-universe file bytes taken u next is fits means single =
+    → taken ≡ bytes → length bytes ≤ document_limit → universe_in bytes ≡ Ok u
+    → over file (if nat_le (length taken) document_limit then universe_in_then taken next else Refuse (TooLong 2)) ≡ over file (next u)
+over-universe file bytes taken u next is fits means =
     let passes : nat_le (length bytes) document_limit ≡ true = grind (arith, nat_tests) in
-    ap (λ t. over file (if nat_le (length t) document_limit then universe_in_then t (λ v. single_then v next) else Refuse (TooLong 2))) is
-    ∙ rw (passes, means) (ap (λ n. over file (if nat_le n 1 then next u else Refuse NotYet)) single)
+    ap (λ t. over file (if nat_le (length t) document_limit then universe_in_then t next else Refuse (TooLong 2))) is
+    ∙ rw (passes, means)
 
 -- accepted words and an accepted document come to what is to be said of the targets
-over-plan : (file : List ℕ → List ℕ) (name : List ℕ) (targets : List TargetName) (u : Universe) (g : List Goal) → length (file name) ≤ document_limit → universe_in (file name) ≡ Ok u → greatest_demand u ≡ 1
+over-plan : (file : List ℕ → List ℕ) (name : List ℕ) (targets : List TargetName) (u : Universe) (g : List Goal) → length (file name) ≤ document_limit → universe_in (file name) ≡ Ok u
     → goals_named 3 u targets ≡ Ok g → over file (plan_script name targets) ≡ Reply (PlanOf u g)
-over-plan file name targets u g fits means single found =
-    over-universe file (file name) (take (document_limit + 1) (file name)) u (λ v. targets_then 3 v targets (λ goals. Reply (PlanOf v goals))) (take_all (document_limit + 1) (file name) (omega arith)) fits means single
+over-plan file name targets u g fits means found =
+    over-universe file (file name) (take (document_limit + 1) (file name)) u (λ v. targets_then 3 v targets (λ goals. Reply (PlanOf v goals))) (take_all (document_limit + 1) (file name) (omega arith)) fits means
     ∙ rw found
 
 tells_plans : OrderLaws → (words : List (List ℕ)) (file : List ℕ → List ℕ) (old new : Option (List (List ℕ))) (status : Status) → Tells file (script_from (form_of words)) old new status → Headline words file old new status
-tells_plans laws words file old new status t = λ name targets u g is fits means single found.
-    let ends : over file (script_from (form_of words)) ≡ Reply (PlanOf u g) = ap (λ f. over file (script_from f)) is ∙ over-plan file name targets u g fits means single found in
+tells_plans laws words file old new status t = λ name targets u g is fits means found.
+    let ends : over file (script_from (form_of words)) ≡ Reply (PlanOf u g) = ap (λ f. over file (script_from f)) is ∙ over-plan file name targets u g fits means found in
     (t.lines, answer_deploys laws u g t.lines status (subst (λ s. Says s t.lines status) ends t.says), t.put)
 
 -- what holds of each plan that is answered holds of the one that is put
 plans_have : (P : Universe → List ℕ → Plan → Type 0) → ((u : Universe) (g : List ℕ) (lines : List (List ℕ)) (p : PlansPairs u g lines) → P u g p.plan)
     → (words : List (List ℕ)) (file : List ℕ → List ℕ) (old new : Option (List (List ℕ))) (status : Status) → Tells file (script_from (form_of words)) old new status → PlansHave P words file old new status
-plans_have P each words file old new status t = λ name targets u g is fits means single found done.
-    let ends : over file (script_from (form_of words)) ≡ Reply (PlanOf u g) = ap (λ f. over file (script_from f)) is ∙ over-plan file name targets u g fits means single found in
+plans_have P each words file old new status t = λ name targets u g is fits means found done.
+    let ends : over file (script_from (form_of words)) ≡ Reply (PlanOf u g) = ap (λ f. over file (script_from f)) is ∙ over-plan file name targets u g fits means found in
     by u g done (subst (λ s. Says s t.lines status) ends t.says) where
       done_no : Done ≡ No → ⊥
       done_no e = cc

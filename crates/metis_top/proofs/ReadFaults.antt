@@ -18,7 +18,7 @@ use Rattle.metis_ids.specs.declared.actions.Action.{Action}
 use Rattle.metis_place.specs.HostsText.{hosts_in}
 use Rattle.metis_text.specs.Reading.{plan_in}
 use Rattle.metis_text.specs.RefusalReading.{refusal_in}
-use Rattle.metis_top.specs.Commands.{universe_then, single_then, waves_then, control_over, control_then, audit_then, plan_said, single_universe_then, crew_over, crew_then, judged, or_plan_refused, or_refusal_refused, or_turns_refused, or_universe_refused, goals_named, plan_limit, refusal_limit, refute_then, replay_then, rollout_then, session_limit, sim_then, turns_limit, command_script, script_from, hosts_limit, or_hosts_refused, place_over, place_then}
+use Rattle.metis_top.specs.Commands.{universe_then, waves_then, control_over, control_then, audit_then, plan_said, crew_over, crew_then, judged, or_plan_refused, or_refusal_refused, or_turns_refused, or_universe_refused, goals_named, plan_limit, refusal_limit, refute_then, replay_then, rollout_then, session_limit, sim_then, turns_limit, command_script, script_from, hosts_limit, or_hosts_refused, place_over, place_then}
 use Rattle.metis_refusal.specs.declared.verdict.Verdict2.{Verdict2}
 use Rattle.metis_refusal.specs.declared.verdict.Verdict2.TheVariants.{Closed, NotFree, Open, LacksNone}
 use Rattle.metis_audit.specs.declared.answers.Answer.{Answer as AuditAnswer}
@@ -34,7 +34,7 @@ use Rattle.metis_top.specs.Script.{Script, Read, Refuse, Reply}
 use Rattle.metis_top.specs.TargetName.{TargetName}
 use Rattle.metis_top.specs.Turns.{turns_in}
 use Rattle.metis_top.specs.Words.{Form, word_at}
-use Rattle.metis_universe.specs.Universe.{Universe, greatest_demand}
+use Rattle.metis_universe.specs.Universe.{Universe}
 
 verdict_ends : (v : Verdict) (status : Status) → status ≡ verdict_status v → (status ≡ Done) ⊎ (status ≡ No)
 verdict_ends Good status is = inl is
@@ -96,7 +96,6 @@ not_refused : (refusal : Refusal) → refusal_status refusal ≡ ReadFault → �
 not_refused (Word place) is = cc
 not_refused (TooLong place) is = cc
 not_refused (refusal.Universe fault) is = cc
-not_refused refusal.NotYet is = cc
 not_refused (refusal.PlanText fault) is = cc
 not_refused (refusal.RefusalText fault) is = cc
 not_refused (refusal.HostsText fault) is = cc
@@ -138,9 +137,6 @@ numbered_judged k next (Err refusal) n = tt
 
 numbered_universe : (place : ℕ) (name : List ℕ) (next : Universe → Script) → ((u : Universe) → Numbered (suc place) (next u)) → Numbered place (universe_then place name next)
 numbered_universe place name next n = (refl, λ bytes. numbered_if (suc place) (nat_le (length bytes) document_limit) (judged next (or_universe_refused (universe_in bytes))) (TooLong place) (numbered_judged (suc place) next (or_universe_refused (universe_in bytes)) n))
-
-numbered_single_universe : (place : ℕ) (name : List ℕ) (next : Universe → Script) → ((u : Universe) → Numbered (suc place) (next u)) → Numbered place (single_universe_then place name next)
-numbered_single_universe place name next n = numbered_universe place name (λ u. single_then u next) (λ u. numbered_if (suc place) (nat_le (greatest_demand u) 1) (next u) refusal.NotYet (n u))
 
 numbered_replay : (u : Universe) (g : List Goal) (plan : List ℕ) → Numbered 3 (replay_then plan (u, g))
 numbered_replay u g plan = (
@@ -220,15 +216,15 @@ numbered_place u plan name = (
 
 -- the script of each command
 numbered_command : (verb : Verb) (files : List (List ℕ)) (targets : List TargetName) (size : ℕ) (numbers : List ℕ) → Numbered 2 (command_script verb files targets size numbers)
-numbered_command Plan files targets size numbers = numbered_single_universe 2 (word_at files 0) _ (λ u. numbered_judged 3 (λ g. Reply (answer.Plan u g)) (goals_named 3 u targets) (λ g. tt))
+numbered_command Plan files targets size numbers = numbered_universe 2 (word_at files 0) _ (λ u. numbered_judged 3 (λ g. Reply (answer.Plan u g)) (goals_named 3 u targets) (λ g. tt))
 numbered_command Replay files targets size numbers = numbered_universe 2 (word_at files 0) _ (λ u. numbered_judged 3 (λ g. replay_then (word_at files 1) (u, g)) (goals_named 4 u targets) (λ g. numbered_replay u g (word_at files 1)))
 numbered_command Refute files targets size numbers = numbered_universe 2 (word_at files 0) _ (λ u. numbered_judged 3 (λ g. refute_then (word_at files 1) (u, g)) (goals_named 4 u targets) (λ g. numbered_refute u g (word_at files 1)))
-numbered_command Audit files targets size numbers = numbered_single_universe 2 (word_at files 0) _ (λ u. numbered_judged 3 (λ g. audit_then (word_at files 1) (u, g)) (goals_named 4 u targets) (λ g. numbered_audit u g (word_at files 1)))
+numbered_command Audit files targets size numbers = numbered_universe 2 (word_at files 0) _ (λ u. numbered_judged 3 (λ g. audit_then (word_at files 1) (u, g)) (goals_named 4 u targets) (λ g. numbered_audit u g (word_at files 1)))
 numbered_command Sim files targets size numbers = numbered_universe 2 (word_at files 0) _ (λ u. numbered_sim u (word_at files 1))
 numbered_command Crew files targets size numbers = numbered_universe 2 (word_at files 0) _ (λ u. numbered_crew u (word_at files 1) (word_at files 2))
 numbered_command Waves files targets size numbers = numbered_universe 2 (word_at files 0) _ (λ u. numbered_waves u (word_at files 1) numbers)
 numbered_command Control files targets size numbers = numbered_universe 2 (word_at files 0) _ (λ u. numbered_control u (word_at files 1) (word_at files 2))
-numbered_command Rollout files targets size numbers = numbered_single_universe 2 (word_at files 0) _ (λ u. numbered_judged 3 (λ g. rollout_then (word_at files 1) (u, g)) (goals_named 4 u targets) (λ g. numbered_rollout u g (word_at files 1)))
+numbered_command Rollout files targets size numbers = numbered_universe 2 (word_at files 0) _ (λ u. numbered_judged 3 (λ g. rollout_then (word_at files 1) (u, g)) (goals_named 4 u targets) (λ g. numbered_rollout u g (word_at files 1)))
 numbered_command Place files targets size numbers = numbered_universe 2 (word_at files 0) _ (λ u. numbered_place u (word_at files 1) (word_at files 2))
 numbered_command Print files targets size numbers = numbered_universe 2 (word_at files 0) _ (λ u. tt)
 numbered_command Load files targets size numbers = tt

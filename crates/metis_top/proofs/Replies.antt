@@ -24,7 +24,7 @@ use Rattle.metis_universe.specs.Steadfast.{is_steadfast}
 use Rattle.metis_universe.specs.Step.{IsRun, after_all}
 use Rattle.metis_universe.specs.Tidy.{IsTidy}
 use Rattle.metis_universe.specs.Numbers.{IsOf, NamesBelow}
-use Rattle.metis_universe.specs.Universe.{IsTable, Universe, pair_count}
+use Rattle.metis_universe.specs.Universe.{IsTable, Universe, greatest_demand, pair_count}
 use Rattle.metis_planner.specs.Outcomes.{EventBelow, IsLean}
 use Rattle.metis_planner.specs.Rounds.{IsByRounds, graph_after, numbered}
 use Rattle.metis_replay.specs.Exact.{Tells}
@@ -76,7 +76,7 @@ pub record IsPlanned (u : Universe) (g : List ℕ) (p : Plan) : Type 0 where
   pub tidy : IsTidy u g (after_all u empty p.actions)
   pub counts : p.instances ≡ instances_of p.actions
   pub lean : IsLean u p.instances g
-  pub bounded : p.instances ≤ 2256
+  pub bounded : p.instances ≤ 32256
   pub short : length p.actions ≤ 321 * p.instances
   pub lines : (l : ℕ) → entered u l p.actions ≡ stations (graph_after u g p.dups) l
   pub justified : IsTrue (is_justified u g p.dups)
@@ -99,7 +99,7 @@ answer_by_plan u g p k =
     let few = k.short in
     let bounded = k.bounded in
     let few_dups = k.few_dups in
-    let is : IsPlan u g p.actions = record { runs = k.runs; holds = k.holds; steadfast = k.steadfast; attained = k.lean.attained; all = k.lean.all; few = omega (arith, counted, lean) } in
+    let is : IsPlan u g p.actions = record { runs = k.runs; holds = k.holds; steadfast = k.steadfast; attained = k.lean.attained; all = k.lean.all; few = subst (λ n. n ≤ length k.lean.attained * greatest_demand u + length g) counted lean } in
     let formed : IsWellFormed u p (others p.actions) = run_formed u p k.table k.runs k.numbers k.doubled k.cycles (record { actions = k.named; events = λ i d low j e short. event_in_range (get_or (get_or p.dups i d).cycle j e) (k.events i d low j e short) }) counted (omega arith) (omega arith) in
     let needed : IsDoubledByNeed u g p = record { counted = sym counted ∙ k.rounds.instances; lines = k.lines; justified = k.justified; without_cycle = k.without_cycle } in
     (refl, record { attains = (p.actions, k.runs, k.holds); plan = p; is = is; rounds = k.rounds; needed = needed; tidy = k.tidy; counted = counted; formed = formed; told = refl })

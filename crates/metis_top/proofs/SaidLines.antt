@@ -38,7 +38,7 @@ use Rattle.metis_ujson.proofs.OneLine.{IsLine-canonical}
 use Rattle.metis_ujson.specs.Document.{document_limit, universe_in}
 use Rattle.metis_ujson.specs.declared.faults.UFault.{UFault}
 use Rattle.metis_ujson.specs.declared.faults.UFault.TheVariants as ufault
-use Rattle.metis_universe.specs.Universe.{IsNamed, IsTable, Universe, pair_count, port_name_of, greatest_demand}
+use Rattle.metis_universe.specs.Universe.{IsNamed, IsTable, Universe, pair_count, port_name_of}
 use Rattle.metis_universe.specs.declared.faults.LimitKind.{LimitKind}
 use Rattle.metis_universe.specs.declared.faults.LimitKind.TheVariants.{Pairs, Ports, Requires, States}
 use Rattle.metis_control.proofs.AnswerLines.{by_number, by_three, by_two, no_feed-added_numbers, number_then, script_is_lines}
@@ -48,7 +48,7 @@ use Rattle.metis_crew.specs.declared.turn.Turn.TheVariants as turn
 use Rattle.metis_gen.specs.Generated.{generated, generated_targets}
 use Rattle.metis_top.specs.Answer as answer
 use Rattle.metis_top.specs.Answer.{Answer, IsAnswer}
-use Rattle.metis_top.specs.Commands.{universe_then, single_then, waves_then, control_over, control_then, audit_then, plan_said, command_script, crew_over, crew_then, judged, or_plan_refused, or_refusal_refused, or_turns_refused, or_universe_refused, or_word, goal_found_then, goals_after, goals_named, plan_limit, refusal_limit, refute_then, replay_then, rollout_then, script_from, session_limit, sim_then, targets_then, turns_limit, single_universe_then, hosts_limit, or_hosts_refused, place_over, place_then}
+use Rattle.metis_top.specs.Commands.{universe_then, waves_then, control_over, control_then, audit_then, plan_said, command_script, crew_over, crew_then, judged, or_plan_refused, or_refusal_refused, or_turns_refused, or_universe_refused, or_word, goal_found_then, goals_after, goals_named, plan_limit, refusal_limit, refute_then, replay_then, rollout_then, script_from, session_limit, sim_then, targets_then, turns_limit, hosts_limit, or_hosts_refused, place_over, place_then}
 use Rattle.metis_top.specs.Course.{Ran, Says, Shown, after}
 use Rattle.metis_top.specs.Crewed.{last_line, loose_line, progress_line, turn_line}
 use Rattle.metis_top.specs.Judged.{judgement_line, word_line}
@@ -72,7 +72,7 @@ use Rattle.metis_top.specs.TargetName.{TargetName}
 use Rattle.metis_top.specs.Turns.{turns_in}
 use Rattle.metis_top.specs.Words.{Form, word_at}
 use Rattle.metis_top.specs.declared.refusal.Refusal.{Refusal}
-use Rattle.metis_top.specs.declared.refusal.Refusal.TheVariants.{NotYet, Word, TooLong, Turns}
+use Rattle.metis_top.specs.declared.refusal.Refusal.TheVariants.{Word, TooLong, Turns}
 use Rattle.metis_top.specs.declared.status.Status.{Status}
 use Rattle.metis_top.specs.declared.words.Verb.{Verb}
 use Rattle.metis_audit.specs.declared.answers.Answer.{Answer as AuditAnswer}
@@ -408,12 +408,6 @@ lines_universe place name next says = λ bytes.
     lines_if (nat_le (length bytes) document_limit) (judged next (or_universe_refused (universe_in bytes))) place
     (lines_meant next (universe_in bytes) (λ u is. says u (universe_in_table bytes u is)) (universe_in_named bytes))
 
-lines_single : (u : Universe) (next : Universe → Script) → SaysLines (next u) → SaysLines (single_then u next)
-lines_single u next says = elim (nat_le (greatest_demand u) 1) as (λ b. SaysLines (if b then next u else Refuse NotYet)) [ true ↦ says | false ↦ IsLine-from (codes "not yet demand") refl ]
-
-lines_single_universe : (place : ℕ) (name : List ℕ) (next : Universe → Script) → ((u : Universe) → IsTable u → SaysLines (next u)) → SaysLines (single_universe_then place name next)
-lines_single_universe place name next says = lines_universe place name (λ u. single_then u next) (λ u table. lines_single u next (says u table))
-
 word_refuses : (place : ℕ) (o : Option Goal) → RefusesByLine (or_word place o)
 word_refuses place None = IsLine-word place
 word_refuses place (Some g) = tt
@@ -520,15 +514,15 @@ lines_place u table plan name = λ bytes.
 
 -- the script of each command
 lines_command : (verb : Verb) (files : List (List ℕ)) (targets : List TargetName) (size : ℕ) (numbers : List ℕ) → SaysLines (command_script verb files targets size numbers)
-lines_command Plan files targets size numbers = lines_single_universe 2 (word_at files 0) _ (λ u table. lines_targets 3 u targets (λ g. Reply (answer.Plan u g)) (plan_answers u table))
+lines_command Plan files targets size numbers = lines_universe 2 (word_at files 0) _ (λ u table. lines_targets 3 u targets (λ g. Reply (answer.Plan u g)) (plan_answers u table))
 lines_command Replay files targets size numbers = lines_universe 2 (word_at files 0) _ (λ u table. lines_targets 4 u targets (λ g. replay_then (word_at files 1) (u, g)) (λ g. lines_replay u table g (word_at files 1)))
 lines_command Refute files targets size numbers = lines_universe 2 (word_at files 0) _ (λ u table. lines_targets 4 u targets (λ g. refute_then (word_at files 1) (u, g)) (λ g. lines_refute u table g (word_at files 1)))
-lines_command Audit files targets size numbers = lines_single_universe 2 (word_at files 0) _ (λ u table. lines_targets 4 u targets (λ g. audit_then (word_at files 1) (u, g)) (λ g. lines_audit u table g (word_at files 1)))
+lines_command Audit files targets size numbers = lines_universe 2 (word_at files 0) _ (λ u table. lines_targets 4 u targets (λ g. audit_then (word_at files 1) (u, g)) (λ g. lines_audit u table g (word_at files 1)))
 lines_command Sim files targets size numbers = lines_universe 2 (word_at files 0) _ (λ u table. lines_sim u table (word_at files 1))
 lines_command Crew files targets size numbers = lines_universe 2 (word_at files 0) _ (λ u table. lines_crew u table (word_at files 1) (word_at files 2))
 lines_command Waves files targets size numbers = lines_universe 2 (word_at files 0) _ (λ u table. lines_waves u table (word_at files 1) numbers)
 lines_command Control files targets size numbers = lines_universe 2 (word_at files 0) _ (λ u table. lines_control u table (word_at files 1) (word_at files 2))
-lines_command Rollout files targets size numbers = lines_single_universe 2 (word_at files 0) _ (λ u table. lines_targets 4 u targets (λ g. rollout_then (word_at files 1) (u, g)) (λ g. lines_rollout u table g (word_at files 1)))
+lines_command Rollout files targets size numbers = lines_universe 2 (word_at files 0) _ (λ u table. lines_targets 4 u targets (λ g. rollout_then (word_at files 1) (u, g)) (λ g. lines_rollout u table g (word_at files 1)))
 lines_command Place files targets size numbers = lines_universe 2 (word_at files 0) _ (λ u table. lines_place u table (word_at files 1) (word_at files 2))
 lines_command Print files targets size numbers = lines_universe 2 (word_at files 0) _ (λ u table. print_answers u)
 lines_command Load files targets size numbers = load_answers size

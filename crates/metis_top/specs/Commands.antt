@@ -2,7 +2,7 @@
 use Rattle.std.specs.Prelude.{ℕ, ◌+◌, List, [], ◌∷◌, ◌++◌, length, map, nat_le, Option, Some, None, Result, Ok, Err, if◌then◌else◌}
 use Rattle.metis_ids.specs.declared.goals.Goal.{Goal}
 use Rattle.metis_universe.specs.GoalWords.{goal_named}
-use Rattle.metis_universe.specs.Universe.{Universe, greatest_demand}
+use Rattle.metis_universe.specs.Universe.{Universe}
 use Rattle.metis_top.specs.declared.refusal.Refusal.{Refusal}
 use Rattle.metis_top.specs.declared.refusal.Refusal.TheVariants.{Word, TooLong}
 use Rattle.metis_top.specs.declared.refusal.Refusal.TheVariants as refusal
@@ -47,14 +47,6 @@ universe_in_then bytes next = judged next (or_universe_refused (universe_in byte
 abbrev pub universe_then : ℕ → List ℕ → (Universe → Script) → Script
 universe_then place name next = bytes_then place name document_limit (λ bytes. universe_in_then bytes next)
 
--- goes on with a universe in which no port is required of several providers; for others no plan is made yet
-abbrev pub single_then : Universe → (Universe → Script) → Script
-single_then u next = if nat_le (greatest_demand u) 1 then next u else Refuse refusal.NotYet
-
--- goes on with such a universe in the file of the word at this place
-abbrev pub single_universe_then : ℕ → List ℕ → (Universe → Script) → Script
-single_universe_then place name next = universe_then place name (λ u. single_then u next)
-
 abbrev pub or_word : ℕ → Option Goal → Result Goal Refusal
 or_word place None = Err (Word place)
 or_word place (Some g) = Ok g
@@ -79,10 +71,6 @@ targets_then place u targets next = judged next (goals_named place u targets)
 -- reads the universe, and goes on with it and the goals of the targets, whose words begin at this place
 abbrev pub goals_then : ℕ → List ℕ → List TargetName → (Universe × List Goal → Script) → Script
 goals_then place file targets next = universe_then 2 file (λ u. targets_then place u targets (λ goals. next (u, goals)))
-
--- the same of a universe in which no port is required of several providers
-abbrev pub single_goals_then : ℕ → List ℕ → List TargetName → (Universe × List Goal → Script) → Script
-single_goals_then place file targets next = single_universe_then 2 file (λ u. targets_then place u targets (λ goals. next (u, goals)))
 
 -- the most bytes of a plan's text
 abbrev pub plan_limit : ℕ
@@ -153,7 +141,7 @@ abbrev pub hosts_then : ℕ → Universe → List ℕ → (HostLists → Script)
 hosts_then place u name next = bytes_then place name hosts_limit (λ bytes. hosts_in_then u bytes next)
 
 abbrev pub plan_script : List ℕ → List TargetName → Script
-plan_script file targets = single_goals_then 3 file targets (λ asked. Reply (answer.Plan asked.0 asked.1))
+plan_script file targets = goals_then 3 file targets (λ asked. Reply (answer.Plan asked.0 asked.1))
 
 -- what a replay does once it has its universe and its targets
 abbrev pub replay_then : List ℕ → Universe × List Goal → Script
@@ -181,7 +169,7 @@ abbrev pub audit_then : List ℕ → Universe × List Goal → Script
 audit_then plan asked = plan_then 3 asked.0 plan (λ parts. Reply (answer.Audit asked.0 asked.1 (plan_said parts) parts.rows.after))
 
 abbrev pub audit_script : List ℕ → List ℕ → List TargetName → Script
-audit_script file plan targets = single_goals_then 4 file targets (audit_then plan)
+audit_script file plan targets = goals_then 4 file targets (audit_then plan)
 
 -- what a simulation does once it has its universe
 abbrev pub sim_then : List ℕ → Universe → Script
@@ -227,7 +215,7 @@ abbrev pub rollout_then : List ℕ → Universe × List Goal → Script
 rollout_then plan asked = plan_then 3 asked.0 plan (λ parts. Reply (answer.Rollout asked.0 asked.1 parts.rows.actions))
 
 abbrev pub rollout_script : List ℕ → List ℕ → List TargetName → Script
-rollout_script file plan targets = single_goals_then 4 file targets (rollout_then plan)
+rollout_script file plan targets = goals_then 4 file targets (rollout_then plan)
 
 -- what a placement does once it has its universe and the plan's actions; why these are no steadfast run is told behind what is wrong
 -- with the hosts

@@ -3,7 +3,7 @@
 --     Deploys u goals lines      the lines are the text of a plan whose actions do so, and that makes few instances
 --     EndsTidy u g plan      run to the end in any order that keeps their waits, its actions leave the pairs g standing, and what serves them
 --     DeploysOrRefuses u goals lines status      the lines are those of such a plan where some list of actions attains the goals, and else of a closed set of pairs that lacks one
-use Rattle.std.specs.Prelude.{◌≡◌, ◌⊎◌, ℕ, ◌+◌, ◌≤◌, List, length, IsTrue}
+use Rattle.std.specs.Prelude.{◌≡◌, ◌⊎◌, ℕ, ◌+◌, ◌*◌, ◌≤◌, List, length, IsTrue}
 use Rattle.std.specs.List.{count_by}
 use Rattle.metis_ids.specs.Action.{makes}
 use Rattle.metis_ids.specs.Plans.{Plan}
@@ -14,7 +14,7 @@ use Rattle.metis_universe.specs.Goal.{IsAttainedSet}
 use Rattle.metis_universe.specs.Goals.{AttainsGoals, HoldsGoals}
 use Rattle.metis_universe.specs.Step.{IsRun, after_all}
 use Rattle.metis_universe.specs.Tidy.{IsTidy}
-use Rattle.metis_universe.specs.Universe.{Universe}
+use Rattle.metis_universe.specs.Universe.{Universe, greatest_demand}
 use Rattle.metis_universe.specs.Waits.{IsKept, is_complete, numbers, picked}
 use Rattle.metis_top.specs.Planned.{Refuses, plan_text}
 use Rattle.metis_top.specs.declared.status.Status.{Status}
@@ -31,14 +31,14 @@ pub record InAnyOrder (u : Universe) (goals : List Goal) (actions : List Action)
   pub own_complete : IsTrue (is_complete actions (numbers actions))
   pub own_same : picked actions (numbers actions) ≡ actions
 
--- It makes no more instances than there are attainable pairs and goals.
+-- It makes no more instances than there are attainable pairs, times the greatest demand, and goals.
 pub record Deploys (u : Universe) (goals : List Goal) (lines : List (List ℕ)) : Type 0 where
   pub attains : AttainsGoals u goals
   pub plan : Plan
   pub any_order : InAnyOrder u goals plan.actions
   pub attained : List ℕ
   pub all : IsAttainedSet u attained
-  pub few : count_by makes plan.actions ≤ length attained + length goals
+  pub few : count_by makes plan.actions ≤ length attained * greatest_demand u + length goals
   pub told : lines ≡ plan_text u plan
 
 abbrev pub DeploysOrRefuses : Universe → List Goal → List (List ℕ) → Status → Type 0

@@ -10,7 +10,7 @@ use Rattle.metis_choice.specs.Resolutions.{ArePairsFor}
 use Rattle.metis_top.specs.Commands.{goals_named}
 use Rattle.metis_top.specs.Deployment.{DeploysOrRefuses}
 use Rattle.metis_top.specs.Planned.{plan_text}
-use Rattle.metis_universe.specs.Universe.{Universe, greatest_demand}
+use Rattle.metis_universe.specs.Universe.{Universe}
 use Rattle.metis_top.specs.Script.{Script, Read}
 use Rattle.metis_top.specs.TargetName.{TargetName}
 use Rattle.metis_top.specs.Words.{form_of}
@@ -29,14 +29,14 @@ pub record Tells (file : List ℕ → List ℕ) (script : Script) (old new : Opt
   pub says : Says (over file script) lines status
   pub put : Appends old new lines
 
--- The headline. For accepted words, an accepted universe in which no port is required of several providers, and targets in it, what is
+-- The headline. For accepted words, an accepted universe and targets in it, what is
 -- put is the text of a plan, line by line, with status `Done`, exactly where some list of actions attains the targets, and else that of
 -- a refusal, with status `No`. In any order that keeps its waits the plan meets only correct configurations, and ends with every target,
 -- a pair or a port.
 abbrev pub Headline : List (List ℕ) → (List ℕ → List ℕ) → Option (List (List ℕ)) → Option (List (List ℕ)) → Status → Type 0
 Headline words file old new status = (name : List ℕ) (targets : List TargetName) (u : Universe) (goals : List Goal)
     → form_of words ≡ Ok (record { verb = PlanVerb; files = name ∷ []; targets = targets; size = 0; numbers = [] })
-    → length (file name) ≤ document_limit → universe_in (file name) ≡ Ok u → greatest_demand u ≡ 1 → goals_named 3 u targets ≡ Ok goals
+    → length (file name) ≤ document_limit → universe_in (file name) ≡ Ok u → goals_named 3 u targets ≡ Ok goals
     → (lines : List (List ℕ)) × DeploysOrRefuses u goals lines status × Appends old new lines
 
 -- For such words, universe and targets, where the status is `Done` what is put is the text of one plan, line by line, of which P holds,
@@ -44,5 +44,5 @@ Headline words file old new status = (name : List ℕ) (targets : List TargetNam
 abbrev pub PlansHave : (Universe → List ℕ → Plan → Type 0) → List (List ℕ) → (List ℕ → List ℕ) → Option (List (List ℕ)) → Option (List (List ℕ)) → Status → Type 0
 PlansHave P words file old new status = (name : List ℕ) (targets : List TargetName) (u : Universe) (goals : List Goal)
     → form_of words ≡ Ok (record { verb = PlanVerb; files = name ∷ []; targets = targets; size = 0; numbers = [] })
-    → length (file name) ≤ document_limit → universe_in (file name) ≡ Ok u → greatest_demand u ≡ 1 → goals_named 3 u targets ≡ Ok goals → status ≡ Done
+    → length (file name) ≤ document_limit → universe_in (file name) ≡ Ok u → goals_named 3 u targets ≡ Ok goals → status ≡ Done
     → (plan : Plan) × ((pairs : List ℕ) × ArePairsFor u goals pairs × P u pairs plan) × Appends old new (plan_text u plan)

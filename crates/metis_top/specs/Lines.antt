@@ -74,7 +74,6 @@ abbrev pub refusal_line : Refusal → List ℕ
 refusal_line (Word place) = codes "bad word " ++ (decimal place ++ codes "\n")
 refusal_line (TooLong place) = codes "too long " ++ (decimal place ++ codes "\n")
 refusal_line (refusal.Universe fault) = universe_line fault
-refusal_line refusal.NotYet = codes "not yet demand\n"
 refusal_line (refusal.PlanText fault) = plan_fault_line fault
 refusal_line (refusal.RefusalText fault) = refusal_fault_line fault
 refusal_line (refusal.HostsText fault) = hosts_fault_line fault
@@ -84,7 +83,6 @@ abbrev pub refusal_status : Refusal → Status
 refusal_status (Word place) = BadWords
 refusal_status (TooLong place) = BadInput
 refusal_status (refusal.Universe fault) = BadInput
-refusal_status refusal.NotYet = BadInput
 refusal_status (refusal.PlanText fault) = BadInput
 refusal_status (refusal.RefusalText fault) = BadInput
 refusal_status (refusal.HostsText fault) = BadInput

@@ -5,11 +5,11 @@
 --     IsRefusal u goals s g      s is the set of all attainable pairs, it is closed, and g is the first goal that it lacks
 --     PlansPairs u g lines, Plans u goals lines      the lines are those of such a plan for pairs, which some actions attain;  for the pairs for these goals
 --     PlanAnswer u goals lines status      the lines are those of such a plan where some actions attain the goals, and else of such a refusal
-use Rattle.std.specs.Prelude.{◌≡◌, ◌⊎◌, ℕ, ◌+◌, ◌≤◌, List, [], length, map, IsTrue}
+use Rattle.std.specs.Prelude.{◌≡◌, ◌⊎◌, ℕ, ◌+◌, ◌*◌, ◌≤◌, List, [], length, map, IsTrue}
 use Rattle.std.specs.List.{count_by}
 use Rattle.metis_ids.specs.declared.actions.Action.{Action}
 use Rattle.metis_ids.specs.Plans.{Plan}
-use Rattle.metis_universe.specs.Universe.{Universe}
+use Rattle.metis_universe.specs.Universe.{Universe, greatest_demand}
 use Rattle.metis_universe.specs.Config.{empty}
 use Rattle.metis_universe.specs.Step.{IsRun, after_all}
 use Rattle.metis_universe.specs.Goal.{Holds, Attains, IsAttainedSet}
@@ -31,14 +31,14 @@ use Rattle.metis_planner.specs.Rounds.{IsByRounds, graph_after, numbered}
 use Rattle.metis_top.specs.declared.status.Status.{Status}
 use Rattle.metis_top.specs.declared.status.Status.TheVariants.{Done, No}
 
--- It makes no more instances than there are attainable pairs and targets.
+-- It makes no more instances than there are attainable pairs, times the greatest demand, and targets.
 pub record IsPlan (u : Universe) (g : List ℕ) (actions : List Action) : Type 0 where
   pub runs : IsRun u empty actions
   pub holds : Holds (after_all u empty actions) g
   pub steadfast : IsTrue (is_steadfast u actions)
   pub attained : List ℕ
   pub all : IsAttainedSet u attained
-  pub few : count_by makes actions ≤ length attained + length g
+  pub few : count_by makes actions ≤ length attained * greatest_demand u + length g
 
 -- Its instances are the life lines for the targets and the pairs of its dups: as many, and instance l goes through the pairs of line l
 -- and through no other. Each dup is forced by the cycle that it shows, in the graph for those before it; so where the lines for the targets

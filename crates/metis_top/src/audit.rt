@@ -14,7 +14,7 @@ ghost use Rattle.metis_top.specs.Course.{Ran, Shown};
 use crate::Status;
 use crate::aim::{Aim, aim_of};
 use crate::audit_line::{write_audit, write_lacking};
-use crate::reading::{single_goals_from, plan_from};
+use crate::reading::{goals_from, plan_from};
 use crate::stop::{end, said};
 use crate::words::TargetWord;
 use metis_audit::{Answer, audit};
@@ -38,7 +38,7 @@ pub fn audit_file<H: Shelf, K: Sink>(
     requires { length targets.now ≤ 256 }
     ensures { Ran H.files H.faults H.opens K.written K.faults (audit_script file.now plan.now targets.now) shelf.old shelf.new out.old out.new result }
 {
-    match single_goals_from(alloc, shelf, file, 4, targets) {
+    match goals_from(alloc, shelf, file, 4, targets) {
         Ok((universe, goals)) => audit_plan(alloc, plan, &universe, &goals, shelf, out),
         Err(stop) => end(alloc, stop, out),
     }

@@ -25,7 +25,7 @@ use metis_outside::{Sink, Trouble};
 use metis_planner::{Outcome, plan, rounds_come_to_one_plan};
 use metis_replay::Verdict;
 use metis_text::put_line;
-use metis_universe::{Universe, version_1_is_single};
+use metis_universe::Universe;
 use std::alloc::{AllocError, Global};
 
 /// Makes the generated universe of this size, plans for its targets, replays the plan, and puts its counts.
@@ -79,7 +79,6 @@ fn plan_for(alloc: Global, n: u32, u: &Universe, targets: &[PairIx]) -> Result<P
     ensures within { All (λ p. p < pair_count u.now) targets.now }
 {
     u.keeps_invariant();
-    version_1_is_single();
     closed_sets_hold_all();
     targets_are_pairs();
     match plan(alloc, u, targets) {

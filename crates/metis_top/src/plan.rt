@@ -5,7 +5,6 @@ ghost use Rattle.metis_universe.specs.Goal.{Attains};
 ghost use Rattle.metis_universe.specs.GoalWords.{IsWordable};
 ghost use Rattle.metis_universe.specs.Goals.{IsGoalOf};
 ghost use Rattle.metis_universe.specs.Numbers.{IsOf};
-ghost use Rattle.metis_universe.specs.Single.{IsSingle};
 ghost use Rattle.metis_universe.specs.Steadfast.{is_steadfast};
 ghost use Rattle.metis_universe.specs.Universe.{pair_count};
 ghost use Rattle.metis_waits.specs.Waits.{AreWaits};
@@ -18,7 +17,7 @@ ghost use Rattle.metis_outside.specs.Writes.{Writes};
 
 use crate::Status;
 use crate::aim::{Aim, aim_of};
-use crate::reading::single_goals_from;
+use crate::reading::goals_from;
 use crate::stop::{end, said};
 use crate::words::TargetWord;
 use metis_choice::pairs_for_goals_hold_them;
@@ -41,14 +40,13 @@ pub fn plan_file<H: Shelf, K: Sink>(
     requires { length targets.now ≤ 256 }
     ensures { Ran H.files H.faults H.opens K.written K.faults (plan_script file.now targets.now) shelf.old shelf.new out.old out.new result }
 {
-    match single_goals_from(alloc, shelf, file, 3, targets) {
+    match goals_from(alloc, shelf, file, 3, targets) {
         Ok((universe, goals)) => put_plan(alloc, &universe, &goals, out),
         Err(stop) => end(alloc, stop, out),
     }
 }
 
 fn put_plan<K: Sink>(alloc: Global, u: &Universe, goals: &[Goal], out: &mut K) -> Status
-    requires single { IsSingle u.now }
     requires few { length goals.now ≤ 256 }
     requires within { All (IsGoalOf u.now) goals.now }
     requires wordable { All (IsWordable u.now) goals.now }
@@ -64,7 +62,6 @@ fn put_plan<K: Sink>(alloc: Global, u: &Universe, goals: &[Goal], out: &mut K) -
 
 // Puts a plan for the pairs. There is one, since some list of actions attains them.
 fn put_plan_for<K: Sink>(alloc: Global, u: &Universe, pairs: &[PairIx], out: &mut K) -> Status
-    requires single { IsSingle u.now }
     requires few { length pairs.now ≤ 256 }
     requires within { All (λ p. p < pair_count u.now) pairs.now }
     requires attained { Attains u.now pairs.now }

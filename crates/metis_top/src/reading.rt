@@ -3,13 +3,12 @@ ghost use Rattle.std.specs.Prelude.{◌≡◌, ◌<◌, ◌≤◌, ◌-◌, ◌^
 ghost use Rattle.std.specs.List.{All};
 ghost use Rattle.metis_universe.specs.GoalWords.{IsWordable};
 ghost use Rattle.metis_universe.specs.Goals.{IsGoalOf};
-ghost use Rattle.metis_universe.specs.Single.{IsSingle};
 ghost use Rattle.metis_universe.specs.Universe.{pair_count, type_count};
 ghost use Rattle.metis_universe.specs.Numbers.{IsOf};
 ghost use Rattle.metis_text.specs.PlanText.{IsWellFormed};
 ghost use Rattle.metis_text.specs.Reads.{lists_of, parts_of};
 ghost use Rattle.metis_text.specs.RefusalReading.{refusal_of};
-ghost use Rattle.metis_top.specs.Commands.{bytes_then, single_then, single_universe_then, universe_in_then, universe_then, targets_then, goals_then, single_goals_then, plan_in_then, plan_limit, plan_then, refusal_in_then, refusal_then, session_limit, turns_in_then, turns_then, hosts_in_then, hosts_then};
+ghost use Rattle.metis_top.specs.Commands.{bytes_then, universe_in_then, universe_then, targets_then, goals_then, plan_in_then, plan_limit, plan_then, refusal_in_then, refusal_then, session_limit, turns_in_then, turns_then, hosts_in_then, hosts_then};
 ghost use Rattle.metis_top.specs.Course.{Gathers, Judges, or_stop};
 
 use crate::refusal::{Refusal, Stop};
@@ -89,31 +88,6 @@ pub fn universe_from<H: Shelf>(
     universe_in(alloc, &bytes)
 }
 
-/// The universe, where no port is required of several providers.
-fn single(universe: Universe) -> Result<Universe, Stop>
-    ensures judges { Judges (λ u. u) (single_then universe) result }
-    ensures single { IfOk result IsSingle }
-{
-    if universe.greatest_demand() <= 1 {
-        Ok(universe)
-    } else {
-        Err(Stop::Refused(Refusal::NotYet))
-    }
-}
-
-/// The universe in the file of the word at this place, where no port is required of several providers.
-pub fn single_universe_from<H: Shelf>(
-    alloc: Global,
-    shelf: &mut H,
-    place: u32,
-    name: &str,
-) -> Result<Universe, Stop>
-    ensures gathers { Gathers H.files H.faults H.opens (λ u. u) (single_universe_then place name.now) shelf.old shelf.new result }
-    ensures single { IfOk result IsSingle }
-{
-    single(universe_from(alloc, shelf, place, name)?)
-}
-
 /// The goals that the target words ask for, the first of which is the word at this place.
 fn goals_in(
     alloc: Global,
@@ -154,27 +128,6 @@ pub fn goals_from<H: Shelf>(
     ensures wordable { IfOk result (λ asked. All (IsWordable asked.0) asked.1.items) }
 {
     let universe = universe_from(alloc, shelf, 2, file)?;
-    let goals = goals_in(alloc, &universe, place, targets)?;
-    Ok((universe, goals))
-}
-
-/// The same where no port is required of several providers.
-pub fn single_goals_from<H: Shelf>(
-    alloc: Global,
-    shelf: &mut H,
-    file: &str,
-    place: u32,
-    targets: &[TargetWord],
-) -> Result<(Universe, Vec<Goal>), Stop>
-    requires few { length targets.now ≤ 256 }
-    requires place { place ≤ 4 }
-    ensures gathers { Gathers H.files H.faults H.opens (λ asked. (asked.0, asked.1.items)) (single_goals_then place file.now targets.now) shelf.old shelf.new result }
-    ensures single { IfOk result (λ asked. IsSingle asked.0) }
-    ensures few { IfOk result (λ asked. length asked.1.items ≤ 256) }
-    ensures within { IfOk result (λ asked. All (IsGoalOf asked.0) asked.1.items) }
-    ensures wordable { IfOk result (λ asked. All (IsWordable asked.0) asked.1.items) }
-{
-    let universe = single_universe_from(alloc, shelf, 2, file)?;
     let goals = goals_in(alloc, &universe, place, targets)?;
     Ok((universe, goals))
 }

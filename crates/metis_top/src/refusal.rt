@@ -15,8 +15,6 @@ pub enum Refusal {
     TooLong(u32),
     /// The document is no universe's.
     Universe(UFault),
-    /// A port of the universe is required of several providers, which the command does not serve yet.
-    NotYet,
     /// The bytes are no text of a plan.
     PlanText(TFault),
     /// The bytes are no text of a refusal.

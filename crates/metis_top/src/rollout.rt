@@ -10,7 +10,6 @@ ghost use Rattle.metis_universe.specs.Goal.{Attains};
 ghost use Rattle.metis_universe.specs.GoalWords.{IsWordable};
 ghost use Rattle.metis_universe.specs.Goals.{IsGoalOf};
 ghost use Rattle.metis_universe.specs.Numbers.{IsOf};
-ghost use Rattle.metis_universe.specs.Single.{IsSingle};
 ghost use Rattle.metis_universe.specs.Step.{IsRun};
 ghost use Rattle.metis_universe.specs.Universe.{pair_count};
 ghost use Rattle.metis_top.specs.Answer as answer;
@@ -21,7 +20,7 @@ ghost use Rattle.metis_top.specs.RolledOut.{PutsRolloutTo, RolloutAnswer, rollou
 use crate::Status;
 use crate::aim::{Aim, aim_of};
 use crate::plan::write_actions;
-use crate::reading::{single_goals_from, plan_from};
+use crate::reading::{goals_from, plan_from};
 use crate::steady::{first_bad, first_loose, write_loose};
 use crate::stop::{end, said};
 use crate::verdict_line::write_bad;
@@ -49,7 +48,7 @@ pub fn rollout_file<H: Shelf, K: Sink>(
     requires { length targets.now ≤ 256 }
     ensures { Ran H.files H.faults H.opens K.written K.faults (rollout_script file.now plan.now targets.now) shelf.old shelf.new out.old out.new result }
 {
-    match single_goals_from(alloc, shelf, file, 4, targets) {
+    match goals_from(alloc, shelf, file, 4, targets) {
         Ok((universe, goals)) => rollout_after(alloc, plan, &universe, &goals, shelf, out),
         Err(stop) => end(alloc, stop, out),
     }
@@ -64,7 +63,6 @@ fn rollout_after<H: Shelf, K: Sink>(
     shelf: &mut H,
     out: &mut K,
 ) -> Status
-    requires single { IsSingle u.now }
     requires few { length goals.now ≤ 256 }
     requires within { All (IsGoalOf u.now) goals.now }
     requires wordable { All (IsWordable u.now) goals.now }
@@ -84,7 +82,6 @@ fn put_rollout<K: Sink>(
     old: &[Action],
     out: &mut K,
 ) -> Status
-    requires single { IsSingle u.now }
     requires few { length goals.now ≤ 256 }
     requires within { All (IsGoalOf u.now) goals.now }
     requires wordable { All (IsWordable u.now) goals.now }
@@ -107,7 +104,6 @@ fn put_steady<K: Sink>(
     old: &[Action],
     out: &mut K,
 ) -> Status
-    requires single { IsSingle u.now }
     requires few { length goals.now ≤ 256 }
     requires within { All (IsGoalOf u.now) goals.now }
     requires wordable { All (IsWordable u.now) goals.now }
@@ -131,7 +127,6 @@ fn put_goals<K: Sink>(
     old: &[Action],
     out: &mut K,
 ) -> Status
-    requires single { IsSingle u.now }
     requires few { length goals.now ≤ 256 }
     requires within { All (IsGoalOf u.now) goals.now }
     requires wordable { All (IsWordable u.now) goals.now }
@@ -156,7 +151,6 @@ fn put_rollout_to<K: Sink>(
     pairs: &[PairIx],
     out: &mut K,
 ) -> Status
-    requires single { IsSingle u.now }
     requires few { length pairs.now ≤ 256 }
     requires within { All (λ p. p < pair_count u.now) pairs.now }
     requires attained { Attains u.now pairs.now }
@@ -186,7 +180,6 @@ fn write_rollout<K: Sink>(
     fresh: &[Action],
     out: &mut K,
 ) -> Result<(), Trouble>
-    requires single { IsSingle u.now }
     requires old { IsSteady u.now old.now }
     requires fresh { IsSteady u.now fresh.now }
     requires old_ours { All (IsOf u.now) old.now }
@@ -208,7 +201,6 @@ fn rollout_between(
     old: &[Action],
     fresh: &[Action],
 ) -> Result<Plan, NoMemory>
-    requires single { IsSingle u.now }
     requires old { IsSteady u.now old.now }
     requires fresh { IsSteady u.now fresh.now }
     requires old_ours { All (IsOf u.now) old.now }

@@ -19,7 +19,6 @@ fn refusal_line(alloc: Global, refusal: Refusal) -> Result<String, AllocError>
         Refusal::Word(place) => format!(in alloc; "bad word {place}\n"),
         Refusal::TooLong(place) => format!(in alloc; "too long {place}\n"),
         Refusal::Universe(fault) => universe_line(alloc, fault),
-        Refusal::NotYet => String::from_str(alloc, "not yet demand\n"),
         Refusal::PlanText(fault) => plan_fault_line(alloc, fault),
         Refusal::RefusalText(fault) => refusal_fault_line(alloc, fault),
         Refusal::HostsText(fault) => hosts_fault_line(alloc, fault),

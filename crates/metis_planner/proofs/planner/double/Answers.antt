@@ -12,7 +12,7 @@ pub own_line-requires-clause-lines : goal.own_line-requires-clause-lines
 own_line-requires-clause-lines c =
     let u = c.args.u.now in
     let g = c.args.targets.now in
-    subst (λ s. AreLines s c.args.lines.now) (sym c.requires.support) (lines_now u g c.keeps_invariant.ensures (layered_each u g c.requires.layered) c.args.lines.now c.args.dups.now.items c.requires.under_way)
+    (u, subst (λ s. AreLines u s c.args.lines.now) (sym c.requires.support) (lines_now u g c.keeps_invariant.ensures (layered_each u g c.requires.layered) c.args.lines.now c.args.dups.now.items c.requires.under_way))
 
 pub own_line-requires-clause-provider : goal.own_line-requires-clause-provider
 own_line-requires-clause-provider c =
@@ -33,8 +33,9 @@ returns-clause-under_way c =
     let u = c.args.u.now in
     let g = c.args.targets.now in
     let x = c.args.lines.now in
-    let own : c.own_line.new.self ≡ lines_of c.args.s.now x.targets (x.own ++ c.dup.inside.pair ∷ []) = c.in_ok-own_line.ensures.own in
-    let lines = own ∙ ap (λ (t : Support). lines_of t x.targets (x.own ++ c.dup.inside.pair ∷ [])) c.requires.support ∙ ap (λ (d : Dup). lines_of (support_of u g) x.targets (x.own ++ d.pair ∷ [])) c.dup.view_is in
+    let own : c.own_line.new.self ≡ lines_of u c.args.s.now x.targets (x.own ++ c.dup.inside.pair ∷ []) =
+    c.in_ok-own_line.ensures.own u (subst (λ s. AreLines u s c.args.lines.now) (sym c.requires.support) (lines_now u g c.keeps_invariant.ensures (layered_each u g c.requires.layered) c.args.lines.now c.args.dups.now.items c.requires.under_way)) in
+    let lines = own ∙ ap (λ (t : Support). lines_of u t x.targets (x.own ++ c.dup.inside.pair ∷ [])) c.requires.support ∙ ap (λ (d : Dup). lines_of u (support_of u g) x.targets (x.own ++ d.pair ∷ [])) c.dup.view_is in
     let pushed : c.push.new.self.items ≡ c.args.dups.now.items ++ c.args.dup ∷ [] = c.in_ok-push.ensures.items in
     subst (IsUnderWay u g c.own_line.new.self) (sym pushed)
     (with_dup u g c.keeps_invariant.ensures (layered_each u g c.requires.layered) x c.args.dups.now.items c.requires.under_way c.args.dup c.requires.forced c.own_line.new.self lines)

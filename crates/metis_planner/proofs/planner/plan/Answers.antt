@@ -51,7 +51,7 @@ returns-in_ok-plan-in-Support-clause-attains c =
     let all = layered_each u g (subst (λ (x : Choice). IfSupport (Ok x) (λ _. All (λ p. IsSome (layer_of u p)) g)) c.in-Support.is c.in_ok-target.ensures.layered) in
     let plan = c.in_ok-plan-in-Support.plan in
     let by = c.in_ok-plan-in-Support.ensures in
-    (λ same. (plan.actions, (realizes u table g all plan by c.requires.single).runs, holds u table g all plan by c.requires.single), λ attains. refl)
+    (λ same. (plan.actions, (realizes u table g all plan by).runs, holds u table g all plan by), λ attains. refl)
 
 pub returns-in_ok-plan-in-Support-clause-run : goal.returns-in_ok-plan-in-Support-clause-run
 returns-in_ok-plan-in-Support-clause-run c =
@@ -61,7 +61,7 @@ returns-in_ok-plan-in-Support-clause-run c =
     let all = layered_each u g (subst (λ (x : Choice). IfSupport (Ok x) (λ _. All (λ p. IsSome (layer_of u p)) g)) c.in-Support.is c.in_ok-target.ensures.layered) in
     let plan = c.in_ok-plan-in-Support.plan in
     let by = c.in_ok-plan-in-Support.ensures in
-    (realizes u table g all plan by c.requires.single).runs
+    (realizes u table g all plan by).runs
 
 pub returns-in_ok-plan-in-Support-clause-holds : goal.returns-in_ok-plan-in-Support-clause-holds
 returns-in_ok-plan-in-Support-clause-holds c =
@@ -71,7 +71,7 @@ returns-in_ok-plan-in-Support-clause-holds c =
     let all = layered_each u g (subst (λ (x : Choice). IfSupport (Ok x) (λ _. All (λ p. IsSome (layer_of u p)) g)) c.in-Support.is c.in_ok-target.ensures.layered) in
     let plan = c.in_ok-plan-in-Support.plan in
     let by = c.in_ok-plan-in-Support.ensures in
-    holds u table g all plan by c.requires.single
+    holds u table g all plan by
 
 pub returns-in_ok-plan-in-Support-clause-steadfast : goal.returns-in_ok-plan-in-Support-clause-steadfast
 returns-in_ok-plan-in-Support-clause-steadfast c =
@@ -81,7 +81,7 @@ returns-in_ok-plan-in-Support-clause-steadfast c =
     let all = layered_each u g (subst (λ (x : Choice). IfSupport (Ok x) (λ _. All (λ p. IsSome (layer_of u p)) g)) c.in-Support.is c.in_ok-target.ensures.layered) in
     let plan = c.in_ok-plan-in-Support.plan in
     let by = c.in_ok-plan-in-Support.ensures in
-    (realizes u table g all plan by c.requires.single).steadfast
+    (realizes u table g all plan by).steadfast
 
 pub returns-in_ok-plan-in-Support-clause-numbers : goal.returns-in_ok-plan-in-Support-clause-numbers
 returns-in_ok-plan-in-Support-clause-numbers c =
@@ -91,7 +91,7 @@ returns-in_ok-plan-in-Support-clause-numbers c =
     let all = layered_each u g (subst (λ (x : Choice). IfSupport (Ok x) (λ _. All (λ p. IsSome (layer_of u p)) g)) c.in-Support.is c.in_ok-target.ensures.layered) in
     let plan = c.in_ok-plan-in-Support.plan in
     let by = c.in_ok-plan-in-Support.ensures in
-    (realizes u table g all plan by c.requires.single).numbers
+    (realizes u table g all plan by).numbers
 
 pub returns-in_ok-plan-in-Support-clause-named : goal.returns-in_ok-plan-in-Support-clause-named
 returns-in_ok-plan-in-Support-clause-named c =
@@ -111,7 +111,7 @@ returns-in_ok-plan-in-Support-clause-tidy c =
     let all = layered_each u g (subst (λ (x : Choice). IfSupport (Ok x) (λ _. All (λ p. IsSome (layer_of u p)) g)) c.in-Support.is c.in_ok-target.ensures.layered) in
     let plan = c.in_ok-plan-in-Support.plan in
     let by = c.in_ok-plan-in-Support.ensures in
-    tidy u table g all plan by c.requires.single
+    tidy u table g all plan by
 
 pub returns-in_ok-plan-in-Support-clause-instances : goal.returns-in_ok-plan-in-Support-clause-instances
 returns-in_ok-plan-in-Support-clause-instances c =
@@ -121,7 +121,7 @@ returns-in_ok-plan-in-Support-clause-instances c =
     let all = layered_each u g (subst (λ (x : Choice). IfSupport (Ok x) (λ _. All (λ p. IsSome (layer_of u p)) g)) c.in-Support.is c.in_ok-target.ensures.layered) in
     let plan = c.in_ok-plan-in-Support.plan in
     let by = c.in_ok-plan-in-Support.ensures in
-    instances_counted u table g all plan by c.requires.single
+    instances_counted u table g all plan by
 
 pub returns-in_ok-plan-in-Support-clause-lean : goal.returns-in_ok-plan-in-Support-clause-lean
 returns-in_ok-plan-in-Support-clause-lean c =
@@ -151,7 +151,7 @@ returns-in_ok-plan-in-Support-clause-short c =
     let all = layered_each u g (subst (λ (x : Choice). IfSupport (Ok x) (λ _. All (λ p. IsSome (layer_of u p)) g)) c.in-Support.is c.in_ok-target.ensures.layered) in
     let plan = c.in_ok-plan-in-Support.plan in
     let by = c.in_ok-plan-in-Support.ensures in
-    short_enough u table g all plan by c.requires.single
+    short_enough u table g all plan by
 
 pub returns-in_ok-plan-in-Support-clause-lines : goal.returns-in_ok-plan-in-Support-clause-lines
 returns-in_ok-plan-in-Support-clause-lines c =
@@ -161,7 +161,7 @@ returns-in_ok-plan-in-Support-clause-lines c =
     let all = layered_each u g (subst (λ (x : Choice). IfSupport (Ok x) (λ _. All (λ p. IsSome (layer_of u p)) g)) c.in-Support.is c.in_ok-target.ensures.layered) in
     let plan = c.in_ok-plan-in-Support.plan in
     let by = c.in_ok-plan-in-Support.ensures in
-    (realizes u table g all plan by c.requires.single).paths
+    (realizes u table g all plan by).paths
 
 pub returns-in_ok-plan-in-Support-clause-justified : goal.returns-in_ok-plan-in-Support-clause-justified
 returns-in_ok-plan-in-Support-clause-justified c =

@@ -13,6 +13,10 @@ use Rattle.metis_planner.specs.UnderWay.{IfCycle, IfOrder}
 use Rattle.metis_planner.specs.declared.round.Round.{Round}
 use Rattle.metis_planner.proofs.planner.plan_by_rounds.Goals as goal
 
+pub new-requires-clause-support : goal.new-requires-clause-support
+new-requires-clause-support c =
+    subst (λ s. IsSupport c.args.u.now s) (sym c.requires.support) (support c.args.u.now c.keeps_invariant.ensures c.args.targets.now (layered_each c.args.u.now c.args.targets.now c.requires.layered))
+
 pub new-requires-clause-selected : goal.new-requires-clause-selected
 new-requires-clause-selected c = λ p there.
     subst (λ s. IsTrue (is_selected s p)) (sym c.requires.support) (targets c.args.u.now c.keeps_invariant.ensures c.args.targets.now (layered_each c.args.u.now c.args.targets.now c.requires.layered) p there)
@@ -23,7 +27,7 @@ run_round-requires-clause-support c =
 
 pub run_round-requires-clause-lines : goal.run_round-requires-clause-lines
 run_round-requires-clause-lines c =
-    subst (λ s. AreLines s c.loop-dups.lines) (sym c.requires.support)
+    subst (λ s. AreLines c.args.u.now s c.loop-dups.lines) (sym c.requires.support)
     (lines_now c.args.u.now c.args.targets.now c.keeps_invariant.ensures (layered_each c.args.u.now c.args.targets.now c.requires.layered) c.loop-dups.lines c.loop-dups.dups.items c.loop-dups.invariant)
 
 pub returns-in-Order : goal.returns-in-Order

@@ -46,7 +46,7 @@ returns-then-loses c =
     let passes = lost_client c.args.u.now c.args.self.now c.args.z c.args.to.now in
     let e = rest_more deref _ _ _ _ c.in-Some.is c.next.ensures.steps in
     let own = not-false _ (sym c.ne.ensures ∙ c.if-ne.false) in
-    let here : passes c.in-Some.client.now ≡ true = ap (λ v. v && lacking c.args.u.now c.args.self.now c.args.z c.args.to.now c.in-Some.client.now) own ∙ sym c.loses.ensures ∙ c.if-loses.true in
+    let here : passes c.in-Some.client.now ≡ true = ap (λ v. v && lacking c.args.u.now c.args.self.now c.args.z c.args.to.now c.in-Some.client.now) own ∙ sym {b = lacking c.args.u.now c.args.self.now c.args.z c.args.to.now c.in-Some.client.now} c.loses.ensures ∙ c.if-loses.true in
     lost_least c.args.u.now c.args.self.now c.args.clients.now.keys c.args.z c.args.to.now c.requires.indexed (Some c.in-Some.client.now)
     (sym c.loop-client.invariant.left ∙ ap (find passes) e ∙ ap (λ v. cond v (Some c.in-Some.client.now) (find passes c.next.new.self)) here)
 
@@ -56,7 +56,7 @@ loop-client-preserved c =
     let passes = lost_client c.args.u.now c.args.self.now c.args.z c.args.to.now in
     let e = rest_more deref _ _ _ _ c.in-Some.is c.next.ensures.steps in
     let own = not-false _ (sym c.ne.ensures ∙ c.if-ne.false) in
-    let fails : passes c.in-Some.client.now ≡ false = ap (λ v. v && lacking c.args.u.now c.args.self.now c.args.z c.args.to.now c.in-Some.client.now) own ∙ sym c.loses.ensures ∙ c.if-loses.false in
+    let fails : passes c.in-Some.client.now ≡ false = ap (λ v. v && lacking c.args.u.now c.args.self.now c.args.z c.args.to.now c.in-Some.client.now) own ∙ sym {b = lacking c.args.u.now c.args.self.now c.args.z c.args.to.now c.in-Some.client.now} c.loses.ensures ∙ c.if-loses.false in
     record {
       left = sym (ap (λ v. cond v (Some c.in-Some.client.now) (find passes c.next.new.self)) fails) ∙ sym (ap (find passes) e) ∙ c.loop-client.invariant.left;
       rest = IsRest-tail start c.in-Some.client.now c.next.new.self (subst (IsRest start) e c.loop-client.invariant.rest);
