@@ -174,13 +174,16 @@ module _ (u : Universe) (holder slot : ℕ → ℕ → ℕ) (back : (r y : ℕ) 
         each : (k : ℕ) → 1 ≤ k → k ≤ demand_of u e r → (y : ℕ) × (slot r y ≡ k) × IsProvider u (at u earlier) x r y
         each k first last =
             let needed = must k (nat_eq x (length ends)) (slice_get ends x) (and_from _ _ (le-leb 1 k first) (le-leb k (demand_of u e r) last)) pair in
-            let h = all_filled x r k t served filled needed in
-            (holder r k, h.own, record {
-              pair = h.pair;
-              bound = s.bound r x (holder r k) ∙ ap (bound_slots u ends t x r) h.own ∙ needed;
-              there = filled_pair p r k t earlier s h;
-              gives = h.gives;
-            })
+            let h = all_filled x r k t served filled needed in (
+              holder r k,
+              h.own,
+              record {
+                pair = h.pair;
+                bound = s.bound r x (holder r k) ∙ ap (bound_slots u ends t x r) h.own ∙ needed;
+                there = filled_pair p r k t earlier s h;
+                gives = h.gives;
+              },
+            )
 
   -- nobody is bound to the next instance
   none_to_next : (p : ℕ) (t : ℕ → ℕ → Bool) (earlier : List Action) → IsAt u holder slot ends p t earlier → AreServed u holder slot ends → ((r k : ℕ) → t r k ≡ true → IsFilled u holder slot ends r k)

@@ -1,3 +1,4 @@
+pub mod ByLayer
 pub mod Copies
 pub mod CountedTable
 pub mod CounterFacts

@@ -19,8 +19,8 @@ use Rattle.metis_layers.proofs.LayerFacts.{layer_first, layer_has, layer_pair, n
 use Rattle.metis_layers.proofs.Order.{layered_some}
 use Rattle.metis_layers.proofs.Standing.{AllLayered, ends_layered}
 use Rattle.metis_layers.proofs.TypeWeights.{is_of, kept_besides, kept_more, type_weight, weight}
-use Rattle.metis_layers.proofs.Ways.{all_has, within}
-use Rattle.metis_layers.specs.LayerOrder.{holder_of, instances_of, layer_order, line_ends, path_to, path_within, slot_holder}
+use Rattle.metis_layers.proofs.Ways.{all_has, layered_pair}
+use Rattle.metis_layers.specs.LayerOrder.{instances_of, layer_order, line_ends, path_to, path_within, slot_holder}
 use Rattle.metis_layers.specs.Lines.{binds, gained, line_actions, lines_from, move_actions, moves_along, unbinds}
 use Rattle.metis_layers.specs.SlotLines.{slot_binds, slot_line, slot_lines, slot_move, slot_moves, slot_unbinds, slots_above, slots_gained}
 
@@ -120,7 +120,7 @@ module _ (u : Universe) where
         let o = origin_at u p l is in
         let q = o.origin in
         let round = o.lower.layer in
-        let same = (all_has (λ x. (x < pair_count u) × (type_of u x ≡ type_of u q)) (next_of u q) p (k.next q (within u k (holder_of u) q round o.lower.is)).1 o.leads).1 in
+        let same = (all_has (λ x. (x < pair_count u) × (type_of u x ≡ type_of u q)) (next_of u q) p (k.next q (layered_pair u q round o.lower.is)).1 o.leads).1 in
         let before = path_weight t n q round o.lower.is (sym same ∙ kind) in
         let besides = kept_besides (weight u) (is_of_by t round) (is_of_by t (suc l)) (all_pairs u) p
         (λ x h. let parts = and_parts (has (layer_set u round) x) (is_of u t x) h in and_from (has (layer_set u (suc l)) x) (is_of u t x) (later_has round (suc l) x (omega (arith, o.lower.low)) parts.0) parts.1)

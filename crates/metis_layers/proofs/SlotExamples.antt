@@ -1,6 +1,6 @@
 -- The order of the layers where a port is required of several providers.
-use Rattle.std.proofs.Common.{◌≡◌, ℕ, true, false, List, [], ◌∷◌, ◌++◌, map, refl, Some}
-use Rattle.metis_ids.specs.declared.actions.Action.TheVariants.{New, Bind, Unbind, Move}
+use Rattle.std.proofs.Common.{◌≡◌, ℕ, true, false, List, [], ◌∷◌, ◌++◌, map, refl}
+use Rattle.metis_ids.specs.declared.actions.Action.TheVariants.{New, Bind, Move}
 use Rattle.metis_universe.specs.Universe.{Pair, Universe, demand_of, greatest_demand}
 use Rattle.metis_universe.specs.Config.{empty, is_correct}
 use Rattle.metis_universe.specs.Steadfast.{is_steadfast}

@@ -1,13 +1,13 @@
 -- Whole lines: an instance is made, goes along its path, and then the next one is.
 use Rattle.std.proofs.Common.{◌≡◌, ℕ, ◌+◌, ◌<◌, ◌≤◌, Bool, true, false, cond, not, ◌&&◌, ◌||◌, List, [], ◌∷◌, ◌++◌, length, map, Some, refl, sym, ap, ◌∙◌, subst, arith, nat_eq, inl, inr, append_assoc, append-nil, length-append}
-use Rattle.std.proofs.lemmas.Bool.{false≢true, and_parts, or_cases, or_right}
+use Rattle.std.proofs.lemmas.Bool.{eqb-true, false≢true, and_parts, or_cases, or_right}
 use Rattle.std.specs.List.{slice_get}
 use Rattle.std.specs.Option.{option_map_or}
 use Rattle.metis_ids.specs.declared.actions.Action.{Action}
 use Rattle.metis_ids.specs.declared.actions.Action.TheVariants.{New, Move}
 use Rattle.metis_universe.proofs.Demands.{demand_none}
 use Rattle.metis_universe.specs.Config.{Correct}
-use Rattle.metis_universe.specs.Universe.{Universe, IsUniverse, demand_of, type_count, type_of, initial_of, is_free, is_empty, is_initial, next_of, required_of, requires, type_requires, has}
+use Rattle.metis_universe.specs.Universe.{Universe, IsUniverse, demand_of, type_count, type_of, initial_of, is_free, is_empty, is_initial, next_of, required_of, type_requires, has}
 use Rattle.metis_layers.proofs.Deploying.{slice_get-past, slice_get-before, slice_get-push}
 use Rattle.metis_layers.proofs.Going.{at-next, GoesOn, GoesOn-append, type_requires-own}
 use Rattle.metis_layers.proofs.Hops.{at_begin, at_move, at_retest, at_finish, binds_go, unbinds_go, move_goes, correct_at}
@@ -31,6 +31,17 @@ abbrev pub end_of : List ℕ → ℕ
 end_of [] = 0
 end_of (p ∷ path) = last_of p path
 
+module _ (u : Universe) where
+  needs_nothing : (xs : List ℕ) → is_empty xs ≡ true → (r : ℕ) → has xs r ≡ false
+  needs_nothing [] h r = refl
+  needs_nothing (x ∷ xs) h r = absurd (false≢true h)
+
+  -- a free pair needs no slot
+  pub free_needs : (p r j : ℕ) → is_free u p ≡ true → wants u p r j ≡ false
+  free_needs p r j free =
+      let none = needs_nothing (required_of u p) (and_parts (is_initial u p) (is_empty (required_of u p)) free).1 r in
+      ap (λ n. up_to n j) (demand_none u p r none) ∙ none_to_none j
+
 module _ (u : Universe) (holder slot : ℕ → ℕ → ℕ) where
   -- p may go to q, a pair of the same type, and the slots that q needs are filled
   pub record IsHop (ends : List ℕ) (p q : ℕ) : Type 0 where
@@ -49,6 +60,34 @@ module _ (u : Universe) (holder slot : ℕ → ℕ → ℕ) where
   abbrev pub AreWays : List ℕ → List (List ℕ) → Type 0
   AreWays ends [] = Unit {0}
   AreWays ends (path ∷ paths) = IsWay ends path × AreWays (ends ++ end_of path ∷ []) paths
+
+  begun_filled : (ends : List ℕ) (p : ℕ) → IsBegun u p → (r j : ℕ) → wants u p r j ≡ true → IsFilled u holder slot ends r j
+  begun_filled ends p begun r j h = absurd (false≢true (sym (free_needs u p r j begun.free) ∙ h))
+
+  last_filled : (ends : List ℕ) (p : ℕ) (path : List ℕ) → AreHops ends p path → ((r j : ℕ) → wants u p r j ≡ true → IsFilled u holder slot ends r j) → (r j : ℕ) → wants u (last_of p path) r j ≡ true → IsFilled u holder slot ends r j
+  last_filled ends p [] hops filled = filled
+  last_filled ends p (q ∷ path) hops filled = last_filled ends q path hops.1 hops.0.served
+
+  -- what the end of a way needs is filled
+  pub way_filled : (ends path : List ℕ) → IsWay ends path → (r j : ℕ) → wants u (end_of path) r j ≡ true → IsFilled u holder slot ends r j
+  way_filled ends [] way = absurd way
+  way_filled ends (p ∷ path) way = last_filled ends p path way.1 (begun_filled ends p way.0)
+
+  -- each instance needs only slots of lower numbers
+  abbrev pub Downward : List ℕ → Type 0
+  Downward ends = (x r j : ℕ) → ends_want u ends x r j ≡ true → holder r j < x
+
+  down_push : (ends : List ℕ) (p : ℕ) → Downward ends → ((r j : ℕ) → wants u p r j ≡ true → IsFilled u holder slot ends r j) → Downward (ends ++ p ∷ [])
+  down_push ends p down filled x r j needed =
+      elim (nat_eq x (length ends)) as (λ b. nat_eq x (length ends) ≡ b → option_map_or (λ e. wants u e r j) (cond b (Some p) (slice_get ends x)) false ≡ true → holder r j < x) [
+        | true ↦ λ is h. subst (λ n. holder r j < n) (sym (eqb-true x (length ends) is)) (filled r j h).stands
+        | false ↦ λ _ h. down x r j h
+      ] refl (sym (ap (λ o. option_map_or (λ e. wants u e r j) o false) (slice_get-push ends p x)) ∙ needed)
+
+  pub ways_down : (paths : List (List ℕ)) (ends : List ℕ) → AreWays ends paths → Downward ends → Downward (ends ++ map end_of paths)
+  ways_down [] ends ways down = subst Downward (sym (append-nil ends)) down
+  ways_down (path ∷ paths) ends ways down =
+      subst Downward (append_assoc ends (end_of path ∷ []) (map end_of paths)) (ways_down paths (ends ++ end_of path ∷ []) ways.1 (down_push ends (end_of path) down (way_filled ends path ways.0)))
 
 module _ (u : Universe) (k : IsUniverse u) (holder slot : ℕ → ℕ → ℕ) (back : (r y : ℕ) → 1 ≤ slot r y → holder r (slot r y) ≡ y) where
   module _ (ends : List ℕ) (served : AreServed u holder slot ends) where
@@ -92,18 +131,6 @@ module _ (u : Universe) (k : IsUniverse u) (holder slot : ℕ → ℕ → ℕ) (
 
     -- ---- paths
 
-    needs_nothing : (xs : List ℕ) → is_empty xs ≡ true → (r : ℕ) → has xs r ≡ false
-    needs_nothing [] h r = refl
-    needs_nothing (x ∷ xs) h r = absurd (false≢true h)
-
-    free_needs : (p r j : ℕ) → is_free u p ≡ true → wants u p r j ≡ false
-    free_needs p r j free =
-        let none = needs_nothing (required_of u p) (and_parts (is_initial u p) (is_empty (required_of u p)) free).1 r in
-        ap (λ n. up_to n j) (demand_none u p r none) ∙ none_to_none j
-
-    true_false : (b : Bool) → b ≡ true → b ≡ false → ⊥
-    true_false b t f = false≢true (sym f ∙ t)
-
     path_goes : (p : ℕ) (path : List ℕ) (earlier : List Action) → AreHops u holder slot ends p path → ((r j : ℕ) → wants u p r j ≡ true → Filled r j) → IsAt u holder slot ends p (wants u p) earlier
         → GoesOn u earlier (slot_moves u holder (length ends) p path) × IsAt u holder slot ends (last_of p path) (wants u (last_of p path)) (earlier ++ slot_moves u holder (length ends) p path)
     path_goes p [] earlier hops filled s = (tt, subst (λ l. IsAt u holder slot ends p (wants u p) l) (sym (append-nil earlier)) s)
@@ -116,20 +143,15 @@ module _ (u : Universe) (k : IsUniverse u) (holder slot : ℕ → ℕ → ℕ) (
           subst (λ l. IsAt u holder slot ends e (wants u e) l) (append_assoc earlier now (slot_moves u holder (length ends) q path)) rest.1,
         )
 
-    last_served : (p : ℕ) (path : List ℕ) → AreHops u holder slot ends p path → ((r j : ℕ) → wants u p r j ≡ true → Filled r j) → (r j : ℕ) → wants u (last_of p path) r j ≡ true → Filled r j
-    last_served p [] hops filled = filled
-    last_served p (q ∷ path) hops filled = last_served q path hops.1 hops.0.served
-
     line_goes : (path : List ℕ) (earlier : List Action) → Stand u holder slot ends earlier → IsWay u holder slot ends path
         → GoesOn u earlier (slot_line u holder (length ends) path) × Stand u holder slot (ends ++ end_of path ∷ []) (earlier ++ slot_line u holder (length ends) path)
-        × ((r j : ℕ) → wants u (end_of path) r j ≡ true → Filled r j)
     line_goes [] earlier s way = absurd way
     line_goes (p ∷ path) earlier s way =
         let z = length ends in
         let a = New z (type_of u p) in
         let made = at_begin u holder slot back ends earlier (type_of u p) p s way.0.initial in
-        let none : (r j : ℕ) → wants u p r j ≡ false = λ r j. free_needs p r j way.0.free in
-        let filled : (r j : ℕ) → wants u p r j ≡ true → Filled r j = λ r j h. absurd (true_false (wants u p r j) h (none r j)) in
+        let none : (r j : ℕ) → wants u p r j ≡ false = λ r j. free_needs u p r j way.0.free in
+        let filled = begun_filled u holder slot ends p way.0 in
         let begun = at_retest u holder slot back ends p (λ r j. false) (wants u p) (earlier ++ a ∷ []) (λ r j. sym (none r j)) made in
         let rest = path_goes p path (earlier ++ a ∷ []) way.1 filled begun in
         let correct = correct_at u holder slot back ends p (wants u p) (earlier ++ a ∷ []) begun served (λ r j h. h) filled in
@@ -138,7 +160,6 @@ module _ (u : Universe) (k : IsUniverse u) (holder slot : ℕ → ℕ → ℕ) (
         let new = ap not (s.news z (omega arith)) in (
           ((way.0.kind, there), subst (Correct u) (at-next u earlier a) correct, new, rest.0),
           subst (λ l. Stand u holder slot (ends ++ e ∷ []) l) (append_assoc earlier (a ∷ []) (slot_moves u holder z p path)) (at_finish u holder slot back ends e _ rest.1),
-          last_served p path way.1 filled,
         )
 
   filled_more : (ends : List ℕ) (e r j : ℕ) → IsFilled u holder slot ends r j → IsFilled u holder slot (ends ++ e ∷ []) r j
@@ -167,7 +188,7 @@ module _ (u : Universe) (k : IsUniverse u) (holder slot : ℕ → ℕ → ℕ) (
       let line = slot_line u holder (length ends) path in
       let first = line_goes ends served path earlier s ways.0 in
       let number : length (ends ++ e ∷ []) ≡ length ends + 1 = length-append ends (e ∷ []) in
-      let rest = lines_go paths (ends ++ e ∷ []) (earlier ++ line) first.1 (served_more ends e served first.2) ways.1 in
+      let rest = lines_go paths (ends ++ e ∷ []) (earlier ++ line) first.1 (served_more ends e served (way_filled u holder slot ends path ways.0)) ways.1 in
       let more = slot_lines u holder (length ends + 1) paths in
       let go : GoesOn u (earlier ++ line) more = subst (λ n. GoesOn u (earlier ++ line) (slot_lines u holder n paths)) number rest.0 in
       let stand : Stand u holder slot ((ends ++ e ∷ []) ++ map end_of paths) ((earlier ++ line) ++ more) =
