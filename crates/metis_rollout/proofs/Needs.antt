@@ -121,15 +121,20 @@ module _ (u : Universe) where
 
   -- ---- as many as a scaffold's
 
-  slots_total : (z p : ℕ) (rs : List ℕ) → length (flat_map (λ r. map (λ k. (r, k)) (slots_above 0 (demand_of u p r))) rs) ≡ total (needs_at z p rs)
+  abbrev slot_of : ℕ → ℕ → ℕ × ℕ
+  slot_of r k = (r, k)
+
+  abbrev port_slots : ℕ → ℕ → List (ℕ × ℕ)
+  port_slots p r = map (slot_of r) (slots_above 0 (demand_of u p r))
+
+  slots_total : (z p : ℕ) (rs : List ℕ) → length (flat_map (port_slots p) rs) ≡ total (needs_at z p rs)
   slots_total z p [] = refl
   slots_total z p (r ∷ rs) =
-      let slot : ℕ → ℕ → ℕ × ℕ = λ s k. (s, k) in
-      let at : ℕ → List (ℕ × ℕ) = λ s. map (slot s) (slots_above 0 (demand_of u p s)) in
+      let at : ℕ → List (ℕ × ℕ) = port_slots p in
       omega (
         arith,
         length-append (at r) (flat_map at rs),
-        length-map (slots_above 0 (demand_of u p r)) (slot r),
+        length-map (slots_above 0 (demand_of u p r)) (slot_of r),
         length-range_with_len 1 (demand_of u p r - 0),
         slots_total z p rs,
       )

@@ -33,6 +33,13 @@ layer_low u p h = let l = some_is (layer_of u p) h in omega (arith, in_range 0 (
 pub all_low : (u : Universe) (g : List ℕ) → All (λ p. IsSome (layer_of u p)) g → All (λ p. p < pair_count u) g
 all_low u g all = λ k d low. layer_low u _ (all k d low)
 
+-- these are the pairs of the scaffold's instances
+pub record AreEnds (u : Universe) (s : Support) (g ends : List ℕ) : Type 0 where
+  pub are : ends ≡ scaffold_ends u g
+  pub low : All (λ p. p < pair_count u) ends
+  pub selected : All (λ p. IsTrue (is_selected s p)) ends
+  pub few : length ends ≤ 32000
+
 module _ (u : Universe) (table : IsTable u) (g : List ℕ) (all : All (λ p. IsSome (layer_of u p)) g) (s : Support) (is : s ≡ support_of u g) where
   each : (p : ℕ) → has g p ≡ true → IsSome (layer_of u p)
   each p there = all_has (λ p. IsSome (layer_of u p)) g p all there
@@ -47,30 +54,31 @@ module _ (u : Universe) (table : IsTable u) (g : List ℕ) (all : All (λ p. IsS
     pub pairs_are : pairs ≡ scaffold_pairs u g
     pairs_are = found ∙ (λ i. filter (has (provider_pairs (is i))) (layers.order i)) ∙ ap (λ ps. filter (has ps) (layered u)) (same_provider_pairs u table.universe g each)
 
+    -- where each of these pairs stands as often as it has slots
     module _ (counts ends : List ℕ) (counted : (p : ℕ) → slice_index_or counts p 0 ≡ slot_count u s.selected.members p) (repeated : ends ≡ flat_map (λ p. replicate (slice_index_or counts p 0) p) pairs) where
-      pub ends_are : ends ≡ scaffold_ends u g
-      ends_are = repeated ∙ (λ i. flat_map (λ p. replicate ((counted p ∙ ap (λ (v : Support). slot_count u v.selected.members p) is) i) p) (pairs_are i))
+      are : ends ≡ scaffold_ends u g
+      are = repeated ∙ (λ i. flat_map (λ p. replicate ((counted p ∙ ap (λ (v : Support). slot_count u v.selected.members p) is) i) p) (pairs_are i))
 
       there : (k d : ℕ) → k < length ends → has (scaffold_ends u g) (slice_index_or ends k d) ≡ true
-      there k d low = ap (λ ps. has ps (slice_index_or ends k d)) (sym ends_are) ∙ has_at ends k d low
+      there k d low = ap (λ ps. has ps (slice_index_or ends k d)) (sym are) ∙ has_at ends k d low
 
-      pub ends_low : All (λ p. p < pair_count u) ends
-      ends_low = λ k d low. let at = end_layer u table.universe g _ (there k d low) in layer_low u _ (subst IsSome (sym at.is) refl)
+      pub ends_found : AreEnds u s g ends
+      ends_found = record {
+        are = are;
+        low = λ k d low. let at = end_layer u table.universe g _ (there k d low) in layer_low u _ (subst IsSome (sym at.is) refl);
+        selected = λ k d low. subst (λ (v : Support). IsTrue (is_selected v (slice_index_or ends k d))) (sym is) (end_selected u table.universe g _ (there k d low));
+        few = omega (arith, ap length are, (scaffold_short u g table).0);
+      }
 
-      pub ends_selected : All (λ p. IsTrue (is_selected s p)) ends
-      ends_selected = λ k d low. subst (λ (v : Support). IsTrue (is_selected v (slice_index_or ends k d))) (sym is) (end_selected u table.universe g _ (there k d low))
+-- a table of their first places
+module _ (u : Universe) (table : IsTable u) (s : Support) (g ends : List ℕ) (e : AreEnds u s g ends) (firsts : List ℕ) (made : firsts ≡ map (first_among u ends) (range_with_len 0 (port_count u))) where
+  pub firsts_are : firsts ≡ map (first_among u (scaffold_ends u g)) (range_with_len 0 (port_count u))
+  firsts_are = made ∙ ap (λ ps. map (first_among u ps) (range_with_len 0 (port_count u))) e.are
 
-      pub ends_short : length ends ≤ 32000
-      ends_short = omega (arith, ap length ends_are, (scaffold_short u g table).0)
+  pub firsts_low : AreFew firsts
+  firsts_low = subst AreFew (sym made) (firsts_few u ends (port_count u) e.few)
 
-      module _ (firsts : List ℕ) (made : firsts ≡ map (first_among u ends) (range_with_len 0 (port_count u))) where
-        pub firsts_are : firsts ≡ map (first_among u (scaffold_ends u g)) (range_with_len 0 (port_count u))
-        firsts_are = made ∙ ap (λ ps. map (first_among u ps) (range_with_len 0 (port_count u))) ends_are
-
-        pub firsts_low : AreFew firsts
-        firsts_low = subst AreFew (sym made) (firsts_few u ends (port_count u) ends_short)
-
-        pub list_is : slot_lines u (holder_at firsts) 0 (map (path_to u) ends) ≡ scaffold_list u g
-        list_is =
-            let holder : holder_at firsts ≡ scaffold_holder u g = ap holder_at firsts_are ∙ firsts_all u table.universe (scaffold_ends u g) in
-            λ i. slot_lines u (holder i) 0 (map (path_to u) (ends_are i))
+  pub list_is : slot_lines u (holder_at firsts) 0 (map (path_to u) ends) ≡ scaffold_list u g
+  list_is =
+      let holder : holder_at firsts ≡ scaffold_holder u g = ap holder_at firsts_are ∙ firsts_all u table.universe (scaffold_ends u g) in
+      λ i. slot_lines u (holder i) 0 (map (path_to u) (e.are i))
