@@ -13,15 +13,17 @@ use Rattle.metis_ids.specs.declared.actions.Action.TheVariants.{Delete, Move}
 use Rattle.metis_universe.specs.Config.{Binding, Config}
 use Rattle.metis_universe.specs.Layers.{layer_of}
 use Rattle.metis_universe.specs.Selection.{origin_of}
-use Rattle.metis_universe.specs.Single.{IsSingle}
-use Rattle.metis_universe.specs.Universe.{Universe, IsUniverse, has, pair_count, required_of, requires}
+use Rattle.metis_universe.specs.Universe.{Universe, IsUniverse, has, pair_count}
 use Rattle.metis_layers.proofs.Ways.{all_has, in_range}
-use Rattle.metis_layers.specs.LayerOrder.{binds, gained, line_actions, lines_from, move_actions, moves_along, path_to, path_within, place_of, unbinds}
+use Rattle.metis_layers.proofs.Slots.{has_slot, here, later, wants}
+use Rattle.metis_layers.specs.LayerOrder.{path_to, path_within, place_of}
+use Rattle.metis_layers.specs.SlotLines.{slot_binds, slot_line, slot_lines, slot_move, slot_moves, slot_unbinds, slots_gained}
 use Rattle.metis_support.proofs.Selections.{some_is}
 use Rattle.metis_rollout.specs.Holders.{holder_at}
-use Rattle.metis_rollout.specs.Rollout.{bind, cycle_removal, deletes, downward, free_number, made_by, members, named, news_of, pairs_in, renumber, scaffold_bindings, scaffold_holder, scaffold_list, scaffold_pairs, unbind}
+use Rattle.metis_rollout.specs.Rollout.{bind, cycle_removal, deletes, downward, free_number, made_by, members, named, news_of, pairs_in, renumber, scaffold_bindings, scaffold_ends, scaffold_holder, scaffold_list, slots_required, unbind}
 use Rattle.metis_rollout.specs.Standing.{is_made}
 use Rattle.metis_rollout.proofs.Listed.{map_alike}
+use Rattle.metis_rollout.proofs.Required.{has_required}
 use Rattle.metis_rollout.proofs.Scaffold.{scaffold_goes, scaffold_serves}
 use Rattle.metis_rollout.proofs.Tabulated.{place_here, place_later}
 use Rattle.metis_rollout.proofs.Together.{has-news, touches_own}
@@ -29,36 +31,36 @@ use Rattle.metis_rollout.proofs.Touching.{At}
 
 -- ---- the scaffold's instances are numbered from 0
 
-module _ (u : Universe) (h : ℕ → ℕ) where
+module _ (u : Universe) (h : ℕ → ℕ → ℕ) where
   news-append : (xs ys : List Action) → news_of (xs ++ ys) ≡ news_of xs ++ news_of ys
   news-append xs ys = filter_map-append made_by xs ys
 
-  binds_make : (z : ℕ) (rs : List ℕ) → news_of (binds h z rs) ≡ []
+  binds_make : (z : ℕ) (ss : List (ℕ × ℕ)) → news_of (slot_binds h z ss) ≡ []
   binds_make z [] = refl
-  binds_make z (r ∷ rs) = binds_make z rs
+  binds_make z (s ∷ ss) = binds_make z ss
 
-  unbinds_make : (z : ℕ) (rs : List ℕ) → news_of (unbinds h z rs) ≡ []
+  unbinds_make : (z : ℕ) (ss : List (ℕ × ℕ)) → news_of (slot_unbinds h z ss) ≡ []
   unbinds_make z [] = refl
-  unbinds_make z (r ∷ rs) = unbinds_make z rs
+  unbinds_make z (s ∷ ss) = unbinds_make z ss
 
-  move_makes : (z p q : ℕ) → news_of (move_actions u h z p q) ≡ []
-  move_makes z p q = news-append (binds h z (gained u p q)) (Move z p q ∷ unbinds h z (gained u q p)) ∙ (λ i. binds_make z (gained u p q) i ++ unbinds_make z (gained u q p) i)
+  move_makes : (z p q : ℕ) → news_of (slot_move u h z p q) ≡ []
+  move_makes z p q = news-append (slot_binds h z (slots_gained u p q)) (Move z p q ∷ slot_unbinds h z (slots_gained u q p)) ∙ (λ i. binds_make z (slots_gained u p q) i ++ unbinds_make z (slots_gained u q p) i)
 
-  moves_make : (z p : ℕ) (path : List ℕ) → news_of (moves_along u h z p path) ≡ []
+  moves_make : (z p : ℕ) (path : List ℕ) → news_of (slot_moves u h z p path) ≡ []
   moves_make z p [] = refl
-  moves_make z p (q ∷ path) = news-append (move_actions u h z p q) (moves_along u h z q path) ∙ (λ i. move_makes z p q i ++ moves_make z q path i)
+  moves_make z p (q ∷ path) = news-append (slot_move u h z p q) (slot_moves u h z q path) ∙ (λ i. move_makes z p q i ++ moves_make z q path i)
 
-  line_makes : (z : ℕ) (xs : List ℕ) (q : ℕ) → news_of (line_actions u h z (xs ++ q ∷ [])) ≡ z ∷ []
+  line_makes : (z : ℕ) (xs : List ℕ) (q : ℕ) → news_of (slot_line u h z (xs ++ q ∷ [])) ≡ z ∷ []
   line_makes z [] q = refl
   line_makes z (x ∷ xs) q = ap (λ l. z ∷ l) (moves_make z x (xs ++ q ∷ []))
 
-  path_makes : (z n p : ℕ) → news_of (line_actions u h z (path_within u n p)) ≡ z ∷ []
+  path_makes : (z n p : ℕ) → news_of (slot_line u h z (path_within u n p)) ≡ z ∷ []
   path_makes z zero p = refl
   path_makes z (suc n) p = line_makes z (option_map_or (path_within u n) (origin_of u p) []) p
 
-  lines_make : (z : ℕ) (ends : List ℕ) → news_of (lines_from u h z (map (path_to u) ends)) ≡ range_with_len z (length ends)
+  lines_make : (z : ℕ) (ends : List ℕ) → news_of (slot_lines u h z (map (path_to u) ends)) ≡ range_with_len z (length ends)
   lines_make z [] = refl
-  lines_make z (p ∷ ends) = news-append (line_actions u h z (path_to u p)) (lines_from u h (z + 1) (map (path_to u) ends)) ∙ (λ i. path_makes z (pair_count u) p i ++ lines_make (z + 1) ends i)
+  lines_make z (p ∷ ends) = news-append (slot_line u h z (path_to u p)) (slot_lines u h (z + 1) (map (path_to u) ends)) ∙ (λ i. path_makes z (pair_count u) p i ++ lines_make (z + 1) ends i)
 
 place_in_range : (a n z : ℕ) → a ≤ z → z < a + n → a + place_of (range_with_len a n) z ≡ z
 place_in_range a zero z low high = absurd (omega arith)
@@ -71,33 +73,33 @@ place_in_range a (suc n) z low high = elim (nat_eq a z) as (λ b. nat_eq a z ≡
 
 -- ---- lists over the same names
 
--- the bindings of an instance at these ports, and those of the entries
-abbrev pub ties_of : (ℕ → ℕ) → ℕ → List ℕ → List Binding
-ties_of holder z ports = map (λ r. (r, z, holder r)) ports
+-- the bindings of an instance at these slots, and those of the entries
+abbrev pub ties_of : (ℕ → ℕ → ℕ) → ℕ → List (ℕ × ℕ) → List Binding
+ties_of holder z slots = map (λ s. (s.0, z, holder s.0 s.1)) slots
 
-abbrev pub bindings_of : Universe → (ℕ → ℕ) → List (ℕ × ℕ) → List Binding
-bindings_of u holder es = flat_map (λ e. ties_of holder e.0 (required_of u e.1)) es
+abbrev pub bindings_of : Universe → (ℕ → ℕ → ℕ) → List (ℕ × ℕ) → List Binding
+bindings_of u holder es = flat_map (λ e. ties_of holder e.0 (slots_required u e.1)) es
 
-ties_alike : (f h : ℕ → ℕ) (z : ℕ) (rs : List ℕ) → ((r : ℕ) → has rs r ≡ true → f r ≡ h r) → ties_of f z rs ≡ ties_of h z rs
+ties_alike : (f h : ℕ → ℕ → ℕ) (z : ℕ) (ss : List (ℕ × ℕ)) → ((r k : ℕ) → has_slot ss r k ≡ true → f r k ≡ h r k) → ties_of f z ss ≡ ties_of h z ss
 ties_alike f h z [] same = refl
-ties_alike f h z (r ∷ rs) same =
-    let first = same r (or_left (nat_eq r r) (has rs r) (eq-eqb r r refl)) in
-    let rest = ties_alike f h z rs (λ s there. same s (or_right (nat_eq r s) (has rs s) there)) in
-    λ i. (r, z, first i) ∷ rest i
+ties_alike f h z (s ∷ ss) same =
+    let first = same s.0 s.1 (here s ss) in
+    let rest = ties_alike f h z ss (λ r k there. same r k (later s ss r k there)) in
+    λ i. (s.0, z, first i) ∷ rest i
 
-bindings_alike : (u : Universe) (f h : ℕ → ℕ) (es : List (ℕ × ℕ)) → ((p r : ℕ) → has (map (λ e. e.1) es) p ≡ true → requires u p r ≡ true → f r ≡ h r) → bindings_of u f es ≡ bindings_of u h es
+bindings_alike : (u : Universe) (f h : ℕ → ℕ → ℕ) (es : List (ℕ × ℕ)) → ((p r k : ℕ) → has (map (λ e. e.1) es) p ≡ true → wants u p r k ≡ true → f r k ≡ h r k) → bindings_of u f es ≡ bindings_of u h es
 bindings_alike u f h [] same = refl
 bindings_alike u f h (e ∷ es) same =
     let ps = map (λ (e : ℕ × ℕ). e.1) es in
-    let first = ties_alike f h e.0 (required_of u e.1) (λ r there. same e.1 r (or_left (nat_eq e.1 e.1) (has ps e.1) (eq-eqb e.1 e.1 refl)) there) in
-    let rest = bindings_alike u f h es (λ p r there. same p r (or_right (nat_eq e.1 p) (has ps p) there)) in
+    let first = ties_alike f h e.0 (slots_required u e.1) (λ r k there. same e.1 r k (or_left (nat_eq e.1 e.1) (has ps e.1) (eq-eqb e.1 e.1 refl)) (sym (has_required u e.1 r k) ∙ there)) in
+    let rest = bindings_alike u f h es (λ p r k there. same p r k (or_right (nat_eq e.1 p) (has ps p) there)) in
     λ i. first i ++ rest i
 
 -- one more entry
-pub bound_next : (u : Universe) (holder : ℕ → ℕ) (old now new : List Action) (all it rest : List (ℕ × ℕ)) (e : ℕ × ℕ) → old ++ map bind (bindings_of u holder all) ≡ now ++ map bind (bindings_of u holder it) → it ≡ e ∷ rest
-    → new ≡ now ++ map bind (ties_of holder e.0 (required_of u e.1)) → old ++ map bind (bindings_of u holder all) ≡ new ++ map bind (bindings_of u holder rest)
+pub bound_next : (u : Universe) (holder : ℕ → ℕ → ℕ) (old now new : List Action) (all it rest : List (ℕ × ℕ)) (e : ℕ × ℕ) → old ++ map bind (bindings_of u holder all) ≡ now ++ map bind (bindings_of u holder it) → it ≡ e ∷ rest
+    → new ≡ now ++ map bind (ties_of holder e.0 (slots_required u e.1)) → old ++ map bind (bindings_of u holder all) ≡ new ++ map bind (bindings_of u holder rest)
 bound_next u holder old now new all it rest e before is more =
-    let ties = ties_of holder e.0 (required_of u e.1) in
+    let ties = ties_of holder e.0 (slots_required u e.1) in
     before ∙ ap (λ l. now ++ map bind (bindings_of u holder l)) is ∙ ap (λ l. now ++ l) (map-append bind ties (bindings_of u holder rest))
     ∙ sym (append_assoc now (map bind ties) (map bind (bindings_of u holder rest))) ∙ ap (λ l. l ++ map bind (bindings_of u holder rest)) (sym more)
 
@@ -124,7 +126,7 @@ downward_alike f h (suc n) same = let first = same n (omega arith) in let rest =
 abbrev pub AreNamed : List ℕ → ℕ → List (ℕ × ℕ) → List Action → Type 0
 AreNamed used first table actions = (z : ℕ) → has (news_of actions) z ≡ true → lookup (nat_eq z) table ≡ Some (free_number used (first + place_of (news_of actions) z))
 
-module _ (u : Universe) (k : IsUniverse u) (single : IsSingle u) (c : Config) (used : List ℕ) (first : ℕ) (table : List (ℕ × ℕ)) (layered : All (λ p. IsSome (layer_of u p)) (pairs_in c)) where
+module _ (u : Universe) (k : IsUniverse u) (c : Config) (used : List ℕ) (first : ℕ) (table : List (ℕ × ℕ)) (layered : All (λ p. IsSome (layer_of u p)) (pairs_in c)) where
   abbrev g : List ℕ
   g = pairs_in c
 
@@ -132,13 +134,13 @@ module _ (u : Universe) (k : IsUniverse u) (single : IsSingle u) (c : Config) (u
   list = scaffold_list u g
 
   abbrev count : ℕ
-  count = length (scaffold_pairs u g)
+  count = length (scaffold_ends u g)
 
   abbrev pub name : ℕ → ℕ
   name n = free_number used (first + n)
 
   news : news_of list ≡ range_with_len 0 count
-  news = lines_make u (scaffold_holder u g) 0 (scaffold_pairs u g)
+  news = lines_make u (scaffold_holder u g) 0 (scaffold_ends u g)
 
   low_made : (z : ℕ) → z < count → has (news_of list) z ≡ true
   low_made z low = ap (λ l. has l z) news ∙ has_range 0 count z (omega arith) (omega arith)
@@ -154,24 +156,24 @@ module _ (u : Universe) (k : IsUniverse u) (single : IsSingle u) (c : Config) (u
     made_same z made = let low = in_range 0 count z (ap (λ l. has l z) (sym news) ∙ has-news list z ∙ made) in same z (omega arith)
 
     first_part : map (renumber (named table)) list ≡ map (renumber name) list
-    first_part = map_alike (At (is_made list)) (named table) name made_same list (touches_own u list (scaffold_goes u k g single).0)
+    first_part = map_alike (At (is_made list)) (named table) name made_same list (touches_own u list (scaffold_goes u k g).0)
 
-    held_same : (p r : ℕ) → has g p ≡ true → requires u p r ≡ true → named table (scaffold_holder u g r) ≡ name (scaffold_holder u g r)
-    held_same p r there needs =
+    held_same : (p r j : ℕ) → has g p ≡ true → wants u p r j ≡ true → named table (scaffold_holder u g r j) ≡ name (scaffold_holder u g r j)
+    held_same p r j there needs =
         let l = some_is (layer_of u p) (all_has (λ q. IsSome (layer_of u q)) g p layered there) in
-        same (scaffold_holder u g r) (scaffold_serves u k g p l.0 r there l.1 needs).stands
+        same (scaffold_holder u g r j) (scaffold_serves u k g p l.0 r j there l.1 needs).stands
 
-    second_part : scaffold_bindings u (λ r. named table (scaffold_holder u g r)) c ≡ scaffold_bindings u (λ r. name (scaffold_holder u g r)) c
-    second_part = bindings_alike u (λ r. named table (scaffold_holder u g r)) (λ r. name (scaffold_holder u g r)) c.instances held_same
+    second_part : scaffold_bindings u (λ r j. named table (scaffold_holder u g r j)) c ≡ scaffold_bindings u (λ r j. name (scaffold_holder u g r j)) c
+    second_part = bindings_alike u (λ r j. named table (scaffold_holder u g r j)) (λ r j. name (scaffold_holder u g r j)) c.instances held_same
 
     last_part : map (named table) (downward count) ≡ map name (downward count)
     last_part = downward_alike (named table) name count same
 
-    removed : (old all : List Action) → all ≡ ((((old ++ map (renumber (named table)) list) ++ map bind (scaffold_bindings u (λ r. named table (scaffold_holder u g r)) c)) ++ map unbind c.bindings) ++ deletes (members c)) ++ deletes (map (named table) (downward count))
+    removed : (old all : List Action) → all ≡ ((((old ++ map (renumber (named table)) list) ++ map bind (scaffold_bindings u (λ r j. named table (scaffold_holder u g r j)) c)) ++ map unbind c.bindings) ++ deletes (members c)) ++ deletes (map (named table) (downward count))
         → all ≡ old ++ cycle_removal u name c
     removed old all is =
         let a = map (renumber name) list in
-        let b = map bind (scaffold_bindings u (λ r. name (scaffold_holder u g r)) c) in
+        let b = map bind (scaffold_bindings u (λ r j. name (scaffold_holder u g r j)) c) in
         let d = map unbind c.bindings in
         let e = deletes (members c) in
         let f = deletes (map name (downward count)) in
@@ -182,15 +184,15 @@ module _ (u : Universe) (k : IsUniverse u) (single : IsSingle u) (c : Config) (u
         ∙ append_assoc old a (b ++ (d ++ (e ++ f)))
 
     -- what the steps of the code append, one after another
-    pub removed_by : (acts : List Action) (holders : List ℕ) (n : ℕ) (old made bound free gone all : List Action) → acts ≡ list → holder_at holders ≡ scaffold_holder u g → n ≡ count
-        → made ≡ old ++ map (renumber (named table)) acts → bound ≡ made ++ map bind (scaffold_bindings u (λ r. named table (holder_at holders r)) c) → free ≡ bound ++ map unbind c.bindings
+    pub removed_by : (acts : List Action) (firsts : List ℕ) (n : ℕ) (old made bound free gone all : List Action) → acts ≡ list → holder_at firsts ≡ scaffold_holder u g → n ≡ count
+        → made ≡ old ++ map (renumber (named table)) acts → bound ≡ made ++ map bind (scaffold_bindings u (λ r j. named table (holder_at firsts r j)) c) → free ≡ bound ++ map unbind c.bindings
         → gone ≡ free ++ deletes (members c) → all ≡ gone ++ deletes (map (named table) (downward n)) → all ≡ old ++ cycle_removal u name c
-    removed_by acts holders n old made bound free gone all acts_are holder_is n_is one two three four five =
+    removed_by acts firsts n old made bound free gone all acts_are holder_is n_is one two three four five =
         let d = map unbind c.bindings in
         let e = deletes (members c) in
         removed old all
         (five ∙ ap (λ k. gone ++ deletes (map (named table) (downward k))) n_is
         ∙ ap (λ l. l ++ deletes (map (named table) (downward count))) (four
         ∙ ap (λ l. l ++ e) (three
-        ∙ ap (λ l. l ++ d) (two ∙ (λ i. (one ∙ ap (λ x. old ++ map (renumber (named table)) x) acts_are) i ++ map bind (scaffold_bindings u (λ r. named table (holder_is i r)) c)))))
+        ∙ ap (λ l. l ++ d) (two ∙ (λ i. (one ∙ ap (λ x. old ++ map (renumber (named table)) x) acts_are) i ++ map bind (scaffold_bindings u (λ r j. named table (holder_is i r j)) c)))))
         )

@@ -1,22 +1,23 @@
 -- Old instances that are bound to one another, beside a scaffold that serves them all: they are removed, and then the scaffold is.
-use Rattle.std.proofs.Common.{◌&&◌, ◌≡◌, ℕ, zero, suc, ◌<◌, Bool, true, false, cond, not, ◌||◌, List, [], ◌∷◌, ◌++◌, Option, Some, None, refl, sym, ap, ◌∙◌, subst, arith, nat_eq, map, length, inl, inr}
+use Rattle.std.proofs.Common.{◌&&◌, ◌≡◌, ℕ, zero, suc, ◌<◌, ◌≤◌, Bool, true, false, cond, not, ◌||◌, List, [], ◌∷◌, ◌++◌, Option, Some, None, refl, sym, ap, ◌∙◌, subst, arith, nat_eq, map, length, inl, inr}
 use Rattle.std.specs.Prelude.{IsSome, slice_get}
 use Rattle.std.specs.List.{AllByRecursion}
 use Rattle.std.specs.Map.{keys_of}
 use Rattle.std.proofs.lemmas.Bool.{cases_eq, and_parts, eq-eqb, ne_eqb, false≢true, or_cases, or_left, or_right}
 use Rattle.metis_ids.specs.declared.actions.Action.{Action}
-use Rattle.metis_universe.specs.Single.{IsSingle}
-use Rattle.metis_universe.proofs.Demands.{IsMet-one}
-use Rattle.metis_universe.specs.Universe.{Universe, demand_of, has, required_of, requires}
+use Rattle.metis_universe.proofs.Demands.{IsMet-slots}
+use Rattle.metis_universe.specs.Universe.{Universe, IsUniverse, demand_of, has}
 use Rattle.metis_universe.specs.Config.{Binding, Config, Correct, IsConfig, IsMet, is_bound, names, pair_of, remove}
 use Rattle.metis_universe.specs.Step.{after, after_all}
 use Rattle.metis_universe.proofs.Edits.{is_bound-remove, pair_of-remove}
 use Rattle.metis_layers.proofs.Going.{after_all-append}
-use Rattle.metis_layers.proofs.Deploying.{IsHeld}
+use Rattle.metis_layers.proofs.SlotLists.{wants_required}
+use Rattle.metis_layers.proofs.Slots.{IsFilled, wants}
 use Rattle.metis_rollout.specs.Rollout.{bind, deletes, downward, members, scaffold_bindings, unbind}
 use Rattle.metis_rollout.proofs.Going.{Unpointed}
 use Rattle.metis_rollout.proofs.Quiet.{AllBound, QuietFrom, QuietFrom-append, all_among, has-keys, is_in, keys-has, remove_correct, unbinds_bound, unbinds_pair, unbinds_quiet}
 use Rattle.metis_rollout.proofs.Serving.{served_still}
+use Rattle.metis_rollout.proofs.Required.{wants_within}
 use Rattle.metis_rollout.proofs.Rebinding.{AllNew, AllUnlike, CanServe, all_in, binds_bound, binds_pair, binds_quiet, deletes_bound, deletes_pair, deletes_quiet, distinct_all, each_of, in_all, sorted_unlike}
 
 differ : (b : Bool) → b ≡ true → b ≡ false → ⊥
@@ -85,10 +86,10 @@ module _ (u : Universe) (f : ℕ → ℕ) (apart : (k j : ℕ) → f k ≡ f j �
 
 -- ---- the old instances beside the scaffold
 
-module _ (u : Universe) (left c : Config) (S : ℕ → Bool) (f holder : ℕ → ℕ) (ends : List ℕ) where
+module _ (u : Universe) (left c : Config) (S : ℕ → Bool) (f : ℕ → ℕ) (holder slot : ℕ → ℕ → ℕ) (ends : List ℕ) where
   -- c has what `left` has on the one side, and on the other the scaffold, which serves all that `left`'s instances require
   pub record Scene : Type 0 where
-    pub single : IsSingle u
+    pub universe : IsUniverse u
     pub good : IsConfig left
     pub correct : Correct u c
     pub olds : (z : ℕ) → IsSome (pair_of left z) → S z ≡ true
@@ -99,12 +100,12 @@ module _ (u : Universe) (left c : Config) (S : ℕ → Bool) (f holder : ℕ →
     pub new_pairs : (k : ℕ) → k < length ends → pair_of c (f k) ≡ slice_get ends k
     pub new_only : (z : ℕ) → S z ≡ false → IsSome (pair_of c z) → (k : ℕ) × (k < length ends) × (f k ≡ z)
     pub new_bound : (r x y : ℕ) → S x ≡ false → is_bound c r x y ≡ true → (k : ℕ) × (j : ℕ) × (k < length ends) × (j < k) × (f k ≡ x) × (f j ≡ y)
-    pub held : (z p r : ℕ) → pair_of left z ≡ Some p → requires u p r ≡ true → IsHeld u holder ends r
-    pub ports : (p : ℕ) → AllUnlike (required_of u p)
+    pub filled : (z p r k : ℕ) → pair_of left z ≡ Some p → wants u p r k ≡ true → IsFilled u holder slot ends r k
+    pub slots_differ : (r i j : ℕ) → 1 ≤ i → 1 ≤ j → holder r i ≡ holder r j → i ≡ j
 
   module _ (s : Scene) where
-    abbrev h : ℕ → ℕ
-    h r = f (holder r)
+    abbrev h : ℕ → ℕ → ℕ
+    h r k = f (holder r k)
 
     abbrev ties : List Binding
     ties = scaffold_bindings u h left
@@ -124,32 +125,34 @@ module _ (u : Universe) (left c : Config) (S : ℕ → Bool) (f holder : ℕ →
     -- ---- the binds
 
     serve : AllByRecursion (CanServe u c) ties
-    serve = each_of u h (CanServe u c) left.instances keys (λ z p r there needs.
-        let held = s.held z p r there needs in
+    serve = each_of u h (CanServe u c) left.instances keys (λ z p r k there needs.
+        let held = s.filled z p r k there needs in
         let mine = s.olds z (is_some_of (pair_of left z) p there) in record {
-          apart = λ e. differ (S z) mine (ap S e ∙ s.names (holder r));
+          apart = λ e. differ (S z) mine (ap S e ∙ s.names (holder r k));
           needer = p;
           needer_there = s.old_pairs z mine ∙ there;
-          needs = needs;
+          needs = wants_required u p r k needs;
           giver = held.pair;
-          giver_there = s.new_pairs (holder r) held.stands ∙ held.there;
+          giver_there = s.new_pairs (holder r k) held.stands ∙ held.there;
           gives = held.gives;
         })
 
+    -- no old instance is bound to the scaffold
+    not_yet : (r k z : ℕ) → is_bound left r z (h r k) ≡ false
+    not_yet r k z = not_all (is_bound left r z (h r k)) (λ is. differ (S (h r k)) (s.olds (h r k) (s.good.provider r z (h r k) is)) (s.names (holder r k)))
+
     new : AllNew c ties
-    new = each_of u h (λ b. is_bound c b.0 b.1 b.2 ≡ false) left.instances keys (λ z p r there needs.
-        let mine = s.olds z (is_some_of (pair_of left z) p there) in
-        s.old_bound r z (h r) mine ∙ not_all (is_bound left r z (h r)) (λ is. differ (S (h r)) (s.olds (h r) (s.good.provider r z (h r) is)) (s.names (holder r))))
+    new = each_of u h (λ b. is_bound c b.0 b.1 b.2 ≡ false) left.instances keys (λ z p r k there needs. s.old_bound r z (h r k) (s.olds z (is_some_of (pair_of left z) p there)) ∙ not_yet r k z)
 
     binds_go : QuietFrom u c (map bind ties)
-    binds_go = binds_quiet u c ties s.correct serve new (distinct_all u h left.instances s.ports keys)
+    binds_go = binds_quiet u c ties s.correct serve new (distinct_all u h (λ r i j some more same. s.slots_differ r i j some more (s.injective (holder r i) (holder r j) same)) s.universe left.instances keys)
 
     bound_is : (r z y : ℕ) → is_bound bound r z y ≡ (is_in ties r z y || is_bound c r z y)
     bound_is r z y = binds_bound u c ties r z y
 
     -- a tie goes from an old instance to the scaffold
-    tie_from : (r z y : ℕ) → is_in ties r z y ≡ true → IsSome (pair_of left z) × (h r ≡ y)
-    tie_from r z y is = let one = in_all u h left.instances r z y is in (has-keys left.instances z one.listed, one.to)
+    tie_from : (r z y : ℕ) → is_in ties r z y ≡ true → IsSome (pair_of left z) × (k : ℕ) × (h r k ≡ y)
+    tie_from r z y is = let one = in_all u h left.instances r z y is in (has-keys left.instances z one.listed, one.slot, one.to)
 
     -- ---- the unbinds
 
@@ -160,16 +163,18 @@ module _ (u : Universe) (left c : Config) (S : ℕ → Bool) (f holder : ℕ →
       still bs all.1,
     )
 
-    -- each port that a pair of `left` requires is met by the scaffold
-    met_by_scaffold : (d : Config) (z p r : ℕ) → pair_of left z ≡ Some p → requires u p r ≡ true → ((y : ℕ) → is_in ties r z y ≡ true → is_bound left r z y ≡ false → is_bound d r z y ≡ true) → ((y : ℕ) → pair_of d y ≡ pair_of c y) → IsMet u d z r (demand_of u p r)
-    met_by_scaffold d z p r there needs bound pairs =
-        let held = s.held z p r there needs in
-        subst (IsMet u d z r) (sym (s.single p r needs)) (IsMet-one u d z r (h r) (record {
+    -- each port that a pair of `left` requires is met by the scaffold: each slot is bound, and no two are one instance
+    met_by_scaffold : (d : Config) (z p r : ℕ) → pair_of left z ≡ Some p → ((y : ℕ) → is_in ties r z y ≡ true → is_bound left r z y ≡ false → is_bound d r z y ≡ true) → ((y : ℕ) → pair_of d y ≡ pair_of c y) → IsMet u d z r (demand_of u p r)
+    met_by_scaffold d z p r there bound pairs = IsMet-slots u d z r (λ k y. (1 ≤ k) × (h r k ≡ y)) (demand_of u p r)
+        (λ k some few.
+        let needs = wants_within u p r k some few in
+        let held = s.filled z p r k there needs in (h r k, (some, refl), record {
           pair = held.pair;
-          bound = bound (h r) (all_in u h left.instances r z p there needs) (not_all (is_bound left r z (h r)) (λ is. differ (S (h r)) (s.olds (h r) (s.good.provider r z (h r) is)) (s.names (holder r))));
-          there = pairs (h r) ∙ s.new_pairs (holder r) held.stands ∙ held.there;
+          bound = bound (h r k) (all_in u h left.instances r k z p there needs) (not_yet r k z);
+          there = pairs (h r k) ∙ s.new_pairs (holder r k) held.stands ∙ held.there;
           gives = held.gives;
         }))
+        (λ i j y one two. s.slots_differ r i j one.0 two.0 (s.injective (holder r i) (holder r j) (one.1 ∙ sym two.1)))
 
     unreferencedned_pair : (z : ℕ) → pair_of unreferencedned z ≡ pair_of c z
     unreferencedned_pair z = unbinds_pair u bound left.bindings z ∙ binds_pair u c ties z
@@ -181,7 +186,7 @@ module _ (u : Universe) (left c : Config) (S : ℕ → Bool) (f holder : ℕ →
     unreferencedned_correct z p r there needs =
         let was = sym (unreferencedned_pair z) ∙ there in
         elim (S z) as (λ b. S z ≡ b → IsMet u unreferencedned z r (demand_of u p r)) [
-          | true ↦ λ mine. met_by_scaffold unreferencedned z p r (sym (s.old_pairs z mine) ∙ was) needs (λ y is off. unreferencedned_is r z y off ∙ or_left (is_in ties r z y) (is_bound c r z y) is) unreferencedned_pair
+          | true ↦ λ mine. met_by_scaffold unreferencedned z p r (sym (s.old_pairs z mine) ∙ was) (λ y is off. unreferencedned_is r z y off ∙ or_left (is_in ties r z y) (is_bound c r z y) is) unreferencedned_pair
           | false ↦ λ other. served_still u c unreferencedned r z (demand_of u p r) (s.correct z p r was needs) (λ y q is g. (
             unreferencedned_is r z y (not_all (is_bound left r z y) (λ e. differ (S z) (s.olds z (s.good.requirer r z y e)) other)) ∙ or_right (is_in ties r z y) (is_bound c r z y) is,
             unreferencedned_pair y ∙ g,
@@ -193,7 +198,7 @@ module _ (u : Universe) (left c : Config) (S : ℕ → Bool) (f holder : ℕ →
 
     -- what is bound now: an old instance to the scaffold, or the scaffold to itself
     pub record IsTieOrNew (r x y : ℕ) : Type 0 where
-      pub of_old : S x ≡ true → IsSome (pair_of left x) × (h r ≡ y)
+      pub of_old : S x ≡ true → IsSome (pair_of left x) × (k : ℕ) × (h r k ≡ y)
       pub of_new : S x ≡ false → is_bound c r x y ≡ true
 
     unreferencedned_bound : (r x y : ℕ) → is_bound unreferencedned r x y ≡ true → IsTieOrNew r x y
@@ -216,7 +221,7 @@ module _ (u : Universe) (left c : Config) (S : ℕ → Bool) (f holder : ℕ →
     none_to z mine r x = not_all (is_bound unreferencedned r x z) (λ is.
         let of = unreferencedned_bound r x z is in
         elim (S x) as (λ b. S x ≡ b → ⊥) [
-          | true ↦ λ one. differ (S z) mine (ap S (sym (of.of_old one).1) ∙ s.names (holder r))
+          | true ↦ λ one. let to = of.of_old one in differ (S z) mine (ap S (sym to.2) ∙ s.names (holder r to.1))
           | false ↦ λ other. let d = s.new_bound r x z other (of.of_new other) in differ (S z) mine (ap S (sym d.5) ∙ s.names d.1)
         ] refl)
 

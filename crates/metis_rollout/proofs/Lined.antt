@@ -12,27 +12,8 @@ use Rattle.metis_universe.specs.Selection.{origin_of}
 use Rattle.metis_universe.specs.Universe.{Universe, pair_count, type_of}
 use Rattle.metis_layers.proofs.LayerFacts.{layer_below, no_origin, origin_at}
 use Rattle.metis_support.proofs.Selections.{some_is}
-use Rattle.metis_layers.specs.LayerOrder.{line_actions, lines_from, move_actions, moves_along, path_to, path_within}
-
--- ---- one more item of those that pass
-
-module _ {X : Type 0} (t : ℕ → Bool) (f : ℕ → X) (xs : List ℕ) (i r : ℕ) (low : i < length xs) (is : r ≡ get_or xs i r) where
-  abbrev made : ℕ → List X
-  made n = map f (filter t (take n xs))
-
-  one_more : made (i + 1) ≡ made i ++ map f (cond (t r) (r ∷ []) [])
-  one_more =
-      ap (λ ys. map f (filter t ys)) (take_more xs i r low) ∙ ap (λ x. map f (filter t (take i xs ++ x ∷ []))) (sym is)
-      ∙ ap (map f) (filter-append t (take i xs) (r ∷ [])) ∙ map-append f (filter t (take i xs)) (cond (t r) (r ∷ []) [])
-
-  pub passing : (old v v' : List X) → t r ≡ true → v' ≡ v ++ f r ∷ [] → v ≡ old ++ made i → v' ≡ old ++ made (i + 1)
-  passing old v v' passes more before =
-      more ∙ ap (λ l. l ++ f r ∷ []) before ∙ append_assoc old (made i) (f r ∷ [])
-      ∙ ap (λ b. old ++ (made i ++ map f (cond b (r ∷ []) []))) (sym passes) ∙ ap (λ l. old ++ l) (sym one_more)
-
-  pub failing : (old v : List X) → t r ≡ false → v ≡ old ++ made i → v ≡ old ++ made (i + 1)
-  failing old v fails before =
-      before ∙ ap (λ l. old ++ l) (sym (append-nil (made i))) ∙ ap (λ b. old ++ (made i ++ map f (cond b (r ∷ []) []))) (sym fails) ∙ ap (λ l. old ++ l) (sym one_more)
+use Rattle.metis_layers.specs.LayerOrder.{path_to, path_within}
+use Rattle.metis_layers.specs.SlotLines.{slot_line, slot_lines, slot_move, slot_moves}
 
 -- ---- one more of those that pass
 
@@ -68,48 +49,48 @@ module _ (u : Universe) where
 
   -- ---- lines
 
-  module _ (holder : ℕ → ℕ) (z : ℕ) where
-    moves_two : (x : ℕ) (xs : List ℕ) (o q : ℕ) → moves_along u holder z x ((xs ++ o ∷ []) ++ q ∷ []) ≡ moves_along u holder z x (xs ++ o ∷ []) ++ move_actions u holder z o q
-    moves_two x [] o q = ap (λ l. move_actions u holder z x o ++ l) (append-nil (move_actions u holder z o q)) ∙ ap (λ l. l ++ move_actions u holder z o q) (sym (append-nil (move_actions u holder z x o)))
-    moves_two x (y ∷ xs) o q = ap (λ l. move_actions u holder z x y ++ l) (moves_two y xs o q) ∙ sym (append_assoc (move_actions u holder z x y) (moves_along u holder z y (xs ++ o ∷ [])) (move_actions u holder z o q))
+  module _ (holder : ℕ → ℕ → ℕ) (z : ℕ) where
+    moves_two : (x : ℕ) (xs : List ℕ) (o q : ℕ) → slot_moves u holder z x ((xs ++ o ∷ []) ++ q ∷ []) ≡ slot_moves u holder z x (xs ++ o ∷ []) ++ slot_move u holder z o q
+    moves_two x [] o q = ap (λ l. slot_move u holder z x o ++ l) (append-nil (slot_move u holder z o q)) ∙ ap (λ l. l ++ slot_move u holder z o q) (sym (append-nil (slot_move u holder z x o)))
+    moves_two x (y ∷ xs) o q = ap (λ l. slot_move u holder z x y ++ l) (moves_two y xs o q) ∙ sym (append_assoc (slot_move u holder z x y) (slot_moves u holder z y (xs ++ o ∷ [])) (slot_move u holder z o q))
 
-    line_two : (xs : List ℕ) (o q : ℕ) → line_actions u holder z ((xs ++ o ∷ []) ++ q ∷ []) ≡ line_actions u holder z (xs ++ o ∷ []) ++ move_actions u holder z o q
-    line_two [] o q = ap (λ l. New z (type_of u o) ∷ l) (append-nil (move_actions u holder z o q))
+    line_two : (xs : List ℕ) (o q : ℕ) → slot_line u holder z ((xs ++ o ∷ []) ++ q ∷ []) ≡ slot_line u holder z (xs ++ o ∷ []) ++ slot_move u holder z o q
+    line_two [] o q = ap (λ l. New z (type_of u o) ∷ l) (append-nil (slot_move u holder z o q))
     line_two (x ∷ xs) o q = ap (λ l. New z (type_of u x) ∷ l) (moves_two x xs o q)
 
-    line_hop : (n o q : ℕ) → line_actions u holder z (path_within u n o ++ q ∷ []) ≡ line_actions u holder z (path_within u n o) ++ move_actions u holder z o q
+    line_hop : (n o q : ℕ) → slot_line u holder z (path_within u n o ++ q ∷ []) ≡ slot_line u holder z (path_within u n o) ++ slot_move u holder z o q
     line_hop zero o q = line_two [] o q
     line_hop (suc n) o q = line_two (option_map_or (path_within u n) (origin_of u o) []) o q
 
-    line_first : (p l : ℕ) → layer_of u p ≡ Some l → origin_of u p ≡ None → line_actions u holder z (path_to u p) ≡ New z (type_of u p) ∷ []
-    line_first p l is none = ap (line_actions u holder z) (path_last p l is ∙ ap (λ o. option_map_or (path_to u) o [] ++ p ∷ []) none)
+    line_first : (p l : ℕ) → layer_of u p ≡ Some l → origin_of u p ≡ None → slot_line u holder z (path_to u p) ≡ New z (type_of u p) ∷ []
+    line_first p l is none = ap (slot_line u holder z) (path_last p l is ∙ ap (λ o. option_map_or (path_to u) o [] ++ p ∷ []) none)
 
-    line_next : (p l o : ℕ) → layer_of u p ≡ Some l → origin_of u p ≡ Some o → line_actions u holder z (path_to u p) ≡ line_actions u holder z (path_to u o) ++ move_actions u holder z o p
-    line_next p l o is from = ap (line_actions u holder z) (path_last p l is ∙ ap (λ o. option_map_or (path_to u) o [] ++ p ∷ []) from) ∙ line_hop (pair_count u) o p
+    line_next : (p l o : ℕ) → layer_of u p ≡ Some l → origin_of u p ≡ Some o → slot_line u holder z (path_to u p) ≡ slot_line u holder z (path_to u o) ++ slot_move u holder z o p
+    line_next p l o is from = ap (slot_line u holder z) (path_last p l is ∙ ap (λ o. option_map_or (path_to u) o [] ++ p ∷ []) from) ∙ line_hop (pair_count u) o p
 
-    pub line_goes : (p o : ℕ) (old mid new : List Action) → IsSome (layer_of u p) → origin_of u p ≡ Some o → mid ≡ old ++ line_actions u holder z (path_to u o) → new ≡ mid ++ move_actions u holder z o p → new ≡ old ++ line_actions u holder z (path_to u p)
+    pub line_goes : (p o : ℕ) (old mid new : List Action) → IsSome (layer_of u p) → origin_of u p ≡ Some o → mid ≡ old ++ slot_line u holder z (path_to u o) → new ≡ mid ++ slot_move u holder z o p → new ≡ old ++ slot_line u holder z (path_to u p)
     line_goes p o old mid new h from before more =
         let l = some_is (layer_of u p) h in
-        more ∙ ap (λ l. l ++ move_actions u holder z o p) before ∙ append_assoc old (line_actions u holder z (path_to u o)) (move_actions u holder z o p) ∙ ap (λ l. old ++ l) (sym (line_next p l.0 o l.1 from))
+        more ∙ ap (λ l. l ++ slot_move u holder z o p) before ∙ append_assoc old (slot_line u holder z (path_to u o)) (slot_move u holder z o p) ∙ ap (λ l. old ++ l) (sym (line_next p l.0 o l.1 from))
 
-    pub line_begins : (p t : ℕ) (old new : List Action) → IsSome (layer_of u p) → origin_of u p ≡ None → t ≡ type_of u p → new ≡ old ++ New z t ∷ [] → new ≡ old ++ line_actions u holder z (path_to u p)
+    pub line_begins : (p t : ℕ) (old new : List Action) → IsSome (layer_of u p) → origin_of u p ≡ None → t ≡ type_of u p → new ≡ old ++ New z t ∷ [] → new ≡ old ++ slot_line u holder z (path_to u p)
     line_begins p t old new h none kind more = let l = some_is (layer_of u p) h in more ∙ ap (λ x. old ++ New z x ∷ []) kind ∙ ap (λ l. old ++ l) (sym (line_first p l.0 l.1 none))
 
-  module _ (holder : ℕ → ℕ) where
-    lines_push : (z : ℕ) (paths : List (List ℕ)) (path : List ℕ) → lines_from u holder z (paths ++ path ∷ []) ≡ lines_from u holder z paths ++ line_actions u holder (z + length paths) path
-    lines_push z [] path = let same : z + 0 ≡ z = omega arith in append-nil (line_actions u holder z path) ∙ ap (λ x. line_actions u holder x path) (sym same)
+  module _ (holder : ℕ → ℕ → ℕ) where
+    lines_push : (z : ℕ) (paths : List (List ℕ)) (path : List ℕ) → slot_lines u holder z (paths ++ path ∷ []) ≡ slot_lines u holder z paths ++ slot_line u holder (z + length paths) path
+    lines_push z [] path = let same : z + 0 ≡ z = omega arith in append-nil (slot_line u holder z path) ∙ ap (λ x. slot_line u holder x path) (sym same)
     lines_push z (p ∷ paths) path =
         let same : z + 1 + length paths ≡ z + suc (length paths) = omega arith in
-        ap (λ l. line_actions u holder z p ++ l) (lines_push (z + 1) paths path ∙ ap (λ x. lines_from u holder (z + 1) paths ++ line_actions u holder x path) same)
-        ∙ sym (append_assoc (line_actions u holder z p) (lines_from u holder (z + 1) paths) (line_actions u holder (z + suc (length paths)) path))
+        ap (λ l. slot_line u holder z p ++ l) (lines_push (z + 1) paths path ∙ ap (λ x. slot_lines u holder (z + 1) paths ++ slot_line u holder x path) same)
+        ∙ sym (append_assoc (slot_line u holder z p) (slot_lines u holder (z + 1) paths) (slot_line u holder (z + suc (length paths)) path))
 
-    pub lines_more : (pairs : List ℕ) (i z x : ℕ) (now new : List Action) → i < length pairs → z ≡ i → x ≡ get_or pairs i x → now ≡ lines_from u holder 0 (map (path_to u) (take i pairs)) → new ≡ now ++ line_actions u holder z (path_to u x)
-        → new ≡ lines_from u holder 0 (map (path_to u) (take (i + 1) pairs))
+    pub lines_more : (pairs : List ℕ) (i z x : ℕ) (now new : List Action) → i < length pairs → z ≡ i → x ≡ get_or pairs i x → now ≡ slot_lines u holder 0 (map (path_to u) (take i pairs)) → new ≡ now ++ slot_line u holder z (path_to u x)
+        → new ≡ slot_lines u holder 0 (map (path_to u) (take (i + 1) pairs))
     lines_more pairs i z x now new low number is before more =
         let count : 0 + length (map (path_to u) (take i pairs)) ≡ z = omega (arith, length-map (take i pairs) (path_to u), length-take-le i pairs (omega arith)) in
-        more ∙ ap (λ l. l ++ line_actions u holder z (path_to u x)) before
-        ∙ ap (λ n. lines_from u holder 0 (map (path_to u) (take i pairs)) ++ line_actions u holder n (path_to u x)) (sym count)
+        more ∙ ap (λ l. l ++ slot_line u holder z (path_to u x)) before
+        ∙ ap (λ n. slot_lines u holder 0 (map (path_to u) (take i pairs)) ++ slot_line u holder n (path_to u x)) (sym count)
         ∙ sym (lines_push 0 (map (path_to u) (take i pairs)) (path_to u x))
-        ∙ ap (lines_from u holder 0) (sym (map-append (path_to u) (take i pairs) (x ∷ [])))
-        ∙ ap (λ q. lines_from u holder 0 (map (path_to u) (take i pairs ++ q ∷ []))) is
-        ∙ ap (λ ps. lines_from u holder 0 (map (path_to u) ps)) (sym (take_more pairs i x low))
+        ∙ ap (slot_lines u holder 0) (sym (map-append (path_to u) (take i pairs) (x ∷ [])))
+        ∙ ap (λ q. slot_lines u holder 0 (map (path_to u) (take i pairs ++ q ∷ []))) is
+        ∙ ap (λ ps. slot_lines u holder 0 (map (path_to u) ps)) (sym (take_more pairs i x low))

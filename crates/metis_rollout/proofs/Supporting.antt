@@ -1,7 +1,7 @@
 -- What the selection of the instances' pairs says of the scaffold.
-use Rattle.std.proofs.Common.{◌≡◌, ℕ, ◌<◌, true, List, length, map, sym, ap, ◌∙◌, subst, arith, refl, slice_index_or}
+use Rattle.std.proofs.Common.{◌≡◌, ℕ, ◌<◌, ◌≤◌, true, List, length, map, sym, ap, ◌∙◌, subst, arith, refl, replicate, slice_index_or}
 use Rattle.std.specs.Prelude.{IsSome, IsTrue}
-use Rattle.std.specs.List.{All, filter, list_any, range_with_len}
+use Rattle.std.specs.List.{All, filter, flat_map, list_any, range_with_len}
 use Rattle.std.proofs.lemmas.Bool.{and_parts}
 use Rattle.metis_universe.proofs.Rounds.{has-filter}
 use Rattle.metis_universe.specs.Layers.{layer_of, layered}
@@ -9,14 +9,16 @@ use Rattle.metis_universe.specs.Universe.{Universe, IsTable, has, pair_count, po
 use Rattle.metis_layers.proofs.LayerFacts.{layer_pair}
 use Rattle.metis_layers.proofs.Ways.{all_has, in_range}
 use Rattle.metis_layers.specs.Layers.{Layers, IsLayers}
-use Rattle.metis_layers.specs.LayerOrder.{lines_from, path_to}
+use Rattle.metis_layers.specs.LayerOrder.{path_to}
+use Rattle.metis_layers.specs.SlotLines.{slot_lines}
 use Rattle.metis_support.proofs.Lists.{has_at}
 use Rattle.metis_support.proofs.Selections.{is_support, layer_is, origin_is, same_provider_pairs, some_is}
 use Rattle.metis_support.specs.Support.{Support, IsSupport, is_number, is_selected, provider_pairs, support_of}
-use Rattle.metis_rollout.specs.Holders.{TellsTruly, holder_among, holder_at}
-use Rattle.metis_rollout.specs.Rollout.{scaffold_holder, scaffold_list, scaffold_pairs}
-use Rattle.metis_rollout.proofs.Scaffold.{listed_layer, listed_selected}
-use Rattle.metis_rollout.proofs.Tabulated.{holders_all}
+use Rattle.metis_rollout.specs.Holders.{AreFew, TellsTruly, first_among, holder_at}
+use Rattle.metis_rollout.specs.Rollout.{scaffold_ends, scaffold_holder, scaffold_list, scaffold_pairs, slot_count}
+use Rattle.metis_rollout.proofs.Scaffold.{end_layer, end_selected}
+use Rattle.metis_rollout.proofs.ScaffoldSize.{scaffold_short}
+use Rattle.metis_rollout.proofs.Tabulated.{firsts_all, firsts_few}
 
 -- provider pairs are the universe's
 pub providers_low : (u : Universe) (s : Support) → IsSupport u s → All (λ p. p < pair_count u) (provider_pairs s)
@@ -30,6 +32,13 @@ layer_low u p h = let l = some_is (layer_of u p) h in omega (arith, in_range 0 (
 -- so are pairs that have a layer
 pub all_low : (u : Universe) (g : List ℕ) → All (λ p. IsSome (layer_of u p)) g → All (λ p. p < pair_count u) g
 all_low u g all = λ k d low. layer_low u _ (all k d low)
+
+-- these are the pairs of the scaffold's instances
+pub record AreEnds (u : Universe) (s : Support) (g ends : List ℕ) : Type 0 where
+  pub are : ends ≡ scaffold_ends u g
+  pub low : All (λ p. p < pair_count u) ends
+  pub selected : All (λ p. IsTrue (is_selected s p)) ends
+  pub few : length ends ≤ 32000
 
 module _ (u : Universe) (table : IsTable u) (g : List ℕ) (all : All (λ p. IsSome (layer_of u p)) g) (s : Support) (is : s ≡ support_of u g) where
   each : (p : ℕ) → has g p ≡ true → IsSome (layer_of u p)
@@ -45,19 +54,31 @@ module _ (u : Universe) (table : IsTable u) (g : List ℕ) (all : All (λ p. IsS
     pub pairs_are : pairs ≡ scaffold_pairs u g
     pairs_are = found ∙ (λ i. filter (has (provider_pairs (is i))) (layers.order i)) ∙ ap (λ ps. filter (has ps) (layered u)) (same_provider_pairs u table.universe g each)
 
-    there : (k d : ℕ) → k < length pairs → has (scaffold_pairs u g) (slice_index_or pairs k d) ≡ true
-    there k d low = ap (λ ps. has ps (slice_index_or pairs k d)) (sym pairs_are) ∙ has_at pairs k d low
+    -- where each of these pairs stands as often as it has slots
+    module _ (counts ends : List ℕ) (counted : (p : ℕ) → slice_index_or counts p 0 ≡ slot_count u s.selected.members p) (repeated : ends ≡ flat_map (λ p. replicate (slice_index_or counts p 0) p) pairs) where
+      are : ends ≡ scaffold_ends u g
+      are = repeated ∙ (λ i. flat_map (λ p. replicate ((counted p ∙ ap (λ (v : Support). slot_count u v.selected.members p) is) i) p) (pairs_are i))
 
-    pub pairs_low : All (λ p. p < pair_count u) pairs
-    pairs_low = λ k d low. let at = listed_layer u table.universe g _ (there k d low) in layer_low u _ (subst IsSome (sym at.is) refl)
+      there : (k d : ℕ) → k < length ends → has (scaffold_ends u g) (slice_index_or ends k d) ≡ true
+      there k d low = ap (λ ps. has ps (slice_index_or ends k d)) (sym are) ∙ has_at ends k d low
 
-    pub pairs_selected : All (λ p. IsTrue (is_selected s p)) pairs
-    pairs_selected = λ k d low. subst (λ (v : Support). IsTrue (is_selected v (slice_index_or pairs k d))) (sym is) (listed_selected u table.universe g _ (there k d low))
+      pub ends_found : AreEnds u s g ends
+      ends_found = record {
+        are = are;
+        low = λ k d low. let at = end_layer u table.universe g _ (there k d low) in layer_low u _ (subst IsSome (sym at.is) refl);
+        selected = λ k d low. subst (λ (v : Support). IsTrue (is_selected v (slice_index_or ends k d))) (sym is) (end_selected u table.universe g _ (there k d low));
+        few = omega (arith, ap length are, (scaffold_short u g table).0);
+      }
 
-    pub holders_are : (holders : List ℕ) → holders ≡ map (holder_among u pairs) (range_with_len 0 (port_count u)) → holders ≡ map (scaffold_holder u g) (range_with_len 0 (port_count u))
-    holders_are holders made = made ∙ ap (λ ps. map (holder_among u ps) (range_with_len 0 (port_count u))) pairs_are
+-- a table of their first places
+module _ (u : Universe) (table : IsTable u) (s : Support) (g ends : List ℕ) (e : AreEnds u s g ends) (firsts : List ℕ) (made : firsts ≡ map (first_among u ends) (range_with_len 0 (port_count u))) where
+  pub firsts_are : firsts ≡ map (first_among u (scaffold_ends u g)) (range_with_len 0 (port_count u))
+  firsts_are = made ∙ ap (λ ps. map (first_among u ps) (range_with_len 0 (port_count u))) e.are
 
-    pub list_is : (holders : List ℕ) → holders ≡ map (holder_among u pairs) (range_with_len 0 (port_count u)) → lines_from u (holder_at holders) 0 (map (path_to u) pairs) ≡ scaffold_list u g
-    list_is holders made =
-        let holder : holder_at holders ≡ scaffold_holder u g = ap holder_at (holders_are holders made) ∙ holders_all u table.universe (scaffold_pairs u g) in
-        λ i. lines_from u (holder i) 0 (map (path_to u) (pairs_are i))
+  pub firsts_low : AreFew firsts
+  firsts_low = subst AreFew (sym made) (firsts_few u ends (port_count u) e.few)
+
+  pub list_is : slot_lines u (holder_at firsts) 0 (map (path_to u) ends) ≡ scaffold_list u g
+  list_is =
+      let holder : holder_at firsts ≡ scaffold_holder u g = ap holder_at firsts_are ∙ firsts_all u table.universe (scaffold_ends u g) in
+      λ i. slot_lines u (holder i) 0 (map (path_to u) (e.are i))

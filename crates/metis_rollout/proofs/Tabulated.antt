@@ -1,5 +1,5 @@
 -- Tables of places, and of the ports' providers.
-use Rattle.std.proofs.Common.{◌≡◌, ℕ, suc, ◌+◌, ◌<◌, ◌≤◌, Bool, true, false, List, [], ◌∷◌, length, map, drop, take, ◌||◌, get_or, set, replicate, Option, Some, None, refl, sym, ap, ◌∙◌, arith, nat_eq, inl, inr}
+use Rattle.std.proofs.Common.{◌≡◌, ℕ, suc, ◌+◌, ◌-◌, ◌<◌, ◌≤◌, Bool, true, false, List, [], ◌∷◌, length, map, drop, take, ◌||◌, get_or, set, replicate, Option, Some, None, refl, sym, ap, ◌∙◌, arith, nat_eq, inl, inr}
 use Rattle.std.specs.List.{range_with_len}
 use Rattle.std.specs.Option.{option_map_or}
 use Rattle.std.proofs.lemmas.Bool.{cases_lt, eqb-true, eq-eqb, false≢true}
@@ -13,7 +13,7 @@ use Rattle.metis_layers.specs.LayerOrder.{place_of}
 use Rattle.metis_universe.specs.Layers.{layered}
 use Rattle.metis_universe.specs.Selection.{provider_of}
 use Rattle.metis_universe.specs.Universe.{Universe, IsUniverse, has, pair_count, port_count, provided_of, provides}
-use Rattle.metis_rollout.specs.Holders.{holder_among, holder_at}
+use Rattle.metis_rollout.specs.Holders.{AreFew, first_among, holder_at}
 
 -- one more number of a list
 pub one_member : (xs : List ℕ) (i x p : ℕ) (now : Bool) → i < length xs → x ≡ get_or xs i x → now ≡ has (take i xs) p → (nat_eq x p || now) ≡ has (take (i + 1) xs) p
@@ -86,10 +86,27 @@ nobody u k r past = by_value (provider_of u r) (λ y is. too_low (some_low u k r
   by_value (Some y) f = absurd (f y refl)
 
 -- a table of all ports tells of every number
-pub holders_all : (u : Universe) → IsUniverse u → (pairs : List ℕ) → holder_at (map (holder_among u pairs) (range_with_len 0 (port_count u))) ≡ holder_among u pairs
-holders_all u k pairs = λ i r. at r i where
-  at : (r : ℕ) → holder_at (map (holder_among u pairs) (range_with_len 0 (port_count u))) r ≡ holder_among u pairs r
+pub firsts_all : (u : Universe) → IsUniverse u → (ends : List ℕ) → holder_at (map (first_among u ends) (range_with_len 0 (port_count u))) ≡ (λ r j. first_among u ends r + (j - 1))
+firsts_all u k ends = λ i r j. at r i + (j - 1) where
+  at : (r : ℕ) → get_or (map (first_among u ends) (range_with_len 0 (port_count u))) r 0 ≡ first_among u ends r
   at r = elim (cases_lt r (port_count u)) [
-    | inl low ↦ entry (holder_among u pairs) (port_count u) r 0 low
-    | inr past ↦ get_or_past (map (holder_among u pairs) (range_with_len 0 (port_count u))) r 0 (omega (arith, entries_count (holder_among u pairs) (port_count u))) ∙ ap (λ o. option_map_or (place_of pairs) o 0) (sym (nobody u k r past))
+    | inl low ↦ entry (first_among u ends) (port_count u) r 0 low
+    | inr past ↦ get_or_past (map (first_among u ends) (range_with_len 0 (port_count u))) r 0 (omega (arith, entries_count (first_among u ends) (port_count u))) ∙ ap (λ o. option_map_or (place_of ends) o 0) (sym (nobody u k r past))
   ]
+
+-- and each is a place, or the end
+place_low : (xs : List ℕ) (p : ℕ) → place_of xs p ≤ length xs
+place_low [] p = omega arith
+place_low (x ∷ xs) p = elim (nat_eq x p) as (λ b. nat_eq x p ≡ b → place_of (x ∷ xs) p ≤ suc (length xs)) [
+  | true ↦ λ is. omega (arith, place_here x xs p is)
+  | false ↦ λ other. omega (arith, place_later x xs p other, place_low xs p)
+] refl
+
+pub firsts_few : (u : Universe) (ends : List ℕ) (n : ℕ) → length ends ≤ 32000 → AreFew (map (first_among u ends) (range_with_len 0 n))
+firsts_few u ends n few r = elim (cases_lt r n) [
+  | inl low ↦ omega (arith, entry (first_among u ends) n r 0 low, by (provider_of u r))
+  | inr past ↦ let none = get_or_past (map (first_among u ends) (range_with_len 0 n)) r 0 (omega (arith, entries_count (first_among u ends) n, past)) in omega (arith, none)
+] where
+  by : (o : Option ℕ) → option_map_or (place_of ends) o 0 ≤ 32000
+  by None = omega arith
+  by (Some p) = omega (arith, place_low ends p, few)

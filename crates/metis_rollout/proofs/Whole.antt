@@ -10,17 +10,16 @@ use Rattle.metis_universe.specs.Universe.{Universe, IsUniverse, has, is_empty, p
 use Rattle.metis_universe.specs.Config.{Config, empty, is_bound, pair_of}
 use Rattle.metis_universe.specs.Goal.{Holds, holding}
 use Rattle.metis_universe.specs.Layers.{layer_set}
-use Rattle.metis_universe.specs.Single.{IsSingle}
 use Rattle.metis_universe.specs.Step.{after_all}
 use Rattle.metis_universe.specs.Steadfast.{is_new}
 use Rattle.metis_universe.proofs.Attained.{Closed-layers}
 use Rattle.metis_universe.proofs.Inside.{IsInside-after_all, IsInside-empty}
 use Rattle.metis_universe.proofs.Kept.{IsConfig-empty}
 use Rattle.metis_layers.proofs.Going.{GoesOn, GoesOn-append, after_all-append, at, run_from_going}
-use Rattle.metis_layers.proofs.Deploying.{Stand, ends_need}
 use Rattle.metis_layers.proofs.LayerFacts.{HasLayer, layer_by}
+use Rattle.metis_layers.proofs.Slots.{Stand}
 use Rattle.metis_layers.specs.LayerOrder.{place_of}
-use Rattle.metis_rollout.specs.Rollout.{cycle_removal, cleared_by, fresh_name, idle_unbinds, unreferenced_deletes, members, news_of, pairs_in, removal, renumber, renumbered, rollout, scaffold_holder, scaffold_list, scaffold_name, scaffold_pairs}
+use Rattle.metis_rollout.specs.Rollout.{cycle_removal, cleared_by, fresh_name, idle_unbinds, unreferenced_deletes, members, news_of, pairs_in, removal, renumber, renumbered, rollout, scaffold_ends, scaffold_holder, scaffold_list, scaffold_name}
 use Rattle.metis_rollout.specs.Standing.{AreTogether, IsSteady, is_made}
 use Rattle.metis_rollout.proofs.Cycles.{Scene, taken_down, taken_down_goes, taken_down_gone}
 use Rattle.metis_rollout.proofs.FreeNumbers.{free_number-apart, free_number-free}
@@ -29,7 +28,8 @@ use Rattle.metis_rollout.proofs.Holding.{renumbered_holds}
 use Rattle.metis_rollout.proofs.Quiet.{quiet_goes, quiet_makes_none}
 use Rattle.metis_rollout.proofs.Removal.{cleared, cleared_goes, cleared_leaves, cleared_makes, left, left_correct, left_good, replaces, short, short_rollout, stood, untied}
 use Rattle.metis_rollout.proofs.Renaming.{bound_ren, pair_ren, ren_goes, touches_ren}
-use Rattle.metis_rollout.proofs.Scaffold.{scaffold_down, scaffold_goes, scaffold_serves, unlike_ports}
+use Rattle.metis_rollout.proofs.Required.{needed_first}
+use Rattle.metis_rollout.proofs.Scaffold.{holders_differ, scaffold_down, scaffold_goes, scaffold_serves, slot, slot_back}
 use Rattle.metis_rollout.proofs.Together.{beside, fresh_images, fresh_unused, has-news, touches_own}
 use Rattle.metis_rollout.proofs.Touching.{AllTouch, At, bound_touched, pair_touched, used_touched}
 
@@ -70,7 +70,7 @@ layer u k old s z p there =
     layer_by u p (pair_count u)
     (IsInside-after_all u (layer_set u (pair_count u)) empty (old ++ cleared u old) (Closed-layers u k) IsConfig-empty (IsInside-empty (layer_set u (pair_count u))) (run_from_going u [] (old ++ cleared u old) (cleared_goes u old going)) z p (ap (λ d. pair_of d z) (cleared_leaves u old going) ∙ there))
 
-module _ (u : Universe) (k : IsUniverse u) (single : IsSingle u) (old fresh : List Action) (s : IsSteady u old) (t : IsSteady u fresh) where
+module _ (u : Universe) (k : IsUniverse u) (old fresh : List Action) (s : IsSteady u old) (t : IsSteady u fresh) where
   going : GoesOn u [] old
   going = going_from_steady u old s
 
@@ -87,10 +87,14 @@ module _ (u : Universe) (k : IsUniverse u) (single : IsSingle u) (old fresh : Li
   g = pairs_in what
 
   abbrev ends : List ℕ
-  ends = scaffold_pairs u g
+  ends = scaffold_ends u g
 
-  abbrev holder : ℕ → ℕ
+  abbrev holder : ℕ → ℕ → ℕ
   holder = scaffold_holder u g
+
+  -- which slot of a port one of the scaffold's instances is
+  abbrev slot_of : ℕ → ℕ → ℕ
+  slot_of = slot u k g
 
   abbrev list : List Action
   list = scaffold_list u g
@@ -118,10 +122,10 @@ module _ (u : Universe) (k : IsUniverse u) (single : IsSingle u) (old fresh : Li
   -- ---- the scaffold's list
 
   list_goes : GoesOn u [] list
-  list_goes = (scaffold_goes u k g single).0
+  list_goes = (scaffold_goes u k g).0
 
-  stand : Stand u holder ends list
-  stand = (scaffold_goes u k g single).1
+  stand : Stand u holder slot_of ends list
+  stand = (scaffold_goes u k g).1
 
   abbrev K : ℕ → Bool
   K = is_made list
@@ -177,9 +181,9 @@ module _ (u : Universe) (k : IsUniverse u) (single : IsSingle u) (old fresh : Li
   leaves : at u cut ≡ what
   leaves = cleared_leaves u old going
 
-  scene : Scene u what c S f holder ends
+  scene : Scene u what c S f holder slot_of ends
   scene = record {
-    single = single;
+    universe = k;
     good = (left_good u old going).0;
     correct = left_correct u (cut ++ scaffold) beside_cut.0;
     olds = λ z h. sym (cut_used z) ∙ pair_touched (At (is_made cut)) u z cut (touches_own u cut (cleared_goes u old going)) (subst IsSome (sym (ap (λ d. pair_of d z) leaves)) h);
@@ -195,33 +199,33 @@ module _ (u : Universe) (k : IsUniverse u) (single : IsSingle u) (old fresh : Li
         let now = sym (beside_cut.1.new_bindings r x y (cut_used x ∙ h)) ∙ is in
         let of = bound_touched Image u r x y scaffold images now in
         let there = sym (bound_ren u f K apart r of.0.0 of.1.0 list of.0.1 of.1.1) ∙ ap (λ v. is_bound (at u scaffold) r v (f of.1.0)) of.0.2 ∙ ap (is_bound (at u scaffold) r x) of.1.2 ∙ now in
-        let parts = and_parts (ends_need u holder ends of.0.0 r) (nat_eq of.1.0 (holder r)) (sym (stand.bound r of.0.0 of.1.0) ∙ there) in
-        let down = scaffold_down u k g of.0.0 r parts.0 in
-        let same = eqb-true of.1.0 (holder r) parts.1 in
-        (of.0.0, of.1.0, made_low of.0.0 of.0.1, omega arith, of.0.2, of.1.2);
-    held = λ z p r there needs. let at_p = layer u k old s z p there in scaffold_serves u k g p at_p.layer r (some_of_pair what.instances z p there) at_p.is needs;
-    ports = unlike_ports u k;
+        let needs = sym (stand.bound r of.0.0 of.1.0) ∙ there in
+        let down = scaffold_down u k g of.0.0 r (slot_of r of.1.0) needs in
+        let same = slot_back u k g r of.1.0 (needed_first u ends of.0.0 r (slot_of r of.1.0) needs) in
+        (of.0.0, of.1.0, made_low of.0.0 of.0.1, subst (λ n. n < of.0.0) same down, of.0.2, of.1.2);
+    filled = λ z p r j there needs. let at_p = layer u k old s z p there in scaffold_serves u k g p at_p.layer r j (some_of_pair what.instances z p there) at_p.is needs;
+    slots_differ = holders_differ u k g;
   }
 
   abbrev rest : List Action
-  rest = cleared u old ++ (scaffold ++ taken_down u what c S f holder ends scene)
+  rest = cleared u old ++ (scaffold ++ taken_down u what c S f holder slot_of ends scene)
 
-  same_list : (cut ++ scaffold) ++ taken_down u what c S f holder ends scene ≡ old ++ rest
-  same_list = append_assoc cut scaffold (taken_down u what c S f holder ends scene) ∙ append_assoc old (cleared u old) (scaffold ++ taken_down u what c S f holder ends scene)
+  same_list : (cut ++ scaffold) ++ taken_down u what c S f holder slot_of ends scene ≡ old ++ rest
+  same_list = append_assoc cut scaffold (taken_down u what c S f holder slot_of ends scene) ∙ append_assoc old (cleared u old) (scaffold ++ taken_down u what c S f holder slot_of ends scene)
 
   rest_goes : GoesOn u [] (old ++ rest)
   rest_goes = subst (GoesOn u []) same_list
-      (GoesOn-append u [] (cut ++ scaffold) (taken_down u what c S f holder ends scene) beside_cut.0 (quiet_goes u (cut ++ scaffold) (taken_down u what c S f holder ends scene) (taken_down_goes u what c S f holder ends scene)))
+      (GoesOn-append u [] (cut ++ scaffold) (taken_down u what c S f holder slot_of ends scene) beside_cut.0 (quiet_goes u (cut ++ scaffold) (taken_down u what c S f holder slot_of ends scene) (taken_down_goes u what c S f holder slot_of ends scene)))
 
   rest_gone : (z : ℕ) → pair_of (at u (old ++ rest)) z ≡ None
-  rest_gone z = ap (λ l. pair_of (at u l) z) (sym same_list) ∙ ap (λ d. pair_of d z) (after_all-append u empty (cut ++ scaffold) (taken_down u what c S f holder ends scene)) ∙ taken_down_gone u what c S f holder ends scene z
+  rest_gone z = ap (λ l. pair_of (at u l) z) (sym same_list) ∙ ap (λ d. pair_of d z) (after_all-append u empty (cut ++ scaffold) (taken_down u what c S f holder slot_of ends scene)) ∙ taken_down_gone u what c S f holder slot_of ends scene z
 
   rest_apart : (z : ℕ) → is_made (renumbered old fresh) z ≡ true → is_made (old ++ rest) z ≡ false
   rest_apart z h =
       let of = used_touched _ z (renumbered old fresh) (fresh_images u old fresh fresh_going) h in
       ap (λ l. is_made l z) (sym same_list)
-      ∙ list_any-append (is_new z) (cut ++ scaffold) (taken_down u what c S f holder ends scene)
-      ∙ ap (λ b. is_made (cut ++ scaffold) z || b) (quiet_makes_none u c (taken_down u what c S f holder ends scene) z (taken_down_goes u what c S f holder ends scene))
+      ∙ list_any-append (is_new z) (cut ++ scaffold) (taken_down u what c S f holder slot_of ends scene)
+      ∙ ap (λ b. is_made (cut ++ scaffold) z || b) (quiet_makes_none u c (taken_down u what c S f holder slot_of ends scene) z (taken_down_goes u what c S f holder slot_of ends scene))
       ∙ ap (λ b. b || false) (list_any-append (is_new z) cut scaffold ∙ ap (λ b. b || is_made scaffold z) (cut_used z ∙ fresh_unused u old fresh fresh_going z h))
       ∙ ap (λ b. b || false) (not_all (is_made scaffold z) (λ is. let by = used_touched Image z scaffold images is in names_other of.0 by.0 of.1 (of.2 ∙ sym by.2)))
 
@@ -240,14 +244,14 @@ module _ (u : Universe) (k : IsUniverse u) (single : IsSingle u) (old fresh : Li
     | false ↦ λ some. long some
   ] refl
 
-pub replaced : (u : Universe) (old fresh : List Action) → IsUniverse u → IsSingle u → IsSteady u old → IsSteady u fresh
+pub replaced : (u : Universe) (old fresh : List Action) → IsUniverse u → IsSteady u old → IsSteady u fresh
     → IsSteady u (rollout u old fresh) × (after_all u empty (rollout u old fresh) ≡ after_all u empty (renumbered old fresh)) × ((g : List ℕ) → Holds (after_all u empty fresh) g → Holds (after_all u empty (rollout u old fresh)) g)
-replaced u old fresh k single s t =
-    let done = whole u k single old fresh s t in
+replaced u old fresh k s t =
+    let done = whole u k old fresh s t in
     (done.0, done.1, λ g h p. subst (λ d. count_by (λ q. nat_eq q p) g ≤ holding d p) (sym done.1) (omega (arith, h p, renumbered_holds u old fresh (going_from_steady u fresh t) p)))
 
-pub taken_apart : (u : Universe) (old : List Action) → IsUniverse u → IsSingle u → IsSteady u old → IsSteady u (rollout u old []) × (after_all u empty (rollout u old []) ≡ empty)
-taken_apart u old k single s = whole u k single old [] s (record { runs = tt; steadfast = refl })
+pub taken_apart : (u : Universe) (old : List Action) → IsUniverse u → IsSteady u old → IsSteady u (rollout u old []) × (after_all u empty (rollout u old []) ≡ empty)
+taken_apart u old k s = whole u k old [] s (record { runs = tt; steadfast = refl })
 
 -- no scaffold is made where the two first steps leave nothing
 pub without_scaffold : (u : Universe) (old fresh : List Action) → IsSteady u old → IsSteady u fresh → is_empty (members (after_all u empty (old ++ cleared_by u old))) ≡ true

@@ -3,56 +3,61 @@ ghost use Rattle.std.specs.Prelude.{◌≡◌, ◌<◌, ◌≤◌, ◌++◌, ◌
 ghost use Rattle.std.specs.List.{All};
 ghost use Rattle.metis_ids.specs.declared.actions.Action.TheVariants.{New};
 ghost use Rattle.metis_universe.specs.Universe.{pair_count, port_count, type_of};
-ghost use Rattle.metis_layers.specs.LayerOrder.{binds, gained, line_actions, lines_from, move_actions, path_to, unbinds};
+ghost use Rattle.metis_layers.specs.LayerOrder.{path_to};
+ghost use Rattle.metis_layers.specs.SlotLines.{slot_binds, slot_line, slot_lines, slot_move, slot_unbinds, slots_above, slots_gained};
 ghost use Rattle.metis_support.specs.Support.{IsSupport, is_selected};
-ghost use Rattle.metis_rollout.specs.Holders.{TellsTruly, holder_at};
+ghost use Rattle.metis_rollout.specs.Holders.{AreFew, TellsTruly, holder_at};
+ghost use Rattle.metis_rollout.specs.Rollout.{slots_required};
 
 use metis_ids::{Action, InstNo, IxVec, NoMemory, PairIx, PortIx};
 use metis_support::Support;
 use metis_universe::Universe;
 use std::alloc::Global;
 
-/// Makes an instance for each of these pairs, numbered from 0, and brings it there. What an instance requires on its way is
-/// bound to the instance that the table has for the port.
+/// Makes an instance for each of these pairs, numbered from 0, and brings it there. What an instance needs on its way is
+/// bound, slot by slot, to the instances from the one on that the table has for the port.
 pub fn lines_to(
     alloc: Global,
     u: &Universe,
     s: &Support,
-    holders: &IxVec<PortIx, u32>,
-    pairs: &[PairIx],
+    firsts: &IxVec<PortIx, u32>,
+    ends: &[PairIx],
 ) -> Result<Vec<Action>, NoMemory>
     requires support { IsSupport u.now s.now }
     requires truth { TellsTruly u.now s.now }
-    requires few { length pairs.now ≤ 2000 }
-    requires selected { All (λ p. IsTrue (is_selected s.now p)) pairs.now }
-    ensures { IfOk result (λ actions. actions.items ≡ lines_from u.now (holder_at holders.now) 0 (map (path_to u.now) pairs.now)) }
+    requires few { length ends.now ≤ 32000 }
+    requires firsts { AreFew firsts.now }
+    requires selected { All (λ p. IsTrue (is_selected s.now p)) ends.now }
+    ensures { IfOk result (λ actions. actions.items ≡ slot_lines u.now (holder_at firsts.now) 0 (map (path_to u.now) ends.now)) }
 {
     let mut actions = Vec::new(alloc);
-    for number in 0..pairs.len() {
+    for number in 0..ends.len() {
         let inst = InstNo(number as u32);
-        add_line(u, s, holders, inst, pairs[number], &mut actions)?;
+        add_line(alloc, u, s, firsts, inst, ends[number], &mut actions)?;
     }
     Ok(actions)
 }
 
 // Makes the instance and brings it to the pair along origins.
 fn add_line(
+    alloc: Global,
     u: &Universe,
     s: &Support,
-    holders: &IxVec<PortIx, u32>,
+    firsts: &IxVec<PortIx, u32>,
     inst: InstNo,
     p: PairIx,
     actions: &mut Vec<Action>,
 ) -> Result<(), NoMemory>
     requires support { IsSupport u.now s.now }
     requires truth { TellsTruly u.now s.now }
+    requires firsts { AreFew firsts.now }
     requires selected { IsTrue (is_selected s.now p) }
-    ensures { OnOk result (actions.new.items ≡ actions.old.items ++ line_actions u.now (holder_at holders.now) inst (path_to u.now p)) }
+    ensures { OnOk result (actions.new.items ≡ actions.old.items ++ slot_line u.now (holder_at firsts.now) inst (path_to u.now p)) }
 {
     match s.origin(p) {
         Some(origin) => {
-            add_line(u, s, holders, inst, origin, actions)?;
-            add_move(u, holders, inst, origin, p, actions)
+            add_line(alloc, u, s, firsts, inst, origin, actions)?;
+            add_move(alloc, u, firsts, inst, origin, p, actions)
         }
         None => {
             actions.push(Action::New {
@@ -64,79 +69,130 @@ fn add_line(
     }
 }
 
-// From one pair to another: what is required besides is bound before the move, and what is no longer required is unbound after it.
+// From one pair to another: the slots needed besides are bound before the move, and those no longer needed are unbound after it.
 fn add_move(
+    alloc: Global,
     u: &Universe,
-    holders: &IxVec<PortIx, u32>,
+    firsts: &IxVec<PortIx, u32>,
     inst: InstNo,
     from: PairIx,
     to: PairIx,
     actions: &mut Vec<Action>,
 ) -> Result<(), NoMemory>
+    requires firsts { AreFew firsts.now }
     requires from { from < pair_count u.now }
     requires to { to < pair_count u.now }
-    ensures { OnOk result (actions.new.items ≡ actions.old.items ++ move_actions u.now (holder_at holders.now) inst from to) }
+    ensures { OnOk result (actions.new.items ≡ actions.old.items ++ slot_move u.now (holder_at firsts.now) inst from to) }
 {
-    add_binds(u, holders, inst, from, to, actions)?;
+    let gained = slots_gained_by(alloc, u, from, to)?;
+    let lost = slots_gained_by(alloc, u, to, from)?;
+    add_binds(firsts, inst, &gained, actions)?;
     actions.push(Action::Move { inst, from, to })?;
-    add_unbinds(u, holders, inst, to, from, actions)
+    add_unbinds(firsts, inst, &lost, actions)
 }
 
-// Binds the ports that `to` requires and `from` does not.
+// Each port that `to` requires, in order, with each slot that it needs and `from` does not, the lowest first.
+fn slots_gained_by(
+    alloc: Global,
+    u: &Universe,
+    from: PairIx,
+    to: PairIx,
+) -> Result<Vec<(PortIx, u32)>, NoMemory>
+    requires from { from < pair_count u.now }
+    requires to { to < pair_count u.now }
+    ensures slots { IfOk result (λ slots. slots.items ≡ slots_gained u.now from to) }
+    ensures low { IfOk result (λ slots. All (λ s. s.1 ≤ 16) slots.items) }
+{
+    u.keeps_invariant();
+    let mut slots = Vec::new(alloc);
+    for port in u.requires_(to) {
+        let held = u.demand(from, *port);
+        push_slots(*port, held, u.demand(to, *port), &mut slots)?;
+    }
+    Ok(slots)
+}
+
+/// Each port that the pair requires, in order, with each slot that it needs, the lowest first.
+pub fn slots_needed_by(
+    alloc: Global,
+    u: &Universe,
+    p: PairIx,
+) -> Result<Vec<(PortIx, u32)>, NoMemory>
+    requires { p < pair_count u.now }
+    ensures slots { IfOk result (λ slots. slots.items ≡ slots_required u.now p) }
+    ensures low { IfOk result (λ slots. All (λ s. s.1 ≤ 16) slots.items) }
+{
+    u.keeps_invariant();
+    let mut slots = Vec::new(alloc);
+    for port in u.requires_(p) {
+        push_slots(*port, 0, u.demand(p, *port), &mut slots)?;
+    }
+    Ok(slots)
+}
+
+// The slots of the port above `held` up to `needed`.
+fn push_slots(
+    port: PortIx,
+    held: u32,
+    needed: u32,
+    slots: &mut Vec<(PortIx, u32)>,
+) -> Result<(), NoMemory>
+    ensures { OnOk result (slots.new.items ≡ slots.old.items ++ map (λ k. (port, k)) (slots_above held needed)) }
+{
+    for below in held..needed {
+        slots.push((port, below + 1))?;
+    }
+    Ok(())
+}
+
+// Binds the instance to these slots.
 fn add_binds(
-    u: &Universe,
-    holders: &IxVec<PortIx, u32>,
+    firsts: &IxVec<PortIx, u32>,
     inst: InstNo,
-    from: PairIx,
-    to: PairIx,
+    slots: &[(PortIx, u32)],
     actions: &mut Vec<Action>,
 ) -> Result<(), NoMemory>
-    requires from { from < pair_count u.now }
-    requires to { to < pair_count u.now }
-    ensures { OnOk result (actions.new.items ≡ actions.old.items ++ binds (holder_at holders.now) inst (gained u.now from to)) }
+    requires firsts { AreFew firsts.now }
+    requires low { All (λ s. s.1 ≤ 16) slots.now }
+    ensures { OnOk result (actions.new.items ≡ actions.old.items ++ slot_binds (holder_at firsts.now) inst slots.now) }
 {
-    let held = u.requires_(from);
-    for port in u.requires_(to) {
-        if !held.contains(port) {
-            actions.push(Action::Bind {
-                port: *port,
-                inst,
-                to: holder_in(holders, *port),
-            })?;
-        }
+    for slot in slots {
+        actions.push(Action::Bind {
+            port: slot.0,
+            inst,
+            to: holder_in(firsts, slot.0, slot.1),
+        })?;
     }
     Ok(())
 }
 
-// Unbinds the ports that `to` requires and `from` does not.
+// Unbinds it from these slots.
 fn add_unbinds(
-    u: &Universe,
-    holders: &IxVec<PortIx, u32>,
+    firsts: &IxVec<PortIx, u32>,
     inst: InstNo,
-    from: PairIx,
-    to: PairIx,
+    slots: &[(PortIx, u32)],
     actions: &mut Vec<Action>,
 ) -> Result<(), NoMemory>
-    requires from { from < pair_count u.now }
-    requires to { to < pair_count u.now }
-    ensures { OnOk result (actions.new.items ≡ actions.old.items ++ unbinds (holder_at holders.now) inst (gained u.now from to)) }
+    requires firsts { AreFew firsts.now }
+    requires low { All (λ s. s.1 ≤ 16) slots.now }
+    ensures { OnOk result (actions.new.items ≡ actions.old.items ++ slot_unbinds (holder_at firsts.now) inst slots.now) }
 {
-    let held = u.requires_(from);
-    for port in u.requires_(to) {
-        if !held.contains(port) {
-            actions.push(Action::Unbind {
-                port: *port,
-                inst,
-                to: holder_in(holders, *port),
-            })?;
-        }
+    for slot in slots {
+        actions.push(Action::Unbind {
+            port: slot.0,
+            inst,
+            to: holder_in(firsts, slot.0, slot.1),
+        })?;
     }
     Ok(())
 }
 
-/// The instance that the table has for the port.
-pub fn holder_in(holders: &IxVec<PortIx, u32>, port: PortIx) -> InstNo
-    ensures { result ≡ holder_at holders.now port }
+/// The instance that is the slot of the port: the table has the one that is slot 1, and the next ones follow it.
+pub fn holder_in(firsts: &IxVec<PortIx, u32>, port: PortIx, slot: u32) -> InstNo
+    requires firsts { AreFew firsts.now }
+    requires low { slot ≤ 16 }
+    ensures { result ≡ holder_at firsts.now port slot }
 {
-    InstNo(holders.get(port).copied().unwrap_or(0))
+    let first = firsts.get(port).copied().unwrap_or(0);
+    InstNo(first + slot.saturating_sub(1))
 }

@@ -4,7 +4,6 @@ ghost use Rattle.std.specs.List.{All};
 ghost use Rattle.metis_universe.specs.Config.{empty};
 ghost use Rattle.metis_universe.specs.Goal.{Holds};
 ghost use Rattle.metis_universe.specs.Numbers.{IsOf};
-ghost use Rattle.metis_universe.specs.Single.{IsSingle};
 ghost use Rattle.metis_universe.specs.Step.{after_all};
 ghost use Rattle.metis_universe.specs.Universe.{is_empty};
 ghost use Rattle.metis_layers.specs.Layers.{IsLayers};
@@ -29,8 +28,6 @@ pub fn rollout(
     old: &[Action],
     fresh: &[Action],
 ) -> Result<Vec<Action>, NoMemory>
-    // A scaffold has one instance a port so far.
-    requires single { IsSingle u.now }
     requires layers { IsLayers u.now l.now }
     requires old { IsSteady u.now old.now }
     requires fresh { IsSteady u.now fresh.now }

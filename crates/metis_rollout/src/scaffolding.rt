@@ -1,5 +1,5 @@
-//! The scaffold: an instance for each pair from which a selection takes a port.
-ghost use Rattle.std.specs.Prelude.{◌≡◌, ◌<◌, ◌≤◌, ℕ, IfOk, IsSome, length, map, replicate};
+//! The scaffold: for each pair from which a selection takes a port, an instance for each slot.
+ghost use Rattle.std.specs.Prelude.{◌≡◌, ◌<◌, ◌≤◌, ℕ, IfOk, IsSome, length, map};
 ghost use Rattle.std.specs.List.{All, filter, range_with_len, slice_index_or};
 ghost use Rattle.std.specs.Option.{option_map_or};
 ghost use Rattle.metis_universe.specs.Layers.{layer_of};
@@ -7,10 +7,11 @@ ghost use Rattle.metis_universe.specs.Universe.{has, pair_count, port_count};
 ghost use Rattle.metis_layers.specs.LayerOrder.{place_of};
 ghost use Rattle.metis_layers.specs.Layers.{IsLayers};
 ghost use Rattle.metis_support.specs.Support.{IsSupport, provider_pairs, support_of};
-ghost use Rattle.metis_rollout.specs.Holders.{holder_among};
-ghost use Rattle.metis_rollout.specs.Rollout.{scaffold_holder, scaffold_list, scaffold_pairs};
+ghost use Rattle.metis_rollout.specs.Holders.{AreFew, first_among};
+ghost use Rattle.metis_rollout.specs.Rollout.{scaffold_ends, scaffold_list};
 
 use crate::lines::lines_to;
+use crate::slots::{filled, repeated, slot_counts};
 use metis_choice::{Choice, choose};
 use metis_ids::{Action, IxVec, NoMemory, PairIx, PairSet, PortIx};
 use metis_layers::table::Layers;
@@ -18,12 +19,12 @@ use metis_support::Support;
 use metis_universe::Universe;
 use std::alloc::Global;
 
-/// What makes the instances of a scaffold, numbered from 0; how many they are; and which of them provides each port.
+/// What makes the instances of a scaffold, numbered from 0; how many they are; and which of them is slot 1 of each port.
 #[derive(Drop)]
 pub struct Scaffold {
     pub(crate) actions: Vec<Action>,
     pub(crate) count: u32,
-    pub(crate) holders: IxVec<PortIx, u32>,
+    pub(crate) firsts: IxVec<PortIx, u32>,
 }
 
 /// The scaffold for instances that are in these pairs. It goes once over the universe, and then once over the paths to its pairs.
@@ -37,18 +38,21 @@ pub fn scaffold_for(
     requires within { All (λ p. p < pair_count u.now) targets.now }
     requires layered { All (λ p. IsSome (layer_of u.now p)) targets.now }
     ensures actions { IfOk result (λ s. s.actions.items ≡ scaffold_list u.now targets.now) }
-    ensures count { IfOk result (λ s. s.count ≡ length (scaffold_pairs u.now targets.now)) }
-    ensures holders { IfOk result (λ s. s.holders ≡ map (scaffold_holder u.now targets.now) (range_with_len 0 (port_count u.now))) }
+    ensures count { IfOk result (λ s. s.count ≡ length (scaffold_ends u.now targets.now)) }
+    ensures firsts { IfOk result (λ s. s.firsts ≡ map (first_among u.now (scaffold_ends u.now targets.now)) (range_with_len 0 (port_count u.now))) }
+    ensures few { IfOk result (λ s. AreFew s.firsts) }
 {
     u.keeps_invariant();
     let support = selection_for(alloc, u, l, targets)?;
     let pairs = pairs_provided_from(alloc, u, l, &support)?;
-    let holders = holders_of(alloc, u, l, &pairs)?;
-    let actions = lines_to(alloc, u, &support, &holders, &pairs)?;
+    let counts = slot_counts(alloc, u, l, &support)?;
+    let ends = repeated(alloc, &counts, &pairs)?;
+    let firsts = firsts_of(alloc, u, l, &ends)?;
+    let actions = lines_to(alloc, u, &support, &firsts, &ends)?;
     Ok(Scaffold {
         actions,
-        count: pairs.len() as u32,
-        holders,
+        count: ends.len() as u32,
+        firsts,
     })
 }
 
@@ -109,25 +113,25 @@ fn set_of(alloc: Global, size: u32, pairs: &[PairIx]) -> Result<PairSet, NoMemor
     Ok(set)
 }
 
-// For each port the place of the pair that provides it first.
-fn holders_of(
+// For each port the place of the first of the pairs that is its provider.
+fn firsts_of(
     alloc: Global,
     u: &Universe,
     l: &Layers,
-    pairs: &[PairIx],
+    ends: &[PairIx],
 ) -> Result<IxVec<PortIx, u32>, NoMemory>
     requires layers { IsLayers u.now l.now }
-    requires few { length pairs.now ≤ 2000 }
-    requires within { All (λ p. p < pair_count u.now) pairs.now }
-    ensures { IfOk result (λ holders. holders ≡ map (holder_among u.now pairs.now) (range_with_len 0 (port_count u.now))) }
+    requires few { length ends.now ≤ 32000 }
+    requires within { All (λ p. p < pair_count u.now) ends.now }
+    ensures { IfOk result (λ firsts. firsts ≡ map (first_among u.now ends.now) (range_with_len 0 (port_count u.now))) }
 {
     u.keeps_invariant();
-    let places = places_of(alloc, u.pairs(), pairs)?;
-    let mut holders = IxVec::new(alloc);
+    let places = places_of(alloc, u.pairs(), ends)?;
+    let mut firsts = IxVec::new(alloc);
     for number in 0..u.ports() {
-        holders.push(place_in(&places, l.first_provider(PortIx(number))))?;
+        firsts.push(place_in(&places, l.first_provider(PortIx(number))))?;
     }
-    Ok(holders)
+    Ok(firsts)
 }
 
 // The place of the pair, and 0 where there is no pair.
@@ -140,9 +144,9 @@ fn place_in(places: &IxVec<PairIx, u32>, pair: Option<PairIx>) -> u32
     }
 }
 
-// The place of each pair among these, and how many they are for all others.
+// The first place of each pair among these, and how many they are for all others.
 fn places_of(alloc: Global, size: u32, pairs: &[PairIx]) -> Result<IxVec<PairIx, u32>, NoMemory>
-    requires few { length pairs.now ≤ 2000 }
+    requires few { length pairs.now ≤ 32000 }
     requires within { All (λ p. p < size) pairs.now }
     ensures { IfOk result (λ places. (p : ℕ) → p < size → slice_index_or places p 0 ≡ place_of pairs.now p) }
 {
@@ -153,15 +157,4 @@ fn places_of(alloc: Global, size: u32, pairs: &[PairIx]) -> Result<IxVec<PairIx,
         places.set(pairs[place as usize], place);
     }
     Ok(places)
-}
-
-// So many times this number.
-fn filled(alloc: Global, size: u32, number: u32) -> Result<IxVec<PairIx, u32>, NoMemory>
-    ensures { IfOk result (λ numbers. numbers ≡ replicate size number) }
-{
-    let mut numbers = IxVec::new(alloc);
-    for _ in 0..size {
-        numbers.push(number)?;
-    }
-    Ok(numbers)
 }

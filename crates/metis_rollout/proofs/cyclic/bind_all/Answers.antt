@@ -8,6 +8,6 @@ use Rattle.metis_rollout.proofs.cyclic.bind_all.Goals as goal
 pub loop-z-preserved : goal.loop-z-preserved
 loop-z-preserved c = record {
   within = rest_all (λ p. p < pair_count c.args.u.now) c.loop-z.z-iterator c.next.new.self (c.in-Some.z, c.in-Some.p) c.loop-z.invariant.within c.in-Some.ensures.steps;
-  actions = bound_next c.args.u.now (λ r. named c.args.names.now.entries (holder_at c.args.holders.now r)) c.args.actions.now.items c.loop-z.actions.items c.bind_ports.new.actions.items c.args.c.now.instances c.loop-z.z-iterator c.next.new.self (c.in-Some.z, c.in-Some.p)
-      c.loop-z.invariant.actions c.in-Some.ensures.steps c.in_ok-bind_ports.ensures;
+  actions = bound_next c.args.u.now (λ r k. named c.args.names.now.entries (holder_at c.args.firsts.now r k)) c.args.actions.now.items c.loop-z.actions.items c.bind_slots.new.actions.items c.args.c.now.instances c.loop-z.z-iterator c.next.new.self (c.in-Some.z, c.in-Some.p)
+      c.loop-z.invariant.actions c.in-Some.ensures.steps c.in_ok-bind_slots.ensures;
 }

@@ -1,0 +1,8 @@
+use Rattle.std.proofs.Common.{◌≡◌, take}
+use Rattle.metis_universe.specs.Universe.{demand_of}
+use Rattle.metis_layers.proofs.SlotLists.{slots_of}
+use Rattle.metis_layers.specs.SlotLines.{slots_above}
+use Rattle.metis_rollout.proofs.lines.slots_needed_by.Given as goal
+
+abbrev pub invariant-loop-port : goal.invariant-loop-port
+invariant-loop-port l = l.slots.items ≡ slots_of (λ r. slots_above 0 (demand_of l.u l.p r)) (take l.port-index l.port-items)
