@@ -168,12 +168,16 @@ module _ (u : Universe) (left c : Config) (S : ℕ → Bool) (f : ℕ → ℕ) (
     met_by_scaffold d z p r there bound pairs = IsMet-slots u d z r (λ k y. (1 ≤ k) × (h r k ≡ y)) (demand_of u p r)
         (λ k some few.
         let needs = wants_within u p r k some few in
-        let held = s.filled z p r k there needs in (h r k, (some, refl), record {
-          pair = held.pair;
-          bound = bound (h r k) (all_in u h left.instances r k z p there needs) (not_yet r k z);
-          there = pairs (h r k) ∙ s.new_pairs (holder r k) held.stands ∙ held.there;
-          gives = held.gives;
-        }))
+        let held = s.filled z p r k there needs in (
+          h r k,
+          (some, refl),
+          record {
+            pair = held.pair;
+            bound = bound (h r k) (all_in u h left.instances r k z p there needs) (not_yet r k z);
+            there = pairs (h r k) ∙ s.new_pairs (holder r k) held.stands ∙ held.there;
+            gives = held.gives;
+          },
+        ))
         (λ i j y one two. s.slots_differ r i j one.0 two.0 (s.injective (holder r i) (holder r j) (one.1 ∙ sym two.1)))
 
     unreferencedned_pair : (z : ℕ) → pair_of unreferencedned z ≡ pair_of c z

@@ -1,5 +1,5 @@
 -- A correct configuration has a binding for each provider that its instances demand, so that it has as many as a scaffold's replace.
-use Rattle.std.proofs.Common.{◌≡◌, ℕ, suc, ◌+◌, ◌-◌, ◌≤◌, Bool, true, false, cond, not, ◌&&◌, ◌||◌, List, [], ◌∷◌, ◌++◌, Some, refl, sym, ap, ◌∙◌, arith, nat_eq, map, length, length-append}
+use Rattle.std.proofs.Common.{◌≡◌, ℕ, suc, ◌+◌, ◌-◌, ◌≤◌, Bool, true, false, cond, not, ◌&&◌, ◌||◌, List, [], ◌∷◌, ◌++◌, Some, refl, sym, ◌∙◌, arith, nat_eq, map, length, length-append}
 use Rattle.std.specs.List.{AllByRecursion, filter, flat_map, list_any}
 use Rattle.std.specs.Map.{keys_of}
 use Rattle.std.proofs.lemmas.Bool.{and_from, and_parts, eq-eqb, eqb-true, false≢true, or_left, or_right}
@@ -165,8 +165,8 @@ module _ (u : Universe) where
           arith,
           ties_total c.instances,
           matched (flat_map needs_of c.instances) c.bindings (all_apart k c.instances keys)
-          (each_joined (λ n. n.2 ≤ length (on_port n.0 n.1 c.bindings)) needs_of c.instances
-          (each_entry (λ e. AllByRecursion (λ n. n.2 ≤ length (on_port n.0 n.1 c.bindings)) (needs_of e)) c.instances keys (λ z p there. bound z p there (required_of u p) (λ r needs. needs)))),
+              (each_joined (λ n. n.2 ≤ length (on_port n.0 n.1 c.bindings)) needs_of c.instances
+              (each_entry (λ e. AllByRecursion (λ n. n.2 ≤ length (on_port n.0 n.1 c.bindings)) (needs_of e)) c.instances keys (λ z p there. bound z p there (required_of u p) (λ r needs. needs)))),
         ) where
           -- what passes for a provider of any kind is of the port
           any_passes : (r z : ℕ) (bs : List Binding) → length (filter (passes (λ y. true) r z) bs) ≤ length (on_port r z bs)

@@ -1,7 +1,7 @@
 -- The scaffold: the providers of all that the selection requires, by layer, each as often as it has slots, and bound only to earlier ones.
-use Rattle.std.proofs.Common.{◌≡◌, ℕ, zero, suc, ◌+◌, ◌-◌, ◌<◌, ◌≤◌, Bool, true, false, List, [], ◌∷◌, ◌++◌, Option, Some, None, refl, sym, ap, ◌∙◌, subst, arith, nat_eq, map, length, append_assoc, append-nil, inl, inr}
+use Rattle.std.proofs.Common.{◌≡◌, ℕ, zero, suc, ◌+◌, ◌-◌, ◌≤◌, Bool, true, List, [], ◌∷◌, ◌++◌, Option, Some, None, refl, sym, ap, ◌∙◌, subst, arith, nat_eq, map, append_assoc, append-nil, inl, inr}
 use Rattle.std.specs.Prelude.{nat_le, replicate, slice_get}
-use Rattle.std.specs.List.{All, cons_option, list_any, filter, filter_map}
+use Rattle.std.specs.List.{All, cons_option, list_any, filter_map}
 use Rattle.std.specs.Option.{option_map_or, option_to_list}
 use Rattle.std.proofs.lemmas.Bool.{and_from, and_parts, eq-eqb, eqb-true, false≢true, leb-true, or_cases, or_left, or_right}
 use Rattle.metis_universe.proofs.Greatest.{demand_least}

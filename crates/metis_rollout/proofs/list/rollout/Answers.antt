@@ -84,13 +84,13 @@ pub returns-clause-bare : goal.returns-clause-bare
 returns-clause-bare c = λ none. is_list c ∙ (without_scaffold c.args.u.now c.args.old.now c.args.fresh.now c.requires.old c.requires.fresh none).0
 
 pub returns-clause-steady : goal.returns-clause-steady
-returns-clause-steady c = subst (IsSteady c.args.u.now) (sym (is_list c)) (replaced c.args.u.now c.args.old.now c.args.fresh.now c.keeps_invariant.ensures.universe c.requires.single c.requires.old c.requires.fresh).0
+returns-clause-steady c = subst (IsSteady c.args.u.now) (sym (is_list c)) (replaced c.args.u.now c.args.old.now c.args.fresh.now c.keeps_invariant.ensures.universe c.requires.old c.requires.fresh).0
 
 pub returns-clause-end : goal.returns-clause-end
-returns-clause-end c = ap (after_all c.args.u.now empty) (is_list c) ∙ (replaced c.args.u.now c.args.old.now c.args.fresh.now c.keeps_invariant.ensures.universe c.requires.single c.requires.old c.requires.fresh).1
+returns-clause-end c = ap (after_all c.args.u.now empty) (is_list c) ∙ (replaced c.args.u.now c.args.old.now c.args.fresh.now c.keeps_invariant.ensures.universe c.requires.old c.requires.fresh).1
 
 pub returns-clause-holds : goal.returns-clause-holds
-returns-clause-holds c = λ g h. subst (λ l. Holds (after_all c.args.u.now empty l) g) (sym (is_list c)) ((replaced c.args.u.now c.args.old.now c.args.fresh.now c.keeps_invariant.ensures.universe c.requires.single c.requires.old c.requires.fresh).2 g h)
+returns-clause-holds c = λ g h. subst (λ l. Holds (after_all c.args.u.now empty l) g) (sym (is_list c)) ((replaced c.args.u.now c.args.old.now c.args.fresh.now c.keeps_invariant.ensures.universe c.requires.old c.requires.fresh).2 g h)
 
 pub returns-clause-together : goal.returns-clause-together
 returns-clause-together c = (together c.args.u.now c.args.old.now c.args.fresh.now c.requires.old c.requires.fresh).1

@@ -1,4 +1,4 @@
-use Rattle.std.proofs.Common.{◌<◌, ◌≤◌, List, ℕ, ◌∙◌, ap, arith, flat_map, get_or, length, map, replicate, subst, sym}
+use Rattle.std.proofs.Common.{◌<◌, List, ℕ, ◌∙◌, ap, arith, flat_map, get_or, length, map, replicate, subst, sym}
 use Rattle.std.specs.Prelude.{IsTrue}
 use Rattle.std.specs.List.{All, range_with_len}
 use Rattle.metis_universe.specs.Universe.{pair_count, port_count}

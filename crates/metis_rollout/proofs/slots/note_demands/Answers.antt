@@ -1,6 +1,5 @@
-use Rattle.std.proofs.Common.{◌≡◌, ◌<◌, ◌+◌, ℕ, Some, fold, get_or, length, map, max, set, take, take_all, sym, ap, ◌∙◌, subst, arith}
+use Rattle.std.proofs.Common.{◌≡◌, ◌<◌, ◌+◌, ℕ, fold, get_or, length, map, max, set, take, take_all, sym, ap, ◌∙◌, subst, arith}
 use Rattle.std.proofs.lemmas.List.{length-set}
-use Rattle.metis_universe.specs.Selection.{provider_of}
 use Rattle.metis_universe.specs.Universe.{demand_of, port_count, required_of}
 use Rattle.metis_rollout.proofs.SlotCounts.{demanded_from, demands_more, raised, unraised}
 use Rattle.metis_rollout.proofs.Tabulated.{provider_low}
