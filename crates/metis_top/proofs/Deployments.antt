@@ -1,5 +1,5 @@
 -- A plan deploys its targets in any order that keeps its waits, by the laws of these orders.
-use Rattle.std.proofs.Common.{◌≡◌, ◌≤◌, ◌+◌, ℕ, List, length, inl, inr, subst}
+use Rattle.std.proofs.Common.{◌≡◌, ◌≤◌, ◌+◌, ◌*◌, ℕ, List, length, inl, inr, subst}
 use Rattle.std.specs.List.{count_by}
 use Rattle.std.specs.Prelude.{IsTrue}
 use Rattle.metis_choice.proofs.Resolving.{pairs_count, pairs_hold}
