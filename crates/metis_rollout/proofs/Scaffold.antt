@@ -21,6 +21,7 @@ use Rattle.metis_layers.proofs.Slots.{IsFilled, Stand, wants}
 use Rattle.metis_layers.proofs.Standing.{HasSomeLayer, Rising, has-append, layer_in, layered_has, layered_rises, rising-filter, rising-suffix}
 use Rattle.metis_layers.proofs.Ways.{FilledUpTo, HaveOrigins, ways_on}
 use Rattle.metis_layers.specs.LayerOrder.{path_to, path_within, place_of}
+use Rattle.metis_support.proofs.Selections.{mapped_from}
 use Rattle.metis_rollout.specs.Rollout.{scaffold_ends, scaffold_holder, scaffold_list, scaffold_pairs, slot_count}
 use Rattle.metis_rollout.proofs.Blocks.{blocks, blocks-push, copy_in, has_block}
 use Rattle.metis_rollout.proofs.SlotCounts.{slots_enough}
@@ -98,13 +99,28 @@ module _ (u : Universe) (k : IsUniverse u) (g : List ℕ) where
   pub listed_layer : (p : ℕ) → has pairs p ≡ true → HasSomeLayer u p
   listed_layer p h = layer_in u p (and_parts (has (provider_pairs u g) p) (has (layered u) p) (sym (has-filter (has (provider_pairs u g)) p (layered u)) ∙ h)).1
 
-  pub listed_selected : (p : ℕ) → has pairs p ≡ true → Selected p
-  listed_selected p h =
+  -- a selected pair that requires a port whose provider is p
+  pub record IsTaken (p : ℕ) : Type 0 where
+    pub pair : ℕ
+    pub port : ℕ
+    pub chosen : has (selected u g) pair ≡ true
+    pub needs : requires u pair port ≡ true
+    pub is : provider_of u port ≡ Some p
+
+  pub taken_from : (p : ℕ) → has pairs p ≡ true → IsTaken p
+  taken_from p h =
       let provided = (and_parts (has (provider_pairs u g) p) (has (layered u) p) (sym (has-filter (has (provider_pairs u g)) p (layered u)) ∙ h)).0 in
       let some = some_of (λ q. has (providers_needed u q) p) (selected u g) (and_parts (list_any (λ q. has (providers_needed u q) p) (selected u g)) (has (all_pairs u) p)
       (sym (has-filter (λ p. list_any (λ q. has (providers_needed u q) p) (selected u g)) p (all_pairs u)) ∙ provided)).0 in
+      let port = mapped_from (provider_of u) (required_of u some.number) p some.passes in
+      record { pair = some.number; port = port.0; chosen = some.there; needs = port.1; is = port.2 }
+
+  pub listed_selected : (p : ℕ) → has pairs p ≡ true → Selected p
+  listed_selected p h =
+      let from = taken_from p h in
       let at = listed_layer p h in
-      selected_need some.number p at.layer some.there at.is (has-append (option_to_list (origin_of u some.number)) (providers_needed u some.number) p ∙ or_right (has (option_to_list (origin_of u some.number)) p) (has (providers_needed u some.number) p) some.passes)
+      let need = mapped (provider_of u) (required_of u from.pair) from.port p from.needs from.is in
+      selected_need from.pair p at.layer from.chosen at.is (has-append (option_to_list (origin_of u from.pair)) (providers_needed u from.pair) p ∙ or_right (has (option_to_list (origin_of u from.pair)) p) (has (providers_needed u from.pair) p) need)
 
   origins : HaveOrigins u Selected
   origins q o l there is at = selected_origin q o l there is at

@@ -75,12 +75,15 @@ module _ (u : Universe) where
       most_has (flat_map (demands_from u p) ps) 0 (demand_of u q r)
       (has-joined (demands_from u p) ps q (demand_of u q r) among (subst (λ v. has (map (demanded_from p q) (required_of u q)) v ≡ true) mine (has-map (demanded_from p q) (required_of u q) r required)))
 
+  -- and no more slots than some pair may demand
+  pub slots_within : (b : ℕ) → ((q r : ℕ) → demand_of u q r ≤ b) → (ps : List ℕ) (p : ℕ) → slot_count u ps p ≤ b
+  slots_within b low ps p = most_low (flat_map (demands_from u p) ps) 0 b (omega arith) (joined_low (demands_from u p) b ps (λ q v h. mapped_low (demanded_from p q) b (required_of u q) (λ r. by (is_provider u p r) q r) v h)) where
+    by : (t : Bool) (q r : ℕ) → cond t (demand_of u q r) 0 ≤ b
+    by true q r = low q r
+    by false q r = omega arith
+
   pub slots_few : (ps : List ℕ) (p : ℕ) → slot_count u ps p ≤ greatest_demand u
-  slots_few ps p = most_low (flat_map (demands_from u p) ps) 0 (greatest_demand u) (omega arith)
-      (joined_low (demands_from u p) (greatest_demand u) ps (λ q v h. mapped_low (demanded_from p q) (greatest_demand u) (required_of u q) (λ r. by (is_provider u p r) q r) v h)) where
-        by : (b : Bool) (q r : ℕ) → cond b (demand_of u q r) 0 ≤ greatest_demand u
-        by true q r = demand_least u q r
-        by false q r = omega arith
+  slots_few ps p = slots_within (greatest_demand u) (demand_least u) ps p
 
 -- ---- counts while they are raised
 

@@ -27,7 +27,8 @@ pub struct Scaffold {
     pub(crate) firsts: IxVec<PortIx, u32>,
 }
 
-/// The scaffold for instances that are in these pairs. It goes once over the universe, and then once over the paths to its pairs.
+/// The scaffold for instances that are in these pairs. It goes once over the universe, and then along the path of each of the
+/// scaffold's instances.
 pub fn scaffold_for(
     alloc: Global,
     u: &Universe,
