@@ -1,5 +1,5 @@
 -- Who is a slot, where there is one.
-use Rattle.std.proofs.Common.{◌≡◌, ℕ, ◌+◌, ◌<◌, ◌≤◌, Bool, true, false, cond, ◌&&◌, Option, Some, None, refl, sym, ap, ◌∙◌, arith, nat_le}
+use Rattle.std.proofs.Common.{◌≡◌, ℕ, ◌+◌, ◌≤◌, true, false, ◌&&◌, Some, None, arith, nat_le}
 use Rattle.std.proofs.lemmas.Bool.{and_from, cond-false, cond-true, false_from_ne_true, leb-true, le-leb, and_parts}
 use Rattle.metis_universe.specs.Universe.{has}
 use Rattle.metis_lines.proofs.Blocks.{copies}
