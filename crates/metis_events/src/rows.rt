@@ -124,7 +124,7 @@ pub fn place_of(events: &[Event], starts: &[usize], e: &Event) -> Option<usize>
     ensures { result ≡ position (same_event e.now) events.now }
 {
     let place = likely_place(events.len(), starts, e);
-    if place < events.len() && is_same(&events[place], e) {
+    if place < events.len() && is_same_event(&events[place], e) {
         return Some(place);
     }
     searched(events, e)
@@ -141,8 +141,8 @@ fn likely_place(count: usize, starts: &[usize], e: &Event) -> usize {
     }
 }
 
-// Whether the two are one event.
-fn is_same(a: &Event, b: &Event) -> bool
+/// Whether the two are one event.
+pub fn is_same_event(a: &Event, b: &Event) -> bool
     ensures { result ≡ same_event b.now a.now }
 {
     match *a {
