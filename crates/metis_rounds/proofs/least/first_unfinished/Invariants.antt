@@ -1,0 +1,8 @@
+use Rattle.std.proofs.Common.{ℕ, ◌<◌}
+use Rattle.metis_lines.specs.AbstractPlan.{last}
+use Rattle.metis_events.specs.Gathered.{without_supplies}
+use Rattle.metis_rounds.specs.Reach.{taken_of}
+use Rattle.metis_rounds.proofs.least.first_unfinished.Given as goal
+
+abbrev pub invariant-loop-number : goal.invariant-loop-number
+invariant-loop-number l = (m : ℕ) → m < l.number → last (without_supplies l.lines) m < taken_of l.taken m

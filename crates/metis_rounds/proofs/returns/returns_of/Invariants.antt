@@ -1,0 +1,15 @@
+use Rattle.std.proofs.Common.{◌≡◌, ◌&&◌, not}
+use Rattle.std.specs.List.{flat_map, list_any, range_with_len}
+use Rattle.metis_ids.specs.declared.events.Event.{Event}
+use Rattle.metis_lines.specs.Events.{is_among, is_end, is_return_of}
+use Rattle.metis_lines.specs.LifeLines.{line_supplies}
+use Rattle.metis_events.specs.Gathered.{without_supplies}
+use Rattle.metis_rounds.specs.Tables.{HasRows, row_at}
+use Rattle.metis_rounds.proofs.returns.returns_of.Given as goal
+
+-- the lines before this one are done
+abbrev pub invariant-loop-number : goal.invariant-loop-number
+invariant-loop-number l = record {
+  rows : HasRows (without_supplies l.l) l.table;
+  each : (e f : Event) → is_among (row_at l.table f) e ≡ (not (is_end f) && list_any (is_return_of (without_supplies l.l) e f) (flat_map (line_supplies l.u l.s l.l) (range_with_len 0 l.number)));
+}

@@ -1,0 +1,68 @@
+use Rattle.std.proofs.Common.{◌≡◌, ◌<◌, ◌≤◌, ◌-◌, ℕ, List, not, length, sym, subst}
+use Rattle.std.specs.Prelude.{IsTrue, IsFalse}
+use Rattle.std.proofs.lemmas.Result.{on_ok_weaker}
+use Rattle.metis_emit.proofs.OfLines.{lines_formed}
+use Rattle.metis_ids.specs.declared.events.Event.{Event}
+use Rattle.metis_lines.specs.Events.{is_event, step_count}
+use Rattle.metis_lines.specs.LifeLines.{plan_of}
+use Rattle.metis_lines.specs.Soundness.{IsFormed}
+use Rattle.metis_rounds.proofs.Kept.{walk_kept}
+use Rattle.metis_rounds.proofs.Reaches.{stuck_left}
+use Rattle.metis_rounds.proofs.WalkOn.{begun_same, begun_walk, dropped_walk, unfinished_more}
+use Rattle.metis_rounds.specs.More.{IsBegun}
+use Rattle.metis_rounds.specs.Reach.{is_taken, taken_of}
+use Rattle.metis_rounds.specs.Stuck.{is_stuck}
+use Rattle.metis_rounds.specs.Walks.{IsWalk, step_at}
+use Rattle.metis_rounds.proofs.rounds.Rounds.cycle.Goals.{After-deref}
+use Rattle.metis_rounds.proofs.rounds.Rounds.cycle.Goals as goal
+
+formed : (c : After-deref) → IsFormed c.args.u.now (plan_of c.args.u.now c.args.s.now c.args.self.now.lines)
+formed c = lines_formed c.args.u.now c.keeps_invariant.ensures.universe c.args.s.now c.requires.support c.args.self.now.lines c.requires.rounds.lines
+
+left : (c : After-deref) (e : Event) → IsTrue (is_event (plan_of c.args.u.now c.args.s.now c.args.self.now.lines) e) → is_stuck (plan_of c.args.u.now c.args.s.now c.args.self.now.lines) e ≡ not (is_taken c.args.self.now.going.taken.items e)
+left c = stuck_left c.args.u.now (plan_of c.args.u.now c.args.s.now c.args.self.now.lines) (formed c) c.args.self.now.going.taken.items c.requires.rounds.going.safe c.requires.stopped
+
+pub begin_walk-requires-clause-done : goal.begin_walk-requires-clause-done
+begin_walk-requires-clause-done c = λ l low. subst (λ ns. step_count (plan_of c.args.u.now c.args.s.now c.args.self.now.lines) l ≤ taken_of ns l) (sym c.deref-2.ensures.value) (c.requires.rounds.done l low)
+
+pub begin_walk-requires-clause-more : goal.begin_walk-requires-clause-more
+begin_walk-requires-clause-more c =
+    let w = plan_of c.args.u.now c.args.s.now c.args.self.now.lines in
+    let l = c.requires.stopped.unfinished.0 in
+    let low = c.requires.stopped.unfinished.1 in
+    let more = unfinished_more c.args.u.now w (formed (goal.at.begin_walk-requires-clause-more c).After-deref) c.args.self.now.going.taken.items l low c.requires.stopped.unfinished.2 in
+    (l, low, subst (λ ns. taken_of ns l < step_count w l) (sym c.deref-2.ensures.value) more)
+
+pub walk_on-requires-clause-stuck : goal.walk_on-requires-clause-stuck
+walk_on-requires-clause-stuck c = λ e there.
+    let w = plan_of c.args.u.now c.args.s.now c.args.self.now.lines in
+    subst (λ ns. is_stuck w e ≡ not (is_taken ns e)) (sym c.deref-3.ensures.value) (left (goal.at.walk_on-requires-clause-stuck c).After-deref e there)
+
+pub walk_on-requires-clause-walk : goal.walk_on-requires-clause-walk
+walk_on-requires-clause-walk c =
+    let u = c.args.u.now in
+    let s = c.args.s.now in
+    let x = c.args.self.now.lines in
+    let w = plan_of u s x in
+    let ns : List ℕ = c.args.self.now.going.taken.items in
+    let at = (goal.at.walk_on-requires-clause-walk c).After-deref in
+    let dropped = c.drop_taken.new.walk in
+    let ends : 0 < length dropped → IsFalse (is_taken ns (step_at dropped (length dropped - 1))) = λ some. subst (λ ms. IsFalse (is_taken ms (step_at dropped (length dropped - 1)))) c.deref.ensures.value (c.drop_taken.ensures.last some) in
+    let walk = dropped_walk u w (formed at) ns (left at) c.args.self.now.walk dropped c.requires.rounds.walk c.drop_taken.ensures.first ends in
+    let begun = subst (λ ms. IsBegun w ms dropped c.begin_walk.new.walk) c.deref-2.ensures.value (begun_same u s x c.deref-2.result.now dropped c.begin_walk.new.walk c.in_ok-self.ensures.begun) in
+    begun_walk u w (formed at) ns (left at) dropped c.begin_walk.new.walk walk begun
+
+pub returns-clause-rounds : goal.returns-clause-rounds
+returns-clause-rounds c =
+    let w = plan_of c.args.u.now c.args.s.now c.args.self.now.lines in
+    let before = c.requires.rounds in
+    on_ok_weaker c.walk_on.result (λ (walk : IsWalk w c.walk_on.new.walk). record {
+      lines = before.lines;
+      uses = before.uses;
+      returns = before.returns;
+      going = before.going;
+      walk = walk_kept w c.walk_on.new.walk walk;
+      first = before.first;
+      done = λ l low. subst (λ ns. step_count w l ≤ taken_of ns l) c.deref-2.ensures.value (c.in_ok-self.ensures.done l low);
+      few = (before.few.0, c.in_ok-self.ensures.few);
+    }) c.walk_on.ensures.walk

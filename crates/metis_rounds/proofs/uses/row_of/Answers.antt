@@ -1,0 +1,14 @@
+use Rattle.std.proofs.Common.{◌++◌, sym, ap, ◌∙◌}
+use Rattle.std.proofs.lemmas.Bool.{both_ways}
+use Rattle.metis_ids.specs.PairSet.{PairSet}
+use Rattle.metis_support.specs.Support.{is_selected}
+use Rattle.metis_universe.specs.Universe.{has}
+use Rattle.metis_rounds.specs.Tables.{uses_of}
+use Rattle.metis_rounds.proofs.uses.row_of.Goals as goal
+use Rattle.metis_rounds.proofs.uses.row_of.Goals.{then-has+in_ok-add_uses, else-has}
+
+pub returns : goal.returns
+returns c = λ selected. elim c.if-has.branch [
+  | then-has+in_ok-add_uses w ↦ ap (λ v. v.items) w.uses-is ∙ w.in_ok-add_uses.ensures ∙ ap (λ us. us ++ uses_of c.args.u.now c.args.s.now c.args.pair) c.new-uses.ensures.items
+  | else-has w ↦ absurd (both_ways (is_selected c.args.s.now c.args.pair) (sym (c.has.ensures.member ∙ ap (λ (ps : PairSet). has ps.members c.args.pair) c.selected.ensures.selected) ∙ w.if-has.false) selected)
+]

@@ -1,0 +1,14 @@
+use Rattle.std.proofs.Common.{◌<◌, ◌-◌, length}
+use Rattle.metis_lines.specs.Events.{events}
+use Rattle.metis_lines.specs.LifeLines.{plan_of}
+use Rattle.metis_rounds.specs.Walks.{IsWalk}
+use Rattle.metis_rounds.proofs.walking.walk_on.Given as goal
+
+abbrev pub invariant-loop-walk : goal.invariant-loop-walk
+invariant-loop-walk l = record {
+  walk : IsWalk (plan_of l.u l.s l.lines) l.walk;
+  some : 0 < length l.walk;
+}
+
+abbrev pub decreases-loop-walk : goal.decreases-loop-walk
+decreases-loop-walk l = length (events (plan_of l.u l.s l.lines)) - length l.walk

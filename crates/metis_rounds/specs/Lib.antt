@@ -1,0 +1,10 @@
+pub mod Going
+pub mod Least
+pub mod More
+pub mod OwnLine
+pub mod Reach
+pub mod Returns
+pub mod Rounds
+pub mod Stuck
+pub mod Tables
+pub mod Walks

@@ -1,0 +1,394 @@
+//! How far a round has come.
+ghost use Rattle.std.specs.Prelude.{◌≡◌, ◌<◌, ◌≤◌, ◌+◌, ◌==◌, ◌||◌, ◌&&◌, ◌⊎◌, not, ℕ, List, [], IsTrue, IsFalse, IfNone, IfOk, IfSome, OnOk, drop, length, slice_set};
+ghost use Rattle.std.specs.List.{list_any, slice_index_or};
+ghost use Rattle.metis_ids.specs.Lists.{has};
+ghost use Rattle.metis_ids.specs.declared.events.Event.{Event};
+ghost use Rattle.metis_ids.specs.declared.events.Event.TheVariants.{At, End};
+ghost use Rattle.metis_support.specs.Support.{IsSupport};
+ghost use Rattle.metis_lines.specs.Events.{is_among, is_end, is_event, same_event, step_count};
+ghost use Rattle.metis_lines.specs.LifeLines.{AreLines, LifeLines, plan_of};
+ghost use Rattle.metis_rounds.specs.Going.{HasOwnLine, HasSeen, IsGoing, IsMissing, all_taken, is_on, use_at, use_event, uses_at};
+ghost use Rattle.metis_rounds.specs.Reach.{HasAllBefore, WaitsFor, is_taken, next_of, taken_of, with_next};
+ghost use Rattle.metis_rounds.specs.Returns.{IsUse};
+ghost use Rattle.metis_rounds.specs.Tables.{HasGrown, HasReturns, HasUses, has_row, row_at};
+
+use crate::event_table::EventTable;
+use crate::returns::holder_event;
+use crate::uses::Uses;
+use metis_events::step_count;
+use metis_ids::{Event, LineIx, NoMemory, PairIx, StepIx};
+use metis_lines::Lines;
+use metis_support::Support;
+use metis_universe::Universe;
+use std::alloc::Global;
+use std::mem;
+
+/// How many events of each line are taken, and what each line waits for.
+#[derive(Drop)]
+pub struct Going {
+    /// How many events of each line are taken.
+    pub taken: Vec<u32>,
+    /// How many of the slots that the next station of each line takes were found there.
+    pub met: Vec<usize>,
+    /// How many of the returns into the next event of each line were found taken.
+    pub left: Vec<usize>,
+    /// For each event those that wait for it.
+    pub waiting: EventTable,
+    /// The lines that are to be looked at.
+    pub work: Vec<LineIx>,
+}
+
+// Whether the event is taken.
+pub fn is_taken(taken: &[u32], e: Event) -> bool
+    ensures { result ≡ is_taken taken.now e }
+{
+    match e {
+        Event::At(line, step) => match taken.get(line.0 as usize) {
+            Some(count) => step.0 < *count,
+            None => false,
+        },
+        Event::End => false,
+    }
+}
+
+// The number of the line among these.
+fn count_of(counts: &[u32], line: LineIx) -> u32
+    requires { line < length counts.now }
+    ensures { result ≡ taken_of counts.now line }
+{
+    counts[line.0 as usize]
+}
+
+// The place of the line among these.
+fn place_of(places: &[usize], line: LineIx) -> usize
+    requires { line < length places.now }
+    ensures { result ≡ taken_of places.now line }
+{
+    places[line.0 as usize]
+}
+
+// Appends the lines of these events.
+fn add_lines(work: &mut Vec<LineIx>, events: &[Event]) -> Result<(), NoMemory>
+    ensures { OnOk result ((l : ℕ) → has work.new.items l ≡ (has work.old.items l || list_any (is_on l) events.now)) }
+{
+    for event in events {
+        if let Event::At(line, _) = event {
+            work.push(*line)?;
+        }
+    }
+    Ok(())
+}
+
+// The first place, from this one on, of a row whose event is not taken.
+fn first_left(row: &[Event], taken: &[u32], from: usize) -> usize
+    requires { from ≤ length row.now }
+    ensures few { result ≤ length row.now }
+    ensures seen { (k : ℕ) → from ≤ k → k < result → IsTrue (is_taken taken.now (slice_index_or row.now k End)) }
+    ensures left { result < length row.now → IsFalse (is_taken taken.now (slice_index_or row.now result End)) }
+{
+    let mut place = from;
+    while place < row.len() && is_taken(taken, row[place]) {
+        place += 1;
+    }
+    place
+}
+
+// The first place, from this one on, of slots that are used, where the slot is not at its pair.
+fn first_missing(lines: &Lines, slots: &[(PairIx, u32)], taken: &[u32], from: usize) -> usize
+    requires from { from ≤ length slots.now }
+    requires there { (k : ℕ) → k < length slots.now → IsUse lines.now (use_at slots.now k) }
+    ensures few { result ≤ length slots.now }
+    ensures seen { (k : ℕ) → from ≤ k → k < result → IsTrue (is_taken taken.now (use_event lines.now (use_at slots.now k))) }
+    ensures left { result < length slots.now → IsFalse (is_taken taken.now (use_event lines.now (use_at slots.now result))) }
+{
+    let mut place = from;
+    while place < slots.len()
+        && is_taken(taken, holder_event(lines, slots[place].0, slots[place].1))
+    {
+        place += 1;
+    }
+    place
+}
+
+// The slot at the first place, where there is one, or else the return at the second.
+fn missing(
+    lines: &Lines,
+    slots: &[(PairIx, u32)],
+    met: usize,
+    row: &[Event],
+    left: usize,
+) -> Option<Event>
+    requires there { (k : ℕ) → k < length slots.now → IsUse lines.now (use_at slots.now k) }
+    ensures some { IfSome result (IsMissing lines.now slots.now met row.now left) }
+    ensures none { IfNone result ((length slots.now ≤ met) × (length row.now ≤ left)) }
+{
+    if met < slots.len() {
+        return Some(holder_event(lines, slots[met].0, slots[met].1));
+    }
+    if left < row.len() {
+        return Some(row[left]);
+    }
+    None
+}
+
+// The slots that a station of the line takes; none behind its last one.
+pub fn slots_at<'a>(
+    u: &Universe,
+    s: &Support,
+    lines: &Lines,
+    uses: &'a Uses,
+    line: LineIx,
+    step: StepIx,
+) -> &'a [(PairIx, u32)]
+    requires support { IsSupport u.now s.now }
+    requires lines { AreLines u.now s.now lines.now }
+    requires uses { HasUses u.now s.now uses.now }
+    requires line { line < length lines.now.lines }
+    ensures uses { result.now ≡ uses_at u.now s.now lines.now line step }
+    ensures there { (k : ℕ) → k < length result.now → IsUse lines.now (use_at result.now k) }
+{
+    u.keeps_invariant();
+    if step.0 <= lines.last(line).0 {
+        uses.of_pair(lines.station(line, step))
+    } else {
+        &[]
+    }
+}
+
+impl Going {
+    /// Nothing is taken, and each line is to be looked at.
+    pub fn new(
+        alloc: Global,
+        u: &Universe,
+        s: &Support,
+        lines: &Lines,
+        returns: &EventTable,
+    ) -> Result<Going, NoMemory>
+        requires support { IsSupport u.now s.now }
+        requires lines { AreLines u.now s.now lines.now }
+        ensures { IfOk result (λ g. IsGoing u.now s.now lines.now returns.now g []) }
+    {
+        let mut going = Going {
+            taken: Vec::new(alloc),
+            met: Vec::new(alloc),
+            left: Vec::new(alloc),
+            waiting: EventTable::new(alloc),
+            work: Vec::new(alloc),
+        };
+        for number in 0..lines.count() {
+            let line = LineIx(number);
+            going.waiting.add_line(alloc, step_count(lines, line))?;
+            going.taken.push(0)?;
+            going.met.push(0)?;
+            going.left.push(0)?;
+            going.work.push(line)?;
+        }
+        Ok(going)
+    }
+
+    /// Takes what can be taken, until each line waits for something or has no event left.
+    pub fn go_on(
+        &mut self,
+        alloc: Global,
+        u: &Universe,
+        s: &Support,
+        lines: &Lines,
+        uses: &Uses,
+        returns: &EventTable,
+    ) -> Result<(), NoMemory>
+        requires support { IsSupport u.now s.now }
+        requires lines { AreLines u.now s.now lines.now }
+        requires uses { HasUses u.now s.now uses.now }
+        requires returns { HasReturns (plan_of u.now s.now lines.now) returns.now }
+        requires going { IsGoing u.now s.now lines.now returns.now self.old [] }
+        ensures going { OnOk result (IsGoing u.now s.now lines.now returns.now self.new []) }
+        ensures still { OnOk result (self.new.work.items ≡ []) }
+        ensures kept { OnOk result ((l : ℕ) → taken_of self.old.taken.items l ≤ taken_of self.new.taken.items l) }
+    {
+        while !self.work.is_empty() {
+            let work = mem::replace(&mut self.work, Vec::new(alloc));
+            self.try_lines(alloc, u, s, lines, uses, returns, &work)?;
+        }
+        Ok(())
+    }
+
+    /// Goes on with a line of its own for a pair, which is the last line now: what is taken stays so, and of the new line as many
+    /// events are as of the line that held the pair. That line, the new one, and what waited for the pair are to be looked at.
+    pub fn with_own_line(
+        &mut self,
+        alloc: Global,
+        u: &Universe,
+        s: &Support,
+        lines: &Lines,
+        returns: &EventTable,
+        held: (LineIx, StepIx),
+    ) -> Result<(), NoMemory>
+        requires support { IsSupport u.now s.now }
+        requires lines { AreLines u.now s.now lines.now }
+        requires going { (x : LifeLines) × (p : ℕ) × (t : List (List (List Event))) × HasOwnLine u.now s.now x lines.now p held × HasGrown t returns.now (At held.0 (held.1 + 1)) × IsGoing u.now s.now x t self.old [] }
+        ensures going { OnOk result (IsGoing u.now s.now lines.now returns.now self.new []) }
+        ensures kept { OnOk result ((l : ℕ) → l < length self.old.taken.items → taken_of self.new.taken.items l ≡ taken_of self.old.taken.items l) }
+    {
+        u.keeps_invariant();
+        let (line, station) = held;
+        let new = LineIx(lines.count() - 1);
+        let steps = station.0 + 2;
+        let reached = self.taken[line.0 as usize];
+        self.waiting.add_line(alloc, steps)?;
+        self.taken.push(reached.min(steps))?;
+        self.met.push(0)?;
+        self.left.push(0)?;
+        self.left[line.0 as usize] = 0;
+        let woken = self.waiting.take(alloc, Event::At(line, station));
+        self.work.push(line)?;
+        self.work.push(new)?;
+        add_lines(&mut self.work, &woken)
+    }
+
+    // Looks at each of these lines.
+    fn try_lines(
+        &mut self,
+        alloc: Global,
+        u: &Universe,
+        s: &Support,
+        lines: &Lines,
+        uses: &Uses,
+        returns: &EventTable,
+        work: &[LineIx],
+    ) -> Result<(), NoMemory>
+        requires support { IsSupport u.now s.now }
+        requires lines { AreLines u.now s.now lines.now }
+        requires uses { HasUses u.now s.now uses.now }
+        requires returns { HasReturns (plan_of u.now s.now lines.now) returns.now }
+        requires going { IsGoing u.now s.now lines.now returns.now self.old work.now }
+        requires empty { self.old.work.items ≡ [] }
+        ensures going { OnOk result (IsGoing u.now s.now lines.now returns.now self.new []) }
+        ensures more { OnOk result (((self.new.work.items ≡ []) × (self.new.taken.items ≡ self.old.taken.items)) ⊎ (all_taken self.old.taken.items < all_taken self.new.taken.items)) }
+        ensures kept { OnOk result ((l : ℕ) → taken_of self.old.taken.items l ≤ taken_of self.new.taken.items l) }
+    {
+        for place in 0..work.len() {
+            self.try_line(alloc, u, s, lines, uses, returns, work, place)?;
+        }
+        Ok(())
+    }
+
+    // Takes the next event of the line at this place, or notes what it waits for.
+    fn try_line(
+        &mut self,
+        alloc: Global,
+        u: &Universe,
+        s: &Support,
+        lines: &Lines,
+        uses: &Uses,
+        returns: &EventTable,
+        work: &[LineIx],
+        place: usize,
+    ) -> Result<(), NoMemory>
+        requires support { IsSupport u.now s.now }
+        requires lines { AreLines u.now s.now lines.now }
+        requires uses { HasUses u.now s.now uses.now }
+        requires returns { HasReturns (plan_of u.now s.now lines.now) returns.now }
+        requires place { place < length work.now }
+        requires going { IsGoing u.now s.now lines.now returns.now self.old (drop place work.now) }
+        ensures going { OnOk result (IsGoing u.now s.now lines.now returns.now self.new (drop (place + 1) work.now)) }
+        ensures more { OnOk result ((self.new.work.items ≡ self.old.work.items) × (self.new.taken.items ≡ self.old.taken.items) ⊎ (all_taken self.old.taken.items < all_taken self.new.taken.items)) }
+        ensures kept { OnOk result ((l : ℕ) → taken_of self.old.taken.items l ≤ taken_of self.new.taken.items l) }
+    {
+        u.keeps_invariant();
+        let line = work[place];
+        if count_of(&self.taken, line) == step_count(lines, line) {
+            return Ok(());
+        }
+        match self.waited_for(u, s, lines, uses, returns, line) {
+            Some(event) => self.wait(line, event),
+            None => self.take(alloc, line),
+        }
+    }
+
+    // What the next event of the line waits for, if anything.
+    fn waited_for(
+        &mut self,
+        u: &Universe,
+        s: &Support,
+        lines: &Lines,
+        uses: &Uses,
+        returns: &EventTable,
+        line: LineIx,
+    ) -> Option<Event>
+        requires support { IsSupport u.now s.now }
+        requires lines { AreLines u.now s.now lines.now }
+        requires uses { HasUses u.now s.now uses.now }
+        requires returns { HasReturns (plan_of u.now s.now lines.now) returns.now }
+        requires line { line < length lines.now.lines }
+        requires next { taken_of self.old.taken.items line < step_count (plan_of u.now s.now lines.now) line }
+        requires taken { length self.old.taken.items ≡ length lines.now.lines }
+        requires met { length self.old.met.items ≡ length lines.now.lines }
+        requires left { length self.old.left.items ≡ length lines.now.lines }
+        requires seen { HasSeen u.now s.now lines.now returns.now self.old.taken.items self.old.met.items self.old.left.items }
+        ensures same_taken { self.new.taken.items ≡ self.old.taken.items }
+        ensures same_waiting { self.new.waiting ≡ self.old.waiting }
+        ensures same_work { self.new.work.items ≡ self.old.work.items }
+        ensures met { length self.new.met.items ≡ length lines.now.lines }
+        ensures left { length self.new.left.items ≡ length lines.now.lines }
+        ensures seen { HasSeen u.now s.now lines.now returns.now self.old.taken.items self.new.met.items self.new.left.items }
+        ensures some { IfSome result (WaitsFor (plan_of u.now s.now lines.now) self.old.taken.items (next_of self.old.taken.items line)) }
+        ensures none { IfNone result (HasAllBefore (plan_of u.now s.now lines.now) self.old.taken.items (next_of self.old.taken.items line)) }
+    {
+        u.keeps_invariant();
+        let step = StepIx(count_of(&self.taken, line));
+        let slots = slots_at(u, s, lines, uses, line, step);
+        let met = first_missing(lines, slots, &self.taken, place_of(&self.met, line));
+        self.met[line.0 as usize] = met;
+        let row = returns.row(Event::At(line, step));
+        let left = first_left(row, &self.taken, place_of(&self.left, line));
+        self.left[line.0 as usize] = left;
+        missing(lines, slots, met, row, left)
+    }
+
+    // The next event of the line waits for this one.
+    fn wait(&mut self, line: LineIx, event: Event) -> Result<(), NoMemory>
+        requires line { line < length self.old.taken.items }
+        requires row { IsFalse (is_end event) → IsTrue (has_row self.old.waiting event) }
+        ensures same_taken { OnOk result (self.new.taken.items ≡ self.old.taken.items) }
+        ensures same_met { OnOk result (self.new.met.items ≡ self.old.met.items) }
+        ensures same_left { OnOk result (self.new.left.items ≡ self.old.left.items) }
+        ensures same_work { OnOk result (self.new.work.items ≡ self.old.work.items) }
+        ensures count { OnOk result (length self.new.waiting ≡ length self.old.waiting) }
+        ensures has { OnOk result ((f : Event) → has_row self.new.waiting f ≡ has_row self.old.waiting f) }
+        ensures waiting { OnOk result ((e f : Event) → is_among (row_at self.new.waiting e) f ≡ (is_among (row_at self.old.waiting e) f || (same_event e event && not (is_end event) && same_event (next_of self.old.taken.items line) f))) }
+    {
+        match event {
+            Event::At(_, _) => {
+                let next = Event::At(line, StepIx(count_of(&self.taken, line)));
+                self.waiting.push(event, next)
+            }
+            Event::End => Ok(()),
+        }
+    }
+
+    // Takes the next event of the line, and looks again at what waited for it.
+    fn take(&mut self, alloc: Global, line: LineIx) -> Result<(), NoMemory>
+        requires line { line < length self.old.taken.items }
+        requires met { line < length self.old.met.items }
+        requires left { line < length self.old.left.items }
+        requires few { taken_of self.old.taken.items line < 65 }
+        requires row { IsTrue (has_row self.old.waiting (next_of self.old.taken.items line)) }
+        ensures taken { OnOk result (self.new.taken.items ≡ with_next self.old.taken.items line) }
+        ensures met { OnOk result (self.new.met.items ≡ slice_set self.old.met.items line 0) }
+        ensures left { OnOk result (self.new.left.items ≡ slice_set self.old.left.items line 0) }
+        ensures count { OnOk result (length self.new.waiting ≡ length self.old.waiting) }
+        ensures has { OnOk result ((f : Event) → has_row self.new.waiting f ≡ has_row self.old.waiting f) }
+        ensures woken { OnOk result (row_at self.new.waiting (next_of self.old.taken.items line) ≡ []) }
+        ensures others { OnOk result ((f : Event) → IsFalse (same_event f (next_of self.old.taken.items line)) → row_at self.new.waiting f ≡ row_at self.old.waiting f) }
+        ensures work { OnOk result ((l : ℕ) → has self.new.work.items l ≡ (has self.old.work.items l || (line == l) || list_any (is_on l) (row_at self.old.waiting (next_of self.old.taken.items line)))) }
+    {
+        let at = line.0 as usize;
+        let event = Event::At(line, StepIx(self.taken[at]));
+        self.taken[at] += 1;
+        self.met[at] = 0;
+        self.left[at] = 0;
+        let woken = self.waiting.take(alloc, event);
+        self.work.push(line)?;
+        add_lines(&mut self.work, &woken)
+    }
+}

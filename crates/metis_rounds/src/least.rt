@@ -1,0 +1,126 @@
+//! The least event that an event waits for.
+ghost use Rattle.std.specs.Prelude.{◌≡◌, ◌<◌, ◌≤◌, None, ℕ, IfNone, IfSome, IsTrue, length, map};
+ghost use Rattle.metis_ids.specs.declared.events.Event.{Event};
+ghost use Rattle.metis_support.specs.Support.{IsSupport};
+ghost use Rattle.metis_lines.specs.AbstractPlan.{last};
+ghost use Rattle.metis_lines.specs.Events.{event_cmp, is_event};
+ghost use Rattle.metis_lines.specs.LifeLines.{AreLines, plan_of};
+ghost use Rattle.metis_events.specs.Gathered.{IsSlotThere, without_supplies};
+ghost use Rattle.metis_rounds.specs.Going.{use_at, use_event};
+ghost use Rattle.metis_rounds.specs.Least.{IsFirstLeft, least_left, on_line_before, with_left};
+ghost use Rattle.metis_rounds.specs.Reach.{HasAllBefore, HasEnded, IsLeastLeft, taken_of};
+ghost use Rattle.metis_rounds.specs.Tables.{HasReturns, HasUses};
+
+use crate::event_table::EventTable;
+use crate::going::{is_taken, slots_at};
+use crate::returns::holder_event;
+use crate::uses::Uses;
+use metis_events::events_are_ordered;
+use metis_ids::{Event, LineIx, PairIx, StepIx};
+use metis_lines::Lines;
+use metis_support::Support;
+use metis_universe::Universe;
+
+/// The least of the events that have to come before this one and are not taken. All lines before `first` are in their last stations.
+pub fn least_before(
+    u: &Universe,
+    s: &Support,
+    lines: &Lines,
+    uses: &Uses,
+    returns: &EventTable,
+    taken: &[u32],
+    first: u32,
+    event: Event,
+) -> Option<Event>
+    requires support { IsSupport u.now s.now }
+    requires lines { AreLines u.now s.now lines.now }
+    requires uses { HasUses u.now s.now uses.now }
+    requires returns { HasReturns (plan_of u.now s.now lines.now) returns.now }
+    requires taken { length taken.now ≡ length lines.now.lines }
+    requires first { (l : ℕ) → l < first → last (plan_of u.now s.now lines.now) l < taken_of taken.now l }
+    requires event { IsTrue (is_event (plan_of u.now s.now lines.now) event) }
+    ensures some { IfSome result (IsLeastLeft (plan_of u.now s.now lines.now) taken.now event) }
+    ensures none { IfNone result (HasAllBefore (plan_of u.now s.now lines.now) taken.now event) }
+{
+    u.keeps_invariant();
+    match event {
+        Event::At(line, step) => {
+            let on_line = left_on_line(taken, line, step);
+            let slots = slots_at(u, s, lines, uses, line, step);
+            let least = least_holder(lines, slots, taken, on_line);
+            least_return(returns.row(Event::At(line, step)), taken, least)
+        }
+        Event::End => {
+            let line = first_unfinished(lines, taken, first)?;
+            Some(Event::At(line, lines.last(line)))
+        }
+    }
+}
+
+/// The first line that is not in its last station.
+pub fn first_unfinished(lines: &Lines, taken: &[u32], first: u32) -> Option<LineIx>
+    requires taken { length taken.now ≡ length lines.now.lines }
+    requires first { (l : ℕ) → l < first → last (without_supplies lines.now) l < taken_of taken.now l }
+    ensures some { IfSome result (IsFirstLeft (without_supplies lines.now) taken.now) }
+    ensures none { IfNone result (HasEnded (without_supplies lines.now) taken.now) }
+{
+    for number in first..lines.count() {
+        let line = LineIx(number);
+        if taken[number as usize] <= lines.last(line).0 {
+            return Some(line);
+        }
+    }
+    None
+}
+
+// The event before this one on its line, where it is not taken.
+fn left_on_line(taken: &[u32], line: LineIx, step: StepIx) -> Option<Event>
+    ensures { result ≡ least_left taken.now None (on_line_before line step) }
+{
+    if step.0 == 0 {
+        return None;
+    }
+    with_left(taken, None, &Event::At(line, StepIx(step.0 - 1)))
+}
+
+// The least of the event so far and of those by which these slots come to their pairs, of which taken ones do not count.
+fn least_holder(
+    lines: &Lines,
+    slots: &[(PairIx, u32)],
+    taken: &[u32],
+    so_far: Option<Event>,
+) -> Option<Event>
+    requires there { (k : ℕ) → k < length slots.now → (1 ≤ (use_at slots.now k).1) × IsSlotThere lines.now (use_at slots.now k).0 (use_at slots.now k).1 }
+    ensures { result ≡ least_left taken.now so_far (map (use_event lines.now) slots.now) }
+{
+    let mut least = so_far;
+    for slot in slots {
+        least = with_left(taken, least, &holder_event(lines, slot.0, slot.1));
+    }
+    least
+}
+
+// The least of the event so far and of these, of which taken ones do not count.
+fn least_return(row: &[Event], taken: &[u32], so_far: Option<Event>) -> Option<Event>
+    ensures { result ≡ least_left taken.now so_far row.now }
+{
+    let mut least = so_far;
+    for event in row {
+        least = with_left(taken, least, event);
+    }
+    least
+}
+
+// The lesser of the event so far and this one, which does not count if it is taken.
+fn with_left(taken: &[u32], so_far: Option<Event>, e: &Event) -> Option<Event>
+    ensures { result ≡ with_left taken.now so_far e.now }
+{
+    events_are_ordered();
+    if is_taken(taken, *e) {
+        return so_far;
+    }
+    match so_far {
+        Some(least) => Some(if least < *e { least } else { *e }),
+        None => Some(*e),
+    }
+}
