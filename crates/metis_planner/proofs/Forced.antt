@@ -27,8 +27,8 @@ use Rattle.metis_lines.specs.Events.{is_cycle, is_event, step_count}
 use Rattle.metis_lines.specs.Justified.{graph_for, is_justified, is_justified_at, is_justified_by, leads_on, lines_for, own_pairs}
 use Rattle.metis_lines.specs.LifeLines.{AreApart, AreLines, later_ends, line_ends, other_ends}
 use Rattle.metis_lines.specs.Soundness.{IsFormed, IsSound}
-use Rattle.metis_planner.proofs.Around.{all_by_place}
-use Rattle.metis_planner.proofs.Cycles.{cycle_is_round, cycle_of_all_events, round_of_two}
+use Rattle.metis_rounds.proofs.Around.{all_by_place}
+use Rattle.metis_rounds.proofs.Cycles.{cycle_is_round, cycle_of_all_events, round_of_two}
 use Rattle.metis_planner.proofs.Leads.{IsDoubled, doubled, provider_is_chosen}
 use Rattle.metis_planner.proofs.Lists.{all_in_range, get_at, get_low, some_at, take_next, take_whole}
 use Rattle.metis_planner.specs.Outcomes.{EventBelow}

@@ -17,7 +17,7 @@ use Rattle.metis_lines.specs.Justified.{leads_on}
 use Rattle.metis_lines.specs.LifeLines.{AreLines, LifeLines, holder_of, holding, is_loose, lines_of, plan_of}
 use Rattle.metis_events.proofs.Instances.{returns_from_loose, rounds_return}
 use Rattle.metis_events.proofs.Returns.{return_from_supply}
-use Rattle.metis_planner.proofs.Cycles.{same_self}
+use Rattle.metis_rounds.proofs.Among.{same_self}
 use Rattle.metis_planner.specs.Rounds.{doubled_by, left_by}
 
 pub provider_is_chosen : (s : Support) (p : ℕ) → has (provider_pairs s) p ≡ true → is_selected s p ≡ true

@@ -1,7 +1,7 @@
 pub mod Around
-pub mod Cycles
-pub mod Leads
+mod Ended
 pub mod Forced
+pub mod Leads
 pub mod Lists
 pub mod Moves
 pub mod Named

@@ -7,7 +7,8 @@ use Rattle.metis_ids.specs.declared.events.Event.{Event}
 use Rattle.metis_ids.specs.declared.events.Event.TheVariants.{End}
 use Rattle.metis_lines.specs.AbstractPlan.{AbstractPlan}
 use Rattle.metis_lines.specs.Events.{around, is_return_into_move}
-use Rattle.metis_planner.proofs.Around.{around_at, around_count, find_at, find_none, no_pair}
+use Rattle.metis_rounds.proofs.Around.{around_count, no_pair}
+use Rattle.metis_planner.proofs.Around.{around_at, find_at, find_none}
 use Rattle.metis_planner.specs.Rounds.{doubled_by, left_by}
 use Rattle.metis_planner.specs.UnderWay.{place_after}
 

@@ -1,17 +1,16 @@
 //! Which pair a cycle doubles.
 ghost use Rattle.std.specs.Prelude.{◌≡◌, ◌<◌, ◌&&◌, None, Some, IsTrue, length, nat_le, nat_lt, if◌then◌else◌};
 ghost use Rattle.std.specs.List.{All};
-ghost use Rattle.metis_events.specs.declared.edges.EdgeKind.TheVariants.{Return};
-ghost use Rattle.metis_events.specs.Edges.{edges_into, graph_of, has_edge};
-ghost use Rattle.metis_lines.specs.Events.{is_cycle, is_event, is_return_into_move};
+ghost use Rattle.metis_lines.specs.Events.{is_among, is_cycle, is_event, is_return_into_move};
 ghost use Rattle.metis_lines.specs.LifeLines.{AreLines, line_at, plan_of};
 ghost use Rattle.metis_planner.specs.Rounds.{doubled_by, left_by};
 ghost use Rattle.metis_planner.specs.UnderWay.{place_after};
+ghost use Rattle.metis_rounds.specs.Tables.{HasReturns, row_at};
 ghost use Rattle.metis_support.specs.Support.{IsSupport};
 
-use metis_events::{EdgeKind, EventGraph};
 use metis_ids::{Event, LineIx, PairIx, StepIx};
 use metis_lines::Lines;
+use metis_rounds::EventTable;
 use metis_support::Support;
 use metis_universe::Universe;
 
@@ -21,18 +20,18 @@ pub fn doubled_by(
     u: &Universe,
     s: &Support,
     lines: &Lines,
-    graph: &EventGraph,
+    returns: &EventTable,
     cycle: &[Event],
 ) -> PairIx
     requires support { IsSupport u.now s.now }
     requires lines { AreLines u.now s.now lines.now }
-    requires graph { graph.now ≡ graph_of (plan_of u.now s.now lines.now) }
+    requires returns { HasReturns (plan_of u.now s.now lines.now) returns.now }
     requires events { All (λ e. IsTrue (is_event (plan_of u.now s.now lines.now) e)) cycle.now }
     requires cycle { IsTrue (is_cycle (plan_of u.now s.now lines.now) cycle.now) }
     ensures { doubled_by (plan_of u.now s.now lines.now) cycle.now ≡ Some result }
 {
     u.keeps_invariant();
-    match first_left(u, s, lines, graph, cycle) {
+    match first_left(u, s, lines, returns, cycle) {
         Some(pair) => pair,
         None => unreachable!(),
     }
@@ -43,18 +42,18 @@ fn first_left(
     u: &Universe,
     s: &Support,
     lines: &Lines,
-    graph: &EventGraph,
+    returns: &EventTable,
     events: &[Event],
 ) -> Option<PairIx>
     requires support { IsSupport u.now s.now }
     requires lines { AreLines u.now s.now lines.now }
-    requires graph { graph.now ≡ graph_of (plan_of u.now s.now lines.now) }
+    requires returns { HasReturns (plan_of u.now s.now lines.now) returns.now }
     requires events { All (λ e. IsTrue (is_event (plan_of u.now s.now lines.now) e)) events.now }
     ensures { result ≡ doubled_by (plan_of u.now s.now lines.now) events.now }
 {
     for place in 0..events.len() {
         let next = events[place_after(events.len(), place)];
-        let left = left_after(u, s, lines, graph, next, events[place]);
+        let left = left_after(u, s, lines, returns, next, events[place]);
         if left.is_some() {
             return left;
         }
@@ -76,13 +75,13 @@ fn left_after(
     u: &Universe,
     s: &Support,
     lines: &Lines,
-    graph: &EventGraph,
+    returns: &EventTable,
     from: Event,
     to: Event,
 ) -> Option<PairIx>
     requires support { IsSupport u.now s.now }
     requires lines { AreLines u.now s.now lines.now }
-    requires graph { graph.now ≡ graph_of (plan_of u.now s.now lines.now) }
+    requires returns { HasReturns (plan_of u.now s.now lines.now) returns.now }
     requires event { IsTrue (is_event (plan_of u.now s.now lines.now) to) }
     ensures { result ≡ (if is_return_into_move (plan_of u.now s.now lines.now) from to then left_by (plan_of u.now s.now lines.now) to else None) }
 {
@@ -90,7 +89,7 @@ fn left_after(
     let Event::At(line, step) = to else {
         return None;
     };
-    if is_move(lines, line, step) && returns(graph, from, to) {
+    if is_move(lines, line, step) && returns_into(returns, from, to) {
         return Some(lines.station(line, StepIx(step.0 - 1)));
     }
     None
@@ -105,11 +104,8 @@ fn is_move(lines: &Lines, line: LineIx, step: StepIx) -> bool
 }
 
 // Whether a return edge leads from the first event into the second.
-fn returns(graph: &EventGraph, from: Event, to: Event) -> bool
-    ensures { result ≡ has_edge (edges_into graph.now to) from Return }
+fn returns_into(returns: &EventTable, from: Event, to: Event) -> bool
+    ensures { result ≡ is_among (row_at returns.now to) from }
 {
-    graph
-        .before(to)
-        .iter()
-        .any(|edge| edge.from == from && edge.kind == EdgeKind::Return)
+    returns.row(to).iter().any(|event| *event == from)
 }

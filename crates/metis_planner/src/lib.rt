@@ -3,9 +3,9 @@
 
 mod doubled;
 mod laws;
+mod order;
 mod outcome;
 mod planner;
-mod round;
 
 pub use laws::{nothing_is_doubled_without_a_cycle, rounds_come_to_one_plan};
 pub use outcome::Outcome;

@@ -11,21 +11,25 @@ ghost use Rattle.metis_universe.specs.Step.{IsRun, after_all};
 ghost use Rattle.metis_universe.specs.Tidy.{IsTidy};
 ghost use Rattle.metis_universe.specs.Universe.{pair_count};
 ghost use Rattle.metis_layers.specs.LayerOrder.{instances_of};
-ghost use Rattle.metis_support.specs.Support.{support_of};
+ghost use Rattle.metis_support.specs.Support.{IsSupport, support_of};
 ghost use Rattle.metis_lines.specs.AbstractPlan.{stations};
 ghost use Rattle.metis_lines.specs.Justified.{is_justified};
-ghost use Rattle.metis_lines.specs.LifeLines.{loose};
+ghost use Rattle.metis_lines.specs.LifeLines.{loose, plan_of};
 ghost use Rattle.metis_emit.specs.Realized.{entered};
+ghost use Rattle.metis_rounds.specs.Reach.{HasStopped};
+ghost use Rattle.metis_rounds.specs.Rounds.{IsRounds};
+ghost use Rattle.metis_rounds.specs.Walks.{IsWalk};
 ghost use Rattle.metis_planner.specs.Outcomes.{IsLean, IsPlanWhere, IfPlan, IfClosed, EventBelow};
 ghost use Rattle.metis_planner.specs.Rounds.{IsByRounds, IsForced, graph_after};
 ghost use Rattle.metis_planner.specs.UnderWay.{IsUnderWay};
 
+use crate::doubled::doubled_by;
+use crate::order::ordered_actions;
 use crate::outcome::Outcome;
-use crate::round::{Round, run_round};
 use metis_choice::{Choice, choose};
 use metis_ids::{Dup, NoMemory, PairIx, Plan};
 use metis_layers::layers;
-use metis_lines::Lines;
+use metis_rounds::Rounds;
 use metis_support::Support;
 use metis_universe::Universe;
 use std::alloc::Global;
@@ -86,7 +90,7 @@ pub fn plan(alloc: Global, u: &Universe, targets: &[PairIx]) -> Result<Outcome, 
     }
 }
 
-// Goes from round to round, with a line more for each cycle, until there is an order.
+// Goes from round to round, with a line more for each cycle, until no event is stuck. Then the events have an order.
 fn plan_by_rounds(
     alloc: Global,
     u: &Universe,
@@ -99,20 +103,34 @@ fn plan_by_rounds(
     ensures { IfOk result (IsByRounds u.now targets.now) }
 {
     u.keeps_invariant();
-    let mut lines = Lines::new(alloc, u, s, targets)?;
+    let mut rounds = Rounds::new(alloc, u, s, targets)?;
     let mut dups = Vec::new(alloc);
-    loop {
-        match run_round(alloc, u, s, &lines)? {
-            Round::Order(actions) => {
-                return Ok(Plan {
-                    actions,
-                    dups,
-                    instances: lines.count(),
-                });
-            }
-            Round::Cycle(dup) => double(alloc, u, s, targets, &mut lines, dup, &mut dups)?,
-        }
+    while rounds.go_on(alloc, u, s)? {
+        let dup = dup_of(alloc, u, s, &mut rounds)?;
+        double(alloc, u, s, targets, &mut rounds, dup, &mut dups)?;
     }
+    let actions = ordered_actions(alloc, u, s, &rounds.lines)?;
+    Ok(Plan {
+        actions,
+        dups,
+        instances: rounds.lines.count(),
+    })
+}
+
+// The dup that the cycle forces, where events are stuck.
+fn dup_of(alloc: Global, u: &Universe, s: &Support, rounds: &mut Rounds) -> Result<Dup, NoMemory>
+    requires support { IsSupport u.now s.now }
+    requires rounds { IsRounds u.now s.now rounds.old }
+    requires stopped { HasStopped (plan_of u.now s.now rounds.old.lines) rounds.old.going.taken.items }
+    ensures rounds { OnOk result (IsRounds u.now s.now rounds.new) }
+    ensures lines { rounds.new.lines ≡ rounds.old.lines }
+    ensures walk { OnOk result (IsWalk (plan_of u.now s.now rounds.old.lines) rounds.new.walk) }
+    ensures forced { IfOk result (IsForced (plan_of u.now s.now rounds.old.lines)) }
+{
+    u.keeps_invariant();
+    let cycle = rounds.cycle(alloc, u, s)?;
+    let pair = doubled_by(u, s, &rounds.lines, &rounds.returns, &cycle);
+    Ok(Dup { pair, cycle })
 }
 
 // Gives the dup's pair a line of its own.
@@ -121,19 +139,22 @@ fn double(
     u: &Universe,
     s: &Support,
     targets: &[PairIx],
-    lines: &mut Lines,
+    rounds: &mut Rounds,
     dup: Dup,
     dups: &mut Vec<Dup>,
 ) -> Result<(), NoMemory>
     requires layered { All (λ p. IsSome (layer_of u.now p)) targets.now }
     requires support { s.now ≡ support_of u.now targets.now }
-    requires under_way { IsUnderWay u.now targets.now lines.old dups.old.items }
+    requires rounds { IsRounds u.now s.now rounds.old }
+    requires walk { IsWalk (plan_of u.now s.now rounds.old.lines) rounds.old.walk }
+    requires under_way { IsUnderWay u.now targets.now rounds.old.lines dups.old.items }
     requires forced { IsForced (graph_after u.now targets.now dups.old.items) dup }
-    ensures under_way { OnOk result (IsUnderWay u.now targets.now lines.new dups.new.items) }
-    ensures loose { OnOk result (loose lines.new < loose lines.old) }
+    ensures rounds { OnOk result (IsRounds u.now s.now rounds.new) }
+    ensures under_way { OnOk result (IsUnderWay u.now targets.now rounds.new.lines dups.new.items) }
+    ensures loose { OnOk result (loose rounds.new.lines < loose rounds.old.lines) }
 {
     u.keeps_invariant();
-    lines.own_line(alloc, s, dup.pair)?;
+    rounds.own_line(alloc, u, s, dup.pair)?;
     dups.push(dup)?;
     Ok(())
 }

@@ -1,16 +1,17 @@
-use Rattle.std.proofs.Common.{◌≡◌, ◌∙◌, length, sym, ap, subst}
-use Rattle.metis_lines.specs.LifeLines.{AreLines, LifeLines, plan_of}
-use Rattle.metis_support.specs.Support.{IsSupport, Support, is_selected, support_of}
+use Rattle.std.proofs.Common.{◌≡◌, ◌∙◌, Bool, length, sym, ap, subst}
 use Rattle.std.specs.Prelude.{IsTrue, Ok}
-use Rattle.metis_emit.specs.Emission.{emission}
 use Rattle.metis_ids.specs.Cycle.{HasCycle}
+use Rattle.metis_support.specs.Support.{IsSupport, Support, is_selected}
+use Rattle.metis_emit.specs.Emission.{emission}
 use Rattle.metis_lines.specs.AbstractPlan.{AbstractPlan}
+use Rattle.metis_lines.specs.Justified.{lines_for, own_pairs}
+use Rattle.metis_lines.specs.LifeLines.{LifeLines, plan_of}
+use Rattle.metis_rounds.specs.Reach.{HasEnded, HasStopped}
+use Rattle.metis_rounds.specs.Rounds.{IfMore}
+use Rattle.metis_planner.proofs.Ended.{no_cycle_left}
 use Rattle.metis_planner.proofs.Forced.{support, targets}
 use Rattle.metis_planner.proofs.Planning.{layered_each}
-use Rattle.metis_planner.proofs.UnderWay.{lines_now}
 use Rattle.metis_planner.specs.Rounds.{IsForced, graph_after, numbered, ordered_events}
-use Rattle.metis_planner.specs.UnderWay.{IfCycle, IfOrder}
-use Rattle.metis_planner.specs.declared.round.Round.{Round}
 use Rattle.metis_planner.proofs.planner.plan_by_rounds.Goals as goal
 
 pub new-requires-clause-support : goal.new-requires-clause-support
@@ -21,33 +22,49 @@ pub new-requires-clause-selected : goal.new-requires-clause-selected
 new-requires-clause-selected c = λ p there.
     subst (λ s. IsTrue (is_selected s p)) (sym c.requires.support) (targets c.args.u.now c.keeps_invariant.ensures c.args.targets.now (layered_each c.args.u.now c.args.targets.now c.requires.layered) p there)
 
-pub run_round-requires-clause-support : goal.run_round-requires-clause-support
-run_round-requires-clause-support c =
+pub go_on-requires-clause-support : goal.go_on-requires-clause-support
+go_on-requires-clause-support c =
     subst (λ s. IsSupport c.args.u.now s) (sym c.requires.support) (support c.args.u.now c.keeps_invariant.ensures c.args.targets.now (layered_each c.args.u.now c.args.targets.now c.requires.layered))
 
-pub run_round-requires-clause-lines : goal.run_round-requires-clause-lines
-run_round-requires-clause-lines c =
-    subst (λ s. AreLines c.args.u.now s c.loop-dups.lines) (sym c.requires.support)
-    (lines_now c.args.u.now c.args.targets.now c.keeps_invariant.ensures (layered_each c.args.u.now c.args.targets.now c.requires.layered) c.loop-dups.lines c.loop-dups.dups.items c.loop-dups.invariant)
+pub dup_of-requires-clause-support : goal.dup_of-requires-clause-support
+dup_of-requires-clause-support c =
+    subst (λ s. IsSupport c.args.u.now s) (sym c.requires.support) (support c.args.u.now c.keeps_invariant.ensures c.args.targets.now (layered_each c.args.u.now c.args.targets.now c.requires.layered))
 
-pub returns-in-Order : goal.returns-in-Order
-returns-in-Order c =
-    let u = c.args.u.now in
-    let x : LifeLines = c.loop-dups.lines in
-    let now : plan_of u c.args.s.now x ≡ graph_after u c.args.targets.now c.loop-dups.dups.items = ap (λ (s : Support). plan_of u s x) c.requires.support ∙ ap (λ y. plan_of u (support_of u c.args.targets.now) y) c.loop-dups.invariant.lines in
-    let ended = subst (λ (r : Round). IfOrder (Ok r) (λ _. HasCycle (numbered (plan_of u c.args.s.now x)) → ⊥)) c.in-Order.is c.in_ok-actions.ensures.ended in
-    let actions = subst (λ (r : Round). IfOrder (Ok r) (λ actions. actions ≡ emission u (plan_of u c.args.s.now x) (ordered_events (plan_of u c.args.s.now x)))) c.in-Order.is c.in_ok-actions.ensures.actions in
-    record {
-      forced = c.loop-dups.invariant.forced;
-      ended = subst (λ (w : AbstractPlan). HasCycle (numbered w) → ⊥) now ended;
-      actions = actions ∙ ap (λ (w : AbstractPlan). emission u w (ordered_events w)) now;
-      instances = c.count.ensures.count ∙ ap (λ (y : LifeLines). length y.lines) c.loop-dups.invariant.lines;
-    }
+pub ordered_actions-requires-clause-support : goal.ordered_actions-requires-clause-support
+ordered_actions-requires-clause-support c =
+    subst (λ s. IsSupport c.args.u.now s) (sym c.requires.support) (support c.args.u.now c.keeps_invariant.ensures c.args.targets.now (layered_each c.args.u.now c.args.targets.now c.requires.layered))
 
 pub double-requires-clause-forced : goal.double-requires-clause-forced
 double-requires-clause-forced c =
     let u = c.args.u.now in
-    let x : LifeLines = c.loop-dups.lines in
-    let now : plan_of u c.args.s.now x ≡ graph_after u c.args.targets.now c.loop-dups.dups.items = ap (λ (s : Support). plan_of u s x) c.requires.support ∙ ap (λ y. plan_of u (support_of u c.args.targets.now) y) c.loop-dups.invariant.lines in
-    let forced = subst (λ (r : Round). IfCycle (Ok r) (IsForced (plan_of u c.args.s.now x))) c.in-Cycle.is c.in_ok-actions.ensures.forced in
-    subst (λ (w : AbstractPlan). IsForced w c.in-Cycle.dup) now forced
+    let s = c.args.s.now in
+    let now : plan_of u s c.go_on.new.self.lines ≡ graph_after u c.args.targets.now c.loop-dups.dups.items =
+    ap (plan_of u s) (c.in_ok-go_on.ensures.lines ∙ c.loop-dups.invariant.under_way.lines) ∙ ap (λ (t : Support). plan_of u t (lines_for u c.args.targets.now (own_pairs c.loop-dups.dups.items))) c.requires.support in
+    subst (λ (w : AbstractPlan). IsForced w c.in_ok-dup.dup) now c.in_ok-dup.ensures.forced
+
+pub ordered_actions-requires-clause-ended : goal.ordered_actions-requires-clause-ended
+ordered_actions-requires-clause-ended c =
+    let u = c.args.u.now in
+    let s = c.args.s.now in
+    let r = c.go_on.new.self in
+    let k = subst (λ t. IsSupport u t) (sym c.requires.support) (support u c.keeps_invariant.ensures c.args.targets.now (layered_each u c.args.targets.now c.requires.layered)) in
+    let ended = subst (λ (b : Bool). IfMore (Ok b) (HasStopped (plan_of u s r.lines) r.going.taken.items) (HasEnded (plan_of u s r.lines) r.going.taken.items)) c.if-branch.false c.in_ok-go_on.ensures.more in
+    no_cycle_left u s r.lines c.keeps_invariant.ensures.universe k c.in_ok-go_on.ensures.rounds.lines r.going.taken.items c.in_ok-go_on.ensures.rounds.going.safe ended
+
+pub returns : goal.returns
+returns c =
+    let u = c.args.u.now in
+    let s = c.args.s.now in
+    let g = c.args.targets.now in
+    let r = c.go_on.new.self in
+    let ds = c.loop-dups.dups.items in
+    let lines = c.in_ok-go_on.ensures.lines ∙ c.loop-dups.invariant.under_way.lines in
+    let now : plan_of u s r.lines ≡ graph_after u g ds = ap (plan_of u s) lines ∙ ap (λ (t : Support). plan_of u t (lines_for u g (own_pairs ds))) c.requires.support in
+    let k = subst (λ t. IsSupport u t) (sym c.requires.support) (support u c.keeps_invariant.ensures g (layered_each u g c.requires.layered)) in
+    let ended = subst (λ (b : Bool). IfMore (Ok b) (HasStopped (plan_of u s r.lines) r.going.taken.items) (HasEnded (plan_of u s r.lines) r.going.taken.items)) c.if-branch.false c.in_ok-go_on.ensures.more in
+    record {
+      forced = c.loop-dups.invariant.under_way.forced;
+      ended = subst (λ (w : AbstractPlan). HasCycle (numbered w) → ⊥) now (no_cycle_left u s r.lines c.keeps_invariant.ensures.universe k c.in_ok-go_on.ensures.rounds.lines r.going.taken.items c.in_ok-go_on.ensures.rounds.going.safe ended);
+      actions = c.in_ok-actions.ensures ∙ ap (λ (w : AbstractPlan). emission u w (ordered_events w)) now;
+      instances = c.count.ensures.count ∙ ap (λ (y : LifeLines). length y.lines) lines;
+    }

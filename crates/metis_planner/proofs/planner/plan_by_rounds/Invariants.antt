@@ -1,10 +1,14 @@
 use Rattle.metis_lines.specs.LifeLines.{loose}
+use Rattle.metis_rounds.specs.Rounds.{IsRounds}
 use Rattle.metis_planner.specs.UnderWay.{IsUnderWay}
 use Rattle.metis_planner.proofs.planner.plan_by_rounds.Given as goal
 
 abbrev pub invariant-loop-dups : goal.invariant-loop-dups
-invariant-loop-dups l = IsUnderWay l.u l.targets l.lines l.dups.items
+invariant-loop-dups l = record {
+  rounds : IsRounds l.u l.s l.rounds;
+  under_way : IsUnderWay l.u l.targets l.rounds.lines l.dups.items;
+}
 
 -- each round more has a line less that goes on from a provider pair
 abbrev pub decreases-loop-dups : goal.decreases-loop-dups
-decreases-loop-dups l = loose l.lines
+decreases-loop-dups l = loose l.rounds.lines

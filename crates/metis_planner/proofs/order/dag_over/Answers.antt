@@ -3,7 +3,7 @@ use Rattle.metis_emit.proofs.OfLines.{lines_formed}
 use Rattle.metis_events.proofs.Numbered.{joined}
 use Rattle.metis_events.specs.Numbered.{IsJoined}
 use Rattle.metis_lines.specs.LifeLines.{plan_of}
-use Rattle.metis_planner.proofs.round.dag_over.Goals as goal
+use Rattle.metis_planner.proofs.order.dag_over.Goals as goal
 
 pub dag-requires : goal.dag-requires
 dag-requires c =

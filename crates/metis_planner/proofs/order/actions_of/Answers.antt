@@ -14,7 +14,7 @@ use Rattle.metis_lines.specs.Events.{IsOrder}
 use Rattle.metis_lines.specs.LifeLines.{plan_of}
 use Rattle.metis_support.proofs.Lists.{has_at}
 use Rattle.metis_planner.specs.Rounds.{ordered_events}
-use Rattle.metis_planner.proofs.round.actions_of.Goals as goal
+use Rattle.metis_planner.proofs.order.actions_of.Goals as goal
 
 pub events_of-requires : goal.events_of-requires
 events_of-requires c =

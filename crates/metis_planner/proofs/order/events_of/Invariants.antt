@@ -1,6 +1,6 @@
 use Rattle.std.proofs.Common.{◌≡◌, map, take}
 use Rattle.metis_events.specs.Edges.{event_at}
-use Rattle.metis_planner.proofs.round.events_of.Given as goal
+use Rattle.metis_planner.proofs.order.events_of.Given as goal
 
 -- the events of the nodes so far
 abbrev pub invariant-loop-node : goal.invariant-loop-node

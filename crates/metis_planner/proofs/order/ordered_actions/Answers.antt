@@ -1,0 +1,15 @@
+use Rattle.std.proofs.Common.{◌≡◌, ◌∙◌, ap, subst}
+use Rattle.metis_ids.specs.Cycle.{HasCycle}
+use Rattle.metis_events.specs.Numbered.{dag_of}
+use Rattle.metis_lines.specs.LifeLines.{plan_of}
+use Rattle.metis_sort.specs.Sorted.{IsSorted}
+use Rattle.metis_sort.specs.declared.sorted.Sorted.{Sorted}
+use Rattle.metis_planner.specs.Rounds.{numbered}
+use Rattle.metis_planner.proofs.order.ordered_actions.Goals as goal
+
+pub unreachable-requires : goal.unreachable-requires
+unreachable-requires c =
+    let w = plan_of c.args.u.now c.args.s.now c.args.lines.now in
+    let graph : c.in_ok-dag.dag ≡ numbered w = c.in_ok-dag.ensures ∙ ap dag_of c.in_ok-graph.ensures in
+    let sorted : IsSorted c.in_ok-dag.dag c.in_ok-nodes.field-0 = c.in_ok-nodes.ensures in
+    c.requires.ended (subst HasCycle graph (subst (λ (x : Sorted). IsSorted c.in_ok-dag.dag x) c.in-Cycle.is sorted).0)
