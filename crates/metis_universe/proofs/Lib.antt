@@ -36,6 +36,7 @@ pub mod SeenNumbers
 pub mod Selected
 pub mod Served
 pub mod Settling
+pub mod Slots
 pub mod Sorted
 pub mod Standing
 pub mod TypeBlock

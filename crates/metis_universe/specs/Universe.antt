@@ -16,6 +16,7 @@
 --     port_names_of_pair u p      the names of the ports of a row of u.pairs, those that it provides and then those that it requires
 --     IsBySight u      the ports are numbered by first sight: they stand in the order in which they are first seen, pair after pair
 --     IsUniverse u      what holds of the numbers of every universe that a document gives
+--     IsGreatestMet u      some pair demands so many providers of a port that it requires as the greatest demand says
 --     IsNamed u, IsWithinLimits u, IsTable u      what holds of its names;  of its counts;  all of these, and that its ports are by sight
 --     IsIndexed u providers requirers, IsIndexedTable u providers requirers      the rows are the providers and the requirers of each port;  that, and all that IsTable says
 use Rattle.std.specs.Prelude.{ℕ, ◌≡◌, ◌≤◌, ◌<◌, ◌==◌, ◌⊎◌, ◌+◌, Bool, true, false, ◌&&◌, Option, List, [], ◌∷◌, ◌++◌, length, map, flat_map, fold, max, take, position, sum, sum_by, IsTrue, if◌then◌else◌}
@@ -172,6 +173,13 @@ pub record IsUniverse (u : Universe) : Type 0 where
   pub required : (p : ℕ) → p < pair_count u → IsStrictlyIncreasing (required_of u p) × All (λ r. r < port_count u) (required_of u p)
   pub demands : (p : ℕ) → p < pair_count u → (length (further_of u p) ≡ length (required_of u p)) × All (λ n. n < 16) (further_of u p)
   pub next : (p : ℕ) → p < pair_count u → IsStrictlyIncreasing (next_of u p) × All (λ q. (q < pair_count u) × (type_of u q ≡ type_of u p)) (next_of u p)
+
+-- The greatest demand is that of some pair, of a port that it requires.
+pub record IsGreatestMet (u : Universe) : Type 0 where
+  pub pair : ℕ
+  pub port : ℕ
+  pub required : IsTrue (requires u pair port)
+  pub met : demand_of u pair port ≡ greatest_demand u
 
 -- Names are names, no two types have one name, nor two states of one type, nor two ports.
 pub record IsNamed (u : Universe) : Type 0 where

@@ -1,5 +1,5 @@
 //! Laws over the definitions.
-ghost use Rattle.std.specs.Prelude.{◌≡◌, ◌↔◌, ◌<◌, ◌≤◌, ◌⊎◌, ℕ, suc, List, Contains, take, Some, None, IsTrue, IsFalse, IsSome};
+ghost use Rattle.std.specs.Prelude.{◌≡◌, ◌↔◌, ◌<◌, ◌≤◌, ◌⊎◌, ℕ, suc, List, Contains, take, Some, None, IsTrue, IsFalse, IsSome, Option};
 ghost use Rattle.std.specs.Bool.{Decides};
 ghost use Rattle.std.specs.List.{list_any};
 ghost use Rattle.metis_ids.specs.declared.actions.Action.{Action};
@@ -10,7 +10,7 @@ ghost use Rattle.metis_universe.specs.Step.{IsRun};
 ghost use Rattle.metis_universe.specs.Steadfast.{pair_after};
 ghost use Rattle.metis_universe.specs.Settled.{IsLast, NoneSettles, IsLower};
 ghost use Rattle.metis_universe.specs.Waits.{standing, IsStanding};
-ghost use Rattle.metis_universe.specs.Universe.{Universe, IsUniverse, demand_of, greatest_demand, pair_count, has, next_of, initial_of, provides, requires};
+ghost use Rattle.metis_universe.specs.Universe.{Universe, IsGreatestMet, IsUniverse, demand_of, greatest_demand, pair_count, has, next_of, initial_of, provides, requires};
 ghost use Rattle.metis_universe.specs.RowShapes.{TypeRow};
 ghost use Rattle.metis_universe.specs.Rows.{first_fault};
 ghost use Rattle.metis_universe.specs.RowFaults.{HasFault, all_faults, first_of};
@@ -18,7 +18,7 @@ ghost use Rattle.metis_universe.specs.declared.faults.RowFault.{RowFault};
 ghost use Rattle.metis_universe.specs.Goal.{Attains};
 ghost use Rattle.metis_universe.specs.Closed.{Closed, Refusal};
 ghost use Rattle.metis_universe.specs.Layers.{layer_of, layer_set, IsLeastRound};
-ghost use Rattle.metis_universe.specs.Selection.{provider_of, origin_of, selected, IsLeastSelection};
+ghost use Rattle.metis_universe.specs.Selection.{provider_of, origin_of, selected, slots, slots_by, IsLeastSelection, IsSlot, IsSlotBy};
 
 /// No list of actions attains what a refusal refuses: each run from the empty configuration stays inside every closed set.
 pub fn refused_is_not_attained()
@@ -102,6 +102,25 @@ pub fn demands_are_limited()
 /// A universe of version 1 demands one provider of each port.
 pub fn version_1_is_single()
     ensures { (u : Universe) → IsUniverse u → u.version ≡ 1 → IsSingle u }
+{}
+
+/// A universe of version 1 has the greatest demand 1.
+pub fn version_1_demands_one()
+    ensures { (u : Universe) → IsUniverse u → u.version ≡ 1 → greatest_demand u ≡ 1 }
+{}
+
+/// The greatest demand is 1, or some pair demands so many providers of a port that it requires. Where any port is required the latter holds.
+pub fn greatest_demand_is_met()
+    ensures one_or_met { (u : Universe) → IsUniverse u → (greatest_demand u ≡ 1) ⊎ IsGreatestMet u }
+    ensures required { (u : Universe) (p r : ℕ) → IsUniverse u → IsTrue (requires u p r) → IsGreatestMet u }
+{}
+
+/// A pair has a slot of a number, from 1 on, exactly where a pair demands so many providers or more of a port that is taken from it,
+/// and none where no port is.
+pub fn slots_are_demanded()
+    ensures by { (provider : ℕ → Option ℕ) (u : Universe) (ps : List ℕ) (p k : ℕ) → ((1 ≤ k) × (k ≤ slots_by provider u ps p)) ↔ IsSlotBy provider u ps p k }
+    ensures selected { (u : Universe) (g : List ℕ) (p k : ℕ) → ((1 ≤ k) × (k ≤ slots u g p)) ↔ IsSlot u g p k }
+    ensures none { (u : Universe) (g : List ℕ) (p : ℕ) → ((q r : ℕ) → IsTrue (has (selected u g) q) → IsTrue (requires u q r) → provider_of u r ≡ Some p → ⊥) → slots u g p ≡ 0 }
 {}
 
 /// So many bindings of a port lead to instances that provide it as it has different providers.
