@@ -38,6 +38,7 @@ pub mod Served
 pub mod Settling
 pub mod Slots
 pub mod Sorted
+pub mod Sought
 pub mod Standing
 pub mod TypeBlock
 pub mod TypeFaults

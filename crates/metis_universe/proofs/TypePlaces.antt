@@ -33,12 +33,12 @@ rises (x ∷ xs) h = (
 
 -- ---- pairs of lower types
 
-none_before : (t : ℕ) (x : Pair) (xs : List Pair) → t ≤ x.kind → AllByRecursion (λ (y : Pair). x.kind ≤ y.kind) xs → filter (is_before t) xs ≡ []
+pub none_before : (t : ℕ) (x : Pair) (xs : List Pair) → t ≤ x.kind → AllByRecursion (λ (y : Pair). x.kind ≤ y.kind) xs → filter (is_before t) xs ≡ []
 none_before t x [] l h = refl
 none_before t x (y ∷ xs) l h =
     ap (λ b. cond b (y ∷ filter (is_before t) xs) (filter (is_before t) xs)) (le-ltb y.kind t (omega (arith, h.0))) ∙ none_before t x xs l h.1
 
-none_of : (t : ℕ) (x : Pair) (xs : List Pair) → t < x.kind → AllByRecursion (λ (y : Pair). x.kind ≤ y.kind) xs → filter (is_of t) xs ≡ []
+pub none_of : (t : ℕ) (x : Pair) (xs : List Pair) → t < x.kind → AllByRecursion (λ (y : Pair). x.kind ≤ y.kind) xs → filter (is_of t) xs ≡ []
 none_of t x [] l h = refl
 none_of t x (y ∷ xs) l h =
     ap (λ b. cond b (y ∷ filter (is_of t) xs) (filter (is_of t) xs)) (ne_eqb y.kind t (λ e. omega (arith, h.0, e))) ∙ none_of t x xs l h.1
@@ -162,7 +162,7 @@ state_named-within u t name p e = position_within _ u.pairs p e
 -- ---- the block of a type
 
 -- no pair is of the type and of a lower one
-together : (t : ℕ) (xs : List Pair) → length (filter (is_before t) xs) + length (filter (is_of t) xs) ≤ length xs
+pub together : (t : ℕ) (xs : List Pair) → length (filter (is_before t) xs) + length (filter (is_of t) xs) ≤ length xs
 together t [] = omega arith
 together t (x ∷ xs) =
     let rest = together t xs in

@@ -61,6 +61,10 @@ no_kind = record { name = []; initial = 0 }
 abbrev pub no_pair : Pair
 no_pair = record { kind = 0; state = []; provided = []; required = []; further = []; next = [] }
 
+-- the type of a pair, by its number among these
+abbrev pub kind_in : List Pair → ℕ → ℕ
+kind_in pairs p = (slice_index_or pairs p no_pair).kind
+
 abbrev pub type_count : Universe → ℕ
 type_count u = length u.kinds
 

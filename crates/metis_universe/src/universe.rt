@@ -1,10 +1,10 @@
 //! A universe: its types, its pairs in document order, and its ports.
-ghost use Rattle.std.specs.Prelude.{◌≡◌, ◌≤◌, ◌<◌, ◌==◌, ◌+◌, ◌&&◌, length, fold, max, nat_lt, position, IsTrue, ◌↔◌, if◌then◌else◌};
+ghost use Rattle.std.specs.Prelude.{◌≡◌, ◌≤◌, ◌<◌, ◌==◌, ◌+◌, ◌&&◌, [], length, fold, max, nat_lt, position, take, drop, IsTrue, ◌↔◌, if◌then◌else◌};
 ghost use Rattle.std.specs.List.{All, filter, list_any, position_or_len, slice_index_or};
 ghost use Rattle.metis_universe.specs.Kinds.{kinds_of};
 ghost use Rattle.std.specs.List.Sorted.{IsStrictlyIncreasing, IsNonDecreasingBy};
 ghost use Rattle.std.specs.Str.{bytes_eq};
-ghost use Rattle.metis_universe.specs.Universe.{has, no_kind, pair_count, type_count, port_count, type_of, state_place_of, initial_of, is_initial, next_of, provided_of, required_of, demand_of, greatest_demand, provides, type_requires, type_provides, providers_of, requirers_of, type_named, port_named, state_named, pair_named, type_name_of, state_name_of, port_name_of, states_of_type, IsTable};
+ghost use Rattle.metis_universe.specs.Universe.{has, kind_in, no_kind, pair_count, type_count, port_count, type_of, state_place_of, initial_of, is_initial, next_of, provided_of, required_of, demand_of, greatest_demand, provides, type_requires, type_provides, providers_of, requirers_of, type_named, port_named, state_named, pair_named, type_name_of, state_name_of, port_name_of, states_of_type, IsTable};
 ghost use Rattle.metis_universe.specs.Numbers.{IsOf};
 ghost use Rattle.metis_universe.specs.Rows.{IsOfVersion, RowsFit, IsMade};
 
@@ -153,6 +153,15 @@ impl Universe {
         StateIx(p.0 - start as u32)
     }
 
+    /// The first pair of the type. Its pairs stand together, so those of its states, as many as `states` says, begin here.
+    pub fn first_of(&self, t: TypeIx) -> PairIx
+        requires { t < type_count self.now }
+        ensures { states_of_type self.now t ≡ take (length (states_of_type self.now t)) (drop result self.now.pairs) }
+    {
+        let _tables = &self.kinds;
+        PairIx(start_of(&self.pairs, t) as u32)
+    }
+
     /// How many states the type has, at most 64.
     pub fn states(&self, t: TypeIx) -> u32
         ensures { result ≡ length (states_of_type self.now t) }
@@ -228,12 +237,22 @@ impl Universe {
         demand_among(&row.required, &row.further, r)
     }
 
+    /// How many different providers the pair needs of the port at this place of those that it requires, at most 16.
+    pub fn demand_at(&self, p: PairIx, place: usize) -> u32
+        requires pair { p < pair_count self.now }
+        requires place { place < length (required_of self.now p) }
+        ensures { result ≡ demand_of self.now p (slice_index_or (required_of self.now p) place 0) }
+    {
+        let row = &self.pairs[p.0 as usize];
+        1 + row.further[place] as u32
+    }
+
     /// Whether the pair provides the port.
     pub fn provides(&self, p: PairIx, r: PortIx) -> bool
         requires { p < pair_count self.now }
         ensures { result ≡ provides self.now p r }
     {
-        self.provided(p).contains(&r)
+        place_among(self.provided(p), r).is_some()
     }
 
     /// All pairs that provide the port, ascending.
@@ -259,7 +278,7 @@ impl Universe {
         ensures { result ≡ type_requires self.now t r }
     {
         let _tables = &self.kinds;
-        some_requires(block_of(&self.pairs, t), r)
+        some_of_type(&self.pairs, pairs_at(&self.requirers, r), t)
     }
 
     /// Whether some pair of the type provides the port.
@@ -267,7 +286,7 @@ impl Universe {
         ensures { result ≡ type_provides self.now t r }
     {
         let _tables = &self.kinds;
-        some_provides(block_of(&self.pairs, t), r)
+        some_of_type(&self.pairs, pairs_at(&self.providers, r), t)
     }
 
     /// Whether the action's type, pairs and port are the universe's.
@@ -368,15 +387,17 @@ fn block_of(pairs: &[PairRow], t: TypeIx) -> &[PairRow]
     &pairs[start..end]
 }
 
-/// The place of the port among these.
+/// The place of the port among these, which ascend.
 fn place_among(ports: &[PortIx], r: PortIx) -> Option<usize>
+    requires { IsStrictlyIncreasing ports.now }
     ensures { result ≡ position (λ s. s == r) ports.now }
 {
-    ports.iter().position(|s| *s == r)
+    ports.binary_search(&r).ok()
 }
 
 /// One, and as many more as the other list has at the port's place; 0 where the port is none of these.
 fn demand_among(ports: &[PortIx], further: &[u64], r: PortIx) -> u32
+    requires ascending { IsStrictlyIncreasing ports.now }
     requires places { length further.now ≡ length ports.now }
     requires few { All (λ n. n < 16) further.now }
     ensures { result ≡ (if has ports.now r then 1 + slice_index_or further.now (position_or_len (λ s. s == r) ports.now) 0 else 0) }
@@ -409,18 +430,36 @@ fn most_further(pairs: &[PairRow]) -> u64
     most
 }
 
-/// Whether one of the pairs requires the port.
-fn some_requires(pairs: &[PairRow], r: PortIx) -> bool
-    ensures { result ≡ list_any (λ p. has p.required r) pairs.now }
+/// The pairs of the port's row, none where there is no such row.
+fn pairs_at(rows: &[PortRow], r: PortIx) -> &[PairIx]
+    ensures { result.now ≡ slice_index_or rows.now r [] }
 {
-    pairs.iter().any(|pair| pair.required.contains(&r))
+    match rows.get(r.0 as usize) {
+        Some(row) => row.pairs.as_slice(),
+        None => &[],
+    }
 }
 
-/// Whether one of the pairs provides the port.
-fn some_provides(pairs: &[PairRow], r: PortIx) -> bool
-    ensures { result ≡ list_any (λ p. has p.provided r) pairs.now }
+/// The type of the pair.
+fn kind_in(pairs: &[PairRow], p: PairIx) -> TypeIx
+    ensures { result ≡ kind_in pairs.now p }
 {
-    pairs.iter().any(|pair| pair.provided.contains(&r))
+    match pairs.get(p.0 as usize) {
+        Some(pair) => pair.kind,
+        None => TypeIx(0),
+    }
+}
+
+/// Whether one of these pairs is of the type, where their types do not fall.
+fn some_of_type(pairs: &[PairRow], among: &[PairIx], t: TypeIx) -> bool
+    requires { IsNonDecreasingBy (kind_in pairs.now) among.now }
+    ensures { result ≡ list_any (λ p. kind_in pairs.now p == t) among.now }
+{
+    let place = among.partition_point(|p| kind_in(pairs, *p) < t);
+    match among.get(place) {
+        Some(p) => kind_in(pairs, *p) == t,
+        None => false,
+    }
 }
 
 /// The place of the first of the pairs with this state.
