@@ -1,5 +1,5 @@
 -- How many providers of a port are in which pairs, after each edit of a configuration.
-use Rattle.std.proofs.Common.{◌≡◌, ℕ, ◌+◌, ◌<◌, Bool, true, false, cond, not, ◌&&◌, ◌||◌, List, [], ◌∷◌, Option, Some, None, refl, ap, sym, ◌∙◌, subst, nat_eq, arith}
+use Rattle.std.proofs.Common.{◌≡◌, ℕ, suc, ◌+◌, ◌<◌, Bool, true, false, cond, not, ◌&&◌, ◌||◌, leb, ltb, List, [], ◌∷◌, Option, Some, None, refl, ap, sym, ◌∙◌, subst, nat_eq, inl, inr, arith}
 use Rattle.std.specs.Prelude.{◌==◌, IsSome}
 use Rattle.std.specs.BTreeSet.{insert_key}
 use Rattle.std.specs.List.{AllByRecursion, count_by, filter, list_any}
@@ -7,15 +7,15 @@ use Rattle.std.specs.List.Sorted.{IsStrictlySortedBy}
 use Rattle.std.specs.Option.{option_map_or}
 use Rattle.std.specs.Ordering.{match_ordering}
 use Rattle.std.specs.declared.cmp.Ordering.TheVariants.{Less, Equal, Greater}
-use Rattle.std.proofs.lemmas.Bool.{both_ways, eq-eqb, false≢true, ne_eqb}
+use Rattle.std.proofs.lemmas.Bool.{both_ways, cases_lt, eq-eqb, false≢true, false_from_ne_true, le-leb, le-ltb, lt-leb, lt-ltb, ne_eqb}
 use Rattle.std.proofs.lemmas.Bool.Decides.{nat_tests}
 use Rattle.std.proofs.lemmas.List.Sums.{length-filter, sum_by-cons}
-use Rattle.metis_universe.specs.Universe.{Universe, provides}
-use Rattle.metis_universe.specs.Config.{Binding, Config, IsConfig, binding_cmp, config_of, is_bound, is_tie, pair_of, put, tie, untie}
-use Rattle.metis_universe.proofs.Demands.{gives}
+use Rattle.metis_universe.specs.Universe.{Universe, demand_of, provides, requires}
+use Rattle.metis_universe.specs.Config.{Binding, Config, IsConfig, binding_cmp, config_of, is_bound, is_met, is_tie, pair_of, put, tie, untie}
+use Rattle.metis_universe.proofs.Demands.{demand_none, demand_one, gives}
 use Rattle.metis_universe.proofs.Edits.{binding_cmp-exact, pair_of-put, pair_of-remove, tie_is}
 use Rattle.metis_config.specs.Crowd.{providers_in}
-use Rattle.metis_config.specs.Unmet.{pair_if, providers_if}
+use Rattle.metis_config.specs.Unmet.{demanded, is_met_if, is_required, pair_if, providers_if}
 use Rattle.metis_config.proofs.GivenUp.{each_in, is_in}
 use Rattle.metis_config.proofs.Indexed.{neither, none_tied, own_tie}
 use Rattle.metis_config.proofs.Tallies.{split}
@@ -215,3 +215,54 @@ providers-without u c k z w r = let all = providers-changed u c k z None w r in 
 pub providers-beside : (u : Universe) (c : Config) → IsConfig c → (z : ℕ) (o : Option ℕ) (w r : ℕ) →
     providers_if u c z o w r ≡ providers_if u c z None w r + cond (is_bound c r w z && gives u r o) 1 0
 providers-beside u c k z o w r = omega (arith, providers-changed u c k z o w r, providers-without u c k z w r)
+
+-- ---- what is met, by how many providers a port has
+
+-- a port is required where some provider of it is demanded
+pub required_demanded : (u : Universe) (c : Config) (w r : ℕ) → is_required u c w r ≡ ltb 0 (demanded u c w r)
+required_demanded u c w r = of (pair_of c w) where
+  of : (o : Option ℕ) → option_map_or (λ p. requires u p r) o false ≡ ltb 0 (option_map_or (λ p. demand_of u p r) o 0)
+  of None = sym (le-ltb 0 0 (omega arith))
+  of (Some p) = elim (requires u p r) as (λ v. requires u p r ≡ v → v ≡ ltb 0 (demand_of u p r)) [
+    | true ↦ λ needs. sym (lt-ltb 0 (demand_of u p r) (omega (arith, demand_one u p r needs)))
+    | false ↦ λ none. sym (le-ltb 0 (demand_of u p r) (omega (arith, demand_none u p r none)))
+  ] refl
+
+-- no instance is bound to itself, so what its own ports have stays where it changes
+pub own_met : (u : Universe) (c : Config) → IsConfig c → (z : ℕ) (o : Option ℕ) (r n : ℕ) → is_met u c z r n ≡ is_met_if u c z o z r n
+own_met u c k z o r n =
+    let none : is_bound c r z z ≡ false = false_from_ne_true _ (λ bound. k.apart r z z bound refl) in
+    let out : (v : Option ℕ) → ◌≡◌ {A = ℕ} (cond (is_bound c r z z && gives u r v) 1 0) 0 = λ v. ap (λ b. cond (b && gives u r v) 1 0) none in
+    let all = providers-changed u c k z o z r in
+    let now = out (pair_of c z) in
+    let then = out o in
+    let same : providers_in c z r (λ q. provides u q r) ≡ providers_if u c z o z r = omega (arith, all, now, then) in
+    ap (leb n) (length-filter (provider_test c z r (λ q. provides u q r)) c.bindings ∙ same)
+
+-- a client of an instance that gives its port now and would no longer lacks it where it has no more providers than it demands
+pub one_fewer : (u : Universe) (c : Config) → IsConfig c → (z : ℕ) (o : Option ℕ) (w r n : ℕ) → is_bound c r w z ≡ true → gives u r (pair_of c z) ≡ true → gives u r o ≡ false →
+    not (is_met_if u c z o w r n) ≡ leb (providers_in c w r (λ q. provides u q r)) n
+one_fewer u c k z o w r n bound given lost =
+    let all = providers-changed u c k z o w r in
+    let now : ◌≡◌ {A = ℕ} (cond (is_bound c r w z && gives u r (pair_of c z)) 1 0) 1 = λ i. cond (bound i && given i) 1 0 in
+    let then : ◌≡◌ {A = ℕ} (cond (is_bound c r w z && gives u r o) 1 0) 0 = λ i. cond (bound i && lost i) 1 0 in
+    let fewer : providers_in c w r (λ q. provides u q r) ≡ suc (providers_if u c z o w r) = omega (arith, all, now, then) in
+    elim (cases_lt (providers_if u c z o w r) n) [
+      | inl less ↦ ap not (lt-leb n (providers_if u c z o w r) less) ∙ sym (ap (λ m. leb m n) fewer ∙ le-leb (suc (providers_if u c z o w r)) n (omega arith))
+      | inr more ↦ ap not (le-leb n (providers_if u c z o w r) more) ∙ sym (ap (λ m. leb m n) fewer ∙ lt-leb (suc (providers_if u c z o w r)) n (omega arith))
+    ]
+
+-- and one whose binding goes, where it has as few besides
+pub without_tie : (u : Universe) (c : Config) → IsConfig c → (y w r n : ℕ) → gives u r (pair_of c y) ≡ true →
+    not (is_met_if u c y None w r n) ≡ ltb (providers_in c w r (λ q. provides u q r)) (n + cond (is_bound c r w y) 1 0)
+without_tie u c k y w r n given =
+    let all = providers-without u c k y w r in
+    let now : ◌≡◌ {A = ℕ} (cond (is_bound c r w y && gives u r (pair_of c y)) 1 0) (cond (is_bound c r w y) 1 0) = by (is_bound c r w y) in
+    let fewer : providers_in c w r (λ q. provides u q r) ≡ providers_if u c y None w r + cond (is_bound c r w y) 1 0 = omega (arith, all, now) in
+    elim (cases_lt (providers_if u c y None w r) n) [
+      | inl less ↦ ap not (lt-leb n (providers_if u c y None w r) less) ∙ sym (lt-ltb _ _ (omega (arith, fewer)))
+      | inr more ↦ ap not (le-leb n (providers_if u c y None w r) more) ∙ sym (le-ltb _ _ (omega (arith, fewer)))
+    ] where
+      by : (b : Bool) → ◌≡◌ {A = ℕ} (cond (b && gives u r (pair_of c y)) 1 0) (cond b 1 0)
+      by true = ap (λ v. cond v 1 0) given
+      by false = refl

@@ -11,7 +11,7 @@ ghost use Rattle.metis_config.specs.Unmet.{unmet, is_unmet, IsLeast, changed};
 use crate::crowds::Crowds;
 use crate::ends::Ends;
 use crate::lists::{Instances, Ties};
-use crate::met::earlier_of;
+use crate::met::{Change, earlier_of};
 use metis_ids::{Goal, InstNo, NoMemory, PairIx, PortIx};
 use metis_universe::Universe;
 use std::alloc::Global;
@@ -176,8 +176,13 @@ impl Config {
     {
         u.keeps_invariant();
         self.keeps_invariant();
-        let own = self.unmet_own(u, z, &to);
-        let lost = self.first_lost(u, &self.ends.by_provider, z, &to);
+        let change = Change {
+            inst: z,
+            from: self.pair_of(z),
+            to,
+        };
+        let own = self.unmet_own(u, &change);
+        let lost = self.first_lost(u, &self.ends.by_provider, &change);
         earlier_of(z, own, lost)
     }
 

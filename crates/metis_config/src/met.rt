@@ -8,12 +8,20 @@ ghost use Rattle.metis_universe.specs.Config.{Correct, IsConfig, is_bound, is_me
 ghost use Rattle.metis_config.specs.Over.{IsOver};
 ghost use Rattle.metis_config.specs.Clients.{IsIndexed};
 ghost use Rattle.metis_config.specs.Crowd.{providers_in};
-ghost use Rattle.metis_config.specs.Unmet.{demanded, is_met_if, providers_if, is_required, is_lost, IsLeast, unmet_port, unmet, own_unmet, earlier_of};
+ghost use Rattle.metis_config.specs.Unmet.{demanded, is_met_if, is_required, is_lost, IsLeast, unmet_port, unmet, own_unmet, earlier_of};
 
 use crate::config::Config;
 use metis_ids::{InstNo, PairIx, PortIx};
 use metis_universe::Universe;
 use std::collections::{BTreeMap, BTreeSet};
+
+/// An instance with its pair, if it is there, and the pair that it is taken to be in, or gone.
+#[derive(Drop)]
+pub(crate) struct Change {
+    pub(crate) inst: InstNo,
+    pub(crate) from: Option<PairIx>,
+    pub(crate) to: Option<PairIx>,
+}
 
 /// Whether the pair provides the port, if there is one.
 fn gives(u: &Universe, pair: Option<PairIx>, r: PortIx) -> bool
@@ -26,35 +34,24 @@ fn gives(u: &Universe, pair: Option<PairIx>, r: PortIx) -> bool
     }
 }
 
+/// How many providers of the port the pair demands, if there is one, and 0 where there is none.
+fn demanded_by(u: &Universe, pair: Option<PairIx>, r: PortIx) -> u32
+    requires { (q : ℕ) → pair ≡ Some q → q < pair_count u.now }
+    ensures { result ≡ option_map_or (λ q. demand_of u.now q r) pair 0 }
+{
+    match pair {
+        Some(q) => u.demand(q, r),
+        None => 0,
+    }
+}
+
 impl Config {
-    /// Whether the pair of the instance provides the port, if it is there.
-    fn provides(&self, u: &Universe, z: InstNo, r: PortIx) -> bool
-        requires { IsOver u.now self.now }
-        ensures { result ≡ option_map_or (λ q. provides u.now q r) (pair_of self.now z) false }
-    {
-        gives(u, self.pair_of(z), r)
-    }
-
-    /// Whether the pair of the instance requires the port, if it is there.
-    fn is_required(&self, u: &Universe, z: InstNo, r: PortIx) -> bool
-        requires { IsOver u.now self.now }
-        ensures { result ≡ is_required u.now self.now z r }
-    {
-        match self.pair_of(z) {
-            Some(p) => u.requires_(p).contains(&r),
-            None => false,
-        }
-    }
-
     // How many providers of the port the pair of the instance demands, and 0 where it is not there.
     fn demanded(&self, u: &Universe, z: InstNo, r: PortIx) -> u32
         requires { IsOver u.now self.now }
         ensures { result ≡ demanded u.now self.now z r }
     {
-        match self.pair_of(z) {
-            Some(p) => u.demand(p, r),
-            None => 0,
-        }
+        demanded_by(u, self.pair_of(z), r)
     }
 
     // How many providers of the requirer's port give it.
@@ -71,87 +68,22 @@ impl Config {
         n as usize <= self.giving(u, w, r)
     }
 
-    // Whether the requirer's port is bound to the instance, and this pair gives it.
-    fn serves(&self, u: &Universe, z: InstNo, pair: Option<PairIx>, w: InstNo, r: PortIx) -> bool
-        requires { (q : ℕ) → pair ≡ Some q → q < pair_count u.now }
-        ensures { result ≡ (is_bound self.now r w z && option_map_or (λ q. provides u.now q r) pair false) }
-    {
-        self.bound(r, w, z) && gives(u, pair, r)
-    }
-
-    // 1 where the instance is bound to the requirer's port and gives it, else 0.
-    fn own_count(&self, u: &Universe, z: InstNo, w: InstNo, r: PortIx) -> usize
-        requires { IsOver u.now self.now }
-        ensures { result ≡ (if is_bound self.now r w z && option_map_or (λ q. provides u.now q r) (pair_of self.now z) false then 1 else 0) }
-    {
-        if self.serves(u, z, self.pair_of(z), w, r) {
-            1
-        } else {
-            0
-        }
-    }
-
-    // How many providers of the requirer's port, other than the instance, give it.
-    fn others_giving(&self, u: &Universe, z: InstNo, w: InstNo, r: PortIx) -> usize
-        requires { IsOver u.now self.now }
-        ensures { result ≡ providers_if u.now self.now z None w r }
-    {
-        self.keeps_invariant();
-        self.giving(u, w, r) - self.own_count(u, z, w, r)
-    }
-
-    /// Whether the port r of w has n providers or more, where z is taken to be in another pair, or gone: others of those that
-    /// give it now, and z itself where it would.
-    fn is_met_if(
-        &self,
-        u: &Universe,
-        z: InstNo,
-        to: &Option<PairIx>,
-        w: InstNo,
-        r: PortIx,
-        n: u32,
-    ) -> bool
-        requires over { IsOver u.now self.now }
-        requires to { (q : ℕ) → to.now ≡ Some q → q < pair_count u.now }
-        ensures { result ≡ is_met_if u.now self.now z to.now w r n }
-    {
-        self.keeps_invariant();
-        let others = self.others_giving(u, z, w, r);
-        if self.serves(u, z, *to, w, r) {
-            n.saturating_sub(1) as usize <= others
-        } else {
-            n as usize <= others
-        }
-    }
-
-    // Whether the port r of w is required and would not be met, where z is taken to be in another pair, or gone.
-    fn lacks(&self, u: &Universe, z: InstNo, to: &Option<PairIx>, w: InstNo, r: PortIx) -> bool
-        requires over { IsOver u.now self.now }
-        requires to { (q : ℕ) → to.now ≡ Some q → q < pair_count u.now }
-        ensures { result ≡ (is_required u.now self.now w r && not (is_met_if u.now self.now z to.now w r (demanded u.now self.now w r))) }
-    {
-        self.is_required(u, w, r) && !self.is_met_if(u, z, to, w, r, self.demanded(u, w, r))
-    }
-
-    // Whether z's pair provides the port, and the other pair would not.
-    fn gives_up(&self, u: &Universe, z: InstNo, to: &Option<PairIx>, r: PortIx) -> bool
-        requires over { IsOver u.now self.now }
-        requires to { (q : ℕ) → to.now ≡ Some q → q < pair_count u.now }
-        ensures { result ≡ (option_map_or (λ q. provides u.now q r) (pair_of self.now z) false && not (option_map_or (λ q. provides u.now q r) to.now false)) }
-    {
-        self.provides(u, z, r) && !gives(u, *to, r)
-    }
-
-    // The same of a requirer that is bound to z, where all ports are met now. So it looks further only where z gives the port now
-    // and would no longer.
-    fn loses(&self, u: &Universe, z: InstNo, to: &Option<PairIx>, w: InstNo, r: PortIx) -> bool
+    // Whether the port r of w, which is bound to the instance that changes, is required and would not be met. All ports are met
+    // now, so it looks further only where the instance gives the port now and would no longer.
+    fn loses(&self, u: &Universe, change: &Change, w: InstNo, r: PortIx) -> bool
         requires over { IsOver u.now self.now }
         requires correct { Correct u.now self.now }
-        requires to { (q : ℕ) → to.now ≡ Some q → q < pair_count u.now }
-        requires bound { IsTrue (is_bound self.now r w z) }
-        ensures { result ≡ (is_required u.now self.now w r && not (is_met_if u.now self.now z to.now w r (demanded u.now self.now w r))) }
+        requires from { change.now.from ≡ pair_of self.now change.now.inst }
+        requires to { (q : ℕ) → change.now.to ≡ Some q → q < pair_count u.now }
+        requires bound { IsTrue (is_bound self.now r w change.now.inst) }
+        ensures { result ≡ (is_required u.now self.now w r && not (is_met_if u.now self.now change.now.inst change.now.to w r (demanded u.now self.now w r))) }
     {
-        self.gives_up(u, z, to, r) && self.lacks(u, z, to, w, r)
+        self.keeps_invariant();
+        if !gives(u, change.from, r) || gives(u, change.to, r) {
+            return false;
+        }
+        let wanted = self.demanded(u, w, r) as usize;
+        0 < wanted && self.giving(u, w, r) <= wanted
     }
 
     /// Whether the requirer's port would not be met without the binding, where all ports are met now. It looks further only
@@ -161,29 +93,40 @@ impl Config {
         requires correct { Correct u.now self.now }
         ensures { result ≡ (is_required u.now self.now z r && not (is_met_if u.now self.now y None z r (demanded u.now self.now z r))) }
     {
-        self.provides(u, y, r) && self.lacks(u, y, &None, z, r)
+        self.keeps_invariant();
+        if !gives(u, self.pair_of(y), r) {
+            return false;
+        }
+        let wanted = self.demanded(u, z, r) as usize;
+        0 < wanted && self.giving(u, z, r) < wanted + self.tied(r, z, y)
     }
 
-    /// The least of those bound to z that would not be met, where z is taken to be in another pair, or gone. The bindings are
-    /// given by their providers.
+    // 1 where the binding is there, else 0.
+    fn tied(&self, r: PortIx, z: InstNo, y: InstNo) -> usize
+        ensures { result ≡ (if is_bound self.now r z y then 1 else 0) }
+    {
+        usize::from(self.bound(r, z, y))
+    }
+
+    /// The least of those bound to the instance that would not be met. The bindings are given by their providers.
     pub(crate) fn first_lost(
         &self,
         u: &Universe,
         clients: &BTreeSet<(InstNo, InstNo, PortIx)>,
-        z: InstNo,
-        to: &Option<PairIx>,
+        change: &Change,
     ) -> Option<(InstNo, PortIx)>
         requires over { IsOver u.now self.now }
-        requires to { (q : ℕ) → to.now ≡ Some q → q < pair_count u.now }
+        requires from { change.now.from ≡ pair_of self.now change.now.inst }
+        requires to { (q : ℕ) → change.now.to ≡ Some q → q < pair_count u.now }
         requires correct { Correct u.now self.now }
         requires indexed { IsIndexed self.now clients.now.keys }
-        ensures { IsLeast (is_lost u.now self.now z to.now) result }
+        ensures { IsLeast (is_lost u.now self.now change.now.inst change.now.to) result }
     {
-        for client in clients.range((z, InstNo(0), PortIx(0))..) {
-            if client.0 != z {
+        for client in clients.range((change.inst, InstNo(0), PortIx(0))..) {
+            if client.0 != change.inst {
                 return None;
             }
-            if self.loses(u, z, to, client.1, client.2) {
+            if self.loses(u, change, client.1, client.2) {
                 return Some((client.1, client.2));
             }
         }
@@ -195,8 +138,8 @@ impl Config {
         requires { p < pair_count u.now }
         ensures { result ≡ unmet_port u.now self.now z p }
     {
-        for r in u.requires_(p) {
-            if !self.is_met(u, z, *r, u.demand(p, *r)) {
+        for (place, r) in u.requires_(p).iter().enumerate() {
+            if !self.is_met(u, z, *r, u.demand_at(p, place)) {
                 return Some(*r);
             }
         }
@@ -221,29 +164,32 @@ impl Config {
         None
     }
 
-    /// The first port of z's own that would not be met, where all ports are met now. So it looks only at those of which the
-    /// other pair demands more providers.
-    pub(crate) fn unmet_own(&self, u: &Universe, z: InstNo, to: &Option<PairIx>) -> Option<PortIx>
+    /// The first of the instance's own ports that would not be met, where all ports are met now. So it looks only at those of
+    /// which the other pair demands more providers.
+    pub(crate) fn unmet_own(&self, u: &Universe, change: &Change) -> Option<PortIx>
         requires over { IsOver u.now self.now }
         requires correct { Correct u.now self.now }
         requires config { IsConfig self.now }
-        requires to { (q : ℕ) → to.now ≡ Some q → q < pair_count u.now }
-        ensures { result ≡ own_unmet u.now self.now z to.now }
+        requires from { change.now.from ≡ pair_of self.now change.now.inst }
+        requires to { (q : ℕ) → change.now.to ≡ Some q → q < pair_count u.now }
+        ensures { result ≡ own_unmet u.now self.now change.now.inst change.now.to }
     {
-        let q = (*to)?;
-        self.new_unmet(u, z, to, q)
+        let q = change.to?;
+        self.new_unmet(u, change, q)
     }
 
-    // The first port of z of which the pair q demands more providers than z's pair does now, and that would have fewer.
-    fn new_unmet(&self, u: &Universe, z: InstNo, to: &Option<PairIx>, q: PairIx) -> Option<PortIx>
+    // The first port of the instance of which the pair q demands more providers than its own pair does now, and that has fewer. No
+    // instance is bound to itself, so they are the same where it changes.
+    fn new_unmet(&self, u: &Universe, change: &Change, q: PairIx) -> Option<PortIx>
         requires over { IsOver u.now self.now }
-        requires to { (q : ℕ) → to.now ≡ Some q → q < pair_count u.now }
+        requires from { change.now.from ≡ pair_of self.now change.now.inst }
         requires pair { q < pair_count u.now }
-        ensures { result ≡ find (λ r. nat_lt (demanded u.now self.now z r) (demand_of u.now q r) && not (is_met_if u.now self.now z to.now z r (demand_of u.now q r))) (required_of u.now q) }
+        ensures { result ≡ find (λ r. nat_lt (demanded u.now self.now change.now.inst r) (demand_of u.now q r) && not (is_met u.now self.now change.now.inst r (demand_of u.now q r))) (required_of u.now q) }
     {
-        for r in u.requires_(q) {
-            let wanted = u.demand(q, *r);
-            if self.demanded(u, z, *r) < wanted && !self.is_met_if(u, z, to, z, *r, wanted) {
+        for (place, r) in u.requires_(q).iter().enumerate() {
+            let wanted = u.demand_at(q, place);
+            let demanded = demanded_by(u, change.from, *r);
+            if demanded < wanted && !self.is_met(u, change.inst, *r, wanted) {
                 return Some(*r);
             }
         }

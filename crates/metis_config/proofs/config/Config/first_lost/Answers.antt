@@ -12,11 +12,11 @@ use Rattle.metis_config.proofs.config.Config.first_lost.Goals as goal
 
 pub loop-client-init : goal.loop-client-init
 loop-client-init c =
-    let start : Binding = (c.args.z, 0, 0) in
-    let passes = lost_client c.args.u.now c.args.self.now c.args.z c.args.to.now in
+    let start : Binding = (c.args.change.now.inst, 0, 0) in
+    let passes = lost_client c.args.u.now c.args.self.now c.args.change.now.inst c.args.change.now.to in
     let is : c.into_iter-client-iterator.result ≡ filter (is_from start) c.args.clients.now.keys = c.into_iter-client-iterator.ensures.into_iter_gives ∙ c.range-client-items.ensures.between tt in
     record {
-      left = ap (find passes) is ∙ find-from start passes (λ b h. has_head-from c.args.z b (and_parts _ _ h).0) c.args.clients.now.keys;
+      left = ap (find passes) is ∙ find-from start passes (λ b h. has_head-from c.args.change.now.inst b (and_parts _ _ h).0) c.args.clients.now.keys;
       rest = subst (IsRest start) (sym is) (IsRest-filter start c.args.clients.now.keys c.range-client-items.ensures.ordered);
       there = subst (AllByRecursion (is_in c.args.clients.now.keys)) (sym is) (each_from_in start c.args.clients.now.keys c.args.clients.now.keys (each_in c.args.clients.now.keys));
     }
@@ -25,38 +25,38 @@ loop-client-init c =
 pub loses-requires-clause-bound : goal.loses-requires-clause-bound
 loses-requires-clause-bound c =
     let e = rest_more deref _ _ _ _ c.in-Some.is c.next.ensures.steps in
-    let own = eqb-true c.in-Some.client.now.0 c.args.z (not-false _ (sym c.ne.ensures ∙ c.if-ne.false)) in
+    let own = eqb-true c.in-Some.client.now.0 c.args.change.now.inst (not-false _ (sym c.ne.ensures ∙ c.if-ne.false)) in
     let there = subst (AllByRecursion (is_in c.args.clients.now.keys)) e c.loop-client.invariant.there in
-    sym (c.requires.indexed.same c.in-Some.client.now.2 c.in-Some.client.now.1 c.args.z) ∙ ap (λ y. has_client c.args.clients.now.keys y c.in-Some.client.now.1 c.in-Some.client.now.2) (sym own) ∙ there.0
+    sym (c.requires.indexed.same c.in-Some.client.now.2 c.in-Some.client.now.1 c.args.change.now.inst) ∙ ap (λ y. has_client c.args.clients.now.keys y c.in-Some.client.now.1 c.in-Some.client.now.2) (sym own) ∙ there.0
 
 pub returns-then-ne : goal.returns-then-ne
 returns-then-ne c =
-    let start : Binding = (c.args.z, 0, 0) in
-    let passes = lost_client c.args.u.now c.args.self.now c.args.z c.args.to.now in
+    let start : Binding = (c.args.change.now.inst, 0, 0) in
+    let passes = lost_client c.args.u.now c.args.self.now c.args.change.now.inst c.args.change.now.to in
     let e = rest_more deref _ _ _ _ c.in-Some.is c.next.ensures.steps in
     let other = not-true _ (sym c.ne.ensures ∙ c.if-ne.true) in
-    let none = no_head_after c.args.z c.in-Some.client.now c.next.new.self (subst (IsRest start) e c.loop-client.invariant.rest) other in
-    lost_least c.args.u.now c.args.self.now c.args.clients.now.keys c.args.z c.args.to.now c.requires.indexed None
+    let none = no_head_after c.args.change.now.inst c.in-Some.client.now c.next.new.self (subst (IsRest start) e c.loop-client.invariant.rest) other in
+    lost_least c.args.u.now c.args.self.now c.args.clients.now.keys c.args.change.now.inst c.args.change.now.to c.requires.indexed None
     (sym c.loop-client.invariant.left ∙ ap (find passes) e
     ∙ find_none passes (c.in-Some.client.now ∷ c.next.new.self)
-    (each_weaker (λ b. nat_eq b.0 c.args.z) passes (λ b n. ap (λ v. v && lacking c.args.u.now c.args.self.now c.args.z c.args.to.now b) n) (c.in-Some.client.now ∷ c.next.new.self) none))
+    (each_weaker (λ b. nat_eq b.0 c.args.change.now.inst) passes (λ b n. ap (λ v. v && lacking c.args.u.now c.args.self.now c.args.change.now.inst c.args.change.now.to b) n) (c.in-Some.client.now ∷ c.next.new.self) none))
 
 pub returns-then-loses : goal.returns-then-loses
 returns-then-loses c =
-    let passes = lost_client c.args.u.now c.args.self.now c.args.z c.args.to.now in
+    let passes = lost_client c.args.u.now c.args.self.now c.args.change.now.inst c.args.change.now.to in
     let e = rest_more deref _ _ _ _ c.in-Some.is c.next.ensures.steps in
     let own = not-false _ (sym c.ne.ensures ∙ c.if-ne.false) in
-    let here : passes c.in-Some.client.now ≡ true = ap (λ v. v && lacking c.args.u.now c.args.self.now c.args.z c.args.to.now c.in-Some.client.now) own ∙ sym {b = lacking c.args.u.now c.args.self.now c.args.z c.args.to.now c.in-Some.client.now} c.loses.ensures ∙ c.if-loses.true in
-    lost_least c.args.u.now c.args.self.now c.args.clients.now.keys c.args.z c.args.to.now c.requires.indexed (Some c.in-Some.client.now)
+    let here : passes c.in-Some.client.now ≡ true = ap (λ v. v && lacking c.args.u.now c.args.self.now c.args.change.now.inst c.args.change.now.to c.in-Some.client.now) own ∙ sym {b = lacking c.args.u.now c.args.self.now c.args.change.now.inst c.args.change.now.to c.in-Some.client.now} c.loses.ensures ∙ c.if-loses.true in
+    lost_least c.args.u.now c.args.self.now c.args.clients.now.keys c.args.change.now.inst c.args.change.now.to c.requires.indexed (Some c.in-Some.client.now)
     (sym c.loop-client.invariant.left ∙ ap (find passes) e ∙ ap (λ v. cond v (Some c.in-Some.client.now) (find passes c.next.new.self)) here)
 
 pub loop-client-preserved : goal.loop-client-preserved
 loop-client-preserved c =
-    let start : Binding = (c.args.z, 0, 0) in
-    let passes = lost_client c.args.u.now c.args.self.now c.args.z c.args.to.now in
+    let start : Binding = (c.args.change.now.inst, 0, 0) in
+    let passes = lost_client c.args.u.now c.args.self.now c.args.change.now.inst c.args.change.now.to in
     let e = rest_more deref _ _ _ _ c.in-Some.is c.next.ensures.steps in
     let own = not-false _ (sym c.ne.ensures ∙ c.if-ne.false) in
-    let fails : passes c.in-Some.client.now ≡ false = ap (λ v. v && lacking c.args.u.now c.args.self.now c.args.z c.args.to.now c.in-Some.client.now) own ∙ sym {b = lacking c.args.u.now c.args.self.now c.args.z c.args.to.now c.in-Some.client.now} c.loses.ensures ∙ c.if-loses.false in
+    let fails : passes c.in-Some.client.now ≡ false = ap (λ v. v && lacking c.args.u.now c.args.self.now c.args.change.now.inst c.args.change.now.to c.in-Some.client.now) own ∙ sym {b = lacking c.args.u.now c.args.self.now c.args.change.now.inst c.args.change.now.to c.in-Some.client.now} c.loses.ensures ∙ c.if-loses.false in
     record {
       left = sym (ap (λ v. cond v (Some c.in-Some.client.now) (find passes c.next.new.self)) fails) ∙ sym (ap (find passes) e) ∙ c.loop-client.invariant.left;
       rest = IsRest-tail start c.in-Some.client.now c.next.new.self (subst (IsRest start) e c.loop-client.invariant.rest);
@@ -65,6 +65,6 @@ loop-client-preserved c =
 
 pub returns : goal.returns
 returns c =
-    let passes = lost_client c.args.u.now c.args.self.now c.args.z c.args.to.now in
-    lost_least c.args.u.now c.args.self.now c.args.clients.now.keys c.args.z c.args.to.now c.requires.indexed None
+    let passes = lost_client c.args.u.now c.args.self.now c.args.change.now.inst c.args.change.now.to in
+    lost_least c.args.u.now c.args.self.now c.args.clients.now.keys c.args.change.now.inst c.args.change.now.to c.requires.indexed None
     (sym c.loop-client.invariant.left ∙ ap (find passes) (rest_all deref _ _ _ c.in-None.is c.next.ensures.steps))

@@ -5,7 +5,7 @@ use Rattle.metis_universe.specs.Universe.{demand_of, required_of}
 use Rattle.metis_config.specs.Unmet.{unmet_port}
 use Rattle.metis_config.proofs.config.Config.unmet_of.Given as goal
 
-abbrev pub invariant-loop-r : goal.invariant-loop-r
-invariant-loop-r l =
-    find (λ r. not (is_met l.u l.self l.z r (demand_of l.u l.p r))) (drop l.r-index (required_of l.u l.p))
+abbrev pub invariant-loop-place : goal.invariant-loop-place
+invariant-loop-place l =
+    find (λ r. not (is_met l.u l.self l.z r (demand_of l.u l.p r))) (drop l.place (required_of l.u l.p))
     ≡ unmet_port l.u l.self l.z l.p
