@@ -1,3 +1,5 @@
+pub mod Adding
+pub mod Blocks
 pub mod Clear
 pub mod Demanded
 pub mod Examples

@@ -1,3 +1,4 @@
 pub mod Canonical
 pub mod Document
 pub mod Reads
+pub mod Spelling

@@ -5,7 +5,7 @@ mod faults;
 mod forms;
 mod laws;
 mod read;
-mod value;
+mod spelling;
 mod write;
 
 pub use faults::UFault;

@@ -1,13 +1,13 @@
 //! Writes the document of a universe.
-ghost use Rattle.std.specs.Prelude.{◌≡◌, [], ◌∷◌, IfOk, string_bytes};
+ghost use Rattle.std.specs.Prelude.{[], ◌∷◌};
 ghost use Rattle.metis_outside.specs.Faults.{CountsFault};
 ghost use Rattle.metis_outside.specs.Writes.{Writes};
 ghost use Rattle.metis_ujson.specs.Canonical.{canonical};
 
-use crate::value::document_of;
+use crate::spelling::text_of;
 use metis_outside::{Sink, Trouble};
 use metis_universe::Universe;
-use std::alloc::{AllocError, Global};
+use std::alloc::Global;
 
 /// Puts the document of the universe, which is one line, by one put.
 #[tactic(auto, using(metis_outside::proofs::Writing::writes_by_put, metis_outside::proofs::Writing::front_of_nothing))]
@@ -16,13 +16,5 @@ pub fn write_universe<K: Sink>(alloc: Global, u: &Universe, out: &mut K) -> Resu
     ensures cause { CountsFault (K.faults out.old) (K.faults out.new) result }
 {
     let text = text_of(alloc, u)?;
-    out.put(text.as_bytes())
-}
-
-fn text_of(alloc: Global, u: &Universe) -> Result<String, AllocError>
-    ensures { IfOk result (λ text. string_bytes text ≡ canonical u.now) }
-{
-    let mut text = document_of(alloc, u)?.to_string(alloc)?;
-    text.push('\n')?;
-    Ok(text)
+    out.put(&text)
 }

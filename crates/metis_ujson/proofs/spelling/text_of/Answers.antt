@@ -1,0 +1,16 @@
+use Rattle.std.proofs.Common.{◌≡◌, ◌++◌, ◌∷◌, [], ap, ◌∙◌}
+use Rattle.json.specs.Print.{print}
+use Rattle.serde_json.specs.Written.{compact_text}
+use Rattle.serde_json.proofs.Texts.{print-outline}
+use Rattle.metis_ujson.specs.Canonical.{document_of, rows_of_universe}
+use Rattle.metis_ujson.specs.Spelling.{tokens_of}
+use Rattle.metis_ujson.proofs.spelling.text_of.Goals as goal
+
+pub returns : goal.returns
+returns c =
+    let u = c.args.u.now in
+    let document = document_of u.version (rows_of_universe u) in
+    let added = c.in_ok-put_document.ensures in
+    let before : c.put_document.new.out.before ≡ [] = added.before ∙ c.new-out.ensures.before ∙ c.new.ensures.items in
+    let tokens : c.put_document.new.out.tokens ≡ tokens_of document = added.tokens ∙ ap (λ ts. ts ++ tokens_of document) c.new-out.ensures.tokens in
+    c.in_ok-push.ensures.items ∙ ap (λ text. text ++ 10 ∷ []) (c.into_inner-text.ensures.items ∙ (λ i. before i ++ print (tokens i)) ∙ print-outline document)
