@@ -2,7 +2,7 @@
 use metis_ids::{InstNo, NoMemory, PairIx, PortIx};
 
 /// Why an action is refused.
-#[derive(Clone, Copy, Debug, PartialEq, Eq)]
+#[derive(Clone, Copy, PartialEq, Eq)]
 pub enum AFault {
     /// The instance to be made is there.
     InUse(InstNo),

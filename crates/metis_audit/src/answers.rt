@@ -5,7 +5,7 @@ use metis_ids::PairIx;
 /// a target that is not attainable; the number of a dup that its cycle does not justify; how many instances are made, and how
 /// many there should be; a line that its instance does not follow; the number of an action that is not steadfast; the number
 /// of an action behind which other waits stand than its own.
-#[derive(Clone, Copy, Debug, PartialEq, Eq)]
+#[derive(Clone, Copy, PartialEq, Eq)]
 pub enum Answer {
     Justified,
     NotAttained(PairIx),

@@ -12,7 +12,7 @@ use std::marker::Model;
 
 /// Why one event has to come before another: it is the line's last one before it, it enters the station that the other takes
 /// from, or it leaves the station that was supplied by the place which the other leaves.
-#[derive(Clone, Copy, Debug, PartialEq, Eq, PartialOrd, Ord)]
+#[derive(Clone, Copy, PartialEq, Eq, PartialOrd, Ord)]
 pub enum EdgeKind {
     Go,
     Start,
@@ -20,7 +20,7 @@ pub enum EdgeKind {
 }
 
 /// An edge into an event, from another.
-#[derive(Clone, Copy, Debug, PartialEq, Eq, PartialOrd, Ord)]
+#[derive(Clone, Copy, PartialEq, Eq, PartialOrd, Ord)]
 pub struct Edge {
     pub from: Event,
     pub kind: EdgeKind,

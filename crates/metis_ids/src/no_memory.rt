@@ -2,7 +2,7 @@
 use std::alloc::{AllocError, AllocFailed};
 
 /// There was no memory left.
-#[derive(Clone, Copy, Debug, PartialEq, Eq)]
+#[derive(Clone, Copy, PartialEq, Eq)]
 pub struct NoMemory;
 
 impl From<AllocError> for NoMemory {

@@ -6,7 +6,7 @@ use metis_text::Flaw;
 use std::alloc::{AllocError, AllocFailed};
 
 /// Why bytes are no text of hosts. Lines count from 1, and the first line with a fault counts.
-#[derive(Clone, Copy, Debug, PartialEq, Eq)]
+#[derive(Clone, Copy, PartialEq, Eq)]
 pub enum HFault {
     /// The line does not have the tokens of a form that may stand at its place.
     Line(u32),

@@ -3,7 +3,7 @@ use metis_actions::AFault;
 use metis_ids::Goal;
 
 /// What a replay of actions came to.
-#[derive(Clone, Copy, Debug, PartialEq, Eq)]
+#[derive(Clone, Copy, PartialEq, Eq)]
 pub enum Verdict {
     /// Each action was done, and the configuration holds the goals.
     Good,

@@ -3,7 +3,7 @@ use metis_actions::AFault;
 use metis_ids::Goal;
 
 /// What a session answers to a line.
-#[derive(Clone, Copy, Debug, PartialEq, Eq)]
+#[derive(Clone, Copy, PartialEq, Eq)]
 pub enum Reply {
     /// The action was done, and the configuration before it is kept.
     Did,

@@ -7,7 +7,7 @@ use metis_ids::NoMemory;
 use std::alloc::{AllocError, AllocFailed};
 
 /// Why bytes are no text of a plan or of a refusal. Lines count from 1.
-#[derive(Clone, Copy, Debug, PartialEq, Eq)]
+#[derive(Clone, Copy, PartialEq, Eq)]
 pub enum TFault {
     /// The line does not have the tokens of the form that stands at its place.
     Line(u32),

@@ -3,7 +3,7 @@ ghost use Rattle.std.specs.Prelude.{◌≡◌};
 ghost use Rattle.metis_text.specs.Flaws.{both, found, graver, made};
 
 /// What is wrong with a line that is read.
-#[derive(Clone, Copy, Debug, PartialEq, Eq)]
+#[derive(Clone, Copy, PartialEq, Eq)]
 pub enum Flaw {
     /// It does not have the tokens of the form that stands at its place.
     Form,

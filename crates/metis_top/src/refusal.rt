@@ -7,7 +7,7 @@ use metis_ujson::UFault;
 use std::alloc::AllocFailed;
 
 /// Why a run's words or files are not accepted.
-#[derive(Clone, Copy, Debug, PartialEq, Eq)]
+#[derive(Clone, Copy, PartialEq, Eq)]
 pub enum Refusal {
     /// The word at this place does not fit.
     Word(u32),
@@ -26,7 +26,7 @@ pub enum Refusal {
 }
 
 /// Why a run ends before its work.
-#[derive(Clone, Copy, Debug, PartialEq, Eq)]
+#[derive(Clone, Copy, PartialEq, Eq)]
 pub enum Stop {
     Refused(Refusal),
     /// The reading of the file of the word at this place failed.

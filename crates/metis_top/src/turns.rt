@@ -7,7 +7,7 @@ use metis_text::number_in;
 use std::alloc::{AllocError, AllocFailed, Global};
 
 /// Why bytes are no turns.
-#[derive(Clone, Copy, Debug, PartialEq, Eq)]
+#[derive(Clone, Copy, PartialEq, Eq)]
 pub enum TurnsFault {
     /// The place, from 1, of the first token that is no number in range.
     At(u32),

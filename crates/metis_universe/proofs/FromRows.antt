@@ -55,7 +55,7 @@ each_listed (name ∷ names) = (
 )
 
 -- the port of a name that was seen has this name
-named_back : (ports : List (List ℕ)) (name : List ℕ) → IsTrue (list_any (bytes_eq name) ports) → slice_index_or ports (number_of ports name) [] ≡ name
+pub named_back : (ports : List (List ℕ)) (name : List ℕ) → IsTrue (list_any (bytes_eq name) ports) → slice_index_or ports (number_of ports name) [] ≡ name
 named_back ports name seen =
     let p = bytes_eq name in
     elim (position p ports) as (λ o. position p ports ≡ o → slice_index_or ports (unwrap_or o 0) [] ≡ name) [
@@ -99,30 +99,30 @@ types-le rows clear =
 module _ (version : ℕ) where
   -- ---- reads
 
-  abbrev state_at : List TypeRow → ℕ → ℕ → StateRow
+  abbrev pub state_at : List TypeRow → ℕ → ℕ → StateRow
   state_at rows t i = get_or (states_at rows t) i no_state
 
-  kind_is : (rows : List TypeRow) (t : ℕ) → t < length rows → kind_at (universe_from version rows) t ≡ kind_from (first_of rows t) (row_at rows t)
+  pub kind_is : (rows : List TypeRow) (t : ℕ) → t < length rows → kind_at (universe_from version rows) t ≡ kind_from (first_of rows t) (row_at rows t)
   kind_is rows t l = get_or-kinds_from 0 rows t no_kind l ∙ ap (λ n. kind_from n (row_at rows t)) (zero-add (first_of rows t))
 
-  pair_is : (rows : List TypeRow) (t i : ℕ) → t < length rows → i < length (states_at rows t) → pair_at (universe_from version rows) (first_of rows t + i) ≡ pair_from (ports_of rows) t (first_of rows t) (row_at rows t) (state_at rows t i)
+  pub pair_is : (rows : List TypeRow) (t i : ℕ) → t < length rows → i < length (states_at rows t) → pair_at (universe_from version rows) (first_of rows t + i) ≡ pair_from (ports_of rows) t (first_of rows t) (row_at rows t) (state_at rows t i)
   pair_is rows t i l m =
       get_or-pairs_from (ports_of rows) 0 0 rows t i no_pair l m
       ∙ (λ j. pair_from (ports_of rows) (zero-add t j) (zero-add (first_of rows t) j) (row_at rows t) (state_at rows t i))
 
-  pair_at_place : (rows : List TypeRow) (p : ℕ) (at : Place rows p) → pair_at (universe_from version rows) p ≡ pair_from (ports_of rows) at.t (first_of rows at.t) (row_at rows at.t) (state_at rows at.t at.i)
+  pub pair_at_place : (rows : List TypeRow) (p : ℕ) (at : Place rows p) → pair_at (universe_from version rows) p ≡ pair_from (ports_of rows) at.t (first_of rows at.t) (row_at rows at.t) (state_at rows at.t at.i)
   pair_at_place rows p at = ap (pair_at (universe_from version rows)) at.is ∙ pair_is rows at.t at.i at.within at.below
 
-  type_at_place : (rows : List TypeRow) (p : ℕ) (at : Place rows p) → type_of (universe_from version rows) p ≡ at.t
+  pub type_at_place : (rows : List TypeRow) (p : ℕ) (at : Place rows p) → type_of (universe_from version rows) p ≡ at.t
   type_at_place rows p at = ap (λ (x : Pair). x.kind) (pair_at_place rows p at)
 
-  place : (rows : List TypeRow) (p : ℕ) → p < pair_count (universe_from version rows) → Place rows p
+  pub place : (rows : List TypeRow) (p : ℕ) → p < pair_count (universe_from version rows) → Place rows p
   place rows p h = place_of rows p (omega (arith, length-pairs_from (ports_of rows) 0 0 rows))
 
   row_within : (rows : List TypeRow) (t : ℕ) → t < type_count (universe_from version rows) → t < length rows
   row_within rows t h = omega (arith, length-kinds_from 0 rows)
 
-  pair_within : (rows : List TypeRow) (t i : ℕ) → t < length rows → i < length (states_at rows t) → first_of rows t + i < pair_count (universe_from version rows)
+  pub pair_within : (rows : List TypeRow) (t i : ℕ) → t < length rows → i < length (states_at rows t) → first_of rows t + i < pair_count (universe_from version rows)
   pair_within rows t i l m = omega (arith, length-pairs_from (ports_of rows) 0 0 rows, first_of-within rows t i l m)
 
   -- ---- numbers
@@ -137,7 +137,7 @@ module _ (version : ℕ) where
             (each_map P (number_of (ports_of rows)) names (each_weaker Q (λ name. P (number_of (ports_of rows) name)) names (λ name e. number_within (bytes_eq name) (ports_of rows) e) h)),
       )
 
-  seen_in : (rows : List TypeRow) (t i : ℕ) → t < length rows → i < length (states_at rows t) → AllByRecursion (λ name. IsTrue (list_any (bytes_eq name) (ports_of rows))) (ports_of_state (state_at rows t i))
+  pub seen_in : (rows : List TypeRow) (t i : ℕ) → t < length rows → i < length (states_at rows t) → AllByRecursion (λ name. IsTrue (list_any (bytes_eq name) (ports_of rows))) (ports_of_state (state_at rows t i))
   seen_in rows t i l m =
       let Q : List ℕ → Type 0 = λ name. IsTrue (list_any (bytes_eq name) (ports_of rows)) in
       each_of_flat_map Q ports_of_state (states_at rows t) (each_of_flat_map Q ports_of_type rows (each_seen [] _) t no_row l) i no_state m
@@ -243,7 +243,7 @@ module _ (version : ℕ) where
       let c = (clear.types t d l).states i e m in
       each_append P (get_or (get_or rows t d).states i e).provide (names_needed (get_or (get_or rows t d).states i e).require) c.provide c.require)))
 
-  IsNamed-universe_from : (rows : List TypeRow) → IsClear rows → IsNamed (universe_from version rows)
+  pub IsNamed-universe_from : (rows : List TypeRow) → IsClear rows → IsNamed (universe_from version rows)
   IsNamed-universe_from rows clear = record {
     types = λ t h. let l = row_within rows t h in let T : Kind → Type 0 = λ k. IsTrue (is_name k.name) in subst T (sym (kind_is rows t l)) (clear.types t no_row l).name;
     states = λ p h.

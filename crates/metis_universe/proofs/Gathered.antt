@@ -67,7 +67,7 @@ greatest_from-some (n ∷ needs) name start some h =
 pub greatest-some : (needs : List NeedRow) (name : List ℕ) → AllByRecursion (λ n. 1 ≤ n.count) needs → list_any (bytes_eq name) (names_needed needs) ≡ true → 1 ≤ greatest_count needs name
 greatest-some needs name some h = greatest_from-some needs name 0 some h
 
-greatest_from-unnamed : (needs : List NeedRow) (name : List ℕ) (start : ℕ) → list_any (bytes_eq name) (names_needed needs) ≡ false → fold (λ most n. max most (count_at name n)) start needs ≡ start
+pub greatest_from-unnamed : (needs : List NeedRow) (name : List ℕ) (start : ℕ) → list_any (bytes_eq name) (names_needed needs) ≡ false → fold (λ most n. max most (count_at name n)) start needs ≡ start
 greatest_from-unnamed [] name start h = refl
 greatest_from-unnamed (n ∷ needs) name start h =
     elim (bytes_eq name n.port) as (λ b. (b || list_any (bytes_eq name) (names_needed needs)) ≡ false → fold (λ most n. max most (count_at name n)) (max start (cond b n.count 0)) needs ≡ start) [

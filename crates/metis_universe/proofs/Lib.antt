@@ -39,6 +39,7 @@ pub mod Settling
 pub mod Slots
 pub mod Sorted
 pub mod Sought
+pub mod SpelledRows
 pub mod Standing
 pub mod TypeBlock
 pub mod TypeFaults

@@ -193,7 +193,7 @@ any_range test pairs a (x ∷ xs) rows =
     λ i. test (here i) || rest i
 
 module _ (u : Universe) (k : IsUniverse u) (ports : Pair → List ℕ) (within : All (λ x. All (λ r. r < port_count u) (ports x)) u.pairs)
-  (rows : List (List ℕ)) (many : length rows ≡ port_count u) (are : (r : ℕ) → r < port_count u → get_or rows r [] ≡ filter (λ p. has (ports (get_or u.pairs p no_pair)) r) (all_pairs u)) (r : ℕ) where
+    (rows : List (List ℕ)) (many : length rows ≡ port_count u) (are : (r : ℕ) → r < port_count u → get_or rows r [] ≡ filter (λ p. has (ports (get_or u.pairs p no_pair)) r) (all_pairs u)) (r : ℕ) where
   no_such_port : (xs : List ℕ) → port_count u ≤ r → All (λ s. s < port_count u) xs → has xs r ≡ false
   no_such_port xs past all = none xs (recursion_from_All (λ s. s < port_count u) xs all) where
     none : (ys : List ℕ) → AllByRecursion (λ s. s < port_count u) ys → has ys r ≡ false

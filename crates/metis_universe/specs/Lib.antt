@@ -17,6 +17,7 @@ pub mod Selection
 pub mod Settled
 pub mod Sights
 pub mod Single
+pub mod Spelled
 pub mod Steadfast
 pub mod Step
 pub mod Texts

@@ -11,9 +11,10 @@ ghost use Rattle.metis_universe.specs.Steadfast.{pair_after};
 ghost use Rattle.metis_universe.specs.Settled.{IsLast, NoneSettles, IsLower};
 ghost use Rattle.metis_universe.specs.Waits.{standing, IsStanding};
 ghost use Rattle.metis_universe.specs.Universe.{Universe, IsGreatestMet, IsUniverse, demand_of, greatest_demand, pair_count, has, next_of, initial_of, provides, requires};
-ghost use Rattle.metis_universe.specs.RowShapes.{TypeRow};
-ghost use Rattle.metis_universe.specs.Rows.{first_fault};
-ghost use Rattle.metis_universe.specs.RowFaults.{HasFault, all_faults, first_of};
+ghost use Rattle.metis_universe.specs.RowShapes.{StateRow, TypeRow};
+ghost use Rattle.metis_universe.specs.Rows.{IsOfVersion, first_fault, universe_from};
+ghost use Rattle.metis_universe.specs.Spelled.{Spells};
+ghost use Rattle.metis_universe.specs.RowFaults.{HasFault, StateAt, all_faults, first_of};
 ghost use Rattle.metis_universe.specs.declared.faults.RowFault.{RowFault};
 ghost use Rattle.metis_universe.specs.Goal.{Attains};
 ghost use Rattle.metis_universe.specs.Closed.{Closed, Refusal};
@@ -82,6 +83,13 @@ pub fn origin_is_the_least_below()
 pub fn first_fault_comes_first()
     ensures first { (rows : List TypeRow) → first_fault rows ≡ first_of (all_faults rows) }
     ensures listed { (rows : List TypeRow) (f : RowFault) → Contains (all_faults rows) f ↔ HasFault rows f }
+{}
+
+/// What rows without a fault spell: each state of each type is the pair of these names. It provides the ports that it names, demands
+/// of each port the greatest count that stands at it, and leads to the states that it names; and it is initial where the type says so.
+pub fn rows_are_spelled()
+    ensures { (version : ℕ) (rows : List TypeRow) (t s : ℕ) (row : TypeRow) (state : StateRow) → IsOfVersion version rows → first_fault rows ≡ None → StateAt rows t s row state →
+        (p : ℕ) × Spells (universe_from version rows) p row state }
 {}
 
 /// A port that is required is required of one provider or more.

@@ -5,7 +5,7 @@ ghost use Rattle.metis_universe.specs.Rows.{StateFits, TypeFits, RowsFit};
 use std::marker::Model;
 
 /// An entry of what a state requires.
-#[derive(Debug, Drop)]
+#[derive(Drop)]
 pub struct NeedRow {
     /// The name of the port.
     pub port: String,
@@ -23,7 +23,7 @@ impl Model for NeedRow {
 }
 
 /// A state of a type.
-#[derive(Debug, Drop)]
+#[derive(Drop)]
 pub struct StateRow {
     pub name: String,
     /// The names of the ports that the state provides.
@@ -45,7 +45,7 @@ impl Model for StateRow {
 }
 
 /// A type.
-#[derive(Debug, Drop)]
+#[derive(Drop)]
 pub struct TypeRow {
     pub name: String,
     /// The name of the initial state.

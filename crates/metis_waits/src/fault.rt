@@ -3,7 +3,7 @@ use metis_ids::NoMemory;
 use std::alloc::{AllocError, AllocFailed};
 
 /// Why a list of actions has no waits.
-#[derive(Clone, Copy, Debug, PartialEq, Eq)]
+#[derive(Clone, Copy, PartialEq, Eq)]
 pub enum WFault {
     /// The action of this number is the first that is not steadfast.
     Loose(u32),
