@@ -3,6 +3,7 @@ pub mod Blocks
 pub mod Clear
 pub mod Demanded
 pub mod Examples
+pub mod FirstForms
 pub mod Fitting
 pub mod Fronts
 pub mod Grouped

@@ -2,3 +2,4 @@ pub mod Canonical
 pub mod Document
 pub mod Reads
 pub mod Spelling
+pub mod FirstForm

@@ -9,6 +9,6 @@ mod spelling;
 mod write;
 
 pub use faults::UFault;
-pub use laws::{written_is_a_line, written_is_read};
+pub use laws::{first_form_fault_comes_first, written_is_a_line, written_is_read};
 pub use read::{UNIVERSE_LIMIT, read_universe};
 pub use write::write_universe;
