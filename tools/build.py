@@ -11,6 +11,8 @@ for each copy of the repository, and may be removed at any time.
 """
 
 import concurrent.futures
+import contextlib
+import fcntl
 import hashlib
 import os
 import pathlib
@@ -167,5 +169,23 @@ def put_program(begun):
     os.replace(target.with_suffix(".new"), target)
 
 
+@contextlib.contextmanager
+def alone():
+    """Keeps a second build of this copy of the repository waiting: it would take the folders away from the first one."""
+    ROOM.mkdir(parents=True, exist_ok=True)
+    with open(ROOM / "lock", "w") as lock:
+        try:
+            fcntl.flock(lock, fcntl.LOCK_EX | fcntl.LOCK_NB)
+        except BlockingIOError:
+            print("metis: another build of this copy of the repository is under way; waiting for it", file=sys.stderr, flush=True)
+            fcntl.flock(lock, fcntl.LOCK_EX)
+        yield
+
+
+def main():
+    with alone():
+        return build(lanes_here())
+
+
 if __name__ == "__main__":
-    sys.exit(build(lanes_here()))
+    sys.exit(main())
