@@ -51,22 +51,22 @@ class Step:
 
 
 def blocks_of(page):
-    """The indented blocks of a page: the number of the first line, the lines, and the words before it."""
-    block, before, fenced, start = [], "", False, 0
-    for number, line in enumerate([*page.splitlines(), ""], 1):
-        if line.startswith("```"):
-            fenced = not fenced
-        if not fenced and line.startswith(INDENT) and (block or not before.strip() or before.endswith("\n\n")):
-            start = start if block else number
-            block.append(line[len(INDENT):])
+    """The indented blocks of a page: the number of the first line, the lines, and the paragraph before it."""
+    lines, fenced, at = [*page.splitlines(), ""], False, 0
+    before, paragraph = [], []
+    while at < len(lines):
+        line = lines[at]
+        fenced ^= line.startswith("```")
+        if not fenced and line.startswith(INDENT) and (at == 0 or not lines[at - 1].strip()):
+            end = next(other for other in range(at, len(lines)) if not lines[other].startswith(INDENT))
+            yield at + 1, [it[len(INDENT):] for it in lines[at:end]], " ".join(before)
+            before, at = [], end
             continue
-        if block:
-            yield start, block, before.strip()
-            block, before = [], ""
-        if line.strip() or before.endswith("\n\n") is False:
-            before += line + "\n"
-        if line.strip() and before.count("\n\n"):
-            before = before.rpartition("\n\n")[2]
+        if line.strip():
+            paragraph.append(line)
+        else:
+            before, paragraph = paragraph or before, []
+        at += 1
 
 
 def steps_of(name):
@@ -111,13 +111,17 @@ def shell_of(steps, kept):
     return "\n".join(lines) + "\n"
 
 
+def text_of(path):
+    return path.read_text() if path.is_file() else ""
+
+
 def faults_of(steps, kept):
     """What came otherwise than the page says."""
     for at, step in enumerate(steps):
         if step.name:
             continue
-        read = lambda kind: (kept / f"{at}.{kind}").read_text() if (kept / f"{at}.{kind}").is_file() else ""
-        printed, said, status = read("out"), read("err"), read("status").strip()
+        printed, said, status = (text_of(kept / f"{at}.{kind}") for kind in ("out", "err", "status"))
+        status = status.strip()
         if status != str(step.status()):
             yield f"{step.place}: status {status or 'none'}: {step.command}\n{said}"
         elif not step.fits(printed):
