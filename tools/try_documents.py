@@ -1,0 +1,202 @@
+#!/usr/bin/env python3
+"""Tries the commands that README, TUTORIAL and MODELLING show, and compares what they print, byte for byte.
+
+    tools/try_documents.py [PROGRAM] [--try]
+
+PROGRAM is the built program, crates/metis/out/metis where none is given. In a page, lines behind `$ ` are typed, one
+after the other in one shell; the lines up to the next one are what is printed, where a line `...` stands for any lines.
+The status is 0, or what a comment `# status N` behind the command says. A block behind the words "into `NAME`:" is
+written into that file. `./try` is the program itself, and with --try the real script, which builds it anew. Commands of
+the kit, `rt`, are listed and not run.
+
+It also looks up the laws that pages cite, their links, README's length, and the list of docs/HEADLINE.md. It ends with
+status 1 where something is not as a page says.
+"""
+
+import pathlib
+import re
+import subprocess
+import sys
+import tempfile
+
+TOP = pathlib.Path(__file__).resolve().parent.parent
+PAGES = ("README.md", "docs/TUTORIAL.md", "docs/MODELLING.md")
+LINES_OF_README = 200
+INDENT = "    "
+INTO_FILE = re.compile(r"into\s+`([^`]+)`:$")
+STATUS = re.compile(r"# status (\d+)$")
+NOT_RUN = re.compile(r"^rt ")
+# A command that a page shows without trying it.
+SHOWN = re.compile(r"^(\./)?(metis|try) (plan|replay|refute|audit|sim|crew|waves|control|rollout|place|print|load) ")
+# A law has a name of three words or more; shorter ones may be anything.
+LAW = re.compile(r"`([a-z0-9]+(?:_[a-z0-9]+){2,})`")
+LINK = re.compile(r"\]\(([^)\s]+)\)")
+SPAN = re.compile(r"`([^`]+)`")
+
+
+class Step:
+    """One thing that a page has a reader do: a command with what it prints, or a file to be written."""
+
+    def __init__(self, place, command, name=None):
+        self.place, self.command, self.name, self.lines = place, command, name, []
+
+    def status(self):
+        found = STATUS.search(self.command)
+        return int(found[1]) if found else 0
+
+    def fits(self, printed):
+        """Whether this is what the page shows, where `...` stands for any lines."""
+        parts = ["(?:.*\n)*" if line == "..." else re.escape(line + "\n") for line in self.lines]
+        return re.fullmatch("".join(parts), printed) is not None
+
+
+def blocks_of(page):
+    """The indented blocks of a page: the number of the first line, the lines, and the paragraph before it."""
+    lines, fenced, at = [*page.splitlines(), ""], False, 0
+    before, paragraph = [], []
+    while at < len(lines):
+        line = lines[at]
+        fenced ^= line.startswith("```")
+        if not fenced and line.startswith(INDENT) and (at == 0 or not lines[at - 1].strip()):
+            end = next(other for other in range(at, len(lines)) if not lines[other].startswith(INDENT))
+            yield at + 1, [it[len(INDENT):] for it in lines[at:end]], " ".join(before)
+            before, at = [], end
+            continue
+        if line.strip():
+            paragraph.append(line)
+        else:
+            before, paragraph = paragraph or before, []
+        at += 1
+
+
+def steps_of(name):
+    """What the page has a reader do, in order, and what is wrong with how it says so."""
+    steps, wrong = [], []
+    for start, block, before in blocks_of((TOP / name).read_text()):
+        into = INTO_FILE.search(before)
+        if block[0].startswith("$ "):
+            for number, line in enumerate(block, start):
+                if line.startswith("$ "):
+                    steps.append(Step(f"{name}:{number}", line[2:]))
+                else:
+                    steps[-1].lines.append(line)
+        elif into:
+            steps.append(Step(f"{name}:{start}", "", into[1]))
+            steps[-1].lines = block
+        else:
+            wrong += [f"{name}:{start}: a command without `$ `: {line}" for line in block if SHOWN.match(line)]
+    for number, line in enumerate((TOP / name).read_text().splitlines(), 1):
+        wrong += [f"{name}:{number}: a command that is not tried: {it}" for it in SPAN.findall(line) if SHOWN.match(it)]
+    return steps, wrong
+
+
+def lay_out(folder, program, real_try):
+    """What a reader has in the top folder, with the program in place of the scripts that would build it."""
+    (folder / "examples").symlink_to(TOP / "examples")
+    for name in ("metis", "try"):
+        script = TOP / "try" if name == "try" and real_try else program
+        (folder / name).write_text(f'#!/bin/sh\nexec "{script}" "$@"\n')
+        (folder / name).chmod(0o755)
+
+
+def shell_of(steps, kept):
+    """One shell script that takes all steps, and keeps for each what it printed and its status."""
+    lines = []
+    for at, step in enumerate(steps):
+        if step.name:
+            (kept / f"{at}.file").write_text("\n".join(step.lines) + "\n")
+            lines.append(f'cp "{kept}/{at}.file" "{step.name}"')
+        else:
+            lines += [f"{{ {step.command}", f'}} >"{kept}/{at}.out" 2>"{kept}/{at}.err" </dev/null', f'echo $? >"{kept}/{at}.status"']
+    return "\n".join(lines) + "\n"
+
+
+def text_of(path):
+    return path.read_text() if path.is_file() else ""
+
+
+def faults_of(steps, kept):
+    """What came otherwise than the page says."""
+    for at, step in enumerate(steps):
+        if step.name:
+            continue
+        printed, said, status = (text_of(kept / f"{at}.{kind}") for kind in ("out", "err", "status"))
+        status = status.strip()
+        if status != str(step.status()):
+            yield f"{step.place}: status {status or 'none'}: {step.command}\n{said}"
+        elif not step.fits(printed):
+            yield f"{step.place}: another text: {step.command}\n{printed}"
+        elif said and not step.command.startswith("./try "):
+            yield f"{step.place}: on standard error: {said}"
+
+
+def try_page(name, program, real_try):
+    """Takes the steps of a page in a folder of its own. Returns how many commands were tried, and what is wrong."""
+    steps, wrong = steps_of(name)
+    for step in steps:
+        if NOT_RUN.match(step.command):
+            print(f"{step.place}: not run: {step.command}")
+    steps = [step for step in steps if not NOT_RUN.match(step.command)]
+    with tempfile.TemporaryDirectory() as folder, tempfile.TemporaryDirectory() as kept:
+        lay_out(pathlib.Path(folder), program, real_try)
+        subprocess.run(["bash", "-c", shell_of(steps, pathlib.Path(kept))], cwd=folder, check=False, timeout=600)
+        wrong += faults_of(steps, pathlib.Path(kept))
+    return sum(1 for step in steps if not step.name), wrong
+
+
+def anchors_of(page):
+    """The anchors of a page's headings, as a repository's page makes them."""
+    heads = re.findall(r"(?m)^#+ (.*)$", page)
+    return {re.sub(r"[^\w\- ]", "", head.lower()).replace(" ", "-") for head in heads}
+
+
+def broken_links(path):
+    for link in LINK.findall(path.read_text()):
+        target, _, anchor = link.partition("#")
+        there = path.parent / target if target else path
+        if "://" in link:
+            continue
+        if not there.exists():
+            yield f"{path.relative_to(TOP)}: no such file: {link}"
+        elif anchor and anchor not in anchors_of(there.read_text()):
+            yield f"{path.relative_to(TOP)}: no such heading: {link}"
+
+
+def names_in_sources():
+    files = [it for part in ("src", "specs") for it in TOP.glob(f"crates/*/{part}/**/*") if it.is_file()]
+    return {name for it in [*files, *TOP.glob("bench/*.py")] for name in re.findall(r"\w+", it.read_text(errors="replace"))}
+
+
+def look_up():
+    """What pages cite and is not there."""
+    known = names_in_sources()
+    for path in [*TOP.glob("*.md"), *TOP.glob("docs/*.md")]:
+        cited = {name for name in LAW.findall(path.read_text()) if name not in known}
+        yield from (f"{path.relative_to(TOP)}: no such law or definition: {name}" for name in sorted(cited))
+        yield from broken_links(path)
+    lines = len((TOP / "README.md").read_text().splitlines())
+    if lines > LINES_OF_README:
+        yield f"README.md: {lines} lines, more than {LINES_OF_README}"
+    listed = subprocess.run([TOP / "tools" / "reading_list.py", "--check"], capture_output=True, text=True, check=False)
+    if listed.returncode:
+        yield f"docs/HEADLINE.md: {listed.stdout}{listed.stderr}"
+
+
+def main(words):
+    real_try = "--try" in words
+    names = [word for word in words if word != "--try"]
+    program = pathlib.Path(names[0] if names else TOP / "crates" / "metis" / "out" / "metis").resolve()
+    if not program.is_file():
+        print(f"there is no program {program}", file=sys.stderr)
+        return 2
+    wrong = list(look_up())
+    for name in PAGES:
+        tried, faults = try_page(name, program, real_try)
+        print(f"{name}: {tried} commands tried, {len(faults)} otherwise than the page says")
+        wrong += faults
+    print(*wrong, sep="\n", end="\n" if wrong else "")
+    return 1 if wrong else 0
+
+
+if __name__ == "__main__":
+    sys.exit(main(sys.argv[1:]))
