@@ -30,7 +30,7 @@ def main():
     try:
         text, notes = arguments.run(arguments)
     except Refused as refused:
-        sys.stderr.write(f"importers: {refused}\n")
+        sys.stderr.write(f"importers: {' '.join(str(refused).split())}\n")
         return 1
     for note in notes:
         sys.stderr.write(f"importers: {note}\n")

@@ -3,11 +3,11 @@
 import dataclasses
 
 from importers.compose_input import COMPLETED, HEALTHY, STARTED, read_project
-from importers.document import ComponentType, Names, Refused, State, document, one_each, two_states
+from importers.document import RESERVED, ComponentType, Names, Refused, State, document, one_each, two_states
 
 PROJECT = "project"
-# Types of these names would be taken for something else, so services of these names are written `service/NAME`.
-TAKEN = (PROJECT, "port")
+# A service of one of these names is written `service/NAME`, so that no two types have one name.
+TAKEN = (PROJECT, RESERVED, "network", "volume", "image", "service")
 NEXT = "@next"
 
 
@@ -125,11 +125,9 @@ class Writer:
         running = {**things, **self.waits(name)}
         states = [State("absent", next=("created",)), State("created", require=things, next=(STARTED, "absent"))]
         if later and not is_apart:
-            last = later[0]
-            # What has come to its end waits for nobody any more; its container still stands on its network.
-            kept = things if last == COMPLETED else running
-            states.append(State(STARTED, require=running, next=(last, "created")))
-            states.append(State(last, (self.port(name, last),), kept, ("created",)))
+            # Also what has completed goes before what it waited for, as Compose takes a project down.
+            states.append(State(STARTED, require=running, next=(later[0], "created")))
+            states.append(State(later[0], (self.port(name, later[0]),), running, ("created",)))
         else:
             states.append(State(STARTED, (self.port(name, STARTED),), running, ("created",)))
         types = [ComponentType(me, tuple(states))]

@@ -45,10 +45,9 @@ class Project:
 
 
 def read_text(path):
-    if path == "-":
-        return sys.stdin.read()
     try:
-        return pathlib.Path(path).read_text("utf-8")
+        told = sys.stdin.buffer.read() if path == "-" else pathlib.Path(path).read_bytes()
+        return told.decode("utf-8")
     except OSError as fault:
         raise Refused(f"{path}: {fault.strerror}") from fault
     except UnicodeDecodeError as fault:
@@ -57,11 +56,15 @@ def read_text(path):
 
 def value_of(text, path):
     """The value that a text of JSON, or of YAML, says."""
-    if text.lstrip().startswith("{"):
-        try:
-            return json.loads(text)
-        except json.JSONDecodeError:
-            pass  # it may still be YAML in braces
+    try:
+        return json.loads(text)
+    except RecursionError as fault:
+        raise Refused(f"{path}: nested too deeply") from fault
+    except json.JSONDecodeError:
+        return value_of_yaml(text, path)
+
+
+def value_of_yaml(text, path):
     try:
         import yaml
     except ImportError:
@@ -73,8 +76,10 @@ def value_of(text, path):
         return yaml.safe_load(text)
     except yaml.YAMLError as fault:
         place = getattr(fault, "problem_mark", None)
-        where = f" line {place.line + 1}" if place else ""
+        where = f" line {place.line + 1}:" if place else ""
         raise Refused(f"{path}: no YAML:{where} {getattr(fault, 'problem', None) or 'it cannot be read'}") from fault
+    except (RecursionError, ValueError) as fault:
+        raise Refused(f"{path}: no YAML: {' '.join(str(fault).split())}") from fault
 
 
 def read_project(path):
@@ -89,9 +94,8 @@ def read_project(path):
         for name, told in mapping(project, f"{kind}s", path).items()
         if isinstance(told, dict) and told.get("external")
     }
-    services = {
-        str(name): service_of(str(name), told, project) for name, told in sorted(mapping(project, "services", path).items())
-    }
+    told_services = {str(name): told for name, told in mapping(project, "services", path).items()}
+    services = {name: service_of(name, told_services[name], project) for name in sorted(told_services)}
     return Project(str(project.get("name", "")), services, frozenset(external))
 
 
@@ -105,22 +109,29 @@ def mapping(owner, key, where):
     return found
 
 
+def listed(owner, key, where):
+    """The list under a key, empty where there is none."""
+    found = owner.get(key)
+    if found is None:
+        return []
+    if not isinstance(found, list):
+        raise Refused(f"{where}: '{key}' is no list")
+    return found
+
+
 def service_of(name, told, project):
     if not isinstance(told, dict):
         raise Refused(f"service {name}: no mapping")
     if "extends" in told:
         raise Refused(f"service {name}: it extends another one; `docker compose config` resolves that")
-    image = told.get("image")
-    if told.get("build") is not None or image is None:
-        image = image or name
     return Service(
         name,
         replicas_of(name, told),
-        str(image),
+        str(told.get("image") or name),
         networks_of(name, told, project),
         volumes_of(name, told, project),
         needs_of(name, told),
-        frozenset(map(str, told.get("profiles") or ())),
+        frozenset(map(str, listed(told, "profiles", f"service {name}"))),
     )
 
 
@@ -138,8 +149,8 @@ def networks_of(name, told, project):
     if told.get("network_mode"):
         return ()
     networks = told.get("networks")
-    if networks is not None and not isinstance(networks, (list, dict)):
-        raise Refused(f"service {name}: its networks are no list")
+    if not isinstance(networks, dict):
+        networks = listed(told, "networks", f"service {name}")
     names = [str(each) for each in networks or ["default"]]
     known = {"default", *map(str, mapping(project, "networks", "the project"))}
     for each in names:
@@ -152,10 +163,7 @@ def volumes_of(name, told, project):
     """The named volumes of a service; a folder of the host and a volume without a name are no one's to make."""
     known = set(map(str, mapping(project, "volumes", "the project")))
     names = []
-    volumes = told.get("volumes") or []
-    if not isinstance(volumes, list):
-        raise Refused(f"service {name}: its volumes are no list")
-    for volume in volumes:
+    for volume in listed(told, "volumes", f"service {name}"):
         source = volume_name(volume)
         if source is None:
             continue
@@ -177,28 +185,28 @@ def volume_name(volume):
 
 def needs_of(name, told):
     """What a service waits for: what it says, and the services that Compose starts first by itself."""
-    depends = told.get("depends_on") or {}
-    if isinstance(depends, list):
-        depends = dict.fromkeys(map(str, depends))
+    where = f"service {name}"
+    depends = told.get("depends_on")
     if not isinstance(depends, dict):
-        raise Refused(f"service {name}: its depends_on is neither a list nor a mapping")
+        depends = dict.fromkeys(map(str, listed(told, "depends_on", where)))
     needs = {}
-    for other, each in depends.items():
-        condition = (each or {}).get("condition", "service_started")
+    for other in depends:
+        each = mapping(depends, other, f"{where}, depends_on")
+        condition = each.get("condition", "service_started")
         if condition not in MILESTONES:
-            raise Refused(f"service {name}: no condition {condition}, for {other}")
-        needs[str(other)] = Need(MILESTONES[condition], (each or {}).get("required", True) is not False)
-    for other in implied(told):
+            raise Refused(f"{where}: no condition {condition}, for {other}")
+        needs[str(other)] = Need(MILESTONES[condition], each.get("required", True) is not False)
+    for other in implied(told, where):
         needs.setdefault(other, Need(STARTED))
     needs.pop(name, None)
     return needs
 
 
-def implied(told):
+def implied(told, where):
     """The services that one needs by its links, the volumes or the namespaces that it takes from them."""
-    for link in told.get("links") or ():
+    for link in listed(told, "links", where):
         yield str(link).partition(":")[0]
-    for volumes in told.get("volumes_from") or ():
+    for volumes in listed(told, "volumes_from", where):
         if not str(volumes).startswith("container:"):
             yield str(volumes).partition(":")[0]
     for key in ("network_mode", "ipc", "pid"):

@@ -3,6 +3,7 @@
 import collections
 import functools
 import pathlib
+import re
 import subprocess
 from typing import NamedTuple
 
@@ -24,6 +25,12 @@ def native_architecture():
     except (OSError, subprocess.CalledProcessError):
         return "amd64"
     return told.stdout.strip()
+
+
+def architecture_in(text):
+    """The architecture that the first record of a Packages file names, where one does."""
+    found = re.search(r"^Architecture: (?!all$)(\S+)", text, re.MULTILINE)
+    return found[1] if found else native_architecture()
 
 
 def index_text():
@@ -227,6 +234,16 @@ def check_pre_depends(installation):
                 )
 
 
+def port_of(names, name, part=""):
+    """The port of a package, or of a part of it. No package's name has the `_` that stands for its `+`."""
+    return names.of(name.replace("+", "_") + part)
+
+
+def target(name):
+    """The word that asks Metis for a package."""
+    return f"port:{port_of(Names(), name)}"
+
+
 class Writer:
     """The component types of an installation."""
 
@@ -241,7 +258,7 @@ class Writer:
         return members + [self.circle(group) for group in groups]
 
     def port(self, name, part=""):
-        return self.names.of(name.replace("+", "_") + part)
+        return port_of(self.names, name, part)
 
     def package(self, name):
         needs = self.installation.needs(name, "Pre-Depends", "Depends")
@@ -317,7 +334,7 @@ def universe(choices, request):
 
 def comment(choices, names, is_strict):
     named = ", ".join(f"{name} {choices.index.packages[name]['Version']}" for name in names)
-    targets = " ".join(f"port:{name.replace('+', '_')}" for name in names)
+    targets = " ".join(map(target, names))
     rule = ", and no rule for cycles" if is_strict else ""
     return f"{named} and what is needed besides what is given{rule}, by importers debian; targets: {targets}"
 
@@ -331,8 +348,8 @@ def read(path):
 
 def choices_of(index_path=None, status_path=None):
     """The choices over a Packages file, or this machine's index, where the base, or what a status file has, is given."""
-    architecture = native_architecture()
     text = index_text() if index_path is None else read(index_path)
+    architecture = native_architecture() if index_path is None else architecture_in(text)
     try:
         index = Pool(packages_of(text, architecture), architecture)
         if status_path is None:

@@ -25,6 +25,7 @@ class Action:
     verb: str
     words: tuple[str, ...]
     after: tuple[int, ...]
+    types: tuple[str, ...]  # of its instances, in the order of the words
 
     @property
     def instance(self):
@@ -32,8 +33,17 @@ class Action:
         return int(self.words[FORMS[self.verb][1][0]])
 
     @property
+    def type(self):
+        return self.types[0]
+
+    @property
     def provider(self):
+        """The instance that a binding leads to."""
         return int(self.words[2])
+
+    @property
+    def provider_type(self):
+        return self.types[1]
 
 
 @dataclasses.dataclass(frozen=True)
@@ -48,11 +58,6 @@ class Dup:
 class Plan:
     actions: tuple[Action, ...]
     dups: tuple[Dup, ...]
-
-    @property
-    def types(self):
-        """The type of each instance."""
-        return {each.instance: each.words[1] for each in self.actions if each.verb == "new"}
 
 
 @dataclasses.dataclass(frozen=True)
@@ -75,7 +80,7 @@ class Reason:
 @dataclasses.dataclass(frozen=True)
 class Explanation:
     lacks: str
-    providers: tuple[str, ...]
+    providers: tuple[str, ...] | None  # of a port that is lacking
     reasons: tuple[Reason, ...]
 
 
@@ -115,15 +120,18 @@ def read_plan(lines):
     if head[::2] != ["instances", "actions", "dups"] or len(head) != 6:
         refuse(2, "not 'instances I actions A dups D'")
     instances, action_count, dup_count = numbers(2, head[1::2])
-    actions = tuple(read_action(lines, number) for number in range(1, action_count + 1))
-    check_instances(actions, instances)
+    type_of = {}
+    actions = tuple(read_action(lines, number, type_of) for number in range(1, action_count + 1))
+    if sum(action.verb == "new" for action in actions) != instances:
+        refuse(2, "not the number of instances that are made")
     first_dup = action_count + 3
     dups = tuple(read_dup(lines, first_dup + place, place + 1) for place in range(dup_count))
     check_end(lines, first_dup + dup_count)
     return Plan(actions, dups)
 
 
-def read_action(lines, number):
+def read_action(lines, number, type_of):
+    """An action; `type_of` has the type of each instance that the lines before it made."""
     line = number + 2
     words = line_at(lines, line)
     if len(words) < 2 or words[1] not in FORMS:
@@ -134,23 +142,16 @@ def read_action(lines, number):
         refuse(line, f"not the number {number}")
     if len(own) < length or (rest and (rest[0] != "after" or len(rest) == 1)):
         refuse(line, f"not the form of '{words[1]}'")
-    numbers(line, [own[place] for place in instances])
+    named = numbers(line, [own[place] for place in instances])
     after = numbers(line, rest[1:])
     if any(not 1 <= each < number for each in after):
         refuse(line, "an action waits for earlier ones alone")
-    return Action(number, words[1], tuple(own), after)
-
-
-def check_instances(actions, instances):
-    made = set()
-    for action in actions:
-        if action.verb == "new":
-            made.add(action.instance)
-        for place in FORMS[action.verb][1]:
-            if int(action.words[place]) not in made:
-                refuse(action.number + 2, f"no line before made instance {action.words[place]}")
-    if sum(action.verb == "new" for action in actions) != instances:
-        refuse(2, "not the number of instances that are made")
+    if words[1] == "new":
+        type_of[named[0]] = own[1]
+    for instance in named:
+        if instance not in type_of:
+            refuse(line, f"no line before made instance {instance}")
+    return Action(number, words[1], tuple(own), after, tuple(type_of[instance] for instance in named))
 
 
 def read_dup(lines, line, number):
@@ -202,7 +203,7 @@ def names_in(line, words):
 
 def read_explanation(lines):
     goal, rest = lacking(lines)
-    providers = names_in(2, rest) if rest else ()
+    providers = names_in(2, rest) if rest else None
     reasons = counted(lines, "lines")
     return Explanation(goal, providers, tuple(read_reason(each, place + 4) for place, each in enumerate(reasons)))
 

@@ -126,21 +126,20 @@ class Steps:
             root.dpkg("--configure", *self.waiting[group])
 
 
-def carry_out(plan, order, installation, packages):
-    """Does the actions of a plan in this order; how many times dpkg was called."""
-    types = plan.types
+def carry_out(order, installation, packages):
+    """Does actions in this order; how many times dpkg was called."""
     with tempfile.TemporaryDirectory() as folder:
         root = Root(pathlib.Path(folder), installation.choices.given)
         steps = Steps(installation)
         for action in order:
             if action.verb == "move":
-                steps.do(types[action.instance], root, packages)
+                steps.do(action.type, root, packages)
         root.check(installation.chosen)
         return root.calls
 
 
 def plan_of(metis, document, name):
-    command = [metis, "plan", "-", f"port:{name.replace('+', '_')}"]
+    command = [metis, "plan", "-", debian.target(name)]
     done = subprocess.run(command, input=document, stdout=subprocess.PIPE, text=True, check=False)
     found = texts.read(done.stdout)
     if not isinstance(found, texts.Plan):
@@ -154,10 +153,10 @@ def try_package(metis, name, orders, choices, packages):
         document, _ = debian.universe(choices, debian.Request([name]))
         installation = debian.Installation(choices, [name])
         plan = plan_of(metis, document, name)
-        calls = [carry_out(plan, plan.actions, installation, packages)]
+        calls = [carry_out(plan.actions, installation, packages)]
         for seed in range(orders):
             order = texts.random_order(plan, random.Random(seed))
-            calls.append(carry_out(plan, order, installation, packages))
+            calls.append(carry_out(order, installation, packages))
     except (Failed, Refused, texts.NoText) as fault:
         return f"{name}: {fault}", False
     in_cycles = len(installation.circles)

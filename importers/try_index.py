@@ -32,7 +32,7 @@ def outcome(choices, metis, name):
             return "past the limit of pairs", 0
         return ("a cycle of Pre-Depends" if "Pre-Depends" in words else words), 0
     pairs = document.count('"name":') - document.count('"initial":')
-    command = [metis, "plan", "-", f"port:{name.replace('+', '_')}"]
+    command = [metis, "plan", "-", debian.target(name)]
     done = subprocess.run(command, input=document, stdout=subprocess.PIPE, text=True, check=False)
     if done.returncode == 0:
         has_doubles = not done.stdout.split("\n", 2)[1].endswith(" dups 0")
