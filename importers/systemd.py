@@ -102,7 +102,7 @@ def left_out(pulled, failing):
         other in pulled.units and other != name for name, unit in pulled.units.items() for other in unit["Conflicts"]
     )
     if conflicts:
-        yield f"{conflicts} conflicts between these units cannot be said"
+        yield f"conflicts between these units, which cannot be said: {conflicts}"
 
 
 def types_of(pulled, failing, names):

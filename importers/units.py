@@ -96,7 +96,7 @@ class Folders:
             if path is None or not path.is_symlink():
                 return name
             target = os.path.basename(os.readlink(path))
-            if target in ("null", template_of(name)):
+            if target in ("null", name, template_of(name)):
                 return name
             name = target
         raise Refused(f"{name}: a link that leads back to itself")

@@ -49,24 +49,27 @@ def refusal_lines(refusal):
         yield f"  {pair}"
 
 
-def listed(names, none):
-    return ", ".join(names) if names else none
+def provided(names):
+    return f"provided by {' and '.join(names)} alone" if names else "which nothing provides"
+
+
+def reached_from(names):
+    return f"from {' or '.join(names)} alone" if names else "from nowhere"
 
 
 def reason_in_words(reason):
-    needs = f"needs {reason.needs}" if reason.needs else ""
     if reason.is_start:
-        origin = listed(reason.names, "no other state")
-        return f"{reason.pair} is where its type starts, and {needs}; else it is reached from {origin}"
+        start = f"{reason.pair} is where its type starts, but needs {reason.needs}"
+        return f"{start}; else it is reached {reached_from(reason.names)}"
     if reason.comes:
-        return f"{reason.pair} is reached from {listed(reason.names, 'no state')} alone"
-    return f"{reason.pair} {needs}, which {listed(reason.names, 'nothing')} provides"
+        return f"{reason.pair} is reached {reached_from(reason.names)}"
+    return f"{reason.pair} needs {reason.needs}, {provided(reason.names)}"
 
 
 def explanation_lines(explanation):
     goal = explanation.lacks
     if explanation.providers is not None:
-        goal += f", which {listed(explanation.providers, 'nothing')} provides,"
+        goal += f", {provided(explanation.providers)},"
     yield f"{goal} is not attained" + (", since" if explanation.reasons else "")
     for reason in explanation.reasons:
         yield f"  {reason_in_words(reason)}"
