@@ -365,17 +365,15 @@ def add_arguments(parser):
     parser.add_argument("packages", metavar="PACKAGE", nargs="+")
     parser.add_argument("--index", metavar="FILE", help="a Packages file in place of this machine's index")
     parser.add_argument(
-        "--installed",
-        metavar="STATUS",
-        nargs="?",
-        const=str(STATUS),
-        help="what stands on this machine is given in place of the base system; with STATUS, what that file has",
+        "--installed", action="store_true", help="what stands on this machine is given, in place of the base system"
     )
+    parser.add_argument("--status", metavar="FILE", help="the same of another machine, by its file /var/lib/dpkg/status")
     parser.add_argument("--strict", action="store_true", help="no rule for cycles: such packages are refused")
 
 
 def run(arguments):
-    choices = choices_of(arguments.index, arguments.installed)
+    status = arguments.status or (STATUS if arguments.installed else None)
+    choices = choices_of(arguments.index, status)
     try:
         return universe(choices, Request(arguments.packages, arguments.strict))
     except NoControlFile as fault:

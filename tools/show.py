@@ -15,8 +15,6 @@ sys.path.insert(0, str(pathlib.Path(__file__).resolve().parent.parent))
 
 from importers import texts
 
-WIDTH = 64
-
 
 def what(action):
     """An action in words."""
@@ -35,9 +33,11 @@ def what(action):
 
 
 def plan_lines(plan):
-    for action in plan.actions:
+    words = [what(action) for action in plan.actions]
+    width = max(map(len, words), default=0)
+    for action, each in zip(plan.actions, words):
         behind = f"after {', '.join(map(str, action.after))}" if action.after else ""
-        yield f"{action.number:>4}  {what(action):<{WIDTH}}{behind}".rstrip()
+        yield f"{action.number:>4}  {each:<{width}}  {behind}".rstrip()
     for dup in plan.dups:
         events = ", ".join(dup.cycle)
         yield f"one more for {dup.pair}: without it each of {events} would wait for the next, and the last for the first"
