@@ -17,6 +17,7 @@ BASE_PRIORITIES = ("required", "important")
 FILES, UNPACKED, CONFIGURED, CIRCLE = "/files", "/unpacked", "/configured", "/circle"
 IN_WORDS = {"<<": "below", "<": "up-to", "<=": "up-to", "=": "exactly", ">=": "from", ">": "from", ">>": "above"}
 MOST_NAMED = 8
+CONFLICT = "conflict, which a universe cannot say: dpkg will not have both"
 
 
 def native_architecture():
@@ -118,8 +119,12 @@ class Choices:
 
     @functools.cached_property
     def barred_by_given(self):
-        """The packages that a given one conflicts with or breaks."""
-        return frozenset().union(*(self._met_by_index(self.given, name) for name in self.given.packages))
+        """For each package that given ones conflict with or break, these."""
+        barred = collections.defaultdict(list)
+        for name in self.given.packages:
+            for other in self._met_by_index(self.given, name):
+                barred[other].append(name)
+        return barred
 
     def _options(self, part):
         wanted = alternatives(part)
@@ -135,13 +140,11 @@ class Choices:
         """The packages of the index that this one conflicts with or breaks."""
         return self._met_by_index(self.index, name)
 
-    @functools.cache
-    def is_barred_by_given(self, name):
-        """Whether a given package, other than one that this one replaces by a later version, stands in the way."""
-        if name in self.barred_by_given:
-            return True
-        parts = self.index.parts(name, "Conflicts", "Breaks")
-        return any(other != name for part in parts for other in self.given.meeting(relation(part)))
+    def given_against(self, name):
+        """The given packages that do not go together with this one, but for an earlier version of itself."""
+        yield from self.barred_by_given.get(name, ())
+        for part in self.index.parts(name, "Conflicts", "Breaks"):
+            yield from (other for other in self.given.meeting(relation(part)) if other != name)
 
 
 class Installation:
@@ -194,7 +197,7 @@ class Installation:
     def is_free(self, name):
         return (
             name not in self.barred
-            and not self.choices.is_barred_by_given(name)
+            and not any(self.choices.given_against(name))
             and self.choices.barred_by(name).isdisjoint(self.chosen)
         )
 
@@ -206,6 +209,15 @@ class Installation:
                 for options in self.options_of(name, *fields)
             )
         )
+
+    def conflicts(self):
+        """Pairs of packages that dpkg would not have installed together."""
+        found = set()
+        for name in self.chosen:
+            others = self.choices.barred_by(name).intersection(self.chosen)
+            standing = (other for other in self.choices.given_against(name) if other not in self.chosen)
+            found.update((min(name, other), max(name, other)) for other in (*others, *standing))
+        return sorted(found)
 
     @functools.cached_property
     def circles(self):
@@ -327,6 +339,8 @@ def universe(choices, request):
         check_pre_depends(installation)
     for missing, name in installation.missing.items():
         notes.append(f"{name} depends on {missing}, which the index does not have: there will be no plan")
+    for name, other in installation.conflicts()[:MOST_NAMED]:
+        notes.append(f"{name} and {other} {CONFLICT}")
     metis_names = Names()
     types = Writer(installation, request.is_strict, metis_names).types()
     return document(comment(choices, names, request.is_strict), types, metis_names), notes

@@ -27,7 +27,7 @@ TOP = pathlib.Path(__file__).resolve().parent.parent
 sys.path.insert(0, str(TOP))
 
 from importers import debian, texts
-from importers.document import Refused
+from importers.document import Names, Refused
 
 KEPT = "Version Architecture Multi-Arch Depends Pre-Depends Provides Conflicts Breaks Replaces".split()
 LAST_OF_A_FAULT = 400
@@ -104,20 +104,20 @@ class Steps:
     """What dpkg has to do for the moves of a plan."""
 
     def __init__(self, installation):
+        names = Names()
         self.circles = installation.circles
-        self.package_of = {name.replace("+", "_"): name for name in installation.chosen}
+        self.set_up = {debian.port_of(names, name): name for name in installation.chosen}
+        self.files = {debian.port_of(names, name, debian.FILES): name for name in installation.circles}
         self.waiting = {}
 
     def do(self, component, root, packages):
-        """Does what the one move up of a component of this type means."""
-        name, slash, part = component.partition("/")
-        package = self.package_of[name]
-        if not slash and package in self.circles:
-            self.configure(package, root)
-        elif not slash:
-            root.dpkg("--install", packages.path(package))
-        elif "/" + part == debian.FILES:
-            root.dpkg("--unpack", packages.path(package))
+        """Does what the one move up of a component of this type means; parts and circles are only words."""
+        if component in self.files:
+            root.dpkg("--unpack", packages.path(self.files[component]))
+        elif self.set_up.get(component) in self.circles:
+            self.configure(self.set_up[component], root)
+        elif component in self.set_up:
+            root.dpkg("--install", packages.path(self.set_up[component]))
 
     def configure(self, package, root):
         group = tuple(self.circles[package])

@@ -19,7 +19,7 @@ from importers import debian
 from importers.document import Refused
 
 MOST_NAMED = 12
-PLAN, DOUBLES = "a plan", "a plan with doubles"
+PLAN, DOUBLES, CONFLICT = "a plan", "a plan with doubles", "a plan for packages that conflict"
 
 
 def outcome(choices, metis, name):
@@ -36,7 +36,8 @@ def outcome(choices, metis, name):
     done = subprocess.run(command, input=document, stdout=subprocess.PIPE, text=True, check=False)
     if done.returncode == 0:
         has_doubles = not done.stdout.split("\n", 2)[1].endswith(" dups 0")
-        return (DOUBLES if has_doubles else PLAN), pairs
+        has_conflict = any(note.endswith(debian.CONFLICT) for note in notes)
+        return (DOUBLES if has_doubles else CONFLICT if has_conflict else PLAN), pairs
     if done.returncode == 1 and any("the index does not have" in note for note in notes):
         return "a dependence that the index does not have", pairs
     if done.returncode == 1:

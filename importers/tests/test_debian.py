@@ -165,8 +165,22 @@ class AlternativesTest(unittest.TestCase):
         self.assertEqual(found, {**simple("a", "c", "e"), **simple("c"), **simple("e")})
 
     def test_where_all_conflict_the_first_is_taken(self):
-        found, _ = imported("a", package("a", Conflicts="b, c", Depends="b | c"), package("b"), package("c"))
+        found, notes = imported("a", package("a", Conflicts="b, c", Depends="b | c"), package("b"), package("c"))
         self.assertEqual(found, {**simple("a", "b"), **simple("b")})
+        self.assertEqual(notes, [f"a and b {debian.CONFLICT}"])
+
+
+class ConflictTest(unittest.TestCase):
+    def test_with_what_is_given(self):
+        given = [installed("x", Provides="b"), installed("y", Breaks="c (<< 2)"), installed("a", Conflicts="d")]
+        stanzas = package("a", "2", Depends="c, d", Conflicts="b, a"), package("c"), package("d")
+        _, notes = imported("a", *stanzas, stands=given)
+        # The earlier version of a itself goes when the later one comes.
+        self.assertEqual(notes, [f"a and x {debian.CONFLICT}", f"c and y {debian.CONFLICT}"])
+
+    def test_what_one_provides_and_conflicts_with_is_no_conflict(self):
+        _, notes = imported("a", package("a", Depends="b"), package("b", Provides="x", Conflicts="x"))
+        self.assertEqual(notes, [])
 
 
 class MissingTest(unittest.TestCase):
