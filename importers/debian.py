@@ -17,6 +17,7 @@ BASE_PRIORITIES = ("required", "important")
 FILES, UNPACKED, CONFIGURED, CIRCLE = "/files", "/unpacked", "/configured", "/circle"
 IN_WORDS = {"<<": "below", "<": "up-to", "<=": "up-to", "=": "exactly", ">=": "from", ">": "from", ">>": "above"}
 MOST_NAMED = 8
+MISSING = "which nothing provides: there will be no plan"
 CONFLICT = "conflict, which a universe cannot say: dpkg will not have both"
 
 
@@ -93,6 +94,10 @@ class Pool:
         return [part for field in fields for part in parts_of(self.packages[name].get(field, ""))]
 
 
+def version_of(fields):
+    return version_key(fields.get("Version", "0"))
+
+
 class Options(NamedTuple):
     """What may meet one part of a dependence: nothing more is needed, or one of these packages."""
 
@@ -117,6 +122,11 @@ class Choices:
         self.options = functools.cache(self._options)
         self.barred_by = functools.cache(self._barred_by)
 
+    def stands(self, name):
+        """Whether a package is given in the version of the index or a later one, so that it is not installed again."""
+        given = self.given.packages.get(name)
+        return given is not None and version_of(given) >= version_of(self.index.packages[name])
+
     @functools.cached_property
     def barred_by_given(self):
         """For each package that given ones conflict with or break, these."""
@@ -129,7 +139,7 @@ class Choices:
     def _options(self, part):
         wanted = alternatives(part)
         is_given = any(self.given.meeting(each) for each in wanted)
-        names = dict.fromkeys(name for each in wanted for name in self.index.meeting(each))
+        names = dict.fromkeys(name for each in wanted for name in self.index.meeting(each) if not self.stands(name))
         return Options(is_given, tuple(names), in_words(wanted[0]))
 
     def _met_by_index(self, pool, name):
@@ -310,11 +320,9 @@ def requested(choices, packages):
     """The packages of a request that are not given, and notes on those that are."""
     names, notes = [], []
     for name in dict.fromkeys(packages):
-        fields = choices.index.packages.get(name)
-        if fields is None:
+        if name not in choices.index.packages:
             raise Refused(no_package(choices.index, name))
-        stands = choices.given.packages.get(name)
-        if stands and version_key(stands["Version"]) >= version_key(fields["Version"]):
+        if choices.stands(name):
             notes.append(f"{name} is given, and left out")
         else:
             names.append(name)
@@ -338,7 +346,7 @@ def universe(choices, request):
     if not request.is_strict:
         check_pre_depends(installation)
     for missing, name in installation.missing.items():
-        notes.append(f"{name} depends on {missing}, which the index does not have: there will be no plan")
+        notes.append(f"{name} depends on {missing}, {MISSING}")
     for name, other in installation.conflicts()[:MOST_NAMED]:
         notes.append(f"{name} and {other} {CONFLICT}")
     metis_names = Names()
@@ -347,7 +355,7 @@ def universe(choices, request):
 
 
 def comment(choices, names, is_strict):
-    named = ", ".join(f"{name} {choices.index.packages[name]['Version']}" for name in names)
+    named = ", ".join(f"{name} {choices.index.packages[name].get('Version', '')}".strip() for name in names)
     targets = " ".join(map(target, names))
     rule = ", and no rule for cycles" if is_strict else ""
     return f"{named} and what is needed besides what is given{rule}, by importers debian; targets: {targets}"

@@ -1,5 +1,5 @@
 #!/usr/bin/env python3
-"""Carries out plans with the real dpkg: python3 importers/try_dpkg.py [--metis PROGRAM] [--orders N] [--installed] PACKAGE ..
+"""Carries out plans with the real dpkg: python3 importers/try_dpkg.py [--metis PROGRAM] [--orders N] [--apt|--installed] PACKAGE ..
 
 For each package of this machine's index a universe is made, the program (the script `metis` of this repository, if none
 is named) plans for it, and dpkg does what the plan says, in the printed order and in N random ones (1) that keep its waits. It does so in a root of its own, a temporary
@@ -10,8 +10,8 @@ every package that dpkg knows has to be installed. dpkg has to be there, and the
 What a move is: a package outside cycles is unpacked and configured; of one in a cycle, its files are unpacked by one
 move, and its set-up is the other; dpkg is handed the set-ups of a cycle together, at the last of them.
 
-With --installed nothing is carried out: what the universe has, but for later versions of what stands, is compared with
-what `apt-get -s install --no-install-recommends` would newly install on this machine.
+With --apt nothing is carried out: the packages of each universe are compared with those that `apt-get -s install
+--no-install-recommends` would newly install where the base system stands; with --installed, on this machine.
 """
 
 import argparse
@@ -30,6 +30,7 @@ from importers import debian, texts
 from importers.document import Names, Refused
 
 KEPT = "Version Architecture Multi-Arch Depends Pre-Depends Provides Conflicts Breaks Replaces".split()
+INSTALLED = "Status: install ok installed\n"
 LAST_OF_A_FAULT = 400
 MOST_NAMED = 8
 
@@ -71,14 +72,12 @@ class Root:
         for each in ("info", "updates"):
             (database / each).mkdir(parents=True)
         (database / "available").touch()
-        stanzas = []
-        for name, fields in sorted(given.packages.items()):
-            stanzas.append(control(name, fields, "Status: install ok installed\n"))
+        for name, fields in given.packages.items():
             is_same = fields.get("Multi-Arch") == "same"
             listed = f"{name}:{fields['Architecture']}" if is_same else name
             (database / "info" / f"{listed}.list").write_text("/.\n")
         self.status = database / "status"
-        self.status.write_text("\n".join(stanzas))
+        self.status.write_text(status_of(given))
 
     def dpkg(self, *words):
         command = ["dpkg", f"--root={self.folder}", "--force-unsafe-io", "--no-triggers", *words]
@@ -166,9 +165,15 @@ def try_package(metis, name, orders, choices, packages):
     ), len(set(calls)) == 1
 
 
-def apt_set(name):
+def status_of(given):
+    """A status file in which the given packages stand."""
+    stanzas = (control(name, fields, INSTALLED) for name, fields in sorted(given.packages.items()))
+    return "\n".join(stanzas)
+
+
+def apt_set(name, status):
     """The packages that apt would newly install; None where it would not install this one."""
-    command = ["apt-get", "-s", "install", "--no-install-recommends", name]
+    command = ["apt-get", "-s", "-o", f"Dir::State::status={status}", "install", "--no-install-recommends", name]
     done = subprocess.run(command, stdout=subprocess.PIPE, stderr=subprocess.DEVNULL, text=True, check=False)
     if done.returncode:
         return None
@@ -179,18 +184,17 @@ def some(names):
     return ", ".join(sorted(names)[:MOST_NAMED]) + (", .." if len(names) > MOST_NAMED else "")
 
 
-def compare(name, choices):
+def compare(name, choices, status):
     """A line on what is new here and what is new for apt, and whether both are the same."""
-    try:
-        names, _ = debian.requested(choices, [name])
-        ours = set(debian.Installation(choices, names).chosen) - set(choices.given.packages)
-    except Refused:
-        if name not in choices.index.packages:
-            return f"{name}: not in the index", False
-        ours = set()
-    theirs = apt_set(name)
-    if theirs is None:
-        return f"{name}: {len(ours)} new packages; apt would not install it", False
+    if name not in choices.index.packages:
+        return f"{name}: not in the index", False
+    installation = debian.Installation(choices, [] if choices.stands(name) else [name])
+    ours = set(installation.chosen) - set(choices.given.packages)
+    is_possible = not installation.missing and not installation.conflicts()
+    theirs = apt_set(name, status)
+    if theirs is None or not is_possible:
+        here, there = "possible" if is_possible else "not possible", "not possible" if theirs is None else "possible"
+        return f"{name}: {here} here, {there} for apt", theirs is None and not is_possible
     if ours == theirs:
         return f"{name}: {len(ours)} new packages, the same as apt's", True
     only = [f"only {who}: {some(names)}" for who, names in (("here", ours - theirs), ("apt", theirs - ours)) if names]
@@ -202,15 +206,20 @@ def main():
     parser.add_argument("--metis", default=str(TOP / "metis"), metavar="PROGRAM")
     parser.add_argument("packages", metavar="PACKAGE", nargs="+")
     parser.add_argument("--orders", type=int, default=1, metavar="N")
+    parser.add_argument("--apt", action="store_true")
     parser.add_argument("--installed", action="store_true")
     arguments = parser.parse_args()
     choices = debian.choices_of(status_path=debian.STATUS if arguments.installed else None)
     good = 0
     with tempfile.TemporaryDirectory() as folder:
         packages = Packages(pathlib.Path(folder), choices.index)
+        status = debian.STATUS
+        if not arguments.installed:
+            status = pathlib.Path(folder) / "status"
+            status.write_text(status_of(choices.given))
         for name in arguments.packages:
-            if arguments.installed:
-                line, is_good = compare(name, choices)
+            if arguments.apt or arguments.installed:
+                line, is_good = compare(name, choices, status)
             else:
                 line, is_good = try_package(arguments.metis, name, arguments.orders, choices, packages)
             good += is_good

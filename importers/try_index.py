@@ -38,8 +38,8 @@ def outcome(choices, metis, name):
         has_doubles = not done.stdout.split("\n", 2)[1].endswith(" dups 0")
         has_conflict = any(note.endswith(debian.CONFLICT) for note in notes)
         return (DOUBLES if has_doubles else CONFLICT if has_conflict else PLAN), pairs
-    if done.returncode == 1 and any("the index does not have" in note for note in notes):
-        return "a dependence that the index does not have", pairs
+    if done.returncode == 1 and any(note.endswith(debian.MISSING) for note in notes):
+        return "a dependence that nothing provides", pairs
     if done.returncode == 1:
         return "refused though all is there", pairs
     return f"status {done.returncode}: {done.stdout.strip()}", pairs

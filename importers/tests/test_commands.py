@@ -31,7 +31,7 @@ class ImportersTest(unittest.TestCase):
             status, document, notes = run("-m", "importers", "debian", "--index", str(index), "a")
         self.assertEqual(status, 0)
         self.assertEqual(len(json.loads(document)["types"]), 1)
-        self.assertEqual(notes, "importers: a depends on b, which the index does not have: there will be no plan\n")
+        self.assertEqual(notes, "importers: a depends on b, which nothing provides: there will be no plan\n")
 
     def test_bad_input_gets_one_line_and_status_1(self):
         with tempfile.TemporaryDirectory() as folder:

@@ -187,14 +187,14 @@ class MissingTest(unittest.TestCase):
     def test_it_stays_as_a_port_that_nothing_provides(self):
         found, notes = imported("a", package("a", Depends="x | y, b"), package("b"))
         self.assertEqual(found, {**simple("a", "x", "b"), **simple("b")})
-        self.assertEqual(notes, ["a depends on x, which the index does not have: there will be no plan"])
+        self.assertEqual(notes, ["a depends on x, which nothing provides: there will be no plan"])
 
     def test_another_version_is_not_there_either(self):
         found, notes = imported("a", package("a", Depends="b (>= 2:5~), c"), package("b"), package("c", Depends="b"))
         self.assertEqual(
             found, {**simple("a", "b/from-2_5_", "c"), **simple("b"), **simple("c", "b")}
         )
-        self.assertEqual(notes, ["a depends on b/from-2:5~, which the index does not have: there will be no plan"])
+        self.assertEqual(notes, ["a depends on b/from-2:5~, which nothing provides: there will be no plan"])
 
 
 TWO = (package("a", Depends="b, c"), package("b", Depends="a, d"), package("c"), package("d"), package("e", Depends="a"))
@@ -258,6 +258,11 @@ class InstalledTest(unittest.TestCase):
     def test_a_package_of_another_origin_stands(self):
         found, _ = imported("a", package("a", Depends="b (>= 2)"), package("b", "1"), stands=[installed("b", "3")])
         self.assertEqual(found, simple("a"))
+
+    def test_nothing_is_taken_back_to_an_earlier_version(self):
+        found, notes = imported("a", package("a", Depends="x"), package("b", "1", Provides="x"), stands=[installed("b", "2")])
+        self.assertEqual(found, simple("a", "x"))
+        self.assertEqual(notes, ["a depends on x, which nothing provides: there will be no plan"])
 
     def test_what_is_asked_for_and_stands_is_left_out(self):
         found, notes = imported("a b", package("a"), package("b"), stands=[installed("b")])
