@@ -156,7 +156,7 @@ def networks_of(name, told, project):
     for each in names:
         if each not in known:
             raise Refused(f"service {name}: no network {each} is defined")
-    return tuple(dict.fromkeys(names))
+    return tuple(sorted(set(names)))
 
 
 def volumes_of(name, told, project):
@@ -170,7 +170,7 @@ def volumes_of(name, told, project):
         if source not in known:
             raise Refused(f"service {name}: no volume {source} is defined")
         names.append(source)
-    return tuple(dict.fromkeys(names))
+    return tuple(sorted(set(names)))
 
 
 def volume_name(volume):

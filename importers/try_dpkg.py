@@ -1,11 +1,14 @@
 #!/usr/bin/env python3
-"""Carries out plans with the real dpkg: python3 importers/try_dpkg.py [--metis PROGRAM] [--orders N] [--apt|--installed] PACKAGE ..
+"""Carries out plans with the real dpkg, or compares universes with apt:
+
+    python3 importers/try_dpkg.py [--metis PROGRAM] [--orders N] [--apt|--installed] PACKAGE ..
 
 For each package of this machine's index a universe is made, the program (the script `metis` of this repository, if none
-is named) plans for it, and dpkg does what the plan says, in the printed order and in N random ones (1) that keep its waits. It does so in a root of its own, a temporary
-folder, in which the base system stands as installed, and with empty packages that have the real control fields: so
-dpkg looks at each Depends, Pre-Depends, Conflicts and Breaks with its version as it would for the real ones. In the end
-every package that dpkg knows has to be installed. dpkg has to be there, and the rights of root, since it asks for them.
+is named) plans for it, and dpkg does what the plan says, in the printed order and in N random ones (1) that keep its
+waits. It does so in a root of its own, a temporary folder, in which the base system stands as installed, and with empty
+packages that have the real control fields: so dpkg looks at each Depends, Pre-Depends, Conflicts and Breaks with its
+version as it would for the real ones. In the end every package that dpkg knows has to be installed. dpkg has to be there,
+and the rights of root, since it asks for them.
 
 What a move is: a package outside cycles is unpacked and configured; of one in a cycle, its files are unpacked by one
 move, and its set-up is the other; dpkg is handed the set-ups of a cycle together, at the last of them.

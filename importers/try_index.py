@@ -1,8 +1,10 @@
 #!/usr/bin/env python3
-"""Asks for a plan for each package of this machine's index: python3 importers/try_index.py [--metis PROGRAM] [--jobs N] [--every K]
+"""Asks for a plan for each package of this machine's index:
+
+    python3 importers/try_index.py [--metis PROGRAM] [--jobs N] [--every K]
 
 A universe is made of each package that is not of the base system (of each K-th one), and the program plans for it. The
-last lines count what came of it, with the names of the first packages of each cause that no plan was made.
+last lines count what came of it, with the names of the first packages of each cause for which no plan was made.
 """
 
 import argparse

@@ -242,14 +242,16 @@ class NextTest(unittest.TestCase):
             }
         )
         found = shape(compose.universe([first, second]))
-        things = ("image/j",)
         expected = {
             **service("api", ["db/started"]),
             **service("db"),
             **service("web", ["api/started"]),
             **thing("image/i"),
             **project("api/started", "db/started", "web/started"),
-            "api@next": [each.replace("+api/started", "+api/started@next") for each in service("api", ["db/started"], things=things)["api"]],
+            "api@next": [
+                each.replace("+api/started", "+api/started@next")
+                for each in service("api", ["db/started"], things=("image/j",))["api"]
+            ],
             **service("new", ["web/started@next"]),
             "web@next": [each.replace("/started", "/started@next") for each in service("web", ["api/started"])["web"]],
             **thing("image/j"),
