@@ -351,14 +351,25 @@ def universe(choices, request):
         notes.append(f"{name} and {other} {CONFLICT}")
     metis_names = Names()
     types = Writer(installation, request.is_strict, metis_names).types()
-    return document(comment(choices, names, request.is_strict), types, metis_names), notes
+    return document(comment(installation, names, request.is_strict), types, metis_names), notes
 
 
-def comment(choices, names, is_strict):
-    named = ", ".join(f"{name} {choices.index.packages[name].get('Version', '')}".strip() for name in names)
-    targets = " ".join(map(target, names))
+def comment(installation, names, is_strict):
+    packages = installation.choices.index.packages
+    named = ", ".join(f"{name} {packages[name].get('Version', '')}".strip() for name in names)
     rule = ", and no rule for cycles" if is_strict else ""
+    targets = " ".join(targets_of(installation, names, is_strict))
     return f"{named} and what is needed besides what is given{rule}, by importers debian; targets: {targets}"
+
+
+def targets_of(installation, names, is_strict):
+    """A target for each package; one alone for those of a cycle, which are there together."""
+    asked = set()
+    for name in names:
+        group = () if is_strict else installation.circles.get(name, ())
+        if asked.isdisjoint(group):
+            yield target(name)
+        asked.update(group)
 
 
 def read(path):

@@ -1,3 +1,4 @@
+import json
 import pathlib
 import tempfile
 import unittest
@@ -237,6 +238,19 @@ class CycleTest(unittest.TestCase):
                 imported("a", *stanzas)
             reason = f"a cycle of Pre-Depends: a pre-depends on b, which needs a first; the cycle is {members}"
             self.assertEqual(str(caught.exception), reason)
+
+
+class TargetsTest(unittest.TestCase):
+    def targets(self, names, is_strict=False):
+        document, _ = debian.universe(choices(*TWO), debian.Request(names.split(), is_strict))
+        return json.loads(document)["comment"].partition("targets: ")[2]
+
+    def test_one_for_each_package(self):
+        self.assertEqual(self.targets("e c"), "port:e port:c")
+
+    def test_one_for_a_cycle(self):
+        self.assertEqual(self.targets("b a e"), "port:b port:e")
+        self.assertEqual(self.targets("b a", is_strict=True), "port:b port:a")
 
 
 class InstalledTest(unittest.TestCase):
