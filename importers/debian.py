@@ -107,10 +107,13 @@ class Options(NamedTuple):
 
 
 def in_words(wanted):
-    """A relation as a name that no package has, but where it allows any version."""
-    if wanted.operator is None:
-        return wanted.name
-    return f"{wanted.name}/{IN_WORDS[wanted.operator]}-{wanted.version}"
+    """A relation as a name that no package has, but where it allows any version and architecture."""
+    words = [wanted.name]
+    if wanted.architecture is not None:
+        words.append(wanted.architecture)
+    if wanted.operator is not None:
+        words.append(f"{IN_WORDS[wanted.operator]}-{wanted.version}")
+    return "/".join(words)
 
 
 class Choices:

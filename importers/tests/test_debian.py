@@ -197,6 +197,10 @@ class MissingTest(unittest.TestCase):
         )
         self.assertEqual(notes, ["a depends on b/from-2:5~, which nothing provides: there will be no plan"])
 
+    def test_another_architecture_is_not_there_either(self):
+        found, _ = imported("a", package("a", Depends="b:i386 (<< 2), c"), package("b"), package("c", Depends="b"))
+        self.assertEqual(found["a"], simple("a", "b/i386/below-2", "c")["a"])
+
 
 TWO = (package("a", Depends="b, c"), package("b", Depends="a, d"), package("c"), package("d"), package("e", Depends="a"))
 
