@@ -70,6 +70,7 @@ class ServicesTest(unittest.TestCase):
                         "kept:/k:ro",
                         "./here:/h",
                         "/anonymous",
+                        "anonymous/too",
                     ],
                 },
                 "b": {"build": {"context": "."}},
@@ -144,6 +145,24 @@ class ServicesTest(unittest.TestCase):
         )
         self.assertEqual(found["a"], service("a", ["b/started", "c/started", "d/started"])["a"])
         self.assertEqual(found["e"], service("e", ["d/started"])["e"])
+
+    def test_what_a_service_says_itself_counts_before_that(self):
+        found = imported({"a": {**waiting(b="service_healthy"), "links": ["b"]}, "b": alone()})
+        self.assertEqual(found["a"], service("a", ["b/healthy"])["a"])
+
+    def test_two_later_milestones_stand_apart_too(self):
+        conditions = {"a": "service_healthy", "b": "service_completed_successfully"}
+        found = imported({**{name: waiting(c=each) for name, each in conditions.items()}, "c": alone()})
+        expected = {
+            **service("a", ["c/healthy"]),
+            **service("b", ["c/completed"]),
+            **service("c"),
+            "c/healthy": ["awaited > healthy", "healthy +c/healthy -c/started > awaited"],
+            "c/completed": ["awaited > completed", "completed +c/completed -c/started > awaited"],
+            **thing("image/i"),
+            **project("a/started", "b/started", "c/healthy", "c/completed"),
+        }
+        self.assertEqual(found, expected)
 
     def test_a_cycle_is_the_planners_to_refuse(self):
         found = imported({"a": alone(depends_on=["b"]), "b": alone(depends_on=["a"])})
@@ -258,6 +277,17 @@ class NextTest(unittest.TestCase):
             "project@next": project("api/started@next", "db/started", "new/started", "web/started@next")["project"],
         }
         self.assertEqual(found, expected)
+
+
+    def test_the_same_project_twice_has_a_target_for_each(self):
+        both = [project_of({"a": alone()}), project_of({"a": alone()})]
+        expected = {
+            **service("a"),
+            **thing("image/i"),
+            **project("a/started"),
+            "project@next": project("a/started")["project"],
+        }
+        self.assertEqual(shape(compose.universe(both)), expected)
 
 
 class RefusedTest(unittest.TestCase):
