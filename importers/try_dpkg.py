@@ -87,7 +87,8 @@ class Root:
         done = subprocess.run(command, stdout=subprocess.PIPE, stderr=subprocess.STDOUT, text=True, check=False)
         self.calls += 1
         if done.returncode:
-            raise Failed(f"{' '.join(map(str, words))}: {done.stdout.strip()[-LAST_OF_A_FAULT:]}")
+            told = " ".join(done.stdout.split())
+            raise Failed(f"{' '.join(map(str, words))}: {told[-LAST_OF_A_FAULT:]}")
 
     def check(self, names):
         """Everything that dpkg knows is installed, and so are these packages."""
