@@ -1,0 +1,323 @@
+import json
+import pathlib
+import tempfile
+import unittest
+
+from importers import debian
+from importers.document import Refused
+from importers.tests.shapes import shape
+
+BASE = """
+Package: libc6
+Version: 2.36
+Architecture: amd64
+Priority: optional
+
+Package: dpkg
+Version: 1.21
+Architecture: amd64
+Essential: yes
+Depends: libc6
+Provides: dpkg-base
+
+Package: init
+Version: 1
+Architecture: all
+Priority: important
+"""
+
+
+def package(name, version="1", **fields):
+    """A stanza; the names of fields are written with `_` in place of `-`."""
+    rows = [f"Package: {name}", f"Version: {version}", f"Architecture: {fields.pop('Architecture', 'amd64')}"]
+    return "\n".join([*rows, *(f"{key.replace('_', '-')}: {value}" for key, value in fields.items())]) + "\n"
+
+
+def choices(*stanzas, installed=None):
+    with tempfile.TemporaryDirectory() as folder:
+        index, status = pathlib.Path(folder) / "Packages", pathlib.Path(folder) / "status"
+        index.write_text("\n".join([BASE, *stanzas]))
+        if installed is None:
+            return debian.choices_of(str(index))
+        status.write_text("\n".join(installed))
+        return debian.choices_of(str(index), str(status))
+
+
+def installed(name, version="1", **fields):
+    return package(name, version, Status="install ok installed", **fields)
+
+
+def imported(names, *stanzas, is_strict=False, stands=None):
+    """The shape of the universe of these packages, and the notes."""
+    document, notes = debian.universe(
+        choices(*stanzas, installed=stands), debian.Request(names.split(), is_strict)
+    )
+    return shape(document), notes
+
+
+def simple(name, *needs):
+    """The type of a package outside cycles."""
+    required = "".join(f" -{need}" for need in needs)
+    return {name: ["absent > installed", f"installed +{name}{required} > absent"]}
+
+
+class PlainTest(unittest.TestCase):
+    def test_what_is_needed_but_for_the_base(self):
+        found, notes = imported(
+            "a",
+            package("a", Pre_Depends="libc6 (>= 2.30)", Depends="b (>= 1), dpkg-base, c, b"),
+            package("b", Depends="libc6, init"),
+            package("c", Depends="b", Recommends="d"),
+            package("d"),
+        )
+        self.assertEqual(found, {**simple("a", "b", "c"), **simple("b"), **simple("c", "b")})
+        self.assertEqual(notes, [])
+
+    def test_what_is_pre_depended_on_is_needed_too(self):
+        found, _ = imported("a", package("a", Pre_Depends="b", Depends="c"), package("b"), package("c"))
+        self.assertEqual(found, {**simple("a", "b", "c"), **simple("b"), **simple("c")})
+
+    def test_several_packages(self):
+        found, _ = imported("a b", package("a", Depends="c"), package("b", Depends="c"), package("c"), package("d"))
+        self.assertEqual(found, {**simple("a", "c"), **simple("b", "c"), **simple("c")})
+
+    def test_a_plus_becomes_an_underscore(self):
+        found, _ = imported("g++", package("g++", Depends="libstdc++6:amd64"), package("libstdc++6"))
+        self.assertEqual(found, {**simple("g__", "libstdc__6"), **simple("libstdc__6")})
+
+    def test_other_architectures_are_not_there(self):
+        found, notes = imported(
+            "a", package("a", Depends="b:i386 | c, d:any"), package("b", Architecture="i386"), package("c"), package("d")
+        )
+        self.assertEqual(found, {**simple("a", "c", "d"), **simple("c"), **simple("d")})
+        self.assertEqual(notes, [])
+
+    def test_what_it_provides_itself_is_not_needed(self):
+        found, _ = imported("a", package("a", Provides="x", Depends="x, a"), package("b", Provides="x"))
+        self.assertEqual(found, simple("a"))
+
+    def test_more_than_128_needs_are_cut_into_parts(self):
+        others = [f"n{number:03}" for number in range(130)]
+        found, _ = imported("a", package("a", Depends=", ".join(others)), *map(package, others))
+        self.assertEqual(found["a"], ["absent > installed", "installed +a -a/part-1 -a/part-2 > absent"])
+        self.assertEqual(found["a/part-2"], ["absent > there", "there +a/part-2 -n128 -n129 > absent"])
+        self.assertEqual(len(found), 133)
+
+
+class AlternativesTest(unittest.TestCase):
+    def test_the_first_that_is_there(self):
+        found, _ = imported("a", package("a", Depends="x | b | c"), package("b"), package("c"))
+        self.assertEqual(found, {**simple("a", "b"), **simple("b")})
+
+    def test_one_that_is_needed_anyway(self):
+        found, _ = imported("a", package("a", Depends="b | c, d"), package("b"), package("c"), package("d", Depends="c"))
+        self.assertEqual(found, {**simple("a", "c", "d"), **simple("c"), **simple("d", "c")})
+
+    def test_one_that_an_earlier_choice_brought(self):
+        found, _ = imported(
+            "a", package("a", Depends="b | c, d | b"), package("b"), package("c"), package("d")
+        )
+        self.assertEqual(found, {**simple("a", "b"), **simple("b")})
+
+    def test_one_that_is_given(self):
+        found, _ = imported("a", package("a", Depends="b | init"), package("b"))
+        self.assertEqual(found, simple("a"))
+
+    def test_a_name_that_others_provide_is_the_first_of_them(self):
+        found, _ = imported("a", package("a", Depends="x"), package("c", Provides="x"), package("b", Provides="x, y"))
+        self.assertEqual(found, {**simple("a", "b"), **simple("b")})
+
+    def test_the_package_of_the_name_comes_before_those_that_provide_it(self):
+        found, _ = imported("a", package("a", Depends="x"), package("b", Provides="x"), package("x"))
+        self.assertEqual(found, {**simple("a", "x"), **simple("x")})
+
+    def test_versions_decide(self):
+        found, _ = imported(
+            "a",
+            package("a", Depends="b (>= 2) | c (<< 2), x (= 3)"),
+            package("b", "1.9"),
+            package("c", "2~rc1"),
+            package("d", Provides="x"),
+            package("e", Provides="x (= 3)"),
+        )
+        self.assertEqual(found, {**simple("a", "c", "e"), **simple("c"), **simple("e")})
+
+    def test_one_that_conflicts_is_passed_over(self):
+        found, _ = imported(
+            "a", package("a", Depends="d, b | c"), package("b"), package("c"), package("d", Conflicts="b")
+        )
+        self.assertEqual(found, {**simple("a", "d", "c"), **simple("c"), **simple("d")})
+        found, _ = imported(
+            "a", package("a", Depends="d, b | c"), package("b", Breaks="x (<< 3)"), package("c"), package("d", Provides="x (= 2)")
+        )
+        self.assertEqual(found, {**simple("a", "d", "c"), **simple("c"), **simple("d")})
+
+    def test_one_that_the_given_conflict_with_is_passed_over(self):
+        given = [installed("old", Conflicts="b"), installed("other", "2")]
+        found, _ = imported(
+            "a",
+            package("a", Depends="b | c, d | e"),
+            package("b"),
+            package("c"),
+            package("d", Breaks="other"),
+            package("e"),
+            stands=given,
+        )
+        self.assertEqual(found, {**simple("a", "c", "e"), **simple("c"), **simple("e")})
+
+    def test_where_all_conflict_the_first_is_taken(self):
+        found, notes = imported("a", package("a", Conflicts="b, c", Depends="b | c"), package("b"), package("c"))
+        self.assertEqual(found, {**simple("a", "b"), **simple("b")})
+        self.assertEqual(notes, [f"a and b {debian.CONFLICT}"])
+
+
+class ConflictTest(unittest.TestCase):
+    def test_with_what_is_given(self):
+        given = [installed("x", Provides="b"), installed("y", Breaks="c (<< 2)"), installed("a", Conflicts="d")]
+        stanzas = package("a", "2", Depends="c, d", Conflicts="b, a"), package("c"), package("d")
+        _, notes = imported("a", *stanzas, stands=given)
+        # The earlier version of a itself goes when the later one comes.
+        self.assertEqual(notes, [f"a and x {debian.CONFLICT}", f"c and y {debian.CONFLICT}"])
+
+    def test_what_one_provides_and_conflicts_with_is_no_conflict(self):
+        _, notes = imported("a", package("a", Depends="b"), package("b", Provides="x", Conflicts="x"))
+        self.assertEqual(notes, [])
+
+
+class MissingTest(unittest.TestCase):
+    def test_it_stays_as_a_port_that_nothing_provides(self):
+        found, notes = imported("a", package("a", Depends="x | y, b"), package("b"))
+        self.assertEqual(found, {**simple("a", "x", "b"), **simple("b")})
+        self.assertEqual(notes, ["a depends on x, which nothing provides: there will be no plan"])
+
+    def test_another_version_is_not_there_either(self):
+        found, notes = imported("a", package("a", Depends="b (>= 2:5~), c"), package("b"), package("c", Depends="b"))
+        self.assertEqual(
+            found, {**simple("a", "b/from-2_5_", "c"), **simple("b"), **simple("c", "b")}
+        )
+        self.assertEqual(notes, ["a depends on b/from-2:5~, which nothing provides: there will be no plan"])
+
+    def test_another_architecture_is_not_there_either(self):
+        found, _ = imported("a", package("a", Depends="b:i386 (<< 2), c"), package("b"), package("c", Depends="b"))
+        self.assertEqual(found["a"], simple("a", "b/i386/below-2", "c")["a"])
+
+
+TWO = (package("a", Depends="b, c"), package("b", Depends="a, d"), package("c"), package("d"), package("e", Depends="a"))
+
+
+class CycleTest(unittest.TestCase):
+    def test_two_that_depend_on_each_other(self):
+        found, _ = imported("e", *TWO)
+        expected = {
+            "a/files": ["absent > unpacked", "unpacked +a/unpacked > absent"],
+            "a": ["absent > installed", "installed +a/configured -a/unpacked -b/unpacked -c > absent"],
+            "b/files": ["absent > unpacked", "unpacked +b/unpacked > absent"],
+            "b": ["absent > installed", "installed +b/configured -b/unpacked -a/unpacked -d > absent"],
+            **simple("c"),
+            **simple("d"),
+            **simple("e", "a"),
+            "a/circle": ["open > settled", "settled +a +b -a/configured -b/configured > open"],
+        }
+        self.assertEqual(found, expected)
+
+    def test_the_strict_rule_knows_no_cycles(self):
+        found, _ = imported("e", *TWO, is_strict=True)
+        expected = [simple("a", "b", "c"), simple("b", "a", "d"), simple("c"), simple("d"), simple("e", "a")]
+        self.assertEqual(found, {key: value for each in expected for key, value in each.items()})
+
+    def test_files_wait_for_what_is_pre_depended_on(self):
+        found, _ = imported("a", package("a", Pre_Depends="c", Depends="b"), package("b", Depends="a"), package("c"))
+        self.assertEqual(found["a/files"], ["absent > unpacked", "unpacked +a/unpacked -c > absent"])
+        self.assertEqual(found["a"][1], "installed +a/configured -a/unpacked -c -b/unpacked > absent")
+
+    def test_a_cycle_through_what_is_given_is_none(self):
+        found, _ = imported("a", package("a", Depends="b"), package("b", Depends="a"), stands=[installed("b")])
+        self.assertEqual(found, simple("a"))
+
+    def test_pre_depends_in_a_cycle(self):
+        both = package("a", Pre_Depends="b"), package("b", Pre_Depends="a")
+        one = package("a", Pre_Depends="b"), package("b", Depends="c"), package("c", Depends="a")
+        for stanzas, members in ((both, "a, b"), (one, "a, b, c")):
+            with self.assertRaises(Refused) as caught:
+                imported("a", *stanzas)
+            reason = f"a cycle of Pre-Depends: a pre-depends on b, which needs a first; the cycle is {members}"
+            self.assertEqual(str(caught.exception), reason)
+
+
+class TargetsTest(unittest.TestCase):
+    def targets(self, names, is_strict=False):
+        document, _ = debian.universe(choices(*TWO), debian.Request(names.split(), is_strict))
+        return json.loads(document)["comment"].partition("targets: ")[2]
+
+    def test_one_for_each_package(self):
+        self.assertEqual(self.targets("e c"), "port:e port:c")
+
+    def test_one_for_a_cycle(self):
+        self.assertEqual(self.targets("b a e"), "port:b port:e")
+        self.assertEqual(self.targets("b a", is_strict=True), "port:b port:a")
+
+
+class InstalledTest(unittest.TestCase):
+    def test_what_stands_is_given_in_place_of_the_base(self):
+        found, _ = imported(
+            "a", package("a", Depends="b, init, libc6"), package("b"), stands=[installed("b"), installed("libc6", "2.36")]
+        )
+        self.assertEqual(found, {**simple("a", "init"), **simple("init")})
+
+    def test_a_version_that_does_not_do_is_replaced(self):
+        found, _ = imported("a", package("a", Depends="b (>= 2)"), package("b", "2"), stands=[installed("b", "1")])
+        self.assertEqual(found, {**simple("a", "b"), **simple("b")})
+
+    def test_what_was_removed_does_not_stand(self):
+        removed = package("b", Status="deinstall ok config-files")
+        found, _ = imported("a", package("a", Depends="b"), package("b"), stands=[removed])
+        self.assertEqual(found, {**simple("a", "b"), **simple("b")})
+
+    def test_a_package_of_another_origin_stands(self):
+        found, _ = imported("a", package("a", Depends="b (>= 2)"), package("b", "1"), stands=[installed("b", "3")])
+        self.assertEqual(found, simple("a"))
+
+    def test_nothing_is_taken_back_to_an_earlier_version(self):
+        found, notes = imported("a", package("a", Depends="x"), package("b", "1", Provides="x"), stands=[installed("b", "2")])
+        self.assertEqual(found, simple("a", "x"))
+        self.assertEqual(notes, ["a depends on x, which nothing provides: there will be no plan"])
+
+    def test_what_is_asked_for_and_stands_is_left_out(self):
+        found, notes = imported("a b", package("a"), package("b"), stands=[installed("b")])
+        self.assertEqual(found, simple("a"))
+        self.assertEqual(notes, ["b is given, and left out"])
+
+    def test_a_later_version_of_what_stands_is_asked_for(self):
+        found, _ = imported("b", package("b", "2"), stands=[installed("b", "1")])
+        self.assertEqual(found, simple("b"))
+
+
+class RefusedTest(unittest.TestCase):
+    def refused(self, names, *stanzas):
+        with self.assertRaises(Refused) as caught:
+            imported(names, *stanzas)
+        return str(caught.exception)
+
+    def test_no_such_package(self):
+        self.assertEqual(self.refused("nginz"), "no package nginz in the index (apt-get update renews it)")
+
+    def test_a_name_that_only_others_provide(self):
+        reason = "no package x in the index; it is a name that others provide: a, b"
+        self.assertEqual(self.refused("x", package("b", Provides="x"), package("a", Provides="x")), reason)
+
+    def test_all_is_given(self):
+        self.assertEqual(self.refused("dpkg"), "dpkg: given already, so nothing is left to install")
+
+    def test_a_dependence_that_is_none(self):
+        with self.assertRaisesRegex(ValueError, "no relation to a package: 'b c'"):
+            imported("a", package("a", Depends="b c"))
+
+    def test_too_many_packages(self):
+        others = [f"n{number:04}" for number in range(1001)]
+        chain = [package(one, Depends=other) for one, other in zip(others, [*others[1:], "libc6"])]
+        reason = "the universe has 2002 pairs of type and state, and Metis takes at most 2000"
+        self.assertEqual(self.refused("n0000", *chain), reason)
+
+    def test_no_such_file(self):
+        with self.assertRaisesRegex(Refused, "^/nowhere/Packages: No such file or directory$"):
+            debian.choices_of("/nowhere/Packages")

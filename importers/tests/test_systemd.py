@@ -1,0 +1,247 @@
+import os
+import pathlib
+import tempfile
+import unittest
+
+from importers import systemd
+from importers.document import Refused
+from importers.tests.shapes import shape
+from importers.units import Folders
+
+LIBRARY, LOCAL = "lib/systemd/system", "etc/systemd/system"
+# Without default dependencies, so that a universe is short.
+BARE = "DefaultDependencies=no\n"
+
+
+def unit(text="", rest=""):
+    return f"[Unit]\n{BARE}{text}\n{rest}"
+
+
+def service(text=""):
+    """A service without the socket of the journal."""
+    return unit(text, "[Service]\nStandardOutput=null\n")
+
+
+def imported(target, files, links=()):
+    """The shape of the universe of a target, and the notes; files and links are below `lib` if no folder is named."""
+    with tempfile.TemporaryDirectory() as folder:
+        root = pathlib.Path(folder)
+        for name, text in files.items():
+            path = root / (name if "/systemd/system/" in name else f"{LIBRARY}/{name}")
+            path.parent.mkdir(parents=True, exist_ok=True)
+            path.write_text(text)
+        for name, to in links:
+            path = root / (name if "/systemd/system/" in name else f"{LIBRARY}/{name}")
+            path.parent.mkdir(parents=True, exist_ok=True)
+            os.symlink(to, path)
+        document, notes = systemd.universe(Folders(root), target)
+        return shape(document), list(notes)
+
+
+def active(name, *after):
+    required = "".join(f" -{each}" for each in after)
+    return {name: ["inactive > active", f"active +{name}{required} > inactive"]}
+
+
+def boot(*names):
+    return {"boot": ["down > up", " ".join(["up", *(f"-{name}" for name in names), "> down"])]}
+
+
+class OrderTest(unittest.TestCase):
+    def test_after_and_before_among_what_is_pulled_in(self):
+        found, notes = imported(
+            "t.target",
+            {
+                "t.target": unit("Requires=a.service\nWants=b.service c.service"),
+                "a.service": service("After=b.service x.service"),
+                "b.service": service("Before=c.service"),
+                "c.service": service(),
+                "x.service": service(),
+            },
+        )
+        expected = {
+            **active("a.service", "b.service"),
+            **active("b.service"),
+            **active("c.service", "b.service"),
+            **active("t.target"),
+            **boot("a.service", "b.service", "c.service", "t.target"),
+        }
+        self.assertEqual(found, expected)
+        self.assertEqual(notes, [])
+
+    def test_a_target_comes_after_what_it_pulls_in_where_nothing_says_otherwise(self):
+        defaults = "[Unit]\n"
+        found, _ = imported(
+            "t.target",
+            {
+                "t.target": defaults + "Wants=a.target b.target c.target",
+                "a.target": defaults,
+                "b.target": defaults + "After=t.target",
+                "c.target": unit(),
+            },
+        )
+        self.assertEqual(found["t.target"], active("t.target", "a.target")["t.target"])
+        self.assertEqual(found["b.target"], active("b.target", "t.target")["b.target"])
+
+    def test_defaults_of_services_sockets_and_timers(self):
+        found, _ = imported(
+            "t.target",
+            {
+                "t.target": unit("Wants=a.service s.socket w.timer basic.target sockets.target timers.target time-set.target"),
+                "a.service": "[Service]\nPrivateTmp=yes\nType=dbus\n",
+                "s.socket": "[Socket]\nService=a.service\n",
+                "w.timer": "[Timer]\nOnCalendar=daily\nUnit=a.service\n",
+                **{f"{name}.target": unit() for name in ("basic", "sysinit", "sockets", "timers", "time-set")},
+                "dbus.socket": unit(),
+                "systemd-journald.socket": unit(),
+            },
+        )
+        # Nothing pulls in the socket of the journal here, so nobody waits for it.
+        self.assertEqual(
+            found["a.service"],
+            active("a.service", "basic.target", "dbus.socket", "s.socket", "sysinit.target", "w.timer")["a.service"],
+        )
+        self.assertEqual(found["s.socket"], active("s.socket", "sysinit.target")["s.socket"])
+        self.assertEqual(found["w.timer"], active("w.timer", "sysinit.target", "time-set.target")["w.timer"])
+        self.assertEqual(found["sockets.target"], active("sockets.target", "s.socket")["sockets.target"])
+        self.assertEqual(found["timers.target"], active("timers.target", "w.timer")["timers.target"])
+
+    def test_words_go_to_the_journal_where_nothing_else_is_said(self):
+        files = {
+            "t.target": unit("Wants=a.service b.service systemd-journald.socket"),
+            "a.service": unit(),
+            "b.service": service(),
+            "systemd-journald.socket": unit(),
+        }
+        found, _ = imported("t.target", files)
+        self.assertEqual(found["a.service"], active("a.service", "systemd-journald.socket")["a.service"])
+        self.assertEqual(found["b.service"], active("b.service")["b.service"])
+
+    def test_more_than_128_units_are_cut_into_parts(self):
+        names = [f"u{number:03}.target" for number in range(128)]
+        files = {"t.target": unit("Wants=" + " ".join(names)), **{name: unit() for name in names}}
+        found, _ = imported("t.target", files)
+        self.assertEqual(found["boot"], ["down > up", "up -boot/part-1 -boot/part-2 > down"])
+        self.assertEqual(len(found), 132)
+
+
+class FilesTest(unittest.TestCase):
+    def test_folders_of_links_and_instances(self):
+        found, _ = imported(
+            "t.target",
+            {"t.target": unit(), "a@.service": service("After=b@%i.service"), "b@.service": service("Before=%p@x.service")},
+            [
+                (f"{LOCAL}/t.target.wants/a@one.service", "/lib/systemd/system/a@.service"),
+                ("t.target.requires/b@one.service", "../b@.service"),
+            ],
+        )
+        expected = {
+            **active("a@one.service", "b@one.service"),
+            **active("b@one.service"),
+            **active("t.target"),
+            **boot("a@one.service", "b@one.service", "t.target"),
+        }
+        self.assertEqual(found, expected)
+
+    def test_another_name_is_the_same_unit(self):
+        found, _ = imported(
+            "default.target",
+            {"t.target": unit("Wants=other.service"), "a.service": service("After=t.target")},
+            [("default.target", "t.target"), ("other.service", "/lib/systemd/system/a.service")],
+        )
+        self.assertEqual(found, {**active("a.service", "t.target"), **active("t.target"), **boot("a.service", "t.target")})
+
+    def test_a_link_to_a_file_elsewhere(self):
+        files = {"t.target": unit("Wants=a.service"), "opt/systemd/system/a.service": service("After=t.target")}
+        found, _ = imported("t.target", files, [(f"{LOCAL}/a.service", "/opt/systemd/system/a.service")])
+        self.assertEqual(found["a.service"], active("a.service", "t.target")["a.service"])
+
+    def test_local_files_and_drop_ins(self):
+        found, _ = imported(
+            "t.target",
+            {
+                "t.target": unit("Wants=a.service b.service"),
+                "a.service": service("After=b.service"),
+                f"{LOCAL}/a.service": service("# After=b.service\nAfter = \\\n t.target"),
+                "b.service": service("After=a.service"),
+                "b.service.d/10.conf": "[Unit]\nAfter=\nAfter=b.service",
+                f"{LOCAL}/b.service.d/10.conf": "[Unit]\nAfter=\nAfter=t.target",
+                "service.d/20.conf": "[Unit]\nWants=c.service",
+                "c.service": service(),
+            },
+        )
+        expected = {
+            **active("a.service", "t.target"),
+            **active("b.service", "t.target"),
+            **active("c.service"),
+            **active("t.target"),
+            **boot("a.service", "b.service", "c.service", "t.target"),
+        }
+        self.assertEqual(found, expected)
+
+
+class MissingTest(unittest.TestCase):
+    def test_what_is_only_wanted_is_left_out(self):
+        found, notes = imported(
+            "t.target",
+            {
+                "t.target": unit("Wants=a.service m.service z.service"),
+                "a.service": service("Requires=n.service\nWants=b.service"),
+                "b.service": service("Requires=a.service"),
+                "m.service": service(),
+            },
+            [(f"{LOCAL}/m.service", "/dev/null")],
+        )
+        self.assertEqual(found, {**active("t.target"), **boot("t.target")})
+        expected = [
+            "a.service requires n.service, which is not there or cannot start: left out",
+            "b.service requires a.service, which is not there or cannot start: left out",
+            "wanted, and not there: m.service, z.service",
+        ]
+        self.assertEqual(notes, expected)
+
+    def test_what_the_target_requires_stays_as_a_port_that_nothing_provides(self):
+        found, notes = imported(
+            "t.target", {"t.target": unit("Requires=a.service"), "a.service": service("Requires=n.service")}
+        )
+        expected = {
+            **active("a.service", "n.service"),
+            **active("t.target", "a.service"),
+            **boot("a.service", "t.target"),
+        }
+        self.assertEqual(found, expected)
+        expected = [
+            "a.service requires n.service, which is not there or cannot start",
+            "t.target requires a.service, which is not there or cannot start",
+        ]
+        self.assertEqual(notes, expected)
+
+    def test_devices_and_slices_are_given(self):
+        needs = "Requires=dev-sda.device system.slice -.mount\nAfter=dev-sda.device"
+        found, notes = imported("t.target", {"t.target": unit(needs)})
+        self.assertEqual(found, {**active("t.target"), **boot("t.target")})
+        self.assertEqual(notes, [])
+
+    def test_conflicts_are_counted(self):
+        files = {"t.target": unit("Wants=a.service b.service"), "a.service": service("Conflicts=b.service x.service")}
+        _, notes = imported("t.target", {**files, "b.service": service()})
+        self.assertEqual(notes, ["conflicts between these units, which cannot be said: 1"])
+
+
+class RefusedTest(unittest.TestCase):
+    def refused(self, target, files, links=()):
+        with self.assertRaises(Refused) as caught:
+            imported(target, files, links)
+        return str(caught.exception)
+
+    def test_no_such_unit(self):
+        self.assertRegex(self.refused("x.target", {"t.target": unit()}), "^no unit x.target in /run/.*, /etc/systemd/system,")
+
+    def test_masked(self):
+        reason = "t.target is masked, so it is never started"
+        self.assertEqual(self.refused("t.target", {}, [("t.target", "/dev/null")]), reason)
+        self.assertEqual(self.refused("t.target", {"t.target": ""}), reason)
+
+    def test_links_in_a_circle(self):
+        reason = self.refused("a.target", {}, [("a.target", "b.target"), ("b.target", "a.target")])
+        self.assertEqual(reason, "a.target: a link that leads back to itself")

@@ -1,0 +1,249 @@
+"""Reads what Metis prints: plans, refusals and explanations; and other orders of a plan that keep its waits."""
+
+import dataclasses
+import re
+
+NUMBER = re.compile(r"0|[1-9][0-9]*")
+PAIR = re.compile(r"[A-Za-z0-9_./@-]+:[A-Za-z0-9_./@-]+")
+# How many words stand behind the verb of an action, and which of them are instances.
+FORMS = {"new": (2, (0,)), "delete": (1, (0,)), "bind": (3, (1, 2)), "unbind": (3, (1, 2)), "move": (3, (0,))}
+
+
+class NoText(ValueError):
+    """Why something is no text of Metis, with its line."""
+
+
+def refuse(line, reason):
+    raise NoText(f"line {line}: {reason}")
+
+
+@dataclasses.dataclass(frozen=True)
+class Action:
+    """An action of a plan, with the numbers of those of other instances that it waits for."""
+
+    number: int
+    verb: str
+    words: tuple[str, ...]
+    after: tuple[int, ...]
+    types: tuple[str, ...]  # of its instances, in the order of the words
+
+    @property
+    def instance(self):
+        """The instance whose action this is; of a binding the one that requires."""
+        return int(self.words[FORMS[self.verb][1][0]])
+
+    @property
+    def type(self):
+        return self.types[0]
+
+    @property
+    def provider(self):
+        """The instance that a binding leads to."""
+        return int(self.words[2])
+
+    @property
+    def provider_type(self):
+        return self.types[1]
+
+
+@dataclasses.dataclass(frozen=True)
+class Dup:
+    """A pair that has an instance of its own, and the events that would have to wait for each other."""
+
+    pair: str
+    cycle: tuple[str, ...]
+
+
+@dataclasses.dataclass(frozen=True)
+class Plan:
+    actions: tuple[Action, ...]
+    dups: tuple[Dup, ...]
+
+
+@dataclasses.dataclass(frozen=True)
+class Refusal:
+    lacks: str
+    pairs: tuple[str, ...]
+
+
+@dataclasses.dataclass(frozen=True)
+class Reason:
+    """A line of an explanation: why a pair is never attained."""
+
+    pair: str
+    needs: str | None
+    is_start: bool
+    comes: bool
+    names: tuple[str, ...]
+
+
+@dataclasses.dataclass(frozen=True)
+class Explanation:
+    lacks: str
+    providers: tuple[str, ...] | None  # of a port that is lacking
+    reasons: tuple[Reason, ...]
+
+
+def read(text):
+    """The plan, refusal or explanation that a text is."""
+    lines = text.split("\n")
+    readers = {"metis plan 1": read_plan, "metis refusal 1": read_refusal, "metis why 1": read_explanation}
+    if lines[0] not in readers:
+        refuse(1, f"no plan, refusal or explanation, but {lines[0]!r}")
+    if lines[-1] != "":
+        refuse(len(lines), "the text ends inside a line")
+    return readers[lines[0]](lines[:-1])
+
+
+def line_at(lines, number):
+    if number > len(lines):
+        refuse(number, "the text ends before it")
+    return lines[number - 1].split(" ")
+
+
+def check_end(lines, number):
+    if line_at(lines, number) != ["end"]:
+        refuse(number, "not the line 'end'")
+    if len(lines) > number:
+        refuse(number + 1, "the text goes on behind its end")
+
+
+def numbers(line, words):
+    for word in words:
+        if not NUMBER.fullmatch(word):
+            refuse(line, f"no number: {word!r}")
+    return tuple(map(int, words))
+
+
+def read_plan(lines):
+    head = line_at(lines, 2)
+    if head[::2] != ["instances", "actions", "dups"] or len(head) != 6:
+        refuse(2, "not 'instances I actions A dups D'")
+    instances, action_count, dup_count = numbers(2, head[1::2])
+    type_of = {}
+    actions = tuple(read_action(lines, number, type_of) for number in range(1, action_count + 1))
+    if sum(action.verb == "new" for action in actions) != instances:
+        refuse(2, "not the number of instances that are made")
+    first_dup = action_count + 3
+    dups = tuple(read_dup(lines, first_dup + place, place + 1) for place in range(dup_count))
+    check_end(lines, first_dup + dup_count)
+    return Plan(actions, dups)
+
+
+def read_action(lines, number, type_of):
+    """An action; `type_of` has the type of each instance that the lines before it made."""
+    line = number + 2
+    words = line_at(lines, line)
+    if len(words) < 2 or words[1] not in FORMS:
+        refuse(line, "no action")
+    length, instances = FORMS[words[1]]
+    own, rest = words[2 : 2 + length], words[2 + length :]
+    if numbers(line, words[:1]) != (number,):
+        refuse(line, f"not the number {number}")
+    if len(own) < length or (rest and (rest[0] != "after" or len(rest) == 1)):
+        refuse(line, f"not the form of '{words[1]}'")
+    named = numbers(line, [own[place] for place in instances])
+    after = numbers(line, rest[1:])
+    if any(not 1 <= each < number for each in after):
+        refuse(line, "an action waits for earlier ones alone")
+    if words[1] == "new":
+        type_of[named[0]] = own[1]
+    for instance in named:
+        if instance not in type_of:
+            refuse(line, f"no line before made instance {instance}")
+    return Action(number, words[1], tuple(own), after, tuple(type_of[instance] for instance in named))
+
+
+def read_dup(lines, line, number):
+    words = line_at(lines, line)
+    if words[:2] != ["dup", str(number)] or words[3:4] != ["cycle"] or len(words) < 6:
+        refuse(line, f"not 'dup {number} TYPE:STATE cycle' and two or more events")
+    return Dup(words[2], tuple(words[4:]))
+
+
+def counted(lines, word):
+    """The number of lines that the third line tells, and these."""
+    head = line_at(lines, 3)
+    if head[0] != word or len(head) != 2:
+        refuse(3, f"not '{word} N'")
+    (count,) = numbers(3, head[1:])
+    check_end(lines, count + 4)
+    return lines[3 : count + 3]
+
+
+def lacking(lines):
+    head = line_at(lines, 2)
+    if head[0] != "lacks" or len(head) < 2 or not PAIR.fullmatch(head[1]):
+        refuse(2, "not 'lacks TARGET'")
+    return head[1], head[2:]
+
+
+def read_refusal(lines):
+    goal, rest = lacking(lines)
+    if rest:
+        refuse(2, "not 'lacks TARGET'")
+    pairs = counted(lines, "pairs")
+    for place, pair in enumerate(pairs):
+        if not PAIR.fullmatch(pair):
+            refuse(place + 4, f"no pair: {pair!r}")
+    return Refusal(goal, tuple(pairs))
+
+
+def names_in(line, words):
+    """The pairs behind `from`: one or more, or `none`."""
+    if words[:1] != ["from"] or len(words) < 2:
+        refuse(line, "no list behind 'from'")
+    if words[1:] == ["none"]:
+        return ()
+    for word in words[1:]:
+        if not PAIR.fullmatch(word):
+            refuse(line, f"no pair: {word!r}")
+    return tuple(words[1:])
+
+
+def read_explanation(lines):
+    goal, rest = lacking(lines)
+    providers = names_in(2, rest) if rest else None
+    reasons = counted(lines, "lines")
+    return Explanation(goal, providers, tuple(read_reason(each, place + 4) for place, each in enumerate(reasons)))
+
+
+def read_reason(text, line):
+    words = text.split(" ")
+    pair, rest = words[0], words[1:]
+    if not PAIR.fullmatch(pair):
+        refuse(line, f"no pair: {pair!r}")
+    if rest[:1] == ["needs"] and len(rest) > 2:
+        return Reason(pair, rest[1], False, False, names_in(line, rest[2:]))
+    if rest[:1] == ["comes"]:
+        return Reason(pair, None, False, True, names_in(line, rest[1:]))
+    if rest[:2] == ["starts", "needing"] and rest[3:5] == ["and", "comes"]:
+        return Reason(pair, rest[2], True, True, names_in(line, rest[5:]))
+    return refuse(line, "no reason")
+
+
+def random_order(plan, random):
+    """The actions of a plan in an order that is drawn among those that keep the waits and each instance's own order."""
+    before, last = {}, {}
+    for action in plan.actions:
+        before[action.number] = set(action.after)
+        if action.instance in last:
+            before[action.number].add(last[action.instance])
+        last[action.instance] = action.number
+    after = {number: [] for number in before}
+    for number, others in before.items():
+        for other in others:
+            after[other].append(number)
+    waits_for = {number: len(others) for number, others in before.items()}
+    ready = [number for number, count in waits_for.items() if count == 0]
+    order = []
+    while ready:
+        place = random.randrange(len(ready))
+        ready[place], ready[-1] = ready[-1], ready[place]
+        number = ready.pop()
+        order.append(plan.actions[number - 1])
+        for other in after[number]:
+            waits_for[other] -= 1
+            if waits_for[other] == 0:
+                ready.append(other)
+    return order
