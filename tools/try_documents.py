@@ -1,5 +1,5 @@
 #!/usr/bin/env python3
-"""Tries the commands that README, TUTORIAL and MODELLING show, and compares what they print, byte for byte.
+"""Tries the commands that README, TUTORIAL, MODELLING and IMPORTERS show, and compares what they print, byte for byte.
 
     tools/try_documents.py [PROGRAM] [--try]
 
@@ -7,31 +7,48 @@ PROGRAM is the built program, crates/metis/out/metis where none is given. In a p
 after the other in one shell; the lines up to the next one are what is printed, where a line `...` stands for any lines.
 The status is 0, or what a comment `# status N` behind the command says. A block behind the words "into `NAME`:" is
 written into that file. `./try` is the program itself, and with --try the real script, which builds it anew. Commands of
-the kit, `rt`, are listed and not run.
+the kit, `rt`, are listed and not run, and so are importers where their source is not there: Debian's index, PyYAML, units.
 
 It also looks up the laws that pages cite, their links, README's length, and the list of docs/HEADLINE.md. It ends with
 status 1 where something is not as a page says.
 """
 
+import importlib.util
 import pathlib
 import re
+import shutil
 import subprocess
 import sys
 import tempfile
 
 TOP = pathlib.Path(__file__).resolve().parent.parent
-PAGES = ("README.md", "docs/TUTORIAL.md", "docs/MODELLING.md")
+PAGES = ("README.md", "docs/TUTORIAL.md", "docs/MODELLING.md", "docs/IMPORTERS.md")
 LINES_OF_README = 200
 INDENT = "    "
 INTO_FILE = re.compile(r"into\s+`([^`]+)`:$")
 STATUS = re.compile(r"# status (\d+)$")
-NOT_RUN = re.compile(r"^rt ")
+# What a command needs beside this repository, by how it begins: whether it is there.
+NEEDS = (
+    (re.compile(r"^rt "), lambda: False),
+    (re.compile(r"^python3 -m importers debian "), lambda: bool(shutil.which("apt-cache")) and bool(run_out("apt-cache", "dumpavail"))),
+    (re.compile(r"^python3 -m importers compose .*\.ya?ml"), lambda: importlib.util.find_spec("yaml") is not None),
+    (re.compile(r"^python3 -m importers systemd "), lambda: pathlib.Path("/lib/systemd/system").is_dir()),
+)
 # A command that a page shows without trying it.
 SHOWN = re.compile(r"^(\./)?(metis|try) (plan|replay|refute|audit|sim|crew|waves|control|rollout|place|print|load) ")
 # A law has a name of three words or more; shorter ones may be anything.
 LAW = re.compile(r"`([a-z0-9]+(?:_[a-z0-9]+){2,})`")
 LINK = re.compile(r"\]\(([^)\s]+)\)")
 SPAN = re.compile(r"`([^`]+)`")
+
+
+def run_out(*words):
+    return subprocess.run(words, stdout=subprocess.PIPE, stderr=subprocess.DEVNULL, check=False).stdout
+
+
+def can_run(command):
+    """Whether all is there that the command needs."""
+    return all(is_there() for begins, is_there in NEEDS if begins.search(command))
 
 
 class Step:
@@ -92,7 +109,8 @@ def steps_of(name):
 
 def lay_out(folder, program, real_try):
     """What a reader has in the top folder, with the program in place of the scripts that would build it."""
-    (folder / "examples").symlink_to(TOP / "examples")
+    for name in ("examples", "importers", "tools"):
+        (folder / name).symlink_to(TOP / name)
     for name in ("metis", "try"):
         script = TOP / "try" if name == "try" and real_try else program
         (folder / name).write_text(f'#!/bin/sh\nexec "{script}" "$@"\n')
@@ -133,10 +151,10 @@ def faults_of(steps, kept):
 def try_page(name, program, real_try):
     """Takes the steps of a page in a folder of its own. Returns how many commands were tried, and what is wrong."""
     steps, wrong = steps_of(name)
-    for step in steps:
-        if NOT_RUN.match(step.command):
-            print(f"{step.place}: not run: {step.command}")
-    steps = [step for step in steps if not NOT_RUN.match(step.command)]
+    left_out = [step for step in steps if not can_run(step.command)]
+    for step in left_out:
+        print(f"{step.place}: not run: {step.command}")
+    steps = [step for step in steps if step not in left_out]
     with tempfile.TemporaryDirectory() as folder, tempfile.TemporaryDirectory() as kept:
         lay_out(pathlib.Path(folder), program, real_try)
         subprocess.run(["bash", "-c", shell_of(steps, pathlib.Path(kept))], cwd=folder, check=False, timeout=600)
