@@ -5,6 +5,7 @@ use Rattle.std.specs.Option.{option_map_or, option_or, option_and_then}
 use Rattle.std.proofs.lemmas.Bool.{false≢true, true≢false, both_ways, and_parts, and_from, or_right, or_cases, eq-eqb, eqb-true, ne_eqb, not-false}
 use Rattle.metis_ids.specs.declared.actions.Action.{Action}
 use Rattle.metis_ids.specs.declared.actions.Action.TheVariants.{New, Delete, Bind, Unbind, Move}
+use Rattle.metis_ids.proofs.Options.{both_none, none_from_is_some}
 use Rattle.metis_universe.specs.Universe.{Universe, IsUniverse, demand_of, type_of, type_requires, type_provides, initial_of, pair_count, port_count}
 use Rattle.metis_universe.specs.Config.{Config, Binding, pair_of, is_bound, is_tie, names, put, remove, tie, untie, IsConfig, Correct}
 use Rattle.metis_universe.specs.Step.{Allows, CanBind, Step, after}
@@ -24,10 +25,6 @@ neither : {A : Type 0} (a b : Option A) → option_or a b ≡ None → (a ≡ No
 neither None b h = (refl, h)
 neither (Some x) b h = cc
 
-both_none : {A : Type 0} (a b : Option A) → a ≡ None → b ≡ None → option_or a b ≡ None
-both_none None b e h = h
-both_none (Some x) b e h = cc
-
 pub not_when : (b : Bool) (f : AFault) → when b f ≡ None → b ≡ false
 not_when true f h = cc
 not_when false f h = refl
@@ -35,10 +32,6 @@ not_when false f h = refl
 pub when_not : (b : Bool) (f : AFault) → b ≡ false → when b f ≡ None
 when_not true f h = absurd (true≢false h)
 when_not false f h = refl
-
-pub none_of : {A : Type 0} (o : Option A) → is_some o ≡ false → o ≡ None
-none_of None h = refl
-none_of (Some x) h = absurd (true≢false h)
 
 pub there_of : {A : Type 0} (o : Option A) → is_none o ≡ false → (x : A) × (o ≡ Some x)
 there_of None h = absurd (true≢false h)
@@ -70,7 +63,7 @@ module _ (u : Universe) (c : Config) (k : IsUniverse u) (h : IsConfig c) (correc
   pub step-no_fault : (a : Action) → IsOf u a → fault_of u c a ≡ None → Allows u c a × Correct u (after u c a)
   step-no_fault (New z t) is none =
       let parts = neither _ _ none in
-      done (New z t) (is, none_of _ (not_when _ _ parts.0)) parts.1
+      done (New z t) (is, none_from_is_some _ (not_when _ _ parts.0)) parts.1
   step-no_fault (Delete z) is none =
       let parts = neither _ _ none in
       let there = there_of (pair_of c z) (not_when _ _ parts.0) in

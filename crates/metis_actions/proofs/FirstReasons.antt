@@ -1,10 +1,11 @@
 -- Each reason comes exactly where its condition holds and none before it does.
 use Rattle.std.proofs.Common.{◌≡◌, ℕ, ◌⊎◌, Bool, true, false, not, ◌&&◌, Option, Some, None, IfSome, inl, inr, refl, ap, sym, ◌∙◌, subst, nat_eq}
-use Rattle.std.specs.Prelude.{◌≢◌, ◌↔◌, IsSome, is_some, is_none, option_map}
+use Rattle.std.specs.Prelude.{◌≢◌, ◌↔◌, is_some, is_none, option_map}
 use Rattle.std.specs.Option.{option_map_or, option_or, option_and_then}
 use Rattle.std.proofs.lemmas.Bool.{false≢true, true≢false, both_ways, and_parts, and_from, eq-eqb, eqb-true, ne_eqb, not-false, not-true, not_from_false, false_from_ne_true}
 use Rattle.metis_ids.specs.declared.actions.Action.{Action}
 use Rattle.metis_ids.specs.declared.actions.Action.TheVariants.{New, Delete, Bind, Unbind, Move}
+use Rattle.metis_ids.proofs.Options.{IsSome_at, none_from_is_some}
 use Rattle.metis_universe.specs.Universe.{Universe, IsUniverse, demand_of, has, initial_of, next_of, requires, type_of, type_requires, type_provides}
 use Rattle.metis_universe.specs.Config.{Config, pair_of, is_bound, is_met, IsConfig, Correct}
 use Rattle.metis_universe.specs.Numbers.{IsOf}
@@ -17,7 +18,7 @@ use Rattle.metis_actions.specs.declared.faults.AFault.{AFault}
 use Rattle.metis_actions.specs.declared.faults.AFault.TheVariants.{InUse, NoInstance, NoState, NoTransition, SameInstance, NoSuchPort, Bound, NotBound, Unmet}
 use Rattle.metis_actions.specs.Faults.{absent, elsewhere, fault_of, is_port_between, unmet_after, when}
 use Rattle.metis_actions.specs.Reasons.{Lacks, IsFirstLack, IsFirstReason, in_use, new_leaves_unmet, none_to_delete, delete_leaves_unmet, no_requirer, no_provider, same_instance, no_such_port, already_bound, not_bound, unbind_leaves_unmet, none_to_move, in_another_pair, no_transition, move_leaves_unmet}
-use Rattle.metis_actions.proofs.Causes.{not_when, when_not, none_of, there_of, some_there, step-no_fault, no_fault-step}
+use Rattle.metis_actions.proofs.Causes.{not_when, when_not, there_of, some_there, step-no_fault, no_fault-step}
 
 -- ---- the first of two
 
@@ -50,9 +51,6 @@ fails_so : (a b : Bool) → (a ≡ false) ⊎ (b ≡ false) → (a && b) ≡ fal
 fails_so true b (inl h) = absurd (true≢false h)
 fails_so true b (inr h) = h
 fails_so false b h = refl
-
-some_is : (o : Option ℕ) (x : ℕ) → o ≡ Some x → IsSome o
-some_is o x e = ap is_some e
 
 -- ---- what is unmet
 
@@ -108,7 +106,7 @@ module _ (u : Universe) (c : Config) where
     bind_told r z y p q at_z at_y =
         let P = First (Bind r z y) in
         let is = between r z y p q at_z at_y in
-        if_first P _ _ (if_when P (nat_eq z y) SameInstance (λ e. same_instance r z y (some_is _ p at_z) (some_is _ q at_y) (eqb-true z y e))) (λ none.
+        if_first P _ _ (if_when P (nat_eq z y) SameInstance (λ e. same_instance r z y (IsSome_at _ p at_z) (IsSome_at _ q at_y) (eqb-true z y e))) (λ none.
         let apart : z ≢ y = λ e. both_ways _ (not_when (nat_eq z y) SameInstance none) (eq-eqb z y e) in
         if_first P _ _ (if_when P (not (is_port_between u c r z y)) NoSuchPort (λ e. no_such_port r z y p q at_z at_y apart (one_fails _ _ (sym is ∙ not-true _ e)))) (λ none.
         let port = and_parts (type_requires u (type_of u p) r) _ (sym is ∙ not-false _ (not_when _ NoSuchPort none)) in
@@ -128,16 +126,16 @@ module _ (u : Universe) (c : Config) where
     told (New z t) =
         let P = First (New z t) in
         if_first P _ _ (if_when P (is_some (pair_of c z)) (InUse z) (λ e. in_use z t e)) (λ none.
-        if_unmet u (after u c (New z t)) k (IsConfig-put c z (initial_of u t) h) P (λ w r lack. new_leaves_unmet z t w r (none_of _ (not_when _ (InUse z) none)) lack))
+        if_unmet u (after u c (New z t)) k (IsConfig-put c z (initial_of u t) h) P (λ w r lack. new_leaves_unmet z t w r (none_from_is_some _ (not_when _ (InUse z) none)) lack))
     told (Delete z) =
         let P = First (Delete z) in
         if_first P _ _ (if_when P (is_none (pair_of c z)) (NoInstance z) (λ e. none_to_delete z (gone _ e))) (λ none.
-        if_unmet u (after u c (Delete z)) k (IsConfig-remove c z h) P (λ w r lack. delete_leaves_unmet z w r (some_is _ (there z none).0 (there z none).1) lack))
+        if_unmet u (after u c (Delete z)) k (IsConfig-remove c z h) P (λ w r lack. delete_leaves_unmet z w r (IsSome_at _ (there z none).0 (there z none).1) lack))
     told (Bind r z y) =
         let P = First (Bind r z y) in
         if_first P _ _ (if_when P (is_none (pair_of c z)) (NoInstance z) (λ e. no_requirer r z y (gone _ e))) (λ none_z.
         let p = there z none_z in
-        if_first P _ _ (if_when P (is_none (pair_of c y)) (NoInstance y) (λ e. no_provider r z y (some_is _ p.0 p.1) (gone _ e))) (λ none_y.
+        if_first P _ _ (if_when P (is_none (pair_of c y)) (NoInstance y) (λ e. no_provider r z y (IsSome_at _ p.0 p.1) (gone _ e))) (λ none_y.
         let q = there y none_y in bind_told r z y p.0 q.0 p.1 q.1))
     told (Unbind r z y) =
         let P = First (Unbind r z y) in

@@ -1,10 +1,10 @@
 -- From what a choice and the dups give to the tests of an audit.
-use Rattle.std.proofs.Common.{◌≡◌, ℕ, zero, suc, ◌+◌, ◌<◌, ◌≤◌, Bool, true, List, [], length, refl, sym, ap, ◌∙◌, subst, arith, nat_eq}
+use Rattle.std.proofs.Common.{◌≡◌, ℕ, ◌<◌, true, List, [], length, sym, ap, ◌∙◌, subst, arith, nat_eq}
 use Rattle.std.specs.Prelude.{IsSome}
-use Rattle.std.specs.List.{list_all, range_with_len}
-use Rattle.std.proofs.lemmas.Bool.{and_from, eqb-true}
+use Rattle.std.proofs.lemmas.Bool.{eqb-true}
 use Rattle.std.proofs.lemmas.List.Elements.{All-contains}
 use Rattle.metis_ids.specs.Plans.{Dup, Plan}
+use Rattle.metis_ids.proofs.Lists.{all_in_range}
 use Rattle.metis_universe.specs.Layers.{layer_of}
 use Rattle.metis_universe.specs.Universe.{Universe, IsUniverse, has}
 use Rattle.metis_lines.specs.Justified.{own_pairs}
@@ -22,10 +22,6 @@ each_layered u g attained q there =
 
 pub targets_chosen : (u : Universe) (g : List ℕ) (s : Support) → IsUniverse u → IsAttained u g → s ≡ support_of u g → (p : ℕ) → has g p ≡ true → is_selected s p ≡ true
 targets_chosen u g s universe attained is p h = subst (λ x. is_selected x p ≡ true) (sym is) (targets_selected u universe g (each_layered u g attained) p h)
-
-each_in_range : (t : ℕ → Bool) (a n : ℕ) → ((i : ℕ) → a ≤ i → i < a + n → t i ≡ true) → list_all t (range_with_len a n) ≡ true
-each_in_range t a zero each = refl
-each_in_range t a (suc n) each = and_from (t a) (list_all t (range_with_len (a + 1) n)) (each a (omega arith) (omega arith)) (each_in_range t (a + 1) n (λ i low high. each i (omega arith) (omega arith)))
 
 module _ (u : Universe) (g : List ℕ) (s : Support) (x : LifeLines) (is : s ≡ support_of u g) (lines : x ≡ lines_of u s g []) where
   pub unjustified : (ds : List Dup) (k : ℕ) → IsFirstUnforced u s x.targets ds k → IsFirstUnjustified u g ds k
@@ -47,4 +43,4 @@ module _ (u : Universe) (g : List ℕ) (s : Support) (x : LifeLines) (is : s ≡
     forced attained each =
         let E : Support → List ℕ → List Dup → Type 0 = λ z h es. (i : ℕ) → i < length es → is_forced_at u z h es i ≡ true in
         let moved : E (support_of u g) g p.dups = subst (E (support_of u g) g) same (subst (λ z. E z g ds) is (subst (λ (z : LifeLines). E s z.targets ds) lines each)) in
-        subst (λ h. IsForced u h p) (sym targets) (record { attained = attained; justified = each_in_range (is_forced_at u (support_of u g) g p.dups) 0 (length p.dups) (λ i _ low. moved i (omega arith)) })
+        subst (λ h. IsForced u h p) (sym targets) (record { attained = attained; justified = all_in_range (is_forced_at u (support_of u g) g p.dups) 0 (length p.dups) (λ i _ low. moved i (omega arith)) })

@@ -1,20 +1,20 @@
 -- Forced dups one after another: each is of a provider pair that is not yet doubled, and leaves one pair less whose slot 1 is a line that goes on.
-use Rattle.std.proofs.Common.{◌≡◌, ℕ, zero, suc, ◌+◌, ◌<◌, ◌≤◌, Bool, true, ◌||◌, List, [], ◌∷◌, ◌++◌, length, get_or, take, refl, sym, ap, ◌∙◌, subst, arith, nat_eq, inl, inr}
+use Rattle.std.proofs.Common.{◌≡◌, ℕ, zero, suc, ◌+◌, ◌<◌, ◌≤◌, true, List, [], ◌∷◌, ◌++◌, length, get_or, take, refl, sym, ap, ◌∙◌, subst, arith, nat_eq, inl, inr}
 use Rattle.std.specs.Prelude.{IsSome}
-use Rattle.std.specs.List.{IsDistinct, list_all, list_any, range_with_len}
-use Rattle.std.specs.Set.{is_member}
-use Rattle.std.proofs.lemmas.Bool.{and_parts, eq-eqb, eqb-true, cases_eq, false≢true}
+use Rattle.std.specs.List.{IsDistinct, list_any}
+use Rattle.std.proofs.lemmas.Bool.{and_parts, false≢true}
 use Rattle.std.proofs.lemmas.Cmp.{nat_eq_equiv}
 use Rattle.std.proofs.lemmas.List.{get_or_default, length-append, length-map, take_all}
 use Rattle.std.proofs.lemmas.Map.Keys.{IsDistinct-from_apart, IsDistinct-push}
 use Rattle.std.proofs.lemmas.Option.{slice_get-get_or}
 use Rattle.metis_ids.specs.Plans.{Dup, Plan}
+use Rattle.metis_ids.proofs.Lists.{at_range, has_one, is_member-has}
 use Rattle.metis_universe.proofs.Rounds.{has-filter}
 use Rattle.metis_universe.specs.Layers.{layer_of}
 use Rattle.metis_universe.specs.Selection.{provider_pairs as provider_pairs_in}
 use Rattle.metis_universe.specs.Universe.{Universe, IsTable, IsUniverse, has}
 use Rattle.metis_support.proofs.Kept.{kept}
-use Rattle.metis_support.proofs.Lists.{has-append_cases, has_one, same_test}
+use Rattle.metis_support.proofs.Lists.{has-append_cases}
 use Rattle.metis_support.proofs.Selections.{is_support, same_provider_pairs, targets_selected}
 use Rattle.metis_support.specs.Support.{Support, IsKept, IsSupport, is_number, is_selected, provider_pairs, support_of}
 use Rattle.metis_lines.proofs.Few.{apart_first, few, still_apart}
@@ -28,19 +28,6 @@ use Rattle.metis_audit.proofs.DupLines.{forced_here, own_more}
 use Rattle.metis_audit.proofs.Loose.{goes_on}
 use Rattle.metis_audit.specs.Audits.{IsAudited}
 use Rattle.metis_audit.specs.Doubled.{IsDoubled}
-
-pub at_range : (t : ℕ → Bool) (a n i : ℕ) → list_all t (range_with_len a n) ≡ true → a ≤ i → i < a + n → t i ≡ true
-at_range t a zero i all low high = absurd (omega arith)
-at_range t a (suc n) i all low high = elim (cases_eq a i) [
-  | inl same ↦ ap t (sym same) ∙ (and_parts (t a) (list_all t (range_with_len (a + 1) n)) all).0
-  | inr other ↦ at_range t (a + 1) n i (and_parts (t a) (list_all t (range_with_len (a + 1) n)) all).1 (omega arith) (omega arith)
-]
-
-flipped : (p : ℕ) (xs : List ℕ) → is_member nat_eq xs p ≡ has xs p
-flipped p [] = refl
-flipped p (x ∷ xs) = λ i. turned i || flipped p xs i where
-  turned : nat_eq p x ≡ nat_eq x p
-  turned = same_test (nat_eq p x) (nat_eq x p) (λ h. eq-eqb x p (sym (eqb-true p x h))) (λ h. eq-eqb p x (sym (eqb-true x p h)))
 
 module _ (u : Universe) (g : List ℕ) (table : IsTable u) (layered : (q : ℕ) → has g q ≡ true → IsSome (layer_of u q)) where
   universe : IsUniverse u
@@ -90,7 +77,7 @@ module _ (u : Universe) (g : List ℕ) (table : IsTable u) (layered : (q : ℕ) 
             | inl old ↦ before.providers q old
             | inr now ↦ subst (λ r. has (provider_pairs s) r ≡ true) (has_one p q now) on.listed
           ];
-          once = IsDistinct-push nat_eq_equiv d p before.once (flipped p d ∙ new);
+          once = IsDistinct-push nat_eq_equiv d p before.once (is_member-has p d ∙ new);
           apart = still_apart u s keeps g d targets own p on.loose before.apart;
           fewer = omega arith;
         }) where

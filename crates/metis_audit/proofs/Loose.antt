@@ -15,7 +15,7 @@ use Rattle.metis_lines.specs.AbstractPlan.{last}
 use Rattle.metis_lines.specs.Events.{is_cycle, is_event}
 use Rattle.metis_lines.specs.Justified.{leads_on}
 use Rattle.metis_lines.specs.LifeLines.{AreLines, LifeLines, ends_in, holder_line, holder_of, holding, is_loose, line_at, line_ends, lines_of, plan_of}
-use Rattle.metis_events.proofs.Holding.{own_selected}
+use Rattle.metis_lines.proofs.Formed.{own_selected}
 use Rattle.metis_audit.specs.Forced.{is_forced}
 
 module _ (u : Universe) (s : Support) (over : IsSupport u s) (x : LifeLines) (are : AreLines u s x) where

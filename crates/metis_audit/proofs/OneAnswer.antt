@@ -8,6 +8,7 @@ use Rattle.std.proofs.lemmas.List.{get_or-take, length-take}
 use Rattle.std.proofs.lemmas.Option.{slice_get_past}
 use Rattle.metis_ids.specs.declared.actions.Action.{Action}
 use Rattle.metis_ids.specs.Plans.{Plan}
+use Rattle.metis_ids.proofs.Lists.{at_range}
 use Rattle.metis_universe.specs.Layers.{layer_of}
 use Rattle.metis_universe.specs.Steadfast.{is_steadfast_after, is_steadfast_at}
 use Rattle.metis_universe.specs.Universe.{Universe}
@@ -16,7 +17,6 @@ use Rattle.metis_choice.specs.Choices.{IsFirstWithout}
 use Rattle.metis_lines.specs.Justified.{is_justified_at}
 use Rattle.metis_text.specs.PlanText.{after_of}
 use Rattle.metis_waits.specs.Waits.{IsFirstLoose, waits_on_others}
-use Rattle.metis_audit.proofs.DoubledPairs.{at_range}
 use Rattle.metis_audit.specs.Audits.{IsAnswer, IsAttained, IsAudited, IsCounted, IsFirstOff, IsFirstOther, IsFirstUnjustified, IsFollowed, IsForced, IsMiscount, IsSteady, follows}
 use Rattle.metis_audit.specs.declared.answers.Answer.{Answer}
 use Rattle.metis_audit.specs.declared.answers.Answer.TheVariants.{Justified, NotAttained, NoCycle, Count, Path, Loose, After}

@@ -1,9 +1,10 @@
 -- Tests around a list of events, told event by event.
 use Rattle.std.proofs.Common.{◌≡◌, ℕ, zero, suc, ◌+◌, ◌<◌, ◌≤◌, Bool, true, false, ◌||◌, List, [], ◌∷◌, length, get_or, map, refl, sym, ap, ◌∙◌, arith, nat_lt, inl, inr}
 use Rattle.std.specs.List.{list_all, list_any, range_with_len}
-use Rattle.std.proofs.lemmas.Bool.{and_from, and_left, and_right, cases_eq, or_left, or_right}
+use Rattle.std.proofs.lemmas.Bool.{and_from, and_left, and_right, cases_eq}
 use Rattle.metis_ids.specs.declared.events.Event.{Event}
 use Rattle.metis_ids.specs.declared.events.Event.TheVariants.{End}
+use Rattle.metis_ids.proofs.Lists.{any_counted}
 use Rattle.metis_lines.specs.AbstractPlan.{AbstractPlan, last}
 use Rattle.metis_lines.specs.Events.{around, is_cycle, precedes, with_next}
 use Rattle.metis_lines.specs.Justified.{leads_on}
@@ -20,13 +21,6 @@ not_all_in_row t f a zero i low high fails = absurd (omega arith)
 not_all_in_row t f a (suc n) i low high fails = elim (cases_eq a i) [
   | inl same ↦ and_left (t (f a)) (list_all t (map f (range_with_len (a + 1) n))) (ap (λ k. t (f k)) same ∙ fails)
   | inr other ↦ and_right (t (f a)) (list_all t (map f (range_with_len (a + 1) n))) (not_all_in_row t f (a + 1) n i (omega arith) (omega arith) fails)
-]
-
-pub some_in_row : {X : Type 0} (t : X → Bool) (f : ℕ → X) (a n i : ℕ) → a ≤ i → i < a + n → t (f i) ≡ true → list_any t (map f (range_with_len a n)) ≡ true
-some_in_row t f a zero i low high passes = absurd (omega arith)
-some_in_row t f a (suc n) i low high passes = elim (cases_eq a i) [
-  | inl same ↦ or_left (t (f a)) (list_any t (map f (range_with_len (a + 1) n))) (ap (λ k. t (f k)) same ∙ passes)
-  | inr other ↦ or_right (t (f a)) (list_any t (map f (range_with_len (a + 1) n))) (some_in_row t f (a + 1) n i (omega arith) (omega arith) passes)
 ]
 
 pub none_in_row : {X : Type 0} (t : X → Bool) (f : ℕ → X) (a n : ℕ) → ((i : ℕ) → a ≤ i → i < a + n → t (f i) ≡ false) → list_any t (map f (range_with_len a n)) ≡ false
@@ -77,7 +71,7 @@ module _ (w : AbstractPlan) where
   exits y i c = is_exit w y i c.0 c.1
 
   pub leading : (es : List Event) (y i m : ℕ) → nat_lt i (last w y) ≡ true → m < length es → is_exit w y i (get_or es m End) (next_around es m) ≡ true → leads_on w es y i ≡ true
-  leading es y i m on low passes = and_from (nat_lt i (last w y)) (list_any (exits y i) (around es)) on (ap (list_any (exits y i)) (around_turns es) ∙ some_in_row (exits y i) (turn es) 0 (length es) m (omega arith) (omega arith) passes)
+  leading es y i m on low passes = and_from (nat_lt i (last w y)) (list_any (exits y i) (around es)) on (ap (list_any (exits y i)) (around_turns es) ∙ any_counted (exits y i) (turn es) 0 (length es) m (omega arith) (omega arith) passes)
 
   pub not_leading : (es : List Event) (y i : ℕ) → ((m : ℕ) → m < length es → is_exit w y i (get_or es m End) (next_around es m) ≡ false) → leads_on w es y i ≡ false
   not_leading es y i none = and_right (nat_lt i (last w y)) (list_any (exits y i) (around es)) (ap (list_any (exits y i)) (around_turns es) ∙ none_in_row (exits y i) (turn es) 0 (length es) (λ m low high. none m (omega arith)))

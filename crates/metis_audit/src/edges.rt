@@ -3,12 +3,13 @@ ghost use Rattle.std.specs.Prelude.{◌≡◌, ◌<◌, ◌≤◌, ◌+◌, leng
 ghost use Rattle.metis_universe.specs.Universe.{demand_of, pair_count, requires};
 ghost use Rattle.metis_ids.specs.declared.events.Event.TheVariants.{At};
 ghost use Rattle.metis_support.specs.Support.{IsSupport, is_selected};
-ghost use Rattle.metis_lines.specs.Events.{is_event, is_go, is_return, is_start, precedes, step_count};
+ghost use Rattle.metis_lines.specs.Events.{is_event, is_go, is_return, is_start, precedes};
 ghost use Rattle.metis_lines.specs.LifeLines.{AreLines, holder_of, line_at, plan_of};
 ghost use Rattle.metis_events.specs.Gathered.{without_supplies};
 ghost use Rattle.metis_audit.specs.Leaving.{IsLeft, IsNoLeaving, IsTakenByNoTarget, IsTakenByTarget};
 ghost use Rattle.metis_audit.specs.Takes.{has_slot_at, is_at, is_taken, takes, takes_port};
 
+use metis_events::step_count;
 use metis_ids::{Event, LineIx, PairIx, PortIx, StepIx};
 use metis_lines::Lines;
 use metis_support::Support;
@@ -21,19 +22,6 @@ pub fn is_event(l: &Lines, e: &Event) -> bool
     match *e {
         Event::At(line, step) => line.0 < l.count() && step.0 < step_count(l, line),
         Event::End => true,
-    }
-}
-
-// How many events the line has.
-fn step_count(l: &Lines, line: LineIx) -> u32
-    requires { line < length l.now.lines }
-    ensures { result ≡ step_count (without_supplies l.now) line }
-{
-    let stations = l.last(line).0 + 1;
-    if l.is_target(line) {
-        stations
-    } else {
-        stations + 1
     }
 }
 

@@ -2,14 +2,16 @@
 use Rattle.std.proofs.Common.{◌≡◌, ℕ, zero, suc, ◌+◌, ◌-◌, ◌<◌, ◌≤◌, Bool, true, false, cond, not, List, [], ◌∷◌, ◌++◌, take, length, get_or, Option, Some, None, refl, sym, ap, ◌∙◌, subst, arith, nat_eq}
 use Rattle.std.specs.Prelude.{IsFalse, IsSome, MatchOption, option_map, ◌↔◌}
 use Rattle.std.specs.List.{All, AllZip, count_by, find, list_any}
-use Rattle.std.proofs.lemmas.Bool.{eq-eqb, eqb-true, false≢true, false_from_ne_true, true≢false}
+use Rattle.std.proofs.lemmas.Bool.{eq-eqb, eqb-true, false≢true, false_from_ne_true, not-false}
 use Rattle.std.proofs.lemmas.List.Elements.{All-cons, All-head, All-nil, All-tail}
+use Rattle.std.proofs.lemmas.Option.{none-some, same_Some}
 use Rattle.metis_ids.specs.declared.goals.Goal.{Goal}
 use Rattle.metis_ids.specs.declared.goals.Goal.TheVariants.{Pair, Port}
+use Rattle.metis_ids.proofs.Lists.{any_at}
+use Rattle.metis_ids.proofs.Finding.{none_passes}
 use Rattle.metis_universe.proofs.Attained.{Closed-layers}
 use Rattle.metis_universe.proofs.FirstPairs.{provider-none, provider-provides}
 use Rattle.metis_universe.proofs.Rounds.{grows_to, layers_grow}
-use Rattle.metis_universe.proofs.Selected.{any_at}
 use Rattle.metis_universe.proofs.Served.{count-cons, count_wider, goals_refused, none_counted, same_is}
 use Rattle.metis_universe.specs.Config.{Config, empty}
 use Rattle.metis_universe.specs.Goal.{Attains, Holds}
@@ -27,29 +29,9 @@ use Rattle.metis_support.proofs.Selections.{some_is}
 use Rattle.metis_choice.proofs.Below.{pair_low}
 use Rattle.metis_choice.specs.Resolutions.{ArePairsFor, IsPairFor, pair_by}
 
-none_some : (p : ℕ) → None ≡ Some p → ⊥
-none_some p e = cc
-
-some_none : (g : Goal) → Some g ≡ None → ⊥
-some_none g e = cc
-
-same_some : (p q : ℕ) → Some p ≡ Some q → p ≡ q
-same_some p q e = cc
-
-not_off : (b : Bool) → not b ≡ false → b ≡ true
-not_off true h = refl
-not_off false h = absurd (true≢false h)
-
 any_none : (xs : List ℕ) → list_any (λ x. false) xs ≡ false
 any_none [] = refl
 any_none (x ∷ xs) = any_none xs
-
-none_found : (t : Goal → Bool) (xs : List Goal) → find t xs ≡ None → All (λ x. t x ≡ false) xs
-none_found t [] none = All-nil (λ x. t x ≡ false)
-none_found t (x ∷ xs) none = by (t x) refl (none_found t xs) none where
-  by : (b : Bool) → t x ≡ b → (find t xs ≡ None → All (λ y. t y ≡ false) xs) → cond b (Some x) (find t xs) ≡ None → All (λ y. t y ≡ false) (x ∷ xs)
-  by true passes rest e = absurd (some_none x e)
-  by false fails rest e = All-cons (λ y. t y ≡ false) x xs fails (rest e)
 
 module _ (u : Universe) where
   -- ---- what the attained pairs lack
@@ -146,7 +128,7 @@ module _ (u : Universe) where
 
   one_pair : (g : Goal) (p q : ℕ) → IsPairFor u g p → IsPairFor u g q → p ≡ q
   one_pair (Pair x) p q of_p of_q = sym of_p ∙ of_q
-  one_pair (Port r) p q of_p of_q = same_some p q (sym of_p ∙ of_q)
+  one_pair (Port r) p q of_p of_q = same_Some p q (sym of_p ∙ of_q)
 
   pub pairs_unique : (goals : List Goal) (pairs others : List ℕ) → ArePairsFor u goals pairs → ArePairsFor u goals others → pairs ≡ others
   pairs_unique [] [] [] them those = refl
@@ -198,10 +180,10 @@ module _ (u : Universe) where
   pairs_hold c goals pairs them held (Port r) = by (provider_of u r) refl where
     by : (o : Option ℕ) → provider_of u r ≡ o → places_of goals (Port r) ≤ serving u c (Port r)
     by None none =
-        let places = places_kept (Port r) (λ q. false) (λ q is. absurd (none_some q (sym none ∙ is))) goals pairs them in
+        let places = places_kept (Port r) (λ q. false) (λ q is. absurd (none-some q (sym none ∙ is))) goals pairs them in
         omega (arith, places, none_counted (λ q. false) pairs (any_none pairs))
     by (Some p) is =
-        let places = places_kept (Port r) (λ q. nat_eq q p) (λ q at. eq-eqb q p (same_some q p (sym at ∙ is))) goals pairs them in
+        let places = places_kept (Port r) (λ q. nat_eq q p) (λ q at. eq-eqb q p (same_Some q p (sym at ∙ is))) goals pairs them in
         let gives = (provider-provides u r p is).1 in
         let serve = count_wider (λ e. nat_eq e.1 p) (λ e. provides u e.1 r) (λ e at. subst (λ x. provides u x r ≡ true) (sym (eqb-true e.1 p at)) gives) c.instances in
         omega (arith, places, held p, serve)
@@ -227,9 +209,9 @@ module _ (u : Universe) where
     first_unattained goals g is = goals_refused u goals (attained_pairs u) g (first_refused goals g is)
 
     chosen_one : (g : Goal) → lacks u (attained_pairs u) g ≡ false → (p : ℕ) × IsChosen g p
-    chosen_one (Pair p) there = (p, record { pair = refl; layered = has_layer p (not_off (has (attained_pairs u) p) there) })
+    chosen_one (Pair p) there = (p, record { pair = refl; layered = has_layer p (not-false (has (attained_pairs u) p) there) })
     chosen_one (Port r) there =
-        let y = some_of (λ x. provides u x r) (attained_pairs u) (not_off (is_provided u (attained_pairs u) r) there) in
+        let y = some_of (λ x. provides u x r) (attained_pairs u) (not-false (is_provided u (attained_pairs u) r) there) in
         let at = layer_by u y.number (pair_count u) y.there in
         let provider = provider_by u r y.number at.layer at.is y.passes in
         (provider.pair, record { pair = provider.is; layered = subst (λ o. IsSome o) (sym provider.at) refl })
@@ -247,6 +229,6 @@ module _ (u : Universe) where
 
     pub attained_where_none : (goals : List Goal) → AttainsGoals u goals ↔ All (λ g. IsFalse (lacks u (attained_pairs u) g)) goals
     attained_where_none goals = (
-      λ attained. none_found (lacks u (attained_pairs u)) goals (none_first goals attained (find (lacks u (attained_pairs u)) goals) refl),
+      λ attained. none_passes (lacks u (attained_pairs u)) goals (none_first goals attained (find (lacks u (attained_pairs u)) goals) refl),
       λ none. let pairs = chosen_all goals none in chosen_attained goals pairs.0 pairs.1,
     )

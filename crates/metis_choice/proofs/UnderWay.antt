@@ -7,13 +7,14 @@ use Rattle.std.specs.Option.{option_to_list}
 use Rattle.std.proofs.lemmas.Bool.{false≢true, and_from, and_parts, or_cases, or_left, or_right, not_from_false}
 use Rattle.std.proofs.lemmas.List.Folds.{list_any-append}
 use Rattle.std.proofs.lemmas.Map.Keys.{sorted_from_strictly_increasing}
-use Rattle.metis_universe.proofs.Ranges.{has_range}
+use Rattle.std.specs.Cmp.{both_ways as same_bool}
+use Rattle.metis_ids.proofs.Lists.{has_here, has_one, has_range}
 use Rattle.metis_universe.proofs.InOrder.{same_members}
 use Rattle.metis_universe.proofs.Selected.{selected-least}
 use Rattle.metis_universe.specs.Selection.{needs_of, origin_of, provider_of, providers_needed, selected, IsLeastSelection}
 use Rattle.metis_universe.specs.Universe.{Universe, all_pairs, has, pair_count, required_of}
 use Rattle.metis_layers.proofs.Ways.{all_has}
-use Rattle.metis_support.proofs.Lists.{has-append_cases, has_itself, has_one, same_test}
+use Rattle.metis_support.proofs.Lists.{has-append_cases}
 use Rattle.metis_support.proofs.Selections.{ascending, has_option, mapped_from}
 use Rattle.metis_choice.proofs.Below.{origin_low, provider_low}
 use Rattle.metis_choice.specs.WorkList.{WorkList, Adds}
@@ -73,7 +74,7 @@ module _ (u : Universe) (g : List ℕ) where
   -- one pair is taken from the list, and what it needs is added
   module _ (w v : WorkList) (x : ℕ) (way : IsUnderWay u g w) (same : v.selected ≡ w.selected) (taken : w.waiting ≡ v.waiting ++ x ∷ []) where
     taken_selected : has w.selected.members x ≡ true
-    taken_selected = way.waits x (ap (λ l. has l x) taken ∙ list_any-append (λ y. nat_eq y x) v.waiting (x ∷ []) ∙ or_right (has v.waiting x) (has (x ∷ []) x) (has_itself x []))
+    taken_selected = way.waits x (ap (λ l. has l x) taken ∙ list_any-append (λ y. nat_eq y x) v.waiting (x ∷ []) ∙ or_right (has v.waiting x) (has (x ∷ []) x) (has_here x []))
 
     pub taken_low : x < pair_count u
     taken_low = way.low x taken_selected
@@ -131,7 +132,7 @@ module _ (u : Universe) (g : List ℕ) where
   pub arrived : (w : WorkList) → IsUnderWay u g w → w.waiting ≡ [] → IsStrictlyIncreasing w.selected.members → w.selected.members ≡ selected u g
   arrived w way idle ascends =
       same_members w.selected.members (selected u g) (sorted_from_strictly_increasing w.selected.members ascends) (sorted_from_strictly_increasing (selected u g) (ascending u g (pair_count u)))
-      (λ p. same_test (has w.selected.members p) (has (selected u g) p) (way.sound p) (least.least (has w.selected.members) way.targets closed p)) where
+      (λ p. same_bool (has w.selected.members p) (has (selected u g) p) (way.sound p) (least.least (has w.selected.members) way.targets closed p)) where
         closed : (q p : ℕ) → has w.selected.members q ≡ true → has (needs_of u q) p ≡ true → has w.selected.members p ≡ true
         closed q p h need = elim (way.needs q p h need) [
           | inl waits ↦ absurd (false≢true (ap (λ l. has l q) (sym idle) ∙ waits))

@@ -1,10 +1,10 @@
 -- The first binding at an end, and the tests of all pairs and of all ports.
-use Rattle.std.proofs.Common.{◌≡◌, ◌<◌, ℕ, Bool, true, false, cond, List, [], ◌∷◌, Option, Some, None, refl, ap, sym, ◌∙◌, subst, nat_eq, nat_lt, inl, inr, arith}
+use Rattle.std.proofs.Common.{◌≡◌, ◌<◌, ℕ, Bool, true, false, cond, List, [], ◌∷◌, Option, Some, None, refl, ap, sym, ◌∙◌, subst, nat_eq, nat_lt, inl, inr}
 use Rattle.std.specs.Prelude.{option_map}
 use Rattle.std.specs.List.{find, list_any, list_all, AllByRecursion}
 use Rattle.std.specs.Map.{lookup}
-use Rattle.std.proofs.lemmas.Bool.{false≢true, false_from_ne_true, eq-eqb, and_parts, and_from, or_cases, or_left, or_right, lt-ltb}
-use Rattle.std.proofs.lemmas.Bool.Decides.{nat_tests}
+use Rattle.std.proofs.lemmas.Bool.{false≢true, false_from_ne_true, eq-eqb, and_parts, and_from, or_cases, or_left, or_right, lt-ltb, ltb-true}
+use Rattle.std.proofs.lemmas.Option.{none-some}
 use Rattle.metis_universe.specs.Config.{Config, Binding, pair_of, is_bound, is_tie, IsConfig}
 use Rattle.metis_universe.proofs.Edits.{tie_is}
 use Rattle.metis_config.specs.Clients.{AreNeeds, IsIndexed}
@@ -19,17 +19,14 @@ short b = (b.1, b.2)
 abbrev pub head : ℕ → Binding → Bool
 head z b = nat_eq b.0 z
 
-none≢some : {A : Type 0} {x : A} → None ≡ Some x → ⊥
-none≢some e = cc
-
 none_found : (z : ℕ) (bs : List Binding) → None ≡ option_map short (find (head z) bs) → (x y : ℕ) → list_any (is_tie z x y) bs ≡ false
 none_found z bs e x y = false_from_ne_true _ (λ h. found_none (head z) bs (none (find (head z) bs) e) z x y h (eq-eqb z z refl)) where
   none : (o : Option Binding) → None ≡ option_map short o → o ≡ None
   none None e = refl
-  none (Some b) e = absurd (none≢some e)
+  none (Some b) e = absurd (none-some _ e)
 
 some_found : (z x y : ℕ) (bs : List Binding) → Some (x, y) ≡ option_map short (find (head z) bs) → list_any (is_tie z x y) bs ≡ true
-some_found z x y [] e = absurd (none≢some (sym e))
+some_found z x y [] e = absurd (none-some _ (sym e))
 some_found z x y (b ∷ bs) e =
     elim (head z b) as (λ v. head z b ≡ v → Some (x, y) ≡ option_map short (cond v (Some b) (find (head z) bs)) → list_any (is_tie z x y) (b ∷ bs) ≡ true) [
       | true ↦ λ at some.
@@ -52,15 +49,12 @@ needed_some c needs k r z y e = sym (k.same r z y) ∙ some_found z y r needs e
 
 -- ---- all pairs and all ports
 
-below : (a n : ℕ) → nat_lt a n ≡ true → a < n
-below a n h = grind (arith, nat_tests)
-
 pub pairs_below : (n : ℕ) (es : List (ℕ × ℕ)) → list_all (λ e. nat_lt e.1 n) es ≡ true → (z p : ℕ) → lookup (nat_eq z) es ≡ Some p → p < n
-pairs_below n [] h z p e = absurd (none≢some e)
+pairs_below n [] h z p e = absurd (none-some _ e)
 pairs_below n (x ∷ es) h z p e =
     let parts = and_parts (nat_lt x.1 n) _ h in
     elim (nat_eq z x.0) as (λ b. cond b (Some x.1) (lookup (nat_eq z) es) ≡ Some p → p < n) [
-      | true ↦ λ some. let is : x.1 ≡ p = cc in subst (λ q. q < n) is (below x.1 n parts.0)
+      | true ↦ λ some. let is : x.1 ≡ p = cc in subst (λ q. q < n) is (ltb-true x.1 n parts.0)
       | false ↦ λ rest. pairs_below n es parts.1 z p rest
     ] e
 
@@ -76,7 +70,7 @@ ports_below n [] h r z y at = absurd (false≢true at)
 ports_below n (b ∷ bs) h r z y at =
     let parts = and_parts (nat_lt b.0 n) _ h in
     elim (or_cases (is_tie r z y b) _ at) [
-      | inl here ↦ subst (λ (x : Binding). x.0 < n) (tie_is r z y b here) (below b.0 n parts.0)
+      | inl here ↦ subst (λ (x : Binding). x.0 < n) (tie_is r z y b here) (ltb-true b.0 n parts.0)
       | inr later ↦ ports_below n bs parts.1 r z y later
     ]
 

@@ -11,6 +11,7 @@ use Rattle.std.proofs.lemmas.List.Elements.{filter_agree}
 use Rattle.metis_universe.specs.Universe.{Universe}
 use Rattle.metis_universe.specs.Config.{Config, Binding, is_bound, is_tie, binding_cmp}
 use Rattle.metis_universe.proofs.Edits.{tie_is}
+use Rattle.metis_universe.proofs.Bindings.{own_tie}
 use Rattle.metis_config.specs.Unmet.{demanded, is_met_if, is_required, is_lost, IsLeast, IsAtMost}
 use Rattle.metis_config.specs.Clients.{IsIndexed, has_client}
 
@@ -55,9 +56,6 @@ lacking u c z o b = lacks u c z o b.1 b.2
 -- and whose provider is z
 abbrev pub lost_client : Universe → Config → ℕ → Option ℕ → Binding → Bool
 lost_client u c z o b = nat_eq b.0 z && lacking u c z o b
-
-own_tie : (b : Binding) → is_tie b.0 b.1 b.2 b ≡ true
-own_tie b = λ i. eq-eqb b.0 b.0 refl i && eq-eqb b.1 b.1 refl i && eq-eqb b.2 b.2 refl i
 
 all_any : (P : Binding → Type 0) (xs : List Binding) → AllByRecursion P xs → (x y z : ℕ) → list_any (is_tie x y z) xs ≡ true → P (x, y, z)
 all_any P [] all x y z h = absurd (false≢true h)

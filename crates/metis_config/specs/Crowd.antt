@@ -4,14 +4,13 @@
 --     IsCrowd shares total room      no pair is listed in vain, and there is room for all
 --     key_cmp, weight_at m w r f      the order of requirers with a port;  how many of the port's providers are in a pair that passes
 --     providers_in c w r f, IsTallied c m      the same of a configuration;  m has these for each requirer and port
---     AreCounted c m      a configuration, and m has these of it
 use Rattle.std.specs.Prelude.{◌≡◌, ℕ, ◌==◌, ◌<◌, ◌≤◌, Bool, false, ◌&&◌, List, sum_by, if◌then◌else◌}
 use Rattle.std.specs.BTreeMap.{BTreeMap, get}
 use Rattle.std.specs.List.{All, count_by}
 use Rattle.std.specs.Option.{option_map_or}
 use Rattle.std.specs.Ordering.{nat_cmp, ordering_then}
 use Rattle.std.specs.declared.cmp.Ordering.{Ordering}
-use Rattle.metis_universe.specs.Config.{Config, IsConfig, pair_of}
+use Rattle.metis_universe.specs.Config.{Config, pair_of}
 
 pub record Crowd : Type 0 where
   pub shares : List (ℕ × ℕ)
@@ -39,7 +38,3 @@ providers_in c w r f = count_by (λ b. (b.0 == r) && (b.1 == w) && option_map_or
 
 abbrev pub IsTallied : Config → BTreeMap (ℕ × ℕ) Crowd → Type 0
 IsTallied c m = (w r : ℕ) (f : ℕ → Bool) → weight_at m w r f ≡ providers_in c w r f
-
-pub record AreCounted (c : Config) (m : BTreeMap (ℕ × ℕ) Crowd) : Type 0 where
-  pub config : IsConfig c
-  pub tallied : IsTallied c m

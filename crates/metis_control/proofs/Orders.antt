@@ -4,10 +4,10 @@ use Rattle.std.specs.Prelude.{slice_get}
 use Rattle.std.proofs.lemmas.Bool.{cases_lt, cases_order, eqb-true, false≢true, false_from_ne_true, or_cases, or_left, or_right, eq-eqb, ne_eqb, lt-ltb, le-ltb}
 use Rattle.std.specs.List.Sorted.{IsBinarySearchResult}
 use Rattle.std.proofs.lemmas.List.Sorted.{searched}
-use Rattle.std.proofs.lemmas.Option.{slice_get-get_or}
+use Rattle.std.proofs.lemmas.Option.{slice_get-get_or, none-some, same_Some}
 use Rattle.std.specs.Result.{result_ok}
 use Rattle.metis_universe.specs.Universe.{has}
-use Rattle.metis_crew.proofs.Fronts.{front_has, has_at, low_of, none_is_some, one_some}
+use Rattle.metis_crew.proofs.Fronts.{front_has, has_at, low_of}
 use Rattle.metis_crew.proofs.Fronts as fronts
 use Rattle.metis_control.specs.Owned.{IsPlaceOf, IsRising}
 use Rattle.metis_control.specs.Agent.{by_next, heard}
@@ -51,24 +51,19 @@ module _ (own : List ℕ) (done k : ℕ) where
   heard_before mine before = ap (λ m. answer m (has (take done own) k) k (slice_get own done)) mine ∙ ap (λ t. answer true t k (slice_get own done)) before
 
 pub taken_at : (own : List ℕ) (done i k : ℕ) → slice_get own i ≡ Some k → i < done → has (take done own) k ≡ true
-taken_at [] done i k h low = absurd (none_is_some k h)
+taken_at [] done i k h low = absurd (none-some k h)
 taken_at (x ∷ own) zero i k h low = absurd (omega arith)
-taken_at (x ∷ own) (suc done) zero k h low = or_left _ _ (eq-eqb x k (one_some x k h))
+taken_at (x ∷ own) (suc done) zero k h low = or_left _ _ (eq-eqb x k (same_Some x k h))
 taken_at (x ∷ own) (suc done) (suc i) k h low = or_right (nat_eq x k) _ (taken_at own done i k h (omega arith))
 
 pub rising_at : (b : ℕ) (own : List ℕ) (i j n k : ℕ) → IsRising b own → slice_get own i ≡ Some n → slice_get own j ≡ Some k → i < j → n < k
-rising_at b [] i j n k r at_i at_j less = absurd (none_is_some n at_i)
+rising_at b [] i j n k r at_i at_j less = absurd (none-some n at_i)
 rising_at b (x ∷ own) i zero n k r at_i at_j less = absurd (omega arith)
 rising_at b (x ∷ own) zero (suc j) n k r at_i at_j less =
     let low = low_of (suc x) own k (rises (suc x) own r.1) (has_at own j k at_j) in
-    let same = one_some x n at_i in
+    let same = same_Some x n at_i in
     omega arith
 rising_at b (x ∷ own) (suc i) (suc j) n k r at_i at_j less = rising_at (suc x) own i j n k r.1 at_i at_j (omega arith)
-
-pub get_low : (own : List ℕ) (i k : ℕ) → slice_get own i ≡ Some k → i < length own
-get_low [] i k h = absurd (none_is_some k h)
-get_low (x ∷ own) zero k h = omega arith
-get_low (x ∷ own) (suc i) k h = let rest = get_low own i k h in omega arith
 
 place_there : (own : List ℕ) (k : ℕ) → has own k ≡ true → (i : ℕ) × (i < length own) × (get_or own i 0 ≡ k)
 place_there [] k h = absurd (false≢true h)

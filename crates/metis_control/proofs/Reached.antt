@@ -5,11 +5,12 @@ use Rattle.std.specs.List.{list_all}
 use Rattle.std.specs.Option.{option_map_or}
 use Rattle.std.proofs.lemmas.Bool.{false≢true, both_ways, not-false, not-true, or_left, or_right, or_cases, or_parts, or_from, eq-eqb, eqb-true, cases_Bool}
 use Rattle.metis_ids.specs.declared.actions.Action.{Action}
+use Rattle.metis_ids.proofs.Lists.{has_range}
 use Rattle.metis_universe.specs.Universe.{has}
 use Rattle.metis_universe.specs.Waits.{numbers, waits, IsKeptFrom}
 use Rattle.metis_universe.proofs.Correctness.{all_has, all_from_has}
 use Rattle.metis_universe.proofs.Places.{least_place}
-use Rattle.metis_universe.proofs.Ranges.{has_range, in_range}
+use Rattle.metis_universe.proofs.Ranges.{in_range}
 use Rattle.metis_waits.proofs.LastPlaces.{waits_earlier}
 use Rattle.metis_crew.specs.Crew.{actor_at, is_done, next_of}
 use Rattle.metis_crew.proofs.Counts.{none_are_done, one_more_done}

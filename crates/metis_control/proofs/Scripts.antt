@@ -2,6 +2,7 @@
 use Rattle.std.proofs.Common.{◌≡◌, ℕ, zero, suc, take, slice_get, ◌+◌, ◌≤◌, ◌<◌, Bool, true, false, cond, not, List, [], ◌∷◌, ◌++◌, length, drop, get_or, map, Option, Some, None, refl, sym, ap, ◌∙◌, append_assoc, length-append, arith}
 use Rattle.std.proofs.Math.Seq.{drop-cons}
 use Rattle.std.specs.Option.{option_map_or}
+use Rattle.std.proofs.lemmas.Option.{same_Some}
 use Rattle.metis_ids.specs.declared.actions.Action.{Action}
 use Rattle.metis_universe.specs.Universe.{has}
 use Rattle.metis_universe.specs.Waits.{numbers}
@@ -91,16 +92,13 @@ lines_are_events A w (line ∷ lines) = by_event (λ v. lines_are_events A v lin
 
 -- ---- the answer of a line
 
-same_line : (a b : List ℕ) → Some a ≡ Some b → a ≡ b
-same_line a b h = cc
-
 no_line : (a : List ℕ) → None ≡ Some a → ⊥
 no_line a h = cc
 
 line_answered : (A : List Action) (w : WorldState) (lines : List (List ℕ)) (i : ℕ) (line : List ℕ) → slice_get lines i ≡ Some line
     → slice_get (answers A w lines) i ≡ Some (answer_to A (after_lines A w (take i lines)) line).0
 line_answered A w [] i line at = absurd (no_line line at)
-line_answered A w (l ∷ lines) zero line at = ap (λ l. Some (answer_to A w l).0) (same_line l line at)
+line_answered A w (l ∷ lines) zero line at = ap (λ l. Some (answer_to A w l).0) (same_Some l line at)
 line_answered A w (l ∷ lines) (suc i) line at = line_answered A (answer_to A w l).1 lines i line at
 
 pub line_is_answered : (A : List Action) (w : WorldState) (lines : List (List ℕ)) (i : ℕ) (line : List ℕ) → slice_get lines i ≡ Some line

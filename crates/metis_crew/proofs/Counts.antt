@@ -3,13 +3,15 @@ use Rattle.std.proofs.Common.{◌≡◌, ℕ, suc, Bool, true, false, cond, ◌|
 use Rattle.std.specs.BTreeMap.{insert_entry}
 use Rattle.std.specs.Map.{lookup}
 use Rattle.std.proofs.lemmas.Bool.{eq-eqb, eqb-true, cases_eq, cases_Bool, false_from_ne_true}
+use Rattle.std.proofs.lemmas.Option.{none-some}
 use Rattle.metis_ids.specs.Action.{actor_of}
 use Rattle.metis_ids.specs.declared.actions.Action.{Action}
+use Rattle.metis_ids.proofs.Tests.{eq_comm}
 use Rattle.metis_universe.specs.Universe.{has}
 use Rattle.metis_universe.proofs.Edits.{pair_of-put}
 use Rattle.metis_universe.specs.Config.{config_of}
-use Rattle.metis_waits.proofs.Kept.{number_at-insert, turned}
-use Rattle.metis_crew.proofs.Fronts.{front_end, front_has, front_low, front_next, none_is_some, none_taken}
+use Rattle.metis_waits.proofs.Kept.{number_at-insert}
+use Rattle.metis_crew.proofs.Fronts.{front_end, front_has, front_low, front_next, none_taken}
 use Rattle.metis_crew.proofs.OwnActions.{own_actor, own_listed, own_next, rising}
 use Rattle.metis_crew.specs.Crew.{actor_at, count_of, is_done, is_own, next_of, none_done, one_more, own_done, own_numbers, start}
 
@@ -19,7 +21,7 @@ AreDone A counts done = (k : ℕ) → is_done A counts k ≡ has done k
 
 pub count-insert : (es : List (ℕ × ℕ)) (z v q : ℕ) → count_of (insert_entry nat_cmp es z v) q ≡ cond (nat_eq q z) v (count_of es q)
 count-insert es z v q =
-    number_at-insert es (insert_entry nat_cmp es z v) z v q (pair_of-put (config_of es []) z v q ∙ ap (λ b. cond b (Some v) (lookup (nat_eq q) es)) (turned q z))
+    number_at-insert es (insert_entry nat_cmp es z v) z v q (pair_of-put (config_of es []) z v q ∙ ap (λ b. cond b (Some v) (lookup (nat_eq q) es)) (eq_comm q z))
 
 -- ---- a crew that begins
 
@@ -74,5 +76,5 @@ done_all A counts z k next mine = elim (cases_Bool (is_done A counts k)) [
   | inl at ↦ at
   | inr left ↦
       let found = front_end (own_numbers A z) (count_of counts z) k (own_listed A z k mine) (sym (ap (λ y. has (own_done A counts y) k) (own_actor A z k mine)) ∙ left) in
-      absurd (none_is_some found.0 (sym next ∙ found.1))
+      absurd (none-some found.0 (sym next ∙ found.1))
 ]

@@ -12,7 +12,7 @@ use Rattle.std.specs.Ordering.{nat_cmp}
 use Rattle.std.proofs.lemmas.List.Elements.{filter-append}
 use Rattle.metis_ids.specs.Action.{actor_of}
 use Rattle.metis_ids.specs.declared.actions.Action.{Action}
-use Rattle.metis_waits.proofs.Risen.{range_push}
+use Rattle.metis_ids.proofs.Lists.{range_push}
 use Rattle.metis_waits.specs.Waits.{is_by}
 use Rattle.metis_crew.specs.Crew.{is_own}
 use Rattle.metis_crew.specs.Tables.{row_at}

@@ -1,14 +1,14 @@
 -- The numbers of an instance's actions.
-use Rattle.std.proofs.Common.{◌≡◌, ℕ, zero, suc, ◌<◌, ◌≤◌, Bool, true, false, cond, ◌&&◌, List, [], ◌∷◌, Option, Some, None, refl, sym, ◌∙◌, subst, arith, length}
+use Rattle.std.proofs.Common.{◌≡◌, ℕ, zero, suc, ◌<◌, ◌≤◌, true, false, ◌&&◌, List, Option, Some, None, refl, sym, ◌∙◌, subst, arith, length}
 use Rattle.std.specs.Prelude.{slice_get}
-use Rattle.std.specs.List.{filter}
 use Rattle.std.specs.Option.{option_map_or}
 use Rattle.std.proofs.lemmas.Bool.{false≢true, and_parts, and_from, eq-eqb, eqb-true}
 use Rattle.std.proofs.lemmas.List.FromFn.{length-range_with_len}
 use Rattle.metis_ids.specs.Action.{actor_of}
 use Rattle.metis_ids.specs.declared.actions.Action.{Action}
+use Rattle.metis_ids.proofs.Lists.{filter_short, has_range}
 use Rattle.metis_universe.proofs.Places.{action_below, place_below}
-use Rattle.metis_universe.proofs.Ranges.{has_range, in_range}
+use Rattle.metis_universe.proofs.Ranges.{in_range}
 use Rattle.metis_universe.proofs.Rounds.{has-filter}
 use Rattle.metis_universe.specs.Universe.{has}
 use Rattle.metis_universe.specs.Waits.{action_at, numbers}
@@ -57,10 +57,6 @@ rising A z = rising_filter (is_own A z) 0 1 (length A) (omega arith)
 
 pub own_next : (A : List Action) (z c k : ℕ) → slice_get (own_numbers A z) c ≡ Some k → (is_own A z k ≡ true) × (has (numbers A) k ≡ true)
 own_next A z c k h = and_parts _ _ (sym (own_has A z k) ∙ has_at (own_numbers A z) c k h)
-
-pub filter_short : (p : ℕ → Bool) (xs : List ℕ) → length (filter p xs) ≤ length xs
-filter_short p [] = omega arith
-filter_short p (x ∷ xs) = let rest = filter_short p xs in elim (p x) as (λ b. length (cond b (x ∷ filter p xs) (filter p xs)) ≤ length (x ∷ xs)) [ true ↦ omega arith | false ↦ omega arith ]
 
 pub own_short : (A : List Action) (z : ℕ) → length (own_numbers A z) ≤ length A
 own_short A z = let short = filter_short (is_own A z) (numbers A) in let long = length-range_with_len 1 (length A) in omega arith

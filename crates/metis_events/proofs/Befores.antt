@@ -5,23 +5,24 @@ use Rattle.std.specs.List.Sorted.{IsStrictlySortedBy}
 use Rattle.std.specs.Ordering.{nat_cmp, ordering_then}
 use Rattle.std.specs.declared.cmp.Ordering.{Ordering}
 use Rattle.std.specs.declared.cmp.Ordering.TheVariants.{Less, Equal}
-use Rattle.std.proofs.lemmas.Bool.{and_from, and_parts, cond-true, lt-ltb, false_from_ne_true, eq-eqb, false≢true, or_cases, or_left, or_right}
+use Rattle.std.proofs.lemmas.Bool.{and_from, and_parts, cond-true, lt-ltb, false_from_ne_true, false≢true, or_cases, or_left, or_right}
 use Rattle.std.proofs.lemmas.Bool.Decides.{nat_tests}
 use Rattle.std.proofs.lemmas.List.{get_or-map}
 use Rattle.std.proofs.lemmas.List.Elements.{All-contains, All-from_recursion}
 use Rattle.std.proofs.lemmas.List.Sums.{position_or_len_is}
 use Rattle.std.proofs.lemmas.Map.Keys.{Less-from_sorted}
+use Rattle.std.specs.Cmp.{both_ways as same_bool}
 use Rattle.metis_ids.specs.declared.events.Event.{Event}
 use Rattle.metis_ids.specs.declared.events.Event.TheVariants.{At, End}
-use Rattle.metis_universe.proofs.Ascending.{each_weaker}
+use Rattle.metis_ids.proofs.Lists.{each_weaker}
 use Rattle.metis_universe.proofs.FirstSights.{each_append}
 use Rattle.metis_universe.specs.Universe.{Universe}
-use Rattle.metis_support.proofs.Lists.{any-append_left, any-append_right, both_each, first_passes, member, same_test, sorted_append}
+use Rattle.metis_support.proofs.Lists.{any-append_left, any-append_right, both_each, first_passes, member, sorted_append}
 use Rattle.metis_lines.specs.AbstractPlan.{AbstractPlan}
 use Rattle.metis_lines.specs.Events.{event_cmp, events, is_among, is_event, is_go, is_return, is_start, precedes, same_event}
 use Rattle.metis_lines.specs.Soundness.{IsFormed}
+use Rattle.metis_lines.proofs.SameEvents.{same_events, same_itself, same_turned}
 use Rattle.metis_events.proofs.AllEvents.{all_events, edges_join_events, events_ascend}
-use Rattle.metis_events.proofs.Ranks.{same_events}
 use Rattle.metis_events.specs.declared.edges.Edge.{Edge}
 use Rattle.metis_events.specs.declared.edges.EdgeKind.{EdgeKind}
 use Rattle.metis_events.specs.declared.edges.EdgeKind.TheVariants.{Go, Start, Return}
@@ -127,10 +128,6 @@ all_kinds Go = refl
 all_kinds Start = refl
 all_kinds Return = refl
 
-pub same_itself : (e : Event) → same_event e e ≡ true
-same_itself (At l j) = and_from (nat_eq l l) (nat_eq j j) (eq-eqb l l refl) (eq-eqb j j refl)
-same_itself End = refl
-
 module _ (u : Universe) (w : AbstractPlan) (formed : IsFormed u w) (f : Event) where
   pub edge_precedes : (k : EdgeKind) (e : Event) → is_edge w k e f ≡ true → precedes w e f ≡ true
   edge_precedes Go e h = or_left (is_go w e f || is_start w e f) (is_return w e f) (or_left (is_go w e f) (is_start w e f) h)
@@ -169,16 +166,13 @@ module _ (u : Universe) (w : AbstractPlan) (formed : IsFormed u w) (f : Event) w
       ((λ i. is_edge w (same_kinds j k is i) (same_events x e same i) f) ∙ h, and_from (same_event x e) (nat_eq (kind_number j) (kind_number k)) same is)))
 
   pub before_has : (e : Event) (k : EdgeKind) → has_edge (before w f) e k ≡ is_edge w k e f
-  before_has e k = same_test (has_edge (before w f) e k) (is_edge w k e f) (edge_there e k) (edge_listed e k)
+  before_has e k = same_bool (has_edge (before w f) e k) (is_edge w k e f) (edge_there e k) (edge_listed e k)
 
 -- ---- nodes
 
-turned : (e f : Event) → same_event f e ≡ same_event e f
-turned e f = same_test (same_event f e) (same_event e f) (λ h. ap (λ x. same_event x f) (sym (same_events f e h)) ∙ same_itself f) (λ h. ap (λ x. same_event x e) (sym (same_events e f h)) ∙ same_itself e)
-
 any_turned : (e : Event) (xs : List Event) → list_any (same_event e) xs ≡ is_among xs e
 any_turned e [] = refl
-any_turned e (x ∷ xs) = λ i. turned x e i || any_turned e xs i
+any_turned e (x ∷ xs) = λ i. same_turned x e i || any_turned e xs i
 
 -- where the event is among them, there is a first place of it
 pub place_low : (e : Event) (xs : List Event) → is_among xs e ≡ true → position_or_len (same_event e) xs < length xs

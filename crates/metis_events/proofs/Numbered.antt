@@ -4,19 +4,20 @@ use Rattle.std.specs.List.{All, AllByRecursion, Contains, flat_map, list_any, ra
 use Rattle.std.proofs.lemmas.Bool.{and_from, and_parts, eq-eqb, eqb-true, or_cases, or_left, or_right}
 use Rattle.std.proofs.lemmas.List.{get_or-map}
 use Rattle.std.proofs.lemmas.List.Elements.{All-contains, All-from_recursion}
+use Rattle.std.specs.Cmp.{both_ways as same_bool}
 use Rattle.metis_ids.specs.declared.events.Event.{Event}
 use Rattle.metis_ids.specs.declared.events.Event.TheVariants.{End}
 use Rattle.metis_ids.specs.Graph.{is_edge as is_joined, joins}
-use Rattle.metis_universe.proofs.FirstSights.{list_any-map}
+use Rattle.metis_ids.proofs.Lists.{list_any-map}
 use Rattle.metis_universe.specs.Universe.{Universe}
-use Rattle.metis_support.proofs.Lists.{any_in_row, each_in_row, member, same_test}
+use Rattle.metis_support.proofs.Lists.{any_in_row, each_in_row, member}
 use Rattle.metis_lines.specs.AbstractPlan.{AbstractPlan, line_count}
 use Rattle.metis_lines.specs.Events.{events, events_of, is_go, is_return, is_start, precedes, same_event}
 use Rattle.metis_lines.specs.Soundness.{IsFormed}
+use Rattle.metis_lines.proofs.SameEvents.{same_events}
 use Rattle.metis_events.proofs.AllEvents.{edges_join_events, in_row}
 use Rattle.metis_events.proofs.Joins.{each_made}
 use Rattle.metis_events.proofs.Befores.{all_pass, before_has, edge_precedes, found, number_of_event}
-use Rattle.metis_events.proofs.Ranks.{same_events}
 use Rattle.metis_events.specs.declared.edges.Edge.{Edge}
 use Rattle.metis_events.specs.declared.edges.EdgeKind.{EdgeKind}
 use Rattle.metis_events.specs.declared.edges.EdgeKind.TheVariants.{Go, Start, Return}
@@ -106,7 +107,7 @@ module _ (u : Universe) (w : AbstractPlan) (formed : IsFormed u w) where
   graph_of_plan = record {
     nodes = refl;
     last = omega (arith, some);
-    edges = λ a b low high. same_test (is_joined (dag_of (graph_of w)) a b) (precedes w (nth_event w a) (nth_event w b)) (joined_precedes a b) (precedes_joins a b low high);
+    edges = λ a b low high. same_bool (is_joined (dag_of (graph_of w)) a b) (precedes w (nth_event w a) (nth_event w b)) (joined_precedes a b) (precedes_joins a b low high);
     within = record {
       last = omega (arith, some);
       from = All-from_recursion (λ (e : ℕ × ℕ). e.0 < length (events w)) _ (weaken _ each_edge).0;

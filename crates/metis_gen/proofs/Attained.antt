@@ -1,7 +1,7 @@
 -- A run holds the targets, since all pairs of the tables have a layer.
-use Rattle.std.proofs.Common.{◌≡◌, ℕ, true, IsTrue, IsSome, Some, None, List, [], ◌∷◌, inl, inr, refl, sym, ◌∙◌, subst}
-use Rattle.std.specs.List.{AllByRecursion}
-use Rattle.std.proofs.lemmas.Bool.{eqb-true, false≢true, or_cases}
+use Rattle.std.proofs.Common.{ℕ, IsTrue, IsSome, Some, None, refl, sym, ◌∙◌}
+use Rattle.std.proofs.lemmas.Bool.{false≢true}
+use Rattle.metis_ids.proofs.Lists.{each_has}
 use Rattle.metis_universe.specs.Goal.{Attains}
 use Rattle.metis_universe.specs.Layers.{layer_set, layer_of, IsLeastRound}
 use Rattle.metis_universe.specs.Universe.{Universe, pair_count, has}
@@ -13,10 +13,6 @@ use Rattle.metis_gen.specs.Generated.{generated_targets}
 use Rattle.metis_gen.specs.Tables.{tables}
 use Rattle.metis_gen.proofs.Numbers.{tables_universe}
 use Rattle.metis_gen.proofs.Whole.{targets_in}
-
-member : (P : ℕ → Type 0) (g : List ℕ) (p : ℕ) → AllByRecursion P g → has g p ≡ true → P p
-member P [] p all h = absurd (false≢true h)
-member P (q ∷ g) p all h = elim (or_cases _ (has g p) h) [ inl here ↦ subst P (eqb-true q p here) all.0 | inr rest ↦ member P g p all.1 rest ]
 
 has_layer : (u : Universe) (p k : ℕ) → IsTrue (has (layer_set u k) p) → IsSome (layer_of u p)
 has_layer u p k h = elim (layer_of u p) as (λ o. IsLeastRound u p o → IsSome o) [
@@ -30,5 +26,5 @@ targets_attained n =
     let g = generated_targets n in
     let s = layer_set u (pair_count u) in
     let all = targets_in n s (Closed-layers u (tables_universe n)) in
-    let d = deploys u g (tables_universe n) (λ p h. has_layer u p (pair_count u) (member (λ q. IsTrue (has s q)) g p all h)) in
+    let d = deploys u g (tables_universe n) (λ p h. has_layer u p (pair_count u) (each_has (λ q. IsTrue (has s q)) g p all h)) in
     (layer_order u g, d.runs, d.holds)

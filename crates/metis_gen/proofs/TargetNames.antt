@@ -4,8 +4,9 @@ use Rattle.std.specs.Prelude.{codes}
 use Rattle.std.specs.Option.{option_and_then}
 use Rattle.std.specs.Str.{bytes_eq}
 use Rattle.std.proofs.lemmas.Bool.{eq-eqb, eqb-true}
+use Rattle.metis_ids.proofs.Finding.{position_here}
+use Rattle.metis_ids.proofs.Tests.{bytes_apart, bytes_same}
 use Rattle.metis_universe.specs.Universe.{Kind, Pair, no_kind, no_pair, type_of, type_name_of, state_name_of, type_named, state_named, pair_named}
-use Rattle.metis_ujson.proofs.Numbers.{bytes_apart, bytes_same, position_first}
 use Rattle.metis_gen.specs.Generated.{left_row, right_row}
 use Rattle.metis_gen.specs.Tables.{tables}
 use Rattle.metis_gen.proofs.Named.{tables_named}
@@ -18,7 +19,7 @@ module _ (n : ℕ) (most : n ≤ 999) where
   type_found t name l e =
       let named = tables_named n most in
       subst (λ (m : List ℕ). type_named (tables n) m ≡ Some t) e
-      (position_first (λ (k : Kind). bytes_eq (type_name_of (tables n) t) k.name) (tables n).kinds t no_kind (omega (arith, types_counted n)) (bytes_same (type_name_of (tables n) t)) (λ k less.
+      (position_here (λ (k : Kind). bytes_eq (type_name_of (tables n) t) k.name) (tables n).kinds t no_kind (omega (arith, types_counted n)) (bytes_same (type_name_of (tables n) t)) (λ k less.
       bytes_apart (type_name_of (tables n) t) (type_name_of (tables n) k) (λ same.
       let one : t ≡ k = named.types_apart t k (omega (arith, types_counted n)) (omega (arith, types_counted n)) same in
       omega arith)))
@@ -32,7 +33,7 @@ module _ (n : ℕ) (most : n ≤ 999) where
       let named = tables_named n most in
       let u = tables n in
       let test : Pair → Bool = λ q. nat_eq q.kind t && bytes_eq name q.state in
-      position_first test (tables n).pairs p no_pair (omega (arith, pairs_counted n))
+      position_here test (tables n).pairs p no_pair (omega (arith, pairs_counted n))
       (both_hold (nat_eq (type_of u p) t) (bytes_eq name (state_name_of u p)) (eq-eqb (type_of u p) t of) (ap (bytes_eq name) e ∙ bytes_same name))
       (λ k less. elim (nat_eq (type_of u k) t) as (λ b. nat_eq (type_of u k) t ≡ b → (b && bytes_eq name (state_name_of u k)) ≡ false) [
         | false ↦ λ _. refl

@@ -1,10 +1,11 @@
 -- Each closed set of the tables holds all their pairs: place after place, and in a place in an order in which each pair is
 -- free, or is led to and has what it requires.
-use Rattle.std.proofs.Common.{◌≡◌, ℕ, suc, zero, ◌+◌, ◌*◌, ◌/◌, ◌%◌, ◌<◌, true, false, not, cond, nat_eq, ◌&&◌, ◌||◌, inl, inr, IsTrue, List, [], ◌∷◌, get_or, Some, None, refl, ap, sym, ◌∙◌, subst, zero-add, arith}
+use Rattle.std.proofs.Common.{◌≡◌, ℕ, suc, zero, ◌+◌, ◌*◌, ◌/◌, ◌%◌, ◌<◌, true, false, not, cond, nat_eq, ◌&&◌, ◌||◌, IsTrue, List, [], ◌∷◌, get_or, Some, None, refl, ap, sym, ◌∙◌, subst, zero-add, arith}
 use Rattle.std.specs.List.{find, range_with_len, AllByRecursion}
-use Rattle.std.proofs.lemmas.Bool.{eq-eqb, eqb-true, false≢true, or_cases}
+use Rattle.std.proofs.lemmas.Bool.{eq-eqb, false≢true}
 use Rattle.std.proofs.lemmas.List.Folds.{list_any_at}
 use Rattle.std.proofs.lemmas.List.FromFn.{length-range_with_len, get_or-range_with_len}
+use Rattle.metis_ids.proofs.Lists.{has_one}
 use Rattle.metis_universe.specs.Closed.{Closed, Refusal}
 use Rattle.metis_universe.specs.Universe.{Universe, Kind, Pair, no_kind, no_pair, kind_at, has, is_empty, is_initial, provided_of, required_of, next_of}
 use Rattle.metis_universe.proofs.FirstSights.{flat_map_each}
@@ -12,9 +13,6 @@ use Rattle.metis_gen.specs.Generated.{targets_at, generated_targets}
 use Rattle.metis_gen.specs.Tables.{pairs_at, tables}
 use Rattle.metis_gen.proofs.Numbers.{initial_is}
 use Rattle.metis_gen.proofs.Places.{types_counted, pair_in, each_of_eight}
-
-only : (x n : ℕ) → has (x ∷ []) n ≡ true → x ≡ n
-only x n h = elim (or_cases _ false h) [ inl here ↦ eqb-true x n here | inr none ↦ absurd (false≢true none) ]
 
 of_one : (n : ℕ) → has (n ∷ []) n ≡ true
 of_one n = ap (λ b. b || false) (eq-eqb n n refl)
@@ -33,7 +31,7 @@ module _ (u : Universe) (s : List ℕ) (closed : Closed u s) where
   met : (p q r y : ℕ) → IsTrue (has s p) → next_of u p ≡ q ∷ [] → required_of u q ≡ r ∷ [] → IsTrue (has s y) → provided_of u y ≡ r ∷ [] → IsTrue (has s q)
   met p q r y here next one there provided =
       closed.moves p q here (leads p q next) (λ x h.
-      let same : r ≡ x = only r x (sym (ap (λ l. has l x) one) ∙ h) in
+      let same : r ≡ x = has_one r x (sym (ap (λ l. has l x) one) ∙ h) in
       (y, there, ap (λ l. has l x) provided ∙ subst (λ z. has (r ∷ []) z ≡ true) same (of_one r)))
 
 -- ---- the pairs of a place

@@ -2,14 +2,15 @@
 use Rattle.std.proofs.Common.{◌≡◌, ℕ, zero, suc, ◌+◌, ◌<◌, ◌≤◌, Bool, true, false, not, cond, ◌&&◌, List, [], ◌∷◌, None, length, refl, sym, ap, ◌∙◌, arith, nat_eq, nat_lt, inl, inr}
 use Rattle.std.specs.Prelude.{◌⊎◌}
 use Rattle.std.specs.List.{filter, range_with_len}
-use Rattle.std.proofs.lemmas.Bool.{false≢true, both_ways, eqb-true, or_cases, and_parts, and_from, cases_lt, ltb-true, lt-ltb, false_from_ne_true}
+use Rattle.std.proofs.lemmas.Bool.{false≢true, both_ways, eqb-true, or_cases, and_parts, and_from, cases_lt, ltb-true, lt-ltb, false_from_ne_true, not-true, not_from_false}
 use Rattle.std.proofs.lemmas.List.FromFn.{length-range_with_len}
+use Rattle.std.specs.Cmp.{both_ways as same_bool}
 use Rattle.metis_ids.specs.Graph.{Graph, IsGraph, all_nodes, is_edge}
 use Rattle.metis_ids.specs.Lists.{has}
 use Rattle.metis_ids.specs.Order.{pick, taken}
 use Rattle.metis_ids.specs.Cycle.{has_before, with_before, stuck_within, stuck, IsStuck}
-use Rattle.metis_ids.proofs.Nodes.{same_bool, not_true, not_false, has-filter, has-push, has_below, any_at, some_member}
 use Rattle.metis_ids.proofs.Taken.{edge_from, taken_by, picked_ready, ready_before, none_ready, not_ready}
+use Rattle.metis_ids.proofs.Lists.{any_at, has-filter, has-push, has_below, some_member}
 
 -- a filter that keeps as many keeps all
 kept : (p : ℕ → Bool) (xs : List ℕ) → (length (filter p xs) ≤ length xs) × (length xs ≤ length (filter p xs) → filter p xs ≡ xs)
@@ -86,20 +87,20 @@ module _ (g : Graph) where
   left_is_stuck ok d none n low new =
       let rest = filter (λ m. not (has d m)) (all_nodes g) in
       let in_rest : (m : ℕ) → m < g.nodes → has d m ≡ false → has rest m ≡ true =
-      λ m below out. has-filter (λ m. not (has d m)) m (all_nodes g) ∙ and_from _ _ (not_false _ out) (has_below g.nodes m ∙ lt-ltb m g.nodes below) in
+      λ m below out. has-filter (λ m. not (has d m)) m (all_nodes g) ∙ and_from _ _ (not_from_false _ out) (has_below g.nodes m ∙ lt-ltb m g.nodes below) in
       greatest rest
       (λ m h.
       let parts = and_parts _ _ (sym (has-filter (λ m. not (has d m)) m (all_nodes g)) ∙ h) in
       let below = ltb-true m g.nodes (sym (has_below g.nodes m) ∙ parts.1) in
-      let from = not_ready g d m (not_true _ parts.0) (none_ready g d none m below) in
+      let from = not_ready g d m (not-true _ parts.0) (none_ready g d none m below) in
       (below, any_at (λ a. is_edge g a m) from.0 rest (in_rest from.0 (edge_from g ok from.0 m from.1) from.2) from.1))
       g.nodes n (in_rest n low new)
 
   -- where no node is ready, those that are left are stuck
   pub stuck_is_left : IsGraph g → (k : ℕ) → pick g (taken g k) ≡ None → (n : ℕ) → has (stuck g) n ≡ (nat_lt n g.nodes && not (has (taken g k) n))
   stuck_is_left ok k none n = same_bool _ _
-      (λ h. and_from _ _ (lt-ltb n g.nodes (within g.nodes n h)) (not_false _ (false_from_ne_true _ (λ there. taken_not_stuck k n there h))))
-      (λ h. let parts = and_parts _ _ h in left_is_stuck ok (taken g k) none n (ltb-true n g.nodes parts.0) (not_true _ parts.1))
+      (λ h. and_from _ _ (lt-ltb n g.nodes (within g.nodes n h)) (not_from_false _ (false_from_ne_true _ (λ there. taken_not_stuck k n there h))))
+      (λ h. let parts = and_parts _ _ h in left_is_stuck ok (taken g k) none n (ltb-true n g.nodes parts.0) (not-true _ parts.1))
 
   -- the stuck nodes ascend
   pub stuck_ascend : stuck g ≡ filter (has (stuck g)) (all_nodes g)

@@ -2,13 +2,15 @@
 use Rattle.std.proofs.Common.{◌≡◌, ℕ, zero, suc, ◌+◌, ◌-◌, ◌<◌, ◌≤◌, Bool, true, false, not, ◌||◌, List, [], ◌∷◌, ◌++◌, Some, None, length, take, refl, sym, ap, ◌∙◌, subst, arith, nat_eq, inl, inr, append-nil, add-zero, add-suc}
 use Rattle.std.specs.List.{filter, list_all, list_any, slice_get, AllByRecursion}
 use Rattle.std.specs.Option.{option_to_list}
-use Rattle.std.proofs.lemmas.Bool.{false≢true, both_ways, eqb-true, eq-eqb, ne_eqb, cases_lt, cases_eq, cases_Bool, or_cases, or_left, or_right, and_parts, and_from, and_cases, ltb-true, lt-ltb}
+use Rattle.std.proofs.lemmas.Bool.{false≢true, both_ways, eqb-true, eq-eqb, ne_eqb, cases_lt, cases_eq, cases_Bool, or_cases, or_left, or_right, and_parts, and_from, and_cases, ltb-true, lt-ltb, not-true, not_from_false}
 use Rattle.std.proofs.lemmas.List.{take_at, take-append-le, length_push}
 use Rattle.std.proofs.lemmas.List.Elements.{recursion_from_All}
 use Rattle.metis_ids.specs.Graph.{Graph, IsGraph, all_nodes, is_edge, joins}
 use Rattle.metis_ids.specs.Lists.{has}
 use Rattle.metis_ids.specs.Order.{is_ready, pick, preferred, taken, with_pick, order_of, IsOrder}
-use Rattle.metis_ids.proofs.Nodes.{has-push, has-filter, has_below, not_true, not_false, found, not_found, left, left-push, left-none}
+use Rattle.metis_ids.proofs.Nodes.{left, left-push, left-none}
+use Rattle.metis_ids.proofs.Finding.{found, not_found}
+use Rattle.metis_ids.proofs.Lists.{has-filter, has-push, has_below}
 
 -- ---- edges into a node, and what is done
 
@@ -32,7 +34,7 @@ all_done d n (e ∷ es) h =
     and_from (is_done d n e) (list_all (is_done d n) es)
     (elim (cases_Bool (nat_eq e.1 n)) [
       | inl into ↦ or_right _ _ (h e.0 (or_left _ _ (and_from _ _ (eq-eqb e.0 e.0 refl) into)))
-      | inr elsewhere ↦ or_left _ _ (not_false _ elsewhere)
+      | inr elsewhere ↦ or_left _ _ (not_from_false _ elsewhere)
     ])
     (all_done d n es (λ a later. h a (or_right _ _ later)))
 
@@ -76,18 +78,18 @@ module _ (g : Graph) where
   -- ---- readiness
 
   pub ready_new : (d : List ℕ) (n : ℕ) → is_ready g d n ≡ true → has d n ≡ false
-  ready_new d n h = not_true _ (and_parts (not (has d n)) (list_all (is_done d n) g.edges) h).0
+  ready_new d n h = not-true _ (and_parts (not (has d n)) (list_all (is_done d n) g.edges) h).0
 
   pub ready_before : (d : List ℕ) (n a : ℕ) → is_ready g d n ≡ true → is_edge g a n ≡ true → has d a ≡ true
   ready_before d n a h edge = edge_done d n a g.edges (and_parts (not (has d n)) (list_all (is_done d n) g.edges) h).1 edge
 
   pub ready_from : (d : List ℕ) (n : ℕ) → has d n ≡ false → ((a : ℕ) → is_edge g a n ≡ true → has d a ≡ true) → is_ready g d n ≡ true
-  ready_from d n new before = and_from _ _ (not_false _ new) (all_done d n g.edges before)
+  ready_from d n new before = and_from _ _ (not_from_false _ new) (all_done d n g.edges before)
 
   pub not_ready : (d : List ℕ) (n : ℕ) → has d n ≡ false → is_ready g d n ≡ false → (a : ℕ) × (is_edge g a n ≡ true) × (has d a ≡ false)
   not_ready d n new h =
       elim (and_cases (not (has d n)) (list_all (is_done d n) g.edges) h) [
-        | inl old ↦ absurd (both_ways (not (has d n)) old (not_false _ new))
+        | inl old ↦ absurd (both_ways (not (has d n)) old (not_from_false _ new))
         | inr some ↦ not_done d n g.edges some
       ]
 
@@ -98,7 +100,7 @@ module _ (g : Graph) where
       has-push (filter (λ m. not (nat_eq m g.last)) (all_nodes g)) g.last n
       ∙ elim (cases_eq n g.last) [
         | inl same ↦ or_right _ _ (eq-eqb g.last n (sym same))
-        | inr other ↦ or_left _ _ (has-filter (λ m. not (nat_eq m g.last)) n (all_nodes g) ∙ and_from _ _ (not_false _ (ne_eqb n g.last other)) (has_below g.nodes n ∙ lt-ltb n g.nodes low))
+        | inr other ↦ or_left _ _ (has-filter (λ m. not (nat_eq m g.last)) n (all_nodes g) ∙ and_from _ _ (not_from_false _ (ne_eqb n g.last other)) (has_below g.nodes n ∙ lt-ltb n g.nodes low))
       ]
 
   pub preferred_within : IsGraph g → (n : ℕ) → has (preferred g) n ≡ true → n < g.nodes

@@ -6,11 +6,12 @@ use Rattle.std.proofs.lemmas.Bool.{and_parts, eq-eqb, eqb-true, false≢true, le
 use Rattle.std.specs.List.{slice_get}
 use Rattle.std.specs.Option.{option_map_or}
 use Rattle.std.specs.Prelude.{nat_le, replicate}
+use Rattle.metis_ids.proofs.Lists.{has-replicate}
 use Rattle.metis_universe.proofs.Greatest.{demand_least}
 use Rattle.metis_universe.specs.Layers.{layer_of}
 use Rattle.metis_universe.specs.Selection.{provider_of}
 use Rattle.metis_universe.specs.Universe.{Universe, IsUniverse, demand_of, greatest_demand, has, pair_count, port_count, provides, required_of, requires}
-use Rattle.metis_layers.proofs.Copies.{block_back, block_own, block_slot, copies, copies-push, has-replicate, length-copies, slice_get-copies}
+use Rattle.metis_layers.proofs.Copies.{block_back, block_own, block_slot, copies, copies-push, length-copies, slice_get-copies}
 use Rattle.metis_layers.proofs.LayerFacts.{HasLayer, layer_below, layer_free, provider_at}
 use Rattle.metis_layers.proofs.SlotLines.{AreWays, free_needs}
 use Rattle.metis_layers.proofs.SlotLists.{wants_required}

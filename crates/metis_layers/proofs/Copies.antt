@@ -1,13 +1,15 @@
 -- Each element of a list so many times, one after another: where the copies of an element stand, and which copy stands at a place.
 --     block_slot b g y      which of the g places from b on y is, counted from 1, and 0 where it is none of them
-use Rattle.std.proofs.Common.{◌≡◌, ℕ, zero, suc, ◌+◌, ◌-◌, ◌*◌, ◌<◌, ◌≤◌, Bool, true, false, cond, ◌&&◌, List, [], ◌∷◌, ◌++◌, length, Some, refl, sym, ap, ◌∙◌, arith, nat_eq, inl, inr, append-nil, length-append}
+use Rattle.std.proofs.Common.{◌≡◌, ℕ, zero, suc, ◌+◌, ◌-◌, ◌*◌, ◌<◌, ◌≤◌, Bool, true, false, cond, ◌&&◌, List, [], ◌∷◌, ◌++◌, length, refl, sym, ap, ◌∙◌, arith, nat_eq, inl, inr, append-nil, length-append}
 use Rattle.std.proofs.Math.Nat.{mul-suc}
-use Rattle.std.proofs.lemmas.Bool.{and_from, and_parts, eq-eqb, eqb-true, false≢true, le-leb, leb-true, or_cases, or_left, or_right}
+use Rattle.std.proofs.lemmas.Bool.{and_from, and_parts, eq-eqb, le-leb, leb-true, or_cases, or_left, or_right}
 use Rattle.std.proofs.lemmas.Grind.{flat_map-append}
 use Rattle.std.proofs.lemmas.List.{length-replicate}
 use Rattle.std.proofs.lemmas.List.Folds.{list_any-append}
 use Rattle.std.specs.List.{flat_map, slice_get}
 use Rattle.std.specs.Prelude.{nat_le, replicate}
+use Rattle.metis_layers.proofs.Repeated.{in_copies, past_copies}
+use Rattle.metis_ids.proofs.Lists.{has-replicate}
 use Rattle.metis_universe.specs.Universe.{has}
 
 abbrev pub copies : ℕ → List ℕ → List ℕ
@@ -35,28 +37,12 @@ pub length-copies : (g : ℕ) (xs : List ℕ) → length (copies g xs) ≡ g * l
 length-copies g [] = omega arith
 length-copies g (x ∷ xs) = omega (arith, length-append (replicate g x) (copies g xs), length-replicate g x, length-copies g xs, mul-suc g (length xs))
 
-past_copies : (g x : ℕ) (ys : List ℕ) (n : ℕ) → slice_get (replicate g x ++ ys) (g + n) ≡ slice_get ys n
-past_copies zero x ys n = ap (slice_get ys) (omega arith)
-past_copies (suc g) x ys n = let next : suc g + n ≡ suc (g + n) = omega arith in ap (slice_get (x ∷ replicate g x ++ ys)) next ∙ past_copies g x ys n
-
-in_copies : (g x : ℕ) (ys : List ℕ) (j : ℕ) → j < g → slice_get (replicate g x ++ ys) j ≡ Some x
-in_copies zero x ys j low = absurd (omega arith)
-in_copies (suc g) x ys zero low = refl
-in_copies (suc g) x ys (suc j) low = in_copies g x ys j (omega arith)
-
 -- the copies of the i-th element
 pub slice_get-copies : (g : ℕ) (xs : List ℕ) (i j : ℕ) → j < g → slice_get (copies g xs) (g * i + j) ≡ slice_get xs i
 slice_get-copies g [] i j low = refl
 slice_get-copies g (x ∷ xs) zero j low = ap (slice_get (replicate g x ++ copies g xs)) (omega arith) ∙ in_copies g x (copies g xs) j low
 slice_get-copies g (x ∷ xs) (suc i) j low =
     ap (slice_get (replicate g x ++ copies g xs)) (omega (arith, mul-suc g i)) ∙ past_copies g x (copies g xs) (g * i + j) ∙ slice_get-copies g xs i j low
-
-pub has-replicate : (g x q : ℕ) → has (replicate g x) q ≡ true → x ≡ q
-has-replicate zero x q h = absurd (false≢true h)
-has-replicate (suc g) x q h = elim (or_cases (nat_eq x q) (has (replicate g x) q) h) [
-  | inl now ↦ eqb-true x q now
-  | inr more ↦ has-replicate g x q more
-]
 
 pub has-copies : (g : ℕ) (xs : List ℕ) (q : ℕ) → has (copies g xs) q ≡ true → has xs q ≡ true
 has-copies g [] q h = h

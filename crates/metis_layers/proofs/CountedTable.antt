@@ -5,8 +5,11 @@ use Rattle.std.specs.Option.{is_none, is_some, option_or}
 use Rattle.std.proofs.lemmas.Bool.{both_ways, cases_Bool, eq-eqb, ne_eqb, and_parts, and_from, lt-ltb, ltb-true}
 use Rattle.std.proofs.lemmas.List.Folds.{find-append}
 use Rattle.std.proofs.lemmas.List.FromFn.{fill_by_all, get_or-map-range_with_len, length-map-range_with_len, length-range_with_len}
+use Rattle.std.specs.Cmp.{both_ways as same_bool}
 use Rattle.metis_ids.specs.PairSet.{PairSet}
-use Rattle.metis_ids.proofs.Nodes.{found, has_below, has-filter, has_range, in_range, not_found, same_bool}
+use Rattle.metis_ids.proofs.Finding.{found, not_found}
+use Rattle.metis_ids.proofs.Lists.{has-filter, has_below, has_range, in_range}
+use Rattle.metis_ids.proofs.Options.{none_from_is_none}
 use Rattle.metis_universe.specs.Layers.{layer_set}
 use Rattle.metis_universe.specs.Universe.{Universe, all_pairs, has, is_free, pair_count, port_count, provides}
 use Rattle.metis_universe.proofs.Rounds.{among_all, comes_early, grows_to, layers_grow}
@@ -21,10 +24,6 @@ use Rattle.metis_layers.proofs.Tables.{kept_alike}
 some_none : {X : Type 0} (o : Option X) → is_some o ≡ not (is_none o)
 some_none None = refl
 some_none (Some x) = refl
-
-is_none_of : {X : Type 0} (o : Option X) → is_none o ≡ true → o ≡ None
-is_none_of None h = refl
-is_none_of (Some x) h = absurd (cc)
 
 split_range : (k m a : ℕ) → range_with_len a (k + m) ≡ range_with_len a k ++ range_with_len (a + k) m
 split_range zero m a =
@@ -109,7 +108,7 @@ module _ (u : Universe) (rounds : List (Option ℕ)) (known : rounds ≡ map (fo
       let below : early.0 < pair_count u = omega (arith, early.1, length-range_with_len 0 (pair_count u)) in
       elim (cases_Bool (is_none (found_before u (pair_count u) p))) [
         | inr some ↦ ap not some
-        | inl none ↦ absurd (both_ways _ (not_found (λ j. has (layer_set u j) p) (range_with_len 0 (pair_count u)) (is_none_of _ none) early.0 (has_range 0 (pair_count u) early.0 (omega arith) (omega arith))) early.2)
+        | inl none ↦ absurd (both_ways _ (not_found (λ j. has (layer_set u j) p) (range_with_len 0 (pair_count u)) (none_from_is_none _ none) early.0 (has_range 0 (pair_count u) early.0 (omega arith) (omega arith))) early.2)
       ]) where
         not_true' : (b : Bool) → b ≡ true → not b ≡ false
         not_true' b e = ap not e

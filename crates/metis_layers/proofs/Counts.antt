@@ -15,14 +15,11 @@ use Rattle.metis_universe.specs.Selection.{origin_of}
 use Rattle.metis_universe.specs.Universe.{Universe, all_pairs, has, is_free, pair_count}
 use Rattle.metis_layers.proofs.LayerFacts.{in_layer, layer_below, layer_has}
 use Rattle.metis_ids.specs.Action.{makes}
+use Rattle.metis_ids.proofs.Lists.{filter_short}
 use Rattle.metis_layers.specs.LayerOrder.{attained_pairs, instances_of, is_standing, path_to, path_within, standing_pairs}
 use Rattle.metis_layers.specs.SlotLines.{slot_binds, slot_line, slot_lines, slot_move, slot_moves, slot_unbinds, slots_gained}
 
 -- ---- kept elements
-
-pub kept_fewer : (t : ℕ → Bool) (xs : List ℕ) → length (filter t xs) ≤ length xs
-kept_fewer t [] = omega arith
-kept_fewer t (x ∷ xs) = let rest = kept_fewer t xs in elim (t x) as (λ b. length (cond b (x ∷ filter t xs) (filter t xs)) ≤ length (x ∷ xs)) [ true ↦ omega (arith, rest) | false ↦ omega (arith, rest) ]
 
 -- what one test keeps and what another keeps are kept by one that keeps both, where no element passes the two
 kept_together : (s t w : ℕ → Bool) (xs : List ℕ) → ((x : ℕ) → s x ≡ true → t x ≡ true → ⊥) → ((x : ℕ) → s x ≡ true → has xs x ≡ true → w x ≡ true) → ((x : ℕ) → t x ≡ true → has xs x ≡ true → w x ≡ true)
@@ -119,7 +116,7 @@ module _ (u : Universe) where
       omega (arith, layers_count (pair_count u) 0, into, attained_kept)
 
   pub standing_few : length (standing_pairs u) ≤ length (attained_pairs u)
-  standing_few = omega (arith, kept_fewer (is_standing u) (layered u), layered_few)
+  standing_few = omega (arith, filter_short (is_standing u) (layered u), layered_few)
 
   -- ---- instances that lines make
 

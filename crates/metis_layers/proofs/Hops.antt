@@ -1,12 +1,15 @@
 -- One instance's way, each of whose steps is bound only to instances that stand already.
 use Rattle.std.proofs.Common.{◌≡◌, ℕ, ◌<◌, ◌≤◌, Bool, true, false, cond, not, ◌&&◌, ◌||◌, List, [], ◌∷◌, ◌++◌, length, Option, Some, refl, sym, ap, ◌∙◌, subst, arith, nat_eq, inl, inr, append_assoc, append-nil, length-append}
-use Rattle.std.proofs.lemmas.Bool.{eqb-true, eq-eqb, ne_eqb, cases_eq, false≢true, and_parts, and_from, le-leb, or_cases, or_left, or_right}
+use Rattle.std.proofs.lemmas.Bool.{eqb-true, eq-eqb, ne_eqb, false≢true, and_parts, and_from, le-leb, or_cases, or_left, or_right}
 use Rattle.std.specs.Cmp.{both_ways}
 use Rattle.std.specs.List.{list_any, slice_get}
 use Rattle.std.specs.Option.{option_map_or}
 use Rattle.std.specs.Prelude.{IsSomeAnd}
+use Rattle.std.proofs.Math.Bool.{or-false}
+use Rattle.std.proofs.lemmas.Option.{slice_get_past}
 use Rattle.metis_ids.specs.declared.actions.Action.{Action}
 use Rattle.metis_ids.specs.declared.actions.Action.TheVariants.{New, Bind, Unbind, Move}
+use Rattle.metis_ids.proofs.Tests.{eq_comm}
 use Rattle.metis_universe.proofs.Demands.{IsMet-slots}
 use Rattle.metis_universe.proofs.Edits.{pair_of-put, is_bound-tie, is_bound-untie}
 use Rattle.metis_universe.proofs.Frames.{bindings-after_all}
@@ -15,8 +18,9 @@ use Rattle.metis_universe.specs.Step.{CanBind}
 use Rattle.metis_universe.specs.Steadfast.{is_steadfast_after}
 use Rattle.metis_universe.specs.Universe.{Universe, demand_of, type_of, initial_of, next_of, provides, type_requires, type_provides, has}
 use Rattle.metis_universe.specs.Waits.{standing}
-use Rattle.metis_layers.proofs.Deploying.{slice_get-past, slice_get-before, slice_get-last, slice_get-push}
-use Rattle.metis_layers.proofs.Going.{at, at-next, GoesOn, no_news, type_provides-own, unprovided}
+use Rattle.metis_universe.proofs.Bindings.{unprovided}
+use Rattle.metis_layers.proofs.Deploying.{slice_get-before, slice_get-last, slice_get-push}
+use Rattle.metis_layers.proofs.Going.{at, at-next, GoesOn, no_news, type_provides-own}
 use Rattle.metis_layers.proofs.Slots.{IsFilled, AreServed, IsAt, Stand, wants, ends_want, bound_slots, adding, dropping, Fresh, Ready, with_all, without_all, has_slot, here, later}
 use Rattle.metis_layers.specs.SlotLines.{slot_binds, slot_unbinds}
 
@@ -25,10 +29,6 @@ use Rattle.metis_layers.specs.SlotLines.{slot_binds, slot_unbinds}
 nothing_more : (a e : Bool) → ((a && false) || e) ≡ e
 nothing_more true e = refl
 nothing_more false e = refl
-
-or_nothing : (b : Bool) → (b || false) ≡ b
-or_nothing true = refl
-or_nothing false = refl
 
 tie_here : (s a k t e : Bool) → (((s && a) && k) || ((a && t) || e)) ≡ ((a && ((s && k) || t)) || e)
 tie_here true true true t e = refl
@@ -48,15 +48,6 @@ put_twice : (b : Bool) (p q : ℕ) (o : Option ℕ) → cond b (Some q) (cond b 
 put_twice true p q o = refl
 put_twice false p q o = refl
 
-eqb_swap : (a b : ℕ) → nat_eq a b ≡ nat_eq b a
-eqb_swap a b = elim (cases_eq a b) [
-  | inl is ↦ rw (eq-eqb a b is, eq-eqb b a (sym is)) refl
-  | inr other ↦ rw (ne_eqb a b other, ne_eqb b a (λ e. other (sym e))) refl
-]
-
-true_false : (b : Bool) → b ≡ true → b ≡ false → ⊥
-true_false b t f = false≢true (sym f ∙ t)
-
 lower : (a b : ℕ) → a ≡ b → b < a → ⊥
 lower a b e h = omega arith
 
@@ -64,7 +55,7 @@ module _ (u : Universe) (holder slot : ℕ → ℕ → ℕ) (back : (r y : ℕ) 
   -- ---- what each action leaves
 
   own_end : (x r k : ℕ) → nat_eq x (length ends) ≡ true → ends_want u ends x r k ≡ false
-  own_end x r k is = rw (slice_get-past ends x (omega (arith, eqb-true x (length ends) is))) refl
+  own_end x r k is = rw (slice_get_past ends x (omega (arith, eqb-true x (length ends) is))) refl
 
   -- the binding to a slot, told by the slot
   tied : (r k o x y : ℕ) → 1 ≤ k → slot r (holder r k) ≡ k → is_tie o x y (r, length ends, holder r k) ≡ ((nat_eq o r && nat_eq x (length ends)) && nat_eq (slot o y) k)
@@ -88,7 +79,7 @@ module _ (u : Universe) (holder slot : ℕ → ℕ → ℕ) (back : (r y : ℕ) 
         and_from _ _ (and_from _ _ (eq-eqb r o (sym port)) (eq-eqb (length ends) x (sym (eqb-true x (length ends) fronts.1)))) (eq-eqb (holder r k) y provider)
 
   tied_same : (r k o x y : ℕ) → 1 ≤ k → slot r (holder r k) ≡ k → is_tie r (length ends) (holder r k) (o, x, y) ≡ ((nat_eq o r && nat_eq x (length ends)) && nat_eq (slot o y) k)
-  tied_same r k o x y first own = (λ i. (eqb_swap o r i && eqb_swap x (length ends) i) && eqb_swap y (holder r k) i) ∙ tied r k o x y first own
+  tied_same r k o x y first own = (λ i. (eq_comm o r i && eq_comm x (length ends) i) && eq_comm y (holder r k) i) ∙ tied r k o x y first own
 
   pub at_begin : (earlier : List Action) (t p : ℕ) → Stand u holder slot ends earlier → initial_of u t ≡ p → IsAt u holder slot ends p (λ r k. false) (earlier ++ New (length ends) t ∷ [])
   at_begin earlier t p s is = record {
@@ -142,7 +133,7 @@ module _ (u : Universe) (holder slot : ℕ → ℕ → ℕ) (back : (r y : ℕ) 
     ends_now : (r x k : ℕ) → bound_slots u ends (wants u p) x r k ≡ ends_want u (ends ++ p ∷ []) x r k
     ends_now r x k =
         elim (nat_eq x (length ends)) as (λ b. nat_eq x (length ends) ≡ b → ((b && wants u p r k) || ends_want u ends x r k) ≡ option_map_or (λ e. wants u e r k) (cond b (Some p) (slice_get ends x)) false) [
-          | true ↦ λ is. rw (own_end x r k is) (or_nothing (wants u p r k))
+          | true ↦ λ is. rw (own_end x r k is) (or-false (wants u p r k))
           | false ↦ λ _. refl
         ] refl
         ∙ ap (λ o. option_map_or (λ e. wants u e r k) o false) (sym (slice_get-push ends p x))
@@ -272,7 +263,7 @@ module _ (u : Universe) (holder slot : ℕ → ℕ → ℕ) (back : (r y : ℕ) 
           by : (b : Bool) → (nat_eq r x.0 && nat_eq k x.1) ≡ b → not b ≡ true
           by true is =
               let parts = and_parts (nat_eq r x.0) (nat_eq k x.1) is in
-              absurd (true_false (w x.0 x.1) (sym (λ i. w (eqb-true r x.0 parts.0 i) (eqb-true k x.1 parts.1 i)) ∙ wanted) none)
+              absurd (false≢true (sym none ∙ (sym (λ i. w (eqb-true r x.0 parts.0 i) (eqb-true k x.1 parts.1 i)) ∙ wanted)))
           by false is = refl
 
   pub move_goes : (p q : ℕ) (t : ℕ → ℕ → Bool) (earlier : List Action) → IsAt u holder slot ends p t earlier → AreServed u holder slot ends → has (next_of u p) q ≡ true → ((r k : ℕ) → wants u q r k ≡ true → t r k ≡ true)

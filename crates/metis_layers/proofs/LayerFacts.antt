@@ -1,24 +1,15 @@
 -- What a pair's layer says of its origin and of the providers of what it requires.
 use Rattle.std.proofs.Common.{◌≡◌, ℕ, zero, suc, ◌+◌, ◌<◌, ◌≤◌, Bool, true, false, cond, ◌||◌, List, [], ◌∷◌, Option, Some, None, refl, sym, ap, ◌∙◌, subst, arith, nat_eq, inl, inr}
-use Rattle.std.proofs.lemmas.Bool.{eqb-true, eq-eqb, cases_eq, cases_lt, false≢true, and_parts, and_from, or_cases, or_left, or_right}
+use Rattle.std.proofs.lemmas.Bool.{eqb-true, eq-eqb, cases_eq, cases_lt, false≢true, and_parts, and_from, or_cases, or_left, or_right, both_ways}
 use Rattle.std.proofs.lemmas.List.Folds.{find-append}
 use Rattle.std.specs.List.{list_any, list_all, filter, find, flat_map, range_with_len}
 use Rattle.std.specs.Option.{option_map_or, option_and_then}
+use Rattle.metis_ids.proofs.Finding.{none_found}
+use Rattle.metis_ids.proofs.Lists.{all_has}
 use Rattle.metis_universe.proofs.Rounds.{has-filter, layer_of-least}
 use Rattle.metis_universe.specs.Layers.{layer_set, layer_of, is_in_layer, is_enabled, IsLeastRound}
 use Rattle.metis_universe.specs.Selection.{provider_of, origin_of, origin_below}
 use Rattle.metis_universe.specs.Universe.{Universe, all_pairs, pair_count, is_free, next_of, required_of, requires, provides, has}
-
-pub true_false : (b : Bool) → b ≡ true → b ≡ false → ⊥
-true_false b t f = false≢true (sym f ∙ t)
-
--- a number that is in a list passes what the list passes
-pub all_pass : (t : ℕ → Bool) (xs : List ℕ) (r : ℕ) → list_all t xs ≡ true → has xs r ≡ true → t r ≡ true
-all_pass t [] r all h = absurd (false≢true h)
-all_pass t (x ∷ xs) r all h = elim (or_cases (nat_eq x r) (has xs r) h) [
-  | inl is ↦ subst (λ k. t k ≡ true) (eqb-true x r is) (and_parts (t x) (list_all t xs) all).0
-  | inr later ↦ all_pass t xs r (and_parts (t x) (list_all t xs) all).1 later
-]
 
 -- what some number of a list passes
 pub record SomeOf (t : ℕ → Bool) (xs : List ℕ) : Type 0 where
@@ -49,15 +40,10 @@ finds t (z ∷ xs) x there passes =
     elim (t z) as (λ b. t z ≡ b → (y : ℕ) × (cond b (Some z) (find t xs) ≡ Some y)) [
       | true ↦ λ _. (z, refl)
       | false ↦ λ no. elim (or_cases (nat_eq z x) (has xs x) there) [
-        | inl same ↦ absurd (true_false (t z) (ap t (eqb-true z x same) ∙ passes) no)
+        | inl same ↦ absurd (both_ways (t z) no (ap t (eqb-true z x same) ∙ passes))
         | inr later ↦ finds t xs x later passes
       ]
     ] refl
-
-not_found : (t : ℕ → Bool) (xs : List ℕ) (x : ℕ) → find t xs ≡ None → has xs x ≡ true → t x ≡ true → ⊥
-not_found t xs x none there passes = let f = finds t xs x there passes in some_none f.0 (sym f.1 ∙ none) where
-  some_none : (y : ℕ) → Some y ≡ None → ⊥
-  some_none y h = cc
 
 module _ (u : Universe) where
   pub layer_has : (p l : ℕ) → layer_of u p ≡ Some l → has (layer_set u l) p ≡ true
@@ -75,9 +61,9 @@ module _ (u : Universe) where
   pub layer_by : (p k : ℕ) → has (layer_set u k) p ≡ true → HasLayer p k
   layer_by p k there = by (layer_of u p) refl where
     by : (o : Option ℕ) → layer_of u p ≡ o → HasLayer p k
-    by None is = absurd (true_false _ there ((subst (IsLeastRound u p) is (layer_of-least u p)) k))
+    by None is = absurd (both_ways _ ((subst (IsLeastRound u p) is (layer_of-least u p)) k) there)
     by (Some l) is = elim (cases_lt k l) [
-      | inl below ↦ absurd (true_false _ there (layer_first p l k is below))
+      | inl below ↦ absurd (both_ways _ (layer_first p l k is below) there)
       | inr low ↦ record { layer = l; is = is; low = low }
     ]
 
@@ -95,7 +81,7 @@ module _ (u : Universe) where
       let both = (and_parts (has (layer_set u k) p || is_enabled u (layer_set u k) p) (has (all_pairs u) p)
       (sym (has-filter (λ q. has (layer_set u k) q || is_enabled u (layer_set u k) q) p (all_pairs u)) ∙ layer_has p (suc k) is)).0 in
       elim (or_cases (has (layer_set u k) p) (is_enabled u (layer_set u k) p) both) [
-        | inl before ↦ absurd (true_false _ before (layer_first p (suc k) k is (omega arith)))
+        | inl before ↦ absurd (both_ways _ (layer_first p (suc k) k is (omega arith)) before)
         | inr now ↦ now
       ]
 
@@ -144,7 +130,7 @@ module _ (u : Universe) where
               is = find-append t (filter (is_in_layer u a) (all_pairs u)) (flat_map (λ j. filter (is_in_layer u j) (all_pairs u)) (range_with_len (a + 1) n)) ∙ rw is refl;
             }
         by None is again = elim (cases_eq a k) [
-          | inl same ↦ absurd (not_found t (filter (is_in_layer u a) (all_pairs u)) x is (subst (λ j. has (filter (is_in_layer u j) (all_pairs u)) x ≡ true) (sym same) there) passes)
+          | inl same ↦ absurd (none_found t (filter (is_in_layer u a) (all_pairs u)) x is (subst (λ j. has (filter (is_in_layer u j) (all_pairs u)) x ≡ true) (sym same) there) passes)
           | inr other ↦
               let f = again (omega arith) in
               record {
@@ -194,7 +180,7 @@ module _ (u : Universe) where
   pub provider_at : (p k r : ℕ) → layer_of u p ≡ Some (suc k) → requires u p r ≡ true → HasProvider r k
   provider_at p k r is required =
       let met = (and_parts (list_any (λ o. has (next_of u o) p) (layer_set u k)) (list_all (λ s. list_any (λ y. provides u y s) (layer_set u k)) (required_of u p)) (layer_enabled p k is)).1 in
-      let some = some_of (λ y. provides u y r) (layer_set u k) (all_pass (λ s. list_any (λ y. provides u y s) (layer_set u k)) (required_of u p) r met required) in
+      let some = some_of (λ y. provides u y r) (layer_set u k) (all_has (λ s. list_any (λ y. provides u y s) (layer_set u k)) (required_of u p) r met required) in
       let low = layer_by some.number k some.there in
       let h = provider_by r some.number low.layer low.is some.passes in
       record { pair = h.pair; layer = h.layer; is = h.is; at = h.at; low = omega (arith, h.low, low.low); gives = h.gives }

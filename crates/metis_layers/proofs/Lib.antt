@@ -10,10 +10,9 @@ pub mod Going
 pub mod Hops
 pub mod LayerFacts
 pub mod Layered
-pub mod Lines
-pub mod Named
 pub mod Numbers
 pub mod Order
+pub mod Repeated
 pub mod RoundFacts
 pub mod Sets
 pub mod Short

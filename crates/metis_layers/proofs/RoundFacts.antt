@@ -2,15 +2,17 @@
 use Rattle.std.proofs.Common.{◌≡◌, ℕ, zero, suc, ◌+◌, ◌-◌, ◌<◌, Bool, true, false, not, cond, ◌&&◌, ◌||◌, List, [], ◌∷◌, ◌++◌, Option, Some, None, length, get_or, map, take, refl, sym, ap, ◌∙◌, arith, nat_eq, inl, inr, append-nil}
 use Rattle.std.specs.List.{AllByRecursion, filter, find, flat_map, list_all, list_any, range_with_len}
 use Rattle.std.specs.Option.{is_none, option_or}
-use Rattle.std.proofs.lemmas.Bool.{false≢true, both_ways, cases_Bool, cases_eq, eqb-true, eq-eqb, ne_eqb, or_cases, or_left, or_right, and_parts, and_from, false_from_ne_true, lt-ltb, ltb-true}
+use Rattle.std.proofs.lemmas.Bool.{false≢true, both_ways, cases_Bool, cases_eq, eqb-true, ne_eqb, or_cases, or_left, or_right, and_parts, and_from, false_from_ne_true, lt-ltb, ltb-true, not-true, not_from_false}
 use Rattle.std.proofs.lemmas.List.Concat.{flat_map-append}
-use Rattle.std.proofs.lemmas.List.Elements.{filter-append}
 use Rattle.std.proofs.lemmas.Map.Keys.{IsStrictlyIncreasing-from_sorted}
 use Rattle.std.specs.List.Sorted.{IsStrictlySortedBy}
 use Rattle.std.specs.Ordering.{nat_cmp}
 use Rattle.std.proofs.lemmas.List.Folds.{find-append}
 use Rattle.std.proofs.lemmas.List.FromFn.{fill_by_all, get_or-map-range_with_len, length-map-range_with_len}
-use Rattle.metis_ids.proofs.Nodes.{any_at, has-append, has-filter, has_at, has_below, has_range, not_found, not_true, not_false, same_bool, some_member}
+use Rattle.std.specs.Cmp.{both_ways as same_bool}
+use Rattle.metis_ids.proofs.Finding.{find_none, not_found}
+use Rattle.metis_ids.proofs.Lists.{any_at, has-append, has-filter, has_at, has_below, has_here, has_range, some_member, range_next}
+use Rattle.metis_ids.proofs.Options.{none_from_is_none}
 use Rattle.metis_layers.specs.Counters.{IsSettled, comes}
 use Rattle.metis_universe.specs.Layers.{is_enabled, layer_set}
 use Rattle.metis_universe.specs.Universe.{Universe, IsUniverse, all_pairs, has, is_free, next_of, pair_count, provides, required_of}
@@ -31,21 +33,18 @@ above x q (y ∷ xs) all h = elim (or_cases (nat_eq y q) (has xs q) h) [
 not_above : (x : ℕ) (xs : List ℕ) → AllByRecursion (λ y. x < y) xs → has xs x ≡ false
 not_above x xs all = false_from_ne_true _ (λ h. let low = above x x xs all h in absurd (omega arith))
 
-has_this : (x : ℕ) (xs : List ℕ) → has (x ∷ xs) x ≡ true
-has_this x xs = or_left _ _ (eq-eqb x x refl)
-
 -- two lists that rise and have the same numbers are one
 pub rises_same : (xs ys : List ℕ) → Rises xs → Rises ys → ((q : ℕ) → has xs q ≡ has ys q) → xs ≡ ys
 rises_same [] [] up down same = refl
-rises_same [] (y ∷ ys) up down same = absurd (false≢true (same y ∙ has_this y ys))
-rises_same (x ∷ xs) [] up down same = absurd (false≢true (sym (same x) ∙ has_this x xs))
+rises_same [] (y ∷ ys) up down same = absurd (false≢true (same y ∙ has_here y ys))
+rises_same (x ∷ xs) [] up down same = absurd (false≢true (sym (same x) ∙ has_here x xs))
 rises_same (x ∷ xs) (y ∷ ys) up down same =
     let heads : x ≡ y =
     elim (cases_eq x y) [
       | inl e ↦ e
       | inr other ↦
-          let one : has ys x ≡ true = elim (or_cases (nat_eq y x) (has ys x) (sym (same x) ∙ has_this x xs)) [ inl e ↦ absurd (other (sym (eqb-true y x e))) | inr later ↦ later ] in
-          let two : has xs y ≡ true = elim (or_cases (nat_eq x y) (has xs y) (same y ∙ has_this y ys)) [ inl e ↦ absurd (other (eqb-true x y e)) | inr later ↦ later ] in
+          let one : has ys x ≡ true = elim (or_cases (nat_eq y x) (has ys x) (sym (same x) ∙ has_here x xs)) [ inl e ↦ absurd (other (sym (eqb-true y x e))) | inr later ↦ later ] in
+          let two : has xs y ≡ true = elim (or_cases (nat_eq x y) (has xs y) (same y ∙ has_here y ys)) [ inl e ↦ absurd (other (eqb-true x y e)) | inr later ↦ later ] in
           let a = above y x ys down.0 one in
           let b = above x y xs up.0 two in
           absurd (omega arith)
@@ -78,23 +77,15 @@ rises_fresh : (xs : List ℕ) (i : ℕ) → Rises xs → i < length xs → has (
 rises_fresh [] i up low = absurd (omega arith)
 rises_fresh (x ∷ xs) zero up low = refl
 rises_fresh (x ∷ xs) (suc i) up low =
-    let there = has_at xs i (omega arith) in
+    let there = has_at xs i 0 (omega arith) in
     let more = above x (get_or xs i 0) xs up.0 there in
     ap (λ b. b || has (take i xs) (get_or xs i 0)) (ne_eqb x (get_or xs i 0) (λ e. absurd (omega arith))) ∙ rises_fresh xs i up.1 (omega arith)
 
 -- ---- searches
 
-none_here : (t : ℕ → Bool) (xs : List ℕ) → ((n : ℕ) → has xs n ≡ true → t n ≡ false) → find t xs ≡ None
-none_here t [] none = refl
-none_here t (x ∷ xs) none = ap (λ b. cond b (Some x) (find t xs)) (none x (has_this x xs)) ∙ none_here t xs (λ n there. none n (or_right _ _ there))
-
 none_any : (t : ℕ → Bool) (xs : List ℕ) → is_none (find t xs) ≡ not (list_any t xs)
 none_any t [] = refl
 none_any t (x ∷ xs) = elim (t x) as (λ b. is_none (cond b (Some x) (find t xs)) ≡ not (b || list_any t xs)) [ true ↦ refl | false ↦ none_any t xs ]
-
-is_none_of : {X : Type 0} (o : Option X) → is_none o ≡ true → o ≡ None
-is_none_of None h = refl
-is_none_of (Some x) h = absurd (cc)
 
 all_none : (s t : ℕ → Bool) (xs : List ℕ) → ((x : ℕ) → t x ≡ not (s x)) → list_all s xs ≡ nat_eq (length (filter t xs)) 0
 all_none s t [] other = refl
@@ -103,16 +94,6 @@ all_none s t (x ∷ xs) other =
       | true ↦ λ h. all_none s t xs other ∙ ap (λ b. nat_eq (length (cond b (x ∷ filter t xs) (filter t xs))) 0) (sym (other x ∙ ap not h))
       | false ↦ λ h. sym (ap (λ b. nat_eq (length (cond b (x ∷ filter t xs) (filter t xs))) 0) (other x ∙ ap not h) ∙ ne_eqb (suc (length (filter t xs))) 0 (λ e. absurd (omega arith)))
     ] refl
-
-range_more : (n a : ℕ) → range_with_len a (suc n) ≡ range_with_len a n ++ (a + n) ∷ []
-range_more zero a = let e : a ≡ a + 0 = omega arith in ap (λ x. x ∷ []) e
-range_more (suc n) a = let at : a + 1 + n ≡ a + suc n = omega arith in ap (λ xs. a ∷ xs) (range_more n (a + 1) ∙ ap (λ x. range_with_len (a + 1) n ++ x ∷ []) at)
-
-pub kept_more : (t : ℕ → Bool) (n : ℕ) → filter t (range_with_len 0 (n + 1)) ≡ filter t (range_with_len 0 n) ++ cond (t n) (n ∷ []) []
-kept_more t n =
-    let e : n + 1 ≡ suc n = omega arith in
-    let z : 0 + n ≡ n = omega arith in
-    ap (λ m. filter t (range_with_len 0 m)) e ∙ ap (filter t) (range_more n 0 ∙ ap (λ k. range_with_len 0 n ++ k ∷ []) z) ∙ filter-append t (range_with_len 0 n) (n ∷ [])
 
 pub rises_sorted : (xs : List ℕ) → IsStrictlySortedBy nat_cmp xs → Rises xs
 rises_sorted xs h = rises xs (IsStrictlyIncreasing-from_sorted xs h)
@@ -137,12 +118,12 @@ module _ (u : Universe) where
   -- a pair has no round up to j exactly where it is not in the set of j
   none_before : (j p : ℕ) → is_none (found_before u (suc j) p) ≡ not (has (layer_set u j) p)
   none_before j p = same_bool _ _
-      (λ h. not_false _ (not_found (λ k. has (layer_set u k) p) (range_with_len 0 (suc j)) (is_none_of _ h) j (has_range 0 (suc j) j (omega arith) (omega arith))))
-      (λ h. ap is_none (none_here (λ k. has (layer_set u k) p) (range_with_len 0 (suc j)) (λ n there.
+      (λ h. not_from_false _ (not_found (λ k. has (layer_set u k) p) (range_with_len 0 (suc j)) (none_from_is_none _ h) j (has_range 0 (suc j) j (omega arith) (omega arith))))
+      (λ h. ap is_none (find_none (λ k. has (layer_set u k) p) (range_with_len 0 (suc j)) (λ n there.
       false_from_ne_true _ (λ at.
       let low = ltb-true n (suc j) (sym (has_below (suc j) n) ∙ there) in
       let e : n + (j - n) ≡ j = omega arith in
-      both_ways _ (not_true _ h) (sym (ap (λ m. has (layer_set u m) p) e) ∙ grows_up (j - n) n p at)))))
+      both_ways _ (not-true _ h) (sym (ap (λ m. has (layer_set u m) p) e) ∙ grows_up (j - n) n p at)))))
 
   new_has : (k p : ℕ) → has (new_at u k) p ≡ ((has (layer_set u k) p && is_none (found_before u k p)) && has (all_pairs u) p)
   new_has k p = has-filter (λ q. has (layer_set u k) q && is_none (found_before u k q)) p (all_pairs u)
@@ -150,7 +131,7 @@ module _ (u : Universe) where
   come_more : (k : ℕ) → come_before u (suc k) ≡ come_before u k ++ new_at u k
   come_more k =
       let z : 0 + k ≡ k = omega arith in
-      ap (flat_map (new_at u)) (range_more k 0 ∙ ap (λ n. range_with_len 0 k ++ n ∷ []) z) ∙ flat_map-append (new_at u) (range_with_len 0 k) (k ∷ []) ∙ ap (λ l. come_before u k ++ l) (append-nil (new_at u k))
+      ap (flat_map (new_at u)) (range_next 0 k ∙ ap (λ n. range_with_len 0 k ++ n ∷ []) z) ∙ flat_map-append (new_at u) (range_with_len 0 k) (k ∷ []) ∙ ap (λ l. come_before u k ++ l) (append-nil (new_at u k))
 
   -- those that come up to round j are the set of j
   pub come_has : (j p : ℕ) → has (come_before u (suc j)) p ≡ has (layer_set u j) p
@@ -164,7 +145,7 @@ module _ (u : Universe) where
       (λ h. elim (or_cases _ _ h) [ inl old ↦ grows j p old | inr now ↦ (and_parts _ _ (and_parts _ _ (sym (new_has (suc j) p) ∙ now)).0).0 ])
       (λ h. elim (cases_Bool (has (layer_set u j) p)) [
         | inl old ↦ or_left _ _ old
-        | inr fresh ↦ or_right _ _ (new_has (suc j) p ∙ and_from _ _ (and_from _ _ h (none_before j p ∙ not_false _ fresh)) (among (suc j) p h))
+        | inr fresh ↦ or_right _ _ (new_has (suc j) p ∙ and_from _ _ (and_from _ _ h (none_before j p ∙ not_from_false _ fresh)) (among (suc j) p h))
       ])
 
   -- ---- what the flags and the counters say
@@ -227,7 +208,7 @@ module _ (u : Universe) where
           let both = and_parts _ _ h in
           let from = some_member (λ p. has (next_of u p) q) (layer_set u j) (and_parts _ _ both.1).0 in
           let low = next_within u ok from.0 q (ltb-true from.0 (pair_count u) (sym (has_below (pair_count u) from.0) ∙ among j from.0 from.1)) from.2 in
-          both_ways _ (not_true _ both.0) (set_more j q ∙ and_from _ _ (or_right _ _ both.1) (has_below (pair_count u) q ∙ lt-ltb q (pair_count u) low)))
+          both_ways _ (not-true _ both.0) (set_more j q ∙ and_from _ _ (or_right _ _ both.1) (has_below (pair_count u) q ∙ lt-ltb q (pair_count u) low)))
 
     -- and when all were read, those that come are the next round
     pub next_is : (led : List Bool) (unmet : List ℕ) (first : List (Option ℕ)) (next : List ℕ) → IsRead u led unmet first (come_before u (suc k)) → IsSettled rounds led unmet next → Rises next → next ≡ new_at u (suc k)
@@ -251,19 +232,19 @@ module _ (u : Universe) where
   -- ---- the frontier
 
   pub new_low : (k i : ℕ) → i < length (new_at u k) → get_or (new_at u k) i 0 < pair_count u
-  new_low k i low = let there = has_at (new_at u k) i low in ltb-true _ (pair_count u) (sym (has_below (pair_count u) _) ∙ (and_parts _ _ (sym (new_has k _) ∙ there)).1)
+  new_low k i low = let there = has_at (new_at u k) i 0 low in ltb-true _ (pair_count u) (sym (has_below (pair_count u) _) ∙ (and_parts _ _ (sym (new_has k _) ∙ there)).1)
 
   new_apart : (k p : ℕ) → has (new_at u k) p ≡ true → has (come_before u k) p ≡ false
   new_apart zero p h = refl
   new_apart (suc j) p h =
       let parts = and_parts _ _ (and_parts _ _ (sym (new_has (suc j) p) ∙ h)).0 in
-      come_has j p ∙ not_true _ (sym (none_before j p) ∙ parts.1)
+      come_has j p ∙ not-true _ (sym (none_before j p) ∙ parts.1)
 
   pub new_fresh : (k i : ℕ) → i < length (new_at u k) → has (come_before u k ++ take i (new_at u k)) (get_or (new_at u k) i 0) ≡ false
   new_fresh k i low =
       let x = get_or (new_at u k) i 0 in
       has-append (come_before u k) (take i (new_at u k)) x
-      ∙ (λ j. new_apart k x (has_at (new_at u k) i low) j || rises_fresh (new_at u k) i (kept_rises (λ p. has (layer_set u k) p && is_none (found_before u k p)) (pair_count u) 0) low j)
+      ∙ (λ j. new_apart k x (has_at (new_at u k) i 0 low) j || rises_fresh (new_at u k) i (kept_rises (λ p. has (layer_set u k) p && is_none (found_before u k p)) (pair_count u) 0) low j)
 
   -- ---- a round's stamps
 
@@ -274,7 +255,7 @@ module _ (u : Universe) where
       stamps q ∙ ap (λ o. cond (has (new_at u k) q) (Some k) o) (round_at k q rounds known low)
       ∙ ap (λ b. cond b (Some k) (found_before u k q)) (new_has k q ∙ ap (λ b. (has (layer_set u k) q && is_none (found_before u k q)) && b) (has_below (pair_count u) q ∙ lt-ltb q (pair_count u) low))
       ∙ by (has (layer_set u k) q) (found_before u k q)
-      ∙ sym (let z : 0 + k ≡ k = omega arith in ap (find (λ j. has (layer_set u j) q)) (range_more k 0 ∙ ap (λ n. range_with_len 0 k ++ n ∷ []) z) ∙ find-append (λ j. has (layer_set u j) q) (range_with_len 0 k) (k ∷ []))) where
+      ∙ sym (let z : 0 + k ≡ k = omega arith in ap (find (λ j. has (layer_set u j) q)) (range_next 0 k ∙ ap (λ n. range_with_len 0 k ++ n ∷ []) z) ∙ find-append (λ j. has (layer_set u j) q) (range_with_len 0 k) (k ∷ []))) where
         by : (b : Bool) (o : Option ℕ) → cond ((b && is_none o) && true) (Some k) o ≡ option_or o (cond b (Some k) None)
         by true None = refl
         by false None = refl

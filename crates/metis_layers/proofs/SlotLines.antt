@@ -3,12 +3,13 @@ use Rattle.std.proofs.Common.{◌≡◌, ℕ, ◌+◌, ◌<◌, ◌≤◌, Bool,
 use Rattle.std.proofs.lemmas.Bool.{eqb-true, false≢true, and_parts, or_cases, or_right}
 use Rattle.std.specs.List.{slice_get}
 use Rattle.std.specs.Option.{option_map_or}
+use Rattle.std.proofs.lemmas.Option.{slice_get_past}
 use Rattle.metis_ids.specs.declared.actions.Action.{Action}
 use Rattle.metis_ids.specs.declared.actions.Action.TheVariants.{New, Move}
 use Rattle.metis_universe.proofs.Demands.{demand_none}
 use Rattle.metis_universe.specs.Config.{Correct}
 use Rattle.metis_universe.specs.Universe.{Universe, IsUniverse, demand_of, type_count, type_of, initial_of, is_free, is_empty, is_initial, next_of, required_of, type_requires, has}
-use Rattle.metis_layers.proofs.Deploying.{slice_get-past, slice_get-before, slice_get-push}
+use Rattle.metis_layers.proofs.Deploying.{slice_get-before, slice_get-push}
 use Rattle.metis_layers.proofs.Going.{at-next, GoesOn, GoesOn-append, type_requires-own}
 use Rattle.metis_layers.proofs.Hops.{at_begin, at_move, at_retest, at_finish, binds_go, unbinds_go, move_goes, correct_at}
 use Rattle.metis_layers.proofs.SlotLists.{gained_apart, has_gained, wants_required}
@@ -156,7 +157,7 @@ module _ (u : Universe) (k : IsUniverse u) (holder slot : ℕ → ℕ → ℕ) (
         let rest = path_goes p path (earlier ++ a ∷ []) way.1 filled begun in
         let correct = correct_at u holder slot back ends p (wants u p) (earlier ++ a ∷ []) begun served (λ r j h. h) filled in
         let e = last_of p path in
-        let there = s.pairs z ∙ slice_get-past ends z (omega arith) in
+        let there = s.pairs z ∙ slice_get_past ends z (omega arith) in
         let new = ap not (s.news z (omega arith)) in (
           ((way.0.kind, there), subst (Correct u) (at-next u earlier a) correct, new, rest.0),
           subst (λ l. Stand u holder slot (ends ++ e ∷ []) l) (append_assoc earlier (a ∷ []) (slot_moves u holder z p path)) (at_finish u holder slot back ends e _ rest.1),

@@ -1,12 +1,12 @@
 -- Lists that have an entry for each number below some number.
 use Rattle.std.proofs.Common.{◌≡◌, ℕ, zero, suc, ◌+◌, ◌<◌, ◌≤◌, Bool, true, false, cond, List, [], ◌∷◌, ◌++◌, length, map, take, replicate, get_or, Option, Some, None, refl, sym, ap, ◌∙◌, arith, append-nil, append_assoc}
 use Rattle.std.proofs.lemmas.List.{length-map}
-use Rattle.std.proofs.lemmas.List.Elements.{filter-append}
 use Rattle.std.proofs.lemmas.List.Folds.{find-append}
 use Rattle.std.proofs.lemmas.List.FromFn.{length-range_with_len}
 use Rattle.std.specs.List.{filter, find, flat_map, range_with_len, AllByRecursion}
 use Rattle.std.specs.Option.{option_or}
-use Rattle.metis_layers.proofs.Sets.{range_more, take_more}
+use Rattle.metis_ids.proofs.Lists.{filter_more, range_more}
+use Rattle.metis_layers.proofs.Sets.{take_more}
 
 pub map_append : {A : Type 0} (f : ℕ → A) (xs ys : List ℕ) → map f (xs ++ ys) ≡ map f xs ++ map f ys
 map_append f [] ys = refl
@@ -18,16 +18,6 @@ map_more f n = ap (map f) (range_more n) ∙ map_append f (range_with_len 0 n) (
 -- one more entry
 pub pushed : {A : Type 0} (f : ℕ → A) (n : ℕ) (v v' : List A) (x : A) → v' ≡ v ++ x ∷ [] → v ≡ map f (range_with_len 0 n) → x ≡ f n → v' ≡ map f (range_with_len 0 (n + 1))
 pushed f n v v' x is old at = is ∙ ap (λ l. l ++ x ∷ []) old ∙ ap (λ y. map f (range_with_len 0 n) ++ y ∷ []) at ∙ sym (map_more f n)
-
-flat_append : (f : ℕ → List ℕ) (xs ys : List ℕ) → flat_map f (xs ++ ys) ≡ flat_map f xs ++ flat_map f ys
-flat_append f [] ys = refl
-flat_append f (x ∷ xs) ys = ap (λ l. f x ++ l) (flat_append f xs ys) ∙ sym (append_assoc (f x) (flat_map f xs) (flat_map f ys))
-
-pub flat_more : (f : ℕ → List ℕ) (n : ℕ) → flat_map f (range_with_len 0 (n + 1)) ≡ flat_map f (range_with_len 0 n) ++ f n
-flat_more f n = ap (flat_map f) (range_more n) ∙ flat_append f (range_with_len 0 n) (n ∷ []) ∙ ap (λ l. flat_map f (range_with_len 0 n) ++ l) (append-nil (f n))
-
-pub filter_more : (t : ℕ → Bool) (n : ℕ) → filter t (range_with_len 0 (n + 1)) ≡ filter t (range_with_len 0 n) ++ cond (t n) (n ∷ []) []
-filter_more t n = ap (filter t) (range_more n) ∙ filter-append t (range_with_len 0 n) (n ∷ [])
 
 pub find_more : (t : ℕ → Bool) (n : ℕ) → find t (range_with_len 0 (n + 1)) ≡ option_or (find t (range_with_len 0 n)) (cond (t n) (Some n) None)
 find_more t n = ap (find t) (range_more n) ∙ find-append t (range_with_len 0 n) (n ∷ [])

@@ -10,7 +10,6 @@ use Rattle.metis_universe.specs.Selection.{origin_of}
 use Rattle.metis_universe.specs.Universe.{Universe, IsUniverse, pair_count, type_of, initial_of, is_initial, is_empty, next_of, required_of, has}
 use Rattle.metis_layers.proofs.Deploying.{slice_get-before}
 use Rattle.metis_layers.proofs.LayerFacts.{HasLayer, layer_below, layer_free, layer_pair, no_origin, origin_at}
-use Rattle.metis_layers.proofs.Lines.{IsWay as IsLineWay, end_of as line_end}
 use Rattle.metis_layers.proofs.SlotLines.{IsHop, AreHops, IsBegun, IsWay, AreWays, last_of, end_of}
 use Rattle.metis_layers.proofs.Slots.{IsFilled, wants}
 use Rattle.metis_layers.specs.LayerOrder.{path_to, path_within}
@@ -31,15 +30,6 @@ all_has P xs q all h =
 -- a pair that has a layer is one of the universe
 pub layered_pair : (u : Universe) (p l : ℕ) → layer_of u p ≡ Some l → p < pair_count u
 layered_pair u p l is = omega (arith, in_range 0 (pair_count u) p (layer_pair u p l is))
-
-module _ (u : Universe) (k : IsUniverse u) (holder : ℕ → ℕ) where
-  pub within : (p l : ℕ) → layer_of u p ≡ Some l → p < pair_count u
-  within p l is = layered_pair u p l is
-
-  -- a path to p whose ports have single holders
-  pub record IsPath (ends : List ℕ) (p : ℕ) (path : List ℕ) : Type 0 where
-    pub way : IsLineWay u holder ends path
-    pub end : line_end u holder path ≡ p
 
 -- with each pair its origin is among them
 abbrev pub HaveOrigins : Universe → (ℕ → Type 0) → Type 0

@@ -9,7 +9,7 @@
 --     attained_pairs u      the pairs that have a layer
 --     instances_of actions      how many instances the actions make
 --     Deploys u g actions      a steadfast run from the empty configuration that holds the targets, with few instances
-use Rattle.std.specs.Prelude.{ℕ, zero, suc, ◌+◌, ◌-◌, ◌*◌, ◌==◌, ◌≤◌, Bool, false, List, [], ◌∷◌, ◌++◌, length, map, flat_map, filter, replicate, IsTrue}
+use Rattle.std.specs.Prelude.{ℕ, ◌+◌, ◌-◌, ◌*◌, ◌==◌, ◌≤◌, Bool, false, List, ◌++◌, length, map, flat_map, filter, replicate, IsTrue}
 use Rattle.std.specs.List.{All, list_any, position_or_len, range_with_len}
 use Rattle.std.specs.Option.{option_map_or}
 use Rattle.metis_ids.specs.Action.{makes}
@@ -22,8 +22,8 @@ use Rattle.metis_universe.specs.Selection.{provider_of, origin_of}
 use Rattle.metis_universe.specs.Numbers.{IsOf}
 use Rattle.metis_universe.specs.Steadfast.{is_steadfast}
 use Rattle.metis_universe.specs.Step.{IsRun, after_all}
-pub use Rattle.metis_layers.specs.Lines.{binds, gained, line_actions, lines_from, move_actions, moves_along, unbinds}
 use Rattle.metis_layers.specs.SlotLines.{slot_lines}
+use Rattle.metis_ids.specs.Paths.{path_by}
 
 -- whether the pair is the port's first provider
 abbrev pub is_provider : Universe → ℕ → ℕ → Bool
@@ -44,8 +44,7 @@ holder_of u r = option_map_or (place_of (standing_pairs u)) (provider_of u r) 0
 
 -- along at most n origins
 abbrev pub path_within : Universe → ℕ → ℕ → List ℕ
-path_within u zero p = p ∷ []
-path_within u (suc n) p = option_map_or (path_within u n) (origin_of u p) [] ++ p ∷ []
+path_within u = path_by (origin_of u)
 
 abbrev pub path_to : Universe → ℕ → List ℕ
 path_to u p = path_within u (pair_count u) p

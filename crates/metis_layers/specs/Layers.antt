@@ -2,7 +2,6 @@
 --     Layers      the layer of each pair, the attained pairs, the same by layer, and the first provider of each port
 --     layer_at l p, first_at l r      what they say of a pair and of a port
 --     IsLayers u l      they are those of the universe
---     stamped rounds s round p      what is known of p after the round that has the pairs s
 --     found_before u round p      the first round before this one that has p
 --     order_by rounds n      the pairs by layer and then by number
 use Rattle.std.specs.Prelude.{◌≡◌, ℕ, ◌==◌, ◌<◌, Bool, false, List, length, filter, Option, Some, None, slice_index_or, if◌then◌else◌}
@@ -38,9 +37,6 @@ pub record IsLayers (u : Universe) (l : Layers) : Type 0 where
 -- the layer that is known already, or this round where the pair is there
 abbrev pub stamp : Option ℕ → Bool → ℕ → Option ℕ
 stamp known there round = option_or known (if there then Some round else None)
-
-abbrev pub stamped : List (Option ℕ) → List ℕ → ℕ → ℕ → Option ℕ
-stamped rounds s round p = stamp (slice_index_or rounds p None) (has s p) round
 
 -- the first of the rounds before this one that has the pair
 abbrev pub found_before : Universe → ℕ → ℕ → Option ℕ

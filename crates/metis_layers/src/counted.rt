@@ -3,7 +3,8 @@ ghost use Rattle.std.specs.Prelude.{◌≡◌, ◌+◌, ◌-◌, ◌<◌, ◌≤
 ghost use Rattle.std.specs.List.{slice_index_or};
 ghost use Rattle.std.specs.Option.{is_none, option_or};
 ghost use Rattle.metis_universe.specs.Universe.{Universe, IsUniverse, has, next_of, pair_count, port_count, provided_of, requirers_of};
-ghost use Rattle.metis_layers.specs.Counters.{IsSettled, IsTallied, comes, occurrences};
+ghost use Rattle.metis_layers.specs.Counters.{IsSettled, IsTallied, comes};
+ghost use Rattle.metis_ids.specs.Counts.{occurrences};
 ghost use Rattle.metis_layers.specs.Reading.{unoffered};
 
 use metis_ids::{NoMemory, PairIx, PortIx, Steps};

@@ -1,35 +1,21 @@
 -- Lists that have each of some numbers several times, one number after another.
-use Rattle.std.proofs.Common.{◌≡◌, ℕ, zero, suc, ◌+◌, ◌*◌, ◌<◌, ◌≤◌, Bool, true, false, cond, not, ◌||◌, List, [], ◌∷◌, ◌++◌, length, get_or, map, set, take, drop, replicate, refl, sym, ap, ◌∙◌, subst, arith, nat_eq, inl, inr, append_assoc, append-nil}
-use Rattle.std.specs.List.{filter, flat_map}
+use Rattle.std.proofs.Common.{◌≡◌, ℕ, zero, suc, ◌+◌, ◌<◌, ◌≤◌, Bool, true, false, cond, not, ◌||◌, List, [], ◌∷◌, ◌++◌, length, get_or, map, set, take, drop, replicate, refl, sym, ap, ◌∙◌, subst, arith, nat_eq, inl, inr, append_assoc, append-nil}
+use Rattle.std.specs.List.{filter}
 use Rattle.std.specs.List.Sorted.{IsStrictlySortedBy}
 use Rattle.std.specs.Ordering.{nat_cmp}
-use Rattle.std.proofs.Math.Nat.{suc-mul}
-use Rattle.std.proofs.lemmas.Bool.{both_ways, cases_eq, cases_lt, eq-eqb, eqb-true, false_from_ne_true, false≢true, ne_eqb, or_cases, or_left, or_parts, or_right}
+use Rattle.std.proofs.lemmas.Bool.{both_ways, cases_eq, cases_lt, eq-eqb, eqb-true, false_from_ne_true, false≢true, ne_eqb, or_left, or_parts, or_right}
 use Rattle.std.proofs.lemmas.List.{get_or-append-add, get_or-replicate, get_or-set_other, get_or-set_same, get_or_append_left, length-append, length-replicate, length-take-le, get_or-take, take-append-drop, take_more}
 use Rattle.std.proofs.lemmas.List.Elements.{filter-append}
-use Rattle.metis_universe.proofs.Ascending.{none_above}
+use Rattle.metis_ids.proofs.Lists.{has-replicate, has_one, none_above}
 use Rattle.metis_universe.specs.Universe.{has}
 use Rattle.metis_lines.specs.Tables.{AreSeconds}
 use Rattle.metis_layers.specs.LayerOrder.{place_of}
-use Rattle.metis_support.proofs.Lists.{first_passes, has-append_cases, has_one}
-
--- each p of the list f p times
-abbrev pub blocks : (ℕ → ℕ) → List ℕ → List ℕ
-blocks f ps = flat_map (λ p. replicate (f p) p) ps
+pub use Rattle.metis_layers.proofs.Repeated.{blocks, blocks_few, has_block}
+use Rattle.metis_layers.proofs.Repeated.{first_copy, past_place}
+use Rattle.metis_support.proofs.Lists.{first_passes, has-append_cases}
 
 abbrev pub copies : List ℕ → ℕ → ℕ
 copies xs q = length (filter (λ x. nat_eq x q) xs)
-
-has_copies : (n p q : ℕ) → has (replicate n p) q ≡ true → p ≡ q
-has_copies zero p q h = absurd (false≢true h)
-has_copies (suc n) p q h = elim (or_cases (nat_eq p q) (has (replicate n p) q) h) [ inl now ↦ eqb-true p q now | inr later ↦ has_copies n p q later ]
-
-pub has_block : (f : ℕ → ℕ) (ps : List ℕ) (q : ℕ) → has (blocks f ps) q ≡ true → has ps q ≡ true
-has_block f [] q h = absurd (false≢true h)
-has_block f (p ∷ ps) q h = elim (has-append_cases (replicate (f p) p) (blocks f ps) q h) [
-  | inl now ↦ or_left (nat_eq p q) (has ps q) (eq-eqb p q (has_copies (f p) p q now))
-  | inr later ↦ or_right (nat_eq p q) (has ps q) (has_block f ps q later)
-]
 
 -- ---- how often
 
@@ -65,16 +51,6 @@ copies_in f (p ∷ ps) q sorted =
 
 -- ---- where
 
-first_copy : (n q p : ℕ) (xs : List ℕ) → 0 < n → q ≡ p → place_of (replicate n q ++ xs) p ≡ 0
-first_copy zero q p xs some same = absurd (omega arith)
-first_copy (suc n) q p xs some same = ap (λ b. cond (not b) (1 + place_of (replicate n q ++ xs) p) 0) (eq-eqb q p same)
-
-past_copies : (n q p : ℕ) (xs : List ℕ) → (q ≡ p → ⊥) → place_of (replicate n q ++ xs) p ≡ n + place_of xs p
-past_copies zero q p xs other = omega arith
-past_copies (suc n) q p xs other =
-    let rest = past_copies n q p xs other in
-    ap (λ b. cond (not b) (1 + place_of (replicate n q ++ xs) p) 0) (ne_eqb q p other) ∙ omega (arith, rest)
-
 pub record IsRead (xs : List ℕ) (p i d : ℕ) : Type 0 where
   pub low : place_of xs p + i < length xs
   pub is : get_or xs (place_of xs p + i) d ≡ p
@@ -106,7 +82,7 @@ read_block f (q ∷ ps) p i d sorted low =
           let none = copies-other n q p other in
           let all = copies-append xs rest p in
           let later = read_block f ps p i d sorted.1 (omega (arith, low, none, all)) in
-          let at = past_copies n q p rest other in
+          let at = past_place n q p rest other in
           let place : place_of (xs ++ rest) p + i ≡ length xs + (place_of rest p + i) = omega (arith, at, long) in
           record {
             low = omega (arith, place, later.low, whole);
@@ -129,14 +105,6 @@ place_fits (x ∷ xs) p = by (nat_eq x p) (place_fits xs p) (copies_few xs p) wh
       → cond (not b) (1 + place_of xs p) 0 + length (cond b (x ∷ filter (λ y. nat_eq y p) xs) (filter (λ y. nat_eq y p) xs)) ≤ suc (length xs)
   by true rest few = omega (arith, few)
   by false rest few = omega (arith, rest)
-
-pub blocks_few : (f : ℕ → ℕ) (b : ℕ) (ps : List ℕ) → ((p : ℕ) → f p ≤ b) → length (blocks f ps) ≤ length ps * b
-blocks_few f b [] low = omega arith
-blocks_few f b (p ∷ ps) low =
-    let rest = blocks_few f b ps low in
-    let whole = length-append (replicate (f p) p) (blocks f ps) in
-    let long = length-replicate (f p) p in
-    omega (arith, rest, whole, long, low p, suc-mul (length ps) b)
 
 pub some_copy : (xs : List ℕ) (p : ℕ) → 1 ≤ copies xs p → has xs p ≡ true
 some_copy [] p some = absurd (omega arith)
@@ -202,7 +170,7 @@ seconds_more base later seconds ps i q n low at there fresh old p listed copied 
       ] in
       let stands : has later p ≡ true = elim (has-append_cases later (replicate n q) p copied) [
         | inl stands ↦ stands
-        | inr new ↦ absurd (other (sym (has_copies n q p new)))
+        | inr new ↦ absurd (other (sym (has-replicate n q p new)))
       ] in
       get_or-set_other seconds q p (base + length later) 0 other ∙ old p before stands ∙ ap (λ m. base + m) (sym (place_stays later (replicate n q) p stands))
 ]

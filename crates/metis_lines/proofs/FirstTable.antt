@@ -7,12 +7,12 @@ use Rattle.std.proofs.lemmas.Bool.{and_parts, cases_Bool, cases_lt, cond-true, c
 use Rattle.std.proofs.lemmas.List.{get_or_default, get_or_past, length-append, length-map, map-append}
 use Rattle.std.proofs.lemmas.List.Elements.{All-map}
 use Rattle.metis_ids.specs.PairSet.{PairSet}
+use Rattle.metis_ids.proofs.Lists.{filter_short, has_at}
 use Rattle.metis_universe.proofs.Rounds.{has-filter}
 use Rattle.metis_universe.specs.Universe.{Universe, greatest_demand, has}
-use Rattle.metis_layers.proofs.Counts.{kept_fewer}
 use Rattle.metis_layers.proofs.Tables.{entries_count, entry}
 use Rattle.metis_layers.specs.LayerOrder.{place_of}
-use Rattle.metis_support.proofs.Lists.{has-append_cases, has_at}
+use Rattle.metis_support.proofs.Lists.{has-append_cases}
 use Rattle.metis_support.proofs.Paths.{place_at_end, way}
 use Rattle.metis_support.specs.Support.{Support, IsKept, is_number, is_selected, path_to, provider_pairs}
 use Rattle.metis_lines.proofs.FirstHeld.{held_first}
@@ -61,11 +61,11 @@ module _ (u : Universe) (s : Support) (kept : IsKept s) (g : List ℕ) (targets 
   few_lines =
       let count = length-map shared (path_to s) in
       let both = length-append g (other_ends s g) in
-      let others = kept_fewer (λ p. not (has g p) && not (is_origin s p)) s.selected.members in
+      let others = filter_short (λ p. not (has g p) && not (is_origin s p)) s.selected.members in
       omega arith
 
   pub few_providers : length (provider_pairs s) ≤ s.selected.size
-  few_providers = let some = kept_fewer (λ p. list_any (is_number p) s.providers) s.selected.members in omega arith
+  few_providers = let some = filter_short (λ p. list_any (is_number p) s.providers) s.selected.members in omega arith
 
   pub providers_low : All (λ p. p < s.selected.size) (provider_pairs s)
   providers_low = λ i d low. kept.pairs (get_or (provider_pairs s) i d) (provider_chosen s (get_or (provider_pairs s) i d) (has_at (provider_pairs s) i d low))
@@ -167,7 +167,7 @@ module _ (u : Universe) (s : Support) (kept : IsKept s) (g : List ℕ) (targets 
         let providers = few_providers in
         let later = few_later demands in
         let loose_count = ap length (kept_same (is_loose x) (goes_on lines table) (provider_pairs s) loose_at) in
-        let some = kept_fewer (is_loose x) (provider_pairs s) in
+        let some = filter_short (is_loose x) (provider_pairs s) in
         record {
           few = omega (arith, long, count, whole, behind, few);
           later_few = omega (arith, long, later);

@@ -1,11 +1,11 @@
 -- Lists joined over the members of a list, and over numbers in a row.
-use Rattle.std.proofs.Common.{◌≡◌, ℕ, zero, suc, ◌+◌, ◌<◌, ◌≤◌, Bool, true, List, [], ◌∷◌, length, map, get_or, refl, sym, ap, ◌∙◌, subst, arith, nat_eq, inl, inr}
+use Rattle.std.proofs.Common.{◌≡◌, ℕ, zero, suc, ◌+◌, ◌<◌, ◌≤◌, Bool, true, List, [], ◌∷◌, length, map, get_or, refl, sym, subst, arith, nat_eq, inl, inr}
 use Rattle.std.specs.List.{AllByRecursion, flat_map, list_any, position_or_len, range_with_len}
 use Rattle.std.specs.List.Sorted.{IsStrictlySortedBy}
 use Rattle.std.specs.declared.cmp.Ordering.{Ordering}
 use Rattle.std.specs.declared.cmp.Ordering.TheVariants.{Less}
-use Rattle.std.proofs.lemmas.Bool.{cases_eq, eq-eqb, eqb-true, false≢true, or_cases, or_left, or_right}
-use Rattle.metis_universe.proofs.Ascending.{each_weaker}
+use Rattle.std.proofs.lemmas.Bool.{eq-eqb, eqb-true, false≢true, or_cases, or_left, or_right}
+use Rattle.metis_ids.proofs.Lists.{each_weaker}
 use Rattle.metis_universe.proofs.FirstSights.{each_append}
 use Rattle.metis_universe.specs.Universe.{has}
 use Rattle.metis_support.proofs.Lists.{IsPiece, any-append_left, any-append_right, both_each, first_passes, sorted_append}
@@ -44,13 +44,6 @@ sorted_joined {X = X} R P key less f (x ∷ xs) h ascends =
 pub each_counted : {X : Type 0} (P : X → Type 0) (f : ℕ → X) (a n : ℕ) → ((k : ℕ) → a ≤ k → k < a + n → P (f k)) → AllByRecursion P (map f (range_with_len a n))
 each_counted P f a zero h = tt
 each_counted P f a (suc n) h = (h a (omega arith) (omega arith), each_counted P f (a + 1) n (λ k low high. h k (omega arith) (omega arith)))
-
-pub any_counted : {X : Type 0} (t : X → Bool) (f : ℕ → X) (a n k : ℕ) → a ≤ k → k < a + n → t (f k) ≡ true → list_any t (map f (range_with_len a n)) ≡ true
-any_counted t f a zero k low high h = absurd (omega arith)
-any_counted t f a (suc n) k low high h = elim (cases_eq a k) [
-  | inl same ↦ or_left (t (f a)) (list_any t (map f (range_with_len (a + 1) n))) (ap (λ j. t (f j)) same ∙ h)
-  | inr other ↦ or_right (t (f a)) (list_any t (map f (range_with_len (a + 1) n))) (any_counted t f (a + 1) n k (omega arith) (omega arith) h)
-]
 
 pub sorted_counted : {X : Type 0} (R : X → X → Ordering) (f : ℕ → X) (a n : ℕ) → ((i j : ℕ) → i < j → R (f i) (f j) ≡ Less) → IsStrictlySortedBy R (map f (range_with_len a n))
 unfolding IsStrictlySortedBy

@@ -3,12 +3,14 @@ pub mod Examples
 pub mod Few
 pub mod FirstHeld
 pub mod FirstTable
+pub mod Formed
 pub mod Holders
 pub mod Instances
 pub mod Joins
 pub mod OwnLines
 pub mod Pushes
 pub mod Sets
+pub mod SameEvents
 pub mod SlotCounts
 pub mod Slotted
 pub mod Sound

@@ -7,7 +7,7 @@ use Rattle.std.proofs.lemmas.Bool.{false≢true, both_ways, and_parts, or_left, 
 use Rattle.std.proofs.lemmas.List.{get_or_append_left, length_push, map-append}
 use Rattle.std.proofs.lemmas.List.Kept.{IsStrictlyIncreasing-filter}
 use Rattle.std.proofs.lemmas.Map.Keys.{sorted_from_strictly_increasing}
-use Rattle.metis_universe.proofs.Ascending.{none_above}
+use Rattle.metis_ids.proofs.Lists.{has_here, has_one, none_above}
 use Rattle.metis_universe.proofs.Rounds.{has-filter}
 use Rattle.metis_universe.specs.Universe.{Universe, has}
 use Rattle.metis_layers.specs.LayerOrder.{place_of}
@@ -15,7 +15,7 @@ use Rattle.metis_support.specs.Support.{Support, is_number, is_selected, path_to
 use Rattle.metis_lines.specs.LifeLines.{LifeLines, ends_in, holder_line, is_loose, later_ends, line_at, line_ends, lines_of, loose, other_ends}
 use Rattle.metis_lines.proofs.Pushes.{any_push, first_push}
 use Rattle.metis_lines.proofs.Holders.{held_on, other_holder, own_holder, own_not_loose}
-use Rattle.metis_support.proofs.Lists.{has-append_cases, has_itself, has_one, any-append_right}
+use Rattle.metis_support.proofs.Lists.{has-append_cases, any-append_right}
 use Rattle.metis_support.proofs.Paths.{IsWay, OriginsFall, way}
 
 -- ---- how many pass
@@ -80,7 +80,7 @@ module _ (u : Universe) (s : Support) (falls : OriginsFall s) (ascends : IsStric
   ]
 
   pub any_right : (xs : List ℕ) (q : ℕ) → has (xs ++ q ∷ []) q ≡ true
-  any_right xs q = any-append_right (λ r. nat_eq r q) xs (q ∷ []) (has_itself q [])
+  any_right xs q = any-append_right (λ r. nat_eq r q) xs (q ∷ []) (has_here q [])
 
   new_ends : is_loose y p ≡ false
   new_ends = own_not_loose u s falls g (d ++ p ∷ []) targets own_or_new p (any_right d p)

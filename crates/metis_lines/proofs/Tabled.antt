@@ -5,11 +5,12 @@ use Rattle.std.proofs.lemmas.Bool.{cases_lt, cases_eq, cases_Bool, cond-true, co
 use Rattle.std.proofs.lemmas.List.{get_or_past, get_or-set_same, get_or-set_other, get_or-append_right, length-append, length-set, length_push}
 use Rattle.std.proofs.lemmas.Map.Keys.{IsDistinct-push}
 use Rattle.std.proofs.lemmas.Cmp.{nat_eq_equiv}
+use Rattle.metis_ids.proofs.Lists.{has_here, has_one}
 use Rattle.metis_universe.specs.Universe.{Universe, has}
 use Rattle.metis_layers.specs.LayerOrder.{place_of}
 use Rattle.metis_support.specs.Support.{Support, IsKept, is_selected, path_to, provider_pairs}
 use Rattle.metis_support.proofs.Paths.{IsWay, place_at_end}
-use Rattle.metis_support.proofs.Lists.{any-append_right, has-append_cases, has_itself, has_one}
+use Rattle.metis_support.proofs.Lists.{any-append_right, has-append_cases}
 use Rattle.metis_lines.specs.LifeLines.{AreLines, LifeLines, slot_line, slots, first_count, holder_line, holding, is_loose, later_ends, line_at, lines_by, lines_of, loose, other_ends}
 use Rattle.metis_lines.specs.Tables.{IsTabled, first_slot}
 use Rattle.metis_lines.proofs.Holders.{count, held_on, provider_chosen}
@@ -37,7 +38,7 @@ module _ (u : Universe) (s : Support) (kept : IsKept s) (g d : List ℕ) (p : �
       let behind = length-append (later_ends u s) d in
       let ends = count u s kept.origin g d targets own in
       let at : (length y.lines - length (d ++ p ∷ [])) + place_of (d ++ p ∷ []) p ≡ length x.lines = omega arith in
-      cond-true (has (d ++ p ∷ []) p) _ _ (any-append_right (λ q. nat_eq q p) d (p ∷ []) (has_itself p [])) ∙ at
+      cond-true (has (d ++ p ∷ []) p) _ _ (any-append_right (λ q. nat_eq q p) d (p ∷ []) (has_here p [])) ∙ at
 
   its_stations : line_at y (length x.lines) ≡ path_to s p
   its_stations =

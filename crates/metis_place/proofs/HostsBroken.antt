@@ -4,7 +4,7 @@ use Rattle.std.specs.Prelude.{codes}
 use Rattle.std.specs.Bool.{◌==◌, if◌then◌else◌}
 use Rattle.std.specs.List.{All, concat, join_with_byte, onto_first}
 use Rattle.std.specs.Str.{bytes_eq}
-use Rattle.std.proofs.lemmas.Bool.{and_from, and_parts}
+use Rattle.std.proofs.lemmas.Bool.{and_from, and_parts, both_ways}
 use Rattle.std.proofs.lemmas.Bool.Decides.{nat_tests}
 use Rattle.std.proofs.lemmas.List.{length-append, length-map, map-append}
 use Rattle.std.proofs.lemmas.List.Elements.{All-cons, All-head, All-nil, All-tail}
@@ -13,7 +13,9 @@ use Rattle.std.proofs.lemmas.Slice.Eq.{bytes_eq-Decides}
 use Rattle.metis_universe.specs.Universe.{Universe}
 use Rattle.metis_place.specs.Entries.{Entries}
 use Rattle.metis_place.specs.HostsFaults.{IfFault, IsBegun, IsHostsFault, NoFeed, begun_bytes, next_number, too_short, of_first, of_line, past_end, in_first, in_later}
-use Rattle.metis_place.specs.HostsText.{ReadsHosts, SeenLines, and_then, end_from, hosts_in, hosts_of, is_last, is_line_feed, last_piece, lines_from, nothing, pieces, text_of, whole_lines, with_line}
+use Rattle.metis_place.specs.HostsText.{ReadsHosts, SeenLines, end_from, hosts_in, hosts_of, is_last, last_piece, lines_from, nothing, pieces, text_of, whole_lines, with_line}
+use Rattle.metis_text.specs.Reading.{is_feed}
+use Rattle.metis_text.specs.Flaws.{and_then}
 use Rattle.metis_place.specs.HostsWritten.{host_line, hosts_bytes, hosts_header, size_line}
 use Rattle.metis_place.specs.Placement.{HostLists}
 use Rattle.metis_place.specs.declared.hosts_fault.HFault.{HFault}
@@ -29,9 +31,6 @@ either_fails false x y f h = inr (refl, h)
 and_then_fails : {A B : Type 0} (x : Result A HFault) (next : A → Result B HFault) (f : HFault) → and_then x next ≡ Err f → (x ≡ Err f) ⊎ ((a : A) × (x ≡ Ok a) × (next a ≡ Err f))
 and_then_fails (Ok a) next f h = inr (a, refl, h)
 and_then_fails (Err g) next f h = inl (cc)
-
-differs : (b : Bool) → b ≡ true → b ≡ false → ⊥
-differs b yes' no' = cc
 
 not_both : {X Y : Type 0} (xs : List X) (ys : List Y) → ((length xs == 0) && (length ys == 0)) ≡ false → 1 ≤ length xs + length ys
 not_both xs ys h = some (length xs) (length ys) h where
@@ -181,7 +180,7 @@ module _ (u : Universe) (bytes : List ℕ) (lines : List (List ℕ)) (rest : Lis
             behind = concat (map fed ls) ++ rest;
             text = is ∙ ap (λ l. concat (map fed l) ++ rest) are ∙ append_assoc (fed header) (concat (map fed ls)) rest ∙ append_assoc header (codes "\n") (concat (map fed ls) ++ rest);
             no_feed = first_of [] (ls ++ rest ∷ []) header (subst (λ l. All NoFeed (l ++ rest ∷ [])) are each);
-            other = λ same. absurd (differs (bytes_eq header (codes "metis hosts 1")) ((bytes_eq-Decides header (codes "metis hosts 1")).1 same) other);
+            other = λ same. absurd (both_ways (bytes_eq header (codes "metis hosts 1")) other ((bytes_eq-Decides header (codes "metis hosts 1")).1 same));
             fault = cc;
           })
         ]
@@ -190,7 +189,7 @@ pub fault_read : (u : Universe) (bytes : List ℕ) (r : Result HostLists HFault)
 fault_read u bytes (Ok h) is = tt
 fault_read u bytes (Err f) is = λ known.
     let ps = pieces bytes in
-    let some : 1 ≤ length ps = omega (arith, length-slice_split is_line_feed bytes) in
+    let some : 1 ≤ length ps = omega (arith, length-slice_split is_feed bytes) in
     let cut = cut_last ps some in
     let whole : bytes ≡ concat (map fed (whole_lines ps)) ++ last_piece ps = sym (join_with_byte-slice_split 10 bytes) ∙ ap (join_with_byte 10) cut ∙ joined_with (whole_lines ps) (last_piece ps) in
     text_broken u bytes (whole_lines ps) (last_piece ps) f whole (subst (All NoFeed) cut (pieces_have_none bytes)) (is known)

@@ -9,7 +9,7 @@ use Rattle.std.proofs.lemmas.Bool.Decides.{nat_tests}
 use Rattle.std.proofs.lemmas.List.{get_or-append_right, length-append, take_at}
 use Rattle.std.proofs.lemmas.List.Elements.{All-append, All-cons, All-head, All-nil, All-tail}
 use Rattle.std.proofs.lemmas.List.Splits.{slice_split_at}
-use Rattle.metis_text.specs.Flaws.{made}
+use Rattle.metis_text.specs.Flaws.{and_then, made}
 use Rattle.metis_text.specs.Line.{words}
 use Rattle.metis_text.specs.Tokens.{number_in}
 use Rattle.metis_text.specs.declared.flaw.Flaw.TheVariants.{Form}
@@ -18,7 +18,8 @@ use Rattle.metis_text.proofs.NumberTokens.{number_read}
 use Rattle.metis_text.proofs.Printed.{printed, printed_decimal, printed_name}
 use Rattle.metis_universe.specs.Universe.{Universe, type_named}
 use Rattle.metis_place.specs.Entries.{Entries, has_name}
-use Rattle.metis_place.specs.HostsText.{SeenLines, and_then, end_from, entry_in, hosts_in, hosts_of, is_last, is_line_feed, last_piece, lines_from, pieces, seen_lines, text_of, whole_lines, with_host, with_line, with_size, with_tokens}
+use Rattle.metis_place.specs.HostsText.{SeenLines, end_from, entry_in, hosts_in, hosts_of, is_last, last_piece, lines_from, pieces, seen_lines, text_of, whole_lines, with_host, with_line, with_size, with_tokens}
+use Rattle.metis_text.specs.Reading.{is_feed}
 use Rattle.metis_place.specs.HostsWritten.{IsEntry, IsHostsText, each_new, hosts_bytes}
 use Rattle.metis_place.specs.declared.hosts_fault.HFault.TheVariants.{Line, Name, Twice}
 use Rattle.metis_place.proofs.HostsRead.{fed, fed_lines, host_words, size_words, text_lines}
@@ -102,21 +103,21 @@ module _ (u : Universe) where
 abbrev NoFeed : List ℕ → Type 0
 NoFeed line = list_all (λ b. not (b == 10)) line ≡ true
 
-fails_feed : (b : ℕ) → not (b == 10) ≡ true → is_line_feed b ≡ false
+fails_feed : (b : ℕ) → not (b == 10) ≡ true → is_feed b ≡ false
 fails_feed b h = grind (arith, nat_tests)
 
-each_fails : (line : List ℕ) → NoFeed line → All (λ b. is_line_feed b ≡ false) line
+each_fails : (line : List ℕ) → NoFeed line → All (λ b. is_feed b ≡ false) line
 each_fails [] h = All-nil _
 each_fails (b ∷ bs) h =
     let both = and_parts (not (b == 10)) (list_all (λ b. not (b == 10)) bs) h in
-    All-cons (λ b. is_line_feed b ≡ false) b bs (fails_feed b both.0) (each_fails bs both.1)
+    All-cons (λ b. is_feed b ≡ false) b bs (fails_feed b both.0) (each_fails bs both.1)
 
 -- lines are cut at their line feeds
 cut_lines : (lines : List (List ℕ)) → All NoFeed lines → pieces (concat (map fed lines)) ≡ lines ++ [] ∷ []
 cut_lines [] h = refl
 cut_lines (line ∷ lines) h =
     let rest = concat (map fed lines) in
-    ap pieces (append_assoc line (codes "\n") rest) ∙ slice_split_at is_line_feed line 10 rest (each_fails line (All-head NoFeed line lines h)) refl
+    ap pieces (append_assoc line (codes "\n") rest) ∙ slice_split_at is_feed line 10 rest (each_fails line (All-head NoFeed line lines h)) refl
     ∙ ap (λ l. line ∷ l) (cut_lines lines (All-tail NoFeed line lines h))
 
 whole_before : (lines : List (List ℕ)) → whole_lines (lines ++ [] ∷ []) ≡ lines

@@ -3,7 +3,8 @@ use Rattle.std.proofs.Common.{◌≡◌, ℕ, ◌+◌, ◌<◌, true, false, Lis
 use Rattle.std.specs.Bool.{if◌then◌else◌}
 use Rattle.std.proofs.lemmas.List.{drop_more}
 use Rattle.metis_universe.specs.Universe.{Universe}
-use Rattle.metis_place.specs.HostsText.{SeenLines, and_then, end_from, is_last, lines_from, with_line}
+use Rattle.metis_place.specs.HostsText.{SeenLines, end_from, is_last, lines_from, with_line}
+use Rattle.metis_text.specs.Flaws.{and_then}
 use Rattle.metis_place.specs.Placement.{HostLists}
 use Rattle.metis_place.specs.declared.hosts_fault.HFault.{HFault}
 

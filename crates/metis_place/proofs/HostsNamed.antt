@@ -4,13 +4,13 @@ use Rattle.std.specs.Prelude.{codes}
 use Rattle.std.specs.Bool.{◌==◌, if◌then◌else◌}
 use Rattle.std.specs.Option.{is_some}
 use Rattle.std.specs.Str.{bytes_eq}
-use Rattle.metis_text.specs.Flaws.{made}
+use Rattle.metis_text.specs.Flaws.{and_then, made}
 use Rattle.metis_text.specs.Tokens.{tokens}
 use Rattle.metis_text.specs.declared.flaw.Flaw.{Flaw}
 use Rattle.metis_text.specs.declared.flaw.Flaw.TheVariants as flaw
 use Rattle.metis_universe.specs.Universe.{Universe, type_named}
 use Rattle.metis_place.specs.Entries.{Entries, has_name}
-use Rattle.metis_place.specs.HostsText.{SeenLines, and_then, entry_in, fault_at, hosts_in, hosts_of, is_last, last_piece, lines_from, nothing, pieces, text_of, whole_lines, with_entry, with_host, with_line, with_size, with_tokens, with_words}
+use Rattle.metis_place.specs.HostsText.{SeenLines, entry_in, line_fault, hosts_in, hosts_of, is_last, last_piece, lines_from, nothing, pieces, text_of, whole_lines, with_entry, with_host, with_line, with_size, with_tokens, with_words}
 use Rattle.metis_place.specs.declared.hosts_fault.HFault.{HFault}
 use Rattle.metis_place.specs.declared.hosts_fault.HFault.TheVariants.{Line, NoMemory}
 
@@ -29,7 +29,7 @@ and_then_named : {A B : Type 0} (r : Result A HFault) (next : A → Result B HFa
 and_then_named (Ok a) next named later h = later a h
 and_then_named (Err f) next named later h = named (cc)
 
-fault_at_named : {A : Type 0} (n : ℕ) (f : Flaw) → IsNamed {A = A} (Err (fault_at n f))
+fault_at_named : {A : Type 0} (n : ℕ) (f : Flaw) → IsNamed {A = A} (Err (line_fault n f))
 fault_at_named n flaw.Form h = cc
 fault_at_named n flaw.Number h = cc
 fault_at_named n flaw.Name h = cc

@@ -1,4 +1,3 @@
-pub mod Orders
 pub mod Once
 pub mod Presence
 pub mod Totals

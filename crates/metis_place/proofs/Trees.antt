@@ -4,10 +4,10 @@ use Rattle.std.specs.Prelude.{option_map, slice_index}
 use Rattle.std.specs.List.{find, range_with_len}
 use Rattle.std.specs.Option.{option_or}
 use Rattle.std.specs.declared.alloc.Global.{Global}
-use Rattle.std.proofs.lemmas.Bool.Decides.{nat_tests}
 use Rattle.std.proofs.Math.ListN.{set}
+use Rattle.std.proofs.lemmas.Bool.{le-leb, lt-leb}
 use Rattle.metis_place.specs.FirstPlace.{first_place}
-use Rattle.metis_place.specs.Placement.{greatest}
+use Rattle.metis_ids.specs.Counts.{greatest}
 use Rattle.metis_place.specs.Rooms.{IsRooms, rooms}
 use Rattle.metis_place.specs.declared.rooms.Rooms.{Rooms}
 use Rattle.metis_place.specs.declared.rooms.Node.{Node}
@@ -36,19 +36,13 @@ at_fork {n} {d} most {l} {r} {k} view_is good is =
     let known = subst (IsRooms most) is good in
     record { is = e; count = known.1; total = ap length e ∙ length-append l.value r.value; some = (known.2, known.3) }
 
-leb-no : (size x : ℕ) → x < size → leb size x ≡ false
-leb-no size x h = grind (arith, nat_tests)
-
-pub leb-yes : (size x : ℕ) → size ≤ x → leb size x ≡ true
-leb-yes size x h = grind (arith, nat_tests)
-
 pub place_none : (size : ℕ) (xs : List ℕ) → greatest xs < size → first_place size xs ≡ None
 place_none size [] h = refl
 place_none size (x ∷ xs) h =
-    (λ j. cond {A = Option ℕ} (leb-no size x (omega arith) j) (Some 0) (option_map (λ i. i + 1) (place_none size xs (omega arith) j)))
+    (λ j. cond {A = Option ℕ} (lt-leb size x (omega arith) j) (Some 0) (option_map (λ i. i + 1) (place_none size xs (omega arith) j)))
 
 pub place_one : (size x : ℕ) → size ≤ x → first_place size (x ∷ []) ≡ Some 0
-place_one size x h = ap (λ b. cond {A = Option ℕ} b (Some 0) None) (leb-yes size x h)
+place_one size x h = ap (λ b. cond {A = Option ℕ} b (Some 0) None) (le-leb size x h)
 
 pub place_append : (size : ℕ) (xs ys : List ℕ) → first_place size (xs ++ ys) ≡ option_or (first_place size xs) (option_map (λ i. length xs + i) (first_place size ys))
 place_append size [] ys = by (first_place size ys) where

@@ -1,21 +1,14 @@
 -- Each seat is on one of the hosts.
-use Rattle.std.proofs.Common.{◌≡◌, ℕ, zero, suc, ◌+◌, ◌<◌, Bool, true, false, List, [], length, map, take, refl, sym, ap, subst, arith}
-use Rattle.std.specs.Prelude.{Option, None, Some, option_and_then, option_map, slice_get, if◌then◌else◌}
-use Rattle.std.specs.List.{All, find, range_with_len}
+use Rattle.std.proofs.Common.{◌≡◌, ℕ, zero, suc, ◌<◌, List, [], length, map, take, refl, sym, ap, subst, arith}
+use Rattle.std.specs.Prelude.{Option, None, Some, option_and_then, option_map, slice_get}
+use Rattle.std.specs.List.{All}
 use Rattle.std.specs.Option.{option_to_list}
 use Rattle.std.proofs.lemmas.List.{map-append}
 use Rattle.std.proofs.lemmas.List.Elements.{All-append, All-cons, All-nil}
 use Rattle.metis_ids.specs.declared.actions.Action.{Action}
 use Rattle.metis_ids.specs.declared.actions.Action.TheVariants.{New, Delete, Bind, Unbind, Move}
+use Rattle.metis_ids.proofs.Finding.{found_within}
 use Rattle.metis_place.specs.Placement.{HostLists, Seat, has_room, host_for, seat, seat_at, seat_for, seats_by, size_of}
-
-found_step : (b : Bool) (t : ℕ → Bool) (a n i : ℕ) → (if b then Some a else find t (range_with_len (a + 1) n)) ≡ Some i → (find t (range_with_len (a + 1) n) ≡ Some i → i < a + 1 + n) → i < a + suc n
-found_step true t a n i h more = let same : a ≡ i = cc in omega arith
-found_step false t a n i h more = let low = more h in omega (arith, low)
-
-found_within : (t : ℕ → Bool) (a n i : ℕ) → find t (range_with_len a n) ≡ Some i → i < a + n
-found_within t a zero i h = cc
-found_within t a (suc n) i h = found_step (t a) t a n i h (found_within t (a + 1) n i)
 
 mapped_is : {A B : Type 0} (f : A → B) (o : Option A) (y : B) → option_map f o ≡ Some y → (x : A) × (o ≡ Some x) × (f x ≡ y)
 mapped_is f None y h = cc

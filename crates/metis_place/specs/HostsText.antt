@@ -10,7 +10,7 @@ use Rattle.std.specs.Prelude.{◌≡◌, ◌≢◌, ℕ, ◌+◌, ◌-◌, ◌==
 use Rattle.std.specs.List.{slice_index_or, slice_split}
 use Rattle.std.specs.Option.{is_some}
 use Rattle.std.specs.Str.{bytes_eq}
-use Rattle.metis_text.specs.Flaws.{made}
+use Rattle.metis_text.specs.Flaws.{and_then, made}
 use Rattle.metis_text.specs.Tokens.{number_in, tokens}
 use Rattle.metis_text.specs.declared.flaw.Flaw.{Flaw}
 use Rattle.metis_text.specs.declared.flaw.Flaw.TheVariants as flaw
@@ -20,6 +20,7 @@ use Rattle.metis_place.specs.Entries.{Entries, has_name, number_of}
 use Rattle.metis_place.specs.Placement.{HostLists}
 use Rattle.metis_place.specs.declared.hosts_fault.HFault.{HFault}
 use Rattle.metis_place.specs.declared.hosts_fault.HFault.TheVariants.{Line, Short, Number, Name, Twice, NoMemory}
+use Rattle.metis_text.specs.Reading.{is_feed}
 
 -- ---- one line
 
@@ -34,10 +35,10 @@ abbrev pub nothing : SeenLines
 nothing = seen_lines [] []
 
 -- the fault of line n
-abbrev pub fault_at : ℕ → Flaw → HFault
-fault_at n flaw.Form = Line n
-fault_at n flaw.Number = Number n
-fault_at n flaw.Name = Name n
+abbrev pub line_fault : ℕ → Flaw → HFault
+line_fault n flaw.Form = Line n
+line_fault n flaw.Number = Number n
+line_fault n flaw.Name = Name n
 
 abbrev pub entry_in : List ℕ → List ℕ → Result (List ℕ × ℕ) Flaw
 entry_in name number = if is_name name then made (λ k. (name, k)) (number_in number) else Err flaw.Form
@@ -48,11 +49,11 @@ with_entry n es e = if has_name es e.0 then Err (Twice n) else Ok (es ++ e ∷ [
 
 abbrev pub with_host : ℕ → SeenLines → Result (List ℕ × ℕ) Flaw → Result SeenLines HFault
 with_host n seen (Ok e) = made (λ hosts. seen_lines hosts seen.sizes) (with_entry n seen.hosts e)
-with_host n seen (Err f) = Err (fault_at n f)
+with_host n seen (Err f) = Err (line_fault n f)
 
 abbrev pub with_size : Universe → ℕ → SeenLines → Result (List ℕ × ℕ) Flaw → Result SeenLines HFault
 with_size u n seen (Ok e) = if is_some (type_named u e.0) then made (λ sizes. seen_lines seen.hosts sizes) (with_entry n seen.sizes e) else Err (Name n)
-with_size u n seen (Err f) = Err (fault_at n f)
+with_size u n seen (Err f) = Err (line_fault n f)
 
 -- a host stands before all sizes, and a size behind a host
 abbrev pub with_words : Universe → ℕ → SeenLines → List ℕ → List ℕ → List ℕ → Result SeenLines HFault
@@ -83,10 +84,6 @@ is_last seen line = bytes_eq line (codes "end") && not (length seen.hosts == 0)
 abbrev pub end_from : Universe → SeenLines → ℕ → List (List ℕ) → List ℕ → Result HostLists HFault
 end_from u seen n lines rest = if (length lines == 0) && (length rest == 0) then Ok (hosts_of u seen) else Err (Line n)
 
-abbrev pub and_then : {A B : Type 0} → Result A HFault → (A → Result B HFault) → Result B HFault
-and_then (Ok a) next = next a
-and_then (Err f) next = Err f
-
 -- the lines from line n on, and what stands behind the last of them
 abbrev pub lines_from : Universe → SeenLines → ℕ → List (List ℕ) → List ℕ → Result HostLists HFault
 lines_from u seen n [] rest = Err Short
@@ -96,11 +93,8 @@ abbrev pub text_of : Universe → List (List ℕ) → List ℕ → Result HostLi
 text_of u [] rest = Err Short
 text_of u (header ∷ lines) rest = if bytes_eq header (codes "metis hosts 1") then lines_from u nothing 2 lines rest else Err (Line 1)
 
-abbrev pub is_line_feed : ℕ → Bool
-is_line_feed byte = byte == 10
-
 abbrev pub pieces : List ℕ → List (List ℕ)
-pieces bytes = slice_split is_line_feed bytes
+pieces bytes = slice_split is_feed bytes
 
 abbrev pub whole_lines : List (List ℕ) → List (List ℕ)
 whole_lines pieces = take (length pieces - 1) pieces

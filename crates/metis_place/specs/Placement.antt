@@ -10,7 +10,7 @@
 --     PlacingLists, hold_of holds k, IsPlacing h actions p      the hosts and the further waits of a placement;  those of action k;  that all are the ones that the definitions say, and each New has a host
 --     free_rooms h actions n, IsNoRoom h actions k size free, IfNoRoom result P      the free rooms of the hosts;  the first New that finds no host, with its size and the greatest free room;  of such a fault
 --     IsHeld more ks      each number stands after its further waits
-use Rattle.std.specs.Prelude.{◌-◌, Some, ℕ, zero, suc, ◌+◌, ◌==◌, ◌&&◌, ◌||◌, not, nat_le, Bool, true, false, List, [], ◌∷◌, ◌++◌, take, length, IsTrue, Option, None, option_and_then, option_map, slice_get, ⊤, Err, IsFalse, Ok, Result, map, max, ◌<◌, ◌≡◌}
+use Rattle.std.specs.Prelude.{◌-◌, Some, ℕ, zero, suc, ◌+◌, ◌==◌, ◌&&◌, ◌||◌, not, nat_le, Bool, true, false, List, [], ◌∷◌, ◌++◌, take, length, IsTrue, Option, None, option_and_then, option_map, slice_get, ⊤, Err, IsFalse, Ok, Result, map, ◌<◌, ◌≡◌}
 use Rattle.std.specs.List.{filter, find, list_all, range_with_len, slice_index_or, sum_by}
 use Rattle.std.specs.Option.{is_some, option_map_or, option_to_list}
 use Rattle.metis_ids.specs.declared.actions.Action.{Action}
@@ -19,6 +19,7 @@ use Rattle.metis_universe.specs.Universe.{has}
 use Rattle.metis_place.specs.declared.fault.PFault.{PFault}
 use Rattle.metis_place.specs.declared.fault.PFault.TheVariants as fault
 use Rattle.metis_universe.specs.Waits.{action_at, numbers}
+use Rattle.metis_ids.specs.Counts.{greatest}
 
 -- the name and the room of each host, and the size of each type
 pub record HostLists : Type 0 where
@@ -167,10 +168,6 @@ IsHeldFrom more done (k ∷ ks) = IsTrue (list_all (has done) (more k)) × IsHel
 
 abbrev pub IsHeld : (ℕ → List ℕ) → List ℕ → Type 0
 IsHeld more ks = IsHeldFrom more [] ks
-
-abbrev pub greatest : List ℕ → ℕ
-greatest [] = 0
-greatest (x ∷ xs) = max x (greatest xs)
 
 -- the free rooms of all hosts, after the first n actions
 abbrev pub free_rooms : HostLists → List Action → ℕ → List ℕ

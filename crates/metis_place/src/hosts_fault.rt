@@ -1,6 +1,6 @@
 //! Why bytes are no text of hosts.
 ghost use Rattle.std.specs.Prelude.{◌≡◌};
-ghost use Rattle.metis_place.specs.HostsText.{fault_at};
+ghost use Rattle.metis_place.specs.HostsText.{line_fault};
 
 use metis_text::Flaw;
 use std::alloc::{AllocError, AllocFailed};
@@ -23,7 +23,7 @@ pub enum HFault {
 
 /// The fault of the line of this number, which has the flaw.
 pub fn fault_at(number: u32, flaw: Flaw) -> HFault
-    ensures { result ≡ fault_at number flaw }
+    ensures { result ≡ line_fault number flaw }
 {
     match flaw {
         Flaw::Form => HFault::Line(number),

@@ -8,19 +8,22 @@ use Rattle.metis_universe.proofs.Greatest.{greatest_low}
 use Rattle.std.proofs.lemmas.Bool.{false≢true, and_from, and_parts, ltb-true, cases_lt, cond_both}
 use Rattle.std.proofs.lemmas.List.{get_or_past, get_or-map, length-map, map-append, length-append}
 use Rattle.std.proofs.lemmas.List.Elements.{All-from_get_or, All-get_or}
+use Rattle.std.proofs.Math.Seq.{take-length}
+use Rattle.std.proofs.lemmas.Option.{slice_get-get_or, slice_get_within}
 use Rattle.metis_ids.specs.Plans.{Dup}
 use Rattle.metis_ids.specs.declared.events.Event.{Event}
 use Rattle.metis_ids.specs.declared.events.Event.TheVariants.{At, End}
+use Rattle.metis_ids.proofs.Lists.{all_in_range, has_at, has_one, take_one_more}
 use Rattle.metis_universe.proofs.PortRows.{few_below}
 use Rattle.metis_universe.specs.Layers.{layer_of}
 use Rattle.metis_universe.specs.Selection.{provider_pairs as provider_pairs_in}
 use Rattle.metis_universe.specs.Universe.{greatest_demand, Universe, IsTable, has, pair_count}
 use Rattle.metis_support.proofs.Kept.{kept}
-use Rattle.metis_support.proofs.Lists.{has-append_cases, has_at, has_one}
+use Rattle.metis_support.proofs.Lists.{has-append_cases}
 use Rattle.metis_support.proofs.Selections.{is_support, same_provider_pairs, targets_selected}
 use Rattle.metis_support.specs.Support.{Support, IsKept, IsSupport, is_selected, layer_number, path_to, provider_pairs, support_of}
 use Rattle.metis_lines.proofs.Few.{apart_first, few, still_apart}
-use Rattle.metis_lines.proofs.Holders.{chosen_end, count}
+use Rattle.metis_lines.proofs.Holders.{chosen_end, count, provider_chosen}
 use Rattle.metis_lines.proofs.Instances.{graph_formed, graph_rises, graph_sound, graph_stands}
 use Rattle.metis_lines.specs.AbstractPlan.{AbstractPlan, line_count, stations}
 use Rattle.metis_lines.specs.Events.{is_cycle, is_event, step_count}
@@ -29,8 +32,8 @@ use Rattle.metis_lines.specs.LifeLines.{AreApart, AreLines, later_ends, line_end
 use Rattle.metis_lines.specs.Soundness.{IsFormed, IsSound}
 use Rattle.metis_rounds.proofs.Around.{all_by_place}
 use Rattle.metis_rounds.proofs.Cycles.{cycle_is_round, cycle_of_all_events, round_of_two}
-use Rattle.metis_planner.proofs.Leads.{IsDoubled, doubled, provider_is_chosen}
-use Rattle.metis_planner.proofs.Lists.{all_in_range, get_at, get_low, some_at, take_next, take_whole}
+use Rattle.metis_planner.proofs.Leads.{IsDoubled, doubled}
+use Rattle.metis_planner.proofs.Lists.{some_at}
 use Rattle.metis_planner.specs.Outcomes.{EventBelow}
 use Rattle.metis_planner.specs.Rounds.{graph_after}
 use Rattle.metis_planner.specs.UnderWay.{AreForced}
@@ -58,7 +61,7 @@ module _ (u : Universe) (table : IsTable u) (g : List ℕ) (layered : (p : ℕ) 
   AreProviders d = (p : ℕ) → has d p ≡ true → has (provider_pairs s) p ≡ true
 
   pub selected_own : (d : List ℕ) → AreProviders d → (p : ℕ) → has d p ≡ true → is_selected s p ≡ true
-  selected_own d own p h = provider_is_chosen s p (own p h)
+  selected_own d own p h = provider_chosen s p (own p h)
 
   own_provider : (d : List ℕ) → AreProviders d → (p : ℕ) → has d p ≡ true → has (provider_pairs_in u g) p ≡ true
   own_provider d own p h = ap (λ ps. has ps p) (sym (same_provider_pairs u table.universe g layered)) ∙ own p h
@@ -113,7 +116,7 @@ module _ (u : Universe) (table : IsTable u) (g : List ℕ) (layered : (p : ℕ) 
     pairs_before k = own_pairs (take k ds)
 
     pairs_next : (k : ℕ) (d : Dup) → slice_get ds k ≡ Some d → pairs_before (suc k) ≡ pairs_before k ++ d.pair ∷ []
-    pairs_next k d is = ap own_pairs (take_next ds k d is) ∙ map-append (λ (e : Dup). e.pair) (take k ds) (d ∷ [])
+    pairs_next k d is = ap own_pairs (take_one_more ds k d is) ∙ map-append (λ (e : Dup). e.pair) (take k ds) (d ∷ [])
 
     doubled_at : (k : ℕ) (d : Dup) → slice_get ds k ≡ Some d → (own : AreProviders (pairs_before k)) → IsDoubled u s g (pairs_before k) table.universe support targets (selected_own (pairs_before k) own) d.cycle d.pair
     doubled_at k d is own = doubled u s g (pairs_before k) table.universe support targets (selected_own (pairs_before k) own) d.cycle d.pair (forced k d is).pair
@@ -137,30 +140,30 @@ module _ (u : Universe) (table : IsTable u) (g : List ℕ) (layered : (p : ℕ) 
         (still_apart u s keeps g (pairs_before k) targets (selected_own (pairs_before k) own) d.0.pair (doubled_at k d.0 d.1 own).loose (apart_before k (omega arith)))
 
     pub providers : AreProviders (own_pairs ds)
-    providers = subst (λ es. AreProviders (own_pairs es)) (take_whole ds) (providers_before (length ds) (omega arith))
+    providers = subst (λ es. AreProviders (own_pairs es)) (take-length ds) (providers_before (length ds) (omega arith))
 
     pub apart : AreApart s g (own_pairs ds)
-    apart = subst (λ es. AreApart s g (own_pairs es)) (take_whole ds) (apart_before (length ds) (omega arith))
+    apart = subst (λ es. AreApart s g (own_pairs es)) (take-length ds) (apart_before (length ds) (omega arith))
 
     -- ---- each is justified
 
     round_at : (k : ℕ) (d : Dup) → slice_get ds k ≡ Some d → is_cycle (graph_after u g (take k ds)) d.cycle ≡ true
     round_at k d is =
         let f = forced k d is in
-        let formed = formed_for (pairs_before k) (providers_before k (let low = get_low ds k d is in omega arith)) in
+        let formed = formed_for (pairs_before k) (providers_before k (let low = slice_get_within ds k d is in omega arith)) in
         ap (is_cycle (graph_after u g (take k ds))) f.cycle ∙ cycle_is_round u (graph_after u g (take k ds)) formed f.stuck
 
     events_at : (k : ℕ) (d : Dup) → slice_get ds k ≡ Some d → All (λ e. is_event (graph_after u g (take k ds)) e ≡ true) d.cycle
     events_at k d is =
         let f = forced k d is in
         let w = graph_after u g (take k ds) in
-        let formed = formed_for (pairs_before k) (providers_before k (let low = get_low ds k d is in omega arith)) in
+        let formed = formed_for (pairs_before k) (providers_before k (let low = slice_get_within ds k d is in omega arith)) in
         subst (λ es. All (λ e. is_event w e ≡ true) es) (sym f.cycle) (cycle_of_all_events u w formed f.stuck)
 
     justified_at : (k : ℕ) (d : Dup) → slice_get ds k ≡ Some d → is_justified_by u g (pairs_before k) d.pair d.cycle ≡ true
     justified_at k d is =
         let w = graph_after u g (take k ds) in
-        let by = doubled_at k d is (providers_before k (let low = get_low ds k d is in omega arith)) in
+        let by = doubled_at k d is (providers_before k (let low = slice_get_within ds k d is in omega arith)) in
         and_from (list_all (is_event w) d.cycle && is_cycle w d.cycle) _
         (and_from (list_all (is_event w) d.cycle) (is_cycle w d.cycle) (all_by_place (is_event w) d.cycle End (λ i low. All-get_or (λ e. is_event w e ≡ true) d.cycle i End low (events_at k d is))) (round_at k d is))
         (ap (λ o. option_map_or (λ (held : ℕ × ℕ). leads_on w d.cycle held.0 held.1) o false) by.held_there ∙ by.leads)
@@ -175,22 +178,22 @@ module _ (u : Universe) (table : IsTable u) (g : List ℕ) (layered : (p : ℕ) 
     each : (P : Dup → Type 0) → ((k : ℕ) (d : Dup) → slice_get ds k ≡ Some d → P d) → All P ds
     each P by = by_dups ds P (λ k d is. by k d is) where
       by_dups : (es : List Dup) (P : Dup → Type 0) → ((k : ℕ) (d : Dup) → slice_get es k ≡ Some d → P d) → All P es
-      by_dups es P by k d low = by k (get_or es k d) (get_at es k d low)
+      by_dups es P by k d low = by k (get_or es k d) (slice_get-get_or es k d low)
 
     pub pairs_low : All (λ d. d.pair < pair_count u) ds
     pairs_low = each (λ d. d.pair < pair_count u) (λ k d is.
-        let by = doubled_at k d is (providers_before k (let low = get_low ds k d is in omega arith)) in
-        support.pairs d.pair (provider_is_chosen s d.pair by.provider))
+        let by = doubled_at k d is (providers_before k (let low = slice_get_within ds k d is in omega arith)) in
+        support.pairs d.pair (provider_chosen s d.pair by.provider))
 
     pub cycles_of_two : All (λ d. 2 ≤ length d.cycle) ds
     cycles_of_two = each (λ d. 2 ≤ length d.cycle) (λ k d is.
-        let own = own_provider (pairs_before k) (providers_before k (let low = get_low ds k d is in omega arith)) in
+        let own = own_provider (pairs_before k) (providers_before k (let low = slice_get_within ds k d is in omega arith)) in
         round_of_two u (layer_number u) (graph_after u g (take k ds)) (graph_formed u g (pairs_before k) table.universe layered own) (graph_rises u g (pairs_before k) table.universe layered own)
         (graph_stands u g (pairs_before k) table.universe layered own) d.cycle (round_at k d is))
 
     pub events_low : length g ≤ 256 → All (λ d. All (EventBelow (2 ^ 32)) d.cycle) ds
     events_low small = each (λ d. All (EventBelow (2 ^ 32)) d.cycle) (λ k d is i e low.
-        let short = get_low ds k d is in
+        let short = slice_get_within ds k d is in
         event_low small (pairs_before k) (providers_before k (omega arith)) (apart_before k (omega arith)) (get_or d.cycle i e) (events_at k d is i e low))
 
     -- ---- and the lines for all of them

@@ -5,25 +5,19 @@ use Rattle.std.specs.Option.{option_and_then}
 use Rattle.std.proofs.lemmas.Bool.{false≢true, and_from, and_parts, or_left, or_right, lt-ltb}
 use Rattle.metis_ids.specs.declared.events.Event.{Event}
 use Rattle.metis_ids.specs.declared.events.Event.TheVariants.{At, End}
-use Rattle.metis_universe.proofs.Rounds.{has-filter}
 use Rattle.metis_universe.specs.Universe.{Universe, IsUniverse, has}
 use Rattle.metis_support.proofs.Paths.{origins_fall}
-use Rattle.metis_support.specs.Support.{Support, IsSupport, is_number, is_selected, provider_pairs}
+use Rattle.metis_support.specs.Support.{Support, IsSupport, is_selected, provider_pairs}
 use Rattle.metis_lines.proofs.Slotted.{held_first}
-use Rattle.metis_lines.proofs.Holders.{held}
+use Rattle.metis_lines.proofs.Holders.{held, provider_chosen}
 use Rattle.metis_lines.specs.AbstractPlan.{AbstractPlan, last, station_at}
 use Rattle.metis_lines.specs.Events.{around, has_return_into_move, is_cycle, is_move, is_return, is_return_into_move, same_event}
 use Rattle.metis_lines.specs.Justified.{leads_on}
 use Rattle.metis_lines.specs.LifeLines.{AreLines, LifeLines, holder_of, holding, is_loose, lines_of, plan_of}
+use Rattle.metis_lines.proofs.SameEvents.{same_itself}
 use Rattle.metis_events.proofs.Instances.{returns_from_loose, rounds_return}
 use Rattle.metis_events.proofs.Returns.{return_from_supply}
-use Rattle.metis_rounds.proofs.Among.{same_self}
 use Rattle.metis_planner.specs.Rounds.{doubled_by, left_by}
-
-pub provider_is_chosen : (s : Support) (p : ℕ) → has (provider_pairs s) p ≡ true → is_selected s p ≡ true
-provider_is_chosen s p h =
-    let t : ℕ → Bool = λ q. list_any (is_number q) s.providers in
-    (and_parts (t p) (has s.selected.members p) (sym (has-filter t p s.selected.members) ∙ h)).1
 
 -- ---- what a search finds
 
@@ -128,7 +122,7 @@ module _ (u : Universe) (s : Support) (g d : List ℕ) (universe : IsUniverse u)
       let is : from.pair ≡ p = sym at.pair ∙ ap (λ (c : ℕ × ℕ). station_at w c.0 c.1) here ∙ l.pair in
       let led = and_from (is_return w l.from (At l.line (suc l.station))) (same_event (At l.line (suc l.station)) (At l.line (l.station + 1)))
       (and_parts (is_return w l.from (At l.line (suc l.station))) (is_move w (At l.line (suc l.station))) l.returns).0
-      (ap (λ j. same_event (At l.line (suc l.station)) (At l.line j)) next ∙ same_self (At l.line (suc l.station))) in
+      (ap (λ j. same_event (At l.line (suc l.station)) (At l.line j)) next ∙ same_itself (At l.line (suc l.station))) in
       record {
         provider = subst (λ q. has (provider_pairs s) q ≡ true) is from.provider;
         loose = subst (λ q. is_loose x q ≡ true) is from.loose;
@@ -142,7 +136,7 @@ module _ (u : Universe) (s : Support) (g d : List ℕ) (universe : IsUniverse u)
         same a b e = cc
 
         selected : (q : ℕ) → has (provider_pairs s) q ≡ true → is_selected s q ≡ true
-        selected q there = provider_is_chosen s q there
+        selected q there = provider_chosen s q there
 
   pub round_doubles : (es : List Event) → is_cycle w es ≡ true → doubled_by w es ≡ None → ⊥
   round_doubles es h none = some_left w es (rounds_return u s g d universe k targets own es h) none
@@ -150,5 +144,5 @@ module _ (u : Universe) (s : Support) (g d : List ℕ) (universe : IsUniverse u)
 -- the same of lines that are these for their targets and own pairs
 pub round_doubles_over : (u : Universe) (s : Support) (x : LifeLines) → IsUniverse u → IsSupport u s → AreLines u s x → (es : List Event) → is_cycle (plan_of u s x) es ≡ true → doubled_by (plan_of u s x) es ≡ None → ⊥
 round_doubles_over u s x universe k lines es cycle none =
-    let own : (p : ℕ) → has x.own p ≡ true → is_selected s p ≡ true = λ p h. provider_is_chosen s p (ap (λ (y : LifeLines). has y.providers p) (sym lines.are) ∙ lines.own p h) in
+    let own : (p : ℕ) → has x.own p ≡ true → is_selected s p ≡ true = λ p h. provider_chosen s p (ap (λ (y : LifeLines). has y.providers p) (sym lines.are) ∙ lines.own p h) in
     round_doubles u s x.targets x.own universe k lines.targets own es (ap (λ y. is_cycle (plan_of u s y) es) (sym lines.are) ∙ cycle) (ap (λ y. doubled_by (plan_of u s y) es) (sym lines.are) ∙ none)

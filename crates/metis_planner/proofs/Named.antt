@@ -1,5 +1,5 @@
 -- The instances that the emission names are those of the lines.
-use Rattle.std.proofs.Common.{◌≡◌, ℕ, zero, suc, ◌^◌, ◌<◌, ◌≤◌, Bool, true, false, cond, not, ◌&&◌, List, [], ◌∷◌, length, get_or, refl, sym, ap, arith, nat_eq, inl, inr}
+use Rattle.std.proofs.Common.{◌≡◌, ℕ, zero, suc, ◌^◌, ◌<◌, ◌≤◌, Bool, true, false, cond, not, ◌&&◌, List, [], ◌∷◌, length, get_or, sym, ap, arith, nat_eq, inl, inr}
 use Rattle.std.proofs.lemmas.Bool.{cases_lt, ltb-true}
 use Rattle.std.proofs.lemmas.List.{get_or_past}
 use Rattle.std.proofs.lemmas.List.Elements.{All-append, All-cons, All-map, All-nil}
@@ -14,7 +14,7 @@ use Rattle.metis_lines.specs.AbstractPlan.{AbstractPlan, Supply, is_supplied, is
 use Rattle.metis_lines.specs.Events.{IsOrder, IsOrderAfter}
 use Rattle.metis_lines.specs.Soundness.{IsFormed}
 use Rattle.metis_emit.specs.Emission.{binds, emission, event_actions, gained, move_actions, supplies_at, unbinds}
-use Rattle.metis_emit.proofs.Members.{In, in_filter}
+use Rattle.metis_emit.proofs.Members.{In, in_filter, all_from}
 use Rattle.metis_emit.proofs.Taken.{event_line}
 
 in_contains : (ss : List Supply) (s : Supply) → In s ss → Contains ss s
@@ -23,10 +23,6 @@ in_contains (t ∷ ss) s there = elim there [
   | inl here ↦ (0, omega arith, sym here)
   | inr later ↦ let rest = in_contains ss s later in (suc rest.0, omega (arith, rest.1), rest.2)
 ]
-
-all_from : {A : Type 0} (P : A → Type 0) (xs : List A) → ((x : A) → In x xs → P x) → All P xs
-all_from P [] each = All-nil P
-all_from P (x ∷ xs) each = All-cons P x xs (each x (inl refl)) (all_from P xs (λ y there. each y (inr there)))
 
 module _ (u : Universe) (w : AbstractPlan) (formed : IsFormed u w) where
   -- a line with a station is there

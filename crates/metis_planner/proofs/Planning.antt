@@ -4,7 +4,7 @@ use Rattle.std.specs.List.{All}
 use Rattle.std.specs.Prelude.{IsSome, is_some, take}
 use Rattle.std.proofs.lemmas.List.{get_or-take, length-take-le}
 use Rattle.std.proofs.lemmas.List.Elements.{All-get_or}
-use Rattle.std.proofs.lemmas.Option.{get_or_from_slice_get}
+use Rattle.std.proofs.lemmas.Option.{get_or_from_slice_get, slice_get_within}
 use Rattle.metis_universe.proofs.Attained.{Closed-layers}
 use Rattle.metis_universe.proofs.Rounds.{grows_to, layers_grow}
 use Rattle.metis_universe.specs.Closed.{Refusal}
@@ -15,7 +15,6 @@ use Rattle.metis_layers.proofs.Ways.{all_has}
 use Rattle.metis_layers.specs.LayerOrder.{attained_pairs}
 use Rattle.metis_choice.specs.Choices.{IsFirstWithout}
 use Rattle.metis_planner.proofs.Around.{find_at}
-use Rattle.metis_planner.proofs.Lists.{get_low}
 
 module _ (u : Universe) where
   pub has_layer : (p : ℕ) → is_some (layer_of u p) ≡ has (attained_pairs u) p
@@ -40,7 +39,7 @@ module _ (u : Universe) where
     lacks q = not (has (attained_pairs u) q)
 
     low : first.place < length g
-    low = get_low g first.place p first.there
+    low = slice_get_within g first.place p first.there
 
     is : get_or g first.place 0 ≡ p
     is = get_or_from_slice_get g first.place p 0 first.there
@@ -56,7 +55,7 @@ module _ (u : Universe) where
 
 pub lacking_low : (u : Universe) (g : List ℕ) (p : ℕ) → All (λ q. q < pair_count u) g → IsFirstWithout u g p → p < pair_count u
 lacking_low u g p within first =
-    subst (λ q. q < pair_count u) (get_or_from_slice_get g first.place p 0 first.there) (All-get_or (λ q. q < pair_count u) g first.place 0 (get_low g first.place p first.there) within)
+    subst (λ q. q < pair_count u) (get_or_from_slice_get g first.place p 0 first.there) (All-get_or (λ q. q < pair_count u) g first.place 0 (slice_get_within g first.place p first.there) within)
 
 -- targets that have a layer, one by one
 pub layered_each : (u : Universe) (g : List ℕ) → All (λ p. IsSome (layer_of u p)) g → (p : ℕ) → has g p ≡ true → IsSome (layer_of u p)

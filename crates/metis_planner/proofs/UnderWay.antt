@@ -4,6 +4,8 @@ use Rattle.std.specs.List.{slice_get}
 use Rattle.std.specs.Prelude.{IsSome, take}
 use Rattle.std.proofs.lemmas.Bool.{cases_lt}
 use Rattle.std.proofs.lemmas.List.{length-append, map-append}
+use Rattle.std.proofs.Math.Seq.{take-length}
+use Rattle.std.proofs.lemmas.Option.{slice_get_within}
 use Rattle.metis_ids.specs.Plans.{Dup}
 use Rattle.metis_universe.specs.Layers.{layer_of}
 use Rattle.metis_universe.specs.Universe.{Universe, IsTable, has}
@@ -12,7 +14,7 @@ use Rattle.metis_lines.specs.Justified.{lines_for, own_pairs}
 use Rattle.metis_lines.specs.LifeLines.{AreLines, LifeLines, is_loose, lines_of}
 use Rattle.metis_planner.proofs.Forced.{lines_for_own, providers, selected_own, support, targets}
 use Rattle.metis_planner.proofs.Leads.{doubled}
-use Rattle.metis_planner.proofs.Lists.{get_behind, get_front, get_low, take_front, take_whole}
+use Rattle.metis_planner.proofs.Lists.{get_behind, get_front, take_front}
 use Rattle.metis_planner.specs.Rounds.{IsForced, graph_after}
 use Rattle.metis_planner.specs.UnderWay.{AreForced, IsUnderWay}
 
@@ -22,10 +24,10 @@ module _ (u : Universe) (g : List ℕ) where
   forced_push ds d forced last k e is = elim (cases_lt k (length ds)) [
     | inl low ↦ subst (λ es. IsForced (graph_after u g es) e) (sym (take_front ds (d ∷ []) k (omega arith))) (forced k e (sym (get_front ds (d ∷ []) k low) ∙ is))
     | inr high ↦
-        let short = get_low (ds ++ d ∷ []) k e is in
+        let short = slice_get_within (ds ++ d ∷ []) k e is in
         let at : k ≡ length ds = omega (arith, length-append ds (d ∷ [])) in
         let same : d ≡ e = some_same d e (sym (get_behind ds d) ∙ ap (slice_get (ds ++ d ∷ [])) (sym at) ∙ is) in
-        let front : take k (ds ++ d ∷ []) ≡ ds = ap (λ n. take n (ds ++ d ∷ [])) at ∙ take_front ds (d ∷ []) (length ds) (omega arith) ∙ take_whole ds in
+        let front : take k (ds ++ d ∷ []) ≡ ds = ap (λ n. take n (ds ++ d ∷ [])) at ∙ take_front ds (d ∷ []) (length ds) (omega arith) ∙ take-length ds in
         subst (λ x. IsForced (graph_after u g (take k (ds ++ d ∷ []))) x) same (subst (λ es. IsForced (graph_after u g es) d) (sym front) last)
   ] where
     some_same : (a b : Dup) → Some a ≡ Some b → a ≡ b

@@ -3,24 +3,24 @@ use Rattle.std.proofs.Common.{◌≡◌, ℕ, zero, suc, ◌<◌, ◌≤◌, Lis
 use Rattle.std.specs.List.{slice_get}
 use Rattle.std.specs.Prelude.{take}
 use Rattle.std.proofs.lemmas.Bool.{cases_lt}
+use Rattle.std.proofs.lemmas.Option.{same_Some}
+use Rattle.std.proofs.Math.Seq.{take-length}
 use Rattle.metis_ids.specs.Cycle.{HasCycle}
 use Rattle.metis_ids.specs.Plans.{Dup, Plan}
+use Rattle.metis_ids.proofs.Lists.{take_one_more}
 use Rattle.metis_universe.specs.Universe.{Universe}
 use Rattle.metis_lines.specs.AbstractPlan.{line_count}
 use Rattle.metis_lines.specs.Justified.{graph_for}
 use Rattle.metis_emit.specs.Emission.{emission}
-use Rattle.metis_planner.proofs.Lists.{some_at, take_next, take_whole}
+use Rattle.metis_planner.proofs.Lists.{some_at}
 use Rattle.metis_planner.specs.Rounds.{IsByRounds, IsForced, doubled_by, graph_after, numbered, ordered_events}
-
-some_same : {X : Type 0} (a b : X) → Some a ≡ Some b → a ≡ b
-some_same a b e = cc
 
 module _ (u : Universe) (g : List ℕ) where
   -- over the same pairs before it, a dup that is forced is one
   forced_same : (ds : List Dup) (d e : Dup) → IsForced (graph_after u g ds) d → IsForced (graph_after u g ds) e → d ≡ e
   forced_same ds d e f h =
       let cycle : d.cycle ≡ e.cycle = f.cycle ∙ sym h.cycle in
-      let pair : d.pair ≡ e.pair = some_same d.pair e.pair (sym f.pair ∙ ap (λ es. doubled_by (graph_after u g ds) es) cycle ∙ h.pair) in
+      let pair : d.pair ≡ e.pair = same_Some d.pair e.pair (sym f.pair ∙ ap (λ es. doubled_by (graph_after u g ds) es) cycle ∙ h.pair) in
       λ i. record { pair = pair i; cycle = cycle i }
 
   module _ (p q : Plan) (one : IsByRounds u g p) (two : IsByRounds u g q) where
@@ -31,14 +31,14 @@ module _ (u : Universe) (g : List ℕ) where
         let d = some_at p.dups k (omega arith) in
         let e = some_at q.dups k (omega arith) in
         let same = forced_same (take k p.dups) d.0 e.0 (one.forced k d.0 d.1) (subst (λ ds. IsForced (graph_after u g ds) e.0) (sym front) (two.forced k e.0 e.1)) in
-        take_next p.dups k d.0 d.1 ∙ (λ i. front i ++ same i ∷ []) ∙ sym (take_next q.dups k e.0 e.1)
+        take_one_more p.dups k d.0 d.1 ∙ (λ i. front i ++ same i ∷ []) ∙ sym (take_one_more q.dups k e.0 e.1)
 
   -- no rounds go on where others ended
   no_shorter : (p q : Plan) → IsByRounds u g p → IsByRounds u g q → length p.dups < length q.dups → ⊥
   no_shorter p q one two less =
       let e = some_at q.dups (length p.dups) less in
       let front = same_front p q one two (length p.dups) (omega arith) (omega arith) in
-      let same : p.dups ≡ take (length p.dups) q.dups = sym (take_whole p.dups) ∙ front in
+      let same : p.dups ≡ take (length p.dups) q.dups = sym (take-length p.dups) ∙ front in
       one.ended (subst (λ ds. HasCycle (numbered (graph_after u g ds))) (sym same) (two.forced (length p.dups) e.0 e.1).stuck)
 
   pub one_plan : (p q : Plan) → IsByRounds u g p → IsByRounds u g q → p ≡ q
@@ -48,7 +48,7 @@ module _ (u : Universe) (g : List ℕ) where
       | inl less ↦ absurd (no_shorter q p two one less)
       | inr least ↦
           let long : length p.dups ≡ length q.dups = omega arith in
-          let dups : p.dups ≡ q.dups = sym (take_whole p.dups) ∙ same_front p q one two (length p.dups) (omega arith) (omega arith) ∙ ap (λ k. take k q.dups) long ∙ take_whole q.dups in
+          let dups : p.dups ≡ q.dups = sym (take-length p.dups) ∙ same_front p q one two (length p.dups) (omega arith) (omega arith) ∙ ap (λ k. take k q.dups) long ∙ take-length q.dups in
           let actions : p.actions ≡ q.actions = one.actions ∙ ap (λ ds. emission u (graph_after u g ds) (ordered_events (graph_after u g ds))) dups ∙ sym two.actions in
           let instances : p.instances ≡ q.instances = one.instances ∙ ap (λ ds. line_count (graph_after u g ds)) dups ∙ sym two.instances in
           λ i. record { actions = actions i; dups = dups i; instances = instances i }

@@ -1,56 +1,34 @@
 -- A verdict is the one that is true of the set and the goals.
-use Rattle.std.proofs.Common.{◌≡◌, ℕ, zero, suc, ◌+◌, ◌<◌, ◌≤◌, Bool, true, false, cond, not, ◌||◌, List, [], ◌∷◌, nat_eq, Option, Some, None, refl, sym, ap, ◌∙◌, subst, arith, inl, inr}
+use Rattle.std.proofs.Common.{◌≡◌, ℕ, zero, suc, ◌+◌, ◌<◌, ◌≤◌, Bool, true, false, cond, not, List, [], ◌∷◌, nat_eq, Option, Some, None, refl, sym, ap, ◌∙◌, subst, arith, inl, inr}
 use Rattle.std.proofs.lemmas.Bool.{and_from, and_parts, both_ways, cases_lt, eq-eqb, eqb-true, false≢true, not-true, not_from_false, or_cases, or_left, or_right, true_from_ne_false}
 use Rattle.std.proofs.lemmas.List.{get_or_default, get_or_past}
-use Rattle.std.proofs.lemmas.List.Elements.{All-cons, All-contains_itself, All-head, All-nil, All-tail}
+use Rattle.std.proofs.lemmas.List.Elements.{All-contains_itself, All-head, All-tail}
 use Rattle.std.proofs.lemmas.List.Folds.{Any-from_list_any}
-use Rattle.std.specs.List.{All, Contains, find, list_any, range_with_len}
-use Rattle.std.specs.List.Sorted.{IsStrictlyIncreasing}
+use Rattle.std.specs.List.{All, AllByRecursion, Contains, find, range_with_len}
 use Rattle.std.specs.Option.{option_and_then}
-use Rattle.std.specs.Prelude.{is_some, option_map, slice_index, ◌⊎◌}
+use Rattle.std.specs.Prelude.{is_some, option_map, ◌⊎◌}
+use Rattle.std.proofs.lemmas.Option.{none-some, same_Some}
 use Rattle.metis_ids.specs.declared.goals.Goal.{Goal}
+use Rattle.metis_ids.proofs.Finding.{not_found, none_passes}
+use Rattle.metis_ids.proofs.Lists.{all_at, any_at, each_has, has_range, some_member}
 use Rattle.metis_universe.proofs.Correctness.{all_from_has, all_has}
-use Rattle.metis_universe.proofs.Ranges.{has_range, in_range}
-use Rattle.metis_universe.proofs.Selected.{any_at}
 use Rattle.metis_universe.specs.Universe.{Universe, IsUniverse, all_pairs, has, initial_of, is_free, is_initial, next_of, no_kind, no_pair, pair_count, provides, required_of, requires, type_of}
 use Rattle.metis_universe.specs.Closed as closed
 use Rattle.metis_universe.specs.Goals.{IsGoalOf, lacks}
 use Rattle.metis_universe.specs.Layers.{is_provided, is_supplied}
+use Rattle.metis_universe.proofs.PortRows.{Rises, rises}
 use Rattle.metis_refusal.specs.Claims.{HasFree, HasGoals, IsLeastUnfree, IsLeastWayOut, NamesOf, IsWayOut, Tells, first_unfree, first_way_out, has_way_out, is_unfree, is_way, lacked, verdict, verdict_by, way_out}
 use Rattle.metis_refusal.specs.declared.verdict.Verdict2.{Verdict2}
 use Rattle.metis_refusal.specs.declared.verdict.Verdict2.TheVariants.{Closed, NotFree, Open, LacksNone}
 
 -- ---- searches in ascending lists
 
-none≢some : {A : Type 0} {x : A} → None ≡ Some x → ⊥
-none≢some e = cc
-
-some_same : {A : Type 0} {x y : A} → Some x ≡ Some y → x ≡ y
-some_same e = cc
-
-abbrev Rises : List ℕ → Type 0
-Rises [] = Unit {0}
-Rises (x ∷ xs) = ((y : ℕ) → has xs y ≡ true → x < y) × Rises xs
-
-tail_rises : (x : ℕ) (xs : List ℕ) → IsStrictlyIncreasing (x ∷ xs) → IsStrictlyIncreasing xs
-tail_rises x xs up k low = let e : suc k + 1 ≡ suc (k + 1) = omega arith in subst (λ n. slice_index xs k < slice_index (x ∷ xs) n) e (up (suc k) (omega arith))
-
-above : (x : ℕ) (xs : List ℕ) → IsStrictlyIncreasing (x ∷ xs) → (y : ℕ) → has xs y ≡ true → x < y
-above x [] up y there = absurd (false≢true there)
-above x (z ∷ xs) up y there =
-    let first : x < z = up 0 (omega arith) in
-    elim (or_cases (nat_eq z y) (has xs y) there) [
-      | inl here ↦ let e = eqb-true z y here in omega arith
-      | inr later ↦ let rest = above z xs (tail_rises x (z ∷ xs) up) y later in omega arith
-    ]
-
-pub rises : (xs : List ℕ) → IsStrictlyIncreasing xs → Rises xs
-rises [] up = tt
-rises (x ∷ xs) up = (above x xs up, rises xs (tail_rises x xs up))
-
 range_rises : (a n : ℕ) → Rises (range_with_len a n)
 range_rises a zero = tt
-range_rises a (suc n) = (λ y there. let low = (in_range (a + 1) n y there).0 in omega arith, range_rises (a + 1) n)
+range_rises a (suc n) = (above_range a (a + 1) n (omega arith), range_rises (a + 1) n) where
+  above_range : (a b n : ℕ) → a < b → AllByRecursion (λ y. a < y) (range_with_len b n)
+  above_range a b zero low = tt
+  above_range a b (suc n) low = (low, above_range a (b + 1) n (omega arith))
 
 record Least (t : ℕ → Bool) (xs : List ℕ) (p : ℕ) : Type 0 where
   there : has xs p ≡ true
@@ -58,15 +36,15 @@ record Least (t : ℕ → Bool) (xs : List ℕ) (p : ℕ) : Type 0 where
   least : (q : ℕ) → has xs q ≡ true → t q ≡ true → p ≤ q
 
 least_found : (t : ℕ → Bool) (xs : List ℕ) (p : ℕ) → Rises xs → find t xs ≡ Some p → Least t xs p
-least_found t [] p up is = absurd (none≢some is)
+least_found t [] p up is = absurd (none-some _ is)
 least_found t (x ∷ xs) p up is =
     elim (t x) as (λ b. t x ≡ b → cond b (Some x) (find t xs) ≡ Some p → Least t (x ∷ xs) p) [
-      | true ↦ λ at e. let same : x ≡ p = some_same e in record {
+      | true ↦ λ at e. let same : x ≡ p = same_Some _ _ e in record {
         there = or_left _ _ (eq-eqb x p same);
         passes = ap t (sym same) ∙ at;
         least = λ q there _. elim (or_cases (nat_eq x q) (has xs q) there) [
           | inl here ↦ let e = eqb-true x q here in omega arith
-          | inr later ↦ let more = up.0 q later in omega arith
+          | inr later ↦ let more = each_has (λ y. x < y) xs q up.0 later in omega arith
         ];
       }
       | false ↦ λ fails e. let rest = least_found t xs p up.1 e in record {
@@ -81,39 +59,12 @@ least_found t (x ∷ xs) p up is =
 
 -- what is found passes the test, and has what all have
 found : {X : Type 0} (P : X → Type 0) (t : X → Bool) (xs : List X) (x : X) → All P xs → find t xs ≡ Some x → P x × (t x ≡ true)
-found P t [] x all is = absurd (none≢some is)
+found P t [] x all is = absurd (none-some _ is)
 found P t (y ∷ xs) x all is =
     elim (t y) as (λ b. t y ≡ b → cond b (Some y) (find t xs) ≡ Some x → P x × (t x ≡ true)) [
-      | true ↦ λ at e. let same : y ≡ x = some_same e in (subst P same (All-head P y xs all), ap t (sym same) ∙ at)
+      | true ↦ λ at e. let same : y ≡ x = same_Some _ _ e in (subst P same (All-head P y xs all), ap t (sym same) ∙ at)
       | false ↦ λ _ e. found P t xs x (All-tail P y xs all) e
     ] refl is
-
-none_found : {X : Type 0} (t : X → Bool) (xs : List X) → find t xs ≡ None → All (λ x. t x ≡ false) xs
-none_found t [] none = All-nil (λ x. t x ≡ false)
-none_found t (x ∷ xs) none =
-    elim (t x) as (λ b. t x ≡ b → cond b (Some x) (find t xs) ≡ None → All (λ y. t y ≡ false) (x ∷ xs)) [
-      | true ↦ λ _ e. absurd (none≢some (sym e))
-      | false ↦ λ fails e. All-cons (λ y. t y ≡ false) x xs fails (none_found t xs e)
-    ] refl none
-
-all_at : (P : ℕ → Type 0) (q : ℕ) (xs : List ℕ) → All P xs → has xs q ≡ true → P q
-all_at P q [] all h = absurd (false≢true h)
-all_at P q (x ∷ xs) all h =
-    elim (or_cases (nat_eq x q) _ h) [
-      | inl now ↦ subst P (eqb-true x q now) (All-head P x xs all)
-      | inr later ↦ all_at P q xs (All-tail P x xs all) later
-    ]
-
-none_passes : (t : ℕ → Bool) (xs : List ℕ) → find t xs ≡ None → (q : ℕ) → has xs q ≡ true → t q ≡ false
-none_passes t xs none q there = all_at (λ x. t x ≡ false) q xs (none_found t xs none) there
-
-some_member : (t : ℕ → Bool) (xs : List ℕ) → list_any t xs ≡ true → (q : ℕ) × (has xs q ≡ true) × (t q ≡ true)
-some_member t [] h = absurd (false≢true h)
-some_member t (x ∷ xs) h =
-    elim (t x) as (λ b. t x ≡ b → (b || list_any t xs) ≡ true → (q : ℕ) × (has (x ∷ xs) q ≡ true) × (t q ≡ true)) [
-      | true ↦ λ at _. (x, or_left _ _ (eq-eqb x x refl), at)
-      | false ↦ λ _ rest. let one = some_member t xs rest in (one.0, or_right _ _ one.1, one.2)
-    ] refl h
 
 -- ---- pairs of a universe
 
@@ -151,7 +102,7 @@ module _ (u : Universe) (k : IsUniverse u) where
         }
 
     has_free : first_unfree u s ≡ None → HasFree u s
-    has_free none p free = true_from_ne_false (has s p) (λ away. both_ways _ (none_passes (is_unfree u s) (all_pairs u) none p (free_there p free)) (and_from _ _ free (not_from_false _ away)))
+    has_free none p free = true_from_ne_false (has s p) (λ away. both_ways _ (not_found (is_unfree u s) (all_pairs u) none p (free_there p free)) (and_from _ _ free (not_from_false _ away)))
 
     -- ---- ways out
 
@@ -170,7 +121,7 @@ module _ (u : Universe) (k : IsUniverse u) where
         record { inside = inside; leads = leads; outside = not-true _ parts.0; supplied = supplied_each q parts.1 }
 
     no_way : (p : ℕ) → way_out u s p ≡ None → (q : ℕ) → IsWayOut u s p q → ⊥
-    no_way p none q way = both_ways _ (none_passes (is_way u s) (next_of u p) none q way.leads) (way_passes p q way)
+    no_way p none q way = both_ways _ (not_found (is_way u s) (next_of u p) none q way.leads) (way_passes p q way)
 
     no_some : (o : Option ℕ) → is_some o ≡ false → o ≡ None
     no_some None e = refl
@@ -188,25 +139,25 @@ module _ (u : Universe) (k : IsUniverse u) where
     no_ways : first_way_out u s ≡ None → (p q : ℕ) → IsWayOut u s p q → ⊥
     no_ways none p q way = by (find (has_way_out u s) s) refl none where
       by : (o : Option ℕ) → find (has_way_out u s) s ≡ o → way_of o ≡ None → ⊥
-      by None is e = both_ways _ (none_passes (has_way_out u s) s is p way.inside) (leaves p q way)
+      by None is e = both_ways _ (not_found (has_way_out u s) s is p way.inside) (leaves p q way)
       by (Some x) is e = at (way_out u s x) (found (Contains s) (has_way_out u s) s x (All-contains_itself s) is).1 e where
         at : (o : Option ℕ) → is_some o ≡ true → way_from_to x o ≡ None → ⊥
         at None some e = false≢true some
-        at (Some y) some e = none≢some (sym e)
+        at (Some y) some e = none-some _ (sym e)
 
     least_way : Rises s → (w : ℕ × ℕ) → first_way_out u s ≡ Some w → IsLeastWayOut u s w.0 w.1
     least_way up w is = by (find (has_way_out u s) s) refl is where
       by : (o : Option ℕ) → find (has_way_out u s) s ≡ o → way_of o ≡ Some w → IsLeastWayOut u s w.0 w.1
-      by None first e = absurd (none≢some e)
+      by None first e = absurd (none-some _ e)
       by (Some p) first e = at (way_out u s p) refl e where
         one : Least (has_way_out u s) s p
         one = least_found (has_way_out u s) s p up first
 
         at : (o : Option ℕ) → way_out u s p ≡ o → way_from_to p o ≡ Some w → IsLeastWayOut u s w.0 w.1
-        at None way e = absurd (none≢some e)
+        at None way e = absurd (none-some _ e)
         at (Some q) way e =
             let next = least_found (is_way u s) (next_of u p) q (next_rises p) way in
-            subst (λ x. IsLeastWayOut u s x.0 x.1) (some_same e) (record {
+            subst (λ x. IsLeastWayOut u s x.0 x.1) (same_Some _ _ e) (record {
               way = way_from p q one.there next.there next.passes;
               least = λ x y other. elim (cases_lt p x) [
                 | inl less ↦ inl less
@@ -231,7 +182,7 @@ module _ (u : Universe) (k : IsUniverse u) where
         by (Some p) w t a b c = least_unfree p a
         by None (Some w) t a b c = (has_free a, least_way up w b)
         by None None (Some g) a b c = (is_closed (has_free a) (no_ways b), c)
-        by None None None a b c = (is_closed (has_free a) (no_ways b), none_found (lacks u s) goals c)
+        by None None None a b c = (is_closed (has_free a) (no_ways b), none_passes (lacks u s) goals c)
 
       unfree_not : (p : ℕ) → IsLeastUnfree u s p → HasFree u s → ⊥
       unfree_not p least free = both_ways _ least.away (free p least.free)
@@ -267,7 +218,7 @@ module _ (u : Universe) (k : IsUniverse u) where
       unique (Closed p) (NotFree x) a b = absurd (unfree_not x b a.0.free)
       unique (Closed p) (Open x y) a b = absurd (way_not x y b.1 a.0)
       unique (Closed p) LacksNone a b = absurd (lack_not p a.1 b.1)
-      unique (Closed p) (Closed x) a b = ap Closed (some_same (sym a.1 ∙ b.1))
+      unique (Closed p) (Closed x) a b = ap Closed (same_Some _ _ (sym a.1 ∙ b.1))
 
       pub told_of : All (λ p. p < pair_count u) s → All (IsGoalOf u) goals → (v : Verdict2) → Tells u s goals v → NamesOf u v
       told_of s_low of (NotFree p) t = initial_low p (and_parts _ _ t.free).0

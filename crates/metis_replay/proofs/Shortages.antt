@@ -1,10 +1,12 @@
 -- The first goal that fewer instances serve than it has places.
-use Rattle.std.proofs.Common.{◌≡◌, ℕ, ◌+◌, ◌<◌, ◌≤◌, Bool, true, false, cond, List, [], ◌∷◌, ◌++◌, nat_lt, Option, Some, None, refl, ap, sym, ◌∙◌, subst, inl, inr, arith}
+use Rattle.std.proofs.Common.{◌≡◌, ℕ, ◌+◌, ◌≤◌, Bool, true, false, cond, List, [], ◌∷◌, ◌++◌, nat_lt, Option, Some, None, refl, ap, sym, ◌∙◌, subst, inl, inr, arith}
 use Rattle.std.proofs.lemmas.Bool.Decides.{nat_tests}
 use Rattle.std.proofs.lemmas.List.Elements.{All-cons, All-contains, All-contains_itself, All-head, All-nil, All-tail, All-weaker}
 use Rattle.std.specs.List.{All, Contains, find}
 use Rattle.std.specs.Prelude.{option_map, ◌⊎◌}
+use Rattle.std.proofs.lemmas.Bool.{le-ltb, lt-ltb, ltb-true}
 use Rattle.metis_ids.specs.declared.goals.Goal.{Goal}
+use Rattle.metis_ids.proofs.Finding.{none_passes}
 use Rattle.metis_universe.proofs.Served.{count-cons, same_is}
 use Rattle.metis_universe.specs.Config.{Config}
 use Rattle.metis_universe.specs.Goals.{HoldsGoals, places_of, same_goal, serving}
@@ -45,14 +47,6 @@ found_at t (x ∷ xs) g is =
       }
     ] refl is
 
-all_fail : (t : Goal → Bool) (xs : List Goal) → find t xs ≡ None → All (λ h. t h ≡ false) xs
-all_fail t [] none = All-nil (λ h. t h ≡ false)
-all_fail t (x ∷ xs) none =
-    elim (t x) as (λ b. t x ≡ b → cond b (Some x) (find t xs) ≡ None → All (λ h. t h ≡ false) (x ∷ xs)) [
-      | true ↦ λ _ e. cc
-      | false ↦ λ not_it e. All-cons (λ h. t h ≡ false) x xs not_it (all_fail t xs e)
-    ] refl none
-
 -- ---- places
 
 -- a goal has no place in the list, or what all goals of the list have
@@ -67,17 +61,8 @@ placed P (x ∷ goals) g all =
       ]
     ] refl
 
-few : (k n : ℕ) → n ≤ k → nat_lt k n ≡ false
-few k n h = grind (arith, nat_tests)
-
 enough : (k n : ℕ) → nat_lt k n ≡ false → n ≤ k
 enough k n h = grind (arith, nat_tests)
-
-many : (k n : ℕ) → k < n → nat_lt k n ≡ true
-many k n h = grind (arith, nat_tests)
-
-fewer : (k n : ℕ) → nat_lt k n ≡ true → k < n
-fewer k n h = grind (arith, nat_tests)
 
 module _ (u : Universe) (c : Config) (goals : List Goal) where
   abbrev is_short : Goal → Bool
@@ -90,13 +75,13 @@ module _ (u : Universe) (c : Config) (goals : List Goal) where
   counted g = (g, serving u c g, places_of goals g)
 
   pub holds_none : HoldsGoals u c goals → shortage u c goals ≡ None
-  holds_none holds = ap (option_map counted) (none_found is_short goals (λ g. few (serving u c g) (places_of goals g) (holds g)))
+  holds_none holds = ap (option_map counted) (none_found is_short goals (λ g. le-ltb (serving u c g) (places_of goals g) (holds g)))
 
   all_enough : (xs : List Goal) → All (λ h. is_short h ≡ false) xs → All is_enough xs
   all_enough xs = All-weaker (λ h. is_short h ≡ false) is_enough (λ h. enough (serving u c h) (places_of goals h)) xs
 
   no_short_holds : first_short u c goals ≡ None → HoldsGoals u c goals
-  no_short_holds none g = elim (placed is_enough goals g (all_enough goals (all_fail is_short goals none))) [
+  no_short_holds none g = elim (placed is_enough goals g (all_enough goals (none_passes is_short goals none))) [
     | inl away ↦ omega (arith, away)
     | inr held ↦ held
   ]
@@ -109,9 +94,9 @@ module _ (u : Universe) (c : Config) (goals : List Goal) where
 
   first_is : (g : Goal) (have want : ℕ) → IsFirstMissing u c goals g have want → first_short u c goals ≡ Some g
   first_is g have want m =
-      let before_fail = All-weaker (Contains m.before) (λ h. is_short h ≡ false) (λ h there. few (serving u c h) (places_of goals h) (m.enough h there)) m.before (All-contains_itself m.before) in
+      let before_fail = All-weaker (Contains m.before) (λ h. is_short h ≡ false) (λ h there. le-ltb (serving u c h) (places_of goals h) (m.enough h there)) m.before (All-contains_itself m.before) in
       ap (find is_short) m.parts
-      ∙ first_found is_short m.before g m.later before_fail (many (serving u c g) (places_of goals g) (omega (arith, m.fewer, m.have_is, m.want_is)))
+      ∙ first_found is_short m.before g m.later before_fail (lt-ltb (serving u c g) (places_of goals g) (omega (arith, m.fewer, m.have_is, m.want_is)))
 
   pub missing_short : (g : Goal) (have want : ℕ) → IsFirstMissing u c goals g have want → shortage u c goals ≡ Some (g, have, want)
   missing_short g have want m = ap (option_map counted) (first_is g have want m) ∙ ap (λ n. Some (g, n, places_of goals g)) (sym m.have_is) ∙ ap (λ n. Some (g, have, n)) (sym m.want_is)
@@ -124,7 +109,7 @@ module _ (u : Universe) (c : Config) (goals : List Goal) where
     enough = λ h there. All-contains is_enough f.before h (all_enough f.before f.fails) there;
     have_is = refl;
     want_is = refl;
-    fewer = fewer (serving u c g) (places_of goals g) f.passes;
+    fewer = ltb-true (serving u c g) (places_of goals g) f.passes;
   }
 
   pub short_missing : (s : Goal × ℕ × ℕ) → shortage u c goals ≡ Some s → IsFirstMissing u c goals s.0 s.1 s.2

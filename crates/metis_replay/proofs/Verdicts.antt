@@ -10,7 +10,7 @@ use Rattle.metis_universe.specs.Config.{empty}
 use Rattle.metis_universe.specs.Numbers.{IsOf}
 use Rattle.metis_universe.specs.Step.{IsRun, after_all}
 use Rattle.metis_universe.specs.Universe.{Universe, IsUniverse}
-use Rattle.metis_config.proofs.Starts.{Correct-empty}
+use Rattle.metis_universe.proofs.Places.{Correct-empty}
 use Rattle.metis_replay.proofs.Feeding.{course, first_told, run_done}
 use Rattle.metis_replay.proofs.Shortages.{holds_none, missing_short, none_holds, short_missing}
 use Rattle.metis_replay.specs.Exact.{Tells}

@@ -7,9 +7,9 @@ use Rattle.std.specs.Option.{option_map_or}
 use Rattle.std.proofs.lemmas.Bool.{cases_eq, eq-eqb, eqb-true, false≢true, or_left, or_right}
 use Rattle.std.proofs.lemmas.List.{map-append}
 use Rattle.std.proofs.lemmas.List.Elements.{filter_map-append}
-use Rattle.metis_ids.proofs.Nodes.{has_range}
 use Rattle.metis_ids.specs.declared.actions.Action.{Action}
 use Rattle.metis_ids.specs.declared.actions.Action.TheVariants.{Delete, Move}
+use Rattle.metis_ids.proofs.Lists.{has_range}
 use Rattle.metis_universe.specs.Config.{Binding, Config}
 use Rattle.metis_universe.specs.Layers.{layer_of}
 use Rattle.metis_universe.specs.Selection.{origin_of}

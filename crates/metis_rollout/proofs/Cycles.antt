@@ -3,8 +3,9 @@ use Rattle.std.proofs.Common.{◌&&◌, ◌≡◌, ℕ, zero, suc, ◌<◌, ◌�
 use Rattle.std.specs.Prelude.{IsSome, slice_get}
 use Rattle.std.specs.List.{AllByRecursion}
 use Rattle.std.specs.Map.{keys_of}
-use Rattle.std.proofs.lemmas.Bool.{cases_eq, and_parts, eq-eqb, ne_eqb, false≢true, or_cases, or_left, or_right}
+use Rattle.std.proofs.lemmas.Bool.{cases_eq, and_parts, eq-eqb, ne_eqb, false≢true, or_cases, or_left, or_right, both_ways, false_from_ne_true}
 use Rattle.metis_ids.specs.declared.actions.Action.{Action}
+use Rattle.metis_ids.proofs.Options.{IsSome_at}
 use Rattle.metis_universe.proofs.Demands.{IsMet-slots}
 use Rattle.metis_universe.specs.Universe.{Universe, IsUniverse, demand_of, has}
 use Rattle.metis_universe.specs.Config.{Binding, Config, Correct, IsConfig, IsMet, is_bound, names, pair_of, remove}
@@ -20,16 +21,6 @@ use Rattle.metis_rollout.proofs.Serving.{served_still}
 use Rattle.metis_rollout.proofs.Required.{wants_within}
 use Rattle.metis_rollout.proofs.Rebinding.{AllNew, AllUnlike, CanServe, all_in, binds_bound, binds_pair, binds_quiet, deletes_bound, deletes_pair, deletes_quiet, distinct_all, each_of, in_all, sorted_unlike}
 
-differ : (b : Bool) → b ≡ true → b ≡ false → ⊥
-differ b t f = false≢true (sym f ∙ t)
-
-is_some_of : (o : Option ℕ) (p : ℕ) → o ≡ Some p → IsSome o
-is_some_of o p h = subst IsSome (sym h) refl
-
-not_all : (b : Bool) → (b ≡ true → ⊥) → b ≡ false
-not_all true f = absurd (f refl)
-not_all false f = refl
-
 -- ---- the scaffold, last made first
 
 module _ (u : Universe) (f : ℕ → ℕ) (apart : (k j : ℕ) → f k ≡ f j → k ≡ j) where
@@ -41,7 +32,7 @@ module _ (u : Universe) (f : ℕ → ℕ) (apart : (k j : ℕ) → f k ≡ f j �
     pub down : (r x y : ℕ) → is_bound c r x y ≡ true → (k : ℕ) × (j : ℕ) × (k < n) × (j < k) × (f k ≡ x) × (f j ≡ y)
 
   top_free : (n : ℕ) (c : Config) → Ladder (suc n) c → Unpointed c (f n)
-  top_free n c l r x = not_all (is_bound c r x (f n)) (λ h. let d = l.down r x (f n) h in let e = apart d.1 n d.5 in too_low d.0 d.1 e d.2 d.3) where
+  top_free n c l r x = false_from_ne_true (is_bound c r x (f n)) (λ h. let d = l.down r x (f n) h in let e = apart d.1 n d.5 in too_low d.0 d.1 e d.2 d.3) where
     too_low : (k j : ℕ) → j ≡ n → k < suc n → j < k → ⊥
     too_low k j e a b = omega arith
 
@@ -58,7 +49,7 @@ module _ (u : Universe) (f : ℕ → ℕ) (apart : (k j : ℕ) → f k ≡ f j �
     only = λ z h.
         let was = was_there c n z h in
         let of = l.only z was.1 in
-        (of.0, below of.0 of.1 (λ e. differ (nat_eq z (f n)) (eq-eqb z (f n) (sym of.2 ∙ ap f e)) was.0), of.2);
+        (of.0, below of.0 of.1 (λ e. both_ways (nat_eq z (f n)) was.0 (eq-eqb z (f n) (sym of.2 ∙ ap f e))), of.2);
     down = λ r x y h.
         let parts = and_parts (not (names (f n) (r, x, y))) (is_bound c r x y) (sym (is_bound-remove c (f n) r x y) ∙ h) in
         let d = l.down r x y parts.1 in
@@ -127,8 +118,8 @@ module _ (u : Universe) (left c : Config) (S : ℕ → Bool) (f : ℕ → ℕ) (
     serve : AllByRecursion (CanServe u c) ties
     serve = each_of u h (CanServe u c) left.instances keys (λ z p r k there needs.
         let held = s.filled z p r k there needs in
-        let mine = s.olds z (is_some_of (pair_of left z) p there) in record {
-          apart = λ e. differ (S z) mine (ap S e ∙ s.names (holder r k));
+        let mine = s.olds z (IsSome_at (pair_of left z) p there) in record {
+          apart = λ e. both_ways (S z) (ap S e ∙ s.names (holder r k)) mine;
           needer = p;
           needer_there = s.old_pairs z mine ∙ there;
           needs = wants_required u p r k needs;
@@ -139,10 +130,10 @@ module _ (u : Universe) (left c : Config) (S : ℕ → Bool) (f : ℕ → ℕ) (
 
     -- no old instance is bound to the scaffold
     not_yet : (r k z : ℕ) → is_bound left r z (h r k) ≡ false
-    not_yet r k z = not_all (is_bound left r z (h r k)) (λ is. differ (S (h r k)) (s.olds (h r k) (s.good.provider r z (h r k) is)) (s.names (holder r k)))
+    not_yet r k z = false_from_ne_true (is_bound left r z (h r k)) (λ is. both_ways (S (h r k)) (s.names (holder r k)) (s.olds (h r k) (s.good.provider r z (h r k) is)))
 
     new : AllNew c ties
-    new = each_of u h (λ b. is_bound c b.0 b.1 b.2 ≡ false) left.instances keys (λ z p r k there needs. s.old_bound r z (h r k) (s.olds z (is_some_of (pair_of left z) p there)) ∙ not_yet r k z)
+    new = each_of u h (λ b. is_bound c b.0 b.1 b.2 ≡ false) left.instances keys (λ z p r k there needs. s.old_bound r z (h r k) (s.olds z (IsSome_at (pair_of left z) p there)) ∙ not_yet r k z)
 
     binds_go : QuietFrom u c (map bind ties)
     binds_go = binds_quiet u c ties s.correct serve new (distinct_all u h (λ r i j some more same. s.slots_differ r i j some more (s.injective (holder r i) (holder r j) same)) s.universe left.instances keys)
@@ -192,7 +183,7 @@ module _ (u : Universe) (left c : Config) (S : ℕ → Bool) (f : ℕ → ℕ) (
         elim (S z) as (λ b. S z ≡ b → IsMet u unreferencedned z r (demand_of u p r)) [
           | true ↦ λ mine. met_by_scaffold unreferencedned z p r (sym (s.old_pairs z mine) ∙ was) (λ y is off. unreferencedned_is r z y off ∙ or_left (is_in ties r z y) (is_bound c r z y) is) unreferencedned_pair
           | false ↦ λ other. served_still u c unreferencedned r z (demand_of u p r) (s.correct z p r was needs) (λ y q is g. (
-            unreferencedned_is r z y (not_all (is_bound left r z y) (λ e. differ (S z) (s.olds z (s.good.requirer r z y e)) other)) ∙ or_right (is_in ties r z y) (is_bound c r z y) is,
+            unreferencedned_is r z y (false_from_ne_true (is_bound left r z y) (λ e. both_ways (S z) other (s.olds z (s.good.requirer r z y e)))) ∙ or_right (is_in ties r z y) (is_bound c r z y) is,
             unreferencedned_pair y ∙ g,
           ))
         ] refl
@@ -214,7 +205,7 @@ module _ (u : Universe) (left c : Config) (S : ℕ → Bool) (f : ℕ → ℕ) (
             | inr was ↦ absurd (false≢true (sym (ap not (sym (s.old_bound r x y mine) ∙ was)) ∙ parts.0))
           ];
           of_new = λ other. elim cases [
-            | inl now ↦ absurd (differ (S x) (s.olds x (tie_from r x y now).0) other)
+            | inl now ↦ absurd (both_ways (S x) other (s.olds x (tie_from r x y now).0))
             | inr was ↦ was
           ];
         }
@@ -222,11 +213,11 @@ module _ (u : Universe) (left c : Config) (S : ℕ → Bool) (f : ℕ → ℕ) (
     -- ---- the removal of the old instances
 
     none_to : (z : ℕ) → S z ≡ true → Unpointed unreferencedned z
-    none_to z mine r x = not_all (is_bound unreferencedned r x z) (λ is.
+    none_to z mine r x = false_from_ne_true (is_bound unreferencedned r x z) (λ is.
         let of = unreferencedned_bound r x z is in
         elim (S x) as (λ b. S x ≡ b → ⊥) [
-          | true ↦ λ one. let to = of.of_old one in differ (S z) mine (ap S (sym to.2) ∙ s.names (holder r to.1))
-          | false ↦ λ other. let d = s.new_bound r x z other (of.of_new other) in differ (S z) mine (ap S (sym d.5) ∙ s.names d.1)
+          | true ↦ λ one. let to = of.of_old one in both_ways (S z) (ap S (sym to.2) ∙ s.names (holder r to.1)) mine
+          | false ↦ λ other. let d = s.new_bound r x z other (of.of_new other) in both_ways (S z) (ap S (sym d.5) ∙ s.names d.1) mine
         ] refl)
 
     there_all : (zs : List ℕ) → ((z : ℕ) → has zs z ≡ true → IsSome (pair_of left z)) → AllByRecursion (λ z. IsSome (pair_of unreferencedned z)) zs
@@ -253,15 +244,15 @@ module _ (u : Universe) (left c : Config) (S : ℕ → Bool) (f : ℕ → ℕ) (
       only = λ z is.
           let was = kept z (subst IsSome (deletes_pair u unreferencedned (members left) z) is) in
           let now = subst IsSome (unreferencedned_pair z) was.1 in
-          s.new_only z (not_all (S z) (λ mine. differ (has (members left) z) (keys-has left.instances z (subst IsSome (s.old_pairs z mine) now)) was.0)) now;
+          s.new_only z (false_from_ne_true (S z) (λ mine. both_ways (has (members left) z) was.0 (keys-has left.instances z (subst IsSome (s.old_pairs z mine) now)))) now;
       down = λ r x y is.
           let was = deletes_bound u unreferencedned (members left) r x y is in
           let of = unreferencedned_bound r x y was.0 in
-          let other : S x ≡ false = not_all (S x) (λ mine. differ (has (members left) x) (keys-has left.instances x (of.of_old mine).0) was.1) in
+          let other : S x ≡ false = false_from_ne_true (S x) (λ mine. both_ways (has (members left) x) was.1 (keys-has left.instances x (of.of_old mine).0)) in
           s.new_bound r x y other (of.of_new other);
     } where
       not_old : (k : ℕ) → has (members left) (f k) ≡ false
-      not_old k = not_all (has (members left) (f k)) (λ is. differ (S (f k)) (s.olds (f k) (has-keys left.instances (f k) is)) (s.names k))
+      not_old k = false_from_ne_true (has (members left) (f k)) (λ is. both_ways (S (f k)) (s.names k) (s.olds (f k) (has-keys left.instances (f k) is)))
 
       inside : (xs : List ℕ) (k : ℕ) → k < length xs → IsSome (slice_get xs k)
       inside [] k low = absurd (omega arith)

@@ -7,11 +7,12 @@ use Rattle.std.specs.Map.{keys_of, lookup}
 use Rattle.std.specs.Option.{option_map_or}
 use Rattle.std.specs.Ordering.{ordering_reverse}
 use Rattle.std.specs.declared.cmp.Ordering.TheVariants.{Less, Greater}
-use Rattle.std.proofs.lemmas.Bool.{and_from, and_parts, eq-eqb, eqb-true, false≢true, or_cases, or_left, or_right}
+use Rattle.std.proofs.lemmas.Bool.{and_from, and_parts, eq-eqb, eqb-true, false≢true, or_cases, or_left, or_right, both_ways, not-false, not-true}
 use Rattle.std.proofs.lemmas.List.Kept.{IsStrictlySortedBy-filter}
 use Rattle.std.proofs.lemmas.Map.Views.{any-filter_same}
 use Rattle.metis_ids.specs.declared.actions.Action.{Action}
 use Rattle.metis_ids.specs.declared.actions.Action.TheVariants.{New, Delete, Bind, Unbind, Move}
+use Rattle.metis_ids.proofs.Finding.{not_found}
 use Rattle.metis_universe.specs.Universe.{Universe, demand_of, has, provides, requires}
 use Rattle.metis_universe.specs.Config.{Binding, Config, Correct, IsConfig, IsMet, binding_cmp, is_bound, is_tie, names, pair_of, remove, untie}
 use Rattle.metis_universe.specs.Step.{Allows, after, after_all}
@@ -19,6 +20,7 @@ use Rattle.metis_universe.specs.Steadfast.{is_new, is_steadfast_after}
 use Rattle.metis_universe.proofs.Edits.{binding_cmp_total, is_bound-remove, is_bound-untie, pair_of-remove, tie_is}
 use Rattle.metis_universe.proofs.Kept.{IsConfig-remove}
 use Rattle.metis_universe.proofs.Sorted.{keys_of-filter}
+use Rattle.metis_universe.proofs.Bindings.{own_tie}
 use Rattle.metis_layers.proofs.Going.{GoesOn, at, at-next}
 use Rattle.metis_rollout.specs.Rollout.{is_idle, is_referenced, idle_unbinds, unreferenced_deletes_within, members, next_unreferenced, unbind}
 use Rattle.metis_rollout.specs.Standing.{is_made}
@@ -69,9 +71,6 @@ quiet_makes_none u c (a ∷ xs) z quiet = ap (λ b. b || is_made xs z) (none a q
 
 -- ---- bindings and the list of them
 
-differ : (b : Bool) → b ≡ true → b ≡ false → ⊥
-differ b t f = false≢true (sym f ∙ t)
-
 less_more : Less ≡ Greater → ⊥
 less_more h = cc
 
@@ -81,13 +80,10 @@ not_below_itself b e = less_more (sym e ∙ binding_cmp_total.antisymm b b ∙ a
 abbrev pub is_in : List Binding → ℕ → ℕ → ℕ → Bool
 is_in bs r z y = list_any (is_tie r z y) bs
 
-tie_self : (b : Binding) → is_tie b.0 b.1 b.2 b ≡ true
-tie_self b = and_from _ _ (and_from _ _ (eq-eqb b.0 b.0 refl) (eq-eqb b.1 b.1 refl)) (eq-eqb b.2 b.2 refl)
-
 pub tie_flip : (a b : Binding) → is_tie a.0 a.1 a.2 b ≡ is_tie b.0 b.1 b.2 a
 tie_flip a b = flip (is_tie a.0 a.1 a.2 b) (is_tie b.0 b.1 b.2 a)
-    (λ h. subst (λ (x : Binding). is_tie x.0 x.1 x.2 a ≡ true) (sym (tie_is a.0 a.1 a.2 b h)) (tie_self a))
-    (λ h. subst (λ (x : Binding). is_tie x.0 x.1 x.2 b ≡ true) (sym (tie_is b.0 b.1 b.2 a h)) (tie_self b)) where
+    (λ h. subst (λ (x : Binding). is_tie x.0 x.1 x.2 a ≡ true) (sym (tie_is a.0 a.1 a.2 b h)) (own_tie a))
+    (λ h. subst (λ (x : Binding). is_tie x.0 x.1 x.2 b ≡ true) (sym (tie_is b.0 b.1 b.2 a h)) (own_tie b)) where
       flip : (p q : Bool) → (p ≡ true → q ≡ true) → (q ≡ true → p ≡ true) → p ≡ q
       flip true q f g = sym (f refl)
       flip false true f g = g refl
@@ -142,7 +138,7 @@ unbinds_quiet u c (b ∷ bs) sorted bound correct =
 pub all_among : (xs ys : List Binding) → ((t : Binding → Bool) → list_any t ys ≡ true → list_any t xs ≡ true) → AllByRecursion (λ b. is_in xs b.0 b.1 b.2 ≡ true) ys
 all_among xs [] within = tt
 all_among xs (b ∷ ys) within = (
-  within (is_tie b.0 b.1 b.2) (or_left (is_tie b.0 b.1 b.2 b) (list_any (is_tie b.0 b.1 b.2) ys) (tie_self b)),
+  within (is_tie b.0 b.1 b.2) (or_left (is_tie b.0 b.1 b.2 b) (list_any (is_tie b.0 b.1 b.2) ys) (own_tie b)),
   all_among xs ys (λ t h. within t (or_right (t b) (list_any t ys) h)),
 )
 
@@ -191,7 +187,7 @@ remove_correct u c z none correct x p r there needs =
       | true ↦ λ _ h. absurd (none≢some p h)
       | false ↦ λ other h. served_still u c (remove c z) r x (demand_of u p r) (correct x p r h needs) (λ y q bound there.
           let apart : nat_eq y z ≡ false = elim (nat_eq y z) as (λ b. nat_eq y z ≡ b → b ≡ false) [
-            | true ↦ λ is. absurd (differ (is_bound c r x y) bound (ap (is_bound c r x) (eqb-true y z is) ∙ none r x))
+            | true ↦ λ is. absurd (both_ways (is_bound c r x y) (ap (is_bound c r x) (eqb-true y z is) ∙ none r x) bound)
             | false ↦ λ _. refl
           ] refl in
           (is_bound-remove c z r x y ∙ rw (other, apart) bound, pair_of-remove c z y ∙ ap (λ b. cond (not b) (pair_of c y) None) apart ∙ there))
@@ -204,7 +200,7 @@ has-keys [] z h = absurd (false≢true h)
 has-keys (e ∷ es) z h = elim (nat_eq z e.0) as (λ b. nat_eq z e.0 ≡ b → IsSome (cond b (Some e.1) (lookup (nat_eq z) es))) [
   | true ↦ λ _. refl
   | false ↦ λ other. elim (or_cases (nat_eq e.0 z) (has (keys_of es) z) h) [
-    | inl now ↦ absurd (differ (nat_eq z e.0) (eq-eqb z e.0 (sym (eqb-true e.0 z now))) other)
+    | inl now ↦ absurd (both_ways (nat_eq z e.0) other (eq-eqb z e.0 (sym (eqb-true e.0 z now))))
     | inr later ↦ has-keys es z later
   ]
 ] refl
@@ -228,33 +224,13 @@ find_some t (x ∷ xs) z h = elim (t x) as (λ b. t x ≡ b → cond b (Some x) 
   some_same : (a b : ℕ) → Some a ≡ Some b → a ≡ b
   some_same a b h = cc
 
-pub find_none : (t : ℕ → Bool) (xs : List ℕ) (z : ℕ) → find t xs ≡ None → has xs z ≡ true → t z ≡ false
-find_none t [] z h there = absurd (false≢true there)
-find_none t (x ∷ xs) z h there = elim (t x) as (λ b. t x ≡ b → cond b (Some x) (find t xs) ≡ None → t z ≡ false) [
-  | true ↦ λ _ e. absurd (some≢none x e)
-  | false ↦ λ is e. elim (or_cases (nat_eq x z) (has xs z) there) [
-    | inl now ↦ subst (λ y. t y ≡ false) (eqb-true x z now) is
-    | inr later ↦ find_none t xs z e later
-  ]
-] refl h where
-  some≢none : (p : ℕ) → Some p ≡ None → ⊥
-  some≢none p h = cc
-
-not_true : (b : Bool) → not b ≡ true → b ≡ false
-not_true true e = absurd (false≢true e)
-not_true false e = refl
-
-not_false : (b : Bool) → not b ≡ false → b ≡ true
-not_false true e = refl
-not_false false e = absurd (false≢true (sym e))
-
 pub unreferenced_quiet : (u : Universe) (n : ℕ) (c : Config) → IsConfig c → Correct u c → QuietFrom u c (unreferenced_deletes_within n c)
 unreferenced_quiet u zero c k correct = tt
 unreferenced_quiet u (suc n) c k correct = elim (next_unreferenced c) as (λ o. next_unreferenced c ≡ o → QuietFrom u c (option_map_or (λ z. Delete z ∷ unreferenced_deletes_within n (remove c z)) o [])) [
   | None ↦ λ _. tt
   | Some z ↦ λ is.
       let first = find_some (λ z. not (is_referenced c z)) (members c) z is in
-      let none = unpointed c z (not_true (is_referenced c z) first.1) in
+      let none = unpointed c z (not-true (is_referenced c z) first.1) in
       let now = remove_correct u c z none correct in
       (has-keys c.instances z first.0, now, none, unreferenced_quiet u n (remove c z) (IsConfig-remove c z k) now)
 ] refl
@@ -266,7 +242,7 @@ unreferenced_ends u zero c low z there = absurd (no_more (members c) low (keys-h
   no_more [] low h = false≢true h
   no_more (x ∷ xs) low h = absurd (omega arith)
 unreferenced_ends u (suc n) c low z there = elim (next_unreferenced c) as (λ o. next_unreferenced c ≡ o → IsSome (pair_of (after_all u c (option_map_or (λ z. Delete z ∷ unreferenced_deletes_within n (remove c z)) o [])) z) → is_referenced (after_all u c (option_map_or (λ z. Delete z ∷ unreferenced_deletes_within n (remove c z)) o [])) z ≡ true) [
-  | None ↦ λ is h. not_false (is_referenced c z) (find_none (λ z. not (is_referenced c z)) (members c) z is (keys-has c.instances z h))
+  | None ↦ λ is h. not-false (is_referenced c z) (not_found (λ z. not (is_referenced c z)) (members c) is z (keys-has c.instances z h))
   | Some x ↦ λ is h.
       let first = find_some (λ z. not (is_referenced c z)) (members c) x is in
       let fewer : length (members (remove c x)) < length (members c) = subst (λ l. length l < length (members c)) (sym (keys_of-filter (λ y. not (nat_eq y x)) c.instances)) (length-without x (members c) first.0) in

@@ -3,7 +3,7 @@ use Rattle.std.proofs.Common.{◌≡◌, ℕ, Bool, true, false, cond, not, ◌&
 use Rattle.std.specs.Prelude.{IsSome, IsSomeAnd, IsTrue}
 use Rattle.std.specs.List.{list_any, filter}
 use Rattle.std.specs.Option.{option_map_or}
-use Rattle.std.proofs.lemmas.Bool.{eqb-true, false≢true, and_parts}
+use Rattle.std.proofs.lemmas.Bool.{eqb-true, false≢true, and_parts, both_ways}
 use Rattle.std.proofs.lemmas.List.Elements.{filter-append}
 use Rattle.metis_ids.specs.Action.{actor_of}
 use Rattle.metis_ids.specs.declared.actions.Action.{Action}
@@ -13,9 +13,10 @@ use Rattle.metis_universe.specs.Config.{Config, Correct, IsMet, empty, pair_of, 
 use Rattle.metis_universe.specs.Step.{Allows, after, after_all}
 use Rattle.metis_universe.specs.Steadfast.{is_new, is_steadfast_after}
 use Rattle.metis_universe.proofs.Frames.{pair_step, pair_steps, pair_of-after_all, bound_step, is_bound-after}
+use Rattle.metis_universe.proofs.Places.{Correct-empty}
 use Rattle.metis_layers.proofs.Going.{GoesOn, at, at-next}
 use Rattle.metis_rollout.proofs.Serving.{served_still}
-use Rattle.metis_rollout.proofs.Going.{Correct-empty, Unpointed, Unpointed-standing, standing-Unpointed}
+use Rattle.metis_rollout.proofs.Going.{Unpointed, Unpointed-standing, standing-Unpointed}
 
 abbrev pub bound_steps : ℕ → ℕ → ℕ → List Action → Bool → Bool
 bound_steps r z y [] b = b
@@ -25,12 +26,9 @@ pub is_bound-after_all : (u : Universe) (c : Config) (actions : List Action) (r 
 is_bound-after_all u c [] r z y = refl
 is_bound-after_all u c (a ∷ rest) r z y = is_bound-after_all u (after u c a) rest r z y ∙ ap (bound_steps r z y rest) (is_bound-after u c a r z y)
 
-differ : (b : Bool) → b ≡ true → b ≡ false → ⊥
-differ b t f = false≢true (sym f ∙ t)
-
 not_same : (S : ℕ → Bool) (x y : ℕ) → S x ≡ true → S y ≡ false → nat_eq x y ≡ false
 not_same S x y at_x at_y = elim (nat_eq x y) as (λ b. nat_eq x y ≡ b → b ≡ false) [
-  | true ↦ λ is. absurd (differ (S x) at_x (ap S (eqb-true x y is) ∙ at_y))
+  | true ↦ λ is. absurd (both_ways (S x) (ap S (eqb-true x y is) ∙ at_y) at_x)
   | false ↦ λ _. refl
 ] refl
 
@@ -116,7 +114,7 @@ module _ (S : ℕ → Bool) where
   other_bound r z y (Bind s x w) b at_z at_y off = first (nat_eq s r) (nat_eq x z) (nat_eq w y) (apart_from z x at_z off) where
     apart_from : (z x : ℕ) → S z ≡ true → S x ≡ false → nat_eq x z ≡ false
     apart_from z x at_z off = elim (nat_eq x z) as (λ b. nat_eq x z ≡ b → b ≡ false) [
-      | true ↦ λ is. absurd (differ (S z) at_z (ap S (sym (eqb-true x z is)) ∙ off))
+      | true ↦ λ is. absurd (both_ways (S z) (ap S (sym (eqb-true x z is)) ∙ off) at_z)
       | false ↦ λ _. refl
     ] refl
 
@@ -139,7 +137,7 @@ module _ (S : ℕ → Bool) where
   pub bound_on : (u : Universe) (r z y : ℕ) (xs : List Action) → AllKeep xs → S z ≡ true → is_bound (at u xs) r z y ≡ is_bound (at u (on xs)) r z y
   bound_on u r z y xs all at_z = elim (S y) as (λ v. S y ≡ v → is_bound (at u xs) r z y ≡ is_bound (at u (on xs)) r z y) [
     | true ↦ λ at_y. is_bound-after_all u empty xs r z y ∙ bounds_on r z y xs false at_z at_y ∙ sym (is_bound-after_all u empty (on xs) r z y)
-    | false ↦ λ off. let cross = λ (e : S z ≡ S y). differ (S z) at_z (e ∙ off) in no_cross u xs r z y cross all ∙ sym (no_cross u (on xs) r z y cross (on-kept xs all))
+    | false ↦ λ off. let cross = λ (e : S z ≡ S y). both_ways (S z) (e ∙ off) at_z in no_cross u xs r z y cross all ∙ sym (no_cross u (on xs) r z y cross (on-kept xs all))
   ] refl
 
   -- ---- which instances were made
@@ -152,7 +150,7 @@ module _ (S : ℕ → Bool) where
   ] refl where
     other_new : (a : Action) → S (actor_of a) ≡ false → is_new z a ≡ false
     other_new (New x t) off = elim (nat_eq x z) as (λ b. nat_eq x z ≡ b → b ≡ false) [
-      | true ↦ λ is. absurd (differ (S z) at_z (ap S (sym (eqb-true x z is)) ∙ off))
+      | true ↦ λ is. absurd (both_ways (S z) (ap S (sym (eqb-true x z is)) ∙ off) at_z)
       | false ↦ λ _. refl
     ] refl
     other_new (Delete x) off = refl
@@ -165,7 +163,7 @@ module _ (S : ℕ → Bool) where
   unpointed_on : (u : Universe) (xs : List Action) (y : ℕ) → AllKeep xs → S y ≡ true → Unpointed (at u (on xs)) y → Unpointed (at u xs) y
   unpointed_on u xs y all at_y none r x = elim (S x) as (λ v. S x ≡ v → is_bound (at u xs) r x y ≡ false) [
     | true ↦ λ at_x. bound_on u r x y xs all at_x ∙ none r x
-    | false ↦ λ off. no_cross u xs r x y (λ e. differ (S y) at_y (sym e ∙ off)) all
+    | false ↦ λ off. no_cross u xs r x y (λ e. both_ways (S y) (sym e ∙ off) at_y) all
   ] refl
 
   pub allowed_on : (u : Universe) (xs : List Action) (a : Action) → AllKeep xs → Keeps a → S (actor_of a) ≡ true → Allows u (at u (on xs)) a → Allows u (at u xs) a
@@ -200,7 +198,7 @@ module _ (S : ℕ → Bool) where
         bound,
         elim (S y) as (λ v. S y ≡ v → pair_of (at u xs) y ≡ Some q) [
           | true ↦ λ at_y. pair_on u y xs at_y ∙ g
-          | false ↦ λ off. absurd (differ _ bound (no_cross u xs r z y (λ e. differ (S z) at_z (e ∙ off)) all))
+          | false ↦ λ off. absurd (both_ways _ (no_cross u xs r z y (λ e. both_ways (S z) (e ∙ off) at_z) all) bound)
         ] refl,
       ))
 

@@ -3,6 +3,7 @@ use Rattle.std.proofs.Common.{◌≡◌, ℕ, ◌<◌, ◌≤◌, true, List, le
 use Rattle.std.specs.Prelude.{IsSome, IsTrue}
 use Rattle.std.specs.List.{All, filter, flat_map, list_any, range_with_len}
 use Rattle.std.proofs.lemmas.Bool.{and_parts}
+use Rattle.metis_ids.proofs.Lists.{has_at}
 use Rattle.metis_universe.proofs.Rounds.{has-filter}
 use Rattle.metis_universe.specs.Layers.{layer_of, layered}
 use Rattle.metis_universe.specs.Universe.{Universe, IsTable, has, pair_count, port_count}
@@ -11,7 +12,6 @@ use Rattle.metis_layers.proofs.Ways.{all_has, in_range}
 use Rattle.metis_layers.specs.Layers.{Layers, IsLayers}
 use Rattle.metis_layers.specs.LayerOrder.{path_to}
 use Rattle.metis_layers.specs.SlotLines.{slot_lines}
-use Rattle.metis_support.proofs.Lists.{has_at}
 use Rattle.metis_support.proofs.Selections.{is_support, layer_is, origin_is, same_provider_pairs, some_is}
 use Rattle.metis_support.specs.Support.{Support, IsSupport, is_number, is_selected, provider_pairs, support_of}
 use Rattle.metis_rollout.specs.Holders.{AreFew, TellsTruly, first_among, holder_at}

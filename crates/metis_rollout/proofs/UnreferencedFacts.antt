@@ -11,10 +11,12 @@ use Rattle.metis_universe.proofs.Ascending.{has-insert_key}
 use Rattle.std.specs.Map.{keys_of}
 use Rattle.std.specs.Ordering.{nat_cmp}
 use Rattle.std.specs.declared.cmp.Ordering.TheVariants.{Less}
-use Rattle.std.proofs.lemmas.Bool.{and_parts, cases_eq, eq-eqb, eqb-true, false_from_ne_true, false≢true, ne_eqb, or_cases, or_left, or_right}
+use Rattle.std.proofs.lemmas.Bool.{and_parts, cases_eq, eq-eqb, eqb-true, false_from_ne_true, false≢true, ne_eqb, or_cases, or_left, or_right, both_ways}
 use Rattle.std.proofs.lemmas.Bool.Decides.{nat_tests}
 use Rattle.std.proofs.lemmas.List.Elements.{recursion_from_All}
 use Rattle.std.proofs.lemmas.Map.Views.{any-filter_same}
+use Rattle.metis_ids.proofs.Lists.{above_rest}
+use Rattle.metis_ids.proofs.Tests.{eq_comm}
 use Rattle.metis_universe.specs.Universe.{has}
 use Rattle.metis_universe.specs.Config.{Binding, Config, IsConfig, binding_cmp, config_of, is_bound, is_tie, remove, untie}
 use Rattle.metis_universe.proofs.Edits.{is_bound-tie, remove_key-bindings, tie_is}
@@ -28,18 +30,12 @@ use Rattle.metis_rollout.specs.Rollout.{is_referenced, members, next_unreference
 use Rattle.metis_rollout.proofs.Going.{pointed_none, unpointed}
 use Rattle.metis_rollout.proofs.Quiet.{find_some, keys-has}
 
-differ : (b : Bool) → b ≡ true → b ≡ false → ⊥
-differ b t f = false≢true (sym f ∙ t)
-
-same_tests : (a b : ℕ) → nat_eq a b ≡ nat_eq b a
-same_tests a b = elim (cases_eq a b) [ inl same ↦ eq-eqb a b same ∙ sym (eq-eqb b a (sym same)) | inr other ↦ ne_eqb a b other ∙ sym (ne_eqb b a (λ e. other (sym e))) ]
-
 -- ---- whether a binding points to an instance
 
 pub bound_points : (c : Config) (r z y : ℕ) → is_bound c r z y ≡ true → is_referenced c y ≡ true
 bound_points c r z y h = elim (is_referenced c y) as (λ b. is_referenced c y ≡ b → b ≡ true) [
   | true ↦ λ _. refl
-  | false ↦ λ none. absurd (differ (is_bound c r z y) h (unpointed c y none r z))
+  | false ↦ λ none. absurd (both_ways (is_bound c r z y) (unpointed c y none r z) h)
 ] refl
 
 pub points_is : (c : Config) (clients : List Binding) → IsIndexed c clients → (y : ℕ) → points_to clients y ≡ is_referenced c y
@@ -59,14 +55,6 @@ above_head x n (y ∷ xs) all h = elim (or_cases (nat_eq y n) (has xs n) h) [
   less : (y : ℕ) → y ≡ n → nat_cmp x y ≡ Less → x < n
   less y e h = grind (arith, nat_tests)
 
-above_rest : (x n : ℕ) (xs : List ℕ) → AllByRecursion (IsLtBy nat_cmp x) xs → has xs n ≡ true → x ≤ n
-above_rest x n [] all h = absurd (false≢true h)
-above_rest x n (y ∷ xs) all h =
-    elim (or_cases (nat_eq y n) (has xs n) h) [
-      | inl now ↦ let e = eqb-true y n now in let l = all.0 in grind (arith, nat_tests)
-      | inr later ↦ above_rest x n xs all.1 later
-    ]
-
 find_first : (t : ℕ → Bool) (xs : List ℕ) (z : ℕ) → IsStrictlySortedBy nat_cmp xs → has xs z ≡ true → t z ≡ true → ((w : ℕ) → has xs w ≡ true → t w ≡ true → z ≤ w) → find t xs ≡ Some z
 unfolding IsStrictlySortedBy
 find_first t [] z s h pass least = absurd (false≢true h)
@@ -79,7 +67,7 @@ find_first t (x ∷ xs) z s h pass least = elim (t x) as (λ b. t x ≡ b → co
         absurd (omega arith)
   ]
   | false ↦ λ out. elim (or_cases (nat_eq x z) (has xs z) h) [
-    | inl now ↦ absurd (differ (t z) pass (ap t (sym (eqb-true x z now)) ∙ out))
+    | inl now ↦ absurd (both_ways (t z) (ap t (sym (eqb-true x z now)) ∙ out) pass)
     | inr later ↦ find_first t xs z s.1 later pass (λ w there passes. least w (or_right (nat_eq x w) (has xs w) there) passes)
   ]
 ] refl
@@ -101,7 +89,7 @@ none_is c unreferenced same is = elim (next_unreferenced c) as (λ o. next_unref
   | None ↦ λ _. refl
   | Some z ↦ λ found.
       let first = find_some (λ z. not (is_referenced c z)) (members c) z found in
-      absurd (differ (has unreferenced z) (same z ∙ (λ i. first.0 i && first.1 i)) (ap (λ l. has l z) is))
+      absurd (both_ways (has unreferenced z) (ap (λ l. has l z) is) (same z ∙ (λ i. first.0 i && first.1 i)))
 ] refl
 
 -- what is left where the least is taken out
@@ -133,7 +121,7 @@ first_free c unreferenced rest z same is =
 is_referenced-untie : (c : Config) (r z y w : ℕ) → nat_eq w y ≡ false → is_referenced (untie c r z y) w ≡ is_referenced c w
 is_referenced-untie c r z y w other = any-filter_same (λ b. nat_eq b.2 w) (λ b. not (is_tie r z y b)) true (λ b at. kept b at) c.bindings where
   kept : (b : Binding) → nat_eq b.2 w ≡ true → not (is_tie r z y b) ≡ true
-  kept b at = ap not (false_from_ne_true (is_tie r z y b) (λ h. differ (nat_eq w y) (eq-eqb w y (sym (eqb-true b.2 w at) ∙ ap (λ (x : Binding). x.2) (tie_is r z y b h))) other))
+  kept b at = ap not (false_from_ne_true (is_tie r z y b) (λ h. both_ways (nat_eq w y) other (eq-eqb w y (sym (eqb-true b.2 w at) ∙ ap (λ (x : Binding). x.2) (tie_is r z y b h)))))
 
 pub but_cut : (c d : Config) (clients needs : List Binding) (unreferenced unreferenced' : List ℕ) (r z y : ℕ) → IsConfig c → is_bound c r z y ≡ true → d ≡ untie c r z y → AreEnds d clients needs → AreUnreferencedBut c z unreferenced
     → ((w : ℕ) → has unreferenced' w ≡ (has unreferenced w || (nat_eq w y && not (points_to clients y)))) → AreUnreferencedBut d z unreferenced'
@@ -261,7 +249,7 @@ unreferenced_next c clients needs unreferenced unreferenced' old rest e ends sam
 
       own : (w : ℕ) → (nat_eq e.0 w && not (is_referenced c w)) ≡ (nat_eq w e.0 && not (points_to clients e.0))
       own w = elim (cases_eq w e.0) [
-        | inl here ↦ λ i. same_tests e.0 w i && not (sym (points_is c clients ends.by_provider e.0 ∙ ap (is_referenced c) (sym here)) i)
+        | inl here ↦ λ i. eq_comm e.0 w i && not (sym (points_is c clients ends.by_provider e.0 ∙ ap (is_referenced c) (sym here)) i)
         | inr other ↦ ap (λ b. b && not (is_referenced c w)) (ne_eqb e.0 w (λ x. other (sym x))) ∙ sym (ap (λ b. b && not (points_to clients e.0)) (ne_eqb w e.0 other))
       ]
 
@@ -278,7 +266,7 @@ no_keys (k ∷ ks) h = absurd (false≢true (h (omega arith)))
 pub inserted : (clients : List Binding) (y : ℕ) (unreferenced unreferenced' : List ℕ) → is_some (option_map short (find (head y) clients)) ≡ false → unreferenced' ≡ insert_key nat_cmp unreferenced y
     → (z : ℕ) → has unreferenced' z ≡ (has unreferenced z || (nat_eq z y && not (points_to clients y)))
 inserted clients y unreferenced unreferenced' none is z =
-    ap (λ l. has l z) is ∙ has-insert_key z y unreferenced ∙ ap (λ b. b || has unreferenced z) (same_tests y z) ∙ turn (nat_eq z y) (has unreferenced z)
+    ap (λ l. has l z) is ∙ has-insert_key z y unreferenced ∙ ap (λ b. b || has unreferenced z) (eq_comm y z) ∙ turn (nat_eq z y) (has unreferenced z)
     ∙ sym (ap (λ b. has unreferenced z || (nat_eq z y && not b)) (missing (find (head y) clients) none)) where
       turn : (a b : Bool) → (a || b) ≡ (b || (a && true))
       turn true true = refl

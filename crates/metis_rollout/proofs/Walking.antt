@@ -15,6 +15,7 @@ use Rattle.metis_ids.specs.declared.actions.Action.TheVariants.{New, Delete, Bin
 use Rattle.metis_rollout.specs.Rollout.{free_number, made_by, news_of, next_free}
 use Rattle.std.proofs.lemmas.List.{take_more}
 use Rattle.metis_ids.specs.declared.actions.Action.{Action}
+use Rattle.metis_ids.proofs.Lists.{take_short}
 use Rattle.metis_universe.specs.Universe.{Universe, has}
 use Rattle.metis_universe.specs.Config.{Config, config_of, empty}
 use Rattle.metis_universe.specs.Step.{Allows, IsRun, after, after_all}
@@ -161,15 +162,9 @@ news_few (a ∷ xs) = by (made_by a) (news_few xs) where
   by None h = omega arith
   by (Some z) h = omega arith
 
-taken_few : (xs : List Action) (i : ℕ) → length (take i xs) ≤ i
-taken_few [] zero = omega arith
-taken_few [] (suc i) = omega arith
-taken_few (x ∷ xs) zero = omega arith
-taken_few (x ∷ xs) (suc i) = omega (arith, taken_few xs i)
-
 -- the next name is small
 pub next_small : (used : List ℕ) (first : ℕ) (xs : List Action) (i : ℕ) (table : List (ℕ × ℕ)) (next : ℕ) → Named used first (news_of (take i xs)) table next → next ≤ length used + first + i
-next_small used first xs i table next n = omega (arith, n.next_is, free_number-low used (first + length (news_of (take i xs))), news_few (take i xs), taken_few xs i)
+next_small used first xs i table next n = omega (arith, n.next_is, free_number-low used (first + length (news_of (take i xs))), news_few (take i xs), take_short xs i)
 
 pub named_all : (used : List ℕ) (first : ℕ) (xs : List Action) (i : ℕ) (table : List (ℕ × ℕ)) (next : ℕ) → Named used first (news_of (take i xs)) table next → length xs ≤ i → Named used first (news_of xs) table next
 named_all used first xs i table next n high = subst (λ l. Named used first (news_of l) table next) (taken_all xs i high) n

@@ -1,9 +1,9 @@
 -- The whole list: the old instances are removed, those bound in a cycle beside a scaffold, and the fresh ones stand alone.
-use Rattle.std.proofs.Common.{◌≡◌, ℕ, zero, suc, ◌+◌, ◌<◌, ◌≤◌, Bool, true, false, cond, ◌||◌, List, [], ◌∷◌, ◌++◌, Option, Some, None, refl, sym, ap, ◌∙◌, subst, arith, nat_eq, map, length, append_assoc, append-nil, inl, inr}
+use Rattle.std.proofs.Common.{◌≡◌, ℕ, zero, suc, ◌+◌, ◌<◌, ◌≤◌, Bool, true, false, cond, ◌||◌, List, [], ◌∷◌, ◌++◌, Some, None, refl, sym, ap, ◌∙◌, subst, arith, nat_eq, map, length, append_assoc, append-nil, inl, inr}
 use Rattle.std.specs.Prelude.{IsSome, slice_get}
 use Rattle.std.specs.List.{count_by}
 use Rattle.std.specs.Map.{lookup}
-use Rattle.std.proofs.lemmas.Bool.{cases_lt, eq-eqb, false≢true, or_left, or_right}
+use Rattle.std.proofs.lemmas.Bool.{cases_lt, eq-eqb, false≢true, or_left, or_right, false_from_ne_true}
 use Rattle.std.proofs.lemmas.List.Folds.{list_any-append}
 use Rattle.metis_ids.specs.declared.actions.Action.{Action}
 use Rattle.metis_universe.specs.Universe.{Universe, IsUniverse, has, is_empty, pair_count}
@@ -50,13 +50,6 @@ below_length (x ∷ xs) z h = elim (nat_eq x z) as (λ b. nat_eq x z ≡ b → (
   | true ↦ λ is _. let first : place_of (x ∷ xs) z ≡ 0 = rw is refl in omega arith
   | false ↦ λ other later. let next : place_of (x ∷ xs) z ≡ suc (place_of xs z) = rw other (omega arith) in let rest = below_length xs z later in omega arith
 ] refl h
-
-not_all : (b : Bool) → (b ≡ true → ⊥) → b ≡ false
-not_all true f = absurd (f refl)
-not_all false f = refl
-
-is_some_of : (o : Option ℕ) (p : ℕ) → o ≡ Some p → IsSome o
-is_some_of o p h = subst IsSome (sym h) refl
 
 inside : (xs : List ℕ) (k : ℕ) → k < length xs → IsSome (slice_get xs k)
 inside [] k low = absurd (omega arith)
@@ -227,7 +220,7 @@ module _ (u : Universe) (k : IsUniverse u) (old fresh : List Action) (s : IsStea
       ∙ list_any-append (is_new z) (cut ++ scaffold) (taken_down u what c S f holder slot_of ends scene)
       ∙ ap (λ b. is_made (cut ++ scaffold) z || b) (quiet_makes_none u c (taken_down u what c S f holder slot_of ends scene) z (taken_down_goes u what c S f holder slot_of ends scene))
       ∙ ap (λ b. b || false) (list_any-append (is_new z) cut scaffold ∙ ap (λ b. b || is_made scaffold z) (cut_used z ∙ fresh_unused u old fresh fresh_going z h))
-      ∙ ap (λ b. b || false) (not_all (is_made scaffold z) (λ is. let by = used_touched Image z scaffold images is in names_other of.0 by.0 of.1 (of.2 ∙ sym by.2)))
+      ∙ ap (λ b. b || false) (false_from_ne_true (is_made scaffold z) (λ is. let by = used_touched Image z scaffold images is in names_other of.0 by.0 of.1 (of.2 ∙ sym by.2)))
 
   -- with a scaffold
   long : is_empty (members what) ≡ false → IsSteady u (rollout u old fresh) × (after_all u empty (rollout u old fresh) ≡ after_all u empty (renumbered old fresh))

@@ -1,28 +1,20 @@
 -- Events in lists, and what is left of events that wait for one another.
-use Rattle.std.proofs.Common.{◌||◌, ◌≡◌, ℕ, zero, suc, ◌+◌, ◌≤◌, Bool, true, false, cond, List, [], ◌∷◌, ◌++◌, length, map, refl, sym, ap, ◌∙◌, arith, nat_eq, inl, inr}
+use Rattle.std.proofs.Common.{◌||◌, ◌≡◌, ℕ, zero, suc, ◌+◌, ◌≤◌, Bool, true, false, cond, List, [], ◌∷◌, ◌++◌, length, map, refl, sym, ap, ◌∙◌, arith, inl, inr}
 use Rattle.std.specs.Prelude.{◌⊎◌}
 use Rattle.std.specs.List.{filter, list_any}
-use Rattle.std.proofs.lemmas.Bool.{false≢true, both_ways, and_from, eq-eqb, or_cases, or_left, or_right, cases_lt}
+use Rattle.std.proofs.lemmas.Bool.{false≢true, both_ways, or_cases, or_left, or_right, cases_lt}
 use Rattle.metis_ids.specs.declared.events.Event.{Event}
-use Rattle.metis_ids.specs.declared.events.Event.TheVariants.{At, End}
 use Rattle.metis_lines.specs.AbstractPlan.{AbstractPlan}
 use Rattle.metis_lines.specs.Events.{events, is_among, is_event, is_go, is_return, is_start, precedes, same_event}
-use Rattle.metis_support.proofs.Lists.{any-append_left, any-append_right, same_test}
+use Rattle.metis_lines.proofs.SameEvents.{same_events, same_itself}
+use Rattle.metis_support.proofs.Lists.{any-append_left, any-append_right}
 use Rattle.metis_events.proofs.AllEvents.{all_events}
-use Rattle.metis_events.proofs.Ranks.{same_events}
 use Rattle.metis_rounds.specs.Stuck.{IsHeldUp, IsStuck, has_before, stuck_events, stuck_within, with_before}
 
 -- ---- members
 
-pub same_self : (e : Event) → same_event e e ≡ true
-same_self (At l j) = and_from (nat_eq l l) (nat_eq j j) (eq-eqb l l refl) (eq-eqb j j refl)
-same_self End = refl
-
-pub turned : (e f : Event) → same_event f e ≡ same_event e f
-turned e f = same_test (same_event f e) (same_event e f) (λ h. ap (λ x. same_event x f) (sym (same_events f e h)) ∙ same_self f) (λ h. ap (λ x. same_event x e) (sym (same_events e f h)) ∙ same_self e)
-
 pub among_first : (e : Event) (es : List Event) → is_among (e ∷ es) e ≡ true
-among_first e es = or_left (same_event e e) (is_among es e) (same_self e)
+among_first e es = or_left (same_event e e) (is_among es e) (same_itself e)
 
 pub any_among : (t : Event → Bool) (es : List Event) (e : Event) → is_among es e ≡ true → t e ≡ true → list_any t es ≡ true
 any_among t [] e there h = absurd (false≢true there)
@@ -41,7 +33,7 @@ some_among t (x ∷ es) h = elim (or_cases (t x) (list_any t es) h) [
 pub among_map : (f : Event → Event) (es : List Event) (e : Event) → is_among es e ≡ true → is_among (map f es) (f e) ≡ true
 among_map f [] e h = absurd (false≢true h)
 among_map f (x ∷ es) e h = elim (or_cases (same_event x e) (is_among es e) h) [
-  | inl now ↦ or_left (same_event (f x) (f e)) (is_among (map f es) (f e)) (ap (λ z. same_event (f x) (f z)) (sym (same_events x e now)) ∙ same_self (f x))
+  | inl now ↦ or_left (same_event (f x) (f e)) (is_among (map f es) (f e)) (ap (λ z. same_event (f x) (f z)) (sym (same_events x e now)) ∙ same_itself (f x))
   | inr later ↦ or_right (same_event (f x) (f e)) (is_among (map f es) (f e)) (among_map f es e later)
 ]
 

@@ -9,9 +9,8 @@ use Rattle.metis_ids.specs.declared.events.Event.{Event}
 use Rattle.metis_ids.specs.declared.events.Event.TheVariants.{At, End}
 use Rattle.metis_lines.specs.AbstractPlan.{AbstractPlan, is_target, last, line_count, stations}
 use Rattle.metis_lines.specs.Events.{is_among, is_end, leaving, same_event, step_count}
+use Rattle.metis_lines.proofs.SameEvents.{same_events, same_itself}
 use Rattle.metis_events.proofs.Adding.{joined_more}
-use Rattle.metis_events.proofs.Ranks.{same_events}
-use Rattle.metis_rounds.proofs.Among.{same_self}
 use Rattle.metis_rounds.specs.Returns.{Brings}
 use Rattle.metis_rounds.specs.Tables.{HasRows, has_row, row_at}
 
@@ -37,13 +36,13 @@ module _ (from to : Event) (old new : Rows) (goes : is_end to ≡ false) (there 
   pushed_each e f = elim (cases_Bool (same_event f to)) [
     | inl at ↦
         let is = same_events f to at in
-        let same : (not (is_end f) && (same_event from e && same_event to f)) ≡ (same_event from e && true) = ap (λ b. not b && (same_event from e && same_event to f)) (ap is_end is ∙ goes) ∙ ap (λ b. same_event from e && b) (ap (same_event to) is ∙ same_self to) in
+        let same : (not (is_end f) && (same_event from e && same_event to f)) ≡ (same_event from e && true) = ap (λ b. not b && (same_event from e && same_event to f)) (ap is_end is ∙ goes) ∙ ap (λ b. same_event from e && b) (ap (same_event to) is ∙ same_itself to) in
         ap (λ row. is_among row e) (ap (row_at new) is ∙ there)
         ∙ list_any-append (λ g. same_event g e) (row_at old to) (from ∷ [])
         ∙ last_first (same_event from e) (is_among (row_at old to) e)
         ∙ sym ((λ j. same j || is_among (row_at old (is j)) e))
     | inr other ↦
-        let apart : same_event to f ≡ false = false_from_ne_true (same_event to f) (λ q. both_ways (same_event f to) other (ap (λ g. same_event g to) (sym (same_events to f q)) ∙ same_self to)) in
+        let apart : same_event to f ≡ false = false_from_ne_true (same_event to f) (λ q. both_ways (same_event f to) other (ap (λ g. same_event g to) (sym (same_events to f q)) ∙ same_itself to)) in
         ap (λ row. is_among row e) (others f other)
         ∙ ap (λ b. b || is_among (row_at old f) e) (sym (and_right (not (is_end f)) (same_event from e && same_event to f) (and_right (same_event from e) (same_event to f) apart)))
   ]

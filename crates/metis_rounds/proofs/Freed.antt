@@ -5,8 +5,8 @@ use Rattle.metis_ids.specs.declared.events.Event.{Event}
 use Rattle.metis_ids.specs.declared.events.Event.TheVariants.{At, End}
 use Rattle.metis_lines.specs.AbstractPlan.{AbstractPlan, last}
 use Rattle.metis_lines.specs.Events.{is_among, is_event, precedes, same_event}
-use Rattle.metis_events.proofs.Ranks.{same_events}
-use Rattle.metis_rounds.proofs.Among.{among_append, among_left, among_map, among_right, any_among, of_map, same_self, some_among, stuck_greatest}
+use Rattle.metis_lines.proofs.SameEvents.{same_events, same_itself}
+use Rattle.metis_rounds.proofs.Among.{among_append, among_left, among_map, among_right, any_among, of_map, some_among, stuck_greatest}
 use Rattle.metis_rounds.proofs.Twins.{along, follows, line_event, old_event, to_end, twin_event}
 use Rattle.metis_rounds.specs.OwnLine.{IsWithOwnLine, twin}
 use Rattle.metis_rounds.specs.Stuck.{IsHeldUp, has_before, stuck_events}
@@ -35,7 +35,7 @@ in_row : (y a k j : ℕ) → a ≤ j → j < a + k → is_among (from_on y a k) 
 unfolding from_on
 in_row y a zero j low high = absurd (omega arith)
 in_row y a (suc k) j low high = elim (cases_eq a j) [
-  | inl same ↦ among_left (At y a ∷ []) (from_on y (suc a) k) (At y j) (ap (λ x. same_event (At y x) (At y j) || false) same ∙ ap (λ b. b || false) (same_self (At y j)))
+  | inl same ↦ among_left (At y a ∷ []) (from_on y (suc a) k) (At y j) (ap (λ x. same_event (At y x) (At y j) || false) same ∙ ap (λ b. b || false) (same_itself (At y j)))
   | inr other ↦ among_right (At y a ∷ []) (from_on y (suc a) k) (At y j) (in_row y (suc a) k j (omega arith) (omega arith))
 ]
 

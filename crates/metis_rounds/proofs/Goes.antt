@@ -14,8 +14,8 @@ use Rattle.metis_support.specs.Support.{Support}
 use Rattle.metis_lines.specs.AbstractPlan.{AbstractPlan}
 use Rattle.metis_lines.specs.Events.{is_among, is_end, is_event, precedes, same_event, step_count}
 use Rattle.metis_lines.specs.LifeLines.{LifeLines, plan_of}
-use Rattle.metis_events.proofs.Ranks.{same_events}
-use Rattle.metis_rounds.proofs.Among.{any_among, same_self}
+use Rattle.metis_lines.proofs.SameEvents.{same_events, same_itself}
+use Rattle.metis_rounds.proofs.Among.{any_among}
 use Rattle.metis_rounds.proofs.Reaches.{next_safe}
 use Rattle.metis_rounds.proofs.Steps.{among_push}
 use Rattle.metis_rounds.specs.Going.{HasSeen, IsGoing, IsWaiting, all_taken, event_count, is_on, next_uses, use_at, use_event, uses_at}
@@ -142,7 +142,7 @@ module _ (u : Universe) (s : Support) (x : LifeLines) (t : List (List (List Even
         event = event;
         before = waits.0;
         untaken = waits.1;
-        listed = λ open_end. waiting event (next_of ns line) ∙ or_right (is_among (row_at g.waiting event) (next_of ns line)) _ (and_from _ _ (and_from _ _ (same_self event) (ap not open_end)) (same_self (next_of ns line)));
+        listed = λ open_end. waiting event (next_of ns line) ∙ or_right (is_among (row_at g.waiting event) (next_of ns line)) _ (and_from _ _ (and_from _ _ (same_itself event) (ap not open_end)) (same_itself (next_of ns line)));
       }
       | inr other ↦
           let at = going.waits l low (subst (λ ms. taken_of ms l < step_count w l) taken more) (ap (λ b. b || has rest l) (ne_eqb line l other) ∙ not_ahead) (sym (ap (λ ks. has ks l) work) ∙ not_work) in

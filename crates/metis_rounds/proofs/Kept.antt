@@ -12,9 +12,9 @@ use Rattle.metis_ids.specs.declared.events.Event.{Event}
 use Rattle.metis_ids.specs.declared.events.Event.TheVariants.{At, End}
 use Rattle.metis_lines.specs.AbstractPlan.{AbstractPlan, last, line_count}
 use Rattle.metis_lines.specs.Events.{event_cmp, is_among, is_end, is_event, is_go, is_return, is_return_of, is_start, is_start_of, precedes, same_event, step_count}
+use Rattle.metis_lines.proofs.SameEvents.{same_events, same_turned}
 use Rattle.metis_support.proofs.Lists.{member}
-use Rattle.metis_events.proofs.Ranks.{same_events}
-use Rattle.metis_rounds.proofs.Among.{follows_stuck, stuck_greatest, turned}
+use Rattle.metis_rounds.proofs.Among.{follows_stuck, stuck_greatest}
 use Rattle.metis_rounds.proofs.Freed.{stuck_twin}
 use Rattle.metis_rounds.proofs.Stays.{edge_stays}
 use Rattle.metis_rounds.proofs.Steps.{among_taken, apart_take}
@@ -202,7 +202,7 @@ module _ (w v : AbstractPlan) (y i : ℕ) (h : IsWithOwnLine w v y i) (moved : H
     own_line_keeps = record {
       events = λ k low. kept_event w v y i h (step_at left k) (shorter.events k low);
       first = λ some. first_stays (step_at left 0) (shorter.events 0 some) (shorter.first some);
-      before = λ k low. edge_stays w v y i h moved (step_at left (k + 1)) (step_at left k) (shorter.before k low) (shorter.events k (omega arith)) (turned (At y i) (step_at left (k + 1)) ∙ other_entry k low) (turned (At y (i + 1)) (step_at left k) ∙ other_leaving k (omega arith));
+      before = λ k low. edge_stays w v y i h moved (step_at left (k + 1)) (step_at left k) (shorter.before k low) (shorter.events k (omega arith)) (same_turned (At y i) (step_at left (k + 1)) ∙ other_entry k low) (same_turned (At y (i + 1)) (step_at left k) ∙ other_leaving k (omega arith));
       least = λ k low. least_stays (step_at left k) (step_at left (k + 1)) (shorter.events k (omega arith)) (shorter.events (k + 1) low) (shorter.before k low) (shorter.least k low);
       apart = shorter.apart;
     }

@@ -9,15 +9,15 @@ use Rattle.std.proofs.lemmas.Bool.Decides.{nat_tests}
 use Rattle.std.proofs.lemmas.List.Sums.{fold-append}
 use Rattle.metis_ids.specs.declared.events.Event.{Event}
 use Rattle.metis_ids.specs.declared.events.Event.TheVariants.{At, End}
-use Rattle.metis_universe.proofs.FirstSights.{list_any-map}
+use Rattle.metis_ids.proofs.Lists.{list_any-map}
 use Rattle.metis_universe.specs.Universe.{Universe, IsUniverse}
 use Rattle.metis_support.proofs.Lists.{member}
 use Rattle.metis_support.specs.Support.{Support, IsSupport}
 use Rattle.metis_lines.specs.AbstractPlan.{AbstractPlan, last, line_count}
 use Rattle.metis_lines.specs.Events.{event_cmp, is_among, is_event, is_go, is_return, is_start, is_start_of, precedes, same_event}
 use Rattle.metis_lines.specs.LifeLines.{AreLines, LifeLines, plan_of}
+use Rattle.metis_lines.proofs.SameEvents.{same_events}
 use Rattle.metis_events.proofs.Befores.{event_equal}
-use Rattle.metis_events.proofs.Ranks.{same_events}
 use Rattle.metis_events.proofs.Targets.{equal_events, event_total}
 use Rattle.metis_rounds.proofs.Among.{by_go, by_return, by_start, among_append, among_first, among_left, among_right}
 use Rattle.metis_rounds.proofs.Seen.{starts_at}

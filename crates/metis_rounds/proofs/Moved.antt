@@ -1,23 +1,25 @@
 -- With a line of its own for a station, the return edges are those from before, but for what led to the holder's leaving the station, and what the new line's stations bring.
 use Rattle.std.proofs.Common.{◌≡◌, ℕ, ◌+◌, ◌<◌, Bool, true, false, not, ◌&&◌, ◌||◌, List, [], ◌++◌, length, get_or, refl, sym, ap, ◌∙◌, arith, nat_eq, nat_lt, inl, inr}
 use Rattle.std.specs.List.{Contains, list_any}
-use Rattle.std.proofs.lemmas.Bool.{and_from, and_left, and_parts, and_right, both_ways, cases_Bool, cases_eq, cases_lt, cond-false, cond-true, eq-eqb, eqb-true, false_from_ne_true, false≢true, le-ltb, lt-ltb, ltb-true, ne_eqb, not-true, or_cases, or_left, or_right}
+use Rattle.std.proofs.lemmas.Bool.{and_from, and_left, and_parts, and_right, both_ways, cases_Bool, cases_eq, cond-false, cond-true, eq-eqb, eqb-true, false_from_ne_true, false≢true, le-ltb, lt-ltb, ltb-true, ne_eqb, not-true, or_cases, or_left, or_right}
 use Rattle.std.proofs.lemmas.List.{get_or_past}
+use Rattle.std.specs.Cmp.{both_ways as same_bool}
 use Rattle.metis_ids.specs.declared.events.Event.{Event}
 use Rattle.metis_ids.specs.declared.events.Event.TheVariants.{At, End}
+use Rattle.metis_ids.proofs.Lists.{any_contained}
 use Rattle.metis_universe.specs.Universe.{Universe}
 use Rattle.metis_support.specs.Support.{IsSupport, Support}
-use Rattle.metis_support.proofs.Lists.{any_in_row, member, same_test}
-use Rattle.metis_lines.specs.AbstractPlan.{AbstractPlan, Supply, is_target, is_there, last, line_count, stations}
+use Rattle.metis_support.proofs.Lists.{any_in_row, member}
+use Rattle.metis_lines.specs.AbstractPlan.{AbstractPlan, Supply, is_target, last, line_count, stations}
 use Rattle.metis_lines.specs.Events.{is_among, is_end, is_event, is_return, is_return_of, leaving, same_event, step_count}
 use Rattle.metis_lines.specs.LifeLines.{AreLines, LifeLines, line_supplies, plan_of}
+use Rattle.metis_lines.proofs.SameEvents.{same_events, same_itself}
 use Rattle.metis_events.proofs.AllEvents.{in_row}
-use Rattle.metis_events.proofs.Ranks.{leaving_by, same_events}
-use Rattle.metis_rounds.proofs.Among.{same_self}
+use Rattle.metis_events.proofs.Ranks.{leaving_by}
 use Rattle.metis_rounds.proofs.Supplied.{of_line, one_holder}
 use Rattle.metis_rounds.proofs.Tests.{found}
 use Rattle.metis_rounds.proofs.Twins as twins
-use Rattle.metis_rounds.proofs.Twins.{any_contained}
+use Rattle.metis_rounds.proofs.Twins.{there_low}
 use Rattle.metis_rounds.specs.OwnLine.{HasMoved, IsWithOwnLine, is_from, moved_supply, twin_line, twin_supply}
 use Rattle.metis_rounds.specs.Returns.{Brings}
 use Rattle.metis_rounds.specs.Tables.{HasGrown, HasReturns, HasRows, has_row, row_at}
@@ -28,7 +30,7 @@ returns_by : (w : AbstractPlan) (e f : Event) (s : Supply) → Contains w.suppli
 returns_by w e f s there from to goes =
     and_from (not (is_end f)) (list_any (is_return_of w e f) w.supplies) (ap not goes)
     (any_contained (is_return_of w e f) w.supplies s there
-    (and_from _ _ (ap (same_event (leaving w s.line s.station)) (sym from) ∙ same_self (leaving w s.line s.station)) (ap (same_event (leaving w s.holder s.place)) (sym to) ∙ same_self (leaving w s.holder s.place))))
+    (and_from _ _ (ap (same_event (leaving w s.line s.station)) (sym from) ∙ same_itself (leaving w s.line s.station)) (ap (same_event (leaving w s.holder s.place)) (sym to) ∙ same_itself (leaving w s.holder s.place))))
 
 record Returned (w : AbstractPlan) (e f : Event) : Type 0 where
   supply : Supply
@@ -53,15 +55,6 @@ line_of l j m k h = cc
 
 step_of : (l j m k : ℕ) → At l j ≡ At m k → j ≡ k
 step_of l j m k h = cc
-
-line_low : (w : AbstractPlan) (l j : ℕ) → is_there w l j ≡ true → l < line_count w
-line_low w l j there = elim (cases_lt l (line_count w)) [
-  | inl low ↦ low
-  | inr past ↦
-      let none = ap length (get_or_past w.lines l [] past) in
-      let low = ltb-true j (length (stations w l)) there in
-      absurd (omega arith)
-]
 
 -- how a table has come from another: one list has been moved
 pub record AreMoved (n y i : ℕ) (old new : List (List (List Event))) : Type 0 where
@@ -124,7 +117,7 @@ module _ (u : Universe) (s : Support) (k : IsSupport u s) (x : LifeLines) (are :
 
   module _ (old new : List (List (List Event))) (has : HasReturns w old) (are_moved : AreMoved n y i old new) where
     line_leaves : (t : Supply) → Contains w.supplies t → leaving v t.line t.station ≡ leaving w t.line t.station
-    line_leaves t there = twins.old_leaving w v y i h t.line t.station (line_low w t.line t.station (m.within t there).needed)
+    line_leaves t there = twins.old_leaving w v y i h t.line t.station (there_low w t.line t.station (m.within t there).needed)
 
     -- what is listed leads there
     forward : (e f : Event) → is_among (row_at new f) e ≡ true → is_return v e f ≡ true
@@ -148,8 +141,8 @@ module _ (u : Universe) (s : Support) (k : IsSupport u s) (x : LifeLines) (are :
             let parts = and_parts (nat_eq t.holder y) (nat_eq t.place i) q in
             let holder = eqb-true t.holder y parts.0 in
             let place = eqb-true t.place i parts.1 in
-            both_ways (same_event f (At y (i + 1))) also (ap (λ g. same_event g (At y (i + 1))) (sym r.moves ∙ (λ j. At (holder j) (place j + 1))) ∙ same_self (At y (i + 1)))) in
-            let low = line_low w t.holder t.place (m.within t r.there).given in
+            both_ways (same_event f (At y (i + 1))) also (ap (λ g. same_event g (At y (i + 1))) (sym r.moves ∙ (λ j. At (holder j) (place j + 1))) ∙ same_itself (At y (i + 1)))) in
+            let low = there_low w t.holder t.place (m.within t r.there).given in
             returns_by v e f (moved_supply w y i t) (m.supplies t r.there) (line_leaves t r.there ∙ r.from)
             (ap (λ l. leaving v l t.place) (is_kept t from) ∙ twins.old_leaving w v y i h t.holder t.place low ∙ r.to) r.goes
       ]
@@ -166,7 +159,7 @@ module _ (u : Universe) (s : Support) (k : IsSupport u s) (x : LifeLines) (are :
         let moves : At t.holder (t.place + 1) ≡ f = sym (leaving_by v t.holder t.place (ap is_end to ∙ goes)) ∙ to in
         let from_w : leaving w (twin_line w y t.line) t.station ≡ e = ap (λ l. leaving w l t.station) (twins.old_twin w y t.line low) ∙ sym (twins.old_leaving w v y i h t.line t.station low) ∙ from in
         let given = (h.within t there).given in
-        elim (twins.old_or_new w v y i h t.holder (line_low v t.holder t.place given)) [
+        elim (twins.old_or_new w v y i h t.holder (there_low v t.holder t.place given)) [
           | inl before ↦
               let twin : twin_line w y t.holder ≡ t.holder = twins.old_twin w y t.holder before in
               let to_w : leaving w (twin_line w y t.holder) t.place ≡ f = ap (λ l. leaving w l t.place) twin ∙ sym (twins.old_leaving w v y i h t.holder t.place before) ∙ to in
@@ -231,7 +224,7 @@ module _ (u : Universe) (s : Support) (k : IsSupport u s) (x : LifeLines) (are :
       pub returns_moved : HasRows v new → HasReturns v all
       returns_moved rows = record {
         rows = record { count = brings.count ∙ rows.count; rows = λ l j there. brings.has (At l j) ∙ rows.rows l j there };
-        each = λ e f. brings.each e f ∙ same_test ((not (is_end f) && list_any (is_return_of v e f) (line_supplies u s x n)) || is_among (row_at new f) e) (is_return v e f)
+        each = λ e f. brings.each e f ∙ same_bool ((not (is_end f) && list_any (is_return_of v e f) (line_supplies u s x n)) || is_among (row_at new f) e) (is_return v e f)
             (λ either. elim (or_cases (not (is_end f) && list_any (is_return_of v e f) (line_supplies u s x n)) (is_among (row_at new f) e) either) [
               | inl brought ↦ of_new e f brought
               | inr listed ↦ forward e f listed

@@ -2,21 +2,22 @@
 use Rattle.std.proofs.Common.{◌≡◌, ℕ, ◌<◌, Bool, true, List, [], ◌∷◌, length, map, sym, ap, ◌∙◌, arith, nat_eq, inl, inr}
 use Rattle.std.specs.List.{filter}
 use Rattle.std.proofs.lemmas.Bool.{false≢true, and_parts, and_from, or_cases, or_left, or_right, eqb-true, ltb-true, lt-ltb}
-use Rattle.metis_ids.proofs.Nodes.{any_at as any_number, has-filter, has_below, has_here, same_bool, some_member}
+use Rattle.std.proofs.lemmas.List.Folds.{list_any_at}
+use Rattle.std.specs.Cmp.{both_ways as same_bool}
 use Rattle.metis_ids.proofs.Stuck.{IsStuck-stuck}
 use Rattle.metis_ids.specs.Cycle.{has_before, stuck}
 use Rattle.metis_ids.specs.Graph.{Graph, all_nodes, is_edge}
 use Rattle.metis_ids.specs.Lists.{has}
 use Rattle.metis_ids.specs.declared.events.Event.{Event}
 use Rattle.metis_ids.specs.declared.events.Event.TheVariants.{End}
+use Rattle.metis_ids.proofs.Lists.{any_at, has-filter, has_below, has_here, some_member}
 use Rattle.metis_lines.specs.AbstractPlan.{AbstractPlan}
 use Rattle.metis_lines.specs.Events.{events, is_among, is_event, precedes, same_event}
-use Rattle.metis_support.proofs.Lists.{any_at}
+use Rattle.metis_lines.proofs.SameEvents.{same_events, same_itself}
 use Rattle.metis_events.proofs.AllEvents.{all_events}
 use Rattle.metis_events.proofs.Befores.{event_of_node}
-use Rattle.metis_events.proofs.Ranks.{same_events}
 use Rattle.metis_events.specs.Numbered.{IsGraphOf, nth_event}
-use Rattle.metis_rounds.proofs.Among.{any_among, same_self, some_among, stuck_greatest}
+use Rattle.metis_rounds.proofs.Among.{any_among, some_among, stuck_greatest}
 use Rattle.metis_rounds.specs.Stuck.{IsHeldUp, is_stuck, stuck_events}
 
 -- ---- events of numbers
@@ -31,12 +32,12 @@ mapped f (x ∷ xs) e h = elim (or_cases (same_event (f x) e) (is_among (map f x
 pub among_mapped : (f : ℕ → Event) (xs : List ℕ) (n : ℕ) → has xs n ≡ true → is_among (map f xs) (f n) ≡ true
 among_mapped f [] n h = absurd (false≢true h)
 among_mapped f (x ∷ xs) n h = elim (or_cases (nat_eq x n) (has xs n) h) [
-  | inl now ↦ or_left (same_event (f x) (f n)) (is_among (map f xs) (f n)) (ap (λ k. same_event (f k) (f n)) (eqb-true x n now) ∙ same_self (f n))
+  | inl now ↦ or_left (same_event (f x) (f n)) (is_among (map f xs) (f n)) (ap (λ k. same_event (f k) (f n)) (eqb-true x n now) ∙ same_itself (f n))
   | inr later ↦ or_right (same_event (f x) (f n)) (is_among (map f xs) (f n)) (among_mapped f xs n later)
 ]
 
 pub is_nth_event : (w : AbstractPlan) (n : ℕ) → n < length (events w) → is_event w (nth_event w n) ≡ true
-is_nth_event w n low = sym (all_events w (nth_event w n)) ∙ any_at (λ f. same_event f (nth_event w n)) (events w) n End low (same_self (nth_event w n))
+is_nth_event w n low = sym (all_events w (nth_event w n)) ∙ list_any_at (λ f. same_event f (nth_event w n)) (events w) n End low (same_itself (nth_event w n))
 
 -- ---- what is stuck
 
@@ -81,7 +82,7 @@ module _ (w : AbstractPlan) (g : Graph) (of : IsGraphOf w g) where
       let a = event_of_node w b.0 (all.events b.0 b.1) in
       let many = of.nodes in
       let low : a.0 < g.nodes = omega (arith, a.2, many) in
-      (at.1, any_number (λ m. is_edge g m n) a.0 numbers (in_numbers a.0 low (ap (is_stuck w) a.3 ∙ b.1)) (of.edges a.0 n low at.1 ∙ ap (λ e. precedes w e (nth_event w n)) a.3 ∙ b.2))
+      (at.1, any_at (λ m. is_edge g m n) a.0 numbers (in_numbers a.0 low (ap (is_stuck w) a.3 ∙ b.1)) (of.edges a.0 n low at.1 ∙ ap (λ e. precedes w e (nth_event w n)) a.3 ∙ b.2))
 
   pub stuck_numbers : (n : ℕ) → n < g.nodes → has (stuck g) n ≡ is_stuck w (nth_event w n)
   unfolding stuck_at

@@ -17,9 +17,9 @@ use Rattle.metis_lines.specs.LifeLines.{AreLines, LifeLines, holder_line, holdin
 use Rattle.metis_lines.proofs.OwnLines.{chosen, longer}
 use Rattle.metis_lines.proofs.Slotted.{none_slots}
 use Rattle.metis_lines.proofs.Sound.{first_is}
-use Rattle.metis_emit.proofs.OfLines.{lines_formed}
+use Rattle.metis_lines.proofs.SameEvents.{same_events}
+use Rattle.metis_lines.proofs.Formed.{lines_formed}
 use Rattle.metis_events.proofs.AllEvents.{edges_join_events}
-use Rattle.metis_events.proofs.Ranks.{same_events}
 use Rattle.metis_events.specs.Gathered.{IsSlotThere}
 use Rattle.metis_rounds.proofs.Among.{any_among, some_among}
 use Rattle.metis_rounds.proofs.Instances.{has_moved, new_holding, new_size, old, own_line_for_pair, own_too, picked, same_slot, y_low}
@@ -343,7 +343,7 @@ module _ (u : Universe) (s : Support) (g d : List ℕ) (p : ℕ) (universe : IsU
         let was = going.waits l old (omega arith) refl unlisted in
         let e = was.event in
         let next = next_of ns l in
-        let both = edges_join_events u w (lines_formed u universe s k x are) e next was.before in
+        let both = edges_join_events u w (lines_formed u s k x are) e next was.before in
         let apart : same_event e (At y i) ≡ false = false_from_ne_true (same_event e (At y i)) (λ same.
         let is = same_events e (At y i) same in
         let not_end : is_end e ≡ false = ap is_end is in

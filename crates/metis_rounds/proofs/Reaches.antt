@@ -3,13 +3,13 @@ use Rattle.std.proofs.Common.{◌≡◌, ℕ, ◌+◌, ◌-◌, ◌<◌, ◌≤�
 use Rattle.std.specs.List.{filter}
 use Rattle.std.proofs.lemmas.Bool.{both_ways, and_parts, and_from, cases_eq, not_from_false, not-true, ltb-true, ltb-false, lt-ltb, le-ltb, eq-eqb}
 use Rattle.std.proofs.lemmas.List.{get_or_append_left, get_or-append_right, get_or-set_other, get_or-set_same}
+use Rattle.std.specs.Cmp.{both_ways as same_bool}
 use Rattle.metis_ids.specs.declared.events.Event.{Event}
 use Rattle.metis_ids.specs.declared.events.Event.TheVariants.{At, End}
 use Rattle.metis_universe.specs.Universe.{Universe}
 use Rattle.metis_lines.specs.AbstractPlan.{AbstractPlan, last, line_count}
 use Rattle.metis_lines.specs.Events.{events, is_among, is_event, is_go, precedes, step_count}
 use Rattle.metis_lines.specs.Soundness.{IsFormed}
-use Rattle.metis_support.proofs.Lists.{same_test}
 use Rattle.metis_events.proofs.AllEvents.{all_events, edges_join_events}
 use Rattle.metis_rounds.proofs.Among.{among_filter, any_among, by_go, of_filter, some_among, stuck_greatest}
 use Rattle.metis_rounds.proofs.Freed.{stuck_twin}
@@ -80,7 +80,7 @@ module _ (u : Universe) (w : AbstractPlan) (formed : IsFormed u w) (ns : List �
       untaken_before End from (by_go w from End go, le-ltb (last w l) (taken_of ns l) stopped.unfinished.2)
 
   pub stuck_left : (e : Event) → is_event w e ≡ true → is_stuck w e ≡ not (is_taken ns e)
-  stuck_left e there = same_test (is_stuck w e) (not (is_taken ns e))
+  stuck_left e there = same_bool (is_stuck w e) (not (is_taken ns e))
       (λ stuck. not_from_false (is_taken ns e) (safe e stuck))
       (λ h. (stuck_greatest w).greatest left (record { events = λ f f_left. (of_left f f_left).0; before = λ f f_left. let both = of_left f f_left in before f both.0 both.1 }) e (in_left e there (not-true (is_taken ns e) h)))
 

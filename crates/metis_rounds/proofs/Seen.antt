@@ -3,17 +3,18 @@ use Rattle.std.proofs.Common.{◌≡◌, ℕ, suc, ◌+◌, ◌<◌, ◌≤◌, 
 use Rattle.std.specs.List.{list_any}
 use Rattle.std.proofs.lemmas.Bool.{false≢true, false_from_ne_true, and_parts, or_cases, cases_lt, cond-true, cond-false, cases_eq, eqb-true, ltb-true, lt-ltb, le-ltb}
 use Rattle.std.proofs.lemmas.List.{get_or-set_same, get_or-set_other}
+use Rattle.std.proofs.lemmas.List.Folds.{list_any_at}
 use Rattle.metis_ids.specs.declared.events.Event.{Event}
 use Rattle.metis_ids.specs.declared.events.Event.TheVariants.{At, End}
 use Rattle.metis_universe.specs.Universe.{Universe, IsUniverse}
-use Rattle.metis_support.proofs.Lists.{any_at, member}
+use Rattle.metis_support.proofs.Lists.{member}
 use Rattle.metis_support.specs.Support.{Support, IsSupport}
-use Rattle.metis_emit.proofs.OfLines.{lines_formed}
+use Rattle.metis_lines.proofs.Formed.{lines_formed}
 use Rattle.metis_lines.specs.AbstractPlan.{AbstractPlan}
 use Rattle.metis_lines.specs.Events.{is_event, is_go, is_return, is_start, is_start_of, same_event}
 use Rattle.metis_lines.specs.LifeLines.{AreLines, LifeLines, line_at, plan_of}
-use Rattle.metis_events.proofs.Ranks.{same_events}
-use Rattle.metis_rounds.proofs.Among.{by_return, by_start, same_self}
+use Rattle.metis_lines.proofs.SameEvents.{same_events, same_itself}
+use Rattle.metis_rounds.proofs.Among.{by_return, by_start}
 use Rattle.metis_rounds.proofs.Starts.{starts}
 use Rattle.metis_rounds.specs.Going.{HasSeen, IsMissing, next_uses, use_at, use_event, uses_at}
 use Rattle.metis_rounds.specs.Reach.{HasAllBefore, WaitsFor, is_taken, next_of, taken_of}
@@ -41,7 +42,7 @@ module _ (u : Universe) (s : Support) (x : LifeLines) (universe : IsUniverse u) 
       let at = and_parts (nat_eq m.item.line l) (nat_eq m.item.station j) into.1 in
       let line = eqb-true m.item.line l at.0 in
       let station = eqb-true m.item.station j at.1 in
-      let within = ltb-true m.item.station (length (line_at x m.item.line)) ((lines_formed u universe s k x are).within m.item m.there).needed in
+      let within = ltb-true m.item.station (length (line_at x m.item.line)) ((lines_formed u s k x are).within m.item m.there).needed in
       let same : length (line_at x m.item.line) ≡ length (line_at x l) = ap (λ n. length (line_at x n)) line in
       absurd (omega (arith, within, same, station, past))
 
@@ -72,13 +73,13 @@ module _ (u : Universe) (s : Support) (x : LifeLines) (universe : IsUniverse u) 
   pub waits_for_slot : (n : ℕ) → n < length slots → is_taken ns (use_event x (use_at slots n)) ≡ false → WaitsFor w ns next (use_event x (use_at slots n))
   waits_for_slot n few untaken =
       let e = use_event x (use_at slots n) in
-      (by_start w e next (starts_here e ∙ any_at (λ c. same_event (use_event x c) e) slots n (0, 0) few (same_self e)), untaken)
+      (by_start w e next (starts_here e ∙ list_any_at (λ c. same_event (use_event x c) e) slots n (0, 0) few (same_itself e)), untaken)
 
   -- a return that is not taken
   pub waits_for_return : (n : ℕ) → n < length (row_at t next) → is_taken ns (step_at (row_at t next) n) ≡ false → WaitsFor w ns next (step_at (row_at t next) n)
   waits_for_return n few untaken =
       let e = step_at (row_at t next) n in
-      (by_return w e next (sym (has.each e next) ∙ any_at (λ f. same_event f e) (row_at t next) n End few (same_self e)), untaken)
+      (by_return w e next (sym (has.each e next) ∙ list_any_at (λ f. same_event f e) (row_at t next) n End few (same_itself e)), untaken)
 
   pub missing_waits : (a b : ℕ) → (a < length slots → is_taken ns (use_event x (use_at slots a)) ≡ false) → (b < length (row_at t next) → is_taken ns (step_at (row_at t next) b) ≡ false) → (e : Event) → IsMissing x slots a (row_at t next) b e → WaitsFor w ns next e
   missing_waits a b slot return e missing = elim missing [

@@ -13,8 +13,8 @@ use Rattle.metis_lines.proofs.Joins.{each_counted, each_joined}
 use Rattle.metis_lines.specs.AbstractPlan.{Supply}
 use Rattle.metis_lines.specs.Events.{is_start, is_start_of, same_event}
 use Rattle.metis_lines.specs.LifeLines.{AreLines, LifeLines, line_at, line_supplies, plan_of, slot_holding, station_supplies}
+use Rattle.metis_lines.proofs.SameEvents.{same_itself}
 use Rattle.metis_events.proofs.Holding.{pair_chosen, slots_there}
-use Rattle.metis_rounds.proofs.Among.{same_self}
 use Rattle.metis_rounds.proofs.Supplied.{of_line, of_station, pair_at, station_any}
 use Rattle.metis_rounds.proofs.Tests.{found, only_in}
 use Rattle.metis_rounds.specs.Returns.{IsUse}
@@ -51,7 +51,7 @@ module _ (u : Universe) (s : Support) (k : IsSupport u s) (x : LifeLines) (are :
       let f = found (λ (t : Supply). (t.line ≡ l) × (t.station ≡ m)) t (station_supplies u s x l m) (of_station u s x l m) h in
       let at = station_of f.item f.passes in
       sym f.is.1 ∙ at)
-      ∙ station_any u s x l j t (λ c. same_event (At (slot_holding x c.0 c.1).0 (slot_holding x c.0 c.1).1) e) (λ r p n. and_sure (same_event (At (slot_holding x p n).0 (slot_holding x p n).1) e) (same_event (At l j) (At l j)) (same_self (At l j))) where
+      ∙ station_any u s x l j t (λ c. same_event (At (slot_holding x c.0 c.1).0 (slot_holding x c.0 c.1).1) e) (λ r p n. and_sure (same_event (At (slot_holding x p n).0 (slot_holding x p n).1) e) (same_event (At l j) (At l j)) (same_itself (At l j))) where
         parts_of : (t : Supply) → is_start_of e (At l j) t ≡ true → (nat_eq t.line l ≡ true) × (nat_eq t.station j ≡ true)
         parts_of t h = and_parts (nat_eq t.line l) (nat_eq t.station j) (and_parts (same_event (At t.holder t.place) e) (same_event (At t.line t.station) (At l j)) h).1
 

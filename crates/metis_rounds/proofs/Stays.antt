@@ -4,12 +4,13 @@ use Rattle.std.specs.List.{list_any}
 use Rattle.std.proofs.lemmas.Bool.{false≢true, both_ways, and_parts, and_from, or_cases, cases_Bool, cond-false, eqb-true, ltb-true, lt-ltb}
 use Rattle.metis_ids.specs.declared.events.Event.{Event}
 use Rattle.metis_ids.specs.declared.events.Event.TheVariants.{At, End}
+use Rattle.metis_ids.proofs.Lists.{any_contained}
 use Rattle.metis_lines.specs.AbstractPlan.{AbstractPlan, Supply, last, line_count}
 use Rattle.metis_lines.specs.Events.{is_end, is_event, is_go, is_return, is_return_of, is_start, is_start_of, leaving, precedes, same_event}
+use Rattle.metis_lines.proofs.SameEvents.{same_events, same_itself}
 use Rattle.metis_support.proofs.Lists.{member}
-use Rattle.metis_events.proofs.Ranks.{same_events}
-use Rattle.metis_rounds.proofs.Among.{by_go, by_return, by_start, same_self}
-use Rattle.metis_rounds.proofs.Twins.{any_contained, holder_leaves, kept_event, old_last, old_leaving, one_more, there_low}
+use Rattle.metis_rounds.proofs.Among.{by_go, by_return, by_start}
+use Rattle.metis_rounds.proofs.Twins.{holder_leaves, kept_event, old_last, old_leaving, one_more, there_low}
 use Rattle.metis_rounds.specs.OwnLine.{HasMoved, IsWithOwnLine, moved_supply}
 
 module _ (w v : AbstractPlan) (y i : ℕ) (h : IsWithOwnLine w v y i) (moved : HasMoved w v y i) where
@@ -60,7 +61,7 @@ module _ (w v : AbstractPlan) (y i : ℕ) (h : IsWithOwnLine w v y i) (moved : H
             let place = eqb-true s.place i at.1 in
             let leaves : leaving w s.holder s.place ≡ At y (i + 1) = (λ k. leaving w (line k) (place k)) ∙ holder_leaves w v y i h i (omega arith) in
             let is_next : f ≡ At y (i + 1) = sym (same_events (leaving w s.holder s.place) f same.1) ∙ leaves in
-            absurd (both_ways (same_event f (At y (i + 1))) other (ap (λ a. same_event a (At y (i + 1))) is_next ∙ same_self (At y (i + 1))))
+            absurd (both_ways (same_event f (At y (i + 1))) other (ap (λ a. same_event a (At y (i + 1))) is_next ∙ same_itself (At y (i + 1))))
         | inr none ↦
             let holder : holder_in s ≡ s.holder = cond-false (is_moved s) n s.holder none in
             let one : same_event (leaving v s.line s.station) e ≡ true = ap (λ a. same_event a e) (old_leaving w v y i h s.line s.station (there_low w s.line s.station both.needed)) ∙ same.0 in

@@ -11,19 +11,18 @@ use Rattle.std.proofs.lemmas.Bool.{false≢true, both_ways, and_parts, cases_lt,
 use Rattle.std.proofs.lemmas.List.{get_or-append_right, get_or-take, get_or_append_left, length-take-le, length-take, length_push, take-append-le, take_all}
 use Rattle.std.proofs.lemmas.List.Folds.{list_any-append}
 use Rattle.std.proofs.lemmas.List.Sums.{passes_at_first, position_or_len_is}
+use Rattle.std.specs.Cmp.{both_ways as same_bool}
 use Rattle.metis_ids.specs.declared.events.Event.{Event}
 use Rattle.metis_ids.specs.declared.events.Event.TheVariants.{End}
 use Rattle.metis_lines.specs.Events.{event_cmp, is_among, same_event}
-use Rattle.metis_support.proofs.Lists.{same_test}
-use Rattle.metis_events.proofs.Ranks.{same_events}
+use Rattle.metis_lines.proofs.SameEvents.{same_events, same_itself, same_turned}
 use Rattle.metis_events.proofs.Targets.{equal_events, same_event_equal}
-use Rattle.metis_rounds.proofs.Among.{same_self, turned}
 use Rattle.metis_rounds.specs.Walks.{IsApart, IsMet, entry_place, kept_count, kept_steps, place_in, step_at}
 
 -- ---- one event and another
 
 pub equal_is_same : (q k : Event) → is_eq (event_cmp q k) ≡ same_event k q
-equal_is_same q k = same_test (is_eq (event_cmp q k)) (same_event k q) (λ h. ap (λ x. same_event x q) (sym (equal_events q k (is_equal (event_cmp q k) h))) ∙ same_self q) (λ h. ap is_eq (same_event_equal q k (turned k q ∙ h))) where
+equal_is_same q k = same_bool (is_eq (event_cmp q k)) (same_event k q) (λ h. ap (λ x. same_event x q) (sym (equal_events q k (is_equal (event_cmp q k) h))) ∙ same_itself q) (λ h. ap is_eq (same_event_equal q k (same_turned k q ∙ h))) where
   is_equal : (o : Ordering) → is_eq o ≡ true → o ≡ Equal
   is_equal Less h = absurd (false≢true h)
   is_equal Equal h = refl
@@ -52,7 +51,7 @@ place_taken (suc m) (x ∷ es) e h =
     elim (same_event e x) as (λ b. same_event e x ≡ b → cond (not b) (1 + place_in es e) 0 < suc m) [
       | true ↦ λ _. omega arith
       | false ↦ λ other. elim (or_cases (same_event x e) (is_among (take m es) e) h) [
-        | inl now ↦ absurd (both_ways _ other (turned x e ∙ now))
+        | inl now ↦ absurd (both_ways _ other (same_turned x e ∙ now))
         | inr later ↦ let rest = place_taken m es e later in omega arith
       ]
     ] refl
@@ -60,11 +59,11 @@ place_taken (suc m) (x ∷ es) e h =
 pub among_taken : (m k : ℕ) (es : List Event) (e : Event) → k < m → k < length es → same_event e (step_at es k) ≡ true → is_among (take m es) e ≡ true
 among_taken zero k es e low short h = absurd (omega arith)
 among_taken (suc m) k [] e low short h = absurd (omega arith)
-among_taken (suc m) zero (x ∷ es) e low short h = or_left (same_event x e) (is_among (take m es) e) (turned e x ∙ h)
+among_taken (suc m) zero (x ∷ es) e low short h = or_left (same_event x e) (is_among (take m es) e) (same_turned e x ∙ h)
 among_taken (suc m) (suc k) (x ∷ es) e low short h = or_right (same_event x e) (is_among (take m es) e) (among_taken m k es e (omega arith) (omega arith) h)
 
 pub among_at : (k : ℕ) (es : List Event) → k < length es → is_among es (step_at es k) ≡ true
-among_at k es low = sym (ap (λ ys. is_among ys (step_at es k)) (take_all (length es) es (omega arith))) ∙ among_taken (length es) k es (step_at es k) low low (same_self (step_at es k))
+among_at k es low = sym (ap (λ ys. is_among ys (step_at es k)) (take_all (length es) es (omega arith))) ∙ among_taken (length es) k es (step_at es k) low low (same_itself (step_at es k))
 
 pub place_of_taken : (p : ℕ) (es : List Event) (e : Event) → p ≤ length es → place_in (take p es) e ≡ min p (place_in es e)
 place_of_taken zero es e h = omega arith
@@ -120,8 +119,8 @@ met_pushed keys new es e met fresh h = record {
   apart = apart_push es e met.apart fresh;
 } where
   by : (q : Event) (b : Bool) → same_event q e ≡ b → cond b true (is_among keys q) ≡ (is_among es q || same_event e q)
-  by q true at = sym (or_right (is_among es q) (same_event e q) (turned q e ∙ at))
-  by q false at = met.all q ∙ sym (ap (λ b. is_among es q || b) (turned q e ∙ at) ∙ or-false (is_among es q))
+  by q true at = sym (or_right (is_among es q) (same_event e q) (same_turned q e ∙ at))
+  by q false at = met.all q ∙ sym (ap (λ b. is_among es q || b) (same_turned q e ∙ at) ∙ or-false (is_among es q))
 
 module _ (keys new es front : List Event) (e : Event) (whole : es ≡ front ++ e ∷ []) (met : IsMet keys es) (h : IsUpdated e false keys new) where
   front_is : take (length front) es ≡ front
@@ -136,7 +135,7 @@ module _ (keys new es front : List Event) (e : Event) (whole : es ≡ front ++ e
   left q true at =
       let long = ap length whole ∙ length_push front e in
       sym (ap (is_among front) (same_events q e at) ∙ sym (λ i. is_among (front_is i) (last_is i)) ∙ met.apart (length front) (omega arith))
-  left q false at = met.all q ∙ ap (λ ys. is_among ys q) whole ∙ among_push front e q ∙ ap (λ b. is_among front q || b) (turned q e ∙ at) ∙ or-false (is_among front q)
+  left q false at = met.all q ∙ ap (λ ys. is_among ys q) whole ∙ among_push front e q ∙ ap (λ b. is_among front q || b) (same_turned q e ∙ at) ∙ or-false (is_among front q)
 
   pub met_popped : IsMet new front
   met_popped = record {

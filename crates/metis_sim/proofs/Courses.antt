@@ -10,7 +10,8 @@ use Rattle.metis_universe.specs.Config.{Config, Correct, IsConfig}
 use Rattle.metis_universe.specs.Numbers.{IsOf}
 use Rattle.metis_universe.specs.Step.{after}
 use Rattle.metis_universe.specs.Universe.{Universe, IsUniverse}
-use Rattle.metis_config.proofs.Starts.{Correct-empty, IsOver-empty}
+use Rattle.metis_universe.proofs.Places.{Correct-empty}
+use Rattle.metis_config.proofs.Starts.{IsOver-empty}
 use Rattle.metis_config.specs.Over.{IsOver}
 use Rattle.metis_actions.proofs.Causes.{over_after, step-no_fault}
 use Rattle.metis_actions.specs.Faults.{fault_of}

@@ -3,18 +3,16 @@ use Rattle.std.proofs.Common.{◌≡◌, ℕ, zero, suc, ◌+◌, ◌<◌, ◌�
 use Rattle.std.proofs.lemmas.List.{length-replicate}
 use Rattle.std.specs.List.{AllByRecursion, filter, flat_map, list_all, list_any, range_with_len}
 use Rattle.std.proofs.lemmas.Bool.{false≢true, both_ways, cases_eq, cases_lt, eqb-true, eq-eqb, ne_eqb}
-use Rattle.std.proofs.lemmas.List.Elements.{recursion_from_All, filter-append, filter_agree}
+use Rattle.std.proofs.lemmas.List.Elements.{recursion_from_All, filter_agree}
 use Rattle.metis_ids.specs.Graph.{Graph, IsGraph, afters, befores, edge_count, is_edge, joins}
 use Rattle.metis_ids.specs.Lists.{has}
 use Rattle.metis_ids.specs.Order.{is_ready}
-use Rattle.metis_ids.proofs.Nodes.{has-push}
-use Rattle.metis_sort.specs.Counts.{awaits, edges_from, edges_to, occurrences, waiting}
+use Rattle.metis_ids.proofs.Counts.{occurrences-append}
+use Rattle.metis_ids.proofs.Lists.{filter_short, has-push}
+use Rattle.metis_sort.specs.Counts.{awaits, edges_from, edges_to, waiting}
+use Rattle.metis_ids.specs.Counts.{occurrences}
 
 -- ---- filters
-
-pub fewer : {X : Type 0} (t : X → Bool) (xs : List X) → length (filter t xs) ≤ length xs
-fewer t [] = omega arith
-fewer t (x ∷ xs) = let rest = fewer t xs in elim (t x) as (λ b. length (cond b (x ∷ filter t xs) (filter t xs)) ≤ length (x ∷ xs)) [ true ↦ omega (arith, rest) | false ↦ omega (arith, rest) ]
 
 -- some element passes exactly where the count is not 0, and all pass exactly where the count of those that fail is 0
 pub any_by_count : {X : Type 0} (t : X → Bool) (xs : List X) → list_any t xs ≡ not (nat_eq (length (filter t xs)) 0)
@@ -116,15 +114,12 @@ module _ (g : Graph) (ok : IsGraph g) where
   waiting_first n = length-befores n ∙ ap length (filter_agree (λ e. nat_eq e.1 n) (awaits [] n) (λ e. sym (and_true (nat_eq e.1 n))) g.edges)
 
   pub few_afters : (a : ℕ) → length (afters g a) ≤ length g.edges
-  few_afters a = let e = length-afters a in let f = fewer (λ e. nat_eq e.0 a) g.edges in omega arith
+  few_afters a = let e = length-afters a in let f = filter_short (λ e. nat_eq e.0 a) g.edges in omega arith
 
   pub few_befores : (n : ℕ) → length (befores g n) ≤ length g.edges
-  few_befores n = let e = length-befores n in let f = fewer (λ e. nat_eq e.1 n) g.edges in omega arith
+  few_befores n = let e = length-befores n in let f = filter_short (λ e. nat_eq e.1 n) g.edges in omega arith
 
 -- ---- entries of pieces
-
-pub occurrences-append : (n : ℕ) (xs ys : List ℕ) → occurrences n (xs ++ ys) ≡ occurrences n xs + occurrences n ys
-occurrences-append n xs ys = ap length (filter-append (λ x. nat_eq x n) xs ys) ∙ length-append (filter (λ x. nat_eq x n) xs) (filter (λ x. nat_eq x n) ys)
 
 occurrences-same : (n k b : ℕ) → b ≡ n → occurrences n (replicate k b) ≡ k
 occurrences-same n zero b e = refl
@@ -223,10 +218,10 @@ module _ (g : Graph) (ok : IsGraph g) where
         sides y = elim (cases_eq x y) [ inl same ↦ eq-eqb x y same ∙ sym (eq-eqb y x (sym same)) | inr other ↦ ne_eqb x y other ∙ sym (ne_eqb y x (λ q. other (sym q))) ]
 
   pub edges_from-few : (d : List ℕ) → edges_from g d ≤ length g.edges
-  edges_from-few d = fewer (λ e. has d e.0) g.edges
+  edges_from-few d = filter_short (λ e. has d e.0) g.edges
 
   pub edges_to-few : (d : List ℕ) → edges_to g d ≤ length g.edges
-  edges_to-few d = fewer (λ e. has d e.1) g.edges
+  edges_to-few d = filter_short (λ e. has d e.1) g.edges
 
   -- ---- what is ready waits for no edge
 

@@ -1,16 +1,16 @@
 -- The rows of a graph, as they are made.
-use Rattle.std.proofs.Common.{◌≡◌, ℕ, zero, suc, ◌+◌, ◌<◌, ◌≤◌, ◌^◌, Bool, true, false, not, cond, ◌&&◌, ◌||◌, List, [], ◌∷◌, ◌++◌, length, get_or, set, take, replicate, refl, sym, ap, ◌∙◌, arith, nat_eq, inl, inr, length-append, append_assoc, append-nil}
+use Rattle.std.proofs.Common.{◌≡◌, ℕ, zero, suc, ◌+◌, ◌<◌, ◌≤◌, ◌^◌, Bool, true, false, not, cond, ◌&&◌, ◌||◌, List, [], ◌∷◌, ◌++◌, length, get_or, set, take, replicate, refl, sym, ap, ◌∙◌, arith, nat_eq, inl, inr, length-append, append_assoc}
 use Rattle.std.specs.List.{filter, flat_map, range_with_len}
 use Rattle.std.proofs.lemmas.Bool.{false≢true, cases_eq, cases_lt, eq-eqb, ne_eqb}
 use Rattle.std.proofs.lemmas.List.{get_or-set_same, get_or-set_other, get_or_read, get_or_past, take_more, replicate_more}
-use Rattle.std.proofs.lemmas.List.Concat.{flat_map-append}
 use Rattle.std.proofs.lemmas.List.Elements.{filter-append}
 use Rattle.metis_ids.specs.Graph.{Graph, IsGraph, afters, befores, edge_count, is_edge, joins}
 use Rattle.metis_ids.specs.Lists.{has}
 use Rattle.metis_ids.proofs.Taken.{edge_from, edge_to}
-use Rattle.metis_sort.specs.Counts.{occurrences}
+use Rattle.metis_ids.proofs.Counts.{occurrences-append}
+use Rattle.metis_ids.specs.Counts.{occurrences}
 use Rattle.metis_sort.specs.Dag.{IsDag, turned_row}
-use Rattle.metis_sort.proofs.CountFacts.{any_by_count, has-afters, occurrences-afters, occurrences-append}
+use Rattle.metis_sort.proofs.CountFacts.{any_by_count, has-afters, occurrences-afters}
 
 pub member : (xs : List ℕ) (i x : ℕ) → i < length xs → x ≡ get_or xs i x → has xs x ≡ true
 member [] i x low is = absurd (omega arith)
@@ -75,18 +75,6 @@ row_more rows first row new x n to i low is added within here old y =
           let count : occurrences y (take (i + 1) to) ≡ occurrences y (take i to) = omega (arith, more, none) in
           get_or-set_other rows x y new [] other ∙ old y ∙ ap (λ k. get_or first y [] ++ replicate k n) (sym count)
     ]
-
-range_more : (n a : ℕ) → range_with_len a (n + 1) ≡ range_with_len a n ++ (a + n) ∷ []
-range_more zero a = let e : a ≡ a + 0 = omega arith in ap (λ x. x ∷ []) e
-range_more (suc n) a =
-    let e : suc n + 1 ≡ suc (n + 1) = omega arith in
-    let at : a + 1 + n ≡ a + suc n = omega arith in
-    ap (range_with_len a) e ∙ ap (λ xs. a ∷ xs) (range_more n (a + 1) ∙ ap (λ x. range_with_len (a + 1) n ++ x ∷ []) at)
-
-pub pieces_more : (f : ℕ → List ℕ) (n : ℕ) → flat_map f (range_with_len 0 (n + 1)) ≡ flat_map f (range_with_len 0 n) ++ f n
-pieces_more f n =
-    let z : 0 + n ≡ n = omega arith in
-    ap (flat_map f) (range_more n 0 ∙ ap (λ k. range_with_len 0 n ++ k ∷ []) z) ∙ flat_map-append f (range_with_len 0 n) (n ∷ []) ∙ ap (λ r. flat_map f (range_with_len 0 n) ++ r) (append-nil (f n))
 
 -- ---- the whole graph
 

@@ -1,17 +1,20 @@
 -- What the counters and the ready nodes say of the order so far.
 use Rattle.std.proofs.Common.{◌≡◌, ℕ, zero, suc, ◌+◌, ◌<◌, ◌≤◌, Bool, true, false, not, cond, ◌&&◌, ◌||◌, List, [], ◌∷◌, ◌++◌, Some, None, length, get_or, refl, sym, ap, ◌∙◌, arith, nat_eq, nat_lt, inl, inr}
 use Rattle.std.specs.List.{filter, find, range_with_len}
-use Rattle.std.proofs.lemmas.Bool.{both_ways, cases_Bool, cases_lt, cases_eq, eqb-true, eq-eqb, ne_eqb, or_cases, or_left, or_right, and_parts, and_from, lt-ltb, ltb-true, false_from_ne_true}
+use Rattle.std.proofs.lemmas.Bool.{both_ways, cases_Bool, cases_lt, cases_eq, eqb-true, eq-eqb, ne_eqb, or_cases, or_left, or_right, and_parts, and_from, lt-ltb, ltb-true, false_from_ne_true, not-true, not_from_false}
 use Rattle.std.proofs.lemmas.List.{length_push, get_or_past}
 use Rattle.std.proofs.lemmas.List.Folds.{find-append}
 use Rattle.std.proofs.lemmas.List.FromFn.{get_or-map-range_with_len, length-map-range_with_len, fill_by_all}
 use Rattle.std.specs.Option.{option_or}
+use Rattle.std.specs.Cmp.{both_ways as same_bool}
 use Rattle.metis_ids.specs.Graph.{Graph, IsGraph, afters, all_nodes, is_edge}
 use Rattle.metis_ids.specs.Lists.{has}
 use Rattle.metis_ids.specs.Order.{is_ready, order_of, pick, preferred, taken}
-use Rattle.metis_ids.proofs.Nodes.{has_below, same_bool, not_true, not_false, has-push}
 use Rattle.metis_ids.proofs.Taken.{edge_to, ready_new, ready_before, ready_from, preferred_within, picked_ready, picked_within, taken_more, taken_before, taken_count, stopped_order}
-use Rattle.metis_sort.specs.Counts.{all_waiting, edges_from, occurrences, waiting}
+use Rattle.metis_ids.proofs.Finding.{find_none}
+use Rattle.metis_ids.proofs.Lists.{has-push, has_below}
+use Rattle.metis_sort.specs.Counts.{all_waiting, edges_from, waiting}
+use Rattle.metis_ids.specs.Counts.{occurrences}
 use Rattle.metis_sort.specs.Ready.{IsFirst}
 use Rattle.metis_sort.proofs.CountFacts.{waiting-push, has-afters, ready_by_count, waiting_outside, edges_from-push}
 
@@ -31,10 +34,6 @@ find_least s x (suc m) a low high at least =
       | inl here ↦ ap (λ b. cond b (Some a) (find s (range_with_len (a + 1) m))) (ap s here ∙ at) ∙ ap (λ n. Some n) here
       | inr other ↦ ap (λ b. cond b (Some a) (find s (range_with_len (a + 1) m))) (least a (omega arith)) ∙ find_least s x m (a + 1) (omega arith) (omega arith) at least
     ]
-
-pub find_none : (s : ℕ → Bool) (xs : List ℕ) → ((n : ℕ) → has xs n ≡ true → s n ≡ false) → find s xs ≡ None
-find_none s [] none = refl
-find_none s (x ∷ xs) none = ap (λ b. cond b (Some x) (find s xs)) (none x (or_left _ _ (eq-eqb x x refl))) ∙ find_none s xs (λ n there. none n (or_right _ _ there))
 
 -- ---- the order so far, the counters, and what is ready
 
@@ -79,15 +78,15 @@ module _ (g : Graph) (ok : IsGraph g) where
               ap (λ o. option_or o (find (is_ready g order) (g.last ∷ [])))
               (find_none (λ n. not (nat_eq n g.last) && is_ready g order n) (all_nodes g) (λ n there. false_from_ne_true _ (λ h.
               let both = and_parts _ _ h in
-              (first.least n (ready_low n (below n there) both.1) (λ e. both_ways _ (not_true _ both.0) (eq-eqb n g.last e))).0 last)))
+              (first.least n (ready_low n (below n there) both.1) (λ e. both_ways _ (not-true _ both.0) (eq-eqb n g.last e))).0 last)))
               ∙ ap (λ b. cond b (Some g.last) None) (ap (is_ready g order) (sym last) ∙ parts.1) ∙ ap (λ n. Some n) (sym last)
           | inr other ↦
               ap (λ o. option_or o (find (is_ready g order) (g.last ∷ [])))
               (find_least (λ n. not (nat_eq n g.last) && is_ready g order n) x g.nodes 0 (omega arith) (omega arith)
-              (and_from _ _ (not_false _ (ne_eqb x g.last other)) parts.1)
+              (and_from _ _ (not_from_false _ (ne_eqb x g.last other)) parts.1)
               (λ n lower. false_from_ne_true _ (λ h.
               let both = and_parts _ _ h in
-              let more = (first.least n (ready_low n (omega arith) both.1) (λ e. both_ways _ (not_true _ both.0) (eq-eqb n g.last e))).1 in
+              let more = (first.least n (ready_low n (omega arith) both.1) (λ e. both_ways _ (not-true _ both.0) (eq-eqb n g.last e))).1 in
               omega arith)))
         ] where
           below : (n : ℕ) → has (all_nodes g) n ≡ true → n < g.nodes
@@ -144,7 +143,7 @@ module _ (g : Graph) (ok : IsGraph g) where
         still_ready n h =
             let both = and_parts _ _ (sym (taken_out n) ∙ h) in
             let was = and_parts _ _ (sym (front.ready n) ∙ both.0) in
-            let other : nat_eq x n ≡ false = ne_eqb x n (λ e. both_ways _ (not_true _ both.1) (eq-eqb n x (sym e))) in
+            let other : nat_eq x n ≡ false = ne_eqb x n (λ e. both_ways _ (not-true _ both.1) (eq-eqb n x (sym e))) in
             and_from _ _ was.0 (ready_from g (order ++ x ∷ []) n
             (has-push order x n ∙ (λ i. ready_new g order n was.1 i || other i))
             (λ a edge. has-push order x a ∙ or_left _ _ (ready_before g order n a was.1 edge)))
@@ -154,7 +153,7 @@ module _ (g : Graph) (ok : IsGraph g) where
             let both = and_parts _ _ h in
             let edge : is_edge g x n ≡ true = sym (has-afters g ok x n) ∙ both.0 in
             and_from _ _ (lt-ltb n g.nodes (edge_to g ok x n edge))
-            (ready_by_count g ok (order ++ x ∷ []) n ∙ and_from _ _ (not_false _ (fresh n edge)) (sym (ap (λ w. nat_eq w 0) (waits_now n)) ∙ both.1))
+            (ready_by_count g ok (order ++ x ∷ []) n ∙ and_from _ _ (not_from_false _ (fresh n edge)) (sym (ap (λ w. nat_eq w 0) (waits_now n)) ∙ both.1))
 
         ready_is : (n : ℕ) → (nat_lt n g.nodes && is_ready g (order ++ x ∷ []) n) ≡ true → r' n ≡ true
         ready_is n h =
@@ -171,7 +170,7 @@ module _ (g : Graph) (ok : IsGraph g) where
                     | inl old ↦ old
                     | inr same ↦ absurd (both_ways _ none (ap (λ b. is_edge g b n) (eqb-true x a same) ∙ edge))
                   ]) in
-                  or_left _ _ (taken_out n ∙ and_from _ _ (front.ready n ∙ and_from _ _ both.0 was) (not_false _ other))
+                  or_left _ _ (taken_out n ∙ and_from _ _ (front.ready n ∙ and_from _ _ both.0 was) (not_from_false _ other))
             ]
 
         pub front_step : IsFront g (order ++ x ∷ []) waits' r'

@@ -1,26 +1,23 @@
 -- The steps of letting a node's successors wait for one edge fewer.
-use Rattle.std.proofs.Common.{◌≡◌, ℕ, zero, suc, ◌+◌, ◌-◌, ◌<◌, ◌≤◌, Bool, true, false, cond, ◌&&◌, ◌||◌, List, [], ◌∷◌, ◌++◌, Some, None, length, get_or, set, take, drop, refl, sym, ap, ◌∙◌, arith, nat_eq, inl, inr, length-append}
-use Rattle.std.specs.List.{filter, slice_get}
+use Rattle.std.proofs.Common.{◌≡◌, ℕ, suc, ◌+◌, ◌-◌, ◌<◌, ◌≤◌, Bool, true, false, cond, ◌&&◌, ◌||◌, List, [], ◌∷◌, ◌++◌, Some, length, get_or, set, take, drop, refl, sym, ap, ◌∙◌, arith, nat_eq, inl, inr}
+use Rattle.std.specs.List.{slice_get}
 use Rattle.std.proofs.lemmas.Bool.{cases_eq, eq-eqb, ne_eqb, or_left, or_right}
 use Rattle.std.proofs.lemmas.List.{get_or-set_same, get_or-set_other, take-append-drop}
-use Rattle.std.proofs.lemmas.List.Elements.{filter-append}
+use Rattle.std.proofs.lemmas.Option.{slice_get_within}
 use Rattle.metis_ids.specs.Graph.{Graph, IsGraph, afters}
 use Rattle.metis_ids.specs.Lists.{has}
-use Rattle.metis_ids.proofs.Nodes.{has-push, has-append}
-use Rattle.metis_ids.proofs.Orders.{at_some, take_one_more}
 use Rattle.metis_ids.proofs.Taken.{edge_to}
-use Rattle.metis_sort.specs.Counts.{occurrences}
+use Rattle.metis_ids.proofs.Counts.{occurrences-append}
+use Rattle.metis_ids.proofs.Lists.{has-append, has-push, take_one_more}
+use Rattle.metis_ids.specs.Counts.{occurrences}
 use Rattle.metis_sort.proofs.CountFacts.{has-afters}
-
-occurrences-append : (n : ℕ) (xs ys : List ℕ) → occurrences n (xs ++ ys) ≡ occurrences n xs + occurrences n ys
-occurrences-append n xs ys = ap length (filter-append (λ x. nat_eq x n) xs ys) ∙ length-append (filter (λ x. nat_eq x n) xs) (filter (λ x. nat_eq x n) ys)
 
 module _ (ys : List ℕ) (k y : ℕ) (here : slice_get ys k ≡ Some y) where
   more : take (k + 1) ys ≡ take k ys ++ y ∷ []
   more = let next : k + 1 ≡ suc k = omega arith in ap (λ n. take n ys) next ∙ take_one_more ys k y here
 
   pub place_low : k < length ys
-  place_low = at_some ys k y here
+  place_low = slice_get_within ys k y here
 
   occurrences-more : (n : ℕ) → occurrences n (take (k + 1) ys) ≡ occurrences n (take k ys) + occurrences n (y ∷ [])
   occurrences-more n = ap (occurrences n) more ∙ occurrences-append n (take k ys) (y ∷ [])
@@ -99,9 +96,3 @@ module _ (ys : List ℕ) (k y : ℕ) (here : slice_get ys k ≡ Some y) where
           or_false : (a : Bool) → (a || false) ≡ a
           or_false true = refl
           or_false false = refl
-
--- past the end there is no entry
-pub end_past : (ys : List ℕ) (k : ℕ) → None ≡ slice_get ys k → length ys ≤ k
-end_past [] k h = omega arith
-end_past (y ∷ ys) zero h = absurd (cc)
-end_past (y ∷ ys) (suc k) h = let rest = end_past ys k h in omega arith

@@ -2,7 +2,6 @@
 --     awaits done n e      whether the edge leads to n from a node that is not done
 --     waiting g done n, all_waiting g done      how many edges do;  for each node
 --     edges_from g d, edges_to g d      how many edges lead from nodes of d;  to nodes of d
---     occurrences n xs      how often n stands in xs
 use Rattle.std.specs.Prelude.{ℕ, ◌==◌, ◌&&◌, Bool, not, List, length, map}
 use Rattle.std.specs.List.{filter}
 use Rattle.metis_ids.specs.Graph.{Graph, all_nodes}
@@ -22,6 +21,3 @@ edges_from g d = length (filter (λ e. has d e.0) g.edges)
 
 abbrev pub edges_to : Graph → List ℕ → ℕ
 edges_to g d = length (filter (λ e. has d e.1) g.edges)
-
-abbrev pub occurrences : ℕ → List ℕ → ℕ
-occurrences n xs = length (filter (λ x. x == n) xs)

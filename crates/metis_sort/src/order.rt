@@ -3,7 +3,8 @@ ghost use Rattle.std.specs.Prelude.{◌≡◌, ◌+◌, ◌*◌, ◌-◌, ◌^�
 ghost use Rattle.metis_ids.specs.Graph.{Graph, IsGraph, afters, all_nodes};
 ghost use Rattle.metis_ids.specs.Lists.{has};
 ghost use Rattle.metis_ids.specs.Order.{order_of};
-ghost use Rattle.metis_sort.specs.Counts.{all_waiting, occurrences};
+ghost use Rattle.metis_sort.specs.Counts.{all_waiting};
+ghost use Rattle.metis_ids.specs.Counts.{occurrences};
 ghost use Rattle.metis_sort.specs.Ready.{offers};
 
 use crate::reach::Reach;

@@ -1,16 +1,17 @@
 -- The words of a dup's line for a pair and for an event are read as these just where they are what is written for them.
-use Rattle.std.proofs.Common.{◌≡◌, ℕ, ◌<◌, ◌^◌, Bool, true, false, ◌&&◌, List, ◌∷◌, ◌++◌, length, Some, None, Result, Ok, Err, refl, sym, ap, ◌∙◌, subst, arith, decimal}
+use Rattle.std.proofs.Common.{◌≡◌, ℕ, ◌<◌, ◌^◌, true, false, List, ◌∷◌, ◌++◌, length, Some, Result, Ok, Err, refl, sym, ap, ◌∙◌, subst, arith, decimal}
 use Rattle.std.specs.Prelude.{codes}
 use Rattle.std.specs.Bool.{if◌then◌else◌}
 use Rattle.std.specs.List.{after_first, before_first}
 use Rattle.std.specs.Option.{option_and_then}
 use Rattle.std.specs.Str.{bytes_eq}
-use Rattle.std.proofs.lemmas.Bool.{and_from, and_parts, eqb-true}
+use Rattle.std.proofs.lemmas.Bool.{and_from, eqb-true}
 use Rattle.std.proofs.lemmas.Fmt.{decimal_nonempty}
 use Rattle.std.proofs.lemmas.List.Folds.{list_all-append}
 use Rattle.std.proofs.lemmas.Slice.Eq.{bytes_eq-Decides}
 use Rattle.metis_ids.specs.declared.events.Event.{Event}
 use Rattle.metis_ids.specs.declared.events.Event.TheVariants.{At, End}
+use Rattle.metis_ids.proofs.Tests.{bytes_apart}
 use Rattle.metis_universe.specs.Names.{is_name}
 use Rattle.metis_universe.specs.Universe.{IsNamed, IsUniverse, Universe, pair_count, pair_named, state_name_of, state_named, type_name_of, type_named, type_of}
 use Rattle.metis_universe.specs.PairWords.{pair_word}
@@ -23,7 +24,7 @@ use Rattle.metis_text.specs.Tokens.{number_in}
 use Rattle.metis_text.specs.declared.flaw.Flaw.{Flaw}
 use Rattle.metis_text.specs.declared.flaw.Flaw.TheVariants.{Form}
 use Rattle.metis_text.proofs.Cuts.{after_cut, before_cut}
-use Rattle.metis_text.proofs.NameTokens.{and_then_some, bytes_apart, state_at, state_is, type_at, type_is}
+use Rattle.metis_text.proofs.NameTokens.{and_then_some, state_at, state_is, type_at, type_is}
 use Rattle.metis_text.proofs.NumberTokens.{number_is, number_read}
 use Rattle.metis_text.proofs.Outcomes.{both_is, made_is}
 use Rattle.metis_text.proofs.Printed.{no_point_decimal, printed, printed_decimal}

@@ -9,7 +9,8 @@ use Rattle.metis_universe.specs.Universe.{IsNamed, IsUniverse, Universe}
 use Rattle.metis_text.specs.DupLine.{DupRow, dup_in}
 use Rattle.metis_text.specs.Line.{line}
 use Rattle.metis_text.specs.PlanText.{dup_line}
-use Rattle.metis_text.specs.Reading.{Lines, and_then, dups_from, lines_of, read_next}
+use Rattle.metis_text.specs.Reading.{Lines, dups_from, lines_of, read_next}
+use Rattle.metis_text.specs.Flaws.{and_then}
 use Rattle.metis_text.specs.Reads.{dup_row}
 use Rattle.metis_text.proofs.DupLine.{IsDupRow, dup_is, dup_printed, dup_read, dup_row_tokens}
 use Rattle.metis_text.proofs.LinesTaken.{read_next_is, read_next_read}

@@ -16,7 +16,8 @@ use Rattle.metis_text.specs.DupLine.{DupRow}
 use Rattle.metis_text.specs.Faults.{IsFault, IsWellFormedButCount, recounted}
 use Rattle.metis_text.specs.Line.{numbered}
 use Rattle.metis_text.specs.PlanText.{action_line, action_lines, dup_line, dup_lines, end_line, plan_bytes, plan_end, plan_lines}
-use Rattle.metis_text.specs.Reading.{Lines, Parts, and_then, fault_at, lines_of, parts, plan_from, plan_in}
+use Rattle.metis_text.specs.Reading.{Lines, Parts, fault_at, lines_of, parts, plan_from, plan_in}
+use Rattle.metis_text.specs.Flaws.{and_then}
 use Rattle.metis_text.specs.Reads.{dup_row, said}
 use Rattle.metis_text.specs.declared.fault.TFault.{TFault}
 use Rattle.metis_text.specs.declared.fault.TFault.TheVariants.{Line, Short}

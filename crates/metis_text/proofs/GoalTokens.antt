@@ -1,15 +1,14 @@
 -- A word is read as a goal just where it is the word of that goal.
-use Rattle.std.proofs.Common.{◌≡◌, ℕ, Bool, true, false, ◌&&◌, List, ◌∷◌, ◌++◌, Option, Some, None, Ok, refl, sym, ap, ◌∙◌, subst}
+use Rattle.std.proofs.Common.{◌≡◌, ℕ, true, false, ◌&&◌, List, ◌∷◌, ◌++◌, Option, Some, None, Ok, refl, sym, ap, ◌∙◌, subst}
 use Rattle.std.specs.Prelude.{codes, is_none, option_map}
 use Rattle.std.specs.Bool.{if◌then◌else◌}
-use Rattle.std.specs.Option.{option_and_then}
 use Rattle.std.specs.Str.{bytes_eq}
-use Rattle.std.proofs.lemmas.Bool.{and_from, and_parts, false_from_ne_true}
+use Rattle.std.proofs.lemmas.Bool.{and_from, and_parts}
 use Rattle.std.proofs.lemmas.Slice.Eq.{bytes_eq-Decides}
 use Rattle.metis_ids.specs.declared.goals.Goal.{Goal}
 use Rattle.metis_ids.specs.declared.goals.Goal.TheVariants.{Pair, Port}
+use Rattle.metis_ids.proofs.Options.{none_from_is_none}
 use Rattle.metis_universe.specs.GoalWords.{IsWordable, goal_named, goal_names, goal_word, means_port}
-use Rattle.metis_universe.specs.Names.{is_name}
 use Rattle.metis_universe.specs.Universe.{IsNamed, IsUniverse, Universe, pair_named, port_name_of, port_named, state_name_of, type_name_of, type_named, type_of}
 use Rattle.metis_text.specs.RefusalReading.{goal_in}
 use Rattle.metis_text.proofs.DupWords.{kind_is_name, named_pair, pair_at, pair_printed}
@@ -21,10 +20,6 @@ map_is : {A B : Type 0} (f : A → B) (o : Option A) (b : B) → option_map f o 
 map_is f None b h = cc
 map_is f (Some a) b h = (a, refl, cc)
 
-none_is : {A : Type 0} (o : Option A) → is_none o ≡ true → o ≡ None
-none_is None h = refl
-none_is (Some a) h = cc
-
 module _ (u : Universe) where
   -- the goal that is found by two names has these names
   named_is : (kind name : List ℕ) (g : Goal) → goal_named u kind name ≡ Some g → (kind ++ (58 ∷ name) ≡ goal_word u g) × IsWordable u g
@@ -34,7 +29,7 @@ module _ (u : Universe) where
         let at = port_is u name port.0 port.1 in
         let both = and_parts (bytes_eq kind (codes "port")) (is_none (type_named u (codes "port"))) means in
         let kind_is = (bytes_eq-Decides kind (codes "port")).0 both.0 in
-        subst (λ g. (kind ++ (58 ∷ name) ≡ goal_word u g) × IsWordable u g) port.2 ((λ i. kind_is i ++ (58 ∷ at.1 i)), (at.0, none_is (type_named u (codes "port")) both.1))
+        subst (λ g. (kind ++ (58 ∷ name) ≡ goal_word u g) × IsWordable u g) port.2 ((λ i. kind_is i ++ (58 ∷ at.1 i)), (at.0, none_from_is_none (type_named u (codes "port")) both.1))
     | false ↦ λ _ h.
         let pair = map_is Pair (pair_named u kind name) g h in
         let at = named_pair u kind name pair.0 pair.1 in

@@ -5,9 +5,9 @@ use Rattle.std.specs.List.{list_all}
 use Rattle.std.proofs.lemmas.Bool.{eqb-true}
 use Rattle.std.proofs.lemmas.List.{drop_at, drop_more, length_push, take_at, take-append-drop}
 use Rattle.std.proofs.lemmas.List.Quantifiers.{position-Some}
-use Rattle.metis_text.specs.Flaws.{made}
+use Rattle.metis_text.specs.Flaws.{and_then, made}
 use Rattle.metis_text.specs.Line.{line, words}
-use Rattle.metis_text.specs.Reading.{Lines, and_then, is_feed, line_to, lines_of, next_line, read_next, told}
+use Rattle.metis_text.specs.Reading.{Lines, is_feed, line_to, lines_of, next_line, read_next, told}
 use Rattle.metis_text.specs.declared.flaw.Flaw.{Flaw}
 use Rattle.metis_text.proofs.Cuts.{cut_at, words_no_feed}
 use Rattle.metis_text.proofs.Outcomes.{and_then_is, made_is, told_is}

@@ -1,13 +1,13 @@
 -- A token names a type, a port or a pair just where it is the name of that.
-use Rattle.std.proofs.Common.{◌≡◌, ℕ, ◌<◌, Bool, true, false, cond, ◌&&◌, List, [], length, get_or, position, Option, Some, None, Ok, Err, refl, sym, ap, ◌∙◌, arith}
-use Rattle.std.specs.Bool.{nat_lt, ◌==◌, if◌then◌else◌}
-use Rattle.std.specs.List.{position_or_len}
+use Rattle.std.proofs.Common.{◌≡◌, ℕ, ◌<◌, true, ◌&&◌, List, [], Option, Some, None, Ok, Err, refl, sym, ap, ◌∙◌, arith}
+use Rattle.std.specs.Bool.{◌==◌, if◌then◌else◌}
 use Rattle.std.specs.Option.{option_and_then}
 use Rattle.std.specs.Str.{bytes_eq}
-use Rattle.std.proofs.lemmas.Bool.{and_from, and_parts, eq-eqb, eqb-true, false_from_ne_true, lt-ltb}
+use Rattle.std.proofs.lemmas.Bool.{and_from, and_parts, eq-eqb, eqb-true, false_from_ne_true}
 use Rattle.std.proofs.lemmas.List.Quantifiers.{position-Some}
-use Rattle.std.proofs.lemmas.List.Sums.{position_or_len_is}
 use Rattle.std.proofs.lemmas.Slice.Eq.{bytes_eq-Decides}
+use Rattle.metis_ids.proofs.Finding.{position_here}
+use Rattle.metis_ids.proofs.Tests.{bytes_apart, bytes_same}
 use Rattle.metis_universe.specs.Names.{is_name}
 use Rattle.metis_universe.specs.Universe.{IsNamed, Universe, no_kind, no_pair, pair_count, port_count, port_name_of, port_named, state_name_of, state_named, type_count, type_name_of, type_named, type_of}
 use Rattle.metis_text.specs.Flaws.{found}
@@ -43,17 +43,6 @@ module _ (u : Universe) (name : List ℕ) where
       (at.0, eqb-true (type_of u p) t both.0, (bytes_eq-Decides name (state_name_of u p)).0 both.1)
 
 -- ---- a name that is found
-
-position_here : {A : Type 0} (p : A → Bool) (xs : List A) (i : ℕ) (d : A) → i < length xs → p (get_or xs i d) ≡ true → ((k : ℕ) → k < i → p (get_or xs k d) ≡ false) → position p xs ≡ Some i
-position_here p xs i d within at before =
-    let first : position_or_len p xs ≡ i = position_or_len_is p xs i d (omega arith) before (λ _. at) in
-    (λ j. cond (nat_lt (first j) (length xs)) (Some (first j)) None) ∙ ap (λ b. cond b (Some i) None) (lt-ltb i (length xs) within)
-
-bytes_same : (a : List ℕ) → bytes_eq a a ≡ true
-bytes_same a = (bytes_eq-Decides a a).1 refl
-
-pub bytes_apart : (a b : List ℕ) → (a ≡ b → ⊥) → bytes_eq a b ≡ false
-bytes_apart a b apart = false_from_ne_true (bytes_eq a b) (λ e. apart ((bytes_eq-Decides a b).0 e))
 
 module _ (u : Universe) (names : IsNamed u) where
   pub type_at : (t : ℕ) → t < type_count u → type_named u (type_name_of u t) ≡ Some t

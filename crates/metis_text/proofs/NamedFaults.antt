@@ -7,9 +7,9 @@ use Rattle.metis_ids.specs.declared.goals.Goal.{Goal}
 use Rattle.metis_universe.specs.Universe.{Universe}
 use Rattle.metis_text.specs.ActionLine.{row_in}
 use Rattle.metis_text.specs.DupLine.{DupRow, dup_in}
-use Rattle.metis_text.specs.Flaws.{made}
+use Rattle.metis_text.specs.Flaws.{and_then, made}
 use Rattle.metis_ids.specs.Action.{makes}
-use Rattle.metis_text.specs.Reading.{Lines, Numbers, Parts, Rows, and_then, body_from, counted, counts_in, dups_from, end_from, ended, exactly, fault_at, is_feed, line_to, lines_of, next_line, parts, plan_in, read_next, rows_from, rows_of, told, with_row}
+use Rattle.metis_text.specs.Reading.{Lines, Numbers, Parts, Rows, body_from, counted, counts_in, dups_from, end_from, ended, exactly, fault_at, is_feed, line_to, lines_of, next_line, parts, plan_in, read_next, rows_from, rows_of, told, with_row}
 use Rattle.metis_text.specs.RefusalReading.{RefusalParts, lacks_in, next_pair_in, pairs_from, refusal_end_from, refusal_in, refusal_parts, refusal_set_from, size_in}
 use Rattle.metis_text.specs.declared.fault.TFault.{TFault}
 use Rattle.metis_text.specs.declared.fault.TFault.TheVariants.{Line, NoMemory}

@@ -2,8 +2,8 @@
 use Rattle.std.proofs.Common.{◌≡◌, ℕ, Bool, true, false, List, [], ◌∷◌, ◌++◌, map, Option, Some, None, Result, Ok, Err, refl, sym, ap, ap₂, ◌∙◌, subst, append_assoc, append-nil}
 use Rattle.std.specs.Bool.{if◌then◌else◌}
 use Rattle.std.specs.List.{AllByRecursion, AllZip}
-use Rattle.metis_text.specs.Flaws.{all_behind, behind, both, found, made, right}
-use Rattle.metis_text.specs.Reading.{Lines, and_then, told}
+use Rattle.metis_text.specs.Flaws.{all_behind, and_then, behind, both, found, made, right}
+use Rattle.metis_text.specs.Reading.{Lines, told}
 use Rattle.metis_text.specs.declared.fault.TFault.{TFault}
 use Rattle.metis_text.specs.declared.flaw.Flaw.{Flaw}
 use Rattle.metis_text.specs.declared.flaw.Flaw.TheVariants.{Number}

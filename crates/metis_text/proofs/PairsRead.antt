@@ -5,7 +5,8 @@ use Rattle.std.proofs.Common.{◌≡◌, ℕ, zero, suc, ◌+◌, ◌<◌, true,
 use Rattle.std.specs.Prelude.{⊤}
 use Rattle.std.specs.List.{flat_map}
 use Rattle.metis_universe.specs.Universe.{IsNamed, IsUniverse, Universe, pair_count}
-use Rattle.metis_text.specs.Reading.{Lines, and_then, lines_of, read_next}
+use Rattle.metis_text.specs.Reading.{Lines, lines_of, read_next}
+use Rattle.metis_text.specs.Flaws.{and_then}
 use Rattle.metis_text.specs.RefusalReading.{above, next_pair_in, pairs_from}
 use Rattle.metis_text.specs.RefusalText.{pair_line}
 use Rattle.metis_text.proofs.LinesTaken.{read_next_is, read_next_read}

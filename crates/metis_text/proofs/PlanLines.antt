@@ -1,15 +1,16 @@
 -- The text of a plan is its lines, and then that nothing stands behind them and that the instances are counted.
 --     lines_from u l      what the lines say up to the last one, before its end and the number of instances are known
-use Rattle.std.proofs.Common.{◌≡◌, ◌≢◌, ℕ, zero, suc, ◌+◌, ◌≤◌, Bool, true, false, List, [], ◌∷◌, ◌++◌, length, Result, Ok, Err, refl, ap, arith}
+use Rattle.std.proofs.Common.{◌≡◌, ◌≢◌, ℕ, zero, suc, ◌+◌, ◌≤◌, Bool, true, false, List, [], ◌∷◌, ◌++◌, length, Result, Ok, Err, refl, ap}
 use Rattle.std.specs.Prelude.{codes}
 use Rattle.std.specs.Bool.{if◌then◌else◌, ◌==◌}
 use Rattle.std.specs.List.{count_by}
 use Rattle.metis_ids.specs.Action.{makes}
-use Rattle.std.proofs.lemmas.Bool.Decides.{nat_tests}
+use Rattle.metis_ids.proofs.Tests.{nonzero}
 use Rattle.metis_universe.specs.Universe.{Universe}
 use Rattle.metis_text.specs.ActionLine.{row_in}
 use Rattle.metis_text.specs.DupLine.{DupRow, dup_in}
-use Rattle.metis_text.specs.Reading.{Lines, Numbers, Parts, Rows, and_then, body_from, counted, counts_in, dups_from, end_from, ended, exactly, parts, plan_from, read_next, rows_from, rows_of, with_row}
+use Rattle.metis_text.specs.Reading.{Lines, Numbers, Parts, Rows, body_from, counted, counts_in, dups_from, end_from, ended, exactly, parts, plan_from, read_next, rows_from, rows_of, with_row}
+use Rattle.metis_text.specs.Flaws.{and_then}
 use Rattle.metis_text.specs.declared.fault.TFault.{TFault}
 use Rattle.metis_text.specs.declared.fault.TFault.TheVariants.{Line, Short}
 use Rattle.metis_text.proofs.Outcomes.{and_then_behind}
@@ -23,11 +24,8 @@ last_from p l = and_then (read_next (exactly (codes "end")) l) (λ e. Ok (p, e.1
 abbrev pub closed : Parts × Lines → Result Parts TFault
 closed w = and_then (ended w.1) (λ _. counted w.0)
 
-not_none : (n : ℕ) → 1 ≤ n → (n == 0) ≡ false
-not_none n some = grind (arith, nat_tests)
-
 pub closed_early : (p : Parts) (l : Lines) → 1 ≤ length l.rest → closed (p, l) ≡ Err (Line (l.number + 1))
-closed_early p l some = ap (λ b. and_then (if b then Ok tt else Err (Line (l.number + 1))) (λ _. counted p)) (not_none (length l.rest) some)
+closed_early p l some = ap (λ b. and_then (if b then Ok tt else Err (Line (l.number + 1))) (λ _. counted p)) (nonzero (length l.rest) some)
 
 closed_by : (w : Parts × Lines) (nothing same : Bool) → and_then {A = Unit {0}} (if nothing then Ok tt else Err (Line (w.1.number + 1))) (λ _. if same then Ok w.0 else Err (Line 2)) ≢ Err Short
 closed_by w true true = λ h. cc

@@ -9,7 +9,8 @@ use Rattle.metis_universe.specs.Universe.{IsNamed, IsUniverse, Universe}
 use Rattle.metis_text.specs.Line.{line, words}
 use Rattle.metis_ids.specs.Action.{makes}
 use Rattle.metis_text.specs.PlanText.{action_line, counts_line, end_line, plan_header}
-use Rattle.metis_text.specs.Reading.{Lines, Numbers, Parts, Rows, and_then, body_from, counted, counts_in, dups_from, end_from, ended, exactly, lines_of, parts, plan_in, read_next, rows_from, rows_of}
+use Rattle.metis_text.specs.Reading.{Lines, Numbers, Parts, Rows, body_from, counted, counts_in, dups_from, end_from, ended, exactly, lines_of, parts, plan_in, read_next, rows_from, rows_of}
+use Rattle.metis_text.specs.Flaws.{and_then}
 use Rattle.metis_text.proofs.DupsRead.{AreDups, dup_row_line, dups_are, dups_read}
 use Rattle.metis_text.proofs.LinesTaken.{read_next_is, read_next_read}
 use Rattle.metis_text.proofs.Outcomes.{and_then_is}

@@ -5,11 +5,13 @@ use Rattle.std.specs.Bool.{if◌then◌else◌, ◌==◌}
 use Rattle.std.proofs.lemmas.Bool.Decides.{nat_tests}
 use Rattle.std.proofs.lemmas.List.{length-append, length-map}
 use Rattle.metis_ids.specs.declared.goals.Goal.{Goal}
+use Rattle.metis_ids.proofs.Tests.{nonzero}
 use Rattle.metis_outside.specs.Pieces.{bytes_of}
 use Rattle.metis_universe.specs.Universe.{IsTable, Universe}
 use Rattle.metis_text.specs.Faults.{IsRefusalFault}
 use Rattle.metis_text.specs.PlanText.{end_line}
-use Rattle.metis_text.specs.Reading.{Lines, and_then, ended, exactly, fault_at, lines_of, read_next}
+use Rattle.metis_text.specs.Reading.{Lines, ended, exactly, fault_at, lines_of, read_next}
+use Rattle.metis_text.specs.Flaws.{and_then}
 use Rattle.metis_text.specs.RefusalReading.{RefusalParts, lacks_in, next_pair_in, pairs_from, refusal_end_from, refusal_from, refusal_in, refusal_parts, refusal_set_from, size_in}
 use Rattle.metis_text.specs.RefusalText.{IsRefusal, pair_line, refusal_bytes, refusal_lines}
 use Rattle.metis_text.specs.declared.fault.TFault.{TFault}
@@ -30,11 +32,8 @@ last_from r l = and_then (read_next (exactly (codes "end")) l) (λ e. Ok (r, e.1
 abbrev pub closed : RefusalParts × Lines → Result RefusalParts TFault
 closed w = and_then (ended w.1) (λ _. Ok w.0)
 
-not_none : (n : ℕ) → 1 ≤ n → (n == 0) ≡ false
-not_none n some = grind (arith, nat_tests)
-
 closed_early : (r : RefusalParts) (l : Lines) → 1 ≤ length l.rest → closed (r, l) ≡ Err (Line (l.number + 1))
-closed_early r l some = ap (λ b. and_then {A = Unit {0}} (if b then Ok tt else Err (Line (l.number + 1))) (λ _. Ok r)) (not_none (length l.rest) some)
+closed_early r l some = ap (λ b. and_then {A = Unit {0}} (if b then Ok tt else Err (Line (l.number + 1))) (λ _. Ok r)) (nonzero (length l.rest) some)
 
 closed_by : (w : RefusalParts × Lines) (nothing : Bool) → and_then {A = Unit {0}} (if nothing then Ok tt else Err (Line (w.1.number + 1))) (λ _. Ok w.0) ≢ Err Short
 closed_by w true = λ h. cc

@@ -4,10 +4,11 @@ use Rattle.std.specs.Prelude.{IfOk, codes}
 use Rattle.std.specs.List.{flat_map}
 use Rattle.metis_ids.specs.declared.goals.Goal.{Goal}
 use Rattle.metis_universe.specs.GoalWords.{IsWordable}
-use Rattle.metis_universe.specs.Universe.{IsTable, Universe, pair_count}
+use Rattle.metis_universe.specs.Universe.{IsTable, Universe}
 use Rattle.metis_text.specs.Line.{line, words}
 use Rattle.metis_text.specs.PlanText.{end_line}
-use Rattle.metis_text.specs.Reading.{Lines, and_then, ended, exactly, lines_of, read_next}
+use Rattle.metis_text.specs.Reading.{Lines, ended, exactly, lines_of, read_next}
+use Rattle.metis_text.specs.Flaws.{and_then}
 use Rattle.metis_text.specs.RefusalReading.{ReadsRefusal, RefusalParts, lacks_in, pairs_from, refusal_end_from, refusal_in, refusal_of, refusal_parts, refusal_set_from, size_in}
 use Rattle.metis_text.specs.RefusalText.{IsRefusal, pair_line, refusal_bytes}
 use Rattle.metis_text.specs.declared.fault.TFault.{TFault}

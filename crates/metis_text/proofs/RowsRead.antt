@@ -10,7 +10,8 @@ use Rattle.metis_universe.specs.Universe.{IsNamed, Universe}
 use Rattle.metis_text.specs.ActionLine.{Row, row_in}
 use Rattle.metis_text.specs.Line.{line, words}
 use Rattle.metis_text.specs.PlanText.{action_line}
-use Rattle.metis_text.specs.Reading.{Lines, Rows, and_then, lines_of, read_next, rows_from, rows_of, with_row}
+use Rattle.metis_text.specs.Reading.{Lines, Rows, lines_of, read_next, rows_from, rows_of, with_row}
+use Rattle.metis_text.specs.Flaws.{and_then}
 use Rattle.metis_text.proofs.LinesTaken.{read_next_is, read_next_read}
 use Rattle.metis_text.proofs.Outcomes.{and_then_is}
 use Rattle.metis_text.proofs.RowLine.{IsRow, row_is, row_printed, row_read, row_tokens}

@@ -4,7 +4,8 @@ use Rattle.std.proofs.Common.{◌≡◌, ◌≢◌, ◌⊎◌, ℕ, ◌+◌, ◌
 use Rattle.std.specs.List.{All}
 use Rattle.std.proofs.lemmas.List.{length-append}
 use Rattle.metis_outside.specs.Pieces.{bytes_of}
-use Rattle.metis_text.specs.Reading.{Lines, and_then, fault_at, lines_of}
+use Rattle.metis_text.specs.Reading.{Lines, fault_at, lines_of}
+use Rattle.metis_text.specs.Flaws.{and_then}
 use Rattle.metis_text.specs.declared.fault.TFault.{TFault}
 use Rattle.metis_text.specs.declared.fault.TFault.TheVariants.{Line, Short}
 use Rattle.metis_text.specs.declared.flaw.Flaw.{Flaw}

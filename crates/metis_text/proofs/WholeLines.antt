@@ -7,10 +7,10 @@ use Rattle.std.specs.List.{zip}
 use Rattle.metis_universe.specs.Universe.{IsNamed, IsUniverse, Universe}
 use Rattle.metis_text.specs.ActionLine.{row_in}
 use Rattle.metis_text.specs.DupLine.{DupRow, dup_in}
-use Rattle.metis_text.specs.Flaws.{made}
+use Rattle.metis_text.specs.Flaws.{and_then, made}
 use Rattle.metis_text.specs.Line.{line, words}
 use Rattle.metis_text.specs.PlanText.{action_line, counts_line, end_line}
-use Rattle.metis_text.specs.Reading.{Lines, Numbers, Parts, Rows, and_then, counts_in, dups_from, exactly, is_feed, line_to, lines_of, next_line, parts, read_next, rows_from, rows_of, told, with_row}
+use Rattle.metis_text.specs.Reading.{Lines, Numbers, Parts, Rows, counts_in, dups_from, exactly, is_feed, line_to, lines_of, next_line, parts, read_next, rows_from, rows_of, told, with_row}
 use Rattle.metis_text.specs.declared.flaw.Flaw.{Flaw}
 use Rattle.metis_text.proofs.DupsRead.{AreDups, dup_row_line, dups_are, dups_read}
 use Rattle.metis_text.proofs.PlanLines.{counts_then, dups_then, last_from, lines_from, rows_then}

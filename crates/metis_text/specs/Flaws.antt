@@ -1,6 +1,7 @@
 -- What is wrong with a line that is read.
 --     graver f g      of two flaws of a line the one that is told: of its form before its numbers, of its numbers before its names
 --     both a b      two parts of a line, or the graver of their flaws
+--     made make r, and_then r next      what is made of what was made, or gone on with;  its fault where there is one, of whatever kind
 --     found x, right holds x      what was looked for, or that a name is not there;  a number that has to be right
 use Rattle.std.specs.Prelude.{ℕ, Bool, List, [], ◌∷◌, ◌++◌, Option, Some, None, Result, Ok, Err, if◌then◌else◌}
 use Rattle.metis_text.specs.declared.flaw.Flaw.{Flaw}
@@ -22,6 +23,11 @@ both (Err f) (Err g) = Err (graver f g)
 abbrev pub made : {E A B : Type 0} → (A → B) → Result A E → Result B E
 made make (Ok a) = Ok (make a)
 made make (Err f) = Err f
+
+-- goes on with what was made, unless there is a fault
+abbrev pub and_then : {E A B : Type 0} → Result A E → (A → Result B E) → Result B E
+and_then (Ok a) next = next a
+and_then (Err f) next = Err f
 
 abbrev pub found : {A : Type 0} → Option A → Result A Flaw
 found None = Err Name

@@ -13,7 +13,7 @@ use Rattle.metis_text.specs.declared.fault.TFault.{TFault}
 use Rattle.metis_text.specs.declared.fault.TFault.TheVariants.{Line, Short, Name, Number}
 use Rattle.metis_text.specs.ActionLine.{Row, row_in}
 use Rattle.metis_text.specs.DupLine.{DupRow, dup_in}
-use Rattle.metis_text.specs.Flaws.{both, made}
+use Rattle.metis_text.specs.Flaws.{and_then, both, made}
 use Rattle.metis_ids.specs.Action.{makes}
 use Rattle.metis_text.specs.Tokens.{number_in, tokens}
 use Rattle.metis_universe.specs.Universe.{Universe}
@@ -45,10 +45,6 @@ fault_at n flaw.Name = Name n
 abbrev pub told : {A : Type 0} → Lines → Result A Flaw → Result A TFault
 told l (Ok a) = Ok a
 told l (Err f) = Err (fault_at l.number f)
-
-abbrev pub and_then : {A B : Type 0} → Result A TFault → (A → Result B TFault) → Result B TFault
-and_then (Ok a) next = next a
-and_then (Err f) next = Err f
 
 -- reads the next line, and goes on behind it
 abbrev pub read_next : {A : Type 0} → (List ℕ → Result A Flaw) → Lines → Result (A × Lines) TFault

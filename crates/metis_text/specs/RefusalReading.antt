@@ -15,8 +15,8 @@ use Rattle.metis_text.specs.declared.flaw.Flaw.{Flaw}
 use Rattle.metis_text.specs.declared.flaw.Flaw.TheVariants.{Form}
 use Rattle.metis_text.specs.declared.refusal_text.Refusal.{Refusal}
 use Rattle.metis_text.specs.DupLine.{of_names, pair_in}
-use Rattle.metis_text.specs.Flaws.{right}
-use Rattle.metis_text.specs.Reading.{Lines, and_then, ended, exactly, lines_of, read_next}
+use Rattle.metis_text.specs.Flaws.{and_then, right}
+use Rattle.metis_text.specs.Reading.{Lines, ended, exactly, lines_of, read_next}
 use Rattle.metis_text.specs.Tokens.{number_in, tokens}
 use Rattle.metis_universe.specs.GoalWords.{goal_named}
 use Rattle.metis_universe.specs.PairWords.{pair_names}

@@ -3,7 +3,7 @@ use Rattle.std.proofs.Common.{◌≡◌, ℕ, zero, suc, ◌+◌, ◌<◌, ◌�
 use Rattle.std.proofs.lemmas.Bool.{eq-eqb, false≢true, lt-ltb, ltb_from_iff}
 use Rattle.std.proofs.lemmas.List.Elements.{filter_map-append}
 use Rattle.std.proofs.lemmas.List.{take-map}
-use Rattle.std.proofs.lemmas.Option.{slice_get-get_or, slice_get-map, slice_get_past}
+use Rattle.std.proofs.lemmas.Option.{slice_get-get_or, slice_get-map, slice_get_past, same_Some}
 use Rattle.std.specs.List.{filter_map, find, list_any, range_with_len, slice_get}
 use Rattle.std.specs.Prelude.{is_some}
 use Rattle.std.specs.Option.{option_map_or}
@@ -32,12 +32,9 @@ fits_plain earlier word text plain = ap (λ b. b && true) (ap not (sym (no_text 
 
 -- ---- words one by one
 
-some_is : {A : Type 0} (a b : A) → Some a ≡ Some b → a ≡ b
-some_is a b h = cc
-
 take_next : {A : Type 0} (xs : List A) (k : ℕ) (x : A) → slice_get xs k ≡ Some x → take (k + 1) xs ≡ take k xs ++ x ∷ []
 take_next [] k x is = cc
-take_next (y ∷ xs) zero x is = ap (λ k. k ∷ []) (some_is y x is)
+take_next (y ∷ xs) zero x is = ap (λ k. k ∷ []) (same_Some y x is)
 take_next (y ∷ xs) (suc k) x is = let next : suc k + 1 ≡ suc (k + 1) = omega arith in ap (λ n. take n (y ∷ xs)) next ∙ ap (λ l. y ∷ l) (take_next xs k x is)
 
 module _ {A : Type 0} (v : A → List ℕ) (ws : List A) where

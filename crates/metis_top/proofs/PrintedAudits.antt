@@ -1,13 +1,14 @@
 -- The plan that is printed is justified.
-use Rattle.std.proofs.Common.{◌≡◌, ℕ, zero, suc, ◌+◌, ◌<◌, ◌≤◌, Bool, true, not, List, [], ◌∷◌, length, get_or, Option, Some, None, refl, ap, ◌∙◌, arith, nat_eq, inl, inr}
+use Rattle.std.proofs.Common.{◌≡◌, ℕ, zero, suc, ◌+◌, ◌≤◌, Bool, true, not, List, [], length, get_or, Option, Some, None, refl, ap, ◌∙◌, arith}
 use Rattle.std.specs.List.{find, list_any}
 use Rattle.std.specs.Prelude.{IsSome}
-use Rattle.std.proofs.lemmas.Bool.{both_ways, eq-eqb, eqb-true, false≢true, or_cases, or_left, or_right, true_from_ne_false}
+use Rattle.std.proofs.lemmas.Bool.{both_ways, true_from_ne_false}
 use Rattle.std.proofs.lemmas.List.{get_or-map}
 use Rattle.std.proofs.lemmas.List.Elements.{All-from_get_or}
 use Rattle.std.proofs.lemmas.List.FromFn.{get_or-range_with_len, length-range_with_len}
 use Rattle.metis_ids.specs.declared.actions.Action.{Action}
 use Rattle.metis_ids.specs.declared.goals.Goal.{Goal}
+use Rattle.metis_ids.proofs.Lists.{any_at, has_at}
 use Rattle.metis_universe.proofs.Attained.{Closed-layers}
 use Rattle.metis_universe.proofs.Inside.{refused}
 use Rattle.metis_universe.specs.Goal.{Attains}
@@ -23,18 +24,6 @@ use Rattle.metis_text.specs.PlanText.{after_of}
 use Rattle.metis_waits.specs.Waits.{waits_on_others}
 use Rattle.metis_top.specs.Planned.{Plans, PlansPairs, others}
 
-some_has : (t : ℕ → Bool) (xs : List ℕ) (p : ℕ) → has xs p ≡ true → t p ≡ true → list_any t xs ≡ true
-some_has t [] p there passes = absurd (false≢true there)
-some_has t (x ∷ xs) p there passes = elim (or_cases (nat_eq x p) (has xs p) there) [
-  | inl here ↦ or_left (t x) (list_any t xs) (ap t (eqb-true x p here) ∙ passes)
-  | inr later ↦ or_right (t x) (list_any t xs) (some_has t xs p later passes)
-]
-
-has_place : (xs : List ℕ) (i : ℕ) → i < length xs → has xs (get_or xs i 0) ≡ true
-has_place [] i low = absurd (omega arith)
-has_place (x ∷ xs) zero low = or_left (nat_eq x x) (has xs x) (eq-eqb x x refl)
-has_place (x ∷ xs) (suc i) low = or_right (nat_eq x (get_or xs i 0)) (has xs (get_or xs i 0)) (has_place xs i (omega arith))
-
 module _ (u : Universe) (universe : IsUniverse u) (g : List ℕ) (attains : Attains u g) where
   abbrev lacks : ℕ → Bool
   lacks q = not (has (attained_pairs u) q)
@@ -46,10 +35,10 @@ module _ (u : Universe) (universe : IsUniverse u) (g : List ℕ) (attains : Atta
     by (Some q) is = absurd (refused u g (attained_pairs u) q (Closed-layers u universe, is) attains)
 
   layered : (p : ℕ) → has g p ≡ true → IsSome (layer_of u p)
-  layered p there = has_layer u p ∙ true_from_ne_false (has (attained_pairs u) p) (λ none. both_ways (list_any lacks g) (not_found lacks g none_lacks) (some_has lacks g p there (ap not none)))
+  layered p there = has_layer u p ∙ true_from_ne_false (has (attained_pairs u) p) (λ none. both_ways (list_any lacks g) (not_found lacks g none_lacks) (any_at lacks p g there (ap not none)))
 
   all_layered : IsAttained u g
-  all_layered = All-from_get_or (λ q. IsSome (layer_of u q)) g 0 (λ i low. layered (get_or g i 0) (has_place g i low))
+  all_layered = All-from_get_or (λ q. IsSome (layer_of u q)) g 0 (λ i low. layered (get_or g i 0) (has_at g i 0 low))
 
 after_its_waits : (actions : List Action) (k : ℕ) → 1 ≤ k → k ≤ length actions → after_of (others actions) k ≡ waits_on_others actions k
 after_its_waits actions zero first last = absurd (omega arith)

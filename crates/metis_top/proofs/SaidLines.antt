@@ -48,7 +48,7 @@ use Rattle.metis_crew.specs.declared.turn.Turn.TheVariants as turn
 use Rattle.metis_gen.specs.Generated.{generated, generated_targets}
 use Rattle.metis_top.specs.Answer as answer
 use Rattle.metis_top.specs.Answer.{Answer, IsAnswer}
-use Rattle.metis_top.specs.Commands.{universe_then, waves_then, control_over, control_then, audit_then, plan_said, command_script, crew_over, crew_then, judged, or_plan_refused, or_refusal_refused, or_turns_refused, or_universe_refused, or_word, goal_found_then, goals_after, goals_named, plan_limit, refusal_limit, refute_then, replay_then, rollout_then, script_from, session_limit, sim_then, targets_then, turns_limit, hosts_limit, or_hosts_refused, place_over, place_then}
+use Rattle.metis_top.specs.Commands.{universe_then, waves_then, control_over, control_then, audit_then, plan_said, command_script, crew_over, crew_then, judged, or_plan_refused, or_refusal_refused, or_turns_refused, or_universe_refused, or_word, goals_after, goals_named, plan_limit, refusal_limit, refute_then, replay_then, rollout_then, script_from, session_limit, sim_then, targets_then, turns_limit, hosts_limit, or_hosts_refused, place_over, place_then}
 use Rattle.metis_top.specs.Course.{Ran, Says, Shown, after}
 use Rattle.metis_top.specs.Crewed.{last_line, loose_line, progress_line, turn_line}
 use Rattle.metis_top.specs.Judged.{judgement_line, word_line}
@@ -83,6 +83,7 @@ use Rattle.metis_top.specs.RolledOut.{RolloutAnswer, rollout_plan}
 use Rattle.metis_top.specs.Waved.{chain_line, end_lines, finish_line, start_line, start_lines}
 use Rattle.metis_top.specs.declared.words.Verb.TheVariants.{Plan, Replay, Refute, Audit, Sim, Crew, Waves, Control, Rollout, Place, Print, Load}
 use Rattle.std.specs.declared.option.Option.{Option as Known}
+use Rattle.metis_text.specs.Flaws.{and_then}
 
 no_lines : All IsLine []
 no_lines = λ k d within. absurd (omega arith)
@@ -412,7 +413,7 @@ word_refuses : (place : ℕ) (o : Option Goal) → RefusesByLine (or_word place 
 word_refuses place None = IsLine-word place
 word_refuses place (Some g) = tt
 
-goal_refuses : (r : Result Goal Refusal) (next : Goal → Result (List Goal) Refusal) → RefusesByLine r → ((g : Goal) → RefusesByLine (next g)) → RefusesByLine (goal_found_then r next)
+goal_refuses : (r : Result Goal Refusal) (next : Goal → Result (List Goal) Refusal) → RefusesByLine r → ((g : Goal) → RefusesByLine (next g)) → RefusesByLine (and_then r next)
 goal_refuses (Ok g) next refuses later = later g
 goal_refuses (Err refusal) next refuses later = refuses
 

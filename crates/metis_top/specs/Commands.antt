@@ -25,6 +25,7 @@ use Rattle.metis_top.specs.Script.{Script, Read, Refuse, Reply}
 use Rattle.metis_top.specs.TargetName.{TargetName}
 use Rattle.metis_top.specs.Turns.{turns_in}
 use Rattle.metis_top.specs.Words.{Form, word_at, form_of}
+use Rattle.metis_text.specs.Flaws.{and_then}
 
 -- reads the file of the word at this place, and goes on with its bytes, where they are not too many
 abbrev pub bytes_then : ℕ → List ℕ → ℕ → (List ℕ → Script) → Script
@@ -51,15 +52,10 @@ abbrev pub or_word : ℕ → Option Goal → Result Goal Refusal
 or_word place None = Err (Word place)
 or_word place (Some g) = Ok g
 
--- goes on with a goal, unless there is none
-abbrev pub goal_found_then : Result Goal Refusal → (Goal → Result (List Goal) Refusal) → Result (List Goal) Refusal
-goal_found_then (Ok g) next = next g
-goal_found_then (Err refusal) next = Err refusal
-
 -- the goals that target words ask for from this place on, behind those that were found
 abbrev pub goals_after : List Goal → ℕ → Universe → List TargetName → Result (List Goal) Refusal
 goals_after found place u [] = Ok found
-goals_after found place u (target ∷ targets) = goal_found_then (or_word place (goal_named u target.kind target.state)) (λ g. goals_after (found ++ g ∷ []) (place + 1) u targets)
+goals_after found place u (target ∷ targets) = and_then (or_word place (goal_named u target.kind target.state)) (λ g. goals_after (found ++ g ∷ []) (place + 1) u targets)
 
 -- the goals of all target words, which begin at this place, or the first word that asks for none
 abbrev pub goals_named : ℕ → Universe → List TargetName → Result (List Goal) Refusal

@@ -1,13 +1,14 @@
 //! The lines of a script.
 ghost use Rattle.std.specs.Prelude.{◌≡◌, ◌≤◌, ◌+◌, IfOk, length, map};
 ghost use Rattle.std.specs.List.{slice_split};
-ghost use Rattle.metis_top.specs.Simulated.{is_line_feed, without_empty_end};
+ghost use Rattle.metis_top.specs.Simulated.{without_empty_end};
+ghost use Rattle.metis_text.specs.Reading.{is_feed};
 
 use std::alloc::{AllocError, Global};
 
 /// What stands between the line feeds of the script.
 pub fn pieces_of<'a>(alloc: Global, script: &'a [u8]) -> Result<Vec<&'a [u8]>, AllocError>
-    ensures pieces { IfOk result (λ v. map (λ piece. piece.now) v.items ≡ slice_split is_line_feed script.now) }
+    ensures pieces { IfOk result (λ v. map (λ piece. piece.now) v.items ≡ slice_split is_feed script.now) }
     ensures few { IfOk result (λ v. length v.items ≤ length script.now + 1) }
 {
     script.split(|byte| *byte == b'\n').collect(alloc)

@@ -1,7 +1,6 @@
 -- The rows of a universe have no fault.
 use Rattle.std.proofs.Common.{◌≡◌, ℕ, suc, ◌+◌, ◌<◌, ◌≤◌, Bool, true, false, cond, IsTrue, List, [], ◌∷◌, length, take, get_or, map, sum_by, position, nat_lt, Option, Some, None, option_map, refl, ap, sym, ◌∙◌, subst, zero-add, arith}
 use Rattle.std.specs.List.{AllByRecursion, list_any}
-use Rattle.std.specs.Option.{option_or}
 use Rattle.std.specs.Str.{bytes_eq}
 use Rattle.std.proofs.lemmas.Bool.Decides.{nat_tests}
 use Rattle.std.proofs.lemmas.List.{get_or_default, get_or-map, get_or-take, length-map, length-take-le}
@@ -10,6 +9,9 @@ use Rattle.std.proofs.lemmas.List.Folds.{fold-map, list_any_at}
 use Rattle.std.proofs.lemmas.List.FromFn.{length-map-range_with_len, get_or-map-range_with_len}
 use Rattle.std.proofs.lemmas.List.Quantifiers.{position-Some}
 use Rattle.std.proofs.lemmas.List.Sums.{sum_by-cons}
+use Rattle.metis_ids.proofs.Lists.{each_weaker}
+use Rattle.metis_ids.proofs.Options.{both_none}
+use Rattle.metis_ids.proofs.Tests.{bytes_apart}
 use Rattle.metis_universe.specs.declared.faults.RowFault.{RowFault}
 use Rattle.metis_universe.specs.declared.faults.RowFault.TheVariants.{TypeName, TypeTwice, StateName, StateTwice, NoInitial, UnknownNext, PortName, Demand, Limit}
 use Rattle.metis_universe.specs.declared.faults.LimitKind.{LimitKind}
@@ -18,19 +20,16 @@ use Rattle.metis_universe.specs.Names.{is_between, is_name}
 use Rattle.metis_universe.specs.RowShapes.{NeedRow, StateRow, TypeRow, names_needed}
 use Rattle.metis_universe.specs.Rows.{demand_sum, first_from, unless, limit_fault, has_state, port_fault, state_twice, state_fault, next_fault, head_fault, earlier_type, type_fault, first_fault, require_total, state_total, ports_of}
 use Rattle.metis_universe.specs.Universe.{Universe, Pair, no_pair, pair_at, demand_in, demand_total, type_of, type_count, pair_count, port_count, initial_of, type_name_of, state_name_of, port_name_of, IsUniverse, IsNamed, IsWithinLimits, IsBySight}
-use Rattle.metis_universe.proofs.Ascending.{each_map, each_weaker}
+use Rattle.metis_universe.proofs.Ascending.{each_map}
 use Rattle.metis_universe.proofs.Blocks.{length-pairs_from}
 use Rattle.metis_universe.proofs.ClearRows.{IsClear, IsClearState, IsClearType}
 use Rattle.metis_universe.proofs.Gathered.{demand_sum-le}
 use Rattle.metis_ujson.specs.Canonical.{need_row, state_row, type_row, rows_of_universe}
 use Rattle.metis_ujson.proofs.Demanded.{demands_between, demands_in_all, names_are}
-use Rattle.metis_ujson.proofs.Numbers.{bytes_apart, position_never}
+use Rattle.metis_ujson.proofs.Numbers.{position_never}
 use Rattle.metis_ujson.proofs.Rebuilt.{own, first, own_is, own_within, own_type, own_apart, spot_of, state_place, pairs_same, ports_same}
 
 -- ---- rows that have what rows without a fault have
-
-neither : {A : Type 0} (a b : Option A) → a ≡ None → b ≡ None → option_or a b ≡ None
-neither a b h k = ap (λ o. option_or o b) h ∙ k
 
 passes : (b : Bool) (fault : RowFault) → IsTrue b → unless b fault ≡ None
 passes b fault h = ap (λ c. unless c fault) h
@@ -42,7 +41,7 @@ none_from : {A : Type 0} (place : ℕ) (test : ℕ → A → Option RowFault) (x
 none_from place test [] h = refl
 none_from place test (x ∷ xs) h =
     let here : place ≡ place + 0 = omega arith in
-    neither (test place x) (first_from (place + 1) test xs) (ap (λ n. test n x) here ∙ h 0 x (omega arith))
+    both_none (test place x) (first_from (place + 1) test xs) (ap (λ n. test n x) here ∙ h 0 x (omega arith))
     (none_from (place + 1) test xs (λ i d l. let there : place + 1 + i ≡ place + suc i = omega arith in ap (λ n. test n (get_or xs i d)) there ∙ h (suc i) d (omega arith)))
 
 none_at : {A : Type 0} (test : ℕ → A → Option RowFault) (xs : List A) → ((i : ℕ) (d : A) → i < length xs → test i (get_or xs i d) ≡ None) → first_from 0 test xs ≡ None
@@ -50,14 +49,14 @@ none_at test xs h = none_from 0 test xs (λ i d l. ap (λ n. test n (get_or xs i
 
 all_pass : {A : Type 0} (p : A → Bool) (fault : ℕ → RowFault) (place : ℕ) (xs : List A) → AllByRecursion (λ x. IsTrue (p x)) xs → first_from place (λ k x. unless (p x) (fault k)) xs ≡ None
 all_pass p fault place [] h = refl
-all_pass p fault place (x ∷ xs) h = neither (unless (p x) (fault place)) _ (passes (p x) (fault place) h.0) (all_pass p fault (place + 1) xs h.1)
+all_pass p fault place (x ∷ xs) h = both_none (unless (p x) (fault place)) _ (passes (p x) (fault place) h.0) (all_pass p fault (place + 1) xs h.1)
 
 clear_of_state : (row : TypeRow) (t s : ℕ) (state : StateRow) → IsClearState row s state → state_fault row t s state ≡ None
 clear_of_state row t s state c =
-    neither (unless (is_name state.name) (StateName t s)) _ (passes (is_name state.name) (StateName t s) c.name)
-    (neither (state_twice row t s state) _ (ap (option_map (λ n. StateTwice t s n)) c.apart)
-    (neither (first_from 0 (port_fault t s) state.provide) _ (all_pass is_name (λ k. PortName t s k) 0 state.provide c.provide)
-    (neither (first_from (length state.provide) (port_fault t s) (names_needed state.require)) _ (all_pass is_name (λ k. PortName t s k) (length state.provide) (names_needed state.require) c.require)
+    both_none (unless (is_name state.name) (StateName t s)) _ (passes (is_name state.name) (StateName t s) c.name)
+    (both_none (state_twice row t s state) _ (ap (option_map (λ n. StateTwice t s n)) c.apart)
+    (both_none (first_from 0 (port_fault t s) state.provide) _ (all_pass is_name (λ k. PortName t s k) 0 state.provide c.provide)
+    (both_none (first_from (length state.provide) (port_fault t s) (names_needed state.require)) _ (all_pass is_name (λ k. PortName t s k) (length state.provide) (names_needed state.require) c.require)
     (all_pass (λ (n : NeedRow). is_between 1 16 n.count) (λ k. Demand t s k) 0 state.require c.demands))))
 
 clear_of_next : (row : TypeRow) (t s : ℕ) (state : StateRow) → IsClearState row s state → next_fault row t s state ≡ None
@@ -65,18 +64,18 @@ clear_of_next row t s state c = all_pass (has_state row) (λ k. UnknownNext t s 
 
 clear_of_type : (rows : List TypeRow) (t : ℕ) (row : TypeRow) → IsClearType rows t row → type_fault rows t row ≡ None
 clear_of_type rows t row c =
-    neither (head_fault (earlier_type rows t row.name) t row) _
-    (neither (unless (is_name row.name) (TypeName t)) _ (passes (is_name row.name) (TypeName t) c.name)
-    (neither (option_map (λ n. TypeTwice t n) (earlier_type rows t row.name)) _ (ap (option_map (λ n. TypeTwice t n)) c.apart) (within States 64 (length row.states) c.few)))
-    (neither (first_from 0 (state_fault row t) row.states) _ (none_at (state_fault row t) row.states (λ s d l. clear_of_state row t s (get_or row.states s d) (c.states s d l)))
-    (neither (limit_fault Requires 128 (require_total row)) _ (within Requires 128 (require_total row) c.required)
-    (neither (unless (has_state row row.initial) (NoInitial t)) _ (passes (has_state row row.initial) (NoInitial t) c.initial)
+    both_none (head_fault (earlier_type rows t row.name) t row) _
+    (both_none (unless (is_name row.name) (TypeName t)) _ (passes (is_name row.name) (TypeName t) c.name)
+    (both_none (option_map (λ n. TypeTwice t n) (earlier_type rows t row.name)) _ (ap (option_map (λ n. TypeTwice t n)) c.apart) (within States 64 (length row.states) c.few)))
+    (both_none (first_from 0 (state_fault row t) row.states) _ (none_at (state_fault row t) row.states (λ s d l. clear_of_state row t s (get_or row.states s d) (c.states s d l)))
+    (both_none (limit_fault Requires 128 (require_total row)) _ (within Requires 128 (require_total row) c.required)
+    (both_none (unless (has_state row row.initial) (NoInitial t)) _ (passes (has_state row row.initial) (NoInitial t) c.initial)
     (none_at (next_fault row t) row.states (λ s d l. clear_of_next row t s (get_or row.states s d) (c.states s d l))))))
 
 pub none_of_clear : (rows : List TypeRow) → IsClear rows → first_fault rows ≡ None
 none_of_clear rows c =
-    neither (first_from 0 (type_fault rows) rows) _ (none_at (type_fault rows) rows (λ t d l. clear_of_type rows t (get_or rows t d) (c.types t d l)))
-    (neither (limit_fault Pairs 2000 (state_total rows)) _ (within Pairs 2000 (state_total rows) c.pairs) (within Ports 4000 (length (ports_of rows)) c.ports))
+    both_none (first_from 0 (type_fault rows) rows) _ (none_at (type_fault rows) rows (λ t d l. clear_of_type rows t (get_or rows t d) (c.types t d l)))
+    (both_none (limit_fault Pairs 2000 (state_total rows)) _ (within Pairs 2000 (state_total rows) c.pairs) (within Ports 4000 (length (ports_of rows)) c.ports))
 
 -- ---- the rows of a universe
 

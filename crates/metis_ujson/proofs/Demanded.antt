@@ -9,14 +9,14 @@ use Rattle.std.proofs.lemmas.List.Elements.{All-from_get_or, All-from_recursion,
 use Rattle.std.proofs.lemmas.List.Sums.{sum-map, sum_by-cons}
 use Rattle.std.proofs.lemmas.Simd.{map-map}
 use Rattle.std.proofs.lemmas.Slice.Eq.{bytes_eq-Decides}
+use Rattle.metis_ids.proofs.Lists.{each_weaker}
+use Rattle.metis_ids.proofs.Tests.{bytes_same}
 use Rattle.metis_universe.specs.RowShapes.{NeedRow, names_needed}
 use Rattle.metis_universe.specs.Rows.{further_from, greatest_count}
 use Rattle.metis_universe.specs.Universe.{IsNamed, Pair, Universe, demand_in, has, port_count, port_name_of}
-use Rattle.metis_universe.proofs.Ascending.{each_weaker}
 use Rattle.metis_universe.proofs.Gathered.{count_at, greatest-at_least, greatest-at_most}
 use Rattle.metis_universe.proofs.PortRows.{Rises, rises}
 use Rattle.metis_ujson.specs.Canonical.{need_row}
-use Rattle.metis_ujson.proofs.Numbers.{bytes_same}
 
 map_same : {A B : Type 0} (f g : A → B) (xs : List A) → AllByRecursion (λ x. f x ≡ g x) xs → map f xs ≡ map g xs
 map_same f g [] all = refl

@@ -2,6 +2,7 @@
 use Rattle.std.proofs.Common.{◌≡◌, ℕ, zero, suc, ◌+◌, ◌<◌, ◌⊎◌, true, false, is_some, List, [], ◌∷◌, Option, Some, None, Result, Ok, Err, codes, inl, inr, refl, ap, sym, ◌∙◌, subst, zero-add, add-zero, arith}
 use Rattle.std.specs.Prelude.{◌↔◌, IsNone, IsSome, slice_get}
 use Rattle.serde_json.specs.Data.{Data, Items, no_items, item}
+use Rattle.metis_ids.proofs.Options.{none_from_IsNone}
 use Rattle.metis_universe.specs.RowShapes.{StateRow, TypeRow}
 use Rattle.metis_ujson.specs.Document.{Spelled, json_of, list_at, rows_in, rows_of, rows_or_not_json, spelled, state_in, states_from, text_at, type_in, type_of_states, type_with, types_from, types_with, version_in, with_state, with_type}
 use Rattle.metis_ujson.specs.FirstForm.{EachBefore, HasForm, IsFirstFault, IsFirstType, IsRead, IsWhole, LacksForm, Spells, values_of}
@@ -20,12 +21,6 @@ ok_err e = cc
 
 same_err : {A : Type 0} (f g : UFault) → ◌≡◌ {A = Result A UFault} (Err f) (Err g) → f ≡ g
 same_err f g e = cc
-
-none_is : {A : Type 0} (o : Option A) → IsNone o → o ≡ None
-none_is None h = refl
-none_is (Some x) h = absurd (true_false h) where
-  true_false : true ≡ false → ⊥
-  true_false e = cc
 
 some_is : {A : Type 0} (o : Option A) → IsSome o → (x : A) × (o ≡ Some x)
 some_is None h = absurd (false_true h) where
@@ -57,7 +52,7 @@ module _ (v t : ℕ) where
   states_told s (item d ds) zero x h =
       let is = same_some d x h.at in
       let zero : s ≡ s + 0 = omega arith in
-      ap (λ o. with_state o (StateForm t s) (states_from v t (s + 1) ds)) (ap (state_in v) is ∙ none_is (state_in v x) h.lacks) ∙ ap (λ n. Err (StateForm t n)) zero
+      ap (λ o. with_state o (StateForm t s) (states_from v t (s + 1) ds)) (ap (state_in v) is ∙ none_from_IsNone (state_in v x) h.lacks) ∙ ap (λ n. Err (StateForm t n)) zero
   states_told s (item d ds) (suc i) x h =
       let row = some_is (state_in v d) (h.before 0 d (omega arith) refl) in
       let rest = states_told (s + 1) ds i x (record { at = h.at; lacks = h.lacks; before = before_tail (IsRead v) d (values_of ds) i h.before }) in

@@ -2,7 +2,7 @@
 use Rattle.std.proofs.Common.{◌≡◌, ℕ, suc, ◌+◌, ◌-◌, ◌<◌, ◌≤◌, Bool, true, false, not, nat_lt, nat_eq, List, [], ◌∷◌, ◌++◌, length, get_or, refl, ap, sym, ◌∙◌, subst, inl, inr, append_assoc, length-append, arith}
 use Rattle.std.specs.List.{filter, AllByRecursion}
 use Rattle.std.specs.List.Sorted.{IsNonDecreasingBy}
-use Rattle.std.proofs.lemmas.Bool.{cases_lt, cases_order, ltb-true, ltb-false}
+use Rattle.std.proofs.lemmas.Bool.{cases_lt, cases_order, ltb-true, ltb-false, le-ltb, lt-ltb, not-true}
 use Rattle.std.proofs.lemmas.Bool.Decides.{nat_tests}
 use Rattle.std.proofs.lemmas.List.{get_or_append_left, get_or-append-add}
 use Rattle.std.proofs.lemmas.List.Elements.{filter_passes, recursion_from_All}
@@ -44,12 +44,6 @@ at_least_less : (s t : ℕ) (xs : List Pair) → s ≤ t → AtLeast t xs → At
 at_least_less s t [] le h = tt
 at_least_less s t (x ∷ xs) le h = (omega (arith, h.0), at_least_less s t xs le h.1)
 
-is_less : (k t : ℕ) → k < t → nat_lt k t ≡ true
-is_less k t l = grind (arith, nat_tests)
-
-not_less : (k t : ℕ) → t ≤ k → nat_lt k t ≡ false
-not_less k t l = grind (arith, nat_tests)
-
 is_same : (k t : ℕ) → k ≡ t → nat_eq k t ≡ true
 is_same k t e = grind (arith, nat_tests)
 
@@ -58,11 +52,11 @@ not_same k t n = grind (arith, nat_tests)
 
 pub none_below : (t : ℕ) (xs : List Pair) → AtLeast t xs → below t xs ≡ []
 none_below t [] h = refl
-none_below t (x ∷ xs) h = rw (not_less x.kind t h.0) (none_below t xs h.1)
+none_below t (x ∷ xs) h = rw (le-ltb x.kind t h.0) (none_below t xs h.1)
 
 pub all_below : (t : ℕ) (xs : List Pair) → AllByRecursion (λ p. p.kind < t) xs → below t xs ≡ xs
 all_below t [] h = refl
-all_below t (x ∷ xs) h = rw (is_less x.kind t h.0) (ap (λ l. x ∷ l) (all_below t xs h.1))
+all_below t (x ∷ xs) h = rw (lt-ltb x.kind t h.0) (ap (λ l. x ∷ l) (all_below t xs h.1))
 
 -- the pairs of one more type
 pub one_more : (t : ℕ) (xs : List Pair) → Stands xs → below t xs ++ of_type t xs ≡ below (t + 1) xs
@@ -72,11 +66,11 @@ one_more t (x ∷ xs) h =
     elim (cases_order x.kind t) [
       | inl same ↦
           let none = none_below t xs (subst (λ k. AtLeast k xs) same h.0) in
-          rw (not_less x.kind t (omega arith), is_same x.kind t same, is_less x.kind (t + 1) (omega arith))
+          rw (le-ltb x.kind t (omega arith), is_same x.kind t same, lt-ltb x.kind (t + 1) (omega arith))
           (ap (λ l. l ++ x ∷ of_type t xs) none ∙ ap (λ l. x ∷ l) (sym (ap (λ l. l ++ of_type t xs) none) ∙ rest))
       | inr apart ↦ elim apart [
-        | inl less ↦ rw (is_less x.kind t less, not_same x.kind t (λ e. omega arith), is_less x.kind (t + 1) (omega arith)) (ap (λ l. x ∷ l) rest)
-        | inr more ↦ rw (not_less x.kind t (omega arith), not_same x.kind t (λ e. omega arith), not_less x.kind (t + 1) (omega arith)) rest
+        | inl less ↦ rw (lt-ltb x.kind t less, not_same x.kind t (λ e. omega arith), lt-ltb x.kind (t + 1) (omega arith)) (ap (λ l. x ∷ l) rest)
+        | inr more ↦ rw (le-ltb x.kind t (omega arith), not_same x.kind t (λ e. omega arith), le-ltb x.kind (t + 1) (omega arith)) rest
       ]
     ]
 
@@ -85,10 +79,10 @@ parts t [] h = refl
 parts t (x ∷ xs) h =
     let rest = parts t xs h.1 in
     elim (cases_lt x.kind t) [
-      | inl less ↦ rw (is_less x.kind t less) (ap (λ l. x ∷ l) rest)
+      | inl less ↦ rw (lt-ltb x.kind t less) (ap (λ l. x ∷ l) rest)
       | inr more ↦
           let none = none_below t xs (at_least_less t x.kind xs more h.0) in
-          rw (not_less x.kind t more) (ap (λ l. x ∷ l) (rest ∙ ap (λ l. l ++ onwards t xs) none) ∙ sym (ap (λ l. l ++ x ∷ onwards t xs) none))
+          rw (le-ltb x.kind t more) (ap (λ l. x ∷ l) (rest ∙ ap (λ l. l ++ onwards t xs) none) ∙ sym (ap (λ l. l ++ x ∷ onwards t xs) none))
     ]
 
 -- the pairs before type t, those of t, and those behind
@@ -120,16 +114,12 @@ too_early t q xs d h l =
     let passes : nat_lt (get_or (below t xs) q d).kind t ≡ true = filter_passes (is_below t) xs q d l in
     subst (λ (p : Pair). p.kind < t) (sym same) (ltb-true (get_or (below t xs) q d).kind t passes)
 
-not_false : (b : Bool) → not b ≡ true → b ≡ false
-not_false true h = sym h
-not_false false h = refl
-
 too_late : (s j : ℕ) (xs : List Pair) (d : Pair) → Stands xs → length (below s xs) + j < length xs → s ≤ (get_or xs (length (below s xs) + j) d).kind
 too_late s j xs d h l =
     let same : get_or xs (length (below s xs) + j) d ≡ get_or (onwards s xs) j d = ap (λ (ys : List Pair). get_or ys (length (below s xs) + j) d) (parts s xs h) ∙ get_or-append-add (below s xs) (onwards s xs) j d in
     let within : j < length (onwards s xs) = omega (arith, ap length (parts s xs h), length-append (below s xs) (onwards s xs)) in
     let passes : not (nat_lt (get_or (onwards s xs) j d).kind s) ≡ true = filter_passes (λ p. not (is_below s p)) xs j d within in
-    subst (λ (p : Pair). s ≤ p.kind) (sym same) (ltb-false (get_or (onwards s xs) j d).kind s (not_false (nat_lt (get_or (onwards s xs) j d).kind s) passes))
+    subst (λ (p : Pair). s ≤ p.kind) (sym same) (ltb-false (get_or (onwards s xs) j d).kind s (not-true (nat_lt (get_or (onwards s xs) j d).kind s) passes))
 
 pub spot : (t q : ℕ) (xs : List Pair) (d : Pair) → Stands xs → q < length xs → (get_or xs q d).kind ≡ t → Spot xs t q
 spot t q xs d h l e =

@@ -1,34 +1,19 @@
 -- Numbers of names, and lists that ascend already.
-use Rattle.std.proofs.Common.{◌≡◌, ℕ, suc, zero, ◌<◌, Bool, true, false, cond, List, [], ◌∷◌, ◌++◌, length, get_or, position, fold, Some, None, option_map, refl, ap, sym, ◌∙◌, append_assoc, append-nil, Greater, arith}
+use Rattle.std.proofs.Common.{◌≡◌, ℕ, suc, ◌<◌, Bool, false, cond, List, [], ◌∷◌, ◌++◌, length, get_or, position, fold, Some, None, option_map, refl, ap, sym, ◌∙◌, append_assoc, append-nil, Greater, arith}
 use Rattle.std.specs.List.{AllByRecursion}
 use Rattle.std.specs.List.Sorted.{IsStrictlyIncreasing}
 use Rattle.std.specs.BTreeSet.{insert_key}
 use Rattle.std.specs.Ordering.{nat_cmp}
 use Rattle.std.specs.Str.{bytes_eq}
 use Rattle.std.proofs.lemmas.Bool.Decides.{nat_tests}
-use Rattle.std.proofs.lemmas.Slice.Eq.{bytes_eq-Decides}
+use Rattle.metis_ids.proofs.Finding.{position_here}
+use Rattle.metis_ids.proofs.Tests.{bytes_apart, bytes_same}
 use Rattle.metis_universe.specs.Rows.{ascending}
 use Rattle.metis_universe.proofs.FirstFault.{position-cons}
 use Rattle.metis_universe.proofs.FirstSights.{each_append}
 use Rattle.metis_universe.proofs.PortRows.{Rises, rises}
 
 -- ---- names
-
-pub bytes_apart : (a b : List ℕ) → (a ≡ b → ⊥) → bytes_eq a b ≡ false
-bytes_apart a b n = elim (bytes_eq a b) as (λ v. bytes_eq a b ≡ v → v ≡ false) [
-  | true ↦ λ e. absurd (n ((bytes_eq-Decides a b).0 e))
-  | false ↦ λ e. refl
-] refl
-
-pub bytes_same : (a : List ℕ) → bytes_eq a a ≡ true
-bytes_same a = (bytes_eq-Decides a a).1 refl
-
-pub position_first : {A : Type 0} (p : A → Bool) (xs : List A) (i : ℕ) (d : A) → i < length xs → p (get_or xs i d) ≡ true → ((k : ℕ) → k < i → p (get_or xs k d) ≡ false) → position p xs ≡ Some i
-position_first p [] i d l h before = absurd (omega arith)
-position_first p (x ∷ xs) zero d l h before = position-cons p x xs ∙ ap (λ c. cond c (Some 0) (option_map suc (position p xs))) h
-position_first p (x ∷ xs) (suc i) d l h before =
-    position-cons p x xs ∙ ap (λ c. cond c (Some 0) (option_map suc (position p xs))) (before 0 (omega arith))
-    ∙ ap (option_map suc) (position_first p xs i d (omega arith) h (λ k less. before (suc k) (omega arith)))
 
 pub position_never : {A : Type 0} (p : A → Bool) (xs : List A) → ((k : ℕ) (d : A) → k < length xs → p (get_or xs k d) ≡ false) → position p xs ≡ None
 position_never p [] h = refl
@@ -38,7 +23,7 @@ position_never p (x ∷ xs) h =
 -- the place of a name that no earlier element has
 pub place_of_name : {A : Type 0} (name : A → List ℕ) (xs : List A) (i : ℕ) (d : A) → i < length xs → ((k : ℕ) → k < i → name (get_or xs i d) ≡ name (get_or xs k d) → ⊥) → position (λ x. bytes_eq (name (get_or xs i d)) (name x)) xs ≡ Some i
 place_of_name name xs i d l apart =
-    position_first (λ x. bytes_eq (name (get_or xs i d)) (name x)) xs i d l (bytes_same (name (get_or xs i d))) (λ k less. bytes_apart (name (get_or xs i d)) (name (get_or xs k d)) (apart k less))
+    position_here (λ x. bytes_eq (name (get_or xs i d)) (name x)) xs i d l (bytes_same (name (get_or xs i d))) (λ k less. bytes_apart (name (get_or xs i d)) (name (get_or xs k d)) (apart k less))
 
 -- ---- lists
 

@@ -7,6 +7,7 @@ use Rattle.std.proofs.lemmas.List.{get_or_default}
 use Rattle.std.proofs.lemmas.List.Elements.{recursion_from_All}
 use Rattle.std.proofs.lemmas.Fmt.{IsAscii-decimal}
 use Rattle.std.proofs.lemmas.Str.{IsUtf8-append, IsUtf8-from_ascii}
+use Rattle.metis_ids.proofs.Lists.{each_weaker}
 use Rattle.json.specs.Print.{quoted}
 use Rattle.json.proofs.Printed.Utf8.{are_ascii, IsUtf8-are_ascii, IsUtf8-quoted, IsUtf8-boolean}
 use Rattle.serde_json.specs.Data.{Data, null, boolean, number, string, array, object, Items, no_items, item, Members, no_members, member}
@@ -14,7 +15,7 @@ use Rattle.serde_json.specs.Written.{number_text, compact_text, items_text, memb
 use Rattle.metis_universe.specs.Names.{is_name, is_name_byte}
 use Rattle.metis_universe.specs.RowShapes.{NeedRow, StateRow, TypeRow}
 use Rattle.metis_universe.specs.Universe.{Universe, Pair, demand_in, no_pair, pair_at, type_count, pair_count, port_count, initial_of, state_name_of, port_name_of, IsUniverse, IsNamed}
-use Rattle.metis_universe.proofs.Ascending.{each_map, each_weaker}
+use Rattle.metis_universe.proofs.Ascending.{each_map}
 use Rattle.metis_ujson.specs.Canonical.{counted_value, list_of, need_row, need_value, state_value, type_value, document_of, state_row, type_row, rows_of_universe}
 use Rattle.metis_ujson.proofs.Clear.{names_of_ports}
 use Rattle.metis_ujson.proofs.Demanded.{demands_between}

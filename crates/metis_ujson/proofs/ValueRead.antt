@@ -1,6 +1,7 @@
 -- The text of a document's value is read as that value.
 use Rattle.std.proofs.Common.{◌≡◌, ℕ, suc, ◌<◌, ◌≤◌, ◌^◌, max, true, false, cond, nat_eq, List, [], ◌∷◌, map, Some, option_map, option_and_then, refl, sym, ap, ap₂, ◌∙◌, append-nil, arith}
 use Rattle.std.specs.List.{AllByRecursion}
+use Rattle.metis_ids.proofs.Lists.{each_weaker}
 use Rattle.json.specs.Json as json
 use Rattle.json.specs.Tree as tree
 use Rattle.json.proofs.Printed.Decimals.{IsNumber-decimal}
@@ -13,7 +14,6 @@ use Rattle.serde_json.specs.Written.{compact_text, outline, items_outline, membe
 use Rattle.serde_json.proofs.Numbers.{number_of-decimal}
 use Rattle.serde_json.proofs.Texts.{print-outline}
 use Rattle.metis_universe.specs.RowShapes.{NeedRow, StateRow, TypeRow}
-use Rattle.metis_universe.proofs.Ascending.{each_weaker}
 use Rattle.metis_ujson.specs.Canonical.{counted_value, list_of, need_value, state_value, type_value, document_of}
 use Rattle.metis_ujson.proofs.Fitting.{FitRows, FitsNeed, FitsState, FitsType}
 use Rattle.metis_ujson.proofs.Plain.{shallow}

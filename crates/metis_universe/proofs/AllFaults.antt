@@ -4,8 +4,8 @@ use Rattle.std.specs.Prelude.{◌↔◌, slice_get, option_to_list, Contains}
 use Rattle.std.specs.List.{AllByRecursion}
 use Rattle.std.specs.Option.{option_or}
 use Rattle.std.specs.Str.{bytes_eq}
-use Rattle.std.proofs.lemmas.Bool.Decides.{nat_tests}
 use Rattle.std.proofs.lemmas.List.Elements.{All-contains, All-from_recursion, Contains-append_left, Contains-append_right}
+use Rattle.std.proofs.lemmas.Bool.{lt-ltb, ltb-true}
 use Rattle.metis_universe.specs.Names.{is_between, is_name}
 use Rattle.metis_universe.specs.RowShapes.{StateRow, TypeRow, names_needed}
 use Rattle.metis_universe.specs.Rows.{first_from, unless, limit_fault, has_state, port_fault, demand_fault, state_twice, state_fault, next_fault, earlier_type, type_fault, first_fault, require_total, state_total, ports_of}
@@ -101,16 +101,10 @@ each_map : (P : RowFault → Type 0) (fault : ℕ → RowFault) (o : Option ℕ)
 each_map P fault None p = tt
 each_map P fault (Some n) p = (p n refl, tt)
 
-less : (a b : ℕ) → nat_lt a b ≡ true → a < b
-less a b h = grind (arith, nat_tests)
-
-less_so : (a b : ℕ) → a < b → nat_lt a b ≡ true
-less_so a b h = grind (arith, nat_tests)
-
 each_limit : (P : RowFault → Type 0) (kind : LimitKind) (most count : ℕ) → (most < count → P (Limit kind count)) → AllByRecursion P (option_to_list (limit_fault kind most count))
 each_limit P kind most count p =
     elim (nat_lt most count) as (λ b. nat_lt most count ≡ b → AllByRecursion P (option_to_list (cond b (Some (Limit kind count)) None))) [
-      | true ↦ λ h. (p (less most count h), tt)
+      | true ↦ λ h. (p (ltb-true most count h), tt)
       | false ↦ λ _. tt
     ] refl
 
@@ -183,7 +177,7 @@ unless_so : (b : Bool) (f : RowFault) → b ≡ false → unless b f ≡ Some f
 unless_so b f h = ap (λ b. unless b f) h
 
 limit_so : (kind : LimitKind) (most n count : ℕ) → n ≡ count → most < n → limit_fault kind most count ≡ Some (Limit kind n)
-limit_so kind most n count e h = ap (λ m. limit_fault kind most m) (sym e) ∙ ap (λ b. cond b (Some (Limit kind n)) None) (less_so most n h)
+limit_so kind most n count e h = ap (λ m. limit_fault kind most m) (sym e) ∙ ap (λ b. cond b (Some (Limit kind n)) None) (lt-ltb most n h)
 
 module _ (rows : List TypeRow) where
   of_type : (t : ℕ) (row : TypeRow) (f : RowFault) → slice_get rows t ≡ Some row → Contains (faults_of_type rows t row) f → Contains (all_faults rows) f

@@ -12,6 +12,8 @@ use Rattle.std.proofs.lemmas.Bool.Decides.{nat_tests}
 use Rattle.std.proofs.lemmas.List.Elements.{All-from_recursion}
 use Rattle.std.proofs.lemmas.Map.Keys.{below_from_sorted}
 use Rattle.std.proofs.lemmas.Slice.Eq.{bytes_eq-Decides}
+use Rattle.metis_ids.proofs.Lists.{none_above}
+use Rattle.metis_ids.proofs.Tests.{cmp_equal, less_apart}
 use Rattle.metis_universe.specs.Universe.{has}
 use Rattle.metis_universe.specs.RowShapes.{TypeRow}
 use Rattle.metis_universe.specs.Rows.{ascending, state_number}
@@ -67,24 +69,10 @@ pub each_map : {A B : Type 0} (P : B → Type 0) (f : A → B) (xs : List A) →
 each_map P f [] h = tt
 each_map P f (x ∷ xs) h = (h.0, each_map P f xs h.1)
 
-pub each_weaker : {A : Type 0} (P Q : A → Type 0) (xs : List A) → ((x : A) → P x → Q x) → AllByRecursion P xs → AllByRecursion Q xs
-each_weaker P Q [] w h = tt
-each_weaker P Q (x ∷ xs) w h = (w x h.0, each_weaker P Q xs w h.1)
-
 -- ---- an ascending list of numbers of names is no longer than the list of the names, each once
 
-exact : (a b : ℕ) → nat_cmp a b ≡ Equal → a ≡ b
-exact a b h = grind (arith, nat_tests)
-
 pub has-insert_key : (n k : ℕ) (xs : List ℕ) → has (insert_key nat_cmp xs k) n ≡ (nat_eq k n || has xs n)
-has-insert_key n k xs = any-insert_key nat_cmp exact (λ x. nat_eq x n) k xs
-
-less_apart : (k x : ℕ) → nat_cmp k x ≡ Less → nat_eq x k ≡ false
-less_apart k x h = grind (arith, nat_tests)
-
-pub none_above : (k : ℕ) (xs : List ℕ) → AllByRecursion (λ y. nat_cmp k y ≡ Less) xs → has xs k ≡ false
-none_above k [] h = refl
-none_above k (x ∷ xs) h = or_from (nat_eq x k) (has xs k) (less_apart k x h.0) (none_above k xs h.1)
+has-insert_key n k xs = any-insert_key nat_cmp cmp_equal (λ x. nat_eq x n) k xs
 
 greater_apart : (k x : ℕ) → nat_cmp k x ≡ Greater → nat_eq x k ≡ false
 greater_apart k x h = grind (arith, nat_tests)

@@ -1,19 +1,18 @@
 -- The pairs that have a layer are closed.
-use Rattle.std.proofs.Common.{◌≡◌, ℕ, ◌+◌, ◌<◌, true, List, [], ◌∷◌, ap, ◌∙◌, subst, arith, nat_eq, length, inl, inr}
-use Rattle.std.specs.List.{list_any, list_all, All}
-use Rattle.std.proofs.lemmas.Bool.{false≢true, and_from, or_cases, eqb-true}
+use Rattle.std.proofs.Common.{◌≡◌, ℕ, ◌+◌, ◌<◌, true, ap, ◌∙◌, subst, arith, nat_eq, length}
+use Rattle.std.specs.List.{list_any, list_all}
+use Rattle.std.proofs.lemmas.Bool.{and_from, eqb-true}
 use Rattle.std.proofs.lemmas.List.Folds.{Any-from_list_any}
 use Rattle.std.proofs.lemmas.List.{get_or_default}
-use Rattle.std.proofs.lemmas.List.Elements.{All-head, All-tail}
 use Rattle.std.proofs.lemmas.List.FromFn.{length-range_with_len}
 use Rattle.metis_universe.specs.Universe.{Universe, IsUniverse, all_pairs, has, pair_count, initial_of, is_initial, is_free, no_kind, type_of, next_of, required_of, provides}
 use Rattle.metis_universe.specs.Layers.{layer_set}
 use Rattle.metis_universe.specs.Closed.{Closed}
 use Rattle.metis_universe.proofs.Rounds.{has-filter, layers_grow, among_all, grows_to, settled}
-use Rattle.metis_universe.proofs.Selected.{any_at}
 use Rattle.metis_universe.proofs.Correctness.{all_from_has}
-use Rattle.metis_universe.proofs.Ranges.{has_range, in_range}
+use Rattle.metis_universe.proofs.Ranges.{in_range}
 use Rattle.std.proofs.lemmas.Bool.{and_parts}
+use Rattle.metis_ids.proofs.Lists.{all_at, any_at, has_range}
 
 initial_below : (u : Universe) → IsUniverse u → (p : ℕ) → is_initial u p ≡ true → p < pair_count u
 initial_below u k p h =
@@ -22,14 +21,6 @@ initial_below u k p h =
     let is : initial_of u t ≡ found.1.initial = ap (λ k. k.initial) (get_or_default u.kinds t no_kind found.1 found.2 ∙ found.3) in
     let at : initial_of u t ≡ p = is ∙ eqb-true found.1.initial p found.4 in
     subst (λ x. x < pair_count u) at (k.initials t found.2).0
-
-all_at : (P : ℕ → Type 0) (q : ℕ) (xs : List ℕ) → All P xs → has xs q ≡ true → P q
-all_at P q [] all h = absurd (false≢true h)
-all_at P q (x ∷ xs) all h =
-    elim (or_cases (nat_eq x q) _ h) [
-      | inl now ↦ subst P (eqb-true x q now) (All-head P x xs all)
-      | inr later ↦ all_at P q xs (All-tail P x xs all) later
-    ]
 
 pair_in : (u : Universe) (p : ℕ) → p < pair_count u → has (all_pairs u) p ≡ true
 pair_in u p h = has_range 0 (pair_count u) p (omega arith) (omega arith)

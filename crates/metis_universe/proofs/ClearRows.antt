@@ -6,6 +6,7 @@ use Rattle.std.proofs.lemmas.Bool.{and_parts, ltb-false}
 use Rattle.std.proofs.lemmas.Bool.Decides.{nat_tests}
 use Rattle.std.proofs.lemmas.List.Elements.{All-from_recursion}
 use Rattle.std.proofs.lemmas.Option.{none-some}
+use Rattle.metis_ids.proofs.Lists.{each_weaker}
 use Rattle.metis_universe.specs.declared.faults.RowFault.{RowFault}
 use Rattle.metis_universe.specs.declared.faults.RowFault.TheVariants.{TypeName, TypeTwice, StateName, StateTwice, NoInitial, UnknownNext, PortName, Demand, Limit}
 use Rattle.metis_universe.specs.declared.faults.LimitKind.{LimitKind}
@@ -13,7 +14,6 @@ use Rattle.metis_universe.specs.declared.faults.LimitKind.TheVariants.{States, R
 use Rattle.metis_universe.specs.Names.{is_between, is_name}
 use Rattle.metis_universe.specs.RowShapes.{NeedRow, StateRow, TypeRow, names_needed}
 use Rattle.metis_universe.specs.Rows.{first_from, unless, limit_fault, has_state, port_fault, state_twice, state_fault, next_fault, head_fault, earlier_type, type_fault, first_fault, require_total, state_total, ports_of}
-use Rattle.metis_universe.proofs.Ascending.{each_weaker}
 use Rattle.metis_universe.proofs.FirstFault.{option_or-none, option_map-none}
 
 -- a state's names are names, none before it in its type has its name, and its next states are there

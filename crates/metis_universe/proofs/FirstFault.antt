@@ -62,10 +62,6 @@ module _ {A : Type 0} (test : ℕ → A → Option RowFault) (xs : List A) (i : 
   first_from_passed None none h is = first_from_more test xs i d h is
   first_from_passed (Some fault) none h is = absurd (true≢false none)
 
-pub none_from_is_some : {A : Type 0} (o : Option A) → is_some o ≡ false → o ≡ None
-none_from_is_some None h = refl
-none_from_is_some (Some x) h = absurd (true≢false h)
-
 pub option_or-none : {A : Type 0} (a b : Option A) → option_or a b ≡ None → (a ≡ None) × (b ≡ None)
 option_or-none None b h = (refl, h)
 option_or-none (Some x) b h = absurd (none-some x (sym h))

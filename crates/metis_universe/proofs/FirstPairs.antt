@@ -5,15 +5,13 @@ use Rattle.std.specs.List.{find, filter, list_any, range_with_len}
 use Rattle.std.specs.Option.{option_and_then, option_map_or, option_or}
 use Rattle.std.proofs.lemmas.Bool.{false≢true, both_ways, and_parts, and_from, or_cases, or_right, eq-eqb, eqb-true, cases_eq, cases_lt}
 use Rattle.std.proofs.lemmas.List.FromFn.{length-range_with_len}
+use Rattle.std.proofs.lemmas.Option.{none-some}
 use Rattle.metis_universe.specs.Universe.{Universe, all_pairs, has, is_free, next_of, pair_count, provides}
 use Rattle.metis_universe.specs.Layers.{layer_set, layer_of, is_in_layer, is_enabled, IsLeastRound}
 use Rattle.metis_universe.specs.Selection.{provider_of, origin_of, origin_below}
 use Rattle.metis_universe.specs.Settled.{IsLower}
 use Rattle.metis_universe.proofs.Ranges.{in_range}
 use Rattle.metis_universe.proofs.Rounds.{has-filter, layers_grow, among_all, comes_early, grows_to, layer_of-least}
-
-none≢some : {A : Type 0} {x : A} → None ≡ Some x → ⊥
-none≢some e = cc
 
 -- ---- the first of a rising list
 
@@ -218,8 +216,8 @@ module _ (u : Universe) (p : ℕ) where
     least : IsLeastOf (layer_set u k) (λ o. has (next_of u o) p) (Some o)
 
   below : (l : Option ℕ) → layer_of u p ≡ l → (o : ℕ) → option_and_then (origin_below u p) l ≡ Some o → IsBelow o
-  below None is o e = absurd (none≢some e)
-  below (Some zero) is o e = absurd (none≢some e)
+  below None is o e = absurd (none-some _ e)
+  below (Some zero) is o e = absurd (none-some _ e)
   below (Some (suc k)) is o e = record {
     k = k;
     layer = is;

@@ -1,23 +1,20 @@
 -- Names in the order in which they are first seen.
-use Rattle.std.proofs.Common.{◌≡◌, ℕ, suc, zero, IsTrue, ◌+◌, ◌<◌, ◌≤◌, arith, Bool, true, false, cond, ◌||◌, List, [], ◌∷◌, ◌++◌, map, length, take, get_or, flat_map, refl, ap, sym, ◌∙◌, String, string_bytes, string_eq}
+use Rattle.std.proofs.Common.{◌≡◌, ℕ, suc, zero, IsTrue, ◌+◌, ◌<◌, ◌≤◌, arith, Bool, true, false, cond, List, [], ◌∷◌, ◌++◌, length, take, get_or, flat_map, refl, ap, sym, ◌∙◌, String, string_bytes, string_eq}
 use Rattle.std.specs.declared.alloc.Global.{Global}
 use Rattle.std.specs.List.{list_any, AllByRecursion, IsDistinct}
 use Rattle.std.specs.Cmp.Lexicographic.{nat_list_eq_equiv}
 use Rattle.std.proofs.lemmas.Bool.{or_left, or_right}
 use Rattle.std.proofs.lemmas.List.Folds.{list_any-append}
 use Rattle.std.proofs.lemmas.Map.Keys.{IsDistinct-push}
-use Rattle.std.proofs.lemmas.Slice.Eq.{bytes_eq-Decides}
 use Rattle.std.specs.Str.{bytes_eq}
 use Rattle.std.proofs.lemmas.List.{length_push, map_more, map_push, take_more}
 use Rattle.std.proofs.lemmas.List.Sums.{fold_push, fold-append}
 use Rattle.std.proofs.lemmas.List.Concat.{flat_map-append}
 use Rattle.std.proofs.lemmas.List.{append-nil}
+use Rattle.metis_ids.proofs.Lists.{list_any-map}
+use Rattle.metis_ids.proofs.Tests.{bytes_same}
 use Rattle.metis_universe.specs.Texts.{texts}
 use Rattle.metis_universe.specs.Sights.{with_name, sights_after}
-
-pub list_any-map : {A B : Type 0} (p : B → Bool) (f : A → B) (xs : List A) → list_any p (map f xs) ≡ list_any (λ x. p (f x)) xs
-list_any-map p f [] = refl
-list_any-map p f (x ∷ xs) = ap (λ b. p (f x) || b) (list_any-map p f xs)
 
 -- a set of texts that has the name
 pub with_name-there : (keys : List (String Global)) (name : List ℕ) → list_any (λ k. bytes_eq name (string_bytes k)) keys ≡ true → texts keys ≡ with_name (texts keys) name
@@ -64,13 +61,10 @@ pub seen_stays : (p : List ℕ → Bool) (seen names : List (List ℕ)) → list
 seen_stays p seen [] h = h
 seen_stays p seen (name ∷ names) h = seen_stays p (with_name seen name) names (seen_stays_one p seen name h)
 
-pub same_bytes : (name : List ℕ) → bytes_eq name name ≡ true
-same_bytes name = (bytes_eq-Decides name name).1 refl
-
 pub seen_now : (seen : List (List ℕ)) (name : List ℕ) → list_any (bytes_eq name) (with_name seen name) ≡ true
 seen_now seen name = elim (list_any (bytes_eq name) seen) as (λ b. list_any (bytes_eq name) seen ≡ b → list_any (bytes_eq name) (cond b seen (seen ++ name ∷ [])) ≡ true) [
   | true ↦ λ e. e
-  | false ↦ λ e. list_any-append (bytes_eq name) seen (name ∷ []) ∙ or_right (list_any (bytes_eq name) seen) _ (or_left (bytes_eq name name) false (same_bytes name))
+  | false ↦ λ e. list_any-append (bytes_eq name) seen (name ∷ []) ∙ or_right (list_any (bytes_eq name) seen) _ (or_left (bytes_eq name name) false (bytes_same name))
 ] refl
 
 -- each name is there

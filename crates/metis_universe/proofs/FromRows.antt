@@ -11,18 +11,20 @@ use Rattle.std.proofs.lemmas.List.Quantifiers.{position-Some}
 use Rattle.std.proofs.lemmas.List.Sums.{sum_by-cons, sum_by_more_le}
 use Rattle.std.proofs.lemmas.Map.Keys.{apart_from_distinct}
 use Rattle.std.proofs.lemmas.Slice.Eq.{bytes_eq-Decides}
+use Rattle.metis_ids.proofs.Lists.{each_weaker}
+use Rattle.metis_ids.proofs.Tests.{bytes_same}
 use Rattle.metis_universe.specs.Names.{is_name}
 use Rattle.metis_universe.specs.RowShapes.{NeedRow, StateRow, TypeRow, names_needed}
 use Rattle.metis_universe.specs.Universe.{Kind, Pair, no_kind, no_pair, kind_at, pair_at, type_of, type_count, pair_count, port_count, initial_of, demand_total, states_of_type, IsUniverse, IsNamed, IsWithinLimits, IsTable}
 use Rattle.metis_universe.specs.Rows.{IsOfVersion, demand_sum, further_from, greatest_count, ports_of_state, ports_of_type, ports_of, state_total, has_state, first_fault, earlier_type, number_of, state_number, ascending, pair_from, pairs_of_type, pairs_from, kind_from, universe_from}
-use Rattle.metis_universe.proofs.Ascending.{number_within, IsStrictlyIncreasing-ascending, All-ascending, each_ascending, each_map, each_weaker}
+use Rattle.metis_universe.proofs.Ascending.{number_within, IsStrictlyIncreasing-ascending, All-ascending, each_ascending, each_map}
 use Rattle.metis_universe.proofs.DemandSums.{demands-le}
 use Rattle.metis_universe.proofs.Gathered.{greatest-le, greatest-some}
 use Rattle.metis_universe.proofs.Blocks.{no_state, no_row, row_at, states_at, first_of, state_total-cons, length-pairs_from, length-kinds_from, get_or-kinds_from, get_or-pairs_from, Place, place_of, first_of-more, first_of-within}
 use Rattle.metis_universe.proofs.BySight.{IsBySight-universe_from}
 use Rattle.metis_universe.proofs.ClearRows.{IsClear, IsClear-from_first_fault, low_counts, some_counts}
 use Rattle.metis_universe.proofs.FirstFault.{list_any-from_position}
-use Rattle.metis_universe.proofs.FirstSights.{same_bytes, each_seen, each_append, each_parts, sights_keep, sights_distinct, distinct_none, each_of_flat_map, flat_map_each}
+use Rattle.metis_universe.proofs.FirstSights.{each_seen, each_append, each_parts, sights_keep, sights_distinct, distinct_none, each_of_flat_map, flat_map_each}
 use Rattle.metis_universe.proofs.OfType.{of_type}
 
 -- ---- what is demanded besides one
@@ -50,7 +52,7 @@ each_both P Q (x ∷ xs) h k = ((h.0, k.0), each_both P Q xs h.1 k.1)
 each_listed : (names : List (List ℕ)) → AllByRecursion (λ name. list_any (bytes_eq name) names ≡ true) names
 each_listed [] = tt
 each_listed (name ∷ names) = (
-  or_left (bytes_eq name name) (list_any (bytes_eq name) names) (same_bytes name),
+  or_left (bytes_eq name name) (list_any (bytes_eq name) names) (bytes_same name),
   each_weaker (λ m. list_any (bytes_eq m) names ≡ true) (λ m. list_any (bytes_eq m) (name ∷ names) ≡ true) names (λ m h. or_right (bytes_eq m name) (list_any (bytes_eq m) names) h) (each_listed names),
 )
 

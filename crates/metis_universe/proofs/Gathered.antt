@@ -11,13 +11,14 @@ use Rattle.std.proofs.lemmas.List.Elements.{recursion_from_All}
 use Rattle.std.proofs.lemmas.List.Sums.{fold-append, sum_by-cons}
 use Rattle.std.proofs.lemmas.Map.Keys.{IsDistinct-head, IsDistinct-tail}
 use Rattle.std.proofs.lemmas.Slice.Eq.{bytes_eq-Decides}
+use Rattle.metis_ids.proofs.Lists.{each_weaker}
+use Rattle.metis_ids.proofs.Tests.{bytes_same}
 use Rattle.indexmap.specs.IndexMap.{insert_entry}
 use Rattle.metis_universe.specs.Needs.{count_in, greatest_needs, need_of, needs_of, with_need}
 use Rattle.metis_universe.specs.RowShapes.{NeedRow, names_needed}
 use Rattle.metis_universe.specs.Rows.{demand_sum, further_from, greatest_count}
 use Rattle.metis_universe.specs.Sights.{first_sights, sights_after, with_name}
-use Rattle.metis_universe.proofs.Ascending.{each_weaker}
-use Rattle.metis_universe.proofs.FirstSights.{distinct_none, same_bytes, seen_now, seen_stays, sights_distinct}
+use Rattle.metis_universe.proofs.FirstSights.{distinct_none, seen_now, seen_stays, sights_distinct}
 
 -- ---- the greatest count of a port
 
@@ -153,7 +154,7 @@ module _ (g : List ℕ → ℕ) (n : NeedRow) where
       elim (list_any (bytes_eq n.port) names) as (λ b. list_any (bytes_eq n.port) names ≡ b → with_need (counted g names) n ≡ counted raised (cond b names (names ++ n.port ∷ []))) [
         | true ↦ λ there. with_need-there names distinct there
         | false ↦ λ new.
-            let own : n.count ≡ raised n.port = sym (ap (λ a. max a (count_at n.port n)) (nothing new) ∙ zero-max (count_at n.port n) ∙ ap (λ b. cond b n.count 0) (same_bytes n.port)) in
+            let own : n.count ≡ raised n.port = sym (ap (λ a. max a (count_at n.port n)) (nothing new) ∙ zero-max (count_at n.port n) ∙ ap (λ b. cond b n.count 0) (bytes_same n.port)) in
             let before = counted-same g raised names (none_named names new) in
             with_need-new names new
             ∙ (λ i. before i ++ need_of n.port (own i) ∷ [])

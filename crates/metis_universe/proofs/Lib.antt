@@ -1,6 +1,7 @@
 pub mod AllFaults
 pub mod Ascending
 pub mod Attained
+pub mod Bindings
 pub mod Blocks
 pub mod BySight
 pub mod ClearRows

@@ -15,7 +15,7 @@ abbrev pub Rises : List ℕ → Type 0
 Rises [] = Unit {0}
 Rises (x ∷ xs) = AllByRecursion (λ y. x < y) xs × Rises xs
 
-above_all : (a x : ℕ) (xs : List ℕ) → a < x → AllByRecursion (λ y. x < y) xs → AllByRecursion (λ y. a < y) xs
+pub above_all : (a x : ℕ) (xs : List ℕ) → a < x → AllByRecursion (λ y. x < y) xs → AllByRecursion (λ y. a < y) xs
 above_all a x [] l h = tt
 above_all a x (y ∷ xs) l h = (omega (arith, h.0), above_all a x xs l h.1)
 
@@ -31,7 +31,7 @@ not_above : (x : ℕ) (xs : List ℕ) → AllByRecursion (λ y. x < y) xs → (r
 not_above x [] h r e = refl
 not_above x (y ∷ xs) h r e = ap (λ b. b || has xs r) (ne_eqb y r (λ q. omega (arith, h.0))) ∙ not_above x xs h.1 r e
 
-rising_few : (xs : List ℕ) (a n : ℕ) → Rises xs → AllByRecursion (λ x. (a ≤ x) × (x < n)) xs → length xs ≤ n - a
+pub rising_few : (xs : List ℕ) (a n : ℕ) → Rises xs → AllByRecursion (λ x. (a ≤ x) × (x < n)) xs → length xs ≤ n - a
 rising_few [] a n up all = omega arith
 rising_few (x ∷ xs) a n up all = let rest = rising_few xs (x + 1) n up.1 (both xs up.0 all.1) in omega (arith, rest, all.0.0, all.0.1) where
   both : (ys : List ℕ) → AllByRecursion (λ y. x < y) ys → AllByRecursion (λ y. (a ≤ y) × (y < n)) ys → AllByRecursion (λ y. (x + 1 ≤ y) × (y < n)) ys

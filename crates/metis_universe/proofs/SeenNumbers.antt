@@ -13,12 +13,13 @@ use Rattle.std.proofs.lemmas.List.Elements.{All-from_get_or, recursion_from_All}
 use Rattle.std.proofs.lemmas.List.Folds.{list_any_at}
 use Rattle.std.proofs.lemmas.List.Quantifiers.{position-Some}
 use Rattle.std.proofs.lemmas.Slice.Eq.{bytes_eq-Decides}
+use Rattle.metis_ids.proofs.Lists.{each_weaker, none_above}
+use Rattle.metis_ids.proofs.Tests.{bytes_same}
 use Rattle.metis_universe.specs.Rows.{ascending, number_of}
 use Rattle.metis_universe.specs.Sights.{with_name, sights_after}
 use Rattle.metis_universe.specs.Universe.{has}
-use Rattle.metis_universe.proofs.Ascending.{at_seen, each_weaker, has-insert_key, none_above}
+use Rattle.metis_universe.proofs.Ascending.{at_seen, has-insert_key}
 use Rattle.metis_universe.proofs.FirstFault.{list_any-from_position}
-use Rattle.metis_universe.proofs.FirstSights.{same_bytes}
 
 -- ---- numbers in an ascending list
 
@@ -63,7 +64,7 @@ module _ (ports : List (List ℕ)) (apart : Apart ports) where
   number_at n l =
       let p = bytes_eq (get_or ports n []) in
       elim (position p ports) as (λ o. position p ports ≡ o → unwrap_or o 0 ≡ n) [
-        | None ↦ λ e. absurd (both_ways (list_any p ports) (list_any-from_position p ports e) (list_any_at p ports n [] l (same_bytes (get_or ports n []))))
+        | None ↦ λ e. absurd (both_ways (list_any p ports) (list_any-from_position p ports e) (list_any_at p ports n [] l (bytes_same (get_or ports n []))))
         | Some i ↦ λ e. let found = position-Some p ports i [] e in sym (apart n i l found.0 ((bytes_eq-Decides (get_or ports n []) (get_or ports i [])).0 found.1))
       ] refl
 
@@ -78,7 +79,7 @@ module _ (ports : List (List ℕ)) (apart : Apart ports) where
   in_front : (k n : ℕ) → n < k → k ≤ length ports → list_any (bytes_eq (get_or ports n [])) (take k ports) ≡ true
   in_front k n less l =
       let p = bytes_eq (get_or ports n []) in
-      list_any_at p (take k ports) n [] (omega (arith, length-take-le k ports l)) (ap p (get_or-take k ports n [] less) ∙ same_bytes (get_or ports n []))
+      list_any_at p (take k ports) n [] (omega (arith, length-take-le k ports l)) (ap p (get_or-take k ports n [] less) ∙ bytes_same (get_or ports n []))
 
   not_in_front : (k n : ℕ) → k ≤ n → n < length ports → list_any (bytes_eq (get_or ports n [])) (take k ports) ≡ false
   not_in_front k n more l =

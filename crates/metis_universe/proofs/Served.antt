@@ -2,11 +2,12 @@
 use Rattle.std.proofs.Common.{◌≡◌, ℕ, ◌+◌, ◌≤◌, Bool, true, false, cond, not, ◌||◌, List, [], ◌∷◌, map, Option, Some, None, refl, sym, ap, ◌∙◌, subst, arith, nat_eq}
 use Rattle.std.specs.Prelude.{IsTrue, ◌↔◌}
 use Rattle.std.specs.List.{count_by, find, list_any}
-use Rattle.std.proofs.lemmas.Bool.{eq-eqb, eqb-true, false≢true, or_right, true≢false}
+use Rattle.std.proofs.lemmas.Bool.{eq-eqb, eqb-true, false≢true, or_right, true≢false, not-true, not_from_false}
 use Rattle.std.proofs.lemmas.List.Sums.{sum_by-cons}
 use Rattle.metis_ids.specs.declared.actions.Action.{Action}
 use Rattle.metis_ids.specs.declared.goals.Goal.{Goal}
 use Rattle.metis_ids.specs.declared.goals.Goal.TheVariants.{Pair, Port}
+use Rattle.metis_ids.proofs.Lists.{any_at, list_any-map}
 use Rattle.metis_universe.specs.Universe.{Universe, has}
 use Rattle.metis_universe.specs.Config.{Config, IsConfig, empty, pair_of}
 use Rattle.metis_universe.specs.Step.{IsRun, after_all}
@@ -15,7 +16,6 @@ use Rattle.metis_universe.specs.Closed.{Closed, Refusal}
 use Rattle.metis_universe.specs.Goals.{AttainsGoals, GoalRefusal, HoldsGoals, lacks, pair_goals, places_of, occupied, same_goal, serves, serving}
 use Rattle.metis_universe.proofs.Inside.{IsInside-after_all, IsInside-empty}
 use Rattle.metis_universe.proofs.Kept.{IsConfig-after_all, IsConfig-empty}
-use Rattle.metis_universe.proofs.Selected.{any_at}
 use Rattle.metis_universe.proofs.Sorted.{lookup_counted}
 
 -- ---- counts
@@ -26,10 +26,6 @@ count-cons t x xs = sum_by-cons (λ y. cond (t y) 1 0) x xs
 count-map : {X Y : Type 0} (t : Y → Bool) (f : X → Y) (xs : List X) → count_by t (map f xs) ≡ count_by (λ x. t (f x)) xs
 count-map t f [] = refl
 count-map t f (x ∷ xs) = count-cons t (f x) (map f xs) ∙ ap (λ n. cond (t (f x)) 1 0 + n) (count-map t f xs) ∙ sym (count-cons (λ y. t (f y)) x xs)
-
-any-map : {X Y : Type 0} (t : Y → Bool) (f : X → Y) (xs : List X) → list_any t (map f xs) ≡ list_any (λ x. t (f x)) xs
-any-map t f [] = refl
-any-map t f (x ∷ xs) = ap (λ b. t (f x) || b) (any-map t f xs)
 
 pub none_counted : {X : Type 0} (t : X → Bool) (xs : List X) → list_any t xs ≡ false → count_by t xs ≡ 0
 none_counted t [] h = refl
@@ -118,23 +114,16 @@ pub unserved : (u : Universe) (s : List ℕ) (g : Goal) → lacks u s g ≡ not 
 unserved u s (Pair p) = refl
 unserved u s (Port r) = refl
 
-not_true : (b : Bool) → not b ≡ true → b ≡ false
-not_true true h = absurd (false≢true h)
-not_true false h = refl
-
-not_false : (b : Bool) → b ≡ false → not b ≡ true
-not_false b h = ap not h
-
 none_serves : (u : Universe) (s : List ℕ) (g : Goal) → IsTrue (lacks u s g) → list_any (λ p. serves u p g) s ≡ false
-none_serves u s g h = not_true (list_any (λ p. serves u p g) s) (sym (unserved u s g) ∙ h)
+none_serves u s g h = not-true (list_any (λ p. serves u p g) s) (sym (unserved u s g) ∙ h)
 
 pub lacks_where_none : (u : Universe) (s : List ℕ) (g : Goal) → list_any (λ p. serves u p g) s ≡ false → IsTrue (lacks u s g)
-lacks_where_none u s g h = unserved u s g ∙ not_false (list_any (λ p. serves u p g) s) h
+lacks_where_none u s g h = unserved u s g ∙ not_from_false (list_any (λ p. serves u p g) s) h
 
 pub occupied_lack : (u : Universe) (c : Config) (g : Goal) → IsTrue (lacks u (occupied c) g) ↔ (serving u c g ≡ 0)
 occupied_lack u c g = (to, from) where
   same : list_any (λ p. serves u p g) (occupied c) ≡ list_any (λ e. serves u e.1 g) c.instances
-  same = any-map (λ p. serves u p g) (λ e. e.1) c.instances
+  same = list_any-map (λ p. serves u p g) (λ e. e.1) c.instances
 
   to : IsTrue (lacks u (occupied c) g) → serving u c g ≡ 0
   to h = none_counted (λ e. serves u e.1 g) c.instances (sym same ∙ none_serves u (occupied c) g h)
@@ -181,7 +170,7 @@ inside_not_held u s c goals g within is held =
 -- each pair that an instance is in is some instance's
 occupied_within : (s : List ℕ) (c : Config) → IsConfig c → ((z p : ℕ) → pair_of c z ≡ Some p → IsTrue (has s p)) → (p : ℕ) → IsTrue (has (occupied c) p) → IsTrue (has s p)
 occupied_within s c k inside p h =
-    let counted = some_counted (λ e. nat_eq e.1 p) c.instances (sym (any-map (λ q. nat_eq q p) (λ e. e.1) c.instances) ∙ h) in
+    let counted = some_counted (λ e. nat_eq e.1 p) c.instances (sym (list_any-map (λ q. nat_eq q p) (λ e. e.1) c.instances) ∙ h) in
     let found = lookup_counted p c.instances k.ascending counted in
     inside found.0 p found.1
 

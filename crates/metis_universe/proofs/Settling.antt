@@ -2,6 +2,7 @@
 use Rattle.std.proofs.Common.{◌≡◌, ℕ, zero, suc, ◌<◌, true, false, cond, not, List, [], ◌∷◌, take, Option, Some, None, refl, ap, ◌∙◌, arith}
 use Rattle.std.specs.Prelude.{IfSome, IsTrue}
 use Rattle.std.proofs.lemmas.Bool.{false≢true, eq-eqb}
+use Rattle.std.proofs.lemmas.Option.{none-some, same_Some}
 use Rattle.metis_ids.specs.declared.actions.Action.{Action}
 use Rattle.metis_ids.specs.declared.actions.Action.TheVariants.{New, Delete, Bind, Unbind, Move}
 use Rattle.metis_universe.specs.Universe.{Universe, has, initial_of}
@@ -30,7 +31,7 @@ step_settled u y (Bind r z x) o h = absurd (false≢true h)
 step_settled u y (Unbind r z x) o h = absurd (false≢true h)
 step_settled u y (Move z p q) o h = ap (λ b. cond b (Some q) o) h
 
-step_other : (u : Universe) (y : ℕ) (a : Action) (o : Option ℕ) → settles y a ≡ false → pair_step u y a o ≡ o
+pub step_other : (u : Universe) (y : ℕ) (a : Action) (o : Option ℕ) → settles y a ≡ false → pair_step u y a o ≡ o
 step_other u y (New z t) o h = ap (λ b. cond b (Some (initial_of u t)) o) h
 step_other u y (Delete z) o h = ap (λ b. cond (not b) o None) h
 step_other u y (Bind r z x) o h = refl
@@ -45,18 +46,12 @@ unsettled : (u : Universe) (y : ℕ) (actions : List Action) (o : Option ℕ) �
 unsettled u y [] o none = refl
 unsettled u y (a ∷ rest) o none = unsettled u y rest (pair_step u y a o) (NoneSettles-tail y a rest none) ∙ step_other u y a o (none 1)
 
-not_there : (a : Action) → None ≡ Some a → ⊥
-not_there a h = cc
-
-same_action : (a b : Action) → Some a ≡ Some b → a ≡ b
-same_action a b h = cc
-
 settled : (u : Universe) (y : ℕ) (actions : List Action) (j : ℕ) (a : Action) (o : Option ℕ) → settles y a ≡ true → IsLast y actions j a → pair_steps u y actions o ≡ put_by u a
-settled u y [] zero a o h last = absurd (not_there a last.0)
-settled u y [] (suc j) a o h last = absurd (not_there a last.0)
-settled u y (x ∷ rest) zero a o h last = absurd (not_there a last.0)
+settled u y [] zero a o h last = absurd (none-some a last.0)
+settled u y [] (suc j) a o h last = absurd (none-some a last.0)
+settled u y (x ∷ rest) zero a o h last = absurd (none-some a last.0)
 settled u y (x ∷ rest) (suc zero) a o h last =
-    let is = same_action x a last.0 in
+    let is = same_Some x a last.0 in
     unsettled u y rest (pair_step u y x o) later ∙ ap (λ x. pair_step u y x o) is ∙ step_settled u y a o h where
       later : NoneSettles y rest
       later zero = tt

@@ -5,6 +5,7 @@ use Rattle.std.specs.Str.{bytes_eq}
 use Rattle.std.proofs.lemmas.List.{map_more}
 use Rattle.std.proofs.lemmas.Bool.Decides.{nat_tests}
 use Rattle.std.proofs.lemmas.List.Sums.{sum_by-le, sum_by-le-sum_by}
+use Rattle.metis_ids.proofs.Options.{none_from_is_some}
 use Rattle.metis_universe.specs.declared.faults.RowFault.{RowFault}
 use Rattle.metis_universe.specs.declared.faults.RowFault.TheVariants.{TypeName, TypeTwice, Limit}
 use Rattle.metis_universe.specs.declared.faults.LimitKind.TheVariants.{Requires}
@@ -14,7 +15,7 @@ use Rattle.metis_universe.specs.Sights.{with_name}
 use Rattle.metis_universe.specs.Rows.{StateFits, TypeFits, demand_sum, RowsFit, unless, limit_fault, earlier_type, head_fault, fault_after, type_fault, state_total, require_total}
 use Rattle.metis_universe.proofs.Gathered.{demand_sum-le}
 use Rattle.metis_universe.proofs.Named.{position-map}
-use Rattle.metis_universe.proofs.FirstFault.{none_from_is_some, option_or-none, option_map-none, list_any-from_position}
+use Rattle.metis_universe.proofs.FirstFault.{option_or-none, option_map-none, list_any-from_position}
 
 -- the counts of a state's entries, and so what they demand
 pub state_counts-le : (state : StateRow) → StateFits state → All (λ n. n.count ≤ 16) state.require → sum_by (λ n. n.count) state.require ≤ 2 ^ 35

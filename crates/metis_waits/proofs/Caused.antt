@@ -7,8 +7,9 @@ use Rattle.std.proofs.lemmas.Bool.{false≢true, and_from, and_parts, both_ways,
 use Rattle.metis_ids.specs.Action.{actor_of}
 use Rattle.metis_ids.specs.declared.actions.Action.{Action}
 use Rattle.metis_ids.specs.declared.actions.Action.TheVariants.{New, Delete, Bind, Unbind, Move}
+use Rattle.metis_ids.proofs.Lists.{has_range}
 use Rattle.metis_universe.proofs.Places.{passes_at, place_below}
-use Rattle.metis_universe.proofs.Ranges.{has_range, in_range}
+use Rattle.metis_universe.proofs.Ranges.{in_range}
 use Rattle.metis_universe.proofs.Rounds.{has-filter}
 use Rattle.metis_universe.proofs.Standing.{Decides-standing}
 use Rattle.metis_universe.specs.Config.{Binding, is_tie}

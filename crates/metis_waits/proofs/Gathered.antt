@@ -7,10 +7,12 @@ use Rattle.std.specs.BTreeSet.{insert_key}
 use Rattle.std.specs.List.{filter}
 use Rattle.std.specs.List.Sorted.{IsStrictlySortedBy}
 use Rattle.std.specs.Option.{option_map_or}
+use Rattle.std.proofs.Math.Bool.{and-false}
 use Rattle.metis_ids.specs.declared.actions.Action.{Action}
+use Rattle.metis_ids.proofs.Lists.{has_range}
 use Rattle.metis_universe.proofs.Ascending.{has-insert_key}
 use Rattle.metis_universe.proofs.InOrder.{same_members}
-use Rattle.metis_universe.proofs.Ranges.{has_range, in_range}
+use Rattle.metis_universe.proofs.Ranges.{in_range}
 use Rattle.metis_universe.proofs.Rounds.{has-filter}
 use Rattle.metis_universe.specs.Universe.{has}
 use Rattle.metis_universe.specs.Waits.{before, enters, is_release_of, is_wait, last_number, numbers, releases, standing}
@@ -21,10 +23,6 @@ use Rattle.metis_waits.specs.Waits.{is_by}
 
 pub last_low : (p : Action → Bool) (xs : List Action) → last_number p xs ≤ length xs
 last_low p xs = omega arith
-
-and_false : (b : Bool) → (b && false) ≡ false
-and_false true = refl
-and_false false = refl
 
 and_true : (b : Bool) → b ≡ (b && true)
 and_true true = refl
@@ -45,15 +43,15 @@ module _ (earlier : List Action) where
       | inl up ↦ ap (λ b. b && true) (lt-ltb 0 m up) ∙ sym (within m up (omega arith))
       | inr none ↦ ap (λ b. b && true) (le-ltb 0 m none) ∙ sym (false_from_ne_true _ (λ h. omega (arith, (in_range 1 (length earlier) m h).0)))
     ]
-    | false ↦ λ _. and_false (nat_lt 0 m)
+    | false ↦ λ _. and-false (nat_lt 0 m)
   ] refl
 
   release_within : (y m : ℕ) → is_release_of y earlier m ≡ (is_release_of y earlier m && has (numbers earlier) m)
-  release_within y zero = ap (λ b. b) (and_false (nat_lt (last_number (enters y) earlier) 0)) ∙ sym (ap (λ b. b && has (numbers earlier) 0) (and_false (nat_lt (last_number (enters y) earlier) 0)))
+  release_within y zero = ap (λ b. b) (and-false (nat_lt (last_number (enters y) earlier) 0)) ∙ sym (ap (λ b. b && has (numbers earlier) 0) (and-false (nat_lt (last_number (enters y) earlier) 0)))
   release_within y (suc i) = elim (cases_lt i (length earlier)) [
     | inl less ↦ and_true (is_release_of y earlier (suc i)) ∙ ap (λ b. is_release_of y earlier (suc i) && b) (sym (within (suc i) (omega arith) (omega arith)))
     | inr more ↦
-        let none : is_release_of y earlier (suc i) ≡ false = ap (λ o. nat_lt (last_number (enters y) earlier) (suc i) && option_map_or (releases y (standing (before (suc i) earlier))) o false) (get_past earlier i more) ∙ and_false (nat_lt (last_number (enters y) earlier) (suc i)) in
+        let none : is_release_of y earlier (suc i) ≡ false = ap (λ o. nat_lt (last_number (enters y) earlier) (suc i) && option_map_or (releases y (standing (before (suc i) earlier))) o false) (get_past earlier i more) ∙ and-false (nat_lt (last_number (enters y) earlier) (suc i)) in
         none ∙ sym (ap (λ b. b && has (numbers earlier) (suc i)) none)
   ]
 

@@ -1,6 +1,5 @@
 -- Numbers and instances that are kept, after one more action.
-use Rattle.std.proofs.Common.{◌≡◌, ℕ, ◌+◌, Bool, true, false, cond, ◌||◌, List, [], ◌∷◌, ◌++◌, length, Some, refl, sym, ap, ◌∙◌, arith, nat_eq, nat_cmp}
-use Rattle.std.proofs.lemmas.Bool.Decides.{nat_tests}
+use Rattle.std.proofs.Common.{◌≡◌, ℕ, ◌+◌, Bool, true, false, cond, ◌||◌, List, [], ◌∷◌, ◌++◌, length, Some, refl, sym, ap, ◌∙◌, nat_eq, nat_cmp}
 use Rattle.std.proofs.lemmas.List.Folds.{list_any-append}
 use Rattle.std.specs.BTreeSet.{insert_key}
 use Rattle.std.specs.List.{list_any}
@@ -8,18 +7,16 @@ use Rattle.std.specs.Map.{lookup}
 use Rattle.std.specs.Prelude.{unwrap_or}
 use Rattle.metis_ids.specs.declared.actions.Action.{Action}
 use Rattle.metis_ids.specs.declared.actions.Action.TheVariants.{New}
+use Rattle.metis_ids.proofs.Tests.{eq_comm}
 use Rattle.metis_universe.proofs.Ascending.{has-insert_key}
 use Rattle.metis_universe.specs.Steadfast.{is_new}
 use Rattle.metis_universe.specs.Universe.{has}
 use Rattle.metis_waits.proofs.Pushed.{last_pushed}
 use Rattle.metis_waits.specs.Summary.{AreLasts, AreMade, number_at}
 
-pub turned : (a b : ℕ) → nat_eq a b ≡ nat_eq b a
-turned a b = grind (arith, nat_tests)
-
 pub number_at-insert : (es es' : List (ℕ × ℕ)) (z v q : ℕ) → lookup (nat_eq q) es' ≡ cond (nat_eq z q) (Some v) (lookup (nat_eq q) es) → number_at es' q ≡ cond (nat_eq q z) v (number_at es q)
 number_at-insert es es' z v q is =
-    ap (λ o. unwrap_or o 0) (is ∙ ap (λ b. cond b (Some v) (lookup (nat_eq q) es)) (turned z q))
+    ap (λ o. unwrap_or o 0) (is ∙ ap (λ b. cond b (Some v) (lookup (nat_eq q) es)) (eq_comm z q))
     ∙ elim (nat_eq q z) as (λ b. unwrap_or (cond b (Some v) (lookup (nat_eq q) es)) 0 ≡ cond b v (unwrap_or (lookup (nat_eq q) es) 0)) [ true ↦ refl | false ↦ refl ]
 
 module _ (p : ℕ → Action → Bool) (earlier : List Action) (a : Action) where

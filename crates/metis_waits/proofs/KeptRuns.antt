@@ -7,6 +7,7 @@ use Rattle.std.proofs.lemmas.Bool.{false≢true, or_left, or_right, or_cases, eq
 use Rattle.metis_ids.specs.Action.{actor_of}
 use Rattle.metis_ids.specs.declared.actions.Action.{Action}
 use Rattle.metis_ids.specs.declared.actions.Action.TheVariants.{New, Delete, Bind, Unbind, Move}
+use Rattle.metis_ids.proofs.Lists.{at_range}
 use Rattle.metis_universe.specs.Universe.{demand_of, Universe, has, type_of, type_requires, type_provides}
 use Rattle.metis_universe.specs.Config.{Config, Binding, empty, pair_of, is_bound, is_tie, Correct}
 use Rattle.metis_universe.specs.Step.{Allows, after, after_all, IsRun}
@@ -20,11 +21,12 @@ use Rattle.metis_universe.proofs.Demands.{IsMet-map}
 use Rattle.metis_universe.proofs.Correctness.{all_has}
 use Rattle.metis_universe.proofs.Kept.{IsConfig-after_all, IsConfig-empty}
 use Rattle.metis_universe.proofs.Same.{same_config}
-use Rattle.metis_universe.proofs.Places.{all_range, place_below, action_below, config_at, config_at-next, run_at, Correct-config_at, passes_at, least_place}
+use Rattle.metis_universe.proofs.Places.{place_below, action_below, config_at, config_at-next, run_at, Correct-config_at, passes_at, least_place}
 use Rattle.metis_universe.proofs.Ranges.{in_range}
+use Rattle.metis_universe.proofs.Settling.{step_other}
 use Rattle.metis_waits.proofs.LastPlaces.{last_place, passes_from, passes_some}
 use Rattle.metis_waits.proofs.Orders.{IsAt, IsClosedUnderWaits, last_own_done, own_done, place_of}
-use Rattle.metis_waits.proofs.Providers.{bound_next, config_at-start, not_changed, not_changed_later, not_early, own_place, pair_between, pair_next, same_provider, settles_own, take_past, unbound_at}
+use Rattle.metis_waits.proofs.Providers.{bound_next, config_at-start, not_changed_later, not_early, own_place, pair_between, pair_next, same_provider, settles_own, take_past, unbound_at}
 use Rattle.metis_waits.specs.Waits.{is_by}
 
 -- d has of each instance, and of each binding of it, what the run has before the instance's first action that is not done
@@ -208,7 +210,7 @@ module _ (u : Universe) (A : List Action) (run : IsRun u empty A) (steady : is_s
           (pair_of-after u d a x ∙ ap (pair_step u x a) (agree.pairs x i at_x) ∙ sym (pair_of-after u (config_at u A i) a x)
           ∙ ap (λ c. pair_of c x) (sym (config_at-next u A i a at)) ∙ sym still)
       | inr other ↦
-          pair_of-after u d a z ∙ not_changed u z a _ (false_from_ne_true _ (λ c. other (actor_is z (settles_own z a c)))) ∙ agree.pairs z j (at_other z j other next)
+          pair_of-after u d a z ∙ step_other u z a _ (false_from_ne_true _ (λ c. other (actor_is z (settles_own z a c)))) ∙ agree.pairs z j (at_other z j other next)
     ];
     ties = λ r z y j next. elim (cases_eq z x) [
       | inl same ↦
@@ -335,6 +337,6 @@ complete_end u A run steady ks kept complete =
     (λ r z y. end.agree.ties r z y n (at z) ∙ ap (λ xs. is_bound (after_all u empty xs) r z y) (take_all A)) where
       at_end : (end : IsKeptEnd u A [] empty ks) (z : ℕ) → IsAt A end.all_done z (length A)
       at_end end z = record {
-        before = λ m mine less. end.now (suc m) (all_range (has ks) 1 (length A) (suc m) complete (omega arith) (omega arith));
+        before = λ m mine less. end.now (suc m) (at_range (has ks) 1 (length A) (suc m) complete (omega arith) (omega arith));
         only = λ m mine d. let here = passes_some (is_by z) A m mine in place_below A m here.0 here.1;
       }

@@ -8,6 +8,7 @@ use Rattle.std.proofs.lemmas.Bool.{false≢true, and_parts, or_left, eq-eqb, cas
 use Rattle.metis_ids.specs.Action.{actor_of}
 use Rattle.metis_ids.specs.declared.actions.Action.{Action}
 use Rattle.metis_ids.specs.declared.actions.Action.TheVariants.{New, Delete, Bind, Unbind, Move}
+use Rattle.metis_ids.proofs.Lists.{take_short}
 use Rattle.metis_universe.specs.Universe.{has}
 use Rattle.metis_universe.specs.Waits.{action_at, before, is_wait, last_number, numbers, waits}
 use Rattle.metis_universe.proofs.Places.{action_below, passes_at, place_below}
@@ -104,14 +105,6 @@ own_is_wait earlier (Bind r z y) m h = or_left _ _ (eq-eqb m _ (sym h))
 own_is_wait earlier (Unbind r z y) m h = eq-eqb m _ (sym h)
 own_is_wait earlier (Move z p q) m h = or_left _ _ (eq-eqb m _ (sym h))
 
-length-take-le : (A : List Action) (n : ℕ) → length (take n A) ≤ n
-length-take-le A zero = none_taken A where
-  none_taken : (A : List Action) → length (take zero A) ≤ 0
-  none_taken [] = omega arith
-  none_taken (x ∷ A) = omega arith
-length-take-le [] (suc n) = omega arith
-length-take-le (x ∷ A) (suc n) = let rest = length-take-le A n in omega arith
-
 -- an action waits for earlier ones alone
 pub waits_earlier : (A : List Action) (k m : ℕ) → has (waits A k) m ≡ true → (1 ≤ m) × (m < k)
 waits_earlier A k m h = by_action (action_at A k) refl where
@@ -119,7 +112,7 @@ waits_earlier A k m h = by_action (action_at A k) refl where
   among a w low =
       let parts = and_parts (is_wait (before k A) a m) (has (numbers (before k A)) m) (sym (has-filter (is_wait (before k A) a) m (numbers (before k A))) ∙ w) in
       let range = in_range 1 (length (before k A)) m parts.1 in
-      let short = length-take-le A (k - 1) in
+      let short = take_short A (k - 1) in
       (range.0, omega (arith, range.1))
 
   positive : (k : ℕ) (a : Action) → action_at A k ≡ Some a → 1 ≤ k

@@ -5,10 +5,10 @@ use Rattle.std.specs.BTreeSet.{insert_key}
 use Rattle.std.specs.List.{filter, list_any}
 use Rattle.metis_ids.specs.declared.actions.Action.{Action}
 use Rattle.metis_ids.specs.declared.actions.Action.TheVariants.{Bind, Delete, Unbind}
+use Rattle.metis_ids.proofs.Tests.{eq_comm}
 use Rattle.metis_universe.proofs.Edits.{is_bound-tie, is_bound-untie}
 use Rattle.metis_universe.specs.Config.{Binding, binding_cmp, config_of, is_tie}
 use Rattle.metis_universe.specs.Waits.{standing}
-use Rattle.metis_waits.proofs.Kept.{turned}
 use Rattle.metis_waits.proofs.Pushed.{standing_pushed}
 use Rattle.metis_waits.proofs.Tied.{begins, gone, tied_in}
 
@@ -34,7 +34,7 @@ by_provider_is false false false = refl
 
 -- whether two bindings are one, from either side
 other_way : (r z y r' z' y' : ℕ) → is_tie r z y (r', z', y') ≡ is_tie r' z' y' (r, z, y)
-other_way r z y r' z' y' = λ i. (turned r' r i && turned z' z i) && turned y' y i
+other_way r z y r' z' y' = λ i. (eq_comm r' r i && eq_comm z' z i) && eq_comm y' y i
 
 module _ (earlier : List Action) (ks ks' : List Binding) where
   module _ (r z y : ℕ) where

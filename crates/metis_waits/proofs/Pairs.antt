@@ -9,6 +9,7 @@ use Rattle.std.specs.List.{filter, list_any}
 use Rattle.std.specs.Ordering.{ordering_then}
 use Rattle.std.specs.declared.cmp.Ordering.{Ordering}
 use Rattle.std.specs.declared.cmp.Ordering.TheVariants.{Less, Equal}
+use Rattle.metis_ids.proofs.Tests.{eq_comm}
 use Rattle.metis_universe.proofs.Ascending.{has-insert_key}
 use Rattle.metis_universe.specs.Universe.{has}
 use Rattle.metis_universe.proofs.Edits.{any-insert_key}
@@ -28,15 +29,12 @@ exact a b h = let e = alike a.0 a.1 b.0 b.1 h in λ i. (e.0 i, e.1 i)
 pub pair_put : (ps ps' : List (ℕ × ℕ)) (x k y m : ℕ) → ps' ≡ insert_key pair_cmp ps (x, k) → has_pair ps' y m ≡ ((nat_eq x y && nat_eq k m) || has_pair ps y m)
 pair_put ps ps' x k y m is = ap (λ l. has_pair l y m) is ∙ any-insert_key pair_cmp exact (λ p. nat_eq p.0 y && nat_eq p.1 m) (x, k) ps
 
-flip : (a b : ℕ) → nat_eq a b ≡ nat_eq b a
-flip a b = grind (arith, nat_tests)
-
 -- one more binding, whose provider is noted with the number
 pub noted_more : (ties : List Binding) (i n : ℕ) (b : Binding) (first ps ps' : List (ℕ × ℕ)) → i < length ties → b ≡ get_or ties i b → ps' ≡ insert_key pair_cmp ps (b.1, n) →
     ((y m : ℕ) → has_pair ps y m ≡ ((nat_eq m n && list_any (λ t. nat_eq t.1 y) (take i ties)) || has_pair first y m)) →
     (y m : ℕ) → has_pair ps' y m ≡ ((nat_eq m n && list_any (λ t. nat_eq t.1 y) (take (i + 1) ties)) || has_pair first y m)
 noted_more ties i n b first ps ps' low at is old y m =
-    pair_put ps ps' b.1 n y m is ∙ (λ i. (nat_eq b.1 y && flip n m i) || old y m i)
+    pair_put ps ps' b.1 n y m is ∙ (λ i. (nat_eq b.1 y && eq_comm n m i) || old y m i)
     ∙ mix (nat_eq b.1 y) (nat_eq m n) (list_any (λ (t : Binding). nat_eq t.1 y) (take i ties)) (has_pair first y m)
     ∙ ap (λ v. (nat_eq m n && v) || has_pair first y m) (ap (λ (t : Binding). list_any (λ (t : Binding). nat_eq t.1 y) (take i ties) || nat_eq t.1 y) at ∙ sym (list_any_more (λ (t : Binding). nat_eq t.1 y) ties i b low)) where
       mix : (h e l f : Bool) → ((h && e) || ((e && l) || f)) ≡ ((e && (l || h)) || f)

@@ -1,6 +1,7 @@
 -- Lists one behind the other: one more, and the one at an index.
 use Rattle.std.proofs.Common.{◌≡◌, ℕ, zero, suc, ◌-◌, ◌<◌, ◌≤◌, List, [], ◌∷◌, ◌++◌, length, take, drop, get_or, refl, ap, ◌∙◌, arith}
 use Rattle.std.proofs.lemmas.List.{length-append, take-append-le}
+use Rattle.std.proofs.Math.Seq.{take-length}
 use Rattle.metis_waits.specs.Rows.{IsParted, rows_from, start_at}
 
 pub parted_low : (a : ℕ) (ns es : List ℕ) → IsParted a ns es → a ≤ length ns
@@ -24,10 +25,6 @@ drop_all : (xs ys : List ℕ) → drop (length xs) (xs ++ ys) ≡ ys
 drop_all [] ys = refl
 drop_all (x ∷ xs) ys = drop_all xs ys
 
-take_all : (xs : List ℕ) → take (length xs) xs ≡ xs
-take_all [] = refl
-take_all (x ∷ xs) = ap (λ l. x ∷ l) (take_all xs)
-
 length_drop : (n : ℕ) (xs : List ℕ) → length (drop n xs) ≡ length xs - n
 length_drop zero xs = omega arith
 length_drop (suc n) [] = omega arith
@@ -41,7 +38,7 @@ kept a e xs ys l m =
 pub rows_from-push : (a : ℕ) (ns row es : List ℕ) → IsParted a ns es → rows_from a (ns ++ row) (es ++ length (ns ++ row) ∷ []) ≡ rows_from a ns es ++ row ∷ []
 rows_from-push a ns row [] k =
     let few : length (ns ++ row) - a ≡ length row = omega (arith, k, length-append ns row) in
-    (λ i. take (few i) (drop (k i) (ns ++ row)) ∷ []) ∙ ap (λ l. take (length row) l ∷ []) (drop_all ns row) ∙ ap (λ l. l ∷ []) (take_all row)
+    (λ i. take (few i) (drop (k i) (ns ++ row)) ∷ []) ∙ ap (λ l. take (length row) l ∷ []) (drop_all ns row) ∙ ap (λ l. l ∷ []) (take-length row)
 rows_from-push a ns row (e ∷ es) k = λ i. kept a e ns row k.0 (parted_low e ns es k.1) i ∷ rows_from-push e ns row es k.1 i
 
 pub rows_from-at : (a : ℕ) (ns es : List ℕ) (i : ℕ) → i < length es → get_or (rows_from a ns es) i [] ≡ take (get_or es i 0 - start_at a es i) (drop (start_at a es i) ns)

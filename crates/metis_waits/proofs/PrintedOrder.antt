@@ -4,10 +4,10 @@ use Rattle.std.specs.Prelude.{slice_get}
 use Rattle.std.specs.List.{filter_map, range_with_len, cons_option}
 use Rattle.std.proofs.lemmas.Bool.{false≢true, or_left, or_right, eq-eqb, eqb-true, cases_Bool, cases_eq, false_from_ne_true}
 use Rattle.metis_ids.specs.declared.actions.Action.{Action}
+use Rattle.metis_ids.proofs.Lists.{has_range}
 use Rattle.metis_universe.specs.Universe.{has}
 use Rattle.metis_universe.specs.Waits.{waits, numbers, action_at, picked, IsKeptFrom, IsKept, is_complete}
 use Rattle.metis_universe.proofs.Correctness.{all_from_has}
-use Rattle.metis_universe.proofs.Ranges.{has_range}
 use Rattle.metis_waits.proofs.LastPlaces.{waits_earlier}
 
 kept_rest : (A : List Action) (done : List ℕ) (a n : ℕ) → 1 ≤ a → a + n ≡ 1 + length A → ((m : ℕ) → 1 ≤ m → m < a → has done m ≡ true) → ((m : ℕ) → has done m ≡ true → m < a) → IsKeptFrom A done (range_with_len a n)

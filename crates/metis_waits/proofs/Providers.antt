@@ -6,6 +6,7 @@ use Rattle.std.specs.Option.{option_map_or}
 use Rattle.std.proofs.lemmas.Bool.{false≢true, and_parts, and_from, or_left, or_right, or_cases, eq-eqb, eqb-true, lt-ltb, cases_lt, cases_eq, both_ways, cases_Bool, not-true, false_from_ne_true}
 use Rattle.metis_ids.specs.declared.actions.Action.{Action}
 use Rattle.metis_ids.specs.declared.actions.Action.TheVariants.{New, Delete, Bind, Unbind, Move}
+use Rattle.metis_ids.proofs.Options.{none_or_some}
 use Rattle.metis_universe.specs.Universe.{Universe, has, provides, initial_of}
 use Rattle.metis_universe.specs.Config.{Binding, empty, pair_of, is_bound, is_tie}
 use Rattle.metis_universe.specs.Step.{after_all, IsRun}
@@ -17,17 +18,11 @@ use Rattle.metis_universe.proofs.Kept.{IsConfig-empty}
 use Rattle.metis_universe.proofs.Frames.{pair_step, pair_of-after, bound_step, is_bound-after, bindings-after_all}
 use Rattle.metis_universe.proofs.Standing.{step_true, step_kept}
 use Rattle.metis_universe.proofs.Places.{place_below, action_below, config_at, config_at-next, run_at, IsConfig-config_at, steadfast_at, wait_has, passes_at, least_place, lost_at}
+use Rattle.metis_universe.proofs.Settling.{step_other}
 use Rattle.metis_waits.proofs.LastPlaces.{IsLast, last_place, passes_from, passes_some}
 use Rattle.metis_waits.proofs.Orders.{IsAt, IsClosedUnderWaits, own_done}
 use Rattle.metis_waits.specs.Causes.{takes_out}
 use Rattle.metis_waits.specs.Waits.{is_by}
-
-pub not_changed : (u : Universe) (y : ℕ) (a : Action) (o : Option ℕ) → settles y a ≡ false → pair_step u y a o ≡ o
-not_changed u y (New z t) o h = ap (λ b. cond b (Some (initial_of u t)) o) h
-not_changed u y (Delete z) o h = ap (λ b. cond (not b) o None) h
-not_changed u y (Bind r z x) o h = refl
-not_changed u y (Unbind r z x) o h = refl
-not_changed u y (Move z p q) o h = ap (λ b. cond b (Some q) o) h
 
 flip_eq : (a b : ℕ) → nat_eq a b ≡ true → nat_eq b a ≡ true
 flip_eq a b h = eq-eqb b a (sym (eqb-true a b h))
@@ -63,7 +58,7 @@ pair_next u A m y h = elim (cases_lt m (length A)) [
   | inr past ↦ ap (λ xs. pair_of (after_all u empty xs) y) (take_past A m past)
   | inl below ↦ let here = action_below A m below in
       ap (λ c. pair_of c y) (config_at-next u A m here.0 here.1) ∙ pair_of-after u (config_at u A m) here.0 y
-      ∙ not_changed u y here.0 _ (sym (ap (λ o. option_map_or (settles y) o false) here.1) ∙ h)
+      ∙ step_other u y here.0 _ (sym (ap (λ o. option_map_or (settles y) o false) here.1) ∙ h)
 ]
 
 -- the pair is the same where no place between changes it
@@ -223,10 +218,6 @@ change_cases y (Bind r z x) h = absurd (false≢true h)
 change_cases y (Unbind r z x) h = absurd (false≢true h)
 change_cases y (Move z p q) h = inl h
 
-some_absent : (o : Option ℕ) → o ≡ None → IsSome o → ⊥
-some_absent None e h = false≢true h
-some_absent (Some x) e h = cc
-
 -- Where a binding stands at the requirer's place, no later action whose waits are done is the next to change the provider.
 pub not_changed_later : (u : Universe) (A : List Action) → IsRun u empty A → is_steadfast u A ≡ true → (done : List ℕ) (r z y i m : ℕ) →
     is_bound (config_at u A i) r z y ≡ true → IsAt A done z i → i ≤ m → passes_at (settles y) A m ≡ true →
@@ -238,7 +229,7 @@ not_changed_later u A run steady done r z y i m bound at_z low change waits_done
       | inr made ↦
           let t = made.0 in
           let at : slice_get A m ≡ Some (New y t) = here.1 ∙ ap Some made.1 in
-          some_absent (pair_of (config_at u A i) y) (sym (pair_between u A i m y low none) ∙ (run_at u A m (New y t) run at).0.1)
+          none_or_some (pair_of (config_at u A i) y) (sym (pair_between u A i m y low none) ∙ (run_at u A m (New y t) run at).0.1)
           ((IsConfig-config_at u A i IsConfig-empty run).provider r z y bound)
     ]
 

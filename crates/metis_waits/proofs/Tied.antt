@@ -1,6 +1,6 @@
 -- Bindings in two orders.
 use Rattle.std.proofs.Common.{◌≡◌, ℕ, ◌+◌, ◌<◌, Bool, true, false, cond, not, ◌&&◌, ◌||◌, List, [], ◌∷◌, length, take, get_or, refl, sym, ap, ◌∙◌, arith, nat_eq, nat_cmp, inl, inr}
-use Rattle.std.proofs.lemmas.Bool.{both_ways, eq-eqb, false_from_ne_true, or_cases, or_left, or_right}
+use Rattle.std.proofs.lemmas.Bool.{both_ways, false_from_ne_true, or_cases, or_left, or_right}
 use Rattle.std.proofs.lemmas.Bool.Decides.{nat_tests}
 use Rattle.std.proofs.lemmas.List.Folds.{list_any_more}
 use Rattle.std.proofs.lemmas.Map.Views.{any-filter_same}
@@ -9,15 +9,15 @@ use Rattle.std.specs.BTreeSet.{insert_key}
 use Rattle.std.specs.List.{AllByRecursion, filter, list_any}
 use Rattle.std.specs.Ordering.{is_eq, ordering_then}
 use Rattle.std.specs.declared.cmp.Ordering.TheVariants.{Less}
+use Rattle.std.proofs.Math.Bool.{and-false}
+use Rattle.std.specs.Cmp.{both_ways as same_bool}
 use Rattle.metis_universe.proofs.Edits.{is_bound-tie, tie_is}
 use Rattle.metis_universe.proofs.TypeBlock.{any-filter}
 use Rattle.metis_universe.specs.Config.{Binding, binding_cmp, config_of, is_tie, names}
+use Rattle.metis_universe.proofs.Bindings.{own_tie}
 use Rattle.metis_waits.proofs.Rests.{IsRest, any_none, filter_from, filter_none, is_from, no_more}
 
 -- ---- tests of all bindings, in another order
-
-own_tie : (b : Binding) → is_tie b.0 b.1 b.2 b ≡ true
-own_tie b = λ i. eq-eqb b.0 b.0 refl i && eq-eqb b.1 b.1 refl i && eq-eqb b.2 b.2 refl i
 
 -- a binding that passes
 passing : (t : Binding → Bool) (bs : List Binding) → list_any t bs ≡ true → (b : Binding) × (t b ≡ true) × (list_any (is_tie b.0 b.1 b.2) bs ≡ true)
@@ -34,19 +34,14 @@ passes t (b ∷ bs) x y z at h = elim (or_cases (is_tie x y z b) _ h) [
   | inr later ↦ or_right _ _ (passes t bs x y z at later)
 ]
 
-same_test : (a b : Bool) → (a ≡ true → b ≡ true) → (b ≡ true → a ≡ true) → a ≡ b
-same_test true b to back = sym (to refl)
-same_test false true to back = back refl
-same_test false false to back = refl
-
 module _ (t : ℕ → ℕ → ℕ → Bool) (bs ks : List Binding) where
   pub requirer_any : ((r z y : ℕ) → list_any (is_tie z y r) ks ≡ list_any (is_tie r z y) bs) → list_any (λ (k : Binding). t k.2 k.0 k.1) ks ≡ list_any (λ (b : Binding). t b.0 b.1 b.2) bs
-  requirer_any same = same_test _ _
+  requirer_any same = same_bool _ _
       (λ h. let found = passing (λ k. t k.2 k.0 k.1) ks h in let b = found.0 in passes (λ b. t b.0 b.1 b.2) bs b.2 b.0 b.1 found.1 (sym (same b.2 b.0 b.1) ∙ found.2))
       (λ h. let found = passing (λ b. t b.0 b.1 b.2) bs h in let b = found.0 in passes (λ k. t k.2 k.0 k.1) ks b.1 b.2 b.0 found.1 (same b.0 b.1 b.2 ∙ found.2))
 
   pub provider_any : ((r z y : ℕ) → list_any (is_tie y z r) ks ≡ list_any (is_tie r z y) bs) → list_any (λ (k : Binding). t k.2 k.1 k.0) ks ≡ list_any (λ (b : Binding). t b.0 b.1 b.2) bs
-  provider_any same = same_test _ _
+  provider_any same = same_bool _ _
       (λ h. let found = passing (λ k. t k.2 k.1 k.0) ks h in let b = found.0 in passes (λ b. t b.0 b.1 b.2) bs b.2 b.1 b.0 found.1 (sym (same b.2 b.1 b.0) ∙ found.2))
       (λ h. let found = passing (λ b. t b.0 b.1 b.2) bs h in let b = found.0 in passes (λ k. t k.2 k.1 k.0) ks b.2 b.1 b.0 found.1 (same b.0 b.1 b.2 ∙ found.2))
 
@@ -140,10 +135,6 @@ dropped_more ties i k v v' first low at now old x y z =
       mix false true f = refl
       mix false false f = refl
 
-and_false : (a : Bool) → (a && false) ≡ false
-and_false true = refl
-and_false false = refl
-
 alone : (a : Bool) → (not (a && true) && true) ≡ (not (a || false) && true)
 alone true = refl
 alone false = refl
@@ -159,4 +150,4 @@ gone z bs own us serves is same r x y =
       by true there =
           let other : nat_eq y z ≡ false = false_from_ne_true _ (λ at. both_ways _ serves (passes (λ (b : Binding). nat_eq b.2 z) bs r x y at there)) in
           alone (nat_eq x z) ∙ ap (λ v. not (nat_eq x z || v) && true) (sym other)
-      by false there = and_false (not (nat_eq x z && false)) ∙ sym (and_false (not (nat_eq x z || nat_eq y z)))
+      by false there = and-false (not (nat_eq x z && false)) ∙ sym (and-false (not (nat_eq x z || nat_eq y z)))

@@ -1,6 +1,7 @@
 -- An order that keeps the waits is one in which each number comes in time.
 use Rattle.std.proofs.Common.{◌≡◌, ℕ, Bool, true, false, ◌||◌, List, [], ◌∷◌, ◌++◌, refl, sym, ap, ◌∙◌, subst, nat_eq}
 use Rattle.std.specs.Prelude.{◌↔◌}
+use Rattle.std.proofs.Math.Bool.{or-false}
 use Rattle.metis_ids.specs.declared.actions.Action.{Action}
 use Rattle.metis_universe.proofs.Correctness.{all_from_has, all_has}
 use Rattle.metis_universe.specs.Universe.{has}
@@ -53,16 +54,12 @@ timely_kept A done (x ∷ ks) all =
     let first = all [] ks x refl in
     (first.number, first.new, all_from_has (has done) (waits A x) first.waited, timely_kept A (x ∷ done) ks (λ before later k e. first_done A done before x k (all (x ∷ before) later k (ap (λ xs. x ∷ xs) e))))
 
-right_false : (b : Bool) → (b || false) ≡ b
-right_false true = refl
-right_false false = refl
-
 -- behind nothing that is done
 in_time : (A : List Action) (before : List ℕ) (k : ℕ) → IsTimely A [] before k → ComesInTime A before k
-in_time A before k t = record { number = t.number; new = sym (right_false (has before k)) ∙ t.new; waited = λ m w. sym (right_false (has before m)) ∙ t.waited m w }
+in_time A before k t = record { number = t.number; new = sym (or-false (has before k)) ∙ t.new; waited = λ m w. sym (or-false (has before m)) ∙ t.waited m w }
 
 timely : (A : List Action) (before : List ℕ) (k : ℕ) → ComesInTime A before k → IsTimely A [] before k
-timely A before k t = record { number = t.number; new = right_false (has before k) ∙ t.new; waited = λ m w. right_false (has before m) ∙ t.waited m w }
+timely A before k t = record { number = t.number; new = or-false (has before k) ∙ t.new; waited = λ m w. or-false (has before m) ∙ t.waited m w }
 
 pub IsKept-in_time : (A : List Action) (ks : List ℕ) → IsKept A ks ↔ KeepsWaits A ks
 IsKept-in_time A ks = (

@@ -5,9 +5,9 @@ use Rattle.std.proofs.lemmas.List.Elements.{filter-append}
 use Rattle.std.proofs.lemmas.List.Kept.{IsStrictlySortedBy-filter}
 use Rattle.std.specs.List.{filter}
 use Rattle.std.specs.List.Sorted.{IsStrictlySortedBy}
+use Rattle.metis_ids.proofs.Tests.{cmp_less}
 use Rattle.metis_universe.proofs.Rounds.{has-filter}
 use Rattle.metis_universe.specs.Universe.{has}
-use Rattle.metis_universe.proofs.InOrder.{less_is}
 use Rattle.metis_waits.specs.Summary.{has_number}
 
 -- the numbers of the one list and then of the other
@@ -16,7 +16,7 @@ joined a b xs ys first second = second ∙ ap (λ l. l ++ filter (λ m. not (nat
 
 sorted_two : (a b : ℕ) → a < b → IsStrictlySortedBy nat_cmp (a ∷ b ∷ [])
 unfolding IsStrictlySortedBy
-sorted_two a b l = ((less_is a b l, tt), (tt, tt))
+sorted_two a b l = ((cmp_less a b l, tt), (tt, tt))
 
 sorted_one : (a : ℕ) → IsStrictlySortedBy nat_cmp (a ∷ [])
 unfolding IsStrictlySortedBy

@@ -5,28 +5,20 @@ use Rattle.std.specs.Cmp.{IsTotalOrder, nat_cmp_is}
 use Rattle.std.specs.Ordering.{ordering_then}
 use Rattle.std.specs.declared.cmp.Ordering.{Ordering}
 use Rattle.std.specs.declared.cmp.Ordering.TheVariants.{Less, Equal, Greater}
-use Rattle.std.specs.List.{AllByRecursion}
 use Rattle.std.specs.List.Sorted.{IsStrictlySortedBy}
-use Rattle.std.proofs.lemmas.Bool.{false≢true, cases_lt, eq-eqb, eqb-true, or_cases, or_left, or_right, cases_Bool}
-use Rattle.std.proofs.lemmas.Bool.Decides.{nat_tests}
+use Rattle.std.proofs.lemmas.Bool.{cases_lt, eq-eqb, eqb-true, or_cases, or_left, or_right, cases_Bool}
 use Rattle.std.proofs.lemmas.Cmp.{nat_cmp_total, on_total, then_total}
 use Rattle.metis_ids.specs.declared.actions.Action.{Action}
+use Rattle.metis_ids.proofs.Lists.{each_has, has_range}
+use Rattle.metis_ids.proofs.Tests.{cmp_equal}
 use Rattle.metis_universe.specs.Universe.{has}
 use Rattle.metis_universe.specs.Waits.{IsKeptFrom, IsKept, is_complete, numbers, waits}
 use Rattle.metis_universe.proofs.Correctness.{all_from_has}
 use Rattle.metis_universe.proofs.Edits.{any-insert_key}
-use Rattle.metis_universe.proofs.Ranges.{has_range}
 use Rattle.metis_universe.proofs.Sorted.{IsStrictlySortedBy-insert_key}
 use Rattle.metis_waves.specs.Schedule.{IsByStart, IsSchedule, start_cmp, start_of}
 use Rattle.metis_waves.specs.declared.durations.Durations.{Durations}
 use Rattle.metis_waves.proofs.Earlier.{waits_earlier}
-
-each_has : (P : ℕ → Type 0) (xs : List ℕ) (m : ℕ) → AllByRecursion P xs → has xs m ≡ true → P m
-each_has P [] m all h = absurd (false≢true h)
-each_has P (x ∷ xs) m all h = elim (or_cases (nat_eq x m) (has xs m) h) [
-  | inl same ↦ subst P (eqb-true x m same) all.0
-  | inr later ↦ each_has P xs m all.1 later
-]
 
 -- the first of a list in order stands before each of the rest
 after_first : (s : List ℕ) (k : ℕ) (ks : List ℕ) (m : ℕ) → IsStrictlySortedBy (start_cmp s) (k ∷ ks) → has ks m ≡ true → start_cmp s k m ≡ Less
@@ -106,9 +98,6 @@ complete A s ks order = all_from_has (has ks) (numbers A) (λ m there. order.sam
 start_total : (s : List ℕ) → IsTotalOrder (start_cmp s)
 start_total s = then_total (on_total (start_of s) nat_cmp_total) nat_cmp_total
 
-equal_numbers : (a b : ℕ) → nat_cmp a b ≡ Equal → a ≡ b
-equal_numbers a b h = grind (arith, nat_tests)
-
 second_equal : (o p : Ordering) → ordering_then o p ≡ Equal → p ≡ Equal
 second_equal Less p h = absurd (apart h) where
   apart : Less ≡ Equal → ⊥
@@ -119,7 +108,7 @@ second_equal Greater p h = absurd (apart h) where
   apart h = cc
 
 start_exact : (s : List ℕ) (a b : ℕ) → start_cmp s a b ≡ Equal → a ≡ b
-start_exact s a b tied = equal_numbers a b (second_equal (nat_cmp (start_of s a) (start_of s b)) (nat_cmp a b) tied)
+start_exact s a b tied = cmp_equal a b (second_equal (nat_cmp (start_of s a) (start_of s b)) (nat_cmp a b) tied)
 
 abbrev in_start_order : List ℕ → List ℕ → List ℕ
 in_start_order s [] = []

@@ -2,9 +2,6 @@
 use Rattle.std.proofs.Common.{◌≡◌, ℕ, zero, suc, ◌+◌, ◌*◌, ◌-◌, ◌<◌, ◌≤◌, Bool, true, false, cond, List, [], ◌∷◌, ◌++◌, Option, Some, None, refl, sym, ap, ◌∙◌, arith, length, map, max, take, nat_eq, get_or, inl, inr}
 use Rattle.std.specs.List.{All, find, range_with_len}
 use Rattle.std.specs.Option.{option_map_or, option_or}
-use Rattle.std.specs.Cmp.{nat_cmp_is}
-use Rattle.std.specs.Ordering.{is_lt, nat_cmp, ord_max}
-use Rattle.std.specs.declared.cmp.Ordering.TheVariants.{Less, Equal, Greater}
 use Rattle.std.proofs.lemmas.Bool.{eq-eqb, or_left, or_right, cases_lt, cases_eq}
 use Rattle.std.proofs.lemmas.List.{get_or-append_right, length-map, map-append, take_more}
 use Rattle.std.proofs.lemmas.List.Folds.{find-append, list_any_at}
@@ -12,38 +9,19 @@ use Rattle.std.proofs.lemmas.List.FromFn.{length-range_with_len}
 use Rattle.std.proofs.Math.ListN.{get_or-append}
 use Rattle.metis_ids.specs.declared.actions.Action.{Action}
 use Rattle.metis_ids.specs.declared.actions.Action.TheVariants.{New, Delete, Bind, Unbind, Move}
+use Rattle.metis_ids.proofs.Counts.{greatest_push}
+use Rattle.metis_ids.proofs.Finding.{none_then_at}
+use Rattle.metis_ids.proofs.Lists.{range_push}
 use Rattle.metis_universe.specs.Universe.{has}
 use Rattle.metis_universe.specs.Waits.{action_at, numbers, waits}
-use Rattle.metis_waits.proofs.Risen.{range_push}
 use Rattle.metis_waits.specs.Waits.{AreWaits, WaitLists}
-use Rattle.metis_waves.specs.Schedule.{AreShort, duration_of, end_of, greatest, start_of, takes}
+use Rattle.metis_waves.specs.Schedule.{AreShort, duration_of, end_of, start_of, takes}
+use Rattle.metis_ids.specs.Counts.{greatest}
 use Rattle.metis_waves.specs.declared.durations.Durations.{Durations}
 use Rattle.metis_waves.proofs.Bounds.{greatest_below}
 use Rattle.metis_waves.proofs.Earlier.{waits_earlier}
 
 -- ---- the first number that passes
-
-none_then_at : (t : ℕ → Bool) (x : ℕ) (xs : List ℕ) → find t (x ∷ xs) ≡ None → (t x ≡ false) × (find t xs ≡ None)
-none_then_at t x xs h = elim (t x) as (λ b. t x ≡ b → cond b (Some x) (find t xs) ≡ None → (t x ≡ false) × (find t xs ≡ None)) [
-  | true ↦ λ _ some. cc
-  | false ↦ λ e rest. (e, rest)
-] refl h
-
-pub found_in_range : (t : ℕ → Bool) (a i n : ℕ) → find t (range_with_len a i) ≡ None → i < n → t (a + i) ≡ true → find t (range_with_len a n) ≡ Some (a + i)
-found_in_range t a i zero none less at = absurd (omega arith)
-found_in_range t a zero (suc n) none less at =
-    let same : a + 0 ≡ a = omega arith in
-    ap (λ b. cond b (Some a) (find t (range_with_len (a + 1) n))) (ap t (sym same) ∙ at) ∙ ap (λ k. Some k) (sym same)
-found_in_range t a (suc i) (suc n) none less at =
-    let parts = none_then_at t a (range_with_len (a + 1) i) none in
-    let same : a + suc i ≡ a + 1 + i = omega arith in
-    ap (λ b. cond b (Some a) (find t (range_with_len (a + 1) n))) parts.0
-    ∙ found_in_range t (a + 1) i n parts.1 (omega arith) (ap t (sym same) ∙ at) ∙ ap (λ k. Some k) (sym same)
-
-pub none_in_range : (t : ℕ → Bool) (a i : ℕ) → find t (range_with_len a i) ≡ None → t (a + i) ≡ false → find t (range_with_len a (i + 1)) ≡ None
-none_in_range t a i none fails =
-    ap (find t) (range_push a i) ∙ find-append t (range_with_len a i) ((a + i) ∷ [])
-    ∙ ap (λ o. option_or o (cond (t (a + i)) (Some (a + i)) None)) none ∙ ap (λ b. cond {A = Option ℕ} b (Some (a + i)) None) fails
 
 pub found_in_list : (t : ℕ → Bool) (xs : List ℕ) (i : ℕ) → find t (take i xs) ≡ None → i < length xs → t (get_or xs i 0) ≡ true → find t xs ≡ Some (get_or xs i 0)
 found_in_list t [] i none less at = absurd (omega arith)
@@ -59,21 +37,8 @@ none_in_list t xs i none less fails =
 
 -- ---- the greatest number
 
-greatest_push : (xs : List ℕ) (y : ℕ) → greatest (xs ++ y ∷ []) ≡ max (greatest xs) y
-greatest_push [] y = omega arith
-greatest_push (x ∷ xs) y = let rest = greatest_push xs y in omega arith
-
 pub greatest_more : (f : ℕ → ℕ) (xs : List ℕ) (y n : ℕ) → n ≡ max (greatest (map f xs)) (f y) → n ≡ greatest (map f (xs ++ y ∷ []))
 greatest_more f xs y n is = is ∙ sym (ap greatest (map-append f xs (y ∷ [])) ∙ greatest_push (map f xs) (f y))
-
-pub ord_max_is : (a b : ℕ) → ord_max nat_cmp a b ≡ max a b
-ord_max_is a b = elim (cases_lt b a) [
-  | inl less ↦ ap (λ o. cond (is_lt o) a b) (sym (nat_cmp_is b a Less less)) ∙ omega arith
-  | inr more ↦ elim (cases_eq b a) [
-    | inl same ↦ ap (λ o. cond (is_lt o) a b) (sym (nat_cmp_is b a Equal same)) ∙ omega arith
-    | inr other ↦ ap (λ o. cond (is_lt o) a b) (sym (nat_cmp_is b a Greater (omega arith))) ∙ omega arith
-  ]
-]
 
 pub greatest_in_list : (f : ℕ → ℕ) (xs : List ℕ) (i n : ℕ) → i < length xs → n ≡ max (greatest (map f (take i xs))) (f (get_or xs i 0)) → n ≡ greatest (map f (take (i + 1) xs))
 greatest_in_list f xs i n less is = greatest_more f (take i xs) (get_or xs i 0) n is ∙ sym (ap (λ l. greatest (map f l)) (take_more xs i 0 less))

@@ -3,6 +3,7 @@ use Rattle.std.proofs.Common.{◌≡◌, ℕ, zero, suc, ◌-◌, ◌<◌, ◌�
 use Rattle.std.specs.Prelude.{slice_get, IfSome}
 use Rattle.std.specs.List.{find, slice_index_or}
 use Rattle.std.proofs.lemmas.List.{length_push}
+use Rattle.std.proofs.lemmas.Option.{same_Some}
 use Rattle.metis_ids.specs.declared.actions.Action.{Action}
 use Rattle.metis_universe.specs.Waits.{waits}
 use Rattle.metis_waves.specs.Schedule.{end_of, start_of}
@@ -38,9 +39,6 @@ split_last (m ∷ ks) = elim (split_last ks) [
   | inr some ↦ inr (m ∷ some.0, some.1, ap (λ l. m ∷ l) some.2)
 ]
 
-same_value : (k m : ℕ) → Some k ≡ Some m → k ≡ m
-same_value k m h = cc
-
 module _ (A : List Action) (d : Durations) (e : List ℕ) where
   abbrev Begins : List ℕ → Type 0
   Begins ks = IfSome (slice_get ks 0) (λ k. waits A k ≡ [])
@@ -61,7 +59,7 @@ module _ (A : List Action) (d : Durations) (e : List ℕ) where
     | inr some ↦ elim (split_last js) [
       | inl none' ↦ absurd (none_some some.1 (sym (ap last_of none') ∙ sym ends ∙ ap last_of some.2 ∙ last_push some.0 some.1))
       | inr some' ↦
-          let last : some.1 ≡ some'.1 = same_value some.1 some'.1 (sym (ap last_of some.2 ∙ last_push some.0 some.1) ∙ ends ∙ ap last_of some'.2 ∙ last_push some'.0 some'.1) in
+          let last : some.1 ≡ some'.1 = same_Some some.1 some'.1 (sym (ap last_of some.2 ∙ last_push some.0 some.1) ∙ ends ∙ ap last_of some'.2 ∙ last_push some'.0 some'.1) in
           let here = front some.0 some.1 (subst (IsLinked d A e) some.2 linked) (subst Begins some.2 begins) in
           let there = front some'.0 some'.1 (subst (IsLinked d A e) some'.2 linked') (subst Begins some'.2 begins') in
           let long = length_push some.0 some.1 in

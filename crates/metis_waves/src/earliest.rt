@@ -2,7 +2,8 @@
 ghost use Rattle.std.specs.Prelude.{◌≡◌, ◌≤◌, ◌<◌, ◌*◌, ◌-◌, ◌^◌, ℕ, IfOk, length, map};
 ghost use Rattle.std.specs.List.{All};
 ghost use Rattle.metis_waits.specs.Waits.{AreWaits};
-ghost use Rattle.metis_waves.specs.Schedule.{AreShort, IsEarliest, end_of, end_of_all, greatest, start_of};
+ghost use Rattle.metis_waves.specs.Schedule.{AreShort, IsEarliest, end_of, end_of_all, start_of};
+ghost use Rattle.metis_ids.specs.Counts.{greatest};
 
 use crate::durations::Durations;
 use crate::ends::end_of;

@@ -1,6 +1,7 @@
 use Rattle.std.proofs.Common.{◌≡◌, ◌+◌, ◌-◌, ◌∙◌, arith, false, sym, ap}
+use Rattle.metis_ids.proofs.Lists.{any_counted}
 use Rattle.metis_lines.specs.LifeLines.{holder_of}
-use Rattle.metis_audit.proofs.Rounds.{none_in_row, some_in_row}
+use Rattle.metis_audit.proofs.Rounds.{none_in_row}
 use Rattle.metis_audit.specs.Takes.{is_at}
 use Rattle.metis_audit.proofs.edges.has_slot_at.Goals as goal
 use borrow.Author.Count.{below_more}
@@ -9,7 +10,7 @@ pub returns-then-is_slot_at : goal.returns-then-is_slot_at
 returns-then-is_slot_at c =
     let held = c.args.held.now in
     let low = c.loop-slot-test.true in
-    sym (some_in_row (is_at held.0 held.1) (holder_of c.args.l.now c.args.provider) 1 c.args.count (c.loop-slot.slot + 1) (omega arith) (omega (arith, low)) (sym c.if-is_slot_at.ensures))
+    sym (any_counted (is_at held.0 held.1) (holder_of c.args.l.now c.args.provider) 1 c.args.count (c.loop-slot.slot + 1) (omega arith) (omega (arith, low)) (sym c.if-is_slot_at.ensures))
 
 pub loop-slot-preserved : goal.loop-slot-preserved
 loop-slot-preserved c =

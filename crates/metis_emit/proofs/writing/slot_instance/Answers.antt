@@ -1,5 +1,6 @@
-use Rattle.std.proofs.Common.{◌≡◌, ℕ, Some, refl, sym, ap, ◌∙◌, subst}
+use Rattle.std.proofs.Common.{ℕ, refl, sym, ap, ◌∙◌, subst}
 use Rattle.std.specs.Prelude.{IsSome}
+use Rattle.std.proofs.lemmas.Option.{same_Some}
 use Rattle.metis_lines.proofs.Slotted.{held_slot}
 use Rattle.metis_lines.specs.LifeLines.{slot_holding}
 use Rattle.metis_emit.proofs.writing.slot_instance.Goals as goal
@@ -7,11 +8,8 @@ use Rattle.metis_emit.proofs.writing.slot_instance.Goals as goal
 pub unwrap-holder-requires : goal.unwrap-holder-requires
 unwrap-holder-requires c = subst IsSome (sym (c.holder.ensures ∙ held_slot c.args.lines.now c.args.provider c.args.slot c.requires.low c.requires.high)) refl
 
-same_some : (a b : ℕ × ℕ) → Some a ≡ Some b → a ≡ b
-same_some a b h = cc
-
 pub returns : goal.returns
 returns c =
     let at = slot_holding c.args.lines.now c.args.provider c.args.slot in
-    let same = same_some c.unwrap-holder.result at (sym c.unwrap-holder.ensures ∙ c.holder.ensures ∙ held_slot c.args.lines.now c.args.provider c.args.slot c.requires.low c.requires.high) in
+    let same = same_Some c.unwrap-holder.result at (sym c.unwrap-holder.ensures ∙ c.holder.ensures ∙ held_slot c.args.lines.now c.args.provider c.args.slot c.requires.low c.requires.high) in
     ap (λ (h : ℕ × ℕ). h.0) (c.holder-2.view_is ∙ same)

@@ -1,14 +1,12 @@
-use Rattle.std.proofs.Common.{◌≡◌, ◌<◌, ℕ, ◌+◌, Some, length, map, refl, sym, ◌∙◌, arith, subst}
+use Rattle.std.proofs.Common.{◌≡◌, ◌<◌, ℕ, ◌+◌, length, map, refl, sym, ◌∙◌, arith, subst}
 use Rattle.std.specs.Prelude.{IsSome}
 use Rattle.std.specs.List.{flat_map, range_with_len}
+use Rattle.std.proofs.lemmas.Option.{same_Some}
 use Rattle.metis_lines.proofs.Slotted.{held_slot}
 use Rattle.metis_lines.specs.LifeLines.{line_at, slot_holding, supply_from}
 use Rattle.metis_events.proofs.Adding.{slots_more}
 use Rattle.metis_events.proofs.gather.add_slot_supplies.Goals as goal
 use Rattle.metis_events.specs.Gathered.{Adds, supply_edges, without_supplies}
-
-same_some : (a b : ℕ × ℕ) → Some a ≡ Some b → a ≡ b
-same_some a b h = cc
 
 pub unwrap-holder-requires : goal.unwrap-holder-requires
 unwrap-holder-requires c =
@@ -20,14 +18,14 @@ pub add_supply-requires-clause-holder : goal.add_supply-requires-clause-holder
 add_supply-requires-clause-holder c =
     let k : ℕ = c.loop-slot.slot + 1 in
     let there = c.requires.slots k (omega arith) (omega (arith, c.loop-slot-test.true)) in
-    let same = same_some c.unwrap-holder.result (slot_holding c.args.l.now c.args.provider k) (sym c.unwrap-holder.ensures ∙ c.holder.ensures ∙ held_slot c.args.l.now c.args.provider k (omega arith) there.number) in
+    let same = same_Some c.unwrap-holder.result (slot_holding c.args.l.now c.args.provider k) (sym c.unwrap-holder.ensures ∙ c.holder.ensures ∙ held_slot c.args.l.now c.args.provider k (omega arith) there.number) in
     subst (λ (h : ℕ × ℕ). h.0 < length c.args.l.now.lines) (sym same) there.line
 
 pub add_supply-requires-clause-place : goal.add_supply-requires-clause-place
 add_supply-requires-clause-place c =
     let k : ℕ = c.loop-slot.slot + 1 in
     let there = c.requires.slots k (omega arith) (omega (arith, c.loop-slot-test.true)) in
-    let same = same_some c.unwrap-holder.result (slot_holding c.args.l.now c.args.provider k) (sym c.unwrap-holder.ensures ∙ c.holder.ensures ∙ held_slot c.args.l.now c.args.provider k (omega arith) there.number) in
+    let same = same_Some c.unwrap-holder.result (slot_holding c.args.l.now c.args.provider k) (sym c.unwrap-holder.ensures ∙ c.holder.ensures ∙ held_slot c.args.l.now c.args.provider k (omega arith) there.number) in
     subst (λ (h : ℕ × ℕ). h.1 < length (line_at c.args.l.now h.0)) (sym same) there.place
 
 pub loop-slot-preserved : goal.loop-slot-preserved
@@ -39,7 +37,7 @@ loop-slot-preserved c = λ r.
     let n : ℕ = c.loop-slot.slot in
     let k : ℕ = n + 1 in
     let there = c.requires.slots k (omega arith) (omega (arith, c.loop-slot-test.true)) in
-    let same = same_some c.unwrap-holder.result (slot_holding x p k) (sym c.unwrap-holder.ensures ∙ c.holder.ensures ∙ held_slot x p k (omega arith) there.number) in
+    let same = same_Some c.unwrap-holder.result (slot_holding x p k) (sym c.unwrap-holder.ensures ∙ c.holder.ensures ∙ held_slot x p k (omega arith) there.number) in
     slots_more (supply_edges (without_supplies x)) (λ k. supply_from l j r k (slot_holding x p k)) n c.args.edges.now c.loop-slot.edges c.add_supply.new.edges (c.loop-slot.invariant r)
     (subst (λ h. Adds (supply_edges (without_supplies x) (supply_from l j r k h)) c.loop-slot.edges c.add_supply.new.edges) same (c.in_ok-add_supply.ensures r k))
 

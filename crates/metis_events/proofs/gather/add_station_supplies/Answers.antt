@@ -2,8 +2,8 @@ use Rattle.std.proofs.Common.{◌≡◌, ◌<◌, ◌≤◌, ◌+◌, ℕ, List,
 use Rattle.std.specs.Option.{option_map_or}
 use Rattle.std.specs.List.{flat_map, range_with_len}
 use Rattle.std.proofs.lemmas.List.{get_or_default, take_all}
+use Rattle.metis_ids.proofs.Lists.{has_at}
 use Rattle.metis_universe.specs.Universe.{demand_of, has, pair_count, required_of, requires}
-use Rattle.metis_support.proofs.Lists.{has_at}
 use Rattle.metis_lines.specs.AbstractPlan.{Supply}
 use Rattle.metis_lines.specs.LifeLines.{line_at, port_supplies, slot_holding, slot_supplies, supply_from}
 use Rattle.metis_events.proofs.Adding.{ports_more}

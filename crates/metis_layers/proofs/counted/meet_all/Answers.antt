@@ -1,8 +1,9 @@
 use Rattle.metis_universe.specs.Universe.{requirers_of}
 use Rattle.std.proofs.Common.{◌≡◌, ℕ, ◌+◌, List, get_or, take, sym, ap, ◌∙◌, arith}
 use Rattle.std.proofs.lemmas.List.{take_all}
-use Rattle.metis_layers.specs.Counters.{occurrences}
-use Rattle.metis_layers.proofs.CounterFacts.{counter_some, counter_step, end_past, entry_low, entry_there, requirers_few, requirers_within}
+use Rattle.metis_ids.proofs.Lists.{end_past}
+use Rattle.metis_ids.specs.Counts.{occurrences}
+use Rattle.metis_layers.proofs.CounterFacts.{counter_some, counter_step, entry_low, entry_there, requirers_few, requirers_within}
 use Rattle.metis_layers.proofs.counted.meet_all.Goals as goal
 
 pub meet-requires-clause-rounds : goal.meet-requires-clause-rounds

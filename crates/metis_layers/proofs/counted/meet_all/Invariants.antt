@@ -1,6 +1,7 @@
 use Rattle.metis_universe.specs.Universe.{requirers_of}
 use Rattle.std.proofs.Common.{◌≡◌, ℕ, ◌+◌, ◌-◌, ◌≤◌, length, get_or, take}
-use Rattle.metis_layers.specs.Counters.{IsSettled, occurrences}
+use Rattle.metis_layers.specs.Counters.{IsSettled}
+use Rattle.metis_ids.specs.Counts.{occurrences}
 use Rattle.metis_layers.proofs.counted.meet_all.Given as goal
 
 abbrev pub invariant-loop-q : goal.invariant-loop-q

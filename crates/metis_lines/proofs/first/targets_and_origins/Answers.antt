@@ -1,6 +1,6 @@
 use Rattle.std.proofs.Common.{◌∙◌, ap, arith, get_or}
 use Rattle.metis_ids.specs.PairSet.{PairSet}
-use Rattle.metis_support.proofs.Lists.{has_at}
+use Rattle.metis_ids.proofs.Lists.{has_at}
 use Rattle.metis_lines.proofs.first.targets_and_origins.Goals as goal
 
 pub add_all-requires : goal.add_all-requires

@@ -3,16 +3,16 @@ use Rattle.std.specs.Prelude.{IfOk}
 use Rattle.metis_ids.proofs.Orders.{order_sorts, order_unique}
 use Rattle.metis_ids.specs.Order.{IsOrder as IsOrderOfNodes}
 use Rattle.metis_ids.specs.declared.events.Event.{Event}
+use Rattle.metis_ids.proofs.Lists.{has_at}
 use Rattle.metis_emit.proofs.Least.{least_order}
 use Rattle.metis_emit.proofs.Numbered.{least_numbers}
-use Rattle.metis_emit.proofs.OfLines.{lines_formed}
+use Rattle.metis_lines.proofs.Formed.{lines_formed}
 use Rattle.metis_emit.specs.Emission.{emission}
 use Rattle.metis_events.proofs.Numbered.{graph_of_plan}
 use Rattle.metis_events.specs.Edges.{EventGraph, event_at, graph_of}
 use Rattle.metis_events.specs.Numbered.{dag_of, nth_event}
 use Rattle.metis_lines.specs.Events.{IsOrder}
 use Rattle.metis_lines.specs.LifeLines.{plan_of}
-use Rattle.metis_support.proofs.Lists.{has_at}
 use Rattle.metis_planner.specs.Rounds.{ordered_events}
 use Rattle.metis_planner.proofs.order.actions_of.Goals as goal
 
@@ -21,7 +21,7 @@ events_of-requires c =
     let u = c.args.u.now in
     let nodes = c.args.nodes.now in
     let w = plan_of u c.args.s.now c.args.lines.now in
-    let of = graph_of_plan u w (lines_formed u c.keeps_invariant.ensures.universe c.args.s.now c.requires.support c.args.lines.now c.requires.lines) in
+    let of = graph_of_plan u w (lines_formed u c.args.s.now c.requires.support c.args.lines.now c.requires.lines) in
     let order : IsOrderOfNodes (dag_of (graph_of w)) nodes = subst (λ (e : EventGraph). IsOrderOfNodes (dag_of e) nodes) c.requires.graph c.requires.order in
     let sorting = order_sorts (dag_of (graph_of w)) nodes of.within order in
     λ k d low. subst (λ (e : EventGraph). get_or nodes k d < length e.events) (sym c.requires.graph) (sorting.nodes (get_or nodes k d) (has_at nodes k d low))
@@ -31,7 +31,7 @@ emit-requires-clause-order c =
     let u = c.args.u.now in
     let nodes = c.args.nodes.now in
     let w = plan_of u c.args.s.now c.args.lines.now in
-    let of = graph_of_plan u w (lines_formed u c.keeps_invariant.ensures.universe c.args.s.now c.requires.support c.args.lines.now c.requires.lines) in
+    let of = graph_of_plan u w (lines_formed u c.args.s.now c.requires.support c.args.lines.now c.requires.lines) in
     let order : IsOrderOfNodes (dag_of (graph_of w)) nodes = subst (λ (e : EventGraph). IsOrderOfNodes (dag_of e) nodes) c.requires.graph c.requires.order in
     let sorting = order_sorts (dag_of (graph_of w)) nodes of.within order in
     let least = least_numbers w (dag_of (graph_of w)) of nodes order sorting in

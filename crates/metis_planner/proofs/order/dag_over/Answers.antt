@@ -1,5 +1,5 @@
 use Rattle.std.proofs.Common.{sym, subst}
-use Rattle.metis_emit.proofs.OfLines.{lines_formed}
+use Rattle.metis_lines.proofs.Formed.{lines_formed}
 use Rattle.metis_events.proofs.Numbered.{joined}
 use Rattle.metis_events.specs.Numbered.{IsJoined}
 use Rattle.metis_lines.specs.LifeLines.{plan_of}
@@ -10,4 +10,4 @@ dag-requires c =
     let u = c.args.u.now in
     let s = c.args.s.now in
     let x = c.args.lines.now in
-    subst IsJoined (sym c.requires.graph) (joined u (plan_of u s x) (lines_formed u c.keeps_invariant.ensures.universe s c.requires.support x c.requires.lines))
+    subst IsJoined (sym c.requires.graph) (joined u (plan_of u s x) (lines_formed u s c.requires.support x c.requires.lines))

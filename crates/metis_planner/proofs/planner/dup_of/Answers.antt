@@ -2,7 +2,7 @@ use Rattle.std.proofs.Common.{◌≡◌, ◌∙◌, true, List, sym, subst}
 use Rattle.std.specs.List.{All}
 use Rattle.metis_ids.specs.Cycle.{HasCycle}
 use Rattle.metis_ids.specs.declared.events.Event.{Event}
-use Rattle.metis_emit.proofs.OfLines.{lines_formed}
+use Rattle.metis_lines.proofs.Formed.{lines_formed}
 use Rattle.metis_lines.specs.Events.{is_cycle, is_event}
 use Rattle.metis_lines.specs.LifeLines.{LifeLines, plan_of}
 use Rattle.metis_rounds.proofs.Cycles.{cycle_is_round, cycle_of_all_events}
@@ -16,7 +16,7 @@ doubled_by-pair-requires-clause-events c =
     let s = c.args.s.now in
     let x = c.args.rounds.now.lines in
     let w = plan_of u s x in
-    let formed = lines_formed u c.keeps_invariant.ensures.universe s c.requires.support x c.requires.rounds.lines in
+    let formed = lines_formed u s c.requires.support x c.requires.rounds.lines in
     let stuck : HasCycle (numbered w) = stopped_cycle u w formed c.args.rounds.now.going.taken.items c.requires.rounds.going.safe c.requires.stopped in
     let items : c.deref.result.now ≡ cycle_of_events w = c.deref.ensures.value ∙ c.in_ok-cycle.ensures.cycle in
     subst (λ (y : LifeLines). All (λ e. is_event (plan_of u s y) e ≡ true) c.deref.result.now) (sym c.in_ok-cycle.ensures.lines) (subst (λ (es : List Event). All (λ e. is_event w e ≡ true) es) (sym items) (cycle_of_all_events u w formed stuck))
@@ -27,7 +27,7 @@ doubled_by-pair-requires-clause-cycle c =
     let s = c.args.s.now in
     let x = c.args.rounds.now.lines in
     let w = plan_of u s x in
-    let formed = lines_formed u c.keeps_invariant.ensures.universe s c.requires.support x c.requires.rounds.lines in
+    let formed = lines_formed u s c.requires.support x c.requires.rounds.lines in
     let stuck : HasCycle (numbered w) = stopped_cycle u w formed c.args.rounds.now.going.taken.items c.requires.rounds.going.safe c.requires.stopped in
     let items : c.deref.result.now ≡ cycle_of_events w = c.deref.ensures.value ∙ c.in_ok-cycle.ensures.cycle in
     (λ i. is_cycle (plan_of u s (c.in_ok-cycle.ensures.lines i)) (items i)) ∙ cycle_is_round u w formed stuck
@@ -38,7 +38,7 @@ returns-clause-forced c =
     let s = c.args.s.now in
     let x = c.args.rounds.now.lines in
     let w = plan_of u s x in
-    let formed = lines_formed u c.keeps_invariant.ensures.universe s c.requires.support x c.requires.rounds.lines in
+    let formed = lines_formed u s c.requires.support x c.requires.rounds.lines in
     let stuck : HasCycle (numbered w) = stopped_cycle u w formed c.args.rounds.now.going.taken.items c.requires.rounds.going.safe c.requires.stopped in
     record {
       stuck = stuck;

@@ -1,7 +1,8 @@
 use Rattle.std.proofs.Common.{◌<◌, sym, subst}
 use Rattle.std.specs.List.{All}
 use Rattle.metis_universe.proofs.Served.{goals_refused}
-use Rattle.metis_refusal.proofs.Told.{rises, told, told_of, unique}
+use Rattle.metis_universe.proofs.PortRows.{rises}
+use Rattle.metis_refusal.proofs.Told.{told, told_of, unique}
 use Rattle.metis_refusal.specs.Claims.{Tells}
 use Rattle.metis_refusal.specs.declared.verdict.Verdict2.TheVariants.{Closed}
 use Rattle.metis_refusal.proofs.check.check_closed.Goals as goal

@@ -1,5 +1,5 @@
 use Rattle.std.proofs.Common.{◌≡◌, get_or, take}
-use Rattle.metis_rollout.proofs.Blocks.{blocks}
+use Rattle.metis_layers.proofs.Repeated.{blocks}
 use Rattle.metis_rollout.proofs.slots.repeated.Given as goal
 
 abbrev pub invariant-loop-pair : goal.invariant-loop-pair

@@ -1,6 +1,6 @@
 use Rattle.std.proofs.Common.{◌≡◌, ◌<◌, ◌-◌, None, Option, Some, length, refl, ap, subst, ◌∙◌, arith}
 use Rattle.std.specs.Option.{IfNone, IfSome, IsSome}
-use Rattle.metis_emit.proofs.OfLines.{lines_formed}
+use Rattle.metis_lines.proofs.Formed.{lines_formed}
 use Rattle.metis_ids.specs.declared.events.Event.{Event}
 use Rattle.metis_lines.specs.LifeLines.{plan_of}
 use Rattle.metis_rounds.proofs.Kept.{stuck_event, walk_stuck}
@@ -34,7 +34,7 @@ unwrap-requires c =
     let s = c.args.s.now in
     let x = c.args.lines.now in
     let w = plan_of u s x in
-    let formed = lines_formed u c.keeps_invariant.ensures.universe s c.requires.support x c.requires.lines in
+    let formed = lines_formed u s c.requires.support x c.requires.lines in
     is_there c.least_before.result (HasAllBefore w c.args.taken.now c.unwrap-event.result) c.least_before.ensures.none
     (some_before u w formed c.args.taken.now c.requires.stuck c.unwrap-event.result (last_stuck (goal.at.unwrap-requires c).After-unwrap-event))
 
@@ -44,7 +44,7 @@ returns c =
     let s = c.args.s.now in
     let x = c.args.lines.now in
     let w = plan_of u s x in
-    let formed = lines_formed u c.keeps_invariant.ensures.universe s c.requires.support x c.requires.lines in
+    let formed = lines_formed u s c.requires.support x c.requires.lines in
     let left = subst (λ o. IfSome o (IsLeastLeft w c.args.taken.now c.unwrap-event.result)) c.unwrap.ensures c.least_before.ensures.some in
     subst (λ f. IsLeastBefore w f c.unwrap.result) (last_is (goal.at.returns c).After-unwrap-event)
     (left_is_before u w formed c.args.taken.now c.requires.stuck c.unwrap-event.result c.unwrap.result left)

@@ -1,7 +1,7 @@
 use Rattle.std.proofs.Common.{length, sym, ap, subst, ◌∙◌, arith}
 use Rattle.std.proofs.lemmas.List.{length_push}
 use Rattle.std.proofs.lemmas.Result.{IfOk-weaker}
-use Rattle.metis_emit.proofs.OfLines.{lines_formed}
+use Rattle.metis_lines.proofs.Formed.{lines_formed}
 use Rattle.metis_lines.specs.LifeLines.{plan_of}
 use Rattle.metis_rounds.proofs.Closing.{walk_closes, walk_grows, walk_room}
 use Rattle.metis_rounds.specs.Walks.{IsWalk}
@@ -12,7 +12,7 @@ returns-then-has-clause-cycle c =
     let u = c.args.u.now in
     let s = c.args.s.now in
     let x = c.args.lines.now in
-    let formed = lines_formed u c.keeps_invariant.ensures.universe s c.requires.support x c.requires.lines in
+    let formed = lines_formed u s c.requires.support x c.requires.lines in
     let inv = c.loop-walk.invariant in
     let closes = walk_closes u (plan_of u s x) formed c.loop-walk.walk inv.walk inv.some c.next_step-event.result c.next_step-event.ensures (sym c.has.ensures ∙ c.if-has.true) in
     IfOk-weaker c.cycle_from.result _ _ (λ es is. is ∙ sym closes) c.cycle_from.ensures

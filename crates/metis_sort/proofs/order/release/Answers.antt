@@ -2,10 +2,11 @@ use Rattle.std.proofs.Common.{◌≡◌, ◌+◌, ◌-◌, ◌<◌, ◌||◌, �
 use Rattle.std.proofs.lemmas.List.{take_all}
 use Rattle.metis_ids.specs.Graph.{afters}
 use Rattle.metis_ids.specs.Lists.{has}
-use Rattle.metis_sort.specs.Counts.{occurrences}
+use Rattle.metis_ids.proofs.Lists.{end_past}
+use Rattle.metis_ids.specs.Counts.{occurrences}
 use Rattle.metis_sort.specs.Ready.{offers}
 use Rattle.metis_sort.proofs.CountFacts.{few_afters}
-use Rattle.metis_sort.proofs.ReleaseFacts.{end_past, place_low, entry_within, waits_some, waits_step, ready_step}
+use Rattle.metis_sort.proofs.ReleaseFacts.{place_low, entry_within, waits_some, waits_step, ready_step}
 use Rattle.metis_sort.proofs.order.release.Goals as goal
 
 pub settle-requires-clause-within : goal.settle-requires-clause-within

@@ -1,7 +1,7 @@
 use Rattle.std.proofs.Common.{◌≡◌, ◌+◌, ◌-◌, ◌≤◌, ◌&&◌, ◌||◌, ◌==◌, ℕ, length, slice_index, take}
 use Rattle.metis_ids.specs.Graph.{afters}
 use Rattle.metis_ids.specs.Lists.{has}
-use Rattle.metis_sort.specs.Counts.{occurrences}
+use Rattle.metis_ids.specs.Counts.{occurrences}
 use Rattle.metis_sort.specs.Ready.{offers}
 use Rattle.metis_sort.proofs.order.release.Given as goal
 

@@ -1,5 +1,5 @@
 use Rattle.std.proofs.Common.{◌∙◌, not, ap, sym, string_bytes}
-use Rattle.metis_universe.proofs.FirstSights.{list_any-map}
+use Rattle.metis_ids.proofs.Lists.{list_any-map}
 use Rattle.metis_universe.specs.Texts.{texts}
 use Rattle.metis_top.specs.Words.{is_dash}
 use Rattle.metis_top.proofs.Misfits.{fits_dash, fits_plain}

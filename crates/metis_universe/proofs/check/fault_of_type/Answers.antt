@@ -1,6 +1,6 @@
 use Rattle.std.proofs.Common.{sym, ◌∙◌}
+use Rattle.metis_ids.proofs.Options.{none_from_is_some}
 use Rattle.metis_universe.proofs.ClearRows.{counts_low, states_few}
-use Rattle.metis_universe.proofs.FirstFault.{none_from_is_some}
 use Rattle.metis_universe.proofs.check.fault_of_type.Goals as goal
 
 pub fault_of_required-requires-clause-few : goal.fault_of_required-requires-clause-few

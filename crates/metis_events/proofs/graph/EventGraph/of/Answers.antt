@@ -3,14 +3,13 @@ use Rattle.std.specs.List.{flat_map, range_with_len}
 use Rattle.std.specs.List.Sorted.{IsStrictlySortedBy}
 use Rattle.std.proofs.lemmas.List.{length-map}
 use Rattle.metis_ids.specs.declared.events.Event.{Event}
-use Rattle.metis_lines.proofs.Sound.{formed as lines_formed}
 use Rattle.metis_lines.specs.AbstractPlan.{AbstractPlan, line_count}
 use Rattle.metis_lines.specs.Events.{event_cmp, events}
 use Rattle.metis_lines.specs.LifeLines.{plan_of}
 use Rattle.metis_lines.specs.Soundness.{IsFormed}
 use Rattle.metis_events.proofs.AllEvents.{events_ascend}
 use Rattle.metis_events.proofs.Gathering.{rows_are}
-use Rattle.metis_events.proofs.Holding.{own_selected}
+use Rattle.metis_lines.proofs.Formed.{lines_formed}
 use Rattle.metis_events.proofs.graph.EventGraph.of.Goals as goal
 use Rattle.metis_events.specs.declared.edges.Edge.{Edge}
 use Rattle.metis_events.specs.Edges.{before}
@@ -33,7 +32,7 @@ returns c =
     let x = c.args.l.now in
     let are = c.requires.lines in
     let w : AbstractPlan = plan_of u s x in
-    let formed : IsFormed u w = subst (λ z. IsFormed u (plan_of u s z)) (sym are.are) (lines_formed u s c.requires.support x.targets x.own are.targets (own_selected u s c.requires.support x are)) in
+    let formed : IsFormed u w = lines_formed u s c.requires.support x are in
     let first : List (Event × Edge) = c.add_go_edges.new.edges in
     let all : List (Event × Edge) = c.add_supplies.new.edges in
     let one : Adds (flat_map (go_edges w) (range_with_len 0 (line_count w))) [] first = subst (λ old. Adds (flat_map (go_edges w) (range_with_len 0 (line_count w))) old first) c.new-gathered.ensures c.in_ok-add_go_edges.ensures in

@@ -5,7 +5,7 @@ use Rattle.std.proofs.lemmas.Bool.{lt-ltb, and_from}
 use Rattle.std.proofs.lemmas.List.Sums.{sum_by-set}
 use Rattle.std.proofs.lemmas.Result.{on_ok_weaker}
 use Rattle.metis_ids.specs.Lists.{has}
-use Rattle.metis_emit.proofs.OfLines.{lines_formed}
+use Rattle.metis_lines.proofs.Formed.{lines_formed}
 use Rattle.metis_events.proofs.AllEvents.{edges_join_events}
 use Rattle.metis_lines.specs.Events.{is_among, is_end, is_event, same_event, step_count}
 use Rattle.metis_lines.specs.LifeLines.{plan_of}
@@ -47,7 +47,7 @@ waited_for-requires-clause-next c =
 pub wait-requires-clause-row : goal.wait-requires-clause-row
 wait-requires-clause-row c = λ open_end.
     let w = plan_of c.args.u.now c.args.s.now c.args.lines.now in
-    let formed = lines_formed c.args.u.now c.keeps_invariant.ensures.universe c.args.s.now c.requires.support c.args.lines.now c.requires.lines in
+    let formed = lines_formed c.args.u.now c.args.s.now c.requires.support c.args.lines.now c.requires.lines in
     let there = (edges_join_events c.args.u.now w formed c.in-Some.event (next_of c.args.self.now.taken.items c.index-work-place.result) c.in-Some.ensures.some.0).0 in
     ap (λ t. has_row t c.in-Some.event) c.waited_for.ensures.same_waiting ∙ row_of_event w c.args.self.now.waiting c.requires.going.rows c.in-Some.event there open_end
 

@@ -1,7 +1,7 @@
 use Rattle.std.proofs.Common.{◌≡◌, ◌<◌, ◌≤◌, ◌-◌, ℕ, List, not, length, sym, subst}
 use Rattle.std.specs.Prelude.{IsTrue, IsFalse}
 use Rattle.std.proofs.lemmas.Result.{on_ok_weaker}
-use Rattle.metis_emit.proofs.OfLines.{lines_formed}
+use Rattle.metis_lines.proofs.Formed.{lines_formed}
 use Rattle.metis_ids.specs.declared.events.Event.{Event}
 use Rattle.metis_lines.specs.Events.{is_event, step_count}
 use Rattle.metis_lines.specs.LifeLines.{plan_of}
@@ -17,7 +17,7 @@ use Rattle.metis_rounds.proofs.rounds.Rounds.cycle.Goals.{After-deref}
 use Rattle.metis_rounds.proofs.rounds.Rounds.cycle.Goals as goal
 
 formed : (c : After-deref) → IsFormed c.args.u.now (plan_of c.args.u.now c.args.s.now c.args.self.now.lines)
-formed c = lines_formed c.args.u.now c.keeps_invariant.ensures.universe c.args.s.now c.requires.support c.args.self.now.lines c.requires.rounds.lines
+formed c = lines_formed c.args.u.now c.args.s.now c.requires.support c.args.self.now.lines c.requires.rounds.lines
 
 left : (c : After-deref) (e : Event) → IsTrue (is_event (plan_of c.args.u.now c.args.s.now c.args.self.now.lines) e) → is_stuck (plan_of c.args.u.now c.args.s.now c.args.self.now.lines) e ≡ not (is_taken c.args.self.now.going.taken.items e)
 left c = stuck_left c.args.u.now (plan_of c.args.u.now c.args.s.now c.args.self.now.lines) (formed c) c.args.self.now.going.taken.items c.requires.rounds.going.safe c.requires.stopped

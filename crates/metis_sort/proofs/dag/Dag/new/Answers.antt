@@ -2,7 +2,7 @@ use Rattle.std.proofs.Common.{◌≡◌, ℕ, ◌<◌, [], List, length, get_or,
 use Rattle.std.specs.List.{filter}
 use Rattle.metis_ids.specs.Graph.{Graph, IsGraph, edge_count, joins}
 use Rattle.metis_ids.specs.Lists.{has}
-use Rattle.metis_sort.specs.Counts.{occurrences}
+use Rattle.metis_ids.specs.Counts.{occurrences}
 use Rattle.metis_sort.specs.Dag.{IsDag, turned_row}
 use Rattle.metis_sort.proofs.DagFacts.{ends_within, afters_within, is_dag}
 use Rattle.metis_sort.proofs.dag.Dag.new.Goals as goal
