@@ -1,11 +1,11 @@
 use Rattle.std.proofs.Common.{◌∙◌, ◌<◌, ap, map, sym, subst, length, get_or}
 use Rattle.metis_ids.specs.Order.{IsOrder as IsOrderOfNodes}
-use Rattle.metis_support.proofs.Lists.{has_at}
+use Rattle.metis_ids.proofs.Lists.{has_at}
 use Rattle.metis_lines.specs.Events.{IsOrder}
 use Rattle.metis_lines.specs.LifeLines.{plan_of}
 use Rattle.metis_events.specs.Edges.{EventGraph, event_at, graph_of}
 use Rattle.metis_events.specs.Numbered.{IsGraphOf, dag_of, nth_event}
-use Rattle.metis_probe.proofs.Chosen.{lines_formed}
+use Rattle.metis_lines.proofs.Formed.{lines_formed}
 use Rattle.metis_probe.proofs.rounds.print_actions.Goals as goal
 
 pub events_of-requires : goal.events_of-requires
@@ -13,7 +13,7 @@ events_of-requires g c =
     let u = c.args.u.now in
     let nodes = c.args.nodes.now in
     let w = plan_of u c.args.s.now c.args.lines.now in
-    let of : IsGraphOf w (dag_of (graph_of w)) = c.dag_is_of_the_plan.ensures u w (lines_formed u c.args.s.now c.args.lines.now c.keeps_invariant.ensures.universe c.requires.over c.requires.lines) in
+    let of : IsGraphOf w (dag_of (graph_of w)) = c.dag_is_of_the_plan.ensures u w (lines_formed u c.args.s.now c.requires.over c.args.lines.now c.requires.lines) in
     let order : IsOrderOfNodes (dag_of (graph_of w)) nodes = subst (λ (e : EventGraph). IsOrderOfNodes (dag_of e) nodes) c.requires.graph c.requires.order in
     let sorting = c.order_is_a_sorting.ensures (dag_of (graph_of w)) nodes of.within order in
     λ k d low. subst (λ (e : EventGraph). get_or nodes k d < length e.events) (sym c.requires.graph) (sorting.nodes (get_or nodes k d) (has_at nodes k d low))
@@ -23,7 +23,7 @@ emit-requires-clause-order g c =
     let u = c.args.u.now in
     let nodes = c.args.nodes.now in
     let w = plan_of u c.args.s.now c.args.lines.now in
-    let of : IsGraphOf w (dag_of (graph_of w)) = c.dag_is_of_the_plan.ensures u w (lines_formed u c.args.s.now c.args.lines.now c.keeps_invariant.ensures.universe c.requires.over c.requires.lines) in
+    let of : IsGraphOf w (dag_of (graph_of w)) = c.dag_is_of_the_plan.ensures u w (lines_formed u c.args.s.now c.requires.over c.args.lines.now c.requires.lines) in
     let order : IsOrderOfNodes (dag_of (graph_of w)) nodes = subst (λ (e : EventGraph). IsOrderOfNodes (dag_of e) nodes) c.requires.graph c.requires.order in
     let sorting = c.order_is_a_sorting.ensures (dag_of (graph_of w)) nodes of.within order in
     let least = c.sorted_numbers_are_least.ensures w (dag_of (graph_of w)) nodes of order sorting in
