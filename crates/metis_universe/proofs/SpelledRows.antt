@@ -15,11 +15,11 @@ use Rattle.metis_universe.specs.RowShapes.{NeedRow, StateRow, TypeRow, names_nee
 use Rattle.metis_universe.specs.Rows.{IsOfVersion, ascending, first_fault, greatest_count, has_state, number_of, pair_from, ports_of, ports_of_state, state_number, universe_from}
 use Rattle.metis_universe.specs.Spelled.{Spells, demand_named, is_listed, leads_to, provides_named}
 use Rattle.metis_universe.specs.Universe.{Kind, Pair, Universe, IsTable, demand_in, demand_of, has, initial_of, is_initial, kind_at, next_of, no_kind, no_pair, pair_at, pair_count, pair_named, port_named, provides, state_named, type_count, type_named, type_of}
-use Rattle.metis_universe.proofs.Ascending.{at_seen, each_weaker, has-insert_key}
+use Rattle.metis_universe.proofs.Ascending.{at_seen, has-insert_key}
 use Rattle.metis_universe.proofs.Blocks.{Place, first_of, length-kinds_from, no_row, no_state, row_at, states_at}
 use Rattle.metis_universe.proofs.ClearRows.{IsClear-from_first_fault, some_counts}
 use Rattle.metis_universe.proofs.FirstFault.{list_any-from_position}
-use Rattle.metis_universe.proofs.FirstSights.{each_parts, same_bytes}
+use Rattle.metis_universe.proofs.FirstSights.{each_parts}
 use Rattle.metis_universe.proofs.FromRows.{IsTable-universe_from, kind_is, named_back, pair_at_place, pair_is, pair_within, place, seen_in, type_at_place}
 use Rattle.metis_universe.proofs.Gathered.{greatest_from-unnamed, greatest-some}
 use Rattle.metis_universe.proofs.Initials.{is_initial-own}
