@@ -1,5 +1,5 @@
 //! Prints what inner calls answer: for each line of the file `probes.txt`, in the folder that it runs in, the tables of a
-//! universe, what names mean in it, its layers, the waits of a plan's actions, or the life lines for some targets with the graph
+//! universe, what names mean in it, its layers, the waits of a plan's actions, why a goal is never attained, or the life lines for some targets with the graph
 //! of their events.
 #![tactic(auto)]
 
@@ -10,6 +10,7 @@ mod life_lines;
 mod lists;
 mod names;
 mod probe;
+mod reasons;
 mod rounds;
 mod stop;
 mod tables;

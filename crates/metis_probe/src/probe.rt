@@ -1,5 +1,6 @@
 use crate::layers::print_layers;
 use crate::names::print_names;
+use crate::reasons::{print_reason_count, print_reasons};
 use crate::rounds::{print_counts, print_rounds};
 use crate::stop::Stop;
 use crate::tables::print_tables;
@@ -39,6 +40,8 @@ fn make_probe<R: Files + Print + AllocGlobal>(rt: &R, words: &[&str]) -> Result<
         ("names", names) => print_names(rt, &universe, names),
         ("layers", []) => print_layers(rt, &universe),
         ("waits", [plan]) => print_waits(rt, &universe, plan),
+        ("why", [goal]) => print_reasons(rt, &universe, goal),
+        ("count-why", [goal]) => print_reason_count(rt, &universe, goal),
         ("rounds", targets) => print_rounds(rt, &universe, targets),
         ("graph", targets) => print_counts(rt, &universe, targets),
         _ => Err(Stop::NoProbe),

@@ -1,0 +1,48 @@
+-- Leaving pairs out of a set.
+use Rattle.std.proofs.Common.{◌≡◌, ℕ, ◌+◌, ◌<◌, Bool, false, cond, List, [], ◌∷◌, ◌++◌, set, sym, ap, ◌∙◌, subst, arith, inl, inr}
+use Rattle.std.specs.Prelude.{IsTrue}
+use Rattle.std.specs.List.{filter, list_all, range_with_len}
+use Rattle.std.proofs.lemmas.Bool.{both_ways, cases_eq, true_from_ne_false}
+use Rattle.metis_ids.proofs.Lists.{filter_more}
+use Rattle.metis_ids.specs.declared.goals.Goal.{Goal}
+use Rattle.metis_universe.specs.Universe.{Universe, pair_count}
+use Rattle.metis_why.proofs.Going.{off_other}
+use Rattle.metis_why.proofs.Reasons.{all_inside}
+use Rattle.metis_why.specs.Barred.{IsNeeded, wanted_by}
+use Rattle.metis_why.specs.Flags.{IsGreatest, IsInside, IsMissed, flag}
+use Rattle.metis_why.specs.Leaving.{AreMissed, IsEnough, IsLess}
+
+-- where what is left without p does not cover the goal, p is missed
+pub missed_one : (u : Universe) (g : Goal) (x : List Bool) (z : ℕ → Bool) (p : ℕ) → IsGreatest u (flag (set x p false)) z → list_all z (wanted_by u g) ≡ false → IsMissed u g (flag x) p
+missed_one u g x z p most lost = λ y barred covers inside.
+    true_from_ne_false (y p) (λ away.
+    both_ways (list_all z (wanted_by u g)) lost (all_inside z y (wanted_by u g) (most.greatest y barred (without y inside away)) covers)) where
+      without : (y : ℕ → Bool) → IsInside y (flag x) → y p ≡ false → IsInside y (flag (set x p false))
+      without y inside away q there = elim (cases_eq q p) [
+        | inl here ↦ absurd (both_ways (y q) (ap y here ∙ away) there)
+        | inr other ↦ off_other x p q other ∙ inside q there
+      ]
+
+pub less_start : (u : Universe) (g : Goal) (x : ℕ → Bool) → IsEnough u g x → IsLess u g x x
+less_start u g x enough = record { inside = λ p there. there; enough = enough }
+
+pub less_then : (u : Universe) (g : Goal) (x y z : ℕ → Bool) → IsLess u g x y → IsLess u g y z → IsLess u g x z
+less_then u g x y z first then = record { inside = λ p there. first.inside p (then.inside p there); enough = then.enough }
+
+pub missed_less : (u : Universe) (g : Goal) (x z : ℕ → Bool) (q : ℕ) → IsInside z x → IsMissed u g x q → IsMissed u g z q
+missed_less u g x z q inside missed y barred covers within = missed y barred covers (λ p there. inside p (within p there))
+
+pub missed_more : (u : Universe) (g : Goal) (x z : ℕ → Bool) (n : ℕ) → IsInside z x → AreMissed u g x n → (IsTrue (z n) → IsMissed u g z n) → AreMissed u g z (n + 1)
+missed_more u g x z n inside missed here q low there = elim (cases_eq q n) [
+  | inl at ↦ subst (λ k. IsMissed u g z k) (sym at) (here (ap z (sym at) ∙ there))
+  | inr other ↦ missed_less u g x z q inside (missed q (below q n other low) (inside q there))
+] where
+  below : (q n : ℕ) → (q ≡ n → ⊥) → q < n + 1 → q < n
+  below q n other low = omega arith
+
+pub needed_by : (u : Universe) (g : Goal) (x : ℕ → Bool) → IsEnough u g x → AreMissed u g x (pair_count u) → IsNeeded u g x
+needed_by u g x enough missed = record { covers = enough.covers; least = λ y barred covers inside p there. missed p (enough.within p there) there y barred covers inside }
+
+-- one pair more
+pub before_more : (t : ℕ → Bool) (n : ℕ) (items new : List ℕ) (b : Bool) → items ≡ filter t (range_with_len 0 n) → new ≡ items ++ cond b (n ∷ []) [] → b ≡ t n → new ≡ filter t (range_with_len 0 (n + 1))
+before_more t n items new b before step is = step ∙ ap (λ xs. xs ++ cond b (n ∷ []) []) before ∙ ap (λ v. filter t (range_with_len 0 n) ++ cond v (n ∷ []) []) is ∙ sym (filter_more t n)

@@ -1,0 +1,11 @@
+pub mod Confirmed
+pub mod Fallen
+pub mod Forced
+pub mod Going
+pub mod Lacking
+pub mod Left
+pub mod Listed
+pub mod Reached
+pub mod Reasons
+pub mod Soundness
+pub mod Told

@@ -1,0 +1,5 @@
+use Rattle.metis_why.specs.Settling.{Falls}
+use Rattle.metis_why.proofs.falling.give.Given as goal
+
+abbrev pub invariant-loop-requirer : goal.invariant-loop-requirer
+invariant-loop-requirer l = Falls l.u l.initial.falling l.falling

@@ -1,0 +1,5 @@
+use Rattle.metis_why.specs.Settling.{Falls}
+use Rattle.metis_why.proofs.falling.let_all_fall.Given as goal
+
+abbrev pub invariant-loop-number : goal.invariant-loop-number
+invariant-loop-number l = Falls l.u l.initial.falling l.falling

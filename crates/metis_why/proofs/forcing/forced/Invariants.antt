@@ -1,0 +1,6 @@
+use Rattle.metis_why.specs.Flags.{flag}
+use Rattle.metis_why.specs.Leaving.{AreMarked}
+use Rattle.metis_why.proofs.forcing.forced.Given as goal
+
+abbrev pub invariant-loop-next : goal.invariant-loop-next
+invariant-loop-next l = AreMarked l.u l.goal (flag l.held) l.list.items l.forced

@@ -1,0 +1,7 @@
+use Rattle.std.proofs.Common.{◌∙◌, sym}
+use Rattle.metis_why.proofs.Left.{missed_one}
+use Rattle.metis_why.specs.Flags.{flag}
+use Rattle.metis_why.proofs.leaving.leave_out.Goals as goal
+
+pub returns-else-covers-clause-missed : goal.returns-else-covers-clause-missed
+returns-else-covers-clause-missed c = λ _. missed_one c.args.u.now c.args.goal.now c.args.held.now (flag c.in_ok-rest.rest) c.args.pair c.in_ok-rest.ensures (sym c.covers.ensures ∙ c.if-covers.false)

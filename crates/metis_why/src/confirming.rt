@@ -1,0 +1,124 @@
+//! Whether lines tell why goals are never attained.
+ghost use Rattle.std.specs.Prelude.{◌≡◌, ◌<◌, ℕ};
+ghost use Rattle.std.specs.List.{All, list_all};
+ghost use Rattle.metis_ids.specs.declared.goals.Goal.{Goal};
+ghost use Rattle.metis_universe.specs.Goals.{AttainsGoals, IsGoalOf};
+ghost use Rattle.metis_universe.specs.Universe.{port_count, providers_of};
+ghost use Rattle.metis_why.specs.Barred.{before_of, listed, wanted_by};
+ghost use Rattle.metis_why.specs.Confirm.{IsLineOf, covered, first_bad, line_holds, verdict};
+ghost use Rattle.metis_why.specs.Flags.{flag};
+
+use crate::because::flags_of;
+use crate::named::leads;
+use crate::outside::{PAIR_LIMIT, is_free, is_set};
+use crate::reason::{Line, Reason};
+use crate::settling::covers;
+use metis_ids::{Goal, PairIx, PortIx};
+use metis_universe::Universe;
+
+/// What lines come to that are said to tell why goals are never attained.
+#[derive(Clone, Copy, PartialEq, Eq)]
+pub enum Confirmation {
+    /// Each line holds, and the goal is the first that their pairs cover: no list of actions attains the goals.
+    Confirmed(Goal),
+    /// The line of this place, from 0, is the first that does not hold.
+    Unfounded(usize),
+    /// Each line holds, and their pairs cover none of the goals.
+    LacksNone,
+}
+
+/// Whether each line holds, and which goal their pairs cover. It takes no memory, and looks at what the lines name alone, and for a
+/// line that tells of moves once at all pairs.
+pub fn confirm(u: &Universe, lines: &[Line], goals: &[Goal]) -> Confirmation
+    requires lines { All (IsLineOf u.now) lines.now }
+    requires goals { All (IsGoalOf u.now) goals.now }
+    ensures verdict { result ≡ verdict u.now lines.now goals.now }
+    ensures unattained { (g : Goal) → result ≡ Confirmation.Confirmed g → AttainsGoals u.now goals.now → ⊥ }
+{
+    u.keeps_invariant();
+    judged(u, lines, goals)
+}
+
+fn judged(u: &Universe, lines: &[Line], goals: &[Goal]) -> Confirmation
+    requires lines { All (IsLineOf u.now) lines.now }
+    requires goals { All (IsGoalOf u.now) goals.now }
+    ensures { result ≡ verdict u.now lines.now goals.now }
+{
+    let held = flags_of(u, lines);
+    if let Some(place) = first_bad(u, &held, lines) {
+        return Confirmation::Unfounded(place);
+    }
+    match covered(u, &held, lines, goals) {
+        Some(goal) => Confirmation::Confirmed(goal),
+        None => Confirmation::LacksNone,
+    }
+}
+
+// The place of the first line that does not hold.
+fn first_bad(u: &Universe, held: &[bool; PAIR_LIMIT], lines: &[Line]) -> Option<usize>
+    requires lines { All (IsLineOf u.now) lines.now }
+    requires held { (p : ℕ) → flag held.now p ≡ listed lines.now p }
+    ensures { result ≡ first_bad u.now lines.now }
+{
+    lines
+        .iter()
+        .position(|line| !line_holds(u, held, lines, line))
+}
+
+// Whether the line's reason is one, where these are the pairs of all lines.
+fn line_holds(u: &Universe, held: &[bool; PAIR_LIMIT], lines: &[Line], line: &Line) -> bool
+    requires line { IsLineOf u.now line.now }
+    requires held { (p : ℕ) → flag held.now p ≡ listed lines.now p }
+    ensures { result ≡ line_holds u.now lines.now line.now }
+{
+    let _lines = lines;
+    match line.reason {
+        Reason::Needs(port) => u.requires_(line.pair).contains(&port)
+            && provided_inside(u, held, port),
+        Reason::Comes => !is_free(u, line.pair) && led_inside(u, held, line.pair),
+    }
+}
+
+// Whether each pair that provides the port is in the set.
+fn provided_inside(u: &Universe, held: &[bool; PAIR_LIMIT], port: PortIx) -> bool
+    requires { port < port_count u.now }
+    ensures { result ≡ list_all (flag held.now) (providers_of u.now port) }
+{
+    covers(u, held, Goal::Port(port))
+}
+
+// Whether each pair from which a move leads to this one is in the set.
+fn led_inside(u: &Universe, held: &[bool; PAIR_LIMIT], pair: PairIx) -> bool
+    ensures { result ≡ list_all (flag held.now) (before_of u.now pair) }
+{
+    for number in 0..u.pairs() {
+        if leads(u, PairIx(number), pair) && !is_set(held, PairIx(number)) {
+            return false;
+        }
+    }
+    true
+}
+
+// The first goal that the pairs of the lines cover.
+fn covered(u: &Universe, held: &[bool; PAIR_LIMIT], lines: &[Line], goals: &[Goal]) -> Option<Goal>
+    requires goals { All (IsGoalOf u.now) goals.now }
+    requires held { (p : ℕ) → flag held.now p ≡ listed lines.now p }
+    ensures { result ≡ covered u.now lines.now goals.now }
+{
+    for goal in goals {
+        if is_covered(u, held, lines, *goal) {
+            return Some(*goal);
+        }
+    }
+    None
+}
+
+// Whether the pairs of the lines cover the goal.
+fn is_covered(u: &Universe, held: &[bool; PAIR_LIMIT], lines: &[Line], goal: Goal) -> bool
+    requires goal { IsGoalOf u.now goal }
+    requires held { (p : ℕ) → flag held.now p ≡ listed lines.now p }
+    ensures { result ≡ list_all (listed lines.now) (wanted_by u.now goal) }
+{
+    let _lines = lines;
+    covers(u, held, goal)
+}

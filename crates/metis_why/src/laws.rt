@@ -1,0 +1,44 @@
+//! Laws of what keeps goals from being attained.
+ghost use Rattle.std.specs.Prelude.{◌≡◌, ◌≤◌, ◌∷◌, [], ℕ, Bool, List, IsTrue};
+ghost use Rattle.std.specs.List.{All, list_all};
+ghost use Rattle.metis_ids.specs.declared.actions.Action.{Action};
+ghost use Rattle.metis_ids.specs.declared.goals.Goal.{Goal};
+ghost use Rattle.metis_universe.specs.Closed.{Closed};
+ghost use Rattle.metis_universe.specs.Config.{empty};
+ghost use Rattle.metis_universe.specs.Goals.{AttainsGoals, places_of, serving};
+ghost use Rattle.metis_universe.specs.Step.{IsRun, after_all};
+ghost use Rattle.metis_universe.specs.Universe.{Universe, IsUniverse};
+ghost use Rattle.metis_why.specs.Barred.{Covers, IsBarred, IsReason, IsWhy, listed, named_by, outside};
+ghost use Rattle.metis_why.specs.Confirm.{verdict};
+ghost use Rattle.metis_why.specs.declared.reason.Line.{Line};
+
+use crate::confirming::Confirmation;
+
+/// The pairs outside a barred set are closed: no run comes to a pair of the set.
+pub fn barred_pairs_are_closed_out()
+    ensures { (u : Universe) (x : ℕ → Bool) → IsUniverse u → IsBarred u x → Closed u (outside u x) }
+{}
+
+/// After each run from the empty configuration no instance serves a goal that a barred set covers. So no list of actions attains
+/// goals of which it covers one.
+pub fn barred_goals_are_not_attained()
+    ensures unserved { (u : Universe) (x : ℕ → Bool) (g : Goal) (actions : List Action) → IsUniverse u → IsBarred u x → Covers u x g → IsRun u empty actions → serving u (after_all u empty actions) g ≡ 0 }
+    ensures unattained { (u : Universe) (x : ℕ → Bool) (g : Goal) (goals : List Goal) → IsUniverse u → IsBarred u x → Covers u x g → 1 ≤ places_of goals g → AttainsGoals u goals → ⊥ }
+{}
+
+/// Each line is reached from the goal: the pairs of the lines are the least set that has the pairs that the goal wants and, with the
+/// pair of each line, the pairs that the line names.
+pub fn each_line_is_reached()
+    ensures { (u : Universe) (g : Goal) (lines : List Line) (y : ℕ → Bool) → IsWhy u g lines → Covers u y g → All (λ l. IsTrue (y l.pair) → IsTrue (list_all y (named_by u l.pair l.reason))) lines → (p : ℕ) → IsTrue (listed lines p) → IsTrue (y p) }
+{}
+
+/// In a universe in which each line holds, whatever else it has, no list of actions attains the goal. So what makes the goal attainable
+/// makes a line false.
+pub fn true_lines_rule_out_the_goal()
+    ensures { (u : Universe) (g : Goal) (lines : List Line) (goals : List Goal) → IsUniverse u → All (λ l. IsReason u (listed lines) l.pair l.reason) lines → Covers u (listed lines) g → 1 ≤ places_of goals g → AttainsGoals u goals → ⊥ }
+{}
+
+/// What is told of a goal is confirmed of it.
+pub fn what_is_told_is_confirmed()
+    ensures { (u : Universe) (g : Goal) (lines : List Line) → IsWhy u g lines → verdict u lines (g ∷ []) ≡ Confirmation.Confirmed g }
+{}

@@ -1,0 +1,116 @@
+//! A set of pairs of which none can be left out.
+ghost use Rattle.std.specs.Prelude.{◌<◌, ℕ, IfOk, IsTrue, OnOk, set, false};
+ghost use Rattle.metis_universe.specs.Goals.{IsGoalOf};
+ghost use Rattle.metis_universe.specs.Universe.{pair_count};
+ghost use Rattle.metis_why.specs.Barred.{IsNeeded};
+ghost use Rattle.metis_why.specs.Flags.{IsGreatest, IsMissed, IsWithin, flag};
+ghost use Rattle.metis_why.specs.Leaving.{AreForced, AreMissed, IsEnough, IsLess};
+
+use crate::forcing::forced;
+use crate::outside::{PAIR_LIMIT, is_set};
+use crate::settling::{covers, settle};
+use metis_ids::{Goal, NoMemory, PairIx};
+use metis_universe::Universe;
+use std::alloc::Global;
+
+/// Leaves pairs out of a barred set that covers the goal, until none can be left out: those of the order are tried first, from
+/// the last one on, and then all others in the order of their numbers. Pairs of which it is plain that they are missed are not
+/// tried.
+pub fn leave_out_all(
+    alloc: Global,
+    u: &Universe,
+    held: &mut [bool; PAIR_LIMIT],
+    goal: &Goal,
+    order: &[PairIx],
+) -> Result<(), NoMemory>
+    requires goal { IsGoalOf u.now goal.now }
+    requires enough { IsEnough u.now goal.now (flag held.old) }
+    ensures less { OnOk result (IsLess u.now goal.now (flag held.old) (flag held.new)) }
+    ensures needed { OnOk result (IsNeeded u.now goal.now (flag held.new)) }
+{
+    let forced = forced(alloc, u, held, goal)?;
+    leave_out_from_end(alloc, u, held, goal, order, &forced)?;
+    leave_out_rest(alloc, u, held, goal, &forced)
+}
+
+// Leaves out pairs of the order, from the last one on.
+fn leave_out_from_end(
+    alloc: Global,
+    u: &Universe,
+    held: &mut [bool; PAIR_LIMIT],
+    goal: &Goal,
+    order: &[PairIx],
+    forced: &[bool; PAIR_LIMIT],
+) -> Result<(), NoMemory>
+    requires goal { IsGoalOf u.now goal.now }
+    requires enough { IsEnough u.now goal.now (flag held.old) }
+    requires forced { AreForced u.now goal.now (flag held.old) forced.now }
+    ensures less { OnOk result (IsLess u.now goal.now (flag held.old) (flag held.new)) }
+{
+    for pair in order.iter().rev() {
+        leave_out(alloc, u, held, goal, *pair, forced)?;
+    }
+    Ok(())
+}
+
+// Leaves out pairs until none can be left out.
+fn leave_out_rest(
+    alloc: Global,
+    u: &Universe,
+    held: &mut [bool; PAIR_LIMIT],
+    goal: &Goal,
+    forced: &[bool; PAIR_LIMIT],
+) -> Result<(), NoMemory>
+    requires goal { IsGoalOf u.now goal.now }
+    requires enough { IsEnough u.now goal.now (flag held.old) }
+    requires forced { AreForced u.now goal.now (flag held.old) forced.now }
+    ensures less { OnOk result (IsLess u.now goal.now (flag held.old) (flag held.new)) }
+    ensures missed { OnOk result (AreMissed u.now goal.now (flag held.new) (pair_count u.now)) }
+{
+    for number in 0..u.pairs() {
+        leave_out(alloc, u, held, goal, PairIx(number), forced)?;
+    }
+    Ok(())
+}
+
+// Leaves the pair out, and what it then keeps from being barred, where the rest still covers the goal.
+fn leave_out(
+    alloc: Global,
+    u: &Universe,
+    held: &mut [bool; PAIR_LIMIT],
+    goal: &Goal,
+    pair: PairIx,
+    forced: &[bool; PAIR_LIMIT],
+) -> Result<(), NoMemory>
+    requires goal { IsGoalOf u.now goal.now }
+    requires enough { IsEnough u.now goal.now (flag held.old) }
+    requires forced { AreForced u.now goal.now (flag held.old) forced.now }
+    ensures less { OnOk result (IsLess u.now goal.now (flag held.old) (flag held.new)) }
+    ensures missed { OnOk result (IsTrue (flag held.new pair) → IsMissed u.now goal.now (flag held.new) pair) }
+{
+    if pair.0 as usize >= PAIR_LIMIT || !is_set(held, pair) || is_set(forced, pair) {
+        return Ok(());
+    }
+    let rest = settled_without(alloc, u, held, pair)?;
+    if covers(u, &rest, *goal) {
+        *held = rest;
+    }
+    Ok(())
+}
+
+// The greatest barred set inside this one without the pair.
+fn settled_without(
+    alloc: Global,
+    u: &Universe,
+    held: &[bool; PAIR_LIMIT],
+    pair: PairIx,
+) -> Result<[bool; PAIR_LIMIT], NoMemory>
+    requires within { IsWithin u.now (flag held.now) }
+    requires pair { IsTrue (flag held.now pair) }
+    ensures { IfOk result (λ rest. IsGreatest u.now (flag (set held.now pair false)) (flag rest)) }
+{
+    let mut rest = *held;
+    rest[pair.0 as usize] = false;
+    settle(alloc, u, &mut rest)?;
+    Ok(rest)
+}

@@ -1,0 +1,23 @@
+//! Why a goal is never attained: a small set of pairs that wait for one another, each with its reason.
+#![tactic(auto)]
+
+mod because;
+mod confirming;
+mod falling;
+mod forcing;
+mod laws;
+mod leaving;
+mod listing;
+mod named;
+mod near;
+mod outside;
+mod reason;
+mod settling;
+
+pub use because::{Because, why};
+pub use confirming::{Confirmation, confirm};
+pub use laws::{
+    barred_goals_are_not_attained, barred_pairs_are_closed_out, each_line_is_reached,
+    true_lines_rule_out_the_goal, what_is_told_is_confirmed,
+};
+pub use reason::{Line, Reason};

@@ -1,0 +1,18 @@
+//! What keeps a pair from being attained.
+use metis_ids::{PairIx, PortIx};
+
+/// What keeps a pair from being attained.
+#[derive(Clone, Copy, PartialEq, Eq)]
+pub enum Reason {
+    /// It requires the port, and waits for each pair that provides it.
+    Needs(PortIx),
+    /// No instance is made in it, and it waits for each pair from which a move leads to it.
+    Comes,
+}
+
+/// A pair, and what keeps it from being attained.
+#[derive(Clone, Copy, PartialEq, Eq)]
+pub struct Line {
+    pub pair: PairIx,
+    pub reason: Reason,
+}

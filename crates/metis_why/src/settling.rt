@@ -1,0 +1,76 @@
+//! The greatest set of pairs that wait for one another.
+ghost use Rattle.std.specs.Prelude.{◌≡◌, ◌<◌, ℕ, Bool, IsTrue, IsFalse, OnOk};
+ghost use Rattle.std.specs.List.{All, list_all};
+ghost use Rattle.metis_ids.specs.declared.goals.Goal.{Goal};
+ghost use Rattle.metis_universe.specs.Universe.{pair_count};
+ghost use Rattle.metis_universe.specs.Goals.{IsGoalOf};
+ghost use Rattle.metis_why.specs.Barred.{wanted_by};
+ghost use Rattle.metis_why.specs.Flags.{IsGreatest, IsWithin, flag};
+ghost use Rattle.metis_why.specs.Settling.{IsRound};
+
+use crate::falling::drain;
+use crate::outside::{PAIR_LIMIT, given_outside, is_set, led_outside, reason_of};
+use metis_ids::{Goal, NoMemory, PairIx};
+use metis_universe::Universe;
+use std::alloc::Global;
+
+/// Takes pairs out of the set until each that is left waits for pairs of the set: the greatest barred set inside it is left.
+pub fn settle(alloc: Global, u: &Universe, held: &mut [bool; PAIR_LIMIT]) -> Result<(), NoMemory>
+    requires { IsWithin u.now (flag held.old) }
+    ensures { OnOk result (IsGreatest u.now (flag held.old) (flag held.new)) }
+{
+    drain(alloc, u, held)?;
+    settle_in_rounds(u, held);
+    Ok(())
+}
+
+// The same, in rounds over all pairs. After `drain` the first one finds nothing to do.
+fn settle_in_rounds(u: &Universe, held: &mut [bool; PAIR_LIMIT])
+    requires { IsWithin u.now (flag held.old) }
+    ensures { IsGreatest u.now (flag held.old) (flag held.new) }
+{
+    while round(u, held) {}
+}
+
+// Takes out the pairs that have no reason, and answers whether there were any.
+fn round(u: &Universe, held: &mut [bool; PAIR_LIMIT]) -> bool
+    requires { IsWithin u.now (flag held.old) }
+    ensures { IsRound u.now held.old held.new result }
+{
+    let given = given_outside(u, held);
+    let led = led_outside(u, held);
+    let mut more = false;
+    for number in 0..u.pairs() {
+        let pair = PairIx(number);
+        if is_set(held, pair) && reason_of(u, &given, &led, pair).is_none() {
+            held[number as usize] = false;
+            more = true;
+        }
+    }
+    more
+}
+
+/// Whether the set has each pair that the goal wants.
+pub fn covers(u: &Universe, held: &[bool; PAIR_LIMIT], goal: Goal) -> bool
+    requires { IsGoalOf u.now goal }
+    ensures { result ≡ list_all (flag held.now) (wanted_by u.now goal) }
+{
+    u.keeps_invariant();
+    match goal {
+        Goal::Pair(pair) => is_set(held, pair),
+        Goal::Port(port) => are_set(held, u.providers(port)),
+    }
+}
+
+// Whether the flags of these pairs are all set.
+fn are_set(held: &[bool; PAIR_LIMIT], pairs: &[PairIx]) -> bool
+    requires { All (λ p. p < PAIR_LIMIT) pairs.now }
+    ensures { result ≡ list_all (flag held.now) pairs.now }
+{
+    for pair in pairs {
+        if !is_set(held, *pair) {
+            return false;
+        }
+    }
+    true
+}
