@@ -30,9 +30,9 @@ STATUS = re.compile(r"# status (\d+)$")
 # What a command needs beside this repository, by how it begins: whether it is there.
 NEEDS = (
     (re.compile(r"^rt "), lambda: False),
-    (re.compile(r"^python3 -m importers debian "), lambda: bool(shutil.which("apt-cache")) and bool(run_out("apt-cache", "dumpavail"))),
-    (re.compile(r"^python3 -m importers compose .*\.ya?ml"), lambda: importlib.util.find_spec("yaml") is not None),
-    (re.compile(r"^python3 -m importers systemd "), lambda: pathlib.Path("/lib/systemd/system").is_dir()),
+    (re.compile(r"^(PYTHONPATH=\.\. )?python3 -m importers debian "), lambda: bool(shutil.which("apt-cache")) and bool(run_out("apt-cache", "dumpavail"))),
+    (re.compile(r"^(PYTHONPATH=\.\. )?python3 -m importers compose .*\.ya?ml"), lambda: importlib.util.find_spec("yaml") is not None),
+    (re.compile(r"^(PYTHONPATH=\.\. )?python3 -m importers systemd "), lambda: pathlib.Path("/lib/systemd/system").is_dir()),
 )
 # A command that a page shows without trying it.
 SHOWN = re.compile(r"^(\./)?(metis|try) (plan|replay|refute|audit|sim|crew|waves|control|rollout|place|print|load) ")
