@@ -2,15 +2,14 @@
 use Rattle.std.proofs.Common.{◌≡◌, ℕ, suc, Bool, true, false, cond, ◌||◌, ◌&&◌, List, [], ◌∷◌, Some, None, refl, sym, ap, ◌∙◌, subst, arith, inl, inr, nat_eq, nat_lt, nat_cmp, take}
 use Rattle.std.specs.BTreeMap.{insert_entry}
 use Rattle.std.specs.Map.{lookup}
+use Rattle.std.specs.Prelude.{unwrap_or}
 use Rattle.std.proofs.lemmas.Bool.{eq-eqb, eqb-true, cases_eq, cases_Bool, false_from_ne_true}
 use Rattle.std.proofs.lemmas.Option.{none-some}
 use Rattle.metis_ids.specs.Action.{actor_of}
 use Rattle.metis_ids.specs.declared.actions.Action.{Action}
-use Rattle.metis_ids.proofs.Tests.{eq_comm}
 use Rattle.metis_universe.specs.Universe.{has}
 use Rattle.metis_universe.proofs.Edits.{pair_of-put}
 use Rattle.metis_universe.specs.Config.{config_of}
-use Rattle.metis_waits.proofs.Kept.{number_at-insert}
 use Rattle.metis_crew.proofs.Fronts.{front_end, front_has, front_low, front_next, none_taken}
 use Rattle.metis_crew.proofs.OwnActions.{own_actor, own_listed, own_next, rising}
 use Rattle.metis_crew.specs.Crew.{actor_at, count_of, is_done, is_own, next_of, none_done, one_more, own_done, own_numbers, start}
@@ -21,7 +20,8 @@ AreDone A counts done = (k : ℕ) → is_done A counts k ≡ has done k
 
 pub count-insert : (es : List (ℕ × ℕ)) (z v q : ℕ) → count_of (insert_entry nat_cmp es z v) q ≡ cond (nat_eq q z) v (count_of es q)
 count-insert es z v q =
-    number_at-insert es (insert_entry nat_cmp es z v) z v q (pair_of-put (config_of es []) z v q ∙ ap (λ b. cond b (Some v) (lookup (nat_eq q) es)) (eq_comm q z))
+    ap (λ o. unwrap_or o 0) (pair_of-put (config_of es []) z v q)
+    ∙ elim (nat_eq q z) as (λ b. unwrap_or (cond b (Some v) (lookup (nat_eq q) es)) 0 ≡ cond b v (unwrap_or (lookup (nat_eq q) es) 0)) [ true ↦ refl | false ↦ refl ]
 
 -- ---- a crew that begins
 

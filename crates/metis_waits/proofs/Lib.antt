@@ -2,7 +2,6 @@ pub mod Caused
 pub mod Examples
 pub mod Freed
 pub mod Gathered
-pub mod Kept
 pub mod KeptRuns
 pub mod LastPlaces
 pub mod Listed
@@ -11,12 +10,12 @@ pub mod Orders
 pub mod Pairs
 pub mod Parted
 pub mod Passed
-pub mod Placed
 pub mod PrintedOrder
 pub mod Providers
 pub mod Pushed
 pub mod Rests
 pub mod Risen
 pub mod Tied
+pub mod Tracked
 pub mod Timely
 pub mod TwoNumbers

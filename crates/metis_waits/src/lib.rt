@@ -3,13 +3,12 @@
 
 mod fault;
 mod laws;
-mod marks;
 mod pass;
-mod places;
 mod releases;
 mod rows;
 mod standing_bindings;
 mod summary;
+mod tracks;
 mod wait_lists;
 
 pub use fault::WFault;

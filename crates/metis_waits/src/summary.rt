@@ -11,26 +11,19 @@ ghost use Rattle.metis_universe.specs.Waits.{is_release_of, is_wait, last_number
 ghost use Rattle.metis_waits.specs.Summary.{IsSummary, has_number};
 ghost use Rattle.metis_waits.specs.Waits.{is_by};
 
-use crate::marks::{is_made, note_entry, note_last, note_made, number_at};
-use crate::places::{gives, note_place};
 use crate::releases::{add_released, note_releases};
 use crate::standing_bindings::StandingBindings;
-use metis_ids::{Action, InstNo, NoMemory, PairIx};
+use crate::tracks::{Track, gives, note_track, track_of};
+use metis_ids::{Action, InstNo, NoMemory};
 use metis_universe::Universe;
 use std::alloc::Global;
-use std::collections::{BTreeMap, BTreeSet, HashMap};
+use std::collections::{BTreeSet, HashMap};
 
 /// What the actions so far come to. Their numbers count from 1.
 #[derive(Drop)]
 pub struct Summary {
-    /// The last action of each instance.
-    lasts: HashMap<u32, u32>,
-    /// The last New or Move of each instance.
-    entered: HashMap<u32, u32>,
-    /// The pair in which each instance is.
-    places: BTreeMap<InstNo, PairIx>,
-    /// The instances that were made.
-    made: BTreeSet<InstNo>,
+    /// What is known of each instance, by its number.
+    tracks: HashMap<u32, Track>,
     /// The bindings that stand.
     bindings: StandingBindings,
     /// The providers with the actions that ended a binding to them on the requirer's side.
@@ -43,10 +36,7 @@ impl Summary {
         ensures { IsSummary u.now [] result }
     {
         Summary {
-            lasts: HashMap::new(alloc),
-            entered: HashMap::new(alloc),
-            places: BTreeMap::new(alloc),
-            made: BTreeSet::new(alloc),
+            tracks: HashMap::new(alloc),
             bindings: StandingBindings::new(alloc),
             releases: BTreeSet::new(alloc),
         }
@@ -58,8 +48,8 @@ impl Summary {
         ensures { result ≡ is_steadfast_after u.now earlier.now action.now }
     {
         match *action {
-            Action::New { inst, .. } => !is_made(&self.made, inst),
-            Action::Bind { port, to, .. } => gives(u, &self.places, earlier, to, port),
+            Action::New { inst, .. } => !track_of(&self.tracks, inst).made,
+            Action::Bind { port, to, .. } => gives(u, &self.tracks, earlier, to, port),
             Action::Unbind { .. } => true,
             Action::Delete { inst } => !self.bindings.is_serving(inst),
             Action::Move { inst, .. } => !self.bindings.is_serving(inst),
@@ -80,10 +70,7 @@ impl Summary {
         requires summary { IsSummary u.now earlier.now self.old }
         ensures { OnOk result (IsSummary u.now (earlier.now ++ action.now ∷ []) self.new) }
     {
-        note_last(&mut self.lasts, earlier, action)?;
-        note_entry(&mut self.entered, earlier, action)?;
-        note_place(&mut self.places, u, earlier, action)?;
-        note_made(&mut self.made, earlier, action)?;
+        note_track(&mut self.tracks, u, earlier, action)?;
         note_releases(alloc, &mut self.releases, &self.bindings, earlier, action)?;
         self.bindings.note(alloc, u, earlier, action)
     }
@@ -93,7 +80,7 @@ impl Summary {
         requires { IsSummary u.now earlier.now self.now }
         ensures { result ≡ last_number (is_by (actor_of action.now)) earlier.now }
     {
-        number_at(&self.lasts, action.actor())
+        track_of(&self.tracks, action.actor()).last
     }
 
     /// The numbers that the action waits for, ascending. The last action of its own instance is given.
@@ -111,7 +98,10 @@ impl Summary {
         ensures { IfOk result (λ waits. waits.items ≡ filter (is_wait earlier.now action.now) (numbers earlier.now)) }
     {
         match *action {
-            Action::Bind { to, .. } => Ok(both(alloc, previous, number_at(&self.entered, to))?),
+            Action::Bind { to, .. } => {
+                let entered = track_of(&self.tracks, to).entered;
+                Ok(both(alloc, previous, entered)?)
+            }
             Action::Delete { inst } => {
                 Ok(self.with_releases(alloc, u, earlier, inst, previous)?)
             }
@@ -156,7 +146,7 @@ impl Summary {
         requires summary { IsSummary u.now earlier.now self.now }
         ensures { OnOk result ((m : ℕ) → has waits.new.keys m ≡ (is_release_of y earlier.now m || has waits.old.keys m)) }
     {
-        add_released(&self.releases, y, number_at(&self.entered, y), waits)
+        add_released(&self.releases, y, track_of(&self.tracks, y).entered, waits)
     }
 }
 

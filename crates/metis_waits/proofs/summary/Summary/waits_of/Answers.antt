@@ -7,6 +7,7 @@ use Rattle.metis_waits.proofs.Gathered.{listed, own_alone, own_and_entry, own_an
 use Rattle.metis_waits.proofs.TwoNumbers.{no_number}
 use Rattle.metis_waits.specs.Summary.{has_number}
 use Rattle.metis_waits.specs.Waits.{is_by}
+use Rattle.metis_waits.specs.declared.tracks.Track.{Track}
 use Rattle.metis_waits.proofs.summary.Summary.waits_of.Goals as goal
 
 pub returns-in_ok-both-in-Bind : goal.returns-in_ok-both-in-Bind
@@ -16,7 +17,7 @@ returns-in_ok-both-in-Bind c =
     let own = c.requires.previous ∙ ap (λ (a : Action). last_number (is_by (actor_of a)) earlier) c.in-Bind.is in
     listed earlier c.args.action.now xs c.in_ok-both-in-Bind.ensures.sorted
     (subst (λ (a : Action). (m : ℕ) → has xs m ≡ (is_wait earlier a m && has (numbers earlier) m)) (sym c.in-Bind.is)
-    (own_and_entry earlier c.in-Bind.inst c.args.previous (has_number c.args.previous) own (λ _. refl) c.in-Bind.to c.number_at.result xs (c.number_at.ensures ∙ c.requires.summary.entered c.in-Bind.to) c.in_ok-both-in-Bind.ensures.members))
+    (own_and_entry earlier c.in-Bind.inst c.args.previous (has_number c.args.previous) own (λ _. refl) c.in-Bind.to c.track_of-entered.result.entered xs (ap (λ (t : Track). t.entered) c.track_of-entered.ensures ∙ (c.requires.summary.tracks.each c.in-Bind.to).entered) c.in_ok-both-in-Bind.ensures.members))
 
 pub returns-in_ok-with_releases-in-Delete : goal.returns-in_ok-with_releases-in-Delete
 returns-in_ok-with_releases-in-Delete c =
