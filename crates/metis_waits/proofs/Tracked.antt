@@ -1,5 +1,5 @@
 -- What is known of each instance, after one more action.
-use Rattle.std.proofs.Common.{◌≡◌, ℕ, ◌+◌, ◌<◌, Bool, true, false, cond, not, ◌||◌, List, [], ◌∷◌, ◌++◌, length, Option, Some, None, refl, subst, sym, ap, ◌∙◌, nat_eq, inl, inr}
+use Rattle.std.proofs.Common.{◌≡◌, ℕ, ◌+◌, ◌<◌, Bool, true, false, cond, not, ◌||◌, List, [], ◌∷◌, ◌++◌, length, Option, Some, None, refl, subst, sym, ap, ◌∙◌, nat_eq}
 use Rattle.std.proofs.lemmas.Bool.{eqb-true}
 use Rattle.std.proofs.lemmas.List.Folds.{list_any-append}
 use Rattle.std.specs.List.{list_any}
@@ -10,11 +10,11 @@ use Rattle.metis_ids.specs.declared.actions.Action.{Action}
 use Rattle.metis_ids.specs.declared.actions.Action.TheVariants.{New, Delete, Bind, Unbind, Move}
 use Rattle.metis_ids.proofs.Tests.{eq_comm}
 use Rattle.metis_universe.proofs.Edits.{pair_of-put, pair_of-remove}
-use Rattle.metis_universe.specs.Config.{Config, empty, pair_of, put}
+use Rattle.metis_universe.specs.Config.{Config, empty, pair_of}
 use Rattle.metis_universe.specs.Steadfast.{is_new, pair_after}
 use Rattle.metis_universe.specs.Step.{after, after_all}
 use Rattle.metis_universe.specs.Universe.{Universe, initial_of, pair_count}
-use Rattle.metis_universe.specs.Waits.{enters, last_number}
+use Rattle.metis_universe.specs.Waits.{enters}
 use Rattle.metis_waits.proofs.Pushed.{after_pushed, last_pushed}
 use Rattle.metis_waits.specs.Summary.{AreTracks, IsTrack, no_track, track_after, track_at}
 use Rattle.metis_waits.specs.Waits.{is_by}

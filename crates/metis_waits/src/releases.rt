@@ -1,5 +1,5 @@
 //! The actions that ended a binding on the requirer's side.
-ghost use Rattle.std.specs.Prelude.{◌≡◌, ◌<◌, ℕ, ◌-◌, ◌^◌, ◌==◌, ◌++◌, ◌∷◌, ◌&&◌, ◌||◌, [], OnOk, length, nat_lt};
+ghost use Rattle.std.specs.Prelude.{◌≡◌, ◌<◌, ℕ, ◌-◌, ◌^◌, ◌==◌, ◌++◌, ◌∷◌, ◌&&◌, ◌||◌, [], IsFalse, OnOk, length, nat_lt};
 ghost use Rattle.std.specs.List.{list_any};
 ghost use Rattle.metis_universe.specs.Universe.{has};
 ghost use Rattle.metis_universe.specs.Waits.{standing};
@@ -51,6 +51,17 @@ pub fn note_releases(
         Action::Move { .. } => (),
     }
     Ok(())
+}
+
+/// Whether some action after `entry` ended a binding to the instance.
+pub fn has_released(releases: &BTreeSet<(InstNo, u32)>, y: InstNo, entry: u32) -> bool
+    requires { entry < 2 ^ 32 - 1 }
+    ensures { IsFalse result → (m : ℕ) → IsFalse (nat_lt entry m && has_pair releases.now.keys y m) }
+{
+    match releases.range((y, entry + 1)..).next() {
+        Some(release) => release.0 == y,
+        None => false,
+    }
 }
 
 /// Adds the numbers after `entry` that ended a binding to the instance.

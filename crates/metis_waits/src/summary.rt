@@ -11,7 +11,7 @@ ghost use Rattle.metis_universe.specs.Waits.{is_release_of, is_wait, last_number
 ghost use Rattle.metis_waits.specs.Summary.{IsSummary, has_number};
 ghost use Rattle.metis_waits.specs.Waits.{is_by};
 
-use crate::releases::{add_released, note_releases};
+use crate::releases::{add_released, has_released, note_releases};
 use crate::standing_bindings::StandingBindings;
 use crate::tracks::{Track, gives, note_track, track_of};
 use metis_ids::{Action, InstNo, NoMemory};
@@ -127,6 +127,10 @@ impl Summary {
         ensures sorted { IfOk result (λ waits. IsStrictlySortedBy nat_cmp waits.items) }
         ensures members { IfOk result (λ waits. (m : ℕ) → has waits.items m ≡ (is_release_of y earlier.now m || has_number previous m)) }
     {
+        // Most instances that move have released nobody, and then no set is made.
+        if !has_released(&self.releases, y, track_of(&self.tracks, y).entered) {
+            return Ok(both(alloc, previous, 0)?);
+        }
         let mut found = BTreeSet::new(alloc);
         add_number(&mut found, previous)?;
         self.gather_releases(u, earlier, y, &mut found)?;

@@ -1,4 +1,4 @@
-use Rattle.std.proofs.Common.{ap, cond, refl, Some, ◌∙◌, ◌+◌, length, arith, nat_eq}
+use Rattle.std.proofs.Common.{ap, cond, refl, Some, ◌∙◌, ◌+◌, length, nat_eq}
 use Rattle.std.specs.Map.{lookup}
 use Rattle.metis_waits.proofs.Tracked.{tracked_more}
 use Rattle.metis_waits.specs.Summary.{track_after, track_at}
