@@ -56,12 +56,11 @@ impl Lists {
     }
 
     // One action more, which waits for these numbers. The previous action of its own instance is given.
-    fn push(&mut self, alloc: Global, numbers: &[u32], previous: u32) -> Result<(), NoMemory>
+    fn push(&mut self, numbers: &[u32], previous: u32) -> Result<(), NoMemory>
         ensures each { OnOk result (self.new.each ≡ self.old.each ++ numbers.now ∷ []) }
         ensures others { OnOk result (self.new.others ≡ self.old.others ++ filter (λ m. not (m == previous)) numbers.now ∷ []) }
     {
-        let others = without(alloc, numbers, previous)?;
-        self.others.push(&others)?;
+        self.others.push_without(numbers, previous)?;
         self.each.push(numbers)
     }
 }
@@ -85,19 +84,6 @@ fn take_in(
 {
     let previous = summary.own_previous(u, earlier, action);
     let numbers = summary.waits_of(alloc, u, earlier, action, previous)?;
-    lists.push(alloc, &numbers, previous)?;
+    lists.push(&numbers, previous)?;
     summary.add(alloc, u, earlier, action)
-}
-
-// The other numbers.
-fn without(alloc: Global, numbers: &[u32], left_out: u32) -> Result<Vec<u32>, NoMemory>
-    ensures { IfOk result (λ rest. rest.items ≡ filter (λ m. not (m == left_out)) numbers.now) }
-{
-    Ok(
-        numbers
-            .iter()
-            .copied()
-            .filter(|number| *number != left_out)
-            .collect(alloc)?,
-    )
 }

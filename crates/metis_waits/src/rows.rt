@@ -1,6 +1,6 @@
 //! Lists of numbers, one behind the other.
-ghost use Rattle.std.specs.Prelude.{◌≡◌, ◌<◌, ◌++◌, ◌∷◌, [], OnErr, OnOk, length};
-ghost use Rattle.std.specs.List.{slice_index_or};
+ghost use Rattle.std.specs.Prelude.{◌≡◌, ◌<◌, ◌==◌, ◌++◌, ◌∷◌, [], OnErr, OnOk, length, not, take};
+ghost use Rattle.std.specs.List.{filter, slice_index_or};
 ghost use Rattle.metis_waits.specs.Rows.{start_at};
 
 use metis_ids::NoMemory;
@@ -59,6 +59,23 @@ impl Rows {
         Ok(())
     }
 
+    /// Adds a list at the end, these numbers but for one. Where memory runs out, nothing changes.
+    pub fn push_without(&mut self, row: &[u32], left_out: u32) -> Result<(), NoMemory>
+        ensures ok { OnOk result (self.new ≡ self.old ++ filter (λ m. not (m == left_out)) row.now ∷ []) }
+        ensures err { OnErr result (self.new ≡ self.old) }
+    {
+        let start = self.numbers.len();
+        if extend_without(&mut self.numbers, row, left_out).is_err() {
+            self.numbers.truncate(start);
+            return Err(NoMemory);
+        }
+        if self.ends.push(self.numbers.len()).is_err() {
+            self.numbers.truncate(start);
+            return Err(NoMemory);
+        }
+        Ok(())
+    }
+
     /// The list at the index.
     pub fn row(&self, index: usize) -> &[u32]
         requires { index < length self.now }
@@ -68,6 +85,19 @@ impl Rows {
         let end = self.ends[index];
         &self.numbers[start..end]
     }
+}
+
+// Adds the numbers but for one at the end. Where memory runs out, those that were there stand as they were.
+fn extend_without(numbers: &mut Vec<u32>, row: &[u32], left_out: u32) -> Result<(), NoMemory>
+    ensures ok { OnOk result (numbers.new.items ≡ numbers.old.items ++ filter (λ m. not (m == left_out)) row.now) }
+    ensures err { OnErr result (take (length numbers.old.items) numbers.new.items ≡ numbers.old.items) }
+{
+    for number in row {
+        if *number != left_out {
+            numbers.push(*number)?;
+        }
+    }
+    Ok(())
 }
 
 // Where the list at the index begins.
