@@ -42,6 +42,8 @@ pub fn waits(alloc: Global, u: &Universe, actions: &[Action]) -> Result<Waits, W
 struct Lists {
     each: Rows,
     others: Rows,
+    /// The numbers that the action at hand waits for.
+    numbers: Vec<u32>,
 }
 
 impl Lists {
@@ -52,16 +54,17 @@ impl Lists {
         Lists {
             each: Rows::new(alloc),
             others: Rows::new(alloc),
+            numbers: Vec::new(alloc),
         }
     }
 
-    // One action more, which waits for these numbers. The previous action of its own instance is given.
-    fn push(&mut self, numbers: &[u32], previous: u32) -> Result<(), NoMemory>
-        ensures each { OnOk result (self.new.each ≡ self.old.each ++ numbers.now ∷ []) }
-        ensures others { OnOk result (self.new.others ≡ self.old.others ++ filter (λ m. not (m == previous)) numbers.now ∷ []) }
+    // One action more, which waits for the numbers at hand. The previous action of its own instance is given.
+    fn push(&mut self, previous: u32) -> Result<(), NoMemory>
+        ensures each { OnOk result (self.new.each ≡ self.old.each ++ self.old.numbers.items ∷ []) }
+        ensures others { OnOk result (self.new.others ≡ self.old.others ++ filter (λ m. not (m == previous)) self.old.numbers.items ∷ []) }
     {
-        self.others.push_without(numbers, previous)?;
-        self.each.push(numbers)
+        self.others.push_without(&self.numbers, previous)?;
+        self.each.push(&self.numbers)
     }
 }
 
@@ -82,8 +85,7 @@ fn take_in(
     ensures each { OnOk result (lists.new.each ≡ lists.old.each ++ filter (is_wait earlier.now action.now) (numbers earlier.now) ∷ []) }
     ensures others { OnOk result (lists.new.others ≡ lists.old.others ++ filter (λ m. not (m == last_number (is_by (actor_of action.now)) earlier.now)) (filter (is_wait earlier.now action.now) (numbers earlier.now)) ∷ []) }
 {
-    let previous = summary.own_previous(u, earlier, action);
-    let numbers = summary.waits_of(alloc, u, earlier, action, previous)?;
-    lists.push(&numbers, previous)?;
+    let previous = summary.note_waits(alloc, &mut lists.numbers, u, earlier, action)?;
+    lists.push(previous)?;
     summary.add(alloc, u, earlier, action)
 }

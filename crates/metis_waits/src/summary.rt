@@ -75,67 +75,58 @@ impl Summary {
         self.bindings.note(alloc, u, earlier, action)
     }
 
-    /// The last action of the instance that does the action.
-    pub fn own_previous(&self, u: &Universe, earlier: &[Action], action: &Action) -> u32
-        requires { IsSummary u.now earlier.now self.now }
-        ensures { result ≡ last_number (is_by (actor_of action.now)) earlier.now }
-    {
-        track_of(&self.tracks, action.actor()).last
-    }
-
-    /// The numbers that the action waits for, ascending. The last action of its own instance is given.
-    pub fn waits_of(
+    /// The last action of the instance that does the action; and the list becomes the numbers that the action waits for, ascending.
+    pub fn note_waits(
         &self,
         alloc: Global,
+        list: &mut Vec<u32>,
         u: &Universe,
         earlier: &[Action],
         action: &Action,
-        previous: u32,
-    ) -> Result<Vec<u32>, NoMemory>
+    ) -> Result<u32, NoMemory>
         requires few { length earlier.now < 2 ^ 32 - 1 }
         requires summary { IsSummary u.now earlier.now self.now }
-        requires previous { previous ≡ last_number (is_by (actor_of action.now)) earlier.now }
-        ensures { IfOk result (λ waits. waits.items ≡ filter (is_wait earlier.now action.now) (numbers earlier.now)) }
+        ensures previous { IfOk result (λ n. n ≡ last_number (is_by (actor_of action.now)) earlier.now) }
+        ensures waits { OnOk result (list.new.items ≡ filter (is_wait earlier.now action.now) (numbers earlier.now)) }
     {
+        let track = track_of(&self.tracks, action.actor());
         match *action {
             Action::Bind { to, .. } => {
-                let entered = track_of(&self.tracks, to).entered;
-                Ok(both(alloc, previous, entered)?)
+                put_both(list, track.last, track_of(&self.tracks, to).entered)?;
             }
-            Action::Delete { inst } => {
-                Ok(self.with_releases(alloc, u, earlier, inst, previous)?)
-            }
-            Action::Move { inst, .. } => {
-                Ok(self.with_releases(alloc, u, earlier, inst, previous)?)
-            }
-            Action::New { .. } => Ok(both(alloc, previous, 0)?),
-            Action::Unbind { .. } => Ok(both(alloc, previous, 0)?),
+            Action::Delete { inst } => self.put_releases(alloc, list, u, earlier, inst)?,
+            Action::Move { inst, .. } => self.put_releases(alloc, list, u, earlier, inst)?,
+            Action::New { .. } => put_both(list, track.last, 0)?,
+            Action::Unbind { .. } => put_both(list, track.last, 0)?,
         }
+        Ok(track.last)
     }
 
-    // The number, and those that ended a binding to the instance since it came into its pair.
-    fn with_releases(
+    // The list becomes the last action of the instance, and those that ended a binding to it since it came into its pair.
+    fn put_releases(
         &self,
         alloc: Global,
+        list: &mut Vec<u32>,
         u: &Universe,
         earlier: &[Action],
         y: InstNo,
-        previous: u32,
-    ) -> Result<Vec<u32>, NoMemory>
+    ) -> Result<(), NoMemory>
         requires few { length earlier.now < 2 ^ 32 - 1 }
         requires summary { IsSummary u.now earlier.now self.now }
-        ensures sorted { IfOk result (λ waits. IsStrictlySortedBy nat_cmp waits.items) }
-        ensures members { IfOk result (λ waits. (m : ℕ) → has waits.items m ≡ (is_release_of y earlier.now m || has_number previous m)) }
+        ensures sorted { OnOk result (IsStrictlySortedBy nat_cmp list.new.items) }
+        ensures members { OnOk result ((m : ℕ) → has list.new.items m ≡ (is_release_of y earlier.now m || has_number (last_number (is_by y) earlier.now) m)) }
     {
+        let track = track_of(&self.tracks, y);
         // Most instances that move have released nobody, and then no set is made.
-        if !has_released(&self.releases, y, track_of(&self.tracks, y).entered) {
-            return Ok(both(alloc, previous, 0)?);
+        if !has_released(&self.releases, y, track.entered) {
+            put_both(list, track.last, 0)?;
+            return Ok(());
         }
         let mut found = BTreeSet::new(alloc);
-        add_number(&mut found, previous)?;
+        add_number(&mut found, track.last)?;
         self.gather_releases(u, earlier, y, &mut found)?;
-        let waits = listed(alloc, &found)?;
-        Ok(waits)
+        put_listed(list, &found)?;
+        Ok(())
     }
 
     // Adds the numbers that ended a binding to the instance since it came into its pair.
@@ -154,31 +145,33 @@ impl Summary {
     }
 }
 
-// The numbers in their order.
-fn listed(alloc: Global, numbers: &BTreeSet<u32>) -> Result<Vec<u32>, NoMemory>
-    ensures items { IfOk result (λ list. list.items ≡ numbers.now.keys) }
+// The list becomes the numbers in their order.
+fn put_listed(list: &mut Vec<u32>, numbers: &BTreeSet<u32>) -> Result<(), NoMemory>
+    ensures items { OnOk result (list.new.items ≡ numbers.now.keys) }
     ensures ordered { IsStrictlySortedBy nat_cmp numbers.now.keys }
 {
     let _count = numbers.len();
-    Ok(numbers.iter().copied().collect(alloc)?)
+    list.clear();
+    for number in numbers {
+        list.push(*number)?;
+    }
+    Ok(())
 }
 
-// Those of the two numbers that are not 0, ascending and once.
-fn both(alloc: Global, a: u32, b: u32) -> Result<Vec<u32>, NoMemory>
-    ensures sorted { IfOk result (λ list. IsStrictlySortedBy nat_cmp list.items) }
-    ensures members { IfOk result (λ list. (m : ℕ) → has list.items m ≡ (has_number b m || has_number a m)) }
+// The list becomes those of the two numbers that are not 0, ascending and once.
+fn put_both(list: &mut Vec<u32>, a: u32, b: u32) -> Result<(), NoMemory>
+    ensures sorted { OnOk result (IsStrictlySortedBy nat_cmp list.new.items) }
+    ensures members { OnOk result ((m : ℕ) → has list.new.items m ≡ (has_number b m || has_number a m)) }
 {
-    let mut list = Vec::with_capacity(alloc, 2)?;
+    list.clear();
     if a < b {
-        push_two(&mut list, a, b)?;
-        return Ok(list);
+        return push_two(list, a, b);
     }
     if b < a {
-        push_two(&mut list, b, a)?;
-        return Ok(list);
+        return push_two(list, b, a);
     }
-    push_number(&mut list, a)?;
-    Ok(list)
+    push_number(list, a)?;
+    Ok(())
 }
 
 // Puts those of the two numbers that are not 0 into the empty list.
