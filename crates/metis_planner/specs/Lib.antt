@@ -1,3 +1,4 @@
 pub mod Outcomes
 pub mod Rounds
 pub mod UnderWay
+pub mod PlanFor

@@ -9,4 +9,4 @@ mod planner;
 
 pub use laws::{nothing_is_doubled_without_a_cycle, rounds_come_to_one_plan};
 pub use outcome::Outcome;
-pub use planner::plan;
+pub use planner::{plan, plan_over};

@@ -11,6 +11,7 @@ ghost use Rattle.metis_universe.specs.Step.{IsRun, after_all};
 ghost use Rattle.metis_universe.specs.Tidy.{IsTidy};
 ghost use Rattle.metis_universe.specs.Universe.{pair_count};
 ghost use Rattle.metis_layers.specs.LayerOrder.{instances_of};
+ghost use Rattle.metis_layers.specs.Layers.{IsLayers};
 ghost use Rattle.metis_support.specs.Support.{IsSupport, support_of};
 ghost use Rattle.metis_lines.specs.AbstractPlan.{stations};
 ghost use Rattle.metis_lines.specs.Justified.{is_justified};
@@ -20,6 +21,7 @@ ghost use Rattle.metis_rounds.specs.Reach.{HasStopped};
 ghost use Rattle.metis_rounds.specs.Rounds.{IsRounds};
 ghost use Rattle.metis_rounds.specs.Walks.{IsWalk};
 ghost use Rattle.metis_planner.specs.Outcomes.{IsLean, IsPlanWhere, IfPlan, IfClosed, EventBelow};
+ghost use Rattle.metis_planner.specs.PlanFor.{IsPlanFor};
 ghost use Rattle.metis_planner.specs.Rounds.{IsByRounds, IsForced, graph_after};
 ghost use Rattle.metis_planner.specs.UnderWay.{IsUnderWay};
 
@@ -29,6 +31,7 @@ use crate::outcome::Outcome;
 use metis_choice::{Choice, choose};
 use metis_ids::{Dup, NoMemory, PairIx, Plan};
 use metis_layers::layers;
+use metis_layers::table::Layers;
 use metis_rounds::Rounds;
 use metis_support::Support;
 use metis_universe::Universe;
@@ -84,10 +87,47 @@ pub fn plan(alloc: Global, u: &Universe, targets: &[PairIx]) -> Result<Outcome, 
     match choose(alloc, u, &layers, targets)? {
         Choice::Lacks(target) => Ok(Outcome::Closed(layers.into_attained(), target)),
         Choice::Support(support) => {
-            let plan = plan_by_rounds(alloc, u, &support, targets)?;
+            let plan = plan_on(alloc, u, &support, targets)?;
             Ok(Outcome::Plan(plan))
         }
     }
+}
+
+/// The plan for targets, at most 256, that some list of actions attains, where the layers are counted already.
+pub fn plan_over(
+    alloc: Global,
+    u: &Universe,
+    layers: &Layers,
+    targets: &[PairIx],
+) -> Result<Plan, NoMemory>
+    requires few { length targets.now ≤ 256 }
+    requires within { All (λ p. p < pair_count u.now) targets.now }
+    requires layers { IsLayers u.now layers.now }
+    requires attained { Attains u.now targets.now }
+    ensures { IfOk result (IsPlanFor u.now targets.now) }
+{
+    u.keeps_invariant();
+    match choose(alloc, u, layers, targets)? {
+        Choice::Lacks(_) => unreachable!(),
+        Choice::Support(support) => plan_on(alloc, u, &support, targets),
+    }
+}
+
+// The plan that rounds come to.
+fn plan_on(
+    alloc: Global,
+    u: &Universe,
+    s: &Support,
+    targets: &[PairIx],
+) -> Result<Plan, NoMemory>
+    requires few { length targets.now ≤ 256 }
+    requires layered { All (λ p. IsSome (layer_of u.now p)) targets.now }
+    requires support { s.now ≡ support_of u.now targets.now }
+    ensures { IfOk result (IsPlanFor u.now targets.now) }
+{
+    u.keeps_invariant();
+    let plan = plan_by_rounds(alloc, u, s, targets)?;
+    Ok(plan)
 }
 
 // Goes from round to round, with a line more for each cycle, until no event is stuck. Then the events have an order.
