@@ -5,7 +5,8 @@ use Rattle.metis_universe.specs.Universe.{Universe, requires}
 use Rattle.metis_why.proofs.Reasons.{not_inside}
 use Rattle.metis_why.proofs.Soundness.{moved_not_held}
 use Rattle.metis_why.specs.Barred.{IsBarred}
-use Rattle.metis_why.specs.Flags.{IsGreatest, IsInside, flag}
+use Rattle.metis_why.specs.Flags.{IsGreatest, IsInside}
+use Rattle.metis_refusal.specs.Supplies.{flag}
 use Rattle.metis_why.specs.Settling.{Falls, IsFrom, IsShrunk}
 use Rattle.metis_why.specs.declared.falling.Falling.{Falling}
 

@@ -4,7 +4,7 @@ use Rattle.std.specs.Prelude.{IsFalse}
 use Rattle.std.specs.List.{list_all, list_any}
 use Rattle.std.proofs.lemmas.Bool.{both_ways, false_from_ne_true, not-true, or_left, or_right, eq-eqb, true_from_ne_false, true≢false}
 use Rattle.std.proofs.lemmas.List.Elements.{All-cons, All-nil}
-use Rattle.metis_ids.proofs.Lists.{any_at}
+use Rattle.metis_ids.proofs.Lists.{any_at, some_member}
 use Rattle.metis_ids.specs.declared.goals.Goal.{Goal}
 use Rattle.metis_ids.specs.declared.goals.Goal.TheVariants.{Pair, Port}
 use Rattle.metis_choice.proofs.Resolving.{attained_where_none}
@@ -15,7 +15,7 @@ use Rattle.metis_universe.specs.Closed.{Closed}
 use Rattle.metis_universe.specs.Goals.{AttainsGoals, IsGoalOf, lacks}
 use Rattle.metis_universe.specs.Layers.{is_provided}
 use Rattle.metis_universe.specs.Universe.{Universe, IsUniverse, has, is_free, next_of, pair_count, provides, providers_of, required_of, requires}
-use Rattle.metis_why.proofs.Soundness.{passes_of, some_member}
+use Rattle.metis_why.proofs.Soundness.{passes_of}
 use Rattle.metis_why.specs.Answer.{IsLacking}
 use Rattle.metis_why.specs.Barred.{IsBarred, IsReason, before_of, wanted_by}
 use Rattle.metis_why.specs.declared.reason.Reason.{Reason}

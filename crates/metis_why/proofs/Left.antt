@@ -9,7 +9,8 @@ use Rattle.metis_universe.specs.Universe.{Universe, pair_count}
 use Rattle.metis_why.proofs.Going.{off_other}
 use Rattle.metis_why.proofs.Reasons.{all_inside}
 use Rattle.metis_why.specs.Barred.{IsNeeded, wanted_by}
-use Rattle.metis_why.specs.Flags.{IsGreatest, IsInside, IsMissed, flag}
+use Rattle.metis_why.specs.Flags.{IsGreatest, IsInside, IsMissed}
+use Rattle.metis_refusal.specs.Supplies.{flag}
 use Rattle.metis_why.specs.Leaving.{AreMissed, IsEnough, IsLess}
 
 -- where what is left without p does not cover the goal, p is missed

@@ -6,14 +6,10 @@ use Rattle.metis_universe.proofs.Correctness.{all_from_has, all_has}
 use Rattle.metis_universe.specs.Universe.{Universe, has, is_free, next_of, provides, providers_of, requires}
 use Rattle.metis_why.proofs.Soundness.{free_not_held, kept_by, moved_not_held, passes_of}
 use Rattle.metis_why.specs.Barred.{IsBarred, IsReason, before_of}
-use Rattle.metis_why.specs.Flags.{AreGiven, AreLed, IsInside, flag}
+use Rattle.metis_why.specs.Flags.{AreGiven, AreLed, IsInside}
+use Rattle.metis_refusal.specs.Supplies.{flag}
 use Rattle.metis_why.specs.declared.reason.Reason.{Reason}
 use Rattle.metis_why.specs.declared.reason.Reason.TheVariants.{Needs, Comes}
-
-pub unset : (n r : ℕ) → flag (replicate n false) r ≡ false
-unset zero r = refl
-unset (suc n) zero = refl
-unset (suc n) (suc r) = unset n r
 
 pub not_inside : (x y : ℕ → Bool) (p : ℕ) → IsInside y x → x p ≡ false → y p ≡ false
 not_inside x y p inside away = false_from_ne_true (y p) (λ there. both_ways (x p) away (inside p there))

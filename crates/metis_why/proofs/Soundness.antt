@@ -5,7 +5,7 @@ use Rattle.std.proofs.lemmas.Bool.{and_from, and_parts, both_ways, eq-eqb, eqb-t
 use Rattle.std.proofs.lemmas.List.{get_or_default}
 use Rattle.std.proofs.lemmas.List.Elements.{All-head, All-tail}
 use Rattle.std.proofs.lemmas.List.Folds.{Any-from_list_any}
-use Rattle.metis_ids.proofs.Lists.{has_range}
+use Rattle.metis_ids.proofs.Lists.{all_at, has_range, some_member}
 use Rattle.metis_universe.specs.Layers.{is_provided}
 use Rattle.metis_ids.specs.declared.actions.Action.{Action}
 use Rattle.metis_ids.specs.declared.goals.Goal.{Goal}
@@ -22,22 +22,6 @@ use Rattle.metis_universe.specs.Universe.{Universe, IsUniverse, all_pairs, has, 
 use Rattle.metis_why.specs.Barred.{Covers, IsBarred, IsOwn, IsReason, before_of, outside}
 use Rattle.metis_why.specs.declared.reason.Reason.{Reason}
 use Rattle.metis_why.specs.declared.reason.Reason.TheVariants.{Needs, Comes}
-
-pub all_at : (P : ℕ → Type 0) (q : ℕ) (xs : List ℕ) → All P xs → has xs q ≡ true → P q
-all_at P q [] all h = absurd (false≢true h)
-all_at P q (x ∷ xs) all h =
-    elim (or_cases (nat_eq x q) _ h) [
-      | inl now ↦ subst P (eqb-true x q now) (All-head P x xs all)
-      | inr later ↦ all_at P q xs (All-tail P x xs all) later
-    ]
-
-pub some_member : (t : ℕ → Bool) (xs : List ℕ) → list_any t xs ≡ true → (q : ℕ) × (has xs q ≡ true) × (t q ≡ true)
-some_member t [] h = absurd (false≢true h)
-some_member t (x ∷ xs) h =
-    elim (t x) as (λ b. t x ≡ b → (b || list_any t xs) ≡ true → (q : ℕ) × (has (x ∷ xs) q ≡ true) × (t q ≡ true)) [
-      | true ↦ λ at _. (x, ap (λ b. b || has xs x) (eq-eqb x x refl), at)
-      | false ↦ λ _ rest. let found = some_member t xs rest in (found.0, or_right _ _ found.1, found.2)
-    ] refl h
 
 pub pair_in : (u : Universe) (p : ℕ) → p < pair_count u → has (all_pairs u) p ≡ true
 pair_in u p h = has_range 0 (pair_count u) p (omega arith) (omega arith)

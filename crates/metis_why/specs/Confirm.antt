@@ -4,7 +4,8 @@
 --     covered u lines goals      the first of the goals that the pairs of the lines cover
 --     verdict u lines goals      the first of these that there is
 --     IsLineOf u l      the line's pair and its port are the universe's
-use Rattle.std.specs.Prelude.{◌<◌, ℕ, Bool, not, ◌&&◌, List, Option, Some, None, position}
+--     IsTellable u l      and a line of moves is about a pair in which no instance is made
+use Rattle.std.specs.Prelude.{◌<◌, ℕ, Bool, not, ◌&&◌, List, Option, Some, None, IsFalse, position}
 use Rattle.std.specs.List.{find, list_all}
 use Rattle.metis_ids.specs.declared.goals.Goal.{Goal}
 use Rattle.metis_universe.specs.Universe.{Universe, is_free, pair_count, requires}
@@ -40,3 +41,12 @@ verdict u lines goals = verdict_by (first_bad u lines) (covered u lines goals)
 pub record IsLineOf (u : Universe) (l : Line) : Type 0 where
   pub pair : l.pair < pair_count u
   pub port : IsNameable u l.reason
+
+-- a reason of moves is told of a pair in which no instance is made
+abbrev pub IsHeldUp : Universe → ℕ → Reason → Type 0
+IsHeldUp u q (Needs r) = Unit {0}
+IsHeldUp u q Comes = IsFalse (is_free u q)
+
+pub record IsTellable (u : Universe) (l : Line) : Type 0 where
+  pub of_universe : IsLineOf u l
+  pub held_up : IsHeldUp u l.pair l.reason

@@ -11,7 +11,8 @@ use Rattle.metis_universe.specs.Universe.{Universe, has, next_of, pair_count, pr
 use Rattle.metis_why.specs.Barred.{IsBarred, IsReason}
 use Rattle.metis_why.specs.declared.falling.Falling.{Falling}
 use Rattle.metis_why.specs.declared.reason.Reason.{Reason}
-use Rattle.metis_why.specs.Flags.{IsInside, flag}
+use Rattle.metis_why.specs.Flags.{IsInside}
+use Rattle.metis_refusal.specs.Supplies.{flag}
 
 abbrev pub held : List Bool → ℕ
 held flags = count_by (λ b. b) flags

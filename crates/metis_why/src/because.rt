@@ -6,7 +6,8 @@ ghost use Rattle.metis_layers.specs.Layers.{IsLayers};
 ghost use Rattle.metis_why.specs.Answer.{IfAttained, IfWhy, IsLacking};
 ghost use Rattle.metis_why.specs.Barred.{IsWhy, listed};
 ghost use Rattle.metis_why.specs.Confirm.{IsLineOf};
-ghost use Rattle.metis_why.specs.Flags.{IsWithin, flag};
+ghost use Rattle.metis_why.specs.Flags.{IsWithin};
+ghost use Rattle.metis_refusal.specs.Supplies.{flag};
 ghost use Rattle.metis_why.specs.Leaving.{IsEnough};
 
 use crate::leaving::leave_out_all;

@@ -6,7 +6,7 @@ ghost use Rattle.metis_universe.specs.Goals.{AttainsGoals, IsGoalOf};
 ghost use Rattle.metis_universe.specs.Universe.{port_count, providers_of};
 ghost use Rattle.metis_why.specs.Barred.{before_of, listed, wanted_by};
 ghost use Rattle.metis_why.specs.Confirm.{IsLineOf, covered, first_bad, line_holds, verdict};
-ghost use Rattle.metis_why.specs.Flags.{flag};
+ghost use Rattle.metis_refusal.specs.Supplies.{flag};
 
 use crate::because::flags_of;
 use crate::named::leads;

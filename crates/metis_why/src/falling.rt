@@ -2,7 +2,8 @@
 ghost use Rattle.std.specs.Prelude.{◌<◌, ℕ, Bool, IsTrue, IsFalse, OnOk, IfOk};
 ghost use Rattle.metis_universe.specs.Universe.{has, next_of, pair_count, port_count, provides, requires};
 ghost use Rattle.metis_why.specs.Barred.{IsBarred};
-ghost use Rattle.metis_why.specs.Flags.{IsInside, flag};
+ghost use Rattle.metis_why.specs.Flags.{IsInside};
+ghost use Rattle.metis_refusal.specs.Supplies.{flag};
 ghost use Rattle.metis_why.specs.Settling.{IsFrom, IsShrunk, Falls};
 
 use crate::outside::{PAIR_LIMIT, PORT_LIMIT, given_outside, is_free, is_set, led_outside};

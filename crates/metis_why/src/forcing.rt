@@ -4,7 +4,8 @@ ghost use Rattle.std.specs.List.{All};
 ghost use Rattle.metis_universe.specs.Goals.{IsGoalOf};
 ghost use Rattle.metis_ids.specs.declared.goals.Goal.{Goal};
 ghost use Rattle.metis_universe.specs.Universe.{Universe, pair_count, port_count, requires};
-ghost use Rattle.metis_why.specs.Flags.{AreGiven, AreLed, IsMissed, IsOnlyReason, flag};
+ghost use Rattle.metis_why.specs.Flags.{AreGiven, AreLed, IsMissed, IsOnlyReason};
+ghost use Rattle.metis_refusal.specs.Supplies.{flag};
 ghost use Rattle.metis_why.specs.Leaving.{AreForced, AreMarked, IsEnough};
 
 use crate::falling::are_given;

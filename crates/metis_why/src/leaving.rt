@@ -3,7 +3,8 @@ ghost use Rattle.std.specs.Prelude.{◌<◌, ℕ, IfOk, IsTrue, OnOk, set, false
 ghost use Rattle.metis_universe.specs.Goals.{IsGoalOf};
 ghost use Rattle.metis_universe.specs.Universe.{pair_count};
 ghost use Rattle.metis_why.specs.Barred.{IsNeeded};
-ghost use Rattle.metis_why.specs.Flags.{IsGreatest, IsMissed, IsWithin, flag};
+ghost use Rattle.metis_why.specs.Flags.{IsGreatest, IsMissed, IsWithin};
+ghost use Rattle.metis_refusal.specs.Supplies.{flag};
 ghost use Rattle.metis_why.specs.Leaving.{AreForced, AreMissed, IsEnough, IsLess};
 
 use crate::forcing::forced;

@@ -20,4 +20,4 @@ pub use laws::{
     barred_goals_are_not_attained, barred_pairs_are_closed_out, each_line_is_reached,
     true_lines_rule_out_the_goal, what_is_told_is_confirmed,
 };
-pub use reason::{Line, Reason};
+pub use reason::{Explanation, Line, Reason};

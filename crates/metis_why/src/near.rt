@@ -3,7 +3,8 @@ ghost use Rattle.std.specs.Prelude.{◌≡◌, ◌<◌, ◌≤◌, ℕ, IfOk, On
 ghost use Rattle.std.specs.List.{All};
 ghost use Rattle.metis_universe.specs.Goals.{IsGoalOf};
 ghost use Rattle.metis_universe.specs.Universe.{pair_count};
-ghost use Rattle.metis_why.specs.Flags.{IsInside, IsWithin, flag};
+ghost use Rattle.metis_why.specs.Flags.{IsInside, IsWithin};
+ghost use Rattle.metis_refusal.specs.Supplies.{flag};
 ghost use Rattle.metis_why.specs.Barred.{IsBarred};
 ghost use Rattle.metis_why.specs.Leaving.{IsEnough, IsLess};
 

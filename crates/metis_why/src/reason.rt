@@ -1,5 +1,5 @@
 //! What keeps a pair from being attained.
-use metis_ids::{PairIx, PortIx};
+use metis_ids::{Goal, PairIx, PortIx};
 
 /// What keeps a pair from being attained.
 #[derive(Clone, Copy, PartialEq, Eq)]
@@ -15,4 +15,12 @@ pub enum Reason {
 pub struct Line {
     pub pair: PairIx,
     pub reason: Reason,
+}
+
+/// Why a goal is never attained, line by line.
+#[derive(Drop)]
+pub struct Explanation {
+    /// The goal.
+    pub lacks: Goal,
+    pub lines: Vec<Line>,
 }

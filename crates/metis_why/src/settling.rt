@@ -5,7 +5,8 @@ ghost use Rattle.metis_ids.specs.declared.goals.Goal.{Goal};
 ghost use Rattle.metis_universe.specs.Universe.{pair_count};
 ghost use Rattle.metis_universe.specs.Goals.{IsGoalOf};
 ghost use Rattle.metis_why.specs.Barred.{wanted_by};
-ghost use Rattle.metis_why.specs.Flags.{IsGreatest, IsWithin, flag};
+ghost use Rattle.metis_why.specs.Flags.{IsGreatest, IsWithin};
+ghost use Rattle.metis_refusal.specs.Supplies.{flag};
 ghost use Rattle.metis_why.specs.Settling.{IsRound};
 
 use crate::falling::drain;

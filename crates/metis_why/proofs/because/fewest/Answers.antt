@@ -1,5 +1,5 @@
 use Rattle.metis_why.proofs.Listed.{why_by}
-use Rattle.metis_why.specs.Flags.{flag}
+use Rattle.metis_refusal.specs.Supplies.{flag}
 use Rattle.metis_why.proofs.because.fewest.Goals as goal
 
 pub returns : goal.returns

@@ -5,7 +5,7 @@ use Rattle.metis_universe.specs.Goals.{places_of, same_goal}
 use Rattle.metis_why.proofs.Lacking.{attained_by, lacking_barred}
 use Rattle.metis_why.proofs.Soundness.{unattained}
 use Rattle.metis_why.proofs.Told.{lines_of_universe}
-use Rattle.metis_why.specs.Flags.{flag}
+use Rattle.metis_refusal.specs.Supplies.{flag}
 use Rattle.metis_why.proofs.because.why.Goals as goal
 
 pub fewest-requires-clause-enough : goal.fewest-requires-clause-enough

@@ -1,5 +1,5 @@
 use Rattle.metis_why.proofs.Fallen.{shrunk_then}
-use Rattle.metis_why.specs.Flags.{flag}
+use Rattle.metis_refusal.specs.Supplies.{flag}
 use Rattle.metis_why.proofs.falling.drain.Goals as goal
 
 pub returns : goal.returns

@@ -1,5 +1,5 @@
 use Rattle.std.proofs.Common.{◌+◌, length}
-use Rattle.metis_why.specs.Flags.{flag}
+use Rattle.metis_refusal.specs.Supplies.{flag}
 use Rattle.metis_why.specs.Settling.{IsFrom, IsShrunk, held}
 use Rattle.metis_why.proofs.falling.spread_all.Given as goal
 

@@ -1,4 +1,4 @@
-use Rattle.metis_why.specs.Flags.{flag}
+use Rattle.metis_refusal.specs.Supplies.{flag}
 use Rattle.metis_why.specs.Leaving.{AreMarked}
 use Rattle.metis_why.proofs.forcing.forced.Given as goal
 

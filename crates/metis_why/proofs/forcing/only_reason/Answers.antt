@@ -1,6 +1,6 @@
 use Rattle.std.proofs.Common.{◌∙◌, sym}
 use Rattle.std.proofs.lemmas.Bool.{both_ways}
-use Rattle.metis_why.specs.Flags.{flag}
+use Rattle.metis_refusal.specs.Supplies.{flag}
 use Rattle.metis_why.proofs.Reasons.{comes_unled, only_comes, only_needs}
 use Rattle.metis_universe.specs.Universe.{is_free}
 use Rattle.metis_why.proofs.forcing.only_reason.Goals as goal

@@ -1,6 +1,6 @@
 use Rattle.std.proofs.Common.{◌∙◌, sym}
 use Rattle.metis_why.proofs.Left.{missed_one}
-use Rattle.metis_why.specs.Flags.{flag}
+use Rattle.metis_refusal.specs.Supplies.{flag}
 use Rattle.metis_why.proofs.leaving.leave_out.Goals as goal
 
 pub returns-else-covers-clause-missed : goal.returns-else-covers-clause-missed

@@ -1,4 +1,5 @@
-use Rattle.metis_why.specs.Flags.{IsWithin, flag}
+use Rattle.metis_why.specs.Flags.{IsWithin}
+use Rattle.metis_refusal.specs.Supplies.{flag}
 use Rattle.metis_why.specs.Settling.{IsShrunk, held}
 use Rattle.metis_why.proofs.settling.settle_in_rounds.Given as goal
 
