@@ -78,7 +78,7 @@ confirmed_parts (Some k) c g e = cc
 confirmed_parts None (Some h) g e = (refl, (cc))
 confirmed_parts None None g e = cc
 
-placed : (t : Goal → Bool) (goals : List Goal) (g : Goal) → find t goals ≡ Some g → (t g ≡ true) × (1 ≤ places_of goals g)
+pub placed : (t : Goal → Bool) (goals : List Goal) (g : Goal) → find t goals ≡ Some g → (t g ≡ true) × (1 ≤ places_of goals g)
 placed t [] g is = cc
 placed t (x ∷ goals) g is = by (t x) refl (placed t goals g) is where
   steps : places_of (x ∷ goals) g ≡ cond (same_goal x g) 1 0 + places_of goals g

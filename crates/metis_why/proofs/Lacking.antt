@@ -1,18 +1,15 @@
 -- The pairs that are not attainable wait for one another.
 use Rattle.std.proofs.Common.{◌≡◌, ℕ, ◌<◌, Bool, true, false, not, ◌&&◌, List, [], ◌∷◌, refl, sym, ap, ◌∙◌, nat_eq}
-use Rattle.std.specs.Prelude.{IsFalse}
 use Rattle.std.specs.List.{list_all, list_any}
 use Rattle.std.proofs.lemmas.Bool.{both_ways, false_from_ne_true, not-true, or_left, or_right, eq-eqb, true_from_ne_false, true≢false}
-use Rattle.std.proofs.lemmas.List.Elements.{All-cons, All-nil}
 use Rattle.metis_ids.proofs.Lists.{any_at, some_member}
 use Rattle.metis_ids.specs.declared.goals.Goal.{Goal}
 use Rattle.metis_ids.specs.declared.goals.Goal.TheVariants.{Pair, Port}
-use Rattle.metis_choice.proofs.Resolving.{attained_where_none}
 use Rattle.metis_layers.specs.LayerOrder.{attained_pairs}
 use Rattle.metis_universe.proofs.Attained.{Closed-layers}
 use Rattle.metis_universe.proofs.Correctness.{all_from_has, all_has}
 use Rattle.metis_universe.specs.Closed.{Closed}
-use Rattle.metis_universe.specs.Goals.{AttainsGoals, IsGoalOf, lacks}
+use Rattle.metis_universe.specs.Goals.{IsGoalOf, lacks}
 use Rattle.metis_universe.specs.Layers.{is_provided}
 use Rattle.metis_universe.specs.Universe.{Universe, IsUniverse, has, is_free, next_of, pair_count, provides, providers_of, required_of, requires}
 use Rattle.metis_why.proofs.Soundness.{passes_of}
@@ -72,7 +69,7 @@ module _ (u : Universe) (k : IsUniverse u) (x : ℕ → Bool) (away : IsLacking 
 
   -- ---- a goal that is not covered
 
-  uncovered : (g : Goal) → IsGoalOf u g → list_all x (wanted_by u g) ≡ false → lacks u (attained_pairs u) g ≡ false
+  pub uncovered : (g : Goal) → IsGoalOf u g → list_all x (wanted_by u g) ≡ false → lacks u (attained_pairs u) g ≡ false
   uncovered (Pair p) low none = ap not (there_where_not p low (first (x p) none)) where
     first : (b : Bool) → (b && true) ≡ false → b ≡ false
     first true h = absurd (true≢false h)
@@ -81,6 +78,3 @@ module _ (u : Universe) (k : IsUniverse u) (x : ℕ → Bool) (away : IsLacking 
       let y = some_fails x (providers_of u r) none in
       let at = passes_of u (λ z. provides u z r) y.0 y.1 in
       ap not (any_at (λ z. provides u z r) y.0 (attained_pairs u) (there_where_not y.0 at.1 y.2) at.0)
-
-  pub attained_by : (g : Goal) → IsGoalOf u g → list_all x (wanted_by u g) ≡ false → AttainsGoals u (g ∷ [])
-  attained_by g low none = (attained_where_none u k (g ∷ [])).1 (All-cons (λ h. IsFalse (lacks u (attained_pairs u) h)) g [] (uncovered g low none) (All-nil (λ h. IsFalse (lacks u (attained_pairs u) h))))

@@ -1,5 +1,7 @@
+pub mod Circled
 pub mod Confirmed
 pub mod Fallen
+pub mod First
 pub mod Forced
 pub mod Going
 pub mod Lacking

@@ -1,5 +1,5 @@
 -- What the flags of ports and pairs say of a pair.
-use Rattle.std.proofs.Common.{◌≡◌, ℕ, Bool, true, false, List, replicate, zero, suc, ap, refl}
+use Rattle.std.proofs.Common.{◌≡◌, ℕ, Bool, true, false, List, ap, refl}
 use Rattle.std.specs.List.{list_all}
 use Rattle.std.proofs.lemmas.Bool.{both_ways, false_from_ne_true, true_from_ne_false}
 use Rattle.metis_universe.proofs.Correctness.{all_from_has, all_has}

@@ -9,6 +9,7 @@
 --     IsMissed u g x q      each barred set inside x that covers the goal has q
 use Rattle.std.specs.Prelude.{◌≡◌, ◌<◌, ℕ, Bool, List, IsTrue, IsFalse, Option, Some, MatchOption, ◌⊎◌}
 use Rattle.metis_ids.specs.declared.goals.Goal.{Goal}
+use Rattle.metis_refusal.specs.Supplies.{flag}
 use Rattle.metis_universe.specs.Universe.{Universe, has, next_of, pair_count, port_count, provides, requires}
 use Rattle.metis_why.specs.Barred.{Covers, IsBarred, IsNameable, IsReason}
 use Rattle.metis_why.specs.declared.reason.Reason.{Reason}

@@ -4,7 +4,7 @@ ghost use Rattle.std.specs.List.{All, list_all};
 ghost use Rattle.metis_ids.specs.declared.goals.Goal.{Goal};
 ghost use Rattle.metis_universe.specs.Goals.{AttainsGoals, IsGoalOf};
 ghost use Rattle.metis_universe.specs.Universe.{port_count, providers_of};
-ghost use Rattle.metis_why.specs.Barred.{before_of, listed, wanted_by};
+ghost use Rattle.metis_why.specs.Barred.{before_of, listed};
 ghost use Rattle.metis_why.specs.Confirm.{IsLineOf, covered, first_bad, line_holds, verdict};
 ghost use Rattle.metis_refusal.specs.Supplies.{flag};
 
@@ -12,7 +12,7 @@ use crate::because::flags_of;
 use crate::named::leads;
 use crate::outside::{PAIR_LIMIT, is_free, is_set};
 use crate::reason::{Line, Reason};
-use crate::settling::covers;
+use crate::settling::{covers, first_covered};
 use metis_ids::{Goal, PairIx, PortIx};
 use metis_universe::Universe;
 
@@ -105,20 +105,6 @@ fn covered(u: &Universe, held: &[bool; PAIR_LIMIT], lines: &[Line], goals: &[Goa
     requires held { (p : ℕ) → flag held.now p ≡ listed lines.now p }
     ensures { result ≡ covered u.now lines.now goals.now }
 {
-    for goal in goals {
-        if is_covered(u, held, lines, *goal) {
-            return Some(*goal);
-        }
-    }
-    None
-}
-
-// Whether the pairs of the lines cover the goal.
-fn is_covered(u: &Universe, held: &[bool; PAIR_LIMIT], lines: &[Line], goal: Goal) -> bool
-    requires goal { IsGoalOf u.now goal }
-    requires held { (p : ℕ) → flag held.now p ≡ listed lines.now p }
-    ensures { result ≡ list_all (listed lines.now) (wanted_by u.now goal) }
-{
     let _lines = lines;
-    covers(u, held, goal)
+    first_covered(u, held, goals)
 }

@@ -1,5 +1,5 @@
 //! Laws of what keeps goals from being attained.
-ghost use Rattle.std.specs.Prelude.{◌≡◌, ◌≤◌, ◌∷◌, [], ℕ, Bool, List, IsTrue};
+ghost use Rattle.std.specs.Prelude.{◌≡◌, ◌≤◌, ◌⊎◌, ◌++◌, ◌∷◌, [], ℕ, Bool, List, IsTrue};
 ghost use Rattle.std.specs.List.{All, list_all};
 ghost use Rattle.metis_ids.specs.declared.actions.Action.{Action};
 ghost use Rattle.metis_ids.specs.declared.goals.Goal.{Goal};
@@ -7,8 +7,10 @@ ghost use Rattle.metis_universe.specs.Closed.{Closed};
 ghost use Rattle.metis_universe.specs.Config.{empty};
 ghost use Rattle.metis_universe.specs.Goals.{AttainsGoals, places_of, serving};
 ghost use Rattle.metis_universe.specs.Step.{IsRun, after_all};
-ghost use Rattle.metis_universe.specs.Universe.{Universe, IsUniverse};
+ghost use Rattle.metis_universe.specs.Universe.{Universe, IsUniverse, has};
+ghost use Rattle.metis_why.specs.Answer.{IsFirstUnattained};
 ghost use Rattle.metis_why.specs.Barred.{Covers, IsBarred, IsReason, IsWhy, listed, named_by, outside};
+ghost use Rattle.metis_why.specs.Circles.{IsCircle, IsNaming};
 ghost use Rattle.metis_why.specs.Confirm.{verdict};
 ghost use Rattle.metis_why.specs.declared.reason.Line.{Line};
 
@@ -41,4 +43,20 @@ pub fn true_lines_rule_out_the_goal()
 /// What is told of a goal is confirmed of it.
 pub fn what_is_told_is_confirmed()
     ensures { (u : Universe) (g : Goal) (lines : List Line) → IsWhy u g lines → verdict u lines (g ∷ []) ≡ Confirmation.Confirmed g }
+{}
+
+/// And what is told of several goals, of the first that no list of actions attains, is confirmed of them.
+pub fn what_is_told_is_confirmed_of_all()
+    ensures { (u : Universe) (goals : List Goal) (g : Goal) (lines : List Line) → IsUniverse u → IsFirstUnattained u goals g → IsWhy u g lines → verdict u lines goals ≡ Confirmation.Confirmed g }
+{}
+
+/// A circle shows: where lines name one another's pairs in a circle, one of them names its own pair, or that of a line above it.
+pub fn a_circle_shows()
+    ensures { (u : Universe) (lines : List Line) (places : List ℕ) → IsCircle u lines places → (i : ℕ) × (j : ℕ) × IsTrue (has places i) × IsNaming u lines i j × (j ≤ i) }
+{}
+
+/// The last line of an explanation shows what ends it: each pair that it names is its own, or that of a line above it. So it names
+/// no pair, or closes a circle.
+pub fn the_last_line_shows()
+    ensures { (u : Universe) (g : Goal) (above : List Line) (last : Line) (p : ℕ) → IsWhy u g (above ++ last ∷ []) → IsTrue (has (named_by u last.pair last.reason) p) → IsTrue (listed above p) ⊎ (last.pair ≡ p) }
 {}

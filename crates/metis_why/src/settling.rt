@@ -1,6 +1,6 @@
 //! The greatest set of pairs that wait for one another.
 ghost use Rattle.std.specs.Prelude.{◌≡◌, ◌<◌, ℕ, Bool, IsTrue, IsFalse, OnOk};
-ghost use Rattle.std.specs.List.{All, list_all};
+ghost use Rattle.std.specs.List.{All, find, list_all};
 ghost use Rattle.metis_ids.specs.declared.goals.Goal.{Goal};
 ghost use Rattle.metis_universe.specs.Universe.{pair_count};
 ghost use Rattle.metis_universe.specs.Goals.{IsGoalOf};
@@ -61,6 +61,19 @@ pub fn covers(u: &Universe, held: &[bool; PAIR_LIMIT], goal: Goal) -> bool
         Goal::Pair(pair) => is_set(held, pair),
         Goal::Port(port) => are_set(held, u.providers(port)),
     }
+}
+
+/// The first of the goals that the set covers.
+pub fn first_covered(u: &Universe, held: &[bool; PAIR_LIMIT], goals: &[Goal]) -> Option<Goal>
+    requires { All (IsGoalOf u.now) goals.now }
+    ensures { result ≡ find (λ g. list_all (flag held.now) (wanted_by u.now g)) goals.now }
+{
+    for goal in goals {
+        if covers(u, held, *goal) {
+            return Some(*goal);
+        }
+    }
+    None
 }
 
 // Whether the flags of these pairs are all set.

@@ -1,32 +1,33 @@
-use Rattle.std.proofs.Common.{◌+◌, ◌≤◌, [], ◌∷◌, cond, sym, ap, ◌∙◌, arith}
-use Rattle.std.specs.List.{count_by}
-use Rattle.metis_universe.proofs.Served.{count-cons, same_itself}
-use Rattle.metis_universe.specs.Goals.{places_of, same_goal}
-use Rattle.metis_why.proofs.Lacking.{attained_by, lacking_barred}
-use Rattle.metis_why.proofs.Soundness.{unattained}
-use Rattle.metis_why.proofs.Told.{lines_of_universe}
-use Rattle.metis_refusal.specs.Supplies.{flag}
+use Rattle.std.proofs.Common.{[], ◌∷◌, subst}
+use Rattle.std.specs.List.{All}
+use Rattle.std.proofs.lemmas.List.Elements.{All-weaker}
+use Rattle.metis_universe.specs.Goals.{AttainsGoals}
+use Rattle.metis_why.proofs.First.{first_of_one, of_lacks}
+use Rattle.metis_why.specs.Answer.{IsFirstUnattained}
+use Rattle.metis_why.specs.Barred.{IsWhy}
+use Rattle.metis_why.specs.Confirm.{IsLineOf, IsTellable}
 use Rattle.metis_why.proofs.because.why.Goals as goal
 
-pub fewest-requires-clause-enough : goal.fewest-requires-clause-enough
-fewest-requires-clause-enough c = record {
-  within = c.lacking-held.ensures.within;
-  barred = lacking_barred c.args.u.now c.keeps_invariant.ensures.universe (flag c.lacking-held.result) c.lacking-held.ensures;
-  covers = sym c.covers.ensures ∙ c.if-covers.true;
-}
+-- it is the first of one goal, and so that goal
+first : (c : goal.In-Lacks) → IsFirstUnattained c.args.u.now (c.args.goal.now ∷ []) c.in-Lacks.field-0.lacks
+first c = of_lacks (λ e. IsFirstUnattained c.args.u.now (c.args.goal.now ∷ []) e.lacks) c.in_ok-explained.explained c.in-Lacks.field-0 c.in-Lacks.is c.in_ok-explained.ensures.first
 
-pub returns-then-covers-clause-unattained : goal.returns-then-covers-clause-unattained
-returns-then-covers-clause-unattained c = λ attained.
+pub returns-in-Lacks-clause-why : goal.returns-in-Lacks-clause-why
+returns-in-Lacks-clause-why c =
+    let e = c.in-Lacks.field-0 in
     let u = c.args.u.now in
-    let g = c.args.goal.now in
-    let k = c.keeps_invariant.ensures.universe in
-    let x = flag c.lacking-held.result in
-    let once : 1 ≤ places_of (g ∷ []) g = omega (arith, count-cons (λ h. same_goal h g) g [] ∙ ap (λ b. cond b 1 0 + count_by (λ h. same_goal h g) []) (same_itself g)) in
-    unattained u k x g (g ∷ []) (lacking_barred u k x c.lacking-held.ensures) (sym c.covers.ensures ∙ c.if-covers.true) once attained
+    subst (λ g. IsWhy u g e.lines.items) (first_of_one u c.args.goal.now e.lacks (first c))
+    (of_lacks (λ x. IsWhy u x.lacks x.lines.items) c.in_ok-explained.explained e c.in-Lacks.is c.in_ok-explained.ensures.why)
 
-pub returns-clause-attained : goal.returns-clause-attained
-returns-clause-attained c =
-    attained_by c.args.u.now c.keeps_invariant.ensures.universe (flag c.lacking-held.result) c.lacking-held.ensures c.args.goal.now c.requires (sym c.covers.ensures ∙ c.if-covers.false)
+pub returns-in-Lacks-clause-lines : goal.returns-in-Lacks-clause-lines
+returns-in-Lacks-clause-lines c =
+    let e = c.in-Lacks.field-0 in
+    let u = c.args.u.now in
+    All-weaker (IsTellable u) (IsLineOf u) (λ l tellable. tellable.of_universe) e.lines.items
+    (of_lacks (λ x. All (IsTellable u) x.lines.items) c.in_ok-explained.explained e c.in-Lacks.is c.in_ok-explained.ensures.tellable)
 
-pub returns-then-covers-clause-lines : goal.returns-then-covers-clause-lines
-returns-then-covers-clause-lines c = lines_of_universe c.args.u.now c.keeps_invariant.ensures.universe c.args.goal.now _ c.in_ok-fewest.ensures
+pub returns-in-Lacks-clause-unattained : goal.returns-in-Lacks-clause-unattained
+returns-in-Lacks-clause-unattained c =
+    let e = c.in-Lacks.field-0 in
+    let u = c.args.u.now in
+    subst (λ g. AttainsGoals u (g ∷ []) → ⊥) (first_of_one u c.args.goal.now e.lacks (first c)) (first c).unattained

@@ -1,6 +1,6 @@
 use Rattle.metis_why.proofs.Listed.{why_by}
 use Rattle.metis_refusal.specs.Supplies.{flag}
-use Rattle.metis_why.proofs.because.fewest.Goals as goal
+use Rattle.metis_why.proofs.explaining.fewest.Goals as goal
 
 pub returns : goal.returns
 returns c =

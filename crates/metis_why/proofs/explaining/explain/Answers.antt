@@ -1,0 +1,21 @@
+use Rattle.metis_why.proofs.First.{all_attained, first_enough, first_of_universe, first_unattained, tellable_lines}
+use Rattle.metis_refusal.specs.Supplies.{flag}
+use Rattle.metis_why.proofs.explaining.explain.Goals as goal
+
+pub fewest-requires-clause-goal : goal.fewest-requires-clause-goal
+fewest-requires-clause-goal c =
+    first_of_universe c.args.u.now c.keeps_invariant.ensures.universe (flag c.lacking-held.result) c.lacking-held.ensures c.args.goals.now c.in-Some.lacks c.requires c.in-Some.ensures
+
+pub fewest-requires-clause-enough : goal.fewest-requires-clause-enough
+fewest-requires-clause-enough c = first_enough c.args.u.now c.keeps_invariant.ensures.universe (flag c.lacking-held.result) c.lacking-held.ensures c.args.goals.now c.in-Some.lacks c.requires c.in-Some.ensures
+
+pub returns-in-Some-clause-first : goal.returns-in-Some-clause-first
+returns-in-Some-clause-first c =
+    first_unattained c.args.u.now c.keeps_invariant.ensures.universe (flag c.lacking-held.result) c.lacking-held.ensures c.args.goals.now c.in-Some.lacks c.requires c.in-Some.ensures
+
+pub returns-in-Some-clause-tellable : goal.returns-in-Some-clause-tellable
+returns-in-Some-clause-tellable c = tellable_lines c.args.u.now c.keeps_invariant.ensures.universe c.in-Some.lacks _ c.in_ok-lines-in-Some.ensures
+
+pub returns-clause-attained : goal.returns-clause-attained
+returns-clause-attained c =
+    all_attained c.args.u.now c.keeps_invariant.ensures.universe (flag c.lacking-held.result) c.lacking-held.ensures c.args.goals.now c.requires c.in-None.ensures
