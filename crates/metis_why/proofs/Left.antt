@@ -1,28 +1,34 @@
 -- Leaving pairs out of a set.
-use Rattle.std.proofs.Common.{◌≡◌, ℕ, ◌+◌, ◌<◌, Bool, false, cond, List, [], ◌∷◌, ◌++◌, set, sym, ap, ◌∙◌, subst, arith, inl, inr}
-use Rattle.std.specs.Prelude.{IsTrue}
+use Rattle.std.proofs.Common.{◌≡◌, ℕ, ◌+◌, Bool, true, false, cond, List, [], ◌∷◌, ◌++◌, set, sym, ap, ◌∙◌, inl, inr}
 use Rattle.std.specs.List.{filter, list_all, range_with_len}
-use Rattle.std.proofs.lemmas.Bool.{both_ways, cases_eq, true_from_ne_false}
+use Rattle.std.proofs.lemmas.Bool.{both_ways, cases_eq, false_from_ne_true, true_from_ne_false}
 use Rattle.metis_ids.proofs.Lists.{filter_more}
 use Rattle.metis_ids.specs.declared.goals.Goal.{Goal}
-use Rattle.metis_universe.specs.Universe.{Universe, pair_count}
-use Rattle.metis_why.proofs.Going.{off_other}
+use Rattle.metis_universe.specs.Universe.{Universe}
+use Rattle.metis_why.proofs.Going.{off_other, off_same}
 use Rattle.metis_why.proofs.Reasons.{all_inside}
-use Rattle.metis_why.specs.Barred.{IsNeeded, wanted_by}
+use Rattle.metis_why.specs.Barred.{IsBarred, wanted_by}
 use Rattle.metis_why.specs.Flags.{IsGreatest, IsInside, IsMissed}
 use Rattle.metis_refusal.specs.Supplies.{flag}
-use Rattle.metis_why.specs.Leaving.{AreMissed, IsEnough, IsLess}
+use Rattle.metis_why.specs.Leaving.{IsEnough, IsLess}
+
+inside_without : (x : List Bool) (p : ℕ) (y : ℕ → Bool) → IsInside y (flag x) → y p ≡ false → IsInside y (flag (set x p false))
+inside_without x p y inside away q there = elim (cases_eq q p) [
+  | inl here ↦ absurd (both_ways (y q) (ap y here ∙ away) there)
+  | inr other ↦ off_other x p q other ∙ inside q there
+]
 
 -- where what is left without p does not cover the goal, p is missed
 pub missed_one : (u : Universe) (g : Goal) (x : List Bool) (z : ℕ → Bool) (p : ℕ) → IsGreatest u (flag (set x p false)) z → list_all z (wanted_by u g) ≡ false → IsMissed u g (flag x) p
 missed_one u g x z p most lost = λ y barred covers inside.
     true_from_ne_false (y p) (λ away.
-    both_ways (list_all z (wanted_by u g)) lost (all_inside z y (wanted_by u g) (most.greatest y barred (without y inside away)) covers)) where
-      without : (y : ℕ → Bool) → IsInside y (flag x) → y p ≡ false → IsInside y (flag (set x p false))
-      without y inside away q there = elim (cases_eq q p) [
-        | inl here ↦ absurd (both_ways (y q) (ap y here ∙ away) there)
-        | inr other ↦ off_other x p q other ∙ inside q there
-      ]
+    both_ways (list_all z (wanted_by u g)) lost (all_inside z y (wanted_by u g) (most.greatest y barred (inside_without x p y inside away)) covers))
+
+-- what is left without p has each barred set without p
+pub keeps_without : (u : Universe) (x : List Bool) (z : ℕ → Bool) (p : ℕ) → flag x p ≡ true → IsGreatest u (flag (set x p false)) z →
+    (y : ℕ → Bool) → IsBarred u y → IsInside y (flag x) → (y p ≡ true → z p ≡ true) → IsInside y z
+keeps_without u x z p on most y barred inside back =
+    most.greatest y barred (inside_without x p y inside (false_from_ne_true (y p) (λ there. both_ways (flag (set x p false) p) (off_same x p on) (most.inside p (back there)))))
 
 pub less_start : (u : Universe) (g : Goal) (x : ℕ → Bool) → IsEnough u g x → IsLess u g x x
 less_start u g x enough = record { inside = λ p there. there; enough = enough }
@@ -32,17 +38,6 @@ less_then u g x y z first then = record { inside = λ p there. first.inside p (t
 
 pub missed_less : (u : Universe) (g : Goal) (x z : ℕ → Bool) (q : ℕ) → IsInside z x → IsMissed u g x q → IsMissed u g z q
 missed_less u g x z q inside missed y barred covers within = missed y barred covers (λ p there. inside p (within p there))
-
-pub missed_more : (u : Universe) (g : Goal) (x z : ℕ → Bool) (n : ℕ) → IsInside z x → AreMissed u g x n → (IsTrue (z n) → IsMissed u g z n) → AreMissed u g z (n + 1)
-missed_more u g x z n inside missed here q low there = elim (cases_eq q n) [
-  | inl at ↦ subst (λ k. IsMissed u g z k) (sym at) (here (ap z (sym at) ∙ there))
-  | inr other ↦ missed_less u g x z q inside (missed q (below q n other low) (inside q there))
-] where
-  below : (q n : ℕ) → (q ≡ n → ⊥) → q < n + 1 → q < n
-  below q n other low = omega arith
-
-pub needed_by : (u : Universe) (g : Goal) (x : ℕ → Bool) → IsEnough u g x → AreMissed u g x (pair_count u) → IsNeeded u g x
-needed_by u g x enough missed = record { covers = enough.covers; least = λ y barred covers inside p there. missed p (enough.within p there) there y barred covers inside }
 
 -- one pair more
 pub before_more : (t : ℕ → Bool) (n : ℕ) (items new : List ℕ) (b : Bool) → items ≡ filter t (range_with_len 0 n) → new ≡ items ++ cond b (n ∷ []) [] → b ≡ t n → new ≡ filter t (range_with_len 0 (n + 1))

@@ -1,12 +1,17 @@
+pub mod Chosen
 pub mod Circled
 pub mod Confirmed
+pub mod Distances
 pub mod Fallen
 pub mod First
+pub mod Followed
 pub mod Forced
 pub mod Going
 pub mod Lacking
 pub mod Left
 pub mod Listed
+pub mod ListedAll
+pub mod Nearest
 pub mod Reached
 pub mod Reasons
 pub mod Soundness

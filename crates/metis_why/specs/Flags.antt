@@ -7,10 +7,10 @@
 --     IsGreatest u x z      z is barred and inside x, and each barred set inside x is inside z
 --     IsOnlyReason u x q o      o is the one reason of q, if there is one, and a reason can be told
 --     IsMissed u g x q      each barred set inside x that covers the goal has q
-use Rattle.std.specs.Prelude.{◌≡◌, ◌<◌, ℕ, Bool, List, IsTrue, IsFalse, Option, Some, MatchOption, ◌⊎◌}
+use Rattle.std.specs.Prelude.{◌≡◌, ◌<◌, ℕ, Bool, List, IsTrue, IsFalse, Option, MatchOption}
 use Rattle.metis_ids.specs.declared.goals.Goal.{Goal}
 use Rattle.metis_refusal.specs.Supplies.{flag}
-use Rattle.metis_universe.specs.Universe.{Universe, has, next_of, pair_count, port_count, provides, requires}
+use Rattle.metis_universe.specs.Universe.{Universe, has, next_of, pair_count, port_count, provides}
 use Rattle.metis_why.specs.Barred.{Covers, IsBarred, IsNameable, IsReason}
 use Rattle.metis_why.specs.declared.reason.Reason.{Reason}
 
@@ -39,16 +39,8 @@ pub record IsGreatest (u : Universe) (x z : ℕ → Bool) : Type 0 where
 abbrev pub IsMissed : Universe → Goal → (ℕ → Bool) → ℕ → Type 0
 IsMissed u g x q = (y : ℕ → Bool) → IsBarred u y → Covers u y g → IsInside y x → IsTrue (y q)
 
--- one of the ports that q requires and whose flags are not set, or none where all are set
-abbrev pub MissingPort : Universe → ℕ → List Bool → Option ℕ → Type 0
-MissingPort u q given o = MatchOption o ((r : ℕ) → IsTrue (requires u q r) → IsTrue (flag given r)) (λ r. IsTrue (requires u q r) × IsFalse (flag given r))
-
 abbrev pub IsPorts : Universe → Option ℕ → ℕ → Type 0
 IsPorts u best port = MatchOption best (Unit {0}) (λ r. r < port_count u) × (port < port_count u)
-
--- it is the port, or what is best so far
-abbrev pub IsOneOf : Option ℕ → ℕ → ℕ → Type 0
-IsOneOf best port r = (r ≡ port) ⊎ (best ≡ Some r)
 
 -- each reason of q is this one, whose port is the universe's
 abbrev pub IsOnlyReason : Universe → (ℕ → Bool) → ℕ → Option Reason → Type 0

@@ -1,10 +1,9 @@
 -- Leaving pairs out of a set.
 --     IsEnough u g x      x is a barred set of pairs of the universe that covers the goal
 --     IsLess u g x z      z is inside x, and enough too
---     AreMissed u g x n      each pair of x below n is missed
 --     AreForced u g x forced      each pair whose flag is set is missed
 --     AreMarked u g x list forced      so is each that is listed
-use Rattle.std.specs.Prelude.{◌<◌, ℕ, Bool, List, IsTrue}
+use Rattle.std.specs.Prelude.{ℕ, Bool, List, IsTrue}
 use Rattle.std.specs.List.{All}
 use Rattle.metis_ids.specs.declared.goals.Goal.{Goal}
 use Rattle.metis_universe.specs.Universe.{Universe}
@@ -20,9 +19,6 @@ pub record IsEnough (u : Universe) (g : Goal) (x : ℕ → Bool) : Type 0 where
 pub record IsLess (u : Universe) (g : Goal) (x z : ℕ → Bool) : Type 0 where
   pub inside : IsInside z x
   pub enough : IsEnough u g z
-
-abbrev pub AreMissed : Universe → Goal → (ℕ → Bool) → ℕ → Type 0
-AreMissed u g x n = (q : ℕ) → q < n → IsTrue (x q) → IsMissed u g x q
 
 abbrev pub AreForced : Universe → Goal → (ℕ → Bool) → List Bool → Type 0
 AreForced u g x forced = (q : ℕ) → IsTrue (flag forced q) → IsMissed u g x q

@@ -4,6 +4,7 @@ ghost use Rattle.std.specs.List.{All};
 ghost use Rattle.metis_universe.specs.Goals.{AttainsGoals, IsGoalOf};
 ghost use Rattle.metis_why.specs.Answer.{IfAttained, IfWhy};
 ghost use Rattle.metis_why.specs.Barred.{IsWhy, listed};
+ghost use Rattle.metis_why.specs.Choice.{IsByChoice};
 ghost use Rattle.metis_why.specs.Confirm.{IsLineOf};
 ghost use Rattle.metis_why.specs.Flags.{IsWithin};
 ghost use Rattle.metis_refusal.specs.Supplies.{flag};
@@ -32,6 +33,7 @@ pub fn why(alloc: Global, u: &Universe, goal: &Goal) -> Result<Because, NoMemory
     ensures why { IfWhy result (IsWhy u.now goal.now) }
     ensures lines { IfWhy result (All (IsLineOf u.now)) }
     ensures unattained { IfWhy result (λ _. AttainsGoals u.now (goal.now ∷ []) → ⊥) }
+    ensures chosen { IfWhy result (IsByChoice u.now goal.now) }
 {
     let explained = explain(alloc, u, &[*goal])?;
     match explained {

@@ -5,6 +5,7 @@ ghost use Rattle.metis_universe.specs.Goals.{AttainsGoals, IsGoalOf};
 ghost use Rattle.metis_layers.specs.Layers.{IsLayers};
 ghost use Rattle.metis_why.specs.Answer.{IfAllAttained, IfLacks, IsFirstUnattained, IsLacking};
 ghost use Rattle.metis_why.specs.Barred.{IsWhy};
+ghost use Rattle.metis_why.specs.Choice.{IsByChoice};
 ghost use Rattle.metis_why.specs.Confirm.{IsTellable};
 ghost use Rattle.metis_refusal.specs.Supplies.{flag};
 ghost use Rattle.metis_why.specs.Leaving.{IsEnough};
@@ -40,6 +41,7 @@ pub fn explain(alloc: Global, u: &Universe, goals: &[Goal]) -> Result<Explained,
     ensures first { IfLacks result (λ e. IsFirstUnattained u.now goals.now e.lacks) }
     ensures why { IfLacks result (λ e. IsWhy u.now e.lacks e.lines.items) }
     ensures tellable { IfLacks result (λ e. All (IsTellable u.now) e.lines.items) }
+    ensures chosen { IfLacks result (λ e. IsByChoice u.now e.lacks e.lines.items) }
 {
     u.keeps_invariant();
     let layers = layers(alloc, u)?;
@@ -73,12 +75,13 @@ fn fewest(
     goal: &Goal,
 ) -> Result<Vec<Line>, NoMemory>
     requires goal { IsGoalOf u.now goal.now }
+    requires lacking { IsLacking u.now (flag held.now) }
     requires enough { IsEnough u.now goal.now (flag held.now) }
-    ensures { IfOk result (λ v. IsWhy u.now goal.now v.items) }
+    ensures why { IfOk result (λ v. IsWhy u.now goal.now v.items) }
+    ensures chosen { IfOk result (λ v. IsByChoice u.now goal.now v.items) }
 {
-    let order = by_distance(alloc, u, held, goal)?;
-    let mut needed = *held;
-    keep_near(alloc, u, &mut needed, goal, &order)?;
+    let mut order = by_distance(alloc, u, held, goal)?;
+    let mut needed = keep_near(alloc, u, goal, &mut order)?;
     leave_out_all(alloc, u, &mut needed, goal, &order)?;
     let lines = lines_of(alloc, u, &needed, goal)?;
     Ok(lines)

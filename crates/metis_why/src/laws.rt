@@ -10,6 +10,7 @@ ghost use Rattle.metis_universe.specs.Step.{IsRun, after_all};
 ghost use Rattle.metis_universe.specs.Universe.{Universe, IsUniverse, has};
 ghost use Rattle.metis_why.specs.Answer.{IsFirstUnattained};
 ghost use Rattle.metis_why.specs.Barred.{Covers, IsBarred, IsReason, IsWhy, listed, named_by, outside};
+ghost use Rattle.metis_why.specs.Choice.{IsByChoice};
 ghost use Rattle.metis_why.specs.Circles.{IsCircle, IsNaming};
 ghost use Rattle.metis_why.specs.Confirm.{verdict};
 ghost use Rattle.metis_why.specs.declared.reason.Line.{Line};
@@ -59,4 +60,9 @@ pub fn a_circle_shows()
 /// no pair, or closes a circle.
 pub fn the_last_line_shows()
     ensures { (u : Universe) (g : Goal) (above : List Line) (last : Line) (p : ℕ) → IsWhy u g (above ++ last ∷ []) → IsTrue (has (named_by u last.pair last.reason) p) → IsTrue (listed above p) ⊎ (last.pair ≡ p) }
+{}
+
+/// There is one explanation of a goal by the rules of choice, so it is a function of the universe and the goal.
+pub fn choice_comes_to_one_explanation()
+    ensures { (u : Universe) (g : Goal) (v w : List Line) → IsByChoice u g v → IsByChoice u g w → v ≡ w }
 {}

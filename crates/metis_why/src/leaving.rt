@@ -1,11 +1,12 @@
 //! A set of pairs of which none can be left out.
-ghost use Rattle.std.specs.Prelude.{◌<◌, ℕ, IfOk, IsTrue, OnOk, set, false};
+ghost use Rattle.std.specs.Prelude.{◌<◌, ℕ, Bool, IfOk, IsTrue, OnOk, set, false};
 ghost use Rattle.metis_universe.specs.Goals.{IsGoalOf};
-ghost use Rattle.metis_universe.specs.Universe.{pair_count};
-ghost use Rattle.metis_why.specs.Barred.{IsNeeded};
-ghost use Rattle.metis_why.specs.Flags.{IsGreatest, IsMissed, IsWithin};
+ghost use Rattle.metis_why.specs.Barred.{IsBarred};
+ghost use Rattle.metis_why.specs.Choice.{IsNearest};
+ghost use Rattle.metis_why.specs.Flags.{IsGreatest, IsInside, IsMissed, IsWithin};
 ghost use Rattle.metis_refusal.specs.Supplies.{flag};
-ghost use Rattle.metis_why.specs.Leaving.{AreForced, AreMissed, IsEnough, IsLess};
+ghost use Rattle.metis_why.specs.Leaving.{AreForced, IsEnough, IsLess};
+ghost use Rattle.metis_why.specs.Nearing.{AreApart, IsFront};
 
 use crate::forcing::forced;
 use crate::outside::{PAIR_LIMIT, is_set};
@@ -14,9 +15,8 @@ use metis_ids::{Goal, NoMemory, PairIx};
 use metis_universe::Universe;
 use std::alloc::Global;
 
-/// Leaves pairs out of a barred set that covers the goal, until none can be left out: those of the order are tried first, from
-/// the last one on, and then all others in the order of their numbers. Pairs of which it is plain that they are missed are not
-/// tried.
+/// Leaves pairs out of a barred set that covers the goal, from the last one of the order on, until none can be left out. Pairs of
+/// which it is plain that they are missed are not tried.
 pub fn leave_out_all(
     alloc: Global,
     u: &Universe,
@@ -25,51 +25,17 @@ pub fn leave_out_all(
     order: &[PairIx],
 ) -> Result<(), NoMemory>
     requires goal { IsGoalOf u.now goal.now }
-    requires enough { IsEnough u.now goal.now (flag held.old) }
-    ensures less { OnOk result (IsLess u.now goal.now (flag held.old) (flag held.new)) }
-    ensures needed { OnOk result (IsNeeded u.now goal.now (flag held.new)) }
+    requires front { IsFront u.now goal.now order.now (flag held.old) }
+    requires apart { AreApart order.now }
+    ensures within { OnOk result (IsWithin u.now (flag held.new)) }
+    ensures nearest { OnOk result (IsNearest u.now goal.now order.now (flag held.new)) }
 {
     let forced = forced(alloc, u, held, goal)?;
-    leave_out_from_end(alloc, u, held, goal, order, &forced)?;
-    leave_out_rest(alloc, u, held, goal, &forced)
-}
-
-// Leaves out pairs of the order, from the last one on.
-fn leave_out_from_end(
-    alloc: Global,
-    u: &Universe,
-    held: &mut [bool; PAIR_LIMIT],
-    goal: &Goal,
-    order: &[PairIx],
-    forced: &[bool; PAIR_LIMIT],
-) -> Result<(), NoMemory>
-    requires goal { IsGoalOf u.now goal.now }
-    requires enough { IsEnough u.now goal.now (flag held.old) }
-    requires forced { AreForced u.now goal.now (flag held.old) forced.now }
-    ensures less { OnOk result (IsLess u.now goal.now (flag held.old) (flag held.new)) }
-{
-    for pair in order.iter().rev() {
-        leave_out(alloc, u, held, goal, *pair, forced)?;
-    }
-    Ok(())
-}
-
-// Leaves out pairs until none can be left out.
-fn leave_out_rest(
-    alloc: Global,
-    u: &Universe,
-    held: &mut [bool; PAIR_LIMIT],
-    goal: &Goal,
-    forced: &[bool; PAIR_LIMIT],
-) -> Result<(), NoMemory>
-    requires goal { IsGoalOf u.now goal.now }
-    requires enough { IsEnough u.now goal.now (flag held.old) }
-    requires forced { AreForced u.now goal.now (flag held.old) forced.now }
-    ensures less { OnOk result (IsLess u.now goal.now (flag held.old) (flag held.new)) }
-    ensures missed { OnOk result (AreMissed u.now goal.now (flag held.new) (pair_count u.now)) }
-{
-    for number in 0..u.pairs() {
-        leave_out(alloc, u, held, goal, PairIx(number), forced)?;
+    let mut place = order.len();
+    while place > 0 {
+        place -= 1;
+        let pair = order[place];
+        leave_out(alloc, u, held, goal, pair, &forced)?;
     }
     Ok(())
 }
@@ -88,6 +54,7 @@ fn leave_out(
     requires forced { AreForced u.now goal.now (flag held.old) forced.now }
     ensures less { OnOk result (IsLess u.now goal.now (flag held.old) (flag held.new)) }
     ensures missed { OnOk result (IsTrue (flag held.new pair) → IsMissed u.now goal.now (flag held.new) pair) }
+    ensures keeps { OnOk result ((y : ℕ → Bool) → IsBarred u.now y → IsInside y (flag held.old) → (IsTrue (y pair) → IsTrue (flag held.new pair)) → IsInside y (flag held.new)) }
 {
     if pair.0 as usize >= PAIR_LIMIT || !is_set(held, pair) || is_set(forced, pair) {
         return Ok(());

@@ -20,7 +20,7 @@ pub use confirming::{Confirmation, confirm};
 pub use explaining::{Explained, explain};
 pub use laws::{
     a_circle_shows, barred_goals_are_not_attained, barred_pairs_are_closed_out,
-    each_line_is_reached, the_last_line_shows, true_lines_rule_out_the_goal,
-    what_is_told_is_confirmed, what_is_told_is_confirmed_of_all,
+    choice_comes_to_one_explanation, each_line_is_reached, the_last_line_shows,
+    true_lines_rule_out_the_goal, what_is_told_is_confirmed, what_is_told_is_confirmed_of_all,
 };
 pub use reason::{Explanation, Line, Reason};

@@ -5,6 +5,7 @@ use Rattle.metis_universe.specs.Goals.{AttainsGoals}
 use Rattle.metis_why.proofs.First.{first_of_one, of_lacks}
 use Rattle.metis_why.specs.Answer.{IsFirstUnattained}
 use Rattle.metis_why.specs.Barred.{IsWhy}
+use Rattle.metis_why.specs.Choice.{IsByChoice}
 use Rattle.metis_why.specs.Confirm.{IsLineOf, IsTellable}
 use Rattle.metis_why.proofs.because.why.Goals as goal
 
@@ -31,3 +32,10 @@ returns-in-Lacks-clause-unattained c =
     let e = c.in-Lacks.field-0 in
     let u = c.args.u.now in
     subst (λ g. AttainsGoals u (g ∷ []) → ⊥) (first_of_one u c.args.goal.now e.lacks (first c)) (first c).unattained
+
+pub returns-in-Lacks-clause-chosen : goal.returns-in-Lacks-clause-chosen
+returns-in-Lacks-clause-chosen c =
+    let e = c.in-Lacks.field-0 in
+    let u = c.args.u.now in
+    subst (λ g. IsByChoice u g e.lines.items) (first_of_one u c.args.goal.now e.lacks (first c))
+    (of_lacks (λ x. IsByChoice u x.lacks x.lines.items) c.in_ok-explained.explained e c.in-Lacks.is c.in_ok-explained.ensures.chosen)

@@ -14,7 +14,7 @@ returns-in-Some-clause-first c =
     first_unattained c.args.u.now c.keeps_invariant.ensures.universe (flag c.lacking-held.result) c.lacking-held.ensures c.args.goals.now c.in-Some.lacks c.requires c.in-Some.ensures
 
 pub returns-in-Some-clause-tellable : goal.returns-in-Some-clause-tellable
-returns-in-Some-clause-tellable c = tellable_lines c.args.u.now c.keeps_invariant.ensures.universe c.in-Some.lacks _ c.in_ok-lines-in-Some.ensures
+returns-in-Some-clause-tellable c = tellable_lines c.args.u.now c.keeps_invariant.ensures.universe c.in-Some.lacks _ c.in_ok-lines-in-Some.ensures.why
 
 pub returns-clause-attained : goal.returns-clause-attained
 returns-clause-attained c =

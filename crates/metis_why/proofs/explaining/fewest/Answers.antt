@@ -1,7 +1,37 @@
-use Rattle.metis_why.proofs.Listed.{why_by}
 use Rattle.metis_refusal.specs.Supplies.{flag}
+use Rattle.metis_why.proofs.Chosen.{distance_enough}
+use Rattle.metis_why.proofs.Followed.{followed_apart}
+use Rattle.metis_why.proofs.Listed.{why_by}
+use Rattle.metis_why.proofs.Nearest.{cut_apart, cut_nearest, needed_where_nearest}
+use Rattle.metis_why.specs.Barred.{wanted_by}
+use Rattle.metis_why.specs.Choice.{may_name}
 use Rattle.metis_why.proofs.explaining.fewest.Goals as goal
 
-pub returns : goal.returns
-returns c =
-    why_by c.args.u.now (flag c.leave_out_all.new.held) c.args.goal.now c.in_ok-lines.lines.items c.in_ok-leave_out_all.ensures.less.enough.within c.in_ok-leave_out_all.ensures.needed c.in_ok-lines.ensures
+pub keep_near-requires-clause-enough : goal.keep_near-requires-clause-enough
+keep_near-requires-clause-enough c = distance_enough c.args.u.now (flag c.args.held.now) c.args.goal.now c.requires.enough c.in_ok-order.order.items c.in_ok-order.ensures
+
+pub leave_out_all-requires-clause-apart : goal.leave_out_all-requires-clause-apart
+leave_out_all-requires-clause-apart c =
+    let cut = c.in_ok-needed.ensures.cut in
+    cut_apart c.in_ok-order.order.items c.keep_near.new.order.items c.deref.result.now cut.0 cut.1 c.deref.ensures.value
+    (followed_apart (may_name c.args.u.now (flag c.args.held.now)) (wanted_by c.args.u.now c.args.goal.now) c.in_ok-order.order.items c.in_ok-order.ensures)
+
+pub returns-clause-why : goal.returns-clause-why
+returns-clause-why c =
+    why_by c.args.u.now (flag c.leave_out_all.new.held) c.args.goal.now c.in_ok-lines.lines.items c.in_ok-leave_out_all.ensures.within
+    (needed_where_nearest c.args.u.now c.args.goal.now c.deref.result.now (flag c.leave_out_all.new.held) c.in_ok-leave_out_all.ensures.nearest) c.in_ok-lines.ensures.listing
+
+pub returns-clause-chosen : goal.returns-clause-chosen
+returns-clause-chosen c =
+    let cut = c.in_ok-needed.ensures.cut in
+    record {
+      lacking = flag c.args.held.now;
+      are_lacking = c.requires.lacking;
+      order = c.in_ok-order.order.items;
+      by_distance = c.in_ok-order.ensures;
+      needed = flag c.leave_out_all.new.held;
+      nearest =
+          cut_nearest c.in_ok-order.order.items c.keep_near.new.order.items c.deref.result.now cut.0 cut.1 c.deref.ensures.value c.args.u.now c.args.goal.now (flag c.leave_out_all.new.held)
+          c.in_ok-leave_out_all.ensures.nearest;
+      told = c.in_ok-lines.ensures.told;
+    }

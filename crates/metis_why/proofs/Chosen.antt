@@ -1,0 +1,292 @@
+-- The chosen reasons, lines and pairs.
+use Rattle.std.proofs.Common.{◌≡◌, ℕ, ◌+◌, ◌<◌, ◌≤◌, zero, suc, Bool, true, false, cond, not, ◌||◌, List, [], ◌∷◌, ◌++◌, length, take, set, replicate, Option, Some, None, get_or, refl, sym, ap, ◌∙◌, subst, arith, inl, inr, nat_eq}
+use Rattle.std.specs.Prelude.{◌⊎◌, MatchOption, fold, nat_lt}
+use Rattle.std.specs.List.{All, flat_map, list_all}
+use Rattle.std.proofs.lemmas.Bool.{both_ways, cases_eq, cases_lt, eq-eqb, eqb-true, false_from_ne_true, false≢true, le-ltb, lt-ltb, ne_eqb, not-false, not-true, or_cases, or_left, or_right, true_from_ne_false}
+use Rattle.std.proofs.lemmas.List.{append-nil, get_or-set_other, get_or-set_same, length-replicate, length-set, length_push, map-append, take_all, take_more}
+use Rattle.std.proofs.lemmas.List.Concat.{flat_map-append}
+use Rattle.std.proofs.Math.Bool.{or-false}
+use Rattle.std.proofs.lemmas.List.Elements.{All-take}
+use Rattle.std.proofs.lemmas.List.Sums.{fold_more}
+use Rattle.metis_ids.proofs.Lists.{all_at, any_at, has-append, has-push, list_any-flat_map, some_member}
+use Rattle.metis_ids.specs.declared.goals.Goal.{Goal}
+use Rattle.metis_refusal.proofs.Searches.{unset}
+use Rattle.metis_refusal.specs.Supplies.{flag}
+use Rattle.metis_universe.proofs.Correctness.{all_from_has, all_has}
+use Rattle.metis_universe.proofs.Served.{count-cons}
+use Rattle.metis_universe.specs.Universe.{Universe, has, next_of, pair_count, provides, providers_of, required_of}
+use Rattle.metis_why.proofs.Followed.{followed_done, followed_one, followed_starts, noted_more, reading_each}
+use Rattle.metis_why.proofs.Nearest.{nearest_one}
+use Rattle.metis_why.proofs.Soundness.{kept_by, passes_of}
+use Rattle.metis_why.specs.Answer.{IsLacking}
+use Rattle.metis_why.specs.Barred.{IsReason, before_of, listed, named_by, wanted_by}
+use Rattle.metis_why.specs.Choice.{IsByChoice, IsByDistance, IsNearest, IsReadTo, IsTold, all_in, fewer, fewest_port, line_in, lines_in, may_name, names_in, noted, reason_by, reason_in}
+use Rattle.metis_why.specs.Flags.{AreGiven, AreLed}
+use Rattle.metis_why.specs.Leaving.{IsEnough}
+use Rattle.metis_why.specs.Nearing.{AreSeen}
+use Rattle.metis_why.specs.Settling.{held}
+use Rattle.metis_why.specs.declared.reason.Line.{Line}
+use Rattle.metis_why.specs.declared.reason.Reason.{Reason}
+use Rattle.metis_why.specs.declared.reason.Reason.TheVariants.{Needs, Comes}
+
+-- ---- what the flags of ports and pairs say
+
+module _ (u : Universe) (x : ℕ → Bool) where
+  given_is : (given : List Bool) → AreGiven u x given → (r : ℕ) → not (flag given r) ≡ list_all x (providers_of u r)
+  given_is given are r = by (flag given r) refl where
+    by : (b : Bool) → flag given r ≡ b → not b ≡ list_all x (providers_of u r)
+    by true on =
+        let y = are.by_some r on in
+        sym (false_from_ne_true (list_all x (providers_of u r)) (λ all. both_ways (x y.0) y.2 (all_has x y.0 (providers_of u r) all (kept_by u (λ z. provides u z r) y.0 y.1 y.3))))
+    by false off = sym (all_from_has x (providers_of u r) (λ y there.
+        let at = passes_of u (λ z. provides u z r) y there in
+        true_from_ne_false (x y) (λ away. both_ways (flag given r) off (are.by_each y r at.1 away at.0))))
+
+  led_is : (led : List Bool) → AreLed u x led → (q : ℕ) → not (flag led q) ≡ list_all x (before_of u q)
+  led_is led are q = by (flag led q) refl where
+    by : (b : Bool) → flag led q ≡ b → not b ≡ list_all x (before_of u q)
+    by true on =
+        let y = are.by_some q on in
+        sym (false_from_ne_true (list_all x (before_of u q)) (λ all. both_ways (x y.0) y.2 (all_has x y.0 (before_of u q) all (kept_by u (λ z. has (next_of u z) q) y.0 y.1 y.3))))
+    by false off = sym (all_from_has x (before_of u q) (λ y there.
+        let at = passes_of u (λ z. has (next_of u z) q) y there in
+        true_from_ne_false (x y) (λ away. both_ways (flag led q) off (are.by_each y q at.1 away at.0))))
+
+  -- ---- the reason
+
+  pub reason_chosen : (given : List Bool) → AreGiven u x given → (q : ℕ) (o : Option ℕ) → o ≡ fewest_port u (λ r. not (flag given r)) (required_of u q) → reason_by o ≡ reason_in u x q
+  reason_chosen given are q o is = ap reason_by (is ∙ (λ i. fewest_port u (λ r. given_is given are r i) (required_of u q)))
+
+  -- ---- the pairs for which one may wait
+
+  may_by : (b c : Bool) (pairs : List ℕ) → not b ≡ c → cond b [] pairs ≡ cond c pairs []
+  may_by true c pairs is = ap (λ d. cond d pairs []) is
+  may_by false c pairs is = ap (λ d. cond d pairs []) is
+
+  pub may_name_by : (given led : List Bool) → AreGiven u x given → AreLed u x led → (q : ℕ) →
+      flat_map (λ r. cond (flag given r) [] (providers_of u r)) (required_of u q) ++ cond (flag led q) [] (before_of u q) ≡ may_name u x q
+  may_name_by given led g l q =
+      let port : (r : ℕ) → cond (flag given r) [] (providers_of u r) ≡ all_in x (providers_of u r) = λ r. may_by (flag given r) (list_all x (providers_of u r)) (providers_of u r) (given_is given g r) in
+      let move : cond (flag led q) [] (before_of u q) ≡ all_in x (before_of u q) = may_by (flag led q) (list_all x (before_of u q)) (before_of u q) (led_is led l q) in
+      λ i. flat_map (λ r. port r i) (required_of u q) ++ move i
+
+  all_in_inside : (pairs : List ℕ) (p : ℕ) → has (all_in x pairs) p ≡ true → x p ≡ true
+  all_in_inside pairs p there = by (list_all x pairs) refl there where
+    by : (b : Bool) → list_all x pairs ≡ b → has (cond b pairs []) p ≡ true → x p ≡ true
+    by true all there = all_has x p pairs all there
+    by false none there = absurd (false≢true there)
+
+  all_in_has : (pairs : List ℕ) (p : ℕ) → list_all x pairs ≡ true → has pairs p ≡ true → has (all_in x pairs) p ≡ true
+  all_in_has pairs p all there = ap (λ b. has (cond b pairs []) p) all ∙ there
+
+  pub may_inside : (q p : ℕ) → has (may_name u x q) p ≡ true → x p ≡ true
+  may_inside q p there =
+      elim (or_cases (has (flat_map (λ r. all_in x (providers_of u r)) (required_of u q)) p) (has (all_in x (before_of u q)) p)
+      (sym (has-append (flat_map (λ r. all_in x (providers_of u r)) (required_of u q)) (all_in x (before_of u q)) p) ∙ there)) [
+        | inl port ↦
+            let r = some_member (λ r. has (all_in x (providers_of u r)) p) (required_of u q) (sym (list_any-flat_map (λ z. nat_eq z p) (λ r. all_in x (providers_of u r)) (required_of u q)) ∙ port) in
+            all_in_inside (providers_of u r.0) p r.2
+        | inr move ↦ all_in_inside (before_of u q) p move
+      ]
+
+  may_has : (q : ℕ) (reason : Reason) (p : ℕ) → IsReason u x q reason → has (named_by u q reason) p ≡ true → has (may_name u x q) p ≡ true
+  may_has q (Needs r) p why there =
+      has-append (flat_map (λ r. all_in x (providers_of u r)) (required_of u q)) (all_in x (before_of u q)) p
+      ∙ or_left (has (flat_map (λ r. all_in x (providers_of u r)) (required_of u q)) p) (has (all_in x (before_of u q)) p)
+      (list_any-flat_map (λ z. nat_eq z p) (λ r. all_in x (providers_of u r)) (required_of u q)
+      ∙ any_at (λ r. has (all_in x (providers_of u r)) p) r (required_of u q) why.own (all_in_has (providers_of u r) p why.waits there))
+  may_has q Comes p why there =
+      has-append (flat_map (λ r. all_in x (providers_of u r)) (required_of u q)) (all_in x (before_of u q)) p
+      ∙ or_right (has (flat_map (λ r. all_in x (providers_of u r)) (required_of u q)) p) (has (all_in x (before_of u q)) p) (all_in_has (before_of u q) p why.waits there)
+
+  module _ (g : Goal) (enough : IsEnough u g x) where
+    pub read_inside : (order : List ℕ) (n : ℕ) → IsReadTo (may_name u x) (wanted_by u g) order n → (p : ℕ) → has order p ≡ true → x p ≡ true
+    read_inside order n read p there =
+        reading_each (may_name u x) (wanted_by u g) (λ r. x r ≡ true) (λ r wanted. all_has x r (wanted_by u g) enough.covers wanted) (λ q on r named. may_inside q r named) order n read p there
+
+    pub distance_enough : (order : List ℕ) → IsByDistance u x g order → IsEnough u g (has order)
+    distance_enough order far = record {
+      within = λ p there. enough.within p (read_inside order far.count far.read p there);
+      barred = λ q there.
+          let why = enough.barred q (read_inside order far.count far.read q there) in
+          (why.0, record { own = why.1.own; waits = all_from_has (has order) (named_by u q why.0) (λ p named. followed_done (may_name u x) (wanted_by u g) order far q p there (may_has q why.0 p why.1 named)) });
+      covers = all_from_has (has order) (wanted_by u g) (λ p wanted. followed_starts (may_name u x) (wanted_by u g) order far p wanted);
+    }
+
+  -- ---- lines
+
+  listed_in : (pairs : List ℕ) (p : ℕ) → listed (lines_in u x pairs) p ≡ has pairs p
+  listed_in [] p = refl
+  listed_in (q ∷ pairs) p = λ i. nat_eq q p || listed_in pairs p i
+
+  pub told_there : (lines : List Line) (list : List ℕ) (p : ℕ) → lines ≡ lines_in u x list → listed lines p ≡ true → lines ≡ lines_in u x (noted list (p ∷ []))
+  told_there lines list p are there =
+      let on : has list p ≡ true = sym (listed_in list p) ∙ ap (λ l. listed l p) (sym are) ∙ there in
+      are ∙ ap (λ b. lines_in u x (cond b list (list ++ p ∷ []))) (sym on)
+
+  pub told_new : (lines new : List Line) (list : List ℕ) (p : ℕ) (reason : Reason) → lines ≡ lines_in u x list → listed lines p ≡ false → new ≡ lines ++ record { pair = p; reason = reason } ∷ [] → reason ≡ reason_in u x p →
+      new ≡ lines_in u x (noted list (p ∷ []))
+  told_new lines new list p reason are away is chosen =
+      let off : has list p ≡ false = sym (listed_in list p) ∙ ap (λ l. listed l p) (sym are) ∙ away in
+      let one : record { pair = p; reason = reason } ∷ [] ≡ line_in u x p ∷ [] = λ i. record { pair = p; reason = chosen i } ∷ [] in
+      is ∙ (λ i. are i ++ one i) ∙ sym (map-append (line_in u x) list (p ∷ [])) ∙ ap (λ b. lines_in u x (cond b list (list ++ p ∷ []))) (sym off)
+
+  pub told_more : (lines : List Line) (list pairs : List ℕ) (i p : ℕ) → i < length pairs → p ≡ get_or pairs i p → lines ≡ lines_in u x (noted (noted list (take i pairs)) (p ∷ [])) → lines ≡ lines_in u x (noted list (take (i + 1) pairs))
+  told_more lines list pairs i p low at are = are ∙ ap (lines_in u x) (sym (noted_more list pairs i p low at))
+
+-- ---- what each of a list names
+
+pub named_more : (f : ℕ → List ℕ) (old new ports : List ℕ) (i r : ℕ) → i < length ports → r ≡ get_or ports i r → old ≡ flat_map f (take i ports) → new ≡ old ++ f r → new ≡ flat_map f (take (i + 1) ports)
+named_more f old new ports i r low at before is =
+    let one : flat_map f (r ∷ []) ≡ f r = append-nil (f r) in
+    is ∙ (λ j. before j ++ f r) ∙ ap (λ l. flat_map f (take i ports) ++ l) (sym one) ∙ sym (flat_map-append f (take i ports) (r ∷ []))
+    ∙ ap (λ k. flat_map f (take i ports ++ k ∷ [])) at ∙ ap (flat_map f) (sym (take_more ports i r low))
+
+pub push_none : (xs ys : List ℕ) (b : Bool) → b ≡ true → xs ≡ xs ++ cond b [] ys
+push_none xs ys b on = sym (ap (λ c. xs ++ cond c [] ys) on ∙ append-nil xs)
+
+pub push_all : (xs ys new : List ℕ) (b : Bool) → b ≡ false → new ≡ xs ++ ys → new ≡ xs ++ cond b [] ys
+push_all xs ys new b off is = is ∙ ap (λ c. xs ++ cond c [] ys) (sym off)
+
+pub flat_whole : (f : ℕ → List ℕ) (names ports all : List ℕ) (i : ℕ) → names ≡ flat_map f (take i ports) → length ports ≤ i → ports ≡ all → names ≡ flat_map f all
+flat_whole f names ports all i before past same = before ∙ ap (flat_map f) (take_all i ports past ∙ same)
+
+-- ---- the port that the fewest pairs provide
+
+pub fewer_here : (u : Universe) (s r : ℕ) → length (providers_of u r) < length (providers_of u s) → r ≡ fewer u (Some s) r
+fewer_here u s r less = ap (λ b. cond b r s) (sym (lt-ltb (length (providers_of u r)) (length (providers_of u s)) less))
+
+pub fewer_there : (u : Universe) (s r : ℕ) → length (providers_of u s) ≤ length (providers_of u r) → s ≡ fewer u (Some s) r
+fewer_there u s r least = ap (λ b. cond b r s) (sym (le-ltb (length (providers_of u r)) (length (providers_of u s)) least))
+
+module _ (u : Universe) (t : ℕ → Bool) where
+  pub fewest_more : (ports : List ℕ) (i r : ℕ) (best new : Option ℕ) → i < length ports → r ≡ get_or ports i r → best ≡ fewest_port u t (take i ports) → new ≡ cond (t r) (Some (fewer u best r)) best → new ≡ fewest_port u t (take (i + 1) ports)
+  fewest_more ports i r best new low at before is =
+      is ∙ ap (λ b. cond (t r) (Some (fewer u b r)) b) before ∙ ap (λ k. cond (t k) (Some (fewer u (fewest_port u t (take i ports)) k)) (fewest_port u t (take i ports))) at
+      ∙ sym (fold_more (λ b k. cond (t k) (Some (fewer u b k)) b) None ports i r low)
+
+  fewer_one : (best : Option ℕ) (r q : ℕ) → Some (fewer u best r) ≡ Some q → (r ≡ q) ⊎ (best ≡ Some q)
+  fewer_one None r q is = inl (cc)
+  fewer_one (Some s) r q is = by (nat_lt (length (providers_of u r)) (length (providers_of u s))) is where
+    by : (b : Bool) → Some (cond b r s) ≡ Some q → (r ≡ q) ⊎ (Some s ≡ Some q)
+    by true is = inl (cc)
+    by false is = inr is
+
+  fewest_some : (best : Option ℕ) (ports : List ℕ) (q : ℕ) → fold (λ b k. cond (t k) (Some (fewer u b k)) b) best ports ≡ Some q → (best ≡ Some q) ⊎ ((has ports q ≡ true) × (t q ≡ true))
+  fewest_some best [] q is = inl is
+  fewest_some best (r ∷ ports) q is = by (t r) refl (λ next. fewest_some next ports q) is where
+    by : (b : Bool) → t r ≡ b → ((next : Option ℕ) → fold (λ b k. cond (t k) (Some (fewer u b k)) b) next ports ≡ Some q → (next ≡ Some q) ⊎ ((has ports q ≡ true) × (t q ≡ true))) →
+        fold (λ b k. cond (t k) (Some (fewer u b k)) b) (cond b (Some (fewer u best r)) best) ports ≡ Some q → (best ≡ Some q) ⊎ ((has (r ∷ ports) q ≡ true) × (t q ≡ true))
+    by true passes rest e = elim (rest (Some (fewer u best r)) e) [
+      | inl one ↦ elim (fewer_one best r q one) [
+        | inl same ↦ inr (or_left (nat_eq r q) (has ports q) (eq-eqb r q same), subst (λ k. t k ≡ true) same passes)
+        | inr before ↦ inl before
+      ]
+      | inr later ↦ inr (or_right (nat_eq r q) (has ports q) later.0, later.1)
+    ]
+    by false fails rest e = elim (rest best e) [
+      | inl before ↦ inl before
+      | inr later ↦ inr (or_right (nat_eq r q) (has ports q) later.0, later.1)
+    ]
+
+  fewest_none : (best : Option ℕ) (ports : List ℕ) → fold (λ b k. cond (t k) (Some (fewer u b k)) b) best ports ≡ None → (best ≡ None) × ((r : ℕ) → has ports r ≡ true → t r ≡ false)
+  fewest_none best [] is = (is, λ r there. absurd (false≢true there))
+  fewest_none best (r ∷ ports) is = by (t r) refl (λ next. fewest_none next ports) is where
+    by : (b : Bool) → t r ≡ b → ((next : Option ℕ) → fold (λ b k. cond (t k) (Some (fewer u b k)) b) next ports ≡ None → (next ≡ None) × ((r : ℕ) → has ports r ≡ true → t r ≡ false)) →
+        fold (λ b k. cond (t k) (Some (fewer u b k)) b) (cond b (Some (fewer u best r)) best) ports ≡ None → (best ≡ None) × ((s : ℕ) → has (r ∷ ports) s ≡ true → t s ≡ false)
+    by true passes rest e = let some : Some (fewer u best r) ≡ None = (rest (Some (fewer u best r)) e).0 in cc
+    by false fails rest e =
+        let parts = rest best e in (
+          parts.0,
+          λ s there. elim (or_cases (nat_eq r s) (has ports s) there) [
+            | inl here ↦ subst (λ k. t k ≡ false) (eqb-true r s here) fails
+            | inr later ↦ parts.1 s later
+          ],
+        )
+
+  pub fewest_low : (m : ℕ) (ports : List ℕ) (i : ℕ) (best : Option ℕ) → All (λ r. r < m) ports → best ≡ fewest_port u t (take i ports) → MatchOption best (Unit {0}) (λ r. r < m)
+  fewest_low m ports i None low is = tt
+  fewest_low m ports i (Some r) low is = elim (fewest_some None (take i ports) r (sym is)) [
+    | inl none ↦ cc
+    | inr there ↦ all_at (λ k. k < m) r (take i ports) (All-take (λ k. k < m) i ports low) there.0
+  ]
+
+module _ (u : Universe) (given : List Bool) (ports : List ℕ) where
+  pub missing_some : (r : ℕ) → Some r ≡ fewest_port u (λ k. not (flag given k)) ports → (has ports r ≡ true) × (flag given r ≡ false)
+  missing_some r is = elim (fewest_some u (λ k. not (flag given k)) None ports r (sym is)) [
+    | inl none ↦ cc
+    | inr there ↦ (there.0, not-true (flag given r) there.1)
+  ]
+
+  pub missing_none : None ≡ fewest_port u (λ k. not (flag given k)) ports → (r : ℕ) → has ports r ≡ true → flag given r ≡ true
+  missing_none is r there = not-false (flag given r) ((fewest_none u (λ k. not (flag given k)) None ports (sym is)).1 r there)
+
+-- ---- flags of the pairs that were seen
+
+held_short : (flags : List Bool) → held flags ≤ length flags
+held_short [] = omega arith
+held_short (true ∷ flags) = omega (arith, held_short flags, count-cons (λ b. b) true flags)
+held_short (false ∷ flags) = omega (arith, held_short flags, count-cons (λ b. b) false flags)
+
+held_more : (flags : List Bool) (n : ℕ) → n < length flags → flag flags n ≡ false → held (set flags n true) ≡ held flags + 1
+held_more [] n low off = absurd (omega arith)
+held_more (b ∷ flags) zero low off = omega (arith, count-cons (λ c. c) b flags ∙ ap (λ c. cond c 1 0 + held flags) off, count-cons (λ c. c) true flags)
+held_more (b ∷ flags) (suc n) low off = omega (arith, held_more flags n (omega arith) off, count-cons (λ c. c) b flags, count-cons (λ c. c) b (set flags n true))
+
+held_none : (n : ℕ) → held (replicate n false) ≡ 0
+held_none zero = refl
+held_none (suc n) = omega (arith, held_none n, count-cons (λ b. b) false (replicate n false))
+
+pub seen_start : (n : ℕ) (list : List ℕ) → n ≡ 2000 → list ≡ [] → AreSeen (replicate n false) list
+seen_start n list long none = record {
+  places = length-replicate n false ∙ long;
+  same = λ p. unset n p ∙ ap (λ l. has l p) (sym none);
+  count = held_none n ∙ ap length (sym none);
+}
+
+pub seen_short : (flags : List Bool) (list : List ℕ) → AreSeen flags list → length list ≤ 2000
+seen_short flags list seen = omega (arith, seen.count, seen.places, held_short flags)
+
+pub seen_more : (flags : List Bool) (list new : List ℕ) (p : ℕ) → AreSeen flags list → p < 2000 → flag flags p ≡ false → new ≡ list ++ p ∷ [] → AreSeen (set flags p true) new
+seen_more flags list new p seen low off is = record {
+  places = length-set flags p true ∙ seen.places;
+  same = λ q. now q ∙ ap (λ l. has l q) (sym is);
+  count = held_more flags p (omega (arith, seen.places)) off ∙ ap (λ n. n + 1) seen.count ∙ sym (length_push list p) ∙ ap length (sym is);
+} where
+  now : (q : ℕ) → flag (set flags p true) q ≡ has (list ++ p ∷ []) q
+  now q = elim (cases_eq q p) [
+    | inl same ↦ ap (flag (set flags p true)) same ∙ get_or-set_same flags p true false (omega (arith, low, seen.places)) ∙ sym (has-push list p q ∙ or_right (has list q) (nat_eq p q) (eq-eqb p q (sym same)))
+    | inr other ↦ get_or-set_other flags p q true false other ∙ seen.same q ∙ sym (has-push list p q ∙ ap (λ b. has list q || b) (ne_eqb p q (λ e. other (sym e))) ∙ or-false (has list q))
+  ]
+
+pub noted_there : (flags : List Bool) (list : List ℕ) (p : ℕ) → AreSeen flags list → flag flags p ≡ true → list ≡ noted list (p ∷ [])
+noted_there flags list p seen on = ap (λ b. cond b list (list ++ p ∷ [])) (sym (sym (seen.same p) ∙ on))
+
+pub noted_new : (flags : List Bool) (list new : List ℕ) (p : ℕ) → AreSeen flags list → flag flags p ≡ false → new ≡ list ++ p ∷ [] → new ≡ noted list (p ∷ [])
+noted_new flags list new p seen off is = is ∙ ap (λ b. cond b list (list ++ p ∷ [])) (sym (sym (seen.same p) ∙ off))
+
+-- ---- there is one choice
+
+lacking_one : (u : Universe) (x z : ℕ → Bool) → IsLacking u x → IsLacking u z → x ≡ z
+lacking_one u x z a b = λ i p. same p i where
+  none : (y : ℕ → Bool) → IsLacking u y → (p : ℕ) → pair_count u ≤ p → y p ≡ false
+  none y c p past = false_from_ne_true (y p) (λ on. let low = c.within p on in absurd (omega (arith, low, past)))
+
+  same : (p : ℕ) → x p ≡ z p
+  same p = elim (cases_lt p (pair_count u)) [
+    | inl low ↦ a.each p low ∙ sym (b.each p low)
+    | inr past ↦ none x a p past ∙ sym (none z b p past)
+  ]
+
+told_one : (u : Universe) (g : Goal) (x z : ℕ → Bool) (v w : List Line) → x ≡ z → IsTold u g x v → IsTold u g z w → v ≡ w
+told_one u g x z v w same a b =
+    let c : IsTold u g z v = subst (λ y. IsTold u g y v) same a in
+    c.are ∙ ap (lines_in u z) (followed_one (names_in u z) (wanted_by u g) c.pairs b.pairs c.followed b.followed) ∙ sym b.are
+
+pub choice_one : (u : Universe) (g : Goal) (v w : List Line) → IsByChoice u g v → IsByChoice u g w → v ≡ w
+choice_one u g v w a b =
+    let lacking : a.lacking ≡ b.lacking = lacking_one u a.lacking b.lacking a.are_lacking b.are_lacking in
+    let distance : IsByDistance u b.lacking g a.order = subst (λ y. IsByDistance u y g a.order) lacking a.by_distance in
+    let order : a.order ≡ b.order = followed_one (may_name u b.lacking) (wanted_by u g) a.order b.order distance b.by_distance in
+    let nearest : IsNearest u g b.order a.needed = subst (λ l. IsNearest u g l a.needed) order a.nearest in
+    told_one u g a.needed b.needed v w (nearest_one u g b.order a.needed b.needed nearest b.nearest) a.told b.told
