@@ -172,7 +172,7 @@ module _ (u : Universe) (t : ℕ → Bool) where
     by true is = inl (cc)
     by false is = inr is
 
-  fewest_some : (best : Option ℕ) (ports : List ℕ) (q : ℕ) → fold (λ b k. cond (t k) (Some (fewer u b k)) b) best ports ≡ Some q → (best ≡ Some q) ⊎ ((has ports q ≡ true) × (t q ≡ true))
+  pub fewest_some : (best : Option ℕ) (ports : List ℕ) (q : ℕ) → fold (λ b k. cond (t k) (Some (fewer u b k)) b) best ports ≡ Some q → (best ≡ Some q) ⊎ ((has ports q ≡ true) × (t q ≡ true))
   fewest_some best [] q is = inl is
   fewest_some best (r ∷ ports) q is = by (t r) refl (λ next. fewest_some next ports q) is where
     by : (b : Bool) → t r ≡ b → ((next : Option ℕ) → fold (λ b k. cond (t k) (Some (fewer u b k)) b) next ports ≡ Some q → (next ≡ Some q) ⊎ ((has ports q ≡ true) × (t q ≡ true))) →
@@ -189,7 +189,7 @@ module _ (u : Universe) (t : ℕ → Bool) where
       | inr later ↦ inr (or_right (nat_eq r q) (has ports q) later.0, later.1)
     ]
 
-  fewest_none : (best : Option ℕ) (ports : List ℕ) → fold (λ b k. cond (t k) (Some (fewer u b k)) b) best ports ≡ None → (best ≡ None) × ((r : ℕ) → has ports r ≡ true → t r ≡ false)
+  pub fewest_none : (best : Option ℕ) (ports : List ℕ) → fold (λ b k. cond (t k) (Some (fewer u b k)) b) best ports ≡ None → (best ≡ None) × ((r : ℕ) → has ports r ≡ true → t r ≡ false)
   fewest_none best [] is = (is, λ r there. absurd (false≢true there))
   fewest_none best (r ∷ ports) is = by (t r) refl (λ next. fewest_none next ports) is where
     by : (b : Bool) → t r ≡ b → ((next : Option ℕ) → fold (λ b k. cond (t k) (Some (fewer u b k)) b) next ports ≡ None → (next ≡ None) × ((r : ℕ) → has ports r ≡ true → t r ≡ false)) →

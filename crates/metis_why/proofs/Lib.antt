@@ -16,3 +16,4 @@ pub mod Reached
 pub mod Reasons
 pub mod Soundness
 pub mod Told
+pub mod Tried

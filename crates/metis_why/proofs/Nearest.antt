@@ -42,7 +42,7 @@ place_is (q ∷ order) p n low at = by (nat_eq q p) refl n low at (place_is orde
   by false other (suc n) low at rest = rest n (omega arith) (omega (arith, at))
 
 -- and where no pair stands twice, its place is the one where it stands
-place_apart : (order : List ℕ) (n : ℕ) → AreApart order → n < length order → place_in order (get_or order n 0) ≡ n
+pub place_apart : (order : List ℕ) (n : ℕ) → AreApart order → n < length order → place_in order (get_or order n 0) ≡ n
 place_apart [] n apart low = absurd (omega arith)
 place_apart (q ∷ order) zero apart low = ap (λ b. cond b 0 (suc (place_in order q))) (eq-eqb q q refl)
 place_apart (q ∷ order) (suc n) apart low =

@@ -1,5 +1,5 @@
 //! Laws of what keeps goals from being attained.
-ghost use Rattle.std.specs.Prelude.{◌≡◌, ◌≤◌, ◌⊎◌, ◌++◌, ◌∷◌, [], ℕ, Bool, List, IsTrue};
+ghost use Rattle.std.specs.Prelude.{◌≡◌, ◌≤◌, ◌<◌, ◌⊎◌, ◌++◌, ◌∷◌, [], ℕ, Bool, List, IsTrue};
 ghost use Rattle.std.specs.List.{All, list_all};
 ghost use Rattle.metis_ids.specs.declared.actions.Action.{Action};
 ghost use Rattle.metis_ids.specs.declared.goals.Goal.{Goal};
@@ -7,15 +7,19 @@ ghost use Rattle.metis_universe.specs.Closed.{Closed};
 ghost use Rattle.metis_universe.specs.Config.{empty};
 ghost use Rattle.metis_universe.specs.Goals.{AttainsGoals, places_of, serving};
 ghost use Rattle.metis_universe.specs.Step.{IsRun, after_all};
-ghost use Rattle.metis_universe.specs.Universe.{Universe, IsUniverse, has};
-ghost use Rattle.metis_why.specs.Answer.{IsFirstUnattained};
-ghost use Rattle.metis_why.specs.Barred.{Covers, IsBarred, IsReason, IsWhy, listed, named_by, outside};
-ghost use Rattle.metis_why.specs.Choice.{IsByChoice};
+ghost use Rattle.metis_universe.specs.Universe.{Universe, IsUniverse, has, pair_count};
+ghost use Rattle.metis_why.specs.Answer.{IsFirstUnattained, IsLacking};
+ghost use Rattle.metis_why.specs.Barred.{Covers, IsBarred, IsNeeded, IsReason, IsWhy, listed, named_by, outside};
+ghost use Rattle.metis_why.specs.Choice.{IsByChoice, IsByDistance, IsNearest, may_name, reason_in};
 ghost use Rattle.metis_why.specs.Circles.{IsCircle, IsNaming};
 ghost use Rattle.metis_why.specs.Confirm.{verdict};
+ghost use Rattle.metis_why.specs.Flags.{IsInside};
+ghost use Rattle.metis_why.specs.Nearing.{AreApart};
+ghost use Rattle.metis_why.specs.Trying.{AreTried, IsFewest, IsWaitedFor};
 ghost use Rattle.metis_why.specs.declared.reason.Line.{Line};
 
 use crate::confirming::Confirmation;
+use crate::reason::Reason;
 
 /// The pairs outside a barred set are closed: no run comes to a pair of the set.
 pub fn barred_pairs_are_closed_out()
@@ -60,6 +64,33 @@ pub fn a_circle_shows()
 /// no pair, or closes a circle.
 pub fn the_last_line_shows()
     ensures { (u : Universe) (g : Goal) (above : List Line) (last : Line) (p : ℕ) → IsWhy u g (above ++ last ∷ []) → IsTrue (has (named_by u last.pair last.reason) p) → IsTrue (listed above p) ⊎ (last.pair ≡ p) }
+{}
+
+/// The order of distance has the pairs that are reached from the goal, each once: it is the least set that has those that the goal
+/// wants and, with each pair, those for which it may wait.
+pub fn the_order_is_reached()
+    ensures once { (u : Universe) (x : ℕ → Bool) (g : Goal) (order : List ℕ) → IsByDistance u x g order → AreApart order }
+    ensures covers { (u : Universe) (x : ℕ → Bool) (g : Goal) (order : List ℕ) → IsByDistance u x g order → Covers u (has order) g }
+    ensures closed { (u : Universe) (x : ℕ → Bool) (g : Goal) (order : List ℕ) (q : ℕ) → IsByDistance u x g order → IsTrue (has order q) → IsTrue (list_all (has order) (may_name u x q)) }
+    ensures least { (u : Universe) (x y : ℕ → Bool) (g : Goal) (order : List ℕ) → IsByDistance u x g order → Covers u y g → ((q : ℕ) → IsTrue (y q) → IsTrue (list_all y (may_name u x q))) → IsInside (has order) y }
+{}
+
+/// Trying the pairs of the order from the last to the first comes to the nearest set: with each the greatest barred set without it
+/// is taken, where that still covers the goal.
+pub fn trying_comes_to_the_nearest()
+    ensures { (u : Universe) (g : Goal) (lacking : ℕ → Bool) (order : List ℕ) (needed : ℕ → Bool) → IsUniverse u → IsLacking u lacking → Covers u lacking g → IsByDistance u lacking g order → AreTried u g order (has order) needed → IsNearest u g order needed }
+{}
+
+/// The nearest set is one of which no pair can be left out.
+pub fn none_of_the_nearest_can_be_left_out()
+    ensures { (u : Universe) (g : Goal) (order : List ℕ) (x : ℕ → Bool) → IsNearest u g order x → IsNeeded u g x }
+{}
+
+/// A reason is that the pair needs the port that the fewest pairs provide, of those for which it waits; where there is no such port,
+/// that it comes from pairs of the set alone.
+pub fn a_reason_is_the_port_of_the_fewest()
+    ensures needs { (u : Universe) (x : ℕ → Bool) (q r : ℕ) → IsUniverse u → q < pair_count u → reason_in u x q ≡ Reason.Needs r → IsFewest u x q r }
+    ensures comes { (u : Universe) (x : ℕ → Bool) (q s : ℕ) → reason_in u x q ≡ Reason.Comes → IsWaitedFor u x q s → ⊥ }
 {}
 
 /// There is one explanation of a goal by the rules of choice, so it is a function of the universe and the goal.
