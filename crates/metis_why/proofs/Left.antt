@@ -5,12 +5,13 @@ use Rattle.std.proofs.lemmas.Bool.{both_ways, cases_eq, false_from_ne_true, true
 use Rattle.metis_ids.proofs.Lists.{filter_more}
 use Rattle.metis_ids.specs.declared.goals.Goal.{Goal}
 use Rattle.metis_universe.specs.Universe.{Universe}
-use Rattle.metis_why.proofs.Going.{off_other, off_same}
+use Rattle.metis_why.proofs.Going.{off_inside, off_other, off_same}
 use Rattle.metis_why.proofs.Reasons.{all_inside}
 use Rattle.metis_why.specs.Barred.{IsBarred, wanted_by}
-use Rattle.metis_why.specs.Flags.{IsGreatest, IsInside, IsMissed}
+use Rattle.metis_why.specs.Flags.{IsGreatest, IsInside, IsMissed, IsWithin}
 use Rattle.metis_refusal.specs.Supplies.{flag}
 use Rattle.metis_why.specs.Leaving.{IsEnough, IsLess}
+use Rattle.metis_why.specs.Settling.{IsShrunk}
 
 inside_without : (x : List Bool) (p : ℕ) (y : ℕ → Bool) → IsInside y (flag x) → y p ≡ false → IsInside y (flag (set x p false))
 inside_without x p y inside away q there = elim (cases_eq q p) [
@@ -19,10 +20,10 @@ inside_without x p y inside away q there = elim (cases_eq q p) [
 ]
 
 -- where what is left without p does not cover the goal, p is missed
-pub missed_one : (u : Universe) (g : Goal) (x : List Bool) (z : ℕ → Bool) (p : ℕ) → IsGreatest u (flag (set x p false)) z → list_all z (wanted_by u g) ≡ false → IsMissed u g (flag x) p
+pub missed_one : (u : Universe) (g : Goal) (x : List Bool) (z : ℕ → Bool) (p : ℕ) → IsShrunk u (flag (set x p false)) z → list_all z (wanted_by u g) ≡ false → IsMissed u g (flag x) p
 missed_one u g x z p most lost = λ y barred covers inside.
     true_from_ne_false (y p) (λ away.
-    both_ways (list_all z (wanted_by u g)) lost (all_inside z y (wanted_by u g) (most.greatest y barred (inside_without x p y inside away)) covers))
+    both_ways (list_all z (wanted_by u g)) lost (all_inside z y (wanted_by u g) (most.keeps y barred (inside_without x p y inside away)) covers))
 
 -- what is left without p has each barred set without p
 pub keeps_without : (u : Universe) (x : List Bool) (z : ℕ → Bool) (p : ℕ) → flag x p ≡ true → IsGreatest u (flag (set x p false)) z →
@@ -30,8 +31,23 @@ pub keeps_without : (u : Universe) (x : List Bool) (z : ℕ → Bool) (p : ℕ) 
 keeps_without u x z p on most y barred inside back =
     most.greatest y barred (inside_without x p y inside (false_from_ne_true (y p) (λ there. both_ways (flag (set x p false) p) (off_same x p on) (most.inside p (back there)))))
 
+pub shrunk_greatest : (u : Universe) (x z : ℕ → Bool) → IsGreatest u x z → IsShrunk u x z
+shrunk_greatest u x z most = record { inside = most.inside; keeps = most.greatest }
+
 pub less_start : (u : Universe) (g : Goal) (x : ℕ → Bool) → IsEnough u g x → IsLess u g x x
 less_start u g x enough = record { inside = λ p there. there; enough = enough }
+
+pub within_without : (u : Universe) (x : List Bool) (z : ℕ → Bool) (p : ℕ) → flag x p ≡ true → IsWithin u (flag x) → IsShrunk u (flag (set x p false)) z → IsWithin u z
+within_without u x z p on within shrunk q there = within q (off_inside x p on q (shrunk.inside q there))
+
+pub less_without : (u : Universe) (g : Goal) (x : List Bool) (z : ℕ → Bool) (p : ℕ) → flag x p ≡ true → IsEnough u g (flag x) → IsGreatest u (flag (set x p false)) z → list_all z (wanted_by u g) ≡ true → IsLess u g (flag x) z
+less_without u g x z p on enough most covers = record {
+  inside = λ q there. off_inside x p on q (most.inside q there);
+  enough = record { within = within_without u x z p on enough.within (shrunk_greatest u (flag (set x p false)) z most); barred = most.barred; covers = covers };
+}
+
+pub out_without : (u : Universe) (x : List Bool) (z : ℕ → Bool) (p : ℕ) → flag x p ≡ true → IsGreatest u (flag (set x p false)) z → z p ≡ true → ⊥
+out_without u x z p on most there = both_ways (flag (set x p false) p) (off_same x p on) (most.inside p there)
 
 pub less_then : (u : Universe) (g : Goal) (x y z : ℕ → Bool) → IsLess u g x y → IsLess u g y z → IsLess u g x z
 less_then u g x y z first then = record { inside = λ p there. first.inside p (then.inside p there); enough = then.enough }

@@ -22,8 +22,13 @@ pub struct Falling {
 }
 
 /// Takes pairs out of the set that no barred set inside it has: those that wait for none of its pairs, then those that waited for
-/// these alone, and so on. What a pair provides and leads to is read once, as it falls.
-pub fn drain(alloc: Global, u: &Universe, held: &mut [bool; PAIR_LIMIT]) -> Result<(), NoMemory>
+/// these alone, and so on. What a pair provides and leads to is read once, as it falls. It goes no further once the watched pair is out.
+pub fn drain(
+    alloc: Global,
+    u: &Universe,
+    held: &mut [bool; PAIR_LIMIT],
+    watched: &Option<PairIx>,
+) -> Result<(), NoMemory>
     ensures { OnOk result (IsShrunk u.now (flag held.old) (flag held.new)) }
 {
     let mut falling = Falling {
@@ -33,7 +38,7 @@ pub fn drain(alloc: Global, u: &Universe, held: &mut [bool; PAIR_LIMIT]) -> Resu
         fallen: Vec::new(alloc),
     };
     let_all_fall(u, &mut falling)?;
-    spread_all(u, &mut falling)?;
+    spread_all(u, &mut falling, watched)?;
     *held = falling.held;
     Ok(())
 }
@@ -50,12 +55,12 @@ fn let_all_fall(u: &Universe, falling: &mut Falling) -> Result<(), NoMemory>
 }
 
 // Reads what the noted pairs give, and those that fall by that.
-fn spread_all(u: &Universe, falling: &mut Falling) -> Result<(), NoMemory>
+fn spread_all(u: &Universe, falling: &mut Falling, watched: &Option<PairIx>) -> Result<(), NoMemory>
     requires { IsFrom u.now falling.old.held falling.old.given falling.old.led }
     ensures { OnOk result (IsShrunk u.now (flag falling.old.held) (flag falling.new.held)) }
 {
     while let Some(pair) = falling.fallen.pop() {
-        spread(u, falling, pair)?;
+        spread(u, falling, pair, watched)?;
     }
     Ok(())
 }
@@ -90,7 +95,8 @@ fn waits_for_none(u: &Universe, falling: &Falling, pair: PairIx) -> bool
 /// Whether the flag of each port that the pair requires is set.
 pub fn are_given(u: &Universe, given: &[bool; PORT_LIMIT], pair: PairIx) -> bool
     requires { pair < pair_count u.now }
-    ensures { IsTrue result → (r : ℕ) → IsTrue (requires u.now pair r) → IsTrue (flag given.now r) }
+    ensures all { IsTrue result → (r : ℕ) → IsTrue (requires u.now pair r) → IsTrue (flag given.now r) }
+    ensures one { IsFalse result → (r : ℕ) × IsTrue (requires u.now pair r) × IsFalse (flag given.now r) }
 {
     u.keeps_invariant();
     for port in u.requires_(pair) {
@@ -102,15 +108,31 @@ pub fn are_given(u: &Universe, given: &[bool; PORT_LIMIT], pair: PairIx) -> bool
 }
 
 // Reads what a pair outside the set gives: its ports, and its moves.
-fn spread(u: &Universe, falling: &mut Falling, pair: PairIx) -> Result<(), NoMemory>
+fn spread(
+    u: &Universe,
+    falling: &mut Falling,
+    pair: PairIx,
+    watched: &Option<PairIx>,
+) -> Result<(), NoMemory>
     requires { IsFrom u.now falling.old.held falling.old.given falling.old.led }
     ensures { OnOk result (Falls u.now falling.old falling.new) }
 {
+    if is_out(&falling.held, watched) {
+        return Ok(());
+    }
     if pair.0 < u.pairs() && !is_set(&falling.held, pair) {
         give_all(u, falling, pair)?;
         lead_all(u, falling, pair)?;
     }
     Ok(())
+}
+
+// Whether there is such a pair, and it is not in the set.
+fn is_out(held: &[bool; PAIR_LIMIT], watched: &Option<PairIx>) -> bool {
+    match *watched {
+        Some(pair) => (pair.0 as usize) < PAIR_LIMIT && !is_set(held, pair),
+        None => false,
+    }
 }
 
 // Reads the ports that a pair outside the set provides.

@@ -3,14 +3,16 @@ ghost use Rattle.std.specs.Prelude.{◌<◌, ℕ, Bool, IfOk, IsTrue, OnOk, set,
 ghost use Rattle.metis_universe.specs.Goals.{IsGoalOf};
 ghost use Rattle.metis_why.specs.Barred.{IsBarred};
 ghost use Rattle.metis_why.specs.Choice.{IsNearest};
-ghost use Rattle.metis_why.specs.Flags.{IsGreatest, IsInside, IsMissed, IsWithin};
+ghost use Rattle.metis_why.specs.Flags.{IsInside, IsMissed, IsWithin};
 ghost use Rattle.metis_refusal.specs.Supplies.{flag};
 ghost use Rattle.metis_why.specs.Leaving.{AreForced, IsEnough, IsLess};
 ghost use Rattle.metis_why.specs.Nearing.{AreApart, IsFront};
+ghost use Rattle.metis_why.specs.Settling.{IsShrunk};
 
+use crate::falling::drain;
 use crate::forcing::forced;
 use crate::outside::{PAIR_LIMIT, is_set};
-use crate::settling::{covers, settle};
+use crate::settling::{covers, settle_in_rounds};
 use metis_ids::{Goal, NoMemory, PairIx};
 use metis_universe::Universe;
 use std::alloc::Global;
@@ -59,26 +61,40 @@ fn leave_out(
     if pair.0 as usize >= PAIR_LIMIT || !is_set(held, pair) || is_set(forced, pair) {
         return Ok(());
     }
-    let rest = settled_without(alloc, u, held, pair)?;
+    let mut rest = drained_without(alloc, u, held, pair, &first_wanted(u, goal))?;
+    if !covers(u, &rest, *goal) {
+        return Ok(());
+    }
+    settle_in_rounds(u, &mut rest);
     if covers(u, &rest, *goal) {
         *held = rest;
     }
     Ok(())
 }
 
-// The greatest barred set inside this one without the pair.
-fn settled_without(
+// The first pair that the goal wants, if there is one.
+fn first_wanted(u: &Universe, goal: &Goal) -> Option<PairIx>
+    requires { IsGoalOf u.now goal.now }
+{
+    match *goal {
+        Goal::Pair(pair) => Some(pair),
+        Goal::Port(port) => u.providers(port).first().copied(),
+    }
+}
+
+// This set without the pair, and without pairs that then fall.
+fn drained_without(
     alloc: Global,
     u: &Universe,
     held: &[bool; PAIR_LIMIT],
     pair: PairIx,
+    watched: &Option<PairIx>,
 ) -> Result<[bool; PAIR_LIMIT], NoMemory>
-    requires within { IsWithin u.now (flag held.now) }
-    requires pair { IsTrue (flag held.now pair) }
-    ensures { IfOk result (λ rest. IsGreatest u.now (flag (set held.now pair false)) (flag rest)) }
+    requires { IsTrue (flag held.now pair) }
+    ensures { IfOk result (λ rest. IsShrunk u.now (flag (set held.now pair false)) (flag rest)) }
 {
     let mut rest = *held;
     rest[pair.0 as usize] = false;
-    settle(alloc, u, &mut rest)?;
+    drain(alloc, u, &mut rest, watched)?;
     Ok(rest)
 }

@@ -4,13 +4,14 @@ ghost use Rattle.std.specs.List.{All, find, list_all};
 ghost use Rattle.metis_ids.specs.declared.goals.Goal.{Goal};
 ghost use Rattle.metis_universe.specs.Universe.{pair_count};
 ghost use Rattle.metis_universe.specs.Goals.{IsGoalOf};
-ghost use Rattle.metis_why.specs.Barred.{wanted_by};
-ghost use Rattle.metis_why.specs.Flags.{IsGreatest, IsWithin};
+ghost use Rattle.metis_why.specs.Barred.{IsBarred, IsReason, wanted_by};
+ghost use Rattle.metis_why.specs.Flags.{AreGiven, AreLed, IsGreatest, IsInside, IsWithin};
 ghost use Rattle.metis_refusal.specs.Supplies.{flag};
 ghost use Rattle.metis_why.specs.Settling.{IsRound};
+ghost use Rattle.metis_why.specs.declared.reason.Reason.{Reason};
 
-use crate::falling::drain;
-use crate::outside::{PAIR_LIMIT, given_outside, is_set, led_outside, reason_of};
+use crate::falling::{are_given, drain};
+use crate::outside::{PAIR_LIMIT, PORT_LIMIT, given_outside, is_free, is_set, led_outside};
 use metis_ids::{Goal, NoMemory, PairIx};
 use metis_universe::Universe;
 use std::alloc::Global;
@@ -20,13 +21,13 @@ pub fn settle(alloc: Global, u: &Universe, held: &mut [bool; PAIR_LIMIT]) -> Res
     requires { IsWithin u.now (flag held.old) }
     ensures { OnOk result (IsGreatest u.now (flag held.old) (flag held.new)) }
 {
-    drain(alloc, u, held)?;
+    drain(alloc, u, held, &None)?;
     settle_in_rounds(u, held);
     Ok(())
 }
 
-// The same, in rounds over all pairs. After `drain` the first one finds nothing to do.
-fn settle_in_rounds(u: &Universe, held: &mut [bool; PAIR_LIMIT])
+/// The same, in rounds over all pairs. After `drain` the first one finds nothing to do.
+pub fn settle_in_rounds(u: &Universe, held: &mut [bool; PAIR_LIMIT])
     requires { IsWithin u.now (flag held.old) }
     ensures { IsGreatest u.now (flag held.old) (flag held.new) }
 {
@@ -43,12 +44,28 @@ fn round(u: &Universe, held: &mut [bool; PAIR_LIMIT]) -> bool
     let mut more = false;
     for number in 0..u.pairs() {
         let pair = PairIx(number);
-        if is_set(held, pair) && reason_of(u, &given, &led, pair).is_none() {
+        if is_set(held, pair) && !waits(u, &given, &led, pair) {
             held[number as usize] = false;
             more = true;
         }
     }
     more
+}
+
+// Whether the pair waits for pairs of a set, where pairs outside it give these ports and lead to these pairs.
+fn waits(u: &Universe, given: &[bool; PORT_LIMIT], led: &[bool; PAIR_LIMIT], pair: PairIx) -> bool
+    requires { pair < pair_count u.now }
+    ensures waits { IsTrue result → (x : ℕ → Bool) → AreGiven u.now x given.now → AreLed u.now x led.now → (reason : Reason) × IsReason u.now x pair reason }
+    ensures falls { IsFalse result → (x : ℕ → Bool) → AreGiven u.now x given.now → AreLed u.now x led.now → (y : ℕ → Bool) → IsBarred u.now y → IsInside y x → IsFalse (y pair) }
+{
+    u.keeps_invariant();
+    if !are_given(u, given, pair) {
+        return true;
+    }
+    if is_set(led, pair) || is_free(u, pair) {
+        return false;
+    }
+    true
 }
 
 /// Whether the set has each pair that the goal wants.

@@ -5,4 +5,4 @@ use Rattle.metis_why.proofs.falling.waits_for_none.Goals as goal
 pub returns-then-is_set : goal.returns-then-is_set
 returns-then-is_set c = λ all y barred inside.
     let f = c.args.falling.now in
-    led_falls c.args.u.now f.held f.given f.led c.requires.from c.args.pair (sym c.is_set.ensures ∙ c.if-is_set.true) (c.are_given.ensures all) y barred inside
+    led_falls c.args.u.now f.held f.given f.led c.requires.from c.args.pair (sym c.is_set.ensures ∙ c.if-is_set.true) (c.are_given.ensures.all all) y barred inside

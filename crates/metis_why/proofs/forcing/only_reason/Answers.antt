@@ -19,4 +19,4 @@ returns-in-Some c = λ x given led.
     )
 
 pub returns-then-are_given : goal.returns-then-are_given
-returns-then-are_given c = λ x given led. (tt, only_comes c.args.u.now x c.args.given.now c.args.led.now given led c.args.pair (c.are_given.ensures c.if-are_given.true))
+returns-then-are_given c = λ x given led. (tt, only_comes c.args.u.now x c.args.given.now c.args.led.now given led c.args.pair (c.are_given.ensures.all c.if-are_given.true))
