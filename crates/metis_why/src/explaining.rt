@@ -33,8 +33,8 @@ pub enum Explained {
 
 /// What keeps goals from being attained together: the first that no list of actions attains, and pairs that wait for one another,
 /// each with its reason, of which none can be left out. The lines begin with the pairs that the goal wants; behind them stand, line
-/// after line, the pairs for which these wait. It goes once over the universe, and then, for each pair of a small set near the goal,
-/// over the universe so many times as pairs drop out one after the other.
+/// after line, the pairs for which these wait. It goes once over the universe, and then, for each pair near the goal that has several
+/// reasons, over the pairs and what falls with it.
 pub fn explain(alloc: Global, u: &Universe, goals: &[Goal]) -> Result<Explained, NoMemory>
     requires { All (IsGoalOf u.now) goals.now }
     ensures attained { IfAllAttained result (AttainsGoals u.now goals.now) }
@@ -48,7 +48,7 @@ pub fn explain(alloc: Global, u: &Universe, goals: &[Goal]) -> Result<Explained,
     let held = lacking(u, &layers);
     match first_covered(u, &held, goals) {
         Some(lacks) => {
-            let lines = fewest(alloc, u, &held, &lacks)?;
+            let lines = chosen_lines(alloc, u, &held, &lacks)?;
             Ok(Explained::Lacks(Explanation { lacks, lines }))
         }
         None => Ok(Explained::Attained),
@@ -67,8 +67,8 @@ fn lacking(u: &Universe, layers: &Layers) -> [bool; PAIR_LIMIT]
     held
 }
 
-// Lines for a barred set inside this one that covers the goal, of which none can be left out.
-fn fewest(
+// The lines of the chosen barred set inside this one that covers the goal.
+fn chosen_lines(
     alloc: Global,
     u: &Universe,
     held: &[bool; PAIR_LIMIT],

@@ -2,12 +2,12 @@ use Rattle.metis_why.proofs.First.{all_attained, first_enough, first_of_universe
 use Rattle.metis_refusal.specs.Supplies.{flag}
 use Rattle.metis_why.proofs.explaining.explain.Goals as goal
 
-pub fewest-requires-clause-goal : goal.fewest-requires-clause-goal
-fewest-requires-clause-goal c =
+pub chosen_lines-requires-clause-goal : goal.chosen_lines-requires-clause-goal
+chosen_lines-requires-clause-goal c =
     first_of_universe c.args.u.now c.keeps_invariant.ensures.universe (flag c.lacking-held.result) c.lacking-held.ensures c.args.goals.now c.in-Some.lacks c.requires c.in-Some.ensures
 
-pub fewest-requires-clause-enough : goal.fewest-requires-clause-enough
-fewest-requires-clause-enough c = first_enough c.args.u.now c.keeps_invariant.ensures.universe (flag c.lacking-held.result) c.lacking-held.ensures c.args.goals.now c.in-Some.lacks c.requires c.in-Some.ensures
+pub chosen_lines-requires-clause-enough : goal.chosen_lines-requires-clause-enough
+chosen_lines-requires-clause-enough c = first_enough c.args.u.now c.keeps_invariant.ensures.universe (flag c.lacking-held.result) c.lacking-held.ensures c.args.goals.now c.in-Some.lacks c.requires c.in-Some.ensures
 
 pub returns-in-Some-clause-first : goal.returns-in-Some-clause-first
 returns-in-Some-clause-first c =

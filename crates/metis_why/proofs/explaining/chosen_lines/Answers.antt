@@ -5,7 +5,7 @@ use Rattle.metis_why.proofs.Listed.{why_by}
 use Rattle.metis_why.proofs.Nearest.{cut_apart, cut_nearest, needed_where_nearest}
 use Rattle.metis_why.specs.Barred.{wanted_by}
 use Rattle.metis_why.specs.Choice.{may_name}
-use Rattle.metis_why.proofs.explaining.fewest.Goals as goal
+use Rattle.metis_why.proofs.explaining.chosen_lines.Goals as goal
 
 pub keep_near-requires-clause-enough : goal.keep_near-requires-clause-enough
 keep_near-requires-clause-enough c = distance_enough c.args.u.now (flag c.args.held.now) c.args.goal.now c.requires.enough c.in_ok-order.order.items c.in_ok-order.ensures
