@@ -79,17 +79,20 @@ fn let_fall(u: &Universe, falling: &mut Falling, pair: PairIx) -> Result<(), NoM
     Ok(())
 }
 
-// Whether the pair is free, or pairs outside the set give each port that it requires, and lead to it.
+// Whether pairs outside the set give each port that the pair requires, and lead to it, or it is free.
 fn waits_for_none(u: &Universe, falling: &Falling, pair: PairIx) -> bool
     requires pair { pair < pair_count u.now }
     requires from { IsFrom u.now falling.now.held falling.now.given falling.now.led }
     ensures { IsTrue result → (y : ℕ → Bool) → IsBarred u.now y → IsInside y (flag falling.now.held) → IsFalse (y pair) }
 {
     u.keeps_invariant();
-    if is_free(u, pair) {
+    if !are_given(u, &falling.given, pair) {
+        return false;
+    }
+    if is_set(&falling.led, pair) {
         return true;
     }
-    is_set(&falling.led, pair) && are_given(u, &falling.given, pair)
+    is_free(u, pair)
 }
 
 /// Whether the flag of each port that the pair requires is set.
