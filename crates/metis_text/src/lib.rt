@@ -3,8 +3,8 @@
 #![tactic(auto)]
 
 mod action_line;
-mod bytes;
-mod cursor;
+pub mod bytes;
+pub mod cursor;
 mod dup_line;
 mod fault;
 mod flaw;
@@ -24,7 +24,7 @@ mod tokens;
 mod write;
 
 pub use fault::TFault;
-pub use flaw::Flaw;
+pub use flaw::{Flaw, both};
 pub use laws::{
     accepted_is_written, accepted_refusal_is_written, plan_has_lines, refusal_has_lines,
     refusal_is_read, well_formed_is_read, written_run_is_read, written_run_is_well_formed,
@@ -37,5 +37,5 @@ pub use read::read_plan;
 pub use refusal_read::read_refusal;
 pub use refusal_text::Refusal;
 pub use refusal_write::write_refusal;
-pub use tokens::{number_in, tokens_of};
+pub use tokens::{goal_in, number_in, pair_in, port_in, tokens_of};
 pub use write::write_plan;
