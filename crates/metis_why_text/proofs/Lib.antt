@@ -1,0 +1,11 @@
+pub mod CountTokens
+pub mod GoalTokens
+pub mod ItemLines
+pub mod LineTokens
+pub mod LinesRead
+pub mod Named
+pub mod Printed
+pub mod WhyBytes
+pub mod WhyFaults
+pub mod WhyLines
+pub mod WhyRead

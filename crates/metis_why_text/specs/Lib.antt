@@ -1,0 +1,3 @@
+pub mod WhyFaults
+pub mod WhyReading
+pub mod WhyText
