@@ -1,9 +1,13 @@
 -- What the text of an explanation says, line by line, or its first fault.
---     fitting fits x      what was read of a line's first words, if the line is what is written for it
---     lacks_of_tokens u tokens, count_of_tokens tokens      the goal that the first words of a line name;  how many pairs there are with a reason
---     reason_of_tokens u tokens, line_of_tokens u tokens      the reason, and the pair with it, that they name
---     is_text_of u bytes l      the bytes are the line, without its line feed, of a pair with its reason that may be told
---     lacks_in u bytes, count_in bytes, line_in u bytes      what the line says
+--     fitting fits x      what was read of the first tokens of a line, if the line is what is written for it
+--     goal_of_tokens u tokens, lacks_of_tokens u tokens      the goal that the first token names;  that of a line with these tokens
+--     is_lacks_of u bytes g      the bytes are the line of the goal, without its line feed
+--     count_of_tokens tokens      how many lines there are
+--     needs_of_tokens u tokens, reason_of_tokens u tokens      that the port is required which the first token names;  the reason by its first tokens
+--     line_of_tokens u tokens      the pair with its reason that the first tokens of a line name
+--     is_held_up u q reason, is_text_of u bytes l      the reason may be told of the pair;  and the bytes are its line, without its line feed
+--     lacks_in u bytes, count_in bytes, line_in u bytes      what a line says
+--     lines_from u left lines l      so many more pairs with their reasons, where these were read
 --     WhyParts, why_in u bytes      what an explanation's text says;  what these bytes say
 --     parts_of why, ReadsWhy result meaning      what the text of this explanation says;  that it was meant, unless memory ran out
 use Rattle.std.specs.Prelude.{◌≡◌, ◌≢◌, ℕ, zero, suc, Bool, true, not, ◌&&◌, ◌||◌, List, [], ◌∷◌, ◌++◌, codes, Result, Ok, Err, if◌then◌else◌}
@@ -79,7 +83,7 @@ abbrev pub line_of_tokens : Universe → List (List ℕ) → Result Line Flaw
 line_of_tokens u (word ∷ behind) = made line_with (both (pair_in u word) (reason_of_tokens u behind))
 line_of_tokens u [] = Err Form
 
--- a reason of moves is told of a pair in which no instance is made
+-- a reason of moves may be told of a pair in which no instance is made
 abbrev pub is_held_up : Universe → ℕ → Reason → Bool
 is_held_up u q (Needs r) = true
 is_held_up u q Comes = not (is_free u q)

@@ -1,4 +1,4 @@
--- The text of an explanation: the goal that is never attained, and what keeps it from being attained, line by line.
+-- The text of an explanation: a goal that is never attained, and line by line what keeps it from being attained.
 --     list_words u pairs      the words of the pairs, or that there is none
 --     start_port u q      the first port that the pair requires, where it is the initial one of its type
 --     comes_tokens u port, reason_tokens u q reason      what a reason of moves says before the pairs that it names;  what a reason says there
