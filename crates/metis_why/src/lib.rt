@@ -25,4 +25,6 @@ pub use laws::{
     true_lines_rule_out_the_goal, trying_comes_to_the_nearest, what_is_told_is_confirmed,
     what_is_told_is_confirmed_of_all,
 };
+pub use named::named as named_by;
+pub use outside::is_free;
 pub use reason::{Explanation, Line, Reason};

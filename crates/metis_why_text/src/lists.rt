@@ -1,15 +1,15 @@
 //! Lists of pairs in a line.
-ghost use Rattle.std.specs.Prelude.{◌≡◌, ◌<◌, ◌++◌, ◌∷◌, [], IfOk, OnOk, codes, cond, map, string_bytes};
+ghost use Rattle.std.specs.Prelude.{◌≡◌, ◌<◌, ◌++◌, OnOk, codes, map, string_bytes};
 ghost use Rattle.std.specs.List.{All};
 ghost use Rattle.metis_text.specs.Line.{added};
 ghost use Rattle.metis_universe.specs.PairWords.{pair_word};
-ghost use Rattle.metis_universe.specs.Universe.{has, next_of, pair_count};
+ghost use Rattle.metis_universe.specs.Universe.{pair_count};
 ghost use Rattle.metis_why.specs.Barred.{IsNameable, before_of, named_by};
 ghost use Rattle.metis_why_text.specs.WhyText.{list_words};
 
 use metis_ids::PairIx;
 use metis_universe::Universe;
-use metis_why::Reason;
+use metis_why::{Reason, named_by};
 use std::alloc::{AllocError, Global};
 
 /// Appends the pairs for which the pair waits by this reason, each behind a space.
@@ -38,37 +38,10 @@ fn push_before(
 ) -> Result<(), AllocError>
     ensures { OnOk result (string_bytes text.new ≡ string_bytes text.old ++ added (list_words u.now (before_of u.now pair))) }
 {
-    let from = before(alloc, u, pair)?;
-    push_list(text, u, &from)
-}
-
-// The pairs from which a move leads to the pair.
-fn before(alloc: Global, u: &Universe, pair: PairIx) -> Result<Vec<PairIx>, AllocError>
-    ensures { IfOk result (λ v. v.items ≡ before_of u.now pair) }
-{
-    let mut from = Vec::new(alloc);
-    for number in 0..u.pairs() {
-        push_if(&mut from, PairIx(number), leads(u, PairIx(number), pair))?;
+    match named_by(alloc, u, pair, Reason::Comes) {
+        Ok(from) => push_list(text, u, &from),
+        Err(_) => Err(AllocError),
     }
-    Ok(from)
-}
-
-// Puts the pair at the end of the list, where it is to be there.
-fn push_if(list: &mut Vec<PairIx>, pair: PairIx, there: bool) -> Result<(), AllocError>
-    ensures { IfOk result (λ _. list.new.items ≡ list.old.items ++ cond there (pair ∷ []) []) }
-{
-    if there {
-        list.push(pair)?;
-    }
-    Ok(())
-}
-
-// Whether a move leads from the one pair to the other.
-fn leads(u: &Universe, from: PairIx, to: PairIx) -> bool
-    requires { from < pair_count u.now }
-    ensures { result ≡ has (next_of u.now from) to }
-{
-    u.next(from).contains(&to)
 }
 
 /// Appends the pairs, each behind a space, or that there is none.

@@ -4,7 +4,7 @@ ghost use Rattle.std.specs.Str.{bytes_eq};
 ghost use Rattle.metis_text.specs.Flaws.{both, made};
 ghost use Rattle.metis_text.specs.declared.flaw.Flaw.TheVariants.{Form};
 ghost use Rattle.metis_universe.specs.GoalWords.{IsWordable};
-ghost use Rattle.metis_universe.specs.Universe.{is_free, pair_count};
+ghost use Rattle.metis_universe.specs.Universe.{pair_count};
 ghost use Rattle.metis_why.specs.Confirm.{IsLineOf};
 ghost use Rattle.metis_why_text.specs.WhyReading.{count_of_tokens, fitting, goal_of_tokens, is_held_up, is_lacks_of, is_text_of, lacks_in, lacks_of_tokens, line_in, line_of_tokens, line_with, needs_of_tokens, reason_by, reason_of_tokens};
 
@@ -13,7 +13,7 @@ use metis_ids::{Goal, PairIx};
 use metis_text::bytes::is;
 use metis_text::{Flaw, both, goal_in, number_in, pair_in, port_in, tokens_of};
 use metis_universe::Universe;
-use metis_why::{Line, Reason};
+use metis_why::{Line, Reason, is_free};
 use std::alloc::{AllocError, Global};
 
 /// How many pairs there are with a reason, by the tokens of the line.
@@ -131,13 +131,6 @@ fn is_held_up(u: &Universe, pair: PairIx, reason: Reason) -> bool
         Reason::Needs(_) => true,
         Reason::Comes => !is_free(u, pair),
     }
-}
-
-fn is_free(u: &Universe, pair: PairIx) -> bool
-    requires { pair < pair_count u.now }
-    ensures { result ≡ is_free u.now pair }
-{
-    u.is_initial(pair) && u.requires_(pair).is_empty()
 }
 
 fn line_of(u: &Universe, tokens: &[&[u8]]) -> Result<Line, Flaw>
