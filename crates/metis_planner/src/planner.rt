@@ -114,12 +114,7 @@ pub fn plan_over(
 }
 
 // The plan that rounds come to.
-fn plan_on(
-    alloc: Global,
-    u: &Universe,
-    s: &Support,
-    targets: &[PairIx],
-) -> Result<Plan, NoMemory>
+fn plan_on(alloc: Global, u: &Universe, s: &Support, targets: &[PairIx]) -> Result<Plan, NoMemory>
     requires few { length targets.now ≤ 256 }
     requires layered { All (λ p. IsSome (layer_of u.now p)) targets.now }
     requires support { s.now ≡ support_of u.now targets.now }

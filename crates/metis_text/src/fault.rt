@@ -1,4 +1,4 @@
-//! Why bytes are no text of a plan or of a refusal.
+//! Why bytes are no text of a plan, of a refusal or of an explanation.
 ghost use Rattle.std.specs.Prelude.{◌≡◌};
 ghost use Rattle.metis_text.specs.Reading.{fault_at};
 
@@ -6,7 +6,7 @@ use crate::flaw::Flaw;
 use metis_ids::NoMemory;
 use std::alloc::{AllocError, AllocFailed};
 
-/// Why bytes are no text of a plan or of a refusal. Lines count from 1.
+/// Why bytes are no text of a plan, of a refusal or of an explanation. Lines count from 1.
 #[derive(Clone, Copy, PartialEq, Eq)]
 pub enum TFault {
     /// The line does not have the tokens of the form that stands at its place.

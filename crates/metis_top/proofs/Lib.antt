@@ -1,8 +1,10 @@
 pub mod Aims
+pub mod Confirmations
 pub mod CrewTurns
 pub mod Blocks
 pub mod Deployments
 pub mod FileBytes
+pub mod FirstGoals
 pub mod FormRead
 pub mod Gathered
 pub mod Loads

@@ -9,9 +9,10 @@ use Rattle.metis_top.specs.declared.refusal.Refusal.{Refusal}
 use Rattle.metis_top.specs.declared.refusal.Refusal.TheVariants.{TooLong, Word}
 use Rattle.metis_top.specs.declared.status.Status.{Status}
 use Rattle.metis_top.specs.declared.words.Verb.{Verb}
-use Rattle.metis_top.specs.declared.words.Verb.TheVariants.{Plan, Replay, Refute, Audit, Sim, Crew, Waves, Control, Rollout, Place, Print, Load}
+use Rattle.metis_top.specs.declared.words.Verb.TheVariants.{Plan, Replay, Refute, Audit, Sim, Crew, Waves, Control, Rollout, Place, Print, Load, Why, Confirm}
 use Rattle.metis_top.specs.Answer as answer
-use Rattle.metis_top.specs.Commands.{universe_then, waves_then, control_over, control_then, audit_then, plan_said, crew_over, crew_then, judged, or_plan_refused, or_refusal_refused, or_turns_refused, or_universe_refused, goals_named, plan_limit, refusal_limit, refute_then, replay_then, rollout_then, session_limit, sim_then, turns_limit, command_script, script_from, hosts_limit, or_hosts_refused, place_over, place_then}
+use Rattle.metis_why_text.specs.WhyReading.{why_in}
+use Rattle.metis_top.specs.Commands.{universe_then, waves_then, control_over, control_then, audit_then, plan_said, crew_over, crew_then, judged, or_plan_refused, or_refusal_refused, or_turns_refused, or_universe_refused, goals_named, plan_limit, refusal_limit, refute_then, replay_then, rollout_then, session_limit, sim_then, turns_limit, command_script, script_from, hosts_limit, or_hosts_refused, place_over, place_then, confirm_then, or_why_refused, why_limit}
 use Rattle.metis_place.specs.HostsText.{hosts_in}
 use Rattle.metis_top.specs.Course.{Ran, AreTaken, IsRead, OnShelf, after}
 use Rattle.metis_ujson.specs.Document.{document_limit, universe_in}
@@ -75,6 +76,11 @@ at_most_refute u g text = λ bytes.
     at_most_if 0 (nat_le (length bytes) refusal_limit) (judged (λ parts. Reply (answer.Refute u g parts.pairs)) (or_refusal_refused (refusal_in u bytes))) (TooLong 3)
     (at_most_judged 0 (λ parts. Reply (answer.Refute u g parts.pairs)) (or_refusal_refused (refusal_in u bytes)) (λ parts. tt))
 
+at_most_confirm : (u : Universe) (g : List Goal) (text : List ℕ) → IsAtMost 1 (confirm_then text (u, g))
+at_most_confirm u g text = λ bytes.
+    at_most_if 0 (nat_le (length bytes) why_limit) (judged (λ parts. Reply (answer.Confirm u g parts.lines)) (or_why_refused (why_in u bytes))) (TooLong 3)
+    (at_most_judged 0 (λ parts. Reply (answer.Confirm u g parts.lines)) (or_why_refused (why_in u bytes)) (λ parts. tt))
+
 at_most_sim : (u : Universe) (input : List ℕ) → IsAtMost 1 (sim_then input u)
 at_most_sim u input = λ bytes. at_most_if 0 (nat_le (length bytes) session_limit) (Reply (answer.Sim u bytes)) (TooLong 3) tt
 
@@ -120,6 +126,8 @@ at_most_command Rollout files targets size numbers = at_most_universe 1 2 (word_
 at_most_command Place files targets size numbers = at_most_universe 2 2 (word_at files 0) _ (λ u. at_most_place u (word_at files 1) (word_at files 2))
 at_most_command Print files targets size numbers = at_most_universe 0 2 (word_at files 0) _ (λ u. tt)
 at_most_command Load files targets size numbers = tt
+at_most_command Why files targets size numbers = at_most_universe 0 2 (word_at files 0) _ (λ u. at_most_judged 0 (λ g. Reply (answer.Why u g)) (goals_named 3 u targets) (λ g. tt))
+at_most_command Confirm files targets size numbers = at_most_universe 1 2 (word_at files 0) _ (λ u. at_most_judged 1 (λ g. confirm_then (word_at files 1) (u, g)) (goals_named 4 u targets) (λ g. at_most_confirm u g (word_at files 1)))
 
 first_read : (verb : Verb) (files : List (List ℕ)) (targets : List TargetName) (size : ℕ) (numbers : List ℕ) → 1 ≤ file_count verb → IsRead (command_script verb files targets size numbers)
 first_read Plan files targets size numbers some = tt
@@ -134,6 +142,8 @@ first_read Rollout files targets size numbers some = tt
 first_read Place files targets size numbers some = tt
 first_read Print files targets size numbers some = tt
 first_read Load files targets size numbers some = absurd (omega (arith, some))
+first_read Why files targets size numbers some = tt
+first_read Confirm files targets size numbers some = tt
 
 -- what is left of a script after so many files
 record Left (n : ℕ) (taken : List (List ℕ)) (script : Script) : Type 0 where

@@ -9,8 +9,9 @@ use Rattle.metis_top.specs.declared.refusal.Refusal.TheVariants as refusal
 use Rattle.metis_top.specs.declared.status.Status.{Status}
 use Rattle.metis_top.specs.declared.status.Status.TheVariants.{Done, No, ReadFault}
 use Rattle.metis_top.specs.declared.words.Verb.{Verb}
-use Rattle.metis_top.specs.declared.words.Verb.TheVariants.{Plan, Replay, Refute, Audit, Sim, Crew, Waves, Control, Rollout, Place, Print, Load}
+use Rattle.metis_top.specs.declared.words.Verb.TheVariants.{Plan, Replay, Refute, Audit, Sim, Crew, Waves, Control, Rollout, Place, Print, Load, Why, Confirm}
 use Rattle.metis_top.specs.Answer as answer
+use Rattle.metis_why_text.specs.WhyReading.{why_in}
 use Rattle.metis_top.specs.Answer.{Answer, IsAnswer}
 use Rattle.metis_replay.specs.declared.verdict.Verdict.{Verdict}
 use Rattle.metis_replay.specs.declared.verdict.Verdict.TheVariants.{Good, Bad, Missing}
@@ -18,13 +19,17 @@ use Rattle.metis_ids.specs.declared.actions.Action.{Action}
 use Rattle.metis_place.specs.HostsText.{hosts_in}
 use Rattle.metis_text.specs.Reading.{plan_in}
 use Rattle.metis_text.specs.RefusalReading.{refusal_in}
-use Rattle.metis_top.specs.Commands.{universe_then, waves_then, control_over, control_then, audit_then, plan_said, crew_over, crew_then, judged, or_plan_refused, or_refusal_refused, or_turns_refused, or_universe_refused, goals_named, plan_limit, refusal_limit, refute_then, replay_then, rollout_then, session_limit, sim_then, turns_limit, command_script, script_from, hosts_limit, or_hosts_refused, place_over, place_then}
+use Rattle.metis_top.specs.Commands.{universe_then, waves_then, control_over, control_then, audit_then, plan_said, crew_over, crew_then, judged, or_plan_refused, or_refusal_refused, or_turns_refused, or_universe_refused, goals_named, plan_limit, refusal_limit, refute_then, replay_then, rollout_then, session_limit, sim_then, turns_limit, command_script, script_from, hosts_limit, or_hosts_refused, place_over, place_then, confirm_then, or_why_refused, why_limit}
 use Rattle.metis_refusal.specs.declared.verdict.Verdict2.{Verdict2}
 use Rattle.metis_refusal.specs.declared.verdict.Verdict2.TheVariants.{Closed, NotFree, Open, LacksNone}
 use Rattle.metis_audit.specs.declared.answers.Answer.{Answer as AuditAnswer}
 use Rattle.metis_audit.specs.declared.answers.Answer.TheVariants as audit
 use Rattle.metis_top.specs.Audited.{audit_status}
 use Rattle.metis_top.specs.Judged.{judgement_status}
+use Rattle.metis_top.specs.Confirmed.{confirmation_status}
+use Rattle.metis_why.specs.Confirm.{verdict}
+use Rattle.metis_why.specs.declared.confirming.Confirmation.{Confirmation}
+use Rattle.metis_why.specs.declared.confirming.Confirmation.TheVariants as confirmation
 use Rattle.metis_top.specs.Replayed.{verdict_status}
 use Rattle.metis_top.specs.Course.{Ran, Shown, Says, OnShelf, after}
 use Rattle.metis_ujson.specs.Document.{document_limit, universe_in}
@@ -46,6 +51,11 @@ judgement_ends (Closed p) status is = inl is
 judgement_ends (NotFree p) status is = inr is
 judgement_ends (Open p q) status is = inr is
 judgement_ends LacksNone status is = inr is
+
+confirmation_ends : (v : Confirmation) (status : Status) → status ≡ confirmation_status v → (status ≡ Done) ⊎ (status ≡ No)
+confirmation_ends (confirmation.Confirmed g) status is = inl is
+confirmation_ends (confirmation.Unfounded k) status is = inr is
+confirmation_ends confirmation.LacksNone status is = inr is
 
 audit_ends : (a : AuditAnswer) (status : Status) → status ≡ audit_status a → (status ≡ Done) ⊎ (status ≡ No)
 audit_ends audit.Justified status is = inl is
@@ -87,6 +97,9 @@ answer_status (answer.Place u actions h) lines status (inr (inr (inl none))) = i
 answer_status (answer.Place u actions h) lines status (inr (inr (inr placed))) = inl placed.is
 answer_status (answer.Print u) lines status is = inl is.1
 answer_status (answer.Load size) lines status is = inl is.is
+answer_status (answer.Why u goals) lines status (inl is) = inl is.0
+answer_status (answer.Why u goals) lines status (inr is) = inr is.0
+answer_status (answer.Confirm u goals why) lines status is = confirmation_ends (verdict u why goals) status is.is
 
 not_read_fault : (status : Status) → (status ≡ Done) ⊎ (status ≡ No) → status ≡ ReadFault → ⊥
 not_read_fault status (inl done) fault = cc
@@ -98,6 +111,7 @@ not_refused (TooLong place) is = cc
 not_refused (refusal.Universe fault) is = cc
 not_refused (refusal.PlanText fault) is = cc
 not_refused (refusal.RefusalText fault) is = cc
+not_refused (refusal.WhyText fault) is = cc
 not_refused (refusal.HostsText fault) is = cc
 not_refused (refusal.Turns place) is = cc
 
@@ -173,6 +187,13 @@ numbered_refute u g text = (
       (numbered_judged 4 (λ parts. Reply (answer.Refute u g parts.pairs)) (or_refusal_refused (refusal_in u bytes)) (λ parts. tt)),
 )
 
+numbered_confirm : (u : Universe) (g : List Goal) (text : List ℕ) → Numbered 3 (confirm_then text (u, g))
+numbered_confirm u g text = (
+  refl,
+  λ bytes. numbered_if 4 (nat_le (length bytes) why_limit) (judged (λ parts. Reply (answer.Confirm u g parts.lines)) (or_why_refused (why_in u bytes))) (TooLong 3)
+      (numbered_judged 4 (λ parts. Reply (answer.Confirm u g parts.lines)) (or_why_refused (why_in u bytes)) (λ parts. tt)),
+)
+
 numbered_sim : (u : Universe) (input : List ℕ) → Numbered 3 (sim_then input u)
 numbered_sim u input = (refl, λ bytes. numbered_if 4 (nat_le (length bytes) session_limit) (Reply (answer.Sim u bytes)) (TooLong 3) tt)
 
@@ -228,6 +249,8 @@ numbered_command Rollout files targets size numbers = numbered_universe 2 (word_
 numbered_command Place files targets size numbers = numbered_universe 2 (word_at files 0) _ (λ u. numbered_place u (word_at files 1) (word_at files 2))
 numbered_command Print files targets size numbers = numbered_universe 2 (word_at files 0) _ (λ u. tt)
 numbered_command Load files targets size numbers = tt
+numbered_command Why files targets size numbers = numbered_universe 2 (word_at files 0) _ (λ u. numbered_judged 3 (λ g. Reply (answer.Why u g)) (goals_named 3 u targets) (λ g. tt))
+numbered_command Confirm files targets size numbers = numbered_universe 2 (word_at files 0) _ (λ u. numbered_judged 3 (λ g. confirm_then (word_at files 1) (u, g)) (goals_named 4 u targets) (λ g. numbered_confirm u g (word_at files 1)))
 
 numbered_script : (form : Result Form ℕ) → Numbered 2 (script_from form)
 numbered_script (Ok form) = numbered_command form.verb form.files form.targets form.size form.numbers

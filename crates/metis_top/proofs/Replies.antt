@@ -1,7 +1,6 @@
 -- Runs that come to their answer.
-use Rattle.std.proofs.Common.{◌≡◌, ℕ, ◌+◌, ◌*◌, ◌<◌, ◌≤◌, ◌^◌, List, [], ◌∷◌, length, get_or, Ok, refl, sym, ap, ◌∙◌, subst, inl, inr, arith}
-use Rattle.std.specs.List.{All, count_by}
-use Rattle.std.specs.Prelude.{IsTrue}
+use Rattle.std.proofs.Common.{◌≡◌, ℕ, ◌+◌, ◌*◌, ◌≤◌, ◌^◌, List, [], ◌∷◌, length, get_or, Ok, refl, sym, ap, ◌∙◌, subst, inl, inr, arith}
+use Rattle.std.specs.List.{count_by}
 use Rattle.std.specs.declared.option.Option.{Option}
 use Rattle.metis_ids.specs.declared.actions.Action.{Action}
 use Rattle.metis_ids.specs.Plans.{Plan}
@@ -9,24 +8,18 @@ use Rattle.metis_ids.specs.Cycle.{HasCycle}
 use Rattle.metis_ids.specs.declared.events.Event.{Event}
 use Rattle.metis_ids.specs.declared.events.Event.TheVariants.{At, End}
 use Rattle.metis_layers.specs.LayerOrder.{instances_of}
-use Rattle.metis_lines.specs.AbstractPlan.{stations}
-use Rattle.metis_lines.specs.Justified.{graph_for, is_justified}
-use Rattle.metis_emit.specs.Realized.{entered}
+use Rattle.metis_lines.specs.Justified.{graph_for}
 use Rattle.metis_text.proofs.WrittenRun.{run_formed}
 use Rattle.std.proofs.lemmas.List.Sums.{length-filter}
 use Rattle.metis_choice.specs.Resolutions.{ArePairsFor}
 use Rattle.metis_ids.specs.declared.goals.Goal.{Goal}
 use Rattle.metis_universe.proofs.Served.{goals_refused}
 use Rattle.metis_universe.specs.Goals.{AttainsGoals, GoalRefusal}
-use Rattle.metis_universe.specs.Config.{empty}
-use Rattle.metis_universe.specs.Goal.{Attains, Holds, IsAttainedSet}
-use Rattle.metis_universe.specs.Steadfast.{is_steadfast}
-use Rattle.metis_universe.specs.Step.{IsRun, after_all}
-use Rattle.metis_universe.specs.Tidy.{IsTidy}
-use Rattle.metis_universe.specs.Numbers.{IsOf, NamesBelow}
-use Rattle.metis_universe.specs.Universe.{IsTable, Universe, greatest_demand, pair_count}
-use Rattle.metis_planner.specs.Outcomes.{EventBelow, IsLean}
-use Rattle.metis_planner.specs.Rounds.{IsByRounds, graph_after, numbered}
+use Rattle.metis_universe.specs.Goal.{Attains, IsAttainedSet}
+use Rattle.metis_universe.specs.Universe.{IsTable, Universe, greatest_demand}
+use Rattle.metis_planner.specs.Outcomes.{EventBelow}
+use Rattle.metis_planner.specs.PlanFor.{IsPlanFor}
+use Rattle.metis_planner.specs.Rounds.{numbered}
 use Rattle.metis_replay.specs.Exact.{Tells}
 use Rattle.metis_replay.specs.declared.verdict.Verdict.{Verdict}
 use Rattle.metis_replay.specs.declared.verdict.Verdict.TheVariants.{Good, Bad, Missing}
@@ -68,23 +61,7 @@ counts_as_made actions = length-filter makes actions
 -- what is known of a plan that rounds come to
 pub record IsPlanned (u : Universe) (g : List ℕ) (p : Plan) : Type 0 where
   pub table : IsTable u
-  pub runs : IsRun u empty p.actions
-  pub holds : Holds (after_all u empty p.actions) g
-  pub steadfast : IsTrue (is_steadfast u p.actions)
-  pub numbers : All (IsOf u) p.actions
-  pub named : All (NamesBelow (2 ^ 32)) p.actions
-  pub tidy : IsTidy u g (after_all u empty p.actions)
-  pub counts : p.instances ≡ instances_of p.actions
-  pub lean : IsLean u p.instances g
-  pub bounded : p.instances ≤ 32256
-  pub short : length p.actions ≤ 321 * p.instances
-  pub lines : (l : ℕ) → entered u l p.actions ≡ stations (graph_after u g p.dups) l
-  pub justified : IsTrue (is_justified u g p.dups)
-  pub few_dups : length p.dups ≤ p.instances
-  pub doubled : All (λ d. d.pair < pair_count u) p.dups
-  pub cycles : All (λ d. 2 ≤ length d.cycle) p.dups
-  pub events : All (λ d. All (EventBelow (2 ^ 32)) d.cycle) p.dups
-  pub rounds : IsByRounds u g p
+  pub known : IsPlanFor u g p
   pub without_cycle : (HasCycle (numbered (graph_for u g [])) → ⊥) → p.dups ≡ []
 
 event_in_range : (e : Event) → EventBelow (2 ^ 32) e → IsEventInRange e
@@ -93,16 +70,17 @@ event_in_range End h = tt
 
 -- the lines of a plan answer
 pub answer_by_plan : (u : Universe) (g : List ℕ) (p : Plan) → IsPlanned u g p → PutsPlan u g (plan_text u p) Done
-answer_by_plan u g p k =
-    let counted : p.instances ≡ count_by makes p.actions = k.counts ∙ counts_as_made p.actions in
+answer_by_plan u g p planned =
+    let k = planned.known in
+    let counted : p.instances ≡ count_by makes p.actions = k.instances ∙ counts_as_made p.actions in
     let lean = k.lean.few in
     let few = k.short in
     let bounded = k.bounded in
-    let few_dups = k.few_dups in
-    let is : IsPlan u g p.actions = record { runs = k.runs; holds = k.holds; steadfast = k.steadfast; attained = k.lean.attained; all = k.lean.all; few = subst (λ n. n ≤ length k.lean.attained * greatest_demand u + length g) counted lean } in
-    let formed : IsWellFormed u p (others p.actions) = run_formed u p k.table k.runs k.numbers k.doubled k.cycles (record { actions = k.named; events = λ i d low j e short. event_in_range (get_or (get_or p.dups i d).cycle j e) (k.events i d low j e short) }) counted (omega arith) (omega arith) in
-    let needed : IsDoubledByNeed u g p = record { counted = sym counted ∙ k.rounds.instances; lines = k.lines; justified = k.justified; without_cycle = k.without_cycle } in
-    (refl, record { attains = (p.actions, k.runs, k.holds); plan = p; is = is; rounds = k.rounds; needed = needed; tidy = k.tidy; counted = counted; formed = formed; told = refl })
+    let few_dups = k.dups in
+    let is : IsPlan u g p.actions = record { runs = k.run; holds = k.holds; steadfast = k.steadfast; attained = k.lean.attained; all = k.lean.all; few = subst (λ n. n ≤ length k.lean.attained * greatest_demand u + length g) counted lean } in
+    let formed : IsWellFormed u p (others p.actions) = run_formed u p planned.table k.run k.numbers k.doubled k.cycles (record { actions = k.named; events = λ i d low j e short. event_in_range (get_or (get_or p.dups i d).cycle j e) (k.events i d low j e short) }) counted (omega arith) (omega arith) in
+    let needed : IsDoubledByNeed u g p = record { counted = sym counted ∙ k.rounds.instances; lines = k.lines; justified = k.justified; without_cycle = planned.without_cycle } in
+    (refl, record { attains = (p.actions, k.run, k.holds); plan = p; is = is; rounds = k.rounds; needed = needed; tidy = k.tidy; counted = counted; formed = formed; told = refl })
 
 -- what answers the pairs for goals answers the goals
 pub answer_for_goals : (u : Universe) (goals : List Goal) (pairs : List ℕ) → ArePairsFor u goals pairs → (Attains u pairs → AttainsGoals u goals)

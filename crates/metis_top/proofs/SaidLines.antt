@@ -27,6 +27,12 @@ use Rattle.metis_ids.specs.declared.goals.Goal.TheVariants.{Pair}
 use Rattle.metis_text.proofs.LineFeeds.{no_feed-goal_word, no_feed-pair_word, no_feed-port_name_of, plan_lines_are_lines, refusal_lines_are_lines}
 use Rattle.metis_text.proofs.NamedFaults.{plan_in_named, refusal_in_named}
 use Rattle.metis_universe.specs.GoalWords.{goal_named, goal_word}
+use Rattle.metis_why.specs.Confirm.{verdict}
+use Rattle.metis_why.specs.declared.confirming.Confirmation.{Confirmation}
+use Rattle.metis_why.specs.declared.confirming.Confirmation.TheVariants as confirmation
+use Rattle.metis_why.specs.declared.reason.Line.{Line}
+use Rattle.metis_why_text.proofs.WhyLines.{why_lines_are_lines}
+use Rattle.metis_why_text.proofs.NamedFaults.{why_in_named}
 use Rattle.metis_universe.specs.PairWords.{pair_word}
 use Rattle.metis_text.specs.Line.{added, numbered}
 use Rattle.metis_text.specs.Reading.{Parts, plan_in}
@@ -47,12 +53,14 @@ use Rattle.metis_crew.specs.declared.turn.Turn.{Turn}
 use Rattle.metis_crew.specs.declared.turn.Turn.TheVariants as turn
 use Rattle.metis_gen.specs.Generated.{generated, generated_targets}
 use Rattle.metis_top.specs.Answer as answer
+use Rattle.metis_why_text.specs.WhyReading.{WhyParts, why_in}
 use Rattle.metis_top.specs.Answer.{Answer, IsAnswer}
-use Rattle.metis_top.specs.Commands.{universe_then, waves_then, control_over, control_then, audit_then, plan_said, command_script, crew_over, crew_then, judged, or_plan_refused, or_refusal_refused, or_turns_refused, or_universe_refused, or_word, goals_after, goals_named, plan_limit, refusal_limit, refute_then, replay_then, rollout_then, script_from, session_limit, sim_then, targets_then, turns_limit, hosts_limit, or_hosts_refused, place_over, place_then}
+use Rattle.metis_top.specs.Commands.{universe_then, waves_then, control_over, control_then, audit_then, plan_said, command_script, crew_over, crew_then, judged, or_plan_refused, or_refusal_refused, or_turns_refused, or_universe_refused, or_word, goals_after, goals_named, plan_limit, refusal_limit, refute_then, replay_then, rollout_then, script_from, session_limit, sim_then, targets_then, turns_limit, hosts_limit, or_hosts_refused, place_over, place_then, confirm_then, or_why_refused, why_limit}
 use Rattle.metis_top.specs.Course.{Ran, Says, Shown, after}
 use Rattle.metis_top.specs.Crewed.{last_line, loose_line, progress_line, turn_line}
 use Rattle.metis_top.specs.Judged.{judgement_line, word_line}
-use Rattle.metis_top.specs.Lines.{hosts_fault_line, limit_line, plan_fault_line, read_fault_line, refusal_fault_line, refusal_line, universe_line}
+use Rattle.metis_top.specs.Confirmed.{confirmation_line}
+use Rattle.metis_top.specs.Lines.{hosts_fault_line, limit_line, plan_fault_line, read_fault_line, refusal_fault_line, refusal_line, universe_line, why_fault_line}
 use Rattle.metis_top.specs.Loaded.{counts_line as load_counts_line, load_line}
 use Rattle.metis_place.proofs.HostsNamed.{hosts_in_named}
 use Rattle.metis_place.proofs.HostsRead.{hosts_are_text}
@@ -81,7 +89,7 @@ use Rattle.metis_ids.specs.Plans as plans
 use Rattle.metis_top.specs.Audited.{audit_line}
 use Rattle.metis_top.specs.RolledOut.{RolloutAnswer, rollout_plan}
 use Rattle.metis_top.specs.Waved.{chain_line, end_lines, finish_line, start_line, start_lines}
-use Rattle.metis_top.specs.declared.words.Verb.TheVariants.{Plan, Replay, Refute, Audit, Sim, Crew, Waves, Control, Rollout, Place, Print, Load}
+use Rattle.metis_top.specs.declared.words.Verb.TheVariants.{Plan, Replay, Refute, Audit, Sim, Crew, Waves, Control, Rollout, Place, Print, Load, Why, Confirm}
 use Rattle.std.specs.declared.option.Option.{Option as Known}
 use Rattle.metis_text.specs.Flaws.{and_then}
 
@@ -140,6 +148,13 @@ IsLine-refusal_fault_line tfault.Short named = IsLine-from (codes "bad refusal s
 IsLine-refusal_fault_line (tfault.Name n) named = by_number (codes "bad refusal name ") n refl
 IsLine-refusal_fault_line (tfault.Number n) named = by_number (codes "bad refusal number ") n refl
 IsLine-refusal_fault_line tfault.NoMemory named = absurd (named refl)
+
+IsLine-why_fault_line : (fault : TFault) → fault ≢ tfault.NoMemory → IsLine (why_fault_line fault)
+IsLine-why_fault_line (tfault.Line n) named = by_number (codes "bad why line ") n refl
+IsLine-why_fault_line tfault.Short named = IsLine-from (codes "bad why short") refl
+IsLine-why_fault_line (tfault.Name n) named = by_number (codes "bad why name ") n refl
+IsLine-why_fault_line (tfault.Number n) named = by_number (codes "bad why number ") n refl
+IsLine-why_fault_line tfault.NoMemory named = absurd (named refl)
 
 IsLine-hosts_fault_line : (fault : HFault) → fault ≢ hfault.NoMemory → IsLine (hosts_fault_line fault)
 IsLine-hosts_fault_line (hfault.Line n) named = by_number (codes "bad hosts line ") n refl
@@ -246,6 +261,11 @@ module _ (u : Universe) (named : IsNamed u) where
       word_then (codes "open ") (pair_word u p) (codes " " ++ (pair_word u q ++ codes "\n")) refl (no_feed-pair_word u named p) (by_word (codes " ") (pair_word u q) refl (no_feed-pair_word u named q))
   IsLine-judgement_line LacksNone = IsLine-from (codes "lacksnone") refl
 
+  IsLine-confirmation_line : (v : Confirmation) → IsLine (confirmation_line u v)
+  IsLine-confirmation_line (confirmation.Confirmed g) = IsLine-word_line (codes "confirmed lacks") g refl
+  IsLine-confirmation_line (confirmation.Unfounded k) = by_number (codes "unfounded line ") (k + 4) refl
+  IsLine-confirmation_line confirmation.LacksNone = IsLine-from (codes "lacksnone") refl
+
   IsLine-audit_line : (plan : plans.Plan) (a : AuditAnswer) → IsLine (audit_line u plan a)
   IsLine-audit_line plan audit.Justified = by_two (codes "justified instances ") plan.instances (codes " dups ") (length plan.dups) refl refl
   IsLine-audit_line plan (audit.NotAttained p) = IsLine-word_line (codes "notattained") (Pair p) refl
@@ -302,6 +322,13 @@ module _ (u : Universe) (table : IsTable u) where
 
   refute_answers : (g : List Goal) (set : List ℕ) → AnswersLines (answer.Refute u g set)
   refute_answers g set lines status is = just_one _ lines (IsLine-judgement_line u table.named is.verdict) is.told
+
+  why_answers : (g : List Goal) → AnswersLines (answer.Why u g)
+  why_answers g lines status (inl (is, attained, told)) = just_one _ lines (IsLine-from (codes "attained") refl) told
+  why_answers g lines status (inr (is, explains)) = subst (All IsLine) (sym explains.told) (why_lines_are_lines u explains.lacking explains.why table)
+
+  confirm_answers : (g : List Goal) (why : List Line) → AnswersLines (answer.Confirm u g why)
+  confirm_answers g why lines status is = just_one _ lines (IsLine-confirmation_line u table.named (verdict u why g)) is.told
 
   audit_answers : (g : List Goal) (parts : Parts) → AnswersLines (answer.Audit u g (plan_said parts) parts.rows.after)
   audit_answers g parts lines status (inl is) = just_one _ lines (IsLine-audit_line u table.named (plan_said parts) is.for_pairs.answer) is.for_pairs.told
@@ -434,6 +461,10 @@ refusal_refuses : (r : Result RefusalParts TFault) → (r ≡ Err tfault.NoMemor
 refusal_refuses (Ok parts) named = tt
 refusal_refuses (Err fault) named = IsLine-refusal_fault_line fault (λ e. named (ap Err e))
 
+why_refuses : (r : Result WhyParts TFault) → (r ≡ Err tfault.NoMemory → ⊥) → RefusesByLine (or_why_refused r)
+why_refuses (Ok parts) named = tt
+why_refuses (Err fault) named = IsLine-why_fault_line fault (λ e. named (ap Err e))
+
 turns_refuse : (r : Result (List ℕ) ℕ) → RefusesByLine (or_turns_refused r)
 turns_refuse (Ok zs) = tt
 turns_refuse (Err place) = IsLine-turns place
@@ -467,6 +498,12 @@ lines_refute u table g text = λ bytes.
     let next : RefusalParts → Script = λ parts. Reply (answer.Refute u g parts.pairs) in
     lines_if (nat_le (length bytes) refusal_limit) (judged next (or_refusal_refused (refusal_in u bytes))) 3
     (lines_judged next (or_refusal_refused (refusal_in u bytes)) (λ parts. refute_answers u table g parts.pairs) (refusal_refuses (refusal_in u bytes) (refusal_in_named u bytes)))
+
+lines_confirm : (u : Universe) → IsTable u → (g : List Goal) (text : List ℕ) → SaysLines (confirm_then text (u, g))
+lines_confirm u table g text = λ bytes.
+    let next : WhyParts → Script = λ parts. Reply (answer.Confirm u g parts.lines) in
+    lines_if (nat_le (length bytes) why_limit) (judged next (or_why_refused (why_in u bytes))) 3
+    (lines_judged next (or_why_refused (why_in u bytes)) (λ parts. confirm_answers u table g parts.lines) (why_refuses (why_in u bytes) (why_in_named u bytes)))
 
 lines_sim : (u : Universe) → IsTable u → (input : List ℕ) → SaysLines (sim_then input u)
 lines_sim u table input = λ bytes. lines_if (nat_le (length bytes) session_limit) (Reply (answer.Sim u bytes)) 3 (sim_answers u table bytes)
@@ -527,6 +564,8 @@ lines_command Rollout files targets size numbers = lines_universe 2 (word_at fil
 lines_command Place files targets size numbers = lines_universe 2 (word_at files 0) _ (λ u table. lines_place u table (word_at files 1) (word_at files 2))
 lines_command Print files targets size numbers = lines_universe 2 (word_at files 0) _ (λ u table. print_answers u)
 lines_command Load files targets size numbers = load_answers size
+lines_command Why files targets size numbers = lines_universe 2 (word_at files 0) _ (λ u table. lines_targets 3 u targets (λ g. Reply (answer.Why u g)) (why_answers u table))
+lines_command Confirm files targets size numbers = lines_universe 2 (word_at files 0) _ (λ u table. lines_targets 4 u targets (λ g. confirm_then (word_at files 1) (u, g)) (λ g. lines_confirm u table g (word_at files 1)))
 
 lines_script : (form : Result Form ℕ) → SaysLines (script_from form)
 lines_script (Ok form) = lines_command form.verb form.files form.targets form.size form.numbers

@@ -6,9 +6,12 @@ use Rattle.metis_ids.specs.Plans as plans
 use Rattle.metis_ujson.specs.Canonical.{canonical}
 use Rattle.metis_place.specs.Placement.{HostLists}
 use Rattle.metis_universe.specs.Universe.{Universe}
+use Rattle.metis_why.specs.declared.reason.Line.{Line}
 use Rattle.metis_top.specs.Audited.{Audited}
 use Rattle.metis_top.specs.Controlled.{Controlled}
+use Rattle.metis_top.specs.Confirmed.{Confirms}
 use Rattle.metis_top.specs.Crewed.{Crewed}
+use Rattle.metis_top.specs.Explained.{WhyAnswer}
 use Rattle.metis_top.specs.Judged.{Judged}
 use Rattle.metis_top.specs.Loaded.{Loaded}
 use Rattle.metis_top.specs.Placed.{Placed}
@@ -28,7 +31,8 @@ use Rattle.metis_top.specs.declared.status.Status.TheVariants.{Done}
 -- or what a controller and its agents over these actions answer to the lines of this script, where they are a steadfast run; or
 -- the rollout from these actions to these targets, where they are a steadfast run, or a refusal of the targets; or on which of these
 -- hosts each instance that these actions make is, where they are a steadfast run; or the universe's own document; or the counts of
--- the plan for a generated universe.
+-- the plan for a generated universe; or why the first of these targets is never attained that is not, if there is one; or what these
+-- lines come to as an explanation for these targets.
 pub data Answer : Type 0 where
   Plan : (u : Universe) (goals : List Goal) → Answer
   Replay : (u : Universe) (goals : List Goal) (actions : List Action) → Answer
@@ -42,6 +46,8 @@ pub data Answer : Type 0 where
   Place : (u : Universe) (actions : List Action) (h : HostLists) → Answer
   Print : (u : Universe) → Answer
   Load : (size : ℕ) → Answer
+  Why : (u : Universe) (goals : List Goal) → Answer
+  Confirm : (u : Universe) (goals : List Goal) (why : List Line) → Answer
 
 -- these are the lines of such an answer, and its status
 abbrev pub IsAnswer : Answer → List (List ℕ) → Status → Type 0
@@ -57,3 +63,5 @@ IsAnswer (Rollout u goals actions) lines status = RolledOut u goals actions line
 IsAnswer (Place u actions h) lines status = Placed u actions h lines status
 IsAnswer (Print u) lines status = (lines ≡ canonical u ∷ []) × (status ≡ Done)
 IsAnswer (Load size) lines status = Loaded size lines status
+IsAnswer (Why u goals) lines status = WhyAnswer u goals lines status
+IsAnswer (Confirm u goals why) lines status = Confirms u goals why lines status

@@ -7,7 +7,7 @@ use Rattle.metis_top.specs.declared.refusal.Refusal.{Refusal}
 use Rattle.metis_top.specs.declared.refusal.Refusal.TheVariants.{Word, TooLong}
 use Rattle.metis_top.specs.declared.refusal.Refusal.TheVariants as refusal
 use Rattle.metis_top.specs.declared.words.Verb.{Verb}
-use Rattle.metis_top.specs.declared.words.Verb.TheVariants.{Plan, Replay, Refute, Audit, Sim, Crew, Waves, Control, Rollout, Place, Print, Load}
+use Rattle.metis_top.specs.declared.words.Verb.TheVariants.{Plan, Replay, Refute, Audit, Sim, Crew, Waves, Control, Rollout, Place, Print, Load, Why, Confirm}
 use Rattle.metis_top.specs.Answer as answer
 use Rattle.metis_ids.specs.declared.actions.Action.{Action}
 use Rattle.metis_ids.specs.Plans as plans
@@ -19,6 +19,7 @@ use Rattle.metis_text.specs.DupLine.{DupRow}
 use Rattle.metis_text.specs.Reading.{Parts, plan_in}
 use Rattle.metis_text.specs.RefusalReading.{RefusalParts, refusal_in}
 use Rattle.metis_text.specs.declared.fault.TFault.{TFault}
+use Rattle.metis_why_text.specs.WhyReading.{WhyParts, why_in}
 use Rattle.metis_ujson.specs.Document.{document_limit, universe_in}
 use Rattle.metis_ujson.specs.declared.faults.UFault.{UFault}
 use Rattle.metis_top.specs.Script.{Script, Read, Refuse, Reply}
@@ -99,6 +100,22 @@ refusal_in_then u bytes next = judged next (or_refusal_refused (refusal_in u byt
 -- the same of the file of the word at this place
 abbrev pub refusal_then : ℕ → Universe → List ℕ → (RefusalParts → Script) → Script
 refusal_then place u name next = bytes_then place name refusal_limit (λ bytes. refusal_in_then u bytes next)
+
+-- the most bytes of an explanation's text
+abbrev pub why_limit : ℕ
+why_limit = 1073741824
+
+abbrev pub or_why_refused : Result WhyParts TFault → Result WhyParts Refusal
+or_why_refused (Ok parts) = Ok parts
+or_why_refused (Err fault) = Err (refusal.WhyText fault)
+
+-- goes on with what the bytes say as the text of an explanation
+abbrev pub why_in_then : Universe → List ℕ → (WhyParts → Script) → Script
+why_in_then u bytes next = judged next (or_why_refused (why_in u bytes))
+
+-- the same of the file of the word at this place
+abbrev pub why_then : ℕ → Universe → List ℕ → (WhyParts → Script) → Script
+why_then place u name next = bytes_then place name why_limit (λ bytes. why_in_then u bytes next)
 
 -- the most bytes of the script of a session, and of one for a controller
 abbrev pub session_limit : ℕ
@@ -232,6 +249,16 @@ print_script file = universe_then 2 file (λ u. Reply (answer.Print u))
 abbrev pub load_script : ℕ → Script
 load_script size = Reply (answer.Load size)
 
+abbrev pub why_script : List ℕ → List TargetName → Script
+why_script file targets = goals_then 3 file targets (λ asked. Reply (answer.Why asked.0 asked.1))
+
+-- what the check of an explanation does once it has its universe and its targets; the goal that the text names is not used
+abbrev pub confirm_then : List ℕ → Universe × List Goal → Script
+confirm_then text asked = why_then 3 asked.0 text (λ parts. Reply (answer.Confirm asked.0 asked.1 parts.lines))
+
+abbrev pub confirm_script : List ℕ → List ℕ → List TargetName → Script
+confirm_script file text targets = goals_then 4 file targets (confirm_then text)
+
 -- the script of each command
 abbrev pub command_script : Verb → List (List ℕ) → List TargetName → ℕ → List ℕ → Script
 command_script Plan files targets size numbers = plan_script (word_at files 0) targets
@@ -246,6 +273,8 @@ command_script Rollout files targets size numbers = rollout_script (word_at file
 command_script Place files targets size numbers = place_script (word_at files 0) (word_at files 1) (word_at files 2)
 command_script Print files targets size numbers = print_script (word_at files 0)
 command_script Load files targets size numbers = load_script size
+command_script Why files targets size numbers = why_script (word_at files 0) targets
+command_script Confirm files targets size numbers = confirm_script (word_at files 0) (word_at files 1) targets
 
 -- the script of a run from its words
 abbrev pub script_from : Result Form ℕ → Script

@@ -1,7 +1,7 @@
 -- How many words of each kind a command has.
 use Rattle.std.specs.Prelude.{ℕ}
 use Rattle.metis_top.specs.declared.words.Verb.{Verb}
-use Rattle.metis_top.specs.declared.words.Verb.TheVariants.{Plan, Replay, Refute, Audit, Sim, Crew, Waves, Control, Rollout, Place, Print, Load}
+use Rattle.metis_top.specs.declared.words.Verb.TheVariants.{Plan, Replay, Refute, Audit, Sim, Crew, Waves, Control, Rollout, Place, Print, Load, Why, Confirm}
 
 -- exactly so many file words
 abbrev pub file_count : Verb → ℕ
@@ -17,6 +17,8 @@ file_count Rollout = 2
 file_count Place = 3
 file_count Print = 1
 file_count Load = 0
+file_count Why = 1
+file_count Confirm = 2
 
 -- at most so many target words
 abbrev pub target_limit : Verb → ℕ
@@ -32,6 +34,8 @@ target_limit Rollout = 256
 target_limit Place = 0
 target_limit Print = 0
 target_limit Load = 0
+target_limit Why = 256
+target_limit Confirm = 256
 
 -- a size from this number on, where it has one; and else 0
 abbrev pub least_size : Verb → ℕ

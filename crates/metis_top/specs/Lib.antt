@@ -2,10 +2,12 @@ pub mod Aims
 pub mod Answer
 pub mod Audited
 pub mod Commands
+pub mod Confirmed
 pub mod Controlled
 pub mod Course
 pub mod Crewed
 pub mod Deployment
+pub mod Explained
 pub mod Forms
 pub mod Honest
 pub mod Judged

@@ -61,6 +61,14 @@ refusal_fault_line (tfault.Name n) = codes "bad refusal name " ++ (decimal n ++ 
 refusal_fault_line (tfault.Number n) = codes "bad refusal number " ++ (decimal n ++ codes "\n")
 refusal_fault_line tfault.NoMemory = []
 
+-- the first fault of an explanation's text; want of memory is none
+abbrev pub why_fault_line : TFault → List ℕ
+why_fault_line (tfault.Line n) = codes "bad why line " ++ (decimal n ++ codes "\n")
+why_fault_line tfault.Short = codes "bad why short\n"
+why_fault_line (tfault.Name n) = codes "bad why name " ++ (decimal n ++ codes "\n")
+why_fault_line (tfault.Number n) = codes "bad why number " ++ (decimal n ++ codes "\n")
+why_fault_line tfault.NoMemory = []
+
 -- the first fault of a text of hosts; want of memory is none
 abbrev pub hosts_fault_line : HFault → List ℕ
 hosts_fault_line (hfault.Line n) = codes "bad hosts line " ++ (decimal n ++ codes "\n")
@@ -76,6 +84,7 @@ refusal_line (TooLong place) = codes "too long " ++ (decimal place ++ codes "\n"
 refusal_line (refusal.Universe fault) = universe_line fault
 refusal_line (refusal.PlanText fault) = plan_fault_line fault
 refusal_line (refusal.RefusalText fault) = refusal_fault_line fault
+refusal_line (refusal.WhyText fault) = why_fault_line fault
 refusal_line (refusal.HostsText fault) = hosts_fault_line fault
 refusal_line (refusal.Turns place) = codes "bad turns " ++ (decimal place ++ codes "\n")
 
@@ -85,6 +94,7 @@ refusal_status (TooLong place) = BadInput
 refusal_status (refusal.Universe fault) = BadInput
 refusal_status (refusal.PlanText fault) = BadInput
 refusal_status (refusal.RefusalText fault) = BadInput
+refusal_status (refusal.WhyText fault) = BadInput
 refusal_status (refusal.HostsText fault) = BadInput
 refusal_status (refusal.Turns place) = BadInput
 

@@ -20,7 +20,7 @@ use Rattle.metis_top.specs.Forms.{file_count, number_count, target_limit}
 use Rattle.metis_top.specs.TargetName.{TargetName}
 use Rattle.metis_top.specs.declared.words.Command.{Command}
 use Rattle.metis_top.specs.declared.words.Verb.{Verb}
-use Rattle.metis_top.specs.declared.words.Verb.TheVariants.{Plan, Replay, Refute, Audit, Sim, Crew, Waves, Control, Rollout, Place, Print, Load}
+use Rattle.metis_top.specs.declared.words.Verb.TheVariants.{Plan, Replay, Refute, Audit, Sim, Crew, Waves, Control, Rollout, Place, Print, Load, Why, Confirm}
 use Rattle.metis_top.specs.declared.words.WordFault.{WordFault}
 use Rattle.metis_top.specs.declared.words.WordFault.TheVariants.{At, NoMemory}
 use Rattle.metis_top.specs.declared.refusal.Refusal.TheVariants.{Word}
@@ -153,6 +153,8 @@ verb_named word =
     else if bytes_eq word (codes "place") then Some Place
     else if bytes_eq word (codes "print") then Some Print
     else if bytes_eq word (codes "load") then Some Load
+    else if bytes_eq word (codes "why") then Some Why
+    else if bytes_eq word (codes "confirm") then Some Confirm
     else None
 
 abbrev pub with_verb : Option Verb → List (List ℕ) → Result Form ℕ

@@ -8,6 +8,7 @@ ghost use Rattle.metis_top.specs.Aims.{IsAim};
 use metis_choice::{Resolved, pairs_for_goals_are_unique, resolve};
 use metis_ids::{Goal, NoMemory, PairIx};
 use metis_layers::layers;
+use metis_layers::table::Layers;
 use metis_text::Refusal;
 use metis_universe::Universe;
 use std::alloc::Global;
@@ -15,8 +16,8 @@ use std::alloc::Global;
 /// What goals come to.
 #[derive(Drop)]
 pub enum Aim {
-    /// The pairs for the goals, which some list of actions attains.
-    Pairs(Vec<PairIx>),
+    /// The pairs for the goals, which some list of actions attains, and the layers that were counted for it.
+    Pairs(Vec<PairIx>, Layers),
     /// All attainable pairs, and the first goal that they lack.
     Lacks(Refusal),
 }
@@ -31,7 +32,7 @@ pub fn aim_of(alloc: Global, u: &Universe, goals: &[Goal]) -> Result<Aim, NoMemo
     pairs_for_goals_are_unique();
     let layers = layers(alloc, u)?;
     match resolve(alloc, u, &layers, goals)? {
-        Resolved::Pairs(pairs) => Ok(Aim::Pairs(pairs)),
+        Resolved::Pairs(pairs) => Ok(Aim::Pairs(pairs, layers)),
         Resolved::Lacks(lacks) => {
             let pairs = layers.into_attained();
             Ok(Aim::Lacks(Refusal { lacks, pairs }))

@@ -80,7 +80,7 @@ fn put_audit<K: Sink>(
 {
     pairs_for_goals_hold_them();
     match aim_of(alloc, u, goals) {
-        Ok(Aim::Pairs(pairs)) => put_audit_for(alloc, u, text, &pairs, out),
+        Ok(Aim::Pairs(pairs, _)) => put_audit_for(alloc, u, text, &pairs, out),
         Ok(Aim::Lacks(refusal)) => said(write_lacking(alloc, u, refusal.lacks, out), Status::No),
         Err(_) => Status::NoMemory,
     }

@@ -51,6 +51,10 @@ fn verb_named(word: &str) -> Option<Verb>
         Some(Verb::Print)
     } else if word == "load" {
         Some(Verb::Load)
+    } else if word == "why" {
+        Some(Verb::Why)
+    } else if word == "confirm" {
+        Some(Verb::Confirm)
     } else {
         None
     }

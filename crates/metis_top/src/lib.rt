@@ -4,6 +4,7 @@
 mod aim;
 mod audit;
 mod audit_line;
+mod confirming;
 mod control;
 mod crew;
 mod grammar;
@@ -28,6 +29,7 @@ mod top;
 mod turns;
 mod verdict_line;
 mod waves;
+mod why;
 mod words;
 
 pub use grammar::read_words;

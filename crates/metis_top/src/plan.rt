@@ -7,6 +7,7 @@ ghost use Rattle.metis_universe.specs.Goals.{IsGoalOf};
 ghost use Rattle.metis_universe.specs.Numbers.{IsOf};
 ghost use Rattle.metis_universe.specs.Steadfast.{is_steadfast};
 ghost use Rattle.metis_universe.specs.Universe.{pair_count};
+ghost use Rattle.metis_layers.specs.Layers.{IsLayers};
 ghost use Rattle.metis_waits.specs.Waits.{AreWaits};
 ghost use Rattle.metis_top.specs.Answer as answer;
 ghost use Rattle.metis_top.specs.Commands.{plan_script};
@@ -23,7 +24,8 @@ use crate::words::TargetWord;
 use metis_choice::pairs_for_goals_hold_them;
 use metis_ids::{Action, Goal, NoMemory, PairIx, Plan};
 use metis_outside::{Shelf, Sink, Trouble};
-use metis_planner::{Outcome, nothing_is_doubled_without_a_cycle, plan};
+use metis_layers::table::Layers;
+use metis_planner::{nothing_is_doubled_without_a_cycle, plan_over};
 use metis_text::{write_plan, write_refusal};
 use metis_universe::Universe;
 use metis_waits::{WFault, Waits, waits};
@@ -54,24 +56,30 @@ fn put_plan<K: Sink>(alloc: Global, u: &Universe, goals: &[Goal], out: &mut K) -
 {
     pairs_for_goals_hold_them();
     match aim_of(alloc, u, goals) {
-        Ok(Aim::Pairs(pairs)) => put_plan_for(alloc, u, &pairs, out),
+        Ok(Aim::Pairs(pairs, layers)) => put_plan_for(alloc, u, &layers, &pairs, out),
         Ok(Aim::Lacks(refusal)) => said(write_refusal(alloc, u, &refusal, out), Status::No),
         Err(_) => Status::NoMemory,
     }
 }
 
 // Puts a plan for the pairs. There is one, since some list of actions attains them.
-fn put_plan_for<K: Sink>(alloc: Global, u: &Universe, pairs: &[PairIx], out: &mut K) -> Status
+fn put_plan_for<K: Sink>(
+    alloc: Global,
+    u: &Universe,
+    layers: &Layers,
+    pairs: &[PairIx],
+    out: &mut K,
+) -> Status
     requires few { length pairs.now ≤ 256 }
     requires within { All (λ p. p < pair_count u.now) pairs.now }
+    requires layers { IsLayers u.now layers.now }
     requires attained { Attains u.now pairs.now }
     ensures { Shown (PutsPlan u.now pairs.now) (K.written out.old) (K.written out.new) (K.faults out.old) (K.faults out.new) result }
 {
     u.keeps_invariant();
     nothing_is_doubled_without_a_cycle();
-    match plan(alloc, u, pairs) {
-        Ok(Outcome::Plan(plan)) => said(write_actions(alloc, u, &plan, out), Status::Done),
-        Ok(Outcome::Closed(..)) => unreachable!(),
+    match plan_over(alloc, u, layers, pairs) {
+        Ok(plan) => said(write_actions(alloc, u, &plan, out), Status::Done),
         Err(_) => Status::NoMemory,
     }
 }

@@ -8,7 +8,9 @@ ghost use Rattle.metis_universe.specs.Numbers.{IsOf};
 ghost use Rattle.metis_text.specs.PlanText.{IsWellFormed};
 ghost use Rattle.metis_text.specs.Reads.{lists_of, parts_of};
 ghost use Rattle.metis_text.specs.RefusalReading.{refusal_of};
-ghost use Rattle.metis_top.specs.Commands.{bytes_then, universe_in_then, universe_then, targets_then, goals_then, plan_in_then, plan_limit, plan_then, refusal_in_then, refusal_then, session_limit, turns_in_then, turns_then, hosts_in_then, hosts_then};
+ghost use Rattle.metis_why.specs.Confirm.{IsLineOf};
+ghost use Rattle.metis_why_text.specs.WhyReading as why_reading;
+ghost use Rattle.metis_top.specs.Commands.{bytes_then, universe_in_then, universe_then, targets_then, goals_then, plan_in_then, plan_limit, plan_then, refusal_in_then, refusal_then, session_limit, turns_in_then, turns_then, hosts_in_then, hosts_then, why_in_then, why_then};
 ghost use Rattle.metis_top.specs.Course.{Gathers, Judges, or_stop};
 
 use crate::refusal::{Refusal, Stop};
@@ -20,6 +22,8 @@ use metis_place::{HFault, Hosts, read_hosts};
 use metis_text::{PlanText, TFault, read_plan, read_refusal};
 use metis_ujson::{UFault, UNIVERSE_LIMIT, read_universe};
 use metis_universe::Universe;
+use metis_why::Explanation;
+use metis_why_text::{accepted_why_is_written, read_why};
 use std::alloc::Global;
 
 /// The most bytes of a plan's text.
@@ -27,6 +31,9 @@ const PLAN_LIMIT: u64 = 268_435_456;
 
 /// The most bytes of a refusal's text.
 const REFUSAL_LIMIT: u64 = 1_048_576;
+
+/// The most bytes of an explanation's text.
+const WHY_LIMIT: u64 = 1_073_741_824;
 
 /// The most bytes of the script of a session, and of one for a controller.
 const SESSION_LIMIT: u64 = 65_536;
@@ -192,6 +199,37 @@ pub fn refusal_from<H: Shelf>(
 {
     let bytes = bytes_from(alloc, shelf, place, name, REFUSAL_LIMIT)?;
     refusal_in(alloc, u, &bytes)
+}
+
+/// What the bytes say as the text of an explanation.
+fn why_in(alloc: Global, u: &Universe, bytes: &[u8]) -> Result<Explanation, Stop>
+    requires { length bytes.now < 2 ^ 32 - 1 }
+    ensures judges { Judges why_reading.parts_of (why_in_then u.now bytes.now) result }
+    ensures lines { IfOk result (λ why. All (IsLineOf u.now) why.lines.items) }
+    ensures few { IfOk result (λ why. length why.lines.items < 2 ^ 32) }
+{
+    accepted_why_is_written();
+    match read_why(alloc, u, bytes) {
+        Ok(why) => Ok(why),
+        Err(TFault::NoMemory) => Err(Stop::NoMemory),
+        Err(fault) => Err(Stop::Refused(Refusal::WhyText(fault))),
+    }
+}
+
+/// The explanation in the file of the word at this place.
+pub fn why_from<H: Shelf>(
+    alloc: Global,
+    shelf: &mut H,
+    place: u32,
+    u: &Universe,
+    name: &str,
+) -> Result<Explanation, Stop>
+    ensures gathers { Gathers H.files H.faults H.opens why_reading.parts_of (why_then place u.now name.now) shelf.old shelf.new result }
+    ensures lines { IfOk result (λ why. All (IsLineOf u.now) why.lines.items) }
+    ensures few { IfOk result (λ why. length why.lines.items < 2 ^ 32) }
+{
+    let bytes = bytes_from(alloc, shelf, place, name, WHY_LIMIT)?;
+    why_in(alloc, u, &bytes)
 }
 
 /// The script of a session, or for a controller, in the file of the word at this place.

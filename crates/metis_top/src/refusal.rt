@@ -19,6 +19,8 @@ pub enum Refusal {
     PlanText(TFault),
     /// The bytes are no text of a refusal.
     RefusalText(TFault),
+    /// The bytes are no text of an explanation.
+    WhyText(TFault),
     /// The bytes are no text of hosts.
     HostsText(HFault),
     /// The token at this place, from 1, of the text of turns is no number in range.

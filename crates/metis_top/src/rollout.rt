@@ -2,6 +2,7 @@
 ghost use Rattle.std.specs.Prelude.{◌≡◌, ◌+◌, ◌<◌, ◌≤◌, ◌-◌, ◌^◌, IfOk, length};
 ghost use Rattle.std.specs.List.{All, count_by};
 ghost use Rattle.metis_ids.specs.Action.{makes};
+ghost use Rattle.metis_layers.specs.Layers.{IsLayers};
 ghost use Rattle.metis_outside.specs.Faults.{CountsFault};
 ghost use Rattle.metis_outside.specs.Writes.{Writes};
 ghost use Rattle.metis_rollout.specs.Standing.{IsSteady};
@@ -27,9 +28,9 @@ use crate::verdict_line::write_bad;
 use crate::words::TargetWord;
 use metis_choice::pairs_for_goals_hold_them;
 use metis_ids::{Action, Goal, NoMemory, PairIx, Plan};
-use metis_layers::layers;
+use metis_layers::table::Layers;
 use metis_outside::{Shelf, Sink, Trouble};
-use metis_planner::{Outcome, plan};
+use metis_planner::plan_over;
 use metis_rollout::{rollout, rollout_replaces};
 use metis_text::write_refusal;
 use metis_universe::Universe;
@@ -137,7 +138,7 @@ fn put_goals<K: Sink>(
 {
     pairs_for_goals_hold_them();
     match aim_of(alloc, u, goals) {
-        Ok(Aim::Pairs(pairs)) => put_rollout_to(alloc, u, old, &pairs, out),
+        Ok(Aim::Pairs(pairs, layers)) => put_rollout_to(alloc, u, &layers, old, &pairs, out),
         Ok(Aim::Lacks(refusal)) => said(write_refusal(alloc, u, &refusal, out), Status::No),
         Err(_) => Status::NoMemory,
     }
@@ -147,12 +148,14 @@ fn put_goals<K: Sink>(
 fn put_rollout_to<K: Sink>(
     alloc: Global,
     u: &Universe,
+    layers: &Layers,
     old: &[Action],
     pairs: &[PairIx],
     out: &mut K,
 ) -> Status
     requires few { length pairs.now ≤ 256 }
     requires within { All (λ p. p < pair_count u.now) pairs.now }
+    requires layers { IsLayers u.now layers.now }
     requires attained { Attains u.now pairs.now }
     requires numbers { All (IsOf u.now) old.now }
     requires short { length old.now < plan_limit }
@@ -161,12 +164,11 @@ fn put_rollout_to<K: Sink>(
 {
     u.keeps_invariant();
     rollout_replaces();
-    match plan(alloc, u, pairs) {
-        Ok(Outcome::Plan(fresh)) => said(
-            write_rollout(alloc, u, old, &fresh.actions, out),
+    match plan_over(alloc, u, layers, pairs) {
+        Ok(fresh) => said(
+            write_rollout(alloc, u, layers, old, &fresh.actions, out),
             Status::Done,
         ),
-        Ok(Outcome::Closed(..)) => unreachable!(),
         Err(_) => Status::NoMemory,
     }
 }
@@ -176,10 +178,12 @@ fn put_rollout_to<K: Sink>(
 fn write_rollout<K: Sink>(
     alloc: Global,
     u: &Universe,
+    layers: &Layers,
     old: &[Action],
     fresh: &[Action],
     out: &mut K,
 ) -> Result<(), Trouble>
+    requires layers { IsLayers u.now layers.now }
     requires old { IsSteady u.now old.now }
     requires fresh { IsSteady u.now fresh.now }
     requires old_ours { All (IsOf u.now) old.now }
@@ -188,7 +192,7 @@ fn write_rollout<K: Sink>(
     ensures text { Writes (rollout_text u.now old.now fresh.now) (K.written out.old) (K.written out.new) result }
     ensures cause { CountsFault (K.faults out.old) (K.faults out.new) result }
 {
-    match rollout_between(alloc, u, old, fresh) {
+    match rollout_between(alloc, u, layers, old, fresh) {
         Ok(plan) => write_actions(alloc, u, &plan, out),
         Err(_) => Err(Trouble::NoMemory),
     }
@@ -198,9 +202,11 @@ fn write_rollout<K: Sink>(
 fn rollout_between(
     alloc: Global,
     u: &Universe,
+    layers: &Layers,
     old: &[Action],
     fresh: &[Action],
 ) -> Result<Plan, NoMemory>
+    requires layers { IsLayers u.now layers.now }
     requires old { IsSteady u.now old.now }
     requires fresh { IsSteady u.now fresh.now }
     requires old_ours { All (IsOf u.now) old.now }
@@ -211,8 +217,7 @@ fn rollout_between(
     ensures ours { IfOk result (λ plan. All (IsOf u.now) plan.actions) }
     ensures short { IfOk result (λ plan. length plan.actions < 2 ^ 32 - 1) }
 {
-    let layers = layers(alloc, u)?;
-    let actions = rollout(alloc, u, &layers, old, fresh)?;
+    let actions = rollout(alloc, u, layers, old, fresh)?;
     let instances = made_by(&actions);
     Ok(Plan {
         actions,

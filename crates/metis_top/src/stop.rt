@@ -1,7 +1,7 @@
 //! How a run ends before its work.
 ghost use Rattle.std.specs.Prelude.{◌≡◌, IfOk, string_bytes};
 ghost use Rattle.metis_top.specs.Course.{Shown, StopSays, IsJust};
-ghost use Rattle.metis_top.specs.Lines.{hosts_fault_line, plan_fault_line, refusal_fault_line, refusal_line, universe_line, state_line, limit_line, read_fault_line, said, refusal_status};
+ghost use Rattle.metis_top.specs.Lines.{hosts_fault_line, plan_fault_line, refusal_fault_line, refusal_line, why_fault_line, universe_line, state_line, limit_line, read_fault_line, said, refusal_status};
 
 use crate::Status;
 use crate::refusal::{Refusal, Stop};
@@ -21,6 +21,7 @@ fn refusal_line(alloc: Global, refusal: Refusal) -> Result<String, AllocError>
         Refusal::Universe(fault) => universe_line(alloc, fault),
         Refusal::PlanText(fault) => plan_fault_line(alloc, fault),
         Refusal::RefusalText(fault) => refusal_fault_line(alloc, fault),
+        Refusal::WhyText(fault) => why_fault_line(alloc, fault),
         Refusal::HostsText(fault) => hosts_fault_line(alloc, fault),
         Refusal::Turns(place) => format!(in alloc; "bad turns {place}\n"),
     }
@@ -99,6 +100,18 @@ fn refusal_fault_line(alloc: Global, fault: TFault) -> Result<String, AllocError
     }
 }
 
+fn why_fault_line(alloc: Global, fault: TFault) -> Result<String, AllocError>
+    ensures { IfOk result (λ line. string_bytes line ≡ why_fault_line fault) }
+{
+    match fault {
+        TFault::Line(n) => format!(in alloc; "bad why line {n}\n"),
+        TFault::Short => String::from_str(alloc, "bad why short\n"),
+        TFault::Name(n) => format!(in alloc; "bad why name {n}\n"),
+        TFault::Number(n) => format!(in alloc; "bad why number {n}\n"),
+        TFault::NoMemory => Ok(String::new(alloc)),
+    }
+}
+
 fn hosts_fault_line(alloc: Global, fault: HFault) -> Result<String, AllocError>
     ensures { IfOk result (λ line. string_bytes line ≡ hosts_fault_line fault) }
 {
@@ -141,7 +154,7 @@ pub fn said(put: Result<(), Trouble>, status: Status) -> Status
 }
 
 /// Puts a line by one put, and ends with its status.
-fn say<K: Sink>(line: &str, status: Status, out: &mut K) -> Status
+pub fn say<K: Sink>(line: &str, status: Status, out: &mut K) -> Status
     ensures { Shown (IsJust line.now status) (K.written out.old) (K.written out.new) (K.faults out.old) (K.faults out.new) result }
 {
     said(out.put(line.as_bytes()), status)

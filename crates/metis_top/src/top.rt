@@ -16,6 +16,7 @@ ghost use Rattle.metis_universe.specs.Texts.{texts};
 
 use crate::Status;
 use crate::audit::audit_file;
+use crate::confirming::confirm_file;
 use crate::control::control_file;
 use crate::crew::crew_file;
 use crate::grammar::read_words;
@@ -30,6 +31,7 @@ use crate::rollout::rollout_file;
 use crate::sim::sim_file;
 use crate::stop::end;
 use crate::waves::waves_file;
+use crate::why::why_file;
 use crate::words::{Command, Verb, WordFault};
 use metis_outside::{Shelf, Sink};
 use metis_waits::{complete_order_ends_alike, kept_order_is_a_run, own_order_is_kept};
@@ -156,5 +158,10 @@ fn perform<H: Shelf, K: Sink>(
         }
         Verb::Print => print_file(alloc, command.file(0), shelf, out),
         Verb::Load => load_size(alloc, command.size, out),
+        Verb::Why => why_file(alloc, command.file(0), command.targets(), shelf, out),
+        Verb::Confirm => {
+            let (file, text) = (command.file(0), command.file(1));
+            confirm_file(alloc, file, text, command.targets(), shelf, out)
+        }
     }
 }

@@ -33,6 +33,10 @@ pub enum Verb {
     Print,
     /// Plans for the generated universe of a size, and replays the plan.
     Load,
+    /// Explains why target words are never attained.
+    Why,
+    /// Checks an explanation for target words.
+    Confirm,
 }
 
 impl Verb {
@@ -42,9 +46,14 @@ impl Verb {
     {
         match self {
             Verb::Load => 0,
-            Verb::Plan | Verb::Print => 1,
-            Verb::Replay | Verb::Refute | Verb::Audit | Verb::Sim | Verb::Waves | Verb::Rollout =>
-                2,
+            Verb::Plan | Verb::Print | Verb::Why => 1,
+            Verb::Replay
+            | Verb::Refute
+            | Verb::Audit
+            | Verb::Sim
+            | Verb::Waves
+            | Verb::Rollout
+            | Verb::Confirm => 2,
             Verb::Crew | Verb::Control | Verb::Place => 3,
         }
     }
@@ -54,7 +63,13 @@ impl Verb {
         ensures { result ≡ target_limit self }
     {
         match self {
-            Verb::Plan | Verb::Replay | Verb::Refute | Verb::Audit | Verb::Rollout => 256,
+            Verb::Plan
+            | Verb::Replay
+            | Verb::Refute
+            | Verb::Audit
+            | Verb::Rollout
+            | Verb::Why
+            | Verb::Confirm => 256,
             Verb::Sim
             | Verb::Crew
             | Verb::Waves

@@ -22,6 +22,7 @@ returns-in-Pairs c =
       within = subst (λ (x : Resolved). IfPairs (Ok x) (All (λ p. p < pair_count u))) c.in-Pairs.is r.of_universe;
       attained = subst (λ (x : Resolved). IfPairs (Ok x) (Attains u)) c.in-Pairs.is r.pairs_attained;
       few = c.pairs_for_goals_are_unique.ensures.count u goals c.in-Pairs.pairs.items resolved;
+      layered = c.in_ok-layers.ensures.layers;
     }
 
 pub returns-in-Lacks : goal.returns-in-Lacks

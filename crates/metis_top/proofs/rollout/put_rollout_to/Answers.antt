@@ -4,12 +4,12 @@ use Rattle.metis_rollout.specs.Standing.{IsSteady}
 use Rattle.metis_top.proofs.Shown.{shown_by_writer}
 use Rattle.metis_top.proofs.rollout.put_rollout_to.Goals as goal
 
-pub returns-in-Ok-Plan : goal.returns-in-Ok-Plan
-returns-in-Ok-Plan g c =
+pub returns-in-Ok : goal.returns-in-Ok
+returns-in-Ok g c =
     let u = c.args.u.now in
     let old = c.args.old.now in
-    let fresh = c.in-Ok-Plan.fresh in
-    let found = rw c.in-Ok-Plan.field-0-is at c.in-Ok-Plan.ensures in
+    let fresh = c.in-Ok.fresh in
+    let found = c.in-Ok.ensures in
     let actions = ap (λ (p : Plan). p.actions) c.fresh.view_is in
     let steady : IsSteady u fresh.actions = record { runs = found.run; steadfast = found.steadfast } in
     let done = c.rollout_replaces.ensures u old fresh.actions c.keeps_invariant.ensures.universe c.requires.steady steady in

@@ -1,5 +1,5 @@
 use Rattle.std.proofs.Common.{[], refl, sym, ◌∙◌, subst}
-use Rattle.metis_top.specs.Commands.{audit_script, command_script, control_script, crew_script, place_script, plan_script, refute_script, replay_script, rollout_script, sim_script, waves_script}
+use Rattle.metis_top.specs.Commands.{audit_script, command_script, confirm_script, control_script, crew_script, place_script, plan_script, refute_script, replay_script, rollout_script, sim_script, waves_script, why_script}
 use Rattle.metis_top.specs.Course.{Ran}
 use Rattle.metis_universe.specs.Texts.{texts}
 use Rattle.metis_top.proofs.top.perform.Goals as goal
@@ -70,3 +70,15 @@ returns-in-Load g c =
     subst (λ v. Ran g.H.Shelf.files g.H.Shelf.faults g.H.Shelf.opens g.K.Sink.written g.K.Sink.faults (command_script v (texts command.files.items) command.targets.items command.size command.numbers.items)
     c.args.shelf.now c.args.shelf.now c.args.out.now c.load_size.new.out c.load_size.result) (sym c.in-Load.is)
     (record { taken = []; asked = tt; kept = refl; reads = (refl, refl); puts = c.load_size.ensures })
+
+pub returns-in-Why : goal.returns-in-Why
+returns-in-Why g c =
+    let command = c.args.command.now in
+    subst (λ s. Ran g.H.Shelf.files g.H.Shelf.faults g.H.Shelf.opens g.K.Sink.written g.K.Sink.faults s c.args.shelf.now c.why_file.new.shelf c.args.out.now c.why_file.new.out c.why_file.result)
+    ((λ i. why_script (c.file-in-Why.ensures i) (c.targets-in-Why.ensures.words i)) ∙ (λ i. command_script (sym c.in-Why.is i) (texts command.files.items) command.targets.items command.size command.numbers.items)) c.why_file.ensures
+
+pub returns-in-Confirm : goal.returns-in-Confirm
+returns-in-Confirm g c =
+    let command = c.args.command.now in
+    subst (λ s. Ran g.H.Shelf.files g.H.Shelf.faults g.H.Shelf.opens g.K.Sink.written g.K.Sink.faults s c.args.shelf.now c.confirm_file.new.shelf c.args.out.now c.confirm_file.new.out c.confirm_file.result)
+    ((λ i. confirm_script (c.file-file-in-Confirm.ensures i) (c.file-text-in-Confirm.ensures i) (c.targets-in-Confirm.ensures.words i)) ∙ (λ i. command_script (sym c.in-Confirm.is i) (texts command.files.items) command.targets.items command.size command.numbers.items)) c.confirm_file.ensures

@@ -1,0 +1,19 @@
+use Rattle.std.proofs.Common.{List, Vec, refl}
+use Rattle.std.specs.declared.alloc.Global.{Global}
+use Rattle.metis_ids.specs.declared.goals.Goal.{Goal}
+use Rattle.metis_universe.specs.Universe.{Universe}
+use Rattle.metis_top.proofs.Gathered.{ran_stopped}
+use Rattle.metis_top.proofs.Replies.{ran_replied}
+use Rattle.metis_top.specs.Answer as answer
+use Rattle.metis_top.specs.Commands.{goals_then}
+use Rattle.metis_top.specs.Script.{Reply}
+use Rattle.metis_top.proofs.why.why_file.Goals as goal
+
+pub returns-in-Ok : goal.returns-in-Ok
+returns-in-Ok g c =
+    ran_replied _ _ _ _ _ (λ (asked : Universe × Vec Goal Global). (asked.0, asked.1.items)) (goals_then 3 c.args.file.now c.args.targets.now) (λ (asked : Universe × List Goal). Reply (answer.Why asked.0 asked.1)) _ _ _ _
+    (c.in-Ok.universe, c.in-Ok.goals) (answer.Why c.in-Ok.universe c.in-Ok.goals.items) _ c.in-Ok.ensures.gathers refl (rw c.deref.ensures.value at c.put_why.ensures)
+
+pub returns-in-Err : goal.returns-in-Err
+returns-in-Err g c =
+    ran_stopped _ _ _ _ _ (λ (asked : Universe × Vec Goal Global). (asked.0, asked.1.items)) (goals_then 3 c.args.file.now c.args.targets.now) (λ (asked : Universe × List Goal). Reply (answer.Why asked.0 asked.1)) _ _ _ _ c.in-Err.stop _ c.in-Err.ensures.gathers c.end.ensures
