@@ -217,7 +217,16 @@ instances 3 actions 17 dups 0
 17 delete 1
 end
 '''
-FILES = {'web.json': WEB, 'crossed.json': CROSSED, 'crossed.plan': PLAN, 'web.script': SCRIPT, 'crossed.script': EVENTS, 'crossed.hosts': HOSTS}
+# Nothing provides the disk that the database needs, which the server needs.
+LOST = '{"aeolus":1,"types":[{"name":"Web","initial":"off","states":[{"name":"off","next":["run"]},{"name":"run","require":["sql"]}]},{"name":"Db","initial":"off","states":[{"name":"off","next":["on"]},{"name":"on","provide":["sql"],"require":["disk"]}]}]}'
+EXPLANATION = '''metis why 1
+lacks Web:run
+lines 2
+Web:run needs sql from Db:on
+Db:on needs disk from none
+end
+'''
+FILES = {'lost.json': LOST, 'lost.why': EXPLANATION, 'web.json': WEB, 'crossed.json': CROSSED, 'crossed.plan': PLAN, 'web.script': SCRIPT, 'crossed.script': EVENTS, 'crossed.hosts': HOSTS}
 
 # The words, the text and the status of each command.
 COMMANDS = [
@@ -230,6 +239,10 @@ COMMANDS = [
     (['control', 'crossed.json', 'crossed.plan', 'crossed.script'], ANSWERS, 0),
     (['rollout', 'crossed.json', 'crossed.plan'], TORN, 0),
     (['place', 'crossed.json', 'crossed.plan', 'crossed.hosts'], SEATS, 0),
+    (['why', 'lost.json', 'Web:run'], EXPLANATION, 1),
+    (['why', 'web.json', 'Web:run', 'Db:on'], 'attained\n', 0),
+    (['confirm', 'lost.json', 'lost.why', 'Web:run'], 'confirmed lacks Web:run\n', 0),
+    (['confirm', 'lost.json', 'lost.why', 'Db:off'], 'lacksnone\n', 1),
 ]
 
 # What the C library and the start of the program open and read by themselves goes to the real calls inside it, and is not counted.
