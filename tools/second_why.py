@@ -43,10 +43,10 @@ class Universe:
         for row in document["types"]:
             self.add_type(row)
         self.pair_at = {name: pair for pair, name in enumerate(self.names)}
-        pairs = range(len(self.names))
-        self.providers = [[pair for pair in pairs if port in self.provided[pair]] for port in range(len(self.ports))]
-        self.before = [[] for _ in pairs]
-        for pair in pairs:
+        self.providers, self.before = [[] for _ in self.ports], [[] for _ in self.names]
+        for pair in range(len(self.names)):
+            for port in self.provided[pair]:
+                self.providers[port].append(pair)
             for following in self.next[pair]:
                 self.before[following].append(pair)
 
