@@ -35,7 +35,7 @@ NEEDS = (
     (re.compile(r"^(PYTHONPATH=\.\. )?python3 -m importers systemd "), lambda: pathlib.Path("/lib/systemd/system").is_dir()),
 )
 # A command that a page shows without trying it.
-SHOWN = re.compile(r"^(\./)?(metis|try) (plan|replay|refute|audit|sim|crew|waves|control|rollout|place|print|load) ")
+SHOWN = re.compile(r"^(\./)?(metis|try) (plan|replay|refute|audit|why|confirm|sim|crew|waves|control|rollout|place|print|load) ")
 # A law has a name of three words or more; shorter ones may be anything.
 LAW = re.compile(r"`([a-z0-9]+(?:_[a-z0-9]+){2,})`")
 LINK = re.compile(r"\]\(([^)\s]+)\)")
