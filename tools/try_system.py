@@ -39,6 +39,9 @@ cases = [
     ('the third file may not be read', ['crew', 'web.json', 'web.plan', 'secret.json'], b'', 'pipe', 4, b'read fault 4\n'),
     ('a generated universe', ['load', '3'], b'', 'pipe', 0, b'load 3 pairs 24 targets 6 instances 9 actions 51 dups 3 good\n'),
     ('its line to a full device', ['load', '3'], b'', 'full', 5, b''),
+    ('an explanation to a full device', ['why', 'web.json', 'Web:run'], b'', 'full', 5, b''),
+    ('an explanation from the input', ['confirm', 'web.json', '-', 'Web:run'], b'metis why 1\nlacks Web:run\nlines 1\nWeb:run needs sql from Db:on\nend\n', 'pipe', 1, b'unfounded line 4\n'),
+    ('the explanation may not be read', ['confirm', 'web.json', 'secret.json', 'Web:run'], b'', 'pipe', 4, b'read fault 3\n'),
     ('an empty file', ['print', 'empty.json'], b'', 'pipe', 3, b'bad universe U1\n'),
     ('a full device', ['plan', 'web.json', 'Web:run'], b'', 'full', 5, b''),
     ('a pipe that nobody reads', ['plan', 'web.json', 'Web:run'], b'', 'closed', 5, b''),
@@ -50,6 +53,8 @@ cases = [
     ('a word of 256 bytes', ['print', 'd' * 255 + '/', 'more'], b'', 'pipe', 2, b'bad word 3\n'),
     ('a word of 257 bytes', ['print', './' * 124 + '/web.json'], b'', 'pipe', 0, PRINTED),
     ('a word of 5,000 bytes', ['plan', 'web.json', 'Db:' + 'x' * 5000], b'', 'pipe', 2, b'bad word 3\n'),
+    ('258 words of why', ['why', 'web.json'] + ['Db:on', 'port:sql'] * 128, b'', 'pipe', 0, b'attained\n'),
+    ('259 words of why', ['why', 'web.json'] + ['Db:on'] * 257, b'', 'pipe', 2, b'bad word 259\n'),
     ('300 words', ['plan', 'web.json'] + ['Db:off'] * 298, b'', 'pipe', 2, b'bad word 259\n'),
     ('258 words', ['replay', 'web.json', 'web.plan'] + ['Db:on'] * 255, b'', 'pipe', 1, b'missing Db:on have 1 want 255\n'),
 ]
