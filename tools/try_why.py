@@ -7,8 +7,8 @@ is worked out by tools/second_why.py, which knows nothing of the program. For ea
 
 - A list of targets is explained and planned for. The text has to be the one that is worked out, byte for byte, or `attained`, and
   both commands have to end with one status.
-- Up to two goals that are lacking are explained. The text has to be the right one; each line has to hold, and none may be one that
-  can be left out.
+- Up to two goals that are lacking are explained, those of a few whose explanations are the longest. The text has to be the right
+  one; each line has to hold, and none may be one that can be left out.
 - Each of these texts has to be confirmed. It is then spoilt in two ways (a word or a line is another one, a line is missing, moved
   or added, the end is cut off), and each time the answer has to be the one that is worked out.
 
@@ -29,10 +29,13 @@ import second_why as second
 
 PROGRAM = Path(__file__).resolve().parent.parent / "crates" / "metis" / "out" / "metis"
 COUNT = 5_000
-GOALS = 2
+GOALS, AMONG = 2, 5
+# Where there are more ports than this, a state provides and requires a smaller part of them.
+MANY = 5
 SHOWN = 10
 # Words of the texts, which may be names too.
 TRICKY = ("needs", "from", "none", "comes", "starts", "needing", "and", "lacks", "lines", "end", "port", "metis", "why", "1")
+UNKNOWN = ("T0:gone", "port:gone", "gone:s0", "gone", "port:p0", "", "0", "2", "01", "4294967296", "x!", "T0:s0:s1")
 # How the answers of `confirm` begin, each of which has to come.
 ANSWERS = ("confirmed lacks", "unfounded line", "lacksnone", "bad why line", "bad why name", "bad why number", "bad why short")
 
@@ -44,11 +47,13 @@ def drawn_names(draw, count, plain):
 
 
 def drawn_universe(draw):
-    """A document: a few types, whose states lead to one another, provide and require at random."""
-    version = draw.choice((1, 2))
-    ports = drawn_names(draw, draw.randint(1, 10), "p")
-    chances = {"provide": draw.uniform(0.05, 0.5), "require": draw.uniform(0.05, 0.5), "next": draw.uniform(0.2, 0.9)}
-    types = [drawn_type(draw, version, name, ports, chances) for name in drawn_names(draw, draw.randint(1, 9), "T")]
+    """A document: a few types, whose states lead to one another, provide and require at random. One in a hundred is a large one."""
+    version, is_large = draw.choice((1, 2)), draw.random() < 0.01
+    ports = drawn_names(draw, draw.randint(15, 30) if is_large else draw.randint(1, 10), "p")
+    share = min(1, MANY / len(ports))
+    chances = {"provide": draw.uniform(0.05, 0.5) * share, "require": draw.uniform(0.05, 0.6) * share, "next": draw.uniform(0.2, 0.9)}
+    names = drawn_names(draw, draw.randint(10, 20) if is_large else draw.randint(1, 9), "T")
+    types = [drawn_type(draw, version, name, ports, chances) for name in names]
     give_ports(draw, types, ports)
     return {"aeolus": version, "types": types}
 
@@ -99,8 +104,7 @@ def all_goals(u):
 def with_other_word(draw, u, rows):
     at = draw.randrange(len(rows))
     words = rows[at].split(" ")
-    pool = [*u.names, *u.ports, *TRICKY, "T0:gone", "port:gone", "gone", "", "0", "2", "01", "4294967296", "x!", "port:p0"]
-    words[draw.randrange(len(words))] = draw.choice(pool)
+    words[draw.randrange(len(words))] = draw.choice(draw.choice(([*u.names, *u.ports], TRICKY, UNKNOWN)))
     return [*rows[:at], " ".join(words), *rows[at + 1 :]]
 
 
@@ -204,8 +208,10 @@ class Tried:
         self.counts["universes"] += 1
         self.counts["lacking"] += len(lost)
         self.try_list(u, [goal for goal in goals if goal not in lost], lost)
-        for goal in self.draw.sample(lost, min(GOALS, len(lost))):
-            self.try_goal(u, goal, goals)
+        some = self.draw.sample(lost, min(AMONG, len(lost)))
+        told = sorted(((second.why(u, goal), goal) for goal in some), key=lambda it: len(it[0]))
+        for lines, goal in told[-GOALS:]:
+            self.try_goal(u, goal, lines, goals)
 
     def try_list(self, u, found, lost):
         """A list of targets, explained and planned for: some that are attained, and now and then some that are not."""
@@ -220,8 +226,7 @@ class Tried:
         if planned != status:
             self.fail(["plan", self.file, *words], "", f"status {planned}, and `why` has to have {status}")
 
-    def try_goal(self, u, goal, goals):
-        lines = second.why(u, goal)
+    def try_goal(self, u, goal, lines, goals):
         text, word = second.text_of(u, goal, lines), u.goal_word(goal)
         self.expect(["why", self.file, word], "", (text, second.NO))
         self.lengths.append(len(lines))
