@@ -4,6 +4,7 @@ pub mod ItemLines
 pub mod LineTokens
 pub mod LinesRead
 pub mod Named
+pub mod NamedFaults
 pub mod Printed
 pub mod WhyBytes
 pub mod WhyFaults
