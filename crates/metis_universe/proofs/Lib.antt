@@ -34,6 +34,7 @@ pub mod Rounds
 pub mod RowTables
 pub mod Same
 pub mod SeenNumbers
+pub mod SeenPorts
 pub mod Selected
 pub mod Served
 pub mod Settling

@@ -13,6 +13,7 @@ pub mod PortRows
 pub mod RowFaults
 pub mod RowShapes
 pub mod Rows
+pub mod SeenPorts
 pub mod Selection
 pub mod Settled
 pub mod Sights

@@ -1,44 +1,86 @@
 //! Names in the order in which they are first seen.
-ghost use Rattle.std.specs.Prelude.{◌≡◌, flat_map, IfOk, OnOk};
-ghost use Rattle.metis_universe.specs.Rows.{ports_of_state, ports_of};
+ghost use Rattle.std.specs.Prelude.{◌≡◌, ◌∷◌, [], Some, flat_map, map, position, IfOk, OnOk};
+ghost use Rattle.std.specs.Str.{bytes_eq};
+ghost use Rattle.metis_universe.specs.Rows.{ports_of_state, ports_of_type, ports_of};
 ghost use Rattle.metis_universe.specs.RowShapes.{names_needed};
-ghost use Rattle.metis_universe.specs.Sights.{with_name, sights_after};
+ghost use Rattle.metis_universe.specs.SeenPorts.{number_within, IsNumbered};
+ghost use Rattle.metis_universe.specs.Sights.{with_name};
 ghost use Rattle.metis_universe.specs.Texts.{texts};
 
 use crate::rows::{NeedRow, StateRow, TypeRow};
 use indexmap::IndexSet;
+use metis_ids::PortIx;
 use std::alloc::{AllocError, Global};
 
-/// Adds the name unless the set has it.
-pub fn add_name(alloc: Global, seen: &mut IndexSet<String>, name: &str) -> Result<(), AllocError>
-    ensures { OnOk result (texts seen.new.keys ≡ with_name (texts seen.old.keys) name.now) }
+/// The greatest number of a port that can be written down. No universe has so many ports.
+const GREATEST: usize = u32::MAX as usize;
+
+/// The ports of rows.
+#[derive(Drop)]
+pub struct Sights {
+    /// Their names, in the order in which they are first seen.
+    pub ports: IndexSet<String>,
+    /// The number of the port of each entry: of each state what it provides, and then what it requires.
+    pub numbers: Vec<PortIx>,
+}
+
+/// The place of the name in the set, which takes it unless it has it.
+pub fn place_seen(
+    alloc: Global,
+    seen: &mut IndexSet<String>,
+    name: &str,
+) -> Result<usize, AllocError>
+    ensures seen { OnOk result (texts seen.new.keys ≡ with_name (texts seen.old.keys) name.now) }
+    ensures place { IfOk result (λ place. position (bytes_eq name.now) (texts seen.new.keys) ≡ Some place) }
 {
-    if !seen.contains(name) {
-        seen.insert(String::from_str(alloc, name)?)?;
+    if let Some(place) = seen.get_index_of(name) {
+        return Ok(place);
     }
+    let place = seen.len();
+    seen.insert(String::from_str(alloc, name)?)?;
+    Ok(place)
+}
+
+/// Adds the name unless the set has it, and its number.
+fn add_name(
+    alloc: Global,
+    seen: &mut IndexSet<String>,
+    numbers: &mut Vec<PortIx>,
+    name: &str,
+) -> Result<(), AllocError>
+    ensures { OnOk result (IsNumbered (texts seen.old.keys) (texts seen.new.keys) numbers.old.items numbers.new.items (name.now ∷ [])) }
+{
+    let place = place_seen(alloc, seen, name)?;
+    numbers.push(PortIx(place.min(GREATEST) as u32))?;
     Ok(())
 }
 
-/// Adds the names that the set does not have yet.
-fn add_names(alloc: Global, seen: &mut IndexSet<String>, names: &[String]) -> Result<(), AllocError>
-    ensures { OnOk result (texts seen.new.keys ≡ sights_after (texts seen.old.keys) (texts names.now)) }
+/// Adds the names that the set does not have yet, and the number of each.
+fn add_names(
+    alloc: Global,
+    seen: &mut IndexSet<String>,
+    numbers: &mut Vec<PortIx>,
+    names: &[String],
+) -> Result<(), AllocError>
+    ensures { OnOk result (IsNumbered (texts seen.old.keys) (texts seen.new.keys) numbers.old.items numbers.new.items (texts names.now)) }
 {
     for name in names {
-        add_name(alloc, seen, name.as_str())?;
+        add_name(alloc, seen, numbers, name.as_str())?;
     }
     Ok(())
 }
 
-/// Adds the names of the ports of these entries that the set does not have yet.
+/// Adds the names of the ports of these entries that the set does not have yet, and the number of each.
 fn add_names_needed(
     alloc: Global,
     seen: &mut IndexSet<String>,
+    numbers: &mut Vec<PortIx>,
     needs: &[NeedRow],
 ) -> Result<(), AllocError>
-    ensures { OnOk result (texts seen.new.keys ≡ sights_after (texts seen.old.keys) (names_needed needs.now)) }
+    ensures { OnOk result (IsNumbered (texts seen.old.keys) (texts seen.new.keys) numbers.old.items numbers.new.items (names_needed needs.now)) }
 {
     for need in needs {
-        add_name(alloc, seen, need.port.as_str())?;
+        add_name(alloc, seen, numbers, need.port.as_str())?;
     }
     Ok(())
 }
@@ -47,24 +89,27 @@ fn add_names_needed(
 fn add_ports(
     alloc: Global,
     seen: &mut IndexSet<String>,
+    numbers: &mut Vec<PortIx>,
     states: &[StateRow],
 ) -> Result<(), AllocError>
-    ensures { OnOk result (texts seen.new.keys ≡ sights_after (texts seen.old.keys) (flat_map ports_of_state states.now)) }
+    ensures { OnOk result (IsNumbered (texts seen.old.keys) (texts seen.new.keys) numbers.old.items numbers.new.items (flat_map ports_of_state states.now)) }
 {
     for state in states {
-        add_names(alloc, seen, &state.provide)?;
-        add_names_needed(alloc, seen, &state.require)?;
+        add_names(alloc, seen, numbers, &state.provide)?;
+        add_names_needed(alloc, seen, numbers, &state.require)?;
     }
     Ok(())
 }
 
 /// The ports of all types, in the order in which they are first seen.
-pub fn ports_of(alloc: Global, rows: &[TypeRow]) -> Result<IndexSet<String>, AllocError>
-    ensures { IfOk result (λ ports. texts ports.keys ≡ ports_of rows.now) }
+pub fn ports_of(alloc: Global, rows: &[TypeRow]) -> Result<Sights, AllocError>
+    ensures ports { IfOk result (λ found. texts found.ports.keys ≡ ports_of rows.now) }
+    ensures numbers { IfOk result (λ found. found.numbers.items ≡ map (number_within (ports_of rows.now)) (flat_map ports_of_type rows.now)) }
 {
-    let mut seen = IndexSet::new(alloc);
+    let mut ports = IndexSet::new(alloc);
+    let mut numbers = Vec::new(alloc);
     for row in rows {
-        add_ports(alloc, &mut seen, &row.states)?;
+        add_ports(alloc, &mut ports, &mut numbers, &row.states)?;
     }
-    Ok(seen)
+    Ok(Sights { ports, numbers })
 }

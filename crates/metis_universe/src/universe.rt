@@ -90,11 +90,11 @@ impl Universe {
         requires fits { RowsFit rows.items }
         ensures { IsMade result version rows.items }
     {
-        let ports = ports_of(alloc, &rows)?;
-        if let Some(fault) = first_fault(alloc, &rows, ports.len() as u64)? {
+        let found = ports_of(alloc, &rows)?;
+        if let Some(fault) = first_fault(alloc, &rows, &found.ports)? {
             return Err(fault);
         }
-        Ok(build::tables(alloc, version, &rows, ports)?)
+        Ok(build::tables(alloc, version, &rows, found)?)
     }
 
     /// It does nothing: what every universe keeps.

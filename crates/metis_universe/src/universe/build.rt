@@ -1,30 +1,22 @@
 //! The tables of rows that have no fault.
-ghost use Rattle.std.specs.Prelude.{◌≡◌, ◌+◌, ◌<◌, ◌^◌, ◌++◌, ◌∷◌, [], false, length, map, replicate, None, IfOk, OnOk};
+ghost use Rattle.std.specs.Prelude.{◌≡◌, ◌+◌, ◌<◌, ◌^◌, ◌++◌, ◌∷◌, [], ℕ, List, false, length, map, flat_map, replicate, None, IfOk, OnOk};
 ghost use Rattle.std.specs.List.{list_any, All};
 ghost use Rattle.metis_universe.specs.PortRows.{with_pair, port_rows};
 ghost use Rattle.std.specs.Str.{bytes_eq};
 ghost use Rattle.std.specs.String.{string_bytes};
-ghost use Rattle.indexmap.specs.IndexSet.{index_set_len};
 ghost use Rattle.metis_universe.specs.Kinds.{kind_of, kinds_of};
 ghost use Rattle.metis_universe.specs.Texts.{texts};
-ghost use Rattle.metis_universe.specs.RowShapes.{names_needed};
-ghost use Rattle.metis_universe.specs.Rows.{IsOfVersion, number_of, state_number, ascending, kind_from, kinds_from, pair_from, pairs_from, pairs_of_type, universe_from, first_fault, ports_of};
+ghost use Rattle.metis_universe.specs.SeenPorts.{number_within};
+ghost use Rattle.metis_universe.specs.Rows.{IsOfVersion, number_of, state_number, ascending, kind_from, kinds_from, pair_from, pairs_from, pairs_of_type, universe_from, first_fault, ports_of_state, ports_of_type, ports_of};
 
 use super::{PairRow, PortRow, Universe};
 use crate::check::place_of_state;
 use crate::needs::further_numbers;
-use crate::rows::{NeedRow, StateRow, TypeRow};
+use crate::rows::{StateRow, TypeRow};
+use crate::sights::Sights;
 use indexmap::{IndexMap, IndexSet};
 use metis_ids::{PairIx, PortIx, TypeIx};
 use std::alloc::{AllocError, Global};
-
-/// The number of the port of this name.
-fn port_number(ports: &IndexSet<String>, name: &str) -> PortIx
-    requires { index_set_len ports.now < 2 ^ 32 }
-    ensures { result ≡ number_of (texts ports.now.keys) name.now }
-{
-    PortIx(ports.get_index_of(name).unwrap_or(0) as u32)
-}
 
 /// The numbers, ascending and each once.
 fn in_order(mut numbers: Vec<PortIx>) -> Vec<PortIx>
@@ -35,36 +27,11 @@ fn in_order(mut numbers: Vec<PortIx>) -> Vec<PortIx>
     numbers
 }
 
-/// The numbers of these ports, ascending.
-fn port_numbers(
-    alloc: Global,
-    ports: &IndexSet<String>,
-    names: &[String],
-) -> Result<Vec<PortIx>, AllocError>
-    requires { index_set_len ports.now < 2 ^ 32 }
-    ensures { IfOk result (λ numbers. numbers.items ≡ ascending (map (number_of (texts ports.now.keys)) (texts names.now))) }
+/// The numbers of these ports, ascending and each once.
+fn port_numbers(alloc: Global, entries: &[PortIx]) -> Result<Vec<PortIx>, AllocError>
+    ensures { IfOk result (λ numbers. numbers.items ≡ ascending entries.now) }
 {
-    let mut numbers = Vec::with_capacity(alloc, names.len())?;
-    for name in names {
-        numbers.push(port_number(ports, name.as_str()))?;
-    }
-    Ok(in_order(numbers))
-}
-
-/// The numbers of the ports of these entries, ascending.
-fn numbers_needed(
-    alloc: Global,
-    ports: &IndexSet<String>,
-    needs: &[NeedRow],
-) -> Result<Vec<PortIx>, AllocError>
-    requires { index_set_len ports.now < 2 ^ 32 }
-    ensures { IfOk result (λ numbers. numbers.items ≡ ascending (map (number_of (texts ports.now.keys)) (names_needed needs.now))) }
-{
-    let mut numbers = Vec::with_capacity(alloc, needs.len())?;
-    for need in needs {
-        numbers.push(port_number(ports, need.port.as_str()))?;
-    }
-    Ok(in_order(numbers))
+    Ok(in_order(entries.to_vec(alloc)?))
 }
 
 /// The place of the state of this name in its type.
@@ -94,47 +61,65 @@ fn next_numbers(
     Ok(numbers)
 }
 
-/// The pair of a type and one of its states, where the type's first pair is this one.
+/// A type whose pairs are made.
+#[derive(Clone, Copy)]
+struct Block<'a> {
+    kind: TypeIx,
+    /// Its first pair.
+    first: u32,
+    row: &'a TypeRow,
+}
+
+/// The pair of a type and one of its states, whose entries have the ports of these numbers.
 fn pair_of(
     alloc: Global,
     ports: &IndexSet<String>,
-    t: TypeIx,
-    first: u32,
-    row: &TypeRow,
+    block: &Block,
     state: &StateRow,
+    entries: &[PortIx],
 ) -> Result<PairRow, AllocError>
-    requires ports { index_set_len ports.now < 2 ^ 32 }
-    requires first { first + length row.now.states < 2 ^ 32 }
-    ensures { IfOk result (λ pair. pair ≡ pair_from (texts ports.now.keys) t first row.now state.now) }
+    requires first { block.now.first + length block.now.row.now.states < 2 ^ 32 }
+    requires entries { entries.now ≡ map (number_of (texts ports.now.keys)) (ports_of_state state.now) }
+    ensures { IfOk result (λ pair. pair ≡ pair_from (texts ports.now.keys) block.now.kind block.now.first block.now.row.now state.now) }
 {
-    let required = numbers_needed(alloc, ports, &state.require)?;
+    let (provided, required) = entries.split_at(state.provide.len());
+    let required = port_numbers(alloc, required)?;
     Ok(PairRow {
-        kind: t,
+        kind: block.kind,
         state: state.name.clone()?,
-        provided: port_numbers(alloc, ports, &state.provide)?,
+        provided: port_numbers(alloc, provided)?,
         further: further_numbers(alloc, ports, &state.require, &required)?,
         required,
-        next: next_numbers(alloc, row, first, &state.next)?,
+        next: next_numbers(alloc, block.row, block.first, &state.next)?,
     })
 }
 
-/// Adds the pairs of a type.
-fn add_pairs(
+/// Adds the pairs of a type, whose entries come first of these, and gives the entries behind them.
+fn add_pairs<'e>(
     alloc: Global,
     pairs: &mut Vec<PairRow>,
     ports: &IndexSet<String>,
     t: TypeIx,
     row: &TypeRow,
-) -> Result<(), AllocError>
-    requires ports { index_set_len ports.now < 2 ^ 32 }
+    entries: &'e [PortIx],
+) -> Result<&'e [PortIx], AllocError>
     requires first { length pairs.old.items + length row.now.states < 2 ^ 32 }
-    ensures { OnOk result (pairs.new.items ≡ pairs.old.items ++ pairs_of_type (texts ports.now.keys) t (length pairs.old.items) row.now) }
+    requires entries { (later : List (List ℕ)) × (entries.now ≡ map (number_of (texts ports.now.keys)) (ports_of_type row.now ++ later)) }
+    ensures pairs { OnOk result (pairs.new.items ≡ pairs.old.items ++ pairs_of_type (texts ports.now.keys) t (length pairs.old.items) row.now) }
+    ensures rest { IfOk result (λ rest. (later : List (List ℕ)) → entries.now ≡ map (number_of (texts ports.now.keys)) (ports_of_type row.now ++ later) → rest.now ≡ map (number_of (texts ports.now.keys)) later) }
 {
-    let first = pairs.len() as u32;
+    let block = Block {
+        kind: t,
+        first: pairs.len() as u32,
+        row,
+    };
+    let mut rest = entries;
     for state in &row.states {
-        pairs.push(pair_of(alloc, ports, t, first, row, state)?)?;
+        let (own, later) = rest.split_at(state.provide.len() + state.require.len());
+        pairs.push(pair_of(alloc, ports, &block, state, own)?)?;
+        rest = later;
     }
-    Ok(())
+    Ok(rest)
 }
 
 /// Adds a type.
@@ -155,7 +140,7 @@ fn add_kind(
 fn empty_rows(alloc: Global, count: usize) -> Result<Vec<PortRow>, AllocError>
     ensures { IfOk result (λ rows. rows.items ≡ replicate count []) }
 {
-    let mut rows = Vec::new(alloc);
+    let mut rows = Vec::with_capacity(alloc, count)?;
     for _ in 0..count {
         rows.push(PortRow {
             pairs: Vec::new(alloc),
@@ -204,42 +189,39 @@ fn index_rows(
     Ok((providers, requirers))
 }
 
-/// Adds a type and its pairs.
+/// Adds the type of a row, whose first pair is this one.
 fn add_type(
-    alloc: Global,
     kinds: &mut IndexMap<String, PairIx>,
-    pairs: &mut Vec<PairRow>,
-    ports: &IndexSet<String>,
-    t: TypeIx,
     row: &TypeRow,
+    first: u32,
 ) -> Result<(), AllocError>
-    requires ports { index_set_len ports.now < 2 ^ 32 }
-    requires first { length pairs.old.items + length row.now.states < 2 ^ 32 }
+    requires first { first + length row.now.states < 2 ^ 32 }
     requires new { list_any (λ k. bytes_eq row.now.name k.name) (kinds_of kinds.old.entries) ≡ false }
-    ensures kinds { OnOk result (kinds_of kinds.new.entries ≡ kinds_of kinds.old.entries ++ kind_from (length pairs.old.items) row.now ∷ []) }
-    ensures pairs { OnOk result (pairs.new.items ≡ pairs.old.items ++ pairs_of_type (texts ports.now.keys) t (length pairs.old.items) row.now) }
+    ensures { OnOk result (kinds_of kinds.new.entries ≡ kinds_of kinds.old.entries ++ kind_from first row.now ∷ []) }
 {
-    let first = pairs.len() as u32;
     let initial = PairIx(first + state_number(row, row.initial.as_str()));
-    add_kind(kinds, row.name.clone()?, initial)?;
-    add_pairs(alloc, pairs, ports, t, row)
+    add_kind(kinds, row.name.clone()?, initial)
 }
 
-/// The types of the rows, by their names, and the pairs of these.
+/// The types of the rows, by their names, and the pairs of these. The entries have the ports of these numbers.
 fn type_tables(
     alloc: Global,
     rows: &[TypeRow],
     ports: &IndexSet<String>,
+    entries: &[PortIx],
 ) -> Result<(IndexMap<String, PairIx>, Vec<PairRow>), AllocError>
     requires sound { first_fault rows.now ≡ None }
     requires ports { texts ports.now.keys ≡ ports_of rows.now }
+    requires entries { entries.now ≡ map (number_of (texts ports.now.keys)) (flat_map ports_of_type rows.now) }
     ensures kinds { IfOk result (λ made. kinds_of made.0.entries ≡ kinds_from 0 rows.now) }
     ensures pairs { IfOk result (λ made. made.1.items ≡ pairs_from (ports_of rows.now) 0 0 rows.now) }
 {
-    let mut kinds = IndexMap::new(alloc);
-    let mut pairs = Vec::new(alloc);
+    let mut kinds = IndexMap::with_capacity(alloc, rows.len())?;
+    let mut pairs = Vec::with_capacity(alloc, 2 * rows.len())?;
+    let mut rest = entries;
     for (t, row) in rows.iter().enumerate() {
-        add_type(alloc, &mut kinds, &mut pairs, ports, TypeIx(t as u32), row)?;
+        add_type(&mut kinds, row, pairs.len() as u32)?;
+        rest = add_pairs(alloc, &mut pairs, ports, TypeIx(t as u32), row, rest)?;
     }
     Ok((kinds, pairs))
 }
@@ -249,14 +231,16 @@ pub fn tables(
     alloc: Global,
     version: u32,
     rows: &[TypeRow],
-    ports: IndexSet<String>,
+    found: Sights,
 ) -> Result<Universe, AllocError>
     requires version { IsOfVersion version rows.now }
     requires sound { first_fault rows.now ≡ None }
-    requires ports { texts ports.keys ≡ ports_of rows.now }
+    requires ports { texts found.ports.keys ≡ ports_of rows.now }
+    requires numbers { found.numbers.items ≡ map (number_within (ports_of rows.now)) (flat_map ports_of_type rows.now) }
     ensures { IfOk result (λ u. u ≡ universe_from version rows.now) }
 {
-    let (kinds, pairs) = type_tables(alloc, rows, &ports)?;
+    let Sights { ports, numbers } = found;
+    let (kinds, pairs) = type_tables(alloc, rows, &ports, &numbers)?;
     let (providers, requirers) = index_rows(alloc, &pairs, ports.len())?;
     Ok(Universe {
         version,

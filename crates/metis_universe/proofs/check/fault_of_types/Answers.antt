@@ -1,8 +1,12 @@
-use Rattle.std.proofs.Common.{sym, ap, ◌∙◌}
-use Rattle.metis_universe.specs.Rows.{type_fault}
+use Rattle.std.proofs.Common.{IsTrue, sym, ap, ◌∙◌, subst}
+use Rattle.std.specs.List.{AllByRecursion}
+use Rattle.metis_universe.specs.Names.{is_name}
+use Rattle.metis_universe.specs.RowShapes.{TypeRow}
+use Rattle.metis_universe.specs.Rows.{ports_of_type, type_fault}
 use Rattle.metis_universe.specs.Sights.{with_name}
 use Rattle.metis_universe.specs.Texts.{texts}
 use Rattle.metis_universe.proofs.FirstFault.{first_from_found, first_from_passed}
+use Rattle.metis_universe.proofs.FirstSights.{each_of_flat_map}
 use Rattle.metis_universe.proofs.TypeFaults.{type_fault-seen, not_seen, names_more}
 use Rattle.metis_universe.proofs.check.fault_of_types.Goals as goal
 
@@ -22,10 +26,16 @@ loop-t-preserved c =
     let new = not_seen c.args.rows.now c.loop-t.t row (texts c.loop-t.seen.keys) c.loop-t.invariant.names c.in_ok-fault.fault c.in_ok-fault.ensures none in
     record {
       names =
-          c.in_ok-add_name.ensures ∙ ap (with_name (texts c.loop-t.seen.keys)) (c.as_str.ensures.value ∙ ap (λ r. r.name) c.row.view_is)
+          c.in_ok-_place.ensures.seen ∙ ap (with_name (texts c.loop-t.seen.keys)) (c.as_str.ensures.value ∙ ap (λ r. r.name) c.row.view_is)
           ∙ names_more c.args.rows.now c.loop-t.t row (texts c.loop-t.seen.keys) c.loop-t.invariant.names row c.loop-t-test.true c.index-rows-t.is new;
       rest =
           sym (first_from_passed (type_fault c.args.rows.now) c.args.rows.now c.loop-t.t row c.in_ok-fault.fault none c.loop-t-test.true
           (ap (type_fault c.args.rows.now c.loop-t.t) (sym c.index-rows-t.is) ∙ found))
           ∙ c.loop-t.invariant.rest;
     }
+
+pub fault_of_type-requires-clause-named : goal.fault_of_type-requires-clause-named
+fault_of_type-requires-clause-named c = λ yes.
+    let row = c.index-rows-t.result in
+    subst (λ (row : TypeRow). AllByRecursion (λ name. IsTrue (is_name name)) (ports_of_type row)) (sym c.index-rows-t.is)
+    (each_of_flat_map (λ name. IsTrue (is_name name)) ports_of_type c.args.rows.now (c.requires.named yes) c.loop-t.t row c.loop-t-test.true)
