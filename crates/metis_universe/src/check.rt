@@ -269,7 +269,7 @@ fn fault_of_types(
     requires named { AreNamed named (flat_map ports_of_type rows.now) }
     ensures { IfOk result (λ found. found ≡ first_from 0 (type_fault rows.now) rows.now) }
 {
-    let mut seen = IndexSet::new(alloc);
+    let mut seen = IndexSet::with_capacity(alloc, rows.len())?;
     for (t, row) in rows.iter().enumerate() {
         let fault = fault_of_type(alloc, row, t as u32, &seen, named)?;
         if fault.is_some() {

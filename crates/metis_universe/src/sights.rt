@@ -15,6 +15,9 @@ use std::alloc::{AllocError, Global};
 /// The greatest number of a port that can be written down. No universe has so many ports.
 const GREATEST: usize = u32::MAX as usize;
 
+/// Room is made for a port a type, but for no more than these at first.
+const USUAL: usize = 4000;
+
 /// The ports of rows.
 #[derive(Drop)]
 pub struct Sights {
@@ -106,7 +109,7 @@ pub fn ports_of(alloc: Global, rows: &[TypeRow]) -> Result<Sights, AllocError>
     ensures ports { IfOk result (λ found. texts found.ports.keys ≡ ports_of rows.now) }
     ensures numbers { IfOk result (λ found. found.numbers.items ≡ map (number_within (ports_of rows.now)) (flat_map ports_of_type rows.now)) }
 {
-    let mut ports = IndexSet::new(alloc);
+    let mut ports = IndexSet::with_capacity(alloc, rows.len().min(USUAL))?;
     let mut numbers = Vec::new(alloc);
     for row in rows {
         add_ports(alloc, &mut ports, &mut numbers, &row.states)?;

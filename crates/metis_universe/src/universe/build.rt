@@ -135,18 +135,32 @@ fn add_kind(
     Ok(())
 }
 
-/// An empty row for each of so many ports.
+/// An empty row for each of so many ports, with room for so many pairs.
 #[tactic(auto, using(std::proofs::lemmas::List::replicate_more))]
-fn empty_rows(alloc: Global, count: usize) -> Result<Vec<PortRow>, AllocError>
+fn empty_rows(alloc: Global, count: usize, room: usize) -> Result<Vec<PortRow>, AllocError>
     ensures { IfOk result (λ rows. rows.items ≡ replicate count []) }
 {
     let mut rows = Vec::with_capacity(alloc, count)?;
     for _ in 0..count {
         rows.push(PortRow {
-            pairs: Vec::new(alloc),
+            pairs: Vec::with_capacity(alloc, room)?,
         })?;
     }
     Ok(rows)
+}
+
+/// How many providers a port has on average, and how many requirers: so much room each row gets at first.
+fn room_of_rows(pairs: &[PairRow], count: usize) -> (usize, usize) {
+    let mut provided: usize = 0;
+    let mut required: usize = 0;
+    for pair in pairs {
+        provided = provided.saturating_add(pair.provided.len());
+        required = required.saturating_add(pair.required.len());
+    }
+    (
+        provided.checked_div(count).unwrap_or(0),
+        required.checked_div(count).unwrap_or(0),
+    )
 }
 
 /// Adds the pair to the port's row.
@@ -180,8 +194,9 @@ fn index_rows(
     ensures providers { IfOk result (λ rows. rows.0.items ≡ port_rows (λ x. x.provided) count pairs.now) }
     ensures requirers { IfOk result (λ rows. rows.1.items ≡ port_rows (λ x. x.required) count pairs.now) }
 {
-    let mut providers = empty_rows(alloc, count)?;
-    let mut requirers = empty_rows(alloc, count)?;
+    let (provided, required) = room_of_rows(pairs, count);
+    let mut providers = empty_rows(alloc, count, provided)?;
+    let mut requirers = empty_rows(alloc, count, required)?;
     for (p, pair) in pairs.iter().enumerate() {
         add_to_rows(&mut providers, PairIx(p as u32), &pair.provided)?;
         add_to_rows(&mut requirers, PairIx(p as u32), &pair.required)?;

@@ -1,4 +1,5 @@
-use Rattle.std.proofs.Common.{IsTrue, sym, ap, ◌∙◌, subst}
+use Rattle.std.proofs.Common.{length, take, string_bytes, IsTrue, sym, ap, ◌∙◌, subst, arith}
+use Rattle.std.proofs.lemmas.List.{length-map, length-take-le}
 use Rattle.std.specs.List.{AllByRecursion}
 use Rattle.metis_universe.specs.Names.{is_name}
 use Rattle.metis_universe.specs.RowShapes.{TypeRow}
@@ -39,3 +40,11 @@ fault_of_type-requires-clause-named c = λ yes.
     let row = c.index-rows-t.result in
     subst (λ (row : TypeRow). AllByRecursion (λ name. IsTrue (is_name name)) (ports_of_type row)) (sym c.index-rows-t.is)
     (each_of_flat_map (λ name. IsTrue (is_name name)) ports_of_type c.args.rows.now (c.requires.named yes) c.loop-t.t row c.loop-t-test.true)
+
+pub fault_of_type-requires-clause-earlier : goal.fault_of_type-requires-clause-earlier
+fault_of_type-requires-clause-earlier c =
+    let t = c.loop-t.t in
+    let rows = c.args.rows.now in
+    let seen = ap length c.loop-t.invariant.names in
+    let few = c.requires.fits.types in
+    omega (arith, seen, few, c.loop-t-test.true, length-map c.loop-t.seen.keys (λ t. string_bytes t), length-map (take t rows) (λ (row : TypeRow). row.name), length-take-le t rows (omega (arith, c.loop-t-test.true)))
