@@ -1,39 +1,31 @@
 -- The universe of rows without a fault has what the rows say.
-use Rattle.std.proofs.Common.{◌≡◌, ℕ, ◌+◌, ◌-◌, ◌<◌, ◌≤◌, Bool, true, false, cond, IsTrue, ◌&&◌, ◌||◌, List, [], ◌∷◌, length, map, fold, get_or, position, unwrap_or, nat_eq, Option, Some, None, refl, ap, sym, ◌∙◌, subst, ltb, arith}
+use Rattle.std.proofs.Common.{◌≡◌, ℕ, ◌+◌, ◌-◌, ◌<◌, Bool, true, false, cond, IsTrue, ◌&&◌, ◌||◌, List, [], ◌∷◌, length, map, fold, get_or, position, unwrap_or, nat_eq, Some, None, refl, ap, sym, ◌∙◌, subst, arith}
 use Rattle.std.specs.BTreeSet.{insert_key}
 use Rattle.std.specs.List.{AllByRecursion, list_any, position_or_len}
 use Rattle.std.specs.Option.{option_and_then, option_map_or}
 use Rattle.std.specs.Ordering.{nat_cmp}
 use Rattle.std.specs.Str.{bytes_eq}
-use Rattle.std.proofs.lemmas.Bool.{and_from, and_parts, both_ways, eq-eqb, eqb-true, false_from_ne_true, lt-ltb, ne_eqb}
-use Rattle.std.proofs.lemmas.List.{get_or-map, get_or_default}
+use Rattle.std.proofs.lemmas.Bool.{and_from, and_parts, both_ways, eq-eqb, eqb-true, false_from_ne_true, ne_eqb}
+use Rattle.std.proofs.lemmas.List.{get_or-map}
 use Rattle.std.proofs.lemmas.List.Folds.{list_any_at}
 use Rattle.std.proofs.lemmas.List.Quantifiers.{position-Some}
 use Rattle.std.proofs.lemmas.List.Sums.{position_or_len_is}
 use Rattle.std.proofs.lemmas.Slice.Eq.{bytes_eq-Decides}
-use Rattle.metis_universe.specs.RowShapes.{NeedRow, StateRow, TypeRow, names_needed}
-use Rattle.metis_universe.specs.Rows.{IsOfVersion, ascending, first_fault, greatest_count, has_state, number_of, pair_from, ports_of, ports_of_state, state_number, universe_from}
+use Rattle.metis_ids.proofs.Finding.{position_here}
+use Rattle.metis_universe.specs.RowShapes.{StateRow, TypeRow, names_needed}
+use Rattle.metis_universe.specs.Rows.{IsOfVersion, ascending, first_fault, greatest_count, has_state, number_of, pair_from, ports_of, state_number, universe_from}
 use Rattle.metis_universe.specs.Spelled.{Spells, demand_named, is_listed, leads_to, provides_named}
-use Rattle.metis_universe.specs.Universe.{Kind, Pair, Universe, IsTable, demand_in, demand_of, has, initial_of, is_initial, kind_at, next_of, no_kind, no_pair, pair_at, pair_count, pair_named, port_named, provides, state_named, type_count, type_named, type_of}
+use Rattle.metis_universe.specs.Universe.{Kind, Pair, Universe, IsTable, demand_in, demand_of, has, initial_of, is_initial, kind_at, next_of, no_kind, no_pair, pair_at, pair_count, pair_named, provides, state_named, type_count, type_named, type_of}
 use Rattle.metis_universe.proofs.Ascending.{at_seen, has-insert_key}
-use Rattle.metis_universe.proofs.Blocks.{Place, first_of, length-kinds_from, no_row, no_state, row_at, states_at}
+use Rattle.metis_universe.proofs.Blocks.{first_of, length-kinds_from, no_row, no_state, row_at, states_at}
 use Rattle.metis_universe.proofs.ClearRows.{IsClear-from_first_fault, some_counts}
 use Rattle.metis_universe.proofs.FirstFault.{list_any-from_position}
 use Rattle.metis_universe.proofs.FirstSights.{each_parts}
-use Rattle.metis_universe.proofs.FromRows.{IsTable-universe_from, kind_is, named_back, pair_at_place, pair_is, pair_within, place, seen_in, type_at_place}
+use Rattle.metis_universe.proofs.FromRows.{IsTable-universe_from, kind_is, named_back, pair_is, pair_within, place, seen_in, type_at_place}
 use Rattle.metis_universe.proofs.Gathered.{greatest_from-unnamed, greatest-some}
 use Rattle.metis_universe.proofs.Initials.{is_initial-own}
 
 -- ---- lists
-
--- the first that passes
-found : {A : Type 0} (test : A → Bool) (xs : List A) (i : ℕ) (d : A) → i < length xs → test (get_or xs i d) ≡ true → ((k : ℕ) → k < i → test (get_or xs k d) ≡ false) → position test xs ≡ Some i
-found test xs i d l at before =
-    let is = position_or_len_is test xs i d (omega arith) before (λ _. at) in
-    (λ j. cond (lt_test (is j)) (Some (is j)) None) ∙ ap (λ b. cond b (Some i) None) (lt-ltb i (length xs) l)
-  where
-    lt_test : ℕ → Bool
-    lt_test n = ltb n (length xs)
 
 -- what is put in ascending order is what was there
 has_fold : (keys xs : List ℕ) (n : ℕ) → has (fold (insert_key nat_cmp) keys xs) n ≡ (has keys n || has xs n)
@@ -131,7 +123,7 @@ module _ (version : ℕ) (rows : List TypeRow) (fits : IsOfVersion version rows)
   type_there =
       let name : (kind_at u t).name ≡ row.name = ap (λ (k : Kind). k.name) (kind_is version rows t l) in
       let below : t < type_count u = omega (arith, length-kinds_from 0 rows) in
-      found (λ (k : Kind). bytes_eq row.name k.name) u.kinds t no_kind below ((bytes_eq-Decides row.name (kind_at u t).name).1 (sym name))
+      position_here (λ (k : Kind). bytes_eq row.name k.name) u.kinds t no_kind below ((bytes_eq-Decides row.name (kind_at u t).name).1 (sym name))
       (λ k low. false_from_ne_true _ (λ same.
       let e = table.named.types_apart k t (omega arith) below (sym ((bytes_eq-Decides row.name (kind_at u k).name).0 same) ∙ sym name) in omega (arith, e)))
 
@@ -139,7 +131,7 @@ module _ (version : ℕ) (rows : List TypeRow) (fits : IsOfVersion version rows)
   state_there i n =
       let q = first_of rows t + i in
       let name = is_named i n in
-      found (λ (x : Pair). nat_eq x.kind t && bytes_eq (state_of i).name x.state) u.pairs q no_pair (within i n)
+      position_here (λ (x : Pair). nat_eq x.kind t && bytes_eq (state_of i).name x.state) u.pairs q no_pair (within i n)
       (and_from _ _ (eq-eqb _ t (is_of i n)) ((bytes_eq-Decides (state_of i).name (pair_at u q).state).1 (sym name)))
       (λ k low. false_from_ne_true _ (λ same.
       let parts = and_parts (nat_eq (pair_at u k).kind t) _ same in

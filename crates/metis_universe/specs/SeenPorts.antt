@@ -3,7 +3,7 @@
 --     IsNumbered old new before after names      seeing these names led from the old names to the new ones, and put behind the numbers
 --         that stood before the number of each name. These stay whatever is seen later
 --     AreNamed named names      if the test passed, each of these names is a name
-use Rattle.std.specs.Prelude.{◌≡◌, ℕ, Bool, IsTrue, List, [], ◌++◌, map, min}
+use Rattle.std.specs.Prelude.{◌≡◌, ℕ, Bool, IsTrue, List, ◌++◌, map, min}
 use Rattle.std.specs.List.{AllByRecursion}
 use Rattle.metis_universe.specs.Names.{is_name}
 use Rattle.metis_universe.specs.Rows.{number_of}

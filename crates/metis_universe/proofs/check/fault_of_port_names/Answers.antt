@@ -1,4 +1,4 @@
-use Rattle.std.proofs.Common.{length, None, sym, ap, ◌∙◌, IsTrue}
+use Rattle.std.proofs.Common.{length, sym, ap, ◌∙◌, IsTrue}
 use Rattle.std.specs.Option.{option_or}
 use Rattle.metis_universe.specs.Names.{is_name}
 use Rattle.metis_universe.specs.RowShapes.{names_needed}

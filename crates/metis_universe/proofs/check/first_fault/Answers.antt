@@ -1,4 +1,4 @@
-use Rattle.std.proofs.Common.{◌≡◌, None, flat_map, not, string_bytes, position, sym, ap, ◌∙◌}
+use Rattle.std.proofs.Common.{flat_map, not, string_bytes, position, sym, ap, ◌∙◌}
 use Rattle.metis_ids.proofs.Options.{none_from_is_some}
 use Rattle.metis_universe.specs.Names.{is_name}
 use Rattle.metis_universe.specs.Rows.{ports_of_type}

@@ -1,4 +1,4 @@
-use Rattle.std.proofs.Common.{◌≡◌, ℕ, List, length, position, Option, None, Some, string_bytes, sym, ap, ◌∙◌}
+use Rattle.std.proofs.Common.{Some, string_bytes, sym, ap, ◌∙◌}
 use Rattle.std.specs.Str.{bytes_eq}
 use Rattle.std.proofs.lemmas.List.{length-map}
 use Rattle.metis_universe.specs.Texts.{texts}
