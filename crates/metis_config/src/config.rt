@@ -9,7 +9,7 @@ ghost use Rattle.metis_config.specs.Over.{IsOver};
 ghost use Rattle.metis_config.specs.Unmet.{unmet, is_unmet, IsLeast, changed};
 
 use crate::crowds::Crowds;
-use crate::ends::Ends;
+use crate::ends::{first_to, some_from};
 use crate::lists::{Instances, Ties};
 use crate::met::{Change, earlier_of};
 use metis_ids::{Goal, InstNo, NoMemory, PairIx, PortIx};
@@ -23,8 +23,8 @@ use std::marker::Model;
 pub struct Config {
     instances: BTreeMap<InstNo, PairIx>,
     bindings: BTreeSet<(PortIx, InstNo, InstNo)>,
-    /// The bindings again, by provider and by requirer.
-    ends: Ends,
+    /// The bindings again, each as its provider, its requirer and its port.
+    clients: BTreeSet<(InstNo, InstNo, PortIx)>,
     /// In which pairs the providers of each port of each requirer are.
     pub(crate) crowds: Crowds,
 }
@@ -38,7 +38,7 @@ impl Model for Config {
 
     ghost view = { λ a. model.config_of a.instances.entries a.bindings.keys };
 
-    ghost invariant = { λ a. AreKept (model.config_of a.instances.entries a.bindings.keys) a.ends.by_provider.keys a.ends.by_requirer.keys a.crowds.map };
+    ghost invariant = { λ a. AreKept (model.config_of a.instances.entries a.bindings.keys) a.clients.keys a.crowds.map };
 }
 
 impl Config {
@@ -49,7 +49,7 @@ impl Config {
         Config {
             instances: BTreeMap::new(alloc),
             bindings: BTreeSet::new(alloc),
-            ends: Ends::new(alloc),
+            clients: BTreeSet::new(alloc),
             crowds: Crowds::new(alloc),
         }
     }
@@ -61,7 +61,7 @@ impl Config {
         Ok(Config {
             instances: self.instances.clone()?,
             bindings: self.bindings.clone()?,
-            ends: self.ends.copy()?,
+            clients: self.clients.clone()?,
             crowds: self.crowds.copy()?,
         })
     }
@@ -140,7 +140,7 @@ impl Config {
     pub fn is_over(&self, u: &Universe) -> bool
         ensures { IsTrue result ↔ IsOver u.now self.now }
     {
-        let _parts = &self.ends;
+        let _parts = &self.clients;
         are_pairs_below(&self.instances, u.pairs()) && are_ports_below(&self.bindings, u.ports())
     }
 
@@ -182,7 +182,7 @@ impl Config {
             to,
         };
         let own = self.unmet_own(u, &change);
-        let lost = self.first_lost(u, &self.ends.by_provider, &change);
+        let lost = self.first_lost(u, &self.clients, &change);
         earlier_of(z, own, lost)
     }
 
@@ -222,12 +222,10 @@ impl Config {
         requires { IsSome (pair_of self.old z) }
         ensures { self.new ≡ put self.old z p }
     {
-        let from = pair_in(&self.instances, z).unwrap();
-        self.crowds.shift_all(&self.ends.by_provider, z, from, p);
         // Only a new key takes memory.
         match self.instances.insert(z, p) {
-            Ok(_) => (),
-            Err(_) => unreachable!(),
+            Ok(Some(from)) => self.crowds.shift_all(&self.clients, z, from, p),
+            _ => unreachable!(),
         }
     }
 
@@ -242,12 +240,12 @@ impl Config {
     {
         let pair = pair_in(&self.instances, y).unwrap();
         self.crowds.enter(z, r, pair)?;
-        if self.ends.add(r, z, y).is_err() {
+        if self.clients.insert((y, z, r)).is_err() {
             self.crowds.leave(z, r, pair);
             return Err(NoMemory);
         }
         if self.bindings.insert((r, z, y)).is_err() {
-            self.ends.take(r, z, y);
+            self.clients.remove(&(y, z, r));
             self.crowds.leave(z, r, pair);
             return Err(NoMemory);
         }
@@ -261,7 +259,7 @@ impl Config {
     {
         let pair = pair_in(&self.instances, y).unwrap();
         self.bindings.remove(&(r, z, y));
-        self.ends.take(r, z, y);
+        self.clients.remove(&(y, z, r));
         self.crowds.leave(z, r, pair);
     }
 
@@ -282,7 +280,7 @@ impl Config {
     fn served_by(&self, y: InstNo) -> Option<(PortIx, InstNo)>
         ensures { MatchOption result ((r z : ℕ) → IsFalse (is_bound self.now r z y)) (λ b. IsTrue (is_bound self.now b.0 b.1 y)) }
     {
-        let (z, r) = self.ends.first_to(y)?;
+        let (z, r) = first_to(&self.clients, y)?;
         Some((r, z))
     }
 
@@ -290,8 +288,7 @@ impl Config {
     fn needed_by(&self, z: InstNo) -> Option<(PortIx, InstNo)>
         ensures { MatchOption result ((r y : ℕ) → IsFalse (is_bound self.now r z y)) (λ b. IsTrue (is_bound self.now b.0 z b.1)) }
     {
-        let (y, r) = self.ends.first_from(z)?;
-        Some((r, y))
+        some_from(&self.crowds.map, &self.bindings, z)
     }
 }
 

@@ -7,6 +7,7 @@ mod crowds;
 mod ends;
 mod lists;
 mod met;
+mod supply;
 
 pub use config::Config;
 pub use lists::{Instances, Ties};
