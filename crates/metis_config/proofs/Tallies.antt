@@ -3,15 +3,24 @@ use Rattle.std.proofs.Common.{◌≡◌, ℕ, ◌+◌, Bool, true, false, cond, 
 use Rattle.std.proofs.lemmas.Bool.{and_parts, eqb-true}
 use Rattle.std.proofs.lemmas.Bool.Decides.{nat_tests}
 use Rattle.std.specs.BTreeMap.{BTreeMap, get, is_at}
-use Rattle.std.specs.Prelude.{IsSomeAnd, MatchOption, OnErr, OnOk, Result, Ok, Err}
+use Rattle.std.specs.Map.{lookup}
+use Rattle.std.proofs.lemmas.Map.Made.{lookup-map_values}
+use Rattle.std.specs.Prelude.{option_map, IsSomeAnd, MatchOption, OnErr, OnOk, Result, Ok, Err}
 use Rattle.std.specs.Option.{option_map_or}
 use Rattle.std.specs.Ordering.{is_eq, nat_cmp, ordering_then}
 use Rattle.metis_config.specs.Crowd.{weight}
-use Rattle.metis_config.specs.Supply.{key_cmp, shares_of, weight_at}
+use Rattle.metis_config.specs.Supply.{key_cmp, shares_in, shares_of, weight_at, weight_in}
 use Rattle.metis_config.specs.declared.supply.Supply.{Supply}
 
 abbrev pub weighed : (ℕ → Bool) → Option Supply → ℕ
 weighed f o = option_map_or (λ s. weight f (shares_of s)) o 0
+
+-- a list of the shares weighs the same
+pub weight-shares : (m : BTreeMap (ℕ × ℕ) Supply) (w r : ℕ) (f : ℕ → Bool) → weight_in (shares_in m.entries) w r f ≡ weight_at m w r f
+weight-shares m w r f = ap (λ o. option_map_or (weight f) o 0) (lookup-map_values shares_of (is_at (key_cmp (w, r))) m.entries) ∙ alike (lookup (is_at (key_cmp (w, r))) m.entries) where
+  alike : (o : Option Supply) → option_map_or (weight f) (option_map shares_of o) 0 ≡ weighed f o
+  alike None = refl
+  alike (Some s) = refl
 
 -- of what is said where a call answered Ok or Err
 pub on_ok : {T E P Q : Type 0} (r : Result T E) → (P → Q) → OnOk r P → OnOk r Q

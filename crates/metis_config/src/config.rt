@@ -5,9 +5,11 @@ ghost use Rattle.metis_universe.specs.Config.{IsConfig, config_of, empty, Correc
 ghost use Rattle.metis_universe.specs.Goal.{holding};
 ghost use Rattle.metis_universe.specs.Goals.{serving};
 ghost use Rattle.metis_universe.specs.Universe.{pair_count};
+ghost use Rattle.metis_config.specs.Kept.{AreOver};
 ghost use Rattle.metis_config.specs.Over.{IsOver};
 ghost use Rattle.metis_config.specs.Unmet.{unmet, is_unmet, IsLeast, changed};
 
+use crate::bindings::Bindings;
 use crate::crowds::Crowds;
 use crate::ends::{first_to, some_from};
 use crate::lists::{Instances, Ties};
@@ -64,6 +66,33 @@ impl Config {
             clients: self.clients.clone()?,
             crowds: self.crowds.copy()?,
         })
+    }
+
+    /// A copy of the bindings alone.
+    pub fn copy_bindings(&self) -> Result<Bindings, NoMemory>
+        ensures same { IfOk result (λ kept. kept.ties ≡ self.now.bindings) }
+        ensures over { IfOk result (AreOver self.now.instances) }
+    {
+        Ok(Bindings {
+            ties: self.bindings.clone()?,
+            clients: self.clients.clone()?,
+            crowds: self.crowds.copy()?,
+        })
+    }
+
+    /// Puts these bindings in the place of its own. It takes no memory.
+    pub fn set_bindings(&mut self, kept: Bindings)
+        requires { AreOver self.old.instances kept }
+        ensures { self.new ≡ config_of self.old.instances kept.ties }
+    {
+        let Bindings {
+            ties,
+            clients,
+            crowds,
+        } = kept;
+        self.bindings = ties;
+        self.clients = clients;
+        self.crowds = crowds;
     }
 
     /// The pair of an instance, if it is there.
@@ -174,13 +203,26 @@ impl Config {
         requires to { (q : ℕ) → to ≡ Some q → q < pair_count u.now }
         ensures { result ≡ unmet u.now (changed self.now z to) }
     {
+        self.unmet_from(u, z, self.pair_of(z), to)
+    }
+
+    /// The same, where it is known which pair the instance is in.
+    pub fn unmet_from(
+        &self,
+        u: &Universe,
+        z: InstNo,
+        from: Option<PairIx>,
+        to: Option<PairIx>,
+    ) -> Option<(InstNo, PortIx)>
+        requires over { IsOver u.now self.now }
+        requires correct { Correct u.now self.now }
+        requires from { from ≡ pair_of self.now z }
+        requires to { (q : ℕ) → to ≡ Some q → q < pair_count u.now }
+        ensures { result ≡ unmet u.now (changed self.now z to) }
+    {
         u.keeps_invariant();
         self.keeps_invariant();
-        let change = Change {
-            inst: z,
-            from: self.pair_of(z),
-            to,
-        };
+        let change = Change { inst: z, from, to };
         let own = self.unmet_own(u, &change);
         let lost = self.first_lost(u, &self.clients, &change);
         earlier_of(z, own, lost)
@@ -238,7 +280,25 @@ impl Config {
         ensures ok { OnOk result (self.new ≡ tie self.old r z y) }
         ensures err { OnErr result (self.new ≡ self.old) }
     {
-        let pair = pair_in(&self.instances, y).unwrap();
+        let pair = self.pair_of(y).unwrap();
+        self.tie_to(r, z, y, pair)
+    }
+
+    /// The same, where it is known which pair the provider is in.
+    pub fn tie_to(
+        &mut self,
+        r: PortIx,
+        z: InstNo,
+        y: InstNo,
+        pair: PairIx,
+    ) -> Result<(), NoMemory>
+        requires apart { z ≢ y }
+        requires requirer { IsSome (pair_of self.old z) }
+        requires provider { pair_of self.old y ≡ Some pair }
+        requires unbound { IsFalse (is_bound self.old r z y) }
+        ensures ok { OnOk result (self.new ≡ tie self.old r z y) }
+        ensures err { OnErr result (self.new ≡ self.old) }
+    {
         self.crowds.enter(z, r, pair)?;
         if self.clients.insert((y, z, r)).is_err() {
             self.crowds.leave(z, r, pair);

@@ -1,6 +1,7 @@
 //! Configurations: which instance is in which pair, and what is bound to what.
 #![tactic(auto)]
 
+mod bindings;
 mod config;
 mod crowd;
 mod crowds;
@@ -9,5 +10,6 @@ mod lists;
 mod met;
 mod supply;
 
+pub use bindings::Bindings;
 pub use config::Config;
 pub use lists::{Instances, Ties};
