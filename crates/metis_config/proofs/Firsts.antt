@@ -7,7 +7,7 @@ use Rattle.std.proofs.lemmas.Bool.{false≢true, false_from_ne_true, eq-eqb, and
 use Rattle.std.proofs.lemmas.Option.{none-some}
 use Rattle.metis_universe.specs.Config.{Config, Binding, pair_of, is_bound, is_tie, IsConfig}
 use Rattle.metis_universe.proofs.Edits.{tie_is}
-use Rattle.metis_config.specs.Clients.{IsIndexed}
+use Rattle.metis_config.specs.Clients.{AreNeeds, IsIndexed}
 use Rattle.metis_config.proofs.Indexed.{own_tie}
 use Rattle.metis_config.proofs.Leasts.{each_there}
 use Rattle.metis_config.proofs.Unmets.{found_none}
@@ -40,6 +40,12 @@ served_none c clients k y e r z = sym (k.same r z y) ∙ none_found y clients e 
 
 pub served_some : (c : Config) (clients : List Binding) → IsIndexed c clients → (r z y : ℕ) → Some (z, r) ≡ option_map short (find (head y) clients) → is_bound c r z y ≡ true
 served_some c clients k r z y e = sym (k.same r z y) ∙ some_found y z r clients e
+
+pub needed_none : (c : Config) (needs : List Binding) → AreNeeds c needs → (z : ℕ) → None ≡ option_map short (find (head z) needs) → (r y : ℕ) → is_bound c r z y ≡ false
+needed_none c needs k z e r y = sym (k.same r z y) ∙ none_found z needs e y r
+
+pub needed_some : (c : Config) (needs : List Binding) → AreNeeds c needs → (r z y : ℕ) → Some (y, r) ≡ option_map short (find (head z) needs) → is_bound c r z y ≡ true
+needed_some c needs k r z y e = sym (k.same r z y) ∙ some_found z y r needs e
 
 -- ---- all pairs and all ports
 

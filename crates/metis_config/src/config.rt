@@ -285,13 +285,7 @@ impl Config {
     }
 
     /// The same, where it is known which pair the provider is in.
-    pub fn tie_to(
-        &mut self,
-        r: PortIx,
-        z: InstNo,
-        y: InstNo,
-        pair: PairIx,
-    ) -> Result<(), NoMemory>
+    pub fn tie_to(&mut self, r: PortIx, z: InstNo, y: InstNo, pair: PairIx) -> Result<(), NoMemory>
         requires apart { z ≢ y }
         requires requirer { IsSome (pair_of self.old z) }
         requires provider { pair_of self.old y ≡ Some pair }

@@ -10,10 +10,7 @@ use metis_ids::{InstNo, PortIx};
 use std::collections::{BTreeMap, BTreeSet};
 
 /// The first binding to this provider: its requirer, and its port. The bindings are given by their providers.
-pub fn first_to(
-    clients: &BTreeSet<(InstNo, InstNo, PortIx)>,
-    y: InstNo,
-) -> Option<(InstNo, PortIx)>
+pub fn first_to(clients: &BTreeSet<(InstNo, InstNo, PortIx)>, y: InstNo) -> Option<(InstNo, PortIx)>
     ensures { result ≡ option_map (λ b. (b.1, b.2)) (find (λ b. b.0 == y) clients.now.keys) }
 {
     match clients.range((y, InstNo(0), PortIx(0))..).next() {
@@ -53,7 +50,13 @@ fn first_at(bindings: &BTreeSet<(PortIx, InstNo, InstNo)>, r: PortIx, z: InstNo)
     ensures { result ≡ option_map (λ b. b.2) (find (λ b. (b.0 == r) && (b.1 == z)) bindings.now.keys) }
 {
     match bindings.range((r, z, InstNo(0))..).next() {
-        Some(tie) => { if tie.0 == r && tie.1 == z { Some(tie.2) } else { None } }
+        Some(tie) => {
+            if tie.0 == r && tie.1 == z {
+                Some(tie.2)
+            } else {
+                None
+            }
+        }
         None => None,
     }
 }
