@@ -60,7 +60,7 @@ fn make(u: &Universe, c: &mut Config, z: InstNo, t: TypeIx) -> Result<(), AFault
         return Err(AFault::InUse(z));
     }
     let initial = u.initial(t);
-    if let Some((w, r)) = c.unmet_if(u, z, Some(initial)) {
+    if let Some((w, r)) = c.unmet_from(u, z, None, Some(initial)) {
         return Err(AFault::Unmet(w, r));
     }
     c.put(z, initial)?;
@@ -72,10 +72,10 @@ fn delete(u: &Universe, c: &mut Config, z: InstNo) -> Result<(), AFault>
     requires correct { Correct u.now c.old }
     ensures { Answers u.now c.old (Delete z) c.new result }
 {
-    if c.pair_of(z).is_none() {
+    let Some(pair) = c.pair_of(z) else {
         return Err(AFault::NoInstance(z));
-    }
-    if let Some((w, r)) = c.unmet_if(u, z, None) {
+    };
+    if let Some((w, r)) = c.unmet_from(u, z, Some(pair), None) {
         return Err(AFault::Unmet(w, r));
     }
     c.remove(z);
@@ -102,7 +102,7 @@ fn bind(u: &Universe, c: &mut Config, r: PortIx, z: InstNo, y: InstNo) -> Result
     if c.bound(r, z, y) {
         return Err(AFault::Bound);
     }
-    c.tie(r, z, y)?;
+    c.tie_to(r, z, y, q)?;
     Ok(())
 }
 
@@ -146,7 +146,7 @@ fn shift(u: &Universe, c: &mut Config, z: InstNo, from: PairIx, to: PairIx) -> R
     if !u.next(from).contains(&to) {
         return Err(AFault::NoTransition);
     }
-    if let Some((w, r)) = c.unmet_if(u, z, Some(to)) {
+    if let Some((w, r)) = c.unmet_from(u, z, Some(from), Some(to)) {
         return Err(AFault::Unmet(w, r));
     }
     c.set_pair(z, to);

@@ -1,4 +1,4 @@
--- The bindings and the same bindings by their ends agree through each edit.
+-- The bindings and the same bindings by their providers agree through each edit.
 use Rattle.std.proofs.Common.{◌≡◌, ℕ, Bool, true, false, not, ◌&&◌, ◌||◌, List, [], ◌∷◌, cond, refl, ap, sym, ◌∙◌, subst, nat_eq}
 use Rattle.std.specs.Prelude.{◌≢◌, ◌==◌, IsSome}
 use Rattle.std.specs.List.{filter, list_any}
@@ -61,13 +61,6 @@ moved false true false = refl
 moved false false true = refl
 moved false false false = refl
 
-pub AreNeeds-tie : (c : Config) (needs : List Binding) (r z y : ℕ) → AreNeeds c needs → AreNeeds (tie c r z y) (insert_key binding_cmp needs (z, y, r))
-AreNeeds-tie c needs r z y k = record {
-  in_order = IsStrictlySortedBy-insert_key binding_cmp_total needs (z, y, r) k.in_order;
-  same = λ r' z' y'. is_bound-tie (config_of [] needs) z y r z' y' r'
-      ∙ (λ i. moved (nat_eq z z') (nat_eq y y') (nat_eq r r') i || k.same r' z' y' i) ∙ sym (is_bound-tie c r z y r' z' y');
-}
-
 pub AreNeeds-untie : (c : Config) (needs : List Binding) (r z y : ℕ) → AreNeeds c needs → AreNeeds (untie c r z y) (filter (λ b. not (is_tie z y r b)) needs)
 AreNeeds-untie c needs r z y k = record {
   in_order = IsStrictlySortedBy-filter binding_cmp (λ b. not (is_tie z y r b)) needs k.in_order;
@@ -76,12 +69,6 @@ AreNeeds-untie c needs r z y k = record {
 }
 
 -- ---- by both
-
-pub AreEnds-put : (c : Config) (clients needs : List Binding) (z p : ℕ) → AreEnds c clients needs → AreEnds (put c z p) clients needs
-AreEnds-put c clients needs z p k = record { by_provider = IsIndexed-put c clients z p k.by_provider; by_requirer = record { in_order = k.by_requirer.in_order; same = k.by_requirer.same } }
-
-pub AreEnds-tie : (c : Config) (clients needs : List Binding) (r z y : ℕ) → (z ≢ y) → IsSome (pair_of c z) → IsSome (pair_of c y) → AreEnds c clients needs → AreEnds (tie c r z y) (insert_key binding_cmp clients (y, z, r)) (insert_key binding_cmp needs (z, y, r))
-AreEnds-tie c clients needs r z y n s t k = record { by_provider = IsIndexed-tie c clients r z y n s t k.by_provider; by_requirer = AreNeeds-tie c needs r z y k.by_requirer }
 
 pub AreEnds-untie : (c : Config) (clients needs : List Binding) (r z y : ℕ) → AreEnds c clients needs → AreEnds (untie c r z y) (filter (λ b. not (is_tie y z r b)) clients) (filter (λ b. not (is_tie z y r b)) needs)
 AreEnds-untie c clients needs r z y k = record { by_provider = IsIndexed-untie c clients r z y k.by_provider; by_requirer = AreNeeds-untie c needs r z y k.by_requirer }
@@ -115,12 +102,12 @@ insert-undone x y z (b ∷ bs) n =
 
 -- ---- an instance that no binding names
 
-pub AreEnds-gone : (c : Config) (clients needs : List Binding) (z : ℕ) → filter (λ b. not (names z b)) c.bindings ≡ c.bindings → AreEnds c clients needs → AreEnds (config_of (filter (λ e. not (e.0 == z)) c.instances) c.bindings) clients needs
-AreEnds-gone c clients needs z same k = record {
-  by_provider = record {
-    config = subst (λ bs. IsConfig (config_of (filter (λ e. not (e.0 == z)) c.instances) bs)) same (IsConfig-remove c z k.by_provider.config);
-    in_order = k.by_provider.in_order;
-    same = k.by_provider.same;
-  };
-  by_requirer = record { in_order = k.by_requirer.in_order; same = k.by_requirer.same };
+pub IsIndexed-gone : (c : Config) (clients : List Binding) (z : ℕ) → filter (λ b. not (names z b)) c.bindings ≡ c.bindings → IsIndexed c clients → IsIndexed (config_of (filter (λ e. not (e.0 == z)) c.instances) c.bindings) clients
+IsIndexed-gone c clients z same k = record {
+  config = subst (λ bs. IsConfig (config_of (filter (λ e. not (e.0 == z)) c.instances) bs)) same (IsConfig-remove c z k.config);
+  in_order = k.in_order;
+  same = k.same;
 }
+
+pub AreEnds-gone : (c : Config) (clients needs : List Binding) (z : ℕ) → filter (λ b. not (names z b)) c.bindings ≡ c.bindings → AreEnds c clients needs → AreEnds (config_of (filter (λ e. not (e.0 == z)) c.instances) c.bindings) clients needs
+AreEnds-gone c clients needs z same k = record { by_provider = IsIndexed-gone c clients z same k.by_provider; by_requirer = record { in_order = k.by_requirer.in_order; same = k.by_requirer.same } }

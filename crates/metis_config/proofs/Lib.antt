@@ -2,6 +2,7 @@ pub mod Changes
 pub mod Firsts
 pub mod GivenUp
 pub mod Indexed
+pub mod Keys
 pub mod Leasts
 pub mod Prefixes
 pub mod Providers

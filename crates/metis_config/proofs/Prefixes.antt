@@ -64,7 +64,7 @@ pub find_none : (t : Binding → Bool) (xs : List Binding) → AllByRecursion (�
 find_none t [] h = refl
 find_none t (x ∷ xs) h = ap (λ b. cond b (Some x) (find t xs)) h.0 ∙ find_none t xs h.1
 
-each_after : (P : Binding → Type 0) (x : Binding) (xs : List Binding) → ((b : Binding) → binding_cmp x b ≡ Less → P b) → AllByRecursion (λ b. binding_cmp x b ≡ Less) xs → AllByRecursion P xs
+pub each_after : (P : Binding → Type 0) (x : Binding) (xs : List Binding) → ((b : Binding) → binding_cmp x b ≡ Less → P b) → AllByRecursion (λ b. binding_cmp x b ≡ Less) xs → AllByRecursion P xs
 each_after P x [] h s = tt
 each_after P x (b ∷ xs) h s = (h b s.0, each_after P x xs h s.1)
 

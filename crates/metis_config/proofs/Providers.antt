@@ -14,7 +14,7 @@ use Rattle.metis_universe.specs.Universe.{Universe, demand_of, provides, require
 use Rattle.metis_universe.specs.Config.{Binding, Config, IsConfig, binding_cmp, config_of, is_bound, is_met, is_tie, pair_of, put, tie, untie}
 use Rattle.metis_universe.proofs.Demands.{demand_none, demand_one, gives}
 use Rattle.metis_universe.proofs.Edits.{binding_cmp-exact, pair_of-put, pair_of-remove, tie_is}
-use Rattle.metis_config.specs.Crowd.{providers_in}
+use Rattle.metis_config.specs.Supply.{providers_in}
 use Rattle.metis_config.specs.Unmet.{demanded, is_met_if, is_required, pair_if, providers_if}
 use Rattle.metis_config.proofs.GivenUp.{each_in, is_in}
 use Rattle.metis_config.proofs.Indexed.{neither, none_tied, own_tie}

@@ -38,6 +38,9 @@ found_pair q ss i e = let at = position-Some (λ (s : ℕ × ℕ). nat_eq s.0 q)
 pub weight-push : (f : ℕ → Bool) (q : ℕ) (ss : List (ℕ × ℕ)) → weight f (ss ++ (q, 1) ∷ []) ≡ weight f ss + cond (f q) 1 0
 weight-push f q ss = sum_by_push (λ (s : ℕ × ℕ). cond (f s.0) s.1 0) ss (q, 1)
 
+pub weight-one : (f : ℕ → Bool) (q : ℕ) → weight f ((q, 1) ∷ []) ≡ cond (f q) 1 0
+weight-one f q = let pushed : weight f ((q, 1) ∷ []) ≡ 0 + cond (f q) 1 0 = weight-push f q [] in omega (arith, pushed)
+
 pub total-by_weight : (ss : List (ℕ × ℕ)) → weight (λ q. true) ss ≡ total_of ss
 total-by_weight ss = refl
 

@@ -1,4 +1,5 @@
 pub mod Crowd
+pub mod Supply
 pub mod Clients
 pub mod Kept
 pub mod Over

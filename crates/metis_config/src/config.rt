@@ -5,11 +5,13 @@ ghost use Rattle.metis_universe.specs.Config.{IsConfig, config_of, empty, Correc
 ghost use Rattle.metis_universe.specs.Goal.{holding};
 ghost use Rattle.metis_universe.specs.Goals.{serving};
 ghost use Rattle.metis_universe.specs.Universe.{pair_count};
+ghost use Rattle.metis_config.specs.Kept.{AreOver};
 ghost use Rattle.metis_config.specs.Over.{IsOver};
 ghost use Rattle.metis_config.specs.Unmet.{unmet, is_unmet, IsLeast, changed};
 
+use crate::bindings::Bindings;
 use crate::crowds::Crowds;
-use crate::ends::Ends;
+use crate::ends::{first_to, some_from};
 use crate::lists::{Instances, Ties};
 use crate::met::{Change, earlier_of};
 use metis_ids::{Goal, InstNo, NoMemory, PairIx, PortIx};
@@ -23,8 +25,8 @@ use std::marker::Model;
 pub struct Config {
     instances: BTreeMap<InstNo, PairIx>,
     bindings: BTreeSet<(PortIx, InstNo, InstNo)>,
-    /// The bindings again, by provider and by requirer.
-    ends: Ends,
+    /// The bindings again, each as its provider, its requirer and its port.
+    clients: BTreeSet<(InstNo, InstNo, PortIx)>,
     /// In which pairs the providers of each port of each requirer are.
     pub(crate) crowds: Crowds,
 }
@@ -38,7 +40,7 @@ impl Model for Config {
 
     ghost view = { λ a. model.config_of a.instances.entries a.bindings.keys };
 
-    ghost invariant = { λ a. AreKept (model.config_of a.instances.entries a.bindings.keys) a.ends.by_provider.keys a.ends.by_requirer.keys a.crowds.map };
+    ghost invariant = { λ a. AreKept (model.config_of a.instances.entries a.bindings.keys) a.clients.keys a.crowds.map };
 }
 
 impl Config {
@@ -49,7 +51,7 @@ impl Config {
         Config {
             instances: BTreeMap::new(alloc),
             bindings: BTreeSet::new(alloc),
-            ends: Ends::new(alloc),
+            clients: BTreeSet::new(alloc),
             crowds: Crowds::new(alloc),
         }
     }
@@ -61,9 +63,36 @@ impl Config {
         Ok(Config {
             instances: self.instances.clone()?,
             bindings: self.bindings.clone()?,
-            ends: self.ends.copy()?,
+            clients: self.clients.clone()?,
             crowds: self.crowds.copy()?,
         })
+    }
+
+    /// A copy of the bindings alone.
+    pub fn copy_bindings(&self) -> Result<Bindings, NoMemory>
+        ensures same { IfOk result (λ kept. kept.ties ≡ self.now.bindings) }
+        ensures over { IfOk result (AreOver self.now.instances) }
+    {
+        Ok(Bindings {
+            ties: self.bindings.clone()?,
+            clients: self.clients.clone()?,
+            crowds: self.crowds.copy()?,
+        })
+    }
+
+    /// Puts these bindings in the place of its own. It takes no memory.
+    pub fn set_bindings(&mut self, kept: Bindings)
+        requires { AreOver self.old.instances kept }
+        ensures { self.new ≡ config_of self.old.instances kept.ties }
+    {
+        let Bindings {
+            ties,
+            clients,
+            crowds,
+        } = kept;
+        self.bindings = ties;
+        self.clients = clients;
+        self.crowds = crowds;
     }
 
     /// The pair of an instance, if it is there.
@@ -140,7 +169,7 @@ impl Config {
     pub fn is_over(&self, u: &Universe) -> bool
         ensures { IsTrue result ↔ IsOver u.now self.now }
     {
-        let _parts = &self.ends;
+        let _parts = &self.clients;
         are_pairs_below(&self.instances, u.pairs()) && are_ports_below(&self.bindings, u.ports())
     }
 
@@ -174,15 +203,28 @@ impl Config {
         requires to { (q : ℕ) → to ≡ Some q → q < pair_count u.now }
         ensures { result ≡ unmet u.now (changed self.now z to) }
     {
+        self.unmet_from(u, z, self.pair_of(z), to)
+    }
+
+    /// The same, where it is known which pair the instance is in.
+    pub fn unmet_from(
+        &self,
+        u: &Universe,
+        z: InstNo,
+        from: Option<PairIx>,
+        to: Option<PairIx>,
+    ) -> Option<(InstNo, PortIx)>
+        requires over { IsOver u.now self.now }
+        requires correct { Correct u.now self.now }
+        requires from { from ≡ pair_of self.now z }
+        requires to { (q : ℕ) → to ≡ Some q → q < pair_count u.now }
+        ensures { result ≡ unmet u.now (changed self.now z to) }
+    {
         u.keeps_invariant();
         self.keeps_invariant();
-        let change = Change {
-            inst: z,
-            from: self.pair_of(z),
-            to,
-        };
+        let change = Change { inst: z, from, to };
         let own = self.unmet_own(u, &change);
-        let lost = self.first_lost(u, &self.ends.by_provider, &change);
+        let lost = self.first_lost(u, &self.clients, &change);
         earlier_of(z, own, lost)
     }
 
@@ -222,12 +264,10 @@ impl Config {
         requires { IsSome (pair_of self.old z) }
         ensures { self.new ≡ put self.old z p }
     {
-        let from = pair_in(&self.instances, z).unwrap();
-        self.crowds.shift_all(&self.ends.by_provider, z, from, p);
         // Only a new key takes memory.
         match self.instances.insert(z, p) {
-            Ok(_) => (),
-            Err(_) => unreachable!(),
+            Ok(Some(from)) => self.crowds.shift_all(&self.clients, z, from, p),
+            _ => unreachable!(),
         }
     }
 
@@ -240,14 +280,26 @@ impl Config {
         ensures ok { OnOk result (self.new ≡ tie self.old r z y) }
         ensures err { OnErr result (self.new ≡ self.old) }
     {
-        let pair = pair_in(&self.instances, y).unwrap();
+        let pair = self.pair_of(y).unwrap();
+        self.tie_to(r, z, y, pair)
+    }
+
+    /// The same, where it is known which pair the provider is in.
+    pub fn tie_to(&mut self, r: PortIx, z: InstNo, y: InstNo, pair: PairIx) -> Result<(), NoMemory>
+        requires apart { z ≢ y }
+        requires requirer { IsSome (pair_of self.old z) }
+        requires provider { pair_of self.old y ≡ Some pair }
+        requires unbound { IsFalse (is_bound self.old r z y) }
+        ensures ok { OnOk result (self.new ≡ tie self.old r z y) }
+        ensures err { OnErr result (self.new ≡ self.old) }
+    {
         self.crowds.enter(z, r, pair)?;
-        if self.ends.add(r, z, y).is_err() {
+        if self.clients.insert((y, z, r)).is_err() {
             self.crowds.leave(z, r, pair);
             return Err(NoMemory);
         }
         if self.bindings.insert((r, z, y)).is_err() {
-            self.ends.take(r, z, y);
+            self.clients.remove(&(y, z, r));
             self.crowds.leave(z, r, pair);
             return Err(NoMemory);
         }
@@ -261,7 +313,7 @@ impl Config {
     {
         let pair = pair_in(&self.instances, y).unwrap();
         self.bindings.remove(&(r, z, y));
-        self.ends.take(r, z, y);
+        self.clients.remove(&(y, z, r));
         self.crowds.leave(z, r, pair);
     }
 
@@ -282,7 +334,7 @@ impl Config {
     fn served_by(&self, y: InstNo) -> Option<(PortIx, InstNo)>
         ensures { MatchOption result ((r z : ℕ) → IsFalse (is_bound self.now r z y)) (λ b. IsTrue (is_bound self.now b.0 b.1 y)) }
     {
-        let (z, r) = self.ends.first_to(y)?;
+        let (z, r) = first_to(&self.clients, y)?;
         Some((r, z))
     }
 
@@ -290,8 +342,7 @@ impl Config {
     fn needed_by(&self, z: InstNo) -> Option<(PortIx, InstNo)>
         ensures { MatchOption result ((r y : ℕ) → IsFalse (is_bound self.now r z y)) (λ b. IsTrue (is_bound self.now b.0 z b.1)) }
     {
-        let (y, r) = self.ends.first_from(z)?;
-        Some((r, y))
+        some_from(&self.crowds.map, &self.bindings, z)
     }
 }
 

@@ -169,8 +169,8 @@ fn giving_among(shares: &[(PairIx, usize)], u: &Universe, r: PortIx) -> usize
     giving
 }
 
-// The share's count where its pair provides the port, else 0.
-fn counted(u: &Universe, share: (PairIx, usize), r: PortIx) -> usize
+/// The share's count where its pair provides the port, else 0.
+pub fn counted(u: &Universe, share: (PairIx, usize), r: PortIx) -> usize
     ensures { result ≡ (if provides u.now share.0 r then share.1 else 0) }
 {
     let (pair, count) = share;

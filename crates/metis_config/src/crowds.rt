@@ -1,10 +1,10 @@
 //! In which pairs the providers of each port of each requirer are.
-ghost use Rattle.std.specs.Prelude.{◌≡◌, ◌<◌, ◌+◌, ◌==◌, ◌&&◌, ℕ, Bool, IfOk, IsTrue, ◌↔◌, OnErr, OnOk, if◌then◌else◌};
+ghost use Rattle.std.specs.Prelude.{◌≡◌, ◌<◌, ◌+◌, ◌==◌, ◌&&◌, ℕ, Bool, IfOk, IsTrue, OnErr, OnOk, if◌then◌else◌};
 ghost use Rattle.metis_universe.specs.Universe.{provides};
 ghost use Rattle.metis_config.specs.Clients.{has_client};
-ghost use Rattle.metis_config.specs.Crowd.{total_of, weight, weight_at};
+ghost use Rattle.metis_config.specs.Supply.{weight_at};
 
-use crate::crowd::Crowd;
+use crate::supply::Supply;
 use metis_ids::{InstNo, NoMemory, PairIx, PortIx};
 use metis_universe::Universe;
 use std::alloc::Global;
@@ -13,7 +13,7 @@ use std::collections::{BTreeMap, BTreeSet};
 /// For each requirer and port the pairs in which its providers are.
 #[derive(Drop)]
 pub struct Crowds {
-    pub(crate) map: BTreeMap<(InstNo, PortIx), Crowd>,
+    pub(crate) map: BTreeMap<(InstNo, PortIx), Supply>,
     alloc: Global,
 }
 
@@ -43,12 +43,11 @@ impl Crowds {
         ensures ok { OnOk result ((v s : ℕ) (f : ℕ → Bool) → weight_at self.new.map v s f ≡ weight_at self.old.map v s f + (if (v == w) && (s == r) && f pair then 1 else 0)) }
         ensures err { OnErr result ((v s : ℕ) (f : ℕ → Bool) → weight_at self.new.map v s f ≡ weight_at self.old.map v s f) }
     {
-        if let Some(crowd) = self.map.get_mut(&(w, r)) {
-            return enter_with_room(crowd, pair);
+        let alloc = self.alloc;
+        if let Some(supply) = self.map.get_mut(&(w, r)) {
+            return supply.enter(alloc, pair);
         }
-        let mut crowd = Crowd::new(self.alloc);
-        enter_with_room(&mut crowd, pair)?;
-        self.map.insert((w, r), crowd)?;
+        self.map.insert((w, r), Supply::One(pair))?;
         Ok(())
     }
 
@@ -58,7 +57,7 @@ impl Crowds {
         ensures { (v s : ℕ) (f : ℕ → Bool) → weight_at self.new.map v s f + (if (v == w) && (s == r) && f pair then 1 else 0) ≡ weight_at self.old.map v s f }
     {
         let is_last = match self.map.get_mut(&(w, r)) {
-            Some(crowd) => leave_last(crowd, pair),
+            Some(supply) => supply.leave(pair),
             None => false,
         };
         if is_last {
@@ -71,9 +70,8 @@ impl Crowds {
         requires { 0 < weight_at self.old.map w r (λ q. q == from) }
         ensures { (v s : ℕ) (f : ℕ → Bool) → weight_at self.new.map v s f + (if (v == w) && (s == r) && f from then 1 else 0) ≡ weight_at self.old.map v s f + (if (v == w) && (s == r) && f to then 1 else 0) }
     {
-        if let Some(crowd) = self.map.get_mut(&(w, r)) {
-            crowd.leave(from);
-            crowd.enter(to);
+        if let Some(supply) = self.map.get_mut(&(w, r)) {
+            supply.shift(from, to);
         }
     }
 
@@ -101,28 +99,8 @@ impl Crowds {
         ensures { result ≡ weight_at self.now.map w r (λ q. provides u.now q r) }
     {
         match self.map.get(&(w, r)) {
-            Some(crowd) => crowd.giving(u, r),
+            Some(supply) => supply.giving(u, r),
             None => 0,
         }
     }
-}
-
-// One more is in the pair, where memory lasts.
-fn enter_with_room(crowd: &mut Crowd, pair: PairIx) -> Result<(), NoMemory>
-    ensures ok { OnOk result ((f : ℕ → Bool) → weight f crowd.new.shares ≡ weight f crowd.old.shares + (if f pair then 1 else 0)) }
-    ensures err { OnErr result (crowd.new.shares ≡ crowd.old.shares) }
-{
-    crowd.make_room()?;
-    crowd.enter(pair);
-    Ok(())
-}
-
-// One fewer is in the pair. Tells whether it was the last.
-fn leave_last(crowd: &mut Crowd, pair: PairIx) -> bool
-    requires { 0 < weight (λ q. q == pair) crowd.old.shares }
-    ensures weight { (f : ℕ → Bool) → weight f crowd.new.shares + (if f pair then 1 else 0) ≡ weight f crowd.old.shares }
-    ensures last { IsTrue result ↔ (total_of crowd.new.shares ≡ 0) }
-{
-    crowd.leave(pair);
-    crowd.is_empty()
 }

@@ -1,96 +1,58 @@
-//! The bindings by their ends.
-ghost use Rattle.std.specs.Prelude.{◌≡◌, ◌==◌, IfOk, OnOk, OnErr, option_map, None};
-ghost use Rattle.std.specs.List.{find, filter};
-ghost use Rattle.std.specs.BTreeSet.{insert_key};
-ghost use Rattle.std.specs.Prelude.{not, IsFalse, []};
-ghost use Rattle.std.specs.List.Sorted.{IsStrictlySortedBy};
-ghost use Rattle.metis_universe.specs.Config.{binding_cmp, is_tie};
-ghost use Rattle.metis_config.specs.Clients.{has_client};
+//! The first binding at an end.
+ghost use Rattle.std.specs.Prelude.{◌≡◌, ◌==◌, ◌&&◌, ℕ, IsFalse, IsSome, IsTrue, MatchOption, [], option_map};
+ghost use Rattle.std.specs.List.{find};
+ghost use Rattle.std.specs.BTreeMap.{get};
+ghost use Rattle.metis_universe.specs.Config.{config_of, is_bound};
+ghost use Rattle.metis_config.specs.Supply.{key_cmp};
 
-use metis_ids::{InstNo, NoMemory, PortIx};
-use std::alloc::Global;
-use std::collections::BTreeSet;
+use crate::supply::Supply;
+use metis_ids::{InstNo, PortIx};
+use std::collections::{BTreeMap, BTreeSet};
 
-/// Each binding twice: by the instance at one end, then the one at the other, then the port.
-#[derive(Drop)]
-pub struct Ends {
-    pub(crate) by_provider: BTreeSet<(InstNo, InstNo, PortIx)>,
-    pub(crate) by_requirer: BTreeSet<(InstNo, InstNo, PortIx)>,
-}
-
-impl Ends {
-    /// No binding.
-    pub fn new(alloc: Global) -> Ends
-        ensures by_provider { result.by_provider.keys ≡ [] }
-        ensures by_requirer { result.by_requirer.keys ≡ [] }
-    {
-        Ends {
-            by_provider: BTreeSet::new(alloc),
-            by_requirer: BTreeSet::new(alloc),
-        }
-    }
-
-    /// The same bindings.
-    pub fn copy(&self) -> Result<Ends, NoMemory>
-        ensures by_provider { IfOk result (λ ends. ends.by_provider.keys ≡ self.now.by_provider.keys) }
-        ensures by_requirer { IfOk result (λ ends. ends.by_requirer.keys ≡ self.now.by_requirer.keys) }
-    {
-        Ok(Ends {
-            by_provider: self.by_provider.clone()?,
-            by_requirer: self.by_requirer.clone()?,
-        })
-    }
-
-    /// Adds a binding. Where memory runs out, nothing changes.
-    pub fn add(&mut self, r: PortIx, z: InstNo, y: InstNo) -> Result<(), NoMemory>
-        requires { IsFalse (has_client self.old.by_provider.keys y z r) }
-        ensures by_provider { OnOk result (self.new.by_provider.keys ≡ insert_key binding_cmp self.old.by_provider.keys (y, z, r)) }
-        ensures by_requirer { OnOk result (self.new.by_requirer.keys ≡ insert_key binding_cmp self.old.by_requirer.keys (z, y, r)) }
-        ensures err_provider { OnErr result (self.new.by_provider.keys ≡ self.old.by_provider.keys) }
-        ensures err_requirer { OnErr result (self.new.by_requirer.keys ≡ self.old.by_requirer.keys) }
-    {
-        self.by_provider.insert((y, z, r))?;
-        if self.by_requirer.insert((z, y, r)).is_err() {
-            self.by_provider.remove(&(y, z, r));
-            return Err(NoMemory);
-        }
-        Ok(())
-    }
-
-    /// Takes a binding away.
-    pub fn take(&mut self, r: PortIx, z: InstNo, y: InstNo)
-        requires provider_order { IsStrictlySortedBy binding_cmp self.old.by_provider.keys }
-        requires requirer_order { IsStrictlySortedBy binding_cmp self.old.by_requirer.keys }
-        ensures by_provider { self.new.by_provider.keys ≡ filter (λ b. not (is_tie y z r b)) self.old.by_provider.keys }
-        ensures by_requirer { self.new.by_requirer.keys ≡ filter (λ b. not (is_tie z y r b)) self.old.by_requirer.keys }
-    {
-        self.by_provider.remove(&(y, z, r));
-        self.by_requirer.remove(&(z, y, r));
-    }
-
-    /// The first binding to this provider: its requirer, and its port.
-    pub fn first_to(&self, y: InstNo) -> Option<(InstNo, PortIx)>
-        ensures { result ≡ option_map (λ b. (b.1, b.2)) (find (λ b. b.0 == y) self.now.by_provider.keys) }
-    {
-        first_at(&self.by_provider, y)
-    }
-
-    /// The first binding of this requirer: its provider, and its port.
-    pub fn first_from(&self, z: InstNo) -> Option<(InstNo, PortIx)>
-        ensures { result ≡ option_map (λ b. (b.1, b.2)) (find (λ b. b.0 == z) self.now.by_requirer.keys) }
-    {
-        first_at(&self.by_requirer, z)
-    }
-}
-
-// The first of those that begin with the instance, without it.
-fn first_at(ties: &BTreeSet<(InstNo, InstNo, PortIx)>, z: InstNo) -> Option<(InstNo, PortIx)>
-    ensures { result ≡ option_map (λ b. (b.1, b.2)) (find (λ b. b.0 == z) ties.now.keys) }
+/// The first binding to this provider: its requirer, and its port. The bindings are given by their providers.
+pub fn first_to(clients: &BTreeSet<(InstNo, InstNo, PortIx)>, y: InstNo) -> Option<(InstNo, PortIx)>
+    ensures { result ≡ option_map (λ b. (b.1, b.2)) (find (λ b. b.0 == y) clients.now.keys) }
 {
-    match ties.range((z, InstNo(0), PortIx(0))..).next() {
+    match clients.range((y, InstNo(0), PortIx(0))..).next() {
+        Some(client) => {
+            if client.0 == y {
+                Some((client.1, client.2))
+            } else {
+                None
+            }
+        }
+        None => None,
+    }
+}
+
+/// A binding of this requirer: its port, and its provider. Each port at which it has one is given with its crowd.
+pub fn some_from(
+    crowds: &BTreeMap<(InstNo, PortIx), Supply>,
+    bindings: &BTreeSet<(PortIx, InstNo, InstNo)>,
+    z: InstNo,
+) -> Option<(PortIx, InstNo)>
+    requires { (r y : ℕ) → IsTrue (is_bound (config_of [] bindings.now.keys) r z y) → IsSome (get key_cmp crowds.now (z, r)) }
+    ensures { MatchOption result ((r y : ℕ) → IsFalse (is_bound (config_of [] bindings.now.keys) r z y)) (λ b. IsTrue (is_bound (config_of [] bindings.now.keys) b.0 z b.1)) }
+{
+    for (key, _) in crowds.range((z, PortIx(0))..) {
+        if key.0 != z {
+            return None;
+        }
+        if let Some(y) = first_at(bindings, key.1, z) {
+            return Some((key.1, y));
+        }
+    }
+    None
+}
+
+// The first provider of the requirer's port.
+fn first_at(bindings: &BTreeSet<(PortIx, InstNo, InstNo)>, r: PortIx, z: InstNo) -> Option<InstNo>
+    ensures { result ≡ option_map (λ b. b.2) (find (λ b. (b.0 == r) && (b.1 == z)) bindings.now.keys) }
+{
+    match bindings.range((r, z, InstNo(0))..).next() {
         Some(tie) => {
-            if tie.0 == z {
-                Some((tie.1, tie.2))
+            if tie.0 == r && tie.1 == z {
+                Some(tie.2)
             } else {
                 None
             }

@@ -1,13 +1,13 @@
 //! Which ports of a configuration are met, now or after a change: each needs as many different providers as its requirer's pair
 //! demands.
-ghost use Rattle.std.specs.Prelude.{◌≡◌, ◌<◌, ℕ, ◌&&◌, not, if◌then◌else◌, nat_lt, false, Some, None, IsTrue};
+ghost use Rattle.std.specs.Prelude.{◌≡◌, ◌<◌, ℕ, ◌&&◌, not, if◌then◌else◌, nat_lt, false, Some, None, IsFalse, IsTrue};
 ghost use Rattle.std.specs.List.{find};
 ghost use Rattle.std.specs.Option.{option_map_or};
 ghost use Rattle.metis_universe.specs.Universe.{demand_of, pair_count, provides, required_of};
 ghost use Rattle.metis_universe.specs.Config.{Correct, IsConfig, is_bound, is_met, pair_of};
 ghost use Rattle.metis_config.specs.Over.{IsOver};
 ghost use Rattle.metis_config.specs.Clients.{IsIndexed};
-ghost use Rattle.metis_config.specs.Crowd.{providers_in};
+ghost use Rattle.metis_config.specs.Supply.{providers_in};
 ghost use Rattle.metis_config.specs.Unmet.{demanded, is_met_if, is_required, is_lost, IsLeast, unmet_port, unmet, own_unmet, earlier_of};
 
 use crate::config::Config;
@@ -30,6 +30,17 @@ fn gives(u: &Universe, pair: Option<PairIx>, r: PortIx) -> bool
 {
     match pair {
         Some(q) => u.provides(q, r),
+        None => false,
+    }
+}
+
+/// Whether the pair may provide a port, if there is one.
+fn gives_some(u: &Universe, pair: Option<PairIx>) -> bool
+    requires { (q : ℕ) → pair ≡ Some q → q < pair_count u.now }
+    ensures { IsFalse result → (r : ℕ) → IsFalse (option_map_or (λ q. provides u.now q r) pair false) }
+{
+    match pair {
+        Some(q) => !u.provided(q).is_empty(),
         None => false,
     }
 }
@@ -122,6 +133,9 @@ impl Config {
         requires indexed { IsIndexed self.now clients.now.keys }
         ensures { IsLeast (is_lost u.now self.now change.now.inst change.now.to) result }
     {
+        if !gives_some(u, change.from) {
+            return None;
+        }
         for client in clients.range((change.inst, InstNo(0), PortIx(0))..) {
             if client.0 != change.inst {
                 return None;

@@ -9,13 +9,14 @@ use Rattle.metis_ids.specs.declared.actions.Action.TheVariants.{New, Delete, Bin
 use Rattle.metis_universe.proofs.Edits.{is_bound-remove, is_bound-tie, is_bound-untie, pair_of-put, pair_of-remove, tie_is}
 use Rattle.metis_universe.proofs.Kept.{IsConfig-after, IsConfig-put, IsConfig-remove, IsConfig-untie}
 use Rattle.metis_universe.proofs.Same.{same_config}
-use Rattle.metis_universe.specs.Config.{Binding, Config, Correct, IsConfig, is_bound, is_tie, names, pair_of, put, remove, tie, untie}
+use Rattle.metis_universe.specs.Config.{Binding, Config, Correct, IsConfig, config_of, is_bound, is_tie, names, pair_of, put, remove, tie, untie}
 use Rattle.metis_universe.specs.Step.{Allows, Step, after}
 use Rattle.metis_universe.specs.Universe.{Universe, initial_of}
 use Rattle.metis_config.specs.Over.{IsOver}
-use Rattle.metis_sim.specs.Changes.{AreUndoable, IsFit, IsUndoable, before, befores, change_of}
+use Rattle.metis_sim.specs.Changes.{AreUndoable, IsChangeOf, IsFit, IsUndoable, before, befores}
 use Rattle.metis_sim.specs.Session.{IsSound}
 use Rattle.metis_sim.specs.declared.change.Change.{Change}
+use Rattle.metis_sim.specs.declared.change.Change.TheVariants.{Made, Bound, Moved, Untied, Before}
 
 module _ (c : Config) (k : IsConfig c) where
   -- an instance that was not there names no binding
@@ -70,27 +71,35 @@ module _ (c : Config) (k : IsConfig c) where
 -- ---- an action that is allowed
 
 module _ (u : Universe) (c : Config) (k : IsConfig c) where
-  before_after : (a : Action) → Allows u c a → before (after u c a) (change_of c a) ≡ c
-  before_after (New z t) allowed = removed_again c k z (initial_of u t) allowed.1
-  before_after (Delete z) allowed = refl
-  before_after (Bind r z y) allowed = untied_again c k r z y (IsConfig-after u c (Bind r z y) k allowed) allowed.unbound
-  before_after (Unbind r z y) allowed = refl
-  before_after (Move z p q) allowed = moved_back c k z p q allowed.0
+  before_after : (a : Action) (x : Change) → IsChangeOf c a x → Allows u c a → before (after u c a) x ≡ c
+  before_after (New z t) x of allowed = ap (before (put c z (initial_of u t))) of ∙ removed_again c k z (initial_of u t) allowed.1
+  before_after (Delete z) x of allowed = ap (before (remove c z)) of
+  before_after (Bind r z y) x of allowed = ap (before (tie c r z y)) of ∙ untied_again c k r z y (IsConfig-after u c (Bind r z y) k allowed) allowed.unbound
+  before_after (Unbind r z y) (Untied b) of allowed = ap (config_of c.instances) of.same
+  before_after (Unbind r z y) (Made w) of allowed = absurd of
+  before_after (Unbind r z y) (Bound s w v) of allowed = absurd of
+  before_after (Unbind r z y) (Moved w p) of allowed = absurd of
+  before_after (Unbind r z y) (Before d) of allowed = absurd of
+  before_after (Move z p q) x of allowed = ap (before (put c z q)) of ∙ moved_back c k z p q allowed.0
 
-  undoable_after : (a : Action) → Allows u c a → IsUndoable (after u c a) (change_of c a)
-  undoable_after (New z t) allowed = tt
-  undoable_after (Delete z) allowed = tt
-  undoable_after (Bind r z y) allowed = is_bound-tie c r z y r z y ∙ or_left _ _ (and_from _ _ (and_from _ _ (eq-eqb r r refl) (eq-eqb z z refl)) (eq-eqb y y refl))
-  undoable_after (Unbind r z y) allowed = tt
-  undoable_after (Move z p q) allowed = ap is_some (pair_of-put c z q z ∙ ap (λ b. cond b (Some q) (pair_of c z)) (eq-eqb z z refl))
+  undoable_after : (a : Action) (x : Change) → IsChangeOf c a x → Allows u c a → IsUndoable (after u c a) x
+  undoable_after (New z t) x of allowed = subst (IsUndoable (put c z (initial_of u t))) (sym of) tt
+  undoable_after (Delete z) x of allowed = subst (IsUndoable (remove c z)) (sym of) tt
+  undoable_after (Bind r z y) x of allowed = subst (IsUndoable (tie c r z y)) (sym of) (is_bound-tie c r z y r z y ∙ or_left _ _ (and_from _ _ (and_from _ _ (eq-eqb r r refl) (eq-eqb z z refl)) (eq-eqb y y refl)))
+  undoable_after (Unbind r z y) (Untied b) of allowed = of.over
+  undoable_after (Unbind r z y) (Made w) of allowed = absurd of
+  undoable_after (Unbind r z y) (Bound s w v) of allowed = absurd of
+  undoable_after (Unbind r z y) (Moved w p) of allowed = absurd of
+  undoable_after (Unbind r z y) (Before d) of allowed = absurd of
+  undoable_after (Move z p q) x of allowed = subst (IsUndoable (put c z q)) (sym of) (ap is_some (pair_of-put c z q z ∙ ap (λ b. cond b (Some q) (pair_of c z)) (eq-eqb z z refl)))
 
   -- the step from c to d changed x
-  module _ (a : Action) (d : Config) (step : Step u c a d) (x : Change) (of : x ≡ change_of c a) where
+  module _ (a : Action) (d : Config) (step : Step u c a d) (x : Change) (of : IsChangeOf c a x) where
     pub undone_is : before d x ≡ c
-    undone_is = (λ i. before (step.1 i) (of i)) ∙ before_after a step.0
+    undone_is = ap (λ e. before e x) step.1 ∙ before_after a x of step.0
 
     pub is_undoable : IsUndoable d x
-    is_undoable = subst (λ (w : Config × Change). IsUndoable w.0 w.1) (sym (λ i. (step.1 i, of i))) (undoable_after a step.0)
+    is_undoable = subst (λ e. IsUndoable e x) (sym step.1) (undoable_after a x of step.0)
 
     module _ (xs : List Change) where
       pub befores_is : befores d (x ∷ xs) ≡ c ∷ befores c xs

@@ -1,8 +1,8 @@
 //! What an action changed, and how it is undone.
 ghost use Rattle.std.specs.Prelude.{◌≡◌, IfOk, IsTrue, OnErr};
-ghost use Rattle.metis_sim.specs.Changes.{IsUndoable, before, change_of, takes_away};
+ghost use Rattle.metis_sim.specs.Changes.{IsChangeOf, IsUndoable, before, takes_away};
 
-use metis_config::Config;
+use metis_config::{Bindings, Config};
 use metis_ids::{Action, InstNo, NoMemory, PairIx, PortIx};
 
 /// What leads from a configuration back to the one before it.
@@ -14,21 +14,24 @@ pub enum Change {
     Bound(PortIx, InstNo, InstNo),
     /// The instance was in the pair.
     Moved(InstNo, PairIx),
-    /// The configuration itself. What was taken away could be put back only with memory, and to undo takes none.
+    /// The bindings were these. One that was taken away could be put back only with memory, and to undo takes none.
+    Untied(Bindings),
+    /// The configuration was this, for the same reason.
     Before(Config),
 }
 
 impl Change {
     /// What the action will change in the configuration. Only what takes something away takes memory, for a copy.
     pub fn of(c: &Config, a: &Action) -> Result<Change, NoMemory>
-        ensures ok { IfOk result (λ change. change ≡ change_of c.now a.now) }
+        ensures ok { IfOk result (IsChangeOf c.now a.now) }
         ensures memory { OnErr result (IsTrue (takes_away a.now)) }
     {
         Ok(match *a {
             Action::New { inst, .. } => Change::Made(inst),
             Action::Bind { port, inst, to } => Change::Bound(port, inst, to),
             Action::Move { inst, from, .. } => Change::Moved(inst, from),
-            Action::Delete { .. } | Action::Unbind { .. } => Change::Before(c.copy()?),
+            Action::Unbind { .. } => Change::Untied(c.copy_bindings()?),
+            Action::Delete { .. } => Change::Before(c.copy()?),
         })
     }
 
@@ -41,6 +44,7 @@ impl Change {
             Change::Made(z) => c.remove(z),
             Change::Bound(r, z, y) => c.untie(r, z, y),
             Change::Moved(z, from) => c.set_pair(z, from),
+            Change::Untied(earlier) => c.set_bindings(earlier),
             Change::Before(earlier) => *c = earlier,
         }
     }

@@ -1,14 +1,26 @@
 use Rattle.std.proofs.Common.{◌≡◌, ◌∷◌, false, true, cond, ◌&&◌, nat_eq, Some, None, sym, ap, ◌∙◌, subst}
 use Rattle.std.specs.List.{AllByRecursion, find, filter}
 use Rattle.std.specs.Map.Iter.{deref}
-use Rattle.std.proofs.lemmas.Bool.{and_parts, eqb-true, not-true, not-false}
+use Rattle.std.proofs.lemmas.Bool.{and_from, both_ways, false_from_ne_true, and_parts, eqb-true, not-true, not-false}
 use Rattle.std.proofs.lemmas.Map.Iter.{rest_more, rest_all}
-use Rattle.metis_universe.specs.Config.{Binding}
+use Rattle.metis_universe.specs.Config.{Binding, is_bound}
+use Rattle.metis_universe.proofs.Demands.{gives}
+use Rattle.metis_config.specs.Unmet.{is_required}
 use Rattle.metis_config.specs.Clients.{has_client}
-use Rattle.metis_config.proofs.GivenUp.{each_from_in, each_in, is_in}
+use Rattle.metis_config.proofs.GivenUp.{giver, each_from_in, each_in, is_in}
 use Rattle.metis_config.proofs.Prefixes.{IsRest, IsRest-filter, IsRest-tail, find-from, find_none, each_weaker, has_head-from, no_head_after, is_from}
-use Rattle.metis_config.proofs.Unmets.{lost_client, lost_least, lacking}
+use Rattle.metis_config.proofs.Unmets.{lacks, lost_client, lost_least, lacking}
 use Rattle.metis_config.proofs.config.Config.first_lost.Goals as goal
+
+pub returns-then-not-gives_some : goal.returns-then-not-gives_some
+returns-then-not-gives_some c = λ w r. false_from_ne_true _ (λ lost.
+    let u = c.args.u.now in
+    let d = c.args.self.now in
+    let z = c.args.change.now.inst in
+    let o = c.args.change.now.to in
+    let parts = and_parts (is_bound d r w z && is_required u d w r) _ lost in
+    let lacking : lacks u d z o w r ≡ true = and_from _ _ (and_parts (is_bound d r w z) _ parts.0).1 parts.1 in
+    both_ways _ (ap (gives u r) (sym c.requires.from) ∙ c.gives_some.ensures c.if-not-gives_some.true r) (giver u d c.requires.correct z o w r lacking))
 
 pub loop-client-init : goal.loop-client-init
 loop-client-init c =

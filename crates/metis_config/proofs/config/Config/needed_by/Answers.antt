@@ -1,17 +1,13 @@
-use Rattle.std.proofs.Common.{ℕ, sym, ◌∙◌, subst}
-use Rattle.std.specs.Prelude.{IsFalse, IsTrue}
+use Rattle.std.proofs.Common.{ℕ, subst}
+use Rattle.std.specs.Prelude.{IsFalse, IsTrue, MatchOption}
 use Rattle.metis_universe.specs.Config.{Config, config_of, is_bound}
-use Rattle.metis_config.proofs.Firsts.{needed_none, needed_some}
+use Rattle.metis_config.proofs.Keys.{bound_there}
 use Rattle.metis_config.proofs.config.Config.needed_by.Goals as goal
 
-pub returns-in_err-y : goal.returns-in_err-y
-returns-in_err-y c =
+pub some_from-requires : goal.some_from-requires
+some_from-requires c = λ r y bound.
     let b = config_of c.self.inside.instances.entries c.self.inside.bindings.keys in
-    let none = needed_none b c.self.inside.ends.by_requirer.keys c.self.invariant.by_requirer c.args.z (sym c.in_err-y.was ∙ c.first_from.ensures) in
-    rw c.from_residual.ensures (subst (λ (d : Config). (r y : ℕ) → IsFalse (is_bound d r c.args.z y)) c.self.view_is none)
+    bound_there b c.self.inside.crowds.map c.self.invariant.by_provider.config c.self.invariant.tallied r c.args.z y bound
 
 pub returns : goal.returns
-returns c =
-    let b = config_of c.self.inside.instances.entries c.self.inside.bindings.keys in
-    subst (λ (d : Config). IsTrue (is_bound d c.in_ok-y.r c.args.z c.in_ok-y.y)) c.self.view_is
-    (needed_some b c.self.inside.ends.by_requirer.keys c.self.invariant.by_requirer c.in_ok-y.r c.args.z c.in_ok-y.y (sym c.in_ok-y.was ∙ c.first_from.ensures))
+returns c = subst (λ (d : Config). MatchOption c.some_from.result ((r y : ℕ) → IsFalse (is_bound d r c.args.z y)) (λ b. IsTrue (is_bound d b.0 c.args.z b.1))) c.self.view_is c.some_from.ensures

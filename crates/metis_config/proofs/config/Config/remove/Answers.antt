@@ -4,7 +4,7 @@ use Rattle.std.specs.List.{filter}
 use Rattle.std.proofs.lemmas.Bool.{eq-eqb, or_left, or_right}
 use Rattle.metis_universe.specs.Config.{Config, config_of, is_bound, is_tie, untie}
 use Rattle.metis_universe.proofs.Sorted.{remove_entry-numbers}
-use Rattle.metis_config.proofs.Indexed.{AreEnds-gone}
+use Rattle.metis_config.proofs.Indexed.{IsIndexed-gone}
 use Rattle.metis_config.proofs.Providers.{providers-gone}
 use Rattle.metis_config.proofs.Removed.{fewer, names_tie, others, others-all, others-untied, unbound-untie}
 use Rattle.metis_config.proofs.config.Config.remove.Goals as goal
@@ -56,10 +56,9 @@ invariant_of-self c =
     let all = others-all c.args.z c.needed.self.bindings c.needed.invariant.served c.in_default-needed_by.ensures in
     let is = ap (λ (d : Config). d.bindings) c.self.view_is in
     let entries = c.remove.ensures.entries ∙ remove_entry-numbers c.args.z c.self.inside.instances.entries c.self.invariant.by_provider.config.ascending in
-    let ends = AreEnds-gone b c.self.inside.ends.by_provider.keys c.self.inside.ends.by_requirer.keys c.args.z (ap (others c.args.z) is ∙ all ∙ sym is) (record { by_provider = c.self.invariant.by_provider; by_requirer = c.self.invariant.by_requirer }) in
+    let gone = IsIndexed-gone b c.self.inside.clients.keys c.args.z (ap (others c.args.z) is ∙ all ∙ sym is) c.self.invariant.by_provider in
     rw entries (record {
-      by_provider = ends.by_provider;
-      by_requirer = ends.by_requirer;
+      by_provider = gone;
       tallied = λ w r f. c.self.invariant.tallied w r f
           ∙ sym (providers-gone b c.args.z (λ s v. ap (λ (d : Config). is_bound d s v c.args.z) c.self.view_is ∙ c.needed.invariant.served s v) w r f);
     })

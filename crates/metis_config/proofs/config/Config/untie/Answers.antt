@@ -1,7 +1,7 @@
 use Rattle.std.proofs.Common.{◌≡◌, ◌<◌, Some, true, nat_eq, ap, sym, subst, ◌∙◌, arith, rules}
 use Rattle.metis_universe.specs.Config.{Config, config_of, is_bound, pair_of}
 use Rattle.metis_universe.proofs.Edits.{remove_key-bindings}
-use Rattle.metis_config.proofs.Indexed.{AreEnds-untie}
+use Rattle.metis_config.proofs.Indexed.{IsIndexed-untie}
 use Rattle.metis_config.proofs.Providers.{bound-counted, providers-untied}
 use Rattle.metis_config.proofs.config.Config.untie.Goals as goal
 
@@ -19,10 +19,9 @@ invariant_of-self c =
     let bound : is_bound b c.args.r c.args.z c.args.y ≡ true = ap (λ (d : Config). is_bound d c.args.r c.args.z c.args.y) c.self.view_is ∙ c.requires in
     let at : pair_of b c.args.y ≡ Some c.unwrap-pair.result = search rules in
     let keys = c.remove.ensures.keys ∙ remove_key-bindings c.args.r c.args.z c.args.y c.self.inside.bindings.keys c.self.invariant.by_provider.config.in_order in
-    let ends = AreEnds-untie b c.self.inside.ends.by_provider.keys c.self.inside.ends.by_requirer.keys c.args.r c.args.z c.args.y (record { by_provider = c.self.invariant.by_provider; by_requirer = c.self.invariant.by_requirer }) in
-    rw (keys, c.take.ensures.by_provider, c.take.ensures.by_requirer) (record {
-      by_provider = ends.by_provider;
-      by_requirer = ends.by_requirer;
+    let clients = c.remove-2.ensures.keys ∙ remove_key-bindings c.args.y c.args.z c.args.r c.self.inside.clients.keys c.self.invariant.by_provider.in_order in
+    rw (keys, clients) (record {
+      by_provider = IsIndexed-untie b c.self.inside.clients.keys c.args.r c.args.z c.args.y c.self.invariant.by_provider;
       tallied = λ w s f.
           let left = c.leave.ensures w s f in
           let old = c.self.invariant.tallied w s f in

@@ -1,6 +1,6 @@
 use Rattle.std.proofs.Common.{◌∙◌}
 use Rattle.metis_config.proofs.Leasts.{unmet-changed}
-use Rattle.metis_config.proofs.config.Config.unmet_if.Goals as goal
+use Rattle.metis_config.proofs.config.Config.unmet_from.Goals as goal
 
 pub returns : goal.returns
 returns c =
