@@ -3,7 +3,6 @@ pub mod ActionRead
 pub mod ActionTokens
 pub mod AfterTokens
 pub mod Ascends
-pub mod Ascii
 pub mod Cuts
 pub mod DupLine
 pub mod DupPlaces
