@@ -9,6 +9,7 @@ pub mod DupPlaces
 pub mod DupWords
 pub mod DupsRead
 pub mod Faults
+pub mod FirstByte
 pub mod Formed
 pub mod GoalTokens
 pub mod Items

@@ -10,7 +10,7 @@ use crate::bytes::is;
 use crate::flaw::{Flaw, both, numbered};
 use crate::gather::numbers_in;
 use crate::rows::Rows;
-use crate::tokens::{due, number_in, port_in, retake_tokens, state_in, type_in};
+use crate::tokens::{due, number_in, port_in, retake_tokens, state_near, type_in};
 use metis_ids::{Action, InstNo, PairIx, PortIx, TypeIx};
 use metis_universe::Universe;
 use std::alloc::{AllocError, Global};
@@ -86,8 +86,18 @@ fn states_in(
 {
     let inst = number_in(z);
     let kind = kind_in(rows, inst);
-    let states = both(state_in(u, &kind, from), state_in(u, &kind, to));
+    let from = state_near(u, &kind, rows.near(), from);
+    let to = state_near(u, &kind, beside(u, &from), to);
+    let states = both(from, to);
     both(inst, states)
+}
+
+// A pair that may be moved to from this one, as a guess.
+fn beside(u: &Universe, from: &Result<PairIx, Flaw>) -> PairIx {
+    match *from {
+        Ok(pair) if pair.0 < u.pairs() => u.next(pair).first().copied().unwrap_or(pair),
+        _ => PairIx(0),
+    }
 }
 
 fn move_in(u: &Universe, rows: &Rows, z: &[u8], from: &[u8], to: &[u8]) -> Result<Action, Flaw>

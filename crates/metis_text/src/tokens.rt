@@ -1,5 +1,5 @@
 //! The tokens of a line that is read.
-ghost use Rattle.std.specs.Prelude.{◌≡◌, ◌==◌, IfOk, OnOk, map};
+ghost use Rattle.std.specs.Prelude.{◌≡◌, ◌==◌, IfOk, IsTrue, Ok, OnOk, Some, map};
 ghost use Rattle.std.specs.List.{after_first, before_first};
 ghost use Rattle.metis_text.specs.ActionLine.{due, state_in};
 ghost use Rattle.metis_text.specs.DupLine.{event_in, pair_in};
@@ -108,6 +108,30 @@ pub fn state_in(u: &Universe, kind: &Option<TypeIx>, token: &[u8]) -> Result<Pai
         (Some(_), None) => Err(Flaw::Name),
         (None, _) => Err(Flaw::Form),
     }
+}
+
+/// The pair of the type, if there is one, whose state's name the token is. The pair `near` is tried first. It may be any: where
+/// it is the one that is meant, none is looked for.
+pub fn state_near(
+    u: &Universe,
+    kind: &Option<TypeIx>,
+    near: PairIx,
+    token: &[u8],
+) -> Result<PairIx, Flaw>
+    ensures { result ≡ state_in u.now kind.now token.now }
+{
+    match *kind {
+        Some(kind) if is_state(u, kind, near, token) => Ok(near),
+        _ => state_in(u, kind, token),
+    }
+}
+
+// Whether the pair is of the type, and the token the name of its state.
+fn is_state(u: &Universe, kind: TypeIx, pair: PairIx, token: &[u8]) -> bool
+    ensures { IsTrue result → state_in u.now (Some kind) token.now ≡ Ok pair }
+{
+    u.keeps_invariant();
+    pair.0 < u.pairs() && u.type_of(pair) == kind && is(token, u.state_name(pair))
 }
 
 // What stands before the first such byte, and what behind it.

@@ -13,6 +13,6 @@ loop-byte-preserved c =
     let within = c.loop-byte-test.true in
     let is : is_ascii_digit (get_or t k 0) ≡ true = sym c.is_ascii_digit.ensures.value ∙ c.if-not-is_ascii_digit.false in
     elim c.if-value-lt-NUMBERS.branch [
-    | then-value-lt-NUMBERS w ↦ ap (λ v. value_after v (drop (k + 1) t)) w.value-is ∙ digit_taken t n k within is ∙ c.loop-byte.invariant
-    | else-value-lt-NUMBERS w ↦ let large : 2 ^ 32 ≤ n = omega arith in ap (λ v. value_after v (drop (k + 1) t)) w.value-is ∙ digit_passed t n k within is large ∙ c.loop-byte.invariant
+      | then-value-lt-NUMBERS w ↦ ap (λ v. value_after v (drop (k + 1) t)) w.value-is ∙ digit_taken t n k within is ∙ c.loop-byte.invariant
+      | else-value-lt-NUMBERS w ↦ let large : 2 ^ 32 ≤ n = omega arith in ap (λ v. value_after v (drop (k + 1) t)) w.value-is ∙ digit_passed t n k within is large ∙ c.loop-byte.invariant
     ]
