@@ -3,13 +3,13 @@ pub mod ActionRead
 pub mod ActionTokens
 pub mod AfterTokens
 pub mod Ascends
-pub mod Ascii
 pub mod Cuts
 pub mod DupLine
 pub mod DupPlaces
 pub mod DupWords
 pub mod DupsRead
 pub mod Faults
+pub mod FirstByte
 pub mod Formed
 pub mod GoalTokens
 pub mod Items

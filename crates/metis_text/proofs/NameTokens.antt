@@ -10,6 +10,7 @@ use Rattle.metis_ids.proofs.Finding.{position_here}
 use Rattle.metis_ids.proofs.Tests.{bytes_apart, bytes_same}
 use Rattle.metis_universe.specs.Names.{is_name}
 use Rattle.metis_universe.specs.Universe.{IsNamed, Universe, no_kind, no_pair, pair_count, port_count, port_name_of, port_named, state_name_of, state_named, type_count, type_name_of, type_named, type_of}
+use Rattle.metis_text.specs.ActionLine.{state_in}
 use Rattle.metis_text.specs.Flaws.{found}
 use Rattle.metis_text.specs.Tokens.{named}
 use Rattle.metis_text.specs.declared.flaw.Flaw.TheVariants.{Form}
@@ -63,3 +64,9 @@ module _ (u : Universe) (names : IsNamed u) where
       let kind : type_of u p ≡ type_of u k = of ∙ sym (eqb-true (type_of u k) t both.0) in
       let same : p ≡ k = names.states_apart p k low (omega arith) kind ((bytes_eq-Decides (state_name_of u p) (state_name_of u k)).0 both.1) in
       omega arith))
+
+  -- a pair that has been found to be of the type, and to have the name
+  pub state_found : (t p : ℕ) (name : List ℕ) → p < pair_count u → type_of u p ≡ t → bytes_eq name (state_name_of u p) ≡ true → state_in u (Some t) name ≡ Ok p
+  state_found t p name low of same =
+      ap (state_in u (Some t)) ((bytes_eq-Decides name (state_name_of u p)).0 same)
+      ∙ named_read (λ s. state_named u t s) (state_name_of u p) p (names.states p low) (state_at t p low of)

@@ -1,11 +1,12 @@
 -- The tokens of a line that is read.
 --     tokens line      the parts of the line between its spaces
 --     is_number t, number_in t      decimal digits of which the first is 0 only where it stands alone;  their value, which is below 2^32
+--     value_after n t      the value of a number of which these digits are the last, where n is that of those before them
 --     named find t      what has the name that the token is
 use Rattle.std.specs.Prelude.{ℕ, ◌^◌, nat_lt, Bool, ◌&&◌, ◌||◌, not, ◌==◌, List, length, Option, Result, Ok, Err, if◌then◌else◌, slice_index}
 use Rattle.std.specs.List.{slice_split}
 use Rattle.std.specs.Str.{all_ascii_digits}
-use Rattle.std.specs.Str.Parse.{digits_value}
+use Rattle.std.specs.Str.Parse.{digits_value, digits_value_after}
 use Rattle.metis_text.specs.Flaws.{found}
 use Rattle.metis_text.specs.declared.flaw.Flaw.{Flaw}
 use Rattle.metis_text.specs.declared.flaw.Flaw.TheVariants.{Form, Number}
@@ -29,6 +30,10 @@ in_range n = if nat_lt n (2 ^ 32) then Ok n else Err Number
 
 abbrev pub number_in : List ℕ → Result ℕ Flaw
 number_in t = if is_number t then in_range (digits_value 10 t) else Err Form
+
+-- the same value, where so much stands before the digits
+abbrev pub value_after : ℕ → List ℕ → Result ℕ Flaw
+value_after n t = if all_ascii_digits t then in_range (digits_value_after 10 n t) else Err Form
 
 abbrev pub named : {A : Type 0} → (List ℕ → Option A) → List ℕ → Result A Flaw
 named find t = if is_name t then found (find t) else Err Form

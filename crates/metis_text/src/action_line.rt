@@ -10,7 +10,7 @@ use crate::bytes::is;
 use crate::flaw::{Flaw, both, numbered};
 use crate::gather::numbers_in;
 use crate::rows::Rows;
-use crate::tokens::{due, number_in, port_in, state_in, tokens_of, type_in};
+use crate::tokens::{due, number_in, port_in, retake_tokens, state_near, type_in};
 use metis_ids::{Action, InstNo, PairIx, PortIx, TypeIx};
 use metis_universe::Universe;
 use std::alloc::{AllocError, Global};
@@ -84,9 +84,20 @@ fn states_in(
 ) -> Result<(u32, (PairIx, PairIx)), Flaw>
     ensures { result ≡ states_in u.now rows.now.actions z.now from.now to.now }
 {
-    let kind = kind_in(rows, number_in(z));
-    let states = both(state_in(u, &kind, from), state_in(u, &kind, to));
-    both(number_in(z), states)
+    let inst = number_in(z);
+    let kind = kind_in(rows, inst);
+    let from = state_near(u, &kind, rows.near(), from);
+    let to = state_near(u, &kind, beside(u, &from), to);
+    let states = both(from, to);
+    both(inst, states)
+}
+
+// A pair that may be moved to from this one, as a guess.
+fn beside(u: &Universe, from: &Result<PairIx, Flaw>) -> PairIx {
+    match *from {
+        Ok(pair) if pair.0 < u.pairs() => u.next(pair).first().copied().unwrap_or(pair),
+        _ => PairIx(0),
+    }
 }
 
 fn move_in(u: &Universe, rows: &Rows, z: &[u8], from: &[u8], to: &[u8]) -> Result<Action, Flaw>
@@ -206,19 +217,21 @@ fn after_in(
     }
 }
 
-/// The next action, which has this number, with its list.
-pub fn row_in(
+/// The next action, which has this number, with its list. The tokens of the line take the place of those of another line,
+/// so that one list serves all lines.
+pub fn row_in<'a>(
     alloc: Global,
     u: &Universe,
     rows: &Rows,
     number: u32,
-    line: &[u8],
+    line: &'a [u8],
+    tokens: &mut Vec<&'a [u8]>,
 ) -> Result<Result<(Action, Vec<u32>), Flaw>, AllocError>
     requires { number ≡ length rows.now.actions + 1 }
     ensures { IfOk result (λ read. made (λ row. (row.0, row.1.items)) read ≡ row_in u.now rows.now.actions line.now) }
 {
-    let tokens = tokens_of(alloc, line)?;
-    row_of(alloc, u, rows, number, &tokens)
+    retake_tokens(tokens, line)?;
+    row_of(alloc, u, rows, number, tokens)
 }
 
 fn row_of(

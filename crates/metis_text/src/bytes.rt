@@ -3,6 +3,8 @@ ghost use Rattle.std.specs.Prelude.{◌≡◌, ◌==◌};
 ghost use Rattle.std.specs.List.{position};
 ghost use Rattle.std.specs.Str.{bytes_eq};
 
+use memchr::memchr;
+
 /// Whether the bytes are these of the text.
 pub fn is(bytes: &[u8], text: &str) -> bool
     ensures { result ≡ bytes_eq bytes.now text.now }
@@ -14,5 +16,5 @@ pub fn is(bytes: &[u8], text: &str) -> bool
 pub fn place_of(bytes: &[u8], byte: u8) -> Option<usize>
     ensures { result ≡ position (λ b. b == byte) bytes.now }
 {
-    bytes.iter().position(|b| *b == byte)
+    memchr(byte, bytes)
 }

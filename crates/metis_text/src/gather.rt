@@ -1,5 +1,5 @@
 //! Reads what stands in all of some tokens.
-ghost use Rattle.std.specs.Prelude.{◌≡◌, IfOk, Ok, [], map};
+ghost use Rattle.std.specs.Prelude.{◌≡◌, Err, IfOk, Ok, [], map};
 ghost use Rattle.metis_text.specs.DupLine.{event_in};
 ghost use Rattle.metis_text.specs.Flaws.{all_behind, behind, made};
 ghost use Rattle.metis_text.specs.Tokens.{number_in};
@@ -31,11 +31,27 @@ fn behind<T: Copy + Drop>(
 pub fn numbers_in(alloc: Global, tokens: &[&[u8]]) -> Result<Result<Vec<u32>, Flaw>, AllocError>
     ensures { IfOk result (λ read. made (λ v. v.items) read ≡ all_behind number_in (Ok []) (map (λ t. t.now) tokens.now)) }
 {
-    let mut read = Ok(Vec::new(alloc));
-    for token in tokens {
-        read = behind(read, number_in(token))?;
+    let mut list = Vec::with_capacity(alloc, tokens.len())?;
+    for index in 0..tokens.len() {
+        match number_in(tokens[index]) {
+            Ok(number) => list.push(number)?,
+            Err(flaw) => return Ok(Err(gravest(flaw, &tokens[index + 1..]))),
+        }
     }
-    Ok(read)
+    Ok(Ok(list))
+}
+
+// The gravest of this flaw and those of the tokens that are no numbers.
+fn gravest(flaw: Flaw, tokens: &[&[u8]]) -> Flaw
+    ensures { Err result ≡ all_behind number_in (Err flaw) (map (λ t. t.now) tokens.now) }
+{
+    let mut worst = flaw;
+    for token in tokens {
+        if let Err(next) = number_in(token) {
+            worst = graver(worst, next);
+        }
+    }
+    worst
 }
 
 /// The events that the tokens are.

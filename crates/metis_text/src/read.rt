@@ -2,7 +2,7 @@
 ghost use Rattle.std.specs.Prelude.{◌≡◌, ◌<◌, ◌-◌, ◌^◌, ◌&&◌, IfOk, [], codes, length, map};
 ghost use Rattle.std.specs.Str.{bytes_eq};
 ghost use Rattle.metis_text.specs.Flaws.{both, made};
-ghost use Rattle.metis_text.specs.Reading.{counts_in, counts_of_tokens, counted, dups_from, parts, plan_in, read_next, rows_from, rows_of};
+ghost use Rattle.metis_text.specs.Reading.{body_from, counts_in, counts_of_tokens, counted, dups_from, end_from, parts, plan_in, read_next, rows_from, rows_of};
 ghost use Rattle.metis_text.specs.Reads.{Reads, IsTextOf, ReadsPlan, dup_row, numbers_of};
 ghost use Rattle.metis_text.specs.Tokens.{number_in};
 
@@ -46,11 +46,35 @@ fn read_text(alloc: Global, u: &Universe, bytes: &[u8]) -> Result<PlanText, TFau
     let mut lines = Lines::of(bytes);
     read_exactly("metis plan 1", &mut lines)?;
     let counts = read_counts(alloc, &mut lines)?;
-    let rows = read_rows(alloc, u, counts.actions, &mut lines)?;
-    let dups = read_dups(alloc, u, counts.dups, &mut lines)?;
-    read_exactly("end", &mut lines)?;
+    read_body(alloc, u, counts, &mut lines)
+}
+
+// What stands behind the second line.
+fn read_body(
+    alloc: Global,
+    u: &Universe,
+    counts: Counts,
+    lines: &mut Lines<'_>,
+) -> Result<PlanText, TFault>
+    ensures { ReadsPlan result (body_from u.now (numbers_of counts) lines.old) }
+{
+    let rows = read_rows(alloc, u, counts.actions, lines)?;
+    let dups = read_dups(alloc, u, counts.dups, lines)?;
+    read_end(counts.instances, rows, dups, lines)
+}
+
+// The last line, and nothing behind it.
+fn read_end(
+    instances: u32,
+    rows: Rows,
+    dups: Vec<Dup>,
+    lines: &mut Lines<'_>,
+) -> Result<PlanText, TFault>
+    ensures { ReadsPlan result (end_from (parts instances rows (map dup_row dups.items)) lines.old) }
+{
+    read_exactly("end", lines)?;
     lines.ended()?;
-    counted(counts.instances, rows, dups)
+    counted(instances, rows, dups)
 }
 
 fn read_counts(alloc: Global, lines: &mut Lines<'_>) -> Result<Counts, TFault>
@@ -99,13 +123,19 @@ fn has_words(instances: &[u8], actions: &[u8], dups: &[u8]) -> bool
 }
 
 // So many actions.
-fn read_rows(alloc: Global, u: &Universe, count: u32, lines: &mut Lines<'_>) -> Result<Rows, TFault>
+fn read_rows<'a>(
+    alloc: Global,
+    u: &Universe,
+    count: u32,
+    lines: &mut Lines<'a>,
+) -> Result<Rows, TFault>
     ensures { Reads (λ rows. rows) result lines.new (rows_from u.now count (rows_of [] []) lines.old) }
 {
     let mut rows = Rows::new(alloc);
+    let mut tokens = Vec::new(alloc);
     for index in 0..count {
         let line = lines.next_line()?;
-        match row_in(alloc, u, &rows, index + 1, line)? {
+        match row_in(alloc, u, &rows, index + 1, line, &mut tokens)? {
             Ok((action, after)) => rows = rows.add(action, after)?,
             Err(flaw) => return Err(flaw.at(lines.number())),
         }

@@ -4,7 +4,7 @@ ghost use Rattle.metis_text.specs.Kinds.{AreKinds};
 ghost use Rattle.metis_text.specs.PlanText.{last_kind};
 ghost use Rattle.metis_text.specs.Reading.{rows_of, with_row};
 
-use metis_ids::{Action, InstNo, NoMemory, TypeIx};
+use metis_ids::{Action, InstNo, NoMemory, PairIx, TypeIx};
 use std::alloc::Global;
 use std::collections::BTreeMap;
 use std::marker::Model;
@@ -16,6 +16,8 @@ pub struct Rows {
     pub after: Vec<Vec<u32>>,
     /// The type of each instance that the actions make, by its last `new`.
     kinds: BTreeMap<InstNo, TypeIx>,
+    /// The pair that was moved to last, as a guess of that from which the next move starts.
+    near: PairIx,
     ghost kept: { AreKinds actions.items kinds.entries },
 }
 
@@ -37,6 +39,7 @@ impl Rows {
             actions: Vec::new(alloc),
             after: Vec::new(alloc),
             kinds: BTreeMap::new(alloc),
+            near: PairIx(0),
         }
     }
 
@@ -47,6 +50,11 @@ impl Rows {
         self.kinds.get(&z).copied()
     }
 
+    /// The pair that was moved to last, or else the first one. It is a guess, on which nothing that is read hangs.
+    pub fn near(&self) -> PairIx {
+        self.near
+    }
+
     /// The rows with one more action and its list.
     pub fn add(self, action: Action, after: Vec<u32>) -> Result<Rows, NoMemory>
         ensures { IfOk result (λ rows. rows ≡ with_row self (action, after.items)) }
@@ -55,7 +63,9 @@ impl Rows {
             mut actions,
             after: mut lists,
             mut kinds,
+            near,
         } = self;
+        let near = near_after(&action, near);
         note_kind(&mut kinds, &actions, &action)?;
         actions.push(action)?;
         lists.push(after)?;
@@ -63,7 +73,15 @@ impl Rows {
             actions,
             after: lists,
             kinds,
+            near,
         })
+    }
+}
+
+fn near_after(action: &Action, near: PairIx) -> PairIx {
+    match *action {
+        Action::Move { to, .. } => to,
+        _ => near,
     }
 }
 

@@ -1,10 +1,10 @@
 //! The tokens of a line that is read.
-ghost use Rattle.std.specs.Prelude.{◌≡◌, ◌==◌, IfOk, map};
+ghost use Rattle.std.specs.Prelude.{◌≡◌, ◌==◌, IfOk, IsTrue, Ok, OnOk, Some, map};
 ghost use Rattle.std.specs.List.{after_first, before_first};
 ghost use Rattle.metis_text.specs.ActionLine.{due, state_in};
 ghost use Rattle.metis_text.specs.DupLine.{event_in, pair_in};
 ghost use Rattle.metis_text.specs.RefusalReading.{goal_in};
-ghost use Rattle.metis_text.specs.Tokens.{is_number, named, number_in, starts_number, tokens};
+ghost use Rattle.metis_text.specs.Tokens.{named, number_in, starts_number, tokens, value_after};
 ghost use Rattle.metis_universe.specs.Universe.{port_named, type_named};
 
 use crate::bytes::{is, place_of};
@@ -13,6 +13,9 @@ use metis_ids::{Event, Goal, LineIx, PairIx, PortIx, StepIx, TypeIx};
 use metis_universe::{Universe, name_in, pair_names};
 use std::alloc::{AllocError, Global};
 
+/// How many numbers there are: each is below this one.
+const NUMBERS: u64 = 4_294_967_296;
+
 /// The parts of the line between its spaces.
 pub fn tokens_of<'a>(alloc: Global, line: &'a [u8]) -> Result<Vec<&'a [u8]>, AllocError>
     ensures { IfOk result (λ v. map (λ t. t.now) v.items ≡ tokens line.now) }
@@ -20,13 +23,15 @@ pub fn tokens_of<'a>(alloc: Global, line: &'a [u8]) -> Result<Vec<&'a [u8]>, All
     line.split(|byte| *byte == b' ').collect(alloc)
 }
 
-// Whether the token is a number: decimal digits of which the first is 0 only where it stands alone.
-fn is_number(token: &[u8]) -> bool
-    ensures { result ≡ is_number token.now }
+/// Puts the parts of the line between its spaces in place of what the list had.
+pub fn retake_tokens<'a>(list: &mut Vec<&'a [u8]>, line: &'a [u8]) -> Result<(), AllocError>
+    ensures { OnOk result (map (λ t. t.now) list.new.items ≡ tokens line.now) }
 {
-    starts_number(token) && token.iter().all(|byte| byte.is_ascii_digit())
+    list.clear();
+    list.extend(line.split(|byte| *byte == b' '))
 }
 
+// Whether one byte stands there, or more of which the first is not 0.
 fn starts_number(token: &[u8]) -> bool
     ensures { result ≡ starts_number token.now }
 {
@@ -37,12 +42,30 @@ fn starts_number(token: &[u8]) -> bool
 pub fn number_in(token: &[u8]) -> Result<u32, Flaw>
     ensures { result ≡ number_in token.now }
 {
-    if !is_number(token) {
-        return Err(Flaw::Form);
+    if starts_number(token) {
+        value_in(token)
+    } else {
+        Err(Flaw::Form)
     }
-    match str::from_utf8(token) {
-        Ok(digits) => digits.parse::<u32>().ok().ok_or(Flaw::Number),
-        Err(_) => Err(Flaw::Form),
+}
+
+// The value of the digits, in one pass. Past the range it is no longer kept.
+fn value_in(digits: &[u8]) -> Result<u32, Flaw>
+    ensures { result ≡ value_after 0 digits.now }
+{
+    let mut value = 0u64;
+    for byte in digits {
+        if !byte.is_ascii_digit() {
+            return Err(Flaw::Form);
+        }
+        if value < NUMBERS {
+            value = value * 10 + (*byte - b'0') as u64;
+        }
+    }
+    if value < NUMBERS {
+        Ok(value as u32)
+    } else {
+        Err(Flaw::Number)
     }
 }
 
@@ -85,6 +108,30 @@ pub fn state_in(u: &Universe, kind: &Option<TypeIx>, token: &[u8]) -> Result<Pai
         (Some(_), None) => Err(Flaw::Name),
         (None, _) => Err(Flaw::Form),
     }
+}
+
+/// The pair of the type, if there is one, whose state's name the token is. The pair `near` is tried first. It may be any: where
+/// it is the one that is meant, none is looked for.
+pub fn state_near(
+    u: &Universe,
+    kind: &Option<TypeIx>,
+    near: PairIx,
+    token: &[u8],
+) -> Result<PairIx, Flaw>
+    ensures { result ≡ state_in u.now kind.now token.now }
+{
+    match *kind {
+        Some(kind) if is_state(u, kind, near, token) => Ok(near),
+        _ => state_in(u, kind, token),
+    }
+}
+
+// Whether the pair is of the type, and the token the name of its state.
+fn is_state(u: &Universe, kind: TypeIx, pair: PairIx, token: &[u8]) -> bool
+    ensures { IsTrue result → state_in u.now (Some kind) token.now ≡ Ok pair }
+{
+    u.keeps_invariant();
+    pair.0 < u.pairs() && u.type_of(pair) == kind && is(token, u.state_name(pair))
 }
 
 // What stands before the first such byte, and what behind it.
