@@ -1,5 +1,7 @@
 -- Pairs that each barred set has that covers the goal.
-use Rattle.std.proofs.Common.{◌≡◌, ℕ, Bool, true, List, sym, subst}
+use Rattle.std.proofs.Common.{◌≡◌, ◌∙◌, ℕ, Bool, true, false, List, set, sym, subst, inl, inr}
+use Rattle.std.proofs.lemmas.Bool.{cases_eq}
+use Rattle.std.proofs.lemmas.List.{get_or-set_other}
 use Rattle.std.specs.List.{All}
 use Rattle.metis_ids.specs.declared.goals.Goal.{Goal}
 use Rattle.metis_universe.proofs.Correctness.{all_has}
@@ -26,6 +28,13 @@ named_missed u g x q only missed one = all_from (IsMissed u g x) (named_by u q o
 
 pub forced_less : (u : Universe) (g : Goal) (x z : ℕ → Bool) (forced : List Bool) → IsInside z x → AreForced u g x forced → AreForced u g z forced
 forced_less u g x z forced inside all q on = missed_less u g x z q inside (all q on)
+
+-- one pair more
+pub forced_more : (u : Universe) (g : Goal) (x : ℕ → Bool) (forced : List Bool) (p : ℕ) → AreForced u g x forced → IsMissed u g x p → AreForced u g x (set forced p true)
+forced_more u g x forced p all missed q on = elim (cases_eq q p) [
+  | inl same ↦ subst (IsMissed u g x) (sym same) missed
+  | inr other ↦ all q (sym (get_or-set_other forced p q true false other) ∙ on)
+]
 
 pub marked_at : (u : Universe) (g : Goal) (x : ℕ → Bool) (l k : List ℕ) (f h : List Bool) → l ≡ k → f ≡ h → AreMarked u g x k h → AreMarked u g x l f
 marked_at u g x l k f h same_list same_flags marked = subst (λ v. AreMarked u g x v f) (sym same_list) (subst (λ v. AreMarked u g x k v) (sym same_flags) marked)

@@ -6,11 +6,10 @@ use Rattle.metis_ids.proofs.Lists.{filter_more}
 use Rattle.metis_ids.specs.declared.goals.Goal.{Goal}
 use Rattle.metis_universe.specs.Universe.{Universe}
 use Rattle.metis_why.proofs.Going.{off_inside, off_other, off_same}
-use Rattle.metis_why.proofs.Reasons.{all_inside}
-use Rattle.metis_why.specs.Barred.{IsBarred, wanted_by}
+use Rattle.metis_why.specs.Barred.{Covers, IsBarred, wanted_by}
 use Rattle.metis_why.specs.Flags.{IsGreatest, IsInside, IsMissed, IsWithin}
 use Rattle.metis_refusal.specs.Supplies.{flag}
-use Rattle.metis_why.specs.Leaving.{IsEnough, IsLess}
+use Rattle.metis_why.specs.Leaving.{AreForced, IsEnough, IsLess}
 use Rattle.metis_why.specs.Settling.{IsShrunk}
 
 inside_without : (x : List Bool) (p : ℕ) (y : ℕ → Bool) → IsInside y (flag x) → y p ≡ false → IsInside y (flag (set x p false))
@@ -19,11 +18,10 @@ inside_without x p y inside away q there = elim (cases_eq q p) [
   | inr other ↦ off_other x p q other ∙ inside q there
 ]
 
--- where what is left without p does not cover the goal, p is missed
-pub missed_one : (u : Universe) (g : Goal) (x : List Bool) (z : ℕ → Bool) (p : ℕ) → IsShrunk u (flag (set x p false)) z → list_all z (wanted_by u g) ≡ false → IsMissed u g (flag x) p
-missed_one u g x z p most lost = λ y barred covers inside.
-    true_from_ne_false (y p) (λ away.
-    both_ways (list_all z (wanted_by u g)) lost (all_inside z y (wanted_by u g) (most.keeps y barred (inside_without x p y inside away)) covers))
+-- where what is left without p lacks what each such set has, p is missed
+pub lost_missed : (u : Universe) (g : Goal) (x : List Bool) (z : ℕ → Bool) (p : ℕ) (forced : List Bool) → IsShrunk u (flag (set x p false)) z → AreForced u g (flag x) forced →
+    ((w y : ℕ → Bool) → AreForced u g w forced → IsBarred u y → Covers u y g → IsInside y w → IsInside y z → ⊥) → IsMissed u g (flag x) p
+lost_missed u g x z p forced most known lost y barred covers inside = true_from_ne_false (y p) (λ away. lost (flag x) y known barred covers inside (most.keeps y barred (inside_without x p y inside away)))
 
 -- what is left without p has each barred set without p
 pub keeps_without : (u : Universe) (x : List Bool) (z : ℕ → Bool) (p : ℕ) → flag x p ≡ true → IsGreatest u (flag (set x p false)) z →

@@ -33,8 +33,9 @@ pub enum Explained {
 
 /// What keeps goals from being attained together: the first that no list of actions attains, and pairs that wait for one another,
 /// each with its reason, of which none can be left out. The lines begin with the pairs that the goal wants; behind them stand, line
-/// after line, the pairs for which these wait. It goes once over the universe, and then, for each pair near the goal that has several
-/// reasons, over the pairs and what falls with it.
+/// after line, the pairs for which these wait. It goes once over the universe. Then it tries to leave out each pair near the goal, where
+/// it is not plain that this fails. A try goes over the pairs that fall with it, and reads each port and each move of these once; one
+/// that succeeds goes over all pairs once more.
 pub fn explain(alloc: Global, u: &Universe, goals: &[Goal]) -> Result<Explained, NoMemory>
     requires { All (IsGoalOf u.now) goals.now }
     ensures attained { IfAllAttained result (AttainsGoals u.now goals.now) }

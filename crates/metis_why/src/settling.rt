@@ -21,7 +21,7 @@ pub fn settle(alloc: Global, u: &Universe, held: &mut [bool; PAIR_LIMIT]) -> Res
     requires { IsWithin u.now (flag held.old) }
     ensures { OnOk result (IsGreatest u.now (flag held.old) (flag held.new)) }
 {
-    drain(alloc, u, held, &None)?;
+    drain(alloc, u, held)?;
     settle_in_rounds(u, held);
     Ok(())
 }

@@ -7,8 +7,8 @@ use Rattle.metis_why.proofs.Going.{all_from}
 use Rattle.metis_why.proofs.Soundness.{passes_of}
 use Rattle.metis_why.proofs.falling.give.Goals as goal
 
-pub let_fall-requires-clause-pair : goal.let_fall-requires-clause-pair
-let_fall-requires-clause-pair c =
+pub tell-requires-clause-pair : goal.tell-requires-clause-pair
+tell-requires-clause-pair c =
     let u = c.args.u.now in
     let within = all_from (λ p. p < pair_count u) (requirers_of u c.args.port) (λ p there. (passes_of u (λ z. requires u z c.args.port) p there).1) in
     subst (λ p. p < pair_count u) (sym c.requirer-item.is)
@@ -16,4 +16,4 @@ let_fall-requires-clause-pair c =
     (subst (λ xs. All (λ p. p < pair_count u) xs) (sym c.requirers-requirer-items.ensures) within))
 
 pub loop-requirer-preserved : goal.loop-requirer-preserved
-loop-requirer-preserved c = falls_then c.args.u.now _ c.loop-requirer.falling c.let_fall.new.falling c.loop-requirer.invariant c.in_ok-let_fall.ensures
+loop-requirer-preserved c = falls_then c.args.u.now _ c.loop-requirer.falling c.tell.new.falling c.loop-requirer.invariant c.in_ok-tell.ensures

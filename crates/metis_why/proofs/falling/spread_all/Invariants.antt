@@ -6,7 +6,7 @@ use Rattle.metis_why.proofs.falling.spread_all.Given as goal
 abbrev pub invariant-loop-pair : goal.invariant-loop-pair
 invariant-loop-pair l = record {
   shrunk : IsShrunk l.u (flag l.initial.falling.held) (flag l.falling.held);
-  from : IsFrom l.u l.falling.held l.falling.given l.falling.led;
+  from : IsFrom l.u l.falling;
 }
 
 abbrev pub decreases-loop-pair : goal.decreases-loop-pair

@@ -1,14 +1,14 @@
 use Rattle.std.proofs.Common.{◌≤◌, length}
 use Rattle.metis_refusal.specs.Supplies.{flag}
-use Rattle.metis_why.specs.Leaving.{AreForced}
+use Rattle.metis_why.specs.Leaving.{IsKept}
 use Rattle.metis_why.specs.Nearing.{IsNearing}
 use Rattle.metis_why.proofs.leaving.leave_out_all.Given as goal
 
 abbrev pub invariant-loop-place : goal.invariant-loop-place
 invariant-loop-place l = record {
   low : l.place ≤ length l.order;
-  nearing : IsNearing l.u l.goal l.order (flag l.held) l.place;
-  forced : AreForced l.u l.goal (flag l.held) l.forced;
+  nearing : IsNearing l.u l.goal l.order (flag l.kept.known.held) l.place;
+  kept : IsKept l.u l.goal l.kept;
 }
 
 abbrev pub decreases-loop-place : goal.decreases-loop-place

@@ -1,0 +1,5 @@
+use Rattle.metis_why.specs.Settling.{AreReached}
+use Rattle.metis_why.proofs.falling.first_awaited.Given as goal
+
+abbrev pub invariant-loop-place : goal.invariant-loop-place
+invariant-loop-place l = AreReached l.required l.given l.place
