@@ -11,6 +11,8 @@ its callgrind, which do not depend on what else the machine does. The goal is la
     ladder       two pairs on each rung, both of which require a port of each of the two on the next rung; so each has two reasons
     windows      each type's on requires 120 ports, and the next one's provides them, of which all but one others provide too; so
                  each has 120 reasons, and none can be left out
+    laden        windows whose types also provide 250 ports each that none requires, so that a document is near its limit
+    forks        two types on each rung, both of which require 60 ports of types of the one side and 60 of the other; one side can be left out
     providers    the ladder, beside 60 pairs that can be had and provide some 2,000 other ports each
 
 What has to be printed is known from how a universe is made, and in small ones of the same kind it is what tools/second_why.py finds.
@@ -38,6 +40,7 @@ BOUND = 2_000_000_000
 MOST_TO_PLAN, MOST_GROWTH = 10, 2.3
 WINDOW, MOST_STATES, MOST_PORTS = 120, 64, 4000
 GIVERS = 60
+USELESS, USELESS_EACH = 2800, 250
 
 COLUMNS = ("kind", "pairs", "lines", "reading", "plan", "why", "confirm", "why to plan", "why to the size before")
 
@@ -98,6 +101,24 @@ def windows(pairs):
     return types, "t0:on", [f"t{i}:on" for i in range(count)]
 
 
+def laden(pairs):
+    types, goal, needed = windows(pairs)
+    for at, row in enumerate(types):
+        row["states"][1]["provide"] += [f"q{(7 * at + port) % USELESS}" for port in range(USELESS_EACH)]
+    return types, goal, needed
+
+
+def forks(pairs):
+    count, half = pairs // 4, WINDOW // 2
+    types = []
+    for i in reversed(range(count)):
+        require = [f"{side}{port}" for port in reversed(range(i, i + half)) for side in "ba"] if i + 1 < count else ["lost"]
+        for side in "ba":
+            provide = [f"{side}{port}" for port in reversed(range(i - 1, i - 1 + half))] if i else []
+            types.append(switch(f"{side}t{i}", provide, require))
+    return types, "at0:on", ["at0:on", *(f"bt{i}:on" for i in range(1, count))]
+
+
 def providers(pairs):
     types, goal, needed = rungs(pairs - GIVERS - 1)
     own = {port for row in types for state in row["states"] for key in ("provide", "require") for port in state.get(key, [])}
@@ -107,7 +128,7 @@ def providers(pairs):
     return [*types, {"name": "giver", "initial": "w0", "states": states}], goal, needed
 
 
-KINDS = {made.__name__: made for made in (chain, packages, ladder, windows, providers)}
+KINDS = {made.__name__: made for made in (chain, packages, ladder, windows, laden, forks, providers)}
 
 
 def explanation(document, word, needed):

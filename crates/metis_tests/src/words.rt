@@ -1,6 +1,7 @@
 //! Words, commands and statuses.
 use metis_outside::{CalmShelf, CalmSink};
-use metis_top::{Status, Verb, WordFault, read_words, run};
+use metis_top::{Status, run};
+use metis_words::{Verb, WordFault, read_words};
 use std::alloc::{AllocError, Global};
 use std::test::Fail;
 

@@ -5,12 +5,9 @@ pub mod Blocks
 pub mod Deployments
 pub mod FileBytes
 pub mod FirstGoals
-pub mod FormRead
 pub mod Gathered
 pub mod Loads
-pub mod Misfits
 pub mod NeverLoose
-pub mod NumbersRead
 pub mod Openings
 pub mod OverFiles
 pub mod PrintedAudits
@@ -20,7 +17,6 @@ pub mod Replies
 pub mod Said
 pub mod SaidLines
 pub mod Sessions
-pub mod Searches
 pub mod Shown
 pub mod Starts
 pub mod TurnsRead

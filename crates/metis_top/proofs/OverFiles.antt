@@ -17,12 +17,12 @@ use Rattle.metis_top.specs.Commands.{goals_named, plan_script, script_from, univ
 use Rattle.metis_top.specs.Course.{Ran, Shown, Says, OnShelf, AreTaken, after}
 use Rattle.metis_ujson.specs.Document.{document_limit, universe_in}
 use Rattle.metis_top.proofs.Deployments.{OrderLaws, answer_deploys}
-use Rattle.metis_top.specs.Honest.{over, Tells, Headline, PlansHave}
+use Rattle.metis_top.specs.Honest.{over, Tells, Headline, IsThePlan, PlansHave, Undisturbed}
 use Rattle.metis_top.specs.Deployment.{EndsTidy}
 use Rattle.metis_top.specs.Planned.{PlanAnswer, PlansPairs, plan_text}
 use Rattle.metis_top.specs.Script.{Script, Read, Refuse, Reply}
-use Rattle.metis_top.specs.TargetName.{TargetName}
-use Rattle.metis_top.specs.Words.{form_of}
+use Rattle.metis_words.specs.TargetName.{TargetName}
+use Rattle.metis_words.specs.Words.{form_of}
 use Rattle.metis_universe.specs.Universe.{Universe}
 
 -- no read failed, and memory did not run out, so the script has come to its end
@@ -57,7 +57,7 @@ tells (Some file) taken script count faults faults' opens opens' old new before 
 pub ran_tells : {S K : Type 0} (files : S → Option (List ℕ → List ℕ)) (faults opens : S → ℕ) (written : K → Option (List (List ℕ))) (sink_faults : K → ℕ)
     (script : Script) (shelf shelf' : S) (sink sink' : K) (status : Status)
     → Ran files faults opens written sink_faults script shelf shelf' sink sink' status
-    → IfSome (files shelf) (λ file. (Rose (faults shelf) (faults shelf') → ⊥) → (Rose (sink_faults sink) (sink_faults sink') → ⊥) → status ≢ NoMemory → Tells file script (written sink) (written sink') status)
+    → Undisturbed (files shelf) (faults shelf) (faults shelf') (sink_faults sink) (sink_faults sink') status (λ file. Tells file script (written sink) (written sink') status)
 ran_tells files faults opens written sink_faults script shelf shelf' sink sink' status r =
     tells (files shelf) r.taken script (length r.taken) _ _ _ _ _ _ _ _ status r.asked r.reads r.puts
 
@@ -97,8 +97,11 @@ plans_have P each words file old new status t = λ name targets u g is fits mean
           (p.plan, (plans.pairs, plans.resolved, each u plans.pairs t.lines p), subst (λ ls. Appends old new ls) p.told t.put)
       by u goals done (inr (is, refuses)) = absurd (done_no (sym done ∙ is))
 
-pub tidy_in_any_order : OrderLaws → (u : Universe) (g : List ℕ) (lines : List (List ℕ)) (p : PlansPairs u g lines) → EndsTidy u g p.plan
+tidy_in_any_order : OrderLaws → (u : Universe) (g : List ℕ) (lines : List (List ℕ)) (p : PlansPairs u g lines) → EndsTidy u g p.plan
 tidy_in_any_order laws u g lines p ks kept complete = subst (IsTidy u g) (sym (laws.alike u p.plan.actions ks p.is.runs p.is.steadfast kept complete)) p.tidy
+
+pub the_plan : OrderLaws → (u : Universe) (g : List ℕ) (lines : List (List ℕ)) (p : PlansPairs u g lines) → IsThePlan u g p.plan
+the_plan laws u g lines p = record { rounds = p.rounds; doubled = p.needed; tidy = tidy_in_any_order laws u g lines p }
 
 if_some : {F : Type 0} (files : Option F) (P Q R : Type 0) (S T : F → Type 0) → ((f : F) → S f → T f) → IfSome files (λ f. P → Q → R → S f) → IfSome files (λ f. P → Q → R → T f)
 if_some None P Q R S T step t = tt
@@ -108,7 +111,7 @@ module _ {S K : Type 0} (files : S → Option (List ℕ → List ℕ)) (faults o
     (words : List (List ℕ)) (shelf shelf' : S) (sink sink' : K) (status : Status) (ran : Ran files faults opens written sink_faults (script_from (form_of words)) shelf shelf' sink sink' status) where
   -- without faults, and where memory did not run out
   abbrev Calmly : ((List ℕ → List ℕ) → Type 0) → Type 0
-  Calmly T = IfSome (files shelf) (λ file. (Rose (faults shelf) (faults shelf') → ⊥) → (Rose (sink_faults sink) (sink_faults sink') → ⊥) → status ≢ NoMemory → T file)
+  Calmly T = Undisturbed (files shelf) (faults shelf) (faults shelf') (sink_faults sink) (sink_faults sink') status T
 
   calmly : (T : (List ℕ → List ℕ) → Type 0) → ((file : List ℕ → List ℕ) → Tells file (script_from (form_of words)) (written sink) (written sink') status → T file) → Calmly T
   calmly T step = if_some (files shelf) _ _ _ (λ file. Tells file (script_from (form_of words)) (written sink) (written sink') status) T step (ran_tells files faults opens written sink_faults _ shelf shelf' sink sink' status ran)

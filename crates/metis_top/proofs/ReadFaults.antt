@@ -8,8 +8,8 @@ use Rattle.metis_top.specs.declared.refusal.Refusal.TheVariants.{Word, TooLong}
 use Rattle.metis_top.specs.declared.refusal.Refusal.TheVariants as refusal
 use Rattle.metis_top.specs.declared.status.Status.{Status}
 use Rattle.metis_top.specs.declared.status.Status.TheVariants.{Done, No, ReadFault}
-use Rattle.metis_top.specs.declared.words.Verb.{Verb}
-use Rattle.metis_top.specs.declared.words.Verb.TheVariants.{Plan, Replay, Refute, Audit, Sim, Crew, Waves, Control, Rollout, Place, Print, Load, Why, Confirm}
+use Rattle.metis_words.specs.declared.words.Verb.{Verb}
+use Rattle.metis_words.specs.declared.words.Verb.TheVariants.{Plan, Replay, Refute, Audit, Sim, Crew, Waves, Control, Rollout, Place, Print, Load, Why, Confirm}
 use Rattle.metis_top.specs.Answer as answer
 use Rattle.metis_why_text.specs.WhyReading.{why_in}
 use Rattle.metis_top.specs.Answer.{Answer, IsAnswer}
@@ -36,9 +36,9 @@ use Rattle.metis_ujson.specs.Document.{document_limit, universe_in}
 use Rattle.metis_top.specs.Lines.{refusal_status, read_fault_line}
 use Rattle.metis_top.specs.Numbered.{Numbered, TellsReadFault}
 use Rattle.metis_top.specs.Script.{Script, Read, Refuse, Reply}
-use Rattle.metis_top.specs.TargetName.{TargetName}
+use Rattle.metis_words.specs.TargetName.{TargetName}
 use Rattle.metis_top.specs.Turns.{turns_in}
-use Rattle.metis_top.specs.Words.{Form, word_at}
+use Rattle.metis_words.specs.Words.{Form, word_at}
 use Rattle.metis_universe.specs.Universe.{Universe}
 
 verdict_ends : (v : Verdict) (status : Status) → status ≡ verdict_status v → (status ≡ Done) ⊎ (status ≡ No)

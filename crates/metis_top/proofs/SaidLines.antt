@@ -76,20 +76,20 @@ use Rattle.metis_top.specs.PutLines.{PutsLines}
 use Rattle.metis_top.specs.Replayed.{verdict_line}
 use Rattle.metis_top.specs.Script.{Script, Read, Refuse, Reply}
 use Rattle.metis_top.specs.Simulated.{replies_to, script_lines}
-use Rattle.metis_top.specs.TargetName.{TargetName}
+use Rattle.metis_words.specs.TargetName.{TargetName}
 use Rattle.metis_top.specs.Turns.{turns_in}
-use Rattle.metis_top.specs.Words.{Form, word_at}
+use Rattle.metis_words.specs.Words.{Form, word_at}
 use Rattle.metis_top.specs.declared.refusal.Refusal.{Refusal}
 use Rattle.metis_top.specs.declared.refusal.Refusal.TheVariants.{Word, TooLong, Turns}
 use Rattle.metis_top.specs.declared.status.Status.{Status}
-use Rattle.metis_top.specs.declared.words.Verb.{Verb}
+use Rattle.metis_words.specs.declared.words.Verb.{Verb}
 use Rattle.metis_audit.specs.declared.answers.Answer.{Answer as AuditAnswer}
 use Rattle.metis_audit.specs.declared.answers.Answer.TheVariants as audit
 use Rattle.metis_ids.specs.Plans as plans
 use Rattle.metis_top.specs.Audited.{audit_line}
 use Rattle.metis_top.specs.RolledOut.{RolloutAnswer, rollout_plan}
 use Rattle.metis_top.specs.Waved.{chain_line, end_lines, finish_line, start_line, start_lines}
-use Rattle.metis_top.specs.declared.words.Verb.TheVariants.{Plan, Replay, Refute, Audit, Sim, Crew, Waves, Control, Rollout, Place, Print, Load, Why, Confirm}
+use Rattle.metis_words.specs.declared.words.Verb.TheVariants.{Plan, Replay, Refute, Audit, Sim, Crew, Waves, Control, Rollout, Place, Print, Load, Why, Confirm}
 use Rattle.std.specs.declared.option.Option.{Option as Known}
 use Rattle.metis_text.specs.Flaws.{and_then}
 

@@ -10,7 +10,7 @@ use Rattle.std.specs.Prelude.{is_some, position}
 use Rattle.std.specs.Result.{result_ok}
 use borrow.Author.Count.{below_more}
 use Rattle.metis_top.specs.Turns.{is_no_turn, turn_of, turns_of}
-use Rattle.metis_top.specs.Words.{unless_misfit}
+use Rattle.metis_words.specs.Words.{unless_misfit}
 use Rattle.metis_text.specs.Tokens.{number_in}
 use Rattle.metis_text.specs.declared.flaw.Flaw.{Flaw}
 

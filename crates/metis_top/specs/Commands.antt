@@ -6,8 +6,8 @@ use Rattle.metis_universe.specs.Universe.{Universe}
 use Rattle.metis_top.specs.declared.refusal.Refusal.{Refusal}
 use Rattle.metis_top.specs.declared.refusal.Refusal.TheVariants.{Word, TooLong}
 use Rattle.metis_top.specs.declared.refusal.Refusal.TheVariants as refusal
-use Rattle.metis_top.specs.declared.words.Verb.{Verb}
-use Rattle.metis_top.specs.declared.words.Verb.TheVariants.{Plan, Replay, Refute, Audit, Sim, Crew, Waves, Control, Rollout, Place, Print, Load, Why, Confirm}
+use Rattle.metis_words.specs.declared.words.Verb.{Verb}
+use Rattle.metis_words.specs.declared.words.Verb.TheVariants.{Plan, Replay, Refute, Audit, Sim, Crew, Waves, Control, Rollout, Place, Print, Load, Why, Confirm}
 use Rattle.metis_top.specs.Answer as answer
 use Rattle.metis_ids.specs.declared.actions.Action.{Action}
 use Rattle.metis_ids.specs.Plans as plans
@@ -23,9 +23,9 @@ use Rattle.metis_why_text.specs.WhyReading.{WhyParts, why_in}
 use Rattle.metis_ujson.specs.Document.{document_limit, universe_in}
 use Rattle.metis_ujson.specs.declared.faults.UFault.{UFault}
 use Rattle.metis_top.specs.Script.{Script, Read, Refuse, Reply}
-use Rattle.metis_top.specs.TargetName.{TargetName}
+use Rattle.metis_words.specs.TargetName.{TargetName}
 use Rattle.metis_top.specs.Turns.{turns_in}
-use Rattle.metis_top.specs.Words.{Form, word_at, form_of}
+use Rattle.metis_words.specs.Words.{Form, word_at, form_of}
 use Rattle.metis_text.specs.Flaws.{and_then}
 
 -- reads the file of the word at this place, and goes on with its bytes, where they are not too many

@@ -1,22 +1,33 @@
 -- Runs over files whose bytes are told.
-use Rattle.std.specs.Prelude.{◌≡◌, ℕ, ◌+◌, ◌≤◌, List, [], ◌∷◌, length, take, Ok}
+--     Undisturbed files reads reads' puts puts' status P      where the files tell their bytes, neither count of faults rose and memory did not run out, P holds of these bytes
+--     over file script      what the script comes to where each file is read with success
+--     Tells file script old new status      the lines that it then comes to were put, one a put
+--     Headline words file old new status      the promise of `plan`
+--     PlansHave P words file old new status      what is put as a plan is the text of one of which P holds
+--     IsThePlan u pairs plan      it is the plan that rounds come to; no instance is doubled without need, and what is left at its end is tidy
+use Rattle.std.specs.Prelude.{◌≡◌, ◌≢◌, ℕ, ◌+◌, ◌≤◌, List, [], ◌∷◌, length, take, IfSome, Ok}
 use Rattle.std.specs.declared.option.Option.{Option}
 use Rattle.metis_ids.specs.Plans.{Plan}
+use Rattle.metis_outside.specs.Faults.{Rose}
 use Rattle.metis_outside.specs.Writes.{Appends}
 use Rattle.metis_top.specs.Course.{Says}
 use Rattle.metis_ujson.specs.Document.{document_limit, universe_in}
 use Rattle.metis_ids.specs.declared.goals.Goal.{Goal}
 use Rattle.metis_choice.specs.Resolutions.{ArePairsFor}
 use Rattle.metis_top.specs.Commands.{goals_named}
-use Rattle.metis_top.specs.Deployment.{DeploysOrRefuses}
-use Rattle.metis_top.specs.Planned.{plan_text}
+use Rattle.metis_top.specs.Deployment.{DeploysOrRefuses, EndsTidy}
+use Rattle.metis_top.specs.Planned.{IsDoubledByNeed, plan_text}
+use Rattle.metis_planner.specs.Rounds.{IsByRounds}
 use Rattle.metis_universe.specs.Universe.{Universe}
 use Rattle.metis_top.specs.Script.{Script, Read}
-use Rattle.metis_top.specs.TargetName.{TargetName}
-use Rattle.metis_top.specs.Words.{form_of}
+use Rattle.metis_words.specs.TargetName.{TargetName}
+use Rattle.metis_words.specs.Words.{form_of}
 use Rattle.metis_top.specs.declared.status.Status.{Status}
-use Rattle.metis_top.specs.declared.status.Status.TheVariants.{Done}
-use Rattle.metis_top.specs.declared.words.Verb.TheVariants.{Plan as PlanVerb}
+use Rattle.metis_top.specs.declared.status.Status.TheVariants.{Done, NoMemory}
+use Rattle.metis_words.specs.declared.words.Verb.TheVariants.{Plan as PlanVerb}
+
+abbrev pub Undisturbed : Option (List ℕ → List ℕ) → ℕ → ℕ → ℕ → ℕ → Status → ((List ℕ → List ℕ) → Type 0) → Type 0
+Undisturbed files reads reads' puts puts' status P = IfSome files (λ file. (Rose reads reads' → ⊥) → (Rose puts puts' → ⊥) → status ≢ NoMemory → P file)
 
 -- what the script comes to where each file is read with success
 abbrev pub over : (List ℕ → List ℕ) → Script → Script
@@ -46,3 +57,8 @@ PlansHave P words file old new status = (name : List ℕ) (targets : List Target
     → form_of words ≡ Ok (record { verb = PlanVerb; files = name ∷ []; targets = targets; size = 0; numbers = [] })
     → length (file name) ≤ document_limit → universe_in (file name) ≡ Ok u → goals_named 3 u targets ≡ Ok goals → status ≡ Done
     → (plan : Plan) × ((pairs : List ℕ) × ArePairsFor u goals pairs × P u pairs plan) × Appends old new (plan_text u plan)
+
+pub record IsThePlan (u : Universe) (pairs : List ℕ) (plan : Plan) : Type 0 where
+  pub rounds : IsByRounds u pairs plan
+  pub doubled : IsDoubledByNeed u pairs plan
+  pub tidy : EndsTidy u pairs plan

@@ -8,7 +8,6 @@ pub mod Course
 pub mod Crewed
 pub mod Deployment
 pub mod Explained
-pub mod Forms
 pub mod Honest
 pub mod Judged
 pub mod Lines
@@ -23,7 +22,6 @@ pub mod RolledOut
 pub mod Script
 pub mod Simulated
 pub mod Statuses
-pub mod TargetName
+pub mod Stops
 pub mod Turns
 pub mod Waved
-pub mod Words

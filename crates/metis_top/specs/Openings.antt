@@ -3,9 +3,9 @@
 --     OpensFiles form status opens opens'      at most the files of its words, and at least one where there are any; none where the words are no command; at want of memory perhaps none
 use Rattle.std.specs.Prelude.{◌≡◌, ◌⊎◌, ◌≤◌, min, ℕ, Result, Ok, Err}
 use Rattle.metis_top.specs.Course.{opened}
-use Rattle.metis_top.specs.Forms.{file_count}
+use Rattle.metis_words.specs.Forms.{file_count}
 use Rattle.metis_top.specs.Script.{Script, Read, Refuse, Reply}
-use Rattle.metis_top.specs.Words.{Form}
+use Rattle.metis_words.specs.Words.{Form}
 use Rattle.metis_top.specs.declared.status.Status.{Status}
 use Rattle.metis_top.specs.declared.status.Status.TheVariants.{NoMemory}
 

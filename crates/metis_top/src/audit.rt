@@ -16,7 +16,7 @@ use crate::aim::{Aim, aim_of};
 use crate::audit_line::{write_audit, write_lacking};
 use crate::reading::{goals_from, plan_from};
 use crate::stop::{end, said};
-use crate::words::TargetWord;
+use metis_words::TargetWord;
 use metis_audit::{Answer, audit};
 use metis_choice::pairs_for_goals_hold_them;
 use metis_ids::{Goal, PairIx};

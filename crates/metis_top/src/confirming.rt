@@ -14,7 +14,7 @@ use crate::Status;
 use crate::judgement_line::goal_line;
 use crate::reading::{goals_from, why_from};
 use crate::stop::{end, said};
-use crate::words::TargetWord;
+use metis_words::TargetWord;
 use metis_ids::Goal;
 use metis_outside::{Shelf, Sink, Trouble};
 use metis_text::put_line;

@@ -7,7 +7,6 @@ mod audit_line;
 mod confirming;
 mod control;
 mod crew;
-mod grammar;
 mod in_memory;
 mod judgement_line;
 mod laws;
@@ -30,13 +29,10 @@ mod turns;
 mod verdict_line;
 mod waves;
 mod why;
-mod words;
 
-pub use grammar::read_words;
 pub use in_memory::run_in_memory;
 pub use laws::{
     a_crew_has_a_line_for_each_turn, nothing_is_put_behind_quit, printed_plans_are_justified,
 };
 pub use status::Status;
 pub use top::run;
-pub use words::{Command, TargetWord, Verb, WordFault};

@@ -20,7 +20,7 @@ use crate::Status;
 use crate::aim::{Aim, aim_of};
 use crate::reading::goals_from;
 use crate::stop::{end, said};
-use crate::words::TargetWord;
+use metis_words::TargetWord;
 use metis_choice::pairs_for_goals_hold_them;
 use metis_ids::{Action, Goal, NoMemory, PairIx, Plan};
 use metis_layers::table::Layers;

@@ -15,7 +15,7 @@ ghost use Rattle.metis_top.specs.Course.{Gathers, Judges, or_stop};
 
 use crate::refusal::{Refusal, Stop};
 use crate::turns::{TurnsFault, read_turns};
-use crate::words::TargetWord;
+use metis_words::TargetWord;
 use metis_ids::{Goal, InstNo};
 use metis_outside::{ReadAnswer, Shelf, read_whole};
 use metis_place::{HFault, Hosts, read_hosts};

@@ -12,7 +12,7 @@ use crate::Status;
 use crate::judgement_line::write_judgement;
 use crate::reading::{goals_from, refusal_from};
 use crate::stop::{end, said};
-use crate::words::TargetWord;
+use metis_words::TargetWord;
 use metis_ids::{Goal, PairSet};
 use metis_outside::{Shelf, Sink};
 use metis_refusal::{Verdict2, check_closed};

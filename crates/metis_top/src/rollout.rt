@@ -25,7 +25,7 @@ use crate::reading::{goals_from, plan_from};
 use crate::steady::{first_bad, first_loose, write_loose};
 use crate::stop::{end, said};
 use crate::verdict_line::write_bad;
-use crate::words::TargetWord;
+use metis_words::TargetWord;
 use metis_choice::pairs_for_goals_hold_them;
 use metis_ids::{Action, Goal, NoMemory, PairIx, Plan};
 use metis_layers::table::Layers;

@@ -1,17 +1,15 @@
 //! The top call.
-ghost use Rattle.std.specs.Prelude.{◌≡◌, ◌≢◌, IfSome};
+ghost use Rattle.std.specs.Prelude.{◌≡◌};
 ghost use Rattle.metis_outside.specs.Faults.{Rose};
 ghost use Rattle.metis_top.specs.Commands.{script_of, command_script};
 ghost use Rattle.metis_top.specs.Course.{Ran};
-ghost use Rattle.metis_planner.specs.Rounds.{IsByRounds};
-ghost use Rattle.metis_top.specs.Deployment.{EndsTidy};
-ghost use Rattle.metis_top.specs.Honest.{Tells, Headline, PlansHave};
+ghost use Rattle.metis_top.specs.Honest.{Headline, IsThePlan, PlansHave, Tells, Undisturbed};
 ghost use Rattle.metis_top.specs.Numbered.{TellsReadFault};
 ghost use Rattle.metis_top.specs.Openings.{OpensFiles};
-ghost use Rattle.metis_top.specs.Planned.{IsDoubledByNeed};
 ghost use Rattle.metis_top.specs.PutLines.{PutsLines};
 ghost use Rattle.metis_top.specs.Statuses.{IsVerdict};
-ghost use Rattle.metis_top.specs.Words.{form_of, word_stop};
+ghost use Rattle.metis_words.specs.Words.{form_of};
+ghost use Rattle.metis_top.specs.Stops.{word_stop};
 ghost use Rattle.metis_universe.specs.Texts.{texts};
 
 use crate::Status;
@@ -19,7 +17,7 @@ use crate::audit::audit_file;
 use crate::confirming::confirm_file;
 use crate::control::control_file;
 use crate::crew::crew_file;
-use crate::grammar::read_words;
+use metis_words::read_words;
 use crate::load::load_size;
 use crate::place::place_file;
 use crate::plan::plan_file;
@@ -32,7 +30,7 @@ use crate::sim::sim_file;
 use crate::stop::end;
 use crate::waves::waves_file;
 use crate::why::why_file;
-use crate::words::{Command, Verb, WordFault};
+use metis_words::{Command, Verb, WordFault};
 use metis_outside::{Shelf, Sink};
 use metis_waits::{complete_order_ends_alike, kept_order_is_a_run, own_order_is_kept};
 use std::alloc::Global;
@@ -61,27 +59,17 @@ pub fn run<H: Shelf, K: Sink>(alloc: Global, words: &[String], shelf: &mut H, ou
     ensures sink_calm { IsVerdict result → K.faults out.new ≡ K.faults out.old }
 
     // Memory and faults aside, it puts what its words say of the files that they name.
-    ensures told { IfSome (H.files shelf.old) (λ file.
-        (Rose (H.faults shelf.old) (H.faults shelf.new) → ⊥) → (Rose (K.faults out.old) (K.faults out.new) → ⊥) → result ≢ Status.NoMemory
-        → Tells file (script_of (texts words.now)) (K.written out.old) (K.written out.new) result) }
-    ensures headline { IfSome (H.files shelf.old) (λ file.
-        (Rose (H.faults shelf.old) (H.faults shelf.new) → ⊥) → (Rose (K.faults out.old) (K.faults out.new) → ⊥) → result ≢ Status.NoMemory
-        → Headline (texts words.now) file (K.written out.old) (K.written out.new) result) }
+    ensures told { Undisturbed (H.files shelf.old) (H.faults shelf.old) (H.faults shelf.new) (K.faults out.old) (K.faults out.new) result
+        (λ file. Tells file (script_of (texts words.now)) (K.written out.old) (K.written out.new) result) }
 
-    // An instance of the plan is doubled only where a printed cycle stands in the way.
-    ensures doubled { IfSome (H.files shelf.old) (λ file.
-        (Rose (H.faults shelf.old) (H.faults shelf.new) → ⊥) → (Rose (K.faults out.old) (K.faults out.new) → ⊥) → result ≢ Status.NoMemory
-        → PlansHave IsDoubledByNeed (texts words.now) file (K.written out.old) (K.written out.new) result) }
+    // So the headline of `plan` holds.
+    ensures headline { Undisturbed (H.files shelf.old) (H.faults shelf.old) (H.faults shelf.new) (K.faults out.old) (K.faults out.new) result
+        (λ file. Headline (texts words.now) file (K.written out.old) (K.written out.new) result) }
 
-    // At its end only the targets and what serves them remain.
-    ensures tidy { IfSome (H.files shelf.old) (λ file.
-        (Rose (H.faults shelf.old) (H.faults shelf.new) → ⊥) → (Rose (K.faults out.old) (K.faults out.new) → ⊥) → result ≢ Status.NoMemory
-        → PlansHave EndsTidy (texts words.now) file (K.written out.old) (K.written out.new) result) }
-
-    // Which plan it is: the one that rounds come to.
-    ensures rounds { IfSome (H.files shelf.old) (λ file.
-        (Rose (H.faults shelf.old) (H.faults shelf.new) → ⊥) → (Rose (K.faults out.old) (K.faults out.new) → ⊥) → result ≢ Status.NoMemory
-        → PlansHave IsByRounds (texts words.now) file (K.written out.old) (K.written out.new) result) }
+    // Which plan it is: the one that rounds come to. An instance is doubled only where a printed cycle stands in the way, and at the end
+    // only the targets and what serves them remain.
+    ensures plan { Undisturbed (H.files shelf.old) (H.faults shelf.old) (H.faults shelf.new) (K.faults out.old) (K.faults out.new) result
+        (λ file. PlansHave IsThePlan (texts words.now) file (K.written out.old) (K.written out.new) result) }
 {
     kept_order_is_a_run();
     complete_order_ends_alike();
@@ -95,18 +83,17 @@ fn follow<H: Shelf, K: Sink>(alloc: Global, words: &[String], shelf: &mut H, out
 {
     match read_words(alloc, words) {
         Ok(command) => perform(alloc, &command, shelf, out),
-        Err(fault) => end(alloc, fault.stop(), out),
+        Err(fault) => end(alloc, word_stop(fault), out),
     }
 }
 
-impl WordFault {
-    fn stop(self) -> Stop
-        ensures { result ≡ word_stop self }
-    {
-        match self {
-            WordFault::At(place) => Stop::Refused(Refusal::Word(place)),
-            WordFault::NoMemory => Stop::NoMemory,
-        }
+// Why words that are no command stop the run.
+fn word_stop(fault: WordFault) -> Stop
+    ensures { result ≡ word_stop fault }
+{
+    match fault {
+        WordFault::At(place) => Stop::Refused(Refusal::Word(place)),
+        WordFault::NoMemory => Stop::NoMemory,
     }
 }
 

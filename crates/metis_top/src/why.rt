@@ -10,7 +10,7 @@ ghost use Rattle.metis_top.specs.Course.{Ran, Shown};
 use crate::Status;
 use crate::reading::goals_from;
 use crate::stop::{end, said, say};
-use crate::words::TargetWord;
+use metis_words::TargetWord;
 use metis_ids::Goal;
 use metis_outside::{Shelf, Sink};
 use metis_universe::Universe;

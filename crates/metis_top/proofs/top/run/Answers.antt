@@ -1,12 +1,10 @@
 use Rattle.metis_top.proofs.Deployments.{OrderLaws}
-use Rattle.metis_top.proofs.OverFiles.{ran_headline, ran_plans, ran_tells, tidy_in_any_order}
+use Rattle.metis_top.proofs.OverFiles.{ran_headline, ran_plans, ran_tells, the_plan}
 use Rattle.metis_top.proofs.Openings.{ran_opens}
 use Rattle.metis_top.proofs.ReadFaults.{ran_read_fault}
 use Rattle.metis_top.proofs.SaidLines.{ran_lines}
-use Rattle.metis_planner.specs.Rounds.{IsByRounds}
-use Rattle.metis_top.specs.Deployment.{EndsTidy}
-use Rattle.metis_top.specs.Planned.{IsDoubledByNeed}
-use Rattle.metis_top.specs.Words.{form_of}
+use Rattle.metis_top.specs.Honest.{IsThePlan}
+use Rattle.metis_words.specs.Words.{form_of}
 use Rattle.metis_universe.specs.Texts.{texts}
 use Rattle.metis_top.proofs.top.run.Goals as goal
 
@@ -24,11 +22,8 @@ returns-clause-headline g c =
     } in
     ran_headline _ _ _ _ _ (texts c.args.words.now) _ _ _ _ _ c.follow.ensures laws
 
-pub returns-clause-doubled : goal.returns-clause-doubled
-returns-clause-doubled g c = ran_plans _ _ _ _ _ (texts c.args.words.now) _ _ _ _ _ c.follow.ensures IsDoubledByNeed (λ u g lines p. p.needed)
-
-pub returns-clause-tidy : goal.returns-clause-tidy
-returns-clause-tidy g c =
+pub returns-clause-plan : goal.returns-clause-plan
+returns-clause-plan g c =
     let laws : OrderLaws = record {
       runs = c.kept_order_is_a_run.ensures;
       alike = c.complete_order_ends_alike.ensures;
@@ -36,10 +31,7 @@ returns-clause-tidy g c =
       complete = c.own_order_is_kept.ensures.complete;
       same = c.own_order_is_kept.ensures.same;
     } in
-    ran_plans _ _ _ _ _ (texts c.args.words.now) _ _ _ _ _ c.follow.ensures EndsTidy (tidy_in_any_order laws)
-
-pub returns-clause-rounds : goal.returns-clause-rounds
-returns-clause-rounds g c = ran_plans _ _ _ _ _ (texts c.args.words.now) _ _ _ _ _ c.follow.ensures IsByRounds (λ u g lines p. p.rounds)
+    ran_plans _ _ _ _ _ (texts c.args.words.now) _ _ _ _ _ c.follow.ensures IsThePlan (the_plan laws)
 
 pub returns-clause-read_fault : goal.returns-clause-read_fault
 returns-clause-read_fault g c = ran_read_fault _ _ _ _ _ (form_of (texts c.args.words.now)) _ _ _ _ _ c.follow.ensures

@@ -1,0 +1,3 @@
+pub mod FormRead
+pub mod Misfits
+pub mod NumbersRead

@@ -1,0 +1,8 @@
+//! The words behind the program's name: the command that they are, or the first that does not fit.
+#![tactic(auto)]
+
+mod grammar;
+mod words;
+
+pub use grammar::read_words;
+pub use words::{Command, TargetWord, Verb, WordFault};

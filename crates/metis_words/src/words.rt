@@ -1,0 +1,182 @@
+//! The parts of a command.
+ghost use Rattle.std.specs.Prelude.{◌≡◌, ◌<◌, ◌≤◌, length};
+ghost use Rattle.std.specs.List.{All};
+ghost use Rattle.metis_words.specs.Forms.{file_count, least_size, number_count, size_limit, target_limit};
+
+use std::alloc::{AllocError, AllocFailed};
+use std::marker::Model;
+
+/// What a command does.
+#[derive(Clone, Copy, Debug, PartialEq, Eq)]
+pub enum Verb {
+    /// Plans for target words.
+    Plan,
+    /// Replays a plan, and looks for target words at its end.
+    Replay,
+    /// Checks a refusal of target words.
+    Refute,
+    /// Audits the dups and the instances of a plan for target words.
+    Audit,
+    /// Runs a session.
+    Sim,
+    /// Lets a crew take turns over a plan.
+    Crew,
+    /// Tells when each action of a plan may start.
+    Waves,
+    /// Runs a controller and agents for a plan, over a net that loses and repeats.
+    Control,
+    /// Goes from a plan to other targets, and removes what the plan left.
+    Rollout,
+    /// Puts a plan's instances on hosts with room.
+    Place,
+    /// Prints the universe.
+    Print,
+    /// Plans for the generated universe of a size, and replays the plan.
+    Load,
+    /// Explains why target words are never attained.
+    Why,
+    /// Checks an explanation for target words.
+    Confirm,
+}
+
+impl Verb {
+    /// How many file words the command has.
+    pub fn file_count(self) -> usize
+        ensures { result ≡ file_count self }
+    {
+        match self {
+            Verb::Load => 0,
+            Verb::Plan | Verb::Print | Verb::Why => 1,
+            Verb::Replay
+            | Verb::Refute
+            | Verb::Audit
+            | Verb::Sim
+            | Verb::Waves
+            | Verb::Rollout
+            | Verb::Confirm => 2,
+            Verb::Crew | Verb::Control | Verb::Place => 3,
+        }
+    }
+
+    /// How many target words the command has at most.
+    pub fn target_limit(self) -> usize
+        ensures { result ≡ target_limit self }
+    {
+        match self {
+            Verb::Plan
+            | Verb::Replay
+            | Verb::Refute
+            | Verb::Audit
+            | Verb::Rollout
+            | Verb::Why
+            | Verb::Confirm => 256,
+            Verb::Sim
+            | Verb::Crew
+            | Verb::Waves
+            | Verb::Control
+            | Verb::Place
+            | Verb::Print
+            | Verb::Load => 0,
+        }
+    }
+
+    /// How many numbers the command has.
+    pub fn number_count(self) -> usize
+        ensures { result ≡ number_count self }
+    {
+        match self {
+            Verb::Waves => 5,
+            _ => 0,
+        }
+    }
+}
+
+/// A word that names a pair by its type and its state, or a port behind `port`.
+#[derive(Debug, Drop)]
+pub struct TargetWord {
+    pub kind: String,
+    pub state: String,
+}
+
+impl Model for TargetWord {
+    ghost use Rattle.std.specs.String.{string_bytes};
+    ghost use Rattle.metis_words.specs.TargetName.{TargetName};
+
+    ghost Value = { TargetName };
+
+    ghost view = { λ t. record { kind = string_bytes t.kind; state = string_bytes t.state } };
+}
+
+/// The words of a command. Lists that the form of its verb does not have are empty, and such a size is 0.
+#[derive(Debug, Drop)]
+pub struct Command {
+    pub verb: Verb,
+    pub files: Vec<String>,
+    pub targets: Vec<TargetWord>,
+    pub size: u32,
+    pub numbers: Vec<u32>,
+    ghost files_are_there: { file_count verb ≤ length files.items },
+    ghost targets_are_few: { length targets.items ≤ target_limit verb },
+    ghost size_is_enough: { least_size verb ≤ size },
+    ghost size_is_small: { size ≤ size_limit verb },
+    ghost numbers_are_there: { length numbers.items ≡ number_count verb },
+    ghost numbers_are_small: { All (λ n. n ≤ 1000000) numbers.items },
+}
+
+impl Command {
+    ghost use Rattle.metis_universe.specs.Texts.{texts};
+    ghost use Rattle.metis_words.specs.Words.{word_at};
+
+    /// The file word of this number.
+    pub fn file(&self, k: usize) -> &str
+        requires { k < file_count self.now.verb }
+        ensures { result.now ≡ word_at (texts self.now.files.items) k }
+    {
+        &self.files[k]
+    }
+
+    /// The target words.
+    pub fn targets(&self) -> &[TargetWord]
+        ensures words { result.now ≡ self.now.targets.items }
+        ensures few { length result.now ≤ target_limit self.now.verb }
+    {
+        self.targets.as_slice()
+    }
+
+    /// The numbers, each at most 1,000,000.
+    pub fn numbers(&self) -> &[u32]
+        ensures numbers { result.now ≡ self.now.numbers.items }
+        ensures count { length result.now ≡ number_count self.now.verb }
+        ensures small { All (λ n. n ≤ 1000000) result.now }
+    {
+        self.numbers.as_slice()
+    }
+}
+
+/// Why words are no command.
+#[derive(Clone, Copy, Debug, PartialEq, Eq)]
+pub enum WordFault {
+    /// The place, from 1, of the first word that does not fit.
+    At(u32),
+    NoMemory,
+}
+
+impl From<AllocError> for WordFault {
+    ghost use Rattle.metis_words.specs.declared.words.WordFault.TheVariants.{NoMemory};
+
+    ghost from_gives = { λ _ e. e ≡ NoMemory };
+
+    fn from(_: AllocError) -> Self {
+        WordFault::NoMemory
+    }
+}
+
+impl<T: Drop> From<AllocFailed<T>> for WordFault {
+    ghost use Rattle.metis_words.specs.declared.words.WordFault.TheVariants.{NoMemory};
+
+    ghost from_gives = { λ _ e. e ≡ NoMemory };
+
+    fn from(_: AllocFailed<T>) -> Self {
+        WordFault::NoMemory
+    }
+}
