@@ -16,13 +16,13 @@ use crate::aim::{Aim, aim_of};
 use crate::audit_line::{write_audit, write_lacking};
 use crate::reading::{goals_from, plan_from};
 use crate::stop::{end, said};
-use metis_words::TargetWord;
 use metis_audit::{Answer, audit};
 use metis_choice::pairs_for_goals_hold_them;
 use metis_ids::{Goal, PairIx};
 use metis_outside::{Shelf, Sink};
 use metis_text::PlanText;
 use metis_universe::Universe;
+use metis_words::TargetWord;
 use std::alloc::Global;
 
 /// Reads the universe and the plan, and puts whether its instances are the life lines for the targets and its dups, each of these

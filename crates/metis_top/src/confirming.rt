@@ -14,12 +14,12 @@ use crate::Status;
 use crate::judgement_line::goal_line;
 use crate::reading::{goals_from, why_from};
 use crate::stop::{end, said};
-use metis_words::TargetWord;
 use metis_ids::Goal;
 use metis_outside::{Shelf, Sink, Trouble};
 use metis_text::put_line;
 use metis_universe::Universe;
 use metis_why::{Confirmation, Line, confirm};
+use metis_words::TargetWord;
 use std::alloc::{AllocError, Global};
 
 /// Reads the universe and the explanation, and puts what its lines come to for the targets.

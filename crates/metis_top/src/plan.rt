@@ -20,7 +20,6 @@ use crate::Status;
 use crate::aim::{Aim, aim_of};
 use crate::reading::goals_from;
 use crate::stop::{end, said};
-use metis_words::TargetWord;
 use metis_choice::pairs_for_goals_hold_them;
 use metis_ids::{Action, Goal, NoMemory, PairIx, Plan};
 use metis_layers::table::Layers;
@@ -29,6 +28,7 @@ use metis_planner::{nothing_is_doubled_without_a_cycle, plan_over};
 use metis_text::{write_plan, write_refusal};
 use metis_universe::Universe;
 use metis_waits::{WFault, Waits, waits};
+use metis_words::TargetWord;
 use std::alloc::Global;
 
 /// Reads the universe, and puts a plan for the targets, or a refusal where nothing attains them.

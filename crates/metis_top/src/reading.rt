@@ -15,7 +15,6 @@ ghost use Rattle.metis_top.specs.Course.{Gathers, Judges, or_stop};
 
 use crate::refusal::{Refusal, Stop};
 use crate::turns::{TurnsFault, read_turns};
-use metis_words::TargetWord;
 use metis_ids::{Goal, InstNo};
 use metis_outside::{ReadAnswer, Shelf, read_whole};
 use metis_place::{HFault, Hosts, read_hosts};
@@ -24,6 +23,7 @@ use metis_ujson::{UFault, UNIVERSE_LIMIT, read_universe};
 use metis_universe::Universe;
 use metis_why::Explanation;
 use metis_why_text::{accepted_why_is_written, read_why};
+use metis_words::TargetWord;
 use std::alloc::Global;
 
 /// The most bytes of a plan's text.

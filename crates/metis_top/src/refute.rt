@@ -12,11 +12,11 @@ use crate::Status;
 use crate::judgement_line::write_judgement;
 use crate::reading::{goals_from, refusal_from};
 use crate::stop::{end, said};
-use metis_words::TargetWord;
 use metis_ids::{Goal, PairSet};
 use metis_outside::{Shelf, Sink};
 use metis_refusal::{Verdict2, check_closed};
 use metis_universe::Universe;
+use metis_words::TargetWord;
 use std::alloc::Global;
 
 /// Reads the universe and the refusal, and puts what the set of pairs comes to as a refusal of the targets.

@@ -14,11 +14,11 @@ use crate::Status;
 use crate::reading::{goals_from, plan_from};
 use crate::stop::{end, said};
 use crate::verdict_line::write_verdict;
-use metis_words::TargetWord;
 use metis_ids::{Action, Goal, NoMemory};
 use metis_outside::{Shelf, Sink};
 use metis_replay::{Replay, Verdict, replay_is_exact, replay_keeps_what_was_done};
 use metis_universe::Universe;
+use metis_words::TargetWord;
 use std::alloc::Global;
 
 /// Reads the universe and the plan, and puts what the plan's actions come to from the empty configuration.

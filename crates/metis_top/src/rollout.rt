@@ -25,7 +25,6 @@ use crate::reading::{goals_from, plan_from};
 use crate::steady::{first_bad, first_loose, write_loose};
 use crate::stop::{end, said};
 use crate::verdict_line::write_bad;
-use metis_words::TargetWord;
 use metis_choice::pairs_for_goals_hold_them;
 use metis_ids::{Action, Goal, NoMemory, PairIx, Plan};
 use metis_layers::table::Layers;
@@ -34,6 +33,7 @@ use metis_planner::plan_over;
 use metis_rollout::{rollout, rollout_replaces};
 use metis_text::write_refusal;
 use metis_universe::Universe;
+use metis_words::TargetWord;
 use std::alloc::Global;
 
 /// Reads the universe and the plan, and puts a plan that begins with this one's actions, makes what the targets ask for beside

@@ -17,7 +17,6 @@ use crate::audit::audit_file;
 use crate::confirming::confirm_file;
 use crate::control::control_file;
 use crate::crew::crew_file;
-use metis_words::read_words;
 use crate::load::load_size;
 use crate::place::place_file;
 use crate::plan::plan_file;
@@ -30,9 +29,9 @@ use crate::sim::sim_file;
 use crate::stop::end;
 use crate::waves::waves_file;
 use crate::why::why_file;
-use metis_words::{Command, Verb, WordFault};
 use metis_outside::{Shelf, Sink};
 use metis_waits::{complete_order_ends_alike, kept_order_is_a_run, own_order_is_kept};
+use metis_words::{Command, Verb, WordFault, read_words};
 use std::alloc::Global;
 
 /// Does all that the program does: reads the words and the files that they name, and puts the answer.

@@ -10,12 +10,12 @@ ghost use Rattle.metis_top.specs.Course.{Ran, Shown};
 use crate::Status;
 use crate::reading::goals_from;
 use crate::stop::{end, said, say};
-use metis_words::TargetWord;
 use metis_ids::Goal;
 use metis_outside::{Shelf, Sink};
 use metis_universe::Universe;
 use metis_why::{Explained, explain};
 use metis_why_text::write_why;
+use metis_words::TargetWord;
 use std::alloc::Global;
 
 /// Reads the universe, and puts why the first of the targets is never attained that is not, where there is one.
