@@ -1,15 +1,17 @@
 -- The tables, as far as they are made.
-use Rattle.std.proofs.Common.{◌≡◌, ℕ, ◌+◌, ◌<◌, true, false, cond, ◌||◌, List, [], ◌∷◌, ◌++◌, length, take, get_or, String, string_bytes, string_eq, refl, ap, ◌∙◌, None, arith}
+use Rattle.std.proofs.Common.{◌≡◌, ℕ, ◌+◌, ◌<◌, true, false, cond, ◌||◌, List, [], ◌∷◌, ◌++◌, length, map, set, take, drop, get_or, String, string_bytes, string_eq, refl, ap, sym, ◌∙◌, None, arith, append_assoc}
 use Rattle.std.specs.declared.alloc.Global.{Global}
 use Rattle.std.specs.List.{list_any}
 use Rattle.std.specs.Str.{bytes_eq}
 use Rattle.std.proofs.lemmas.Bool.{true≢false}
-use Rattle.std.proofs.lemmas.List.{take_more, length-take-le}
+use Rattle.std.proofs.Math.Seq.{set-append_seam, get_or-append_seam}
+use Rattle.std.proofs.lemmas.List.{append-nil, drop_more, length-drop, length_push, take-append-drop, take_more, length-take-le}
 use Rattle.indexmap.specs.IndexMap.{insert_entry}
-use Rattle.metis_universe.specs.Universe.{Kind}
+use Rattle.metis_universe.specs.Universe.{Kind, Pair, no_pair}
 use Rattle.metis_universe.specs.Kinds.{kind_of, kinds_of}
-use Rattle.metis_universe.specs.RowShapes.{TypeRow}
-use Rattle.metis_universe.specs.Rows.{earlier_type, state_total, pairs_of_type, pairs_from, kind_from, kinds_from}
+use Rattle.metis_universe.specs.RowShapes.{StateRow, TypeRow}
+use Rattle.metis_universe.specs.Rows.{earlier_type, state_total, pair_from, pairs_of_type, pairs_from, kind_from, kinds_from}
+use Rattle.metis_universe.specs.Unnamed.{unnamed, with_names}
 use Rattle.metis_universe.proofs.FirstFault.{list_any-from_position}
 use Rattle.metis_universe.proofs.Blocks.{kinds_from-push, pairs_from-push}
 
@@ -43,3 +45,32 @@ module _ (rows : List TypeRow) (t : ℕ) (d : TypeRow) (h : t < length rows) whe
       let b : 0 + state_total (take t rows) ≡ state_total (take t rows) = omega arith in
       ap (pairs_from ports 0 0) (take_more rows t d h) ∙ pairs_from-push ports 0 0 (take t rows) (get_or rows t d)
       ∙ (λ j. pairs_from ports 0 0 (take t rows) ++ pairs_of_type ports (a j) (b j) (get_or rows t d))
+
+-- the pairs of a type, once the names of its states are moved to them
+pub names_moved : (ports : List (List ℕ)) (t first : ℕ) (row : TypeRow) (front : List Pair) (states : List StateRow) →
+    with_names (length front) (front ++ map (λ state. unnamed (pair_from ports t first row state)) states) states ≡ front ++ map (pair_from ports t first row) states
+names_moved ports t first row front [] = refl
+names_moved ports t first row front (s ∷ states) =
+    let x = pair_from ports t first row s in
+    let rest = map (λ state. unnamed (pair_from ports t first row state)) states in
+    ap (λ y. with_names (length front + 1) (set (front ++ unnamed x ∷ rest) (length front) (record y { state = s.name })) states) (get_or-append_seam front (unnamed x) rest no_pair)
+    ∙ ap (λ pairs. with_names (length front + 1) pairs states) (set-append_seam front (unnamed x) rest x ∙ sym (append_assoc front (x ∷ []) rest))
+    ∙ ap (λ n. with_names n ((front ++ x ∷ []) ++ rest) states) (sym (length_push front x))
+    ∙ names_moved ports t first row (front ++ x ∷ []) states
+    ∙ append_assoc front (x ∷ []) (map (pair_from ports t first row) states)
+
+-- what is left of a list begins with the element of this place
+pub record IsLeft {A : Type 0} (xs : List A) (t : ℕ) (x : A) (rest : List A) : Type 0 where
+  pub within : t < length xs
+  pub is : x ≡ get_or xs t x
+  pub after : drop (t + 1) xs ≡ rest
+
+pub left_at : {A : Type 0} (xs : List A) (t : ℕ) (x : A) (rest : List A) → drop t xs ≡ x ∷ rest → IsLeft xs t x rest
+left_at xs t x rest left =
+    let within : t < length xs = omega (arith, length-drop t xs, ap length left) in
+    let cut = sym (drop_more xs t x within) ∙ left in
+    record { within = within; is = sym (ap (λ ys. get_or ys 0 x) cut); after = ap (drop 1) cut }
+
+-- nothing is left of a list
+pub all_taken : {A : Type 0} (xs : List A) (t : ℕ) → drop t xs ≡ [] → take t xs ≡ xs
+all_taken xs t none = sym (append-nil (take t xs)) ∙ ap (λ ys. take t xs ++ ys) (sym none) ∙ take-append-drop t xs

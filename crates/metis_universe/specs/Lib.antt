@@ -24,4 +24,5 @@ pub mod Step
 pub mod Texts
 pub mod Tidy
 pub mod Universe
+pub mod Unnamed
 pub mod Waits

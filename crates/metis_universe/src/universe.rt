@@ -94,7 +94,7 @@ impl Universe {
         if let Some(fault) = first_fault(alloc, &rows, &found.ports)? {
             return Err(fault);
         }
-        Ok(build::tables(alloc, version, &rows, found)?)
+        Ok(build::tables(alloc, version, rows, found)?)
     }
 
     /// It does nothing: what every universe keeps.

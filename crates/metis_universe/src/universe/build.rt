@@ -1,5 +1,5 @@
 //! The tables of rows that have no fault.
-ghost use Rattle.std.specs.Prelude.{◌≡◌, ◌+◌, ◌<◌, ◌^◌, ◌++◌, ◌∷◌, [], ℕ, List, false, length, map, flat_map, replicate, None, IfOk, OnOk};
+ghost use Rattle.std.specs.Prelude.{◌≡◌, ◌+◌, ◌≤◌, ◌<◌, ◌^◌, ◌++◌, ◌∷◌, [], ℕ, List, false, length, map, flat_map, replicate, None, IfOk, OnOk};
 ghost use Rattle.std.specs.List.{list_any, All};
 ghost use Rattle.metis_universe.specs.PortRows.{with_pair, port_rows};
 ghost use Rattle.std.specs.Str.{bytes_eq};
@@ -7,6 +7,8 @@ ghost use Rattle.std.specs.String.{string_bytes};
 ghost use Rattle.metis_universe.specs.Kinds.{kind_of, kinds_of};
 ghost use Rattle.metis_universe.specs.Texts.{texts};
 ghost use Rattle.metis_universe.specs.SeenPorts.{number_within};
+ghost use Rattle.metis_universe.specs.Universe.{universe_of, IsTable};
+ghost use Rattle.metis_universe.specs.Unnamed.{unnamed, with_names};
 ghost use Rattle.metis_universe.specs.Rows.{IsOfVersion, number_of, state_number, ascending, kind_from, kinds_from, pair_from, pairs_from, pairs_of_type, universe_from, first_fault, ports_of_state, ports_of_type, ports_of};
 
 use super::{PairRow, PortRow, Universe};
@@ -70,7 +72,7 @@ struct Block<'a> {
     row: &'a TypeRow,
 }
 
-/// The pair of a type and one of its states, whose entries have the ports of these numbers.
+/// The pair of a type and one of its states, whose entries have the ports of these numbers. It has no name yet.
 fn pair_of(
     alloc: Global,
     ports: &IndexSet<String>,
@@ -80,13 +82,13 @@ fn pair_of(
 ) -> Result<PairRow, AllocError>
     requires first { block.now.first + length block.now.row.now.states < 2 ^ 32 }
     requires entries { entries.now ≡ map (number_of (texts ports.now.keys)) (ports_of_state state.now) }
-    ensures { IfOk result (λ pair. pair ≡ pair_from (texts ports.now.keys) block.now.kind block.now.first block.now.row.now state.now) }
+    ensures { IfOk result (λ pair. pair ≡ unnamed (pair_from (texts ports.now.keys) block.now.kind block.now.first block.now.row.now state.now)) }
 {
     let (provided, required) = entries.split_at(state.provide.len());
     let required = port_numbers(alloc, required)?;
     Ok(PairRow {
         kind: block.kind,
-        state: state.name.clone()?,
+        state: String::new(alloc),
         provided: port_numbers(alloc, provided)?,
         further: further_numbers(alloc, ports, &state.require, &required)?,
         required,
@@ -94,7 +96,7 @@ fn pair_of(
     })
 }
 
-/// Adds the pairs of a type, whose entries come first of these, and gives the entries behind them.
+/// Adds the pairs of a type, with no names yet. Its entries come first of these, and it gives the entries behind them.
 fn add_pairs<'e>(
     alloc: Global,
     pairs: &mut Vec<PairRow>,
@@ -105,7 +107,7 @@ fn add_pairs<'e>(
 ) -> Result<&'e [PortIx], AllocError>
     requires first { length pairs.old.items + length row.now.states < 2 ^ 32 }
     requires entries { (later : List (List ℕ)) × (entries.now ≡ map (number_of (texts ports.now.keys)) (ports_of_type row.now ++ later)) }
-    ensures pairs { OnOk result (pairs.new.items ≡ pairs.old.items ++ pairs_of_type (texts ports.now.keys) t (length pairs.old.items) row.now) }
+    ensures pairs { OnOk result (pairs.new.items ≡ pairs.old.items ++ map (λ state. unnamed (pair_from (texts ports.now.keys) t (length pairs.old.items) row.now state)) row.now.states) }
     ensures rest { IfOk result (λ rest. (later : List (List ℕ)) → entries.now ≡ map (number_of (texts ports.now.keys)) (ports_of_type row.now ++ later) → rest.now ≡ map (number_of (texts ports.now.keys)) later) }
 {
     let block = Block {
@@ -204,58 +206,100 @@ fn index_rows(
     Ok((providers, requirers))
 }
 
-/// Adds the type of a row, whose first pair is this one.
-fn add_type(
-    kinds: &mut IndexMap<String, PairIx>,
-    row: &TypeRow,
-    first: u32,
-) -> Result<(), AllocError>
-    requires first { first + length row.now.states < 2 ^ 32 }
-    requires new { list_any (λ k. bytes_eq row.now.name k.name) (kinds_of kinds.old.entries) ≡ false }
-    ensures { OnOk result (kinds_of kinds.new.entries ≡ kinds_of kinds.old.entries ++ kind_from first row.now ∷ []) }
+/// Moves the names of these states to their pairs, of which the first is this one.
+fn name_pairs(pairs: &mut Vec<PairRow>, first: u32, states: Vec<StateRow>)
+    requires { first + length states.items ≤ length pairs.old.items }
+    ensures { pairs.new.items ≡ with_names first pairs.old.items states.items }
 {
-    let initial = PairIx(first + state_number(row, row.initial.as_str()));
-    add_kind(kinds, row.name.clone()?, initial)
+    let mut p = first as usize;
+    for state in states {
+        let pair = &mut pairs[p];
+        pair.state = state.name;
+        p += 1;
+    }
+}
+
+/// Adds the type of a row and its pairs. Its entries come first of these, and it gives the entries behind them.
+fn add_type<'e>(
+    alloc: Global,
+    kinds: &mut IndexMap<String, PairIx>,
+    pairs: &mut Vec<PairRow>,
+    ports: &IndexSet<String>,
+    row: TypeRow,
+    entries: &'e [PortIx],
+) -> Result<&'e [PortIx], AllocError>
+    requires few { length (kinds_of kinds.old.entries) < 2 ^ 32 }
+    requires first { length pairs.old.items + length row.states < 2 ^ 32 }
+    requires new { list_any (λ k. bytes_eq row.name k.name) (kinds_of kinds.old.entries) ≡ false }
+    requires entries { (later : List (List ℕ)) × (entries.now ≡ map (number_of (texts ports.now.keys)) (ports_of_type row ++ later)) }
+    ensures kinds { OnOk result (kinds_of kinds.new.entries ≡ kinds_of kinds.old.entries ++ kind_from (length pairs.old.items) row ∷ []) }
+    ensures pairs { OnOk result (pairs.new.items ≡ pairs.old.items ++ pairs_of_type (texts ports.now.keys) (length (kinds_of kinds.old.entries)) (length pairs.old.items) row) }
+    ensures rest { IfOk result (λ rest. (later : List (List ℕ)) → entries.now ≡ map (number_of (texts ports.now.keys)) (ports_of_type row ++ later) → rest.now ≡ map (number_of (texts ports.now.keys)) later) }
+{
+    let first = pairs.len() as u32;
+    let kind = TypeIx(kinds.len() as u32);
+    let initial = PairIx(first + state_number(&row, row.initial.as_str()));
+    let rest = add_pairs(alloc, pairs, ports, kind, &row, entries)?;
+    let TypeRow { name, states, .. } = row;
+    name_pairs(pairs, first, states);
+    add_kind(kinds, name, initial)?;
+    Ok(rest)
+}
+
+/// Adds the types of the rows and their pairs, where there are none yet. The entries have the ports of these numbers.
+fn add_types(
+    alloc: Global,
+    kinds: &mut IndexMap<String, PairIx>,
+    pairs: &mut Vec<PairRow>,
+    ports: &IndexSet<String>,
+    rows: Vec<TypeRow>,
+    entries: &[PortIx],
+) -> Result<(), AllocError>
+    requires no_kinds { kinds_of kinds.old.entries ≡ [] }
+    requires no_pairs { pairs.old.items ≡ [] }
+    requires sound { first_fault rows.items ≡ None }
+    requires ports { texts ports.now.keys ≡ ports_of rows.items }
+    requires entries { entries.now ≡ map (number_of (texts ports.now.keys)) (flat_map ports_of_type rows.items) }
+    ensures kinds { OnOk result (kinds_of kinds.new.entries ≡ kinds_from 0 rows.items) }
+    ensures pairs { OnOk result (pairs.new.items ≡ pairs_from (ports_of rows.items) 0 0 rows.items) }
+{
+    let mut rest = entries;
+    for row in rows {
+        rest = add_type(alloc, kinds, pairs, ports, row, rest)?;
+    }
+    Ok(())
 }
 
 /// The types of the rows, by their names, and the pairs of these. The entries have the ports of these numbers.
 fn type_tables(
     alloc: Global,
-    rows: &[TypeRow],
+    rows: Vec<TypeRow>,
     ports: &IndexSet<String>,
     entries: &[PortIx],
 ) -> Result<(IndexMap<String, PairIx>, Vec<PairRow>), AllocError>
-    requires sound { first_fault rows.now ≡ None }
-    requires ports { texts ports.now.keys ≡ ports_of rows.now }
-    requires entries { entries.now ≡ map (number_of (texts ports.now.keys)) (flat_map ports_of_type rows.now) }
-    ensures kinds { IfOk result (λ made. kinds_of made.0.entries ≡ kinds_from 0 rows.now) }
-    ensures pairs { IfOk result (λ made. made.1.items ≡ pairs_from (ports_of rows.now) 0 0 rows.now) }
+    requires sound { first_fault rows.items ≡ None }
+    requires ports { texts ports.now.keys ≡ ports_of rows.items }
+    requires entries { entries.now ≡ map (number_of (texts ports.now.keys)) (flat_map ports_of_type rows.items) }
+    ensures kinds { IfOk result (λ made. kinds_of made.0.entries ≡ kinds_from 0 rows.items) }
+    ensures pairs { IfOk result (λ made. made.1.items ≡ pairs_from (ports_of rows.items) 0 0 rows.items) }
 {
     let mut kinds = IndexMap::with_capacity(alloc, rows.len())?;
     let mut pairs = Vec::with_capacity(alloc, 2 * rows.len())?;
-    let mut rest = entries;
-    for (t, row) in rows.iter().enumerate() {
-        add_type(&mut kinds, row, pairs.len() as u32)?;
-        rest = add_pairs(alloc, &mut pairs, ports, TypeIx(t as u32), row, rest)?;
-    }
+    add_types(alloc, &mut kinds, &mut pairs, ports, rows, entries)?;
     Ok((kinds, pairs))
 }
 
-/// The universe of rows that have no fault, with their ports.
-pub fn tables(
+/// The universe of these types, pairs and ports.
+fn indexed(
     alloc: Global,
     version: u32,
-    rows: &[TypeRow],
-    found: Sights,
+    kinds: IndexMap<String, PairIx>,
+    pairs: Vec<PairRow>,
+    ports: IndexSet<String>,
 ) -> Result<Universe, AllocError>
-    requires version { IsOfVersion version rows.now }
-    requires sound { first_fault rows.now ≡ None }
-    requires ports { texts found.ports.keys ≡ ports_of rows.now }
-    requires numbers { found.numbers.items ≡ map (number_within (ports_of rows.now)) (flat_map ports_of_type rows.now) }
-    ensures { IfOk result (λ u. u ≡ universe_from version rows.now) }
+    requires { IsTable (universe_of version (kinds_of kinds.entries) pairs.items (texts ports.keys)) }
+    ensures { IfOk result (λ u. u ≡ universe_of version (kinds_of kinds.entries) pairs.items (texts ports.keys)) }
 {
-    let Sights { ports, numbers } = found;
-    let (kinds, pairs) = type_tables(alloc, rows, &ports, &numbers)?;
     let (providers, requirers) = index_rows(alloc, &pairs, ports.len())?;
     Ok(Universe {
         version,
@@ -265,4 +309,22 @@ pub fn tables(
         providers,
         requirers,
     })
+}
+
+/// The universe of rows that have no fault, with their ports.
+pub fn tables(
+    alloc: Global,
+    version: u32,
+    rows: Vec<TypeRow>,
+    found: Sights,
+) -> Result<Universe, AllocError>
+    requires version { IsOfVersion version rows.items }
+    requires sound { first_fault rows.items ≡ None }
+    requires ports { texts found.ports.keys ≡ ports_of rows.items }
+    requires numbers { found.numbers.items ≡ map (number_within (ports_of rows.items)) (flat_map ports_of_type rows.items) }
+    ensures { IfOk result (λ u. u ≡ universe_from version rows.items) }
+{
+    let Sights { ports, numbers } = found;
+    let (kinds, pairs) = type_tables(alloc, rows, &ports, &numbers)?;
+    indexed(alloc, version, kinds, pairs, ports)
 }
