@@ -6,7 +6,7 @@ use metis_universe::{LimitKind, RowFault};
 use std::alloc::{AllocError, AllocFailed};
 
 /// Why bytes are no universe document. Places count from 0.
-#[derive(Clone, Copy, PartialEq, Eq)]
+#[derive(Clone, Copy)]
 pub enum UFault {
     /// They are no JSON.
     NotJson,

@@ -4,8 +4,8 @@ use Rattle.std.specs.declared.alloc.Global.{Global}
 use Rattle.std.specs.List.{list_any}
 use Rattle.std.specs.Str.{bytes_eq}
 use Rattle.std.proofs.lemmas.Bool.{true≢false}
-use Rattle.std.proofs.Math.Seq.{set-append_seam, get_or-append_seam}
-use Rattle.std.proofs.lemmas.List.{append-nil, drop_more, length-drop, length_push, take-append-drop, take_more, length-take-le}
+use Rattle.std.proofs.Math.Seq.{drop-append_seam, get_or-append_seam, set-append_seam, take-append_seam}
+use Rattle.std.proofs.lemmas.List.{append-nil, drop_more, length-drop, length-map, length_push, map-append, take-append-drop, take_more, length-take-le}
 use Rattle.indexmap.specs.IndexMap.{insert_entry}
 use Rattle.metis_universe.specs.Universe.{Kind, Pair, no_pair}
 use Rattle.metis_universe.specs.Kinds.{kind_of, kinds_of}
@@ -74,3 +74,10 @@ left_at xs t x rest left =
 -- nothing is left of a list
 pub all_taken : {A : Type 0} (xs : List A) (t : ℕ) → drop t xs ≡ [] → take t xs ≡ xs
 all_taken xs t none = sym (append-nil (take t xs)) ∙ ap (λ ys. take t xs ++ ys) (sym none) ∙ take-append-drop t xs
+
+-- the numbers of two lists of names
+pub parted : (num : List ℕ → ℕ) (xs ys : List (List ℕ)) (n : ℕ) (entries : List ℕ) → entries ≡ map num (xs ++ ys) → n ≡ length xs → (take n entries ≡ map num xs) × (drop n entries ≡ map num ys)
+parted num xs ys n entries are count =
+    let all = are ∙ map-append num xs ys in
+    let many = count ∙ sym (length-map xs num) in
+    ((λ j. take (many j) (all j)) ∙ take-append_seam (map num xs) (map num ys), (λ j. drop (many j) (all j)) ∙ drop-append_seam (map num xs) (map num ys))

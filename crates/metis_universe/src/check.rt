@@ -1,5 +1,5 @@
 //! The first fault of rows.
-ghost use Rattle.std.specs.Prelude.{◌≡◌, ◌+◌, ◌<◌, ◌≤◌, ◌^◌, length, not, position, flat_map, option_map, IfOk};
+ghost use Rattle.std.specs.Prelude.{◌≡◌, ◌+◌, ◌<◌, ◌≤◌, ◌^◌, [], length, not, position, flat_map, option_map, IfOk};
 ghost use Rattle.std.specs.List.{All};
 ghost use Rattle.std.specs.Option.{option_or};
 ghost use Rattle.std.specs.Str.{bytes_eq};
@@ -259,6 +259,28 @@ fn fault_of_type(
     Ok(required.or(fault_of_links(row, t)))
 }
 
+/// The first fault of any type, where no name is seen yet.
+fn fault_among(
+    alloc: Global,
+    rows: &[TypeRow],
+    seen: &mut IndexSet<String>,
+    named: bool,
+) -> Result<Option<RowFault>, AllocError>
+    requires none { texts seen.old.keys ≡ [] }
+    requires fits { RowsFit rows.now }
+    requires named { AreNamed named (flat_map ports_of_type rows.now) }
+    ensures { IfOk result (λ found. found ≡ first_from 0 (type_fault rows.now) rows.now) }
+{
+    for (t, row) in rows.iter().enumerate() {
+        let fault = fault_of_type(alloc, row, t as u32, seen, named)?;
+        if fault.is_some() {
+            return Ok(fault);
+        }
+        let _place = place_seen(alloc, seen, row.name.as_str())?;
+    }
+    Ok(None)
+}
+
 /// The first fault of any type.
 fn fault_of_types(
     alloc: Global,
@@ -270,14 +292,7 @@ fn fault_of_types(
     ensures { IfOk result (λ found. found ≡ first_from 0 (type_fault rows.now) rows.now) }
 {
     let mut seen = IndexSet::with_capacity(alloc, rows.len())?;
-    for (t, row) in rows.iter().enumerate() {
-        let fault = fault_of_type(alloc, row, t as u32, &seen, named)?;
-        if fault.is_some() {
-            return Ok(fault);
-        }
-        let _place = place_seen(alloc, &mut seen, row.name.as_str())?;
-    }
-    Ok(None)
+    fault_among(alloc, rows, &mut seen, named)
 }
 
 /// How many states all types have.

@@ -2,7 +2,7 @@
 use std::alloc::{AllocError, AllocFailed};
 
 /// What is counted against a limit.
-#[derive(Clone, Copy, PartialEq, Eq)]
+#[derive(Clone, Copy)]
 pub enum LimitKind {
     /// The states of one type, at most 64.
     States,
@@ -15,7 +15,7 @@ pub enum LimitKind {
 }
 
 /// The first reason why rows are no universe. Places count from 0: of a type, of a state in its type, of an entry in its list.
-#[derive(Clone, Copy, PartialEq, Eq)]
+#[derive(Clone, Copy)]
 pub enum RowFault {
     /// The type's name is no name.
     TypeName(u32),

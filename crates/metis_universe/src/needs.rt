@@ -134,9 +134,21 @@ pub fn further_numbers(
         return none_further(alloc, numbers);
     }
     let most = greatest_needs(alloc, needs)?;
+    further_among(alloc, &most, ports, numbers)
+}
+
+/// For each of these ports, how many providers the map demands besides one.
+fn further_among(
+    alloc: Global,
+    most: &IndexMap<String, u64>,
+    ports: &IndexSet<String>,
+    numbers: &[PortIx],
+) -> Result<Vec<u64>, AllocError>
+    ensures { IfOk result (λ further. further.items ≡ map (λ r. count_in (needs_of most.now.entries) (slice_index_or (texts ports.now.keys) r []) - 1) numbers.now) }
+{
     let mut further = Vec::with_capacity(alloc, numbers.len())?;
     for r in numbers {
-        further.push(besides_one(&most, ports, *r))?;
+        further.push(besides_one(most, ports, *r))?;
     }
     Ok(further)
 }

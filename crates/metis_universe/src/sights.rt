@@ -104,6 +104,21 @@ fn add_ports(
     Ok(())
 }
 
+/// Adds the ports of the types, type by type.
+fn add_ports_of_types(
+    alloc: Global,
+    seen: &mut IndexSet<String>,
+    numbers: &mut Vec<PortIx>,
+    rows: &[TypeRow],
+) -> Result<(), AllocError>
+    ensures { OnOk result (IsNumbered (texts seen.old.keys) (texts seen.new.keys) numbers.old.items numbers.new.items (flat_map ports_of_type rows.now)) }
+{
+    for row in rows {
+        add_ports(alloc, seen, numbers, &row.states)?;
+    }
+    Ok(())
+}
+
 /// The ports of all types, in the order in which they are first seen.
 pub fn ports_of(alloc: Global, rows: &[TypeRow]) -> Result<Sights, AllocError>
     ensures ports { IfOk result (λ found. texts found.ports.keys ≡ ports_of rows.now) }
@@ -111,8 +126,6 @@ pub fn ports_of(alloc: Global, rows: &[TypeRow]) -> Result<Sights, AllocError>
 {
     let mut ports = IndexSet::with_capacity(alloc, rows.len().min(USUAL))?;
     let mut numbers = Vec::new(alloc);
-    for row in rows {
-        add_ports(alloc, &mut ports, &mut numbers, &row.states)?;
-    }
+    add_ports_of_types(alloc, &mut ports, &mut numbers, rows)?;
     Ok(Sights { ports, numbers })
 }

@@ -1,7 +1,7 @@
 //! The tables of rows that have no fault.
 ghost use Rattle.std.specs.Prelude.{◌≡◌, ◌+◌, ◌≤◌, ◌<◌, ◌^◌, ◌++◌, ◌∷◌, [], ℕ, List, false, length, map, flat_map, replicate, None, IfOk, OnOk};
 ghost use Rattle.std.specs.List.{list_any, All};
-ghost use Rattle.metis_universe.specs.PortRows.{with_pair, port_rows};
+ghost use Rattle.metis_universe.specs.PortRows.{with_pair, rows_from, port_rows};
 ghost use Rattle.std.specs.Str.{bytes_eq};
 ghost use Rattle.std.specs.String.{string_bytes};
 ghost use Rattle.metis_universe.specs.Kinds.{kind_of, kinds_of};
@@ -27,6 +27,15 @@ fn in_order(mut numbers: Vec<PortIx>) -> Vec<PortIx>
     numbers.sort_unstable();
     numbers.dedup();
     numbers
+}
+
+/// The pairs, ascending and each once.
+fn pairs_in_order(mut pairs: Vec<PairIx>) -> Vec<PairIx>
+    ensures { result.items ≡ ascending pairs.items }
+{
+    pairs.sort_unstable();
+    pairs.dedup();
+    pairs
 }
 
 /// The numbers of these ports, ascending and each once.
@@ -58,9 +67,7 @@ fn next_numbers(
     for name in names {
         numbers.push(PairIx(first + state_number(row, name.as_str())))?;
     }
-    numbers.sort_unstable();
-    numbers.dedup();
-    Ok(numbers)
+    Ok(pairs_in_order(numbers))
 }
 
 /// A type whose pairs are made.
@@ -137,6 +144,15 @@ fn add_kind(
     Ok(())
 }
 
+/// Adds an empty row, with room for so many pairs.
+fn add_empty_row(alloc: Global, rows: &mut Vec<PortRow>, room: usize) -> Result<(), AllocError>
+    ensures { OnOk result (rows.new.items ≡ rows.old.items ++ [] ∷ []) }
+{
+    let pairs = Vec::with_capacity(alloc, room)?;
+    rows.push(PortRow { pairs })?;
+    Ok(())
+}
+
 /// An empty row for each of so many ports, with room for so many pairs.
 #[tactic(auto, using(std::proofs::lemmas::List::replicate_more))]
 fn empty_rows(alloc: Global, count: usize, room: usize) -> Result<Vec<PortRow>, AllocError>
@@ -144,9 +160,7 @@ fn empty_rows(alloc: Global, count: usize, room: usize) -> Result<Vec<PortRow>, 
 {
     let mut rows = Vec::with_capacity(alloc, count)?;
     for _ in 0..count {
-        rows.push(PortRow {
-            pairs: Vec::with_capacity(alloc, room)?,
-        })?;
+        add_empty_row(alloc, &mut rows, room)?;
     }
     Ok(rows)
 }
@@ -184,6 +198,25 @@ fn add_to_rows(rows: &mut Vec<PortRow>, p: PairIx, ports: &[PortIx]) -> Result<(
     Ok(())
 }
 
+/// Adds each pair to the rows of the ports that it provides, and to those of the ports that it requires.
+fn fill_rows(
+    providers: &mut Vec<PortRow>,
+    requirers: &mut Vec<PortRow>,
+    pairs: &[PairRow],
+) -> Result<(), AllocError>
+    requires provided { All (λ pair. All (λ r. r < length providers.old.items) pair.provided) pairs.now }
+    requires required { All (λ pair. All (λ r. r < length requirers.old.items) pair.required) pairs.now }
+    requires few { length pairs.now < 2 ^ 32 }
+    ensures providers { OnOk result (providers.new.items ≡ rows_from (λ x. x.provided) 0 providers.old.items pairs.now) }
+    ensures requirers { OnOk result (requirers.new.items ≡ rows_from (λ x. x.required) 0 requirers.old.items pairs.now) }
+{
+    for (p, pair) in pairs.iter().enumerate() {
+        add_to_rows(providers, PairIx(p as u32), &pair.provided)?;
+        add_to_rows(requirers, PairIx(p as u32), &pair.required)?;
+    }
+    Ok(())
+}
+
 /// The providers of each of so many ports, and its requirers.
 fn index_rows(
     alloc: Global,
@@ -199,10 +232,7 @@ fn index_rows(
     let (provided, required) = room_of_rows(pairs, count);
     let mut providers = empty_rows(alloc, count, provided)?;
     let mut requirers = empty_rows(alloc, count, required)?;
-    for (p, pair) in pairs.iter().enumerate() {
-        add_to_rows(&mut providers, PairIx(p as u32), &pair.provided)?;
-        add_to_rows(&mut requirers, PairIx(p as u32), &pair.required)?;
-    }
+    fill_rows(&mut providers, &mut requirers, pairs)?;
     Ok((providers, requirers))
 }
 

@@ -1,10 +1,10 @@
-use Rattle.std.proofs.Common.{◌≡◌, ◌++◌, length, map, sym, ap, ◌∙◌, string_bytes, arith}
+use Rattle.std.proofs.Common.{◌≡◌, ◌++◌, length, sym, ap, ◌∙◌, string_bytes, arith}
 use Rattle.std.proofs.lemmas.List.{length-map}
 use Rattle.metis_universe.specs.Kinds.{kind_of, kinds_of}
 use Rattle.metis_universe.specs.RowShapes.{TypeRow}
-use Rattle.metis_universe.specs.Rows.{pair_from, pairs_of_type}
+use Rattle.metis_universe.specs.Rows.{pairs_of_type}
 use Rattle.metis_universe.specs.Texts.{texts}
-use Rattle.metis_universe.specs.Unnamed.{unnamed, with_names}
+use Rattle.metis_universe.specs.Unnamed.{with_names}
 use Rattle.metis_universe.proofs.RowTables.{names_moved}
 use Rattle.metis_universe.proofs.universe.build.add_type.Goals as goal
 

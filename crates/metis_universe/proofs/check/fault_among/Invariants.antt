@@ -1,7 +1,7 @@
 use Rattle.std.proofs.Common.{◌≡◌, drop, take, map}
 use Rattle.metis_universe.specs.Texts.{texts}
 use Rattle.metis_universe.specs.Rows.{first_from, type_fault}
-use Rattle.metis_universe.proofs.check.fault_of_types.Given as goal
+use Rattle.metis_universe.proofs.check.fault_among.Given as goal
 
 abbrev pub invariant-loop-t : goal.invariant-loop-t
 invariant-loop-t l = record {

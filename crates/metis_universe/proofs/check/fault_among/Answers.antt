@@ -9,7 +9,7 @@ use Rattle.metis_universe.specs.Texts.{texts}
 use Rattle.metis_universe.proofs.FirstFault.{first_from_found, first_from_passed}
 use Rattle.metis_universe.proofs.FirstSights.{each_of_flat_map}
 use Rattle.metis_universe.proofs.TypeFaults.{type_fault-seen, not_seen, names_more}
-use Rattle.metis_universe.proofs.check.fault_of_types.Goals as goal
+use Rattle.metis_universe.proofs.check.fault_among.Goals as goal
 
 pub returns-then-is_some : goal.returns-then-is_some
 returns-then-is_some c =
