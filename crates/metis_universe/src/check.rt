@@ -14,15 +14,13 @@ ghost use Rattle.metis_universe.specs.declared.faults.LimitKind.TheVariants.{Req
 ghost use Rattle.indexmap.specs.IndexSet.{index_set_len};
 
 use crate::faults::{LimitKind, RowFault};
+use crate::limits::{MOST_DEMANDED, MOST_PAIRS, MOST_PORTS, MOST_REQUIRED, MOST_STATES};
 use crate::names::is_name;
 use crate::needs::{count_total, require_total};
 use crate::rows::{NeedRow, StateRow, TypeRow};
 use crate::sights::place_seen;
 use indexmap::IndexSet;
 use std::alloc::{AllocError, Global};
-
-/// The most providers that one entry may ask for.
-const MOST_DEMANDED: u64 = 16;
 
 /// The fault, unless the test passed.
 fn unless(passes: bool, fault: RowFault) -> Option<RowFault>
@@ -217,7 +215,7 @@ fn fault_of_head(row: &TypeRow, t: u32, seen: &IndexSet<String>) -> Option<RowFa
 {
     let name = unless(is_name(row.name.as_str()), RowFault::TypeName(t));
     let twice = fault_of_earlier_type(row, t, seen);
-    let states = fault_of_count(LimitKind::States, 64, row.states.len() as u64);
+    let states = fault_of_count(LimitKind::States, MOST_STATES, row.states.len() as u64);
     name.or(twice.or(states))
 }
 
@@ -228,10 +226,11 @@ fn fault_of_required(alloc: Global, row: &TypeRow) -> Result<Option<RowFault>, A
     requires counts { All (λ state. All (λ n. n.count ≤ 16) state.require) row.now.states }
     ensures { IfOk result (λ found. found ≡ limit_fault Requires 128 (require_total row.now)) }
 {
-    if count_total(row) <= 128 {
+    if count_total(row) <= MOST_REQUIRED {
         return Ok(None);
     }
-    Ok(fault_of_count(LimitKind::Requires, 128, require_total(alloc, row)?))
+    let total = require_total(alloc, row)?;
+    Ok(fault_of_count(LimitKind::Requires, MOST_REQUIRED, total))
 }
 
 /// The fault of a type, where the set has the names of the types before it.
@@ -315,7 +314,7 @@ pub fn first_fault(
 {
     let unnamed = place_of_no_name(ports.as_slice());
     let types = fault_of_types(alloc, rows, unnamed.is_none())?;
-    let pairs = fault_of_count(LimitKind::Pairs, 2000, state_total(rows));
-    let ports = fault_of_count(LimitKind::Ports, 4000, ports.len() as u64);
+    let pairs = fault_of_count(LimitKind::Pairs, MOST_PAIRS, state_total(rows));
+    let ports = fault_of_count(LimitKind::Ports, MOST_PORTS, ports.len() as u64);
     Ok(types.or(pairs.or(ports)))
 }

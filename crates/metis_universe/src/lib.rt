@@ -6,6 +6,7 @@ mod faults;
 mod goal_laws;
 mod goals;
 mod laws;
+mod limits;
 mod names;
 mod needs;
 mod reading;
@@ -23,6 +24,7 @@ pub use laws::{
     selection_is_least, slots_are_demanded, standing_is_made_and_not_ended, version_1_demands_one,
     version_1_is_single, what_is_required_is_demanded,
 };
+pub use limits::{LONGEST_NAME, MOST_DEMANDED, MOST_PAIRS, MOST_PORTS, MOST_REQUIRED, MOST_STATES};
 pub use names::{is_name, name_in, pair_names};
 pub use reading::Reading;
 pub use rows::{NeedRow, StateRow, TypeRow, rows_fit};

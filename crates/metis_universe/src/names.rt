@@ -4,8 +4,7 @@ ghost use Rattle.std.specs.List.{list_all};
 ghost use Rattle.metis_universe.specs.Names.{is_name, is_name_byte, is_between};
 ghost use Rattle.metis_universe.specs.PairWords.{pair_names};
 
-/// The most bytes of a name.
-const LONGEST: usize = 64;
+use crate::limits::LONGEST_NAME;
 
 /// Whether the text is a name: 1 to 64 bytes, each an ASCII letter, an ASCII digit, or one of `_`, `-`, `.`, `/` and `@`.
 pub fn is_name(text: &str) -> bool
@@ -18,7 +17,7 @@ pub fn is_name(text: &str) -> bool
 fn has_length_of_name(bytes: &[u8]) -> bool
     ensures { result ≡ is_between 1 64 (length bytes.now) }
 {
-    1 <= bytes.len() && bytes.len() <= LONGEST
+    1 <= bytes.len() && bytes.len() <= LONGEST_NAME
 }
 
 fn has_bytes_of_name(bytes: &[u8]) -> bool

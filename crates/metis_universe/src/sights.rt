@@ -7,6 +7,7 @@ ghost use Rattle.metis_universe.specs.SeenPorts.{number_within, IsNumbered};
 ghost use Rattle.metis_universe.specs.Sights.{with_name};
 ghost use Rattle.metis_universe.specs.Texts.{texts};
 
+use crate::limits::MOST_PORTS;
 use crate::rows::{NeedRow, StateRow, TypeRow};
 use indexmap::IndexSet;
 use metis_ids::PortIx;
@@ -14,9 +15,6 @@ use std::alloc::{AllocError, Global};
 
 /// The greatest number of a port that can be written down. No universe has so many ports.
 const GREATEST: usize = u32::MAX as usize;
-
-/// Room is made for a port a type, but for no more than these at first.
-const USUAL: usize = 4000;
 
 /// The ports of rows.
 #[derive(Drop)]
@@ -119,12 +117,13 @@ fn add_ports_of_types(
     Ok(())
 }
 
-/// The ports of all types, in the order in which they are first seen.
+/// The ports of all types, in the order in which they are first seen. Room is made for a port a type at first, but for no more than a
+/// universe may have.
 pub fn ports_of(alloc: Global, rows: &[TypeRow]) -> Result<Sights, AllocError>
     ensures ports { IfOk result (λ found. texts found.ports.keys ≡ ports_of rows.now) }
     ensures numbers { IfOk result (λ found. found.numbers.items ≡ map (number_within (ports_of rows.now)) (flat_map ports_of_type rows.now)) }
 {
-    let mut ports = IndexSet::with_capacity(alloc, rows.len().min(USUAL))?;
+    let mut ports = IndexSet::with_capacity(alloc, rows.len().min(MOST_PORTS as usize))?;
     let mut numbers = Vec::new(alloc);
     add_ports_of_types(alloc, &mut ports, &mut numbers, rows)?;
     Ok(Sights { ports, numbers })
