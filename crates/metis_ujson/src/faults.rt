@@ -6,7 +6,7 @@ use metis_universe::{LimitKind, RowFault};
 use std::alloc::{AllocError, AllocFailed};
 
 /// Why bytes are no universe document. Places count from 0.
-#[derive(Clone, Copy)]
+#[derive(Clone, Copy, PartialEq, Eq)]
 pub enum UFault {
     /// They are no JSON.
     NotJson,
