@@ -20,10 +20,6 @@ use Rattle.metis_lines.specs.LifeLines.{later_ends, lines_of, slots, slots_of}
 pub providers_ascend : (s : Support) → IsStrictlyIncreasing s.selected.members → (i j : ℕ) → i < j → j < length (provider_pairs s) → get_or (provider_pairs s) i 0 < get_or (provider_pairs s) j 0
 providers_ascend s ascends i j before low = AllPairs-from_increasing (provider_pairs s) (IsStrictlyIncreasing-filter (λ q. list_any (is_number q) s.providers) s.selected.members ascends) i j 0 before low
 
--- what q demands of a port, where it is taken from p
-abbrev pub demanded_from : Universe → Support → ℕ → ℕ → ℕ → ℕ
-demanded_from u s p q r = cond (is_number p (provider_at s r)) (demand_of u q r) 0
-
 module _ (u : Universe) (s : Support) where
   -- a selected pair that takes a port from p finds a slot for each provider that it demands
   pub slots_enough : (p q r : ℕ) → is_selected s q ≡ true → requires u q r ≡ true → provider_at s r ≡ Some p → demand_of u q r ≤ slots_of u s p

@@ -8,9 +8,9 @@ ghost use Rattle.metis_lines.specs.LifeLines.{AreLines, holder_of, is_loose, lin
 use crate::first::first_lines;
 use crate::held::{count_loose, first_holders, holder_in};
 use crate::line::Line;
-use crate::slots::{add_later_lines, count_in, slot_counts};
+use crate::slots::add_later_lines;
 use metis_ids::{IxVec, LineIx, NoMemory, PairIx, StepIx};
-use metis_support::Support;
+use metis_support::{Support, count_in, slot_counts};
 use metis_universe::Universe;
 use std::alloc::Global;
 use std::marker::Model;

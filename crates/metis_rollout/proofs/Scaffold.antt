@@ -8,6 +8,7 @@ use Rattle.metis_ids.proofs.Lists.{any_at, has-replicate}
 use Rattle.metis_universe.proofs.Greatest.{demand_least}
 use Rattle.metis_universe.proofs.Rounds.{has-filter}
 use Rattle.metis_universe.proofs.Selected.{selected-least}
+use Rattle.metis_universe.proofs.Slots.{slots_enough}
 use Rattle.metis_universe.specs.Layers.{layer_of, layered}
 use Rattle.metis_universe.specs.Numbers.{IsOf}
 use Rattle.metis_universe.specs.Selection.{needs_of, origin_of, provider_of, provider_pairs, providers_needed, selected}
@@ -26,7 +27,6 @@ use Rattle.metis_layers.proofs.Repeated.{blocks, has_block}
 use Rattle.metis_support.proofs.Selections.{mapped_from}
 use Rattle.metis_rollout.specs.Rollout.{scaffold_ends, scaffold_holder, scaffold_list, scaffold_pairs, slot_count}
 use Rattle.metis_rollout.proofs.Blocks.{blocks-push, copy_in}
-use Rattle.metis_rollout.proofs.SlotCounts.{slots_enough}
 
 -- ---- lists
 
@@ -128,7 +128,7 @@ module _ (u : Universe) (k : IsUniverse u) (g : List ℕ) where
       let parts = and_parts (nat_le 1 j) (nat_le j (demand_of u q r)) wanted in
       let some = leb-true 1 j parts.0 in
       let few = leb-true j (demand_of u q r) parts.1 in
-      let enough = slots_enough u (selected u g) y q r chosen (wants_required u q r j wanted) is in
+      let enough = slots_enough (provider_of u) u (selected u g) y q r chosen (wants_required u q r j wanted) is in
       let copy = copy_in count done rest y (j - 1) there (omega (arith, some, few, enough)) in
       let at : holder r j ≡ place_of (blocks count (done ++ rest)) y + (j - 1) = ap (λ o. option_map_or (place_of ends) o 0 + (j - 1)) is ∙ ap (λ ps. place_of (blocks count ps) y + (j - 1)) whole in
       record {

@@ -11,11 +11,11 @@ ghost use Rattle.metis_rollout.specs.Holders.{AreFew, first_among};
 ghost use Rattle.metis_rollout.specs.Rollout.{scaffold_ends, scaffold_list};
 
 use crate::lines::lines_to;
-use crate::slots::{filled, repeated, slot_counts};
+use crate::slots::repeated;
 use metis_choice::{Choice, choose};
 use metis_ids::{Action, IxVec, NoMemory, PairIx, PairSet, PortIx};
 use metis_layers::table::Layers;
-use metis_support::Support;
+use metis_support::{Support, filled, slot_counts};
 use metis_universe::Universe;
 use std::alloc::Global;
 
@@ -46,7 +46,7 @@ pub fn scaffold_for(
     u.keeps_invariant();
     let support = selection_for(alloc, u, l, targets)?;
     let pairs = pairs_provided_from(alloc, u, l, &support)?;
-    let counts = slot_counts(alloc, u, l, &support)?;
+    let counts = slot_counts(alloc, u, &support)?;
     let ends = repeated(alloc, &counts, &pairs)?;
     let firsts = firsts_of(alloc, u, l, &ends)?;
     let actions = lines_to(alloc, u, &support, &firsts, &ends)?;

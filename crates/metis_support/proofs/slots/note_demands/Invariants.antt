@@ -1,7 +1,7 @@
 use Rattle.std.proofs.Common.{◌≡◌, ℕ, fold, get_or, length, map, max, take}
 use Rattle.metis_universe.specs.Universe.{required_of}
-use Rattle.metis_lines.proofs.SlotCounts.{demanded_from}
-use Rattle.metis_lines.proofs.slots.note_demands.Given as goal
+use Rattle.metis_support.proofs.SlotCounts.{demanded_from}
+use Rattle.metis_support.proofs.slots.note_demands.Given as goal
 
 -- raised to what the pair demands of the ports so far
 abbrev pub invariant-loop-port : goal.invariant-loop-port
