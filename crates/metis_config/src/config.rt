@@ -195,18 +195,8 @@ impl Config {
         self.first_unmet(u, &self.instances)
     }
 
-    /// What `unmet` would be if the instance were in the pair, or gone. It looks at the instance, and at those bound to it
-    /// whose port it gives now and would no longer.
-    pub fn unmet_if(&self, u: &Universe, z: InstNo, to: Option<PairIx>) -> Option<(InstNo, PortIx)>
-        requires over { IsOver u.now self.now }
-        requires correct { Correct u.now self.now }
-        requires to { (q : ℕ) → to ≡ Some q → q < pair_count u.now }
-        ensures { result ≡ unmet u.now (changed self.now z to) }
-    {
-        self.unmet_from(u, z, self.pair_of(z), to)
-    }
-
-    /// The same, where it is known which pair the instance is in.
+    /// What `unmet` would be if the instance, which is in the one pair, or not there, were in the other, or gone. It looks at the
+    /// instance, and at those bound to it whose port it gives now and would no longer.
     pub fn unmet_from(
         &self,
         u: &Universe,
