@@ -12,7 +12,7 @@ use Rattle.metis_universe.specs.Config.{Config, Binding, config_of, binding_cmp,
 use Rattle.metis_universe.proofs.Edits.{is_bound-tie, is_bound-untie, tie_is, binding_cmp_total}
 use Rattle.metis_universe.proofs.Kept.{IsConfig-put, IsConfig-remove, IsConfig-tie, IsConfig-untie}
 use Rattle.metis_universe.proofs.Sorted.{IsStrictlySortedBy-insert_key}
-use Rattle.metis_config.specs.Clients.{AreEnds, AreNeeds, IsIndexed, has_client}
+use Rattle.metis_config.specs.Clients.{IsIndexed, has_client}
 
 turned : (a b c : Bool) → (a && b && c) ≡ (c && b && a)
 turned true true true = refl
@@ -49,30 +49,6 @@ IsIndexed-untie c clients r z y k = record {
 pub own_tie : (y z r : ℕ) → is_tie y z r (y, z, r) ≡ true
 own_tie y z r = λ i. eq-eqb y y refl i && eq-eqb z z refl i && eq-eqb r r refl i
 
--- ---- by requirers
-
-moved : (a b c : Bool) → (a && b && c) ≡ (c && a && b)
-moved true true true = refl
-moved true true false = refl
-moved true false true = refl
-moved true false false = refl
-moved false true true = refl
-moved false true false = refl
-moved false false true = refl
-moved false false false = refl
-
-pub AreNeeds-untie : (c : Config) (needs : List Binding) (r z y : ℕ) → AreNeeds c needs → AreNeeds (untie c r z y) (filter (λ b. not (is_tie z y r b)) needs)
-AreNeeds-untie c needs r z y k = record {
-  in_order = IsStrictlySortedBy-filter binding_cmp (λ b. not (is_tie z y r b)) needs k.in_order;
-  same = λ r' z' y'. has_client-filter (λ b. not (is_tie z y r b)) needs z' y' r'
-      ∙ (λ i. not (moved (nat_eq z' z) (nat_eq y' y) (nat_eq r' r) i) && k.same r' z' y' i) ∙ sym (is_bound-untie c r z y r' z' y');
-}
-
--- ---- by both
-
-pub AreEnds-untie : (c : Config) (clients needs : List Binding) (r z y : ℕ) → AreEnds c clients needs → AreEnds (untie c r z y) (filter (λ b. not (is_tie y z r b)) clients) (filter (λ b. not (is_tie z y r b)) needs)
-AreEnds-untie c clients needs r z y k = record { by_provider = IsIndexed-untie c clients r z y k.by_provider; by_requirer = AreNeeds-untie c needs r z y k.by_requirer }
-
 -- ---- undone
 
 pub neither : (a b : Bool) → (a || b) ≡ false → (a ≡ false) × (b ≡ false)
@@ -108,6 +84,3 @@ IsIndexed-gone c clients z same k = record {
   in_order = k.in_order;
   same = k.same;
 }
-
-pub AreEnds-gone : (c : Config) (clients needs : List Binding) (z : ℕ) → filter (λ b. not (names z b)) c.bindings ≡ c.bindings → AreEnds c clients needs → AreEnds (config_of (filter (λ e. not (e.0 == z)) c.instances) c.bindings) clients needs
-AreEnds-gone c clients needs z same k = record { by_provider = IsIndexed-gone c clients z same k.by_provider; by_requirer = record { in_order = k.by_requirer.in_order; same = k.by_requirer.same } }

@@ -1,6 +1,6 @@
 //! A configuration, its reads and its edits.
-ghost use Rattle.std.specs.Prelude.{◌≡◌, ◌≢◌, ◌<◌, ◌↔◌, ℕ, Some, IsTrue, IsFalse, IsSome, IsNone, IfOk, MatchOption, OnOk, OnErr, length, nat_lt, None, []};
-ghost use Rattle.std.specs.List.{list_all};
+ghost use Rattle.std.specs.Prelude.{◌≡◌, ◌≢◌, ◌<◌, ◌↔◌, ◌==◌, ℕ, Some, IsTrue, IsFalse, IsSome, IsNone, IfOk, MatchOption, OnOk, OnErr, length, nat_lt, None, []};
+ghost use Rattle.std.specs.List.{list_all, list_any};
 ghost use Rattle.metis_universe.specs.Config.{IsConfig, config_of, empty, Correct, pair_of, is_bound, put, remove, tie, untie};
 ghost use Rattle.metis_universe.specs.Goal.{holding};
 ghost use Rattle.metis_universe.specs.Goals.{serving};
@@ -195,18 +195,8 @@ impl Config {
         self.first_unmet(u, &self.instances)
     }
 
-    /// What `unmet` would be if the instance were in the pair, or gone. It looks at the instance, and at those bound to it
-    /// whose port it gives now and would no longer.
-    pub fn unmet_if(&self, u: &Universe, z: InstNo, to: Option<PairIx>) -> Option<(InstNo, PortIx)>
-        requires over { IsOver u.now self.now }
-        requires correct { Correct u.now self.now }
-        requires to { (q : ℕ) → to ≡ Some q → q < pair_count u.now }
-        ensures { result ≡ unmet u.now (changed self.now z to) }
-    {
-        self.unmet_from(u, z, self.pair_of(z), to)
-    }
-
-    /// The same, where it is known which pair the instance is in.
+    /// What `unmet` would be if the instance, which is in the one pair, or not there, were in the other, or gone. It looks at the
+    /// instance, and at those bound to it whose port it gives now and would no longer.
     pub fn unmet_from(
         &self,
         u: &Universe,
@@ -330,19 +320,26 @@ impl Config {
         self.instances.remove(&z);
     }
 
+    /// Whether some binding has the instance as its provider.
+    pub fn has_clients(&self, y: InstNo) -> bool
+        ensures { result ≡ list_any (λ b. b.2 == y) self.now.bindings }
+    {
+        self.served_by(y).is_some()
+    }
+
+    /// A binding of the requirer, if it has one: its port and its provider. It looks at the requirer's own bindings alone.
+    pub fn needed_by(&self, z: InstNo) -> Option<(PortIx, InstNo)>
+        ensures { MatchOption result ((r y : ℕ) → IsFalse (is_bound self.now r z y)) (λ b. IsTrue (is_bound self.now b.0 z b.1)) }
+    {
+        some_from(&self.crowds.map, &self.bindings, z)
+    }
+
     // A binding to the provider: its port and its requirer.
     fn served_by(&self, y: InstNo) -> Option<(PortIx, InstNo)>
         ensures { MatchOption result ((r z : ℕ) → IsFalse (is_bound self.now r z y)) (λ b. IsTrue (is_bound self.now b.0 b.1 y)) }
     {
         let (z, r) = first_to(&self.clients, y)?;
         Some((r, z))
-    }
-
-    // A binding of the requirer: its port and its provider.
-    fn needed_by(&self, z: InstNo) -> Option<(PortIx, InstNo)>
-        ensures { MatchOption result ((r y : ℕ) → IsFalse (is_bound self.now r z y)) (λ b. IsTrue (is_bound self.now b.0 z b.1)) }
-    {
-        some_from(&self.crowds.map, &self.bindings, z)
     }
 }
 

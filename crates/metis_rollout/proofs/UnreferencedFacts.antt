@@ -1,12 +1,9 @@
--- The unreferenced instances, and the bindings by their ends, while instances are removed.
-use Rattle.std.proofs.Common.{◌≡◌, ℕ, ◌<◌, ◌≤◌, Bool, true, false, cond, not, ◌&&◌, ◌||◌, List, [], ◌∷◌, Option, Some, None, refl, sym, ap, ◌∙◌, subst, arith, nat_eq, length, inl, inr}
-use Rattle.std.specs.Prelude.{is_some, option_map}
+-- The unreferenced instances while they are removed.
+use Rattle.std.proofs.Common.{◌≡◌, ℕ, ◌<◌, ◌≤◌, Bool, true, false, cond, not, ◌&&◌, ◌||◌, List, [], ◌∷◌, Some, None, refl, sym, ap, ◌∙◌, subst, arith, nat_eq, length, inl, inr}
 use Rattle.std.specs.List.{All, AllByRecursion, filter, find, list_any}
 use Rattle.std.specs.List.Sorted.{IsStrictlySortedBy}
 use Rattle.std.specs.BTreeMap.Range.{IsLtBy}
 use Rattle.std.specs.BTreeSet.{insert_key}
-use Rattle.std.specs.Set.{remove_key}
-use Rattle.std.specs.BTreeMap.{is_at}
 use Rattle.metis_universe.proofs.Ascending.{has-insert_key}
 use Rattle.std.specs.Map.{keys_of}
 use Rattle.std.specs.Ordering.{nat_cmp}
@@ -18,16 +15,13 @@ use Rattle.std.proofs.lemmas.Map.Views.{any-filter_same}
 use Rattle.metis_ids.proofs.Lists.{above_rest}
 use Rattle.metis_ids.proofs.Tests.{eq_comm}
 use Rattle.metis_universe.specs.Universe.{has}
-use Rattle.metis_universe.specs.Config.{Binding, Config, IsConfig, binding_cmp, config_of, is_bound, is_tie, remove, untie}
-use Rattle.metis_universe.proofs.Edits.{is_bound-tie, remove_key-bindings, tie_is}
+use Rattle.metis_universe.specs.Config.{Binding, Config, IsConfig, config_of, is_bound, is_tie, remove, untie}
+use Rattle.metis_universe.proofs.Edits.{tie_is}
 use Rattle.metis_universe.proofs.Sorted.{keys_of-filter}
-use Rattle.metis_config.specs.Clients.{AreEnds, IsIndexed, has_client, has_need}
-use Rattle.metis_config.proofs.Firsts.{head, short, served_none, served_some}
-use Rattle.metis_config.proofs.Indexed.{AreEnds-gone, AreEnds-untie}
 use Rattle.metis_config.proofs.Removed.{others}
-use Rattle.metis_rollout.specs.Unreferenced.{AreUnreferenced, AreUnreferencedBut, is_unreferenced, points_to}
+use Rattle.metis_rollout.specs.Unreferenced.{AreUnreferenced, AreUnreferencedBut, is_unreferenced}
 use Rattle.metis_rollout.specs.Rollout.{is_referenced, members, next_unreferenced}
-use Rattle.metis_rollout.proofs.Going.{pointed_none, unpointed}
+use Rattle.metis_rollout.proofs.Going.{unpointed}
 use Rattle.metis_rollout.proofs.Quiet.{find_some, keys-has}
 
 -- ---- whether a binding points to an instance
@@ -36,12 +30,6 @@ pub bound_points : (c : Config) (r z y : ℕ) → is_bound c r z y ≡ true → 
 bound_points c r z y h = elim (is_referenced c y) as (λ b. is_referenced c y ≡ b → b ≡ true) [
   | true ↦ λ _. refl
   | false ↦ λ none. absurd (both_ways (is_bound c r z y) (unpointed c y none r z) h)
-] refl
-
-pub points_is : (c : Config) (clients : List Binding) → IsIndexed c clients → (y : ℕ) → points_to clients y ≡ is_referenced c y
-points_is c clients k y = elim (find (head y) clients) as (λ o. find (head y) clients ≡ o → is_some o ≡ is_referenced c y) [
-  | None ↦ λ is. sym (pointed_none c y (λ r x. served_none c clients k y (sym (ap (option_map short) is)) r x))
-  | Some b ↦ λ is. sym (bound_points c b.2 b.1 y (served_some c clients k b.2 b.1 y (sym (ap (option_map short) is))))
 ] refl
 
 -- ---- the least unreferenced instance
@@ -123,11 +111,11 @@ is_referenced-untie c r z y w other = any-filter_same (λ b. nat_eq b.2 w) (λ b
   kept : (b : Binding) → nat_eq b.2 w ≡ true → not (is_tie r z y b) ≡ true
   kept b at = ap not (false_from_ne_true (is_tie r z y b) (λ h. both_ways (nat_eq w y) other (eq-eqb w y (sym (eqb-true b.2 w at) ∙ ap (λ (x : Binding). x.2) (tie_is r z y b h)))))
 
-pub but_cut : (c d : Config) (clients needs : List Binding) (unreferenced unreferenced' : List ℕ) (r z y : ℕ) → IsConfig c → is_bound c r z y ≡ true → d ≡ untie c r z y → AreEnds d clients needs → AreUnreferencedBut c z unreferenced
-    → ((w : ℕ) → has unreferenced' w ≡ (has unreferenced w || (nat_eq w y && not (points_to clients y)))) → AreUnreferencedBut d z unreferenced'
-but_cut c d clients needs unreferenced unreferenced' r z y k bound is ends same now = subst (λ e. AreUnreferencedBut e z unreferenced') (sym is) (λ w. elim (cases_eq w y) [
+pub but_cut : (c d : Config) (unreferenced unreferenced' : List ℕ) (r z y : ℕ) → IsConfig c → is_bound c r z y ≡ true → d ≡ untie c r z y → AreUnreferencedBut c z unreferenced
+    → ((w : ℕ) → has unreferenced' w ≡ (has unreferenced w || (nat_eq w y && not (is_referenced d y)))) → AreUnreferencedBut d z unreferenced'
+but_cut c d unreferenced unreferenced' r z y k bound is same now = subst (λ e. AreUnreferencedBut e z unreferenced') (sym is) (λ w. elim (cases_eq w y) [
   | inl here ↦ subst (λ v. has unreferenced' v ≡ (not (nat_eq v z) && is_unreferenced (untie c r z y) v)) (sym here) at_provider
-  | inr other ↦ now w ∙ ap (λ b. has unreferenced w || (b && not (points_to clients y))) (ne_eqb w y other) ∙ or_false (has unreferenced w) ∙ same w
+  | inr other ↦ now w ∙ ap (λ b. has unreferenced w || (b && not (is_referenced d y))) (ne_eqb w y other) ∙ or_false (has unreferenced w) ∙ same w
       ∙ ap (λ b. not (nat_eq w z) && (has (members c) w && not b)) (sym (is_referenced-untie c r z y w (ne_eqb w y other)))
 ]) where
   or_false : (b : Bool) → (b || false) ≡ b
@@ -148,7 +136,7 @@ but_cut c d clients needs unreferenced unreferenced' r z y k bound is ends same 
   was = same y ∙ ap (λ b. not (nat_eq y z) && (has (members c) y && not b)) (bound_points c r z y bound) ∙ ap (λ b. not (nat_eq y z) && b) (and_false (has (members c) y)) ∙ and_false (not (nat_eq y z))
 
   at_provider : has unreferenced' y ≡ (not (nat_eq y z) && is_unreferenced (untie c r z y) y)
-  at_provider = now y ∙ (λ i. was i || (eq-eqb y y refl i && not (points_is d clients ends.by_provider y i))) ∙ ap (λ (e : Config). not (is_referenced e y)) is
+  at_provider = now y ∙ (λ i. was i || (eq-eqb y y refl i && not (is_referenced d y))) ∙ ap (λ (e : Config). not (is_referenced e y)) is
       ∙ sym (λ i. not (apart i) && (member i && not (is_referenced (untie c r z y) y)))
 
 -- ---- the instance goes
@@ -157,11 +145,10 @@ assoc : (a b c : Bool) → (a && (b && c)) ≡ ((a && b) && c)
 assoc true b c = refl
 assoc false b c = refl
 
-pub gone : (c d e : Config) (clients needs : List Binding) (unreferenced : List ℕ) (z : ℕ) → d.instances ≡ c.instances → others z d.bindings ≡ others z c.bindings → others z d.bindings ≡ d.bindings
-    → AreEnds d clients needs → AreUnreferencedBut d z unreferenced → e ≡ remove d z → (e ≡ remove c z) × AreEnds e clients needs × AreUnreferenced e unreferenced
-gone c d e clients needs unreferenced z instances bindings all ends same is = (
+pub gone : (c d e : Config) (unreferenced : List ℕ) (z : ℕ) → d.instances ≡ c.instances → others z d.bindings ≡ others z c.bindings → others z d.bindings ≡ d.bindings
+    → AreUnreferencedBut d z unreferenced → e ≡ remove d z → (e ≡ remove c z) × AreUnreferenced e unreferenced
+gone c d e unreferenced z instances bindings all same is = (
   is ∙ (λ i. config_of (filter (λ e. not (nat_eq e.0 z)) (instances i)) (bindings i)),
-  subst (λ f. AreEnds f clients needs) (sym (is ∙ ap (config_of (filter (λ e. not (nat_eq e.0 z)) d.instances)) all)) (AreEnds-gone d clients needs z all ends),
   subst (λ f. AreUnreferenced f unreferenced) (sym is) (λ w. same w ∙ assoc (not (nat_eq w z)) (has (members d) w) (not (is_referenced d w))
       ∙ (λ i. sym (member w) i && not (sym (pointed w) i))),
 ) where
@@ -171,70 +158,15 @@ gone c d e clients needs unreferenced z instances bindings all ends same is = (
   pointed : (w : ℕ) → is_referenced (remove d z) w ≡ is_referenced d w
   pointed w = ap (list_any (λ b. nat_eq b.2 w)) all
 
--- ---- the bindings one by one
-
-turned : (a b c : Bool) → (a && b && c) ≡ (c && b && a)
-turned true true true = refl
-turned true true false = refl
-turned true false true = refl
-turned true false false = refl
-turned false true true = refl
-turned false true false = refl
-turned false false true = refl
-turned false false false = refl
-
-moved : (a b c : Bool) → (a && b && c) ≡ (c && a && b)
-moved true true true = refl
-moved true true false = refl
-moved true false true = refl
-moved true false false = refl
-moved false true true = refl
-moved false true false = refl
-moved false false true = refl
-moved false false false = refl
-
-swapped : (a b c : Bool) → (a || (b || c)) ≡ ((b || a) || c)
-swapped true true c = refl
-swapped true false c = refl
-swapped false true c = refl
-swapped false false c = refl
-
--- the bindings of c are those that were put in and those to come
-pub record AreEndsWith (c : Config) (clients needs rest : List Binding) : Type 0 where
-  pub by_provider : (r z y : ℕ) → is_bound c r z y ≡ (has_client clients y z r || list_any (is_tie r z y) rest)
-  pub by_requirer : (r z y : ℕ) → is_bound c r z y ≡ (has_need needs z y r || list_any (is_tie r z y) rest)
-
-pub with_next : (c : Config) (clients needs clients' needs' old rest : List Binding) (b : Binding) → AreEndsWith c clients needs old → old ≡ b ∷ rest → clients' ≡ insert_key binding_cmp clients (b.2, b.1, b.0) → needs' ≡ insert_key binding_cmp needs (b.1, b.2, b.0)
-    → AreEndsWith c clients' needs' rest
-with_next c clients needs clients' needs' old rest b e is provided required = record {
-  by_provider = λ r z y. e.by_provider r z y ∙ ap (λ l. has_client clients y z r || list_any (is_tie r z y) l) is
-      ∙ swapped (has_client clients y z r) (is_tie r z y b) (list_any (is_tie r z y) rest)
-      ∙ ap (λ v. (v || has_client clients y z r) || list_any (is_tie r z y) rest) (turned (nat_eq b.0 r) (nat_eq b.1 z) (nat_eq b.2 y))
-      ∙ ap (λ v. v || list_any (is_tie r z y) rest) (sym (is_bound-tie (config_of [] clients) b.2 b.1 b.0 y z r) ∙ ap (λ l. has_client l y z r) (sym provided));
-  by_requirer = λ r z y. e.by_requirer r z y ∙ ap (λ l. has_need needs z y r || list_any (is_tie r z y) l) is
-      ∙ swapped (has_need needs z y r) (is_tie r z y b) (list_any (is_tie r z y) rest)
-      ∙ ap (λ v. (v || has_need needs z y r) || list_any (is_tie r z y) rest) (sym (moved (nat_eq b.1 z) (nat_eq b.2 y) (nat_eq b.0 r)))
-      ∙ ap (λ v. v || list_any (is_tie r z y) rest) (sym (is_bound-tie (config_of [] needs) b.1 b.2 b.0 z y r) ∙ ap (λ l. has_need l z y r) (sym required));
-}
-
-pub ends_are : (c : Config) (clients needs rest : List Binding) → IsConfig c → IsStrictlySortedBy binding_cmp clients → IsStrictlySortedBy binding_cmp needs → AreEndsWith c clients needs rest → rest ≡ [] → AreEnds c clients needs
-ends_are c clients needs rest k s t e is = record {
-  by_provider = record { config = k; in_order = s; same = λ r z y. sym (e.by_provider r z y ∙ ap (λ l. has_client clients y z r || list_any (is_tie r z y) l) is ∙ or_false (has_client clients y z r)) };
-  by_requirer = record { in_order = t; same = λ r z y. sym (e.by_requirer r z y ∙ ap (λ l. has_need needs z y r || list_any (is_tie r z y) l) is ∙ or_false (has_need needs z y r)) };
-} where
-  or_false : (b : Bool) → (b || false) ≡ b
-  or_false true = refl
-  or_false false = refl
-
 -- ---- the unreferenced instances one by one
 
 -- the unreferenced instances are those that were put in and those among the instances to come
 abbrev pub AreUnreferencedWith : Config → List ℕ → List (ℕ × ℕ) → Type 0
 AreUnreferencedWith c unreferenced rest = (z : ℕ) → is_unreferenced c z ≡ (has unreferenced z || (has (keys_of rest) z && not (is_referenced c z)))
 
-pub unreferenced_next : (c : Config) (clients needs : List Binding) (unreferenced unreferenced' : List ℕ) (old rest : List (ℕ × ℕ)) (e : ℕ × ℕ) → AreEnds c clients needs → AreUnreferencedWith c unreferenced old → old ≡ e ∷ rest
-    → ((w : ℕ) → has unreferenced' w ≡ (has unreferenced w || (nat_eq w e.0 && not (points_to clients e.0)))) → AreUnreferencedWith c unreferenced' rest
-unreferenced_next c clients needs unreferenced unreferenced' old rest e ends same is now = λ w.
+pub unreferenced_next : (c : Config) (unreferenced unreferenced' : List ℕ) (old rest : List (ℕ × ℕ)) (e : ℕ × ℕ) → AreUnreferencedWith c unreferenced old → old ≡ e ∷ rest
+    → ((w : ℕ) → has unreferenced' w ≡ (has unreferenced w || (nat_eq w e.0 && not (is_referenced c e.0)))) → AreUnreferencedWith c unreferenced' rest
+unreferenced_next c unreferenced unreferenced' old rest e same is now = λ w.
     same w ∙ ap (λ l. has unreferenced w || (has (keys_of l) w && not (is_referenced c w))) is
     ∙ split (has unreferenced w) (nat_eq e.0 w) (has (keys_of rest) w) (not (is_referenced c w))
     ∙ ap (λ b. (has unreferenced w || b) || (has (keys_of rest) w && not (is_referenced c w))) (own w)
@@ -247,10 +179,10 @@ unreferenced_next c clients needs unreferenced unreferenced' old rest e ends sam
       split false true false false = refl
       split false false d f = refl
 
-      own : (w : ℕ) → (nat_eq e.0 w && not (is_referenced c w)) ≡ (nat_eq w e.0 && not (points_to clients e.0))
+      own : (w : ℕ) → (nat_eq e.0 w && not (is_referenced c w)) ≡ (nat_eq w e.0 && not (is_referenced c e.0))
       own w = elim (cases_eq w e.0) [
-        | inl here ↦ λ i. eq_comm e.0 w i && not (sym (points_is c clients ends.by_provider e.0 ∙ ap (is_referenced c) (sym here)) i)
-        | inr other ↦ ap (λ b. b && not (is_referenced c w)) (ne_eqb e.0 w (λ x. other (sym x))) ∙ sym (ap (λ b. b && not (points_to clients e.0)) (ne_eqb w e.0 other))
+        | inl here ↦ λ i. eq_comm e.0 w i && not (is_referenced c (here i))
+        | inr other ↦ ap (λ b. b && not (is_referenced c w)) (ne_eqb e.0 w (λ x. other (sym x))) ∙ sym (ap (λ b. b && not (is_referenced c e.0)) (ne_eqb w e.0 other))
       ]
 
 pub unreferenced_are : (c : Config) (unreferenced : List ℕ) (rest : List (ℕ × ℕ)) → AreUnreferencedWith c unreferenced rest → rest ≡ [] → AreUnreferenced c unreferenced
@@ -263,24 +195,13 @@ pub no_keys : (ks : List ℕ) → (0 < length ks → false ≡ true) → ks ≡ 
 no_keys [] h = refl
 no_keys (k ∷ ks) h = absurd (false≢true (h (omega arith)))
 
-pub inserted : (clients : List Binding) (y : ℕ) (unreferenced unreferenced' : List ℕ) → is_some (option_map short (find (head y) clients)) ≡ false → unreferenced' ≡ insert_key nat_cmp unreferenced y
-    → (z : ℕ) → has unreferenced' z ≡ (has unreferenced z || (nat_eq z y && not (points_to clients y)))
-inserted clients y unreferenced unreferenced' none is z =
+pub inserted : (c : Config) (y : ℕ) (unreferenced unreferenced' : List ℕ) → is_referenced c y ≡ false → unreferenced' ≡ insert_key nat_cmp unreferenced y
+    → (z : ℕ) → has unreferenced' z ≡ (has unreferenced z || (nat_eq z y && not (is_referenced c y)))
+inserted c y unreferenced unreferenced' none is z =
     ap (λ l. has l z) is ∙ has-insert_key z y unreferenced ∙ ap (λ b. b || has unreferenced z) (eq_comm y z) ∙ turn (nat_eq z y) (has unreferenced z)
-    ∙ sym (ap (λ b. has unreferenced z || (nat_eq z y && not b)) (missing (find (head y) clients) none)) where
+    ∙ sym (ap (λ b. has unreferenced z || (nat_eq z y && not b)) none) where
       turn : (a b : Bool) → (a || b) ≡ (b || (a && true))
       turn true true = refl
       turn true false = refl
       turn false true = refl
       turn false false = refl
-
-      missing : (o : Option Binding) → is_some (option_map short o) ≡ false → is_some o ≡ false
-      missing None h = refl
-      missing (Some b) h = h
-
-pub cut_ends : (c d : Config) (clients needs clients' needs' : List Binding) (r z y : ℕ) → AreEnds c clients needs → d ≡ untie c r z y → clients' ≡ remove_key (is_at (binding_cmp (y, z, r))) clients → needs' ≡ remove_key (is_at (binding_cmp (z, y, r))) needs → AreEnds d clients' needs'
-cut_ends c d clients needs clients' needs' r z y ends is provided required =
-    let p = provided ∙ remove_key-bindings y z r clients ends.by_provider.in_order in
-    let q = required ∙ remove_key-bindings z y r needs ends.by_requirer.in_order in
-    subst (λ e. AreEnds e clients' needs') (sym is)
-    (subst (λ l. AreEnds (untie c r z y) l needs') (sym p) (subst (λ l. AreEnds (untie c r z y) (filter (λ b. not (is_tie y z r b)) clients) l) (sym q) (AreEnds-untie c clients needs r z y ends)))

@@ -2,11 +2,9 @@
 --     is_unreferenced c z      whether z is there and no binding points to it
 --     AreUnreferenced c unreferenced      the list has exactly these
 --     AreUnreferencedBut c z unreferenced      all of them but z
---     points_to clients y      whether a binding of the list, by providers, points to y
-use Rattle.std.specs.Prelude.{ℕ, ◌≡◌, ◌==◌, ◌&&◌, not, Bool, List, is_some}
-use Rattle.std.specs.List.{find}
+use Rattle.std.specs.Prelude.{ℕ, ◌≡◌, ◌==◌, ◌&&◌, not, Bool, List}
 use Rattle.metis_universe.specs.Universe.{has}
-use Rattle.metis_universe.specs.Config.{Binding, Config}
+use Rattle.metis_universe.specs.Config.{Config}
 use Rattle.metis_rollout.specs.Rollout.{is_referenced, members}
 
 abbrev pub is_unreferenced : Config → ℕ → Bool
@@ -17,6 +15,3 @@ AreUnreferenced c unreferenced = (z : ℕ) → has unreferenced z ≡ is_unrefer
 
 abbrev pub AreUnreferencedBut : Config → ℕ → List ℕ → Type 0
 AreUnreferencedBut c x unreferenced = (z : ℕ) → has unreferenced z ≡ (not (z == x) && is_unreferenced c z)
-
-abbrev pub points_to : List Binding → ℕ → Bool
-points_to clients y = is_some (find (λ b. b.0 == y) clients)

@@ -8,7 +8,7 @@ ghost use Rattle.metis_universe.specs.Config.{IsConfig, binding_cmp, is_bound};
 ghost use Rattle.metis_universe.specs.Step.{after_all};
 ghost use Rattle.metis_rollout.specs.Rollout.{idle_unbinds, is_idle, unreferenced_deletes, unbind};
 
-use crate::unreferenced::{ends_of, let_go, unreferenced_of};
+use crate::unreferenced::{let_go, unreferenced_of};
 use metis_config::Config;
 use metis_ids::{Action, InstNo, NoMemory, PortIx};
 use metis_universe::Universe;
@@ -87,14 +87,14 @@ pub fn delete_unreferenced(
     ensures actions { OnOk result (actions.new.items ≡ actions.old.items ++ unreferenced_deletes c.old) }
     ensures config { OnOk result ((u : Universe) → c.new ≡ after_all u c.old (unreferenced_deletes c.old)) }
 {
-    let mut ends = ends_of(alloc, c)?;
-    let mut unreferenced = unreferenced_of(alloc, c, &ends)?;
+    let mut unreferenced = unreferenced_of(alloc, c)?;
     for _ in 0..c.count() {
         let Some(z) = unreferenced.pop_first() else {
             return Ok(());
         };
+        c.keeps_invariant();
         actions.push(Action::Delete { inst: z })?;
-        let_go(c, &mut ends, &mut unreferenced, z)?;
+        let_go(c, &mut unreferenced, z)?;
     }
     Ok(())
 }

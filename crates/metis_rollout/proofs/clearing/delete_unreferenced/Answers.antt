@@ -27,7 +27,6 @@ loop-init c = record {
   left = length (members c.args.c.now);
   counts = omega arith;
   goes = record { actions = refl; config = λ u. refl };
-  ends = c.in_ok-ends.ensures;
   unreferenced = c.in_ok-unreferenced.ensures;
 }
 
@@ -39,10 +38,10 @@ let_go-requires-clause-free c = first_free c.loop.c c.loop.unreferenced.keys c.p
 
 pub loop-preserved : goal.loop-preserved
 loop-preserved c =
-    let least = next_is c.loop.c c.loop.unreferenced.keys c.pop_first.new.self.keys c.in-Some.z c.loop.invariant.ends.by_provider.config c.loop.invariant.unreferenced c.in-Some.ensures.removal c.in-Some.ensures.all_above in
+    let least = next_is c.loop.c c.loop.unreferenced.keys c.pop_first.new.self.keys c.in-Some.z c.keeps_invariant.ensures c.loop.invariant.unreferenced c.in-Some.ensures.removal c.in-Some.ensures.all_above in
     let s = step c.loop.invariant.left (length (members c.args.c.now)) c.loop.counter c.args.actions.now.items c.loop.actions.items c.push.new.self.items (unreferenced_deletes c.args.c.now) c.args.c.now c.loop.c c.let_go.new.c c.in-Some.z
     c.loop.invariant.counts (omega (arith, c.loop-test.true, c.count-end.ensures, many c.args.c.now.instances)) c.loop.invariant.goes least c.in_ok-push.ensures.items c.in_ok-let_go.ensures.config in
-    record { left = s.left; counts = s.counts; goes = s.goes; ends = c.in_ok-let_go.ensures.ends; unreferenced = c.in_ok-let_go.ensures.unreferenced }
+    record { left = s.left; counts = s.counts; goes = s.goes; unreferenced = c.in_ok-let_go.ensures.unreferenced }
 
 pub returns-in_default-clause-actions : goal.returns-in_default-clause-actions
 returns-in_default-clause-actions c =

@@ -1,6 +1,5 @@
 use Rattle.std.proofs.Common.{◌≡◌, ◌+◌, ℕ, length}
 use Rattle.metis_rollout.specs.Rollout.{unreferenced_deletes, members}
-use Rattle.metis_config.specs.Clients.{AreEnds}
 use Rattle.metis_rollout.specs.Unreferenced.{AreUnreferenced}
 use Rattle.metis_rollout.proofs.Loops.{Left}
 use Rattle.metis_rollout.proofs.clearing.delete_unreferenced.Given as goal
@@ -10,6 +9,5 @@ invariant-loop l = record {
   left : ℕ;
   counts : left + l.counter ≡ length (members l.initial.c);
   goes : Left left l.initial.actions.items l.actions.items (unreferenced_deletes l.initial.c) l.initial.c l.c;
-  ends : AreEnds l.c l.ends.by_provider.keys l.ends.by_requirer.keys;
   unreferenced : AreUnreferenced l.c l.unreferenced.keys;
 }

@@ -1,5 +1,4 @@
 use Rattle.std.proofs.Common.{◌≡◌, length}
-use Rattle.metis_config.specs.Clients.{AreEnds}
 use Rattle.metis_config.proofs.Removed.{others}
 use Rattle.metis_rollout.specs.Unreferenced.{AreUnreferencedBut}
 use Rattle.metis_rollout.proofs.Going.{Unpointed}
@@ -9,7 +8,6 @@ abbrev pub invariant-needed : goal.invariant-needed
 invariant-needed l = record {
   instances : l.c.instances ≡ l.initial.c.instances;
   others : others l.z l.c.bindings ≡ others l.z l.initial.c.bindings;
-  ends : AreEnds l.c l.ends.by_provider.keys l.ends.by_requirer.keys;
   unreferenced : AreUnreferencedBut l.c l.z l.unreferenced.keys;
   free : Unpointed l.c l.z;
 }
