@@ -24,6 +24,7 @@ use std::marker::Model;
 #[derive(Drop)]
 pub struct Config {
     instances: BTreeMap<InstNo, PairIx>,
+    /// The bindings, each as its port, its requirer and its provider. A tuple has the order of the model's bindings.
     bindings: BTreeSet<(PortIx, InstNo, InstNo)>,
     /// The bindings again, each as its provider, its requirer and its port.
     clients: BTreeSet<(InstNo, InstNo, PortIx)>,

@@ -1,6 +1,7 @@
 //! The instances and the bindings of a configuration, one by one.
 ghost use Rattle.std.specs.Iterator.{YieldsFirst, item_count};
 
+use crate::binding::Binding;
 use metis_ids::{InstNo, PairIx, PortIx};
 use std::collections::{btree_map, btree_set};
 use std::marker::Model;
@@ -48,14 +49,18 @@ impl<'a> Model for Ties<'a> {
 }
 
 impl Iterator for Ties<'_> {
-    type Item = (PortIx, InstNo, InstNo);
+    type Item = Binding;
 
     ghost next_gives = { YieldsFirst (λ i. i) };
 
     ghost remaining = { item_count (λ i. i) };
 
-    fn next(&mut self) -> Option<(PortIx, InstNo, InstNo)> {
-        let tie = self.rest.next()?;
-        Some(*tie)
+    fn next(&mut self) -> Option<Binding> {
+        let &(port, requirer, provider) = self.rest.next()?;
+        Some(Binding {
+            port,
+            requirer,
+            provider,
+        })
     }
 }

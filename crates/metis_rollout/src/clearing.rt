@@ -1,15 +1,15 @@
 //! The removal of what stands: first the bindings that nothing requires, then the instances to which nothing is bound.
-ghost use Rattle.std.specs.Prelude.{◌≡◌, ◌++◌, ℕ, IfOk, OnOk, IsTrue, map};
+ghost use Rattle.std.specs.Prelude.{◌≡◌, ◌++◌, ◌∷◌, [], ℕ, IfOk, OnOk, IsTrue, map};
 ghost use Rattle.std.specs.List.{All, filter};
 ghost use Rattle.std.specs.List.Sorted.{IsStrictlySortedBy};
 ghost use Rattle.metis_config.specs.Over.{IsOver};
 ghost use Rattle.metis_universe.specs.Universe.{Universe};
-ghost use Rattle.metis_universe.specs.Config.{IsConfig, binding_cmp, is_bound};
+ghost use Rattle.metis_universe.specs.Config.{IsConfig, binding_cmp, is_bound, untie};
 ghost use Rattle.metis_universe.specs.Step.{after_all};
 ghost use Rattle.metis_rollout.specs.Rollout.{idle_unbinds, is_idle, unreferenced_deletes, unbind};
 
 use crate::unreferenced::{let_go, unreferenced_of};
-use metis_config::Config;
+use metis_config::{Binding, Config};
 use metis_ids::{Action, InstNo, NoMemory, PortIx};
 use metis_universe::Universe;
 use std::alloc::Global;
@@ -31,13 +31,13 @@ pub fn unbind_idle(
 }
 
 // The bindings whose port their requirer does not require.
-fn idle(alloc: Global, u: &Universe, c: &Config) -> Result<Vec<(PortIx, InstNo, InstNo)>, NoMemory>
+fn idle(alloc: Global, u: &Universe, c: &Config) -> Result<Vec<Binding>, NoMemory>
     requires { IsOver u.now c.now }
     ensures { IfOk result (λ ties. ties.items ≡ filter (is_idle u.now c.now) c.now.bindings) }
 {
     let mut ties = Vec::new(alloc);
     for tie in c.bindings() {
-        if is_idle(u, c, tie.0, tie.1) {
+        if is_idle(u, c, tie.port, tie.requirer) {
             ties.push(tie)?;
         }
     }
@@ -56,24 +56,30 @@ fn is_idle(u: &Universe, c: &Config, r: PortIx, z: InstNo) -> bool
 }
 
 // Ends these bindings, one after the other.
-fn untie_all(
-    c: &mut Config,
-    ties: &[(PortIx, InstNo, InstNo)],
-    actions: &mut Vec<Action>,
-) -> Result<(), NoMemory>
+fn untie_all(c: &mut Config, ties: &[Binding], actions: &mut Vec<Action>) -> Result<(), NoMemory>
     requires ascending { IsStrictlySortedBy binding_cmp ties.now }
     requires bound { All (λ b. IsTrue (is_bound c.old b.0 b.1 b.2)) ties.now }
     ensures actions { OnOk result (actions.new.items ≡ actions.old.items ++ map unbind ties.now) }
     ensures config { OnOk result ((u : Universe) → c.new ≡ after_all u c.old (map unbind ties.now)) }
 {
     for tie in ties {
-        actions.push(Action::Unbind {
-            port: tie.0,
-            inst: tie.1,
-            to: tie.2,
-        })?;
-        c.untie(tie.0, tie.1, tie.2);
+        end(c, *tie, actions)?;
     }
+    Ok(())
+}
+
+// Ends the binding.
+fn end(c: &mut Config, tie: Binding, actions: &mut Vec<Action>) -> Result<(), NoMemory>
+    requires { IsTrue (is_bound c.old tie.0 tie.1 tie.2) }
+    ensures actions { OnOk result (actions.new.items ≡ actions.old.items ++ unbind tie ∷ []) }
+    ensures config { OnOk result (c.new ≡ untie c.old tie.0 tie.1 tie.2) }
+{
+    actions.push(Action::Unbind {
+        port: tie.port,
+        inst: tie.requirer,
+        to: tie.provider,
+    })?;
+    c.untie(tie.port, tie.requirer, tie.provider);
     Ok(())
 }
 

@@ -105,9 +105,9 @@ fn unbind_all(c: &Config, actions: &mut Vec<Action>) -> Result<(), NoMemory>
 {
     for tie in c.bindings() {
         actions.push(Action::Unbind {
-            port: tie.0,
-            inst: tie.1,
-            to: tie.2,
+            port: tie.port,
+            inst: tie.requirer,
+            to: tie.provider,
         })?;
     }
     Ok(())

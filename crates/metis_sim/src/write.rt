@@ -11,8 +11,8 @@ ghost use Rattle.metis_sim.specs.Replies.{IsReplyOf, binding_line, counts_line, 
 
 use crate::{Reply, Session};
 use metis_actions::{AFault, write_fault};
-use metis_config::Config;
-use metis_ids::{InstNo, Ix, PairIx, PortIx};
+use metis_config::{Binding, Config};
+use metis_ids::{InstNo, Ix, PairIx};
 use metis_outside::{CalmSink, Sink, Trouble};
 use metis_text::{put_line, write_missing};
 use metis_universe::Universe;
@@ -167,8 +167,8 @@ fn write_bindings<K: Sink>(
     ensures text { Writes (map (binding_line u.now) c.now.bindings) (K.written out.old) (K.written out.new) result }
     ensures cause { CountsFault (K.faults out.old) (K.faults out.new) result }
 {
-    for (port, inst, to) in c.bindings() {
-        write_binding(alloc, u, port, inst, to, out)?;
+    for tie in c.bindings() {
+        write_binding(alloc, u, tie, out)?;
     }
     Ok(())
 }
@@ -177,16 +177,15 @@ fn write_bindings<K: Sink>(
 fn write_binding<K: Sink>(
     alloc: Global,
     u: &Universe,
-    r: PortIx,
-    z: InstNo,
-    y: InstNo,
+    tie: Binding,
     out: &mut K,
 ) -> Result<(), Trouble>
-    requires { r < port_count u.now }
-    ensures text { Writes (binding_line u.now (r, z, y) ∷ []) (K.written out.old) (K.written out.new) result }
+    requires { tie.0 < port_count u.now }
+    ensures text { Writes (binding_line u.now tie ∷ []) (K.written out.old) (K.written out.new) result }
     ensures cause { CountsFault (K.faults out.old) (K.faults out.new) result }
 {
-    let line = binding_line(alloc, u.port_name(r), z.number(), y.number())?;
+    let port = u.port_name(tie.port);
+    let line = binding_line(alloc, port, tie.requirer.number(), tie.provider.number())?;
     put_line(line.as_bytes(), out)
 }
 

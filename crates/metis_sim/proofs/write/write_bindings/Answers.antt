@@ -8,10 +8,10 @@ use Rattle.metis_sim.proofs.write.write_bindings.Goals as goal
 
 pub write_binding-requires : goal.write_binding-requires
 write_binding-requires g c =
-    next_has (λ x. x.0 < port_count c.args.u.now) c.loop-port.yielded (c.in-Some.port, c.in-Some.inst, c.in-Some.to) c.next.new.self c.args.c.now.bindings
-    (ap (λ l. c.loop-port.yielded ++ l) (sym c.in-Some.ensures.steps) ∙ c.loop-port.invariant.left) c.requires
+    next_has (λ x. x.0 < port_count c.args.u.now) c.loop-tie.yielded c.in-Some.tie c.next.new.self c.args.c.now.bindings
+    (ap (λ l. c.loop-tie.yielded ++ l) (sym c.in-Some.ensures.steps) ∙ c.loop-tie.invariant.left) c.requires
 
 pub returns-in_err-write_binding-clause-text : goal.returns-in_err-write_binding-clause-text
 returns-in_err-write_binding-clause-text g c =
     let p = err_from_is_err_and c.from_residual.result c.from_residual.ensures.1 in
-    rw p.1 (front_of_item (binding_line c.args.u.now) c.loop-port.yielded (c.in-Some.port, c.in-Some.inst, c.in-Some.to) c.next.new.self c.args.c.now.bindings _ _ _ (ap (λ l. c.loop-port.yielded ++ l) (sym c.in-Some.ensures.steps) ∙ c.loop-port.invariant.left) c.loop-port.invariant.written c.in_err-write_binding.ensures.text)
+    rw p.1 (front_of_item (binding_line c.args.u.now) c.loop-tie.yielded c.in-Some.tie c.next.new.self c.args.c.now.bindings _ _ _ (ap (λ l. c.loop-tie.yielded ++ l) (sym c.in-Some.ensures.steps) ∙ c.loop-tie.invariant.left) c.loop-tie.invariant.written c.in_err-write_binding.ensures.text)
