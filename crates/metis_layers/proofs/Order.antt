@@ -80,9 +80,8 @@ module _ (u : Universe) where
       let run = run_from_going u [] (layer_order u g) went.0 in
       let stand = subst (λ l. Stand u (slot_holder u) slot_of l (layer_order u g)) (path_ends (line_ends u g)) went.1 in
       record {
-        runs = run;
+        run = record { run = run; steadfast = steadfast_from_going u (layer_order u g) went.0 };
         holds = λ p. subst (λ n. count_by (λ q. nat_eq q p) g ≤ n) (sym (holds_ends (line_ends u g) (layer_order u g) run stand p)) (count-append p (copies (greatest_demand u) (standing_pairs u)) g);
-        steadfast = steadfast_from_going u (layer_order u g) went.0;
         numbers = slot_ways_within u k (slot_holder u) slot_of [] 0 paths ways;
         few = omega (arith, slot_lines_make u (slot_holder u) 0 (line_ends u g), few_ends g);
       }
@@ -123,7 +122,7 @@ attained : (u : Universe) (p : ℕ) → IsUniverse u → has (attained_pairs u) 
 attained u p k h =
     let at = layer_by u p (pair_count u) h in
     let d = order_deploys u k (p ∷ []) (λ q one. record { layer = at.layer; is = ap (layer_of u) (sym (only q one)) ∙ at.is }) in
-    (layer_order u (p ∷ []), d.runs, d.holds) where
+    (layer_order u (p ∷ []), d.run.run, d.holds) where
       only : (q : ℕ) → has (p ∷ []) q ≡ true → p ≡ q
       only q one = elim (or_cases (nat_eq p q) false one) [ inl same ↦ eqb-true p q same | inr none ↦ absurd (false≢true none) ]
 

@@ -20,8 +20,8 @@ use Rattle.metis_universe.specs.Goal.{Holds}
 use Rattle.metis_universe.specs.Layers.{layer_set, layered}
 use Rattle.metis_universe.specs.Selection.{provider_of, origin_of}
 use Rattle.metis_universe.specs.Numbers.{IsOf}
-use Rattle.metis_universe.specs.Steadfast.{is_steadfast}
-use Rattle.metis_universe.specs.Step.{IsRun, after_all}
+use Rattle.metis_universe.specs.Steadfast.{IsSteadfastRun}
+use Rattle.metis_universe.specs.Step.{after_all}
 use Rattle.metis_layers.specs.SlotLines.{slot_lines}
 use Rattle.metis_ids.specs.Paths.{path_by}
 
@@ -66,10 +66,9 @@ attained_pairs u = layer_set u (pair_count u)
 abbrev pub instances_of : List Action → ℕ
 instances_of actions = length (filter makes actions)
 
--- The actions are a run from the empty configuration in which each action is steadfast, and their numbers are the universe's. They hold the targets and make no more instances than one for each target and, for each attainable pair, as many as the greatest demand.
+-- The actions are a steadfast run, and their numbers are the universe's. They hold the targets and make no more instances than one for each target and, for each attainable pair, as many as the greatest demand.
 pub record Deploys (u : Universe) (g : List ℕ) (actions : List Action) : Type 0 where
-  pub runs : IsRun u empty actions
+  pub run : IsSteadfastRun u actions
   pub holds : Holds (after_all u empty actions) g
-  pub steadfast : IsTrue (is_steadfast u actions)
   pub numbers : All (IsOf u) actions
   pub few : instances_of actions ≤ length (attained_pairs u) * greatest_demand u + length g

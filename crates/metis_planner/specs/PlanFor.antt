@@ -6,8 +6,8 @@ use Rattle.metis_ids.specs.Plans.{Plan}
 use Rattle.metis_universe.specs.Config.{empty}
 use Rattle.metis_universe.specs.Goal.{Holds}
 use Rattle.metis_universe.specs.Numbers.{IsOf, NamesBelow}
-use Rattle.metis_universe.specs.Steadfast.{is_steadfast}
-use Rattle.metis_universe.specs.Step.{IsRun, after_all}
+use Rattle.metis_universe.specs.Steadfast.{IsSteadfastRun}
+use Rattle.metis_universe.specs.Step.{after_all}
 use Rattle.metis_universe.specs.Tidy.{IsTidy}
 use Rattle.metis_universe.specs.Universe.{Universe, pair_count}
 use Rattle.metis_layers.specs.LayerOrder.{instances_of}
@@ -17,14 +17,12 @@ use Rattle.metis_emit.specs.Realized.{entered}
 use Rattle.metis_planner.specs.Outcomes.{EventBelow, IsLean}
 use Rattle.metis_planner.specs.Rounds.{IsByRounds, graph_after}
 
--- Its actions are a run from the empty configuration that holds the targets, and no provider leaves its pair while a binding to it
--- stands; at its end only the targets and what serves them remain. It counts its instances, which are few, and so are the actions of
+-- Its actions are a steadfast run that holds the targets; at its end only the targets and what serves them remain. It counts its instances, which are few, and so are the actions of
 -- each. The instances are the life lines for the targets and the pairs of the dups, and each goes through its line's pairs. Each dup is
 -- forced by its cycle, and they are no more than the instances. It is the one plan that rounds come to.
 pub record IsPlanFor (u : Universe) (g : List ℕ) (plan : Plan) : Type 0 where
-  pub run : IsRun u empty plan.actions
+  pub run : IsSteadfastRun u plan.actions
   pub holds : Holds (after_all u empty plan.actions) g
-  pub steadfast : IsTrue (is_steadfast u plan.actions)
   pub numbers : All (IsOf u) plan.actions
   pub named : All (NamesBelow (2 ^ 32)) plan.actions
   pub tidy : IsTidy u g (after_all u empty plan.actions)

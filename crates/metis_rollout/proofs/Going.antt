@@ -7,13 +7,12 @@ use Rattle.metis_ids.specs.declared.actions.Action.{Action}
 use Rattle.metis_universe.specs.Universe.{Universe}
 use Rattle.metis_universe.specs.Config.{Binding, Config, Correct, empty, is_bound, is_tie}
 use Rattle.metis_universe.specs.Step.{Allows, after}
-use Rattle.metis_universe.specs.Steadfast.{is_steadfast_after}
+use Rattle.metis_universe.specs.Steadfast.{is_steadfast_after, IsSteadfastRun}
 use Rattle.metis_universe.specs.Waits.{standing}
 use Rattle.metis_universe.proofs.Frames.{bindings-after_all}
 use Rattle.metis_universe.proofs.Places.{run_at, steadfast_at}
 use Rattle.metis_universe.proofs.Bindings.{unprovided}
 use Rattle.metis_layers.proofs.Going.{GoesOn, at, run_from_going, steadfast_from_going}
-use Rattle.metis_rollout.specs.Standing.{IsSteady}
 
 -- what the action needs after these earlier ones
 abbrev pub Goes : Universe → List Action → Action → Type 0
@@ -25,11 +24,11 @@ goes_from u earlier (a ∷ rest) all =
     let first = subst (λ e. Goes u e a) (append-nil earlier) (all 0 a refl) in
     (first.0, first.1, first.2, goes_from u (earlier ++ a ∷ []) rest (λ i b h. subst (λ e. Goes u e b) (sym (append_assoc earlier (a ∷ []) (take i rest))) (all (suc i) b h)))
 
-pub going_from_steady : (u : Universe) (actions : List Action) → IsSteady u actions → GoesOn u [] actions
-going_from_steady u actions s = goes_from u [] actions (λ i a h. let ran = run_at u actions i a s.runs h in (ran.0, ran.1, steadfast_at u actions i a s.steadfast h))
+pub going_from_steady : (u : Universe) (actions : List Action) → IsSteadfastRun u actions → GoesOn u [] actions
+going_from_steady u actions s = goes_from u [] actions (λ i a h. let ran = run_at u actions i a s.run h in (ran.0, ran.1, steadfast_at u actions i a s.steadfast h))
 
-pub steady_from_going : (u : Universe) (actions : List Action) → GoesOn u [] actions → IsSteady u actions
-steady_from_going u actions go = record { runs = run_from_going u [] actions go; steadfast = steadfast_from_going u actions go }
+pub steady_from_going : (u : Universe) (actions : List Action) → GoesOn u [] actions → IsSteadfastRun u actions
+steady_from_going u actions go = record { run = run_from_going u [] actions go; steadfast = steadfast_from_going u actions go }
 
 -- ---- no binding to an instance
 

@@ -14,7 +14,7 @@ use Rattle.metis_universe.specs.Layers.{layer_of}
 use Rattle.metis_universe.specs.Step.{after_all}
 use Rattle.metis_universe.proofs.Sorted.{lookup_counted}
 use Rattle.metis_rollout.specs.Rollout.{cleared_by, pairs_in}
-use Rattle.metis_rollout.specs.Standing.{IsSteady}
+use Rattle.metis_universe.specs.Steadfast.{IsSteadfastRun}
 use Rattle.metis_rollout.proofs.Going.{going_from_steady}
 use Rattle.metis_rollout.proofs.Removal.{cleared_leaves, left, left_good}
 use Rattle.metis_rollout.proofs.Whole.{layer}
@@ -37,7 +37,7 @@ each_pair Q es sorted all i d low =
     let at = lookup_counted p es sorted (counted es i d low) in
     all at.0 p at.1
 
-pub left_layered : (u : Universe) (old : List Action) → IsUniverse u → IsSteady u old → All (λ p. IsSome (layer_of u p)) (pairs_in (after_all u empty (old ++ cleared_by u old)))
+pub left_layered : (u : Universe) (old : List Action) → IsUniverse u → IsSteadfastRun u old → All (λ p. IsSome (layer_of u p)) (pairs_in (after_all u empty (old ++ cleared_by u old)))
 left_layered u old k s =
     subst (λ c. All (λ p. IsSome (layer_of u p)) (pairs_in c)) (sym (cleared_leaves u old (going_from_steady u old s)))
     (each_pair (λ p. IsSome (layer_of u p)) (left u old).instances (left_good u old (going_from_steady u old s)).0.ascending (λ z p there. subst IsSome (sym (layer u k old s z p there).is) refl))

@@ -10,13 +10,13 @@ use Rattle.metis_ids.proofs.Options.{none_or_some}
 use Rattle.metis_universe.specs.Universe.{Universe, has, is_empty, requires}
 use Rattle.metis_universe.specs.Config.{Binding, Config, Correct, IsConfig, empty, is_bound, is_tie, pair_of}
 use Rattle.metis_universe.specs.Step.{IsRun, after, after_all}
-use Rattle.metis_universe.specs.Steadfast.{is_new}
+use Rattle.metis_universe.specs.Steadfast.{is_new, IsSteadfastRun}
 use Rattle.metis_universe.proofs.Kept.{IsConfig-after, IsConfig-after_all, IsConfig-empty}
 use Rattle.metis_universe.proofs.Same.{same_config}
 use Rattle.metis_universe.proofs.Places.{Correct-empty}
 use Rattle.metis_layers.proofs.Going.{GoesOn, GoesOn-append, after_all-append, at, run_from_going}
 use Rattle.metis_rollout.specs.Rollout.{cycle_removal, idle_unbinds, unreferenced_deletes, members, removal, renumbered, rollout, scaffold_name}
-use Rattle.metis_rollout.specs.Standing.{IsCleared, IsSteady, IsUntied, is_made}
+use Rattle.metis_rollout.specs.Standing.{IsCleared, IsUntied, is_made}
 use Rattle.metis_rollout.proofs.Going.{going_from_steady, steady_from_going}
 use Rattle.metis_rollout.proofs.Quiet.{QuietFrom, QuietFrom-append, idle_bound, idle_pair, idle_quiet, is_required, keys-has, unreferenced_bound, unreferenced_ends, unreferenced_pair, unreferenced_quiet, quiet_goes, quiet_makes_none}
 use Rattle.metis_rollout.proofs.Together.{beside, fresh_goes, fresh_unused}
@@ -49,7 +49,7 @@ none_made u xs go z off = by_value (pair_of (at u xs) z) (λ h. pair_touched (At
 
 -- The second list between two parts of the first, which leaves nothing.
 pub alone : (u : Universe) (xs ys rest : List Action) → GoesOn u [] (xs ++ rest) → GoesOn u [] ys → ((z : ℕ) → is_made ys z ≡ true → is_made (xs ++ rest) z ≡ false) → ((z : ℕ) → pair_of (at u (xs ++ rest)) z ≡ None)
-    → IsSteady u (xs ++ (ys ++ rest)) × (at u (xs ++ (ys ++ rest)) ≡ at u ys)
+    → IsSteadfastRun u (xs ++ (ys ++ rest)) × (at u (xs ++ (ys ++ rest)) ≡ at u ys)
 alone u xs ys rest one two apart gone =
     let mine = xs ++ rest in
     let whole = xs ++ (ys ++ rest) in
@@ -127,7 +127,7 @@ module _ (u : Universe) (old : List Action) where
       nothing true = refl
       nothing false = refl
 
-    pub idle_steady : IsSteady u (old ++ idle_unbinds u stood)
+    pub idle_steady : IsSteadfastRun u (old ++ idle_unbinds u stood)
     idle_steady = steady_from_going u _ (GoesOn-append u [] old (idle_unbinds u stood) go (quiet_goes u old (idle_unbinds u stood) idle_goes))
 
     required_and : (c : Config) (r z : ℕ) → is_required u c r z ≡ true → IsSomeAnd (pair_of c z) (λ p. IsTrue (requires u p r))
@@ -152,12 +152,12 @@ module _ (u : Universe) (old : List Action) where
         | inr later ↦ let rest = pointer bs z later in (rest.0, rest.1, or_right (is_tie rest.0 rest.1 z b) (list_any (is_tie rest.0 rest.1 z) bs) rest.2)
       ]
 
-pub unties : (u : Universe) (old : List Action) → IsSteady u old → IsSteady u (old ++ idle_unbinds u (after_all u empty old)) × IsUntied u (after_all u empty old) (after_all u empty (old ++ idle_unbinds u (after_all u empty old)))
+pub unties : (u : Universe) (old : List Action) → IsSteadfastRun u old → IsSteadfastRun u (old ++ idle_unbinds u (after_all u empty old)) × IsUntied u (after_all u empty old) (after_all u empty (old ++ idle_unbinds u (after_all u empty old)))
 unties u old s =
     let c = after_all u empty old in
     (idle_steady u old (going_from_steady u old s), subst (IsUntied u c) (sym (after_all-append u empty old (idle_unbinds u c))) (record { pairs = idle_pair u c; bindings = idle_bound u c }))
 
-pub clears : (u : Universe) (old : List Action) → IsSteady u old → IsSteady u (old ++ cleared u old) × IsCleared u (after_all u empty old) (after_all u empty (old ++ cleared u old))
+pub clears : (u : Universe) (old : List Action) → IsSteadfastRun u old → IsSteadfastRun u (old ++ cleared u old) × IsCleared u (after_all u empty old) (after_all u empty (old ++ cleared u old))
 clears u old s =
     let go = going_from_steady u old s in
     (steady_from_going u _ (cleared_goes u old go), subst (IsCleared u (after_all u empty old)) (sym (cleared_leaves u old go)) (left_cleared u old go))
@@ -180,11 +180,11 @@ pub record Removes (u : Universe) (old rest new : List Action) : Type 0 where
   pub apart : (z : ℕ) → is_made new z ≡ true → is_made (old ++ rest) z ≡ false
   pub gone : (z : ℕ) → pair_of (at u (old ++ rest)) z ≡ None
 
-pub replaces : (u : Universe) (old fresh rest : List Action) → IsSteady u fresh → Removes u old rest (renumbered old fresh)
-    → IsSteady u (old ++ (renumbered old fresh ++ rest)) × (after_all u empty (old ++ (renumbered old fresh ++ rest)) ≡ after_all u empty (renumbered old fresh))
+pub replaces : (u : Universe) (old fresh rest : List Action) → IsSteadfastRun u fresh → Removes u old rest (renumbered old fresh)
+    → IsSteadfastRun u (old ++ (renumbered old fresh ++ rest)) × (after_all u empty (old ++ (renumbered old fresh ++ rest)) ≡ after_all u empty (renumbered old fresh))
 replaces u old fresh rest t r = alone u old (renumbered old fresh) rest r.goes (fresh_goes u old fresh (going_from_steady u fresh t)) r.apart r.gone
 
-pub cleared_removes : (u : Universe) (old fresh : List Action) → IsSteady u old → IsSteady u fresh → is_empty (members (left u old)) ≡ true → Removes u old (cleared u old) (renumbered old fresh)
+pub cleared_removes : (u : Universe) (old fresh : List Action) → IsSteadfastRun u old → IsSteadfastRun u fresh → is_empty (members (left u old)) ≡ true → Removes u old (cleared u old) (renumbered old fresh)
 cleared_removes u old fresh s t none =
     let go = going_from_steady u old s in
     let going = going_from_steady u fresh t in record {
@@ -198,10 +198,10 @@ pub short : (u : Universe) (old fresh : List Action) → is_empty (members (left
 short u old fresh none = ap (λ b. idle_unbinds u (stood u old) ++ (unreferenced_deletes (untied u old) ++ cond b [] (cycle_removal u (scaffold_name old fresh) (left u old)))) none
     ∙ ap (λ l. idle_unbinds u (stood u old) ++ l) (append-nil (unreferenced_deletes (untied u old)))
 
-pub short_rollout : (u : Universe) (old fresh : List Action) → IsSteady u old → IsSteady u fresh → is_empty (members (after_all u empty (old ++ cleared u old))) ≡ true
-    → IsSteady u (rollout u old fresh) × (after_all u empty (rollout u old fresh) ≡ after_all u empty (renumbered old fresh))
+pub short_rollout : (u : Universe) (old fresh : List Action) → IsSteadfastRun u old → IsSteadfastRun u fresh → is_empty (members (after_all u empty (old ++ cleared u old))) ≡ true
+    → IsSteadfastRun u (rollout u old fresh) × (after_all u empty (rollout u old fresh) ≡ after_all u empty (renumbered old fresh))
 short_rollout u old fresh s t none =
     let nothing : is_empty (members (left u old)) ≡ true = subst (λ c. is_empty (members c) ≡ true) (cleared_leaves u old (going_from_steady u old s)) none in
     let both = replaces u old fresh (cleared u old) t (cleared_removes u old fresh s t nothing) in
     let e : rollout u old fresh ≡ old ++ (renumbered old fresh ++ cleared u old) = ap (λ l. old ++ (renumbered old fresh ++ l)) (short u old fresh nothing) in
-    (subst (IsSteady u) (sym e) both.0, ap (after_all u empty) e ∙ both.1)
+    (subst (IsSteadfastRun u) (sym e) both.0, ap (after_all u empty) e ∙ both.1)

@@ -12,7 +12,8 @@ use Rattle.metis_universe.specs.Step.{after_all}
 use Rattle.metis_universe.proofs.Kept.{IsConfig-empty}
 use Rattle.metis_layers.proofs.Going.{GoesOn, at}
 use Rattle.metis_rollout.specs.Rollout.{fresh_name, news_of, renumbered}
-use Rattle.metis_rollout.specs.Standing.{AreTogether, IsRenamed, IsSteady, is_made}
+use Rattle.metis_rollout.specs.Standing.{AreTogether, IsRenamed, is_made}
+use Rattle.metis_universe.specs.Steadfast.{IsSteadfastRun}
 use Rattle.metis_rollout.proofs.FreeNumbers.{free_number-apart, free_number-free, same_place}
 use Rattle.metis_rollout.proofs.Going.{going_from_steady, steady_from_going}
 use Rattle.metis_rollout.proofs.Renaming.{bound_ren, pair_ren, ren_goes, touches_ren}
@@ -108,8 +109,8 @@ module _ (u : Universe) (old fresh : List Action) where
     only = λ x h. pair_touched _ u x (renumbered old fresh) (fresh_images go) h;
   }
 
-pub together : (u : Universe) (old fresh : List Action) → IsSteady u old → IsSteady u fresh
-    → IsSteady u (old ++ renumbered old fresh) × AreTogether u old (renumbered old fresh) (after_all u empty (old ++ renumbered old fresh)) × IsRenamed (fresh_name old fresh) fresh (after_all u empty fresh) (after_all u empty (renumbered old fresh))
+pub together : (u : Universe) (old fresh : List Action) → IsSteadfastRun u old → IsSteadfastRun u fresh
+    → IsSteadfastRun u (old ++ renumbered old fresh) × AreTogether u old (renumbered old fresh) (after_all u empty (old ++ renumbered old fresh)) × IsRenamed (fresh_name old fresh) fresh (after_all u empty fresh) (after_all u empty (renumbered old fresh))
 together u old fresh s t =
     let new = renumbered old fresh in
     let go = going_from_steady u old s in

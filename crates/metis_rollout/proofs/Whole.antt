@@ -11,7 +11,7 @@ use Rattle.metis_universe.specs.Config.{Config, empty, is_bound, pair_of}
 use Rattle.metis_universe.specs.Goal.{Holds, holding}
 use Rattle.metis_universe.specs.Layers.{layer_set}
 use Rattle.metis_universe.specs.Step.{after_all}
-use Rattle.metis_universe.specs.Steadfast.{is_new}
+use Rattle.metis_universe.specs.Steadfast.{is_new, IsSteadfastRun}
 use Rattle.metis_universe.proofs.Attained.{Closed-layers}
 use Rattle.metis_universe.proofs.Inside.{IsInside-after_all, IsInside-empty}
 use Rattle.metis_universe.proofs.Kept.{IsConfig-empty}
@@ -20,7 +20,7 @@ use Rattle.metis_layers.proofs.LayerFacts.{HasLayer, layer_by}
 use Rattle.metis_layers.proofs.Slots.{Stand}
 use Rattle.metis_layers.specs.LayerOrder.{place_of}
 use Rattle.metis_rollout.specs.Rollout.{cycle_removal, cleared_by, fresh_name, idle_unbinds, unreferenced_deletes, members, news_of, pairs_in, removal, renumber, renumbered, rollout, scaffold_ends, scaffold_holder, scaffold_list, scaffold_name}
-use Rattle.metis_rollout.specs.Standing.{AreTogether, IsSteady, is_made}
+use Rattle.metis_rollout.specs.Standing.{AreTogether, is_made}
 use Rattle.metis_rollout.proofs.Cycles.{Scene, taken_down, taken_down_goes, taken_down_gone}
 use Rattle.metis_rollout.proofs.FreeNumbers.{free_number-apart, free_number-free}
 use Rattle.metis_rollout.proofs.Going.{going_from_steady}
@@ -57,13 +57,13 @@ inside (x ∷ xs) zero low = refl
 inside (x ∷ xs) (suc k) low = inside xs k (omega arith)
 
 -- each pair that stands has a layer
-pub layer : (u : Universe) → IsUniverse u → (old : List Action) → IsSteady u old → (z p : ℕ) → pair_of (left u old) z ≡ Some p → HasLayer u p (pair_count u)
+pub layer : (u : Universe) → IsUniverse u → (old : List Action) → IsSteadfastRun u old → (z p : ℕ) → pair_of (left u old) z ≡ Some p → HasLayer u p (pair_count u)
 layer u k old s z p there =
     let going = going_from_steady u old s in
     layer_by u p (pair_count u)
     (IsInside-after_all u (layer_set u (pair_count u)) empty (old ++ cleared u old) (Closed-layers u k) IsConfig-empty (IsInside-empty (layer_set u (pair_count u))) (run_from_going u [] (old ++ cleared u old) (cleared_goes u old going)) z p (ap (λ d. pair_of d z) (cleared_leaves u old going) ∙ there))
 
-module _ (u : Universe) (k : IsUniverse u) (old fresh : List Action) (s : IsSteady u old) (t : IsSteady u fresh) where
+module _ (u : Universe) (k : IsUniverse u) (old fresh : List Action) (s : IsSteadfastRun u old) (t : IsSteadfastRun u fresh) where
   going : GoesOn u [] old
   going = going_from_steady u old s
 
@@ -223,32 +223,32 @@ module _ (u : Universe) (k : IsUniverse u) (old fresh : List Action) (s : IsStea
       ∙ ap (λ b. b || false) (false_from_ne_true (is_made scaffold z) (λ is. let by = used_touched Image z scaffold images is in names_other of.0 by.0 of.1 (of.2 ∙ sym by.2)))
 
   -- with a scaffold
-  long : is_empty (members what) ≡ false → IsSteady u (rollout u old fresh) × (after_all u empty (rollout u old fresh) ≡ after_all u empty (renumbered old fresh))
+  long : is_empty (members what) ≡ false → IsSteadfastRun u (rollout u old fresh) × (after_all u empty (rollout u old fresh) ≡ after_all u empty (renumbered old fresh))
   long some =
       let shape : removal u f (stood u old) ≡ rest = ap (λ b. idle_unbinds u (stood u old) ++ (unreferenced_deletes (untied u old) ++ cond b [] (cycle_removal u f what))) some
       ∙ sym (append_assoc (idle_unbinds u (stood u old)) (unreferenced_deletes (untied u old)) (cycle_removal u f what)) in
       let e : rollout u old fresh ≡ old ++ (renumbered old fresh ++ rest) = ap (λ l. old ++ (renumbered old fresh ++ l)) shape in
       let done = replaces u old fresh rest t (record { goes = rest_goes; apart = rest_apart; gone = rest_gone }) in
-      (subst (IsSteady u) (sym e) done.0, ap (after_all u empty) e ∙ done.1)
+      (subst (IsSteadfastRun u) (sym e) done.0, ap (after_all u empty) e ∙ done.1)
 
-  pub whole : IsSteady u (rollout u old fresh) × (after_all u empty (rollout u old fresh) ≡ after_all u empty (renumbered old fresh))
-  whole = elim (is_empty (members what)) as (λ b. is_empty (members what) ≡ b → IsSteady u (rollout u old fresh) × (after_all u empty (rollout u old fresh) ≡ after_all u empty (renumbered old fresh))) [
+  pub whole : IsSteadfastRun u (rollout u old fresh) × (after_all u empty (rollout u old fresh) ≡ after_all u empty (renumbered old fresh))
+  whole = elim (is_empty (members what)) as (λ b. is_empty (members what) ≡ b → IsSteadfastRun u (rollout u old fresh) × (after_all u empty (rollout u old fresh) ≡ after_all u empty (renumbered old fresh))) [
     | true ↦ λ none. short_rollout u old fresh s t (subst (λ d. is_empty (members d) ≡ true) (sym leaves) none)
     | false ↦ λ some. long some
   ] refl
 
-pub replaced : (u : Universe) (old fresh : List Action) → IsUniverse u → IsSteady u old → IsSteady u fresh
-    → IsSteady u (rollout u old fresh) × (after_all u empty (rollout u old fresh) ≡ after_all u empty (renumbered old fresh)) × ((g : List ℕ) → Holds (after_all u empty fresh) g → Holds (after_all u empty (rollout u old fresh)) g)
+pub replaced : (u : Universe) (old fresh : List Action) → IsUniverse u → IsSteadfastRun u old → IsSteadfastRun u fresh
+    → IsSteadfastRun u (rollout u old fresh) × (after_all u empty (rollout u old fresh) ≡ after_all u empty (renumbered old fresh)) × ((g : List ℕ) → Holds (after_all u empty fresh) g → Holds (after_all u empty (rollout u old fresh)) g)
 replaced u old fresh k s t =
     let done = whole u k old fresh s t in
     (done.0, done.1, λ g h p. subst (λ d. count_by (λ q. nat_eq q p) g ≤ holding d p) (sym done.1) (omega (arith, h p, renumbered_holds u old fresh (going_from_steady u fresh t) p)))
 
-pub taken_apart : (u : Universe) (old : List Action) → IsUniverse u → IsSteady u old → IsSteady u (rollout u old []) × (after_all u empty (rollout u old []) ≡ empty)
-taken_apart u old k s = whole u k old [] s (record { runs = tt; steadfast = refl })
+pub taken_apart : (u : Universe) (old : List Action) → IsUniverse u → IsSteadfastRun u old → IsSteadfastRun u (rollout u old []) × (after_all u empty (rollout u old []) ≡ empty)
+taken_apart u old k s = whole u k old [] s (record { run = tt; steadfast = refl })
 
 -- no scaffold is made where the two first steps leave nothing
-pub without_scaffold : (u : Universe) (old fresh : List Action) → IsSteady u old → IsSteady u fresh → is_empty (members (after_all u empty (old ++ cleared_by u old))) ≡ true
-    → (rollout u old fresh ≡ old ++ (renumbered old fresh ++ cleared_by u old)) × IsSteady u (rollout u old fresh) × (after_all u empty (rollout u old fresh) ≡ after_all u empty (renumbered old fresh))
+pub without_scaffold : (u : Universe) (old fresh : List Action) → IsSteadfastRun u old → IsSteadfastRun u fresh → is_empty (members (after_all u empty (old ++ cleared_by u old))) ≡ true
+    → (rollout u old fresh ≡ old ++ (renumbered old fresh ++ cleared_by u old)) × IsSteadfastRun u (rollout u old fresh) × (after_all u empty (rollout u old fresh) ≡ after_all u empty (renumbered old fresh))
 without_scaffold u old fresh s t none =
     let nothing : is_empty (members (left u old)) ≡ true = subst (λ d. is_empty (members d) ≡ true) (cleared_leaves u old (going_from_steady u old s)) none in
     let done = short_rollout u old fresh s t none in

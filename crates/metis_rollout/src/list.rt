@@ -8,7 +8,8 @@ ghost use Rattle.metis_universe.specs.Step.{after_all};
 ghost use Rattle.metis_universe.specs.Universe.{is_empty};
 ghost use Rattle.metis_layers.specs.Layers.{IsLayers};
 ghost use Rattle.metis_rollout.specs.Rollout.{cleared_by, members, renumbered, rollout};
-ghost use Rattle.metis_rollout.specs.Standing.{AreTogether, IsSteady};
+ghost use Rattle.metis_rollout.specs.Standing.{AreTogether};
+ghost use Rattle.metis_universe.specs.Steadfast.{IsSteadfastRun};
 
 use crate::clearing::{delete_unreferenced, unbind_idle};
 use crate::cyclic::remove_cycles;
@@ -29,8 +30,8 @@ pub fn rollout(
     fresh: &[Action],
 ) -> Result<Vec<Action>, NoMemory>
     requires layers { IsLayers u.now l.now }
-    requires old { IsSteady u.now old.now }
-    requires fresh { IsSteady u.now fresh.now }
+    requires old { IsSteadfastRun u.now old.now }
+    requires fresh { IsSteadfastRun u.now fresh.now }
     requires old_ours { All (IsOf u.now) old.now }
     requires fresh_ours { All (IsOf u.now) fresh.now }
     requires few { length old.now + length fresh.now < 2 ^ 29 }
@@ -40,7 +41,7 @@ pub fn rollout(
     ensures bare { IfOk result (λ list. IsTrue (is_empty (members (after_all u.now empty (old.now ++ cleared_by u.now old.now)))) → list.items ≡ old.now ++ (renumbered old.now fresh.now ++ cleared_by u.now old.now)) }
 
     // It is a steadfast run that ends as the fresh list does, and right after the fresh actions all stands together.
-    ensures steady { IfOk result (λ list. IsSteady u.now list.items) }
+    ensures steady { IfOk result (λ list. IsSteadfastRun u.now list.items) }
     ensures end { IfOk result (λ list. after_all u.now empty list.items ≡ after_all u.now empty (renumbered old.now fresh.now)) }
     ensures holds { IfOk result (λ list. (g : List ℕ) → Holds (after_all u.now empty fresh.now) g → Holds (after_all u.now empty list.items) g) }
     ensures together { IfOk result (λ _. AreTogether u.now old.now (renumbered old.now fresh.now) (after_all u.now empty (old.now ++ renumbered old.now fresh.now))) }

@@ -27,9 +27,9 @@ pub record OrderLaws : Type 0 where
 module _ (laws : OrderLaws) (u : Universe) (goals : List Goal) where
   in_any_order : (actions : List Action) (pairs : List ℕ) → ArePairsFor u goals pairs → IsPlan u pairs actions → InAnyOrder u goals actions
   in_any_order actions pairs resolved p = record {
-    runs = λ ks kept. laws.runs u actions ks p.runs p.steadfast kept;
+    runs = λ ks kept. laws.runs u actions ks p.run.run p.run.steadfast kept;
     last = after_all u empty actions;
-    ends_alike = λ ks kept complete. laws.alike u actions ks p.runs p.steadfast kept complete;
+    ends_alike = λ ks kept complete. laws.alike u actions ks p.run.run p.run.steadfast kept complete;
     holds = pairs_hold u (after_all u empty actions) goals pairs resolved p.holds;
     own_kept = laws.kept actions;
     own_complete = laws.complete actions;

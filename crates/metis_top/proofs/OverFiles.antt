@@ -98,7 +98,7 @@ plans_have P each words file old new status t = λ name targets u g is fits mean
       by u goals done (inr (is, refuses)) = absurd (done_no (sym done ∙ is))
 
 tidy_in_any_order : OrderLaws → (u : Universe) (g : List ℕ) (lines : List (List ℕ)) (p : PlansPairs u g lines) → EndsTidy u g p.plan
-tidy_in_any_order laws u g lines p ks kept complete = subst (IsTidy u g) (sym (laws.alike u p.plan.actions ks p.is.runs p.is.steadfast kept complete)) p.tidy
+tidy_in_any_order laws u g lines p ks kept complete = subst (IsTidy u g) (sym (laws.alike u p.plan.actions ks p.is.run.run p.is.run.steadfast kept complete)) p.tidy
 
 pub the_plan : OrderLaws → (u : Universe) (g : List ℕ) (lines : List (List ℕ)) (p : PlansPairs u g lines) → IsThePlan u g p.plan
 the_plan laws u g lines p = record { rounds = p.rounds; doubled = p.needed; tidy = tidy_in_any_order laws u g lines p }

@@ -77,10 +77,10 @@ answer_by_plan u g p planned =
     let few = k.short in
     let bounded = k.bounded in
     let few_dups = k.dups in
-    let is : IsPlan u g p.actions = record { runs = k.run; holds = k.holds; steadfast = k.steadfast; attained = k.lean.attained; all = k.lean.all; few = subst (λ n. n ≤ length k.lean.attained * greatest_demand u + length g) counted lean } in
-    let formed : IsWellFormed u p (others p.actions) = run_formed u p planned.table k.run k.numbers k.doubled k.cycles (record { actions = k.named; events = λ i d low j e short. event_in_range (get_or (get_or p.dups i d).cycle j e) (k.events i d low j e short) }) counted (omega arith) (omega arith) in
+    let is : IsPlan u g p.actions = record { run = k.run; holds = k.holds; attained = k.lean.attained; all = k.lean.all; few = subst (λ n. n ≤ length k.lean.attained * greatest_demand u + length g) counted lean } in
+    let formed : IsWellFormed u p (others p.actions) = run_formed u p planned.table k.run.run k.numbers k.doubled k.cycles (record { actions = k.named; events = λ i d low j e short. event_in_range (get_or (get_or p.dups i d).cycle j e) (k.events i d low j e short) }) counted (omega arith) (omega arith) in
     let needed : IsDoubledByNeed u g p = record { counted = sym counted ∙ k.rounds.instances; lines = k.lines; justified = k.justified; without_cycle = planned.without_cycle } in
-    (refl, record { attains = (p.actions, k.run, k.holds); plan = p; is = is; rounds = k.rounds; needed = needed; tidy = k.tidy; counted = counted; formed = formed; told = refl })
+    (refl, record { attains = (p.actions, k.run.run, k.holds); plan = p; is = is; rounds = k.rounds; needed = needed; tidy = k.tidy; counted = counted; formed = formed; told = refl })
 
 -- what answers the pairs for goals answers the goals
 pub answer_for_goals : (u : Universe) (goals : List Goal) (pairs : List ℕ) → ArePairsFor u goals pairs → (Attains u pairs → AttainsGoals u goals)

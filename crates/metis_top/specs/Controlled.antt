@@ -4,9 +4,7 @@
 use Rattle.std.specs.Prelude.{◌≡◌, ◌⊎◌, ℕ, List, IsTrue}
 use Rattle.metis_control.specs.Script.{script_answers}
 use Rattle.metis_ids.specs.declared.actions.Action.{Action}
-use Rattle.metis_universe.specs.Config.{empty}
-use Rattle.metis_universe.specs.Steadfast.{is_steadfast}
-use Rattle.metis_universe.specs.Step.{IsRun}
+use Rattle.metis_universe.specs.Steadfast.{IsSteadfastRun}
 use Rattle.metis_universe.specs.Universe.{Universe}
 use Rattle.metis_top.specs.Crewed.{HasBadAction, HasLooseAction}
 use Rattle.metis_top.specs.Simulated.{script_lines}
@@ -14,8 +12,7 @@ use Rattle.metis_top.specs.declared.status.Status.{Status}
 use Rattle.metis_top.specs.declared.status.Status.TheVariants.{Done}
 
 pub record AnswersScript (u : Universe) (actions : List Action) (script : List ℕ) (lines : List (List ℕ)) (status : Status) : Type 0 where
-  pub runs : IsRun u empty actions
-  pub steadfast : IsTrue (is_steadfast u actions)
+  pub run : IsSteadfastRun u actions
   pub told : lines ≡ script_answers actions (script_lines script)
   pub is : status ≡ Done
 

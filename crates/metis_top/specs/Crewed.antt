@@ -12,7 +12,7 @@ use Rattle.metis_actions.specs.declared.faults.AFault.{AFault}
 use Rattle.metis_ids.specs.declared.actions.Action.{Action}
 use Rattle.metis_replay.specs.Exact.{IsFirstBad}
 use Rattle.metis_universe.specs.Config.{empty}
-use Rattle.metis_universe.specs.Steadfast.{is_steadfast}
+use Rattle.metis_universe.specs.Steadfast.{IsSteadfastRun}
 use Rattle.metis_universe.specs.Step.{IsRun}
 use Rattle.metis_universe.specs.Universe.{Universe}
 use Rattle.metis_waits.specs.Waits.{IsFirstLoose}
@@ -57,8 +57,7 @@ pub record HasLooseAction (u : Universe) (actions : List Action) (lines : List (
   pub is : status ≡ No
 
 pub record TakesTurns (u : Universe) (actions : List Action) (zs : List ℕ) (lines : List (List ℕ)) (status : Status) : Type 0 where
-  pub runs : IsRun u empty actions
-  pub steadfast : IsTrue (is_steadfast u actions)
+  pub run : IsSteadfastRun u actions
   pub told : lines ≡ crew_lines actions zs
   pub is : status ≡ Done
 

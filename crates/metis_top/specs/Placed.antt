@@ -13,9 +13,7 @@ use Rattle.metis_ids.specs.declared.actions.Action.{Action}
 use Rattle.metis_ids.specs.declared.actions.Action.TheVariants.{New}
 use Rattle.metis_place.specs.Placement.{HostLists, IsNoRoom, IsPlacing, PlacingLists, name_of}
 use Rattle.metis_text.specs.Line.{added}
-use Rattle.metis_universe.specs.Config.{empty}
-use Rattle.metis_universe.specs.Steadfast.{is_steadfast}
-use Rattle.metis_universe.specs.Step.{IsRun}
+use Rattle.metis_universe.specs.Steadfast.{IsSteadfastRun}
 use Rattle.metis_universe.specs.Universe.{Universe}
 use Rattle.metis_top.specs.Crewed.{HasBadAction, HasLooseAction}
 use Rattle.metis_top.specs.declared.status.Status.{Status}
@@ -55,16 +53,14 @@ abbrev pub no_room_line : ℕ → ℕ → ℕ → List ℕ
 no_room_line k size free = codes "noroom " ++ (decimal k ++ (codes " size " ++ (decimal size ++ (codes " free " ++ (decimal free ++ codes "\n")))))
 
 pub record IsOnHosts (u : Universe) (actions : List Action) (h : HostLists) (lines : List (List ℕ)) (status : Status) : Type 0 where
-  pub runs : IsRun u empty actions
-  pub steadfast : IsTrue (is_steadfast u actions)
+  pub run : IsSteadfastRun u actions
   pub placing : PlacingLists
   pub are : IsPlacing h actions placing
   pub told : lines ≡ placing_lines h actions placing
   pub is : status ≡ Done
 
 pub record HasNoRoom (u : Universe) (actions : List Action) (h : HostLists) (lines : List (List ℕ)) (status : Status) : Type 0 where
-  pub runs : IsRun u empty actions
-  pub steadfast : IsTrue (is_steadfast u actions)
+  pub run : IsSteadfastRun u actions
   pub number : ℕ
   pub size : ℕ
   pub free : ℕ

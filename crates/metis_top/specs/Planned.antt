@@ -11,9 +11,9 @@ use Rattle.metis_ids.specs.declared.actions.Action.{Action}
 use Rattle.metis_ids.specs.Plans.{Plan}
 use Rattle.metis_universe.specs.Universe.{Universe, greatest_demand}
 use Rattle.metis_universe.specs.Config.{empty}
-use Rattle.metis_universe.specs.Step.{IsRun, after_all}
+use Rattle.metis_universe.specs.Step.{after_all}
 use Rattle.metis_universe.specs.Goal.{Holds, Attains, IsAttainedSet}
-use Rattle.metis_universe.specs.Steadfast.{is_steadfast}
+use Rattle.metis_universe.specs.Steadfast.{IsSteadfastRun}
 use Rattle.metis_universe.specs.Tidy.{IsTidy}
 use Rattle.metis_universe.specs.Goals.{AttainsGoals, GoalRefusal}
 use Rattle.metis_ids.specs.declared.goals.Goal.{Goal}
@@ -33,9 +33,8 @@ use Rattle.metis_top.specs.declared.status.Status.TheVariants.{Done, No}
 
 -- It makes no more instances than there are attainable pairs, times the greatest demand, and targets.
 pub record IsPlan (u : Universe) (g : List ℕ) (actions : List Action) : Type 0 where
-  pub runs : IsRun u empty actions
+  pub run : IsSteadfastRun u actions
   pub holds : Holds (after_all u empty actions) g
-  pub steadfast : IsTrue (is_steadfast u actions)
   pub attained : List ℕ
   pub all : IsAttainedSet u attained
   pub few : count_by makes actions ≤ length attained * greatest_demand u + length g

@@ -14,7 +14,7 @@ use Rattle.metis_ids.specs.declared.actions.Action.{Action}
 use Rattle.metis_ids.specs.declared.goals.Goal.{Goal}
 use Rattle.metis_planner.specs.Rounds.{IsByRounds}
 use Rattle.metis_rollout.specs.Rollout.{rollout}
-use Rattle.metis_rollout.specs.Standing.{IsSteady}
+use Rattle.metis_universe.specs.Steadfast.{IsSteadfastRun}
 use Rattle.metis_universe.specs.Config.{empty}
 use Rattle.metis_universe.specs.Goal.{Attains, Holds}
 use Rattle.metis_universe.specs.Goals.{AttainsGoals}
@@ -39,7 +39,7 @@ pub record RollsOutPairs (u : Universe) (old : List Action) (g : List ℕ) (line
   pub attains : Attains u g
   pub fresh : Plan
   pub rounds : IsByRounds u g fresh
-  pub steady : IsSteady u (rollout u old fresh.actions)
+  pub steady : IsSteadfastRun u (rollout u old fresh.actions)
   pub holds : Holds (after_all u empty (rollout u old fresh.actions)) g
   pub told : lines ≡ rollout_text u old fresh.actions
 
@@ -56,7 +56,7 @@ abbrev pub RolloutAnswer : Universe → List Goal → List Action → List (List
 RolloutAnswer u goals old lines status = ((status ≡ Done) × RollsOut u goals old lines) ⊎ ((status ≡ No) × Refuses u goals lines)
 
 pub record PutsRollout (u : Universe) (goals : List Goal) (old : List Action) (lines : List (List ℕ)) (status : Status) : Type 0 where
-  pub steady : IsSteady u old
+  pub steady : IsSteadfastRun u old
   pub answer : RolloutAnswer u goals old lines status
 
 abbrev pub RolledOut : Universe → List Goal → List Action → List (List ℕ) → Status → Type 0

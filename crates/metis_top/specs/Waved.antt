@@ -8,9 +8,7 @@ use Rattle.std.specs.Prelude.{◌≡◌, ◌⊎◌, ℕ, List, [], ◌∷◌, �
 use Rattle.std.specs.List.{zip}
 use Rattle.metis_ids.specs.declared.actions.Action.{Action}
 use Rattle.metis_text.specs.Line.{added, numbered}
-use Rattle.metis_universe.specs.Config.{empty}
-use Rattle.metis_universe.specs.Steadfast.{is_steadfast}
-use Rattle.metis_universe.specs.Step.{IsRun}
+use Rattle.metis_universe.specs.Steadfast.{IsSteadfastRun}
 use Rattle.metis_universe.specs.Universe.{Universe}
 use Rattle.metis_waves.specs.Waves.{AreWaves, WaveLists}
 use Rattle.metis_waves.specs.declared.durations.Durations.{Durations}
@@ -40,8 +38,7 @@ abbrev pub durations_of : List ℕ → Durations
 durations_of ns = record { new_inst = slice_index_or ns 0 0; delete = slice_index_or ns 1 0; bind = slice_index_or ns 2 0; unbind = slice_index_or ns 3 0; move_to = slice_index_or ns 4 0 }
 
 pub record IsScheduled (u : Universe) (actions : List Action) (ns : List ℕ) (lines : List (List ℕ)) (status : Status) : Type 0 where
-  pub runs : IsRun u empty actions
-  pub steadfast : IsTrue (is_steadfast u actions)
+  pub run : IsSteadfastRun u actions
   pub schedules : WaveLists
   pub are : AreWaves actions (durations_of ns) schedules
   pub told : lines ≡ schedule_lines schedules

@@ -5,7 +5,7 @@ ghost use Rattle.metis_ids.specs.Action.{makes};
 ghost use Rattle.metis_layers.specs.Layers.{IsLayers};
 ghost use Rattle.metis_outside.specs.Faults.{CountsFault};
 ghost use Rattle.metis_outside.specs.Writes.{Writes};
-ghost use Rattle.metis_rollout.specs.Standing.{IsSteady};
+ghost use Rattle.metis_universe.specs.Steadfast.{IsSteadfastRun};
 ghost use Rattle.metis_universe.specs.Config.{empty};
 ghost use Rattle.metis_universe.specs.Goal.{Attains};
 ghost use Rattle.metis_universe.specs.GoalWords.{IsWordable};
@@ -133,7 +133,7 @@ fn put_goals<K: Sink>(
     requires wordable { All (IsWordable u.now) goals.now }
     requires numbers { All (IsOf u.now) old.now }
     requires short { length old.now < plan_limit }
-    requires steady { IsSteady u.now old.now }
+    requires steady { IsSteadfastRun u.now old.now }
     ensures { Shown (RolloutAnswer u.now goals.now old.now) (K.written out.old) (K.written out.new) (K.faults out.old) (K.faults out.new) result }
 {
     pairs_for_goals_hold_them();
@@ -159,7 +159,7 @@ fn put_rollout_to<K: Sink>(
     requires attained { Attains u.now pairs.now }
     requires numbers { All (IsOf u.now) old.now }
     requires short { length old.now < plan_limit }
-    requires steady { IsSteady u.now old.now }
+    requires steady { IsSteadfastRun u.now old.now }
     ensures { Shown (PutsRolloutTo u.now old.now pairs.now) (K.written out.old) (K.written out.new) (K.faults out.old) (K.faults out.new) result }
 {
     u.keeps_invariant();
@@ -184,8 +184,8 @@ fn write_rollout<K: Sink>(
     out: &mut K,
 ) -> Result<(), Trouble>
     requires layers { IsLayers u.now layers.now }
-    requires old { IsSteady u.now old.now }
-    requires fresh { IsSteady u.now fresh.now }
+    requires old { IsSteadfastRun u.now old.now }
+    requires fresh { IsSteadfastRun u.now fresh.now }
     requires old_ours { All (IsOf u.now) old.now }
     requires fresh_ours { All (IsOf u.now) fresh.now }
     requires few { length old.now + length fresh.now < 2 ^ 29 }
@@ -207,13 +207,13 @@ fn rollout_between(
     fresh: &[Action],
 ) -> Result<Plan, NoMemory>
     requires layers { IsLayers u.now layers.now }
-    requires old { IsSteady u.now old.now }
-    requires fresh { IsSteady u.now fresh.now }
+    requires old { IsSteadfastRun u.now old.now }
+    requires fresh { IsSteadfastRun u.now fresh.now }
     requires old_ours { All (IsOf u.now) old.now }
     requires fresh_ours { All (IsOf u.now) fresh.now }
     requires few { length old.now + length fresh.now < 2 ^ 29 }
     ensures plan { IfOk result (λ plan. plan ≡ rollout_plan u.now old.now fresh.now) }
-    ensures steady { IfOk result (λ plan. IsSteady u.now plan.actions) }
+    ensures steady { IfOk result (λ plan. IsSteadfastRun u.now plan.actions) }
     ensures ours { IfOk result (λ plan. All (IsOf u.now) plan.actions) }
     ensures short { IfOk result (λ plan. length plan.actions < 2 ^ 32 - 1) }
 {

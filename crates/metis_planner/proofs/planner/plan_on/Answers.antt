@@ -13,9 +13,8 @@ returns c =
     let by = c.in_ok-plan.ensures in
     let real = realizes u table g all plan by in
     record {
-      run = real.runs;
+      run = real.run;
       holds = holds u table g all plan by;
-      steadfast = real.steadfast;
       numbers = real.numbers;
       named = named u table g all plan by c.requires.few;
       tidy = tidy u table g all plan by;

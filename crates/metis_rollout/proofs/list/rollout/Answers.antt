@@ -11,7 +11,7 @@ use Rattle.metis_universe.specs.Step.{after_all}
 use Rattle.metis_universe.specs.Universe.{has, is_empty}
 use Rattle.metis_layers.specs.LayerOrder.{place_of}
 use Rattle.metis_rollout.specs.Rollout.{cycle_removal, free_number, idle_unbinds, members, named, news_of, pairs_in, renumber, rollout, unreferenced_deletes}
-use Rattle.metis_rollout.specs.Standing.{IsSteady}
+use Rattle.metis_universe.specs.Steadfast.{IsSteadfastRun}
 use Rattle.metis_rollout.proofs.Layered.{left_layered}
 use Rattle.metis_rollout.proofs.Listed.{left_is, listed, listed_long, none_left, some_left}
 use Rattle.metis_rollout.proofs.Over.{over_left}
@@ -84,7 +84,7 @@ pub returns-clause-bare : goal.returns-clause-bare
 returns-clause-bare c = λ none. is_list c ∙ (without_scaffold c.args.u.now c.args.old.now c.args.fresh.now c.requires.old c.requires.fresh none).0
 
 pub returns-clause-steady : goal.returns-clause-steady
-returns-clause-steady c = subst (IsSteady c.args.u.now) (sym (is_list c)) (replaced c.args.u.now c.args.old.now c.args.fresh.now c.keeps_invariant.ensures.universe c.requires.old c.requires.fresh).0
+returns-clause-steady c = subst (IsSteadfastRun c.args.u.now) (sym (is_list c)) (replaced c.args.u.now c.args.old.now c.args.fresh.now c.keeps_invariant.ensures.universe c.requires.old c.requires.fresh).0
 
 pub returns-clause-end : goal.returns-clause-end
 returns-clause-end c = ap (after_all c.args.u.now empty) (is_list c) ∙ (replaced c.args.u.now c.args.old.now c.args.fresh.now c.keeps_invariant.ensures.universe c.requires.old c.requires.fresh).1

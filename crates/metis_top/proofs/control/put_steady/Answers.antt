@@ -5,7 +5,7 @@ use Rattle.metis_top.proofs.control.put_steady.Goals as goal
 pub returns-in-Ok : goal.returns-in-Ok
 returns-in-Ok g c =
     rw c.said.ensures
-    (shown_by_writer _ _ _ _ _ _ _ c.write_script.result (inr (inr (record { runs = c.requires.runs; steadfast = c.in-Ok.ensures.steadfast; told = refl; is = refl }))) c.write_script.ensures.text c.write_script.ensures.cause)
+    (shown_by_writer _ _ _ _ _ _ _ c.write_script.result (inr (inr (record { run = record { run = c.requires.runs; steadfast = c.in-Ok.ensures.steadfast }; told = refl; is = refl }))) c.write_script.ensures.text c.write_script.ensures.cause)
 
 pub returns-in-Err-Loose : goal.returns-in-Err-Loose
 returns-in-Err-Loose g c =

@@ -5,7 +5,7 @@ use Rattle.metis_top.proofs.place.put_placing.Goals as goal
 pub returns-in-Ok : goal.returns-in-Ok
 returns-in-Ok g c =
     rw c.said.ensures
-    (shown_by_writer _ _ _ _ _ _ _ c.write_placing.result (inr (inr (inr (record { runs = c.requires.runs; steadfast = c.requires.steadfast; placing = c.in-Ok.placing; are = c.in-Ok.ensures.placing; told = refl; is = refl }))))
+    (shown_by_writer _ _ _ _ _ _ _ c.write_placing.result (inr (inr (inr (record { run = record { run = c.requires.runs; steadfast = c.requires.steadfast }; placing = c.in-Ok.placing; are = c.in-Ok.ensures.placing; told = refl; is = refl }))))
     c.write_placing.ensures.text c.write_placing.ensures.cause)
 
 pub returns-in-Err-NoRoom : goal.returns-in-Err-NoRoom
@@ -14,8 +14,7 @@ returns-in-Err-NoRoom g c =
     rw c.said-in-Err-NoRoom.ensures
     (shown_by_writer _ _ _ _ _ _ _ c.write_no_room.result
     (inr (inr (inl (record {
-      runs = c.requires.runs;
-      steadfast = c.requires.steadfast;
+      run = record { run = c.requires.runs; steadfast = c.requires.steadfast };
       number = c.in-Err-NoRoom.number;
       size = c.in-Err-NoRoom.size;
       free = c.in-Err-NoRoom.free;

@@ -1,6 +1,6 @@
 use Rattle.std.proofs.Common.{ap, refl}
 use Rattle.metis_ids.specs.Plans.{Plan}
-use Rattle.metis_rollout.specs.Standing.{IsSteady}
+use Rattle.metis_universe.specs.Steadfast.{IsSteadfastRun}
 use Rattle.metis_top.proofs.Shown.{shown_by_writer}
 use Rattle.metis_top.proofs.rollout.put_rollout_to.Goals as goal
 
@@ -11,7 +11,7 @@ returns-in-Ok g c =
     let fresh = c.in-Ok.fresh in
     let found = c.in-Ok.ensures in
     let actions = ap (λ (p : Plan). p.actions) c.fresh.view_is in
-    let steady : IsSteady u fresh.actions = record { runs = found.run; steadfast = found.steadfast } in
+    let steady : IsSteadfastRun u fresh.actions = found.run in
     let done = c.rollout_replaces.ensures u old fresh.actions c.keeps_invariant.ensures.universe c.requires.steady steady in
     rw c.said.ensures
     (shown_by_writer _ _ _ _ _ _ _ c.write_rollout.result

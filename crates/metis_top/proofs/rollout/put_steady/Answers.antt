@@ -1,5 +1,5 @@
 use Rattle.std.proofs.Common.{inl, inr, refl}
-use Rattle.metis_rollout.specs.Standing.{IsSteady}
+use Rattle.metis_universe.specs.Steadfast.{IsSteadfastRun}
 use Rattle.metis_top.proofs.Shown.{shown_by_writer, shown_weaker}
 use Rattle.metis_top.specs.Answer.{IsAnswer}
 use Rattle.metis_top.specs.Answer as answer
@@ -9,7 +9,7 @@ use Rattle.metis_top.proofs.rollout.put_steady.Goals as goal
 pub put_goals-requires-clause-steady : goal.put_goals-requires-clause-steady
 put_goals-requires-clause-steady g c =
     let found = rw c.in-Ok-None.field-0-is at c.in-Ok-None.ensures in
-    record { runs = c.requires.runs; steadfast = found.steadfast refl }
+    record { run = c.requires.runs; steadfast = found.steadfast refl }
 
 pub returns-in-Ok-None : goal.returns-in-Ok-None
 returns-in-Ok-None g c =
@@ -17,7 +17,7 @@ returns-in-Ok-None g c =
     let goals = c.args.goals.now in
     let old = c.args.old.now in
     let found = rw c.in-Ok-None.field-0-is at c.in-Ok-None.ensures in
-    let steady : IsSteady u old = record { runs = c.requires.runs; steadfast = found.steadfast refl } in
+    let steady : IsSteadfastRun u old = record { run = c.requires.runs; steadfast = found.steadfast refl } in
     shown_weaker (RolloutAnswer u goals old) (IsAnswer (answer.Rollout u goals old)) _ _ _ _ _ (λ lines status is. inr (inr (record { steady = steady; answer = is }))) c.put_goals.ensures
 
 pub returns-in-Ok-Some : goal.returns-in-Ok-Some

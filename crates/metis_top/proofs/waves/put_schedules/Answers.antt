@@ -20,8 +20,7 @@ returns-in-Ok-waves g c =
     rw c.said.ensures
     (shown_by_writer _ _ _ _ _ _ _ c.write_schedules.result
     (inr (inr (record {
-      runs = c.requires.runs;
-      steadfast = c.in-Ok.ensures.steadfast;
+      run = record { run = c.requires.runs; steadfast = c.in-Ok.ensures.steadfast };
       schedules = c.in-Ok-waves.schedules;
       are = subst (λ d. AreWaves actions d c.in-Ok-waves.schedules) c.durations_of.ensures are;
       told = refl;
