@@ -197,7 +197,7 @@ module _ (u : Universe) where
     pub pairs_attained : (goals : List Goal) (pairs : List ℕ) → AllZip IsChosen goals pairs → Attains u pairs
     pairs_attained goals pairs chosen =
         let d = deploys u pairs universe (λ p h. all_has (λ q. IsSome (layer_of u q)) pairs p (all_layered goals pairs chosen) h) in
-        (layer_order u pairs, d.runs, d.holds)
+        (layer_order u pairs, d.run.run, d.holds)
 
     pub chosen_attained : (goals : List Goal) (pairs : List ℕ) → AllZip IsChosen goals pairs → AttainsGoals u goals
     chosen_attained goals pairs chosen = pairs_attain goals pairs (pairs_chosen goals pairs chosen) (pairs_attained goals pairs chosen)

@@ -27,4 +27,4 @@ targets_attained n =
     let s = layer_set u (pair_count u) in
     let all = targets_in n s (Closed-layers u (tables_universe n)) in
     let d = deploys u g (tables_universe n) (λ p h. has_layer u p (pair_count u) (each_has (λ q. IsTrue (has s q)) g p all h)) in
-    (layer_order u g, d.runs, d.holds)
+    (layer_order u g, d.run.run, d.holds)
