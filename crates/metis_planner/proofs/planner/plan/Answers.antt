@@ -46,4 +46,4 @@ returns-in-Lacks-clause-lacking c =
 pub returns-in_ok-plan-in-Support-clause-attains : goal.returns-in_ok-plan-in-Support-clause-attains
 returns-in_ok-plan-in-Support-clause-attains c =
     let plan = c.in_ok-plan-in-Support.plan in
-    (λ same. (plan.actions, c.in_ok-plan-in-Support.ensures.run, c.in_ok-plan-in-Support.ensures.holds), λ attains. refl)
+    (λ same. (plan.actions, c.in_ok-plan-in-Support.ensures.run.run, c.in_ok-plan-in-Support.ensures.holds), λ attains. refl)
