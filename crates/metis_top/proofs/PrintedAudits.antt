@@ -55,7 +55,7 @@ for_pairs u g lines universe p = record {
       counted = record { forced = record { attained = all_layered u universe g p.attains; justified = p.needed.justified }; count = p.needed.counted };
       each = λ l low. p.needed.lines l;
     };
-    steadfast = p.is.steadfast;
+    steadfast = p.is.run.steadfast;
   };
   printed = after_its_waits p.plan.actions;
 }
