@@ -13,11 +13,11 @@ use Rattle.metis_ids.specs.Plans.{Plan}
 use Rattle.metis_ids.specs.declared.actions.Action.{Action}
 use Rattle.metis_ids.specs.declared.goals.Goal.{Goal}
 use Rattle.metis_planner.specs.Rounds.{IsByRounds}
-use Rattle.metis_rollout.specs.Rollout.{rollout}
+use Rattle.metis_rollout.specs.Rollout.{renumbered, rollout}
 use Rattle.metis_universe.specs.Steadfast.{IsSteadfastRun}
 use Rattle.metis_universe.specs.Config.{empty}
 use Rattle.metis_universe.specs.Goal.{Attains, Holds}
-use Rattle.metis_universe.specs.Goals.{AttainsGoals}
+use Rattle.metis_universe.specs.Goals.{AttainsGoals, HoldsGoals}
 use Rattle.metis_universe.specs.Step.{after_all}
 use Rattle.metis_universe.specs.Universe.{Universe}
 use Rattle.metis_top.specs.Crewed.{HasBadAction, HasLooseAction}
@@ -34,23 +34,26 @@ rollout_plan u old fresh = plan_of (rollout u old fresh)
 abbrev pub rollout_text : Universe → List Action → List Action → List (List ℕ)
 rollout_text u old fresh = plan_text u (rollout_plan u old fresh)
 
--- It is a steadfast run too, and ends with every one of the pairs.
+-- It is a steadfast run too, and ends in exactly what the fresh plan leaves, under its new numbers, and so with every one of the pairs.
 pub record RollsOutPairs (u : Universe) (old : List Action) (g : List ℕ) (lines : List (List ℕ)) : Type 0 where
   pub attains : Attains u g
   pub fresh : Plan
   pub rounds : IsByRounds u g fresh
   pub steady : IsSteadfastRun u (rollout u old fresh.actions)
+  pub ends : after_all u empty (rollout u old fresh.actions) ≡ after_all u empty (renumbered old fresh.actions)
   pub holds : Holds (after_all u empty (rollout u old fresh.actions)) g
   pub told : lines ≡ rollout_text u old fresh.actions
 
 abbrev pub PutsRolloutTo : Universe → List Action → List ℕ → List (List ℕ) → Status → Type 0
 PutsRolloutTo u old g lines status = (status ≡ Done) × RollsOutPairs u old g lines
 
+-- So it ends with every one of the goals.
 pub record RollsOut (u : Universe) (goals : List Goal) (old : List Action) (lines : List (List ℕ)) : Type 0 where
   pub attains : AttainsGoals u goals
   pub pairs : List ℕ
   pub resolved : ArePairsFor u goals pairs
   pub for_pairs : RollsOutPairs u old pairs lines
+  pub holds : HoldsGoals u (after_all u empty (rollout u old for_pairs.fresh.actions)) goals
 
 abbrev pub RolloutAnswer : Universe → List Goal → List Action → List (List ℕ) → Status → Type 0
 RolloutAnswer u goals old lines status = ((status ≡ Done) × RollsOut u goals old lines) ⊎ ((status ≡ No) × Refuses u goals lines)

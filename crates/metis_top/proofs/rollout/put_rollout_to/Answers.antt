@@ -15,5 +15,5 @@ returns-in-Ok g c =
     let done = c.rollout_replaces.ensures u old fresh.actions c.keeps_invariant.ensures.universe c.requires.steady steady in
     rw c.said.ensures
     (shown_by_writer _ _ _ _ _ _ _ c.write_rollout.result
-    (refl, record { attains = c.requires.attained; fresh = fresh; rounds = found.rounds; steady = done.0; holds = done.2 c.args.pairs.now found.holds; told = refl })
+    (refl, record { attains = c.requires.attained; fresh = fresh; rounds = found.rounds; steady = done.0; ends = done.1; holds = done.2 c.args.pairs.now found.holds; told = refl })
     (rw (← actions) (rw c.deref.ensures.value at c.write_rollout.ensures.text)) c.write_rollout.ensures.cause)
