@@ -5,22 +5,23 @@ use Rattle.metis_ids.specs.declared.goals.Goal.{Goal}
 use Rattle.metis_ids.specs.declared.actions.Action.{Action}
 use Rattle.metis_text.specs.Reading.{plan_in}
 use Rattle.metis_text.specs.RefusalReading.{refusal_in}
-use Rattle.metis_top.specs.declared.refusal.Refusal.{Refusal}
-use Rattle.metis_top.specs.declared.refusal.Refusal.TheVariants.{TooLong, Word}
-use Rattle.metis_top.specs.declared.status.Status.{Status}
+use Rattle.metis_gather.specs.declared.refusal.Refusal.{Refusal}
+use Rattle.metis_gather.specs.declared.refusal.Refusal.TheVariants.{TooLong, Word}
+use Rattle.metis_answer.specs.declared.status.Status.{Status}
 use Rattle.metis_words.specs.declared.words.Verb.{Verb}
 use Rattle.metis_words.specs.declared.words.Verb.TheVariants.{Plan, Replay, Refute, Audit, Sim, Crew, Waves, Control, Rollout, Place, Print, Load, Why, Confirm}
-use Rattle.metis_top.specs.Answer as answer
+use Rattle.metis_gather.specs.Answer as answer
 use Rattle.metis_why_text.specs.WhyReading.{why_in}
-use Rattle.metis_top.specs.Commands.{universe_then, waves_then, control_over, control_then, audit_then, plan_said, crew_over, crew_then, judged, or_plan_refused, or_refusal_refused, or_turns_refused, or_universe_refused, goals_named, plan_limit, refusal_limit, refute_then, replay_then, rollout_then, session_limit, sim_then, turns_limit, command_script, script_from, hosts_limit, or_hosts_refused, place_over, place_then, confirm_then, or_why_refused, why_limit}
+use Rattle.metis_gather.specs.Commands.{universe_then, waves_then, control_over, control_then, audit_then, plan_said, crew_over, crew_then, judged, or_plan_refused, or_refusal_refused, or_turns_refused, or_universe_refused, goals_named, plan_limit, refusal_limit, refute_then, replay_then, rollout_then, session_limit, sim_then, turns_limit, command_script, script_from, hosts_limit, or_hosts_refused, place_over, place_then, confirm_then, or_why_refused, why_limit}
 use Rattle.metis_place.specs.HostsText.{hosts_in}
-use Rattle.metis_top.specs.Course.{Ran, AreTaken, IsRead, OnShelf, after}
+use Rattle.metis_top.specs.Course.{Ran, OnShelf}
+use Rattle.metis_gather.specs.Gathers.{AreTaken, IsRead, after}
 use Rattle.metis_ujson.specs.Document.{document_limit, universe_in}
 use Rattle.metis_words.specs.Forms.{file_count}
 use Rattle.metis_top.specs.Openings.{OpensFiles, OpensSome}
-use Rattle.metis_top.specs.Script.{Script, Read, Refuse, Reply}
+use Rattle.metis_gather.specs.Script.{Script, Read, Refuse, Reply}
 use Rattle.metis_words.specs.TargetName.{TargetName}
-use Rattle.metis_top.specs.Turns.{turns_in}
+use Rattle.metis_gather.specs.Turns.{turns_in}
 use Rattle.metis_words.specs.Words.{Form, word_at}
 use Rattle.metis_universe.specs.Universe.{Universe}
 

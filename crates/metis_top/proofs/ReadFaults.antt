@@ -3,41 +3,44 @@ use Rattle.std.proofs.Common.{◌≡◌, ◌⊎◌, ℕ, suc, ◌+◌, List, [],
 use Rattle.std.specs.declared.option.Option.{Option as Known}
 use Rattle.metis_ids.specs.declared.goals.Goal.{Goal}
 use Rattle.metis_outside.specs.Writes.{Appends}
-use Rattle.metis_top.specs.declared.refusal.Refusal.{Refusal}
-use Rattle.metis_top.specs.declared.refusal.Refusal.TheVariants.{Word, TooLong}
-use Rattle.metis_top.specs.declared.refusal.Refusal.TheVariants as refusal
-use Rattle.metis_top.specs.declared.status.Status.{Status}
-use Rattle.metis_top.specs.declared.status.Status.TheVariants.{Done, No, ReadFault}
+use Rattle.metis_gather.specs.declared.refusal.Refusal.{Refusal}
+use Rattle.metis_gather.specs.declared.refusal.Refusal.TheVariants.{Word, TooLong}
+use Rattle.metis_gather.specs.declared.refusal.Refusal.TheVariants as refusal
+use Rattle.metis_answer.specs.declared.status.Status.{Status}
+use Rattle.metis_answer.specs.declared.status.Status.TheVariants.{Done, No, ReadFault}
 use Rattle.metis_words.specs.declared.words.Verb.{Verb}
 use Rattle.metis_words.specs.declared.words.Verb.TheVariants.{Plan, Replay, Refute, Audit, Sim, Crew, Waves, Control, Rollout, Place, Print, Load, Why, Confirm}
-use Rattle.metis_top.specs.Answer as answer
+use Rattle.metis_gather.specs.Answer as answer
 use Rattle.metis_why_text.specs.WhyReading.{why_in}
-use Rattle.metis_top.specs.Answer.{Answer, IsAnswer}
+use Rattle.metis_gather.specs.Answer.{Answer}
+use Rattle.metis_answer.specs.Answers.{IsAnswer}
 use Rattle.metis_replay.specs.declared.verdict.Verdict.{Verdict}
 use Rattle.metis_replay.specs.declared.verdict.Verdict.TheVariants.{Good, Bad, Missing}
 use Rattle.metis_ids.specs.declared.actions.Action.{Action}
 use Rattle.metis_place.specs.HostsText.{hosts_in}
 use Rattle.metis_text.specs.Reading.{plan_in}
 use Rattle.metis_text.specs.RefusalReading.{refusal_in}
-use Rattle.metis_top.specs.Commands.{universe_then, waves_then, control_over, control_then, audit_then, plan_said, crew_over, crew_then, judged, or_plan_refused, or_refusal_refused, or_turns_refused, or_universe_refused, goals_named, plan_limit, refusal_limit, refute_then, replay_then, rollout_then, session_limit, sim_then, turns_limit, command_script, script_from, hosts_limit, or_hosts_refused, place_over, place_then, confirm_then, or_why_refused, why_limit}
+use Rattle.metis_gather.specs.Commands.{universe_then, waves_then, control_over, control_then, audit_then, plan_said, crew_over, crew_then, judged, or_plan_refused, or_refusal_refused, or_turns_refused, or_universe_refused, goals_named, plan_limit, refusal_limit, refute_then, replay_then, rollout_then, session_limit, sim_then, turns_limit, command_script, script_from, hosts_limit, or_hosts_refused, place_over, place_then, confirm_then, or_why_refused, why_limit}
 use Rattle.metis_refusal.specs.declared.verdict.Verdict2.{Verdict2}
 use Rattle.metis_refusal.specs.declared.verdict.Verdict2.TheVariants.{Closed, NotFree, Open, LacksNone}
 use Rattle.metis_audit.specs.declared.answers.Answer.{Answer as AuditAnswer}
 use Rattle.metis_audit.specs.declared.answers.Answer.TheVariants as audit
-use Rattle.metis_top.specs.Audited.{audit_status}
-use Rattle.metis_top.specs.Judged.{judgement_status}
-use Rattle.metis_top.specs.Confirmed.{confirmation_status}
+use Rattle.metis_answer.specs.Audited.{audit_status}
+use Rattle.metis_answer.specs.Judged.{judgement_status}
+use Rattle.metis_answer.specs.Confirmed.{confirmation_status}
 use Rattle.metis_why.specs.Confirm.{verdict}
 use Rattle.metis_why.specs.declared.confirming.Confirmation.{Confirmation}
 use Rattle.metis_why.specs.declared.confirming.Confirmation.TheVariants as confirmation
-use Rattle.metis_top.specs.Replayed.{verdict_status}
-use Rattle.metis_top.specs.Course.{Ran, Shown, Says, OnShelf, after}
+use Rattle.metis_answer.specs.Replayed.{verdict_status}
+use Rattle.metis_top.specs.Course.{Ran, Says, OnShelf}
+use Rattle.metis_answer.specs.Shown.{Shown}
+use Rattle.metis_gather.specs.Gathers.{after}
 use Rattle.metis_ujson.specs.Document.{document_limit, universe_in}
 use Rattle.metis_top.specs.Lines.{refusal_status, read_fault_line}
 use Rattle.metis_top.specs.Numbered.{Numbered, TellsReadFault}
-use Rattle.metis_top.specs.Script.{Script, Read, Refuse, Reply}
+use Rattle.metis_gather.specs.Script.{Script, Read, Refuse, Reply}
 use Rattle.metis_words.specs.TargetName.{TargetName}
-use Rattle.metis_top.specs.Turns.{turns_in}
+use Rattle.metis_gather.specs.Turns.{turns_in}
 use Rattle.metis_words.specs.Words.{Form, word_at}
 use Rattle.metis_universe.specs.Universe.{Universe}
 

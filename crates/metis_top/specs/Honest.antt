@@ -14,16 +14,16 @@ use Rattle.metis_top.specs.Course.{Says}
 use Rattle.metis_ujson.specs.Document.{document_limit, universe_in}
 use Rattle.metis_ids.specs.declared.goals.Goal.{Goal}
 use Rattle.metis_choice.specs.Resolutions.{ArePairsFor}
-use Rattle.metis_top.specs.Commands.{goals_named}
+use Rattle.metis_gather.specs.Commands.{goals_named}
 use Rattle.metis_top.specs.Deployment.{DeploysOrRefuses, EndsTidy}
-use Rattle.metis_top.specs.Planned.{IsDoubledByNeed, plan_text}
+use Rattle.metis_answer.specs.Planned.{IsDoubledByNeed, plan_text}
 use Rattle.metis_planner.specs.Rounds.{IsByRounds}
 use Rattle.metis_universe.specs.Universe.{Universe}
-use Rattle.metis_top.specs.Script.{Script, Read}
+use Rattle.metis_gather.specs.Script.{Script, Read}
 use Rattle.metis_words.specs.TargetName.{TargetName}
 use Rattle.metis_words.specs.Words.{form_of}
-use Rattle.metis_top.specs.declared.status.Status.{Status}
-use Rattle.metis_top.specs.declared.status.Status.TheVariants.{Done, NoMemory}
+use Rattle.metis_answer.specs.declared.status.Status.{Status}
+use Rattle.metis_answer.specs.declared.status.Status.TheVariants.{Done, NoMemory}
 use Rattle.metis_words.specs.declared.words.Verb.TheVariants.{Plan as PlanVerb}
 
 abbrev pub Undisturbed : Option (List ℕ → List ℕ) → ℕ → ℕ → ℕ → ℕ → Status → ((List ℕ → List ℕ) → Type 0) → Type 0

@@ -1,7 +1,5 @@
 -- The lines of a run that ends before its work.
-use Rattle.std.specs.Prelude.{ℕ, List, [], ◌++◌, codes, decimal, Result, Ok, Err}
-use Rattle.metis_outside.specs.declared.trouble.Trouble.{Trouble}
-use Rattle.metis_outside.specs.declared.trouble.Trouble.TheVariants as trouble
+use Rattle.std.specs.Prelude.{ℕ, List, [], ◌++◌, codes, decimal}
 use Rattle.metis_ujson.specs.declared.faults.UFault.{UFault}
 use Rattle.metis_ujson.specs.declared.faults.UFault.TheVariants.{NotJson, NotUniverse, TypeForm, TypeName, TypeTwice, StateForm, StateName, StateTwice, NoInitial, UnknownNext, PortName, Demand, Limit}
 use Rattle.metis_ujson.specs.declared.faults.UFault.TheVariants as ufault
@@ -11,11 +9,11 @@ use Rattle.metis_text.specs.declared.fault.TFault.{TFault}
 use Rattle.metis_text.specs.declared.fault.TFault.TheVariants as tfault
 use Rattle.metis_universe.specs.declared.faults.LimitKind.{LimitKind}
 use Rattle.metis_universe.specs.declared.faults.LimitKind.TheVariants.{States, Requires, Pairs, Ports}
-use Rattle.metis_top.specs.declared.refusal.Refusal.{Refusal}
-use Rattle.metis_top.specs.declared.refusal.Refusal.TheVariants.{Word, TooLong}
-use Rattle.metis_top.specs.declared.refusal.Refusal.TheVariants as refusal
-use Rattle.metis_top.specs.declared.status.Status.{Status}
-use Rattle.metis_top.specs.declared.status.Status.TheVariants.{BadWords, BadInput, WriteFault, NoMemory}
+use Rattle.metis_gather.specs.declared.refusal.Refusal.{Refusal}
+use Rattle.metis_gather.specs.declared.refusal.Refusal.TheVariants.{Word, TooLong}
+use Rattle.metis_gather.specs.declared.refusal.Refusal.TheVariants as refusal
+use Rattle.metis_answer.specs.declared.status.Status.{Status}
+use Rattle.metis_answer.specs.declared.status.Status.TheVariants.{BadWords, BadInput, NoMemory}
 
 abbrev pub limit_line : LimitKind → ℕ → List ℕ
 limit_line States n = codes "bad universe U12 states " ++ (decimal n ++ codes "\n")
@@ -100,9 +98,3 @@ refusal_status (refusal.Turns place) = BadInput
 
 abbrev pub read_fault_line : ℕ → List ℕ
 read_fault_line place = codes "read fault " ++ (decimal place ++ codes "\n")
-
--- the status of a run whose text was put so
-abbrev pub said : {T : Type 0} → Result T Trouble → Status → Status
-said (Ok _) status = status
-said (Err trouble.Failed) status = WriteFault
-said (Err trouble.NoMemory) status = NoMemory

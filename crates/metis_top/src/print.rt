@@ -1,14 +1,11 @@
 //! The command that prints a universe.
-ghost use Rattle.metis_top.specs.Answer as answer;
-ghost use Rattle.metis_top.specs.Commands.{print_script};
-ghost use Rattle.metis_top.specs.Course.{Ran, Shown};
+ghost use Rattle.metis_gather.specs.Commands.{print_script};
+ghost use Rattle.metis_top.specs.Course.{Ran};
 
-use crate::Status;
-use crate::reading::universe_from;
-use crate::stop::{end, said};
+use crate::stop::end;
+use metis_answer::{Status, put_universe};
+use metis_gather::universe_from;
 use metis_outside::{Shelf, Sink};
-use metis_ujson::write_universe;
-use metis_universe::Universe;
 use std::alloc::Global;
 
 /// Reads the universe, and puts it in its canonical form.
@@ -24,10 +21,4 @@ pub fn print_file<H: Shelf, K: Sink>(
         Ok(universe) => put_universe(alloc, &universe, out),
         Err(stop) => end(alloc, stop, out),
     }
-}
-
-fn put_universe<K: Sink>(alloc: Global, u: &Universe, out: &mut K) -> Status
-    ensures { Shown (answer.IsAnswer (answer.Print u.now)) (K.written out.old) (K.written out.new) (K.faults out.old) (K.faults out.new) result }
-{
-    said(write_universe(alloc, u, out), Status::Done)
 }

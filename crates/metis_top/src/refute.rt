@@ -1,20 +1,15 @@
 //! The command that checks a refusal.
-ghost use Rattle.std.specs.Prelude.{◌≡◌, ◌<◌, ◌≤◌, length};
+ghost use Rattle.std.specs.Prelude.{◌<◌, ◌≤◌, length};
 ghost use Rattle.std.specs.List.{All};
 ghost use Rattle.metis_universe.specs.Goals.{IsGoalOf};
-ghost use Rattle.metis_universe.specs.Universe.{pair_count};
-ghost use Rattle.metis_top.specs.Answer as answer;
-ghost use Rattle.metis_top.specs.Commands.{refute_script, refute_then};
-ghost use Rattle.metis_top.specs.Course.{Ran, Shown};
-ghost use Rattle.metis_top.specs.Judged.{judgement_status};
+ghost use Rattle.metis_gather.specs.Commands.{refute_script, refute_then};
+ghost use Rattle.metis_top.specs.Course.{Ran};
 
-use crate::Status;
-use crate::judgement_line::write_judgement;
-use crate::reading::{goals_from, refusal_from};
-use crate::stop::{end, said};
-use metis_ids::{Goal, PairSet};
+use crate::stop::end;
+use metis_answer::{Status, put_judgement};
+use metis_gather::{goals_from, refusal_from};
+use metis_ids::Goal;
 use metis_outside::{Shelf, Sink};
-use metis_refusal::{Verdict2, check_closed};
 use metis_universe::Universe;
 use metis_words::TargetWord;
 use std::alloc::Global;
@@ -52,30 +47,5 @@ fn refute_text<H: Shelf, K: Sink>(
     match refusal_from(alloc, shelf, 3, u, text) {
         Ok(refusal) => put_judgement(alloc, u, &refusal.pairs, goals, out),
         Err(stop) => end(alloc, stop, out),
-    }
-}
-
-fn put_judgement<K: Sink>(
-    alloc: Global,
-    u: &Universe,
-    set: &PairSet,
-    goals: &[Goal],
-    out: &mut K,
-) -> Status
-    requires size { set.now.size ≡ pair_count u.now }
-    requires within { All (IsGoalOf u.now) goals.now }
-    ensures { Shown (answer.IsAnswer (answer.Refute u.now goals.now set.now.members)) (K.written out.old) (K.written out.new) (K.faults out.old) (K.faults out.new) result }
-{
-    let judgement = check_closed(u, set, goals);
-    let put = write_judgement(alloc, u, &judgement, out);
-    said(put, status_of(&judgement))
-}
-
-fn status_of(judgement: &Verdict2) -> Status
-    ensures { result ≡ judgement_status judgement.now }
-{
-    match *judgement {
-        Verdict2::Closed(_) => Status::Done,
-        _ => Status::No,
     }
 }

@@ -1,37 +1,16 @@
 //! The command that goes from a plan to other targets.
-ghost use Rattle.std.specs.Prelude.{◌≡◌, ◌+◌, ◌<◌, ◌≤◌, ◌-◌, ◌^◌, IfOk, length};
-ghost use Rattle.std.specs.List.{All, count_by};
-ghost use Rattle.metis_ids.specs.Action.{makes};
-ghost use Rattle.metis_layers.specs.Layers.{IsLayers};
-ghost use Rattle.metis_outside.specs.Faults.{CountsFault};
-ghost use Rattle.metis_outside.specs.Writes.{Writes};
-ghost use Rattle.metis_universe.specs.Steadfast.{IsSteadfastRun};
-ghost use Rattle.metis_universe.specs.Config.{empty};
-ghost use Rattle.metis_universe.specs.Goal.{Attains};
+ghost use Rattle.std.specs.Prelude.{◌<◌, ◌≤◌, ◌-◌, length};
+ghost use Rattle.std.specs.List.{All};
 ghost use Rattle.metis_universe.specs.GoalWords.{IsWordable};
 ghost use Rattle.metis_universe.specs.Goals.{IsGoalOf};
-ghost use Rattle.metis_universe.specs.Numbers.{IsOf};
-ghost use Rattle.metis_universe.specs.Step.{IsRun};
-ghost use Rattle.metis_universe.specs.Universe.{pair_count};
-ghost use Rattle.metis_top.specs.Answer as answer;
-ghost use Rattle.metis_top.specs.Commands.{plan_limit, rollout_script, rollout_then};
-ghost use Rattle.metis_top.specs.Course.{Ran, Shown};
-ghost use Rattle.metis_top.specs.RolledOut.{PutsRolloutTo, RolloutAnswer, rollout_plan, rollout_text};
+ghost use Rattle.metis_gather.specs.Commands.{rollout_script, rollout_then};
+ghost use Rattle.metis_top.specs.Course.{Ran};
 
-use crate::Status;
-use crate::aim::{Aim, aim_of};
-use crate::plan::write_actions;
-use crate::reading::{goals_from, plan_from};
-use crate::steady::{first_bad, first_loose, write_loose};
-use crate::stop::{end, said};
-use crate::verdict_line::write_bad;
-use metis_choice::pairs_for_goals_hold_them;
-use metis_ids::{Action, Goal, NoMemory, PairIx, Plan};
-use metis_layers::table::Layers;
-use metis_outside::{Shelf, Sink, Trouble};
-use metis_planner::plan_over;
-use metis_rollout::{rollout, rollout_replaces};
-use metis_text::write_refusal;
+use crate::stop::end;
+use metis_answer::{Status, put_rollout};
+use metis_gather::{goals_from, plan_from};
+use metis_ids::Goal;
+use metis_outside::{Shelf, Sink};
 use metis_universe::Universe;
 use metis_words::TargetWord;
 use std::alloc::Global;
@@ -73,166 +52,4 @@ fn rollout_after<H: Shelf, K: Sink>(
         Ok(text) => put_rollout(alloc, u, goals, &text.plan.actions, out),
         Err(stop) => end(alloc, stop, out),
     }
-}
-
-// Puts the first old action that cannot be done, or else goes on.
-fn put_rollout<K: Sink>(
-    alloc: Global,
-    u: &Universe,
-    goals: &[Goal],
-    old: &[Action],
-    out: &mut K,
-) -> Status
-    requires few { length goals.now ≤ 256 }
-    requires within { All (IsGoalOf u.now) goals.now }
-    requires wordable { All (IsWordable u.now) goals.now }
-    requires numbers { All (IsOf u.now) old.now }
-    requires short { length old.now < plan_limit }
-    ensures { Shown (answer.IsAnswer (answer.Rollout u.now goals.now old.now)) (K.written out.old) (K.written out.new) (K.faults out.old) (K.faults out.new) result }
-{
-    match first_bad(alloc, u, old) {
-        Ok(None) => put_steady(alloc, u, goals, old, out),
-        Ok(Some((number, fault))) => { said(write_bad(alloc, u, number, &fault, out), Status::No) }
-        Err(_) => Status::NoMemory,
-    }
-}
-
-// Puts the first old action that is not steadfast, or else goes on.
-fn put_steady<K: Sink>(
-    alloc: Global,
-    u: &Universe,
-    goals: &[Goal],
-    old: &[Action],
-    out: &mut K,
-) -> Status
-    requires few { length goals.now ≤ 256 }
-    requires within { All (IsGoalOf u.now) goals.now }
-    requires wordable { All (IsWordable u.now) goals.now }
-    requires numbers { All (IsOf u.now) old.now }
-    requires short { length old.now < plan_limit }
-    requires runs { IsRun u.now empty old.now }
-    ensures { Shown (answer.IsAnswer (answer.Rollout u.now goals.now old.now)) (K.written out.old) (K.written out.new) (K.faults out.old) (K.faults out.new) result }
-{
-    match first_loose(alloc, u, old) {
-        Ok(None) => put_goals(alloc, u, goals, old, out),
-        Ok(Some(number)) => said(write_loose(alloc, number, out), Status::No),
-        Err(_) => Status::NoMemory,
-    }
-}
-
-// Puts the rollout to the pairs for the goals, or a refusal.
-fn put_goals<K: Sink>(
-    alloc: Global,
-    u: &Universe,
-    goals: &[Goal],
-    old: &[Action],
-    out: &mut K,
-) -> Status
-    requires few { length goals.now ≤ 256 }
-    requires within { All (IsGoalOf u.now) goals.now }
-    requires wordable { All (IsWordable u.now) goals.now }
-    requires numbers { All (IsOf u.now) old.now }
-    requires short { length old.now < plan_limit }
-    requires steady { IsSteadfastRun u.now old.now }
-    ensures { Shown (RolloutAnswer u.now goals.now old.now) (K.written out.old) (K.written out.new) (K.faults out.old) (K.faults out.new) result }
-{
-    pairs_for_goals_hold_them();
-    match aim_of(alloc, u, goals) {
-        Ok(Aim::Pairs(pairs, layers)) => put_rollout_to(alloc, u, &layers, old, &pairs, out),
-        Ok(Aim::Lacks(refusal)) => said(write_refusal(alloc, u, &refusal, out), Status::No),
-        Err(_) => Status::NoMemory,
-    }
-}
-
-// Puts the rollout to the pairs. There is a plan for them, since some list of actions attains them.
-fn put_rollout_to<K: Sink>(
-    alloc: Global,
-    u: &Universe,
-    layers: &Layers,
-    old: &[Action],
-    pairs: &[PairIx],
-    out: &mut K,
-) -> Status
-    requires few { length pairs.now ≤ 256 }
-    requires within { All (λ p. p < pair_count u.now) pairs.now }
-    requires layers { IsLayers u.now layers.now }
-    requires attained { Attains u.now pairs.now }
-    requires numbers { All (IsOf u.now) old.now }
-    requires short { length old.now < plan_limit }
-    requires steady { IsSteadfastRun u.now old.now }
-    ensures { Shown (PutsRolloutTo u.now old.now pairs.now) (K.written out.old) (K.written out.new) (K.faults out.old) (K.faults out.new) result }
-{
-    u.keeps_invariant();
-    rollout_replaces();
-    match plan_over(alloc, u, layers, pairs) {
-        Ok(fresh) => said(
-            write_rollout(alloc, u, layers, old, &fresh.actions, out),
-            Status::Done,
-        ),
-        Err(_) => Status::NoMemory,
-    }
-}
-
-// Puts the rollout from the old actions to the fresh ones.
-#[tactic(auto, using(metis_outside::proofs::Writing::front_of_nothing))]
-fn write_rollout<K: Sink>(
-    alloc: Global,
-    u: &Universe,
-    layers: &Layers,
-    old: &[Action],
-    fresh: &[Action],
-    out: &mut K,
-) -> Result<(), Trouble>
-    requires layers { IsLayers u.now layers.now }
-    requires old { IsSteadfastRun u.now old.now }
-    requires fresh { IsSteadfastRun u.now fresh.now }
-    requires old_ours { All (IsOf u.now) old.now }
-    requires fresh_ours { All (IsOf u.now) fresh.now }
-    requires few { length old.now + length fresh.now < 2 ^ 29 }
-    ensures text { Writes (rollout_text u.now old.now fresh.now) (K.written out.old) (K.written out.new) result }
-    ensures cause { CountsFault (K.faults out.old) (K.faults out.new) result }
-{
-    match rollout_between(alloc, u, layers, old, fresh) {
-        Ok(plan) => write_actions(alloc, u, &plan, out),
-        Err(_) => Err(Trouble::NoMemory),
-    }
-}
-
-// The rollout, as a plan without dups.
-fn rollout_between(
-    alloc: Global,
-    u: &Universe,
-    layers: &Layers,
-    old: &[Action],
-    fresh: &[Action],
-) -> Result<Plan, NoMemory>
-    requires layers { IsLayers u.now layers.now }
-    requires old { IsSteadfastRun u.now old.now }
-    requires fresh { IsSteadfastRun u.now fresh.now }
-    requires old_ours { All (IsOf u.now) old.now }
-    requires fresh_ours { All (IsOf u.now) fresh.now }
-    requires few { length old.now + length fresh.now < 2 ^ 29 }
-    ensures plan { IfOk result (λ plan. plan ≡ rollout_plan u.now old.now fresh.now) }
-    ensures steady { IfOk result (λ plan. IsSteadfastRun u.now plan.actions) }
-    ensures ours { IfOk result (λ plan. All (IsOf u.now) plan.actions) }
-    ensures short { IfOk result (λ plan. length plan.actions < 2 ^ 32 - 1) }
-{
-    let actions = rollout(alloc, u, layers, old, fresh)?;
-    let instances = made_by(&actions);
-    Ok(Plan {
-        actions,
-        dups: Vec::new(alloc),
-        instances,
-    })
-}
-
-// How many instances the actions make.
-fn made_by(actions: &[Action]) -> u32
-    requires { length actions.now < 2 ^ 32 - 1 }
-    ensures { result ≡ count_by makes actions.now }
-{
-    actions
-        .iter()
-        .filter(|action| matches!(action, Action::New { .. }))
-        .count() as u32
 }

@@ -1,11 +1,12 @@
 //! How a run ends before its work.
 ghost use Rattle.std.specs.Prelude.{◌≡◌, IfOk, string_bytes};
-ghost use Rattle.metis_top.specs.Course.{Shown, StopSays, IsJust};
-ghost use Rattle.metis_top.specs.Lines.{hosts_fault_line, plan_fault_line, refusal_fault_line, refusal_line, why_fault_line, universe_line, state_line, limit_line, read_fault_line, said, refusal_status};
+ghost use Rattle.metis_answer.specs.Shown.{Shown};
+ghost use Rattle.metis_top.specs.Course.{StopSays};
+ghost use Rattle.metis_top.specs.Lines.{hosts_fault_line, plan_fault_line, refusal_fault_line, refusal_line, why_fault_line, universe_line, state_line, limit_line, read_fault_line, refusal_status};
 
-use crate::Status;
-use crate::refusal::{Refusal, Stop};
-use metis_outside::{Sink, Trouble};
+use metis_answer::{Status, say};
+use metis_gather::{Refusal, Stop};
+use metis_outside::Sink;
 use metis_place::HFault;
 use metis_text::TFault;
 use metis_ujson::UFault;
@@ -131,33 +132,13 @@ fn read_fault_line(alloc: Global, place: u32) -> Result<String, AllocError>
     format!(in alloc; "read fault {place}\n")
 }
 
-impl Refusal {
-    fn status(self) -> Status
-        ensures { result ≡ refusal_status self }
-    {
-        match self {
-            Refusal::Word(_) => Status::BadWords,
-            _ => Status::BadInput,
-        }
-    }
-}
-
-/// The status of a run whose lines were put so.
-pub fn said(put: Result<(), Trouble>, status: Status) -> Status
-    ensures { result ≡ said put status }
+fn refusal_status(refusal: Refusal) -> Status
+    ensures { result ≡ refusal_status refusal }
 {
-    match put {
-        Ok(()) => status,
-        Err(Trouble::Failed) => Status::WriteFault,
-        Err(Trouble::NoMemory) => Status::NoMemory,
+    match refusal {
+        Refusal::Word(_) => Status::BadWords,
+        _ => Status::BadInput,
     }
-}
-
-/// Puts a line by one put, and ends with its status.
-pub fn say<K: Sink>(line: &str, status: Status, out: &mut K) -> Status
-    ensures { Shown (IsJust line.now status) (K.written out.old) (K.written out.new) (K.faults out.old) (K.faults out.new) result }
-{
-    said(out.put(line.as_bytes()), status)
 }
 
 /// Puts the line of a run that ends before its work.
@@ -166,7 +147,7 @@ pub fn end<K: Sink>(alloc: Global, stop: Stop, out: &mut K) -> Status
 {
     match stop {
         Stop::Refused(refusal) => match refusal_line(alloc, refusal) {
-            Ok(line) => say(line.as_str(), refusal.status(), out),
+            Ok(line) => say(line.as_str(), refusal_status(refusal), out),
             Err(_) => Status::NoMemory,
         },
         Stop::Failed(place) => match read_fault_line(alloc, place) {

@@ -1,27 +1,24 @@
 //! The top call.
 ghost use Rattle.std.specs.Prelude.{◌≡◌};
 ghost use Rattle.metis_outside.specs.Faults.{Rose};
-ghost use Rattle.metis_top.specs.Commands.{script_of, command_script};
+ghost use Rattle.metis_gather.specs.Commands.{script_of, command_script};
 ghost use Rattle.metis_top.specs.Course.{Ran};
 ghost use Rattle.metis_top.specs.Honest.{Headline, IsThePlan, PlansHave, Tells, Undisturbed};
 ghost use Rattle.metis_top.specs.Numbered.{TellsReadFault};
 ghost use Rattle.metis_top.specs.Openings.{OpensFiles};
 ghost use Rattle.metis_top.specs.PutLines.{PutsLines};
-ghost use Rattle.metis_top.specs.Statuses.{IsVerdict};
+ghost use Rattle.metis_answer.specs.Statuses.{IsVerdict};
 ghost use Rattle.metis_words.specs.Words.{form_of};
 ghost use Rattle.metis_top.specs.Stops.{word_stop};
 ghost use Rattle.metis_universe.specs.Texts.{texts};
 
-use crate::Status;
 use crate::audit::audit_file;
 use crate::confirming::confirm_file;
 use crate::control::control_file;
 use crate::crew::crew_file;
-use crate::load::load_size;
 use crate::place::place_file;
 use crate::plan::plan_file;
 use crate::print::print_file;
-use crate::refusal::{Refusal, Stop};
 use crate::refute::refute_file;
 use crate::replay::replay_file;
 use crate::rollout::rollout_file;
@@ -29,6 +26,8 @@ use crate::sim::sim_file;
 use crate::stop::end;
 use crate::waves::waves_file;
 use crate::why::why_file;
+use metis_answer::{Status, put_load};
+use metis_gather::{Refusal, Stop};
 use metis_outside::{Shelf, Sink};
 use metis_waits::{complete_order_ends_alike, kept_order_is_a_run, own_order_is_kept};
 use metis_words::{Command, Verb, WordFault, read_words};
@@ -143,7 +142,7 @@ fn perform<H: Shelf, K: Sink>(
             place_file(alloc, file, plan, command.file(2), shelf, out)
         }
         Verb::Print => print_file(alloc, command.file(0), shelf, out),
-        Verb::Load => load_size(alloc, command.size, out),
+        Verb::Load => put_load(alloc, command.size, out),
         Verb::Why => why_file(alloc, command.file(0), command.targets(), shelf, out),
         Verb::Confirm => {
             let (file, text) = (command.file(0), command.file(1));

@@ -3,11 +3,11 @@ use Rattle.metis_ids.specs.Plans.{Dup, Plan}
 use Rattle.metis_text.specs.Reading.{Parts}
 use Rattle.metis_text.specs.Reads.{lists_of, parts_of}
 use Rattle.metis_top.proofs.Gathered.{ran_stopped}
-use Rattle.metis_top.proofs.Replies.{ran_replied}
-use Rattle.metis_top.proofs.Said.{dups_said}
-use Rattle.metis_top.specs.Answer as answer
-use Rattle.metis_top.specs.Commands.{plan_said, plan_then}
-use Rattle.metis_top.specs.Script.{Reply}
+use Rattle.metis_top.proofs.Gathered.{ran_replied}
+use Rattle.metis_gather.proofs.Said.{dups_said}
+use Rattle.metis_gather.specs.Answer as answer
+use Rattle.metis_gather.specs.Commands.{plan_said, plan_then}
+use Rattle.metis_gather.specs.Script.{Reply}
 use Rattle.metis_top.proofs.audit.audit_plan.Goals as goal
 
 pub returns-in-Ok : goal.returns-in-Ok

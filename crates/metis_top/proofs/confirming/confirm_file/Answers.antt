@@ -3,7 +3,7 @@ use Rattle.std.specs.declared.alloc.Global.{Global}
 use Rattle.metis_ids.specs.declared.goals.Goal.{Goal}
 use Rattle.metis_universe.specs.Universe.{Universe}
 use Rattle.metis_top.proofs.Gathered.{ran_stopped, ran_then}
-use Rattle.metis_top.specs.Commands.{confirm_then, goals_then}
+use Rattle.metis_gather.specs.Commands.{confirm_then, goals_then}
 use Rattle.metis_top.proofs.confirming.confirm_file.Goals as goal
 
 pub returns-in-Ok : goal.returns-in-Ok

@@ -1,10 +1,10 @@
 use Rattle.std.proofs.Common.{ℕ, List, Vec, refl}
 use Rattle.std.specs.declared.alloc.Global.{Global}
 use Rattle.metis_top.proofs.Gathered.{ran_stopped}
-use Rattle.metis_top.proofs.Replies.{ran_replied}
-use Rattle.metis_top.specs.Answer as answer
-use Rattle.metis_top.specs.Commands.{bytes_then, session_limit}
-use Rattle.metis_top.specs.Script.{Reply}
+use Rattle.metis_top.proofs.Gathered.{ran_replied}
+use Rattle.metis_gather.specs.Answer as answer
+use Rattle.metis_gather.specs.Commands.{bytes_then, session_limit}
+use Rattle.metis_gather.specs.Script.{Reply}
 use Rattle.metis_top.proofs.control.control_actions.Goals as goal
 
 pub returns-in-Ok : goal.returns-in-Ok

@@ -1,6 +1,6 @@
 use Rattle.metis_universe.specs.Universe.{Universe}
 use Rattle.metis_top.proofs.Gathered.{ran_stopped, ran_then}
-use Rattle.metis_top.specs.Commands.{crew_then, universe_then}
+use Rattle.metis_gather.specs.Commands.{crew_then, universe_then}
 use Rattle.metis_top.proofs.crew.crew_file.Goals as goal
 
 pub returns-in-Ok : goal.returns-in-Ok

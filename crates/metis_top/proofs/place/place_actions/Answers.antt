@@ -1,10 +1,10 @@
 use Rattle.std.proofs.Common.{refl}
 use Rattle.metis_place.specs.Placement.{HostLists}
 use Rattle.metis_top.proofs.Gathered.{ran_stopped}
-use Rattle.metis_top.proofs.Replies.{ran_replied}
-use Rattle.metis_top.specs.Answer as answer
-use Rattle.metis_top.specs.Commands.{hosts_then}
-use Rattle.metis_top.specs.Script.{Reply}
+use Rattle.metis_top.proofs.Gathered.{ran_replied}
+use Rattle.metis_gather.specs.Answer as answer
+use Rattle.metis_gather.specs.Commands.{hosts_then}
+use Rattle.metis_gather.specs.Script.{Reply}
 use Rattle.metis_top.proofs.place.place_actions.Goals as goal
 
 pub returns-in-Ok : goal.returns-in-Ok

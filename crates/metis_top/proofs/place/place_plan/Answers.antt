@@ -3,7 +3,7 @@ use Rattle.metis_text.specs.declared.plan_text.PlanText.{PlanText}
 use Rattle.metis_text.specs.Reading.{Parts}
 use Rattle.metis_text.specs.Reads.{parts_of}
 use Rattle.metis_top.proofs.Gathered.{ran_stopped, ran_then}
-use Rattle.metis_top.specs.Commands.{place_over, plan_then}
+use Rattle.metis_gather.specs.Commands.{place_over, plan_then}
 use Rattle.metis_top.proofs.place.place_plan.Goals as goal
 
 pub returns-in-Ok : goal.returns-in-Ok

@@ -3,10 +3,10 @@ use Rattle.metis_text.specs.declared.plan_text.PlanText.{PlanText}
 use Rattle.metis_text.specs.Reading.{Parts}
 use Rattle.metis_text.specs.Reads.{parts_of}
 use Rattle.metis_top.proofs.Gathered.{ran_stopped}
-use Rattle.metis_top.proofs.Replies.{ran_replied}
-use Rattle.metis_top.specs.Answer as answer
-use Rattle.metis_top.specs.Commands.{plan_then}
-use Rattle.metis_top.specs.Script.{Reply}
+use Rattle.metis_top.proofs.Gathered.{ran_replied}
+use Rattle.metis_gather.specs.Answer as answer
+use Rattle.metis_gather.specs.Commands.{plan_then}
+use Rattle.metis_gather.specs.Script.{Reply}
 use Rattle.metis_top.proofs.rollout.rollout_after.Goals as goal
 
 pub returns-in-Ok : goal.returns-in-Ok

@@ -3,10 +3,10 @@ use Rattle.std.specs.declared.alloc.Global.{Global}
 use Rattle.metis_ids.specs.declared.goals.Goal.{Goal}
 use Rattle.metis_universe.specs.Universe.{Universe}
 use Rattle.metis_top.proofs.Gathered.{ran_stopped}
-use Rattle.metis_top.proofs.Replies.{ran_replied}
-use Rattle.metis_top.specs.Answer as answer
-use Rattle.metis_top.specs.Commands.{goals_then}
-use Rattle.metis_top.specs.Script.{Reply}
+use Rattle.metis_top.proofs.Gathered.{ran_replied}
+use Rattle.metis_gather.specs.Answer as answer
+use Rattle.metis_gather.specs.Commands.{goals_then}
+use Rattle.metis_gather.specs.Script.{Reply}
 use Rattle.metis_top.proofs.why.why_file.Goals as goal
 
 pub returns-in-Ok : goal.returns-in-Ok

@@ -1,0 +1,18 @@
+use Rattle.std.proofs.Common.{[], ◌∷◌, ap, ◌∙◌}
+use Rattle.metis_answer.proofs.Confirmations.{sayable}
+use Rattle.metis_answer.proofs.Shown.{shown_by_writer}
+use Rattle.metis_answer.specs.Confirmed.{Confirms, confirmation_line, confirmation_status}
+use Rattle.metis_answer.proofs.confirming.put_confirmation.Goals as goal
+
+pub write_confirmation-put-requires : goal.write_confirmation-put-requires
+write_confirmation-put-requires g c =
+    sayable c.args.u.now c.args.lines.now c.args.goals.now c.confirm-confirmation.result c.requires.few c.requires.within c.confirm-confirmation.ensures.verdict
+
+pub returns : goal.returns
+returns g c =
+    let u = c.args.u.now in
+    let v = c.confirm-confirmation.result in
+    let is = c.confirm-confirmation.ensures.verdict in
+    let answer : Confirms u c.args.goals.now c.args.lines.now (confirmation_line u v ∷ []) (confirmation_status v) =
+    record { unattained = λ g at. c.confirm-confirmation.ensures.unattained g (is ∙ at); told = ap (λ w. confirmation_line u w ∷ []) is; is = ap confirmation_status is } in
+    rw (c.said.ensures, c.status_of.ensures) (shown_by_writer _ _ _ _ _ _ _ c.write_confirmation-put.result answer c.write_confirmation-put.ensures.text c.write_confirmation-put.ensures.cause)

@@ -1,0 +1,21 @@
+use Rattle.std.proofs.Common.{◌≡◌, List, [], ◌∷◌, refl, ap, ◌∙◌, subst}
+use Rattle.metis_ids.specs.Plans.{Plan}
+use Rattle.metis_ids.specs.declared.actions.Action.{Action}
+use Rattle.metis_replay.specs.Exact.{Tells}
+use Rattle.metis_replay.specs.declared.verdict.Verdict.TheVariants.{Good}
+use Rattle.metis_universe.specs.Goals.{pair_goals}
+use Rattle.metis_answer.proofs.Shown.{shown_by_writer}
+use Rattle.metis_answer.specs.Loaded.{Summed, load_line}
+use Rattle.metis_answer.specs.declared.status.Status.TheVariants.{Done}
+use Rattle.metis_answer.proofs.load.put_summary.Goals as goal
+
+pub returns-in-Ok-Good : goal.returns-in-Ok-Good
+returns-in-Ok-Good g c =
+    let n = c.args.n in
+    let u = c.args.u.now in
+    let targets = c.args.targets.now in
+    let plan = c.args.plan.now in
+    let actions : c.deref.result.now ≡ plan.actions = c.deref.ensures.value ∙ ap (λ (p : Plan). p.actions) c.plan.view_is in
+    let tells : Tells u plan.actions (pair_goals targets) Good = subst (λ v. Tells u plan.actions (pair_goals targets) v) c.in-Ok-Good.field-0-is (subst (λ (a : List Action). Tells u a (pair_goals targets) c.in-Ok-Good.field-0) actions c.in-Ok-Good.ensures) in
+    let answer : Summed n u targets plan (load_line n u targets plan ∷ []) Done = record { verdict = Good; tells = tells; told = refl; is = refl } in
+    rw c.said.ensures (shown_by_writer _ _ _ _ _ _ _ c.write_load.result answer c.write_load.ensures.text c.write_load.ensures.cause)

@@ -1,0 +1,12 @@
+use Rattle.std.proofs.Common.{[], ◌∷◌, refl}
+use Rattle.metis_answer.proofs.Shown.{shown_by_writer}
+use Rattle.metis_answer.specs.Judged.{Judged, judgement_line, judgement_status}
+use Rattle.metis_answer.proofs.refute.put_judgement.Goals as goal
+
+pub returns : goal.returns
+returns g c =
+    let v = c.check_closed-judgement.result in
+    let u = c.args.u.now in
+    let answer : Judged u c.args.goals.now c.args.set.now.members (judgement_line u v ∷ []) (judgement_status v) =
+    record { verdict = v; tells = (c.check_closed-judgement.ensures.exactly v).0 refl; told = refl; is = refl } in
+    rw (c.said.ensures, c.status_of.ensures) (shown_by_writer _ _ _ _ _ _ _ c.write_judgement-put.result answer c.write_judgement-put.ensures.text c.write_judgement-put.ensures.cause)

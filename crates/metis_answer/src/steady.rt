@@ -1,0 +1,72 @@
+//! Whether a plan's actions are a steadfast run.
+ghost use Rattle.std.specs.Prelude.{◌≡◌, ◌<◌, ◌-◌, ◌^◌, [], ◌∷◌, IfOk, IfSome, IsTrue, None, length, string_bytes};
+ghost use Rattle.std.specs.List.{All};
+ghost use Rattle.metis_actions.specs.Faults.{IsFaultOf};
+ghost use Rattle.metis_outside.specs.Faults.{CountsFault};
+ghost use Rattle.metis_outside.specs.Writes.{Writes};
+ghost use Rattle.metis_replay.specs.Exact.{IsFirstBad};
+ghost use Rattle.metis_universe.specs.Config.{empty};
+ghost use Rattle.metis_universe.specs.Numbers.{IsOf};
+ghost use Rattle.metis_universe.specs.Steadfast.{is_steadfast};
+ghost use Rattle.metis_universe.specs.Step.{IsRun};
+ghost use Rattle.metis_waits.specs.Waits.{IsFirstLoose};
+ghost use Rattle.metis_answer.specs.Crewed.{loose_line};
+
+use crate::replay::replayed;
+use metis_actions::AFault;
+use metis_ids::{Action, NoMemory};
+use metis_outside::{Sink, Trouble};
+use metis_replay::Verdict;
+use metis_text::put_line;
+use metis_universe::Universe;
+use metis_waits::{WFault, waits};
+use std::alloc::{AllocError, Global};
+
+/// The number of the first action that cannot be done from the empty configuration on, and why.
+pub fn first_bad(
+    alloc: Global,
+    u: &Universe,
+    actions: &[Action],
+) -> Result<Option<(u32, AFault)>, NoMemory>
+    requires numbers { All (IsOf u.now) actions.now }
+    requires few { length actions.now < 2 ^ 32 - 1 }
+    ensures bad { IfOk result (λ bad. IfSome bad (λ b. IsFirstBad u.now actions.now b.0 b.1)) }
+    ensures numbers { IfOk result (λ bad. IfSome bad (λ b. IsFaultOf u.now b.1)) }
+    ensures runs { IfOk result (λ bad. bad ≡ None → IsRun u.now empty actions.now) }
+{
+    let (verdict, _) = replayed(alloc, u, actions, &[])?;
+    match verdict {
+        Verdict::Bad(number, fault) => Ok(Some((number, fault))),
+        Verdict::Good | Verdict::Missing(..) => Ok(None),
+    }
+}
+
+/// The number of the first action that is not steadfast.
+pub fn first_loose(alloc: Global, u: &Universe, actions: &[Action]) -> Result<Option<u32>, NoMemory>
+    requires numbers { All (IsOf u.now) actions.now }
+    requires few { length actions.now < 2 ^ 32 - 1 }
+    ensures loose { IfOk result (λ loose. IfSome loose (λ k. IsFirstLoose u.now actions.now k)) }
+    ensures steadfast { IfOk result (λ loose. loose ≡ None → IsTrue (is_steadfast u.now actions.now)) }
+{
+    match waits(alloc, u, actions) {
+        Ok(_) => Ok(None),
+        Err(WFault::Loose(number)) => Ok(Some(number)),
+        Err(WFault::NoMemory) => Err(NoMemory),
+    }
+}
+
+/// Puts the line of the first action that is not steadfast.
+#[tactic(auto, using(metis_outside::proofs::Writing::front_of_nothing))]
+pub fn write_loose<K: Sink>(alloc: Global, number: u32, out: &mut K) -> Result<(), Trouble>
+    ensures text { Writes (loose_line number ∷ []) (K.written out.old) (K.written out.new) result }
+    ensures cause { CountsFault (K.faults out.old) (K.faults out.new) result }
+{
+    let line = loose_line(alloc, number)?;
+    put_line(line.as_bytes(), out)
+}
+
+fn loose_line(alloc: Global, number: u32) -> Result<String, AllocError>
+    ensures { IfOk result (λ line. string_bytes line ≡ loose_line number) }
+{
+    format!(in alloc; "loose {number}\n")
+}

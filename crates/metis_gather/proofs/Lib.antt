@@ -1,0 +1,4 @@
+pub mod Composed
+pub mod FileBytes
+pub mod Said
+pub mod TurnsRead
