@@ -5,8 +5,7 @@ use Rattle.metis_outside.specs.Faults.{CountsFault}
 use Rattle.metis_outside.specs.Writes.{Puts, Writes}
 use Rattle.metis_outside.specs.declared.trouble.Trouble.{Trouble}
 use Rattle.metis_outside.specs.declared.trouble.Trouble.TheVariants.{Failed, NoMemory}
-use Rattle.metis_answer.specs.Shown.{Shown}
-use Rattle.metis_answer.specs.Shown.{said}
+use Rattle.metis_answer.specs.Shown.{Shown, said}
 use Rattle.metis_answer.specs.declared.status.Status.{Status}
 
 -- what is said of the lines says more of them

@@ -66,19 +66,19 @@ after_reply : (taken : List (List ℕ)) (answer : Answer) → after taken (Reply
 after_reply [] answer = refl
 after_reply (bytes ∷ taken) answer = refl
 
-after-append : (first second : List (List ℕ)) (script : Script) → after (first ++ second) script ≡ after second (after first script)
+pub after-append : (first second : List (List ℕ)) (script : Script) → after (first ++ second) script ≡ after second (after first script)
 after-append [] second script = refl
 after-append (bytes ∷ first) second (Read place name limit next) = after-append first second (next bytes)
 after-append (bytes ∷ first) second (Refuse refusal) = sym (after_refuse second refusal)
 after-append (bytes ∷ first) second (Reply answer) = sym (after_reply second answer)
 
-AreTaken-append : (files : Option (List ℕ → List ℕ)) (first second : List (List ℕ)) (script : Script) → AreTaken files first script → AreTaken files second (after first script) → AreTaken files (first ++ second) script
+pub AreTaken-append : (files : Option (List ℕ → List ℕ)) (first second : List (List ℕ)) (script : Script) → AreTaken files first script → AreTaken files second (after first script) → AreTaken files (first ++ second) script
 AreTaken-append files [] second script one two = two
 AreTaken-append files (bytes ∷ first) second (Read place name limit next) one two = (one.0, AreTaken-append files first second (next bytes) one.1 two)
 AreTaken-append files (bytes ∷ first) second (Refuse refusal) one two = absurd one
 AreTaken-append files (bytes ∷ first) second (Reply answer) one two = absurd one
 
-opened-opened : (before first second : ℕ) → opened (opened before first) second ≡ opened before (first + second)
+pub opened-opened : (before first second : ℕ) → opened (opened before first) second ≡ opened before (first + second)
 opened-opened before first zero = ap (λ n. opened before n) (sym (add-zero first))
 opened-opened before first (suc second) =
     ap (λ n. min (n + 1) (2 ^ 64 - 1)) (opened-opened before first second) ∙ ap (λ n. opened before n) (sym (add-suc first second))

@@ -1,4 +1,4 @@
-use Rattle.std.proofs.Common.{ap, sym, ◌∙◌, ◌≡◌, subst, length, arith}
+use Rattle.std.proofs.Common.{ap, sym, ◌∙◌, ◌≡◌, subst, length, arith, take}
 use Rattle.std.proofs.lemmas.List.{take_all}
 use Rattle.std.specs.List.{All}
 use Rattle.metis_universe.specs.Config.{Config}
@@ -7,7 +7,6 @@ use Rattle.metis_universe.specs.Goals.{IsGoalOf}
 use Rattle.metis_replay.proofs.Feeding.{fed_next, fed_universe}
 use Rattle.metis_replay.specs.Progress.{IsVerdictOf, after_feeding, fed, start, verdict}
 use Rattle.metis_replay.specs.declared.verdict.Verdict.TheVariants.{Good}
-use Rattle.std.proofs.Common.{take}
 use Rattle.metis_answer.proofs.replay.replayed.Goals as goal
 
 pub feed-requires-clause-action : goal.feed-requires-clause-action

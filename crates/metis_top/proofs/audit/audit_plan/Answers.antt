@@ -2,8 +2,7 @@ use Rattle.std.proofs.Common.{◌≡◌, List, ap}
 use Rattle.metis_ids.specs.Plans.{Dup, Plan}
 use Rattle.metis_text.specs.Reading.{Parts}
 use Rattle.metis_text.specs.Reads.{lists_of, parts_of}
-use Rattle.metis_top.proofs.Gathered.{ran_stopped}
-use Rattle.metis_top.proofs.Gathered.{ran_replied}
+use Rattle.metis_top.proofs.Gathered.{ran_stopped, ran_replied}
 use Rattle.metis_gather.proofs.Said.{dups_said}
 use Rattle.metis_gather.specs.Answer as answer
 use Rattle.metis_gather.specs.Commands.{plan_said, plan_then}

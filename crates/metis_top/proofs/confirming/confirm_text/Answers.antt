@@ -1,7 +1,6 @@
 use Rattle.std.proofs.Common.{refl}
 use Rattle.metis_why_text.specs.WhyReading.{WhyParts, parts_of}
-use Rattle.metis_top.proofs.Gathered.{ran_stopped}
-use Rattle.metis_top.proofs.Gathered.{ran_replied}
+use Rattle.metis_top.proofs.Gathered.{ran_stopped, ran_replied}
 use Rattle.metis_gather.specs.Answer as answer
 use Rattle.metis_gather.specs.Commands.{why_then}
 use Rattle.metis_gather.specs.Script.{Reply}

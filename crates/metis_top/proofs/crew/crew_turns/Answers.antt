@@ -1,7 +1,6 @@
 use Rattle.std.proofs.Common.{ℕ, List, Vec, refl}
 use Rattle.std.specs.declared.alloc.Global.{Global}
-use Rattle.metis_top.proofs.Gathered.{ran_stopped}
-use Rattle.metis_top.proofs.Gathered.{ran_replied}
+use Rattle.metis_top.proofs.Gathered.{ran_stopped, ran_replied}
 use Rattle.metis_gather.specs.Answer as answer
 use Rattle.metis_gather.specs.Commands.{turns_then}
 use Rattle.metis_gather.specs.Script.{Reply}

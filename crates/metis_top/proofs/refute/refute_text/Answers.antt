@@ -1,7 +1,6 @@
 use Rattle.std.proofs.Common.{refl}
 use Rattle.metis_text.specs.RefusalReading.{RefusalParts, refusal_of}
-use Rattle.metis_top.proofs.Gathered.{ran_stopped}
-use Rattle.metis_top.proofs.Gathered.{ran_replied}
+use Rattle.metis_top.proofs.Gathered.{ran_stopped, ran_replied}
 use Rattle.metis_gather.specs.Answer as answer
 use Rattle.metis_gather.specs.Commands.{refusal_then}
 use Rattle.metis_gather.specs.Script.{Reply}

@@ -2,8 +2,7 @@ use Rattle.std.proofs.Common.{refl, ap}
 use Rattle.metis_text.specs.declared.plan_text.PlanText.{PlanText}
 use Rattle.metis_text.specs.Reading.{Parts}
 use Rattle.metis_text.specs.Reads.{parts_of}
-use Rattle.metis_top.proofs.Gathered.{ran_stopped}
-use Rattle.metis_top.proofs.Gathered.{ran_replied}
+use Rattle.metis_top.proofs.Gathered.{ran_stopped, ran_replied}
 use Rattle.metis_gather.specs.Answer as answer
 use Rattle.metis_gather.specs.Commands.{plan_then}
 use Rattle.metis_gather.specs.Script.{Reply}

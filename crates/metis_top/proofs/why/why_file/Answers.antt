@@ -2,8 +2,7 @@ use Rattle.std.proofs.Common.{List, Vec, refl}
 use Rattle.std.specs.declared.alloc.Global.{Global}
 use Rattle.metis_ids.specs.declared.goals.Goal.{Goal}
 use Rattle.metis_universe.specs.Universe.{Universe}
-use Rattle.metis_top.proofs.Gathered.{ran_stopped}
-use Rattle.metis_top.proofs.Gathered.{ran_replied}
+use Rattle.metis_top.proofs.Gathered.{ran_stopped, ran_replied}
 use Rattle.metis_gather.specs.Answer as answer
 use Rattle.metis_gather.specs.Commands.{goals_then}
 use Rattle.metis_gather.specs.Script.{Reply}
