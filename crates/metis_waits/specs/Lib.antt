@@ -1,6 +1,6 @@
 pub mod Causes
+pub mod Instances
 pub mod Orders
 pub mod Rows
-pub mod StandingBindings
 pub mod Summary
 pub mod Waits

@@ -2,13 +2,11 @@
 #![tactic(auto)]
 
 mod fault;
+mod instances;
 mod laws;
 mod pass;
-mod releases;
 mod rows;
-mod standing_bindings;
 mod summary;
-mod tracks;
 mod wait_lists;
 
 pub use fault::WFault;

@@ -85,7 +85,7 @@ fn take_in(
     ensures each { OnOk result (lists.new.each ≡ lists.old.each ++ filter (is_wait earlier.now action.now) (numbers earlier.now) ∷ []) }
     ensures others { OnOk result (lists.new.others ≡ lists.old.others ++ filter (λ m. not (m == last_number (is_by (actor_of action.now)) earlier.now)) (filter (is_wait earlier.now action.now) (numbers earlier.now)) ∷ []) }
 {
-    let previous = summary.note_waits(alloc, &mut lists.numbers, u, earlier, action)?;
+    let previous = summary.note_waits(&mut lists.numbers, u, earlier, action)?;
     lists.push(previous)?;
     summary.add(alloc, u, earlier, action)
 }

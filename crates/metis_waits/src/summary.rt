@@ -1,33 +1,30 @@
 //! What the actions so far come to.
-ghost use Rattle.std.specs.Prelude.{◌≡◌, ◌<◌, ℕ, ◌-◌, ◌^◌, ◌==◌, ◌++◌, ◌∷◌, ◌&&◌, ◌||◌, [], IfOk, IsTrue, OnOk, length, nat_lt, not};
-ghost use Rattle.metis_universe.specs.Universe.{has};
+ghost use Rattle.std.specs.Prelude.{◌≡◌, ◌<◌, ◌≤◌, ℕ, ◌-◌, ◌^◌, ◌==◌, ◌++◌, ◌∷◌, [], false, IfOk, IsFalse, IsTrue, OnOk, length, not, if◌then◌else◌, ◌||◌};
 ghost use Rattle.std.specs.List.{filter};
 ghost use Rattle.std.specs.List.Sorted.{IsStrictlySortedBy};
+ghost use Rattle.std.specs.Option.{option_map_or};
 ghost use Rattle.std.specs.Ordering.{nat_cmp};
 ghost use Rattle.metis_ids.specs.Action.{actor_of};
 ghost use Rattle.metis_universe.specs.Numbers.{IsOf};
-ghost use Rattle.metis_universe.specs.Steadfast.{is_steadfast_after};
-ghost use Rattle.metis_universe.specs.Waits.{is_release_of, is_wait, last_number, numbers};
-ghost use Rattle.metis_waits.specs.Summary.{IsSummary, has_number};
+ghost use Rattle.metis_universe.specs.Steadfast.{is_steadfast_after, pair_after};
+ghost use Rattle.metis_universe.specs.Universe.{has, provides};
+ghost use Rattle.metis_universe.specs.Waits.{is_wait, last_number, numbers};
+ghost use Rattle.metis_waits.specs.Instances.{changed, is_last, let_go, state_at, without_own};
+ghost use Rattle.metis_waits.specs.Summary.{IsSummary, has_number, with_number};
 ghost use Rattle.metis_waits.specs.Waits.{is_by};
+ghost use Rattle.metis_waits.specs.declared.instances.Change.TheVariants.{Deleted};
 
-use crate::releases::{add_released, has_released, note_releases};
-use crate::standing_bindings::StandingBindings;
-use crate::tracks::{Track, gives, note_track, track_of};
-use metis_ids::{Action, InstNo, NoMemory};
+use crate::instances::{Change, Instance, note_change, take_own, track_of};
+use metis_ids::{Action, InstNo, Ix, NoMemory, PortIx};
 use metis_universe::Universe;
 use std::alloc::Global;
-use std::collections::{BTreeSet, HashMap};
+use std::collections::HashMap;
 
 /// What the actions so far come to. Their numbers count from 1.
 #[derive(Drop)]
 pub struct Summary {
     /// What is known of each instance, by its number.
-    tracks: HashMap<u32, Track>,
-    /// The bindings that stand.
-    bindings: StandingBindings,
-    /// The providers with the actions that ended a binding to them on the requirer's side.
-    releases: BTreeSet<(InstNo, u32)>,
+    instances: HashMap<u32, Instance>,
 }
 
 impl Summary {
@@ -36,9 +33,7 @@ impl Summary {
         ensures { IsSummary u.now [] result }
     {
         Summary {
-            tracks: HashMap::new(alloc),
-            bindings: StandingBindings::new(alloc),
-            releases: BTreeSet::new(alloc),
+            instances: HashMap::new(alloc),
         }
     }
 
@@ -48,11 +43,22 @@ impl Summary {
         ensures { result ≡ is_steadfast_after u.now earlier.now action.now }
     {
         match *action {
-            Action::New { inst, .. } => !track_of(&self.tracks, inst).made,
-            Action::Bind { port, to, .. } => gives(u, &self.tracks, earlier, to, port),
+            Action::New { inst, .. } => !track_of(&self.instances, inst).made,
+            Action::Bind { port, to, .. } => self.gives(u, earlier, to, port),
             Action::Unbind { .. } => true,
-            Action::Delete { inst } => !self.bindings.is_serving(inst),
-            Action::Move { inst, .. } => !self.bindings.is_serving(inst),
+            Action::Delete { inst } => track_of(&self.instances, inst).clients == 0,
+            Action::Move { inst, .. } => track_of(&self.instances, inst).clients == 0,
+        }
+    }
+
+    // Whether the pair in which the instance is provides the port.
+    fn gives(&self, u: &Universe, earlier: &[Action], y: InstNo, r: PortIx) -> bool
+        requires { IsSummary u.now earlier.now self.now }
+        ensures { result ≡ option_map_or (λ q. provides u.now q r) (pair_after u.now earlier.now y) false }
+    {
+        match track_of(&self.instances, y).pair {
+            Some(pair) => u.provides(pair, r),
+            None => false,
         }
     }
 
@@ -70,15 +76,39 @@ impl Summary {
         requires summary { IsSummary u.now earlier.now self.old }
         ensures { OnOk result (IsSummary u.now (earlier.now ++ action.now ∷ []) self.new) }
     {
-        note_track(&mut self.tracks, u, earlier, action)?;
-        note_releases(alloc, &mut self.releases, &self.bindings, earlier, action)?;
-        self.bindings.note(alloc, u, earlier, action)
+        let number = earlier.len() as u32 + 1;
+        let instances = &mut self.instances;
+        match *action {
+            Action::New { inst, kind } => {
+                note_change(
+                    alloc,
+                    instances,
+                    inst,
+                    number,
+                    Change::Made(u.initial(kind)),
+                )?;
+            }
+            Action::Move { inst, to, .. } => {
+                note_change(alloc, instances, inst, number, Change::Moved(to))?;
+            }
+            Action::Bind { port, inst, to } => {
+                if note_change(alloc, instances, inst, number, Change::Bound(port, to))? {
+                    note_change(alloc, instances, to, number, Change::Gained)?;
+                }
+            }
+            Action::Unbind { port, inst, to } => {
+                if note_change(alloc, instances, inst, number, Change::Unbound(port, to))? {
+                    note_change(alloc, instances, to, number, Change::Released)?;
+                }
+            }
+            Action::Delete { inst } => delete(alloc, instances, inst, number)?,
+        }
+        Ok(())
     }
 
     /// The last action of the instance that does the action; and the list becomes the numbers that the action waits for, ascending.
     pub fn note_waits(
         &self,
-        alloc: Global,
         list: &mut Vec<u32>,
         u: &Universe,
         earlier: &[Action],
@@ -89,73 +119,65 @@ impl Summary {
         ensures previous { IfOk result (λ n. n ≡ last_number (is_by (actor_of action.now)) earlier.now) }
         ensures waits { OnOk result (list.new.items ≡ filter (is_wait earlier.now action.now) (numbers earlier.now)) }
     {
-        let track = track_of(&self.tracks, action.actor());
+        let last = track_of(&self.instances, action.actor()).last;
         match *action {
             Action::Bind { to, .. } => {
-                put_both(list, track.last, track_of(&self.tracks, to).entered)?;
+                put_both(list, last, track_of(&self.instances, to).entered)?;
             }
-            Action::Delete { inst } => self.put_releases(alloc, list, u, earlier, inst)?,
-            Action::Move { inst, .. } => self.put_releases(alloc, list, u, earlier, inst)?,
-            Action::New { .. } => put_both(list, track.last, 0)?,
-            Action::Unbind { .. } => put_both(list, track.last, 0)?,
+            Action::Delete { inst } => self.put_releases(list, inst, last)?,
+            Action::Move { inst, .. } => self.put_releases(list, inst, last)?,
+            Action::New { .. } => put_both(list, last, 0)?,
+            Action::Unbind { .. } => put_both(list, last, 0)?,
         }
-        Ok(track.last)
+        Ok(last)
     }
 
-    // The list becomes the last action of the instance, and those that ended a binding to it since it came into its pair.
-    fn put_releases(
-        &self,
-        alloc: Global,
-        list: &mut Vec<u32>,
-        u: &Universe,
-        earlier: &[Action],
-        y: InstNo,
-    ) -> Result<(), NoMemory>
-        requires few { length earlier.now < 2 ^ 32 - 1 }
-        requires summary { IsSummary u.now earlier.now self.now }
-        ensures sorted { OnOk result (IsStrictlySortedBy nat_cmp list.new.items) }
-        ensures members { OnOk result ((m : ℕ) → has list.new.items m ≡ (is_release_of y earlier.now m || has_number (last_number (is_by y) earlier.now) m)) }
+    // The list becomes the number, and those that ended a binding to the instance since it came into its pair.
+    fn put_releases(&self, list: &mut Vec<u32>, y: InstNo, number: u32) -> Result<(), NoMemory>
+        ensures { OnOk result (list.new.items ≡ with_number number (state_at self.now.instances.entries y).releases) }
     {
-        let track = track_of(&self.tracks, y);
-        // Most instances that move have released nobody, and then no set is made.
-        if !has_released(&self.releases, y, track.entered) {
-            put_both(list, track.last, 0)?;
-            return Ok(());
+        match self.instances.get(&y.number()) {
+            Some(instance) => put_with(list, instance.releases(), number),
+            None => put_with(list, &[], number),
         }
-        let mut found = BTreeSet::new(alloc);
-        add_number(&mut found, track.last)?;
-        self.gather_releases(u, earlier, y, &mut found)?;
-        put_listed(list, &found)?;
-        Ok(())
-    }
-
-    // Adds the numbers that ended a binding to the instance since it came into its pair.
-    fn gather_releases(
-        &self,
-        u: &Universe,
-        earlier: &[Action],
-        y: InstNo,
-        waits: &mut BTreeSet<u32>,
-    ) -> Result<(), NoMemory>
-        requires few { length earlier.now < 2 ^ 32 - 1 }
-        requires summary { IsSummary u.now earlier.now self.now }
-        ensures { OnOk result ((m : ℕ) → has waits.new.keys m ≡ (is_release_of y earlier.now m || has waits.old.keys m)) }
-    {
-        add_released(&self.releases, y, track_of(&self.tracks, y).entered, waits)
     }
 }
 
-// The list becomes the numbers in their order.
-fn put_listed(list: &mut Vec<u32>, numbers: &BTreeSet<u32>) -> Result<(), NoMemory>
-    ensures items { OnOk result (list.new.items ≡ numbers.now.keys) }
-    ensures ordered { IsStrictlySortedBy nat_cmp numbers.now.keys }
+// The instance goes, and with it its bindings.
+fn delete(
+    alloc: Global,
+    instances: &mut HashMap<u32, Instance>,
+    z: InstNo,
+    number: u32,
+) -> Result<(), NoMemory>
+    requires counted { (y : ℕ) → length (filter (λ k. k.1 == y) (state_at instances.old.entries z).own) ≤ (state_at instances.old.entries y).track.clients }
+    requires new { (y : ℕ) → IsFalse (is_last number (state_at instances.old.entries y).releases) }
+    ensures { OnOk result ((y : ℕ) → state_at instances.new.entries y ≡ (if z == y then changed number Deleted (let_go number (state_at instances.old.entries z).own y (without_own (state_at instances.old.entries y))) else let_go number (state_at instances.old.entries z).own y (state_at instances.old.entries y))) }
 {
-    let _count = numbers.len();
-    list.clear();
-    for number in numbers {
-        list.push(*number)?;
+    let own = take_own(alloc, instances, z);
+    for (_, provider) in &own {
+        note_change(alloc, instances, *provider, number, Change::Released)?;
     }
+    note_change(alloc, instances, z, number, Change::Deleted)?;
     Ok(())
+}
+
+// The list becomes the numbers, which ascend, with one more at its place, once. A number 0 is none.
+fn put_with(list: &mut Vec<u32>, numbers: &[u32], number: u32) -> Result<(), NoMemory>
+    ensures { OnOk result (list.new.items ≡ with_number number numbers.now) }
+{
+    list.clear();
+    let mut left = number;
+    for each in numbers {
+        if left != 0 && left <= *each {
+            if left < *each {
+                list.push(left)?;
+            }
+            left = 0;
+        }
+        list.push(*each)?;
+    }
+    push_number(list, left)
 }
 
 // The list becomes those of the two numbers that are not 0, ascending and once.
@@ -192,16 +214,6 @@ fn push_number(list: &mut Vec<u32>, number: u32) -> Result<(), NoMemory>
 {
     if number != 0 {
         list.push(number)?;
-    }
-    Ok(())
-}
-
-// Adds the number where it is one, and not 0.
-fn add_number(numbers: &mut BTreeSet<u32>, number: u32) -> Result<(), NoMemory>
-    ensures { OnOk result ((m : ℕ) → has numbers.new.keys m ≡ (has_number number m || has numbers.old.keys m)) }
-{
-    if number != 0 {
-        numbers.insert(number)?;
     }
     Ok(())
 }
