@@ -1,5 +1,5 @@
 -- Bindings that go, one after the other.
-use Rattle.std.proofs.Common.{◌≡◌, ℕ, ◌+◌, ◌-◌, ◌<◌, ◌≤◌, Bool, true, false, cond, ◌||◌, List, [], ◌∷◌, ◌++◌, length, Some, refl, sym, ap, ◌∙◌, arith, nat_eq}
+use Rattle.std.proofs.Common.{◌≡◌, ℕ, ◌+◌, ◌-◌, Bool, true, false, cond, ◌||◌, List, [], ◌∷◌, ◌++◌, length, Some, refl, sym, ap, ◌∙◌, arith, nat_eq}
 use Rattle.std.specs.Prelude.{slice_get}
 use Rattle.std.specs.List.{filter, list_any}
 use Rattle.std.specs.Option.{option_map_or}
@@ -72,15 +72,6 @@ module _ (n y : ℕ) (ks : List (ℕ × ℕ)) (k : ℕ × ℕ) (t : InstanceStat
       or_yes : (b : Bool) → (b || true) ≡ true
       or_yes true = refl
       or_yes false = refl
-
-  -- while one is left there is a client
-  pub one_left : (all rest : List (ℕ × ℕ)) → ks ++ k ∷ rest ≡ all → is_to y k ≡ true → length (filter (is_to y) all) ≤ t.track.clients → 0 < (let_go n ks y t).track.clients
-  one_left all rest parts at enough =
-      let split : length (filter (is_to y) all) ≡ length (filter (is_to y) ks) + length (filter (is_to y) (k ∷ rest)) =
-      ap (λ l. length (filter (is_to y) l)) (sym parts) ∙ ap length (filter-append (is_to y) ks (k ∷ rest)) ∙ length-append (filter (is_to y) ks) (filter (is_to y) (k ∷ rest)) in
-      let some : length (filter (is_to y) (k ∷ rest)) ≡ length (k ∷ filter (is_to y) rest) = ap (λ b. length (cond b (k ∷ filter (is_to y) rest) (filter (is_to y) rest))) at in
-      let shape : length (k ∷ filter (is_to y) rest) ≡ length (filter (is_to y) rest) + 1 = omega arith in
-      omega (arith, split, some, shape, enough)
 
 -- one more goes
 pub one_goes : (n : ℕ) (ks : List (ℕ × ℕ)) (k : ℕ × ℕ) (p : ℕ) (base mid new : ℕ → InstanceState) → p ≡ k.1 → ((y : ℕ) → is_last n (base y).releases ≡ false) →
