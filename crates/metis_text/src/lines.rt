@@ -9,9 +9,6 @@ use metis_ids::{Action, Dup, Event, Ix, PairIx};
 use metis_universe::Universe;
 use std::alloc::{AllocError, Global};
 
-/// The room that a line of an action begins with. A longer one takes more.
-const LINE_ROOM: usize = 128;
-
 pub fn counts_line(
     alloc: Global,
     instances: u32,
@@ -23,100 +20,80 @@ pub fn counts_line(
     format!(in alloc; "instances {instances} actions {count} dups {dups}\n")
 }
 
-/// The line of the action that has this number and waits for those.
-pub fn action_line(
-    alloc: Global,
+/// The line becomes that of the action that has this number and waits for those.
+pub fn set_action_line(
+    line: &mut String,
     u: &Universe,
     number: u32,
     action: &Action,
     after: &[u32],
-) -> Result<String, AllocError>
+) -> Result<(), AllocError>
     requires { IsOf u.now action.now }
-    ensures { IfOk result (λ text. string_bytes text ≡ action_line u.now number (action.now, after.now)) }
+    ensures { OnOk result (string_bytes line.new ≡ action_line u.now number (action.now, after.now)) }
 {
-    let mut line = action_words(alloc, u, number, action)?;
-    push_after(&mut line, after)?;
+    line.clear();
+    push_action(line, u, number, action)?;
+    push_after(line, after)?;
     line.push_str("\n")?;
-    Ok(line)
+    Ok(())
 }
 
-fn action_words(
-    alloc: Global,
+fn push_action(
+    line: &mut String,
     u: &Universe,
     number: u32,
     action: &Action,
-) -> Result<String, AllocError>
+) -> Result<(), AllocError>
     requires { IsOf u.now action.now }
-    ensures { IfOk result (λ text. string_bytes text ≡ words (decimal number ∷ action_tokens u.now action.now)) }
+    ensures { OnOk result (string_bytes line.new ≡ string_bytes line.old ++ words (decimal number ∷ action_tokens u.now action.now)) }
 {
     match *action {
-        Action::New { inst, kind } => new_words(alloc, number, inst.number(), u.type_name(kind)),
-        Action::Delete { inst } => delete_words(alloc, number, inst.number()),
+        Action::New { inst, kind } => push_new(line, number, inst.number(), u.type_name(kind)),
+        Action::Delete { inst } => push_delete(line, number, inst.number()),
         Action::Bind { port, inst, to } => {
             let port = u.port_name(port);
-            tie_words(alloc, number, "bind", port, inst.number(), to.number())
+            push_tie(line, number, "bind", port, inst.number(), to.number())
         }
         Action::Unbind { port, inst, to } => {
             let port = u.port_name(port);
-            tie_words(alloc, number, "unbind", port, inst.number(), to.number())
+            push_tie(line, number, "unbind", port, inst.number(), to.number())
         }
         Action::Move { inst, from, to } => {
             let (from, to) = (u.state_name(from), u.state_name(to));
-            move_words(alloc, number, inst.number(), from, to)
+            push_move(line, number, inst.number(), from, to)
         }
     }
 }
 
-// An empty line with room for most lines, so that it seldom has to grow.
-fn roomy_line(alloc: Global) -> Result<String, AllocError>
-    ensures { IfOk result (λ line. string_bytes line ≡ []) }
+fn push_new(line: &mut String, number: u32, z: u32, kind: &str) -> Result<(), AllocError>
+    ensures { OnOk result (string_bytes line.new ≡ string_bytes line.old ++ words (decimal number ∷ codes "new" ∷ decimal z ∷ kind.now ∷ [])) }
 {
-    String::with_capacity(alloc, LINE_ROOM)
+    write!(line, "{number} new {z} {kind}")
 }
 
-fn new_words(alloc: Global, number: u32, z: u32, kind: &str) -> Result<String, AllocError>
-    ensures { IfOk result (λ text. string_bytes text ≡ words (decimal number ∷ codes "new" ∷ decimal z ∷ kind.now ∷ [])) }
+fn push_delete(line: &mut String, number: u32, z: u32) -> Result<(), AllocError>
+    ensures { OnOk result (string_bytes line.new ≡ string_bytes line.old ++ words (decimal number ∷ codes "delete" ∷ decimal z ∷ [])) }
 {
-    let mut line = roomy_line(alloc)?;
-    write!(line, "{number} new {z} {kind}")?;
-    Ok(line)
+    write!(line, "{number} delete {z}")
 }
 
-fn delete_words(alloc: Global, number: u32, z: u32) -> Result<String, AllocError>
-    ensures { IfOk result (λ text. string_bytes text ≡ words (decimal number ∷ codes "delete" ∷ decimal z ∷ [])) }
-{
-    let mut line = roomy_line(alloc)?;
-    write!(line, "{number} delete {z}")?;
-    Ok(line)
-}
-
-fn tie_words(
-    alloc: Global,
+fn push_tie(
+    line: &mut String,
     number: u32,
     verb: &str,
     port: &str,
     z: u32,
     y: u32,
-) -> Result<String, AllocError>
-    ensures { IfOk result (λ text. string_bytes text ≡ words (decimal number ∷ verb.now ∷ port.now ∷ decimal z ∷ decimal y ∷ [])) }
+) -> Result<(), AllocError>
+    ensures { OnOk result (string_bytes line.new ≡ string_bytes line.old ++ words (decimal number ∷ verb.now ∷ port.now ∷ decimal z ∷ decimal y ∷ [])) }
 {
-    let mut line = roomy_line(alloc)?;
-    write!(line, "{number} {verb} {port} {z} {y}")?;
-    Ok(line)
+    write!(line, "{number} {verb} {port} {z} {y}")
 }
 
-fn move_words(
-    alloc: Global,
-    number: u32,
-    z: u32,
-    from: &str,
-    to: &str,
-) -> Result<String, AllocError>
-    ensures { IfOk result (λ text. string_bytes text ≡ words (decimal number ∷ codes "move" ∷ decimal z ∷ from.now ∷ to.now ∷ [])) }
+fn push_move(line: &mut String, number: u32, z: u32, from: &str, to: &str) -> Result<(), AllocError>
+    ensures { OnOk result (string_bytes line.new ≡ string_bytes line.old ++ words (decimal number ∷ codes "move" ∷ decimal z ∷ from.now ∷ to.now ∷ [])) }
 {
-    let mut line = roomy_line(alloc)?;
-    write!(line, "{number} move {z} {from} {to}")?;
-    Ok(line)
+    write!(line, "{number} move {z} {from} {to}")
 }
 
 fn push_after(line: &mut String, after: &[u32]) -> Result<(), AllocError>

@@ -9,13 +9,16 @@ ghost use Rattle.metis_universe.specs.Waits.{numbers};
 ghost use Rattle.metis_waits.specs.Waits.{AreWaits, list_of, waits_on_others};
 ghost use Rattle.metis_text.specs.PlanText.{action_line, action_lines, counts_of, dup_line, dup_lines, plan_body, plan_end, plan_lines, plan_rest};
 
-use crate::lines::{action_line, counts_line, dup_line};
+use crate::lines::{counts_line, dup_line, set_action_line};
 use crate::put::put_line;
 use metis_ids::{Action, Dup, Plan};
 use metis_outside::{Sink, Trouble};
 use metis_universe::Universe;
 use metis_waits::Waits;
 use std::alloc::Global;
+
+/// The room that the line of an action begins with. A longer one takes more.
+const LINE_ROOM: usize = 128;
 
 /// Puts the text of the plan, each line as one piece. Behind each action stand the numbers of the other actions that it waits
 /// for, without its own instance's previous one.
@@ -112,6 +115,7 @@ fn write_counts<K: Sink>(alloc: Global, p: &Plan, out: &mut K) -> Result<(), Tro
     put_line(line.as_bytes(), out)
 }
 
+#[tactic(auto, using(metis_outside::proofs::Writing::front_of_nothing))]
 fn write_actions<K: Sink>(
     alloc: Global,
     u: &Universe,
@@ -125,16 +129,18 @@ fn write_actions<K: Sink>(
     ensures text { Writes (action_lines u.now actions.now w.now.others) (K.written out.old) (K.written out.new) result }
     ensures cause { CountsFault (K.faults out.old) (K.faults out.new) result }
 {
+    let mut line = String::with_capacity(alloc, LINE_ROOM)?;
     for (index, action) in actions.iter().enumerate() {
         let number = index as u32 + 1;
-        write_action(alloc, u, number, action, w, out)?;
+        write_action(&mut line, u, number, action, w, out)?;
     }
     Ok(())
 }
 
+// Puts the line of the action. It is made in the given one, whatever that has.
 #[tactic(auto, using(metis_outside::proofs::Writing::front_of_nothing))]
 fn write_action<K: Sink>(
-    alloc: Global,
+    line: &mut String,
     u: &Universe,
     number: u32,
     action: &Action,
@@ -147,7 +153,7 @@ fn write_action<K: Sink>(
     ensures text { Writes (action_line u.now number (action.now, list_of w.now.others number) ∷ []) (K.written out.old) (K.written out.new) result }
     ensures cause { CountsFault (K.faults out.old) (K.faults out.new) result }
 {
-    let line = action_line(alloc, u, number, action, w.after(number))?;
+    set_action_line(line, u, number, action, w.after(number))?;
     put_line(line.as_bytes(), out)
 }
 

@@ -14,7 +14,7 @@ write_action-requires-clause-last g c = is_listed c.args.actions.now c.args.w.no
 
 pub returns-in_err-write_action-clause-text : goal.returns-in_err-write_action-clause-text
 returns-in_err-write_action-clause-text g c =
-    let p = err_from_is_err_and c.from_residual.result c.from_residual.ensures.1 in
+    let p = err_from_is_err_and c.from_residual-in_err-write_action.result c.from_residual-in_err-write_action.ensures.1 in
     let actions = c.args.actions.now in
     let w = c.args.w.now in
     let i = c.loop-index.index in
