@@ -113,12 +113,6 @@ module _ (g : Graph) (ok : IsGraph g) where
   pub waiting_first : (n : ℕ) → length (befores g n) ≡ waiting g [] n
   waiting_first n = length-befores n ∙ ap length (filter_agree (λ e. nat_eq e.1 n) (awaits [] n) (λ e. sym (and_true (nat_eq e.1 n))) g.edges)
 
-  pub few_afters : (a : ℕ) → length (afters g a) ≤ length g.edges
-  few_afters a = let e = length-afters a in let f = filter_short (λ e. nat_eq e.0 a) g.edges in omega arith
-
-  pub few_befores : (n : ℕ) → length (befores g n) ≤ length g.edges
-  few_befores n = let e = length-befores n in let f = filter_short (λ e. nat_eq e.1 n) g.edges in omega arith
-
 -- ---- entries of pieces
 
 occurrences-same : (n k b : ℕ) → b ≡ n → occurrences n (replicate k b) ≡ k
