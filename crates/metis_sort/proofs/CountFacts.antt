@@ -130,7 +130,7 @@ occurrences-outside f n (suc m) a out =
     let rest = occurrences-outside f n m (a + 1) (λ b low high. out b (omega arith) (omega arith)) in
     omega (arith, occurrences-append n (replicate (f a) a) (flat_map (λ b. replicate (f b) b) (range_with_len (a + 1) m)), now, rest)
 
-occurrences-inside : (f : ℕ → ℕ) (n m a : ℕ) → a ≤ n → n < a + m → occurrences n (flat_map (λ b. replicate (f b) b) (range_with_len a m)) ≡ f n
+pub occurrences-inside : (f : ℕ → ℕ) (n m a : ℕ) → a ≤ n → n < a + m → occurrences n (flat_map (λ b. replicate (f b) b) (range_with_len a m)) ≡ f n
 occurrences-inside f n zero a low high = absurd (omega arith)
 occurrences-inside f n (suc m) a low high =
     let parts = occurrences-append n (replicate (f a) a) (flat_map (λ b. replicate (f b) b) (range_with_len (a + 1) m)) in
