@@ -1,9 +1,9 @@
 //! The graph of events.
-ghost use Rattle.std.specs.Prelude.{◌≡◌, ◌<◌, ◌≤◌, ◌+◌, ◌^◌, ◌++◌, length, IfOk, OnOk};
+ghost use Rattle.std.specs.Prelude.{◌≡◌, ◌<◌, ◌≤◌, ◌+◌, ◌^◌, ◌++◌, length, map, IfOk, OnOk};
 ghost use Rattle.metis_support.specs.Support.{IsSupport};
 ghost use Rattle.metis_lines.specs.Events.{events, events_of};
 ghost use Rattle.metis_lines.specs.LifeLines.{AreLines, plan_of};
-ghost use Rattle.metis_events.specs.Edges.{edges_into, event_at, graph_of, node_of};
+ghost use Rattle.metis_events.specs.Edges.{before, edges_into, event_at, graph_of, node_of};
 ghost use Rattle.metis_events.specs.Gathered.{without_supplies};
 ghost use Rattle.metis_events.specs.Numbered.{dag_of};
 
@@ -50,13 +50,9 @@ impl EventGraph {
         requires lines { AreLines u.now s.now l.now }
         ensures { IfOk result (λ g. g ≡ graph_of (plan_of u.now s.now l.now)) }
     {
-        u.keeps_invariant();
         let events = all_events(alloc, l)?;
         let starts = line_starts(alloc, l)?;
-        let mut gathered = EdgeList::new(alloc);
-        add_go_edges(&mut gathered, l)?;
-        add_supplies(&mut gathered, u, s, l)?;
-        let edges = edge_rows(alloc, &events, &starts, &gathered)?;
+        let edges = edges_into_all(alloc, u, s, l, &events, &starts)?;
         let afters = after_rows(alloc, &events, &starts, &edges)?;
         Ok(EventGraph {
             events,
@@ -121,6 +117,26 @@ impl Reach for EventGraph {
         let from = place_of(&self.events, &self.starts, &edge.from)?;
         Some(NodeIx(from as u32))
     }
+}
+
+// The edges into each of the events, which are all.
+fn edges_into_all(
+    alloc: Global,
+    u: &Universe,
+    s: &Support,
+    l: &Lines,
+    all: &[Event],
+    starts: &[usize],
+) -> Result<Vec<EdgeRow>, NoMemory>
+    requires support { IsSupport u.now s.now }
+    requires lines { AreLines u.now s.now l.now }
+    requires all { all.now ≡ events (plan_of u.now s.now l.now) }
+    ensures { IfOk result (λ rows. rows.items ≡ map (before (plan_of u.now s.now l.now)) all.now) }
+{
+    let mut gathered = EdgeList::new(alloc);
+    add_go_edges(&mut gathered, l)?;
+    add_supplies(&mut gathered, u, s, l)?;
+    edge_rows(alloc, all, starts, &gathered)
 }
 
 // All events of the lines, in order.
