@@ -10,4 +10,5 @@ pub mod Joins
 pub mod Numbered
 pub mod Ranks
 pub mod Returns
+pub mod Successors
 pub mod Targets

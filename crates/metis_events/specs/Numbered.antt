@@ -4,15 +4,18 @@
 --     joins_into g b      the edges into event b, as pairs of numbers
 --     dag_of g      the graph whose nodes are these numbers, and whose last node is the last of them
 --     IsJoined g      there is an event, and each edge leads from an event of the graph
+--     numbers_into g b      the numbers of the events from which the edges into event b lead
+--     IsKept events edges after      the events ascend, each has its edges, and the numbers of the events to which edges lead from it
 --     nth_event w n      the event of the number, by line and then by step, `End` last
 --     IsGraphOf w g      g has the events' numbers as nodes, that of `End` as its last one, and an edge where one event precedes another
-use Rattle.std.specs.Prelude.{ℕ, suc, ◌≡◌, ◌<◌, ◌-◌, List, [], length, map, slice_index_or}
+use Rattle.std.specs.Prelude.{ℕ, suc, ◌≡◌, ◌<◌, ◌-◌, ◌^◌, List, [], length, map, slice_index_or}
 use Rattle.std.specs.List.{All, flat_map, position_or_len, range_with_len}
+use Rattle.std.specs.List.Sorted.{IsStrictlySortedBy}
 use Rattle.metis_ids.specs.declared.events.Event.{Event}
 use Rattle.metis_ids.specs.declared.events.Event.TheVariants.{End}
-use Rattle.metis_ids.specs.Graph.{Graph, IsGraph, is_edge}
+use Rattle.metis_ids.specs.Graph.{Graph, IsGraph, afters, befores, is_edge}
 use Rattle.metis_lines.specs.AbstractPlan.{AbstractPlan}
-use Rattle.metis_lines.specs.Events.{events, precedes, same_event}
+use Rattle.metis_lines.specs.Events.{event_cmp, events, precedes, same_event}
 use Rattle.metis_events.specs.declared.edges.Edge.{Edge}
 use Rattle.metis_events.specs.Edges.{EventGraph}
 
@@ -31,6 +34,18 @@ dag_of g = record { nodes = length g.events; edges = flat_map (joins_into g) (ra
 pub record IsJoined (g : EventGraph) : Type 0 where
   pub some : 0 < length g.events
   pub from : All (λ row. All (λ (e : Edge). number_of g e.from < length g.events) row) g.edges
+
+abbrev pub numbers_into : EventGraph → ℕ → List ℕ
+numbers_into g b = map (λ (e : Edge). number_of g e.from) (slice_index_or g.edges b [])
+
+pub record IsKept (events : List Event) (edges : List (List Edge)) (after : List (List ℕ)) : Type 0 where
+  pub each : length edges ≡ length events
+  pub few : length events < 2 ^ 32
+  pub ascend : IsStrictlySortedBy event_cmp events
+  pub joined : IsJoined (graph_by events edges)
+  pub rows : length after ≡ length events
+  pub each_afters : (n : ℕ) → n < length events → slice_index_or after n [] ≡ afters (dag_of (graph_by events edges)) n
+  pub each_befores : (n : ℕ) → n < length events → numbers_into (graph_by events edges) n ≡ befores (dag_of (graph_by events edges)) n
 
 abbrev pub nth_event : AbstractPlan → ℕ → Event
 nth_event w n = slice_index_or (events w) n End

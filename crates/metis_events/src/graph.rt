@@ -1,62 +1,64 @@
 //! The graph of events.
 ghost use Rattle.std.specs.Prelude.{◌≡◌, ◌<◌, ◌≤◌, ◌+◌, ◌^◌, ◌++◌, length, map, IfOk, OnOk};
-ghost use Rattle.std.specs.List.{All, position_or_len};
-ghost use Rattle.std.specs.List.Sorted.{IsStrictlySortedBy};
 ghost use Rattle.metis_support.specs.Support.{IsSupport};
-ghost use Rattle.metis_lines.specs.Events.{event_cmp, events, events_of, same_event};
+ghost use Rattle.metis_lines.specs.Events.{events, events_of};
 ghost use Rattle.metis_lines.specs.LifeLines.{AreLines, plan_of};
-ghost use Rattle.metis_events.specs.Edges.{IsKept, edges_into, event_at, graph_of, node_of};
+ghost use Rattle.metis_events.specs.Edges.{before, edges_into, event_at, graph_of, node_of};
 ghost use Rattle.metis_events.specs.Gathered.{without_supplies};
-ghost use Rattle.metis_events.specs.Numbered.{IsJoined, dag_of, graph_by};
+ghost use Rattle.metis_events.specs.Numbered.{dag_of};
 
+use crate::afters::after_rows;
 use crate::edges::{Edge, EdgeList};
 use crate::gather::{add_go_edges, add_supplies, step_count};
 use crate::rows::{EdgeRow, edge_rows, place_of};
-use metis_ids::{Event, LineIx, NoMemory, NodeIx, StepIx};
+use metis_ids::{Event, LineIx, NoMemory, NodeIx, StepIx, Steps};
 use metis_lines::Lines;
-use metis_sort::Dag;
+use metis_sort::{NodeRow, Reach};
 use metis_support::Support;
 use metis_universe::Universe;
 use std::alloc::Global;
 use std::marker::Model;
+use std::sync::ledger::Ledger;
 
-/// The events, numbered from 0, with the edges into each.
+/// The events, numbered from 0, with the edges into each. As a graph that is sorted it has these numbers, and its last event as the
+/// last node.
 #[derive(Drop)]
 pub struct EventGraph {
     events: Vec<Event>,
     /// Where the events of each line start.
     starts: Vec<usize>,
     edges: Vec<EdgeRow>,
+    /// For each event, the numbers of the events to which edges lead from it.
+    afters: Vec<NodeRow>,
 }
 
 impl Model for EventGraph {
     ghost use Rattle.metis_events.specs.Edges as model;
+    ghost use Rattle.metis_events.specs.Numbered.{IsKept};
 
     ghost Value = { model.EventGraph };
 
     ghost view = { λ a. record { events = a.events.items; edges = a.edges.items } };
 
-    ghost invariant = { λ a. model.IsKept a.events.items a.edges.items };
+    ghost invariant = { λ a. IsKept a.events.items a.edges.items a.afters.items };
 }
 
 impl EventGraph {
-    /// The graph of the lines over a support. It goes once over the events and the supplies, and sorts the edges.
+    /// The graph of the lines over a support. It goes once over the events and the supplies, sorts the edges, and goes once over them.
     pub fn of(alloc: Global, u: &Universe, s: &Support, l: &Lines) -> Result<EventGraph, NoMemory>
         requires support { IsSupport u.now s.now }
         requires lines { AreLines u.now s.now l.now }
         ensures { IfOk result (λ g. g ≡ graph_of (plan_of u.now s.now l.now)) }
     {
-        u.keeps_invariant();
         let events = all_events(alloc, l)?;
         let starts = line_starts(alloc, l)?;
-        let mut gathered = EdgeList::new(alloc);
-        add_go_edges(&mut gathered, l)?;
-        add_supplies(&mut gathered, u, s, l)?;
-        let edges = edge_rows(alloc, &events, &starts, &gathered)?;
+        let edges = edges_into_all(alloc, u, s, l, &events, &starts)?;
+        let afters = after_rows(alloc, &events, &starts, &edges)?;
         Ok(EventGraph {
             events,
             starts,
             edges,
+            afters,
         })
     }
 
@@ -86,61 +88,55 @@ impl EventGraph {
     {
         self.events[n.0 as usize]
     }
+}
 
-    /// The graph of the events' numbers, with the last of them as its last node. It goes once over the edges.
-    pub fn dag(&self, alloc: Global) -> Result<Dag, NoMemory>
-        requires { IsJoined self.now }
-        ensures { IfOk result (λ g. g ≡ dag_of self.now) }
-    {
-        let joins = all_joins(alloc, &self.events, &self.starts, &self.edges)?;
-        // A graph counts its edges in 32 bits. The lines of a universe never have so many.
-        if joins.len() >= 1 << 32 {
-            return Err(NoMemory);
-        }
-        let count = self.events.len() as u32;
-        Dag::new(alloc, count, joins, NodeIx(count - 1))
+impl Reach for EventGraph {
+    ghost graph = { dag_of };
+
+    fn nodes(&self) -> u32 {
+        self.events.len() as u32
+    }
+
+    fn last_node(&self) -> NodeIx {
+        NodeIx(self.events.len() as u32 - 1)
+    }
+
+    fn indegree<L: Ledger>(&self, n: NodeIx, steps: &mut Steps<L>) -> usize {
+        steps.tick();
+        self.edges[n.0 as usize].len()
+    }
+
+    fn after_at<L: Ledger>(&self, n: NodeIx, k: usize, steps: &mut Steps<L>) -> Option<NodeIx> {
+        steps.tick();
+        self.afters[n.0 as usize].get(k)
+    }
+
+    fn before_at<L: Ledger>(&self, n: NodeIx, k: usize, steps: &mut Steps<L>) -> Option<NodeIx> {
+        steps.tick();
+        let edge = self.edges[n.0 as usize].get(k)?;
+        let from = place_of(&self.events, &self.starts, &edge.from)?;
+        Some(NodeIx(from as u32))
     }
 }
 
-// The edges into all events, as pairs of numbers.
-fn all_joins(
+// The edges into each of the events, which are all.
+fn edges_into_all(
     alloc: Global,
-    events: &[Event],
+    u: &Universe,
+    s: &Support,
+    l: &Lines,
+    all: &[Event],
     starts: &[usize],
-    rows: &[EdgeRow],
-) -> Result<Vec<(NodeIx, NodeIx)>, NoMemory>
-    requires kept { IsKept events.now rows.now }
-    requires joined { IsJoined (graph_by events.now rows.now) }
-    ensures joins { IfOk result (λ joins. joins.items ≡ (dag_of (graph_by events.now rows.now)).edges) }
-    ensures from { IfOk result (λ joins. All (λ e. e.0 < length events.now) joins.items) }
-    ensures to { IfOk result (λ joins. All (λ e. e.1 < length events.now) joins.items) }
+) -> Result<Vec<EdgeRow>, NoMemory>
+    requires support { IsSupport u.now s.now }
+    requires lines { AreLines u.now s.now l.now }
+    requires all { all.now ≡ events (plan_of u.now s.now l.now) }
+    ensures { IfOk result (λ rows. rows.items ≡ map (before (plan_of u.now s.now l.now)) all.now) }
 {
-    let mut joins = Vec::new(alloc);
-    for number in 0..rows.len() {
-        let to = NodeIx(number as u32);
-        add_joins(&mut joins, events, starts, rows[number].as_slice(), to)?;
-    }
-    Ok(joins)
-}
-
-// Appends the edges into an event, as pairs of numbers.
-fn add_joins(
-    joins: &mut Vec<(NodeIx, NodeIx)>,
-    events: &[Event],
-    starts: &[usize],
-    row: &[Edge],
-    to: NodeIx,
-) -> Result<(), NoMemory>
-    requires ascend { IsStrictlySortedBy event_cmp events.now }
-    requires few { length events.now < 2 ^ 32 }
-    requires from { All (λ e. position_or_len (same_event e.from) events.now < length events.now) row.now }
-    ensures { OnOk result (joins.new.items ≡ joins.old.items ++ map (λ e. (position_or_len (same_event e.from) events.now, to)) row.now) }
-{
-    for edge in row {
-        let from = place_of(events, starts, &edge.from).unwrap();
-        joins.push((NodeIx(from as u32), to))?;
-    }
-    Ok(())
+    let mut gathered = EdgeList::new(alloc);
+    add_go_edges(&mut gathered, l)?;
+    add_supplies(&mut gathered, u, s, l)?;
+    edge_rows(alloc, all, starts, &gathered)
 }
 
 // All events of the lines, in order.
@@ -158,7 +154,7 @@ fn all_events(alloc: Global, l: &Lines) -> Result<Vec<Event>, NoMemory>
 
 // Where the events of each line start.
 fn line_starts(alloc: Global, l: &Lines) -> Result<Vec<usize>, NoMemory> {
-    let mut starts = Vec::new(alloc);
+    let mut starts = Vec::with_capacity(alloc, l.count() as usize)?;
     let mut start: usize = 0;
     for number in 0..l.count() {
         starts.push(start)?;

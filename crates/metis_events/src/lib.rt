@@ -1,6 +1,7 @@
 //! What has to happen before what on life lines, as a graph.
 #![tactic(auto)]
 
+mod afters;
 mod edges;
 mod gather;
 pub mod graph;

@@ -1,5 +1,5 @@
 //! The edges into each event.
-ghost use Rattle.std.specs.Prelude.{◌≡◌, ◌++◌, ◌∷◌, [], List, length, map, position, IfOk, OnOk};
+ghost use Rattle.std.specs.Prelude.{◌≡◌, ◌<◌, ◌+◌, ◌^◌, ◌++◌, ◌∷◌, [], List, length, map, position, slice_get, IfOk, IfSome, OnOk};
 ghost use Rattle.std.specs.List.Sorted.{IsStrictlySortedBy};
 ghost use Rattle.metis_lines.specs.Events.{event_cmp, same_event};
 ghost use Rattle.metis_events.specs.Edges.{edge_of};
@@ -60,6 +60,20 @@ impl EdgeRow {
     {
         self.edges.as_slice()
     }
+
+    pub fn len(&self) -> usize
+        ensures { result ≡ length self.now }
+    {
+        self.edges.len()
+    }
+
+    /// The edge of a place, and none past the end. Where there is one, the next place can be counted.
+    pub fn get(&self, k: usize) -> Option<Edge>
+        ensures value { result ≡ slice_get self.now k }
+        ensures next { IfSome result (λ _. k + 1 < 2 ^ 64) }
+    {
+        self.edges.get(k).copied()
+    }
 }
 
 /// The edges that lead into each of the events, which ascend: in order, each once.
@@ -111,7 +125,7 @@ fn add_edge(
 fn empty_rows(alloc: Global, events: &[Event]) -> Result<Vec<EdgeRow>, NoMemory>
     ensures { IfOk result (λ rows. rows.items ≡ map (λ _. []) events.now) }
 {
-    let mut rows = Vec::new(alloc);
+    let mut rows = Vec::with_capacity(alloc, events.len())?;
     for _event in events {
         rows.push(EdgeRow::new(alloc))?;
     }

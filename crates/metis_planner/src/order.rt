@@ -14,7 +14,7 @@ use metis_emit::emit;
 use metis_events::EventGraph;
 use metis_ids::{Action, Event, NoMemory, NodeIx};
 use metis_lines::Lines;
-use metis_sort::{Dag, Sorted, sort};
+use metis_sort::{Sorted, sort};
 use metis_support::Support;
 use metis_universe::Universe;
 use std::alloc::Global;
@@ -33,28 +33,10 @@ pub fn ordered_actions(
 {
     u.keeps_invariant();
     let graph = EventGraph::of(alloc, u, s, lines)?;
-    let dag = dag_over(alloc, u, s, lines, &graph)?;
-    match sort(alloc, &dag)? {
+    match sort(alloc, &graph)? {
         Sorted::Order(nodes) => actions_of(alloc, u, s, lines, &graph, &nodes),
         Sorted::Cycle(_) => unreachable!(),
     }
-}
-
-// The graph of the events' numbers.
-fn dag_over(
-    alloc: Global,
-    u: &Universe,
-    s: &Support,
-    lines: &Lines,
-    graph: &EventGraph,
-) -> Result<Dag, NoMemory>
-    requires support { IsSupport u.now s.now }
-    requires lines { AreLines u.now s.now lines.now }
-    requires graph { graph.now ≡ graph_of (plan_of u.now s.now lines.now) }
-    ensures { IfOk result (λ d. d ≡ dag_of graph.now) }
-{
-    u.keeps_invariant();
-    graph.dag(alloc)
 }
 
 // The actions of the events of these nodes, which are the order of the graph.

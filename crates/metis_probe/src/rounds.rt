@@ -1,4 +1,4 @@
-ghost use Rattle.std.specs.Prelude.{◌≡◌, ◌≤◌, ℕ, IfOk, IsTrue, length};
+ghost use Rattle.std.specs.Prelude.{◌≡◌, ◌≤◌, ℕ, IsTrue, length};
 ghost use Rattle.metis_universe.specs.Universe.{has};
 ghost use Rattle.metis_support.specs.Support.{IsSupport, is_selected};
 ghost use Rattle.metis_lines.specs.LifeLines.{AreLines, plan_of};
@@ -13,11 +13,11 @@ use crate::life_lines::{first_loose, print_lines};
 use crate::stop::Stop;
 use metis_choice::{Choice, choose};
 use metis_emit::{emit, least_order_ends_late, sorted_numbers_are_least};
-use metis_events::{EventGraph, dag_is_of_the_plan, graphs_are_joined};
+use metis_events::{EventGraph, dag_is_of_the_plan};
 use metis_ids::{NodeIx, PairIx, order_is_a_sorting};
 use metis_layers::layers;
 use metis_lines::Lines;
-use metis_sort::{Dag, Reach, Sorted, sort};
+use metis_sort::{Reach, Sorted, sort};
 use metis_support::Support;
 use metis_universe::Universe;
 use std::alloc::Global;
@@ -102,10 +102,9 @@ fn print_round<R: Print + AllocGlobal>(
 {
     print_lines(rt, s, lines)?;
     let graph = EventGraph::of(rt.alloc(), u, s, lines)?;
-    let dag = dag_over(rt.alloc(), u, s, lines, &graph)?;
-    print_edges(rt, &graph, dag.nodes())?;
-    let sorted = sort(rt.alloc(), &dag)?;
-    print_sorted(rt, &graph, dag.nodes(), &sorted)?;
+    print_edges(rt, &graph, graph.nodes())?;
+    let sorted = sort(rt.alloc(), &graph)?;
+    print_sorted(rt, &graph, graph.nodes(), &sorted)?;
     print_order(rt, u, s, lines, &graph, &sorted)
 }
 
@@ -172,10 +171,9 @@ fn counts<R: Print + AllocGlobal>(
     let (count, loose) = (lines.count(), lines.loose());
     println!(rt; "lines {count} loose {loose}")?;
     let graph = EventGraph::of(rt.alloc(), u, s, &lines)?;
-    let dag = dag_over(rt.alloc(), u, s, &lines, &graph)?;
-    let (events, edges) = (dag.nodes(), count_edges(&graph, dag.nodes()));
+    let (events, edges) = (graph.nodes(), count_edges(&graph, graph.nodes()));
     println!(rt; "events {events} edges {edges}")?;
-    print_length(rt, &sort(rt.alloc(), &dag)?)
+    print_length(rt, &sort(rt.alloc(), &graph)?)
 }
 
 fn print_length<R: Print>(rt: &R, sorted: &Sorted) -> Result<(), Stop> {
@@ -185,21 +183,4 @@ fn print_length<R: Print>(rt: &R, sorted: &Sorted) -> Result<(), Stop> {
     };
     println!(rt; "{word} of {length}")?;
     Ok(())
-}
-
-fn dag_over(
-    alloc: Global,
-    u: &Universe,
-    s: &Support,
-    lines: &Lines,
-    graph: &EventGraph,
-) -> Result<Dag, Stop>
-    requires over { IsSupport u.now s.now }
-    requires lines { AreLines u.now s.now lines.now }
-    requires graph { graph.now ≡ graph_of (plan_of u.now s.now lines.now) }
-    ensures { IfOk result (λ d. d ≡ dag_of graph.now) }
-{
-    u.keeps_invariant();
-    graphs_are_joined();
-    Ok(graph.dag(alloc)?)
 }

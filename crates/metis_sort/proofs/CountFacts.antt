@@ -113,12 +113,6 @@ module _ (g : Graph) (ok : IsGraph g) where
   pub waiting_first : (n : ℕ) → length (befores g n) ≡ waiting g [] n
   waiting_first n = length-befores n ∙ ap length (filter_agree (λ e. nat_eq e.1 n) (awaits [] n) (λ e. sym (and_true (nat_eq e.1 n))) g.edges)
 
-  pub few_afters : (a : ℕ) → length (afters g a) ≤ length g.edges
-  few_afters a = let e = length-afters a in let f = filter_short (λ e. nat_eq e.0 a) g.edges in omega arith
-
-  pub few_befores : (n : ℕ) → length (befores g n) ≤ length g.edges
-  few_befores n = let e = length-befores n in let f = filter_short (λ e. nat_eq e.1 n) g.edges in omega arith
-
 -- ---- entries of pieces
 
 occurrences-same : (n k b : ℕ) → b ≡ n → occurrences n (replicate k b) ≡ k
@@ -136,7 +130,7 @@ occurrences-outside f n (suc m) a out =
     let rest = occurrences-outside f n m (a + 1) (λ b low high. out b (omega arith) (omega arith)) in
     omega (arith, occurrences-append n (replicate (f a) a) (flat_map (λ b. replicate (f b) b) (range_with_len (a + 1) m)), now, rest)
 
-occurrences-inside : (f : ℕ → ℕ) (n m a : ℕ) → a ≤ n → n < a + m → occurrences n (flat_map (λ b. replicate (f b) b) (range_with_len a m)) ≡ f n
+pub occurrences-inside : (f : ℕ → ℕ) (n m a : ℕ) → a ≤ n → n < a + m → occurrences n (flat_map (λ b. replicate (f b) b) (range_with_len a m)) ≡ f n
 occurrences-inside f n zero a low high = absurd (omega arith)
 occurrences-inside f n (suc m) a low high =
     let parts = occurrences-append n (replicate (f a) a) (flat_map (λ b. replicate (f b) b) (range_with_len (a + 1) m)) in

@@ -78,7 +78,7 @@ row_more rows first row new x n to i low is added within here old y =
 
 -- ---- the whole graph
 
-pieces_alike : (f h : ℕ → ℕ) (m a : ℕ) → ((b : ℕ) → a ≤ b → b < a + m → f b ≡ h b) → flat_map (λ b. replicate (f b) b) (range_with_len a m) ≡ flat_map (λ b. replicate (h b) b) (range_with_len a m)
+pub pieces_alike : (f h : ℕ → ℕ) (m a : ℕ) → ((b : ℕ) → a ≤ b → b < a + m → f b ≡ h b) → flat_map (λ b. replicate (f b) b) (range_with_len a m) ≡ flat_map (λ b. replicate (h b) b) (range_with_len a m)
 pieces_alike f h zero a same = refl
 pieces_alike f h (suc m) a same =
     let now = same a (omega arith) (omega arith) in
@@ -119,10 +119,9 @@ module _ (g : Graph) (ok : IsGraph g) (ends : List (List ℕ)) (size : length en
         ∙ ap (λ m. flat_map (λ i. replicate (occurrences x (get_or after i [])) i) (range_with_len 0 m)) same
         ∙ pieces_alike (λ i. occurrences x (get_or after i [])) (λ i. edge_count g i x) g.nodes 0 (λ b _ high. ap (occurrences x) (afters_is b (omega arith)) ∙ occurrences-afters g ok b x)
 
-    pub is_dag : (before : List (List ℕ)) → length before ≡ length after → ((x : ℕ) → x < length after → get_or before x [] ≡ turned_row after x) → length g.edges < 2 ^ 32 → g.nodes < 2 ^ 32 → IsDag g after before
-    is_dag before before_size turned_again few small = record {
+    pub is_dag : (before : List (List ℕ)) → length before ≡ length after → ((x : ℕ) → x < length after → get_or before x [] ≡ turned_row after x) → g.nodes < 2 ^ 32 → IsDag g after before
+    is_dag before before_size turned_again small = record {
       graph = ok;
-      few = few;
       small = small;
       afters_size = after_size ∙ size;
       befores_size = before_size ∙ after_size ∙ size;

@@ -7,24 +7,11 @@ ghost use Rattle.metis_ids.specs.Counts.{occurrences};
 ghost use Rattle.metis_sort.specs.Dag.{turned_row};
 
 use crate::reach::Reach;
+use crate::rows::{NodeRow, empty_rows};
 use metis_ids::{NoMemory, NodeIx, Steps};
 use std::alloc::Global;
 use std::marker::Model;
 use std::sync::ledger::Ledger;
-
-/// Some nodes. Contracts see them as their list.
-#[derive(Drop)]
-struct NodeRow {
-    nodes: Vec<NodeIx>,
-}
-
-impl Model for NodeRow {
-    ghost use Rattle.std.specs.Prelude.{List, ℕ};
-
-    ghost Value = { List ℕ };
-
-    ghost view = { λ a. a.nodes.items };
-}
 
 /// A graph. Contracts see it as its nodes, its edges and its last node.
 #[derive(Drop)]
@@ -57,7 +44,6 @@ impl Dag {
         requires last { last < n }
         requires from { All (λ e. e.0 < n) edges.items }
         requires to { All (λ e. e.1 < n) edges.items }
-        requires few { length edges.items < 2 ^ 32 }
         ensures { IfOk result (λ g. g ≡ record { nodes = n; edges = edges.items; last = last }) }
     {
         let ends = rows_by_end(alloc, n as usize, &edges)?;
@@ -83,44 +69,20 @@ impl Reach for Dag {
         self.last
     }
 
-    fn indegree<L: Ledger>(&self, n: NodeIx, steps: &mut Steps<L>) -> u32 {
+    fn indegree<L: Ledger>(&self, n: NodeIx, steps: &mut Steps<L>) -> usize {
         steps.tick();
-        let row = &self.before[n.0 as usize];
-        row.nodes.len() as u32
+        self.before[n.0 as usize].len()
     }
 
-    fn after_at<L: Ledger>(&self, n: NodeIx, k: u32, steps: &mut Steps<L>) -> Option<NodeIx> {
+    fn after_at<L: Ledger>(&self, n: NodeIx, k: usize, steps: &mut Steps<L>) -> Option<NodeIx> {
         steps.tick();
-        let row = &self.after[n.0 as usize];
-        row.nodes.get(k as usize).copied()
+        self.after[n.0 as usize].get(k)
     }
 
-    fn before_at<L: Ledger>(&self, n: NodeIx, k: u32, steps: &mut Steps<L>) -> Option<NodeIx> {
+    fn before_at<L: Ledger>(&self, n: NodeIx, k: usize, steps: &mut Steps<L>) -> Option<NodeIx> {
         steps.tick();
-        let row = &self.before[n.0 as usize];
-        row.nodes.get(k as usize).copied()
+        self.before[n.0 as usize].get(k)
     }
-}
-
-// An empty row for each of so many nodes.
-#[tactic(auto, using(std::proofs::lemmas::List::replicate_more))]
-fn empty_rows(alloc: Global, count: usize) -> Result<Vec<NodeRow>, NoMemory>
-    ensures { IfOk result (λ rows. rows.items ≡ replicate count []) }
-{
-    let mut rows = Vec::new(alloc);
-    for _ in 0..count {
-        rows.push(NodeRow {
-            nodes: Vec::new(alloc),
-        })?;
-    }
-    Ok(rows)
-}
-
-fn add_to_row(row: &mut NodeRow, node: NodeIx) -> Result<(), NoMemory>
-    ensures { OnOk result (row.new ≡ row.old ++ node ∷ []) }
-{
-    row.nodes.push(node)?;
-    Ok(())
 }
 
 // For each node, from where edges lead to it.
@@ -135,7 +97,7 @@ fn rows_by_end(
 {
     let mut rows = empty_rows(alloc, count)?;
     for (from, to) in edges {
-        add_to_row(&mut rows[to.0 as usize], *from)?;
+        rows[to.0 as usize].push(*from)?;
     }
     Ok(rows)
 }
@@ -149,7 +111,7 @@ fn turned(alloc: Global, rows: &[NodeRow]) -> Result<Vec<NodeRow>, NoMemory>
 {
     let mut turned = empty_rows(alloc, rows.len())?;
     for (i, row) in rows.iter().enumerate() {
-        add_to_rows(&mut turned, NodeIx(i as u32), &row.nodes)?;
+        add_to_rows(&mut turned, NodeIx(i as u32), row.as_slice())?;
     }
     Ok(turned)
 }
@@ -161,7 +123,7 @@ fn add_to_rows(rows: &mut Vec<NodeRow>, node: NodeIx, to: &[NodeIx]) -> Result<(
     ensures rows { OnOk result ((x : ℕ) → slice_index_or rows.new.items x [] ≡ slice_index_or rows.old.items x [] ++ replicate (occurrences x to.now) node) }
 {
     for x in to {
-        add_to_row(&mut rows[x.0 as usize], node)?;
+        rows[x.0 as usize].push(node)?;
     }
     Ok(())
 }

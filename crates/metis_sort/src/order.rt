@@ -18,7 +18,7 @@ pub fn order_within<G: Reach, L: Ledger>(
     alloc: Global,
     g: &G,
     steps: &mut Steps<L>,
-) -> Result<(Vec<NodeIx>, Vec<u32>), NoMemory>
+) -> Result<(Vec<NodeIx>, Vec<usize>), NoMemory>
     ensures order { IfOk result (λ x. x.0.items ≡ order_of (G.graph g.now)) }
     ensures waits { IfOk result (λ x. x.1.items ≡ all_waiting (G.graph g.now) (order_of (G.graph g.now))) }
     ensures few { IfOk result (λ x. length x.1.items < 2 ^ 32) }
@@ -28,7 +28,7 @@ pub fn order_within<G: Reach, L: Ledger>(
     let nodes = g.nodes();
     let mut waits = in_degrees(alloc, g, nodes, steps)?;
     let mut ready = ready_first(alloc, g.last_node(), &waits)?;
-    let mut order = Vec::new(alloc);
+    let mut order = Vec::with_capacity(alloc, nodes as usize)?;
     while let Some(node) = ready.take() {
         order.push(node)?;
         release(g, node, &mut waits, &mut ready, steps)?;
@@ -42,13 +42,13 @@ fn in_degrees<G: Reach, L: Ledger>(
     g: &G,
     nodes: u32,
     steps: &mut Steps<L>,
-) -> Result<Vec<u32>, NoMemory>
+) -> Result<Vec<usize>, NoMemory>
     requires nodes { nodes ≡ (G.graph g.now).nodes }
     requires graph { IsGraph (G.graph g.now) }
     ensures waits { IfOk result (λ w. w.items ≡ all_waiting (G.graph g.now) []) }
     ensures cost { steps.new ≤ steps.old + (G.graph g.now).nodes }
 {
-    let mut waits = Vec::new(alloc);
+    let mut waits = Vec::with_capacity(alloc, nodes as usize)?;
     for number in 0..nodes {
         waits.push(g.indegree(NodeIx(number), steps))?;
     }
@@ -56,7 +56,7 @@ fn in_degrees<G: Reach, L: Ledger>(
 }
 
 // The nodes that wait for no edge.
-fn ready_first(alloc: Global, last: NodeIx, waits: &[u32]) -> Result<Ready, NoMemory>
+fn ready_first(alloc: Global, last: NodeIx, waits: &[usize]) -> Result<Ready, NoMemory>
     requires { length waits.now < 2 ^ 32 }
     ensures last { IfOk result (λ r. r.last ≡ last) }
     ensures ready { IfOk result (λ r. (n : ℕ) → offers r.others.keys r.last r.with_last n ≡ (nat_lt n (length waits.now) && (slice_index waits.now n == 0))) }
@@ -74,12 +74,11 @@ fn ready_first(alloc: Global, last: NodeIx, waits: &[u32]) -> Result<Ready, NoMe
 fn release<G: Reach, L: Ledger>(
     g: &G,
     node: NodeIx,
-    waits: &mut [u32],
+    waits: &mut [usize],
     ready: &mut Ready,
     steps: &mut Steps<L>,
 ) -> Result<(), NoMemory>
     requires graph { IsGraph (G.graph g.now) }
-    requires few { length (G.graph g.now).edges < 2 ^ 32 }
     requires node { node < (G.graph g.now).nodes }
     requires size { length waits.old ≡ (G.graph g.now).nodes }
     requires owed { (n : ℕ) → occurrences n (afters (G.graph g.now) node) ≤ slice_index waits.old n }
@@ -97,7 +96,7 @@ fn release<G: Reach, L: Ledger>(
 }
 
 // The node waits for one edge fewer, and is ready where it waits for none.
-fn settle(waits: &mut [u32], node: NodeIx, ready: &mut Ready) -> Result<(), NoMemory>
+fn settle(waits: &mut [usize], node: NodeIx, ready: &mut Ready) -> Result<(), NoMemory>
     requires within { node < length waits.old }
     requires owed { 0 < slice_index waits.old node }
     ensures last { ready.new.last ≡ ready.old.last }

@@ -1,4 +1,4 @@
-use Rattle.std.proofs.Common.{◌≡◌, ◌∙◌, ap, subst}
+use Rattle.std.proofs.Common.{◌≡◌, ap, subst}
 use Rattle.metis_ids.specs.Cycle.{HasCycle}
 use Rattle.metis_events.specs.Numbered.{dag_of}
 use Rattle.metis_lines.specs.LifeLines.{plan_of}
@@ -10,6 +10,6 @@ use Rattle.metis_planner.proofs.order.ordered_actions.Goals as goal
 pub unreachable-requires : goal.unreachable-requires
 unreachable-requires c =
     let w = plan_of c.args.u.now c.args.s.now c.args.lines.now in
-    let graph : c.in_ok-dag.dag ≡ numbered w = c.in_ok-dag.ensures ∙ ap dag_of c.in_ok-graph.ensures in
-    let sorted : IsSorted c.in_ok-dag.dag c.in_ok-nodes.field-0 = c.in_ok-nodes.ensures in
-    c.requires.ended (subst HasCycle graph (subst (λ (x : Sorted). IsSorted c.in_ok-dag.dag x) c.in-Cycle.is sorted).0)
+    let graph : dag_of c.in_ok-graph.graph ≡ numbered w = ap dag_of c.in_ok-graph.ensures in
+    let sorted : IsSorted (dag_of c.in_ok-graph.graph) c.in_ok-nodes.field-0 = c.in_ok-nodes.ensures in
+    c.requires.ended (subst HasCycle graph (subst (λ (x : Sorted). IsSorted (dag_of c.in_ok-graph.graph) x) c.in-Cycle.is sorted).0)

@@ -9,7 +9,7 @@ pub add_to_rows-requires : goal.add_to_rows-requires
 add_to_rows-requires c = λ x there.
     let rows = c.args.rows.now in
     let i = c.loop-i.i in
-    let row : c.deref.result.now ≡ get_or rows i [] = c.deref.ensures.value ∙ c.row.view_is ∙ get_or_read rows i c.index-rows-i.result c.loop-i-test.true c.index-rows-i.is [] in
+    let row : c.as_slice.result.now ≡ get_or rows i [] = c.as_slice.ensures ∙ get_or_read rows i c.index-rows-i.result c.loop-i-test.true c.index-rows-i.is [] in
     let low = c.requires.within i x (sym (ap (λ (r : List ℕ). has r x) row) ∙ there) in
     let size = c.loop-i.invariant.size in
     omega arith
@@ -18,7 +18,7 @@ pub loop-i-preserved : goal.loop-i-preserved
 loop-i-preserved c =
     let rows = c.args.rows.now in
     let i = c.loop-i.i in
-    let row : c.deref.result.now ≡ get_or rows i [] = c.deref.ensures.value ∙ c.row.view_is ∙ get_or_read rows i c.index-rows-i.result c.loop-i-test.true c.index-rows-i.is [] in
+    let row : c.as_slice.result.now ≡ get_or rows i [] = c.as_slice.ensures ∙ get_or_read rows i c.index-rows-i.result c.loop-i-test.true c.index-rows-i.is [] in
     record {
       size = c.in_ok-add_to_rows.ensures.size ∙ c.loop-i.invariant.size;
       rows = λ x.

@@ -1,42 +1,54 @@
-use Rattle.std.proofs.Common.{◌≡◌, [], List, ap, length, map, subst, sym, ◌∙◌}
-use Rattle.std.specs.List.{flat_map, range_with_len}
+use Rattle.std.proofs.Common.{◌≡◌, ◌<◌, ℕ, [], List, ap, get_or, length, map, subst, sym, ◌∙◌}
 use Rattle.std.specs.List.Sorted.{IsStrictlySortedBy}
-use Rattle.std.proofs.lemmas.List.{length-map}
+use Rattle.metis_ids.specs.Graph.{afters}
 use Rattle.metis_ids.specs.declared.events.Event.{Event}
-use Rattle.metis_lines.specs.AbstractPlan.{AbstractPlan, line_count}
+use Rattle.metis_lines.specs.AbstractPlan.{AbstractPlan}
 use Rattle.metis_lines.specs.Events.{event_cmp, events}
 use Rattle.metis_lines.specs.LifeLines.{plan_of}
-use Rattle.metis_lines.specs.Soundness.{IsFormed}
-use Rattle.metis_events.proofs.AllEvents.{events_ascend}
-use Rattle.metis_events.proofs.Gathering.{rows_are}
 use Rattle.metis_lines.proofs.Formed.{lines_formed}
+use Rattle.metis_events.proofs.AllEvents.{events_ascend}
+use Rattle.metis_events.proofs.Numbered.{joined}
+use Rattle.metis_events.proofs.Successors.{kept}
 use Rattle.metis_events.proofs.graph.EventGraph.of.Goals as goal
 use Rattle.metis_events.specs.declared.edges.Edge.{Edge}
 use Rattle.metis_events.specs.Edges.{before}
-use Rattle.metis_events.specs.Gathered.{Adds, edges_to, go_edges, in_order, without_supplies}
+use Rattle.metis_events.specs.Numbered.{IsJoined, dag_of, graph_by}
 
-pub edge_rows-requires : goal.edge_rows-requires
-edge_rows-requires c = subst (IsStrictlySortedBy event_cmp) (sym (c.deref.ensures.value ∙ c.in_ok-events.ensures.events)) (events_ascend (without_supplies c.args.l.now))
+pub edges_into_all-requires-clause-all : goal.edges_into_all-requires-clause-all
+edges_into_all-requires-clause-all c = c.deref.ensures.value ∙ c.in_ok-events.ensures.events
 
-pub invariant_of-result : goal.invariant_of-result
-invariant_of-result c = record {
-  each = ap length c.in_ok-edges.ensures ∙ length-map c.deref.result.now (λ f. in_order (edges_to c.add_supplies.new.edges f)) ∙ ap length c.deref.ensures.value;
-  few = c.in_ok-events.ensures.few;
-  ascend = subst (IsStrictlySortedBy event_cmp) (sym c.in_ok-events.ensures.events) (events_ascend (without_supplies c.args.l.now));
-}
+pub after_rows-requires-clause-ascend : goal.after_rows-requires-clause-ascend
+after_rows-requires-clause-ascend c = subst (IsStrictlySortedBy event_cmp) (sym (c.deref-3.ensures.value ∙ c.in_ok-events.ensures.events)) (events_ascend (plan_of c.args.u.now c.args.s.now c.args.l.now))
 
-pub returns : goal.returns
-returns c =
+pub after_rows-requires-clause-joined : goal.after_rows-requires-clause-joined
+after_rows-requires-clause-joined c =
     let u = c.args.u.now in
     let s = c.args.s.now in
     let x = c.args.l.now in
-    let are = c.requires.lines in
     let w : AbstractPlan = plan_of u s x in
-    let formed : IsFormed u w = lines_formed u s c.requires.support x are in
-    let first : List (Event × Edge) = c.add_go_edges.new.edges in
-    let all : List (Event × Edge) = c.add_supplies.new.edges in
-    let one : Adds (flat_map (go_edges w) (range_with_len 0 (line_count w))) [] first = subst (λ old. Adds (flat_map (go_edges w) (range_with_len 0 (line_count w))) old first) c.new-gathered.ensures c.in_ok-add_go_edges.ensures in
     let listed : c.in_ok-events.events.items ≡ events w = c.in_ok-events.ensures.events in
-    let rows : c.in_ok-edges.edges.items ≡ map (before w) (events w) =
-    c.in_ok-edges.ensures ∙ ap (map (λ f. in_order (edges_to all f))) (c.deref.ensures.value ∙ listed) ∙ rows_are u w formed first all one c.in_ok-add_supplies.ensures in
-    (λ i. record { events = listed i; edges = rows i })
+    let rows : c.in_ok-edges.edges.items ≡ map (before w) (events w) = c.in_ok-edges.ensures ∙ ap (map (before w)) (c.deref.ensures.value ∙ listed) in
+    subst IsJoined (λ i. graph_by (sym (c.deref-3.ensures.value ∙ listed) i) (sym (c.deref-5.ensures.value ∙ rows) i))
+    (joined u w (lines_formed u s c.requires.support x c.requires.lines))
+
+pub invariant_of-result : goal.invariant_of-result
+invariant_of-result c =
+    let u = c.args.u.now in
+    let s = c.args.s.now in
+    let x = c.args.l.now in
+    let w : AbstractPlan = plan_of u s x in
+    let listed : c.in_ok-events.events.items ≡ events w = c.in_ok-events.ensures.events in
+    let rows : c.in_ok-edges.edges.items ≡ map (before w) (events w) = c.in_ok-edges.ensures ∙ ap (map (before w)) (c.deref.ensures.value ∙ listed) in
+    let es = c.in_ok-events.events.items in
+    let ys = c.in_ok-edges.edges.items in
+    let after = c.in_ok-afters.afters.items in
+    kept u w (lines_formed u s c.requires.support x c.requires.lines) es ys after (λ i. graph_by (listed i) (rows i)) c.in_ok-events.ensures.few (c.in_ok-afters.ensures.size ∙ ap length c.deref-3.ensures.value)
+    (subst (λ (e : List Event). (n : ℕ) → n < length e → get_or after n [] ≡ afters (dag_of (graph_by e ys)) n) c.deref-3.ensures.value
+    (subst (λ (y : List (List Edge)). (n : ℕ) → n < length c.deref-3.result.now → get_or after n [] ≡ afters (dag_of (graph_by c.deref-3.result.now y)) n) c.deref-5.ensures.value c.in_ok-afters.ensures.rows))
+
+pub returns : goal.returns
+returns c =
+    let w : AbstractPlan = plan_of c.args.u.now c.args.s.now c.args.l.now in
+    let listed : c.in_ok-events.events.items ≡ events w = c.in_ok-events.ensures.events in
+    let rows : c.in_ok-edges.edges.items ≡ map (before w) (events w) = c.in_ok-edges.ensures ∙ ap (map (before w)) (c.deref.ensures.value ∙ listed) in
+    (λ i. graph_by (listed i) (rows i))

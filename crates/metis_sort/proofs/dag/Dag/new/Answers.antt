@@ -50,4 +50,4 @@ invariant_of-result c =
     let fits = c.ranges.n.fits in
     let small : graph.nodes < 2 ^ 32 = omega arith in
     subst (λ m. IsDag (record { nodes = m; edges = c.args.edges.items; last = c.args.last }) after before) (sym (after_size ∙ c.in_ok-ends.ensures.size))
-    (is_dag graph ok ends c.in_ok-ends.ensures.size counts after after_size after_rows before before_size before_rows c.requires.few small)
+    (is_dag graph ok ends c.in_ok-ends.ensures.size counts after after_size after_rows before before_size before_rows small)
