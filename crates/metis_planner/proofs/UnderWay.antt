@@ -37,8 +37,8 @@ module _ (u : Universe) (g : List ℕ) where
   pairs_push ds d = map-append (λ (e : Dup). e.pair) ds (d ∷ [])
 
   -- the graph of the lines so far
-  pub graph_over : (s : Support) (x : LifeLines) (ds : List Dup) → s ≡ support_of u g → x ≡ lines_for u g (own_pairs ds) → plan_of u s x ≡ graph_after u g ds
-  graph_over s x ds support lines = λ i. plan_of u (support i) (lines i)
+  pub graph_over : (v : Universe) (s : Support) (x : LifeLines) (ds : List Dup) → v ≡ u → s ≡ support_of u g → x ≡ lines_for u g (own_pairs ds) → plan_of v s x ≡ graph_after u g ds
+  graph_over v s x ds universe support lines = λ i. plan_of (universe i) (support i) (lines i)
 
   module _ (table : IsTable u) (layered : (p : ℕ) → has g p ≡ true → IsSome (layer_of u p)) (x : LifeLines) (ds : List Dup) (way : IsUnderWay u g x ds) where
     pub lines_now : AreLines u (support_of u g) x

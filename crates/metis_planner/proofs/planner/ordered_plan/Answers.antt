@@ -1,4 +1,4 @@
-use Rattle.std.proofs.Common.{◌≡◌, ◌∙◌, length, sym, ap, subst}
+use Rattle.std.proofs.Common.{◌∙◌, length, refl, sym, ap, subst}
 use Rattle.metis_ids.specs.Cycle.{HasCycle}
 use Rattle.metis_support.specs.Support.{IsSupport}
 use Rattle.metis_emit.specs.Emission.{emission}
@@ -23,13 +23,13 @@ ordered_actions-requires-clause-lines c =
 
 pub ordered_actions-requires-clause-ended : goal.ordered_actions-requires-clause-ended
 ordered_actions-requires-clause-ended c =
-    let now = graph_over c.args.u.now c.args.targets.now c.args.s.now c.args.lines.now c.args.dups.items c.requires.support c.requires.under_way.lines in
+    let now = graph_over c.args.u.now c.args.targets.now c.args.u.now c.args.s.now c.args.lines.now c.args.dups.items refl c.requires.support c.requires.under_way.lines in
     subst (λ (w : AbstractPlan). HasCycle (numbered w) → ⊥) (sym now) c.requires.ended
 
 pub returns : goal.returns
 returns c =
     let u = c.args.u.now in
-    let now = graph_over u c.args.targets.now c.args.s.now c.args.lines.now c.args.dups.items c.requires.support c.requires.under_way.lines in
+    let now = graph_over u c.args.targets.now u c.args.s.now c.args.lines.now c.args.dups.items refl c.requires.support c.requires.under_way.lines in
     record {
       forced = c.requires.under_way.forced;
       ended = c.requires.ended;
