@@ -1,6 +1,6 @@
 //! The course of rounds, each of which goes on where the last one stopped.
 ghost use Rattle.std.specs.Prelude.{◌≡◌, ◌≤◌, ◌+◌, ◌++◌, ◌∷◌, ℕ, [], length, map, IfOk, IsTrue, OnOk};
-ghost use Rattle.metis_ids.specs.Cycle.{HasCycle, cycle_of};
+ghost use Rattle.metis_ids.specs.Cycle.{cycle_of};
 ghost use Rattle.metis_universe.specs.Universe.{has};
 ghost use Rattle.metis_support.specs.Support.{IsSupport, is_selected};
 ghost use Rattle.metis_lines.specs.LifeLines.{is_loose, lines_of, loose, plan_of};
