@@ -18,7 +18,7 @@ use Rattle.metis_universe.specs.Waits.{numbers}
 use Rattle.metis_layers.specs.LayerOrder.{attained_pairs}
 use Rattle.metis_audit.specs.Audits.{IsAnswer, IsAttained}
 use Rattle.metis_audit.specs.declared.answers.Answer.TheVariants.{Justified}
-use Rattle.metis_planner.proofs.Leads.{not_found}
+use Rattle.metis_rounds.proofs.Leads.{not_found}
 use Rattle.metis_planner.proofs.Planning.{has_layer}
 use Rattle.metis_text.specs.PlanText.{after_of}
 use Rattle.metis_waits.specs.Waits.{waits_on_others}

@@ -32,7 +32,7 @@ use Rattle.metis_lines.specs.LifeLines.{AreApart, AreLines, later_ends, line_end
 use Rattle.metis_lines.specs.Soundness.{IsFormed, IsSound}
 use Rattle.metis_rounds.proofs.Around.{all_by_place}
 use Rattle.metis_rounds.proofs.Cycles.{cycle_is_round, cycle_of_all_events, round_of_two}
-use Rattle.metis_planner.proofs.Leads.{IsDoubled, doubled}
+use Rattle.metis_rounds.proofs.Leads.{IsDoubled, doubled}
 use Rattle.metis_planner.proofs.Lists.{some_at}
 use Rattle.metis_planner.specs.Outcomes.{EventBelow}
 use Rattle.metis_planner.specs.Rounds.{graph_after}

@@ -14,7 +14,7 @@ use Rattle.metis_layers.proofs.LayerFacts.{layer_below, layer_by, layer_has}
 use Rattle.metis_layers.proofs.Ways.{all_has}
 use Rattle.metis_layers.specs.LayerOrder.{attained_pairs}
 use Rattle.metis_choice.specs.Choices.{IsFirstWithout}
-use Rattle.metis_planner.proofs.Around.{find_at}
+use Rattle.metis_rounds.proofs.Searches.{find_at}
 
 module _ (u : Universe) where
   pub has_layer : (p : ℕ) → is_some (layer_of u p) ≡ has (attained_pairs u) p

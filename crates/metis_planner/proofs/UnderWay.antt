@@ -9,13 +9,13 @@ use Rattle.std.proofs.lemmas.Option.{slice_get_within}
 use Rattle.metis_ids.specs.Plans.{Dup}
 use Rattle.metis_universe.specs.Layers.{layer_of}
 use Rattle.metis_universe.specs.Universe.{Universe, IsTable, has}
-use Rattle.metis_support.specs.Support.{support_of}
+use Rattle.metis_support.specs.Support.{Support, support_of}
 use Rattle.metis_lines.specs.Justified.{lines_for, own_pairs}
-use Rattle.metis_lines.specs.LifeLines.{AreLines, LifeLines, is_loose, lines_of}
-use Rattle.metis_planner.proofs.Forced.{lines_for_own, providers, selected_own, support, targets}
-use Rattle.metis_planner.proofs.Leads.{doubled}
+use Rattle.metis_lines.specs.LifeLines.{AreLines, LifeLines, lines_of, plan_of}
+use Rattle.metis_planner.proofs.Forced.{lines_for_own, providers}
 use Rattle.metis_planner.proofs.Lists.{get_behind, get_front, take_front}
-use Rattle.metis_planner.specs.Rounds.{IsForced, graph_after}
+use Rattle.metis_rounds.specs.Forced.{IsForced}
+use Rattle.metis_planner.specs.Rounds.{graph_after}
 use Rattle.metis_planner.specs.UnderWay.{AreForced, IsUnderWay}
 
 module _ (u : Universe) (g : List ℕ) where
@@ -36,23 +36,16 @@ module _ (u : Universe) (g : List ℕ) where
   pub pairs_push : (ds : List Dup) (d : Dup) → own_pairs (ds ++ d ∷ []) ≡ own_pairs ds ++ d.pair ∷ []
   pairs_push ds d = map-append (λ (e : Dup). e.pair) ds (d ∷ [])
 
+  -- the graph of the lines so far
+  pub graph_over : (v : Universe) (s : Support) (x : LifeLines) (ds : List Dup) → v ≡ u → s ≡ support_of u g → x ≡ lines_for u g (own_pairs ds) → plan_of v s x ≡ graph_after u g ds
+  graph_over v s x ds universe support lines = λ i. plan_of (universe i) (support i) (lines i)
+
   module _ (table : IsTable u) (layered : (p : ℕ) → has g p ≡ true → IsSome (layer_of u p)) (x : LifeLines) (ds : List Dup) (way : IsUnderWay u g x ds) where
     pub lines_now : AreLines u (support_of u g) x
     lines_now = subst (AreLines u (support_of u g)) (sym way.lines) (lines_for_own u table g layered (own_pairs ds) (providers u table g layered ds way.forced))
 
-    module _ (d : Dup) (forced : IsForced (graph_after u g ds) d) where
-      pub provider_now : has x.providers d.pair ≡ true
-      provider_now =
-          let own = providers u table g layered ds way.forced in
-          ap (λ (y : LifeLines). has y.providers d.pair) way.lines ∙ (doubled u (support_of u g) g (own_pairs ds) table.universe (support u table g layered) (targets u table g layered) (selected_own u table g layered (own_pairs ds) own) d.cycle d.pair forced.pair).provider
-
-      pub loose_now : is_loose x d.pair ≡ true
-      loose_now =
-          let own = providers u table g layered ds way.forced in
-          ap (λ y. is_loose y d.pair) way.lines ∙ (doubled u (support_of u g) g (own_pairs ds) table.universe (support u table g layered) (targets u table g layered) (selected_own u table g layered (own_pairs ds) own) d.cycle d.pair forced.pair).loose
-
-      pub with_dup : (y : LifeLines) → y ≡ lines_of u (support_of u g) x.targets (x.own ++ d.pair ∷ []) → IsUnderWay u g y (ds ++ d ∷ [])
-      with_dup y is = record {
-        lines = is ∙ (λ i. lines_of u (support_of u g) (way.lines i).targets ((way.lines i).own ++ d.pair ∷ [])) ∙ ap (lines_for u g) (sym (pairs_push ds d));
-        forced = forced_push ds d way.forced forced;
-      }
+    pub with_dup : (d : Dup) → IsForced (graph_after u g ds) d → (y : LifeLines) → y ≡ lines_of u (support_of u g) x.targets (x.own ++ d.pair ∷ []) → IsUnderWay u g y (ds ++ d ∷ [])
+    with_dup d forced y is = record {
+      lines = is ∙ (λ i. lines_of u (support_of u g) (way.lines i).targets ((way.lines i).own ++ d.pair ∷ [])) ∙ ap (lines_for u g) (sym (pairs_push ds d));
+      forced = forced_push ds d way.forced forced;
+    }

@@ -13,7 +13,8 @@ use Rattle.metis_lines.specs.AbstractPlan.{line_count}
 use Rattle.metis_lines.specs.Justified.{graph_for}
 use Rattle.metis_emit.specs.Emission.{emission}
 use Rattle.metis_planner.proofs.Lists.{some_at}
-use Rattle.metis_planner.specs.Rounds.{IsByRounds, IsForced, doubled_by, graph_after, numbered, ordered_events}
+use Rattle.metis_rounds.specs.Forced.{IsForced, doubled_by}
+use Rattle.metis_planner.specs.Rounds.{IsByRounds, graph_after, numbered, ordered_events}
 
 module _ (u : Universe) (g : List ℕ) where
   -- over the same pairs before it, a dup that is forced is one

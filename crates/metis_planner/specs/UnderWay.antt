@@ -1,13 +1,13 @@
 -- What is known of the rounds so far.
 --     AreForced u g ds      each dup is forced over the pairs before it
 --     IsUnderWay u g x ds      the lines are those for the targets and the pairs of the dups, and each dup is forced
---     place_after n k      the place that follows place k around a list of so many
-use Rattle.std.specs.Prelude.{ℕ, ◌≡◌, ◌+◌, nat_lt, if◌then◌else◌, List, take, slice_get, Some}
+use Rattle.std.specs.Prelude.{ℕ, ◌≡◌, List, take, slice_get, Some}
 use Rattle.metis_ids.specs.Plans.{Dup}
 use Rattle.metis_universe.specs.Universe.{Universe}
 use Rattle.metis_lines.specs.Justified.{lines_for, own_pairs}
 use Rattle.metis_lines.specs.LifeLines.{LifeLines}
-use Rattle.metis_planner.specs.Rounds.{IsForced, graph_after}
+use Rattle.metis_rounds.specs.Forced.{IsForced}
+use Rattle.metis_planner.specs.Rounds.{graph_after}
 
 abbrev pub AreForced : Universe → List ℕ → List Dup → Type 0
 AreForced u g ds = (k : ℕ) (d : Dup) → slice_get ds k ≡ Some d → IsForced (graph_after u g (take k ds)) d
@@ -15,6 +15,3 @@ AreForced u g ds = (k : ℕ) (d : Dup) → slice_get ds k ≡ Some d → IsForce
 pub record IsUnderWay (u : Universe) (g : List ℕ) (x : LifeLines) (ds : List Dup) : Type 0 where
   pub lines : x ≡ lines_for u g (own_pairs ds)
   pub forced : AreForced u g ds
-
-abbrev pub place_after : ℕ → ℕ → ℕ
-place_after n k = if nat_lt (k + 1) n then k + 1 else 0

@@ -1,7 +1,6 @@
 //! From a universe and a list of targets to a plan, or to a set of pairs that shows why there is none.
 #![tactic(auto)]
 
-mod doubled;
 mod laws;
 mod order;
 mod outcome;

@@ -1,6 +1,7 @@
 //! Plans for lists of targets.
-ghost use Rattle.std.specs.Prelude.{◌≡◌, ◌<◌, ◌≤◌, ◌*◌, ◌^◌, ℕ, IfOk, IsSome, IsTrue, OnOk, length};
+ghost use Rattle.std.specs.Prelude.{◌≡◌, ◌<◌, ◌≤◌, ◌*◌, ◌^◌, ℕ, IfOk, IsSome, IsTrue, length};
 ghost use Rattle.std.specs.List.{All};
+ghost use Rattle.metis_ids.specs.Cycle.{HasCycle};
 ghost use Rattle.metis_universe.specs.Closed.{Refusal};
 ghost use Rattle.metis_universe.specs.Config.{empty};
 ghost use Rattle.metis_universe.specs.Goal.{Attains, Holds, IsAttainedSet};
@@ -12,27 +13,23 @@ ghost use Rattle.metis_universe.specs.Tidy.{IsTidy};
 ghost use Rattle.metis_universe.specs.Universe.{pair_count};
 ghost use Rattle.metis_layers.specs.LayerOrder.{instances_of};
 ghost use Rattle.metis_layers.specs.Layers.{IsLayers};
-ghost use Rattle.metis_support.specs.Support.{IsSupport, support_of};
+ghost use Rattle.metis_support.specs.Support.{support_of};
 ghost use Rattle.metis_lines.specs.AbstractPlan.{stations};
 ghost use Rattle.metis_lines.specs.Justified.{is_justified};
-ghost use Rattle.metis_lines.specs.LifeLines.{loose, plan_of};
 ghost use Rattle.metis_emit.specs.Realized.{entered};
-ghost use Rattle.metis_rounds.specs.Reach.{HasStopped};
-ghost use Rattle.metis_rounds.specs.Rounds.{IsRounds};
-ghost use Rattle.metis_rounds.specs.Walks.{IsWalk};
 ghost use Rattle.metis_planner.specs.Outcomes.{IsLean, IsPlanWhere, IfPlan, IfClosed, EventBelow};
 ghost use Rattle.metis_planner.specs.PlanFor.{IsPlanFor};
-ghost use Rattle.metis_planner.specs.Rounds.{IsByRounds, IsForced, graph_after};
+ghost use Rattle.metis_planner.specs.Rounds.{IsByRounds, graph_after, numbered};
 ghost use Rattle.metis_planner.specs.UnderWay.{IsUnderWay};
 
-use crate::doubled::doubled_by;
 use crate::order::ordered_actions;
 use crate::outcome::Outcome;
 use metis_choice::{Choice, choose};
 use metis_ids::{Dup, NoMemory, PairIx, Plan};
 use metis_layers::layers;
 use metis_layers::table::Layers;
-use metis_rounds::Rounds;
+use metis_lines::Lines;
+use metis_rounds::{Round, Rounds};
 use metis_support::Support;
 use metis_universe::Universe;
 use std::alloc::Global;
@@ -140,56 +137,38 @@ fn plan_by_rounds(
     u.keeps_invariant();
     let mut rounds = Rounds::new(alloc, u, s, targets)?;
     let mut dups = Vec::new(alloc);
-    while rounds.go_on(alloc, u, s)? {
-        let dup = dup_of(alloc, u, s, &mut rounds)?;
-        double(alloc, u, s, targets, &mut rounds, dup, &mut dups)?;
+    loop {
+        match rounds.go_on(alloc)? {
+            Round::Ended(lines) => return ordered_plan(alloc, u, s, targets, &lines, dups),
+            Round::Stuck(stuck) => {
+                let (dup, next) = stuck.double(alloc)?;
+                dups.push(dup)?;
+                rounds = next;
+            }
+        }
     }
-    let actions = ordered_actions(alloc, u, s, &rounds.lines)?;
-    Ok(Plan {
-        actions,
-        dups,
-        instances: rounds.lines.count(),
-    })
 }
 
-// The dup that the cycle forces, where events are stuck.
-fn dup_of(alloc: Global, u: &Universe, s: &Support, rounds: &mut Rounds) -> Result<Dup, NoMemory>
-    requires support { IsSupport u.now s.now }
-    requires rounds { IsRounds u.now s.now rounds.old }
-    requires stopped { HasStopped (plan_of u.now s.now rounds.old.lines) rounds.old.going.taken.items }
-    ensures rounds { OnOk result (IsRounds u.now s.now rounds.new) }
-    ensures lines { rounds.new.lines ≡ rounds.old.lines }
-    ensures walk { OnOk result (IsWalk (plan_of u.now s.now rounds.old.lines) rounds.new.walk) }
-    ensures forced { IfOk result (IsForced (plan_of u.now s.now rounds.old.lines)) }
-{
-    u.keeps_invariant();
-    let cycle = rounds.cycle(alloc, u, s)?;
-    let pair = doubled_by(u, s, &rounds.lines, &rounds.returns, &cycle);
-    Ok(Dup { pair, cycle })
-}
-
-// Gives the dup's pair a line of its own.
-fn double(
+// The plan of the lines, whose events have an order.
+fn ordered_plan(
     alloc: Global,
     u: &Universe,
     s: &Support,
     targets: &[PairIx],
-    rounds: &mut Rounds,
-    dup: Dup,
-    dups: &mut Vec<Dup>,
-) -> Result<(), NoMemory>
+    lines: &Lines,
+    dups: Vec<Dup>,
+) -> Result<Plan, NoMemory>
     requires layered { All (λ p. IsSome (layer_of u.now p)) targets.now }
     requires support { s.now ≡ support_of u.now targets.now }
-    requires rounds { IsRounds u.now s.now rounds.old }
-    requires walk { IsWalk (plan_of u.now s.now rounds.old.lines) rounds.old.walk }
-    requires under_way { IsUnderWay u.now targets.now rounds.old.lines dups.old.items }
-    requires forced { IsForced (graph_after u.now targets.now dups.old.items) dup }
-    ensures rounds { OnOk result (IsRounds u.now s.now rounds.new) }
-    ensures under_way { OnOk result (IsUnderWay u.now targets.now rounds.new.lines dups.new.items) }
-    ensures loose { OnOk result (loose rounds.new.lines < loose rounds.old.lines) }
+    requires under_way { IsUnderWay u.now targets.now lines.now dups.items }
+    requires ended { HasCycle (numbered (graph_after u.now targets.now dups.items)) → ⊥ }
+    ensures { IfOk result (IsByRounds u.now targets.now) }
 {
     u.keeps_invariant();
-    rounds.own_line(alloc, u, s, dup.pair)?;
-    dups.push(dup)?;
-    Ok(())
+    let actions = ordered_actions(alloc, u, s, lines)?;
+    Ok(Plan {
+        actions,
+        dups,
+        instances: lines.count(),
+    })
 }

@@ -13,10 +13,10 @@ use Rattle.metis_rounds.proofs.Twins.{old_last, old_steps}
 use Rattle.metis_rounds.specs.Going.{HasOwnLine, IsGoing}
 use Rattle.metis_rounds.specs.OwnLine.{HasMoved, IsWithOwnLine}
 use Rattle.metis_rounds.specs.Reach.{taken_of}
-use Rattle.metis_rounds.specs.Rounds.{IsRounds}
+use Rattle.metis_rounds.specs.Course.{IsCourse}
 use Rattle.metis_rounds.specs.Tables.{HasReturns}
 use Rattle.metis_rounds.specs.Walks.{IsKept, IsWalk, kept_steps}
-use Rattle.metis_rounds.specs.declared.rounds.Rounds.{Rounds}
+use Rattle.metis_rounds.specs.declared.course.Course.{Course}
 
 -- who holds a provider pair
 pub holds : (x : LifeLines) (p : ℕ) (found : Option (ℕ × ℕ)) (held : ℕ × ℕ) → has x.providers p ≡ true → found ≡ holder_of x p 1 → found ≡ Some held → holding x p ≡ held
@@ -28,7 +28,7 @@ holds x p found held provider is some = same (holding x p) held (sym (is ∙ hel
 pub own_line_of : (u : Universe) (s : Support) (x z : LifeLines) (p : ℕ) (held : ℕ × ℕ) → AreLines u s x → has x.providers p ≡ true → is_loose x p ≡ true → holding x p ≡ held → z ≡ lines_of u s x.targets (x.own ++ p ∷ []) → HasOwnLine u s x z p held
 own_line_of u s x z p held are provider loose from after = record { before = are; provider = provider; loose = loose; from = from; after = after }
 
-module _ (u : Universe) (s : Support) (a b : Rounds) (p : ℕ) (held : ℕ × ℕ) (table : IsTable u) (k : IsSupport u s) (own : HasOwnLine u s a.lines b.lines p held) where
+module _ (u : Universe) (s : Support) (a b : Course) (p : ℕ) (held : ℕ × ℕ) (table : IsTable u) (k : IsSupport u s) (own : HasOwnLine u s a.lines b.lines p held) where
   abbrev w : AbstractPlan
   w = plan_of u s a.lines
 
@@ -41,7 +41,7 @@ module _ (u : Universe) (s : Support) (a b : Rounds) (p : ℕ) (held : ℕ × �
   moved : HasMoved w v held.0 held.1
   moved = moved_plan u s a.lines b.lines p held table k own
 
-  pub rounds_go_on : IsRounds u s a → IsWalk w a.walk → AreLines u s b.lines → b.uses ≡ a.uses → HasReturns v b.returns → IsGoing u s b.lines b.returns b.going [] → ((l : ℕ) → l < length a.going.taken.items → taken_of b.going.taken.items l ≡ taken_of a.going.taken.items l) → b.walk ≡ kept_steps (At held.0 held.1) (At held.0 (held.1 + 1)) a.walk → b.first ≡ a.first → b.done ≡ a.done → IsRounds u s b
+  pub rounds_go_on : IsCourse u s a → IsWalk w a.walk → AreLines u s b.lines → b.uses ≡ a.uses → HasReturns v b.returns → IsGoing u s b.lines b.returns b.going [] → ((l : ℕ) → l < length a.going.taken.items → taken_of b.going.taken.items l ≡ taken_of a.going.taken.items l) → b.walk ≡ kept_steps (At held.0 held.1) (At held.0 (held.1 + 1)) a.walk → b.first ≡ a.first → b.done ≡ a.done → IsCourse u s b
   rounds_go_on rounds walk are uses returns going kept steps first done =
       let more = (is_held u s a.lines b.lines p held table k own).more in
       let size = rounds.going.taken in

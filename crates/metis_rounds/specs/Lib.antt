@@ -1,9 +1,12 @@
+pub mod Course
+pub mod Forced
 pub mod Going
 pub mod Least
 pub mod More
 pub mod OwnLine
 pub mod Reach
 pub mod Returns
+pub mod Round
 pub mod Rounds
 pub mod Stuck
 pub mod Tables

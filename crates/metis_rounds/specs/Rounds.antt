@@ -1,30 +1,23 @@
--- What is known of rounds.
---     IsRounds u s r      the tables are those of the lines, no stuck event is taken, and the walk stands as far as it is kept
---     IfMore result P Q      P where the answer is that there is more, else Q
-use Rattle.std.specs.Prelude.{ℕ, ◌<◌, ◌≤◌, Bool, true, false, [], length, Result, Ok, Err, ⊤}
-use Rattle.metis_ids.specs.declared.no_memory.NoMemory.{NoMemory}
+-- What contracts see of rounds.
+--     RoundsState, state_of u s x      the universe, the support and the lines;  of these
+--     graph_now r      the plan without an order for the lines
+--     with_own r p      with a line of its own for the pair
+use Rattle.std.specs.Prelude.{ℕ, [], ◌∷◌, ◌++◌}
 use Rattle.metis_universe.specs.Universe.{Universe}
 use Rattle.metis_support.specs.Support.{Support}
-use Rattle.metis_lines.specs.AbstractPlan.{last}
-use Rattle.metis_lines.specs.Events.{step_count}
-use Rattle.metis_lines.specs.LifeLines.{AreLines, plan_of}
-use Rattle.metis_rounds.specs.Going.{IsGoing}
-use Rattle.metis_rounds.specs.Reach.{taken_of}
-use Rattle.metis_rounds.specs.Tables.{HasReturns, HasUses}
-use Rattle.metis_rounds.specs.Walks.{IsKept}
-use Rattle.metis_rounds.specs.declared.rounds.Rounds.{Rounds}
+use Rattle.metis_lines.specs.AbstractPlan.{AbstractPlan}
+use Rattle.metis_lines.specs.LifeLines.{LifeLines, lines_of, plan_of}
 
-pub record IsRounds (u : Universe) (s : Support) (r : Rounds) : Type 0 where
-  pub lines : AreLines u s r.lines
-  pub uses : HasUses u s r.uses
-  pub returns : HasReturns (plan_of u s r.lines) r.returns
-  pub going : IsGoing u s r.lines r.returns r.going []
-  pub walk : IsKept (plan_of u s r.lines) r.walk
-  pub first : (l : ℕ) → l < r.first → last (plan_of u s r.lines) l < taken_of r.going.taken.items l
-  pub done : (l : ℕ) → l < r.done → step_count (plan_of u s r.lines) l ≤ taken_of r.going.taken.items l
-  pub few : (r.first ≤ length r.lines.lines) × (r.done ≤ length r.lines.lines)
+pub record RoundsState : Type 0 where
+  pub universe : Universe
+  pub support : Support
+  pub lines : LifeLines
 
-abbrev pub IfMore : Result Bool NoMemory → Type 0 → Type 0 → Type 0
-IfMore (Ok true) P Q = P
-IfMore (Ok false) P Q = Q
-IfMore (Err e) P Q = ⊤
+abbrev pub state_of : Universe → Support → LifeLines → RoundsState
+state_of u s x = record { universe = u; support = s; lines = x }
+
+abbrev pub graph_now : RoundsState → AbstractPlan
+graph_now r = plan_of r.universe r.support r.lines
+
+abbrev pub with_own : RoundsState → ℕ → RoundsState
+with_own r p = state_of r.universe r.support (lines_of r.universe r.support r.lines.targets (r.lines.own ++ p ∷ []))

@@ -1,160 +1,135 @@
-//! Rounds that go on where the last one stopped.
-ghost use Rattle.std.specs.Prelude.{◌≡◌, ◌≤◌, ◌+◌, ◌++◌, ◌∷◌, ℕ, [], length, map, IfOk, IsTrue, OnOk};
-ghost use Rattle.metis_ids.specs.Cycle.{HasCycle, cycle_of};
+//! Rounds over the events of life lines.
+ghost use Rattle.std.specs.Prelude.{◌≡◌, ◌≤◌, ◌+◌, ℕ, [], length, IfOk, IsTrue};
 ghost use Rattle.metis_universe.specs.Universe.{has};
 ghost use Rattle.metis_support.specs.Support.{IsSupport, is_selected};
-ghost use Rattle.metis_lines.specs.LifeLines.{is_loose, lines_of, loose, plan_of};
-ghost use Rattle.metis_events.specs.Edges.{graph_of};
-ghost use Rattle.metis_events.specs.Numbered.{dag_of, nth_event};
-ghost use Rattle.metis_rounds.specs.Reach.{HasEnded, HasStopped};
-ghost use Rattle.metis_rounds.specs.Rounds.{IfMore, IsRounds};
-ghost use Rattle.metis_rounds.specs.Walks.{IsWalk};
+ghost use Rattle.metis_lines.specs.LifeLines.{lines_of, loose};
+ghost use Rattle.metis_rounds.specs.Forced.{IsForced};
+ghost use Rattle.metis_rounds.specs.Round.{IsRoundOf};
+ghost use Rattle.metis_rounds.specs.Rounds.{graph_now, state_of, with_own};
 
-use crate::event_table::EventTable;
-use crate::going::Going;
-use crate::least::first_unfinished;
-use crate::returns::{move_returns, returns_of};
-use crate::uses::Uses;
-use crate::walk::Walk;
-use crate::walking::{begin_walk, drop_taken, walk_on};
-use metis_ids::{Event, NoMemory, PairIx, StepIx};
+use crate::course::Course;
+use metis_ids::{Dup, NoMemory, PairIx};
 use metis_lines::Lines;
 use metis_support::Support;
 use metis_universe::Universe;
 use std::alloc::Global;
+use std::marker::Model;
 
-/// The lines, and how far the rounds over their events have come.
+/// Rounds over the events of life lines. Contracts see the universe, the support and the lines.
 #[derive(Drop)]
-pub struct Rounds {
-    pub lines: Lines,
-    /// The slots that each pair takes.
-    pub uses: Uses,
-    /// For each event those from which return edges lead into it.
-    pub returns: EventTable,
-    /// What is taken, and what each line waits for.
-    pub going: Going,
-    /// The walk back over the stuck events, as far as it stands.
-    pub walk: Walk,
-    /// All lines before this one are in their last stations.
-    pub first: u32,
-    /// All lines before this one have no event left.
-    pub done: u32,
+pub struct Rounds<'a> {
+    universe: &'a Universe,
+    support: &'a Support,
+    course: Course,
 }
 
-impl Rounds {
-    /// Over the lines for selected targets and no own pairs; no event is taken.
+impl<'a> Model for Rounds<'a> {
+    ghost use Rattle.metis_support.specs.Support.{IsSupport};
+    ghost use Rattle.metis_rounds.specs.Course.{IsCourse};
+    ghost use Rattle.metis_rounds.specs.Rounds.{RoundsState, state_of};
+
+    ghost Value = { RoundsState };
+
+    ghost view = { λ r. state_of r.universe.now r.support.now r.course.lines };
+
+    ghost invariant = { λ r. IsSupport r.universe.now r.support.now × IsCourse r.universe.now r.support.now r.course };
+}
+
+/// Rounds that have come to events that wait for one another. Contracts see the same of them.
+#[derive(Drop)]
+pub struct StuckRounds<'a> {
+    universe: &'a Universe,
+    support: &'a Support,
+    course: Course,
+}
+
+impl<'a> Model for StuckRounds<'a> {
+    ghost use Rattle.metis_support.specs.Support.{IsSupport};
+    ghost use Rattle.metis_lines.specs.LifeLines.{plan_of};
+    ghost use Rattle.metis_rounds.specs.Course.{IsCourse};
+    ghost use Rattle.metis_rounds.specs.Reach.{HasStopped};
+    ghost use Rattle.metis_rounds.specs.Rounds.{RoundsState, state_of};
+
+    ghost Value = { RoundsState };
+
+    ghost view = { λ r. state_of r.universe.now r.support.now r.course.lines };
+
+    ghost invariant = { λ r. IsSupport r.universe.now r.support.now × IsCourse r.universe.now r.support.now r.course × HasStopped (plan_of r.universe.now r.support.now r.course.lines) r.course.going.taken.items };
+}
+
+/// How a round ends.
+#[derive(Drop)]
+pub enum Round<'a> {
+    /// All that can be taken is taken, and the events of the lines have no cycle.
+    Ended(Lines),
+    /// Events are stuck, so they have a cycle.
+    Stuck(StuckRounds<'a>),
+}
+
+impl<'a> Rounds<'a> {
+    /// Over the lines for selected targets and no own pairs.
     pub fn new(
         alloc: Global,
-        u: &Universe,
-        s: &Support,
+        u: &'a Universe,
+        s: &'a Support,
         targets: &[PairIx],
-    ) -> Result<Rounds, NoMemory>
+    ) -> Result<Rounds<'a>, NoMemory>
         requires support { IsSupport u.now s.now }
         requires selected { (p : ℕ) → IsTrue (has targets.now p) → IsTrue (is_selected s.now p) }
         requires few { length targets.now ≤ 256 }
-        ensures rounds { IfOk result (IsRounds u.now s.now) }
-        ensures lines { IfOk result (λ r. r.lines ≡ lines_of u.now s.now targets.now []) }
+        ensures { IfOk result (λ r. r ≡ state_of u.now s.now (lines_of u.now s.now targets.now [])) }
     {
-        let lines = Lines::new(alloc, u, s, targets)?;
-        let uses = Uses::of(alloc, u, s)?;
-        let returns = returns_of(alloc, u, s, &uses, &lines)?;
-        let going = Going::new(alloc, u, s, &lines, &returns)?;
         Ok(Rounds {
-            lines,
-            uses,
-            returns,
-            going,
-            walk: Walk::new(alloc),
-            first: 0,
-            done: 0,
+            universe: u,
+            support: s,
+            course: Course::new(alloc, u, s, targets)?,
         })
     }
 
-    /// Takes what can be taken. Whether events are stuck then.
-    pub fn go_on(&mut self, alloc: Global, u: &Universe, s: &Support) -> Result<bool, NoMemory>
-        requires support { IsSupport u.now s.now }
-        requires rounds { IsRounds u.now s.now self.old }
-        ensures rounds { OnOk result (IsRounds u.now s.now self.new) }
-        ensures lines { OnOk result (self.new.lines ≡ self.old.lines) }
-        ensures more { IfMore result (HasStopped (plan_of u.now s.now self.new.lines) self.new.going.taken.items) (HasEnded (plan_of u.now s.now self.new.lines) self.new.going.taken.items) }
+    /// Takes what can be taken.
+    pub fn go_on(self, alloc: Global) -> Result<Round<'a>, NoMemory>
+        ensures { IfOk result (IsRoundOf self.entry) }
     {
-        self.going
-            .go_on(alloc, u, s, &self.lines, &self.uses, &self.returns)?;
-        match first_unfinished(&self.lines, &self.going.taken, self.first) {
-            Some(line) => {
-                self.first = line.0;
-                Ok(true)
-            }
-            None => Ok(false),
+        let Rounds {
+            universe,
+            support,
+            mut course,
+        } = self;
+        universe.keeps_invariant();
+        if course.go_on(alloc, universe, support)? {
+            return Ok(Round::Stuck(StuckRounds {
+                universe,
+                support,
+                course,
+            }));
         }
+        Ok(Round::Ended(course.lines))
     }
+}
 
-    /// The cycle of the events, where some are stuck. Of the last walk as much stands as was not taken since.
-    pub fn cycle(
-        &mut self,
-        alloc: Global,
-        u: &Universe,
-        s: &Support,
-    ) -> Result<Vec<Event>, NoMemory>
-        requires support { IsSupport u.now s.now }
-        requires rounds { IsRounds u.now s.now self.old }
-        requires stopped { HasStopped (plan_of u.now s.now self.old.lines) self.old.going.taken.items }
-        ensures rounds { OnOk result (IsRounds u.now s.now self.new) }
-        ensures lines { self.new.lines ≡ self.old.lines }
-        ensures returns { self.new.returns ≡ self.old.returns }
-        ensures walk { OnOk result (IsWalk (plan_of u.now s.now self.new.lines) self.new.walk) }
-        ensures cycle { IfOk result (λ es. es.items ≡ map (nth_event (plan_of u.now s.now self.old.lines)) (cycle_of (dag_of (graph_of (plan_of u.now s.now self.old.lines))))) }
+impl<'a> StuckRounds<'a> {
+    /// The dup that the cycle of the events forces, and the rounds with a line of its own for the dup's pair. One pair less is
+    /// then held by a line that goes on.
+    pub fn double(self, alloc: Global) -> Result<(Dup, Rounds<'a>), NoMemory>
+        ensures forced { IfOk result (λ d. IsForced (graph_now self.entry) d.0) }
+        ensures rounds { IfOk result (λ d. d.1 ≡ with_own self.entry d.0.pair) }
+        ensures loose { IfOk result (λ d. loose d.1.lines + 1 ≡ loose self.entry.lines) }
     {
-        u.keeps_invariant();
-        drop_taken(&mut self.walk, &self.going.taken);
-        self.done = begin_walk(&mut self.walk, &self.lines, &self.going.taken, self.done)?;
-        walk_on(
-            alloc,
-            u,
-            s,
-            &self.lines,
-            &self.uses,
-            &self.returns,
-            &self.going.taken,
-            self.first,
-            &mut self.walk,
-        )
-    }
-
-    /// Gives a provider pair a line of its own, where the line that holds it goes on from there.
-    pub fn own_line(
-        &mut self,
-        alloc: Global,
-        u: &Universe,
-        s: &Support,
-        p: PairIx,
-    ) -> Result<(), NoMemory>
-        requires support { IsSupport u.now s.now }
-        requires rounds { IsRounds u.now s.now self.old }
-        requires walk { IsWalk (plan_of u.now s.now self.old.lines) self.old.walk }
-        requires provider { IsTrue (has self.old.lines.providers p) }
-        requires loose { IsTrue (is_loose self.old.lines p) }
-        ensures rounds { OnOk result (IsRounds u.now s.now self.new) }
-        ensures lines { OnOk result (self.new.lines ≡ lines_of u.now s.now self.old.lines.targets (self.old.lines.own ++ p ∷ [])) }
-        ensures loose { OnOk result (loose self.new.lines + 1 ≡ loose self.old.lines) }
-    {
-        u.keeps_invariant();
-        let (line, station) = self.lines.holder(p, 1).unwrap();
-        self.walk.keep_for_own_line(
-            Event::At(line, station),
-            Event::At(line, StepIx(station.0 + 1)),
-        );
-        self.lines.own_line(alloc, s, p)?;
-        move_returns(
-            alloc,
-            u,
-            s,
-            &self.uses,
-            &self.lines,
-            (line, station),
-            &mut self.returns,
-        )?;
-        self.going
-            .with_own_line(alloc, u, s, &self.lines, &self.returns, (line, station))
+        let StuckRounds {
+            universe,
+            support,
+            mut course,
+        } = self;
+        universe.keeps_invariant();
+        let dup = course.dup(alloc, universe, support)?;
+        course.own_line(alloc, universe, support, dup.pair)?;
+        Ok((
+            dup,
+            Rounds {
+                universe,
+                support,
+                course,
+            },
+        ))
     }
 }

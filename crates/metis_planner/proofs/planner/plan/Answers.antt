@@ -1,18 +1,13 @@
 use Rattle.std.proofs.Common.{◌∙◌, List, Ok, refl, sym, ap, subst, ℕ}
 use Rattle.std.proofs.lemmas.Bool.{false≢true}
-use Rattle.std.specs.List.{All}
-use Rattle.std.specs.Prelude.{IsSome}
-use Rattle.metis_choice.specs.Choices.{IfLacks, IfSupport, IsFirstWithout}
+use Rattle.metis_choice.specs.Choices.{IfLacks, IsFirstWithout}
 use Rattle.metis_choice.specs.declared.choice.Choice.{Choice}
 use Rattle.metis_universe.proofs.Inside.{refused}
 use Rattle.metis_universe.specs.Closed.{Refusal}
 use Rattle.metis_universe.specs.Goal.{IsAttainedSet}
-use Rattle.metis_universe.specs.Layers.{layer_of}
 use Rattle.metis_layers.proofs.Order.{attained_set}
 use Rattle.metis_layers.specs.LayerOrder.{attained_pairs}
-use Rattle.metis_planner.proofs.Forced.{all_justified, cycles_of_two, events_low, pairs_low}
-use Rattle.metis_planner.proofs.Planning.{lacking_low, layered_each, refuses}
-use Rattle.metis_planner.proofs.Rounded.{bounded, dups_at_most, holds, instances_counted, lean, named, realizes, short_enough, tidy}
+use Rattle.metis_planner.proofs.Planning.{lacking_low, refuses}
 use Rattle.metis_planner.proofs.planner.plan.Goals as goal
 
 pub returns-in-Lacks-clause-attains : goal.returns-in-Lacks-clause-attains

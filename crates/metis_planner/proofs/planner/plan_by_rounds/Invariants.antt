@@ -1,11 +1,12 @@
+use Rattle.std.proofs.Common.{◌≡◌}
 use Rattle.metis_lines.specs.LifeLines.{loose}
-use Rattle.metis_rounds.specs.Rounds.{IsRounds}
 use Rattle.metis_planner.specs.UnderWay.{IsUnderWay}
 use Rattle.metis_planner.proofs.planner.plan_by_rounds.Given as goal
 
 abbrev pub invariant-loop-dups : goal.invariant-loop-dups
 invariant-loop-dups l = record {
-  rounds : IsRounds l.u l.s l.rounds;
+  universe : l.rounds.universe ≡ l.u;
+  support : l.rounds.support ≡ l.s;
   under_way : IsUnderWay l.u l.targets l.rounds.lines l.dups.items;
 }
 

@@ -1,34 +1,36 @@
-use Rattle.std.proofs.Common.{◌≡◌, ap, arith}
-use Rattle.metis_rounds.specs.Reach.{taken_of}
+use Rattle.std.proofs.Common.{◌≡◌, ◌∙◌, Bool, Ok, ap, subst}
+use Rattle.metis_ids.specs.Cycle.{HasCycle}
+use Rattle.metis_lines.proofs.Formed.{lines_formed}
+use Rattle.metis_lines.specs.LifeLines.{plan_of}
+use Rattle.metis_events.specs.Edges.{graph_of}
+use Rattle.metis_events.specs.Numbered.{dag_of}
+use Rattle.metis_rounds.specs.Course.{IfMore}
+use Rattle.metis_rounds.specs.Reach.{HasEnded, HasStopped}
+use Rattle.metis_rounds.specs.Rounds.{RoundsState, graph_now, state_of}
+use Rattle.metis_rounds.proofs.Ended.{no_cycle_left}
+use Rattle.metis_rounds.proofs.Ends.{stopped_cycle}
 use Rattle.metis_rounds.proofs.rounds.Rounds.go_on.Goals as goal
 
-pub first_unfinished-requires-clause-first : goal.first_unfinished-requires-clause-first
-first_unfinished-requires-clause-first c = λ l low.
-    omega (arith, c.requires.rounds.first l low, c.in_ok-go_on.ensures.kept l, ap (λ ms. taken_of ms l) c.deref.ensures.value)
+pub returns-then-branch : goal.returns-then-branch
+returns-then-branch c =
+    let u = c.self.inside.universe.now in
+    let s = c.self.inside.support.now in
+    let r = c.go_on.new.self in
+    let w = plan_of u s r.lines in
+    let course = c.in_ok-go_on.ensures.course in
+    let now : state_of u s r.lines ≡ c.args.self = ap (state_of u s) c.in_ok-go_on.ensures.lines ∙ c.self.view_is in
+    let stopped = subst (λ (b : Bool). IfMore (Ok b) (HasStopped w r.going.taken.items) (HasEnded w r.going.taken.items)) c.if-branch.true c.in_ok-go_on.ensures.more in
+    let cycle = stopped_cycle u w (lines_formed u s c.self.invariant.0 r.lines course.lines) r.going.taken.items course.going.safe stopped in
+    (now, subst (λ (a : RoundsState). HasCycle (dag_of (graph_of (graph_now a)))) now cycle)
 
-pub returns-in-Some-clause-rounds : goal.returns-in-Some-clause-rounds
-returns-in-Some-clause-rounds c =
-    let view : c.line.inside.0 ≡ c.in-Some.line = c.line.view_is in
-    let some = c.in-Some.ensures.some in
-    record {
-      lines = c.requires.rounds.lines;
-      uses = c.requires.rounds.uses;
-      returns = c.requires.rounds.returns;
-      going = c.in_ok-go_on.ensures.going;
-      walk = c.requires.rounds.walk;
-      first = λ l low. omega (arith, some.before l (omega (arith, view, low)), ap (λ ms. taken_of ms l) c.deref.ensures.value);
-      done = λ l low. omega (arith, c.requires.rounds.done l low, c.in_ok-go_on.ensures.kept l);
-      few = (omega (arith, view, some.low), c.requires.rounds.few.1);
-    }
-
-pub returns-in-None-clause-rounds : goal.returns-in-None-clause-rounds
-returns-in-None-clause-rounds c = record {
-  lines = c.requires.rounds.lines;
-  uses = c.requires.rounds.uses;
-  returns = c.requires.rounds.returns;
-  going = c.in_ok-go_on.ensures.going;
-  walk = c.requires.rounds.walk;
-  first = λ l low. omega (arith, c.requires.rounds.first l low, c.in_ok-go_on.ensures.kept l);
-  done = λ l low. omega (arith, c.requires.rounds.done l low, c.in_ok-go_on.ensures.kept l);
-  few = c.requires.rounds.few;
-}
+pub returns : goal.returns
+returns c =
+    let u = c.self.inside.universe.now in
+    let s = c.self.inside.support.now in
+    let r = c.go_on.new.self in
+    let w = plan_of u s r.lines in
+    let course = c.in_ok-go_on.ensures.course in
+    let now : state_of u s r.lines ≡ c.args.self = ap (state_of u s) c.in_ok-go_on.ensures.lines ∙ c.self.view_is in
+    let ended = subst (λ (b : Bool). IfMore (Ok b) (HasStopped w r.going.taken.items) (HasEnded w r.going.taken.items)) c.if-branch.false c.in_ok-go_on.ensures.more in
+    let none = no_cycle_left u s r.lines c.keeps_invariant.ensures.universe c.self.invariant.0 course.lines r.going.taken.items course.going.safe ended in
+    (ap (λ (a : RoundsState). a.lines) now, subst (λ (a : RoundsState). HasCycle (dag_of (graph_of (graph_now a))) → ⊥) now none)

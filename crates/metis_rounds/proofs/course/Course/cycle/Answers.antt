@@ -13,17 +13,17 @@ use Rattle.metis_rounds.specs.More.{IsBegun}
 use Rattle.metis_rounds.specs.Reach.{is_taken, taken_of}
 use Rattle.metis_rounds.specs.Stuck.{is_stuck}
 use Rattle.metis_rounds.specs.Walks.{IsWalk, step_at}
-use Rattle.metis_rounds.proofs.rounds.Rounds.cycle.Goals.{After-deref}
-use Rattle.metis_rounds.proofs.rounds.Rounds.cycle.Goals as goal
+use Rattle.metis_rounds.proofs.course.Course.cycle.Goals.{After-deref}
+use Rattle.metis_rounds.proofs.course.Course.cycle.Goals as goal
 
 formed : (c : After-deref) → IsFormed c.args.u.now (plan_of c.args.u.now c.args.s.now c.args.self.now.lines)
-formed c = lines_formed c.args.u.now c.args.s.now c.requires.support c.args.self.now.lines c.requires.rounds.lines
+formed c = lines_formed c.args.u.now c.args.s.now c.requires.support c.args.self.now.lines c.requires.course.lines
 
 left : (c : After-deref) (e : Event) → IsTrue (is_event (plan_of c.args.u.now c.args.s.now c.args.self.now.lines) e) → is_stuck (plan_of c.args.u.now c.args.s.now c.args.self.now.lines) e ≡ not (is_taken c.args.self.now.going.taken.items e)
-left c = stuck_left c.args.u.now (plan_of c.args.u.now c.args.s.now c.args.self.now.lines) (formed c) c.args.self.now.going.taken.items c.requires.rounds.going.safe c.requires.stopped
+left c = stuck_left c.args.u.now (plan_of c.args.u.now c.args.s.now c.args.self.now.lines) (formed c) c.args.self.now.going.taken.items c.requires.course.going.safe c.requires.stopped
 
 pub begin_walk-requires-clause-done : goal.begin_walk-requires-clause-done
-begin_walk-requires-clause-done c = λ l low. subst (λ ns. step_count (plan_of c.args.u.now c.args.s.now c.args.self.now.lines) l ≤ taken_of ns l) (sym c.deref-2.ensures.value) (c.requires.rounds.done l low)
+begin_walk-requires-clause-done c = λ l low. subst (λ ns. step_count (plan_of c.args.u.now c.args.s.now c.args.self.now.lines) l ≤ taken_of ns l) (sym c.deref-2.ensures.value) (c.requires.course.done l low)
 
 pub begin_walk-requires-clause-more : goal.begin_walk-requires-clause-more
 begin_walk-requires-clause-more c =
@@ -48,14 +48,14 @@ walk_on-requires-clause-walk c =
     let at = (goal.at.walk_on-requires-clause-walk c).After-deref in
     let dropped = c.drop_taken.new.walk in
     let ends : 0 < length dropped → IsFalse (is_taken ns (step_at dropped (length dropped - 1))) = λ some. subst (λ ms. IsFalse (is_taken ms (step_at dropped (length dropped - 1)))) c.deref.ensures.value (c.drop_taken.ensures.last some) in
-    let walk = dropped_walk u w (formed at) ns (left at) c.args.self.now.walk dropped c.requires.rounds.walk c.drop_taken.ensures.first ends in
+    let walk = dropped_walk u w (formed at) ns (left at) c.args.self.now.walk dropped c.requires.course.walk c.drop_taken.ensures.first ends in
     let begun = subst (λ ms. IsBegun w ms dropped c.begin_walk.new.walk) c.deref-2.ensures.value (begun_same u s x c.deref-2.result.now dropped c.begin_walk.new.walk c.in_ok-self.ensures.begun) in
     begun_walk u w (formed at) ns (left at) dropped c.begin_walk.new.walk walk begun
 
-pub returns-clause-rounds : goal.returns-clause-rounds
-returns-clause-rounds c =
+pub returns-clause-course : goal.returns-clause-course
+returns-clause-course c =
     let w = plan_of c.args.u.now c.args.s.now c.args.self.now.lines in
-    let before = c.requires.rounds in
+    let before = c.requires.course in
     on_ok_weaker c.walk_on.result (λ (walk : IsWalk w c.walk_on.new.walk). record {
       lines = before.lines;
       uses = before.uses;

@@ -1,6 +1,6 @@
 use Rattle.std.proofs.Common.{sym, ◌∙◌}
-use Rattle.metis_planner.proofs.Leads.{round_doubles_over}
-use Rattle.metis_planner.proofs.doubled.doubled_by.Goals as goal
+use Rattle.metis_rounds.proofs.Leads.{round_doubles_over}
+use Rattle.metis_rounds.proofs.doubled.doubled_by.Goals as goal
 
 pub unreachable-requires : goal.unreachable-requires
 unreachable-requires c =

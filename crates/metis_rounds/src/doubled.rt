@@ -3,14 +3,13 @@ ghost use Rattle.std.specs.Prelude.{◌≡◌, ◌<◌, ◌&&◌, None, Some, Is
 ghost use Rattle.std.specs.List.{All};
 ghost use Rattle.metis_lines.specs.Events.{is_among, is_cycle, is_event, is_return_into_move};
 ghost use Rattle.metis_lines.specs.LifeLines.{AreLines, line_at, plan_of};
-ghost use Rattle.metis_planner.specs.Rounds.{doubled_by, left_by};
-ghost use Rattle.metis_planner.specs.UnderWay.{place_after};
+ghost use Rattle.metis_rounds.specs.Forced.{doubled_by, left_by, place_after};
 ghost use Rattle.metis_rounds.specs.Tables.{HasReturns, row_at};
 ghost use Rattle.metis_support.specs.Support.{IsSupport};
 
+use crate::event_table::EventTable;
 use metis_ids::{Event, LineIx, PairIx, StepIx};
 use metis_lines::Lines;
-use metis_rounds::EventTable;
 use metis_support::Support;
 use metis_universe::Universe;
 

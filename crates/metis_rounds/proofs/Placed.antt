@@ -8,9 +8,9 @@ use Rattle.metis_ids.specs.declared.events.Event.TheVariants.{End}
 use Rattle.metis_lines.specs.AbstractPlan.{AbstractPlan}
 use Rattle.metis_lines.specs.Events.{around, is_return_into_move}
 use Rattle.metis_rounds.proofs.Around.{around_count, no_pair}
-use Rattle.metis_planner.proofs.Around.{around_at, find_at, find_none}
-use Rattle.metis_planner.specs.Rounds.{doubled_by, left_by}
-use Rattle.metis_planner.specs.UnderWay.{place_after}
+use Rattle.metis_rounds.proofs.Searches.{around_at, find_at, find_none}
+use Rattle.metis_rounds.specs.Forced.{doubled_by, left_by}
+use Rattle.metis_rounds.specs.Forced.{place_after}
 
 module _ (w : AbstractPlan) (es : List Event) where
   leads : Event × Event → Bool

@@ -17,7 +17,7 @@ use Rattle.metis_lines.specs.LifeLines.{AreLines, LifeLines, holder_of, holding,
 use Rattle.metis_lines.proofs.SameEvents.{same_itself}
 use Rattle.metis_events.proofs.Instances.{returns_from_loose, rounds_return}
 use Rattle.metis_events.proofs.Returns.{return_from_supply}
-use Rattle.metis_planner.specs.Rounds.{doubled_by, left_by}
+use Rattle.metis_rounds.specs.Forced.{doubled_by, left_by}
 
 -- ---- what a search finds
 
@@ -141,8 +141,22 @@ module _ (u : Universe) (s : Support) (g d : List ℕ) (universe : IsUniverse u)
   pub round_doubles : (es : List Event) → is_cycle w es ≡ true → doubled_by w es ≡ None → ⊥
   round_doubles es h none = some_left w es (rounds_return u s g d universe k targets own es h) none
 
--- the same of lines that are these for their targets and own pairs
-pub round_doubles_over : (u : Universe) (s : Support) (x : LifeLines) → IsUniverse u → IsSupport u s → AreLines u s x → (es : List Event) → is_cycle (plan_of u s x) es ≡ true → doubled_by (plan_of u s x) es ≡ None → ⊥
-round_doubles_over u s x universe k lines es cycle none =
-    let own : (p : ℕ) → has x.own p ≡ true → is_selected s p ≡ true = λ p h. provider_chosen s p (ap (λ (y : LifeLines). has y.providers p) (sym lines.are) ∙ lines.own p h) in
-    round_doubles u s x.targets x.own universe k lines.targets own es (ap (λ y. is_cycle (plan_of u s y) es) (sym lines.are) ∙ cycle) (ap (λ y. doubled_by (plan_of u s y) es) (sym lines.are) ∙ none)
+-- ---- the same of lines that are these for their targets and own pairs
+
+module _ (u : Universe) (s : Support) (x : LifeLines) (universe : IsUniverse u) (k : IsSupport u s) (lines : AreLines u s x) where
+  own_chosen : (p : ℕ) → has x.own p ≡ true → is_selected s p ≡ true
+  own_chosen p h = provider_chosen s p (ap (λ (y : LifeLines). has y.providers p) (sym lines.are) ∙ lines.own p h)
+
+  pub round_doubles_over : (es : List Event) → is_cycle (plan_of u s x) es ≡ true → doubled_by (plan_of u s x) es ≡ None → ⊥
+  round_doubles_over es cycle none =
+      round_doubles u s x.targets x.own universe k lines.targets own_chosen es (ap (λ y. is_cycle (plan_of u s y) es) (sym lines.are) ∙ cycle) (ap (λ y. doubled_by (plan_of u s y) es) (sym lines.are) ∙ none)
+
+  there : (es : List Event) (p : ℕ) → doubled_by (plan_of u s x) es ≡ Some p → IsDoubled u s x.targets x.own universe k lines.targets own_chosen es p
+  there es p is = doubled u s x.targets x.own universe k lines.targets own_chosen es p (ap (λ y. doubled_by (plan_of u s y) es) (sym lines.are) ∙ is)
+
+  -- what is doubled is a provider pair, whose holder goes on
+  pub doubled_provider : (es : List Event) (p : ℕ) → doubled_by (plan_of u s x) es ≡ Some p → has x.providers p ≡ true
+  doubled_provider es p is = ap (λ (y : LifeLines). has y.providers p) lines.are ∙ (there es p is).provider
+
+  pub doubled_loose : (es : List Event) (p : ℕ) → doubled_by (plan_of u s x) es ≡ Some p → is_loose x p ≡ true
+  doubled_loose es p is = ap (λ y. is_loose y p) lines.are ∙ (there es p is).loose

@@ -2,8 +2,8 @@ use Rattle.std.proofs.Common.{◌≡◌, ℕ, ◌<◌, false, get_or, length}
 use Rattle.metis_ids.specs.declared.events.Event.TheVariants.{End}
 use Rattle.metis_lines.specs.Events.{is_return_into_move}
 use Rattle.metis_lines.specs.LifeLines.{plan_of}
-use Rattle.metis_planner.specs.UnderWay.{place_after}
-use Rattle.metis_planner.proofs.doubled.first_left.Given as goal
+use Rattle.metis_rounds.specs.Forced.{place_after}
+use Rattle.metis_rounds.proofs.doubled.first_left.Given as goal
 
 -- no return edge leads into a move at the places so far
 abbrev pub invariant-loop-place : goal.invariant-loop-place

@@ -1,0 +1,38 @@
+use Rattle.std.proofs.Common.{◌∙◌, length, refl, sym, ap, subst}
+use Rattle.metis_ids.specs.Cycle.{HasCycle}
+use Rattle.metis_support.specs.Support.{IsSupport}
+use Rattle.metis_emit.specs.Emission.{emission}
+use Rattle.metis_lines.specs.AbstractPlan.{AbstractPlan}
+use Rattle.metis_lines.specs.LifeLines.{AreLines, LifeLines}
+use Rattle.metis_planner.proofs.Forced.{support}
+use Rattle.metis_planner.proofs.Planning.{layered_each}
+use Rattle.metis_planner.proofs.UnderWay.{graph_over, lines_now}
+use Rattle.metis_planner.specs.Rounds.{numbered, ordered_events}
+use Rattle.metis_planner.proofs.planner.ordered_plan.Goals as goal
+
+pub ordered_actions-requires-clause-support : goal.ordered_actions-requires-clause-support
+ordered_actions-requires-clause-support c =
+    subst (λ s. IsSupport c.args.u.now s) (sym c.requires.support) (support c.args.u.now c.keeps_invariant.ensures c.args.targets.now (layered_each c.args.u.now c.args.targets.now c.requires.layered))
+
+pub ordered_actions-requires-clause-lines : goal.ordered_actions-requires-clause-lines
+ordered_actions-requires-clause-lines c =
+    let u = c.args.u.now in
+    let g = c.args.targets.now in
+    let x = c.args.lines.now in
+    subst (λ s. AreLines u s x) (sym c.requires.support) (lines_now u g c.keeps_invariant.ensures (layered_each u g c.requires.layered) x c.args.dups.items c.requires.under_way)
+
+pub ordered_actions-requires-clause-ended : goal.ordered_actions-requires-clause-ended
+ordered_actions-requires-clause-ended c =
+    let now = graph_over c.args.u.now c.args.targets.now c.args.u.now c.args.s.now c.args.lines.now c.args.dups.items refl c.requires.support c.requires.under_way.lines in
+    subst (λ (w : AbstractPlan). HasCycle (numbered w) → ⊥) (sym now) c.requires.ended
+
+pub returns : goal.returns
+returns c =
+    let u = c.args.u.now in
+    let now = graph_over u c.args.targets.now u c.args.s.now c.args.lines.now c.args.dups.items refl c.requires.support c.requires.under_way.lines in
+    record {
+      forced = c.requires.under_way.forced;
+      ended = c.requires.ended;
+      actions = c.in_ok-actions.ensures ∙ ap (λ (w : AbstractPlan). emission u w (ordered_events w)) now;
+      instances = c.count.ensures.count ∙ ap (λ (y : LifeLines). length y.lines) c.requires.under_way.lines;
+    }

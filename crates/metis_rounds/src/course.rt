@@ -1,0 +1,173 @@
+//! The course of rounds, each of which goes on where the last one stopped.
+ghost use Rattle.std.specs.Prelude.{◌≡◌, ◌≤◌, ◌+◌, ◌++◌, ◌∷◌, ℕ, [], length, map, IfOk, IsTrue, OnOk};
+ghost use Rattle.metis_ids.specs.Cycle.{cycle_of};
+ghost use Rattle.metis_universe.specs.Universe.{has};
+ghost use Rattle.metis_support.specs.Support.{IsSupport, is_selected};
+ghost use Rattle.metis_lines.specs.LifeLines.{is_loose, lines_of, loose, plan_of};
+ghost use Rattle.metis_events.specs.Edges.{graph_of};
+ghost use Rattle.metis_events.specs.Numbered.{dag_of, nth_event};
+ghost use Rattle.metis_rounds.specs.Course.{IfMore, IsCourse};
+ghost use Rattle.metis_rounds.specs.Forced.{IsForced};
+ghost use Rattle.metis_rounds.specs.Reach.{HasEnded, HasStopped};
+ghost use Rattle.metis_rounds.specs.Walks.{IsWalk};
+
+use crate::doubled::doubled_by;
+use crate::event_table::EventTable;
+use crate::going::Going;
+use crate::least::first_unfinished;
+use crate::returns::{move_returns, returns_of};
+use crate::uses::Uses;
+use crate::walk::Walk;
+use crate::walking::{begin_walk, drop_taken, walk_on};
+use metis_ids::{Dup, Event, NoMemory, PairIx, StepIx};
+use metis_lines::Lines;
+use metis_support::Support;
+use metis_universe::Universe;
+use std::alloc::Global;
+
+/// The lines, and how far the rounds over their events have come.
+#[derive(Drop)]
+pub struct Course {
+    pub lines: Lines,
+    /// The slots that each pair takes.
+    pub uses: Uses,
+    /// For each event those from which return edges lead into it.
+    pub returns: EventTable,
+    /// What is taken, and what each line waits for.
+    pub going: Going,
+    /// The walk back over the stuck events, as far as it stands.
+    pub walk: Walk,
+    /// All lines before this one are in their last stations.
+    pub first: u32,
+    /// All lines before this one have no event left.
+    pub done: u32,
+}
+
+impl Course {
+    /// Over the lines for selected targets and no own pairs; no event is taken.
+    pub fn new(
+        alloc: Global,
+        u: &Universe,
+        s: &Support,
+        targets: &[PairIx],
+    ) -> Result<Course, NoMemory>
+        requires support { IsSupport u.now s.now }
+        requires selected { (p : ℕ) → IsTrue (has targets.now p) → IsTrue (is_selected s.now p) }
+        requires few { length targets.now ≤ 256 }
+        ensures course { IfOk result (IsCourse u.now s.now) }
+        ensures lines { IfOk result (λ r. r.lines ≡ lines_of u.now s.now targets.now []) }
+    {
+        let lines = Lines::new(alloc, u, s, targets)?;
+        let uses = Uses::of(alloc, u, s)?;
+        let returns = returns_of(alloc, u, s, &uses, &lines)?;
+        let going = Going::new(alloc, u, s, &lines, &returns)?;
+        Ok(Course {
+            lines,
+            uses,
+            returns,
+            going,
+            walk: Walk::new(alloc),
+            first: 0,
+            done: 0,
+        })
+    }
+
+    /// Takes what can be taken. Whether events are stuck then.
+    pub fn go_on(&mut self, alloc: Global, u: &Universe, s: &Support) -> Result<bool, NoMemory>
+        requires support { IsSupport u.now s.now }
+        requires course { IsCourse u.now s.now self.old }
+        ensures course { OnOk result (IsCourse u.now s.now self.new) }
+        ensures lines { OnOk result (self.new.lines ≡ self.old.lines) }
+        ensures more { IfMore result (HasStopped (plan_of u.now s.now self.new.lines) self.new.going.taken.items) (HasEnded (plan_of u.now s.now self.new.lines) self.new.going.taken.items) }
+    {
+        self.going
+            .go_on(alloc, u, s, &self.lines, &self.uses, &self.returns)?;
+        match first_unfinished(&self.lines, &self.going.taken, self.first) {
+            Some(line) => {
+                self.first = line.0;
+                Ok(true)
+            }
+            None => Ok(false),
+        }
+    }
+
+    /// The dup that the cycle of the events forces, where some are stuck.
+    pub fn dup(&mut self, alloc: Global, u: &Universe, s: &Support) -> Result<Dup, NoMemory>
+        requires support { IsSupport u.now s.now }
+        requires course { IsCourse u.now s.now self.old }
+        requires stopped { HasStopped (plan_of u.now s.now self.old.lines) self.old.going.taken.items }
+        ensures course { OnOk result (IsCourse u.now s.now self.new) }
+        ensures lines { self.new.lines ≡ self.old.lines }
+        ensures walk { OnOk result (IsWalk (plan_of u.now s.now self.new.lines) self.new.walk) }
+        ensures forced { IfOk result (IsForced (plan_of u.now s.now self.old.lines)) }
+    {
+        u.keeps_invariant();
+        let cycle = self.cycle(alloc, u, s)?;
+        let pair = doubled_by(u, s, &self.lines, &self.returns, &cycle);
+        Ok(Dup { pair, cycle })
+    }
+
+    // The cycle of the events, where some are stuck. Of the last walk as much stands as was not taken since.
+    fn cycle(&mut self, alloc: Global, u: &Universe, s: &Support) -> Result<Vec<Event>, NoMemory>
+        requires support { IsSupport u.now s.now }
+        requires course { IsCourse u.now s.now self.old }
+        requires stopped { HasStopped (plan_of u.now s.now self.old.lines) self.old.going.taken.items }
+        ensures course { OnOk result (IsCourse u.now s.now self.new) }
+        ensures lines { self.new.lines ≡ self.old.lines }
+        ensures returns { self.new.returns ≡ self.old.returns }
+        ensures walk { OnOk result (IsWalk (plan_of u.now s.now self.new.lines) self.new.walk) }
+        ensures cycle { IfOk result (λ es. es.items ≡ map (nth_event (plan_of u.now s.now self.old.lines)) (cycle_of (dag_of (graph_of (plan_of u.now s.now self.old.lines))))) }
+    {
+        u.keeps_invariant();
+        drop_taken(&mut self.walk, &self.going.taken);
+        self.done = begin_walk(&mut self.walk, &self.lines, &self.going.taken, self.done)?;
+        walk_on(
+            alloc,
+            u,
+            s,
+            &self.lines,
+            &self.uses,
+            &self.returns,
+            &self.going.taken,
+            self.first,
+            &mut self.walk,
+        )
+    }
+
+    /// Gives a provider pair a line of its own, where the line that holds it goes on from there.
+    pub fn own_line(
+        &mut self,
+        alloc: Global,
+        u: &Universe,
+        s: &Support,
+        p: PairIx,
+    ) -> Result<(), NoMemory>
+        requires support { IsSupport u.now s.now }
+        requires course { IsCourse u.now s.now self.old }
+        requires walk { IsWalk (plan_of u.now s.now self.old.lines) self.old.walk }
+        requires provider { IsTrue (has self.old.lines.providers p) }
+        requires loose { IsTrue (is_loose self.old.lines p) }
+        ensures course { OnOk result (IsCourse u.now s.now self.new) }
+        ensures lines { OnOk result (self.new.lines ≡ lines_of u.now s.now self.old.lines.targets (self.old.lines.own ++ p ∷ [])) }
+        ensures loose { OnOk result (loose self.new.lines + 1 ≡ loose self.old.lines) }
+    {
+        u.keeps_invariant();
+        let (line, station) = self.lines.holder(p, 1).unwrap();
+        self.walk.keep_for_own_line(
+            Event::At(line, station),
+            Event::At(line, StepIx(station.0 + 1)),
+        );
+        self.lines.own_line(alloc, s, p)?;
+        move_returns(
+            alloc,
+            u,
+            s,
+            &self.uses,
+            &self.lines,
+            (line, station),
+            &mut self.returns,
+        )?;
+        self.going
+            .with_own_line(alloc, u, s, &self.lines, &self.returns, (line, station))
+    }
+}
