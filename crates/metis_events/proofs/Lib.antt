@@ -7,6 +7,7 @@ pub mod Holding
 pub mod InRows
 pub mod Instances
 pub mod Joins
+pub mod NodeRows
 pub mod Numbered
 pub mod Ranks
 pub mod Returns

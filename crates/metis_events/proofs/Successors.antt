@@ -17,7 +17,7 @@ use Rattle.metis_lines.specs.AbstractPlan.{AbstractPlan}
 use Rattle.metis_lines.specs.Events.{event_cmp, events, same_event}
 use Rattle.metis_lines.specs.Soundness.{IsFormed}
 use Rattle.metis_sort.proofs.CountFacts.{occurrences-inside}
-use Rattle.metis_sort.proofs.DagFacts.{pieces_alike}
+use Rattle.metis_events.proofs.NodeRows.{pieces_alike}
 use Rattle.metis_events.proofs.AllEvents.{events_ascend}
 use Rattle.metis_events.proofs.Befores.{number_of_event}
 use Rattle.metis_events.proofs.Joins.{joins_from, joins_to}

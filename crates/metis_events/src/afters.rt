@@ -8,9 +8,9 @@ ghost use Rattle.metis_lines.specs.Events.{event_cmp, same_event};
 ghost use Rattle.metis_events.specs.Numbered.{IsJoined, dag_of, graph_by};
 
 use crate::edges::Edge;
+use crate::node_rows::{NodeRow, empty_rows};
 use crate::rows::{EdgeRow, place_of};
 use metis_ids::{Event, NoMemory, NodeIx};
-use metis_sort::{NodeRow, empty_rows};
 use std::alloc::Global;
 
 /// For each of the events, the numbers of those to which edges lead from it: ascending, each as often as there are edges.

@@ -6,6 +6,7 @@ mod edges;
 mod gather;
 pub mod graph;
 mod laws;
+mod node_rows;
 mod rows;
 
 pub use edges::{Edge, EdgeKind, events_are_ordered};

@@ -2,16 +2,12 @@
 #![tactic(auto)]
 
 mod cycle;
-mod dag;
 mod order;
 mod reach;
 mod ready;
-mod rows;
 mod sorted;
 mod sorting;
 
-pub use dag::Dag;
 pub use reach::Reach;
-pub use rows::{NodeRow, empty_rows};
 pub use sorted::Sorted;
 pub use sorting::{sort, sort_counted};

@@ -4,7 +4,7 @@ use Rattle.std.proofs.lemmas.List.{get_or-map, length-map}
 use Rattle.std.specs.List.{position_or_len}
 use Rattle.std.specs.Option.{IsSome}
 use Rattle.metis_lines.specs.Events.{same_event}
-use Rattle.metis_sort.proofs.DagFacts.{row_more}
+use Rattle.metis_events.proofs.NodeRows.{row_more}
 use Rattle.metis_events.proofs.InRows.{some_place}
 use Rattle.metis_events.specs.declared.edges.Edge.{Edge}
 use Rattle.metis_events.proofs.afters.add_to_rows.Goals as goal

@@ -1,5 +1,5 @@
-//! Rows of nodes, one for each node of a graph.
-ghost use Rattle.std.specs.Prelude.{◌≡◌, ◌+◌, ◌^◌, ◌<◌, ◌++◌, ◌∷◌, [], IfOk, IfSome, OnOk, length, replicate};
+//! Rows of the numbers of events.
+ghost use Rattle.std.specs.Prelude.{◌≡◌, ◌+◌, ◌^◌, ◌<◌, ◌++◌, ◌∷◌, [], IfOk, IfSome, OnOk, replicate};
 ghost use Rattle.std.specs.List.{slice_get};
 
 use metis_ids::{NoMemory, NodeIx};
@@ -29,24 +29,12 @@ impl NodeRow {
         Ok(())
     }
 
-    pub fn len(&self) -> usize
-        ensures { result ≡ length self.now }
-    {
-        self.nodes.len()
-    }
-
     /// The node of a place, and none past the end. Where there is one, the next place can be counted.
     pub fn get(&self, k: usize) -> Option<NodeIx>
         ensures value { result ≡ slice_get self.now k }
         ensures next { IfSome result (λ _. k + 1 < 2 ^ 64) }
     {
         self.nodes.get(k).copied()
-    }
-
-    pub fn as_slice(&self) -> &[NodeIx]
-        ensures { result.now ≡ self.now }
-    {
-        self.nodes.as_slice()
     }
 }
 
