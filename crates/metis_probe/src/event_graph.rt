@@ -8,25 +8,25 @@ use metis_ids::{Event, NodeIx};
 use metis_sort::Sorted;
 use std::alloc::Global;
 
-/// Prints the edges into each of so many events.
-pub fn print_edges<R: Print>(rt: &R, graph: &EventGraph, count: u32) -> Result<(), Stop>
+/// Writes the edges into each of so many events.
+pub fn write_edges(text: &mut String, graph: &EventGraph, count: u32) -> Result<(), Stop>
     requires { count ≡ length graph.now.events }
 {
     for number in 0..count {
-        print_before(rt, graph, &graph.event(NodeIx(number)))?;
+        write_before(text, graph, &graph.event(NodeIx(number)))?;
     }
     Ok(())
 }
 
-fn print_before<R: Print>(rt: &R, graph: &EventGraph, event: &Event) -> Result<(), Stop> {
-    print!(rt; "before")?;
-    print_event(rt, event)?;
-    print!(rt; ":")?;
+fn write_before(text: &mut String, graph: &EventGraph, event: &Event) -> Result<(), Stop> {
+    write!(text, "before")?;
+    write_event(text, event)?;
+    write!(text, ":")?;
     for edge in graph.before(*event) {
-        print_event(rt, &edge.from)?;
-        print!(rt; " {}", kind_word(edge.kind))?;
+        write_event(text, &edge.from)?;
+        write!(text, " {}", kind_word(edge.kind))?;
     }
-    println!(rt; "")?;
+    write!(text, "\n")?;
     Ok(())
 }
 
@@ -38,13 +38,13 @@ fn kind_word(kind: EdgeKind) -> &'static str {
     }
 }
 
-fn print_event<R: Print>(rt: &R, event: &Event) -> Result<(), Stop> {
+fn write_event(text: &mut String, event: &Event) -> Result<(), Stop> {
     match *event {
         Event::At(line, step) => {
             let (line, step) = (line.0, step.0);
-            print!(rt; " {line}.{step}")?;
+            write!(text, " {line}.{step}")?;
         }
-        Event::End => print!(rt; " end")?,
+        Event::End => write!(text, " end")?,
     }
     Ok(())
 }
@@ -73,9 +73,9 @@ pub fn count_edges(graph: &EventGraph, count: u32) -> u64
     edges
 }
 
-/// Prints the order of so many events, or their cycle.
-pub fn print_sorted<R: Print>(
-    rt: &R,
+/// Writes the order of so many events, or their cycle.
+pub fn write_sorted(
+    text: &mut String,
     graph: &EventGraph,
     count: u32,
     sorted: &Sorted,
@@ -83,13 +83,13 @@ pub fn print_sorted<R: Print>(
     requires { count ≡ length graph.now.events }
 {
     match sorted {
-        Sorted::Order(nodes) => print_nodes(rt, graph, count, "order", nodes),
-        Sorted::Cycle(nodes) => print_nodes(rt, graph, count, "cycle", nodes),
+        Sorted::Order(nodes) => write_nodes(text, graph, count, "order", nodes),
+        Sorted::Cycle(nodes) => write_nodes(text, graph, count, "cycle", nodes),
     }
 }
 
-fn print_nodes<R: Print>(
-    rt: &R,
+fn write_nodes(
+    text: &mut String,
     graph: &EventGraph,
     count: u32,
     word: &str,
@@ -97,12 +97,12 @@ fn print_nodes<R: Print>(
 ) -> Result<(), Stop>
     requires { count ≡ length graph.now.events }
 {
-    print!(rt; "{word}:")?;
+    write!(text, "{word}:")?;
     for node in nodes {
         if node.0 < count {
-            print_event(rt, &graph.event(*node))?;
+            write_event(text, &graph.event(*node))?;
         }
     }
-    println!(rt; "")?;
+    write!(text, "\n")?;
     Ok(())
 }

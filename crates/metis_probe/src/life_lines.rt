@@ -7,20 +7,20 @@ use metis_ids::{LineIx, PairIx, StepIx};
 use metis_lines::Lines;
 use metis_support::Support;
 
-/// Prints the pairs of each line, where each provider pair is held, and how many of these are loose.
-pub fn print_lines<R: Print>(rt: &R, s: &Support, lines: &Lines) -> Result<(), Stop> {
+/// Writes the pairs of each line, where each provider pair is held, and how many of these are loose.
+pub fn write_lines(text: &mut String, s: &Support, lines: &Lines) -> Result<(), Stop> {
     for number in 0..lines.count() {
-        print_line(rt, lines, LineIx(number))?;
+        write_line(text, lines, LineIx(number))?;
     }
     for pair in s.provider_pairs() {
-        print_holders(rt, lines, *pair)?;
+        write_holders(text, lines, *pair)?;
     }
     let loose = lines.loose();
-    println!(rt; "loose {loose}")?;
+    write!(text, "loose {loose}\n")?;
     Ok(())
 }
 
-fn print_line<R: Print>(rt: &R, lines: &Lines, line: LineIx) -> Result<(), Stop>
+fn write_line(text: &mut String, lines: &Lines, line: LineIx) -> Result<(), Stop>
     requires { line < length lines.now.lines }
 {
     let number = line.0;
@@ -29,37 +29,37 @@ fn print_line<R: Print>(rt: &R, lines: &Lines, line: LineIx) -> Result<(), Stop>
     } else {
         ""
     };
-    print!(rt; "line {number}{of}:")?;
+    write!(text, "line {number}{of}:")?;
     let last = lines.last(line);
     for step in 0..last.0 + 1 {
         let pair = lines.station(line, StepIx(step)).0;
-        print!(rt; " {pair}")?;
+        write!(text, " {pair}")?;
     }
-    println!(rt; "")?;
+    write!(text, "\n")?;
     Ok(())
 }
 
-// Prints where each slot of the pair is held.
-fn print_holders<R: Print>(rt: &R, lines: &Lines, pair: PairIx) -> Result<(), Stop> {
+// Writes where each slot of the pair is held.
+fn write_holders(text: &mut String, lines: &Lines, pair: PairIx) -> Result<(), Stop> {
     for before in 0..lines.slots(pair) {
-        print_holder(rt, lines, pair, before + 1)?;
+        write_holder(text, lines, pair, before + 1)?;
     }
     Ok(())
 }
 
-fn print_holder<R: Print>(rt: &R, lines: &Lines, pair: PairIx, slot: u32) -> Result<(), Stop> {
+fn write_holder(text: &mut String, lines: &Lines, pair: PairIx, slot: u32) -> Result<(), Stop> {
     let number = pair.0;
     if slot == 1 {
-        print!(rt; "pair {number} ")?;
+        write!(text, "pair {number} ")?;
     } else {
-        print!(rt; "pair {number} slot {slot} ")?;
+        write!(text, "pair {number} slot {slot} ")?;
     }
     match lines.holder(pair, slot) {
         Some((line, station)) => {
             let (line, station) = (line.0, station.0);
-            println!(rt; "is held at {line}.{station}")?;
+            write!(text, "is held at {line}.{station}\n")?;
         }
-        None => println!(rt; "is not held")?,
+        None => write!(text, "is not held\n")?,
     }
     Ok(())
 }

@@ -1,21 +1,21 @@
 use crate::stop::Stop;
 
-/// Prints the numbers, each behind a space, or that there are none.
-pub fn print_numbers<R: Print>(rt: &R, numbers: &[u32]) -> Result<(), Stop> {
+/// Writes the numbers, each behind a space, or that there are none.
+pub fn write_numbers(text: &mut String, numbers: &[u32]) -> Result<(), Stop> {
     if numbers.is_empty() {
-        print!(rt; " none")?;
+        write!(text, " none")?;
     }
     for number in numbers {
-        print!(rt; " {number}")?;
+        write!(text, " {number}")?;
     }
     Ok(())
 }
 
-/// Prints the number, behind a space, or the word where there is none.
-pub fn print_or<R: Print>(rt: &R, number: Option<u32>, word: &str) -> Result<(), Stop> {
+/// Writes the number, behind a space, or the word where there is none.
+pub fn write_or(text: &mut String, number: Option<u32>, word: &str) -> Result<(), Stop> {
     match number {
-        Some(number) => print!(rt; " {number}")?,
-        None => print!(rt; " {word}")?,
+        Some(number) => write!(text, " {number}")?,
+        None => write!(text, " {word}")?,
     }
     Ok(())
 }

@@ -1,29 +1,29 @@
-use crate::lists::print_or;
+use crate::lists::write_or;
 use crate::stop::Stop;
 use metis_universe::Universe;
 
-/// Prints what each word means in the universe: a pair, where it has a colon, and else a type and a port.
-pub fn print_names<R: Print>(rt: &R, u: &Universe, words: &[&str]) -> Result<(), Stop> {
+/// Writes what each word means in the universe: a pair, where it has a colon, and else a type and a port.
+pub fn write_names(text: &mut String, u: &Universe, words: &[&str]) -> Result<(), Stop> {
     for word in words {
-        print_name(rt, u, word)?;
+        write_name(text, u, word)?;
     }
     Ok(())
 }
 
-fn print_name<R: Print>(rt: &R, u: &Universe, word: &str) -> Result<(), Stop> {
-    print!(rt; "{word}:")?;
+fn write_name(text: &mut String, u: &Universe, word: &str) -> Result<(), Stop> {
+    write!(text, "{word}:")?;
     match word.split_once(':') {
         Some((kind, state)) => {
-            print!(rt; " pair")?;
-            print_or(rt, u.pair_named(kind, state).map(|p| p.0), "none")?;
+            write!(text, " pair")?;
+            write_or(text, u.pair_named(kind, state).map(|p| p.0), "none")?;
         }
         None => {
-            print!(rt; " type")?;
-            print_or(rt, u.type_named(word).map(|t| t.0), "none")?;
-            print!(rt; ", port")?;
-            print_or(rt, u.port_named(word).map(|r| r.0), "none")?;
+            write!(text, " type")?;
+            write_or(text, u.type_named(word).map(|t| t.0), "none")?;
+            write!(text, ", port")?;
+            write_or(text, u.port_named(word).map(|r| r.0), "none")?;
         }
     }
-    println!(rt; "")?;
+    write!(text, "\n")?;
     Ok(())
 }

@@ -1,10 +1,10 @@
-use crate::layers::print_layers;
-use crate::names::print_names;
-use crate::reasons::{print_reason_count, print_reasons};
-use crate::rounds::{print_counts, print_rounds};
+use crate::layers::write_layers;
+use crate::names::write_names;
+use crate::reasons::{write_reason_count, write_reasons};
+use crate::rounds::{write_counts, write_rounds};
 use crate::stop::Stop;
-use crate::tables::print_tables;
-use crate::waits::print_waits;
+use crate::tables::write_tables;
+use crate::waits::write_waits;
 use metis_ujson::read_universe;
 use metis_universe::Universe;
 use std::fs;
@@ -26,26 +26,76 @@ fn probe_line<R: Files + Print + AllocGlobal>(rt: &R, line: &str) -> Result<(), 
     }
     println!(rt; "$ {line}")?;
     let words: Vec<&str> = line.split(' ').collect(rt.alloc())?;
-    make_probe(rt, &words)
+    let mut text = String::new(rt.alloc());
+    write_probe(rt, &mut text, &words)?;
+    print!(rt; "{text}")?;
+    Ok(())
 }
 
-// The first word says what is printed, and the second is the file of the universe.
-fn make_probe<R: Files + Print + AllocGlobal>(rt: &R, words: &[&str]) -> Result<(), Stop> {
+// The first word says what is written, and the second is the file of the universe.
+fn write_probe<R: Files + AllocGlobal>(
+    rt: &R,
+    text: &mut String,
+    words: &[&str],
+) -> Result<(), Stop> {
     let [verb, file, rest @ ..] = words else {
         return Err(Stop::NoProbe);
     };
+    let kind = kind_of(verb).ok_or(Stop::NoProbe)?;
     let universe = universe_in(rt, file)?;
-    match (*verb, rest) {
-        ("universe", []) => print_tables(rt, &universe),
-        ("names", names) => print_names(rt, &universe, names),
-        ("layers", []) => print_layers(rt, &universe),
-        ("waits", [plan]) => print_waits(rt, &universe, plan),
-        ("why", [goal]) => print_reasons(rt, &universe, goal),
-        ("count-why", [goal]) => print_reason_count(rt, &universe, goal),
-        ("rounds", targets) => print_rounds(rt, &universe, targets),
-        ("graph", targets) => print_counts(rt, &universe, targets),
-        _ => Err(Stop::NoProbe),
+    write_kind(rt, text, &universe, kind, rest)
+}
+
+// What a probe writes.
+#[derive(Clone, Copy)]
+enum Kind {
+    Tables,
+    Names,
+    Layers,
+    Waits,
+    Reasons,
+    ReasonCount,
+    Rounds,
+    Counts,
+}
+
+fn kind_of(verb: &str) -> Option<Kind> {
+    match verb {
+        "universe" => Some(Kind::Tables),
+        "names" => Some(Kind::Names),
+        "layers" => Some(Kind::Layers),
+        "waits" => Some(Kind::Waits),
+        "why" => Some(Kind::Reasons),
+        "count-why" => Some(Kind::ReasonCount),
+        "rounds" => Some(Kind::Rounds),
+        "graph" => Some(Kind::Counts),
+        _ => None,
     }
+}
+
+fn write_kind<R: Files + AllocGlobal>(
+    rt: &R,
+    text: &mut String,
+    u: &Universe,
+    kind: Kind,
+    rest: &[&str],
+) -> Result<(), Stop> {
+    let alloc = rt.alloc();
+    match kind {
+        Kind::Tables => write_tables(alloc, text, u),
+        Kind::Names => write_names(text, u, rest),
+        Kind::Layers => write_layers(alloc, text, u),
+        Kind::Waits => write_waits(rt, text, u, first_of(rest)?),
+        Kind::Reasons => write_reasons(alloc, text, u, first_of(rest)?),
+        Kind::ReasonCount => write_reason_count(alloc, text, u, first_of(rest)?),
+        Kind::Rounds => write_rounds(alloc, text, u, rest),
+        Kind::Counts => write_counts(alloc, text, u, rest),
+    }
+}
+
+// The one word that is asked for.
+fn first_of<'a>(words: &[&'a str]) -> Result<&'a str, Stop> {
+    words.first().copied().ok_or(Stop::NoProbe)
 }
 
 fn universe_in<R: Files + AllocGlobal>(rt: &R, file: &str) -> Result<Universe, Stop> {

@@ -7,37 +7,44 @@ use crate::stop::Stop;
 use metis_ids::Goal;
 use metis_universe::Universe;
 use metis_why::{Because, Confirmation, Line, Reason, confirm, why};
+use std::alloc::Global;
 
-/// Prints what keeps the goal from being attained that the word asks for, line by line.
-pub fn print_reasons<R: Print + AllocGlobal>(rt: &R, u: &Universe, word: &str) -> Result<(), Stop> {
-    let Some(goal) = goal_in(u, word) else {
-        return Err(Stop::NoProbe);
-    };
-    match why(rt.alloc(), u, &goal)? {
-        Because::Attained => println!(rt; "attained")?,
-        Because::Lines(lines) => {
-            print_all(rt, u, &lines)?;
-            print_confirmation(rt, confirm(u, &lines, &[goal]))?;
-        }
-    }
-    Ok(())
-}
-
-/// Prints how many lines there are.
-pub fn print_reason_count<R: Print + AllocGlobal>(
-    rt: &R,
+/// Writes what keeps the goal from being attained that the word asks for, line by line.
+pub fn write_reasons(
+    alloc: Global,
+    text: &mut String,
     u: &Universe,
     word: &str,
 ) -> Result<(), Stop> {
     let Some(goal) = goal_in(u, word) else {
         return Err(Stop::NoProbe);
     };
-    match why(rt.alloc(), u, &goal)? {
-        Because::Attained => println!(rt; "attained")?,
+    match why(alloc, u, &goal)? {
+        Because::Attained => write!(text, "attained\n")?,
+        Because::Lines(lines) => {
+            write_all(text, u, &lines)?;
+            write_confirmation(text, confirm(u, &lines, &[goal]))?;
+        }
+    }
+    Ok(())
+}
+
+/// Writes how many lines there are.
+pub fn write_reason_count(
+    alloc: Global,
+    text: &mut String,
+    u: &Universe,
+    word: &str,
+) -> Result<(), Stop> {
+    let Some(goal) = goal_in(u, word) else {
+        return Err(Stop::NoProbe);
+    };
+    match why(alloc, u, &goal)? {
+        Because::Attained => write!(text, "attained\n")?,
         Because::Lines(lines) => {
             let count = lines.len();
-            println!(rt; "lines {count}")?;
-            print_confirmation(rt, confirm(u, &lines, &[goal]))?;
+            write!(text, "lines {count}\n")?;
+            write_confirmation(text, confirm(u, &lines, &[goal]))?;
         }
     }
     Ok(())
@@ -63,34 +70,34 @@ fn goal_in(u: &Universe, word: &str) -> Option<Goal>
     None
 }
 
-fn print_all<R: Print>(rt: &R, u: &Universe, lines: &[Line]) -> Result<(), Stop>
+fn write_all(text: &mut String, u: &Universe, lines: &[Line]) -> Result<(), Stop>
     requires { All (IsLineOf u.now) lines.now }
 {
     for line in lines {
-        print_reason(rt, u, line)?;
+        write_reason(text, u, line)?;
     }
     Ok(())
 }
 
-fn print_reason<R: Print>(rt: &R, u: &Universe, line: &Line) -> Result<(), Stop>
+fn write_reason(text: &mut String, u: &Universe, line: &Line) -> Result<(), Stop>
     requires { IsLineOf u.now line.now }
 {
     let (kind, state) = (u.type_name(u.type_of(line.pair)), u.state_name(line.pair));
     match line.reason {
         Reason::Needs(port) => {
             let name = u.port_name(port);
-            println!(rt; "{kind}:{state} needs {name}")?;
+            write!(text, "{kind}:{state} needs {name}\n")?;
         }
-        Reason::Comes => println!(rt; "{kind}:{state} comes")?,
+        Reason::Comes => write!(text, "{kind}:{state} comes\n")?,
     }
     Ok(())
 }
 
-fn print_confirmation<R: Print>(rt: &R, confirmation: Confirmation) -> Result<(), Stop> {
+fn write_confirmation(text: &mut String, confirmation: Confirmation) -> Result<(), Stop> {
     match confirmation {
-        Confirmation::Confirmed(_) => println!(rt; "confirmed")?,
-        Confirmation::Unfounded(place) => println!(rt; "unfounded {place}")?,
-        Confirmation::LacksNone => println!(rt; "lacks none")?,
+        Confirmation::Confirmed(_) => write!(text, "confirmed\n")?,
+        Confirmation::Unfounded(place) => write!(text, "unfounded {place}\n")?,
+        Confirmation::LacksNone => write!(text, "lacks none\n")?,
     }
     Ok(())
 }

@@ -2,4 +2,4 @@ use Rattle.metis_lines.specs.LifeLines.{AreLines}
 use Rattle.metis_probe.proofs.rounds.rounds.Given as goal
 
 abbrev pub invariant-loop : goal.invariant-loop
-invariant-loop g l = AreLines l.u l.s l.lines
+invariant-loop l = AreLines l.u l.s l.lines

@@ -7,10 +7,10 @@ use Rattle.metis_universe.specs.Layers.{layer_of}
 use Rattle.metis_universe.specs.Universe.{has}
 use Rattle.metis_support.specs.Support.{support_of}
 use Rattle.metis_probe.proofs.Chosen.{targets_chosen}
-use Rattle.metis_probe.proofs.rounds.print_rounds.Goals as goal
+use Rattle.metis_probe.proofs.rounds.write_rounds.Goals as goal
 
 pub rounds-requires-clause-selected : goal.rounds-requires-clause-selected
-rounds-requires-clause-selected g c =
+rounds-requires-clause-selected c =
     let u = c.args.u.now in
     let targets = c.deref.result.now in
     let is = subst (λ (x : Choice). IfSupport (Ok x) (λ s. s ≡ support_of u targets)) c.in-Support.is c.in_ok-support.ensures.support in

@@ -6,10 +6,10 @@ use Rattle.metis_lines.specs.LifeLines.{plan_of}
 use Rattle.metis_events.specs.Edges.{EventGraph, event_at, graph_of}
 use Rattle.metis_events.specs.Numbered.{IsGraphOf, dag_of, nth_event}
 use Rattle.metis_lines.proofs.Formed.{lines_formed}
-use Rattle.metis_probe.proofs.rounds.print_actions.Goals as goal
+use Rattle.metis_probe.proofs.rounds.actions_of.Goals as goal
 
 pub events_of-requires : goal.events_of-requires
-events_of-requires g c =
+events_of-requires c =
     let u = c.args.u.now in
     let nodes = c.args.nodes.now in
     let w = plan_of u c.args.s.now c.args.lines.now in
@@ -19,7 +19,7 @@ events_of-requires g c =
     λ k d low. subst (λ (e : EventGraph). get_or nodes k d < length e.events) (sym c.requires.graph) (sorting.nodes (get_or nodes k d) (has_at nodes k d low))
 
 pub emit-requires-clause-order : goal.emit-requires-clause-order
-emit-requires-clause-order g c =
+emit-requires-clause-order c =
     let u = c.args.u.now in
     let nodes = c.args.nodes.now in
     let w = plan_of u c.args.s.now c.args.lines.now in
