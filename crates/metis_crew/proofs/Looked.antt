@@ -1,5 +1,5 @@
 -- What a crew's tables give.
-use Rattle.std.proofs.Common.{◌≡◌, ℕ, zero, suc, ◌+◌, ◌<◌, ◌≤◌, ◌^◌, Bool, true, false, cond, List, [], ◌∷◌, Option, Some, None, refl, sym, ap, ◌∙◌, subst, arith, nat_eq, nat_lt, length, drop, get_or}
+use Rattle.std.proofs.Common.{◌≡◌, ℕ, zero, suc, ◌+◌, ◌-◌, ◌<◌, ◌≤◌, ◌^◌, Bool, true, false, cond, ◌||◌, List, [], ◌∷◌, Option, Some, None, refl, sym, ap, ◌∙◌, subst, arith, inl, inr, nat_eq, length, length-set, drop, get_or, replicate, set}
 use Rattle.std.specs.Prelude.{slice_get, is_some}
 use Rattle.std.specs.List.{find, AllByRecursion}
 use Rattle.std.specs.List.Sorted.{IsStrictlySortedBy}
@@ -9,12 +9,12 @@ use Rattle.std.specs.Map.{lookup, keys_of, set_value}
 use Rattle.std.specs.Option.{option_map_or, unwrap_or}
 use Rattle.std.specs.Ordering.{is_eq, match_ordering, nat_cmp}
 use Rattle.std.specs.declared.cmp.Ordering.TheVariants.{Less, Equal, Greater}
-use Rattle.std.proofs.lemmas.Bool.{false≢true, eq-eqb, eqb-true}
-use Rattle.std.proofs.lemmas.List.{at_drop_all, at_drop_more}
+use Rattle.std.proofs.lemmas.Bool.{cases_eq, false≢true, eq-eqb, eqb-true, ne_eqb}
+use Rattle.std.proofs.lemmas.List.{at_drop_all, at_drop_more, get_or-set_same, get_or-set_other, length-replicate}
 use Rattle.std.proofs.lemmas.Option.{slice_get_within}
 use Rattle.metis_ids.specs.Action.{actor_of}
 use Rattle.metis_ids.specs.declared.actions.Action.{Action}
-use Rattle.metis_ids.proofs.Lists.{has_at, has_range}
+use Rattle.metis_ids.proofs.Lists.{has_at}
 use Rattle.metis_universe.proofs.Edits.{pair_of-put}
 use Rattle.metis_universe.proofs.Ranges.{in_range}
 use Rattle.metis_universe.proofs.Sorted.{below_all}
@@ -24,19 +24,11 @@ use Rattle.metis_universe.specs.Waits.{waits}
 use Rattle.metis_waits.proofs.LastPlaces.{waits_earlier}
 use Rattle.metis_waits.specs.Waits.{AreWaits, WaitLists}
 use Rattle.metis_crew.proofs.Counted.{done_count-next, done_count-start}
-use Rattle.metis_crew.proofs.Counts.{done_all, done_before}
+use Rattle.metis_crew.proofs.Counts.{done_next, none_are_done}
 use Rattle.metis_crew.proofs.Made.{at_key}
-use Rattle.metis_crew.proofs.OwnActions.{own_next, own_self, own_short}
-use Rattle.metis_crew.specs.Crew.{CrewState, actor_at, count_of, done_count, is_done, is_own, next_of, none_done, one_more, own_numbers, start}
+use Rattle.metis_crew.proofs.OwnActions.{own_next, own_short}
+use Rattle.metis_crew.specs.Crew.{count_of, done_count, is_done, is_own, next_of, none_done, one_more, own_numbers, start}
 use Rattle.metis_crew.specs.Tables.{AreTables, row_at}
-
--- ---- what is done, by the next action
-
-pub done_some : (A : List Action) (counts : List (ℕ × ℕ)) (k n : ℕ) → 1 ≤ k → k ≤ length A → next_of A counts (actor_at A k) ≡ Some n → nat_lt k n ≡ is_done A counts k
-done_some A counts k n low high next = sym (done_before A counts (actor_at A k) n next k (own_self A k (has_range 1 (length A) k low (omega arith))))
-
-pub done_none : (A : List Action) (counts : List (ℕ × ℕ)) (k : ℕ) → 1 ≤ k → k ≤ length A → next_of A counts (actor_at A k) ≡ None → true ≡ is_done A counts k
-done_none A counts k low high next = sym (done_all A counts (actor_at A k) k next (own_self A k (has_range 1 (length A) k low (omega arith))))
 
 pub wait_within : (A : List Action) (k m : ℕ) → k ≤ length A → has (waits A k) m ≡ true → (1 ≤ m) × (m ≤ length A)
 wait_within A k m high w = let low = waits_earlier A k m w in (low.0, omega (arith, low.1))
@@ -46,13 +38,6 @@ next_within A counts z k next =
     let own = own_next A z (count_of counts z) k next in
     let range = in_range 1 (length A) k own.1 in
     (range.0, omega (arith, range.1), own.0)
-
--- the next action of a crew, whose fields are these
-pub next_there : (A : List Action) (counts : List (ℕ × ℕ)) (s : CrewState) (z : ℕ) → record { actions = A; counts = counts } ≡ s → is_some (next_of s.actions s.counts z) ≡ true → (k : ℕ) × (next_of A counts z ≡ Some k)
-next_there A counts s z same some = some_of (next_of A counts z) (ap (λ (t : CrewState). is_some (next_of t.actions t.counts z)) same ∙ some) where
-  some_of : (o : Option ℕ) → is_some o ≡ true → (k : ℕ) × (o ≡ Some k)
-  some_of None h = absurd (false≢true h)
-  some_of (Some k) h = (k, refl)
 
 -- ---- one more
 
@@ -132,20 +117,39 @@ found_none t xs i past same = sym (at_drop_all (find t) xs i past) ∙ same
 
 -- ---- the tables
 
-pub tables_made : (A : List Action) (w : WaitLists) (own : List (ℕ × List ℕ)) (counts : List (ℕ × ℕ)) → length A < 2 ^ 32 → AreWaits A w → ((z : ℕ) → row_at own z ≡ own_numbers A z) → counts ≡ start A → AreTables A w own counts 0
-tables_made A w own counts few waited owned begun = record {
+not_yet : (n i : ℕ) → get_or (replicate n false) i false ≡ false
+not_yet zero i = refl
+not_yet (suc n) zero = refl
+not_yet (suc n) (suc i) = not_yet n i
+
+pub tables_made : (A : List Action) (w : WaitLists) (own : List (ℕ × List ℕ)) (counts : List (ℕ × ℕ)) (flags : List Bool) → length A < 2 ^ 32 → AreWaits A w → ((z : ℕ) → row_at own z ≡ own_numbers A z) → counts ≡ start A → flags ≡ replicate (length A) false → AreTables A w own counts flags 0
+tables_made A w own counts flags few waited owned begun unflagged = record {
   few = few;
   waited = waited;
   owned = owned;
   known = λ z k mine. ap (λ es. is_some (lookup (nat_eq z) es)) begun ∙ known_start A z k mine;
+  size = ap length unflagged ∙ length-replicate (length A) false;
+  flagged = λ i low. ap (λ bs. get_or bs i false) unflagged ∙ not_yet (length A) i ∙ sym (ap (λ es. is_done A es (suc i)) begun ∙ none_are_done A (suc i));
   counted = sym (ap (done_count A) begun ∙ done_count-start A);
 }
 
-pub tables_after : (A : List Action) (w : WaitLists) (own : List (ℕ × List ℕ)) (counts : List (ℕ × ℕ)) (done z k : ℕ) → next_of A counts z ≡ Some k → AreTables A w own counts done → AreTables A w own (one_more counts z) (done + 1)
-tables_after A w own counts done z k next t = record {
+pub tables_after : (A : List Action) (w : WaitLists) (own : List (ℕ × List ℕ)) (counts : List (ℕ × ℕ)) (flags : List Bool) (done z k : ℕ) → next_of A counts z ≡ Some k → AreTables A w own counts flags done → AreTables A w own (one_more counts z) (set flags (k - 1) true) (done + 1)
+tables_after A w own counts flags done z k next t = record {
   few = t.few;
   waited = t.waited;
   owned = t.owned;
   known = λ y k mine. known_put counts z (suc (count_of counts z)) y (t.known y k mine);
+  size = length-set flags (k - 1) true ∙ t.size;
+  flagged = λ i low. elim (cases_eq i (k - 1)) as (λ _. get_or (set flags (k - 1) true) i false ≡ is_done A (one_more counts z) (suc i)) [
+    | inl same ↦
+        let here : k ≡ suc i = omega (arith, within.0, same) in
+        ap (λ n. get_or (set flags (k - 1) true) n false) same ∙ get_or-set_same flags (k - 1) true false (omega (arith, t.size))
+        ∙ sym (done_next A counts z k next (suc i) ∙ ap (λ b. b || is_done A counts (suc i)) (eq-eqb k (suc i) here))
+    | inr apart ↦
+        get_or-set_other flags (k - 1) i true false apart ∙ t.flagged i low
+        ∙ sym (done_next A counts z k next (suc i) ∙ ap (λ b. b || is_done A counts (suc i)) (ne_eqb k (suc i) (λ e. apart (omega (arith, e)))))
+  ];
   counted = let more = done_count-next A counts z k next in omega (arith, t.counted);
-}
+} where
+  within : (1 ≤ k) × (k ≤ length A) × (is_own A z k ≡ true)
+  within = next_within A counts z k next
