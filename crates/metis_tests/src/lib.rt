@@ -1,5 +1,5 @@
 //! Tests of what no transcript of a command shows and no clause says: adapters over a system that is made up, files and output
-//! in memory, runs of which a call fails, texts of plans with dups, and words.
+//! in memory, runs of which a put fails within a line, and words with spaces.
 #![tactic(auto)]
 
 #[cfg(test)]
@@ -8,9 +8,5 @@ mod edges;
 mod failures;
 #[cfg(test)]
 mod memory;
-#[cfg(test)]
-mod texts;
-#[cfg(test)]
-mod universes;
 #[cfg(test)]
 mod words;
