@@ -3,10 +3,10 @@
 use Rattle.std.specs.Prelude.{◌≡◌, ℕ, List, drop, IfSome}
 use Rattle.std.specs.declared.option.Option.{Option}
 use Rattle.metis_outside.specs.Arguments.{AreGiven}
-use Rattle.metis_answer.specs.declared.status.Status.{Status}
+use Rattle.metis_output.specs.declared.status.Status.{Status}
 use Rattle.metis_gather.specs.Commands.{script_of}
 use Rattle.metis_top.specs.Course.{Ran}
-use Rattle.metis_answer.specs.Statuses.{code_of}
+use Rattle.metis_output.specs.Statuses.{code_of}
 
 pub record IsRun {S K : Type 0} (told : Option (List (List ℕ))) (files : S → Option (List ℕ → List ℕ)) (faults opens : S → ℕ) (written : K → Option (List (List ℕ))) (sink_faults : K → ℕ)
     (shelf shelf' : S) (sink sink' : K) (code : ℕ) : Type 0 where

@@ -1,6 +1,6 @@
 //! The whole program, over the words, the files and the output that it is handed.
 ghost use Rattle.std.specs.Prelude.{◌≡◌, ◌⊎◌};
-ghost use Rattle.metis_answer.specs.Statuses.{code_of};
+ghost use Rattle.metis_output.specs.Statuses.{code_of};
 ghost use Rattle.metis.specs.Program.{IsRun};
 
 use metis_outside::{Arguments, Shelf, Sink, words_given};

@@ -44,21 +44,23 @@ use Rattle.metis_gather.specs.Answer.{Answer}
 use Rattle.metis_answer.specs.Answers.{IsAnswer}
 use Rattle.metis_gather.specs.Commands.{plan_said}
 use Rattle.metis_gather.specs.Gathers.{after}
-use Rattle.metis_answer.specs.Crewed.{last_line, loose_line, progress_line, turn_line}
+use Rattle.metis_deploy.specs.Steady.{loose_line}
+use Rattle.metis_deploy.specs.Crewed.{last_line, progress_line, turn_line}
 use Rattle.metis_answer.specs.Judged.{judgement_line, word_line}
 use Rattle.metis_answer.specs.Confirmed.{confirmation_line}
 use Rattle.metis_answer.specs.Loaded.{counts_line as load_counts_line, load_line}
 use Rattle.metis_place.specs.Placement.{HostLists, name_of}
-use Rattle.metis_answer.specs.Placed.{hold_line, hold_lines, hold_of_action, made_of, no_room_line, on_line, on_lines, placed_line}
+use Rattle.metis_deploy.specs.Placed.{hold_line, hold_lines, hold_of_action, made_of, no_room_line, on_line, on_lines, placed_line}
 use Rattle.metis_answer.specs.Replayed.{verdict_line}
-use Rattle.metis_answer.specs.Simulated.{replies_to, script_lines}
-use Rattle.metis_answer.specs.declared.status.Status.{Status}
+use Rattle.metis_deploy.specs.Scripts.{script_lines}
+use Rattle.metis_answer.specs.Simulated.{replies_to}
+use Rattle.metis_output.specs.declared.status.Status.{Status}
 use Rattle.metis_audit.specs.declared.answers.Answer.{Answer as AuditAnswer}
 use Rattle.metis_audit.specs.declared.answers.Answer.TheVariants as audit
 use Rattle.metis_ids.specs.Plans as plans
 use Rattle.metis_answer.specs.Audited.{audit_line}
 use Rattle.metis_answer.specs.RolledOut.{RolloutAnswer, rollout_plan}
-use Rattle.metis_answer.specs.Waved.{chain_line, end_lines, finish_line, start_line, start_lines}
+use Rattle.metis_deploy.specs.Waved.{chain_line, end_lines, finish_line, start_line, start_lines}
 use Rattle.metis_words.specs.declared.words.Verb.TheVariants.{Plan, Replay, Refute, Audit, Sim, Crew, Waves, Control, Rollout, Place, Print, Load, Why, Confirm}
 
 pub no_lines : All IsLine []

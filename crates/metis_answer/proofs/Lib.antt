@@ -1,13 +1,9 @@
 pub mod Aims
 pub mod AnswerLines
-pub mod Blocks
 pub mod Confirmations
-pub mod CrewTurns
 pub mod FirstGoals
 pub mod Loads
 pub mod NeverLoose
 pub mod PrintedAudits
 pub mod Replies
 pub mod Sessions
-pub mod Shown
-pub mod Starts

@@ -17,8 +17,8 @@ use Rattle.metis_replay.specs.declared.verdict.Verdict.TheVariants.{Good, Bad, M
 use Rattle.metis_gen.specs.Generated.{generated, generated_targets}
 use Rattle.metis_answer.specs.Loaded.{Loaded, Loads, Summed, load_lines}
 use Rattle.metis_answer.specs.Replayed.{verdict_status}
-use Rattle.metis_answer.specs.declared.status.Status.{Status}
-use Rattle.metis_answer.specs.declared.status.Status.TheVariants.{No}
+use Rattle.metis_output.specs.declared.status.Status.{Status}
+use Rattle.metis_output.specs.declared.status.Status.TheVariants.{No}
 use Rattle.metis_planner.specs.Rounds.{IsByRounds}
 
 -- the verdict on a run that holds the targets

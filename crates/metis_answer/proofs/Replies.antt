@@ -27,9 +27,10 @@ use Rattle.metis_ids.specs.Action.{makes}
 use Rattle.metis_text.specs.PlanText.{IsWellFormed}
 use Rattle.metis_answer.specs.Planned.{IsDoubledByNeed, IsPlan, PlanAnswer, PutsPlan, others, plan_text}
 use Rattle.metis_text.specs.RefusalText.{refusal_lines}
-use Rattle.metis_answer.specs.Replayed.{Replayed, good_line, standing_after, verdict_line, verdict_status}
-use Rattle.metis_answer.specs.declared.status.Status.{Status}
-use Rattle.metis_answer.specs.declared.status.Status.TheVariants.{Done, No}
+use Rattle.metis_answer.specs.Replayed.{Replayed, good_line, verdict_line, verdict_status}
+use Rattle.metis_deploy.specs.Steady.{standing_after}
+use Rattle.metis_output.specs.declared.status.Status.{Status}
+use Rattle.metis_output.specs.declared.status.Status.TheVariants.{Done, No}
 
 -- the instances that actions make, counted in two ways
 pub counts_as_made : (actions : List Action) → instances_of actions ≡ count_by makes actions

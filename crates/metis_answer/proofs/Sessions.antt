@@ -1,11 +1,10 @@
 -- The replies to the lines of a session, one after the other.
 use Rattle.std.proofs.Common.{◌≡◌, ◌≢◌, ℕ, suc, ◌+◌, ◌-◌, ◌<◌, ◌≤◌, nat_eq, Bool, true, false, cond, List, [], ◌∷◌, ◌++◌, map, take, drop, get_or, codes, refl, sym, ap, ◌∙◌, subst, append_assoc, append-nil, arith}
 use Rattle.std.proofs.Math.Seq.{drop-cons}
-use Rattle.std.proofs.lemmas.Bool.{cond-false, cond-true}
 use Rattle.std.proofs.lemmas.List.{map-append, take-append-drop, take_all, take_more}
 use Rattle.std.specs.Prelude.{length}
 use Rattle.std.specs.declared.option.Option.{Option as Known}
-use Rattle.metis_universe.specs.Universe.{Universe, is_empty}
+use Rattle.metis_universe.specs.Universe.{Universe}
 use Rattle.metis_outside.proofs.Writing.{Appends-trans, front_of_first, front_of_second}
 use Rattle.metis_outside.specs.Writes.{Appends, AppendsFront}
 use Rattle.metis_sim.proofs.Answered.{each_answer}
@@ -14,8 +13,7 @@ use Rattle.metis_sim.specs.Replies.{reply_lines}
 use Rattle.metis_sim.specs.Session.{Answer, Session, after_line, after_lines, answer, reply}
 use Rattle.metis_sim.specs.declared.reply.Reply.{Reply}
 use Rattle.metis_sim.specs.declared.reply.Reply.TheVariants.{Bye, Ended}
-use Rattle.metis_gather.proofs.TurnsRead.{counted_empty}
-use Rattle.metis_answer.specs.Simulated.{replies_to, without_empty_end}
+use Rattle.metis_answer.specs.Simulated.{replies_to}
 
 -- ---- some lines, and then others
 
@@ -119,34 +117,3 @@ module _ {A : Type 0} (v : A → List ℕ) (ws : List A) (i : ℕ) (d : A) (low 
 
   pub one_line_more : map v (take (i + 1) ws) ≡ map v (take i ws) ++ v (get_or ws i d) ∷ []
   one_line_more = ap (map v) (take_more ws i d low) ∙ map-append v (take i ws) (get_or ws i d ∷ [])
-
--- ---- the lines of a script
-
-same_start : (b : Bool) (y : List ℕ) (xs ys : List (List ℕ)) → cond b (y ∷ xs) (y ∷ ys) ≡ y ∷ cond b xs ys
-same_start true y xs ys = refl
-same_start false y xs ys = refl
-
--- a last piece counts where it is not empty
-pub without_empty_end-append : (xs : List (List ℕ)) (x : List ℕ) → without_empty_end (xs ++ x ∷ []) ≡ cond (is_empty x) xs (xs ++ x ∷ [])
-without_empty_end-append [] x = refl
-without_empty_end-append (y ∷ []) x = sym (same_start (is_empty x) y [] (x ∷ []))
-without_empty_end-append (y ∷ z ∷ xs) x = ap (λ l. y ∷ l) (without_empty_end-append (z ∷ xs) x) ∙ sym (same_start (is_empty x) y (z ∷ xs) (z ∷ xs ++ x ∷ []))
-
--- the last of some pieces that are lent
-module _ {A : Type 0} (v : A → List ℕ) (ws : List A) (d : A) (some : 1 ≤ length ws) where
-  abbrev before : List (List ℕ)
-  before = map v (take (length ws - 1) ws)
-
-  abbrev last : List ℕ
-  last = v (get_or ws (length ws - 1) d)
-
-  ends : map v ws ≡ before ++ last ∷ []
-  ends =
-      let all : take (length ws - 1 + 1) ws ≡ ws = take_all (length ws - 1 + 1) ws (omega arith) in
-      ap (map v) (sym all) ∙ one_line_more v ws (length ws - 1) d (omega arith)
-
-  pub empty_end : nat_eq (length last) 0 ≡ true → before ≡ without_empty_end (map v ws)
-  empty_end none = sym (ap without_empty_end ends ∙ without_empty_end-append before last ∙ cond-true (is_empty last) before (before ++ last ∷ []) (sym (counted_empty last) ∙ none))
-
-  pub other_end : nat_eq (length last) 0 ≡ false → map v ws ≡ without_empty_end (map v ws)
-  other_end more = ends ∙ sym (ap without_empty_end ends ∙ without_empty_end-append before last ∙ cond-false (is_empty last) before (before ++ last ∷ []) (sym (counted_empty last) ∙ more))

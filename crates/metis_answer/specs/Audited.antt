@@ -17,8 +17,8 @@ use Rattle.metis_universe.specs.GoalWords.{goal_word}
 use Rattle.metis_universe.specs.PairWords.{pair_word}
 use Rattle.metis_universe.specs.Universe.{Universe, pair_count}
 use Rattle.metis_answer.specs.Judged.{word_line}
-use Rattle.metis_answer.specs.declared.status.Status.{Status}
-use Rattle.metis_answer.specs.declared.status.Status.TheVariants.{Done, No}
+use Rattle.metis_output.specs.declared.status.Status.{Status}
+use Rattle.metis_output.specs.declared.status.Status.TheVariants.{Done, No}
 
 abbrev pub justified_line : ℕ → ℕ → List ℕ
 justified_line instances dups = codes "justified instances " ++ (decimal instances ++ (codes " dups " ++ (decimal dups ++ codes "\n")))

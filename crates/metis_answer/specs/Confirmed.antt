@@ -12,8 +12,8 @@ use Rattle.metis_why.specs.declared.confirming.Confirmation.{Confirmation}
 use Rattle.metis_why.specs.declared.confirming.Confirmation.TheVariants as confirmation
 use Rattle.metis_why.specs.declared.reason.Line.{Line}
 use Rattle.metis_answer.specs.Judged.{word_line}
-use Rattle.metis_answer.specs.declared.status.Status.{Status}
-use Rattle.metis_answer.specs.declared.status.Status.TheVariants.{Done, No}
+use Rattle.metis_output.specs.declared.status.Status.{Status}
+use Rattle.metis_output.specs.declared.status.Status.TheVariants.{Done, No}
 
 abbrev pub unfounded_line : ℕ → List ℕ
 unfounded_line n = codes "unfounded line " ++ (decimal n ++ codes "\n")

@@ -10,8 +10,8 @@ use Rattle.metis_why.specs.Choice.{IsByChoice}
 use Rattle.metis_why.specs.Answer.{IsFirstUnattained}
 use Rattle.metis_why.specs.declared.reason.Line.{Line}
 use Rattle.metis_why_text.specs.WhyText.{why_lines}
-use Rattle.metis_answer.specs.declared.status.Status.{Status}
-use Rattle.metis_answer.specs.declared.status.Status.TheVariants.{Done, No}
+use Rattle.metis_output.specs.declared.status.Status.{Status}
+use Rattle.metis_output.specs.declared.status.Status.TheVariants.{Done, No}
 
 pub record Explains (u : Universe) (goals : List Goal) (lines : List (List ℕ)) : Type 0 where
   pub lacking : Goal

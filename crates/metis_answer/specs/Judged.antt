@@ -8,8 +8,8 @@ use Rattle.metis_refusal.specs.declared.verdict.Verdict2.TheVariants.{Closed, No
 use Rattle.metis_ids.specs.declared.goals.Goal.{Goal}
 use Rattle.metis_universe.specs.GoalWords.{goal_word}
 use Rattle.metis_universe.specs.PairWords.{pair_word}
-use Rattle.metis_answer.specs.declared.status.Status.{Status}
-use Rattle.metis_answer.specs.declared.status.Status.TheVariants.{Done, No}
+use Rattle.metis_output.specs.declared.status.Status.{Status}
+use Rattle.metis_output.specs.declared.status.Status.TheVariants.{Done, No}
 use Rattle.metis_universe.specs.Universe.{Universe}
 
 -- a word, and then that of a pair or of a goal

@@ -2,16 +2,10 @@ pub mod Aims
 pub mod Answers
 pub mod Audited
 pub mod Confirmed
-pub mod Controlled
-pub mod Crewed
 pub mod Explained
 pub mod Judged
 pub mod Loaded
-pub mod Placed
 pub mod Planned
 pub mod Replayed
 pub mod RolledOut
-pub mod Shown
 pub mod Simulated
-pub mod Statuses
-pub mod Waved

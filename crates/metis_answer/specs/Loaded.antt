@@ -17,8 +17,8 @@ use Rattle.metis_replay.specs.declared.verdict.Verdict.TheVariants.{Good, Bad, M
 use Rattle.metis_gen.specs.Generated.{generated, generated_targets}
 use Rattle.metis_planner.specs.Rounds.{IsByRounds}
 use Rattle.metis_answer.specs.Replayed.{verdict_status}
-use Rattle.metis_answer.specs.declared.status.Status.{Status}
-use Rattle.metis_answer.specs.declared.status.Status.TheVariants.{Done}
+use Rattle.metis_output.specs.declared.status.Status.{Status}
+use Rattle.metis_output.specs.declared.status.Status.TheVariants.{Done}
 
 abbrev pub counts_line : ℕ → ℕ → ℕ → ℕ → ℕ → ℕ → List ℕ
 counts_line n pairs targets instances actions dups =

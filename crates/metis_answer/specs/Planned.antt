@@ -28,8 +28,8 @@ use Rattle.metis_lines.specs.AbstractPlan.{line_count, stations}
 use Rattle.metis_lines.specs.Justified.{graph_for, is_justified}
 use Rattle.metis_emit.specs.Realized.{entered}
 use Rattle.metis_planner.specs.Rounds.{IsByRounds, graph_after, numbered}
-use Rattle.metis_answer.specs.declared.status.Status.{Status}
-use Rattle.metis_answer.specs.declared.status.Status.TheVariants.{Done, No}
+use Rattle.metis_output.specs.declared.status.Status.{Status}
+use Rattle.metis_output.specs.declared.status.Status.TheVariants.{Done, No}
 
 -- It makes no more instances than there are attainable pairs, times the greatest demand, and targets.
 pub record IsPlan (u : Universe) (g : List ℕ) (actions : List Action) : Type 0 where

@@ -10,18 +10,14 @@ use Rattle.metis_replay.specs.declared.verdict.Verdict.TheVariants.{Good, Bad, M
 use Rattle.metis_text.specs.MissingLine.{missing_line}
 use Rattle.metis_ids.specs.declared.goals.Goal.{Goal}
 use Rattle.metis_universe.specs.GoalWords.{goal_word}
-use Rattle.metis_answer.specs.declared.status.Status.{Status}
-use Rattle.metis_answer.specs.declared.status.Status.TheVariants.{Done, No}
-use Rattle.metis_universe.specs.Config.{empty}
-use Rattle.metis_universe.specs.Step.{after_all}
+use Rattle.metis_deploy.specs.Steady.{bad_line, standing_after}
+use Rattle.metis_output.specs.declared.status.Status.{Status}
+use Rattle.metis_output.specs.declared.status.Status.TheVariants.{Done, No}
 use Rattle.metis_universe.specs.Universe.{Universe}
 
 -- so many instances stand at the end of so many actions
 abbrev pub good_line : ℕ → ℕ → List ℕ
 good_line standing actions = codes "good standing " ++ (decimal standing ++ (codes " actions " ++ (decimal actions ++ codes "\n")))
-
-abbrev pub bad_line : ℕ → List ℕ → List ℕ
-bad_line k fault = codes "bad " ++ (decimal k ++ (codes " " ++ (fault ++ codes "\n")))
 
 abbrev pub verdict_line : Universe → ℕ → ℕ → Verdict → List ℕ
 verdict_line u standing actions Good = good_line standing actions
@@ -32,10 +28,6 @@ abbrev pub verdict_status : Verdict → Status
 verdict_status Good = Done
 verdict_status (Bad k f) = No
 verdict_status (Missing g have want) = No
-
--- how many instances stand after the actions
-abbrev pub standing_after : Universe → List Action → ℕ
-standing_after u actions = length (after_all u empty actions).instances
 
 pub record Replayed (u : Universe) (goals : List Goal) (actions : List Action) (lines : List (List ℕ)) (status : Status) : Type 0 where
   pub verdict : Verdict

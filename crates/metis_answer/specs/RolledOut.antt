@@ -20,10 +20,10 @@ use Rattle.metis_universe.specs.Goal.{Attains, Holds}
 use Rattle.metis_universe.specs.Goals.{AttainsGoals, HoldsGoals}
 use Rattle.metis_universe.specs.Step.{after_all}
 use Rattle.metis_universe.specs.Universe.{Universe}
-use Rattle.metis_answer.specs.Crewed.{HasBadAction, HasLooseAction}
+use Rattle.metis_deploy.specs.Steady.{HasBadAction, HasLooseAction}
 use Rattle.metis_answer.specs.Planned.{Refuses, plan_text}
-use Rattle.metis_answer.specs.declared.status.Status.{Status}
-use Rattle.metis_answer.specs.declared.status.Status.TheVariants.{Done, No}
+use Rattle.metis_output.specs.declared.status.Status.{Status}
+use Rattle.metis_output.specs.declared.status.Status.TheVariants.{Done, No}
 
 abbrev pub plan_of : List Action → Plan
 plan_of actions = record { actions = actions; dups = []; instances = count_by makes actions }

@@ -9,15 +9,14 @@ ghost use Rattle.metis_universe.specs.Universe.{pair_count};
 ghost use Rattle.metis_gather.specs.Answer as answer;
 ghost use Rattle.metis_answer.specs.Answers.{IsAnswer};
 ghost use Rattle.metis_answer.specs.Audited.{AuditedFor, audit_status};
-ghost use Rattle.metis_answer.specs.Shown.{Shown};
+ghost use Rattle.metis_output.specs.Shown.{Shown};
 
-use crate::Status;
 use crate::aim::{Aim, aim_of};
 use crate::audit_line::{write_audit, write_lacking};
-use crate::saying::said;
 use metis_audit::{Answer, audit};
 use metis_choice::pairs_for_goals_hold_them;
 use metis_ids::{Goal, PairIx};
+use metis_output::{Status, said};
 use metis_outside::Sink;
 use metis_text::PlanText;
 use metis_universe::Universe;

@@ -8,12 +8,11 @@ ghost use Rattle.metis_why.specs.Confirm.{IsLineOf};
 ghost use Rattle.metis_gather.specs.Answer as answer;
 ghost use Rattle.metis_answer.specs.Answers.{IsAnswer};
 ghost use Rattle.metis_answer.specs.Confirmed.{IsSayable, confirmation_line, confirmation_status, unfounded_line};
-ghost use Rattle.metis_answer.specs.Shown.{Shown};
+ghost use Rattle.metis_output.specs.Shown.{Shown};
 
-use crate::Status;
 use crate::judgement_line::goal_line;
-use crate::saying::said;
 use metis_ids::Goal;
+use metis_output::{Status, said};
 use metis_outside::{Sink, Trouble};
 use metis_text::put_line;
 use metis_universe::Universe;

@@ -14,14 +14,13 @@ ghost use Rattle.metis_planner.specs.Rounds.{IsByRounds};
 ghost use Rattle.metis_gen.specs.Generated.{generated, generated_targets};
 ghost use Rattle.metis_gather.specs.Answer as answer;
 ghost use Rattle.metis_answer.specs.Answers.{IsAnswer};
-ghost use Rattle.metis_answer.specs.Shown.{Shown};
+ghost use Rattle.metis_output.specs.Shown.{Shown};
 ghost use Rattle.metis_answer.specs.Loaded.{Summed, counts_line, load_line};
 
-use crate::Status;
 use crate::replay::replayed;
-use crate::saying::said;
 use metis_gen::{closed_sets_hold_all, targets_are_pairs, targets_of, universe_of};
 use metis_ids::{Action, Goal, NoMemory, PairIx, Plan};
+use metis_output::{Status, said};
 use metis_outside::{Sink, Trouble};
 use metis_planner::{Outcome, plan, rounds_come_to_one_plan};
 use metis_replay::Verdict;

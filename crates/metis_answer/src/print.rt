@@ -1,10 +1,9 @@
 //! The command that prints a universe.
 ghost use Rattle.metis_gather.specs.Answer as answer;
 ghost use Rattle.metis_answer.specs.Answers.{IsAnswer};
-ghost use Rattle.metis_answer.specs.Shown.{Shown};
+ghost use Rattle.metis_output.specs.Shown.{Shown};
 
-use crate::Status;
-use crate::saying::said;
+use metis_output::{Status, said};
 use metis_outside::Sink;
 use metis_ujson::write_universe;
 use metis_universe::Universe;

@@ -5,13 +5,12 @@ ghost use Rattle.metis_universe.specs.Goals.{IsGoalOf};
 ghost use Rattle.metis_universe.specs.Universe.{pair_count};
 ghost use Rattle.metis_gather.specs.Answer as answer;
 ghost use Rattle.metis_answer.specs.Answers.{IsAnswer};
-ghost use Rattle.metis_answer.specs.Shown.{Shown};
+ghost use Rattle.metis_output.specs.Shown.{Shown};
 ghost use Rattle.metis_answer.specs.Judged.{judgement_status};
 
-use crate::Status;
 use crate::judgement_line::write_judgement;
-use crate::saying::said;
 use metis_ids::{Goal, PairSet};
+use metis_output::{Status, said};
 use metis_outside::Sink;
 use metis_refusal::{Verdict2, check_closed};
 use metis_universe::Universe;

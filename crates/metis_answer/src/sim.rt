@@ -6,12 +6,11 @@ ghost use Rattle.metis_sim.specs.Replies.{reply_lines};
 ghost use Rattle.metis_sim.specs.Session.{after_line, begin, reply};
 ghost use Rattle.metis_gather.specs.Answer as answer;
 ghost use Rattle.metis_answer.specs.Answers.{IsAnswer};
-ghost use Rattle.metis_answer.specs.Shown.{Shown};
+ghost use Rattle.metis_output.specs.Shown.{Shown};
 ghost use Rattle.metis_answer.specs.Simulated.{replies_to};
 
-use crate::Status;
-use crate::lines::{pieces_of, without_empty_end};
-use crate::saying::said;
+use metis_deploy::{pieces_of, without_empty_end};
+use metis_output::{Status, said};
 use metis_outside::{Sink, Trouble};
 use metis_sim::{Reply, Session, write_reply};
 use metis_universe::Universe;

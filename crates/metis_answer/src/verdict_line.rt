@@ -1,14 +1,12 @@
 //! Writes the line of a verdict.
-ghost use Rattle.std.specs.Prelude.{◌≡◌, [], ◌∷◌, Some, option_map, IfOk, string_bytes};
+ghost use Rattle.std.specs.Prelude.{◌≡◌, [], ◌∷◌, IfOk, string_bytes};
 ghost use Rattle.metis_outside.specs.Faults.{CountsFault};
-ghost use Rattle.metis_outside.specs.Pieces.{bytes_of};
 ghost use Rattle.metis_outside.specs.Writes.{Writes};
-ghost use Rattle.metis_actions.specs.Faults.{IsFaultOf, fault_text};
 ghost use Rattle.metis_replay.specs.Progress.{IsVerdictOf};
-ghost use Rattle.metis_answer.specs.Replayed.{bad_line, good_line, verdict_line};
+ghost use Rattle.metis_answer.specs.Replayed.{good_line, verdict_line};
 
-use metis_actions::{AFault, write_fault};
-use metis_outside::{CalmSink, Sink, Trouble};
+use metis_deploy::write_bad;
+use metis_outside::{Sink, Trouble};
 use metis_replay::Verdict;
 use metis_text::{put_line, write_missing};
 use metis_universe::Universe;
@@ -52,36 +50,4 @@ fn good_line(alloc: Global, standing: u64, actions: usize) -> Result<String, All
     ensures { IfOk result (λ line. string_bytes line ≡ good_line standing actions) }
 {
     format!(in alloc; "good standing {standing} actions {actions}\n")
-}
-
-/// Puts the line of an action that cannot be done, with its number and why, by one put.
-#[tactic(auto, using(metis_outside::proofs::Writing::front_of_nothing))]
-pub fn write_bad<K: Sink>(
-    alloc: Global,
-    u: &Universe,
-    number: u32,
-    fault: &AFault,
-    out: &mut K,
-) -> Result<(), Trouble>
-    requires { IsFaultOf u.now fault.now }
-    ensures text { Writes (bad_line number (fault_text u.now fault.now) ∷ []) (K.written out.old) (K.written out.new) result }
-    ensures cause { CountsFault (K.faults out.old) (K.faults out.new) result }
-{
-    match bad_line(alloc, u, number, fault) {
-        Ok(line) => put_line(line.bytes(), out),
-        Err(_) => Err(Trouble::NoMemory),
-    }
-}
-
-// The line, put together in memory.
-fn bad_line(alloc: Global, u: &Universe, number: u32, fault: &AFault) -> Result<CalmSink, Trouble>
-    requires { IsFaultOf u.now fault.now }
-    ensures { IfOk result (λ line. option_map bytes_of (⟦<CalmSink as Sink>⟧.written line) ≡ Some (bad_line number (fault_text u.now fault.now))) }
-{
-    let mut line = CalmSink::new(alloc);
-    let start = format!(in alloc; "bad {number} ")?;
-    line.put(start.as_bytes())?;
-    write_fault(alloc, u, fault, &mut line)?;
-    line.put(b"\n")?;
-    Ok(line)
 }

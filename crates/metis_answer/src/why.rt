@@ -5,11 +5,10 @@ ghost use Rattle.metis_universe.specs.GoalWords.{IsWordable};
 ghost use Rattle.metis_universe.specs.Goals.{IsGoalOf};
 ghost use Rattle.metis_gather.specs.Answer as answer;
 ghost use Rattle.metis_answer.specs.Answers.{IsAnswer};
-ghost use Rattle.metis_answer.specs.Shown.{Shown};
+ghost use Rattle.metis_output.specs.Shown.{Shown};
 
-use crate::Status;
-use crate::saying::{said, say};
 use metis_ids::Goal;
+use metis_output::{Status, said, say};
 use metis_outside::Sink;
 use metis_universe::Universe;
 use metis_why::{Explained, explain};

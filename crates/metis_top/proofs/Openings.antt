@@ -7,7 +7,7 @@ use Rattle.metis_text.specs.Reading.{plan_in}
 use Rattle.metis_text.specs.RefusalReading.{refusal_in}
 use Rattle.metis_gather.specs.declared.refusal.Refusal.{Refusal}
 use Rattle.metis_gather.specs.declared.refusal.Refusal.TheVariants.{TooLong, Word}
-use Rattle.metis_answer.specs.declared.status.Status.{Status}
+use Rattle.metis_output.specs.declared.status.Status.{Status}
 use Rattle.metis_words.specs.declared.words.Verb.{Verb}
 use Rattle.metis_words.specs.declared.words.Verb.TheVariants.{Plan, Replay, Refute, Audit, Sim, Crew, Waves, Control, Rollout, Place, Print, Load, Why, Confirm}
 use Rattle.metis_gather.specs.Answer as answer

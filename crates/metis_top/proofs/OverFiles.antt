@@ -5,8 +5,8 @@ use Rattle.std.proofs.lemmas.Bool.Decides.{nat_tests}
 use Rattle.std.specs.declared.option.Option.{Option}
 use Rattle.metis_outside.specs.Faults.{Rose}
 use Rattle.metis_gather.specs.declared.refusal.Refusal.TheVariants.{TooLong}
-use Rattle.metis_answer.specs.declared.status.Status.{Status}
-use Rattle.metis_answer.specs.declared.status.Status.TheVariants.{Done, No, NoMemory}
+use Rattle.metis_output.specs.declared.status.Status.{Status}
+use Rattle.metis_output.specs.declared.status.Status.TheVariants.{Done, No, NoMemory}
 use Rattle.metis_choice.specs.Resolutions.{ArePairsFor}
 use Rattle.metis_ids.specs.Plans.{Plan}
 use Rattle.metis_ids.specs.declared.goals.Goal.{Goal}
@@ -15,7 +15,7 @@ use Rattle.metis_universe.specs.Tidy.{IsTidy}
 use Rattle.metis_gather.specs.Answer.{Plan as PlanOf}
 use Rattle.metis_gather.specs.Commands.{goals_named, plan_script, script_from, universe_in_then, targets_then}
 use Rattle.metis_top.specs.Course.{Ran, Says, OnShelf}
-use Rattle.metis_answer.specs.Shown.{Shown}
+use Rattle.metis_output.specs.Shown.{Shown}
 use Rattle.metis_gather.specs.Gathers.{AreTaken, after}
 use Rattle.metis_ujson.specs.Document.{document_limit, universe_in}
 use Rattle.metis_top.proofs.Deployments.{OrderLaws, answer_deploys}

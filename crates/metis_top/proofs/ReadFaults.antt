@@ -6,8 +6,8 @@ use Rattle.metis_outside.specs.Writes.{Appends}
 use Rattle.metis_gather.specs.declared.refusal.Refusal.{Refusal}
 use Rattle.metis_gather.specs.declared.refusal.Refusal.TheVariants.{Word, TooLong}
 use Rattle.metis_gather.specs.declared.refusal.Refusal.TheVariants as refusal
-use Rattle.metis_answer.specs.declared.status.Status.{Status}
-use Rattle.metis_answer.specs.declared.status.Status.TheVariants.{Done, No, ReadFault}
+use Rattle.metis_output.specs.declared.status.Status.{Status}
+use Rattle.metis_output.specs.declared.status.Status.TheVariants.{Done, No, ReadFault}
 use Rattle.metis_words.specs.declared.words.Verb.{Verb}
 use Rattle.metis_words.specs.declared.words.Verb.TheVariants.{Plan, Replay, Refute, Audit, Sim, Crew, Waves, Control, Rollout, Place, Print, Load, Why, Confirm}
 use Rattle.metis_gather.specs.Answer as answer
@@ -33,7 +33,7 @@ use Rattle.metis_why.specs.declared.confirming.Confirmation.{Confirmation}
 use Rattle.metis_why.specs.declared.confirming.Confirmation.TheVariants as confirmation
 use Rattle.metis_answer.specs.Replayed.{verdict_status}
 use Rattle.metis_top.specs.Course.{Ran, Says, OnShelf}
-use Rattle.metis_answer.specs.Shown.{Shown}
+use Rattle.metis_output.specs.Shown.{Shown}
 use Rattle.metis_gather.specs.Gathers.{after}
 use Rattle.metis_ujson.specs.Document.{document_limit, universe_in}
 use Rattle.metis_top.specs.Lines.{refusal_status, read_fault_line}

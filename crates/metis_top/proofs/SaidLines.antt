@@ -32,7 +32,7 @@ use Rattle.metis_gather.specs.Answer as answer
 use Rattle.metis_why_text.specs.WhyReading.{WhyParts, why_in}
 use Rattle.metis_gather.specs.Commands.{universe_then, waves_then, control_over, control_then, audit_then, plan_said, command_script, crew_over, crew_then, judged, or_plan_refused, or_refusal_refused, or_turns_refused, or_universe_refused, or_word, goals_after, goals_named, plan_limit, refusal_limit, refute_then, replay_then, rollout_then, script_from, session_limit, sim_then, targets_then, turns_limit, hosts_limit, or_hosts_refused, place_over, place_then, confirm_then, or_why_refused, why_limit}
 use Rattle.metis_top.specs.Course.{Ran, Says}
-use Rattle.metis_answer.specs.Shown.{Shown}
+use Rattle.metis_output.specs.Shown.{Shown}
 use Rattle.metis_gather.specs.Gathers.{after}
 use Rattle.metis_top.specs.Lines.{hosts_fault_line, limit_line, plan_fault_line, read_fault_line, refusal_fault_line, refusal_line, universe_line, why_fault_line}
 use Rattle.metis_place.proofs.HostsNamed.{hosts_in_named}
@@ -51,7 +51,7 @@ use Rattle.metis_gather.specs.Turns.{turns_in}
 use Rattle.metis_words.specs.Words.{Form, word_at}
 use Rattle.metis_gather.specs.declared.refusal.Refusal.{Refusal}
 use Rattle.metis_gather.specs.declared.refusal.Refusal.TheVariants.{Word, TooLong, Turns}
-use Rattle.metis_answer.specs.declared.status.Status.{Status}
+use Rattle.metis_output.specs.declared.status.Status.{Status}
 use Rattle.metis_words.specs.declared.words.Verb.{Verb}
 use Rattle.metis_words.specs.declared.words.Verb.TheVariants.{Plan, Replay, Refute, Audit, Sim, Crew, Waves, Control, Rollout, Place, Print, Load, Why, Confirm}
 use Rattle.std.specs.declared.option.Option.{Option as Known}

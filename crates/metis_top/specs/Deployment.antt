@@ -17,8 +17,8 @@ use Rattle.metis_universe.specs.Tidy.{IsTidy}
 use Rattle.metis_universe.specs.Universe.{Universe, greatest_demand}
 use Rattle.metis_universe.specs.Waits.{IsKept, is_complete, numbers, picked}
 use Rattle.metis_answer.specs.Planned.{Refuses, plan_text}
-use Rattle.metis_answer.specs.declared.status.Status.{Status}
-use Rattle.metis_answer.specs.declared.status.Status.TheVariants.{Done, No}
+use Rattle.metis_output.specs.declared.status.Status.{Status}
+use Rattle.metis_output.specs.declared.status.Status.TheVariants.{Done, No}
 
 -- Each order that keeps the waits, complete or not, is a run from the empty configuration, so it meets only correct
 -- configurations. All that are complete end in one configuration, which holds every goal. The order of the text is one of them.

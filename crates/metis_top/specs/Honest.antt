@@ -22,8 +22,8 @@ use Rattle.metis_universe.specs.Universe.{Universe}
 use Rattle.metis_gather.specs.Script.{Script, Read}
 use Rattle.metis_words.specs.TargetName.{TargetName}
 use Rattle.metis_words.specs.Words.{form_of}
-use Rattle.metis_answer.specs.declared.status.Status.{Status}
-use Rattle.metis_answer.specs.declared.status.Status.TheVariants.{Done, NoMemory}
+use Rattle.metis_output.specs.declared.status.Status.{Status}
+use Rattle.metis_output.specs.declared.status.Status.TheVariants.{Done, NoMemory}
 use Rattle.metis_words.specs.declared.words.Verb.TheVariants.{Plan as PlanVerb}
 
 abbrev pub Undisturbed : Option (List ℕ → List ℕ) → ℕ → ℕ → ℕ → ℕ → Status → ((List ℕ → List ℕ) → Type 0) → Type 0

@@ -12,8 +12,8 @@ use Rattle.metis_universe.specs.declared.faults.LimitKind.TheVariants.{States, R
 use Rattle.metis_gather.specs.declared.refusal.Refusal.{Refusal}
 use Rattle.metis_gather.specs.declared.refusal.Refusal.TheVariants.{Word, TooLong}
 use Rattle.metis_gather.specs.declared.refusal.Refusal.TheVariants as refusal
-use Rattle.metis_answer.specs.declared.status.Status.{Status}
-use Rattle.metis_answer.specs.declared.status.Status.TheVariants.{BadWords, BadInput, NoMemory}
+use Rattle.metis_output.specs.declared.status.Status.{Status}
+use Rattle.metis_output.specs.declared.status.Status.TheVariants.{BadWords, BadInput, NoMemory}
 
 abbrev pub limit_line : LimitKind → ℕ → List ℕ
 limit_line States n = codes "bad universe U12 states " ++ (decimal n ++ codes "\n")

@@ -6,8 +6,8 @@ use Rattle.metis_gather.specs.Gathers.{opened}
 use Rattle.metis_words.specs.Forms.{file_count}
 use Rattle.metis_gather.specs.Script.{Script, Read, Refuse, Reply}
 use Rattle.metis_words.specs.Words.{Form}
-use Rattle.metis_answer.specs.declared.status.Status.{Status}
-use Rattle.metis_answer.specs.declared.status.Status.TheVariants.{NoMemory}
+use Rattle.metis_output.specs.declared.status.Status.{Status}
+use Rattle.metis_output.specs.declared.status.Status.TheVariants.{NoMemory}
 
 abbrev pub IsLast : Script → Type 0
 IsLast (Read place name limit next) = ⊥

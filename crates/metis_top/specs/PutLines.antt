@@ -4,8 +4,8 @@ use Rattle.std.specs.List.{All}
 use Rattle.std.specs.declared.option.Option.{Option}
 use Rattle.metis_outside.specs.Pieces.{IsLine}
 use Rattle.metis_outside.specs.Writes.{Appends, AppendsFront}
-use Rattle.metis_answer.specs.declared.status.Status.{Status}
-use Rattle.metis_answer.specs.declared.status.Status.TheVariants.{WriteFault, NoMemory}
+use Rattle.metis_output.specs.declared.status.Status.{Status}
+use Rattle.metis_output.specs.declared.status.Status.TheVariants.{WriteFault, NoMemory}
 
 -- Lines, of which each ends with a line feed and has no other, one a put. Only a write fault and want of memory leave a
 -- front of them.

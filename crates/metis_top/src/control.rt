@@ -6,9 +6,10 @@ ghost use Rattle.metis_gather.specs.Commands.{control_over, control_script, cont
 ghost use Rattle.metis_top.specs.Course.{Ran};
 
 use crate::stop::end;
-use metis_answer::{Status, put_control};
+use metis_deploy::put_control;
 use metis_gather::{plan_from, session_script_from, universe_from};
 use metis_ids::Action;
+use metis_output::Status;
 use metis_outside::{Shelf, Sink};
 use metis_universe::Universe;
 use std::alloc::Global;

@@ -6,9 +6,10 @@ ghost use Rattle.metis_gather.specs.Commands.{crew_over, crew_script, crew_then}
 ghost use Rattle.metis_top.specs.Course.{Ran};
 
 use crate::stop::end;
-use metis_answer::{Status, put_crew};
+use metis_deploy::put_crew;
 use metis_gather::{plan_from, turns_from, universe_from};
 use metis_ids::Action;
+use metis_output::Status;
 use metis_outside::{Shelf, Sink};
 use metis_universe::Universe;
 use std::alloc::Global;

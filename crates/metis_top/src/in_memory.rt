@@ -1,8 +1,8 @@
 //! Runs over files and output in memory.
-ghost use Rattle.metis_answer.specs.Statuses.{IsCalm};
+ghost use Rattle.metis_output.specs.Statuses.{IsCalm};
 
 use crate::run;
-use metis_answer::Status;
+use metis_output::Status;
 use metis_outside::{CalmShelf, CalmSink};
 use std::alloc::Global;
 

@@ -19,5 +19,5 @@ mod waves;
 mod why;
 
 pub use in_memory::run_in_memory;
-pub use metis_answer::Status;
+pub use metis_output::Status;
 pub use top::run;

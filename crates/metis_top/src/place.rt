@@ -6,9 +6,10 @@ ghost use Rattle.metis_gather.specs.Commands.{place_over, place_script, place_th
 ghost use Rattle.metis_top.specs.Course.{Ran};
 
 use crate::stop::end;
-use metis_answer::{Status, put_place};
+use metis_deploy::put_place;
 use metis_gather::{hosts_from, plan_from, universe_from};
 use metis_ids::Action;
+use metis_output::Status;
 use metis_outside::{Shelf, Sink};
 use metis_universe::Universe;
 use std::alloc::Global;

@@ -4,8 +4,9 @@ ghost use Rattle.metis_gather.specs.Commands.{plan_script};
 ghost use Rattle.metis_top.specs.Course.{Ran};
 
 use crate::stop::end;
-use metis_answer::{Status, put_plan};
+use metis_answer::put_plan;
 use metis_gather::goals_from;
+use metis_output::Status;
 use metis_outside::{Shelf, Sink};
 use metis_words::TargetWord;
 use std::alloc::Global;

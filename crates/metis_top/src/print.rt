@@ -3,8 +3,9 @@ ghost use Rattle.metis_gather.specs.Commands.{print_script};
 ghost use Rattle.metis_top.specs.Course.{Ran};
 
 use crate::stop::end;
-use metis_answer::{Status, put_universe};
+use metis_answer::put_universe;
 use metis_gather::universe_from;
+use metis_output::Status;
 use metis_outside::{Shelf, Sink};
 use std::alloc::Global;
 

@@ -6,9 +6,10 @@ ghost use Rattle.metis_gather.specs.Commands.{replay_script, replay_then};
 ghost use Rattle.metis_top.specs.Course.{Ran};
 
 use crate::stop::end;
-use metis_answer::{Status, put_verdict};
+use metis_answer::put_verdict;
 use metis_gather::{goals_from, plan_from};
 use metis_ids::Goal;
+use metis_output::Status;
 use metis_outside::{Shelf, Sink};
 use metis_universe::Universe;
 use metis_words::TargetWord;

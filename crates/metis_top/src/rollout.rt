@@ -7,9 +7,10 @@ ghost use Rattle.metis_gather.specs.Commands.{rollout_script, rollout_then};
 ghost use Rattle.metis_top.specs.Course.{Ran};
 
 use crate::stop::end;
-use metis_answer::{Status, put_rollout};
+use metis_answer::put_rollout;
 use metis_gather::{goals_from, plan_from};
 use metis_ids::Goal;
+use metis_output::Status;
 use metis_outside::{Shelf, Sink};
 use metis_universe::Universe;
 use metis_words::TargetWord;

@@ -3,8 +3,9 @@ ghost use Rattle.metis_gather.specs.Commands.{sim_script, sim_then};
 ghost use Rattle.metis_top.specs.Course.{Ran};
 
 use crate::stop::end;
-use metis_answer::{Status, put_replies};
+use metis_answer::put_replies;
 use metis_gather::{session_script_from, universe_from};
+use metis_output::Status;
 use metis_outside::{Shelf, Sink};
 use metis_universe::Universe;
 use std::alloc::Global;

@@ -1,11 +1,11 @@
 //! How a run ends before its work.
 ghost use Rattle.std.specs.Prelude.{◌≡◌, IfOk, string_bytes};
-ghost use Rattle.metis_answer.specs.Shown.{Shown};
+ghost use Rattle.metis_output.specs.Shown.{Shown};
 ghost use Rattle.metis_top.specs.Course.{StopSays};
 ghost use Rattle.metis_top.specs.Lines.{hosts_fault_line, plan_fault_line, refusal_fault_line, refusal_line, why_fault_line, universe_line, state_line, limit_line, read_fault_line, refusal_status};
 
-use metis_answer::{Status, say};
 use metis_gather::{Refusal, Stop};
+use metis_output::{Status, say};
 use metis_outside::Sink;
 use metis_place::HFault;
 use metis_text::TFault;

@@ -5,8 +5,9 @@ ghost use Rattle.metis_gather.specs.Commands.{waves_script, waves_then};
 ghost use Rattle.metis_top.specs.Course.{Ran};
 
 use crate::stop::end;
-use metis_answer::{Status, put_waves};
+use metis_deploy::put_waves;
 use metis_gather::{plan_from, universe_from};
+use metis_output::Status;
 use metis_outside::{Shelf, Sink};
 use metis_universe::Universe;
 use std::alloc::Global;

@@ -2,7 +2,7 @@
 use Rattle.std.proofs.Common.{◌≡◌, ◌≢◌, ◌++◌, [], ◌∷◌, List, ℕ, OnOk, Result, Ok, Err, Some, codes, subst, inl, inr}
 use Rattle.metis_outside.specs.Pieces.{bytes_of}
 use Rattle.metis_outside.specs.Writes.{Appends}
-use Rattle.metis_answer.specs.declared.status.Status.{Status}
+use Rattle.metis_output.specs.declared.status.Status.{Status}
 use Rattle.metis_transcripts.specs.Cases.{case_head, piped_foot}
 use Rattle.metis_transcripts.specs.Outside.{Outside}
 use Rattle.metis_transcripts.specs.Runs.{IsAside, IsCase, IsPiped, IsPrepared, IsShown, IsSingle}

@@ -7,8 +7,8 @@
 --     piped_foot first second      the same of two commands of which the second reads what the first puts
 use Rattle.std.specs.Prelude.{ℕ, List, [], ◌∷◌, ◌++◌, ◌==◌, codes, decimal, if◌then◌else◌}
 use Rattle.std.specs.List.{slice_split}
-use Rattle.metis_answer.specs.declared.status.Status.{Status}
-use Rattle.metis_answer.specs.Statuses.{code_of}
+use Rattle.metis_output.specs.declared.status.Status.{Status}
+use Rattle.metis_output.specs.Statuses.{code_of}
 use Rattle.metis_transcripts.specs.declared.words.Role.{Role}
 use Rattle.metis_transcripts.specs.declared.words.Role.TheVariants.{Remark, Input, Failing, Case}
 

@@ -2,10 +2,10 @@ use Rattle.std.proofs.Common.{[], ◌∷◌, codes, inl, inr, refl}
 use Rattle.metis_text.specs.Reads.{lists_of}
 use Rattle.metis_universe.proofs.Served.{goals_refused}
 use Rattle.metis_universe.specs.GoalWords.{goal_word}
-use Rattle.metis_answer.proofs.Shown.{shown_by_writer, shown_weaker}
+use Rattle.metis_output.proofs.Shown.{shown_by_writer, shown_weaker}
 use Rattle.metis_answer.specs.Audited.{Audited, AuditedFor, TellsLacking}
 use Rattle.metis_answer.specs.Judged.{word_line}
-use Rattle.metis_answer.specs.declared.status.Status.TheVariants.{No}
+use Rattle.metis_output.specs.declared.status.Status.TheVariants.{No}
 use Rattle.metis_answer.proofs.audit.put_audit.Goals as goal
 
 pub returns-in-Ok-Pairs : goal.returns-in-Ok-Pairs

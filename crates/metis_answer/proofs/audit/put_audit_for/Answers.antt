@@ -4,7 +4,7 @@ use Rattle.metis_audit.specs.declared.answers.Answer.{Answer}
 use Rattle.metis_audit.specs.declared.answers.Answer.TheVariants as audit
 use Rattle.metis_planner.proofs.Planning.{lacking_low}
 use Rattle.metis_text.specs.Reads.{lists_of}
-use Rattle.metis_answer.proofs.Shown.{shown_by_writer}
+use Rattle.metis_output.proofs.Shown.{shown_by_writer}
 use Rattle.metis_answer.proofs.audit.put_audit_for.Goals as goal
 use Rattle.metis_answer.specs.Audited.{AuditedFor, NamesPairOf, audit_line, audit_status}
 

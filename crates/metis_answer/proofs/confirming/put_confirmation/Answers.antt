@@ -1,6 +1,6 @@
 use Rattle.std.proofs.Common.{[], ◌∷◌, ap, ◌∙◌}
 use Rattle.metis_answer.proofs.Confirmations.{sayable}
-use Rattle.metis_answer.proofs.Shown.{shown_by_writer}
+use Rattle.metis_output.proofs.Shown.{shown_by_writer}
 use Rattle.metis_answer.specs.Confirmed.{Confirms, confirmation_line, confirmation_status}
 use Rattle.metis_answer.proofs.confirming.put_confirmation.Goals as goal
 

@@ -3,7 +3,7 @@ use Rattle.metis_universe.specs.Universe.{IsUniverse}
 use Rattle.metis_gen.proofs.Numbers.{tables_universe}
 use Rattle.metis_gen.proofs.SameRows.{generated_tables}
 use Rattle.metis_answer.proofs.Loads.{loaded_by_summary}
-use Rattle.metis_answer.proofs.Shown.{shown_weaker}
+use Rattle.metis_output.proofs.Shown.{shown_weaker}
 use Rattle.metis_answer.specs.Loaded.{Loaded, Summed}
 use Rattle.metis_answer.proofs.load.put_planned_load.Goals as goal
 

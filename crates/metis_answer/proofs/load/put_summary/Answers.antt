@@ -4,9 +4,9 @@ use Rattle.metis_ids.specs.declared.actions.Action.{Action}
 use Rattle.metis_replay.specs.Exact.{Tells}
 use Rattle.metis_replay.specs.declared.verdict.Verdict.TheVariants.{Good}
 use Rattle.metis_universe.specs.Goals.{pair_goals}
-use Rattle.metis_answer.proofs.Shown.{shown_by_writer}
+use Rattle.metis_output.proofs.Shown.{shown_by_writer}
 use Rattle.metis_answer.specs.Loaded.{Summed, load_line}
-use Rattle.metis_answer.specs.declared.status.Status.TheVariants.{Done}
+use Rattle.metis_output.specs.declared.status.Status.TheVariants.{Done}
 use Rattle.metis_answer.proofs.load.put_summary.Goals as goal
 
 pub returns-in-Ok-Good : goal.returns-in-Ok-Good

@@ -1,6 +1,6 @@
 use Rattle.std.proofs.Common.{arith}
 use Rattle.metis_answer.proofs.Replies.{answer_by_refusal, answer_for_goals}
-use Rattle.metis_answer.proofs.Shown.{shown_by_writer, shown_weaker}
+use Rattle.metis_output.proofs.Shown.{shown_by_writer, shown_weaker}
 use Rattle.metis_answer.specs.Planned.{PlanAnswer, PutsPlan}
 use Rattle.metis_answer.proofs.plan.put_plan.Goals as goal
 

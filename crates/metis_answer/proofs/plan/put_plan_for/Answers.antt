@@ -1,5 +1,5 @@
 use Rattle.metis_answer.proofs.Replies.{IsPlanned, answer_by_plan}
-use Rattle.metis_answer.proofs.Shown.{shown_by_writer}
+use Rattle.metis_output.proofs.Shown.{shown_by_writer}
 use Rattle.metis_answer.proofs.plan.put_plan_for.Goals as goal
 
 pub returns-in-Ok : goal.returns-in-Ok

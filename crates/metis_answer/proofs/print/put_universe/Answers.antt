@@ -1,5 +1,5 @@
 use Rattle.std.proofs.Common.{[], ◌∷◌, refl}
-use Rattle.metis_answer.proofs.Shown.{shown_by_writer}
+use Rattle.metis_output.proofs.Shown.{shown_by_writer}
 use Rattle.metis_ujson.specs.Canonical.{canonical}
 use Rattle.metis_answer.proofs.print.put_universe.Goals as goal
 

@@ -1,5 +1,5 @@
 use Rattle.std.proofs.Common.{[], ◌∷◌, refl}
-use Rattle.metis_answer.proofs.Shown.{shown_by_writer}
+use Rattle.metis_output.proofs.Shown.{shown_by_writer}
 use Rattle.metis_answer.specs.Judged.{Judged, judgement_line, judgement_status}
 use Rattle.metis_answer.proofs.refute.put_judgement.Goals as goal
 

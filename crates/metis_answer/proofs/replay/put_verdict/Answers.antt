@@ -1,5 +1,5 @@
 use Rattle.metis_answer.proofs.Replies.{answer_by_verdict}
-use Rattle.metis_answer.proofs.Shown.{shown_by_writer}
+use Rattle.metis_output.proofs.Shown.{shown_by_writer}
 use Rattle.metis_answer.proofs.replay.put_verdict.Goals as goal
 
 pub returns-in-Ok : goal.returns-in-Ok

@@ -3,7 +3,7 @@ use Rattle.metis_rollout.specs.Rollout.{rollout}
 use Rattle.metis_universe.proofs.Served.{goals_refused}
 use Rattle.metis_universe.specs.Config.{empty}
 use Rattle.metis_universe.specs.Step.{after_all}
-use Rattle.metis_answer.proofs.Shown.{shown_by_writer, shown_weaker}
+use Rattle.metis_output.proofs.Shown.{shown_by_writer, shown_weaker}
 use Rattle.metis_answer.specs.RolledOut.{PutsRolloutTo, RolloutAnswer}
 use Rattle.metis_answer.proofs.rollout.put_goals.Goals as goal
 

@@ -1,5 +1,5 @@
 use Rattle.std.proofs.Common.{inl, refl}
-use Rattle.metis_answer.proofs.Shown.{shown_by_writer}
+use Rattle.metis_output.proofs.Shown.{shown_by_writer}
 use Rattle.metis_answer.proofs.rollout.put_rollout.Goals as goal
 
 pub returns-in-Ok-Some : goal.returns-in-Ok-Some

@@ -1,7 +1,7 @@
 use Rattle.std.proofs.Common.{ap, refl}
 use Rattle.metis_ids.specs.Plans.{Plan}
 use Rattle.metis_universe.specs.Steadfast.{IsSteadfastRun}
-use Rattle.metis_answer.proofs.Shown.{shown_by_writer}
+use Rattle.metis_output.proofs.Shown.{shown_by_writer}
 use Rattle.metis_answer.proofs.rollout.put_rollout_to.Goals as goal
 
 pub returns-in-Ok : goal.returns-in-Ok

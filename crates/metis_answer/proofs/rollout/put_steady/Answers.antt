@@ -1,6 +1,6 @@
 use Rattle.std.proofs.Common.{inl, inr, refl}
 use Rattle.metis_universe.specs.Steadfast.{IsSteadfastRun}
-use Rattle.metis_answer.proofs.Shown.{shown_by_writer, shown_weaker}
+use Rattle.metis_output.proofs.Shown.{shown_by_writer, shown_weaker}
 use Rattle.metis_answer.specs.Answers.{IsAnswer}
 use Rattle.metis_gather.specs.Answer as answer
 use Rattle.metis_answer.specs.RolledOut.{RolloutAnswer}

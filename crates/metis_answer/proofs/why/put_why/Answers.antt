@@ -1,8 +1,8 @@
 use Rattle.std.proofs.Common.{refl, inl, inr}
-use Rattle.metis_answer.proofs.Shown.{shown_by_writer, shown_weaker}
-use Rattle.metis_answer.specs.Shown.{IsJust}
+use Rattle.metis_output.proofs.Shown.{shown_by_writer, shown_weaker}
+use Rattle.metis_output.specs.Shown.{IsJust}
 use Rattle.metis_answer.specs.Explained.{WhyAnswer, attained_line}
-use Rattle.metis_answer.specs.declared.status.Status.TheVariants.{Done}
+use Rattle.metis_output.specs.declared.status.Status.TheVariants.{Done}
 use Rattle.metis_answer.proofs.FirstGoals.{wordable_among}
 use Rattle.metis_answer.proofs.why.put_why.Goals as goal
 

@@ -1,0 +1,4 @@
+pub mod Blocks
+pub mod CrewTurns
+pub mod ScriptEnds
+pub mod Starts

@@ -1,0 +1,6 @@
+pub mod Controlled
+pub mod Crewed
+pub mod Placed
+pub mod Scripts
+pub mod Steady
+pub mod Waved

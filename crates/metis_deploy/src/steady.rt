@@ -1,0 +1,130 @@
+//! Whether a plan's actions are a steadfast run.
+ghost use Rattle.std.specs.Prelude.{◌≡◌, ◌<◌, ◌-◌, ◌^◌, [], ◌∷◌, IfOk, IfSome, IsTrue, None, Some, length, option_map, string_bytes};
+ghost use Rattle.std.specs.List.{All};
+ghost use Rattle.metis_actions.specs.Faults.{IsFaultOf, fault_text};
+ghost use Rattle.metis_deploy.specs.Steady.{bad_line, loose_line, standing_after};
+ghost use Rattle.metis_outside.specs.Faults.{CountsFault};
+ghost use Rattle.metis_outside.specs.Pieces.{bytes_of};
+ghost use Rattle.metis_outside.specs.Writes.{Writes};
+ghost use Rattle.metis_replay.specs.Exact.{IsFirstBad, Tells};
+ghost use Rattle.metis_replay.specs.Progress.{IsVerdictOf};
+ghost use Rattle.metis_universe.specs.Config.{empty};
+ghost use Rattle.metis_universe.specs.Goals.{IsGoalOf};
+ghost use Rattle.metis_universe.specs.Numbers.{IsOf};
+ghost use Rattle.metis_universe.specs.Steadfast.{is_steadfast};
+ghost use Rattle.metis_universe.specs.Step.{IsRun};
+ghost use Rattle.metis_waits.specs.Waits.{IsFirstLoose};
+
+use metis_actions::{AFault, write_fault};
+use metis_ids::{Action, Goal, NoMemory};
+use metis_outside::{CalmSink, Sink, Trouble};
+use metis_replay::{Replay, Verdict, replay_is_exact, replay_keeps_what_was_done};
+use metis_text::put_line;
+use metis_universe::Universe;
+use metis_waits::{WFault, waits};
+use std::alloc::{AllocError, Global};
+
+/// What the actions came to, and how many instances stood then.
+pub fn replayed(
+    alloc: Global,
+    u: &Universe,
+    actions: &[Action],
+    goals: &[Goal],
+) -> Result<(Verdict, u64), NoMemory>
+    requires numbers { All (IsOf u.now) actions.now }
+    requires few { length actions.now < 2 ^ 32 - 1 }
+    requires within { All (IsGoalOf u.now) goals.now }
+    ensures tells { IfOk result (λ r. Tells u.now actions.now goals.now r.0) }
+    ensures numbers { IfOk result (λ r. IsVerdictOf u.now r.0) }
+    ensures standing { IfOk result (λ r. r.0 ≡ Verdict.Good → r.1 ≡ standing_after u.now actions.now) }
+{
+    replay_is_exact();
+    replay_keeps_what_was_done();
+    u.keeps_invariant();
+    let mut replay = Replay::new(alloc, u);
+    for action in actions {
+        replay.feed(action)?;
+    }
+    Ok((replay.finish(goals), replay.config().count()))
+}
+
+/// The number of the first action that cannot be done from the empty configuration on, and why.
+pub fn first_bad(
+    alloc: Global,
+    u: &Universe,
+    actions: &[Action],
+) -> Result<Option<(u32, AFault)>, NoMemory>
+    requires numbers { All (IsOf u.now) actions.now }
+    requires few { length actions.now < 2 ^ 32 - 1 }
+    ensures bad { IfOk result (λ bad. IfSome bad (λ b. IsFirstBad u.now actions.now b.0 b.1)) }
+    ensures numbers { IfOk result (λ bad. IfSome bad (λ b. IsFaultOf u.now b.1)) }
+    ensures runs { IfOk result (λ bad. bad ≡ None → IsRun u.now empty actions.now) }
+{
+    let (verdict, _) = replayed(alloc, u, actions, &[])?;
+    match verdict {
+        Verdict::Bad(number, fault) => Ok(Some((number, fault))),
+        Verdict::Good | Verdict::Missing(..) => Ok(None),
+    }
+}
+
+/// The number of the first action that is not steadfast.
+pub fn first_loose(alloc: Global, u: &Universe, actions: &[Action]) -> Result<Option<u32>, NoMemory>
+    requires numbers { All (IsOf u.now) actions.now }
+    requires few { length actions.now < 2 ^ 32 - 1 }
+    ensures loose { IfOk result (λ loose. IfSome loose (λ k. IsFirstLoose u.now actions.now k)) }
+    ensures steadfast { IfOk result (λ loose. loose ≡ None → IsTrue (is_steadfast u.now actions.now)) }
+{
+    match waits(alloc, u, actions) {
+        Ok(_) => Ok(None),
+        Err(WFault::Loose(number)) => Ok(Some(number)),
+        Err(WFault::NoMemory) => Err(NoMemory),
+    }
+}
+
+/// Puts the line of an action that cannot be done, with its number and why, by one put.
+#[tactic(auto, using(metis_outside::proofs::Writing::front_of_nothing))]
+pub fn write_bad<K: Sink>(
+    alloc: Global,
+    u: &Universe,
+    number: u32,
+    fault: &AFault,
+    out: &mut K,
+) -> Result<(), Trouble>
+    requires { IsFaultOf u.now fault.now }
+    ensures text { Writes (bad_line number (fault_text u.now fault.now) ∷ []) (K.written out.old) (K.written out.new) result }
+    ensures cause { CountsFault (K.faults out.old) (K.faults out.new) result }
+{
+    match bad_line(alloc, u, number, fault) {
+        Ok(line) => put_line(line.bytes(), out),
+        Err(_) => Err(Trouble::NoMemory),
+    }
+}
+
+// The line, put together in memory.
+fn bad_line(alloc: Global, u: &Universe, number: u32, fault: &AFault) -> Result<CalmSink, Trouble>
+    requires { IsFaultOf u.now fault.now }
+    ensures { IfOk result (λ line. option_map bytes_of (⟦<CalmSink as Sink>⟧.written line) ≡ Some (bad_line number (fault_text u.now fault.now))) }
+{
+    let mut line = CalmSink::new(alloc);
+    let start = format!(in alloc; "bad {number} ")?;
+    line.put(start.as_bytes())?;
+    write_fault(alloc, u, fault, &mut line)?;
+    line.put(b"\n")?;
+    Ok(line)
+}
+
+/// Puts the line of the first action that is not steadfast.
+#[tactic(auto, using(metis_outside::proofs::Writing::front_of_nothing))]
+pub fn write_loose<K: Sink>(alloc: Global, number: u32, out: &mut K) -> Result<(), Trouble>
+    ensures text { Writes (loose_line number ∷ []) (K.written out.old) (K.written out.new) result }
+    ensures cause { CountsFault (K.faults out.old) (K.faults out.new) result }
+{
+    let line = loose_line(alloc, number)?;
+    put_line(line.as_bytes(), out)
+}
+
+fn loose_line(alloc: Global, number: u32) -> Result<String, AllocError>
+    ensures { IfOk result (λ line. string_bytes line ≡ loose_line number) }
+{
+    format!(in alloc; "loose {number}\n")
+}
