@@ -100,6 +100,15 @@ impl<'a> Replay<'a> {
     {
         &self.config
     }
+
+    /// The same, taken over.
+    pub fn into_config(self) -> Config
+        ensures config { result ≡ self.entry.config }
+        ensures correct { Correct self.entry.universe self.entry.config }
+        ensures over { IsOver self.entry.universe self.entry.config }
+    {
+        self.config
+    }
 }
 
 // Does the action where it is not refused, or says why it is.

@@ -1,3 +1,4 @@
+pub mod Begun
 pub mod Caused
 pub mod Clients
 pub mod Counted

@@ -1,5 +1,6 @@
 pub mod Causes
 pub mod Instances
+pub mod Judged
 pub mod Orders
 pub mod Rows
 pub mod Summary

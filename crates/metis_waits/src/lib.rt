@@ -3,6 +3,7 @@
 
 mod fault;
 mod instances;
+mod judged;
 mod laws;
 mod pass;
 mod rows;
@@ -10,6 +11,7 @@ mod summary;
 mod wait_lists;
 
 pub use fault::WFault;
+pub use judged::Judged;
 pub use laws::{
     complete_order_ends_alike, kept_order_is_a_run, kept_order_is_in_time, own_order_is_kept,
     waits_have_causes,

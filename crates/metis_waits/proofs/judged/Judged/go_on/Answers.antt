@@ -1,0 +1,25 @@
+use Rattle.std.proofs.Common.{◌∙◌, Some, ap, sym, subst}
+use Rattle.std.proofs.lemmas.Option.{slice_get-get_or}
+use Rattle.metis_waits.proofs.Begun.{IsJudgedTo, begun_to, first_loose, judged_all, judged_next}
+use Rattle.metis_waits.proofs.judged.Judged.go_on.Goals as goal
+
+pub loop-index-init : goal.loop-index-init
+loop-index-init c = subst (λ i. IsJudgedTo c.args.u.now c.args.actions.now i c.args.self) (sym c.count-start.ensures) (begun_to c.args.u.now c.args.actions.now c.args.self c.requires.begun)
+
+pub returns-then-not-is_steadfast-clause-loose : goal.returns-then-not-is_steadfast-clause-loose
+returns-then-not-is_steadfast-clause-loose c =
+    let actions = c.args.actions.now in
+    let i = c.loop-index.index in
+    let a = c.index-actions-index.result in
+    first_loose c.args.u.now actions i a c.loop-index.judged (slice_get-get_or actions i a c.loop-index-test.true ∙ ap Some (sym c.index-actions-index.is)) (sym c.if-not-is_steadfast.ensures) c.loop-index.invariant
+
+pub loop-index-preserved : goal.loop-index-preserved
+loop-index-preserved c =
+    let actions = c.args.actions.now in
+    let i = c.loop-index.index in
+    let a = c.index-actions-index.result in
+    judged_next c.args.u.now actions i a c.loop-index.judged c.take_in.new.self (slice_get-get_or actions i a c.loop-index-test.true ∙ ap Some (sym c.index-actions-index.is)) (sym c.if-not-is_steadfast.ensures)
+    c.loop-index.invariant c.in_ok-take_in.ensures.summary c.in_ok-take_in.ensures.each c.in_ok-take_in.ensures.others
+
+pub returns-clause-judged : goal.returns-clause-judged
+returns-clause-judged c = judged_all c.args.u.now c.args.actions.now c.loop-index.index c.loop-index.judged c.loop-index-test.false c.requires.few c.loop-index.invariant
