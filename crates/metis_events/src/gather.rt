@@ -1,16 +1,13 @@
 //! All edges of the graph of life lines.
 ghost use Rattle.std.specs.Prelude.{◌≡◌, ◌<◌, ◌≤◌, ℕ, OnOk, length, map};
 ghost use Rattle.std.specs.List.{flat_map, range_with_len};
-ghost use Rattle.metis_support.specs.Support.{IsSupport};
 ghost use Rattle.metis_lines.specs.Events.{leaving, step_count};
-ghost use Rattle.metis_lines.specs.LifeLines.{AreLines, line_at, line_supplies, slot_holding, station_supplies, supplies_of, supply_from};
+ghost use Rattle.metis_lines.specs.LifeLines.{line_at, line_supplies, slot_holding, station_supplies, supplies_of, supply_from};
 ghost use Rattle.metis_events.specs.Gathered.{Adds, IsSlotThere, go_edges, return_edges, supply_edges, without_supplies};
 
 use crate::edges::{EdgeKind, EdgeList};
 use metis_ids::{Event, LineIx, NoMemory, PairIx, StepIx};
-use metis_lines::Lines;
-use metis_support::Support;
-use metis_universe::Universe;
+use metis_lines::{Lines, OverLines};
 
 /// How many events the line has.
 pub fn step_count(l: &Lines, line: LineIx) -> u32
@@ -65,18 +62,11 @@ fn add_go_edges_of(edges: &mut EdgeList, l: &Lines, line: LineIx) -> Result<(), 
 }
 
 /// Adds the start and return edges of all supplies.
-pub fn add_supplies(
-    edges: &mut EdgeList,
-    u: &Universe,
-    s: &Support,
-    l: &Lines,
-) -> Result<(), NoMemory>
-    requires support { IsSupport u.now s.now }
-    requires lines { AreLines u.now s.now l.now }
-    ensures { OnOk result (Adds (flat_map (supply_edges (without_supplies l.now)) (supplies_of u.now s.now l.now)) edges.old edges.new) }
+pub fn add_supplies(edges: &mut EdgeList, over: &OverLines<'_>) -> Result<(), NoMemory>
+    ensures { OnOk result (Adds (flat_map (supply_edges (without_supplies over.now.lines)) (supplies_of over.now.universe over.now.support over.now.lines)) edges.old edges.new) }
 {
-    for number in 0..l.count() {
-        add_line_supplies(edges, u, s, l, LineIx(number))?;
+    for number in 0..over.lines().count() {
+        add_line_supplies(edges, over, LineIx(number))?;
     }
     Ok(())
 }
@@ -84,18 +74,14 @@ pub fn add_supplies(
 // Adds those of the supplies of the line's stations.
 fn add_line_supplies(
     edges: &mut EdgeList,
-    u: &Universe,
-    s: &Support,
-    l: &Lines,
+    over: &OverLines<'_>,
     line: LineIx,
 ) -> Result<(), NoMemory>
-    requires support { IsSupport u.now s.now }
-    requires lines { AreLines u.now s.now l.now }
-    requires line { line < length l.now.lines }
-    ensures { OnOk result (Adds (flat_map (supply_edges (without_supplies l.now)) (line_supplies u.now s.now l.now line)) edges.old edges.new) }
+    requires { line < length over.now.lines.lines }
+    ensures { OnOk result (Adds (flat_map (supply_edges (without_supplies over.now.lines)) (line_supplies over.now.universe over.now.support over.now.lines line)) edges.old edges.new) }
 {
-    for station in 0..l.last(line).0 + 1 {
-        add_station_supplies(edges, u, s, l, line, StepIx(station))?;
+    for station in 0..over.lines().last(line).0 + 1 {
+        add_station_supplies(edges, over, line, StepIx(station))?;
     }
     Ok(())
 }
@@ -103,22 +89,21 @@ fn add_line_supplies(
 // Adds those of the supplies of one station.
 fn add_station_supplies(
     edges: &mut EdgeList,
-    u: &Universe,
-    s: &Support,
-    l: &Lines,
+    over: &OverLines<'_>,
     line: LineIx,
     station: StepIx,
 ) -> Result<(), NoMemory>
-    requires support { IsSupport u.now s.now }
-    requires lines { AreLines u.now s.now l.now }
-    requires line { line < length l.now.lines }
-    requires station { station < length (line_at l.now line) }
-    ensures { OnOk result (Adds (flat_map (supply_edges (without_supplies l.now)) (station_supplies u.now s.now l.now line station)) edges.old edges.new) }
+    requires line { line < length over.now.lines.lines }
+    requires station { station < length (line_at over.now.lines line) }
+    ensures { OnOk result (Adds (flat_map (supply_edges (without_supplies over.now.lines)) (station_supplies over.now.universe over.now.support over.now.lines line station)) edges.old edges.new) }
 {
-    let pair = l.station(line, station);
-    for port in u.requires_(pair) {
-        if let Some(provider) = s.provider(*port) {
-            add_slot_supplies(edges, l, line, station, provider, u.demand(pair, *port))?;
+    over.keeps_invariant();
+    let (universe, lines) = (over.universe(), over.lines());
+    let pair = lines.station(line, station);
+    for port in universe.requires_(pair) {
+        if let Some(provider) = over.support().provider(*port) {
+            let demand = universe.demand(pair, *port);
+            add_slot_supplies(edges, lines, line, station, provider, demand)?;
         }
     }
     Ok(())

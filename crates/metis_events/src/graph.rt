@@ -1,8 +1,7 @@
 //! The graph of events.
 ghost use Rattle.std.specs.Prelude.{◌≡◌, ◌<◌, ◌≤◌, ◌+◌, ◌^◌, ◌++◌, length, map, IfOk, OnOk};
-ghost use Rattle.metis_support.specs.Support.{IsSupport};
 ghost use Rattle.metis_lines.specs.Events.{events, events_of};
-ghost use Rattle.metis_lines.specs.LifeLines.{AreLines, plan_of};
+ghost use Rattle.metis_lines.specs.Over.{graph_over};
 ghost use Rattle.metis_events.specs.Edges.{before, edges_into, event_at, graph_of, node_of};
 ghost use Rattle.metis_events.specs.Gathered.{without_supplies};
 ghost use Rattle.metis_events.specs.Numbered.{dag_of};
@@ -13,10 +12,8 @@ use crate::gather::{add_go_edges, add_supplies, step_count};
 use crate::node_rows::NodeRow;
 use crate::rows::{EdgeRow, edge_rows, place_of};
 use metis_ids::{Event, LineIx, NoMemory, NodeIx, StepIx, Steps};
-use metis_lines::Lines;
+use metis_lines::{Lines, OverLines};
 use metis_sort::Reach;
-use metis_support::Support;
-use metis_universe::Universe;
 use std::alloc::Global;
 use std::marker::Model;
 use std::sync::ledger::Ledger;
@@ -46,14 +43,13 @@ impl Model for EventGraph {
 
 impl EventGraph {
     /// The graph of the lines over a support. It goes once over the events and the supplies, sorts the edges, and goes once over them.
-    pub fn of(alloc: Global, u: &Universe, s: &Support, l: &Lines) -> Result<EventGraph, NoMemory>
-        requires support { IsSupport u.now s.now }
-        requires lines { AreLines u.now s.now l.now }
-        ensures { IfOk result (λ g. g ≡ graph_of (plan_of u.now s.now l.now)) }
+    pub fn of(alloc: Global, over: &OverLines<'_>) -> Result<EventGraph, NoMemory>
+        ensures { IfOk result (λ g. g ≡ graph_of (graph_over over.now)) }
     {
-        let events = all_events(alloc, l)?;
-        let starts = line_starts(alloc, l)?;
-        let edges = edges_into_all(alloc, u, s, l, &events, &starts)?;
+        over.keeps_invariant();
+        let events = all_events(alloc, over.lines())?;
+        let starts = line_starts(alloc, over.lines())?;
+        let edges = edges_into_all(alloc, over, &events, &starts)?;
         let afters = after_rows(alloc, &events, &starts, &edges)?;
         Ok(EventGraph {
             events,
@@ -123,20 +119,17 @@ impl Reach for EventGraph {
 // The edges into each of the events, which are all.
 fn edges_into_all(
     alloc: Global,
-    u: &Universe,
-    s: &Support,
-    l: &Lines,
+    over: &OverLines<'_>,
     all: &[Event],
     starts: &[usize],
 ) -> Result<Vec<EdgeRow>, NoMemory>
-    requires support { IsSupport u.now s.now }
-    requires lines { AreLines u.now s.now l.now }
-    requires all { all.now ≡ events (plan_of u.now s.now l.now) }
-    ensures { IfOk result (λ rows. rows.items ≡ map (before (plan_of u.now s.now l.now)) all.now) }
+    requires { all.now ≡ events (graph_over over.now) }
+    ensures { IfOk result (λ rows. rows.items ≡ map (before (graph_over over.now)) all.now) }
 {
+    over.keeps_invariant();
     let mut gathered = EdgeList::new(alloc);
-    add_go_edges(&mut gathered, l)?;
-    add_supplies(&mut gathered, u, s, l)?;
+    add_go_edges(&mut gathered, over.lines())?;
+    add_supplies(&mut gathered, over)?;
     edge_rows(alloc, all, starts, &gathered)
 }
 

@@ -6,7 +6,7 @@ mod held;
 mod laws;
 mod line;
 pub mod lines;
-pub mod over;
+mod over;
 mod slots;
 
 pub use laws::{

@@ -44,21 +44,21 @@ impl<'a> OverLines<'a> {
 
     /// The universe.
     pub fn universe(&self) -> &'a Universe
-        ensures universe { result.now ≡ self.now.universe }
+        ensures { result.now ≡ self.now.universe }
     {
         self.universe
     }
 
     /// The support.
     pub fn support(&self) -> &'a Support
-        ensures support { result.now ≡ self.now.support }
+        ensures { result.now ≡ self.now.support }
     {
         self.support
     }
 
     /// The lines.
     pub fn lines(&self) -> &'a Lines
-        ensures lines { result.now ≡ self.now.lines }
+        ensures { result.now ≡ self.now.lines }
     {
         self.lines
     }
