@@ -12,7 +12,7 @@ use crate::gather::{add_go_edges, add_supplies, step_count};
 use crate::node_rows::NodeRow;
 use crate::rows::{EdgeRow, edge_rows, place_of};
 use metis_ids::{Event, LineIx, NoMemory, NodeIx, StepIx, Steps};
-use metis_lines::{Lines, OverLines};
+use metis_lines::OverLines;
 use metis_sort::Reach;
 use std::alloc::Global;
 use std::marker::Model;
@@ -47,8 +47,8 @@ impl EventGraph {
         ensures { IfOk result (λ g. g ≡ graph_of (graph_over over.now)) }
     {
         over.keeps_invariant();
-        let events = all_events(alloc, over.lines())?;
-        let starts = line_starts(alloc, over.lines())?;
+        let events = all_events(alloc, over)?;
+        let starts = line_starts(alloc, over)?;
         let edges = edges_into_all(alloc, over, &events, &starts)?;
         let afters = after_rows(alloc, &events, &starts, &edges)?;
         Ok(EventGraph {
@@ -128,42 +128,42 @@ fn edges_into_all(
 {
     over.keeps_invariant();
     let mut gathered = EdgeList::new(alloc);
-    add_go_edges(&mut gathered, over.lines())?;
+    add_go_edges(&mut gathered, over)?;
     add_supplies(&mut gathered, over)?;
     edge_rows(alloc, all, starts, &gathered)
 }
 
 // All events of the lines, in order.
-fn all_events(alloc: Global, l: &Lines) -> Result<Vec<Event>, NoMemory>
-    ensures events { IfOk result (λ all. all.items ≡ events (without_supplies l.now)) }
+fn all_events(alloc: Global, over: &OverLines<'_>) -> Result<Vec<Event>, NoMemory>
+    ensures events { IfOk result (λ all. all.items ≡ events (without_supplies over.now.lines)) }
     ensures few { IfOk result (λ all. length all.items < 2 ^ 32) }
 {
     let mut all = Vec::new(alloc);
-    for number in 0..l.count() {
-        add_events(&mut all, l, LineIx(number))?;
+    for number in 0..over.count() {
+        add_events(&mut all, over, LineIx(number))?;
     }
     all.push(Event::End)?;
     Ok(all)
 }
 
 // Where the events of each line start.
-fn line_starts(alloc: Global, l: &Lines) -> Result<Vec<usize>, NoMemory> {
-    let mut starts = Vec::with_capacity(alloc, l.count() as usize)?;
+fn line_starts(alloc: Global, over: &OverLines<'_>) -> Result<Vec<usize>, NoMemory> {
+    let mut starts = Vec::with_capacity(alloc, over.count() as usize)?;
     let mut start: usize = 0;
-    for number in 0..l.count() {
+    for number in 0..over.count() {
         starts.push(start)?;
-        start = start.saturating_add(step_count(l, LineIx(number)) as usize);
+        start = start.saturating_add(step_count(over, LineIx(number)) as usize);
     }
     Ok(starts)
 }
 
 // Appends the events of the line.
-fn add_events(all: &mut Vec<Event>, l: &Lines, line: LineIx) -> Result<(), NoMemory>
-    requires { line < length l.now.lines }
-    ensures events { OnOk result (all.new.items ≡ all.old.items ++ events_of (without_supplies l.now) line) }
+fn add_events(all: &mut Vec<Event>, over: &OverLines<'_>, line: LineIx) -> Result<(), NoMemory>
+    requires { line < length over.now.lines.lines }
+    ensures events { OnOk result (all.new.items ≡ all.old.items ++ events_of (without_supplies over.now.lines) line) }
     ensures few { OnOk result (length all.new.items ≤ length all.old.items + 65) }
 {
-    for step in 0..step_count(l, line) {
+    for step in 0..step_count(over, line) {
         all.push(Event::At(line, StepIx(step)))?;
     }
     Ok(())

@@ -4,7 +4,7 @@ use Rattle.metis_ids.specs.Graph.{afters}
 use Rattle.metis_ids.specs.declared.events.Event.{Event}
 use Rattle.metis_lines.specs.AbstractPlan.{AbstractPlan}
 use Rattle.metis_lines.specs.Events.{event_cmp, events}
-use Rattle.metis_lines.specs.LifeLines.{LifeLines, plan_of}
+use Rattle.metis_lines.specs.LifeLines.{plan_of}
 use Rattle.metis_lines.proofs.Formed.{lines_formed}
 use Rattle.metis_events.proofs.AllEvents.{events_ascend}
 use Rattle.metis_events.proofs.Numbered.{joined}
@@ -12,14 +12,13 @@ use Rattle.metis_events.proofs.Successors.{kept}
 use Rattle.metis_events.proofs.graph.EventGraph.of.Goals as goal
 use Rattle.metis_events.specs.declared.edges.Edge.{Edge}
 use Rattle.metis_events.specs.Edges.{before}
-use Rattle.metis_events.specs.Gathered.{without_supplies}
 use Rattle.metis_events.specs.Numbered.{IsJoined, dag_of, graph_by}
 
 pub edges_into_all-requires : goal.edges_into_all-requires
-edges_into_all-requires c = c.deref.ensures.value ∙ c.in_ok-events.ensures.events ∙ ap (λ (y : LifeLines). events (without_supplies y)) c.lines.ensures
+edges_into_all-requires c = c.deref.ensures.value ∙ c.in_ok-events.ensures.events
 
 pub after_rows-requires-clause-ascend : goal.after_rows-requires-clause-ascend
-after_rows-requires-clause-ascend c = subst (IsStrictlySortedBy event_cmp) (sym (c.deref-3.ensures.value ∙ c.in_ok-events.ensures.events ∙ ap (λ (y : LifeLines). events (without_supplies y)) c.lines.ensures)) (events_ascend (plan_of c.args.over.now.universe c.args.over.now.support c.args.over.now.lines))
+after_rows-requires-clause-ascend c = subst (IsStrictlySortedBy event_cmp) (sym (c.deref-3.ensures.value ∙ c.in_ok-events.ensures.events)) (events_ascend (plan_of c.args.over.now.universe c.args.over.now.support c.args.over.now.lines))
 
 pub after_rows-requires-clause-joined : goal.after_rows-requires-clause-joined
 after_rows-requires-clause-joined c =
@@ -27,7 +26,7 @@ after_rows-requires-clause-joined c =
     let s = c.args.over.now.support in
     let x = c.args.over.now.lines in
     let w : AbstractPlan = plan_of u s x in
-    let listed : c.in_ok-events.events.items ≡ events w = c.in_ok-events.ensures.events ∙ ap (λ (y : LifeLines). events (without_supplies y)) c.lines.ensures in
+    let listed : c.in_ok-events.events.items ≡ events w = c.in_ok-events.ensures.events in
     let rows : c.in_ok-edges.edges.items ≡ map (before w) (events w) = c.in_ok-edges.ensures ∙ ap (map (before w)) (c.deref.ensures.value ∙ listed) in
     subst IsJoined (λ i. graph_by (sym (c.deref-3.ensures.value ∙ listed) i) (sym (c.deref-5.ensures.value ∙ rows) i))
     (joined u w (lines_formed u s c.keeps_invariant.ensures.over.support x c.keeps_invariant.ensures.over.lines))
@@ -38,7 +37,7 @@ invariant_of-result c =
     let s = c.args.over.now.support in
     let x = c.args.over.now.lines in
     let w : AbstractPlan = plan_of u s x in
-    let listed : c.in_ok-events.events.items ≡ events w = c.in_ok-events.ensures.events ∙ ap (λ (y : LifeLines). events (without_supplies y)) c.lines.ensures in
+    let listed : c.in_ok-events.events.items ≡ events w = c.in_ok-events.ensures.events in
     let rows : c.in_ok-edges.edges.items ≡ map (before w) (events w) = c.in_ok-edges.ensures ∙ ap (map (before w)) (c.deref.ensures.value ∙ listed) in
     let es = c.in_ok-events.events.items in
     let ys = c.in_ok-edges.edges.items in
@@ -50,6 +49,6 @@ invariant_of-result c =
 pub returns : goal.returns
 returns c =
     let w : AbstractPlan = plan_of c.args.over.now.universe c.args.over.now.support c.args.over.now.lines in
-    let listed : c.in_ok-events.events.items ≡ events w = c.in_ok-events.ensures.events ∙ ap (λ (y : LifeLines). events (without_supplies y)) c.lines.ensures in
+    let listed : c.in_ok-events.events.items ≡ events w = c.in_ok-events.ensures.events in
     let rows : c.in_ok-edges.edges.items ≡ map (before w) (events w) = c.in_ok-edges.ensures ∙ ap (map (before w)) (c.deref.ensures.value ∙ listed) in
     (λ i. graph_by (listed i) (rows i))
