@@ -5,7 +5,7 @@
 --     dag_of g      the graph whose nodes are these numbers, and whose last node is the last of them
 --     IsJoined g      there is an event, and each edge leads from an event of the graph
 --     numbers_into g b      the numbers of the events from which the edges into event b lead
---     IsKept events edges after      the events ascend, each has its edges, and the numbers of the events to which edges lead from it
+--     IsKept events edges after      what holds of the three lists that a graph keeps. The events strictly ascend; there is one at least, and there are fewer than 2^32. At the place of each event stand in `edges` the edges into it, which lead from events of the list and stand in the order of these. At the same place stand in `after` the numbers of the events to which edges lead from it: they ascend, each as often as there are such edges.
 --     nth_event w n      the event of the number, by line and then by step, `End` last
 --     IsGraphOf w g      g has the events' numbers as nodes, that of `End` as its last one, and an edge where one event precedes another
 use Rattle.std.specs.Prelude.{ℕ, suc, ◌≡◌, ◌<◌, ◌-◌, ◌^◌, List, [], length, map, slice_index_or}

@@ -1,26 +1,23 @@
 //! All edges of the graph of life lines.
 ghost use Rattle.std.specs.Prelude.{◌≡◌, ◌<◌, ◌≤◌, ℕ, OnOk, length, map};
 ghost use Rattle.std.specs.List.{flat_map, range_with_len};
-ghost use Rattle.metis_support.specs.Support.{IsSupport};
 ghost use Rattle.metis_lines.specs.Events.{leaving, step_count};
-ghost use Rattle.metis_lines.specs.LifeLines.{AreLines, line_at, line_supplies, slot_holding, station_supplies, supplies_of, supply_from};
+ghost use Rattle.metis_lines.specs.LifeLines.{line_at, line_supplies, slot_holding, station_supplies, supplies_of, supply_from};
 ghost use Rattle.metis_events.specs.Gathered.{Adds, IsSlotThere, go_edges, return_edges, supply_edges, without_supplies};
 
 use crate::edges::{EdgeKind, EdgeList};
 use metis_ids::{Event, LineIx, NoMemory, PairIx, StepIx};
-use metis_lines::Lines;
-use metis_support::Support;
-use metis_universe::Universe;
+use metis_lines::OverLines;
 
 /// How many events the line has.
-pub fn step_count(l: &Lines, line: LineIx) -> u32
-    requires { line < length l.now.lines }
-    ensures count { result ≡ step_count (without_supplies l.now) line }
+pub fn step_count(over: &OverLines<'_>, line: LineIx) -> u32
+    requires { line < length over.now.lines.lines }
+    ensures count { result ≡ step_count (without_supplies over.now.lines) line }
     ensures some { 1 ≤ result }
     ensures few { result ≤ 65 }
 {
-    let stations = l.last(line).0 + 1;
-    if l.is_target(line) {
+    let stations = over.last(line).0 + 1;
+    if over.is_target(line) {
         stations
     } else {
         stations + 1
@@ -28,13 +25,13 @@ pub fn step_count(l: &Lines, line: LineIx) -> u32
 }
 
 /// What the line leaves the station by.
-pub fn leaving(l: &Lines, line: LineIx, station: StepIx) -> Event
-    requires line { line < length l.now.lines }
-    requires station { station < length (line_at l.now line) }
-    ensures { result ≡ leaving (without_supplies l.now) line station }
+pub fn leaving(over: &OverLines<'_>, line: LineIx, station: StepIx) -> Event
+    requires line { line < length over.now.lines.lines }
+    requires station { station < length (line_at over.now.lines line) }
+    ensures { result ≡ leaving (without_supplies over.now.lines) line station }
 {
-    let last = l.last(line);
-    if l.is_target(line) && station == last {
+    let last = over.last(line);
+    if over.is_target(line) && station == last {
         Event::End
     } else {
         Event::At(line, StepIx(station.0 + 1))
@@ -42,41 +39,34 @@ pub fn leaving(l: &Lines, line: LineIx, station: StepIx) -> Event
 }
 
 /// Adds the go edges of all lines.
-pub fn add_go_edges(edges: &mut EdgeList, l: &Lines) -> Result<(), NoMemory>
-    ensures { OnOk result (Adds (flat_map (go_edges (without_supplies l.now)) (range_with_len 0 (length l.now.lines))) edges.old edges.new) }
+pub fn add_go_edges(edges: &mut EdgeList, over: &OverLines<'_>) -> Result<(), NoMemory>
+    ensures { OnOk result (Adds (flat_map (go_edges (without_supplies over.now.lines)) (range_with_len 0 (length over.now.lines.lines))) edges.old edges.new) }
 {
-    for number in 0..l.count() {
-        add_go_edges_of(edges, l, LineIx(number))?;
+    for number in 0..over.count() {
+        add_go_edges_of(edges, over, LineIx(number))?;
     }
     Ok(())
 }
 
 // From each event of the line to its next one, and from the entry into its last station to the end.
-fn add_go_edges_of(edges: &mut EdgeList, l: &Lines, line: LineIx) -> Result<(), NoMemory>
-    requires { line < length l.now.lines }
-    ensures { OnOk result (Adds (go_edges (without_supplies l.now) line) edges.old edges.new) }
+fn add_go_edges_of(edges: &mut EdgeList, over: &OverLines<'_>, line: LineIx) -> Result<(), NoMemory>
+    requires { line < length over.now.lines.lines }
+    ensures { OnOk result (Adds (go_edges (without_supplies over.now.lines) line) edges.old edges.new) }
 {
-    for step in 0..step_count(l, line) - 1 {
+    for step in 0..step_count(over, line) - 1 {
         let next = Event::At(line, StepIx(step + 1));
         edges.add(Event::At(line, StepIx(step)), EdgeKind::Go, next)?;
     }
-    edges.add(Event::At(line, l.last(line)), EdgeKind::Go, Event::End)?;
+    edges.add(Event::At(line, over.last(line)), EdgeKind::Go, Event::End)?;
     Ok(())
 }
 
 /// Adds the start and return edges of all supplies.
-pub fn add_supplies(
-    edges: &mut EdgeList,
-    u: &Universe,
-    s: &Support,
-    l: &Lines,
-) -> Result<(), NoMemory>
-    requires support { IsSupport u.now s.now }
-    requires lines { AreLines u.now s.now l.now }
-    ensures { OnOk result (Adds (flat_map (supply_edges (without_supplies l.now)) (supplies_of u.now s.now l.now)) edges.old edges.new) }
+pub fn add_supplies(edges: &mut EdgeList, over: &OverLines<'_>) -> Result<(), NoMemory>
+    ensures { OnOk result (Adds (flat_map (supply_edges (without_supplies over.now.lines)) (supplies_of over.now.universe over.now.support over.now.lines)) edges.old edges.new) }
 {
-    for number in 0..l.count() {
-        add_line_supplies(edges, u, s, l, LineIx(number))?;
+    for number in 0..over.count() {
+        add_line_supplies(edges, over, LineIx(number))?;
     }
     Ok(())
 }
@@ -84,18 +74,14 @@ pub fn add_supplies(
 // Adds those of the supplies of the line's stations.
 fn add_line_supplies(
     edges: &mut EdgeList,
-    u: &Universe,
-    s: &Support,
-    l: &Lines,
+    over: &OverLines<'_>,
     line: LineIx,
 ) -> Result<(), NoMemory>
-    requires support { IsSupport u.now s.now }
-    requires lines { AreLines u.now s.now l.now }
-    requires line { line < length l.now.lines }
-    ensures { OnOk result (Adds (flat_map (supply_edges (without_supplies l.now)) (line_supplies u.now s.now l.now line)) edges.old edges.new) }
+    requires { line < length over.now.lines.lines }
+    ensures { OnOk result (Adds (flat_map (supply_edges (without_supplies over.now.lines)) (line_supplies over.now.universe over.now.support over.now.lines line)) edges.old edges.new) }
 {
-    for station in 0..l.last(line).0 + 1 {
-        add_station_supplies(edges, u, s, l, line, StepIx(station))?;
+    for station in 0..over.last(line).0 + 1 {
+        add_station_supplies(edges, over, line, StepIx(station))?;
     }
     Ok(())
 }
@@ -103,22 +89,21 @@ fn add_line_supplies(
 // Adds those of the supplies of one station.
 fn add_station_supplies(
     edges: &mut EdgeList,
-    u: &Universe,
-    s: &Support,
-    l: &Lines,
+    over: &OverLines<'_>,
     line: LineIx,
     station: StepIx,
 ) -> Result<(), NoMemory>
-    requires support { IsSupport u.now s.now }
-    requires lines { AreLines u.now s.now l.now }
-    requires line { line < length l.now.lines }
-    requires station { station < length (line_at l.now line) }
-    ensures { OnOk result (Adds (flat_map (supply_edges (without_supplies l.now)) (station_supplies u.now s.now l.now line station)) edges.old edges.new) }
+    requires line { line < length over.now.lines.lines }
+    requires station { station < length (line_at over.now.lines line) }
+    ensures { OnOk result (Adds (flat_map (supply_edges (without_supplies over.now.lines)) (station_supplies over.now.universe over.now.support over.now.lines line station)) edges.old edges.new) }
 {
-    let pair = l.station(line, station);
-    for port in u.requires_(pair) {
-        if let Some(provider) = s.provider(*port) {
-            add_slot_supplies(edges, l, line, station, provider, u.demand(pair, *port))?;
+    over.keeps_invariant();
+    let universe = over.universe();
+    let pair = over.station(line, station);
+    for port in universe.requires_(pair) {
+        if let Some(provider) = over.support().provider(*port) {
+            let demand = universe.demand(pair, *port);
+            add_slot_supplies(edges, over, line, station, provider, demand)?;
         }
     }
     Ok(())
@@ -127,20 +112,20 @@ fn add_station_supplies(
 // Adds those of the supplies of one port: one for each slot of its provider up to what the station demands.
 fn add_slot_supplies(
     edges: &mut EdgeList,
-    l: &Lines,
+    over: &OverLines<'_>,
     line: LineIx,
     station: StepIx,
     provider: PairIx,
     demand: u32,
 ) -> Result<(), NoMemory>
-    requires line { line < length l.now.lines }
-    requires station { station < length (line_at l.now line) }
-    requires slots { (k : ℕ) → 1 ≤ k → k ≤ demand → IsSlotThere l.now provider k }
-    ensures { (r : ℕ) → OnOk result (Adds (flat_map (supply_edges (without_supplies l.now)) (map (λ k. supply_from line station r k (slot_holding l.now provider k)) (range_with_len 1 demand))) edges.old edges.new) }
+    requires line { line < length over.now.lines.lines }
+    requires station { station < length (line_at over.now.lines line) }
+    requires slots { (k : ℕ) → 1 ≤ k → k ≤ demand → IsSlotThere over.now.lines provider k }
+    ensures { (r : ℕ) → OnOk result (Adds (flat_map (supply_edges (without_supplies over.now.lines)) (map (λ k. supply_from line station r k (slot_holding over.now.lines provider k)) (range_with_len 1 demand))) edges.old edges.new) }
 {
     for slot in 0..demand {
-        let holder = l.holder(provider, slot + 1).unwrap();
-        add_supply(edges, l, (line, station), holder)?;
+        let holder = over.holder(provider, slot + 1).unwrap();
+        add_supply(edges, over, (line, station), holder)?;
     }
     Ok(())
 }
@@ -148,21 +133,25 @@ fn add_slot_supplies(
 // Adds the edges of a supply: the station starts after the place is entered, and the place is left after the station.
 fn add_supply(
     edges: &mut EdgeList,
-    l: &Lines,
+    over: &OverLines<'_>,
     taker: (LineIx, StepIx),
     holder: (LineIx, StepIx),
 ) -> Result<(), NoMemory>
-    requires taker { taker.0 < length l.now.lines }
-    requires station { taker.1 < length (line_at l.now taker.0) }
-    requires holder { holder.0 < length l.now.lines }
-    requires place { holder.1 < length (line_at l.now holder.0) }
-    ensures { (r k : ℕ) → OnOk result (Adds (supply_edges (without_supplies l.now) (supply_from taker.0 taker.1 r k holder)) edges.old edges.new) }
+    requires taker { taker.0 < length over.now.lines.lines }
+    requires station { taker.1 < length (line_at over.now.lines taker.0) }
+    requires holder { holder.0 < length over.now.lines.lines }
+    requires place { holder.1 < length (line_at over.now.lines holder.0) }
+    ensures { (r k : ℕ) → OnOk result (Adds (supply_edges (without_supplies over.now.lines) (supply_from taker.0 taker.1 r k holder)) edges.old edges.new) }
 {
     let (line, station) = taker;
     let (other, place) = holder;
     let entry = Event::At(line, station);
     edges.add(Event::At(other, place), EdgeKind::Start, entry)?;
-    add_return(edges, leaving(l, line, station), leaving(l, other, place))?;
+    add_return(
+        edges,
+        leaving(over, line, station),
+        leaving(over, other, place),
+    )?;
     Ok(())
 }
 

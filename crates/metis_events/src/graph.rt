@@ -1,8 +1,7 @@
 //! The graph of events.
 ghost use Rattle.std.specs.Prelude.{◌≡◌, ◌<◌, ◌≤◌, ◌+◌, ◌^◌, ◌++◌, length, map, IfOk, OnOk};
-ghost use Rattle.metis_support.specs.Support.{IsSupport};
 ghost use Rattle.metis_lines.specs.Events.{events, events_of};
-ghost use Rattle.metis_lines.specs.LifeLines.{AreLines, plan_of};
+ghost use Rattle.metis_lines.specs.Over.{graph_over};
 ghost use Rattle.metis_events.specs.Edges.{before, edges_into, event_at, graph_of, node_of};
 ghost use Rattle.metis_events.specs.Gathered.{without_supplies};
 ghost use Rattle.metis_events.specs.Numbered.{dag_of};
@@ -13,10 +12,8 @@ use crate::gather::{add_go_edges, add_supplies, step_count};
 use crate::node_rows::NodeRow;
 use crate::rows::{EdgeRow, edge_rows, place_of};
 use metis_ids::{Event, LineIx, NoMemory, NodeIx, StepIx, Steps};
-use metis_lines::Lines;
+use metis_lines::OverLines;
 use metis_sort::Reach;
-use metis_support::Support;
-use metis_universe::Universe;
 use std::alloc::Global;
 use std::marker::Model;
 use std::sync::ledger::Ledger;
@@ -46,14 +43,13 @@ impl Model for EventGraph {
 
 impl EventGraph {
     /// The graph of the lines over a support. It goes once over the events and the supplies, sorts the edges, and goes once over them.
-    pub fn of(alloc: Global, u: &Universe, s: &Support, l: &Lines) -> Result<EventGraph, NoMemory>
-        requires support { IsSupport u.now s.now }
-        requires lines { AreLines u.now s.now l.now }
-        ensures { IfOk result (λ g. g ≡ graph_of (plan_of u.now s.now l.now)) }
+    pub fn of(alloc: Global, over: &OverLines<'_>) -> Result<EventGraph, NoMemory>
+        ensures { IfOk result (λ g. g ≡ graph_of (graph_over over.now)) }
     {
-        let events = all_events(alloc, l)?;
-        let starts = line_starts(alloc, l)?;
-        let edges = edges_into_all(alloc, u, s, l, &events, &starts)?;
+        over.keeps_invariant();
+        let events = all_events(alloc, over)?;
+        let starts = line_starts(alloc, over)?;
+        let edges = edges_into_all(alloc, over, &events, &starts)?;
         let afters = after_rows(alloc, &events, &starts, &edges)?;
         Ok(EventGraph {
             events,
@@ -123,54 +119,51 @@ impl Reach for EventGraph {
 // The edges into each of the events, which are all.
 fn edges_into_all(
     alloc: Global,
-    u: &Universe,
-    s: &Support,
-    l: &Lines,
+    over: &OverLines<'_>,
     all: &[Event],
     starts: &[usize],
 ) -> Result<Vec<EdgeRow>, NoMemory>
-    requires support { IsSupport u.now s.now }
-    requires lines { AreLines u.now s.now l.now }
-    requires all { all.now ≡ events (plan_of u.now s.now l.now) }
-    ensures { IfOk result (λ rows. rows.items ≡ map (before (plan_of u.now s.now l.now)) all.now) }
+    requires { all.now ≡ events (graph_over over.now) }
+    ensures { IfOk result (λ rows. rows.items ≡ map (before (graph_over over.now)) all.now) }
 {
+    over.keeps_invariant();
     let mut gathered = EdgeList::new(alloc);
-    add_go_edges(&mut gathered, l)?;
-    add_supplies(&mut gathered, u, s, l)?;
+    add_go_edges(&mut gathered, over)?;
+    add_supplies(&mut gathered, over)?;
     edge_rows(alloc, all, starts, &gathered)
 }
 
 // All events of the lines, in order.
-fn all_events(alloc: Global, l: &Lines) -> Result<Vec<Event>, NoMemory>
-    ensures events { IfOk result (λ all. all.items ≡ events (without_supplies l.now)) }
+fn all_events(alloc: Global, over: &OverLines<'_>) -> Result<Vec<Event>, NoMemory>
+    ensures events { IfOk result (λ all. all.items ≡ events (without_supplies over.now.lines)) }
     ensures few { IfOk result (λ all. length all.items < 2 ^ 32) }
 {
     let mut all = Vec::new(alloc);
-    for number in 0..l.count() {
-        add_events(&mut all, l, LineIx(number))?;
+    for number in 0..over.count() {
+        add_events(&mut all, over, LineIx(number))?;
     }
     all.push(Event::End)?;
     Ok(all)
 }
 
 // Where the events of each line start.
-fn line_starts(alloc: Global, l: &Lines) -> Result<Vec<usize>, NoMemory> {
-    let mut starts = Vec::with_capacity(alloc, l.count() as usize)?;
+fn line_starts(alloc: Global, over: &OverLines<'_>) -> Result<Vec<usize>, NoMemory> {
+    let mut starts = Vec::with_capacity(alloc, over.count() as usize)?;
     let mut start: usize = 0;
-    for number in 0..l.count() {
+    for number in 0..over.count() {
         starts.push(start)?;
-        start = start.saturating_add(step_count(l, LineIx(number)) as usize);
+        start = start.saturating_add(step_count(over, LineIx(number)) as usize);
     }
     Ok(starts)
 }
 
 // Appends the events of the line.
-fn add_events(all: &mut Vec<Event>, l: &Lines, line: LineIx) -> Result<(), NoMemory>
-    requires { line < length l.now.lines }
-    ensures events { OnOk result (all.new.items ≡ all.old.items ++ events_of (without_supplies l.now) line) }
+fn add_events(all: &mut Vec<Event>, over: &OverLines<'_>, line: LineIx) -> Result<(), NoMemory>
+    requires { line < length over.now.lines.lines }
+    ensures events { OnOk result (all.new.items ≡ all.old.items ++ events_of (without_supplies over.now.lines) line) }
     ensures few { OnOk result (length all.new.items ≤ length all.old.items + 65) }
 {
-    for step in 0..step_count(l, line) {
+    for step in 0..step_count(over, line) {
         all.push(Event::At(line, StepIx(step)))?;
     }
     Ok(())

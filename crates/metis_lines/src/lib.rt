@@ -6,6 +6,7 @@ mod held;
 mod laws;
 mod line;
 pub mod lines;
+mod over;
 mod slots;
 
 pub use laws::{
@@ -13,3 +14,4 @@ pub use laws::{
     own_line_makes_one_less_loose, own_lines_end_apart,
 };
 pub use lines::Lines;
+pub use over::OverLines;

@@ -48,6 +48,7 @@ module _ (u : Universe) (s : Support) (a b : Course) (p : ℕ) (held : ℕ × �
       let few_first = rounds.few.0 in
       let few_done = rounds.few.1 in
       record {
+        support = k;
         lines = are;
         uses = λ q selected. ap (λ t. slice_index_or t q []) uses ∙ rounds.uses q selected;
         returns = returns;

@@ -1,10 +1,10 @@
 -- What is known of rounds under way.
---     IsCourse u s r      the tables are those of the lines, no stuck event is taken, and the walk stands as far as it is kept
+--     IsCourse u s r      the lines are over a support, the tables are those of the lines, no stuck event is taken, and the walk stands as far as it is kept
 --     IfMore result P Q      P where the answer is that there is more, else Q
 use Rattle.std.specs.Prelude.{ℕ, ◌<◌, ◌≤◌, Bool, true, false, [], length, Result, Ok, Err, ⊤}
 use Rattle.metis_ids.specs.declared.no_memory.NoMemory.{NoMemory}
 use Rattle.metis_universe.specs.Universe.{Universe}
-use Rattle.metis_support.specs.Support.{Support}
+use Rattle.metis_support.specs.Support.{Support, IsSupport}
 use Rattle.metis_lines.specs.AbstractPlan.{last}
 use Rattle.metis_lines.specs.Events.{step_count}
 use Rattle.metis_lines.specs.LifeLines.{AreLines, plan_of}
@@ -15,6 +15,7 @@ use Rattle.metis_rounds.specs.Walks.{IsKept}
 use Rattle.metis_rounds.specs.declared.course.Course.{Course}
 
 pub record IsCourse (u : Universe) (s : Support) (r : Course) : Type 0 where
+  pub support : IsSupport u s
   pub lines : AreLines u s r.lines
   pub uses : HasUses u s r.uses
   pub returns : HasReturns (plan_of u s r.lines) r.returns

@@ -20,7 +20,7 @@ use crate::uses::Uses;
 use crate::walk::Walk;
 use crate::walking::{begin_walk, drop_taken, walk_on};
 use metis_ids::{Dup, Event, NoMemory, PairIx, StepIx};
-use metis_lines::Lines;
+use metis_lines::{Lines, OverLines};
 use metis_support::Support;
 use metis_universe::Universe;
 use std::alloc::Global;
@@ -47,20 +47,21 @@ impl Course {
     /// Over the lines for selected targets and no own pairs; no event is taken.
     pub fn new(
         alloc: Global,
-        u: &Universe,
-        s: &Support,
+        universe: &Universe,
+        support: &Support,
         targets: &[PairIx],
     ) -> Result<Course, NoMemory>
-        requires support { IsSupport u.now s.now }
-        requires selected { (p : ℕ) → IsTrue (has targets.now p) → IsTrue (is_selected s.now p) }
+        requires support { IsSupport universe.now support.now }
+        requires selected { (p : ℕ) → IsTrue (has targets.now p) → IsTrue (is_selected support.now p) }
         requires few { length targets.now ≤ 256 }
-        ensures course { IfOk result (IsCourse u.now s.now) }
-        ensures lines { IfOk result (λ r. r.lines ≡ lines_of u.now s.now targets.now []) }
+        ensures course { IfOk result (IsCourse universe.now support.now) }
+        ensures lines { IfOk result (λ r. r.lines ≡ lines_of universe.now support.now targets.now []) }
     {
-        let lines = Lines::new(alloc, u, s, targets)?;
-        let uses = Uses::of(alloc, u, s)?;
-        let returns = returns_of(alloc, u, s, &uses, &lines)?;
-        let going = Going::new(alloc, u, s, &lines, &returns)?;
+        let lines = Lines::new(alloc, universe, support, targets)?;
+        let over = OverLines::over(universe, support, &lines);
+        let uses = Uses::of(alloc, &over)?;
+        let returns = returns_of(alloc, &over, &uses)?;
+        let going = Going::new(alloc, &over, &returns)?;
         Ok(Course {
             lines,
             uses,
@@ -73,16 +74,20 @@ impl Course {
     }
 
     /// Takes what can be taken. Whether events are stuck then.
-    pub fn go_on(&mut self, alloc: Global, u: &Universe, s: &Support) -> Result<bool, NoMemory>
-        requires support { IsSupport u.now s.now }
-        requires course { IsCourse u.now s.now self.old }
-        ensures course { OnOk result (IsCourse u.now s.now self.new) }
+    pub fn go_on(
+        &mut self,
+        alloc: Global,
+        universe: &Universe,
+        support: &Support,
+    ) -> Result<bool, NoMemory>
+        requires course { IsCourse universe.now support.now self.old }
+        ensures course { OnOk result (IsCourse universe.now support.now self.new) }
         ensures lines { OnOk result (self.new.lines ≡ self.old.lines) }
-        ensures more { IfMore result (HasStopped (plan_of u.now s.now self.new.lines) self.new.going.taken.items) (HasEnded (plan_of u.now s.now self.new.lines) self.new.going.taken.items) }
+        ensures more { IfMore result (HasStopped (plan_of universe.now support.now self.new.lines) self.new.going.taken.items) (HasEnded (plan_of universe.now support.now self.new.lines) self.new.going.taken.items) }
     {
-        self.going
-            .go_on(alloc, u, s, &self.lines, &self.uses, &self.returns)?;
-        match first_unfinished(&self.lines, &self.going.taken, self.first) {
+        let over = OverLines::over(universe, support, &self.lines);
+        self.going.go_on(alloc, &over, &self.uses, &self.returns)?;
+        match first_unfinished(&over, &self.going.taken, self.first) {
             Some(line) => {
                 self.first = line.0;
                 Ok(true)
@@ -92,40 +97,48 @@ impl Course {
     }
 
     /// The dup that the cycle of the events forces, where some are stuck.
-    pub fn dup(&mut self, alloc: Global, u: &Universe, s: &Support) -> Result<Dup, NoMemory>
-        requires support { IsSupport u.now s.now }
-        requires course { IsCourse u.now s.now self.old }
-        requires stopped { HasStopped (plan_of u.now s.now self.old.lines) self.old.going.taken.items }
-        ensures course { OnOk result (IsCourse u.now s.now self.new) }
+    pub fn dup(
+        &mut self,
+        alloc: Global,
+        universe: &Universe,
+        support: &Support,
+    ) -> Result<Dup, NoMemory>
+        requires course { IsCourse universe.now support.now self.old }
+        requires stopped { HasStopped (plan_of universe.now support.now self.old.lines) self.old.going.taken.items }
+        ensures course { OnOk result (IsCourse universe.now support.now self.new) }
         ensures lines { self.new.lines ≡ self.old.lines }
-        ensures walk { OnOk result (IsWalk (plan_of u.now s.now self.new.lines) self.new.walk) }
-        ensures forced { IfOk result (IsForced (plan_of u.now s.now self.old.lines)) }
+        ensures walk { OnOk result (IsWalk (plan_of universe.now support.now self.new.lines) self.new.walk) }
+        ensures forced { IfOk result (IsForced (plan_of universe.now support.now self.old.lines)) }
     {
-        u.keeps_invariant();
-        let cycle = self.cycle(alloc, u, s)?;
-        let pair = doubled_by(u, s, &self.lines, &self.returns, &cycle);
+        universe.keeps_invariant();
+        let cycle = self.cycle(alloc, universe, support)?;
+        let over = OverLines::over(universe, support, &self.lines);
+        let pair = doubled_by(&over, &self.returns, &cycle);
         Ok(Dup { pair, cycle })
     }
 
     // The cycle of the events, where some are stuck. Of the last walk as much stands as was not taken since.
-    fn cycle(&mut self, alloc: Global, u: &Universe, s: &Support) -> Result<Vec<Event>, NoMemory>
-        requires support { IsSupport u.now s.now }
-        requires course { IsCourse u.now s.now self.old }
-        requires stopped { HasStopped (plan_of u.now s.now self.old.lines) self.old.going.taken.items }
-        ensures course { OnOk result (IsCourse u.now s.now self.new) }
+    fn cycle(
+        &mut self,
+        alloc: Global,
+        universe: &Universe,
+        support: &Support,
+    ) -> Result<Vec<Event>, NoMemory>
+        requires course { IsCourse universe.now support.now self.old }
+        requires stopped { HasStopped (plan_of universe.now support.now self.old.lines) self.old.going.taken.items }
+        ensures course { OnOk result (IsCourse universe.now support.now self.new) }
         ensures lines { self.new.lines ≡ self.old.lines }
         ensures returns { self.new.returns ≡ self.old.returns }
-        ensures walk { OnOk result (IsWalk (plan_of u.now s.now self.new.lines) self.new.walk) }
-        ensures cycle { IfOk result (λ es. es.items ≡ map (nth_event (plan_of u.now s.now self.old.lines)) (cycle_of (dag_of (graph_of (plan_of u.now s.now self.old.lines))))) }
+        ensures walk { OnOk result (IsWalk (plan_of universe.now support.now self.new.lines) self.new.walk) }
+        ensures cycle { IfOk result (λ es. es.items ≡ map (nth_event (plan_of universe.now support.now self.old.lines)) (cycle_of (dag_of (graph_of (plan_of universe.now support.now self.old.lines))))) }
     {
-        u.keeps_invariant();
+        universe.keeps_invariant();
         drop_taken(&mut self.walk, &self.going.taken);
-        self.done = begin_walk(&mut self.walk, &self.lines, &self.going.taken, self.done)?;
+        let over = OverLines::over(universe, support, &self.lines);
+        self.done = begin_walk(&mut self.walk, &over, &self.going.taken, self.done)?;
         walk_on(
             alloc,
-            u,
-            s,
-            &self.lines,
+            &over,
             &self.uses,
             &self.returns,
             &self.going.taken,
@@ -138,36 +151,28 @@ impl Course {
     pub fn own_line(
         &mut self,
         alloc: Global,
-        u: &Universe,
-        s: &Support,
+        universe: &Universe,
+        support: &Support,
         p: PairIx,
     ) -> Result<(), NoMemory>
-        requires support { IsSupport u.now s.now }
-        requires course { IsCourse u.now s.now self.old }
-        requires walk { IsWalk (plan_of u.now s.now self.old.lines) self.old.walk }
+        requires course { IsCourse universe.now support.now self.old }
+        requires walk { IsWalk (plan_of universe.now support.now self.old.lines) self.old.walk }
         requires provider { IsTrue (has self.old.lines.providers p) }
         requires loose { IsTrue (is_loose self.old.lines p) }
-        ensures course { OnOk result (IsCourse u.now s.now self.new) }
-        ensures lines { OnOk result (self.new.lines ≡ lines_of u.now s.now self.old.lines.targets (self.old.lines.own ++ p ∷ [])) }
+        ensures course { OnOk result (IsCourse universe.now support.now self.new) }
+        ensures lines { OnOk result (self.new.lines ≡ lines_of universe.now support.now self.old.lines.targets (self.old.lines.own ++ p ∷ [])) }
         ensures loose { OnOk result (loose self.new.lines + 1 ≡ loose self.old.lines) }
     {
-        u.keeps_invariant();
+        universe.keeps_invariant();
         let (line, station) = self.lines.holder(p, 1).unwrap();
         self.walk.keep_for_own_line(
             Event::At(line, station),
             Event::At(line, StepIx(station.0 + 1)),
         );
-        self.lines.own_line(alloc, s, p)?;
-        move_returns(
-            alloc,
-            u,
-            s,
-            &self.uses,
-            &self.lines,
-            (line, station),
-            &mut self.returns,
-        )?;
-        self.going
-            .with_own_line(alloc, u, s, &self.lines, &self.returns, (line, station))
+        self.lines.own_line(alloc, support, p)?;
+        let over = OverLines::over(universe, support, &self.lines);
+        let held = (line, station);
+        move_returns(alloc, &over, &self.uses, held, &mut self.returns)?;
+        self.going.with_own_line(alloc, &over, &self.returns, held)
     }
 }

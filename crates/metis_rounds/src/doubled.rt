@@ -5,54 +5,35 @@ ghost use Rattle.metis_lines.specs.Events.{is_among, is_cycle, is_event, is_retu
 ghost use Rattle.metis_lines.specs.LifeLines.{AreLines, line_at, plan_of};
 ghost use Rattle.metis_rounds.specs.Forced.{doubled_by, left_by, place_after};
 ghost use Rattle.metis_rounds.specs.Tables.{HasReturns, row_at};
-ghost use Rattle.metis_support.specs.Support.{IsSupport};
 
 use crate::event_table::EventTable;
 use metis_ids::{Event, LineIx, PairIx, StepIx};
-use metis_lines::Lines;
-use metis_support::Support;
-use metis_universe::Universe;
+use metis_lines::OverLines;
 
 /// The pair that is left by the first move of the cycle with a return edge into it from the event that follows there. Each cycle
 /// has such a move.
-pub fn doubled_by(
-    u: &Universe,
-    s: &Support,
-    lines: &Lines,
-    returns: &EventTable,
-    cycle: &[Event],
-) -> PairIx
-    requires support { IsSupport u.now s.now }
-    requires lines { AreLines u.now s.now lines.now }
-    requires returns { HasReturns (plan_of u.now s.now lines.now) returns.now }
-    requires events { All (λ e. IsTrue (is_event (plan_of u.now s.now lines.now) e)) cycle.now }
-    requires cycle { IsTrue (is_cycle (plan_of u.now s.now lines.now) cycle.now) }
-    ensures { doubled_by (plan_of u.now s.now lines.now) cycle.now ≡ Some result }
+pub fn doubled_by(over: &OverLines<'_>, returns: &EventTable, cycle: &[Event]) -> PairIx
+    requires returns { HasReturns (graph_over over.now) returns.now }
+    requires events { All (λ e. IsTrue (is_event (graph_over over.now) e)) cycle.now }
+    requires cycle { IsTrue (is_cycle (graph_over over.now) cycle.now) }
+    ensures { doubled_by (graph_over over.now) cycle.now ≡ Some result }
 {
-    u.keeps_invariant();
-    match first_left(u, s, lines, returns, cycle) {
+    over.keeps_invariant();
+    match first_left(over, returns, cycle) {
         Some(pair) => pair,
         None => unreachable!(),
     }
 }
 
 // The same for any events, where there is such a move.
-fn first_left(
-    u: &Universe,
-    s: &Support,
-    lines: &Lines,
-    returns: &EventTable,
-    events: &[Event],
-) -> Option<PairIx>
-    requires support { IsSupport u.now s.now }
-    requires lines { AreLines u.now s.now lines.now }
-    requires returns { HasReturns (plan_of u.now s.now lines.now) returns.now }
-    requires events { All (λ e. IsTrue (is_event (plan_of u.now s.now lines.now) e)) events.now }
-    ensures { result ≡ doubled_by (plan_of u.now s.now lines.now) events.now }
+fn first_left(over: &OverLines<'_>, returns: &EventTable, events: &[Event]) -> Option<PairIx>
+    requires returns { HasReturns (graph_over over.now) returns.now }
+    requires events { All (λ e. IsTrue (is_event (graph_over over.now) e)) events.now }
+    ensures { result ≡ doubled_by (graph_over over.now) events.now }
 {
     for place in 0..events.len() {
         let next = events[place_after(events.len(), place)];
-        let left = left_after(u, s, lines, returns, next, events[place]);
+        let left = left_after(over, returns, next, events[place]);
         if left.is_some() {
             return left;
         }
@@ -70,36 +51,27 @@ fn place_after(count: usize, place: usize) -> usize
 }
 
 // The pair that the second event leaves, where it is a move with a return edge from the first.
-fn left_after(
-    u: &Universe,
-    s: &Support,
-    lines: &Lines,
-    returns: &EventTable,
-    from: Event,
-    to: Event,
-) -> Option<PairIx>
-    requires support { IsSupport u.now s.now }
-    requires lines { AreLines u.now s.now lines.now }
-    requires returns { HasReturns (plan_of u.now s.now lines.now) returns.now }
-    requires event { IsTrue (is_event (plan_of u.now s.now lines.now) to) }
-    ensures { result ≡ (if is_return_into_move (plan_of u.now s.now lines.now) from to then left_by (plan_of u.now s.now lines.now) to else None) }
+fn left_after(over: &OverLines<'_>, returns: &EventTable, from: Event, to: Event) -> Option<PairIx>
+    requires returns { HasReturns (graph_over over.now) returns.now }
+    requires event { IsTrue (is_event (graph_over over.now) to) }
+    ensures { result ≡ (if is_return_into_move (graph_over over.now) from to then left_by (graph_over over.now) to else None) }
 {
-    u.keeps_invariant();
+    over.keeps_invariant();
     let Event::At(line, step) = to else {
         return None;
     };
-    if is_move(lines, line, step) && returns_into(returns, from, to) {
-        return Some(lines.station(line, StepIx(step.0 - 1)));
+    if is_move(over, line, step) && returns_into(returns, from, to) {
+        return Some(over.station(line, StepIx(step.0 - 1)));
     }
     None
 }
 
 // Whether the step enters a station from another.
-fn is_move(lines: &Lines, line: LineIx, step: StepIx) -> bool
-    requires { line < length lines.now.lines }
-    ensures { result ≡ (nat_le 1 step && nat_lt step (length (line_at lines.now line))) }
+fn is_move(over: &OverLines<'_>, line: LineIx, step: StepIx) -> bool
+    requires { line < length over.now.lines.lines }
+    ensures { result ≡ (nat_le 1 step && nat_lt step (length (line_at over.now.lines line))) }
 {
-    1 <= step.0 && step.0 <= lines.last(line).0
+    1 <= step.0 && step.0 <= over.last(line).0
 }
 
 // Whether a return edge leads from the first event into the second.

@@ -4,7 +4,6 @@ ghost use Rattle.std.specs.List.{list_any, slice_index_or};
 ghost use Rattle.metis_ids.specs.Lists.{has};
 ghost use Rattle.metis_ids.specs.declared.events.Event.{Event};
 ghost use Rattle.metis_ids.specs.declared.events.Event.TheVariants.{At, End};
-ghost use Rattle.metis_support.specs.Support.{IsSupport};
 ghost use Rattle.metis_lines.specs.Events.{is_among, is_end, is_event, same_event, step_count};
 ghost use Rattle.metis_lines.specs.LifeLines.{AreLines, LifeLines, plan_of};
 ghost use Rattle.metis_rounds.specs.Going.{HasOwnLine, HasSeen, IsGoing, IsMissing, all_taken, is_on, use_at, use_event, uses_at};
@@ -17,9 +16,7 @@ use crate::returns::holder_event;
 use crate::uses::Uses;
 use metis_events::step_count;
 use metis_ids::{Event, LineIx, NoMemory, PairIx, StepIx};
-use metis_lines::Lines;
-use metis_support::Support;
-use metis_universe::Universe;
+use metis_lines::OverLines;
 use std::alloc::Global;
 use std::mem;
 
@@ -94,16 +91,16 @@ fn first_left(row: &[Event], taken: &[u32], from: usize) -> usize
 }
 
 // The first place, from this one on, of slots that are used, where the slot is not at its pair.
-fn first_missing(lines: &Lines, slots: &[(PairIx, u32)], taken: &[u32], from: usize) -> usize
+fn first_missing(over: &OverLines<'_>, slots: &[(PairIx, u32)], taken: &[u32], from: usize) -> usize
     requires from { from ≤ length slots.now }
-    requires there { (k : ℕ) → k < length slots.now → IsUse lines.now (use_at slots.now k) }
+    requires there { (k : ℕ) → k < length slots.now → IsUse over.now.lines (use_at slots.now k) }
     ensures few { result ≤ length slots.now }
-    ensures seen { (k : ℕ) → from ≤ k → k < result → IsTrue (is_taken taken.now (use_event lines.now (use_at slots.now k))) }
-    ensures left { result < length slots.now → IsFalse (is_taken taken.now (use_event lines.now (use_at slots.now result))) }
+    ensures seen { (k : ℕ) → from ≤ k → k < result → IsTrue (is_taken taken.now (use_event over.now.lines (use_at slots.now k))) }
+    ensures left { result < length slots.now → IsFalse (is_taken taken.now (use_event over.now.lines (use_at slots.now result))) }
 {
     let mut place = from;
     while place < slots.len()
-        && is_taken(taken, holder_event(lines, slots[place].0, slots[place].1))
+        && is_taken(taken, holder_event(over, slots[place].0, slots[place].1))
     {
         place += 1;
     }
@@ -112,18 +109,18 @@ fn first_missing(lines: &Lines, slots: &[(PairIx, u32)], taken: &[u32], from: us
 
 // The slot at the first place, where there is one, or else the return at the second.
 fn missing(
-    lines: &Lines,
+    over: &OverLines<'_>,
     slots: &[(PairIx, u32)],
     met: usize,
     row: &[Event],
     left: usize,
 ) -> Option<Event>
-    requires there { (k : ℕ) → k < length slots.now → IsUse lines.now (use_at slots.now k) }
-    ensures some { IfSome result (IsMissing lines.now slots.now met row.now left) }
+    requires there { (k : ℕ) → k < length slots.now → IsUse over.now.lines (use_at slots.now k) }
+    ensures some { IfSome result (IsMissing over.now.lines slots.now met row.now left) }
     ensures none { IfNone result ((length slots.now ≤ met) × (length row.now ≤ left)) }
 {
     if met < slots.len() {
-        return Some(holder_event(lines, slots[met].0, slots[met].1));
+        return Some(holder_event(over, slots[met].0, slots[met].1));
     }
     if left < row.len() {
         return Some(row[left]);
@@ -133,23 +130,19 @@ fn missing(
 
 // The slots that a station of the line takes; none behind its last one.
 pub fn slots_at<'a>(
-    u: &Universe,
-    s: &Support,
-    lines: &Lines,
+    over: &OverLines<'_>,
     uses: &'a Uses,
     line: LineIx,
     step: StepIx,
 ) -> &'a [(PairIx, u32)]
-    requires support { IsSupport u.now s.now }
-    requires lines { AreLines u.now s.now lines.now }
-    requires uses { HasUses u.now s.now uses.now }
-    requires line { line < length lines.now.lines }
-    ensures uses { result.now ≡ uses_at u.now s.now lines.now line step }
-    ensures there { (k : ℕ) → k < length result.now → IsUse lines.now (use_at result.now k) }
+    requires uses { HasUses over.now.universe over.now.support uses.now }
+    requires line { line < length over.now.lines.lines }
+    ensures uses { result.now ≡ uses_at over.now.universe over.now.support over.now.lines line step }
+    ensures there { (k : ℕ) → k < length result.now → IsUse over.now.lines (use_at result.now k) }
 {
-    u.keeps_invariant();
-    if step.0 <= lines.last(line).0 {
-        uses.of_pair(lines.station(line, step))
+    over.keeps_invariant();
+    if step.0 <= over.last(line).0 {
+        uses.of_pair(over.station(line, step))
     } else {
         &[]
     }
@@ -157,16 +150,8 @@ pub fn slots_at<'a>(
 
 impl Going {
     /// Nothing is taken, and each line is to be looked at.
-    pub fn new(
-        alloc: Global,
-        u: &Universe,
-        s: &Support,
-        lines: &Lines,
-        returns: &EventTable,
-    ) -> Result<Going, NoMemory>
-        requires support { IsSupport u.now s.now }
-        requires lines { AreLines u.now s.now lines.now }
-        ensures { IfOk result (λ g. IsGoing u.now s.now lines.now returns.now g []) }
+    pub fn new(alloc: Global, over: &OverLines<'_>, returns: &EventTable) -> Result<Going, NoMemory>
+        ensures { IfOk result (λ g. IsGoing over.now.universe over.now.support over.now.lines returns.now g []) }
     {
         let mut going = Going {
             taken: Vec::new(alloc),
@@ -175,9 +160,9 @@ impl Going {
             waiting: EventTable::new(alloc),
             work: Vec::new(alloc),
         };
-        for number in 0..lines.count() {
+        for number in 0..over.count() {
             let line = LineIx(number);
-            going.waiting.add_line(alloc, step_count(lines, line))?;
+            going.waiting.add_line(alloc, step_count(over, line))?;
             going.taken.push(0)?;
             going.met.push(0)?;
             going.left.push(0)?;
@@ -190,24 +175,20 @@ impl Going {
     pub fn go_on(
         &mut self,
         alloc: Global,
-        u: &Universe,
-        s: &Support,
-        lines: &Lines,
+        over: &OverLines<'_>,
         uses: &Uses,
         returns: &EventTable,
     ) -> Result<(), NoMemory>
-        requires support { IsSupport u.now s.now }
-        requires lines { AreLines u.now s.now lines.now }
-        requires uses { HasUses u.now s.now uses.now }
-        requires returns { HasReturns (plan_of u.now s.now lines.now) returns.now }
-        requires going { IsGoing u.now s.now lines.now returns.now self.old [] }
-        ensures going { OnOk result (IsGoing u.now s.now lines.now returns.now self.new []) }
+        requires uses { HasUses over.now.universe over.now.support uses.now }
+        requires returns { HasReturns (graph_over over.now) returns.now }
+        requires going { IsGoing over.now.universe over.now.support over.now.lines returns.now self.old [] }
+        ensures going { OnOk result (IsGoing over.now.universe over.now.support over.now.lines returns.now self.new []) }
         ensures still { OnOk result (self.new.work.items ≡ []) }
         ensures kept { OnOk result ((l : ℕ) → taken_of self.old.taken.items l ≤ taken_of self.new.taken.items l) }
     {
         while !self.work.is_empty() {
             let work = mem::replace(&mut self.work, Vec::new(alloc));
-            self.try_lines(alloc, u, s, lines, uses, returns, &work)?;
+            self.try_lines(alloc, over, uses, returns, &work)?;
         }
         Ok(())
     }
@@ -217,21 +198,17 @@ impl Going {
     pub fn with_own_line(
         &mut self,
         alloc: Global,
-        u: &Universe,
-        s: &Support,
-        lines: &Lines,
+        over: &OverLines<'_>,
         returns: &EventTable,
         held: (LineIx, StepIx),
     ) -> Result<(), NoMemory>
-        requires support { IsSupport u.now s.now }
-        requires lines { AreLines u.now s.now lines.now }
-        requires going { (x : LifeLines) × (p : ℕ) × (t : List (List (List Event))) × HasOwnLine u.now s.now x lines.now p held × HasGrown t returns.now (At held.0 (held.1 + 1)) × IsGoing u.now s.now x t self.old [] }
-        ensures going { OnOk result (IsGoing u.now s.now lines.now returns.now self.new []) }
+        requires going { (x : LifeLines) × (p : ℕ) × (t : List (List (List Event))) × HasOwnLine over.now.universe over.now.support x over.now.lines p held × HasGrown t returns.now (At held.0 (held.1 + 1)) × IsGoing over.now.universe over.now.support x t self.old [] }
+        ensures going { OnOk result (IsGoing over.now.universe over.now.support over.now.lines returns.now self.new []) }
         ensures kept { OnOk result ((l : ℕ) → l < length self.old.taken.items → taken_of self.new.taken.items l ≡ taken_of self.old.taken.items l) }
     {
-        u.keeps_invariant();
+        over.keeps_invariant();
         let (line, station) = held;
-        let new = LineIx(lines.count() - 1);
+        let new = LineIx(over.count() - 1);
         let steps = station.0 + 2;
         let reached = self.taken[line.0 as usize];
         self.waiting.add_line(alloc, steps)?;
@@ -249,25 +226,21 @@ impl Going {
     fn try_lines(
         &mut self,
         alloc: Global,
-        u: &Universe,
-        s: &Support,
-        lines: &Lines,
+        over: &OverLines<'_>,
         uses: &Uses,
         returns: &EventTable,
         work: &[LineIx],
     ) -> Result<(), NoMemory>
-        requires support { IsSupport u.now s.now }
-        requires lines { AreLines u.now s.now lines.now }
-        requires uses { HasUses u.now s.now uses.now }
-        requires returns { HasReturns (plan_of u.now s.now lines.now) returns.now }
-        requires going { IsGoing u.now s.now lines.now returns.now self.old work.now }
+        requires uses { HasUses over.now.universe over.now.support uses.now }
+        requires returns { HasReturns (graph_over over.now) returns.now }
+        requires going { IsGoing over.now.universe over.now.support over.now.lines returns.now self.old work.now }
         requires empty { self.old.work.items ≡ [] }
-        ensures going { OnOk result (IsGoing u.now s.now lines.now returns.now self.new []) }
+        ensures going { OnOk result (IsGoing over.now.universe over.now.support over.now.lines returns.now self.new []) }
         ensures more { OnOk result (((self.new.work.items ≡ []) × (self.new.taken.items ≡ self.old.taken.items)) ⊎ (all_taken self.old.taken.items < all_taken self.new.taken.items)) }
         ensures kept { OnOk result ((l : ℕ) → taken_of self.old.taken.items l ≤ taken_of self.new.taken.items l) }
     {
         for place in 0..work.len() {
-            self.try_line(alloc, u, s, lines, uses, returns, work, place)?;
+            self.try_line(alloc, over, uses, returns, work, place)?;
         }
         Ok(())
     }
@@ -276,30 +249,26 @@ impl Going {
     fn try_line(
         &mut self,
         alloc: Global,
-        u: &Universe,
-        s: &Support,
-        lines: &Lines,
+        over: &OverLines<'_>,
         uses: &Uses,
         returns: &EventTable,
         work: &[LineIx],
         place: usize,
     ) -> Result<(), NoMemory>
-        requires support { IsSupport u.now s.now }
-        requires lines { AreLines u.now s.now lines.now }
-        requires uses { HasUses u.now s.now uses.now }
-        requires returns { HasReturns (plan_of u.now s.now lines.now) returns.now }
+        requires uses { HasUses over.now.universe over.now.support uses.now }
+        requires returns { HasReturns (graph_over over.now) returns.now }
         requires place { place < length work.now }
-        requires going { IsGoing u.now s.now lines.now returns.now self.old (drop place work.now) }
-        ensures going { OnOk result (IsGoing u.now s.now lines.now returns.now self.new (drop (place + 1) work.now)) }
+        requires going { IsGoing over.now.universe over.now.support over.now.lines returns.now self.old (drop place work.now) }
+        ensures going { OnOk result (IsGoing over.now.universe over.now.support over.now.lines returns.now self.new (drop (place + 1) work.now)) }
         ensures more { OnOk result ((self.new.work.items ≡ self.old.work.items) × (self.new.taken.items ≡ self.old.taken.items) ⊎ (all_taken self.old.taken.items < all_taken self.new.taken.items)) }
         ensures kept { OnOk result ((l : ℕ) → taken_of self.old.taken.items l ≤ taken_of self.new.taken.items l) }
     {
-        u.keeps_invariant();
+        over.keeps_invariant();
         let line = work[place];
-        if count_of(&self.taken, line) == step_count(lines, line) {
+        if count_of(&self.taken, line) == step_count(over, line) {
             return Ok(());
         }
-        match self.waited_for(u, s, lines, uses, returns, line) {
+        match self.waited_for(over, uses, returns, line) {
             Some(event) => self.wait(line, event),
             None => self.take(alloc, line),
         }
@@ -308,41 +277,37 @@ impl Going {
     // What the next event of the line waits for, if anything.
     fn waited_for(
         &mut self,
-        u: &Universe,
-        s: &Support,
-        lines: &Lines,
+        over: &OverLines<'_>,
         uses: &Uses,
         returns: &EventTable,
         line: LineIx,
     ) -> Option<Event>
-        requires support { IsSupport u.now s.now }
-        requires lines { AreLines u.now s.now lines.now }
-        requires uses { HasUses u.now s.now uses.now }
-        requires returns { HasReturns (plan_of u.now s.now lines.now) returns.now }
-        requires line { line < length lines.now.lines }
-        requires next { taken_of self.old.taken.items line < step_count (plan_of u.now s.now lines.now) line }
-        requires taken { length self.old.taken.items ≡ length lines.now.lines }
-        requires met { length self.old.met.items ≡ length lines.now.lines }
-        requires left { length self.old.left.items ≡ length lines.now.lines }
-        requires seen { HasSeen u.now s.now lines.now returns.now self.old.taken.items self.old.met.items self.old.left.items }
+        requires uses { HasUses over.now.universe over.now.support uses.now }
+        requires returns { HasReturns (graph_over over.now) returns.now }
+        requires line { line < length over.now.lines.lines }
+        requires next { taken_of self.old.taken.items line < step_count (graph_over over.now) line }
+        requires taken { length self.old.taken.items ≡ length over.now.lines.lines }
+        requires met { length self.old.met.items ≡ length over.now.lines.lines }
+        requires left { length self.old.left.items ≡ length over.now.lines.lines }
+        requires seen { HasSeen over.now.universe over.now.support over.now.lines returns.now self.old.taken.items self.old.met.items self.old.left.items }
         ensures same_taken { self.new.taken.items ≡ self.old.taken.items }
         ensures same_waiting { self.new.waiting ≡ self.old.waiting }
         ensures same_work { self.new.work.items ≡ self.old.work.items }
-        ensures met { length self.new.met.items ≡ length lines.now.lines }
-        ensures left { length self.new.left.items ≡ length lines.now.lines }
-        ensures seen { HasSeen u.now s.now lines.now returns.now self.old.taken.items self.new.met.items self.new.left.items }
-        ensures some { IfSome result (WaitsFor (plan_of u.now s.now lines.now) self.old.taken.items (next_of self.old.taken.items line)) }
-        ensures none { IfNone result (HasAllBefore (plan_of u.now s.now lines.now) self.old.taken.items (next_of self.old.taken.items line)) }
+        ensures met { length self.new.met.items ≡ length over.now.lines.lines }
+        ensures left { length self.new.left.items ≡ length over.now.lines.lines }
+        ensures seen { HasSeen over.now.universe over.now.support over.now.lines returns.now self.old.taken.items self.new.met.items self.new.left.items }
+        ensures some { IfSome result (WaitsFor (graph_over over.now) self.old.taken.items (next_of self.old.taken.items line)) }
+        ensures none { IfNone result (HasAllBefore (graph_over over.now) self.old.taken.items (next_of self.old.taken.items line)) }
     {
-        u.keeps_invariant();
+        over.keeps_invariant();
         let step = StepIx(count_of(&self.taken, line));
-        let slots = slots_at(u, s, lines, uses, line, step);
-        let met = first_missing(lines, slots, &self.taken, place_of(&self.met, line));
+        let slots = slots_at(over, uses, line, step);
+        let met = first_missing(over, slots, &self.taken, place_of(&self.met, line));
         self.met[line.0 as usize] = met;
         let row = returns.row(Event::At(line, step));
         let left = first_left(row, &self.taken, place_of(&self.left, line));
         self.left[line.0 as usize] = left;
-        missing(lines, slots, met, row, left)
+        missing(over, slots, met, row, left)
     }
 
     // The next event of the line waits for this one.

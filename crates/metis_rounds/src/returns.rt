@@ -3,7 +3,6 @@ ghost use Rattle.std.specs.Prelude.{◌≡◌, ◌+◌, ◌<◌, ◌≤◌, ◌&
 ghost use Rattle.std.specs.List.{list_any, slice_index_or};
 ghost use Rattle.metis_ids.specs.declared.events.Event.{Event as EventValue};
 ghost use Rattle.metis_ids.specs.declared.events.Event.TheVariants.{At};
-ghost use Rattle.metis_support.specs.Support.{IsSupport};
 ghost use Rattle.metis_lines.specs.AbstractPlan.{AbstractPlan};
 ghost use Rattle.metis_lines.specs.Events.{is_end, is_return_of, leaving, same_event, step_count};
 ghost use Rattle.metis_lines.specs.LifeLines.{AreLines, line_at, line_supplies, plan_of, slot_holding};
@@ -16,47 +15,37 @@ use crate::event_table::EventTable;
 use crate::uses::Uses;
 use metis_events::{leaving, step_count};
 use metis_ids::{Event, LineIx, NoMemory, PairIx, StepIx};
-use metis_lines::Lines;
-use metis_support::Support;
-use metis_universe::Universe;
+use metis_lines::OverLines;
 use std::alloc::Global;
 
 /// The entry of a slot's line into the station that is the slot.
-pub fn holder_event(l: &Lines, p: PairIx, k: u32) -> Event
+pub fn holder_event(over: &OverLines<'_>, p: PairIx, k: u32) -> Event
     requires low { 1 ≤ k }
-    requires there { IsSlotThere l.now p k }
-    ensures { result ≡ At (slot_holding l.now p k).0 (slot_holding l.now p k).1 }
+    requires there { IsSlotThere over.now.lines p k }
+    ensures { result ≡ At (slot_holding over.now.lines p k).0 (slot_holding over.now.lines p k).1 }
 {
-    let (line, step) = holder(l, p, k);
+    let (line, step) = holder(over, p, k);
     Event::At(line, step)
 }
 
 // The line that is a slot, and the station there.
-fn holder(l: &Lines, p: PairIx, k: u32) -> (LineIx, StepIx)
+fn holder(over: &OverLines<'_>, p: PairIx, k: u32) -> (LineIx, StepIx)
     requires low { 1 ≤ k }
-    requires there { IsSlotThere l.now p k }
-    ensures { result ≡ slot_holding l.now p k }
+    requires there { IsSlotThere over.now.lines p k }
+    ensures { result ≡ slot_holding over.now.lines p k }
 {
-    l.holder(p, k).unwrap()
+    over.holder(p, k).unwrap()
 }
 
 /// For each event, those from which return edges lead into it. It goes twice over the lines, and once over the slots that
 /// their stations take.
-pub fn returns_of(
-    alloc: Global,
-    u: &Universe,
-    s: &Support,
-    uses: &Uses,
-    l: &Lines,
-) -> Result<EventTable, NoMemory>
-    requires support { IsSupport u.now s.now }
-    requires lines { AreLines u.now s.now l.now }
-    requires uses { HasUses u.now s.now uses.now }
-    ensures { IfOk result (HasReturns (plan_of u.now s.now l.now)) }
+pub fn returns_of(alloc: Global, over: &OverLines<'_>, uses: &Uses) -> Result<EventTable, NoMemory>
+    requires uses { HasUses over.now.universe over.now.support uses.now }
+    ensures { IfOk result (HasReturns (graph_over over.now)) }
 {
-    let mut table = empty_table(alloc, l)?;
-    for number in 0..l.count() {
-        add_line_returns(&mut table, u, s, uses, l, LineIx(number))?;
+    let mut table = empty_table(alloc, over)?;
+    for number in 0..over.count() {
+        add_line_returns(&mut table, over, uses, LineIx(number))?;
     }
     Ok(table)
 }
@@ -65,36 +54,33 @@ pub fn returns_of(
 /// holder's leaving the station leads to the new line's; the rest is what the new line's own stations bring.
 pub fn move_returns(
     alloc: Global,
-    u: &Universe,
-    s: &Support,
+    over: &OverLines<'_>,
     uses: &Uses,
-    l: &Lines,
     held: (LineIx, StepIx),
     table: &mut EventTable,
 ) -> Result<(), NoMemory>
-    requires support { IsSupport u.now s.now }
-    requires lines { AreLines u.now s.now l.now }
-    requires uses { HasUses u.now s.now uses.now }
-    requires before { (w : AbstractPlan) × HasReturns w table.old × IsWithOwnLine w (plan_of u.now s.now l.now) held.0 held.1 × HasMoved w (plan_of u.now s.now l.now) held.0 held.1 }
-    ensures returns { OnOk result (HasReturns (plan_of u.now s.now l.now) table.new) }
+    requires uses { HasUses over.now.universe over.now.support uses.now }
+    requires before { (w : AbstractPlan) × HasReturns w table.old × IsWithOwnLine w (graph_over over.now) held.0 held.1 × HasMoved w (graph_over over.now) held.0 held.1 }
+    ensures returns { OnOk result (HasReturns (graph_over over.now) table.new) }
     ensures grown { OnOk result (HasGrown table.old table.new (At held.0 (held.1 + 1))) }
 {
-    let line = LineIx(l.count() - 1);
+    over.keeps_invariant();
+    let line = LineIx(over.count() - 1);
     let (holder, place) = held;
-    table.add_line(alloc, step_count(l, line))?;
-    let moved = table.take(alloc, leaving(l, holder, place));
-    table.replace(leaving(l, line, place), moved);
-    add_line_returns(table, u, s, uses, l, line)
+    table.add_line(alloc, step_count(over, line))?;
+    let moved = table.take(alloc, leaving(over, holder, place));
+    table.replace(leaving(over, line, place), moved);
+    add_line_returns(table, over, uses, line)
 }
 
 // A table with an empty list for each event of each line.
-fn empty_table(alloc: Global, l: &Lines) -> Result<EventTable, NoMemory>
-    ensures rows { IfOk result (HasRows (without_supplies l.now)) }
+fn empty_table(alloc: Global, over: &OverLines<'_>) -> Result<EventTable, NoMemory>
+    ensures rows { IfOk result (HasRows (without_supplies over.now.lines)) }
     ensures empty { IfOk result (λ t. (f : EventValue) → row_at t f ≡ []) }
 {
     let mut table = EventTable::new(alloc);
-    for number in 0..l.count() {
-        table.add_line(alloc, step_count(l, LineIx(number)))?;
+    for number in 0..over.count() {
+        table.add_line(alloc, step_count(over, LineIx(number)))?;
     }
     Ok(table)
 }
@@ -102,23 +88,20 @@ fn empty_table(alloc: Global, l: &Lines) -> Result<EventTable, NoMemory>
 // Adds what the line's stations bring.
 fn add_line_returns(
     table: &mut EventTable,
-    u: &Universe,
-    s: &Support,
+    over: &OverLines<'_>,
     uses: &Uses,
-    l: &Lines,
     line: LineIx,
 ) -> Result<(), NoMemory>
-    requires support { IsSupport u.now s.now }
-    requires lines { AreLines u.now s.now l.now }
-    requires uses { HasUses u.now s.now uses.now }
-    requires line { line < length l.now.lines }
-    requires rows { HasRows (without_supplies l.now) table.old }
-    ensures { OnOk result (Brings (λ e f. list_any (is_return_of (without_supplies l.now) e f) (line_supplies u.now s.now l.now line)) table.old table.new) }
+    requires uses { HasUses over.now.universe over.now.support uses.now }
+    requires line { line < length over.now.lines.lines }
+    requires rows { HasRows (without_supplies over.now.lines) table.old }
+    ensures { OnOk result (Brings (λ e f. list_any (is_return_of (without_supplies over.now.lines) e f) (line_supplies over.now.universe over.now.support over.now.lines line)) table.old table.new) }
 {
-    for station in 0..l.last(line).0 + 1 {
+    over.keeps_invariant();
+    for station in 0..over.last(line).0 + 1 {
         let station = StepIx(station);
-        let taken = uses.of_pair(l.station(line, station));
-        add_station_returns(table, l, line, station, taken)?;
+        let taken = uses.of_pair(over.station(line, station));
+        add_station_returns(table, over, line, station, taken)?;
     }
     Ok(())
 }
@@ -126,20 +109,24 @@ fn add_line_returns(
 // Adds what one station brings, which takes these slots.
 fn add_station_returns(
     table: &mut EventTable,
-    l: &Lines,
+    over: &OverLines<'_>,
     line: LineIx,
     station: StepIx,
     taken: &[(PairIx, u32)],
 ) -> Result<(), NoMemory>
-    requires line { line < length l.now.lines }
-    requires station { station < length (line_at l.now line) }
-    requires rows { HasRows (without_supplies l.now) table.old }
-    requires uses { (i : ℕ) → i < length taken.now → IsUse l.now (slice_index_or taken.now i (0, 0)) }
-    ensures { OnOk result (Brings (λ e f. list_any (is_brought l.now (leaving (without_supplies l.now) line station) e f) taken.now) table.old table.new) }
+    requires line { line < length over.now.lines.lines }
+    requires station { station < length (line_at over.now.lines line) }
+    requires rows { HasRows (without_supplies over.now.lines) table.old }
+    requires uses { (i : ℕ) → i < length taken.now → IsUse over.now.lines (slice_index_or taken.now i (0, 0)) }
+    ensures { OnOk result (Brings (λ e f. list_any (is_brought over.now.lines (leaving (without_supplies over.now.lines) line station) e f) taken.now) table.old table.new) }
 {
     for (provider, slot) in taken {
-        let (other, place) = holder(l, *provider, *slot);
-        push_return(table, leaving(l, line, station), leaving(l, other, place))?;
+        let (other, place) = holder(over, *provider, *slot);
+        push_return(
+            table,
+            leaving(over, line, station),
+            leaving(over, other, place),
+        )?;
     }
     Ok(())
 }

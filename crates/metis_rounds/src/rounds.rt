@@ -24,7 +24,6 @@ pub struct Rounds<'a> {
 }
 
 impl<'a> Model for Rounds<'a> {
-    ghost use Rattle.metis_support.specs.Support.{IsSupport};
     ghost use Rattle.metis_rounds.specs.Course.{IsCourse};
     ghost use Rattle.metis_rounds.specs.Rounds.{RoundsState, state_of};
 
@@ -32,7 +31,7 @@ impl<'a> Model for Rounds<'a> {
 
     ghost view = { λ r. state_of r.universe.now r.support.now r.course.lines };
 
-    ghost invariant = { λ r. IsSupport r.universe.now r.support.now × IsCourse r.universe.now r.support.now r.course };
+    ghost invariant = { λ r. IsCourse r.universe.now r.support.now r.course };
 }
 
 /// Rounds that have come to events that wait for one another. Contracts see the same of them.
@@ -44,7 +43,6 @@ pub struct StuckRounds<'a> {
 }
 
 impl<'a> Model for StuckRounds<'a> {
-    ghost use Rattle.metis_support.specs.Support.{IsSupport};
     ghost use Rattle.metis_lines.specs.LifeLines.{plan_of};
     ghost use Rattle.metis_rounds.specs.Course.{IsCourse};
     ghost use Rattle.metis_rounds.specs.Reach.{HasStopped};
@@ -54,7 +52,7 @@ impl<'a> Model for StuckRounds<'a> {
 
     ghost view = { λ r. state_of r.universe.now r.support.now r.course.lines };
 
-    ghost invariant = { λ r. IsSupport r.universe.now r.support.now × IsCourse r.universe.now r.support.now r.course × HasStopped (plan_of r.universe.now r.support.now r.course.lines) r.course.going.taken.items };
+    ghost invariant = { λ r. IsCourse r.universe.now r.support.now r.course × HasStopped (plan_of r.universe.now r.support.now r.course.lines) r.course.going.taken.items };
 }
 
 /// How a round ends.

@@ -1,12 +1,11 @@
 //! Which slots the selected pairs take.
 ghost use Rattle.std.specs.Prelude.{◌≡◌, ◌<◌, ◌++◌, [], map, IfOk, IsTrue, OnOk};
 ghost use Rattle.std.specs.List.{range_with_len, slice_index_or};
-ghost use Rattle.metis_support.specs.Support.{IsSupport, is_selected};
+ghost use Rattle.metis_support.specs.Support.{is_selected};
 ghost use Rattle.metis_rounds.specs.Tables.{HasUses, uses_of};
 
 use metis_ids::{NoMemory, PairIx};
-use metis_support::Support;
-use metis_universe::Universe;
+use metis_lines::OverLines;
 use std::alloc::Global;
 use std::marker::Model;
 
@@ -40,14 +39,13 @@ impl Model for Uses {
 
 impl Uses {
     /// Those of the selected pairs. It goes once over what they require.
-    pub fn of(alloc: Global, u: &Universe, s: &Support) -> Result<Uses, NoMemory>
-        requires { IsSupport u.now s.now }
-        ensures { IfOk result (HasUses u.now s.now) }
+    pub fn of(alloc: Global, over: &OverLines<'_>) -> Result<Uses, NoMemory>
+        ensures { IfOk result (HasUses over.now.universe over.now.support) }
     {
-        let _kept = s.selected();
+        let selected = over.support().selected();
         let mut rows = Vec::new(alloc);
-        for number in 0..s.selected().size() {
-            rows.push(row_of(alloc, u, s, PairIx(number))?)?;
+        for number in 0..selected.size() {
+            rows.push(row_of(alloc, over, PairIx(number))?)?;
         }
         Ok(Uses { rows })
     }
@@ -64,13 +62,12 @@ impl Uses {
 }
 
 // What the pair takes, if it is selected.
-fn row_of(alloc: Global, u: &Universe, s: &Support, pair: PairIx) -> Result<UseRow, NoMemory>
-    requires { IsSupport u.now s.now }
-    ensures { IfOk result (λ row. IsTrue (is_selected s.now pair) → row ≡ uses_of u.now s.now pair) }
+fn row_of(alloc: Global, over: &OverLines<'_>, pair: PairIx) -> Result<UseRow, NoMemory>
+    ensures { IfOk result (λ row. IsTrue (is_selected over.now.support pair) → row ≡ uses_of over.now.universe over.now.support pair) }
 {
     let mut uses = Vec::new(alloc);
-    if s.selected().has(pair) {
-        add_uses(&mut uses, u, s, pair)?;
+    if over.support().selected().has(pair) {
+        add_uses(&mut uses, over, pair)?;
     }
     Ok(UseRow { uses })
 }
@@ -78,17 +75,17 @@ fn row_of(alloc: Global, u: &Universe, s: &Support, pair: PairIx) -> Result<UseR
 // Adds what a selected pair takes.
 fn add_uses(
     uses: &mut Vec<(PairIx, u32)>,
-    u: &Universe,
-    s: &Support,
+    over: &OverLines<'_>,
     pair: PairIx,
 ) -> Result<(), NoMemory>
-    requires support { IsSupport u.now s.now }
-    requires selected { IsTrue (is_selected s.now pair) }
-    ensures { OnOk result (uses.new.items ≡ uses.old.items ++ uses_of u.now s.now pair) }
+    requires { IsTrue (is_selected over.now.support pair) }
+    ensures { OnOk result (uses.new.items ≡ uses.old.items ++ uses_of over.now.universe over.now.support pair) }
 {
-    for port in u.requires_(pair) {
-        if let Some(provider) = s.provider(*port) {
-            add_slots(uses, provider, u.demand(pair, *port))?;
+    over.keeps_invariant();
+    let universe = over.universe();
+    for port in universe.requires_(pair) {
+        if let Some(provider) = over.support().provider(*port) {
+            add_slots(uses, provider, universe.demand(pair, *port))?;
         }
     }
     Ok(())

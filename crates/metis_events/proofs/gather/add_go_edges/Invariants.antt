@@ -3,4 +3,4 @@ use Rattle.metis_events.proofs.gather.add_go_edges.Given as goal
 use Rattle.metis_events.specs.Gathered.{Adds, go_edges, without_supplies}
 
 abbrev pub invariant-loop-number : goal.invariant-loop-number
-invariant-loop-number l = Adds (flat_map (go_edges (without_supplies l.l)) (range_with_len 0 l.number)) l.initial.edges l.edges
+invariant-loop-number l = Adds (flat_map (go_edges (without_supplies l.over.lines)) (range_with_len 0 l.number)) l.initial.edges l.edges

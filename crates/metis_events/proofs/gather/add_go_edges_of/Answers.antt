@@ -17,7 +17,7 @@ loop-step-preserved c = mapped_more (next_edge c.args.line) c.loop-step.step c.a
 
 pub returns : goal.returns
 returns c =
-    let w = without_supplies c.args.l.now in
+    let w = without_supplies c.args.over.now.lines in
     let l : ℕ = c.args.line in
     let old = c.args.edges.now in
     let new = c.add-2.new.self in

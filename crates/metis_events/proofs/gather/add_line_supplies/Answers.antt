@@ -5,4 +5,4 @@ use Rattle.metis_events.specs.Gathered.{supply_edges, without_supplies}
 
 pub loop-station-preserved : goal.loop-station-preserved
 loop-station-preserved c =
-    supplies_more (supply_edges (without_supplies c.args.l.now)) (station_supplies c.args.u.now c.args.s.now c.args.l.now c.args.line) c.loop-station.station c.args.edges.now c.loop-station.edges c.add_station_supplies.new.edges c.loop-station.invariant c.in_ok-add_station_supplies.ensures
+    supplies_more (supply_edges (without_supplies c.args.over.now.lines)) (station_supplies c.args.over.now.universe c.args.over.now.support c.args.over.now.lines c.args.line) c.loop-station.station c.args.edges.now c.loop-station.edges c.add_station_supplies.new.edges c.loop-station.invariant c.in_ok-add_station_supplies.ensures

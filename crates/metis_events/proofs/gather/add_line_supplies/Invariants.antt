@@ -4,4 +4,4 @@ use Rattle.metis_events.proofs.gather.add_line_supplies.Given as goal
 use Rattle.metis_events.specs.Gathered.{Adds, supply_edges, without_supplies}
 
 abbrev pub invariant-loop-station : goal.invariant-loop-station
-invariant-loop-station l = Adds (flat_map (supply_edges (without_supplies l.l)) (flat_map (station_supplies l.u l.s l.l l.line) (range_with_len 0 l.station))) l.initial.edges l.edges
+invariant-loop-station l = Adds (flat_map (supply_edges (without_supplies l.over.lines)) (flat_map (station_supplies l.over.universe l.over.support l.over.lines l.line) (range_with_len 0 l.station))) l.initial.edges l.edges

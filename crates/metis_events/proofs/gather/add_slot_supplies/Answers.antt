@@ -12,25 +12,25 @@ pub unwrap-holder-requires : goal.unwrap-holder-requires
 unwrap-holder-requires c =
     let k : ℕ = c.loop-slot.slot + 1 in
     let there = c.requires.slots k (omega arith) (omega (arith, c.loop-slot-test.true)) in
-    subst IsSome (sym (c.holder.ensures ∙ held_slot c.args.l.now c.args.provider k (omega arith) there.number)) refl
+    subst IsSome (sym (c.holder.ensures ∙ held_slot c.args.over.now.lines c.args.provider k (omega arith) there.number)) refl
 
 pub add_supply-requires-clause-holder : goal.add_supply-requires-clause-holder
 add_supply-requires-clause-holder c =
     let k : ℕ = c.loop-slot.slot + 1 in
     let there = c.requires.slots k (omega arith) (omega (arith, c.loop-slot-test.true)) in
-    let same = same_Some c.unwrap-holder.result (slot_holding c.args.l.now c.args.provider k) (sym c.unwrap-holder.ensures ∙ c.holder.ensures ∙ held_slot c.args.l.now c.args.provider k (omega arith) there.number) in
-    subst (λ (h : ℕ × ℕ). h.0 < length c.args.l.now.lines) (sym same) there.line
+    let same = same_Some c.unwrap-holder.result (slot_holding c.args.over.now.lines c.args.provider k) (sym c.unwrap-holder.ensures ∙ c.holder.ensures ∙ held_slot c.args.over.now.lines c.args.provider k (omega arith) there.number) in
+    subst (λ (h : ℕ × ℕ). h.0 < length c.args.over.now.lines.lines) (sym same) there.line
 
 pub add_supply-requires-clause-place : goal.add_supply-requires-clause-place
 add_supply-requires-clause-place c =
     let k : ℕ = c.loop-slot.slot + 1 in
     let there = c.requires.slots k (omega arith) (omega (arith, c.loop-slot-test.true)) in
-    let same = same_Some c.unwrap-holder.result (slot_holding c.args.l.now c.args.provider k) (sym c.unwrap-holder.ensures ∙ c.holder.ensures ∙ held_slot c.args.l.now c.args.provider k (omega arith) there.number) in
-    subst (λ (h : ℕ × ℕ). h.1 < length (line_at c.args.l.now h.0)) (sym same) there.place
+    let same = same_Some c.unwrap-holder.result (slot_holding c.args.over.now.lines c.args.provider k) (sym c.unwrap-holder.ensures ∙ c.holder.ensures ∙ held_slot c.args.over.now.lines c.args.provider k (omega arith) there.number) in
+    subst (λ (h : ℕ × ℕ). h.1 < length (line_at c.args.over.now.lines h.0)) (sym same) there.place
 
 pub loop-slot-preserved : goal.loop-slot-preserved
 loop-slot-preserved c = λ r.
-    let x = c.args.l.now in
+    let x = c.args.over.now.lines in
     let p : ℕ = c.args.provider in
     let l : ℕ = c.args.line in
     let j : ℕ = c.args.station in
@@ -43,7 +43,7 @@ loop-slot-preserved c = λ r.
 
 pub returns : goal.returns
 returns c = λ r.
-    let x = c.args.l.now in
+    let x = c.args.over.now.lines in
     let p : ℕ = c.args.provider in
     let l : ℕ = c.args.line in
     let j : ℕ = c.args.station in

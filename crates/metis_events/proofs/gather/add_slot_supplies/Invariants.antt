@@ -6,4 +6,4 @@ use Rattle.metis_events.specs.Gathered.{Adds, supply_edges, without_supplies}
 
 -- the slots before this one are done
 abbrev pub invariant-loop-slot : goal.invariant-loop-slot
-invariant-loop-slot l = (r : ℕ) → Adds (flat_map (supply_edges (without_supplies l.l)) (map (λ k. supply_from l.line l.station r k (slot_holding l.l l.provider k)) (range_with_len 1 l.slot))) l.initial.edges l.edges
+invariant-loop-slot l = (r : ℕ) → Adds (flat_map (supply_edges (without_supplies l.over.lines)) (map (λ k. supply_from l.line l.station r k (slot_holding l.over.lines l.provider k)) (range_with_len 1 l.slot))) l.initial.edges l.edges

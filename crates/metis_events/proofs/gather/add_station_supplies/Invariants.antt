@@ -6,4 +6,4 @@ use Rattle.metis_events.specs.Gathered.{Adds, supply_edges, without_supplies}
 
 -- the ports before this one are done
 abbrev pub invariant-loop-port : goal.invariant-loop-port
-invariant-loop-port l = Adds (flat_map (supply_edges (without_supplies l.l)) (flat_map (port_supplies l.u l.s l.l l.line l.station (get_or (line_at l.l l.line) l.station 0)) (take l.port-index l.port-items))) l.initial.edges l.edges
+invariant-loop-port l = Adds (flat_map (supply_edges (without_supplies l.over.lines)) (flat_map (port_supplies l.over.universe l.over.support l.over.lines l.line l.station (get_or (line_at l.over.lines l.line) l.station 0)) (take l.port-index l.port-items))) l.initial.edges l.edges

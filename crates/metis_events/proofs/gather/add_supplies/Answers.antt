@@ -5,4 +5,4 @@ use Rattle.metis_events.specs.Gathered.{supply_edges, without_supplies}
 
 pub loop-number-preserved : goal.loop-number-preserved
 loop-number-preserved c =
-    supplies_more (supply_edges (without_supplies c.args.l.now)) (line_supplies c.args.u.now c.args.s.now c.args.l.now) c.loop-number.number c.args.edges.now c.loop-number.edges c.add_line_supplies.new.edges c.loop-number.invariant c.in_ok-add_line_supplies.ensures
+    supplies_more (supply_edges (without_supplies c.args.over.now.lines)) (line_supplies c.args.over.now.universe c.args.over.now.support c.args.over.now.lines) c.loop-number.number c.args.edges.now c.loop-number.edges c.add_line_supplies.new.edges c.loop-number.invariant c.in_ok-add_line_supplies.ensures

@@ -6,7 +6,7 @@ use Rattle.metis_events.specs.Gathered.{without_supplies}
 
 pub loop-number-preserved : goal.loop-number-preserved
 loop-number-preserved c =
-    let w = without_supplies c.args.l.now in
+    let w = without_supplies c.args.over.now.lines in
     let n = c.loop-number.number in
     let few = c.loop-number.invariant.few in
     let more = c.in_ok-add_events.ensures.few in

@@ -6,6 +6,6 @@ use Rattle.metis_events.specs.Gathered.{without_supplies}
 
 abbrev pub invariant-loop-number : goal.invariant-loop-number
 invariant-loop-number l = record {
-  events : l.all.items ≡ flat_map (events_of (without_supplies l.l)) (range_with_len 0 l.number);
+  events : l.all.items ≡ flat_map (events_of (without_supplies l.over.lines)) (range_with_len 0 l.number);
   few : length l.all.items ≤ 65 * l.number;
 }

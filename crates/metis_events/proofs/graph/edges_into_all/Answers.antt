@@ -16,18 +16,18 @@ use Rattle.metis_events.specs.Edges.{before}
 use Rattle.metis_events.specs.Gathered.{Adds, edges_to, go_edges, in_order}
 
 pub edge_rows-requires : goal.edge_rows-requires
-edge_rows-requires c = subst (IsStrictlySortedBy event_cmp) (sym c.requires.all) (events_ascend (plan_of c.args.u.now c.args.s.now c.args.l.now))
+edge_rows-requires c = subst (IsStrictlySortedBy event_cmp) (sym c.requires) (events_ascend (plan_of c.args.over.now.universe c.args.over.now.support c.args.over.now.lines))
 
 pub returns : goal.returns
 returns c =
-    let u = c.args.u.now in
-    let s = c.args.s.now in
-    let x = c.args.l.now in
+    let u = c.args.over.now.universe in
+    let s = c.args.over.now.support in
+    let x = c.args.over.now.lines in
     let w : AbstractPlan = plan_of u s x in
-    let formed : IsFormed u w = lines_formed u s c.requires.support x c.requires.lines in
+    let formed : IsFormed u w = lines_formed u s c.keeps_invariant.ensures.over.support x c.keeps_invariant.ensures.over.lines in
     let first : List (Event × Edge) = c.add_go_edges.new.edges in
     let all : List (Event × Edge) = c.add_supplies.new.edges in
     let one : Adds (flat_map (go_edges w) (range_with_len 0 (line_count w))) [] first = subst (λ old. Adds (flat_map (go_edges w) (range_with_len 0 (line_count w))) old first) c.new-gathered.ensures c.in_ok-add_go_edges.ensures in
     IfOk-weaker c.edge_rows.result _ _
-    (λ rows is. is ∙ ap (map (λ f. in_order (edges_to all f))) c.requires.all ∙ rows_are u w formed first all one c.in_ok-add_supplies.ensures ∙ ap (map (before w)) (sym c.requires.all))
+    (λ rows is. is ∙ ap (map (λ f. in_order (edges_to all f))) c.requires ∙ rows_are u w formed first all one c.in_ok-add_supplies.ensures ∙ ap (map (before w)) (sym c.requires))
     c.edge_rows.ensures

@@ -7,4 +7,4 @@ use Rattle.metis_rounds.proofs.doubled.first_left.Given as goal
 
 -- no return edge leads into a move at the places so far
 abbrev pub invariant-loop-place : goal.invariant-loop-place
-invariant-loop-place l = (i : ℕ) → i < l.place → is_return_into_move (plan_of l.u l.s l.lines) (get_or l.events (place_after (length l.events) i) End) (get_or l.events i End) ≡ false
+invariant-loop-place l = (i : ℕ) → i < l.place → is_return_into_move (plan_of l.over.universe l.over.support l.over.lines) (get_or l.events (place_after (length l.events) i) End) (get_or l.events i End) ≡ false

@@ -8,7 +8,7 @@ abbrev pub invariant-loop-place : goal.invariant-loop-place
 invariant-loop-place l = record {
   from : l.from ≤ l.place;
   few : l.place ≤ length l.slots;
-  seen : (k : ℕ) → l.from ≤ k → k < l.place → IsTrue (is_taken l.taken (use_event l.lines (use_at l.slots k)));
+  seen : (k : ℕ) → l.from ≤ k → k < l.place → IsTrue (is_taken l.taken (use_event l.over.lines (use_at l.slots k)));
 }
 
 abbrev pub decreases-loop-place : goal.decreases-loop-place

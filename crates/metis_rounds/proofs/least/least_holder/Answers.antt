@@ -11,7 +11,7 @@ pub loop-slot-preserved : goal.loop-slot-preserved
 loop-slot-preserved c =
     let slots = c.args.slots.now in
     let i = c.loop-slot.slot-index in
-    let x = c.args.lines.now in
+    let x = c.args.over.now.lines in
     let low : i < length slots = omega arith in
     let short : i < length (map (use_event x) slots) = simp length-map low in
     let here = get_or-map (use_event x) slots i (0, 0) End low in

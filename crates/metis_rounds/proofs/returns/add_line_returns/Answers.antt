@@ -12,33 +12,33 @@ use Rattle.metis_rounds.proofs.returns.add_line_returns.Goals as goal
 
 pub add_station_returns-requires-clause-rows : goal.add_station_returns-requires-clause-rows
 add_station_returns-requires-clause-rows c =
-    let w = without_supplies c.args.l.now in
+    let w = without_supplies c.args.over.now.lines in
     rows_kept w _ c.args.table.now c.loop-station.table c.loop-station.invariant c.requires.rows
 
 pub add_station_returns-requires-clause-uses : goal.add_station_returns-requires-clause-uses
 add_station_returns-requires-clause-uses c =
-    let u = c.args.u.now in
-    let s = c.args.s.now in
-    let x = c.args.l.now in
+    let u = c.args.over.now.universe in
+    let s = c.args.over.now.support in
+    let x = c.args.over.now.lines in
     let l : ℕ = c.args.line in
     let j : ℕ = c.loop-station.station in
     let short : j < length (line_at x l) = omega (arith, c.last.ensures.last, c.loop-station-test.true, c.last-2.view_is) in
     let q = pair_at u s x l j in
-    let selected = chosen u s c.requires.support x c.requires.lines l j c.requires.line short in
+    let selected = chosen u s c.keeps_invariant.ensures.over.support x c.keeps_invariant.ensures.over.lines l j c.requires.line short in
     let is : c.of_pair-taken.result.now ≡ uses_of u s q = c.of_pair-taken.ensures ∙ ap (λ p. get_or c.args.uses.now p []) c.station.ensures ∙ c.requires.uses q selected in
-    subst (λ (us : List (ℕ × ℕ)). (i : ℕ) → i < length us → IsUse x (get_or us i (0, 0))) (sym is) (use_there u s c.requires.support x c.requires.lines q selected)
+    subst (λ (us : List (ℕ × ℕ)). (i : ℕ) → i < length us → IsUse x (get_or us i (0, 0))) (sym is) (use_there u s c.keeps_invariant.ensures.over.support x c.keeps_invariant.ensures.over.lines q selected)
 
 pub loop-station-preserved : goal.loop-station-preserved
 loop-station-preserved c =
-    let u = c.args.u.now in
-    let s = c.args.s.now in
-    let x = c.args.l.now in
+    let u = c.args.over.now.universe in
+    let s = c.args.over.now.support in
+    let x = c.args.over.now.lines in
     let w = without_supplies x in
     let l : ℕ = c.args.line in
     let j : ℕ = c.loop-station.station in
     let short : j < length (line_at x l) = omega (arith, c.last.ensures.last, c.loop-station-test.true, c.last-2.view_is) in
     let q = pair_at u s x l j in
-    let selected = chosen u s c.requires.support x c.requires.lines l j c.requires.line short in
+    let selected = chosen u s c.keeps_invariant.ensures.over.support x c.keeps_invariant.ensures.over.lines l j c.requires.line short in
     let is : c.of_pair-taken.result.now ≡ uses_of u s q = c.of_pair-taken.ensures ∙ ap (λ p. get_or c.args.uses.now p []) c.station.ensures ∙ c.requires.uses q selected in
     let from = leaving w l j in
     let brought = subst (λ (us : List (ℕ × ℕ)). Brings (λ e f. list_any (is_brought x from e f) us) c.loop-station.table c.add_station_returns.new.table) is c.in_ok-add_station_returns.ensures in

@@ -10,7 +10,7 @@ use Rattle.metis_rounds.proofs.returns.add_station_returns.Goals as goal
 
 pub push_return-requires : goal.push_return-requires
 push_return-requires c =
-    let x = c.args.l.now in
+    let x = c.args.over.now.lines in
     let w = without_supplies x in
     let i = c.loop-provider.provider-index in
     let taken = c.args.taken.now in
@@ -26,7 +26,7 @@ push_return-requires c =
 
 pub loop-provider-preserved : goal.loop-provider-preserved
 loop-provider-preserved c =
-    let x = c.args.l.now in
+    let x = c.args.over.now.lines in
     let w = without_supplies x in
     let i = c.loop-provider.provider-index in
     let taken = c.args.taken.now in

@@ -10,6 +10,6 @@ use Rattle.metis_rounds.proofs.returns.empty_table.Given as goal
 abbrev pub invariant-loop-number : goal.invariant-loop-number
 invariant-loop-number l = record {
   count : length l.table ≡ l.number;
-  rows : (k j : ℕ) → k < l.number → j < step_count (without_supplies l.l) k → has_row l.table (At k j) ≡ true;
+  rows : (k j : ℕ) → k < l.number → j < step_count (without_supplies l.over.lines) k → has_row l.table (At k j) ≡ true;
   empty : (f : Event) → row_at l.table f ≡ [];
 }

@@ -16,41 +16,41 @@ use Rattle.metis_rounds.proofs.returns.move_returns.Goals as goal
 -- the new line's number
 number : (c : After-leaving) → c.count.result - 1 ≡ line_count c.requires.before.0
 number c =
-    let more = one_more c.requires.before.0 (plan_of c.args.u.now c.args.s.now c.args.l.now) c.args.held.0 c.args.held.1 c.requires.before.2 in
+    let more = one_more c.requires.before.0 (plan_of c.args.over.now.universe c.args.over.now.support c.args.over.now.lines) c.args.held.0 c.args.held.1 c.requires.before.2 in
     let count = c.count.ensures.count in
     omega arith
 
 -- the table with the new line's empty lists
-added : (c : After-leaving) → HasRows (plan_of c.args.u.now c.args.s.now c.args.l.now) c.add_line.new.self
+added : (c : After-leaving) → HasRows (plan_of c.args.over.now.universe c.args.over.now.support c.args.over.now.lines) c.add_line.new.self
 added c =
-    let x = c.args.l.now in
-    let v : AbstractPlan = plan_of c.args.u.now c.args.s.now x in
+    let x = c.args.over.now.lines in
+    let v : AbstractPlan = plan_of c.args.over.now.universe c.args.over.now.support x in
     let y : ℕ = c.args.held.0 in
     let i : ℕ = c.args.held.1 in
     let w = c.requires.before.0 in
     let own = c.requires.before.2 in
     let old = c.args.table.now in
     let steps : c.step_count.result ≡ step_count v (line_count w) = c.step_count.ensures.count ∙ ap (step_count v) (number c) in
-    rows_added c.args.u.now c.args.s.now c.requires.support x c.requires.lines w y i own c.requires.before.3 old c.add_line.new.self c.requires.before.1.rows c.in_ok-add_line.ensures.count
+    rows_added c.args.over.now.universe c.args.over.now.support c.keeps_invariant.ensures.over.support x c.keeps_invariant.ensures.over.lines w y i own c.requires.before.3 old c.add_line.new.self c.requires.before.1.rows c.in_ok-add_line.ensures.count
     (λ l j. c.in_ok-add_line.ensures.has l j ∙ ap (λ n. has_row old (At l j) || (nat_eq l (length old) && nat_lt j n)) steps)
 
 -- what it is that the holder leaves the station by
 held : (c : After-leaving) → c.leaving.result ≡ At c.args.held.0 (c.args.held.1 + 1)
-held c = c.leaving.ensures ∙ held_leaves c.args.u.now c.args.s.now c.requires.support c.args.l.now c.requires.lines c.requires.before.0 c.args.held.0 c.args.held.1 c.requires.before.2 c.requires.before.3
+held c = c.leaving.ensures ∙ held_leaves c.args.over.now.universe c.args.over.now.support c.keeps_invariant.ensures.over.support c.args.over.now.lines c.keeps_invariant.ensures.over.lines c.requires.before.0 c.args.held.0 c.args.held.1 c.requires.before.2 c.requires.before.3
 
 pub take-moved-requires : goal.take-moved-requires
 take-moved-requires c =
     let at = (goal.at.take-moved-requires c).After-leaving in
-    ap (has_row c.add_line.new.self) (held at) ∙ (added at).rows c.args.held.0 (c.args.held.1 + 1) (held_event c.args.u.now c.args.s.now c.requires.support c.args.l.now c.requires.lines c.requires.before.0 c.args.held.0 c.args.held.1 c.requires.before.2 c.requires.before.3)
+    ap (has_row c.add_line.new.self) (held at) ∙ (added at).rows c.args.held.0 (c.args.held.1 + 1) (held_event c.args.over.now.universe c.args.over.now.support c.keeps_invariant.ensures.over.support c.args.over.now.lines c.keeps_invariant.ensures.over.lines c.requires.before.0 c.args.held.0 c.args.held.1 c.requires.before.2 c.requires.before.3)
 
 pub replace-requires : goal.replace-requires
 replace-requires c =
     let at = (goal.at.replace-requires c).After-leaving in
     let n : ℕ = line_count c.requires.before.0 in
     let i : ℕ = c.args.held.1 in
-    ap (has_row c.take-moved.new.self) (c.leaving-2.ensures ∙ ap (λ l. leaving (plan_of c.args.u.now c.args.s.now c.args.l.now) l i) (number at) ∙ new_leaves c.args.u.now c.args.s.now c.requires.support c.args.l.now c.requires.lines c.requires.before.0 c.args.held.0 c.args.held.1 c.requires.before.2 c.requires.before.3 i)
+    ap (has_row c.take-moved.new.self) (c.leaving-2.ensures ∙ ap (λ l. leaving (plan_of c.args.over.now.universe c.args.over.now.support c.args.over.now.lines) l i) (number at) ∙ new_leaves c.args.over.now.universe c.args.over.now.support c.keeps_invariant.ensures.over.support c.args.over.now.lines c.keeps_invariant.ensures.over.lines c.requires.before.0 c.args.held.0 c.args.held.1 c.requires.before.2 c.requires.before.3 i)
     ∙ c.take-moved.ensures.has (At n (i + 1))
-    ∙ (added at).rows n (i + 1) (new_event c.args.u.now c.args.s.now c.requires.support c.args.l.now c.requires.lines c.requires.before.0 c.args.held.0 c.args.held.1 c.requires.before.2 c.requires.before.3)
+    ∙ (added at).rows n (i + 1) (new_event c.args.over.now.universe c.args.over.now.support c.keeps_invariant.ensures.over.support c.args.over.now.lines c.keeps_invariant.ensures.over.lines c.requires.before.0 c.args.held.0 c.args.held.1 c.requires.before.2 c.requires.before.3)
 
 pub add_line_returns-requires-clause-rows : goal.add_line_returns-requires-clause-rows
 add_line_returns-requires-clause-rows c =
@@ -62,11 +62,11 @@ add_line_returns-requires-clause-rows c =
 
 pub returns : goal.returns
 returns c =
-    let u = c.args.u.now in
-    let s = c.args.s.now in
-    let k = c.requires.support in
-    let x = c.args.l.now in
-    let are = c.requires.lines in
+    let u = c.args.over.now.universe in
+    let s = c.args.over.now.support in
+    let k = c.keeps_invariant.ensures.over.support in
+    let x = c.args.over.now.lines in
+    let are = c.keeps_invariant.ensures.over.lines in
     let v : AbstractPlan = plan_of u s x in
     let y : ℕ = c.args.held.0 in
     let i : ℕ = c.args.held.1 in

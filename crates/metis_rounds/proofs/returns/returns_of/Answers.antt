@@ -8,9 +8,9 @@ use Rattle.metis_rounds.proofs.returns.returns_of.Goals as goal
 
 pub loop-number-preserved : goal.loop-number-preserved
 loop-number-preserved c =
-    let x = c.args.l.now in
+    let x = c.args.over.now.lines in
     let w = without_supplies x in
-    let g = line_supplies c.args.u.now c.args.s.now x in
+    let g = line_supplies c.args.over.now.universe c.args.over.now.support x in
     let n = c.loop-number.number in
     record {
       rows = rows_kept w (λ e f. list_any (is_return_of w e f) (g n)) c.loop-number.table c.add_line_returns.new.table c.in_ok-add_line_returns.ensures c.loop-number.invariant.rows;

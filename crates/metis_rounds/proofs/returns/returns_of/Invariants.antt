@@ -10,6 +10,6 @@ use Rattle.metis_rounds.proofs.returns.returns_of.Given as goal
 -- the lines before this one are done
 abbrev pub invariant-loop-number : goal.invariant-loop-number
 invariant-loop-number l = record {
-  rows : HasRows (without_supplies l.l) l.table;
-  each : (e f : Event) → is_among (row_at l.table f) e ≡ (not (is_end f) && list_any (is_return_of (without_supplies l.l) e f) (flat_map (line_supplies l.u l.s l.l) (range_with_len 0 l.number)));
+  rows : HasRows (without_supplies l.over.lines) l.table;
+  each : (e f : Event) → is_among (row_at l.table f) e ≡ (not (is_end f) && list_any (is_return_of (without_supplies l.over.lines) e f) (flat_map (line_supplies l.over.universe l.over.support l.over.lines) (range_with_len 0 l.number)));
 }

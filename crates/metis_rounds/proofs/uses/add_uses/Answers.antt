@@ -9,8 +9,8 @@ use Rattle.metis_rounds.proofs.uses.add_uses.Goals.{in-Some+in_ok-add_slots, in_
 
 pub loop-port-preserved : goal.loop-port-preserved
 loop-port-preserved c =
-    let u = c.args.u.now in
-    let s = c.args.s.now in
+    let u = c.args.over.now.universe in
+    let s = c.args.over.now.support in
     let q : ℕ = c.args.pair in
     let r : ℕ = c.port-item.result in
     let i = c.loop-port.port-index in

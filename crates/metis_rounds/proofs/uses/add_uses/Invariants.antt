@@ -6,4 +6,4 @@ use Rattle.metis_rounds.proofs.uses.add_uses.Given as goal
 
 -- the ports before this one are done
 abbrev pub invariant-loop-port : goal.invariant-loop-port
-invariant-loop-port l = l.uses.items ≡ l.initial.uses.items ++ flat_map (port_uses l.u l.s l.pair) (take l.port-index (required_of l.u l.pair))
+invariant-loop-port l = l.uses.items ≡ l.initial.uses.items ++ flat_map (port_uses l.over.universe l.over.support l.pair) (take l.port-index (required_of l.over.universe l.pair))

@@ -9,6 +9,6 @@ use Rattle.metis_rounds.proofs.uses.row_of.Goals.{then-has+in_ok-add_uses, else-
 
 pub returns : goal.returns
 returns c = λ selected. elim c.if-has.branch [
-  | then-has+in_ok-add_uses w ↦ ap (λ v. v.items) w.uses-is ∙ w.in_ok-add_uses.ensures ∙ ap (λ us. us ++ uses_of c.args.u.now c.args.s.now c.args.pair) c.new-uses.ensures.items
-  | else-has w ↦ absurd (both_ways (is_selected c.args.s.now c.args.pair) (sym (c.has.ensures.member ∙ ap (λ (ps : PairSet). has ps.members c.args.pair) c.selected.ensures.selected) ∙ w.if-has.false) selected)
+  | then-has+in_ok-add_uses w ↦ ap (λ v. v.items) w.uses-is ∙ w.in_ok-add_uses.ensures ∙ ap (λ us. us ++ uses_of c.args.over.now.universe c.args.over.now.support c.args.pair) c.new-uses.ensures.items
+  | else-has w ↦ absurd (both_ways (is_selected c.args.over.now.support c.args.pair) (sym (c.has.ensures.member ∙ ap (λ (ps : PairSet). has ps.members c.args.pair) c.selected.ensures.selected) ∙ w.if-has.false) selected)
 ]

@@ -9,17 +9,17 @@ use Rattle.metis_rounds.proofs.walking.walk_on.Goals as goal
 
 pub returns-then-has-clause-cycle : goal.returns-then-has-clause-cycle
 returns-then-has-clause-cycle c =
-    let u = c.args.u.now in
-    let s = c.args.s.now in
-    let x = c.args.lines.now in
-    let formed = lines_formed u s c.requires.support x c.requires.lines in
+    let u = c.args.over.now.universe in
+    let s = c.args.over.now.support in
+    let x = c.args.over.now.lines in
+    let formed = lines_formed u s c.keeps_invariant.ensures.over.support x c.keeps_invariant.ensures.over.lines in
     let inv = c.loop-walk.invariant in
     let closes = walk_closes u (plan_of u s x) formed c.loop-walk.walk inv.walk inv.some c.next_step-event.result c.next_step-event.ensures (sym c.has.ensures ∙ c.if-has.true) in
     IfOk-weaker c.cycle_from.result _ _ (λ es is. is ∙ sym closes) c.cycle_from.ensures
 
 pub loop-walk-smaller : goal.loop-walk-smaller
 loop-walk-smaller c =
-    let w = plan_of c.args.u.now c.args.s.now c.args.lines.now in
+    let w = plan_of c.args.over.now.universe c.args.over.now.support c.args.over.now.lines in
     let es = c.loop-walk.walk in
     let e = c.next_step-event.result in
     let room = walk_room w es e c.loop-walk.invariant.walk c.next_step-event.ensures.stuck (sym c.has.ensures ∙ c.if-has.false) in
@@ -29,7 +29,7 @@ loop-walk-smaller c =
 
 pub loop-walk-preserved : goal.loop-walk-preserved
 loop-walk-preserved c =
-    let w = plan_of c.args.u.now c.args.s.now c.args.lines.now in
+    let w = plan_of c.args.over.now.universe c.args.over.now.support c.args.over.now.lines in
     let es = c.loop-walk.walk in
     let e = c.next_step-event.result in
     let inv = c.loop-walk.invariant in

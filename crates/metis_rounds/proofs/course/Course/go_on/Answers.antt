@@ -11,6 +11,7 @@ returns-in-Some-clause-course c =
     let view : c.line.inside.0 ≡ c.in-Some.line = c.line.view_is in
     let some = c.in-Some.ensures.some in
     record {
+      support = c.requires.course.support;
       lines = c.requires.course.lines;
       uses = c.requires.course.uses;
       returns = c.requires.course.returns;
@@ -23,6 +24,7 @@ returns-in-Some-clause-course c =
 
 pub returns-in-None-clause-course : goal.returns-in-None-clause-course
 returns-in-None-clause-course c = record {
+  support = c.requires.course.support;
   lines = c.requires.course.lines;
   uses = c.requires.course.uses;
   returns = c.requires.course.returns;

@@ -7,10 +7,10 @@ use Rattle.metis_rounds.proofs.going.Going.go_on.Given as goal
 
 abbrev pub invariant-loop-alloc : goal.invariant-loop-alloc
 invariant-loop-alloc l = record {
-  going : IsGoing l.u l.s l.lines l.returns l.self [];
+  going : IsGoing l.over.universe l.over.support l.over.lines l.returns l.self [];
   kept : (n : ℕ) → taken_of l.initial.self.taken.items n ≤ taken_of l.self.taken.items n;
 }
 
 -- the events that are not taken, and whether a line is to be looked at
 abbrev pub decreases-loop-alloc : goal.decreases-loop-alloc
-decreases-loop-alloc l = 2 * (event_count (plan_of l.u l.s l.lines) - all_taken l.self.taken.items) + (if length l.self.work.items == 0 then 0 else 1)
+decreases-loop-alloc l = 2 * (event_count (plan_of l.over.universe l.over.support l.over.lines) - all_taken l.self.taken.items) + (if length l.self.work.items == 0 then 0 else 1)

@@ -12,7 +12,7 @@ loop-number-preserved c =
     let before = c.loop-number.invariant in
     let g = c.loop-number.going in
     let n = c.loop-number.number in
-    let x = c.args.lines.now in
+    let x = c.args.over.now.lines in
     let taken : c.push.new.self.items ≡ g.taken.items ++ 0 ∷ [] = c.in_ok-push.ensures.items in
     let met : c.push-in-loop-number.new.self.items ≡ g.met.items ++ 0 ∷ [] = c.in_ok-push-2.ensures.items in
     let left : c.push-in-loop-number-2.new.self.items ≡ g.left.items ++ 0 ∷ [] = c.in_ok-push-3.ensures.items in
@@ -32,6 +32,6 @@ loop-number-preserved c =
 
 pub returns : goal.returns
 returns c =
-    let all : c.loop-number.number ≡ length c.args.lines.now.lines = omega (arith, c.count-number-end.ensures.count) in
+    let all : c.loop-number.number ≡ length c.args.over.now.lines.lines = omega (arith, c.count-number-end.ensures.count) in
     let g = c.loop-number.going in
-    begins c.args.u.now c.args.s.now c.args.lines.now c.args.returns.now g (subst (λ n. IsBeginning c.args.lines.now n g) all c.loop-number.invariant)
+    begins c.args.over.now.universe c.args.over.now.support c.args.over.now.lines c.args.returns.now g (subst (λ n. IsBeginning c.args.over.now.lines n g) all c.loop-number.invariant)

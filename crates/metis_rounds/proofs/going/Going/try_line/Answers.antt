@@ -26,56 +26,56 @@ all_took (Err e) p q r s t u v w f = tt
 
 pub count_of-requires : goal.count_of-requires
 count_of-requires c =
-    let low = here c.args.u.now c.args.s.now c.args.lines.now c.args.returns.now c.args.work.now c.args.place c.index-work-place.result c.args.self.now c.requires.place c.index-work-place.is c.requires.going in
+    let low = here c.args.over.now.universe c.args.over.now.support c.args.over.now.lines c.args.returns.now c.args.work.now c.args.place c.index-work-place.result c.args.self.now c.requires.place c.index-work-place.is c.requires.going in
     omega (arith, low, c.requires.going.taken, ap length c.deref.ensures.value)
 
 pub returns-then-count_of-step_count-clause-going : goal.returns-then-count_of-step_count-clause-going
 returns-then-count_of-step_count-clause-going c =
     let taken : c.count_of.result ≡ taken_of c.args.self.now.taken.items c.index-work-place.result = c.count_of.ensures ∙ ap (λ l. taken_of l c.index-work-place.result) c.deref.ensures.value in
-    let all : step_count (plan_of c.args.u.now c.args.s.now c.args.lines.now) c.index-work-place.result ≤ taken_of c.args.self.now.taken.items c.index-work-place.result = omega (arith, taken, c.if-count_of-step_count.true, c.step_count.ensures.count) in
-    skipped c.args.u.now c.args.s.now c.args.lines.now c.args.returns.now c.index-work-place.result (drop (c.args.place + 1) c.args.work.now) c.args.self.now c.args.self.now
-    (next_line c.args.u.now c.args.s.now c.args.lines.now c.args.returns.now c.args.work.now c.args.place c.index-work-place.result c.args.self.now c.requires.place c.index-work-place.is c.requires.going) all
+    let all : step_count (plan_of c.args.over.now.universe c.args.over.now.support c.args.over.now.lines) c.index-work-place.result ≤ taken_of c.args.self.now.taken.items c.index-work-place.result = omega (arith, taken, c.if-count_of-step_count.true, c.step_count.ensures.count) in
+    skipped c.args.over.now.universe c.args.over.now.support c.args.over.now.lines c.args.returns.now c.index-work-place.result (drop (c.args.place + 1) c.args.work.now) c.args.self.now c.args.self.now
+    (next_line c.args.over.now.universe c.args.over.now.support c.args.over.now.lines c.args.returns.now c.args.work.now c.args.place c.index-work-place.result c.args.self.now c.requires.place c.index-work-place.is c.requires.going) all
 
 pub waited_for-requires-clause-next : goal.waited_for-requires-clause-next
 waited_for-requires-clause-next c =
-    let low = here c.args.u.now c.args.s.now c.args.lines.now c.args.returns.now c.args.work.now c.args.place c.index-work-place.result c.args.self.now c.requires.place c.index-work-place.is c.requires.going in
+    let low = here c.args.over.now.universe c.args.over.now.support c.args.over.now.lines c.args.returns.now c.args.work.now c.args.place c.index-work-place.result c.args.self.now c.requires.place c.index-work-place.is c.requires.going in
     let taken : c.count_of.result ≡ taken_of c.args.self.now.taken.items c.index-work-place.result = c.count_of.ensures ∙ ap (λ l. taken_of l c.index-work-place.result) c.deref.ensures.value in
-    let other : taken_of c.args.self.now.taken.items c.index-work-place.result ≡ step_count (plan_of c.args.u.now c.args.s.now c.args.lines.now) c.index-work-place.result → ⊥ = λ same. c.if-count_of-step_count.false (taken ∙ same ∙ sym c.step_count.ensures.count) in
+    let other : taken_of c.args.self.now.taken.items c.index-work-place.result ≡ step_count (plan_of c.args.over.now.universe c.args.over.now.support c.args.over.now.lines) c.index-work-place.result → ⊥ = λ same. c.if-count_of-step_count.false (taken ∙ same ∙ sym c.step_count.ensures.count) in
     let few = c.requires.going.steps c.index-work-place.result low in
     omega (arith, other, few)
 
 pub wait-requires-clause-row : goal.wait-requires-clause-row
 wait-requires-clause-row c = λ open_end.
-    let w = plan_of c.args.u.now c.args.s.now c.args.lines.now in
-    let formed = lines_formed c.args.u.now c.args.s.now c.requires.support c.args.lines.now c.requires.lines in
-    let there = (edges_join_events c.args.u.now w formed c.in-Some.event (next_of c.args.self.now.taken.items c.index-work-place.result) c.in-Some.ensures.some.0).0 in
+    let w = plan_of c.args.over.now.universe c.args.over.now.support c.args.over.now.lines in
+    let formed = lines_formed c.args.over.now.universe c.args.over.now.support c.keeps_invariant.ensures.over.support c.args.over.now.lines c.keeps_invariant.ensures.over.lines in
+    let there = (edges_join_events c.args.over.now.universe w formed c.in-Some.event (next_of c.args.self.now.taken.items c.index-work-place.result) c.in-Some.ensures.some.0).0 in
     ap (λ t. has_row t c.in-Some.event) c.waited_for.ensures.same_waiting ∙ row_of_event w c.args.self.now.waiting c.requires.going.rows c.in-Some.event there open_end
 
 pub take-requires-clause-few : goal.take-requires-clause-few
 take-requires-clause-few c =
-    let low = here c.args.u.now c.args.s.now c.args.lines.now c.args.returns.now c.args.work.now c.args.place c.index-work-place.result c.args.self.now c.requires.place c.index-work-place.is c.requires.going in
+    let low = here c.args.over.now.universe c.args.over.now.support c.args.over.now.lines c.args.returns.now c.args.work.now c.args.place c.index-work-place.result c.args.self.now c.requires.place c.index-work-place.is c.requires.going in
     let taken : c.count_of.result ≡ taken_of c.args.self.now.taken.items c.index-work-place.result = c.count_of.ensures ∙ ap (λ l. taken_of l c.index-work-place.result) c.deref.ensures.value in
-    let other : taken_of c.args.self.now.taken.items c.index-work-place.result ≡ step_count (plan_of c.args.u.now c.args.s.now c.args.lines.now) c.index-work-place.result → ⊥ = λ same. c.if-count_of-step_count.false (taken ∙ same ∙ sym c.step_count.ensures.count) in
+    let other : taken_of c.args.self.now.taken.items c.index-work-place.result ≡ step_count (plan_of c.args.over.now.universe c.args.over.now.support c.args.over.now.lines) c.index-work-place.result → ⊥ = λ same. c.if-count_of-step_count.false (taken ∙ same ∙ sym c.step_count.ensures.count) in
     let few = c.requires.going.steps c.index-work-place.result low in
     let same = ap (λ ms. taken_of ms c.index-work-place.result) c.waited_for.ensures.same_taken in
     omega (arith, other, few, same, c.step_count.ensures.count, c.step_count.ensures.few)
 
 pub take-requires-clause-row : goal.take-requires-clause-row
 take-requires-clause-row c =
-    let w = plan_of c.args.u.now c.args.s.now c.args.lines.now in
-    let low = here c.args.u.now c.args.s.now c.args.lines.now c.args.returns.now c.args.work.now c.args.place c.index-work-place.result c.args.self.now c.requires.place c.index-work-place.is c.requires.going in
+    let w = plan_of c.args.over.now.universe c.args.over.now.support c.args.over.now.lines in
+    let low = here c.args.over.now.universe c.args.over.now.support c.args.over.now.lines c.args.returns.now c.args.work.now c.args.place c.index-work-place.result c.args.self.now c.requires.place c.index-work-place.is c.requires.going in
     let taken : c.count_of.result ≡ taken_of c.args.self.now.taken.items c.index-work-place.result = c.count_of.ensures ∙ ap (λ l. taken_of l c.index-work-place.result) c.deref.ensures.value in
     let other : taken_of c.args.self.now.taken.items c.index-work-place.result ≡ step_count w c.index-work-place.result → ⊥ = λ same. c.if-count_of-step_count.false (taken ∙ same ∙ sym c.step_count.ensures.count) in
     let few = c.requires.going.steps c.index-work-place.result low in
     let next = next_of c.args.self.now.taken.items c.index-work-place.result in
-    let there : is_event w next ≡ true = and_from (nat_lt c.index-work-place.result (length c.args.lines.now.lines)) (nat_lt (taken_of c.args.self.now.taken.items c.index-work-place.result) (step_count w c.index-work-place.result)) (lt-ltb c.index-work-place.result (length c.args.lines.now.lines) low) (lt-ltb (taken_of c.args.self.now.taken.items c.index-work-place.result) (step_count w c.index-work-place.result) (omega (arith, other, few))) in
+    let there : is_event w next ≡ true = and_from (nat_lt c.index-work-place.result (length c.args.over.now.lines.lines)) (nat_lt (taken_of c.args.self.now.taken.items c.index-work-place.result) (step_count w c.index-work-place.result)) (lt-ltb c.index-work-place.result (length c.args.over.now.lines.lines) low) (lt-ltb (taken_of c.args.self.now.taken.items c.index-work-place.result) (step_count w c.index-work-place.result) (omega (arith, other, few))) in
     (λ i. has_row (c.waited_for.ensures.same_waiting i) (next_of (c.waited_for.ensures.same_taken i) c.index-work-place.result)) ∙ row_of_event w c.args.self.now.waiting c.requires.going.rows next there refl
 
 pub returns-in-Some-clause-going : goal.returns-in-Some-clause-going
 returns-in-Some-clause-going c =
-    let u = c.args.u.now in
-    let s = c.args.s.now in
-    let x = c.args.lines.now in
+    let u = c.args.over.now.universe in
+    let s = c.args.over.now.support in
+    let x = c.args.over.now.lines in
     let g = c.args.self.now in
     let line = c.index-work-place.result in
     let before = next_line u s x c.args.returns.now c.args.work.now c.args.place line g c.requires.place c.index-work-place.is c.requires.going in
@@ -95,9 +95,9 @@ returns-in-Some-clause-going c =
 
 pub returns-in-None-clause-going : goal.returns-in-None-clause-going
 returns-in-None-clause-going c =
-    let u = c.args.u.now in
-    let s = c.args.s.now in
-    let x = c.args.lines.now in
+    let u = c.args.over.now.universe in
+    let s = c.args.over.now.support in
+    let x = c.args.over.now.lines in
     let g = c.args.self.now in
     let v = c.take.new.self in
     let line = c.index-work-place.result in
@@ -121,7 +121,7 @@ pub returns-in-None-clause-more : goal.returns-in-None-clause-more
 returns-in-None-clause-more c =
     let g = c.args.self.now in
     let line = c.index-work-place.result in
-    let low = here c.args.u.now c.args.s.now c.args.lines.now c.args.returns.now c.args.work.now c.args.place line g c.requires.place c.index-work-place.is c.requires.going in
+    let low = here c.args.over.now.universe c.args.over.now.support c.args.over.now.lines c.args.returns.now c.args.work.now c.args.place line g c.requires.place c.index-work-place.is c.requires.going in
     on_ok_weaker c.take.result (λ t. inr (
     let is : c.take.new.self.taken.items ≡ set g.taken.items line (taken_of g.taken.items line + 1) = t ∙ ap (λ ms. with_next ms line) c.waited_for.ensures.same_taken in
     omega (arith, ap all_taken is, sum_by-set (λ (n : ℕ). n) g.taken.items line (taken_of g.taken.items line + 1) 0 (omega (arith, low, c.requires.going.taken))))) c.take.ensures.taken
@@ -130,7 +130,7 @@ pub returns-in-None-clause-kept : goal.returns-in-None-clause-kept
 returns-in-None-clause-kept c =
     let g = c.args.self.now in
     let line = c.index-work-place.result in
-    let low = here c.args.u.now c.args.s.now c.args.lines.now c.args.returns.now c.args.work.now c.args.place line g c.requires.place c.index-work-place.is c.requires.going in
+    let low = here c.args.over.now.universe c.args.over.now.support c.args.over.now.lines c.args.returns.now c.args.work.now c.args.place line g c.requires.place c.index-work-place.is c.requires.going in
     on_ok_weaker c.take.result (λ t l.
     let is = t ∙ ap (λ ms. with_next ms line) c.waited_for.ensures.same_taken in
     subst (λ ms. taken_of g.taken.items l ≤ taken_of ms l) (sym is) (no_fewer g.taken.items line (omega (arith, low, c.requires.going.taken)) l)) c.take.ensures.taken

@@ -18,8 +18,8 @@ IfNone-weaker None P Q f h = f h
 IfNone-weaker (Some e) P Q f h = tt
 
 -- the slots are those of what comes next
-slots_are : (c : After-row-row) → c.slots_at-slots.result.now ≡ next_uses c.args.u.now c.args.s.now c.args.lines.now c.args.self.now.taken.items c.args.line
-slots_are c = c.slots_at-slots.ensures.uses ∙ ap (uses_at c.args.u.now c.args.s.now c.args.lines.now c.args.line) (c.count_of.ensures ∙ ap (λ l. taken_of l c.args.line) c.deref.ensures.value)
+slots_are : (c : After-row-row) → c.slots_at-slots.result.now ≡ next_uses c.args.over.now.universe c.args.over.now.support c.args.over.now.lines c.args.self.now.taken.items c.args.line
+slots_are c = c.slots_at-slots.ensures.uses ∙ ap (uses_at c.args.over.now.universe c.args.over.now.support c.args.over.now.lines c.args.line) (c.count_of.ensures ∙ ap (λ l. taken_of l c.args.line) c.deref.ensures.value)
 
 -- and the row is the list of that
 row_is : (c : After-row-row) → c.row-row.result.now ≡ row_at c.args.returns.now (next_of c.args.self.now.taken.items c.args.line)
@@ -27,9 +27,9 @@ row_is c = c.row-row.ensures ∙ ap (λ j. row_at c.args.returns.now (At c.args.
 
 pub returns-clause-seen : goal.returns-clause-seen
 returns-clause-seen c =
-    let u = c.args.u.now in
-    let s = c.args.s.now in
-    let x = c.args.lines.now in
+    let u = c.args.over.now.universe in
+    let s = c.args.over.now.support in
+    let x = c.args.over.now.lines in
     let ns : List ℕ = c.args.self.now.taken.items in
     let at = (goal.at.returns-clause-seen c).After-row-row in
     let slots = slots_are at in
@@ -50,9 +50,9 @@ returns-clause-seen c =
 
 pub returns-clause-some : goal.returns-clause-some
 returns-clause-some c =
-    let u = c.args.u.now in
-    let s = c.args.s.now in
-    let x = c.args.lines.now in
+    let u = c.args.over.now.universe in
+    let s = c.args.over.now.support in
+    let x = c.args.over.now.lines in
     let ns : List ℕ = c.args.self.now.taken.items in
     let at = (goal.at.returns-clause-some c).After-row-row in
     let slots = slots_are at in
@@ -62,16 +62,16 @@ returns-clause-some c =
     let a = c.first_missing-met.result in
     let b = c.first_left-left.result in
     IfSome_then c.missing.result c.missing.ensures.some
-    (λ e missing. missing_waits u s x c.keeps_invariant.ensures.universe c.requires.support c.requires.lines c.args.returns.now c.requires.returns ns c.args.line c.requires.line a b
+    (λ e missing. missing_waits u s x c.keeps_invariant.ensures.table.universe c.keeps_invariant.ensures.over.support c.keeps_invariant.ensures.over.lines c.args.returns.now c.requires.returns ns c.args.line c.requires.line a b
     (λ low. sym (λ i. is_taken (c.deref-2.ensures.value i) (use_event x (use_at (slots i) a))) ∙ first.left (subst (λ (cs : List (ℕ × ℕ)). a < length cs) (sym slots) low))
     (λ low. sym (λ i. is_taken (c.deref-4.ensures.value i) (step_at (row i) b)) ∙ left.left (subst (λ (es : List Event). b < length es) (sym row) low))
     e (subst (λ (cs : List (ℕ × ℕ)). IsMissing x cs a (row_at c.args.returns.now (next_of ns c.args.line)) b e) slots (subst (λ (es : List Event). IsMissing x c.slots_at-slots.result.now a es b e) row missing)))
 
 pub returns-clause-none : goal.returns-clause-none
 returns-clause-none c =
-    let u = c.args.u.now in
-    let s = c.args.s.now in
-    let x = c.args.lines.now in
+    let u = c.args.over.now.universe in
+    let s = c.args.over.now.support in
+    let x = c.args.over.now.lines in
     let ns : List ℕ = c.args.self.now.taken.items in
     let at = (goal.at.returns-clause-none c).After-row-row in
     let slots = slots_are at in
@@ -83,7 +83,7 @@ returns-clause-none c =
     let a = c.first_missing-met.result in
     let b = c.first_left-left.result in
     IfNone-weaker c.missing.result ((length c.slots_at-slots.result.now ≤ a) × (length c.row-row.result.now ≤ b)) (HasAllBefore (plan_of u s x) ns (next_of ns c.args.line))
-    (λ past. may_go u s x c.keeps_invariant.ensures.universe c.requires.support c.requires.lines c.args.returns.now c.requires.returns ns c.args.line c.requires.line
+    (λ past. may_go u s x c.keeps_invariant.ensures.table.universe c.keeps_invariant.ensures.over.support c.keeps_invariant.ensures.over.lines c.args.returns.now c.requires.returns ns c.args.line c.requires.line
     (λ k low.
     let all : length (next_uses u s x ns c.args.line) ≤ a = subst (λ (cs : List (ℕ × ℕ)). length cs ≤ a) slots past.0 in
     elim (cases_lt k (taken_of c.args.self.now.met.items c.args.line)) [

@@ -18,7 +18,7 @@ use Rattle.metis_rounds.proofs.going.Going.with_own_line.Goals as goal
 -- src/going.rt:199:21
 pub overflow_add-steps : goal.overflow_add-steps
 overflow_add-steps c =
-    let on = is_held c.args.u.now c.args.s.now c.requires.going.0 c.args.lines.now c.requires.going.1 c.args.held c.keeps_invariant.ensures c.requires.support c.requires.going.3 in
+    let on = is_held c.args.over.now.universe c.args.over.now.support c.requires.going.0 c.args.over.now.lines c.requires.going.1 c.args.held c.keeps_invariant.ensures.table c.keeps_invariant.ensures.over.support c.requires.going.3 in
     let h : c.station.inside.0 ≡ c.args.held.1 = c.station.view_is in
     let short = on.short in
     omega arith
@@ -26,13 +26,13 @@ overflow_add-steps c =
 -- src/going.rt:200:23
 pub index-reached-requires : goal.index-reached-requires
 index-reached-requires c =
-    let on = is_held c.args.u.now c.args.s.now c.requires.going.0 c.args.lines.now c.requires.going.1 c.args.held c.keeps_invariant.ensures c.requires.support c.requires.going.3 in
+    let on = is_held c.args.over.now.universe c.args.over.now.support c.requires.going.0 c.args.over.now.lines c.requires.going.1 c.args.held c.keeps_invariant.ensures.table c.keeps_invariant.ensures.over.support c.requires.going.3 in
     omega (arith, c.requires.going.5.taken, on.line)
 
 -- src/going.rt:205:9
 pub index_mut-requires : goal.index_mut-requires
 index_mut-requires c =
-    let on = is_held c.args.u.now c.args.s.now c.requires.going.0 c.args.lines.now c.requires.going.1 c.args.held c.keeps_invariant.ensures c.requires.support c.requires.going.3 in
+    let on = is_held c.args.over.now.universe c.args.over.now.support c.requires.going.0 c.args.over.now.lines c.requires.going.1 c.args.held c.keeps_invariant.ensures.table c.keeps_invariant.ensures.over.support c.requires.going.3 in
     let pushed : c.push-3.new.self.items ≡ c.args.self.now.left.items ++ 0 ∷ [] = c.in_ok-push-3.ensures.items in
     let size : length c.push-3.new.self.items ≡ length (c.args.self.now.left.items ++ 0 ∷ []) = ap length pushed in
     let more = length_push c.args.self.now.left.items 0 in
@@ -44,7 +44,7 @@ index_mut-requires c =
 -- src/going.rt:206:21
 pub take-woken-requires : goal.take-woken-requires
 take-woken-requires c =
-    let on = is_held c.args.u.now c.args.s.now c.requires.going.0 c.args.lines.now c.requires.going.1 c.args.held c.keeps_invariant.ensures c.requires.support c.requires.going.3 in
+    let on = is_held c.args.over.now.universe c.args.over.now.support c.requires.going.0 c.args.over.now.lines c.requires.going.1 c.args.held c.keeps_invariant.ensures.table c.keeps_invariant.ensures.over.support c.requires.going.3 in
     let y = c.args.held.0 in
     let i = c.args.held.1 in
     c.in_ok-add_line.ensures.has y i ∙ or_left (has_row c.args.self.now.waiting (At y i)) _ (c.requires.going.5.rows.rows y i on.event)
@@ -58,7 +58,7 @@ returns-clause-going c =
     let own = c.requires.going.3 in
     let y = c.args.held.0 in
     let i = c.args.held.1 in
-    let on = is_held c.args.u.now c.args.s.now x c.args.lines.now p c.args.held c.keeps_invariant.ensures c.requires.support own in
+    let on = is_held c.args.over.now.universe c.args.over.now.support x c.args.over.now.lines p c.args.held c.keeps_invariant.ensures.table c.keeps_invariant.ensures.over.support own in
     let n = length x.lines in
     let waiting = c.args.self.now.waiting in
     let going = c.requires.going.5 in
@@ -72,14 +72,14 @@ returns-clause-going c =
     let holders : c.index-reached.result.now ≡ taken_of c.args.self.now.taken.items y = reached ∙ ap (λ l. get_or c.args.self.now.taken.items l c.index-reached.result.now) here ∙ get_or_default c.args.self.now.taken.items y c.index-reached.result.now 0 (omega arith) in
     let met : c.push-2.new.self.items ≡ c.args.self.now.met.items ++ 0 ∷ [] = c.in_ok-push-2.ensures.items in
     let left : c.push-3.new.self.items ≡ c.args.self.now.left.items ++ 0 ∷ [] = c.in_ok-push-3.ensures.items in
-    let count : c.count.result ≡ length c.args.lines.now.lines = c.count.ensures.count in
+    let count : c.count.result ≡ length c.args.over.now.lines.lines = c.count.ensures.count in
     let more = on.more in
     let last : c.count.result - 1 ≡ n = omega arith in
     let with_line : c.push-4.new.self.items ≡ c.args.self.now.work.items ++ y ∷ [] = c.in_ok-push-4.ensures.items in
     let with_new : c.push-5.new.self.items ≡ c.push-4.new.self.items ++ (c.count.result - 1) ∷ [] = c.in_ok-push-5.ensures.items in
     let row : c.deref.result.now ≡ row_at c.add_line.new.self (At y i) = c.deref.ensures.value ∙ c.take-woken.ensures.old in
     let woken : c.deref.result.now ≡ row_at waiting (At y i) = row ∙ c.in_ok-add_line.ensures.rows (At y i) in
-    on_ok_weaker c.add_lines.result (λ (work : (l : ℕ) → has c.add_lines.new.work.items l ≡ (has c.push-5.new.self.items l || list_any (is_on l) c.deref.result.now)). goes_on_with c.args.u.now c.args.s.now x c.args.lines.now p c.args.held c.keeps_invariant.ensures c.requires.support own t c.args.returns.now c.args.self.now (record { taken = c.push.new.self; met = c.push-2.new.self; left = with_item c.push-3.new.self c.line.inside.0 0; waiting = c.take-woken.new.self; work = c.add_lines.new.work }) going c.requires.going.4 (record {
+    on_ok_weaker c.add_lines.result (λ (work : (l : ℕ) → has c.add_lines.new.work.items l ≡ (has c.push-5.new.self.items l || list_any (is_on l) c.deref.result.now)). goes_on_with c.args.over.now.universe c.args.over.now.support x c.args.over.now.lines p c.args.held c.keeps_invariant.ensures.table c.keeps_invariant.ensures.over.support own t c.args.returns.now c.args.self.now (record { taken = c.push.new.self; met = c.push-2.new.self; left = with_item c.push-3.new.self c.line.inside.0 0; waiting = c.take-woken.new.self; work = c.add_lines.new.work }) going c.requires.going.4 (record {
       taken = taken ∙ ap (λ k. c.args.self.now.taken.items ++ k ∷ []) (least ∙ (λ j. min (holders j) (station j + 2)));
       met = met;
       left = (λ j. set (left j) (here j) 0);

@@ -7,5 +7,5 @@ use Rattle.metis_rounds.proofs.uses.Uses.of.Given as goal
 abbrev pub invariant-loop-number : goal.invariant-loop-number
 invariant-loop-number l = record {
   size : length l.rows.items ≡ l.number;
-  rows : (q : ℕ) → q < l.number → is_selected l.s q ≡ true → get_or l.rows.items q [] ≡ uses_of l.u l.s q;
+  rows : (q : ℕ) → q < l.number → is_selected l.over.support q ≡ true → get_or l.rows.items q [] ≡ uses_of l.over.universe l.over.support q;
 }
