@@ -1,7 +1,7 @@
 //! The controller, the agents and the net between them.
-ghost use Rattle.std.specs.Prelude.{◌≡◌, ◌<◌, ◌-◌, ◌^◌, IfOk, IfSome, is_some, length, not};
+ghost use Rattle.std.specs.Prelude.{◌≡◌, ◌<◌, ◌-◌, ◌^◌, IfOk, IfSome, is_some, length, map, not};
 ghost use Rattle.metis_universe.specs.Universe.{is_empty};
-ghost use Rattle.metis_universe.specs.Waits.{IsKept};
+ghost use Rattle.metis_universe.specs.Waits.{IsKept, numbers, waits};
 ghost use Rattle.metis_waits.specs.Waits.{AreWaits};
 ghost use Rattle.metis_crew.specs.Crew.{count_of, own_numbers};
 ghost use Rattle.metis_control.specs.Fields.{IsHeard};
@@ -147,14 +147,16 @@ impl<'a> World<'a> {
     /// The agent of the instance, where some action is its own.
     pub fn agent(&self, z: InstNo) -> Option<&Agent>
         ensures exists { is_some result ≡ not (is_empty (own_numbers self.now.actions z)) }
+        ensures own { IfSome result (λ agent. agent.now.own ≡ own_numbers self.now.actions z) }
         ensures done { IfSome result (λ agent. agent.now.done ≡ count_of self.now.state.counts z) }
     {
         self.agents.get(&z)
     }
 
-    /// The controller.
+    /// The controller. It knows what each action waits for.
     pub fn controller(&self) -> &Controller<'a>
-        ensures { result.now.acked ≡ self.now.state.acked }
+        ensures waits { result.now.each ≡ map (waits self.now.actions) (numbers self.now.actions) }
+        ensures acknowledged { result.now.acked ≡ self.now.state.acked }
     {
         &self.controller
     }

@@ -13,9 +13,9 @@ copied_some : (o : Option (Bor AgentState)) → is_some (option_copied o) ≡ is
 copied_some None = refl
 copied_some (Some a) = refl
 
-done_is : (o : Option (Bor AgentState)) (n : ℕ) → ((a : AgentState) → option_copied o ≡ Some a → a.done ≡ n) → IfSome o (λ (a : Bor AgentState). a.now.done ≡ n)
-done_is None n h = tt
-done_is (Some a) n h = h a.now refl
+told_is : {X : Type 0} (v : AgentState → X) (o : Option (Bor AgentState)) (x : X) → ((a : AgentState) → option_copied o ≡ Some a → v a ≡ x) → IfSome o (λ (a : Bor AgentState). v a.now ≡ x)
+told_is v None x h = tt
+told_is v (Some a) x h = h a.now refl
 
 pub returns-clause-exists : goal.returns-clause-exists
 returns-clause-exists c =
@@ -26,6 +26,13 @@ returns-clause-exists c =
 pub returns-clause-done : goal.returns-clause-done
 returns-clause-done c =
     let f = c.self.inside in
-    done_is c.get.result (count_of c.args.self.now.state.counts c.args.z) (λ a found.
+    told_is (λ (a : AgentState). a.done) c.get.result (count_of c.args.self.now.state.counts c.args.z) (λ a found.
     agent_count f.actions.now f.agents.entries c.args.z a (sym (c.get.ensures.value ∙ by_cmp c.args.z f.agents.entries) ∙ found)
     ∙ ap (λ (v : WorldValue). count_of v.state.counts c.args.z) c.self.view_is)
+
+pub returns-clause-own : goal.returns-clause-own
+returns-clause-own c =
+    let f = c.self.inside in
+    told_is (λ (a : AgentState). a.own) c.get.result (own_numbers c.args.self.now.actions c.args.z) (λ a found.
+    c.self.invariant.owned.own c.args.z a (sym (c.get.ensures.value ∙ by_cmp c.args.z f.agents.entries) ∙ found)
+    ∙ ap (λ (v : WorldValue). own_numbers v.actions c.args.z) c.self.view_is)
