@@ -4,7 +4,7 @@ ghost use Rattle.std.specs.List.{All, filter};
 ghost use Rattle.std.specs.List.Sorted.{IsStrictlySortedBy};
 ghost use Rattle.metis_config.specs.Over.{IsOver};
 ghost use Rattle.metis_universe.specs.Universe.{Universe};
-ghost use Rattle.metis_universe.specs.Config.{IsConfig, binding_cmp, is_bound, untie};
+ghost use Rattle.metis_universe.specs.Config.{binding_cmp, is_bound, untie};
 ghost use Rattle.metis_universe.specs.Step.{after_all};
 ghost use Rattle.metis_rollout.specs.Rollout.{idle_unbinds, is_idle, unreferenced_deletes, unbind};
 

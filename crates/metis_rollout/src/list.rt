@@ -14,20 +14,21 @@ ghost use Rattle.metis_universe.specs.Steadfast.{IsSteadfastRun};
 use crate::clearing::{delete_unreferenced, unbind_idle};
 use crate::cyclic::remove_cycles;
 use crate::names::{made_by, names_for, next_free, push_renumbered};
-use crate::standing::left_by;
+use metis_config::Config;
 use metis_ids::{Action, NoMemory};
 use metis_layers::table::Layers;
 use metis_universe::Universe;
 use std::alloc::Global;
 
 /// The old actions, the fresh ones beside what they leave, and then the removal of the old instances; of those that are bound in
-/// a cycle beside a scaffold.
+/// a cycle beside a scaffold. The configuration is what the old actions leave.
 pub fn rollout(
     alloc: Global,
     u: &Universe,
     l: &Layers,
     old: &[Action],
     fresh: &[Action],
+    left: Config,
 ) -> Result<Vec<Action>, NoMemory>
     requires layers { IsLayers u.now l.now }
     requires old { IsSteadfastRun u.now old.now }
@@ -35,6 +36,7 @@ pub fn rollout(
     requires old_ours { All (IsOf u.now) old.now }
     requires fresh_ours { All (IsOf u.now) fresh.now }
     requires few { length old.now + length fresh.now < 2 ^ 29 }
+    requires left { left ≡ after_all u.now empty old.now }
 
     // It is the rollout. That has no scaffold where no instance is left when the unreferenced ones are deleted.
     ensures list { IfOk result (λ list. list.items ≡ rollout u.now old.now fresh.now) }
@@ -55,7 +57,7 @@ pub fn rollout(
     let mut actions = Vec::new(alloc);
     actions.extend_from_slice(old)?;
     push_renumbered(&names, fresh, &mut actions)?;
-    let mut c = left_by(alloc, u, old)?;
+    let mut c = left;
     unbind_idle(alloc, u, &mut c, &mut actions)?;
     delete_unreferenced(alloc, &mut c, &mut actions)?;
     if c.count() > 0 {

@@ -24,11 +24,11 @@ use Rattle.metis_rollout.proofs.list.rollout.Goals as goal
 use Rattle.metis_rollout.proofs.list.rollout.Goals.{then-count-gt0+in_ok-remove_cycles, else-count-gt0}
 
 pub unbind_idle-requires : goal.unbind_idle-requires
-unbind_idle-requires c = rw c.in_ok-c.ensures (over_left c.args.u.now c.args.old.now c.keeps_invariant.ensures.universe c.requires.old_ours)
+unbind_idle-requires c = rw c.requires.left (over_left c.args.u.now c.args.old.now c.keeps_invariant.ensures.universe c.requires.old_ours)
 
 pub remove_cycles-requires-clause-layered : goal.remove_cycles-requires-clause-layered
 remove_cycles-requires-clause-layered c =
-    let is = left_is c.args.u.now c.args.old.now c.in_ok-c.c c.unbind_idle.new.c c.delete_unreferenced.new.c c.in_ok-c.ensures c.in_ok-unbind_idle.ensures.config (c.in_ok-delete_unreferenced.ensures.config c.args.u.now) in
+    let is = left_is c.args.u.now c.args.old.now c.args.left c.unbind_idle.new.c c.delete_unreferenced.new.c c.requires.left c.in_ok-unbind_idle.ensures.config (c.in_ok-delete_unreferenced.ensures.config c.args.u.now) in
     subst (λ d. All (λ p. IsSome (layer_of c.args.u.now p)) (pairs_in d)) (sym is) (left_layered c.args.u.now c.args.old.now c.keeps_invariant.ensures.universe c.requires.old)
 
 pub remove_cycles-requires-clause-next : goal.remove_cycles-requires-clause-next
@@ -39,11 +39,11 @@ remove_cycles-requires-clause-next c =
     (count, c.in_ok-names.ensures.next 0 c.next_free-next.ensures ∙ ap (free_number used) same, omega (arith, c.in_ok-used.ensures.few, news_few c.args.fresh.now, c.requires.few))
 
 -- what stands in the list when the unreferenced instances are deleted
-begun : (c : goal.After-drop-used-2) → c.delete_unreferenced.new.actions.items ≡ ((c.args.old.now ++ map (renumber (named c.in_ok-names.names.entries)) c.args.fresh.now) ++ idle_unbinds c.args.u.now c.in_ok-c.c) ++ unreferenced_deletes c.unbind_idle.new.c
+begun : (c : goal.After-drop-used-2) → c.delete_unreferenced.new.actions.items ≡ ((c.args.old.now ++ map (renumber (named c.in_ok-names.names.entries)) c.args.fresh.now) ++ idle_unbinds c.args.u.now c.args.left) ++ unreferenced_deletes c.unbind_idle.new.c
 begun c =
     let first : c.extend_from_slice.new.self.items ≡ c.args.old.now = c.in_ok-extend_from_slice.ensures.items ∙ ap (λ l. l ++ c.args.old.now) c.new-actions.ensures.items in
     let second : c.push_renumbered.new.actions.items ≡ c.args.old.now ++ map (renumber (named c.in_ok-names.names.entries)) c.args.fresh.now = c.in_ok-push_renumbered.ensures ∙ ap (λ l. l ++ map (renumber (named c.in_ok-names.names.entries)) c.args.fresh.now) first in
-    let third = c.in_ok-unbind_idle.ensures.actions ∙ ap (λ l. l ++ idle_unbinds c.args.u.now c.in_ok-c.c) second in
+    let third = c.in_ok-unbind_idle.ensures.actions ∙ ap (λ l. l ++ idle_unbinds c.args.u.now c.args.left) second in
     c.in_ok-delete_unreferenced.ensures.actions ∙ ap (λ l. l ++ unreferenced_deletes c.unbind_idle.new.c) third
 
 -- each fresh instance has the number of its place
@@ -62,19 +62,19 @@ is_list c =
     let table = c.in_ok-names.names.entries in
     let e = c.delete_unreferenced.new.c in
     let gone = c.in_ok-delete_unreferenced.ensures.config u in
-    let is = left_is u old c.in_ok-c.c c.unbind_idle.new.c e c.in_ok-c.ensures c.in_ok-unbind_idle.ensures.config gone in
+    let is = left_is u old c.args.left c.unbind_idle.new.c e c.requires.left c.in_ok-unbind_idle.ensures.config gone in
     let count = length (news_of fresh) in
     let same : 0 + count ≡ count = omega arith in
     let next = c.in_ok-names.ensures.next 0 c.next_free-next.ensures ∙ ap (free_number used) same in
     elim c.if-count-gt0.branch [
       | then-count-gt0+in_ok-remove_cycles w ↦ ap (λ v. v.items) w.actions-is
-          ∙ listed_long u old fresh w.remove_cycles.new.actions.items used table c.in_ok-c.c c.unbind_idle.new.c e c.requires.fresh (some_left e.instances (omega (arith, c.count.ensures, w.if-count-gt0.true)))
-          c.in_ok-used.ensures.same (names c) c.in_ok-c.ensures c.in_ok-unbind_idle.ensures.config gone
+          ∙ listed_long u old fresh w.remove_cycles.new.actions.items used table c.args.left c.unbind_idle.new.c e c.requires.fresh (some_left e.instances (omega (arith, c.count.ensures, w.if-count-gt0.true)))
+          c.in_ok-used.ensures.same (names c) c.requires.left c.in_ok-unbind_idle.ensures.config gone
           (w.in_ok-remove_cycles.ensures count next ∙ ap (λ l. l ++ cycle_removal u (λ k. free_number used (count + k)) e) (begun c))
       | else-count-gt0 w ↦ ap (λ v. v.items) w.actions-is
-          ∙ listed u old fresh c.delete_unreferenced.new.actions.items used table c.in_ok-c.c c.unbind_idle.new.c c.requires.old c.requires.fresh
+          ∙ listed u old fresh c.delete_unreferenced.new.actions.items used table c.args.left c.unbind_idle.new.c c.requires.old c.requires.fresh
           (ap (λ d. is_empty (members d)) (sym is) ∙ none_left e.instances (omega (arith, c.count.ensures, w.if-count-gt0.false)))
-          c.in_ok-used.ensures.same (names c) c.in_ok-c.ensures c.in_ok-unbind_idle.ensures.config (begun c)
+          c.in_ok-used.ensures.same (names c) c.requires.left c.in_ok-unbind_idle.ensures.config (begun c)
     ]
 
 pub returns-clause-list : goal.returns-clause-list
