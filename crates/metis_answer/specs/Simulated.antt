@@ -9,7 +9,7 @@ use Rattle.metis_sim.specs.Session.{Session, after_line, begin, reply}
 use Rattle.metis_answer.specs.declared.status.Status.{Status}
 use Rattle.metis_answer.specs.declared.status.Status.TheVariants.{Done}
 use Rattle.metis_universe.specs.Universe.{Universe, is_empty}
-use Rattle.metis_text.specs.Reading.{is_feed}
+use Rattle.metis_tokens.specs.Cursor.{is_feed}
 
 -- the pieces, but a last one that is empty
 abbrev pub without_empty_end : List (List ℕ) → List (List ℕ)

@@ -19,7 +19,7 @@ use crate::verdict_line::write_bad;
 use metis_crew::{Crew, Turn};
 use metis_ids::{Action, InstNo};
 use metis_outside::{Sink, Trouble};
-use metis_text::put_line;
+use metis_tokens::put_line;
 use metis_universe::Universe;
 use metis_waits::{WFault, Waits, waits};
 use std::alloc::{AllocError, Global};

@@ -25,7 +25,7 @@ use metis_ids::{Action, Goal, NoMemory, PairIx, Plan};
 use metis_outside::{Sink, Trouble};
 use metis_planner::{Outcome, plan, rounds_come_to_one_plan};
 use metis_replay::Verdict;
-use metis_text::put_line;
+use metis_tokens::put_line;
 use metis_universe::Universe;
 use std::alloc::{AllocError, Global};
 

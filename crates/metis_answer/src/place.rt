@@ -21,7 +21,7 @@ use crate::verdict_line::write_bad;
 use metis_ids::{Action, InstNo};
 use metis_outside::{Sink, Trouble};
 use metis_place::{Hold, Hosts, PFault, Placing, place};
-use metis_text::{push_numbers, put_line};
+use metis_tokens::{push_numbers, put_line};
 use metis_universe::Universe;
 use std::alloc::{AllocError, Global};
 

@@ -17,7 +17,7 @@ use metis_actions::AFault;
 use metis_ids::{Action, NoMemory};
 use metis_outside::{Sink, Trouble};
 use metis_replay::Verdict;
-use metis_text::put_line;
+use metis_tokens::put_line;
 use metis_universe::Universe;
 use metis_waits::{WFault, waits};
 use std::alloc::{AllocError, Global};

@@ -10,7 +10,7 @@ ghost use Rattle.metis_answer.specs.Replayed.{bad_line, good_line, verdict_line}
 use metis_actions::{AFault, write_fault};
 use metis_outside::{CalmSink, Sink, Trouble};
 use metis_replay::Verdict;
-use metis_text::{put_line, write_missing};
+use metis_tokens::{put_line, write_missing};
 use metis_universe::Universe;
 use std::alloc::{AllocError, Global};
 
