@@ -22,7 +22,8 @@ use Rattle.metis_ids.specs.declared.actions.Action.{Action}
 use Rattle.metis_universe.specs.Config.{Binding, Config}
 use Rattle.metis_ids.specs.declared.goals.Goal.{Goal}
 use Rattle.metis_ids.specs.declared.goals.Goal.TheVariants.{Pair}
-use Rattle.metis_text.proofs.LineFeeds.{no_feed-goal_word, no_feed-pair_word, no_feed-port_name_of, plan_lines_are_lines, refusal_lines_are_lines}
+use Rattle.metis_tokens.proofs.WordFeeds.{no_feed-goal_word, no_feed-pair_word, no_feed-port_name_of}
+use Rattle.metis_text.proofs.LineFeeds.{plan_lines_are_lines, refusal_lines_are_lines}
 use Rattle.metis_universe.specs.GoalWords.{goal_word}
 use Rattle.metis_why.specs.Confirm.{verdict}
 use Rattle.metis_why.specs.declared.confirming.Confirmation.{Confirmation}
@@ -30,7 +31,7 @@ use Rattle.metis_why.specs.declared.confirming.Confirmation.TheVariants as confi
 use Rattle.metis_why.specs.declared.reason.Line.{Line}
 use Rattle.metis_why_text.proofs.WhyLines.{why_lines_are_lines}
 use Rattle.metis_universe.specs.PairWords.{pair_word}
-use Rattle.metis_text.specs.Line.{added, numbered}
+use Rattle.metis_tokens.specs.Line.{added, numbered}
 use Rattle.metis_text.specs.Reading.{Parts}
 use Rattle.metis_ujson.proofs.OneLine.{IsLine-canonical}
 use Rattle.metis_universe.specs.Universe.{IsNamed, IsTable, Universe, pair_count, port_name_of}

@@ -7,7 +7,7 @@ use Rattle.metis_ids.specs.declared.actions.Action.{Action}
 use Rattle.metis_replay.specs.Exact.{Tells}
 use Rattle.metis_replay.specs.declared.verdict.Verdict.{Verdict}
 use Rattle.metis_replay.specs.declared.verdict.Verdict.TheVariants.{Good, Bad, Missing}
-use Rattle.metis_text.specs.MissingLine.{missing_line}
+use Rattle.metis_tokens.specs.MissingLine.{missing_line}
 use Rattle.metis_ids.specs.declared.goals.Goal.{Goal}
 use Rattle.metis_universe.specs.GoalWords.{goal_word}
 use Rattle.metis_deploy.specs.Steady.{bad_line, standing_after}

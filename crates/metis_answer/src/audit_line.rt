@@ -11,7 +11,7 @@ use crate::judgement_line::goal_line;
 use metis_audit::Answer;
 use metis_ids::{Goal, Plan};
 use metis_outside::{Sink, Trouble};
-use metis_text::put_line;
+use metis_tokens::put_line;
 use metis_universe::Universe;
 use std::alloc::{AllocError, Global};
 

@@ -14,7 +14,7 @@ use crate::judgement_line::goal_line;
 use metis_ids::Goal;
 use metis_output::{Status, said};
 use metis_outside::{Sink, Trouble};
-use metis_text::put_line;
+use metis_tokens::put_line;
 use metis_universe::Universe;
 use metis_why::{Confirmation, Line, confirm};
 use std::alloc::{AllocError, Global};

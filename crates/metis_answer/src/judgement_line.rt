@@ -12,7 +12,7 @@ ghost use Rattle.metis_answer.specs.Judged.{judgement_line, open_line, word_line
 use metis_ids::{Goal, PairIx};
 use metis_outside::{Sink, Trouble};
 use metis_refusal::Verdict2;
-use metis_text::put_line;
+use metis_tokens::put_line;
 use metis_universe::Universe;
 use std::alloc::{AllocError, Global};
 

@@ -24,7 +24,7 @@ use metis_output::{Status, said};
 use metis_outside::{Sink, Trouble};
 use metis_planner::{Outcome, plan, rounds_come_to_one_plan};
 use metis_replay::Verdict;
-use metis_text::put_line;
+use metis_tokens::put_line;
 use metis_universe::Universe;
 use std::alloc::{AllocError, Global};
 

@@ -8,7 +8,7 @@ ghost use Rattle.metis_answer.specs.Replayed.{good_line, verdict_line};
 use metis_deploy::write_bad;
 use metis_outside::{Sink, Trouble};
 use metis_replay::Verdict;
-use metis_text::{put_line, write_missing};
+use metis_tokens::{put_line, write_missing};
 use metis_universe::Universe;
 use std::alloc::{AllocError, Global};
 

@@ -7,7 +7,7 @@ use Rattle.std.proofs.lemmas.List.Elements.{All-append, All-cons, All-nil}
 use Rattle.metis_ids.specs.declared.actions.Action.{Action}
 use Rattle.metis_outside.proofs.Feeds.{IsLine-append, IsLine-from, no_feed, no_feed-append, no_feed-decimal, one_line}
 use Rattle.metis_outside.specs.Pieces.{IsLine}
-use Rattle.metis_text.specs.Line.{added}
+use Rattle.metis_tokens.specs.Line.{added}
 use Rattle.metis_universe.specs.Universe.{has}
 use Rattle.metis_universe.specs.Waits.{numbers}
 use Rattle.metis_crew.specs.Crew.{is_done}

@@ -11,7 +11,7 @@ use crate::happening::{Happening, Told};
 use crate::world::World;
 use metis_ids::Action;
 use metis_outside::{Sink, Trouble};
-use metis_text::{number_in, push_numbers, put_line, tokens_of};
+use metis_tokens::{number_in, push_numbers, put_line, tokens_of};
 use metis_waits::Waits;
 use std::alloc::{AllocError, Global};
 

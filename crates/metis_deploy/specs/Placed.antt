@@ -12,7 +12,7 @@ use Rattle.std.specs.List.{filter_map, zip}
 use Rattle.metis_ids.specs.declared.actions.Action.{Action}
 use Rattle.metis_ids.specs.declared.actions.Action.TheVariants.{New}
 use Rattle.metis_place.specs.Placement.{HostLists, IsNoRoom, IsPlacing, PlacingLists, name_of}
-use Rattle.metis_text.specs.Line.{added}
+use Rattle.metis_tokens.specs.Line.{added}
 use Rattle.metis_universe.specs.Steadfast.{IsSteadfastRun}
 use Rattle.metis_universe.specs.Universe.{Universe}
 use Rattle.metis_deploy.specs.Steady.{HasBadAction, HasLooseAction}

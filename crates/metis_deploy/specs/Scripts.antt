@@ -2,7 +2,7 @@
 --     script_lines bytes      the lines of a script: it is cut at each line feed, and a last piece without one is a line where it is not empty
 use Rattle.std.specs.Prelude.{ℕ, List, [], ◌∷◌, if◌then◌else◌}
 use Rattle.std.specs.List.{slice_split}
-use Rattle.metis_text.specs.Reading.{is_feed}
+use Rattle.metis_tokens.specs.Cursor.{is_feed}
 use Rattle.metis_universe.specs.Universe.{is_empty}
 
 -- the pieces, but a last one that is empty

@@ -7,7 +7,7 @@
 use Rattle.std.specs.Prelude.{◌≡◌, ◌⊎◌, ℕ, List, [], ◌∷◌, ◌++◌, map, codes, decimal, slice_index_or}
 use Rattle.std.specs.List.{zip}
 use Rattle.metis_ids.specs.declared.actions.Action.{Action}
-use Rattle.metis_text.specs.Line.{added, numbered}
+use Rattle.metis_tokens.specs.Line.{added, numbered}
 use Rattle.metis_universe.specs.Steadfast.{IsSteadfastRun}
 use Rattle.metis_universe.specs.Universe.{Universe}
 use Rattle.metis_waves.specs.Waves.{AreWaves, WaveLists}

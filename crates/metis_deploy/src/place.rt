@@ -17,7 +17,7 @@ use metis_ids::{Action, InstNo};
 use metis_output::{Status, said};
 use metis_outside::{Sink, Trouble};
 use metis_place::{Hold, Hosts, PFault, Placing, place};
-use metis_text::{push_numbers, put_line};
+use metis_tokens::{push_numbers, put_line};
 use metis_universe::Universe;
 use std::alloc::{AllocError, Global};
 

@@ -2,7 +2,7 @@
 ghost use Rattle.std.specs.Prelude.{◌≡◌, ◌≤◌, ◌+◌, IfOk, length, map};
 ghost use Rattle.std.specs.List.{slice_split};
 ghost use Rattle.metis_deploy.specs.Scripts.{without_empty_end};
-ghost use Rattle.metis_text.specs.Reading.{is_feed};
+ghost use Rattle.metis_tokens.specs.Cursor.{is_feed};
 
 use std::alloc::{AllocError, Global};
 

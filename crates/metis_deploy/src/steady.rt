@@ -19,7 +19,7 @@ use metis_actions::{AFault, write_fault};
 use metis_ids::{Action, Goal, NoMemory};
 use metis_outside::{CalmSink, Sink, Trouble};
 use metis_replay::{Replay, Verdict, replay_is_exact, replay_keeps_what_was_done};
-use metis_text::put_line;
+use metis_tokens::put_line;
 use metis_universe::Universe;
 use metis_waits::{WFault, waits};
 use std::alloc::{AllocError, Global};

@@ -13,7 +13,7 @@ use crate::steady::{first_bad, write_bad, write_loose};
 use metis_ids::Action;
 use metis_output::{Status, said};
 use metis_outside::{Sink, Trouble};
-use metis_text::{push_numbers, put_line};
+use metis_tokens::{push_numbers, put_line};
 use metis_universe::Universe;
 use metis_waits::{WFault, waits};
 use metis_waves::{Durations, Waves, waves};

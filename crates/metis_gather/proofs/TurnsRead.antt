@@ -12,8 +12,8 @@ use borrow.Author.Count.{below_more}
 use Rattle.metis_gather.specs.Turns.{is_no_turn, turn_of, turns_of}
 use Rattle.metis_universe.specs.Universe.{is_empty}
 use Rattle.metis_words.specs.Words.{unless_misfit}
-use Rattle.metis_text.specs.Tokens.{number_in}
-use Rattle.metis_text.specs.declared.flaw.Flaw.{Flaw}
+use Rattle.metis_tokens.specs.Tokens.{number_in}
+use Rattle.metis_tokens.specs.declared.flaw.Flaw.{Flaw}
 
 pub counted_empty : (xs : List ℕ) → nat_eq (length xs) 0 ≡ is_empty xs
 counted_empty [] = refl

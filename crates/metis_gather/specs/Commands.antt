@@ -18,7 +18,7 @@ use Rattle.metis_place.specs.declared.hosts_fault.HFault.{HFault}
 use Rattle.metis_text.specs.DupLine.{DupRow}
 use Rattle.metis_text.specs.Reading.{Parts, plan_in}
 use Rattle.metis_text.specs.RefusalReading.{RefusalParts, refusal_in}
-use Rattle.metis_text.specs.declared.fault.TFault.{TFault}
+use Rattle.metis_tokens.specs.declared.fault.TFault.{TFault}
 use Rattle.metis_why_text.specs.WhyReading.{WhyParts, why_in}
 use Rattle.metis_ujson.specs.Document.{document_limit, universe_in}
 use Rattle.metis_ujson.specs.declared.faults.UFault.{UFault}
@@ -26,7 +26,7 @@ use Rattle.metis_gather.specs.Script.{Script, Read, Refuse, Reply}
 use Rattle.metis_words.specs.TargetName.{TargetName}
 use Rattle.metis_gather.specs.Turns.{turns_in}
 use Rattle.metis_words.specs.Words.{Form, word_at, form_of}
-use Rattle.metis_text.specs.Flaws.{and_then}
+use Rattle.metis_tokens.specs.Flaws.{and_then}
 
 -- reads the file of the word at this place, and goes on with its bytes, where they are not too many
 abbrev pub bytes_then : ℕ → List ℕ → ℕ → (List ℕ → Script) → Script

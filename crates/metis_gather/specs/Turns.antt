@@ -5,7 +5,7 @@
 use Rattle.std.specs.Prelude.{◌≡◌, ℕ, Bool, not, ◌==◌, ◌||◌, List, Option, Result, Ok, Err, is_some, position}
 use Rattle.std.specs.List.{filter, filter_map, slice_split}
 use Rattle.std.specs.Result.{result_ok}
-use Rattle.metis_text.specs.Tokens.{number_in}
+use Rattle.metis_tokens.specs.Tokens.{number_in}
 use Rattle.metis_universe.specs.Universe.{is_empty}
 use Rattle.metis_words.specs.Words.{unless_misfit}
 use Rattle.metis_gather.specs.declared.turns.TurnsFault.{TurnsFault}

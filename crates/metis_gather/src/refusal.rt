@@ -2,7 +2,7 @@
 ghost use Rattle.std.specs.Prelude.{◌≡◌};
 
 use metis_place::HFault;
-use metis_text::TFault;
+use metis_tokens::TFault;
 use metis_ujson::UFault;
 use std::alloc::AllocFailed;
 

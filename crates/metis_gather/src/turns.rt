@@ -3,7 +3,7 @@ ghost use Rattle.std.specs.Prelude.{◌≡◌, ◌<◌, ◌≤◌, ◌+◌, ◌-
 ghost use Rattle.metis_gather.specs.Turns.{ReadsTurns, is_blank, turn_tokens, turns_in, turns_of};
 
 use metis_ids::InstNo;
-use metis_text::number_in;
+use metis_tokens::number_in;
 use std::alloc::{AllocError, AllocFailed, Global};
 
 /// Why bytes are no turns.

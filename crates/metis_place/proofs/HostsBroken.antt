@@ -14,8 +14,8 @@ use Rattle.metis_universe.specs.Universe.{Universe}
 use Rattle.metis_place.specs.Entries.{Entries}
 use Rattle.metis_place.specs.HostsFaults.{IfFault, IsBegun, IsHostsFault, NoFeed, begun_bytes, next_number, too_short, of_first, of_line, past_end, in_first, in_later}
 use Rattle.metis_place.specs.HostsText.{ReadsHosts, SeenLines, end_from, hosts_in, hosts_of, is_last, last_piece, lines_from, nothing, pieces, text_of, whole_lines, with_line}
-use Rattle.metis_text.specs.Reading.{is_feed}
-use Rattle.metis_text.specs.Flaws.{and_then}
+use Rattle.metis_tokens.specs.Cursor.{is_feed}
+use Rattle.metis_tokens.specs.Flaws.{and_then}
 use Rattle.metis_place.specs.HostsWritten.{host_line, hosts_bytes, hosts_header, size_line}
 use Rattle.metis_place.specs.Placement.{HostLists}
 use Rattle.metis_place.specs.declared.hosts_fault.HFault.{HFault}

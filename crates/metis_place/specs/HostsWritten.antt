@@ -7,8 +7,7 @@
 use Rattle.std.specs.Prelude.{◌≡◌, ◌≤◌, ◌<◌, ◌^◌, ℕ, ◌&&◌, not, Bool, true, List, [], ◌∷◌, ◌++◌, IsTrue, codes, decimal, length, map}
 use Rattle.std.specs.List.{All, concat}
 use Rattle.std.specs.Option.{is_some}
-use Rattle.metis_text.specs.Line.{line}
-use Rattle.metis_text.specs.PlanText.{end_line}
+use Rattle.metis_tokens.specs.Line.{line, end_line}
 use Rattle.metis_universe.specs.Names.{is_name}
 use Rattle.metis_universe.specs.Universe.{Universe, type_named}
 use Rattle.metis_place.specs.Entries.{Entries, has_name}

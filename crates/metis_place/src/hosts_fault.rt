@@ -2,7 +2,7 @@
 ghost use Rattle.std.specs.Prelude.{◌≡◌};
 ghost use Rattle.metis_place.specs.HostsText.{line_fault};
 
-use metis_text::Flaw;
+use metis_tokens::Flaw;
 use std::alloc::{AllocError, AllocFailed};
 
 /// Why bytes are no text of hosts. Lines count from 1, and the first line with a fault counts.

@@ -1,7 +1,7 @@
 //! Reads the text of hosts.
 ghost use Rattle.std.specs.Prelude.{◌≡◌, ◌≤◌, ◌+◌, IfOk, length, map};
 ghost use Rattle.std.specs.Str.{bytes_eq};
-ghost use Rattle.metis_text.specs.Flaws.{made};
+ghost use Rattle.metis_tokens.specs.Flaws.{made};
 ghost use Rattle.metis_universe.specs.Universe.{type_count};
 ghost use Rattle.metis_place.specs.Entries.{entries_of, number_of};
 ghost use Rattle.metis_place.specs.HostsFaults.{IfFault, IsHostsFault};
@@ -12,7 +12,7 @@ use crate::hosts::Hosts;
 use crate::hosts_fault::{HFault, fault_at};
 use indexmap::IndexMap;
 use metis_ids::TypeIx;
-use metis_text::{Flaw, number_in, tokens_of};
+use metis_tokens::{Flaw, number_in, tokens_of};
 use metis_universe::{Universe, name_in};
 use std::alloc::{AllocError, Global};
 use std::marker::Model;

@@ -8,7 +8,7 @@ use Rattle.metis_universe.specs.Config.{Config}
 use Rattle.metis_universe.specs.Numbers.{IsOf}
 use Rattle.metis_universe.specs.Universe.{Universe, IsUniverse}
 use Rattle.metis_config.specs.Over.{IsOver}
-use Rattle.metis_text.specs.Tokens.{tokens}
+use Rattle.metis_tokens.specs.Tokens.{tokens}
 use Rattle.metis_actions.proofs.FaultNumbers.{answer_is_of}
 use Rattle.metis_actions.specs.Faults.{IsCause, IsFaultOf, fault_of}
 use Rattle.metis_actions.specs.declared.faults.AFault.{AFault}

@@ -7,7 +7,7 @@ use Rattle.metis_universe.specs.GoalWords.{goal_word}
 use Rattle.metis_universe.specs.Goals.{IsGoalOf}
 use Rattle.metis_universe.specs.Universe.{Universe, port_name_of}
 use Rattle.metis_universe.specs.PairWords.{pair_word}
-use Rattle.metis_text.specs.MissingLine.{missing_line}
+use Rattle.metis_tokens.specs.MissingLine.{missing_line}
 use Rattle.metis_actions.specs.Faults.{IsFaultOf, fault_text}
 use Rattle.metis_sim.specs.declared.reply.Reply.{Reply}
 use Rattle.metis_sim.specs.declared.reply.Reply.TheVariants.{BadLine, Bye, Did, Ended, Holds, Missing, NoMemory, Nothing, Refused, Show, Undone, Unknown}

@@ -15,7 +15,7 @@ use Rattle.metis_ids.specs.declared.actions.Action.{Action}
 use Rattle.metis_universe.specs.Config.{Config, empty}
 use Rattle.metis_universe.specs.Step.{after}
 use Rattle.metis_universe.specs.Universe.{Universe}
-use Rattle.metis_text.specs.Tokens.{tokens}
+use Rattle.metis_tokens.specs.Tokens.{tokens}
 use Rattle.metis_actions.specs.Faults.{fault_of}
 use Rattle.metis_actions.specs.declared.faults.AFault.{AFault}
 use Rattle.metis_sim.specs.Changes.{AreUndoable, IsFit, befores}

@@ -5,7 +5,7 @@
 use Rattle.std.specs.Prelude.{ℕ, Bool, List, Option, is_some}
 use Rattle.std.specs.Option.{option_and_then}
 use Rattle.std.specs.Result.{result_ok}
-use Rattle.metis_text.specs.Tokens.{number_in}
+use Rattle.metis_tokens.specs.Tokens.{number_in}
 use Rattle.metis_ids.specs.declared.goals.Goal.{Goal}
 use Rattle.metis_universe.specs.GoalWords.{goal_named}
 use Rattle.metis_universe.specs.PairWords.{pair_names}

@@ -11,7 +11,7 @@ use crate::bytes::is;
 use crate::misread::Misread;
 use metis_config::Config;
 use metis_ids::{Action, InstNo, PairIx, PortIx, TypeIx};
-use metis_text::number_in;
+use metis_tokens::number_in;
 use metis_universe::{Universe, name_in};
 
 // A number.

@@ -17,7 +17,7 @@ use crate::misread::Misread;
 use metis_actions::{AFault, apply};
 use metis_config::Config;
 use metis_ids::{Action, NoMemory};
-use metis_text::tokens_of;
+use metis_tokens::tokens_of;
 use metis_universe::Universe;
 use std::alloc::Global;
 use std::marker::Model;

@@ -14,7 +14,7 @@ use metis_actions::{AFault, write_fault};
 use metis_config::{Binding, Config};
 use metis_ids::{InstNo, Ix, PairIx};
 use metis_outside::{CalmSink, Sink, Trouble};
-use metis_text::{put_line, write_missing};
+use metis_tokens::{put_line, write_missing};
 use metis_universe::Universe;
 use std::alloc::{AllocError, Global};
 

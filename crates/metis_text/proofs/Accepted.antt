@@ -4,9 +4,10 @@ use Rattle.std.proofs.lemmas.List.{length-map}
 use Rattle.metis_ids.specs.Plans.{Plan}
 use Rattle.metis_outside.specs.Pieces.{bytes_of}
 use Rattle.metis_universe.specs.Universe.{IsNamed, IsUniverse, Universe}
-use Rattle.metis_text.specs.PlanText.{IsWellFormed, action_lines, counts_line, counts_of, dup_lines, end_line, plan_bytes, plan_header}
+use Rattle.metis_text.specs.PlanText.{IsWellFormed, action_lines, counts_line, counts_of, dup_lines, plan_bytes, plan_header}
+use Rattle.metis_tokens.specs.Line.{end_line}
 use Rattle.metis_text.specs.Reading.{plan_in}
-use Rattle.metis_text.specs.declared.fault.TFault.{TFault}
+use Rattle.metis_tokens.specs.declared.fault.TFault.{TFault}
 use Rattle.std.specs.Prelude.{IfOk}
 use Rattle.metis_text.specs.Reads.{IsTextOf, ReadsPlan, dup_row, lists_of, parts_of, said}
 use Rattle.metis_text.specs.declared.plan_text.PlanText.{PlanText}

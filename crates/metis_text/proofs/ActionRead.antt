@@ -6,16 +6,16 @@ use Rattle.std.proofs.lemmas.Bool.{and_from, eq-eqb}
 use Rattle.metis_ids.specs.declared.actions.Action.{Action}
 use Rattle.metis_ids.specs.declared.actions.Action.TheVariants.{New, Delete, Bind, Unbind, Move}
 use Rattle.metis_universe.specs.Universe.{IsNamed, Universe, pair_count, port_count, port_name_of, port_named, state_name_of, state_named, type_name_of, type_named, type_of}
-use Rattle.metis_text.specs.ActionLine.{after_in, bind_action, due, ends_in, kind_in, move_action, new_action, new_in, row_of, row_with, state_in, states_in, unbind_action}
-use Rattle.metis_text.specs.Flaws.{both, made, right}
+use Rattle.metis_text.specs.ActionLine.{after_in, bind_action, ends_in, kind_in, move_action, new_action, new_in, row_of, row_with, states_in, unbind_action}
+use Rattle.metis_tokens.specs.Tokens.{due, state_in, named, number_in}
+use Rattle.metis_tokens.specs.Flaws.{both, made, right}
 use Rattle.metis_text.specs.PlanText.{action_tokens, after_tokens}
-use Rattle.metis_text.specs.Tokens.{named, number_in}
-use Rattle.metis_text.specs.declared.flaw.Flaw.{Flaw}
-use Rattle.metis_text.specs.declared.flaw.Flaw.TheVariants.{Number}
+use Rattle.metis_tokens.specs.declared.flaw.Flaw.{Flaw}
+use Rattle.metis_tokens.specs.declared.flaw.Flaw.TheVariants.{Number}
 use Rattle.metis_text.proofs.ActionTokens.{IsSaid}
-use Rattle.metis_text.proofs.NameTokens.{named_read, port_at, state_at, type_at}
-use Rattle.metis_text.proofs.NumberTokens.{number_read}
-use Rattle.metis_text.proofs.Printed.{printed, printed_decimal, printed_name}
+use Rattle.metis_tokens.proofs.NameTokens.{named_read, port_at, state_at, type_at}
+use Rattle.metis_tokens.proofs.NumberTokens.{number_read}
+use Rattle.metis_tokens.proofs.Printed.{printed, printed_decimal, printed_name}
 
 -- the number that is due is read where it stands
 pub due_read : (k : ℕ) → k < 2 ^ 32 → due k (decimal k) ≡ Ok k

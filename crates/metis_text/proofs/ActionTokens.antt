@@ -11,14 +11,14 @@ use Rattle.metis_ids.specs.declared.actions.Action.{Action}
 use Rattle.metis_ids.specs.declared.actions.Action.TheVariants.{New, Delete, Bind, Unbind, Move}
 use Rattle.metis_universe.specs.Numbers.{IsOf}
 use Rattle.metis_universe.specs.Universe.{Universe, pair_count, port_count, port_name_of, port_named, state_name_of, state_named, type_named, type_of}
-use Rattle.metis_text.specs.ActionLine.{Words, action_in, bind_action, delete_words, ends_in, kind_in, move_action, move_words, new_action, new_in, new_words, state_in, states_in, tie_words, unbind_action}
-use Rattle.metis_text.specs.Flaws.{both, made}
+use Rattle.metis_text.specs.ActionLine.{Words, action_in, bind_action, delete_words, ends_in, kind_in, move_action, move_words, new_action, new_in, new_words, states_in, tie_words, unbind_action}
+use Rattle.metis_tokens.specs.Tokens.{state_in, named, number_in}
+use Rattle.metis_tokens.specs.Flaws.{both, made}
 use Rattle.metis_text.specs.InRange.{IsActionInRange}
 use Rattle.metis_text.specs.PlanText.{IsMoveOf, action_tokens}
-use Rattle.metis_text.specs.Tokens.{named, number_in}
-use Rattle.metis_text.proofs.NameTokens.{and_then_some, named_is, port_is, state_is, type_is}
-use Rattle.metis_text.proofs.NumberTokens.{number_is}
-use Rattle.metis_text.proofs.Outcomes.{both_is, made_is}
+use Rattle.metis_tokens.proofs.NameTokens.{and_then_some, named_is, port_is, state_is, type_is}
+use Rattle.metis_tokens.proofs.NumberTokens.{number_is}
+use Rattle.metis_tokens.proofs.Outcomes.{both_is, made_is}
 
 abbrev pub Fits : Universe → List Action → Action → Type 0
 Fits u earlier (New z t) = ⊤

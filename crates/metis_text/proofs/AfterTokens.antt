@@ -7,13 +7,13 @@ use Rattle.std.specs.Str.{bytes_eq}
 use Rattle.std.proofs.lemmas.Bool.{and_from, and_parts, ltb-true}
 use Rattle.std.proofs.lemmas.Slice.Eq.{bytes_eq-Decides}
 use Rattle.metis_text.specs.ActionLine.{after_in, rise}
-use Rattle.metis_text.specs.Flaws.{all_behind, right}
+use Rattle.metis_tokens.specs.Flaws.{all_behind, right}
 use Rattle.metis_text.specs.PlanText.{after_tokens}
-use Rattle.metis_text.specs.Tokens.{number_in}
-use Rattle.metis_text.specs.declared.flaw.Flaw.TheVariants.{Form, Number}
-use Rattle.metis_text.proofs.NumberTokens.{number_is, number_read}
-use Rattle.metis_text.proofs.Outcomes.{all_are, all_read, if_is, right_is, words_back, words_read}
-use Rattle.metis_text.proofs.Printed.{printed, printed_decimal}
+use Rattle.metis_tokens.specs.Tokens.{number_in}
+use Rattle.metis_tokens.specs.declared.flaw.Flaw.TheVariants.{Form, Number}
+use Rattle.metis_tokens.proofs.NumberTokens.{number_is, number_read}
+use Rattle.metis_tokens.proofs.Outcomes.{all_are, all_read, if_is, right_is, words_back, words_read}
+use Rattle.metis_tokens.proofs.Printed.{printed, printed_decimal}
 
 word_and_numbers : (word t : List ℕ) (more : List (List ℕ)) (ks : List ℕ) → word ≡ codes "after" → t ∷ more ≡ map decimal ks → word ∷ t ∷ more ≡ after_tokens ks
 word_and_numbers word t more [] is e = cc

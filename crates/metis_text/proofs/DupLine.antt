@@ -9,20 +9,21 @@ use Rattle.std.proofs.lemmas.List.{length-map}
 use Rattle.std.proofs.lemmas.Slice.Eq.{bytes_eq-Decides}
 use Rattle.metis_ids.specs.declared.events.Event.{Event}
 use Rattle.metis_universe.specs.Universe.{IsNamed, IsUniverse, Universe, pair_count}
-use Rattle.metis_text.specs.ActionLine.{due}
-use Rattle.metis_text.specs.DupLine.{DupRow, dup_in, dup_of, dup_with, event_in, pair_in}
-use Rattle.metis_text.specs.Flaws.{all_behind, both, made}
+use Rattle.metis_tokens.specs.Tokens.{due, tokens}
+use Rattle.metis_text.specs.DupLine.{DupRow, dup_in, dup_of, dup_with, event_in}
+use Rattle.metis_tokens.specs.Words.{pair_in}
+use Rattle.metis_tokens.specs.Flaws.{all_behind, both, made}
 use Rattle.metis_text.specs.InRange.{IsEventInRange}
-use Rattle.metis_text.specs.Line.{words}
+use Rattle.metis_tokens.specs.Line.{words}
 use Rattle.metis_text.specs.PlanText.{dup_tokens, event_token}
 use Rattle.metis_universe.specs.PairWords.{pair_word}
-use Rattle.metis_text.specs.Tokens.{tokens}
-use Rattle.metis_text.specs.declared.flaw.Flaw.TheVariants.{Form}
+use Rattle.metis_tokens.specs.declared.flaw.Flaw.TheVariants.{Form}
 use Rattle.metis_text.proofs.ActionRead.{due_read}
-use Rattle.metis_text.proofs.Cuts.{tokens_of_words, words_of_tokens}
-use Rattle.metis_text.proofs.DupWords.{event_is, event_printed, event_read, pair_is, pair_printed, pair_read}
-use Rattle.metis_text.proofs.Outcomes.{all_are, all_read, both_is, each_read, if_is, made_is, words_back, words_read}
-use Rattle.metis_text.proofs.Printed.{printed, printed_decimal}
+use Rattle.metis_tokens.proofs.Cuts.{tokens_of_words, words_of_tokens}
+use Rattle.metis_text.proofs.DupWords.{event_is, event_printed, event_read}
+use Rattle.metis_tokens.proofs.PairTokens.{pair_is, pair_printed, pair_read}
+use Rattle.metis_tokens.proofs.Outcomes.{all_are, all_read, both_is, each_read, if_is, made_is, words_back, words_read}
+use Rattle.metis_tokens.proofs.Printed.{printed, printed_decimal}
 use Rattle.metis_text.proofs.RowLine.{due_is}
 
 pub record IsDupRow (u : Universe) (k : ℕ) (row : DupRow) : Type 0 where

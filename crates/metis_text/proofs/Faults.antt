@@ -14,21 +14,22 @@ use Rattle.metis_outside.specs.Pieces.{bytes_of}
 use Rattle.metis_universe.specs.Universe.{IsTable, Universe}
 use Rattle.metis_text.specs.DupLine.{DupRow}
 use Rattle.metis_text.specs.Faults.{IsFault, IsWellFormedButCount, recounted}
-use Rattle.metis_text.specs.Line.{numbered}
-use Rattle.metis_text.specs.PlanText.{action_line, action_lines, dup_line, dup_lines, end_line, plan_bytes, plan_end, plan_lines}
-use Rattle.metis_text.specs.Reading.{Lines, Parts, fault_at, lines_of, parts, plan_from, plan_in}
-use Rattle.metis_text.specs.Flaws.{and_then}
+use Rattle.metis_tokens.specs.Line.{numbered, end_line}
+use Rattle.metis_text.specs.PlanText.{action_line, action_lines, dup_line, dup_lines, plan_bytes, plan_end, plan_lines}
+use Rattle.metis_tokens.specs.Cursor.{Lines, fault_at, lines_of}
+use Rattle.metis_text.specs.Reading.{Parts, parts, plan_from, plan_in}
+use Rattle.metis_tokens.specs.Flaws.{and_then}
 use Rattle.metis_text.specs.Reads.{dup_row, said}
-use Rattle.metis_text.specs.declared.fault.TFault.{TFault}
-use Rattle.metis_text.specs.declared.fault.TFault.TheVariants.{Line, Short}
+use Rattle.metis_tokens.specs.declared.fault.TFault.{TFault}
+use Rattle.metis_tokens.specs.declared.fault.TFault.TheVariants.{Line, Short}
 use Rattle.metis_text.proofs.Accepted.{said_bytes}
 use Rattle.metis_text.proofs.DupsRead.{AreDups}
 use Rattle.metis_text.proofs.Formed.{formed, parts_of_formed}
 use Rattle.metis_text.proofs.PlanLines.{closed, lines_from, plan_text}
-use Rattle.metis_text.proofs.Texts.{early_is_short, text_by, whole_more}
+use Rattle.metis_tokens.proofs.Texts.{early_is_short, text_by, whole_more}
 use Rattle.metis_text.proofs.PlanRead.{AreParts, numbers_of_parts, parts_bytes}
 use Rattle.metis_text.proofs.PlanParts.{AreCounts}
-use Rattle.metis_text.proofs.Readers.{Wrong, and_then_wrong}
+use Rattle.metis_tokens.proofs.Readers.{Wrong, and_then_wrong}
 use Rattle.metis_text.proofs.RowPlaces.{rows_long}
 use Rattle.metis_text.proofs.WholeLines.{LinesAre, lines_are, lines_read}
 

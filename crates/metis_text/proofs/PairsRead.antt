@@ -5,14 +5,13 @@ use Rattle.std.proofs.Common.{◌≡◌, ℕ, zero, suc, ◌+◌, ◌<◌, true,
 use Rattle.std.specs.Prelude.{⊤}
 use Rattle.std.specs.List.{flat_map}
 use Rattle.metis_universe.specs.Universe.{IsNamed, IsUniverse, Universe, pair_count}
-use Rattle.metis_text.specs.Reading.{Lines, lines_of, read_next}
-use Rattle.metis_text.specs.Flaws.{and_then}
+use Rattle.metis_tokens.specs.Cursor.{Lines, lines_of, read_next}
+use Rattle.metis_tokens.specs.Flaws.{and_then}
 use Rattle.metis_text.specs.RefusalReading.{above, next_pair_in, pairs_from}
 use Rattle.metis_text.specs.RefusalText.{pair_line}
-use Rattle.metis_text.proofs.LinesTaken.{read_next_is, read_next_read}
-use Rattle.metis_text.proofs.Outcomes.{and_then_is}
+use Rattle.metis_tokens.proofs.LinesTaken.{read_next_is, read_next_read, line_and_rest}
+use Rattle.metis_tokens.proofs.Outcomes.{and_then_is}
 use Rattle.metis_text.proofs.RefusalLines.{next_pair_is, next_pair_read, pair_tokens, pair_tokens_printed}
-use Rattle.metis_text.proofs.RowsRead.{line_and_rest}
 
 abbrev pub ArePairs : Universe → List ℕ → List ℕ → Type 0
 ArePairs u before [] = ⊤

@@ -9,13 +9,14 @@ use Rattle.metis_ids.proofs.Tests.{nonzero}
 use Rattle.metis_universe.specs.Universe.{Universe}
 use Rattle.metis_text.specs.ActionLine.{row_in}
 use Rattle.metis_text.specs.DupLine.{DupRow, dup_in}
-use Rattle.metis_text.specs.Reading.{Lines, Numbers, Parts, Rows, body_from, counted, counts_in, dups_from, end_from, ended, exactly, parts, plan_from, read_next, rows_from, rows_of, with_row}
-use Rattle.metis_text.specs.Flaws.{and_then}
-use Rattle.metis_text.specs.declared.fault.TFault.{TFault}
-use Rattle.metis_text.specs.declared.fault.TFault.TheVariants.{Line, Short}
-use Rattle.metis_text.proofs.Outcomes.{and_then_behind}
-use Rattle.metis_text.proofs.Texts.{IsText}
-use Rattle.metis_text.proofs.Readers.{IsReader, done_reads, read_next_reads, then_reads}
+use Rattle.metis_tokens.specs.Cursor.{Lines, ended, exactly, read_next}
+use Rattle.metis_text.specs.Reading.{Numbers, Parts, Rows, body_from, counted, counts_in, dups_from, end_from, parts, plan_from, rows_from, rows_of, with_row}
+use Rattle.metis_tokens.specs.Flaws.{and_then}
+use Rattle.metis_tokens.specs.declared.fault.TFault.{TFault}
+use Rattle.metis_tokens.specs.declared.fault.TFault.TheVariants.{Line, Short}
+use Rattle.metis_tokens.proofs.Outcomes.{and_then_behind}
+use Rattle.metis_tokens.proofs.Texts.{IsText}
+use Rattle.metis_tokens.proofs.Readers.{IsReader, done_reads, read_next_reads, then_reads}
 
 abbrev pub last_from : Parts → Lines → Result (Parts × Lines) TFault
 last_from p l = and_then (read_next (exactly (codes "end")) l) (λ e. Ok (p, e.1))

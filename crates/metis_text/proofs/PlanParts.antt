@@ -1,31 +1,24 @@
--- The first two lines and the last one are read just where they are what is written there.
-use Rattle.std.proofs.Common.{◌≡◌, ℕ, ◌+◌, ◌<◌, ◌^◌, true, ◌&&◌, List, [], ◌∷◌, length, Ok, Err, refl, sym, ap, ◌∙◌, decimal}
+-- The second line is read just where it is what is written there.
+use Rattle.std.proofs.Common.{◌≡◌, ℕ, ◌<◌, ◌^◌, true, ◌&&◌, List, [], ◌∷◌, Ok, Err, refl, sym, ap, ◌∙◌, decimal}
 use Rattle.std.specs.Prelude.{codes}
 use Rattle.std.specs.Bool.{if◌then◌else◌, ◌==◌}
 use Rattle.std.specs.List.{count_by, list_all}
 use Rattle.std.specs.Str.{bytes_eq}
 use Rattle.std.proofs.lemmas.Bool.{and_from, and_parts, eq-eqb, eqb-true}
-use Rattle.std.proofs.lemmas.List.{nil_from_length}
 use Rattle.std.proofs.lemmas.Slice.Eq.{bytes_eq-Decides}
-use Rattle.metis_text.specs.Flaws.{both}
-use Rattle.metis_text.specs.Line.{words}
+use Rattle.metis_tokens.specs.Flaws.{both}
+use Rattle.metis_tokens.specs.Line.{words}
 use Rattle.metis_ids.specs.Action.{makes}
-use Rattle.metis_text.specs.Reading.{Lines, Numbers, Parts, counted, counts_in, counts_of_tokens, ended, exactly}
-use Rattle.metis_text.specs.Tokens.{number_in, tokens}
-use Rattle.metis_text.specs.declared.fault.TFault.TheVariants.{Line}
-use Rattle.metis_text.specs.declared.flaw.Flaw.TheVariants.{Form}
-use Rattle.metis_text.proofs.Cuts.{tokens_of_words, words_of_tokens}
-use Rattle.metis_text.proofs.NumberTokens.{number_is, number_read}
-use Rattle.metis_text.proofs.Outcomes.{both_is, if_is}
-use Rattle.metis_text.proofs.Printed.{printed, printed_decimal}
+use Rattle.metis_text.specs.Reading.{Numbers, Parts, counted, counts_in, counts_of_tokens}
+use Rattle.metis_tokens.specs.Tokens.{number_in, tokens}
+use Rattle.metis_tokens.specs.declared.fault.TFault.TheVariants.{Line}
+use Rattle.metis_tokens.specs.declared.flaw.Flaw.TheVariants.{Form}
+use Rattle.metis_tokens.proofs.Cuts.{tokens_of_words, words_of_tokens}
+use Rattle.metis_tokens.proofs.NumberTokens.{number_is, number_read}
+use Rattle.metis_tokens.proofs.Outcomes.{both_is, if_is}
+use Rattle.metis_tokens.proofs.Printed.{printed, printed_decimal}
 
--- ---- a line that is known, and the end
-
-pub exactly_is : (bytes line : List ℕ) (x : Unit {0}) → exactly bytes line ≡ Ok x → line ≡ bytes
-exactly_is bytes line x h = (bytes_eq-Decides line bytes).0 (if_is (bytes_eq line bytes) (Ok tt) Form x h).0
-
-pub ended_is : (l : Lines) (x : Unit {0}) → ended l ≡ Ok x → l.rest ≡ []
-ended_is l x h = nil_from_length l.rest (eqb-true (length l.rest) 0 (if_is (length l.rest == 0) (Ok tt) (Line (l.number + 1)) x h).0)
+-- ---- the end
 
 pub counted_is : (p q : Parts) → counted p ≡ Ok q → (p ≡ q) × (count_by makes p.rows.actions ≡ p.instances)
 counted_is p q h = let both = if_is (count_by makes p.rows.actions == p.instances) (Ok p) (Line 2) q h in (cc, eqb-true (count_by makes p.rows.actions) p.instances both.0)

@@ -6,15 +6,17 @@ use Rattle.std.proofs.Common.{◌≡◌, ℕ, List, [], ◌∷◌, ◌++◌, len
 use Rattle.std.specs.Prelude.{codes}
 use Rattle.std.specs.List.{count_by, zip}
 use Rattle.metis_universe.specs.Universe.{IsNamed, IsUniverse, Universe}
-use Rattle.metis_text.specs.Line.{line, words}
+use Rattle.metis_tokens.specs.Line.{line, words, end_line}
 use Rattle.metis_ids.specs.Action.{makes}
-use Rattle.metis_text.specs.PlanText.{action_line, counts_line, end_line, plan_header}
-use Rattle.metis_text.specs.Reading.{Lines, Numbers, Parts, Rows, body_from, counted, counts_in, dups_from, end_from, ended, exactly, lines_of, parts, plan_in, read_next, rows_from, rows_of}
-use Rattle.metis_text.specs.Flaws.{and_then}
+use Rattle.metis_text.specs.PlanText.{action_line, counts_line, plan_header}
+use Rattle.metis_tokens.specs.Cursor.{Lines, ended, exactly, lines_of, read_next}
+use Rattle.metis_text.specs.Reading.{Numbers, Parts, Rows, body_from, counted, counts_in, dups_from, end_from, parts, plan_in, rows_from, rows_of}
+use Rattle.metis_tokens.specs.Flaws.{and_then}
 use Rattle.metis_text.proofs.DupsRead.{AreDups, dup_row_line, dups_are, dups_read}
-use Rattle.metis_text.proofs.LinesTaken.{read_next_is, read_next_read}
-use Rattle.metis_text.proofs.Outcomes.{and_then_is}
-use Rattle.metis_text.proofs.PlanParts.{AreCounts, counted_is, counted_read, counts_are, counts_printed, counts_read, counts_tokens, ended_is, exactly_is}
+use Rattle.metis_tokens.proofs.LinesTaken.{read_next_is, read_next_read}
+use Rattle.metis_tokens.proofs.Outcomes.{and_then_is}
+use Rattle.metis_text.proofs.PlanParts.{AreCounts, counted_is, counted_read, counts_are, counts_printed, counts_read, counts_tokens}
+use Rattle.metis_tokens.proofs.KnownLines.{ended_is, exactly_is}
 use Rattle.metis_text.proofs.RowsRead.{AreRows, rows_are, rows_read}
 use Rattle.metis_text.proofs.TextBytes.{numbered_bytes}
 

@@ -9,19 +9,19 @@ use Rattle.metis_ids.proofs.Tests.{nonzero}
 use Rattle.metis_outside.specs.Pieces.{bytes_of}
 use Rattle.metis_universe.specs.Universe.{IsTable, Universe}
 use Rattle.metis_text.specs.Faults.{IsRefusalFault}
-use Rattle.metis_text.specs.PlanText.{end_line}
-use Rattle.metis_text.specs.Reading.{Lines, ended, exactly, fault_at, lines_of, read_next}
-use Rattle.metis_text.specs.Flaws.{and_then}
+use Rattle.metis_tokens.specs.Line.{end_line}
+use Rattle.metis_tokens.specs.Cursor.{Lines, ended, exactly, fault_at, lines_of, read_next}
+use Rattle.metis_tokens.specs.Flaws.{and_then}
 use Rattle.metis_text.specs.RefusalReading.{RefusalParts, lacks_in, next_pair_in, pairs_from, refusal_end_from, refusal_from, refusal_in, refusal_parts, refusal_set_from, size_in}
 use Rattle.metis_text.specs.RefusalText.{IsRefusal, pair_line, refusal_bytes, refusal_lines}
-use Rattle.metis_text.specs.declared.fault.TFault.{TFault}
-use Rattle.metis_text.specs.declared.fault.TFault.TheVariants.{Line, Short}
-use Rattle.metis_text.proofs.Outcomes.{and_then_behind, and_then_is}
+use Rattle.metis_tokens.specs.declared.fault.TFault.{TFault}
+use Rattle.metis_tokens.specs.declared.fault.TFault.TheVariants.{Line, Short}
+use Rattle.metis_tokens.proofs.Outcomes.{and_then_behind, and_then_is}
 use Rattle.metis_text.proofs.PairsRead.{pairs_are}
-use Rattle.metis_text.proofs.Readers.{IsReader, Took, Wrong, and_then_wrong, done_reads, read_next_reads, then_reads}
+use Rattle.metis_tokens.proofs.Readers.{IsReader, Took, Wrong, and_then_wrong, done_reads, read_next_reads, then_reads}
 use Rattle.metis_text.proofs.RefusalRead.{refusal_is, refusal_read}
-use Rattle.metis_text.proofs.Texts.{IsText, early_is_short, text_by, whole_more}
-use Rattle.metis_text.proofs.WholeLines.{read_next_number}
+use Rattle.metis_tokens.proofs.Texts.{IsText, early_is_short, text_by, whole_more}
+use Rattle.metis_tokens.proofs.LinesTaken.{read_next_number}
 
 -- ---- its lines, and then their end
 

@@ -9,18 +9,19 @@ use Rattle.std.proofs.lemmas.Slice.Eq.{bytes_eq-Decides}
 use Rattle.metis_ids.specs.declared.goals.Goal.{Goal}
 use Rattle.metis_universe.specs.GoalWords.{IsWordable, goal_word}
 use Rattle.metis_universe.specs.Universe.{IsNamed, IsUniverse, Universe, pair_count}
-use Rattle.metis_text.specs.Flaws.{right}
-use Rattle.metis_text.specs.Line.{words}
+use Rattle.metis_tokens.specs.Flaws.{right}
+use Rattle.metis_tokens.specs.Line.{words}
 use Rattle.metis_universe.specs.PairWords.{pair_word}
-use Rattle.metis_text.specs.RefusalReading.{above, goal_in, lacks_in, lacks_of_tokens, next_pair_in, pair_of_tokens, size_in, size_of_tokens}
-use Rattle.metis_text.specs.Tokens.{number_in, tokens}
-use Rattle.metis_text.specs.declared.flaw.Flaw.TheVariants.{Form, Number}
-use Rattle.metis_text.proofs.Cuts.{tokens_of_words, words_of_tokens}
-use Rattle.metis_text.proofs.DupWords.{pair_is, pair_printed, pair_read}
-use Rattle.metis_text.proofs.GoalTokens.{goal_is, goal_printed, goal_read}
-use Rattle.metis_text.proofs.NumberTokens.{number_is, number_read}
-use Rattle.metis_text.proofs.Outcomes.{if_is, right_is}
-use Rattle.metis_text.proofs.Printed.{printed, printed_decimal}
+use Rattle.metis_text.specs.RefusalReading.{above, lacks_in, lacks_of_tokens, next_pair_in, pair_of_tokens, size_in, size_of_tokens}
+use Rattle.metis_tokens.specs.Words.{goal_in}
+use Rattle.metis_tokens.specs.Tokens.{number_in, tokens}
+use Rattle.metis_tokens.specs.declared.flaw.Flaw.TheVariants.{Form, Number}
+use Rattle.metis_tokens.proofs.Cuts.{tokens_of_words, words_of_tokens}
+use Rattle.metis_tokens.proofs.PairTokens.{pair_is, pair_printed, pair_read}
+use Rattle.metis_tokens.proofs.GoalTokens.{goal_is, goal_printed, goal_read}
+use Rattle.metis_tokens.proofs.NumberTokens.{number_is, number_read}
+use Rattle.metis_tokens.proofs.Outcomes.{if_is, right_is}
+use Rattle.metis_tokens.proofs.Printed.{printed, printed_decimal}
 
 abbrev pub lacks_tokens : Universe → Goal → List (List ℕ)
 lacks_tokens u g = codes "lacks" ∷ goal_word u g ∷ []

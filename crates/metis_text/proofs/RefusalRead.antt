@@ -5,18 +5,17 @@ use Rattle.std.specs.List.{flat_map}
 use Rattle.metis_ids.specs.declared.goals.Goal.{Goal}
 use Rattle.metis_universe.specs.GoalWords.{IsWordable}
 use Rattle.metis_universe.specs.Universe.{IsTable, Universe}
-use Rattle.metis_text.specs.Line.{line, words}
-use Rattle.metis_text.specs.PlanText.{end_line}
-use Rattle.metis_text.specs.Reading.{Lines, ended, exactly, lines_of, read_next}
-use Rattle.metis_text.specs.Flaws.{and_then}
+use Rattle.metis_tokens.specs.Line.{line, words, end_line}
+use Rattle.metis_tokens.specs.Cursor.{Lines, ended, exactly, lines_of, read_next}
+use Rattle.metis_tokens.specs.Flaws.{and_then}
 use Rattle.metis_text.specs.RefusalReading.{ReadsRefusal, RefusalParts, lacks_in, pairs_from, refusal_end_from, refusal_in, refusal_of, refusal_parts, refusal_set_from, size_in}
 use Rattle.metis_text.specs.RefusalText.{IsRefusal, pair_line, refusal_bytes}
-use Rattle.metis_text.specs.declared.fault.TFault.{TFault}
+use Rattle.metis_tokens.specs.declared.fault.TFault.{TFault}
 use Rattle.metis_text.specs.declared.refusal_text.Refusal.{Refusal}
-use Rattle.metis_text.proofs.LinesTaken.{read_next_is, read_next_read}
-use Rattle.metis_text.proofs.Outcomes.{and_then_is}
+use Rattle.metis_tokens.proofs.LinesTaken.{read_next_is, read_next_read}
+use Rattle.metis_tokens.proofs.Outcomes.{and_then_is}
 use Rattle.metis_text.proofs.PairsRead.{ArePairs, pairs_are, pairs_read}
-use Rattle.metis_text.proofs.PlanParts.{ended_is, exactly_is}
+use Rattle.metis_tokens.proofs.KnownLines.{ended_is, exactly_is}
 use Rattle.metis_text.proofs.RefusalLines.{lacks_is, lacks_printed, lacks_read, lacks_tokens, size_is, size_printed, size_read, size_tokens}
 use Rattle.metis_text.proofs.RefusalSets.{ascending_pairs, pairs_ascend, set_few}
 use Rattle.metis_text.proofs.TextBytes.{body_bytes, refusal_bytes_by_parts, rest_bytes, set_bytes}

@@ -7,18 +7,18 @@ use Rattle.std.proofs.lemmas.Bool.{and_from, eqb-true}
 use Rattle.std.proofs.lemmas.List.Folds.{list_all-append}
 use Rattle.metis_ids.specs.declared.actions.Action.{Action}
 use Rattle.metis_universe.specs.Universe.{IsNamed, Universe}
-use Rattle.metis_text.specs.ActionLine.{Row, Words, action_in, after_in, due, rise, row_in, row_of, row_with}
-use Rattle.metis_text.specs.Flaws.{both}
-use Rattle.metis_text.specs.Line.{words}
+use Rattle.metis_text.specs.ActionLine.{Row, Words, action_in, after_in, rise, row_in, row_of, row_with}
+use Rattle.metis_tokens.specs.Tokens.{due, number_in, tokens}
+use Rattle.metis_tokens.specs.Flaws.{both}
+use Rattle.metis_tokens.specs.Line.{words}
 use Rattle.metis_text.specs.PlanText.{action_tokens, after_tokens}
-use Rattle.metis_text.specs.Tokens.{number_in, tokens}
 use Rattle.metis_text.proofs.ActionRead.{action_printed, due_read, tokens_read}
 use Rattle.metis_text.proofs.ActionTokens.{IsSaid, action_is}
 use Rattle.metis_text.proofs.AfterTokens.{after_is, after_printed, after_read}
-use Rattle.metis_text.proofs.Cuts.{tokens_of_words, words_of_tokens}
-use Rattle.metis_text.proofs.NumberTokens.{number_is}
-use Rattle.metis_text.proofs.Outcomes.{both_is, made_is, right_is}
-use Rattle.metis_text.proofs.Printed.{printed, printed_decimal}
+use Rattle.metis_tokens.proofs.Cuts.{tokens_of_words, words_of_tokens}
+use Rattle.metis_tokens.proofs.NumberTokens.{number_is}
+use Rattle.metis_tokens.proofs.Outcomes.{both_is, made_is, right_is}
+use Rattle.metis_tokens.proofs.Printed.{printed, printed_decimal}
 
 pub record IsRow (u : Universe) (earlier : List Action) (row : Row) : Type 0 where
   pub said : IsSaid u earlier row.0

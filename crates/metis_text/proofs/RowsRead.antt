@@ -8,12 +8,12 @@ use Rattle.std.proofs.lemmas.List.{length_push}
 use Rattle.metis_ids.specs.declared.actions.Action.{Action}
 use Rattle.metis_universe.specs.Universe.{IsNamed, Universe}
 use Rattle.metis_text.specs.ActionLine.{Row, row_in}
-use Rattle.metis_text.specs.Line.{line, words}
 use Rattle.metis_text.specs.PlanText.{action_line}
-use Rattle.metis_text.specs.Reading.{Lines, Rows, lines_of, read_next, rows_from, rows_of, with_row}
-use Rattle.metis_text.specs.Flaws.{and_then}
-use Rattle.metis_text.proofs.LinesTaken.{read_next_is, read_next_read}
-use Rattle.metis_text.proofs.Outcomes.{and_then_is}
+use Rattle.metis_tokens.specs.Cursor.{Lines, lines_of, read_next}
+use Rattle.metis_text.specs.Reading.{Rows, rows_from, rows_of, with_row}
+use Rattle.metis_tokens.specs.Flaws.{and_then}
+use Rattle.metis_tokens.proofs.LinesTaken.{line_and_rest, read_next_is, read_next_read}
+use Rattle.metis_tokens.proofs.Outcomes.{and_then_is}
 use Rattle.metis_text.proofs.RowLine.{IsRow, row_is, row_printed, row_read, row_tokens}
 use Rattle.metis_text.proofs.TextBytes.{numbered_bytes}
 
@@ -30,10 +30,6 @@ pub record RowsRead (u : Universe) (left : ℕ) (rows : Rows) (l : Lines) (p : R
   pub many : length actions ≡ left
   pub are : AreRows u rows.actions actions after
   pub text : l.rest ≡ numbered_bytes (action_line u) (length rows.actions + 1) (zip actions after) ++ p.1.rest
-
--- a line, a text of others and what stands behind, in a row
-pub line_and_rest : (ts : List (List ℕ)) (others rest : List ℕ) → words ts ++ (10 ∷ (others ++ rest)) ≡ (line ts ++ others) ++ rest
-line_and_rest ts others rest = sym (append_assoc (words ts) (10 ∷ []) (others ++ rest)) ∙ sym (append_assoc (line ts) others rest)
 
 module _ (u : Universe) where
   pub rows_are : (left : ℕ) (rows : Rows) (l : Lines) (p : Rows × Lines) → rows_from u left rows l ≡ Ok p → RowsRead u left rows l p

@@ -1,37 +1,26 @@
 -- The lines of the text of a plan, where the number of instances may be wrong and more may stand behind them.
 --     BodyAre u counts l q end      q was read behind the second line, and this is left
 --     LinesAre u l w      these parts were read, and these lines are left
-use Rattle.std.proofs.Common.{◌≡◌, ℕ, zero, suc, ◌+◌, List, [], ◌∷◌, ◌++◌, length, take, drop, position, Option, Some, None, Result, Ok, refl, sym, ap, ◌∙◌, subst, append_assoc, arith}
+use Rattle.std.proofs.Common.{◌≡◌, ℕ, zero, suc, ◌+◌, List, [], ◌∷◌, ◌++◌, length, Ok, refl, sym, ap, ◌∙◌, subst, append_assoc, arith}
 use Rattle.std.specs.Prelude.{codes}
 use Rattle.std.specs.List.{zip}
 use Rattle.metis_universe.specs.Universe.{IsNamed, IsUniverse, Universe}
 use Rattle.metis_text.specs.ActionLine.{row_in}
 use Rattle.metis_text.specs.DupLine.{DupRow, dup_in}
-use Rattle.metis_text.specs.Flaws.{and_then, made}
-use Rattle.metis_text.specs.Line.{line, words}
-use Rattle.metis_text.specs.PlanText.{action_line, counts_line, end_line}
-use Rattle.metis_text.specs.Reading.{Lines, Numbers, Parts, Rows, counts_in, dups_from, exactly, is_feed, line_to, lines_of, next_line, parts, read_next, rows_from, rows_of, told, with_row}
-use Rattle.metis_text.specs.declared.flaw.Flaw.{Flaw}
+use Rattle.metis_tokens.specs.Flaws.{and_then}
+use Rattle.metis_tokens.specs.Line.{line, words, end_line}
+use Rattle.metis_text.specs.PlanText.{action_line, counts_line}
+use Rattle.metis_tokens.specs.Cursor.{Lines, exactly, lines_of, read_next}
+use Rattle.metis_text.specs.Reading.{Numbers, Parts, Rows, counts_in, dups_from, parts, rows_from, rows_of, with_row}
 use Rattle.metis_text.proofs.DupsRead.{AreDups, dup_row_line, dups_are, dups_read}
 use Rattle.metis_text.proofs.PlanLines.{counts_then, dups_then, last_from, lines_from, rows_then}
-use Rattle.metis_text.proofs.LinesTaken.{read_next_is, read_next_read}
-use Rattle.metis_text.proofs.Outcomes.{and_then_is, made_is}
-use Rattle.metis_text.proofs.PlanParts.{AreCounts, counts_are, counts_printed, counts_read, counts_tokens, exactly_is}
+use Rattle.metis_tokens.proofs.LinesTaken.{read_next_is, read_next_read, read_next_number}
+use Rattle.metis_tokens.proofs.Outcomes.{and_then_is}
+use Rattle.metis_text.proofs.PlanParts.{AreCounts, counts_are, counts_printed, counts_read, counts_tokens}
+use Rattle.metis_tokens.proofs.KnownLines.{exactly_is}
 use Rattle.metis_text.proofs.PlanRead.{body_bytes, numbers_of_parts, parts_bytes}
 use Rattle.metis_text.proofs.RowsRead.{AreRows, rows_are, rows_read}
 use Rattle.metis_text.proofs.TextBytes.{numbered_bytes}
-
--- ---- the number of the line that was read last
-
-line_to_number : (l : Lines) (o : Option ℕ) (p : List ℕ × Lines) → line_to l o ≡ Ok p → p.1.number ≡ l.number + 1
-line_to_number l None p h = cc
-line_to_number l (Some end) p h = let is : (take end l.rest, lines_of (drop (end + 1) l.rest) (l.number + 1)) ≡ p = cc in sym (ap (λ p. p.1.number) is)
-
-pub read_next_number : {A : Type 0} (read : List ℕ → Result A Flaw) (l : Lines) (p : A × Lines) → read_next read l ≡ Ok p → p.1.number ≡ l.number + 1
-read_next_number read l p h =
-    let next = and_then_is (next_line l) (λ p. made (λ a. (a, p.1)) (told p.1 (read p.0))) p h in
-    let value = made_is (λ a. (a, next.0.1)) (told next.0.1 (read next.0.0)) p next.2 in
-    sym (ap (λ p. p.1.number) value.2) ∙ line_to_number l (position is_feed l.rest) next.0 next.1
 
 last_is : (p : Parts) (l : Lines) (w : Parts × Lines) → last_from p l ≡ Ok w → (p ≡ w.0) × (l.rest ≡ end_line ++ w.1.rest) × (w.1.number ≡ l.number + 1)
 last_is p l w h =

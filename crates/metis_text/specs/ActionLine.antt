@@ -2,21 +2,16 @@
 --     action_in u earlier verb args      the action that stands behind the action's number, with the tokens behind it
 --     after_in k tokens      the numbers of the actions that action number k waits for, which ascend and lie below k
 --     row_in u earlier line      the action and its list, where those before it are known
-use Rattle.std.specs.Prelude.{ℕ, ◌+◌, nat_lt, Bool, true, ◌&&◌, ◌==◌, List, [], ◌∷◌, length, codes, Option, Some, None, Result, Ok, Err, if◌then◌else◌}
-use Rattle.std.specs.Option.{option_and_then}
+use Rattle.std.specs.Prelude.{ℕ, ◌+◌, nat_lt, Bool, true, ◌&&◌, List, [], ◌∷◌, length, codes, Option, Some, None, Result, Ok, Err, if◌then◌else◌}
 use Rattle.std.specs.Str.{bytes_eq}
 use Rattle.metis_ids.specs.declared.actions.Action.{Action}
 use Rattle.metis_ids.specs.declared.actions.Action.TheVariants.{New, Delete, Bind, Unbind, Move}
-use Rattle.metis_text.specs.declared.flaw.Flaw.{Flaw}
-use Rattle.metis_text.specs.declared.flaw.Flaw.TheVariants.{Form}
-use Rattle.metis_text.specs.Flaws.{all_behind, both, made, right}
+use Rattle.metis_tokens.specs.declared.flaw.Flaw.{Flaw}
+use Rattle.metis_tokens.specs.declared.flaw.Flaw.TheVariants.{Form}
+use Rattle.metis_tokens.specs.Flaws.{all_behind, both, made, right}
 use Rattle.metis_text.specs.PlanText.{last_kind}
-use Rattle.metis_text.specs.Tokens.{named, number_in, tokens}
-use Rattle.metis_universe.specs.Universe.{Universe, port_named, state_named, type_named}
-
--- the number that is due
-abbrev pub due : ℕ → List ℕ → Result ℕ Flaw
-due k t = right (λ n. n == k) (number_in t)
+use Rattle.metis_tokens.specs.Tokens.{named, number_in, tokens, due, state_in}
+use Rattle.metis_universe.specs.Universe.{Universe, port_named, type_named}
 
 abbrev pub new_action : ℕ × ℕ → Action
 new_action p = New p.0 p.1
@@ -41,9 +36,6 @@ ends_in u r z y = both (named (port_named u) r) (both (number_in z) (number_in y
 abbrev pub kind_in : List Action → Result ℕ Flaw → Option ℕ
 kind_in earlier (Ok z) = last_kind z earlier
 kind_in earlier (Err f) = None
-
-abbrev pub state_in : Universe → Option ℕ → List ℕ → Result ℕ Flaw
-state_in u kind name = named (λ s. option_and_then (λ t. state_named u t s) kind) name
 
 -- an instance, and two states of its type
 abbrev pub states_in : Universe → List Action → List ℕ → List ℕ → List ℕ → Result (ℕ × (ℕ × ℕ)) Flaw

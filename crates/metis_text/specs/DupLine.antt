@@ -1,30 +1,20 @@
 -- A line of a dup that is read.
---     of_names find names      what is found by the two names of a word, if it is two names
---     pair_in u word      the pair whose type and state the word names, with a colon between them
 --     event_in t      the end, or a line and a step with a point between them
 --     dup_in u k line      the pair and its cycle, in the line of dup number k
-use Rattle.std.specs.Prelude.{ℕ, ◌&&◌, Bool, ◌==◌, List, [], ◌∷◌, codes, Option, Some, None, Result, Ok, Err, if◌then◌else◌}
+use Rattle.std.specs.Prelude.{ℕ, ◌&&◌, Bool, ◌==◌, List, [], ◌∷◌, codes, Result, Ok, Err, if◌then◌else◌}
 use Rattle.std.specs.List.{after_first, before_first}
 use Rattle.std.specs.Str.{bytes_eq}
 use Rattle.metis_ids.specs.declared.events.Event.{Event}
 use Rattle.metis_ids.specs.declared.events.Event.TheVariants.{At, End}
-use Rattle.metis_text.specs.declared.flaw.Flaw.{Flaw}
-use Rattle.metis_text.specs.declared.flaw.Flaw.TheVariants.{Form}
-use Rattle.metis_text.specs.ActionLine.{due}
-use Rattle.metis_text.specs.Flaws.{all_behind, both, found, made}
-use Rattle.metis_text.specs.Tokens.{number_in, tokens}
-use Rattle.metis_universe.specs.PairWords.{pair_names}
-use Rattle.metis_universe.specs.Universe.{Universe, pair_named}
+use Rattle.metis_tokens.specs.declared.flaw.Flaw.{Flaw}
+use Rattle.metis_tokens.specs.declared.flaw.Flaw.TheVariants.{Form}
+use Rattle.metis_tokens.specs.Tokens.{due, number_in, tokens}
+use Rattle.metis_tokens.specs.Words.{pair_in}
+use Rattle.metis_tokens.specs.Flaws.{all_behind, both, made}
+use Rattle.metis_universe.specs.Universe.{Universe}
 
 abbrev pub is_point : ℕ → Bool
 is_point byte = byte == 46
-
-abbrev pub of_names : {A : Type 0} → (List ℕ → List ℕ → Option A) → Option (List ℕ × List ℕ) → Result A Flaw
-of_names find None = Err Form
-of_names find (Some names) = found (find names.0 names.1)
-
-abbrev pub pair_in : Universe → List ℕ → Result ℕ Flaw
-pair_in u word = of_names (pair_named u) (pair_names word)
 
 abbrev pub at_event : ℕ × ℕ → Event
 at_event p = At p.0 p.1

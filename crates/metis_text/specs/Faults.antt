@@ -1,25 +1,23 @@
 -- Where the faults of the texts of plans and of refusals come from.
 --     recounted p      the plan with the number of instances that its actions make
 --     IsWellFormedButCount u p after      what a text says that can be read but for its number of instances
---     IsOfLine read bytes f      a line has a flaw, and each text that begins with the lines up to it is read as this fault
 --     IsPastEnd u bytes f      more stands behind the text of such a plan with lists
 --     IsMiscounted u bytes f      the bytes are the text of such a plan with lists, and its number of instances is wrong
 --     IsFault u bytes f      the bytes end too early, or it is one of these
 --     IsPastRefusal u bytes f, IsRefusalFault u bytes f      more stands behind the text of a refusal;  all faults of refusals
-use Rattle.std.specs.Prelude.{◌≡◌, ◌≢◌, ◌<◌, ◌≤◌, ◌^◌, ◌+◌, ℕ, List, ◌++◌, length, Result, Err}
-use Rattle.std.specs.List.{All, count_by}
+use Rattle.std.specs.Prelude.{◌≡◌, ◌≢◌, ◌<◌, ◌≤◌, ◌^◌, ◌+◌, ℕ, List, ◌++◌, length}
+use Rattle.std.specs.List.{count_by}
 use Rattle.metis_ids.specs.declared.goals.Goal.{Goal}
 use Rattle.metis_ids.specs.Action.{makes}
 use Rattle.metis_ids.specs.Plans.{Plan}
-use Rattle.metis_outside.specs.Pieces.{IsLine, bytes_of}
 use Rattle.metis_universe.specs.Universe.{Universe}
 use Rattle.metis_text.specs.PlanText.{IsWellFormed, plan_bytes, plan_lines}
-use Rattle.metis_text.specs.Reading.{fault_at, plan_in}
+use Rattle.metis_text.specs.Reading.{plan_in}
+use Rattle.metis_tokens.specs.LineFaults.{IsOfLine}
 use Rattle.metis_text.specs.RefusalReading.{refusal_in}
 use Rattle.metis_text.specs.RefusalText.{IsRefusal, refusal_bytes, refusal_lines}
-use Rattle.metis_text.specs.declared.fault.TFault.{TFault}
-use Rattle.metis_text.specs.declared.fault.TFault.TheVariants.{Line, Short}
-use Rattle.metis_text.specs.declared.flaw.Flaw.{Flaw}
+use Rattle.metis_tokens.specs.declared.fault.TFault.{TFault}
+use Rattle.metis_tokens.specs.declared.fault.TFault.TheVariants.{Line, Short}
 
 abbrev pub recounted : Plan → Plan
 recounted p = record { actions = p.actions; dups = p.dups; instances = count_by makes p.actions }
@@ -27,17 +25,6 @@ recounted p = record { actions = p.actions; dups = p.dups; instances = count_by 
 pub record IsWellFormedButCount (u : Universe) (p : Plan) (after : List (List ℕ)) : Type 0 where
   pub recounted_so : IsWellFormed u (recounted p) after
   pub few_instances : p.instances < 2 ^ 32
-
--- the front is these lines with their line feeds; it does not matter what stands behind them, and no fault is told before the last of them ends
-pub record IsOfLine {A : Type 0} (read : List ℕ → Result A TFault) (bytes : List ℕ) (f : TFault) : Type 0 where
-  pub front : List (List ℕ)
-  pub behind : List ℕ
-  pub text : bytes ≡ bytes_of front ++ behind
-  pub lines : All IsLine front
-  pub flaw : Flaw
-  pub fault : f ≡ fault_at (length front) flaw
-  pub each : (other : List ℕ) → read (bytes_of front ++ other) ≡ Err f
-  pub first : (before rest : List ℕ) → bytes_of front ≡ before ++ rest → 1 ≤ length rest → read before ≡ Err Short
 
 -- the fault is told of the line behind the last one, whether it has an end or not
 pub record IsPastEnd (u : Universe) (bytes : List ℕ) (f : TFault) : Type 0 where

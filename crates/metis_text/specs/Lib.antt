@@ -1,14 +1,10 @@
 pub mod ActionLine
 pub mod DupLine
 pub mod Faults
-pub mod Flaws
 pub mod InRange
 pub mod Kinds
-pub mod Line
-pub mod MissingLine
 pub mod PlanText
 pub mod Reading
 pub mod Reads
 pub mod RefusalReading
 pub mod RefusalText
-pub mod Tokens

@@ -18,7 +18,7 @@ use Rattle.metis_ids.specs.declared.events.Event.TheVariants.{At, End}
 use Rattle.metis_ids.specs.Plans.{Dup, Plan}
 use Rattle.metis_outside.specs.Pieces.{bytes_of}
 use Rattle.metis_text.specs.InRange.{IsPlanInRange}
-use Rattle.metis_text.specs.Line.{line, numbered}
+use Rattle.metis_tokens.specs.Line.{line, numbered, end_line}
 use Rattle.metis_universe.specs.Numbers.{IsOf}
 use Rattle.metis_universe.specs.PairWords.{pair_word}
 use Rattle.metis_universe.specs.Universe.{Universe, pair_count, type_of, type_name_of, state_name_of, port_name_of}
@@ -58,9 +58,6 @@ counts_line instances actions dups = line (codes "instances" ∷ decimal instanc
 
 abbrev pub counts_of : Plan → List ℕ
 counts_of p = counts_line p.instances (length p.actions) (length p.dups)
-
-abbrev pub end_line : List ℕ
-end_line = line (codes "end" ∷ [])
 
 abbrev pub action_lines : Universe → List Action → List (List ℕ) → List (List ℕ)
 action_lines u actions after = numbered (action_line u) 1 (zip actions after)

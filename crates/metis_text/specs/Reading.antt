@@ -1,58 +1,20 @@
 -- What the text of a plan says, line by line, or its first fault.
---     Lines, next_line l      what is left of a text, with how many lines were read;  the next line, and what is left then
---     told l x      what was read in the last line, or the fault of that line
 --     Parts, plan_in u bytes      what a plan's text says;  what these bytes say
-use Rattle.std.specs.Prelude.{ℕ, zero, suc, ◌+◌, ◌&&◌, ◌==◌, Bool, List, [], ◌∷◌, ◌++◌, length, take, drop, codes, Option, Some, None, Result, Ok, Err, if◌then◌else◌}
-use Rattle.std.specs.List.{count_by, position}
+use Rattle.std.specs.Prelude.{ℕ, zero, suc, ◌+◌, ◌&&◌, ◌==◌, List, [], ◌∷◌, ◌++◌, length, codes, Result, Ok, Err, if◌then◌else◌}
+use Rattle.std.specs.List.{count_by}
 use Rattle.std.specs.Str.{bytes_eq}
 use Rattle.metis_ids.specs.declared.actions.Action.{Action}
-use Rattle.metis_text.specs.declared.flaw.Flaw.{Flaw}
-use Rattle.metis_text.specs.declared.flaw.Flaw.TheVariants.{Form}
-use Rattle.metis_text.specs.declared.flaw.Flaw.TheVariants as flaw
-use Rattle.metis_text.specs.declared.fault.TFault.{TFault}
-use Rattle.metis_text.specs.declared.fault.TFault.TheVariants.{Line, Short, Name, Number}
+use Rattle.metis_tokens.specs.declared.flaw.Flaw.{Flaw}
+use Rattle.metis_tokens.specs.declared.flaw.Flaw.TheVariants.{Form}
+use Rattle.metis_tokens.specs.declared.fault.TFault.{TFault}
+use Rattle.metis_tokens.specs.declared.fault.TFault.TheVariants.{Line}
 use Rattle.metis_text.specs.ActionLine.{Row, row_in}
 use Rattle.metis_text.specs.DupLine.{DupRow, dup_in}
-use Rattle.metis_text.specs.Flaws.{and_then, both, made}
+use Rattle.metis_tokens.specs.Cursor.{Lines, lines_of, read_next, exactly, ended}
+use Rattle.metis_tokens.specs.Flaws.{and_then, both}
 use Rattle.metis_ids.specs.Action.{makes}
-use Rattle.metis_text.specs.Tokens.{number_in, tokens}
+use Rattle.metis_tokens.specs.Tokens.{number_in, tokens}
 use Rattle.metis_universe.specs.Universe.{Universe}
-
-pub record Lines : Type 0 where
-  pub rest : List ℕ
-  pub number : ℕ
-
-abbrev pub lines_of : List ℕ → ℕ → Lines
-lines_of rest number = record { rest = rest; number = number }
-
-abbrev pub is_feed : ℕ → Bool
-is_feed byte = byte == 10
-
--- the line that ends at this place
-abbrev pub line_to : Lines → Option ℕ → Result (List ℕ × Lines) TFault
-line_to l None = Err Short
-line_to l (Some end) = Ok (take end l.rest, lines_of (drop (end + 1) l.rest) (l.number + 1))
-
-abbrev pub next_line : Lines → Result (List ℕ × Lines) TFault
-next_line l = line_to l (position is_feed l.rest)
-
--- the fault of the line that was read last
-abbrev pub fault_at : ℕ → Flaw → TFault
-fault_at n flaw.Form = Line n
-fault_at n flaw.Number = Number n
-fault_at n flaw.Name = Name n
-
-abbrev pub told : {A : Type 0} → Lines → Result A Flaw → Result A TFault
-told l (Ok a) = Ok a
-told l (Err f) = Err (fault_at l.number f)
-
--- reads the next line, and goes on behind it
-abbrev pub read_next : {A : Type 0} → (List ℕ → Result A Flaw) → Lines → Result (A × Lines) TFault
-read_next read l = and_then (next_line l) (λ p. made (λ a. (a, p.1)) (told p.1 (read p.0)))
-
--- the line is these bytes
-abbrev pub exactly : List ℕ → List ℕ → Result (Unit {0}) Flaw
-exactly bytes line = if bytes_eq line bytes then Ok tt else Err Form
 
 -- the numbers of instances, of actions and of dups
 abbrev pub Numbers : Type 0
@@ -87,10 +49,6 @@ rows_from u (suc left) rows l = and_then (read_next (row_in u rows.actions) l) (
 abbrev pub dups_from : Universe → ℕ → List DupRow → Lines → Result (List DupRow × Lines) TFault
 dups_from u zero dups l = Ok (dups, l)
 dups_from u (suc left) dups l = and_then (read_next (dup_in u (length dups + 1)) l) (λ p. dups_from u left (dups ++ p.0 ∷ []) p.1)
-
--- nothing stands behind the line that was read last
-abbrev pub ended : Lines → Result (Unit {0}) TFault
-ended l = if length l.rest == 0 then Ok tt else Err (Line (l.number + 1))
 
 pub record Parts : Type 0 where
   pub instances : ℕ

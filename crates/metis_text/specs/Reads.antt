@@ -1,26 +1,17 @@
 -- What the readers of a text give.
---     Reads view r l meaning      what was read, seen by view, and the lines that are left are what was meant, unless memory ran out
---     ReadsLine, ReadsPlan      the same of a line;  and of a whole text
+--     ReadsPlan result meaning      what was read is what was meant, unless memory ran out
 --     said p after, parts_of t      what the text of a plan with these lists says
 --     IsTextOf u t bytes      the bytes are the text of the plan with its lists, and it is well formed
 use Rattle.std.specs.Prelude.{◌≡◌, ◌≢◌, ℕ, List, map, Result, Ok, Err}
-use denote.Ref.{Bor}
 use Rattle.metis_ids.specs.Plans.{Dup, Plan}
 use Rattle.metis_universe.specs.Universe.{Universe}
 use Rattle.metis_text.specs.PlanText.{IsWellFormed, plan_bytes}
-use Rattle.metis_text.specs.declared.fault.TFault.{TFault}
-use Rattle.metis_text.specs.declared.fault.TFault.TheVariants.{NoMemory}
+use Rattle.metis_tokens.specs.declared.fault.TFault.{TFault}
+use Rattle.metis_tokens.specs.declared.fault.TFault.TheVariants.{NoMemory}
 use Rattle.metis_text.specs.declared.read.Counts.{Counts}
 use Rattle.metis_text.specs.declared.plan_text.PlanText.{PlanText}
 use Rattle.metis_text.specs.DupLine.{DupRow}
-use Rattle.metis_text.specs.Reading.{Lines, Numbers, Parts, parts, rows_of}
-
-abbrev pub Reads : {X Y : Type 0} → (Y → X) → Result Y TFault → Lines → Result (X × Lines) TFault → Type 0
-Reads view (Ok y) l meaning = meaning ≡ Ok (view y, l)
-Reads view (Err fault) l meaning = fault ≢ NoMemory → meaning ≡ Err fault
-
-abbrev pub ReadsLine : Result (Bor (List ℕ)) TFault → Lines → Result (List ℕ × Lines) TFault → Type 0
-ReadsLine result l meaning = Reads (λ line. line.now) result l meaning
+use Rattle.metis_text.specs.Reading.{Numbers, Parts, parts, rows_of}
 
 -- the numbers of the second line, as it says them
 abbrev pub numbers_of : Counts → Numbers

@@ -1,5 +1,4 @@
 -- What the text of a refusal says, line by line, or its first fault.
---     goal_in u word      the goal that the word asks for
 --     lacks_of_tokens u tokens, size_of_tokens tokens      the goal that the set lacks, by the tokens of its line;  how many pairs the set has
 --     pair_of_tokens u tokens      the pair that stands alone in its line
 --     above pairs p, follows last p      the pair stands behind all of these in the universe;  and behind the last one, if there is one
@@ -9,21 +8,16 @@ use Rattle.std.specs.Prelude.{◌≡◌, ◌≢◌, ℕ, zero, suc, nat_lt, Bool
 use Rattle.std.specs.List.{list_all}
 use Rattle.std.specs.Str.{bytes_eq}
 use Rattle.metis_ids.specs.declared.goals.Goal.{Goal}
-use Rattle.metis_text.specs.declared.fault.TFault.{TFault}
-use Rattle.metis_text.specs.declared.fault.TFault.TheVariants.{NoMemory}
-use Rattle.metis_text.specs.declared.flaw.Flaw.{Flaw}
-use Rattle.metis_text.specs.declared.flaw.Flaw.TheVariants.{Form}
+use Rattle.metis_tokens.specs.declared.fault.TFault.{TFault}
+use Rattle.metis_tokens.specs.declared.fault.TFault.TheVariants.{NoMemory}
+use Rattle.metis_tokens.specs.declared.flaw.Flaw.{Flaw}
+use Rattle.metis_tokens.specs.declared.flaw.Flaw.TheVariants.{Form}
 use Rattle.metis_text.specs.declared.refusal_text.Refusal.{Refusal}
-use Rattle.metis_text.specs.DupLine.{of_names, pair_in}
-use Rattle.metis_text.specs.Flaws.{and_then, right}
-use Rattle.metis_text.specs.Reading.{Lines, ended, exactly, lines_of, read_next}
-use Rattle.metis_text.specs.Tokens.{number_in, tokens}
-use Rattle.metis_universe.specs.GoalWords.{goal_named}
-use Rattle.metis_universe.specs.PairWords.{pair_names}
+use Rattle.metis_tokens.specs.Words.{pair_in, goal_in}
+use Rattle.metis_tokens.specs.Flaws.{and_then, right}
+use Rattle.metis_tokens.specs.Cursor.{Lines, ended, exactly, lines_of, read_next}
+use Rattle.metis_tokens.specs.Tokens.{number_in, tokens}
 use Rattle.metis_universe.specs.Universe.{Universe}
-
-abbrev pub goal_in : Universe → List ℕ → Result Goal Flaw
-goal_in u word = of_names (goal_named u) (pair_names word)
 
 abbrev pub lacks_of_tokens : Universe → List (List ℕ) → Result Goal Flaw
 lacks_of_tokens u (lacks ∷ word ∷ []) = if bytes_eq lacks (codes "lacks") then goal_in u word else Err Form

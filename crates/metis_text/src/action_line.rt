@@ -2,16 +2,16 @@
 ghost use Rattle.std.specs.Prelude.{◌≡◌, ◌+◌, IfOk, Ok, [], length, map};
 ghost use Rattle.std.specs.Option.{option_map};
 ghost use Rattle.metis_ids.specs.declared.actions.Action.TheVariants.{Delete};
-ghost use Rattle.metis_text.specs.ActionLine.{action_in, after_in, bind_action, delete_words, due, ends_in, kind_in, move_action, move_words, new_in, new_words, rise, row_in, row_of, states_in, tie_words, unbind_action};
-ghost use Rattle.metis_text.specs.Flaws.{made};
-ghost use Rattle.metis_text.specs.Tokens.{number_in};
+ghost use Rattle.metis_text.specs.ActionLine.{action_in, after_in, bind_action, delete_words, ends_in, kind_in, move_action, move_words, new_in, new_words, rise, row_in, row_of, states_in, tie_words, unbind_action};
+ghost use Rattle.metis_tokens.specs.Tokens.{due, number_in};
+ghost use Rattle.metis_tokens.specs.Flaws.{made};
 
-use crate::bytes::is;
-use crate::flaw::{Flaw, both, numbered};
-use crate::gather::numbers_in;
 use crate::rows::Rows;
-use crate::tokens::{due, number_in, port_in, retake_tokens, state_near, type_in};
 use metis_ids::{Action, InstNo, PairIx, PortIx, TypeIx};
+use metis_tokens::bytes::is;
+use metis_tokens::{
+    Flaw, both, due, number_in, numbered, numbers_in, port_in, retake_tokens, state_near, type_in,
+};
 use metis_universe::Universe;
 use std::alloc::{AllocError, Global};
 

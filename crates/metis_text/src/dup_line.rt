@@ -2,14 +2,13 @@
 ghost use Rattle.std.specs.Prelude.{◌≡◌, ◌&&◌, IfOk, codes, length, map, nat_lt};
 ghost use Rattle.std.specs.Str.{bytes_eq};
 ghost use Rattle.metis_text.specs.DupLine.{dup_in, dup_of};
-ghost use Rattle.metis_text.specs.Flaws.{both, made};
+ghost use Rattle.metis_tokens.specs.Flaws.{both, made};
 ghost use Rattle.metis_text.specs.Reads.{dup_row};
 
-use crate::bytes::is;
-use crate::flaw::{Flaw, both, numbered};
-use crate::gather::events_in;
-use crate::tokens::{due, pair_in, tokens_of};
+use crate::events::events_in;
 use metis_ids::{Dup, Event, PairIx};
+use metis_tokens::bytes::is;
+use metis_tokens::{Flaw, both, due, numbered, pair_in, tokens_of};
 use metis_universe::Universe;
 use std::alloc::{AllocError, Global};
 

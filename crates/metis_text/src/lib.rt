@@ -3,39 +3,26 @@
 #![tactic(auto)]
 
 mod action_line;
-pub mod bytes;
-pub mod cursor;
 mod dup_line;
-mod fault;
-mod flaw;
-mod gather;
+mod events;
 mod laws;
 mod lines;
-mod missing;
 mod plan_text;
-mod put;
 mod read;
 mod refusal_lines;
 mod refusal_read;
 mod refusal_text;
 mod refusal_write;
 mod rows;
-mod tokens;
 mod write;
 
-pub use fault::TFault;
-pub use flaw::{Flaw, both};
 pub use laws::{
     accepted_is_written, accepted_refusal_is_written, plan_has_lines, refusal_has_lines,
     refusal_is_read, well_formed_is_read, written_run_is_read, written_run_is_well_formed,
 };
-pub use lines::push_numbers;
-pub use missing::write_missing;
 pub use plan_text::PlanText;
-pub use put::put_line;
 pub use read::read_plan;
 pub use refusal_read::read_refusal;
 pub use refusal_text::Refusal;
 pub use refusal_write::write_refusal;
-pub use tokens::{goal_in, number_in, pair_in, port_in, tokens_of};
 pub use write::write_plan;

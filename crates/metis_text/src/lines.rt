@@ -2,10 +2,11 @@
 ghost use Rattle.std.specs.Prelude.{◌≡◌, ◌<◌, ◌++◌, ◌∷◌, [], IfOk, OnOk, codes, decimal, map, string_bytes};
 ghost use Rattle.metis_universe.specs.Numbers.{IsOf};
 ghost use Rattle.metis_universe.specs.Universe.{pair_count};
-ghost use Rattle.metis_text.specs.Line.{added, words};
+ghost use Rattle.metis_tokens.specs.Line.{added, words};
 ghost use Rattle.metis_text.specs.PlanText.{action_line, action_tokens, after_tokens, counts_line, dup_line, dup_tokens, event_token};
 
 use metis_ids::{Action, Dup, Event, Ix, PairIx};
+use metis_tokens::push_numbers;
 use metis_universe::Universe;
 use std::alloc::{AllocError, Global};
 
@@ -104,22 +105,6 @@ fn push_after(line: &mut String, after: &[u32]) -> Result<(), AllocError>
     }
     line.push_str(" after")?;
     push_numbers(line, after)
-}
-
-/// Appends the numbers, each behind a space.
-pub fn push_numbers(line: &mut String, numbers: &[u32]) -> Result<(), AllocError>
-    ensures { OnOk result (string_bytes line.new ≡ string_bytes line.old ++ added (map decimal numbers.now)) }
-{
-    for number in numbers {
-        push_number(line, *number)?;
-    }
-    Ok(())
-}
-
-fn push_number(line: &mut String, number: u32) -> Result<(), AllocError>
-    ensures { OnOk result (string_bytes line.new ≡ string_bytes line.old ++ (codes " " ++ decimal number)) }
-{
-    write!(line, " {number}")
 }
 
 /// The line of the dup that has this number.

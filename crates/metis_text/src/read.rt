@@ -1,21 +1,20 @@
 //! Reads the text of a plan.
 ghost use Rattle.std.specs.Prelude.{◌≡◌, ◌<◌, ◌-◌, ◌^◌, ◌&&◌, IfOk, [], codes, length, map};
 ghost use Rattle.std.specs.Str.{bytes_eq};
-ghost use Rattle.metis_text.specs.Flaws.{both, made};
-ghost use Rattle.metis_text.specs.Reading.{body_from, counts_in, counts_of_tokens, counted, dups_from, end_from, parts, plan_in, read_next, rows_from, rows_of};
-ghost use Rattle.metis_text.specs.Reads.{Reads, IsTextOf, ReadsPlan, dup_row, numbers_of};
-ghost use Rattle.metis_text.specs.Tokens.{number_in};
+ghost use Rattle.metis_tokens.specs.Flaws.{both, made};
+ghost use Rattle.metis_text.specs.Reading.{body_from, counts_in, counts_of_tokens, counted, dups_from, end_from, parts, plan_in, rows_from, rows_of};
+ghost use Rattle.metis_tokens.specs.Cursor.{read_next, Reads};
+ghost use Rattle.metis_text.specs.Reads.{IsTextOf, ReadsPlan, dup_row, numbers_of};
+ghost use Rattle.metis_tokens.specs.Tokens.{number_in};
 
 use crate::action_line::row_in;
-use crate::bytes::is;
-use crate::cursor::{Lines, read_exactly};
 use crate::dup_line::dup_in;
-use crate::fault::TFault;
-use crate::flaw::{Flaw, both};
 use crate::plan_text::PlanText;
 use crate::rows::Rows;
-use crate::tokens::{number_in, tokens_of};
 use metis_ids::{Action, Dup, Plan};
+use metis_tokens::bytes::is;
+use metis_tokens::cursor::{Lines, read_exactly};
+use metis_tokens::{Flaw, TFault, both, number_in, tokens_of};
 use metis_universe::Universe;
 use std::alloc::Global;
 

@@ -1,18 +1,16 @@
 //! Reads the text of a refusal.
 ghost use Rattle.std.specs.Prelude.{◌≡◌, ◌<◌, ◌-◌, ◌^◌, IfOk, [], length};
-ghost use Rattle.metis_text.specs.Reading.{read_next};
-ghost use Rattle.metis_text.specs.Reads.{Reads};
+ghost use Rattle.metis_tokens.specs.Cursor.{read_next, Reads};
 ghost use Rattle.metis_text.specs.RefusalReading.{ReadsRefusal, lacks_in, pairs_from, refusal_in, size_in};
 ghost use Rattle.metis_text.specs.RefusalText.{refusal_bytes};
 ghost use Rattle.metis_universe.specs.GoalWords.{IsWordable};
 ghost use Rattle.metis_universe.specs.Universe.{pair_count};
 
-use crate::cursor::{Lines, read_exactly};
-use crate::fault::TFault;
 use crate::refusal_lines::{lacks_of, next_pair_of, size_of};
 use crate::refusal_text::Refusal;
-use crate::tokens::tokens_of;
 use metis_ids::{Goal, PairSet};
+use metis_tokens::cursor::{Lines, read_exactly};
+use metis_tokens::{TFault, tokens_of};
 use metis_universe::Universe;
 use std::alloc::Global;
 

@@ -7,10 +7,10 @@ ghost use Rattle.metis_universe.specs.Goals.{IsGoalOf};
 ghost use Rattle.metis_universe.specs.Universe.{pair_count};
 ghost use Rattle.metis_text.specs.RefusalText.{lacks_line, pair_line, pairs_line, refusal_body, refusal_lines, refusal_rest, refusal_set};
 
-use crate::put::put_line;
 use crate::refusal_text::Refusal;
 use metis_ids::{Goal, PairIx, PairSet};
 use metis_outside::{Sink, Trouble};
+use metis_tokens::put_line;
 use metis_universe::Universe;
 use std::alloc::Global;
 

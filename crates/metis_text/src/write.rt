@@ -10,9 +10,9 @@ ghost use Rattle.metis_waits.specs.Waits.{AreWaits, list_of, waits_on_others};
 ghost use Rattle.metis_text.specs.PlanText.{action_line, action_lines, counts_of, dup_line, dup_lines, plan_body, plan_end, plan_lines, plan_rest};
 
 use crate::lines::{counts_line, dup_line, set_action_line};
-use crate::put::put_line;
 use metis_ids::{Action, Dup, Plan};
 use metis_outside::{Sink, Trouble};
+use metis_tokens::put_line;
 use metis_universe::Universe;
 use metis_waits::Waits;
 use std::alloc::Global;

@@ -17,8 +17,8 @@ use Rattle.metis_why.specs.declared.reason.Line.{Line}
 use Rattle.metis_why_text.proofs.NamedFaults.{why_in_named}
 use Rattle.metis_text.specs.Reading.{Parts, plan_in}
 use Rattle.metis_text.specs.RefusalReading.{RefusalParts, refusal_in}
-use Rattle.metis_text.specs.declared.fault.TFault.{TFault}
-use Rattle.metis_text.specs.declared.fault.TFault.TheVariants as tfault
+use Rattle.metis_tokens.specs.declared.fault.TFault.{TFault}
+use Rattle.metis_tokens.specs.declared.fault.TFault.TheVariants as tfault
 use Rattle.metis_ujson.proofs.NamedFaults.{universe_in_named, universe_in_table}
 use Rattle.metis_ujson.specs.Document.{document_limit, universe_in}
 use Rattle.metis_ujson.specs.declared.faults.UFault.{UFault}
@@ -42,7 +42,7 @@ use Rattle.metis_place.specs.HostsWritten.{IsEntry}
 use Rattle.metis_place.specs.Placement.{HostLists}
 use Rattle.metis_place.specs.declared.hosts_fault.HFault.{HFault}
 use Rattle.metis_place.specs.declared.hosts_fault.HFault.TheVariants as hfault
-use Rattle.metis_text.proofs.Printed.{all_weaker}
+use Rattle.metis_tokens.proofs.Printed.{all_weaker}
 use Rattle.metis_universe.specs.Names.{is_name_byte}
 use Rattle.metis_top.specs.PutLines.{PutsLines}
 use Rattle.metis_gather.specs.Script.{Script, Read, Refuse, Reply}
@@ -55,7 +55,7 @@ use Rattle.metis_output.specs.declared.status.Status.{Status}
 use Rattle.metis_words.specs.declared.words.Verb.{Verb}
 use Rattle.metis_words.specs.declared.words.Verb.TheVariants.{Plan, Replay, Refute, Audit, Sim, Crew, Waves, Control, Rollout, Place, Print, Load, Why, Confirm}
 use Rattle.std.specs.declared.option.Option.{Option as Known}
-use Rattle.metis_text.specs.Flaws.{and_then}
+use Rattle.metis_tokens.specs.Flaws.{and_then}
 use Rattle.metis_answer.proofs.AnswerLines.{no_lines, plan_answers, replay_answers, refute_answers, why_answers, confirm_answers, audit_answers, sim_answers, waves_answers, control_answers, rollout_answers, crew_answers, place_answers, print_answers, load_answers, just_one, AnswersLines}
 
 -- ---- the lines of a run that ends before its work

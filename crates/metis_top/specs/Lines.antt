@@ -5,8 +5,8 @@ use Rattle.metis_ujson.specs.declared.faults.UFault.TheVariants.{NotJson, NotUni
 use Rattle.metis_ujson.specs.declared.faults.UFault.TheVariants as ufault
 use Rattle.metis_place.specs.declared.hosts_fault.HFault.{HFault}
 use Rattle.metis_place.specs.declared.hosts_fault.HFault.TheVariants as hfault
-use Rattle.metis_text.specs.declared.fault.TFault.{TFault}
-use Rattle.metis_text.specs.declared.fault.TFault.TheVariants as tfault
+use Rattle.metis_tokens.specs.declared.fault.TFault.{TFault}
+use Rattle.metis_tokens.specs.declared.fault.TFault.TheVariants as tfault
 use Rattle.metis_universe.specs.declared.faults.LimitKind.{LimitKind}
 use Rattle.metis_universe.specs.declared.faults.LimitKind.TheVariants.{States, Requires, Pairs, Ports}
 use Rattle.metis_gather.specs.declared.refusal.Refusal.{Refusal}

@@ -8,7 +8,7 @@ use metis_gather::{Refusal, Stop};
 use metis_output::{Status, say};
 use metis_outside::Sink;
 use metis_place::HFault;
-use metis_text::TFault;
+use metis_tokens::TFault;
 use metis_ujson::UFault;
 use metis_universe::LimitKind;
 use std::alloc::{AllocError, Global};

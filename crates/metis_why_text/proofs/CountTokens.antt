@@ -5,13 +5,13 @@ use Rattle.std.specs.List.{list_all}
 use Rattle.std.specs.Str.{bytes_eq}
 use Rattle.std.proofs.lemmas.Bool.{and_from}
 use Rattle.std.proofs.lemmas.Slice.Eq.{bytes_eq-Decides}
-use Rattle.metis_text.proofs.Cuts.{tokens_of_words, words_of_tokens}
-use Rattle.metis_text.proofs.NumberTokens.{number_is, number_read}
-use Rattle.metis_text.proofs.Outcomes.{if_is}
-use Rattle.metis_text.proofs.Printed.{printed, printed_decimal}
-use Rattle.metis_text.specs.Line.{words}
-use Rattle.metis_text.specs.Tokens.{number_in, tokens}
-use Rattle.metis_text.specs.declared.flaw.Flaw.TheVariants.{Form}
+use Rattle.metis_tokens.proofs.Cuts.{tokens_of_words, words_of_tokens}
+use Rattle.metis_tokens.proofs.NumberTokens.{number_is, number_read}
+use Rattle.metis_tokens.proofs.Outcomes.{if_is}
+use Rattle.metis_tokens.proofs.Printed.{printed, printed_decimal}
+use Rattle.metis_tokens.specs.Line.{words}
+use Rattle.metis_tokens.specs.Tokens.{number_in, tokens}
+use Rattle.metis_tokens.specs.declared.flaw.Flaw.TheVariants.{Form}
 use Rattle.metis_why_text.specs.WhyReading.{count_in, count_of_tokens}
 
 abbrev pub count_tokens : ℕ → List (List ℕ)

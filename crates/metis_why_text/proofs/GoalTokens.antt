@@ -8,14 +8,14 @@ use Rattle.std.proofs.lemmas.Slice.Eq.{bytes_eq-Decides}
 use Rattle.metis_ids.proofs.Tests.{bytes_same}
 use Rattle.metis_ids.specs.declared.goals.Goal.{Goal}
 use Rattle.metis_ids.specs.declared.goals.Goal.TheVariants.{Pair, Port}
-use Rattle.metis_text.proofs.Cuts.{tokens_of_words}
-use Rattle.metis_text.proofs.GoalTokens.{goal_is, goal_read}
-use Rattle.metis_text.proofs.Outcomes.{if_is}
-use Rattle.metis_text.proofs.Printed.{printed}
-use Rattle.metis_text.specs.Line.{words}
-use Rattle.metis_text.specs.Tokens.{tokens}
-use Rattle.metis_text.specs.declared.flaw.Flaw.{Flaw}
-use Rattle.metis_text.specs.declared.flaw.Flaw.TheVariants.{Form}
+use Rattle.metis_tokens.proofs.Cuts.{tokens_of_words}
+use Rattle.metis_tokens.proofs.GoalTokens.{goal_is, goal_read}
+use Rattle.metis_tokens.proofs.Outcomes.{if_is}
+use Rattle.metis_tokens.proofs.Printed.{printed}
+use Rattle.metis_tokens.specs.Line.{words}
+use Rattle.metis_tokens.specs.Tokens.{tokens}
+use Rattle.metis_tokens.specs.declared.flaw.Flaw.{Flaw}
+use Rattle.metis_tokens.specs.declared.flaw.Flaw.TheVariants.{Form}
 use Rattle.metis_universe.specs.GoalWords.{IsWordable, goal_word}
 use Rattle.metis_universe.specs.Universe.{IsNamed, IsUniverse, Universe, providers_of}
 use Rattle.metis_why_text.proofs.Printed.{lacks_printed}

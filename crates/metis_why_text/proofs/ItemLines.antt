@@ -4,7 +4,7 @@ use Rattle.std.proofs.lemmas.List.{drop_more, map-append, take-append-drop, take
 use Rattle.std.specs.declared.option.Option.{Option}
 use Rattle.metis_outside.proofs.Writing.{Appends-trans}
 use Rattle.metis_outside.specs.Writes.{Appends, AppendsFront}
-use Rattle.metis_text.proofs.Items.{front_of_item}
+use Rattle.metis_tokens.proofs.Items.{front_of_item}
 
 module _ {X : Type 0} (text : X → List ℕ) (xs : List X) (i : ℕ) (x : X) (old mid new : Option (List (List ℕ))) (within : i < length xs) (is : x ≡ get_or xs i x) (put : Appends old mid (map text (take i xs))) where
   -- a front of the next line was appended to those before it

@@ -6,15 +6,15 @@ use Rattle.std.specs.Str.{bytes_eq}
 use Rattle.std.proofs.lemmas.Bool.{and_from, and_parts, not-true, not_from_false}
 use Rattle.std.proofs.lemmas.Slice.Eq.{bytes_eq-Decides}
 use Rattle.metis_ids.proofs.Tests.{bytes_same}
-use Rattle.metis_text.proofs.Cuts.{tokens_of_words}
-use Rattle.metis_text.proofs.DupWords.{pair_is, pair_read}
-use Rattle.metis_text.proofs.NameTokens.{named_is, named_read, port_at, port_is}
-use Rattle.metis_text.proofs.Outcomes.{both_is, if_is, made_is}
-use Rattle.metis_text.specs.DupLine.{pair_in}
-use Rattle.metis_text.specs.Flaws.{both, made}
-use Rattle.metis_text.specs.Line.{words}
-use Rattle.metis_text.specs.Tokens.{named, tokens}
-use Rattle.metis_text.specs.declared.flaw.Flaw.TheVariants.{Form}
+use Rattle.metis_tokens.proofs.Cuts.{tokens_of_words}
+use Rattle.metis_tokens.proofs.PairTokens.{pair_is, pair_read}
+use Rattle.metis_tokens.proofs.NameTokens.{named_is, named_read, port_at, port_is}
+use Rattle.metis_tokens.proofs.Outcomes.{both_is, if_is, made_is}
+use Rattle.metis_tokens.specs.Words.{pair_in}
+use Rattle.metis_tokens.specs.Flaws.{both, made}
+use Rattle.metis_tokens.specs.Line.{words}
+use Rattle.metis_tokens.specs.Tokens.{named, tokens}
+use Rattle.metis_tokens.specs.declared.flaw.Flaw.TheVariants.{Form}
 use Rattle.metis_universe.specs.PairWords.{pair_word}
 use Rattle.metis_universe.specs.Universe.{IsNamed, IsUniverse, Universe, is_free, port_name_of, port_named}
 use Rattle.metis_why.specs.Barred.{IsNameable, named_by}

@@ -2,12 +2,11 @@
 --     LinesRead u left lines l p      so many more lines were read from l, and p is what there is then
 use Rattle.std.proofs.Common.{◌≡◌, ℕ, zero, suc, ◌+◌, ◌-◌, ◌<◌, List, [], ◌∷◌, ◌++◌, length, Ok, Err, refl, sym, ap, ◌∙◌, append_assoc, append-nil, arith}
 use Rattle.std.specs.List.{AllByRecursion, flat_map}
-use Rattle.metis_text.proofs.LinesTaken.{read_next_is, read_next_read}
-use Rattle.metis_text.proofs.Outcomes.{and_then_is}
-use Rattle.metis_text.proofs.RowsRead.{line_and_rest}
-use Rattle.metis_text.specs.Flaws.{and_then}
-use Rattle.metis_text.specs.Reading.{Lines, lines_of, read_next}
-use Rattle.metis_text.specs.declared.fault.TFault.{TFault}
+use Rattle.metis_tokens.proofs.LinesTaken.{read_next_is, read_next_read, line_and_rest}
+use Rattle.metis_tokens.proofs.Outcomes.{and_then_is}
+use Rattle.metis_tokens.specs.Flaws.{and_then}
+use Rattle.metis_tokens.specs.Cursor.{Lines, lines_of, read_next}
+use Rattle.metis_tokens.specs.declared.fault.TFault.{TFault}
 use Rattle.metis_universe.specs.Universe.{IsNamed, IsUniverse, Universe}
 use Rattle.metis_why.specs.Confirm.{IsTellable}
 use Rattle.metis_why.specs.declared.reason.Line.{Line}

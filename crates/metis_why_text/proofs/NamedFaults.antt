@@ -1,10 +1,10 @@
 -- A fault of a text is no want of memory.
 use Rattle.std.proofs.Common.{◌≡◌, ℕ, List, Err, sym, ◌∙◌}
-use Rattle.metis_text.specs.Reading.{fault_at}
-use Rattle.metis_text.specs.declared.fault.TFault.{TFault}
-use Rattle.metis_text.specs.declared.fault.TFault.TheVariants.{NoMemory}
-use Rattle.metis_text.specs.declared.flaw.Flaw.{Flaw}
-use Rattle.metis_text.specs.declared.flaw.Flaw.TheVariants.{Form, Name, Number}
+use Rattle.metis_tokens.specs.Cursor.{fault_at}
+use Rattle.metis_tokens.specs.declared.fault.TFault.{TFault}
+use Rattle.metis_tokens.specs.declared.fault.TFault.TheVariants.{NoMemory}
+use Rattle.metis_tokens.specs.declared.flaw.Flaw.{Flaw}
+use Rattle.metis_tokens.specs.declared.flaw.Flaw.TheVariants.{Form, Name, Number}
 use Rattle.metis_universe.specs.Universe.{Universe}
 use Rattle.metis_why_text.proofs.WhyFaults.{told_is_fault}
 use Rattle.metis_why_text.specs.WhyFaults.{IsWhyFault, of_line, past_end, too_short}

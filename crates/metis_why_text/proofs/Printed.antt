@@ -8,9 +8,9 @@ use Rattle.std.proofs.lemmas.List.Elements.{All-head, recursion_from_All}
 use Rattle.std.proofs.lemmas.List.Folds.{list_all-append}
 use Rattle.metis_ids.specs.declared.goals.Goal.{Goal}
 use Rattle.metis_ids.specs.declared.goals.Goal.TheVariants.{Pair, Port}
-use Rattle.metis_text.proofs.DupWords.{pair_printed}
-use Rattle.metis_text.proofs.GoalTokens.{goal_printed}
-use Rattle.metis_text.proofs.Printed.{printed, printed_name}
+use Rattle.metis_tokens.proofs.PairTokens.{pair_printed}
+use Rattle.metis_tokens.proofs.GoalTokens.{goal_printed}
+use Rattle.metis_tokens.proofs.Printed.{printed, printed_name}
 use Rattle.metis_universe.specs.GoalWords.{IsWordable}
 use Rattle.metis_universe.specs.PairWords.{pair_word}
 use Rattle.metis_universe.specs.Universe.{IsNamed, IsUniverse, Universe, is_initial, pair_count, port_count, port_name_of, provides, providers_of, required_of}

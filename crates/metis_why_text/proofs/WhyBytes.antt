@@ -5,7 +5,7 @@ use Rattle.std.proofs.lemmas.List.Folds.{concat-append}
 use Rattle.std.specs.List.{flat_map}
 use Rattle.metis_ids.specs.declared.goals.Goal.{Goal}
 use Rattle.metis_outside.specs.Pieces.{bytes_of}
-use Rattle.metis_text.specs.PlanText.{end_line}
+use Rattle.metis_tokens.specs.Line.{end_line}
 use Rattle.metis_universe.specs.Universe.{Universe}
 use Rattle.metis_why.specs.declared.reason.Line.{Line}
 use Rattle.metis_why_text.specs.WhyText.{count_line, lacks_line, line_text, why_bytes, why_header}

@@ -9,9 +9,8 @@ use Rattle.metis_ids.specs.declared.goals.Goal.{Goal}
 use Rattle.metis_ids.specs.declared.goals.Goal.TheVariants.{Pair, Port}
 use Rattle.metis_outside.proofs.Feeds.{IsLine-from, no_feed, no_feed-decimal, no_feed-join_with_byte, one_line}
 use Rattle.metis_outside.specs.Pieces.{IsLine}
-use Rattle.metis_text.proofs.LineFeeds.{no_feed-goal_word, no_feed-pair_word, no_feed-port_name_of}
-use Rattle.metis_text.specs.Line.{line, words}
-use Rattle.metis_text.specs.PlanText.{end_line}
+use Rattle.metis_tokens.proofs.WordFeeds.{no_feed-goal_word, no_feed-pair_word, no_feed-port_name_of}
+use Rattle.metis_tokens.specs.Line.{line, words, end_line}
 use Rattle.metis_universe.specs.PairWords.{pair_word}
 use Rattle.metis_universe.specs.Universe.{IsNamed, IsTable, Universe, providers_of}
 use Rattle.metis_why.specs.Barred.{named_by}

@@ -4,14 +4,13 @@ use Rattle.std.specs.Prelude.{IfOk, codes}
 use Rattle.std.specs.List.{All, AllByRecursion, flat_map}
 use Rattle.std.proofs.lemmas.List.Elements.{All-from_recursion, recursion_from_All}
 use Rattle.metis_ids.specs.declared.goals.Goal.{Goal}
-use Rattle.metis_text.proofs.LinesTaken.{read_next_is, read_next_read}
-use Rattle.metis_text.proofs.Outcomes.{and_then_is}
-use Rattle.metis_text.proofs.PlanParts.{ended_is, exactly_is}
-use Rattle.metis_text.specs.Flaws.{and_then}
-use Rattle.metis_text.specs.Line.{line, words}
-use Rattle.metis_text.specs.PlanText.{end_line}
-use Rattle.metis_text.specs.Reading.{Lines, ended, exactly, lines_of, read_next}
-use Rattle.metis_text.specs.declared.fault.TFault.{TFault}
+use Rattle.metis_tokens.proofs.LinesTaken.{read_next_is, read_next_read}
+use Rattle.metis_tokens.proofs.Outcomes.{and_then_is}
+use Rattle.metis_tokens.proofs.KnownLines.{ended_is, exactly_is}
+use Rattle.metis_tokens.specs.Flaws.{and_then}
+use Rattle.metis_tokens.specs.Line.{line, words, end_line}
+use Rattle.metis_tokens.specs.Cursor.{Lines, ended, exactly, lines_of, read_next}
+use Rattle.metis_tokens.specs.declared.fault.TFault.{TFault}
 use Rattle.metis_universe.specs.GoalWords.{IsWordable}
 use Rattle.metis_universe.specs.Universe.{IsTable, Universe}
 use Rattle.metis_why.specs.Confirm.{IsTellable}

@@ -13,16 +13,15 @@
 use Rattle.std.specs.Prelude.{◌≡◌, ◌≢◌, ℕ, zero, suc, Bool, true, not, ◌&&◌, ◌||◌, List, [], ◌∷◌, ◌++◌, codes, Result, Ok, Err, if◌then◌else◌}
 use Rattle.std.specs.Str.{bytes_eq}
 use Rattle.metis_ids.specs.declared.goals.Goal.{Goal}
-use Rattle.metis_text.specs.declared.fault.TFault.{TFault}
-use Rattle.metis_text.specs.declared.fault.TFault.TheVariants.{NoMemory}
-use Rattle.metis_text.specs.declared.flaw.Flaw.{Flaw}
-use Rattle.metis_text.specs.declared.flaw.Flaw.TheVariants.{Form}
-use Rattle.metis_text.specs.DupLine.{pair_in}
-use Rattle.metis_text.specs.Flaws.{and_then, both, made}
-use Rattle.metis_text.specs.Line.{words}
-use Rattle.metis_text.specs.Reading.{Lines, ended, exactly, lines_of, read_next}
-use Rattle.metis_text.specs.RefusalReading.{goal_in}
-use Rattle.metis_text.specs.Tokens.{named, number_in, tokens}
+use Rattle.metis_tokens.specs.declared.fault.TFault.{TFault}
+use Rattle.metis_tokens.specs.declared.fault.TFault.TheVariants.{NoMemory}
+use Rattle.metis_tokens.specs.declared.flaw.Flaw.{Flaw}
+use Rattle.metis_tokens.specs.declared.flaw.Flaw.TheVariants.{Form}
+use Rattle.metis_tokens.specs.Words.{pair_in, goal_in}
+use Rattle.metis_tokens.specs.Flaws.{and_then, both, made}
+use Rattle.metis_tokens.specs.Line.{words}
+use Rattle.metis_tokens.specs.Cursor.{Lines, ended, exactly, lines_of, read_next}
+use Rattle.metis_tokens.specs.Tokens.{named, number_in, tokens}
 use Rattle.metis_universe.specs.Universe.{Universe, is_free, port_named}
 use Rattle.metis_why.specs.declared.reason.Explanation.{Explanation}
 use Rattle.metis_why.specs.declared.reason.Line.{Line}

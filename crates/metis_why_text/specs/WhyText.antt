@@ -12,8 +12,7 @@ use Rattle.std.specs.List.{All}
 use Rattle.metis_ids.specs.declared.goals.Goal.{Goal}
 use Rattle.metis_ids.specs.declared.goals.Goal.TheVariants.{Pair, Port}
 use Rattle.metis_outside.specs.Pieces.{bytes_of}
-use Rattle.metis_text.specs.Line.{line}
-use Rattle.metis_text.specs.PlanText.{end_line}
+use Rattle.metis_tokens.specs.Line.{line, end_line}
 use Rattle.metis_universe.specs.GoalWords.{IsWordable, goal_word}
 use Rattle.metis_universe.specs.PairWords.{pair_word}
 use Rattle.metis_universe.specs.Universe.{Universe, is_initial, port_name_of, providers_of, required_of}

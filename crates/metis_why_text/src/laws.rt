@@ -3,8 +3,8 @@ ghost use Rattle.std.specs.Prelude.{◌≡◌, ◌≢◌, ◌≤◌, ◌+◌, �
 ghost use Rattle.std.specs.List.{All};
 ghost use Rattle.metis_ids.specs.declared.goals.Goal.{Goal};
 ghost use Rattle.metis_outside.specs.Pieces.{IsLine};
-ghost use Rattle.metis_text.specs.declared.fault.TFault.{TFault};
-ghost use Rattle.metis_text.specs.declared.fault.TFault.TheVariants as faults;
+ghost use Rattle.metis_tokens.specs.declared.fault.TFault.{TFault};
+ghost use Rattle.metis_tokens.specs.declared.fault.TFault.TheVariants as faults;
 ghost use Rattle.metis_universe.specs.Universe.{Universe, IsTable};
 ghost use Rattle.metis_why.specs.declared.reason.Line.{Line};
 ghost use Rattle.metis_why_text.specs.WhyFaults.{IsWhyFault};

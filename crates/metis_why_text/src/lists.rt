@@ -1,7 +1,7 @@
 //! Lists of pairs in a line.
 ghost use Rattle.std.specs.Prelude.{◌≡◌, ◌<◌, ◌++◌, OnOk, codes, map, string_bytes};
 ghost use Rattle.std.specs.List.{All};
-ghost use Rattle.metis_text.specs.Line.{added};
+ghost use Rattle.metis_tokens.specs.Line.{added};
 ghost use Rattle.metis_universe.specs.PairWords.{pair_word};
 ghost use Rattle.metis_universe.specs.Universe.{pair_count};
 ghost use Rattle.metis_why.specs.Barred.{IsNameable, before_of, named_by};

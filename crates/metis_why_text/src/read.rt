@@ -1,8 +1,7 @@
 //! Reads the text of an explanation.
 ghost use Rattle.std.specs.Prelude.{◌≡◌, ◌<◌, ◌-◌, ◌^◌, IfOk, [], length};
 ghost use Rattle.std.specs.List.{All};
-ghost use Rattle.metis_text.specs.Reading.{read_next};
-ghost use Rattle.metis_text.specs.Reads.{Reads};
+ghost use Rattle.metis_tokens.specs.Cursor.{read_next, Reads};
 ghost use Rattle.metis_universe.specs.GoalWords.{IsWordable};
 ghost use Rattle.metis_why.specs.Confirm.{IsTellable};
 ghost use Rattle.metis_why_text.specs.WhyReading.{ReadsWhy, count_in, lacks_in, line_in, lines_from, why_in};
@@ -10,8 +9,8 @@ ghost use Rattle.metis_why_text.specs.WhyText.{why_bytes};
 
 use crate::said::{count_of, lacks_in, line_in};
 use metis_ids::Goal;
-use metis_text::cursor::{Lines, read_exactly};
-use metis_text::{TFault, tokens_of};
+use metis_tokens::cursor::{Lines, read_exactly};
+use metis_tokens::{TFault, tokens_of};
 use metis_universe::Universe;
 use metis_why::{Explanation, Line};
 use std::alloc::Global;

@@ -1,8 +1,8 @@
 //! What the lines of the text say. Their first words tell what they are about; the whole line has to be what is written for that.
 ghost use Rattle.std.specs.Prelude.{◌≡◌, ◌<◌, ◌||◌, IfOk, Ok, Err, codes, map, if◌then◌else◌};
 ghost use Rattle.std.specs.Str.{bytes_eq};
-ghost use Rattle.metis_text.specs.Flaws.{both, made};
-ghost use Rattle.metis_text.specs.declared.flaw.Flaw.TheVariants.{Form};
+ghost use Rattle.metis_tokens.specs.Flaws.{both, made};
+ghost use Rattle.metis_tokens.specs.declared.flaw.Flaw.TheVariants.{Form};
 ghost use Rattle.metis_universe.specs.GoalWords.{IsWordable};
 ghost use Rattle.metis_universe.specs.Universe.{pair_count};
 ghost use Rattle.metis_why.specs.Confirm.{IsLineOf};
@@ -10,8 +10,8 @@ ghost use Rattle.metis_why_text.specs.WhyReading.{count_of_tokens, fitting, goal
 
 use crate::words::{lacks_words, line_words};
 use metis_ids::{Goal, PairIx};
-use metis_text::bytes::is;
-use metis_text::{Flaw, both, goal_in, number_in, pair_in, port_in, tokens_of};
+use metis_tokens::bytes::is;
+use metis_tokens::{Flaw, both, goal_in, number_in, pair_in, port_in, tokens_of};
 use metis_universe::Universe;
 use metis_why::{Line, Reason, is_free};
 use std::alloc::{AllocError, Global};

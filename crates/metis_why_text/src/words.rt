@@ -1,7 +1,7 @@
 //! The lines of the text, without their line feeds.
 ghost use Rattle.std.specs.Prelude.{◌≡◌, ◌<◌, ◌++◌, ◌∷◌, [], IfOk, IfSome, codes, string_bytes};
 ghost use Rattle.metis_ids.specs.declared.goals.Goal.TheVariants.{Pair, Port};
-ghost use Rattle.metis_text.specs.Line.{words};
+ghost use Rattle.metis_tokens.specs.Line.{words};
 ghost use Rattle.metis_universe.specs.Goals.{IsGoalOf};
 ghost use Rattle.metis_universe.specs.PairWords.{pair_word};
 ghost use Rattle.metis_universe.specs.Universe.{pair_count, port_count, port_name_of};

@@ -11,7 +11,7 @@ ghost use Rattle.metis_why_text.specs.WhyText.{count_line, lacks_line, line_text
 use crate::words::{lacks_words, line_words};
 use metis_ids::Goal;
 use metis_outside::{Sink, Trouble};
-use metis_text::put_line;
+use metis_tokens::put_line;
 use metis_universe::Universe;
 use metis_why::{Explanation, Line};
 use std::alloc::Global;

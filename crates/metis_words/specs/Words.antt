@@ -6,13 +6,12 @@
 --     numbers_after found place n words      so many such numbers, and nothing behind them
 --     target_fits limit words k      word k of these is a target word, and not past the limit
 --     form_of words      the command that the words are, or the place of the first that does not fit
-use Rattle.std.specs.Prelude.{◌≡◌, ℕ, zero, suc, ◌+◌, ◌++◌, nat_le, nat_lt, List, [], ◌∷◌, length, drop, take, Result, Ok, Err, Option, Some, None, Bool, false, not, ◌&&◌, if◌then◌else◌, codes, option_map, slice_get, unwrap_or}
+use Rattle.std.specs.Prelude.{◌≡◌, ℕ, zero, suc, ◌+◌, ◌++◌, nat_le, nat_lt, List, [], ◌∷◌, length, drop, take, Result, Ok, Err, Option, Some, None, Bool, false, not, ◌&&◌, if◌then◌else◌, codes, option_map, slice_get, unwrap_or, is_some}
 use Rattle.std.specs.List.{filter_map, find, list_any, range_with_len}
 use Rattle.std.specs.Option.{option_and_then, option_map_or}
 use Rattle.std.specs.Result.{result_ok}
-use Rattle.std.specs.Prelude.{is_some}
 use Rattle.std.specs.Str.{bytes_eq}
-use Rattle.metis_text.specs.Tokens.{number_in}
+use Rattle.metis_tokens.specs.Tokens.{number_in}
 use Rattle.metis_universe.specs.PairWords.{pair_names}
 use Rattle.metis_universe.specs.Texts.{texts}
 use Rattle.metis_universe.specs.Universe.{is_empty}

@@ -6,7 +6,7 @@ ghost use Rattle.metis_words.specs.Forms.{least_size, number_count};
 ghost use Rattle.metis_words.specs.Words.{duration_of, files_in, fits_after, form, form_of, form_with, form_with_files, form_with_numbers, is_dash, numbers_after, size_of, sized_form, target_of, targets_in, verb_named, ReadsWords};
 
 use crate::words::{Command, TargetWord, Verb, WordFault};
-use metis_text::number_in;
+use metis_tokens::number_in;
 use metis_universe::pair_names;
 use std::alloc::{AllocError, Global};
 

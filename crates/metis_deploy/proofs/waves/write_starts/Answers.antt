@@ -3,8 +3,8 @@ use Rattle.std.proofs.lemmas.List.{take_all}
 use Rattle.std.proofs.lemmas.Result.{err_from_is_err_and}
 use Rattle.std.specs.List.{zip}
 use Rattle.metis_outside.specs.Writes.{Appends}
-use Rattle.metis_text.proofs.Numbered.{appends_next, front_of_numbered}
-use Rattle.metis_text.specs.Line.{numbered}
+use Rattle.metis_tokens.proofs.NumberedLines.{appends_next, front_of_numbered}
+use Rattle.metis_tokens.specs.Line.{numbered}
 use Rattle.metis_deploy.proofs.Starts.{zip_at, zip_count}
 use Rattle.metis_deploy.specs.Waved.{start_line}
 use Rattle.metis_deploy.proofs.waves.write_starts.Goals as goal

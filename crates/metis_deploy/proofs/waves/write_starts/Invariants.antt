@@ -1,7 +1,7 @@
 use Rattle.std.proofs.Common.{◌≡◌, take}
 use Rattle.std.specs.List.{zip}
 use Rattle.metis_outside.specs.Writes.{Appends}
-use Rattle.metis_text.specs.Line.{numbered}
+use Rattle.metis_tokens.specs.Line.{numbered}
 use Rattle.metis_deploy.specs.Waved.{start_line}
 use Rattle.metis_deploy.proofs.waves.write_starts.Given as goal
 

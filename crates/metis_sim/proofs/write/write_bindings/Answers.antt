@@ -1,6 +1,6 @@
 use Rattle.std.proofs.Common.{◌<◌, ◌∙◌, ap, sym, ◌++◌}
 use Rattle.std.proofs.lemmas.Result.{err_from_is_err_and}
-use Rattle.metis_text.proofs.Items.{front_of_item}
+use Rattle.metis_tokens.proofs.Items.{front_of_item}
 use Rattle.metis_universe.specs.Universe.{port_count}
 use Rattle.metis_sim.proofs.ShownNumbers.{next_has}
 use Rattle.metis_sim.specs.Replies.{binding_line}

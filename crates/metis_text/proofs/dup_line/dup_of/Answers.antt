@@ -1,7 +1,7 @@
 use Rattle.std.proofs.Common.{List, [], ℕ, Bor, get_or, sym, ap, ◌∙◌}
-use Rattle.metis_text.specs.DupLine.{pair_in}
-use Rattle.metis_text.specs.ActionLine.{due}
-use Rattle.metis_text.specs.Flaws.{both, made}
+use Rattle.metis_tokens.specs.Words.{pair_in}
+use Rattle.metis_tokens.specs.Tokens.{due}
+use Rattle.metis_tokens.specs.Flaws.{both, made}
 use Rattle.metis_text.specs.Reads.{dup_row}
 use Rattle.metis_text.proofs.Shapes.{dup_few, dup_worded, dup_wordless, numbered_view}
 use Rattle.metis_text.proofs.dup_line.dup_of.Goals as goal

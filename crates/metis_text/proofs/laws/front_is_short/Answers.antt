@@ -3,7 +3,7 @@ use Rattle.metis_text.specs.Reading.{plan_from, plan_in}
 use Rattle.metis_text.specs.Reads.{said}
 use Rattle.metis_text.proofs.Accepted.{well_formed_read}
 use Rattle.metis_text.proofs.PlanLines.{closed, lines_from, plan_text}
-use Rattle.metis_text.proofs.Texts.{front_of_accepted}
+use Rattle.metis_tokens.proofs.Texts.{front_of_accepted}
 use Rattle.metis_text.proofs.laws.front_is_short.Goals as goal
 
 pub returns : goal.returns

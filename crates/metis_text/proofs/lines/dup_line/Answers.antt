@@ -1,7 +1,7 @@
 use Rattle.std.proofs.Common.{◌++◌, ◌∷◌, [], map, sym, ap, ◌∙◌}
 use Rattle.std.specs.Prelude.{codes, decimal, string_bytes}
-use Rattle.metis_text.proofs.Words.{words_added}
-use Rattle.metis_text.specs.Line.{added}
+use Rattle.metis_tokens.proofs.Words.{words_added}
+use Rattle.metis_tokens.specs.Line.{added}
 use Rattle.metis_text.specs.PlanText.{event_token}
 use Rattle.metis_universe.specs.PairWords.{pair_word}
 use Rattle.metis_text.proofs.lines.dup_line.Goals as goal

@@ -1,6 +1,6 @@
 use Rattle.std.proofs.Common.{◌++◌, ap, ◌∙◌}
 use Rattle.std.specs.Prelude.{codes, string_bytes}
-use Rattle.metis_text.proofs.Words.{added_next}
+use Rattle.metis_tokens.proofs.Words.{added_next}
 use Rattle.metis_text.specs.PlanText.{event_token}
 use Rattle.metis_text.proofs.lines.push_events.Goals as goal
 

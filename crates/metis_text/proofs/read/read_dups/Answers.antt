@@ -2,10 +2,11 @@ use Rattle.std.proofs.Common.{◌+◌, ◌-◌, [], ◌∷◌, ◌++◌, length,
 use Rattle.std.proofs.lemmas.List.{length-map, length_push, map-append}
 use Rattle.std.proofs.lemmas.Result.{err_from_is_err_and}
 use Rattle.metis_text.specs.DupLine.{dup_in}
-use Rattle.metis_text.specs.Flaws.{made}
-use Rattle.metis_text.specs.Reading.{dups_from, fault_at}
+use Rattle.metis_tokens.specs.Flaws.{made}
+use Rattle.metis_text.specs.Reading.{dups_from}
+use Rattle.metis_tokens.specs.Cursor.{fault_at}
 use Rattle.metis_text.specs.Reads.{dup_row}
-use Rattle.metis_text.proofs.LinesRead.{reads_short, reads_wrong, reads_more}
+use Rattle.metis_tokens.proofs.LinesRead.{reads_short, reads_wrong, reads_more}
 use Rattle.metis_text.proofs.read.read_dups.Goals as goal
 
 pub returns-in_err-line : goal.returns-in_err-line

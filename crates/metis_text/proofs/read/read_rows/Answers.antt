@@ -2,9 +2,10 @@ use Rattle.std.proofs.Common.{◌+◌, ◌-◌, length, Err, refl, sym, ap, ◌�
 use Rattle.std.proofs.lemmas.List.{length_push}
 use Rattle.std.proofs.lemmas.Result.{err_from_is_err_and}
 use Rattle.metis_text.specs.ActionLine.{row_in}
-use Rattle.metis_text.specs.Flaws.{made}
-use Rattle.metis_text.specs.Reading.{Rows, fault_at, rows_from, with_row}
-use Rattle.metis_text.proofs.LinesRead.{reads_short, reads_wrong, reads_more}
+use Rattle.metis_tokens.specs.Flaws.{made}
+use Rattle.metis_text.specs.Reading.{Rows, rows_from, with_row}
+use Rattle.metis_tokens.specs.Cursor.{fault_at}
+use Rattle.metis_tokens.proofs.LinesRead.{reads_short, reads_wrong, reads_more}
 use Rattle.metis_text.proofs.read.read_rows.Goals as goal
 
 pub returns-in_err-line : goal.returns-in_err-line

@@ -1,6 +1,6 @@
 use Rattle.std.proofs.Common.{◌∙◌, ap, sym, ◌++◌}
 use Rattle.std.proofs.lemmas.Result.{err_from_is_err_and}
-use Rattle.metis_text.proofs.Items.{front_of_item}
+use Rattle.metis_tokens.proofs.Items.{front_of_item}
 use Rattle.metis_text.specs.RefusalText.{pair_line}
 use Rattle.metis_text.proofs.refusal_write.write_pairs.Goals as goal
 

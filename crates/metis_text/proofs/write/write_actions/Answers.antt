@@ -2,9 +2,9 @@ use Rattle.std.proofs.Common.{◌+◌, ◌∙◌, [], subst, arith}
 use Rattle.std.proofs.lemmas.Result.{err_from_is_err_and}
 use Rattle.metis_outside.specs.Writes.{Appends}
 use Rattle.std.specs.List.{zip}
-use Rattle.metis_text.proofs.Numbered.{appends_next, front_of_numbered}
+use Rattle.metis_tokens.proofs.NumberedLines.{appends_next, front_of_numbered}
 use Rattle.metis_text.proofs.WaitRows.{all_rows, is_listed, row_at, row_within}
-use Rattle.metis_text.specs.Line.{numbered}
+use Rattle.metis_tokens.specs.Line.{numbered}
 use Rattle.metis_text.specs.PlanText.{action_line}
 use Rattle.metis_waits.specs.Waits.{list_of}
 use Rattle.metis_text.proofs.write.write_actions.Goals as goal

@@ -1,7 +1,7 @@
 use Rattle.std.proofs.Common.{◌≡◌, take}
 use Rattle.metis_outside.specs.Writes.{Appends}
 use Rattle.std.specs.List.{zip}
-use Rattle.metis_text.specs.Line.{numbered}
+use Rattle.metis_tokens.specs.Line.{numbered}
 use Rattle.metis_text.specs.PlanText.{action_line}
 use Rattle.metis_text.proofs.write.write_actions.Given as goal
 

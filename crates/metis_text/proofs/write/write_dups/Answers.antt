@@ -1,6 +1,6 @@
 use Rattle.std.proofs.Common.{◌∙◌}
 use Rattle.std.proofs.lemmas.Result.{err_from_is_err_and}
-use Rattle.metis_text.proofs.Numbered.{appends_next, front_of_numbered}
+use Rattle.metis_tokens.proofs.NumberedLines.{appends_next, front_of_numbered}
 use Rattle.metis_text.specs.PlanText.{dup_line}
 use Rattle.metis_text.proofs.write.write_dups.Goals as goal
 

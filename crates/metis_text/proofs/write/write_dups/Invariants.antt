@@ -1,6 +1,6 @@
 use Rattle.std.proofs.Common.{◌≡◌, take}
 use Rattle.metis_outside.specs.Writes.{Appends}
-use Rattle.metis_text.specs.Line.{numbered}
+use Rattle.metis_tokens.specs.Line.{numbered}
 use Rattle.metis_text.specs.PlanText.{dup_line}
 use Rattle.metis_text.proofs.write.write_dups.Given as goal
 

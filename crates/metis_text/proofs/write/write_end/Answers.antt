@@ -1,7 +1,8 @@
 use Rattle.std.proofs.Common.{[], ◌∷◌}
 use Rattle.std.proofs.lemmas.Result.{err_from_is_err_and}
 use Rattle.metis_outside.proofs.Writing.{front_of_first}
-use Rattle.metis_text.specs.PlanText.{dup_lines, end_line}
+use Rattle.metis_text.specs.PlanText.{dup_lines}
+use Rattle.metis_tokens.specs.Line.{end_line}
 use Rattle.metis_text.proofs.write.write_end.Goals as goal
 
 pub returns-in_err-write_dups-clause-text : goal.returns-in_err-write_dups-clause-text

@@ -1,4 +1,4 @@
-use Rattle.metis_text.proofs.Texts.{fault_stays}
+use Rattle.metis_tokens.proofs.Texts.{fault_stays}
 use Rattle.metis_why_text.proofs.WhyFaults.{all_from, closed, why_text}
 use Rattle.metis_why_text.specs.WhyReading.{why_from}
 use Rattle.metis_why_text.proofs.laws.no_why_begins_with_a_fault.Goals as goal

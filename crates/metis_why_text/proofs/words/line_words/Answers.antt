@@ -1,6 +1,6 @@
 use Rattle.std.proofs.Common.{◌++◌, sym, ap, ◌∙◌}
-use Rattle.metis_text.proofs.Words.{words_added}
-use Rattle.metis_text.specs.Line.{added}
+use Rattle.metis_tokens.proofs.Words.{words_added}
+use Rattle.metis_tokens.specs.Line.{added}
 use Rattle.metis_universe.specs.PairWords.{pair_word}
 use Rattle.metis_why.specs.Barred.{named_by}
 use Rattle.metis_why_text.specs.WhyText.{list_words, reason_tokens}

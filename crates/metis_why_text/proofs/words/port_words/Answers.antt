@@ -2,8 +2,8 @@ use Rattle.std.proofs.Common.{◌∷◌, [], ◌++◌, ◌<◌, sym, ◌∙◌}
 use Rattle.std.specs.Prelude.{codes}
 use Rattle.std.proofs.lemmas.List.Elements.{All-same}
 use Rattle.metis_ids.specs.declared.goals.Goal.TheVariants.{Port}
-use Rattle.metis_text.proofs.Words.{words_added}
-use Rattle.metis_text.specs.Line.{added, words}
+use Rattle.metis_tokens.proofs.Words.{words_added}
+use Rattle.metis_tokens.specs.Line.{added, words}
 use Rattle.metis_universe.specs.GoalWords.{goal_word}
 use Rattle.metis_universe.specs.Universe.{pair_count, provides, providers_of}
 use Rattle.metis_why_text.proofs.Named.{kept_below}

@@ -1,7 +1,7 @@
 use Rattle.std.proofs.Common.{[], ◌∷◌, map}
 use Rattle.std.proofs.lemmas.Result.{err_from_is_err_and}
 use Rattle.metis_outside.proofs.Writing.{front_of_first}
-use Rattle.metis_text.specs.PlanText.{end_line}
+use Rattle.metis_tokens.specs.Line.{end_line}
 use Rattle.metis_why_text.specs.WhyText.{line_text}
 use Rattle.metis_why_text.proofs.write.write_rest.Goals as goal
 

@@ -1,8 +1,0 @@
-use Rattle.std.proofs.Common.{◌≡◌, drop}
-use Rattle.std.specs.Prelude.{Err, map}
-use Rattle.metis_text.specs.Flaws.{all_behind}
-use Rattle.metis_text.specs.Tokens.{number_in}
-use Rattle.metis_text.proofs.gather.gravest.Given as goal
-
-abbrev pub invariant-loop-token : goal.invariant-loop-token
-invariant-loop-token l = all_behind number_in (Err l.worst) (map (λ t. t.now) (drop l.token-index l.tokens)) ≡ all_behind number_in (Err l.fn.flaw) (map (λ t. t.now) l.tokens)

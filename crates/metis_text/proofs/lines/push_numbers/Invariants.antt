@@ -1,9 +1,0 @@
-use Rattle.std.proofs.Common.{◌≡◌, ◌++◌, take}
-use Rattle.std.specs.Prelude.{decimal, map, string_bytes}
-use Rattle.metis_text.specs.Line.{added}
-use Rattle.metis_text.proofs.lines.push_numbers.Given as goal
-
-abbrev pub invariant-loop-number : goal.invariant-loop-number
-invariant-loop-number l = record {
-  text : string_bytes l.line ≡ string_bytes l.initial.line ++ added (map decimal (take l.number-index l.numbers));
-}

@@ -1,0 +1,7 @@
+pub mod Cursor
+pub mod Flaws
+pub mod Line
+pub mod LineFaults
+pub mod MissingLine
+pub mod Tokens
+pub mod Words
