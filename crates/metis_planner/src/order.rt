@@ -3,8 +3,7 @@ ghost use Rattle.std.specs.Prelude.{◌≡◌, ◌<◌, IfOk, length, map};
 ghost use Rattle.std.specs.List.{All};
 ghost use Rattle.metis_ids.specs.Cycle.{HasCycle};
 ghost use Rattle.metis_ids.specs.Order.{IsOrder};
-ghost use Rattle.metis_support.specs.Support.{IsSupport};
-ghost use Rattle.metis_lines.specs.LifeLines.{AreLines, plan_of};
+ghost use Rattle.metis_lines.specs.Over.{graph_over};
 ghost use Rattle.metis_events.specs.Edges.{event_at, graph_of};
 ghost use Rattle.metis_events.specs.Numbered.{dag_of};
 ghost use Rattle.metis_emit.specs.Emission.{emission};
@@ -13,28 +12,22 @@ ghost use Rattle.metis_planner.specs.Rounds.{numbered, ordered_events};
 use metis_emit::emit;
 use metis_events::EventGraph;
 use metis_ids::{Action, Event, NoMemory, NodeIx};
-use metis_lines::Lines;
+use metis_lines::OverLines;
 use metis_sort::{Sorted, sort};
-use metis_support::Support;
-use metis_universe::Universe;
 use std::alloc::Global;
 
 /// The actions of the events of the lines, in the order of the events, which have no cycle.
 pub fn ordered_actions(
     alloc: Global,
-    u: &Universe,
-    s: &Support,
-    lines: &Lines,
+    over: &OverLines<'_>,
 ) -> Result<Vec<Action>, NoMemory>
-    requires support { IsSupport u.now s.now }
-    requires lines { AreLines u.now s.now lines.now }
-    requires ended { HasCycle (numbered (plan_of u.now s.now lines.now)) → ⊥ }
-    ensures { IfOk result (λ actions. actions.items ≡ emission u.now (plan_of u.now s.now lines.now) (ordered_events (plan_of u.now s.now lines.now))) }
+    requires { HasCycle (numbered (graph_over over.now)) → ⊥ }
+    ensures { IfOk result (λ actions. actions.items ≡ emission over.now.universe (graph_over over.now) (ordered_events (graph_over over.now))) }
 {
-    u.keeps_invariant();
-    let graph = EventGraph::of(alloc, u, s, lines)?;
+    over.keeps_invariant();
+    let graph = EventGraph::of(alloc, over)?;
     match sort(alloc, &graph)? {
-        Sorted::Order(nodes) => actions_of(alloc, u, s, lines, &graph, &nodes),
+        Sorted::Order(nodes) => actions_of(alloc, over, &graph, &nodes),
         Sorted::Cycle(_) => unreachable!(),
     }
 }
@@ -42,21 +35,17 @@ pub fn ordered_actions(
 // The actions of the events of these nodes, which are the order of the graph.
 fn actions_of(
     alloc: Global,
-    u: &Universe,
-    s: &Support,
-    lines: &Lines,
+    over: &OverLines<'_>,
     graph: &EventGraph,
     nodes: &[NodeIx],
 ) -> Result<Vec<Action>, NoMemory>
-    requires support { IsSupport u.now s.now }
-    requires lines { AreLines u.now s.now lines.now }
-    requires graph { graph.now ≡ graph_of (plan_of u.now s.now lines.now) }
+    requires graph { graph.now ≡ graph_of (graph_over over.now) }
     requires order { IsOrder (dag_of graph.now) nodes.now }
-    ensures { IfOk result (λ actions. actions.items ≡ emission u.now (plan_of u.now s.now lines.now) (ordered_events (plan_of u.now s.now lines.now))) }
+    ensures { IfOk result (λ actions. actions.items ≡ emission over.now.universe (graph_over over.now) (ordered_events (graph_over over.now))) }
 {
-    u.keeps_invariant();
+    over.keeps_invariant();
     let events = events_of(alloc, graph, nodes)?;
-    emit(alloc, u, s, lines, &events)
+    emit(alloc, over, &events)
 }
 
 // The events of these nodes.

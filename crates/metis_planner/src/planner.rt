@@ -28,7 +28,7 @@ use metis_choice::{Choice, choose};
 use metis_ids::{Dup, NoMemory, PairIx, Plan};
 use metis_layers::layers;
 use metis_layers::table::Layers;
-use metis_lines::Lines;
+use metis_lines::{Lines, OverLines};
 use metis_rounds::{Round, Rounds};
 use metis_support::Support;
 use metis_universe::Universe;
@@ -150,12 +150,12 @@ fn plan_by_rounds(
 }
 
 // The plan of the lines, whose events have an order.
-fn ordered_plan(
+fn ordered_plan<'a>(
     alloc: Global,
-    u: &Universe,
-    s: &Support,
+    u: &'a Universe,
+    s: &'a Support,
     targets: &[PairIx],
-    lines: &Lines,
+    lines: &'a Lines,
     dups: Vec<Dup>,
 ) -> Result<Plan, NoMemory>
     requires layered { All (λ p. IsSome (layer_of u.now p)) targets.now }
@@ -165,7 +165,8 @@ fn ordered_plan(
     ensures { IfOk result (IsByRounds u.now targets.now) }
 {
     u.keeps_invariant();
-    let actions = ordered_actions(alloc, u, s, lines)?;
+    let over = OverLines::over(u, s, lines);
+    let actions = ordered_actions(alloc, &over)?;
     Ok(Plan {
         actions,
         dups,

@@ -1,14 +1,17 @@
 //! The course of rounds, each of which goes on where the last one stopped.
-ghost use Rattle.std.specs.Prelude.{◌≡◌, ◌≤◌, ◌+◌, ◌++◌, ◌∷◌, ℕ, [], length, map, IfOk, IsTrue, OnOk};
+ghost use Rattle.std.specs.Prelude.{◌≡◌, ◌<◌, ◌≤◌, ◌+◌, ◌++◌, ◌∷◌, ℕ, [], length, map, IfOk, IsTrue, OnOk};
 ghost use Rattle.metis_ids.specs.Cycle.{cycle_of};
 ghost use Rattle.metis_universe.specs.Universe.{has};
 ghost use Rattle.metis_support.specs.Support.{IsSupport, is_selected};
-ghost use Rattle.metis_lines.specs.LifeLines.{is_loose, lines_of, loose, plan_of};
+ghost use Rattle.metis_lines.specs.LifeLines.{LifeLines, is_loose, lines_of, loose, plan_of};
+ghost use Rattle.metis_lines.specs.Over.{graph_over};
 ghost use Rattle.metis_events.specs.Edges.{graph_of};
 ghost use Rattle.metis_events.specs.Numbered.{dag_of, nth_event};
 ghost use Rattle.metis_rounds.specs.Course.{IfMore, IsCourse};
 ghost use Rattle.metis_rounds.specs.Forced.{IsForced};
-ghost use Rattle.metis_rounds.specs.Reach.{HasEnded, HasStopped};
+ghost use Rattle.metis_rounds.specs.Going.{HasOwnLine, IsGoing};
+ghost use Rattle.metis_rounds.specs.Reach.{HasEnded, HasStopped, taken_of};
+ghost use Rattle.metis_rounds.specs.Tables.{HasReturns, HasUses};
 ghost use Rattle.metis_rounds.specs.Walks.{IsWalk};
 
 use crate::doubled::doubled_by;
@@ -19,7 +22,7 @@ use crate::returns::{move_returns, returns_of};
 use crate::uses::Uses;
 use crate::walk::Walk;
 use crate::walking::{begin_walk, drop_taken, walk_on};
-use metis_ids::{Dup, Event, NoMemory, PairIx, StepIx};
+use metis_ids::{Dup, Event, LineIx, NoMemory, PairIx, StepIx};
 use metis_lines::{Lines, OverLines};
 use metis_support::Support;
 use metis_universe::Universe;
@@ -45,10 +48,10 @@ pub struct Course {
 
 impl Course {
     /// Over the lines for selected targets and no own pairs; no event is taken.
-    pub fn new(
+    pub fn new<'a>(
         alloc: Global,
-        universe: &Universe,
-        support: &Support,
+        universe: &'a Universe,
+        support: &'a Support,
         targets: &[PairIx],
     ) -> Result<Course, NoMemory>
         requires support { IsSupport universe.now support.now }
@@ -74,11 +77,11 @@ impl Course {
     }
 
     /// Takes what can be taken. Whether events are stuck then.
-    pub fn go_on(
+    pub fn go_on<'a>(
         &mut self,
         alloc: Global,
-        universe: &Universe,
-        support: &Support,
+        universe: &'a Universe,
+        support: &'a Support,
     ) -> Result<bool, NoMemory>
         requires course { IsCourse universe.now support.now self.old }
         ensures course { OnOk result (IsCourse universe.now support.now self.new) }
@@ -97,11 +100,11 @@ impl Course {
     }
 
     /// The dup that the cycle of the events forces, where some are stuck.
-    pub fn dup(
+    pub fn dup<'a>(
         &mut self,
         alloc: Global,
-        universe: &Universe,
-        support: &Support,
+        universe: &'a Universe,
+        support: &'a Support,
     ) -> Result<Dup, NoMemory>
         requires course { IsCourse universe.now support.now self.old }
         requires stopped { HasStopped (plan_of universe.now support.now self.old.lines) self.old.going.taken.items }
@@ -118,11 +121,11 @@ impl Course {
     }
 
     // The cycle of the events, where some are stuck. Of the last walk as much stands as was not taken since.
-    fn cycle(
+    fn cycle<'a>(
         &mut self,
         alloc: Global,
-        universe: &Universe,
-        support: &Support,
+        universe: &'a Universe,
+        support: &'a Support,
     ) -> Result<Vec<Event>, NoMemory>
         requires course { IsCourse universe.now support.now self.old }
         requires stopped { HasStopped (plan_of universe.now support.now self.old.lines) self.old.going.taken.items }
@@ -148,11 +151,11 @@ impl Course {
     }
 
     /// Gives a provider pair a line of its own, where the line that holds it goes on from there.
-    pub fn own_line(
+    pub fn own_line<'a>(
         &mut self,
         alloc: Global,
-        universe: &Universe,
-        support: &Support,
+        universe: &'a Universe,
+        support: &'a Support,
         p: PairIx,
     ) -> Result<(), NoMemory>
         requires course { IsCourse universe.now support.now self.old }
@@ -171,8 +174,34 @@ impl Course {
         );
         self.lines.own_line(alloc, support, p)?;
         let over = OverLines::over(universe, support, &self.lines);
-        let held = (line, station);
-        move_returns(alloc, &over, &self.uses, held, &mut self.returns)?;
-        self.going.with_own_line(alloc, &over, &self.returns, held)
+        follow_line(
+            alloc,
+            &over,
+            &self.uses,
+            (line, station),
+            &mut self.returns,
+            &mut self.going,
+        )
     }
+}
+
+// Brings the tables to lines with one more, which is a line of its own for the pair that was held there.
+fn follow_line(
+    alloc: Global,
+    over: &OverLines<'_>,
+    uses: &Uses,
+    held: (LineIx, StepIx),
+    returns: &mut EventTable,
+    going: &mut Going,
+) -> Result<(), NoMemory>
+    requires uses { HasUses over.now.universe over.now.support uses.now }
+    requires before { (x : LifeLines) × (p : ℕ) × HasOwnLine over.now.universe over.now.support x over.now.lines p held × HasReturns (plan_of over.now.universe over.now.support x) returns.old × IsGoing over.now.universe over.now.support x returns.old going.old [] }
+    ensures returns { OnOk result (HasReturns (graph_over over.now) returns.new) }
+    ensures going { OnOk result (IsGoing over.now.universe over.now.support over.now.lines returns.new going.new []) }
+    ensures kept { OnOk result ((l : ℕ) → l < length going.old.taken.items → taken_of going.new.taken.items l ≡ taken_of going.old.taken.items l) }
+{
+    over.keeps_invariant();
+    let (line, station) = held;
+    move_returns(alloc, over, uses, (line, station), returns)?;
+    going.with_own_line(alloc, over, returns, (line, station))
 }

@@ -3,7 +3,7 @@ ghost use Rattle.std.specs.Prelude.{◌≡◌, ◌<◌, ◌≤◌, None, ℕ, If
 ghost use Rattle.metis_ids.specs.declared.events.Event.{Event};
 ghost use Rattle.metis_lines.specs.AbstractPlan.{last};
 ghost use Rattle.metis_lines.specs.Events.{event_cmp, is_event};
-ghost use Rattle.metis_lines.specs.LifeLines.{AreLines, plan_of};
+ghost use Rattle.metis_lines.specs.Over.{graph_over};
 ghost use Rattle.metis_events.specs.Gathered.{IsSlotThere, without_supplies};
 ghost use Rattle.metis_rounds.specs.Going.{use_at, use_event};
 ghost use Rattle.metis_rounds.specs.Least.{IsFirstLeft, least_left, on_line_before, with_left};

@@ -5,7 +5,8 @@ ghost use Rattle.metis_ids.specs.declared.events.Event.{Event as EventValue};
 ghost use Rattle.metis_ids.specs.declared.events.Event.TheVariants.{At};
 ghost use Rattle.metis_lines.specs.AbstractPlan.{AbstractPlan};
 ghost use Rattle.metis_lines.specs.Events.{is_end, is_return_of, leaving, same_event, step_count};
-ghost use Rattle.metis_lines.specs.LifeLines.{AreLines, line_at, line_supplies, plan_of, slot_holding};
+ghost use Rattle.metis_lines.specs.LifeLines.{line_at, line_supplies, slot_holding};
+ghost use Rattle.metis_lines.specs.Over.{graph_over};
 ghost use Rattle.metis_events.specs.Gathered.{IsSlotThere, without_supplies};
 ghost use Rattle.metis_rounds.specs.OwnLine.{HasMoved, IsWithOwnLine};
 ghost use Rattle.metis_rounds.specs.Returns.{Brings, IsUse, is_brought};
@@ -122,11 +123,8 @@ fn add_station_returns(
 {
     for (provider, slot) in taken {
         let (other, place) = holder(over, *provider, *slot);
-        push_return(
-            table,
-            leaving(over, line, station),
-            leaving(over, other, place),
-        )?;
+        let from = leaving(over, line, station);
+        push_return(table, from, leaving(over, other, place))?;
     }
     Ok(())
 }

@@ -4,7 +4,7 @@ ghost use Rattle.metis_ids.specs.Cycle.{cycle_of};
 ghost use Rattle.metis_ids.specs.declared.events.Event.{Event};
 ghost use Rattle.metis_lines.specs.AbstractPlan.{last};
 ghost use Rattle.metis_lines.specs.Events.{is_event, step_count};
-ghost use Rattle.metis_lines.specs.LifeLines.{AreLines, plan_of};
+ghost use Rattle.metis_lines.specs.Over.{graph_over};
 ghost use Rattle.metis_events.specs.Edges.{graph_of};
 ghost use Rattle.metis_events.specs.Gathered.{without_supplies};
 ghost use Rattle.metis_events.specs.Numbered.{dag_of, nth_event};

@@ -13,7 +13,7 @@ slot_instance-to-requires-clause-high c = c.requires (c.args.held + 1 + c.loop-f
 
 pub loop-further-preserved : goal.loop-further-preserved
 loop-further-preserved c =
-    let x = c.args.lines.now in
+    let x = c.args.over.now.lines in
     let p : ℕ = c.args.provider in
     let r : ℕ = c.args.port in
     let z : ℕ = c.args.inst in
@@ -23,7 +23,7 @@ loop-further-preserved c =
 
 pub returns : goal.returns
 returns c =
-    let x = c.args.lines.now in
+    let x = c.args.over.now.lines in
     let p : ℕ = c.args.provider in
     let r : ℕ = c.args.port in
     let z : ℕ = c.args.inst in

@@ -9,7 +9,7 @@ use Rattle.metis_planner.proofs.order.ordered_actions.Goals as goal
 
 pub unreachable-requires : goal.unreachable-requires
 unreachable-requires c =
-    let w = plan_of c.args.u.now c.args.s.now c.args.lines.now in
+    let w = plan_of c.args.over.now.universe c.args.over.now.support c.args.over.now.lines in
     let graph : dag_of c.in_ok-graph.graph ≡ numbered w = ap dag_of c.in_ok-graph.ensures in
     let sorted : IsSorted (dag_of c.in_ok-graph.graph) c.in_ok-nodes.field-0 = c.in_ok-nodes.ensures in
-    c.requires.ended (subst HasCycle graph (subst (λ (x : Sorted). IsSorted (dag_of c.in_ok-graph.graph) x) c.in-Cycle.is sorted).0)
+    c.requires (subst HasCycle graph (subst (λ (x : Sorted). IsSorted (dag_of c.in_ok-graph.graph) x) c.in-Cycle.is sorted).0)

@@ -19,7 +19,7 @@ push_return-requires c =
     let taken_there : IsUse x item = subst (IsUse x) at (c.requires.uses i c.loop-provider-test.true) in
     let h : ℕ × ℕ = slot_holding x item.0 item.1 in
     let held : c.holder-other.result ≡ h = c.holder-other.ensures in
-    let to : c.leaving-in-loop-provider.result ≡ leaving w h.0 h.1 = c.leaving-in-loop-provider.ensures ∙ ap (λ (a : ℕ × ℕ). leaving w a.0 a.1) held in
+    let to : c.leaving.result ≡ leaving w h.0 h.1 = c.leaving.ensures ∙ ap (λ (a : ℕ × ℕ). leaving w a.0 a.1) held in
     let table = c.loop-provider.table in
     let rows = rows_kept w _ c.args.table.now table c.loop-provider.invariant c.requires.rows in
     ap (λ f. is_end f || has_row table f) to ∙ leaving_has w table rows h.0 h.1 taken_there.there.line taken_there.there.place
@@ -34,10 +34,10 @@ loop-provider-preserved c =
     let from = leaving w c.args.line c.args.station in
     let h : ℕ × ℕ = slot_holding x item.0 item.1 in
     let held : c.holder-other.result ≡ h = c.holder-other.ensures in
-    let to : c.leaving-in-loop-provider.result ≡ leaving w h.0 h.1 = c.leaving-in-loop-provider.ensures ∙ ap (λ (a : ℕ × ℕ). leaving w a.0 a.1) held in
+    let to : c.leaving.result ≡ leaving w h.0 h.1 = c.leaving.ensures ∙ ap (λ (a : ℕ × ℕ). leaving w a.0 a.1) held in
     let old = c.loop-provider.table in
     let new = c.push_return.new.table in
     elements_more (is_brought x from) taken i item c.loop-provider-test.true c.loop-provider-item.is c.args.table.now old new c.loop-provider.invariant
-    (brings_alike (λ e f. same_event c.leaving.result e && same_event c.leaving-in-loop-provider.result f) (λ e f. is_brought x from e f item) old new
-    (λ e f. λ j. same_event (c.leaving.ensures j) e && same_event (to j) f)
+    (brings_alike (λ e f. same_event c.leaving-from.result e && same_event c.leaving.result f) (λ e f. is_brought x from e f item) old new
+    (λ e f. λ j. same_event (c.leaving-from.ensures j) e && same_event (to j) f)
     c.in_ok-push_return.ensures)

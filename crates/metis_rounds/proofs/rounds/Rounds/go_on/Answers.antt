@@ -20,7 +20,7 @@ returns-then-branch c =
     let course = c.in_ok-go_on.ensures.course in
     let now : state_of u s r.lines ≡ c.args.self = ap (state_of u s) c.in_ok-go_on.ensures.lines ∙ c.self.view_is in
     let stopped = subst (λ (b : Bool). IfMore (Ok b) (HasStopped w r.going.taken.items) (HasEnded w r.going.taken.items)) c.if-branch.true c.in_ok-go_on.ensures.more in
-    let cycle = stopped_cycle u w (lines_formed u s c.self.invariant.0 r.lines course.lines) r.going.taken.items course.going.safe stopped in
+    let cycle = stopped_cycle u w (lines_formed u s c.self.invariant.support r.lines course.lines) r.going.taken.items course.going.safe stopped in
     (now, subst (λ (a : RoundsState). HasCycle (dag_of (graph_of (graph_now a)))) now cycle)
 
 pub returns : goal.returns
@@ -32,5 +32,5 @@ returns c =
     let course = c.in_ok-go_on.ensures.course in
     let now : state_of u s r.lines ≡ c.args.self = ap (state_of u s) c.in_ok-go_on.ensures.lines ∙ c.self.view_is in
     let ended = subst (λ (b : Bool). IfMore (Ok b) (HasStopped w r.going.taken.items) (HasEnded w r.going.taken.items)) c.if-branch.false c.in_ok-go_on.ensures.more in
-    let none = no_cycle_left u s r.lines c.keeps_invariant.ensures.universe c.self.invariant.0 course.lines r.going.taken.items course.going.safe ended in
+    let none = no_cycle_left u s r.lines c.keeps_invariant.ensures.universe c.self.invariant.support course.lines r.going.taken.items course.going.safe ended in
     (ap (λ (a : RoundsState). a.lines) now, subst (λ (a : RoundsState). HasCycle (dag_of (graph_of (graph_now a))) → ⊥) now none)
