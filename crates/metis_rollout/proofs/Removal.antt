@@ -19,6 +19,7 @@ use Rattle.metis_rollout.specs.Rollout.{cycle_removal, idle_unbinds, unreference
 use Rattle.metis_rollout.specs.Standing.{IsCleared, IsUntied, is_made}
 use Rattle.metis_rollout.proofs.Going.{going_from_steady, steady_from_going}
 use Rattle.metis_rollout.proofs.Quiet.{QuietFrom, QuietFrom-append, idle_bound, idle_pair, idle_quiet, is_required, keys-has, unreferenced_bound, unreferenced_ends, unreferenced_pair, unreferenced_quiet, quiet_goes, quiet_makes_none}
+use Rattle.metis_rollout.proofs.Survivors.{bound_stays, held_stay}
 use Rattle.metis_rollout.proofs.Together.{beside, fresh_goes, fresh_unused}
 use Rattle.metis_rollout.proofs.Touching.{At, pair_touched}
 use Rattle.metis_rollout.proofs.Together.{touches_own}
@@ -144,7 +145,21 @@ module _ (u : Universe) (old : List Action) where
           let parts = and_parts (is_required u stood r z) (is_bound stood r z y) (sym (idle_bound u stood r z y) ∙ unreferenced_bound u (length (members untied)) untied r z y h) in
           (parts.1, required_and stood r z parts.0);
       pointed = λ z h. pointer left.bindings z (unreferenced_ends u (length (members untied)) untied (omega arith) z h);
+      greatest = λ held set z in_it. held_stay held u (length (members untied)) untied (record {
+        there = λ y h. subst IsSome (sym (idle_pair u stood y)) (set.there y h);
+        pointed = λ y h. let by = set.pointed y h in (by.0, by.1, by.2, untied_bound by.0 by.1 y by.4 by.3);
+      }) z in_it;
+      stay = λ r z y there bound needed. bound_stays u (length (members untied)) untied r z y there (untied_bound r z y needed bound);
     } where
+      required_from : (r z : ℕ) → IsSomeAnd (pair_of stood z) (λ p. IsTrue (requires u p r)) → is_required u stood r z ≡ true
+      required_from r z h = by_value (pair_of stood z) h where
+        by_value : (o : Option ℕ) → IsSomeAnd o (λ p. IsTrue (requires u p r)) → option_map_or (λ p. requires u p r) o false ≡ true
+        by_value None e = absurd e
+        by_value (Some p) e = e
+
+      untied_bound : (r z y : ℕ) → IsSomeAnd (pair_of stood z) (λ p. IsTrue (requires u p r)) → is_bound stood r z y ≡ true → is_bound untied r z y ≡ true
+      untied_bound r z y needed bound = idle_bound u stood r z y ∙ and_from (is_required u stood r z) (is_bound stood r z y) (required_from r z needed) bound
+
       pointer : (bs : List Binding) (z : ℕ) → list_any (λ b. nat_eq b.2 z) bs ≡ true → (r : ℕ) × (x : ℕ) × (list_any (is_tie r x z) bs ≡ true)
       pointer [] z h = absurd (false≢true h)
       pointer (b ∷ bs) z h = elim (or_cases (nat_eq b.2 z) (list_any (λ b. nat_eq b.2 z) bs) h) [
