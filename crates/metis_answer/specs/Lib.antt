@@ -5,6 +5,7 @@ pub mod Confirmed
 pub mod Controlled
 pub mod Crewed
 pub mod Explained
+pub mod Followed
 pub mod Judged
 pub mod Loaded
 pub mod Placed

@@ -2,7 +2,7 @@
 ghost use Rattle.std.specs.Prelude.{◌≡◌, ◌<◌, ◌-◌, ◌^◌, IfOk, length};
 ghost use Rattle.std.specs.List.{All};
 ghost use Rattle.metis_replay.specs.Exact.{Tells};
-ghost use Rattle.metis_replay.specs.Progress.{IsVerdictOf};
+ghost use Rattle.metis_replay.specs.Progress.{IsVerdictOf, after_feeding};
 ghost use Rattle.metis_universe.specs.Numbers.{IsOf};
 ghost use Rattle.metis_universe.specs.Goals.{IsGoalOf};
 ghost use Rattle.metis_gather.specs.Answer as answer;
@@ -58,11 +58,26 @@ pub fn replayed(
     replay_is_exact();
     replay_keeps_what_was_done();
     u.keeps_invariant();
+    let replay = replay_of(alloc, u, actions)?;
+    Ok((replay.finish(goals), replay.config().count()))
+}
+
+/// The replay of the actions from the empty configuration.
+pub fn replay_of<'u>(
+    alloc: Global,
+    u: &'u Universe,
+    actions: &[Action],
+) -> Result<Replay<'u>, NoMemory>
+    requires numbers { All (IsOf u.now) actions.now }
+    requires few { length actions.now < 2 ^ 32 - 1 }
+    ensures { IfOk result (λ replay. replay ≡ after_feeding u.now actions.now) }
+{
+    replay_keeps_what_was_done();
     let mut replay = Replay::new(alloc, u);
     for action in actions {
         replay.feed(action)?;
     }
-    Ok((replay.finish(goals), replay.config().count()))
+    Ok(replay)
 }
 
 fn status_of(verdict: &Verdict) -> Status

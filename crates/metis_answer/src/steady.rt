@@ -11,16 +11,43 @@ ghost use Rattle.metis_universe.specs.Steadfast.{is_steadfast};
 ghost use Rattle.metis_universe.specs.Step.{IsRun};
 ghost use Rattle.metis_waits.specs.Waits.{IsFirstLoose};
 ghost use Rattle.metis_answer.specs.Crewed.{loose_line};
+ghost use Rattle.metis_answer.specs.Followed.{IsFollowed};
 
-use crate::replay::replayed;
+use crate::replay::replay_of;
 use metis_actions::AFault;
+use metis_config::Config;
 use metis_ids::{Action, NoMemory};
 use metis_outside::{Sink, Trouble};
-use metis_replay::Verdict;
+use metis_replay::{Verdict, replay_is_exact, replay_keeps_what_was_done};
 use metis_text::put_line;
 use metis_universe::Universe;
 use metis_waits::{WFault, waits};
 use std::alloc::{AllocError, Global};
+
+/// What actions left from the empty configuration on, or the first of them that cannot be done.
+#[derive(Drop)]
+pub enum Followed {
+    /// Each was done, and left this.
+    Left(Config),
+    /// The number of the first that cannot be done, counted from 1, and why.
+    Bad(u32, AFault),
+}
+
+/// Follows the actions from the empty configuration on.
+pub fn follow(alloc: Global, u: &Universe, actions: &[Action]) -> Result<Followed, NoMemory>
+    requires numbers { All (IsOf u.now) actions.now }
+    requires few { length actions.now < 2 ^ 32 - 1 }
+    ensures { IfOk result (IsFollowed u.now actions.now) }
+{
+    replay_is_exact();
+    replay_keeps_what_was_done();
+    u.keeps_invariant();
+    let replay = replay_of(alloc, u, actions)?;
+    match replay.finish(&[]) {
+        Verdict::Bad(number, fault) => Ok(Followed::Bad(number, fault)),
+        Verdict::Good | Verdict::Missing(..) => Ok(Followed::Left(replay.into_config())),
+    }
+}
 
 /// The number of the first action that cannot be done from the empty configuration on, and why.
 pub fn first_bad(
@@ -34,10 +61,10 @@ pub fn first_bad(
     ensures numbers { IfOk result (λ bad. IfSome bad (λ b. IsFaultOf u.now b.1)) }
     ensures runs { IfOk result (λ bad. bad ≡ None → IsRun u.now empty actions.now) }
 {
-    let (verdict, _) = replayed(alloc, u, actions, &[])?;
-    match verdict {
-        Verdict::Bad(number, fault) => Ok(Some((number, fault))),
-        Verdict::Good | Verdict::Missing(..) => Ok(None),
+    let followed = follow(alloc, u, actions)?;
+    match &followed {
+        Followed::Bad(number, fault) => Ok(Some((*number, *fault))),
+        Followed::Left(_) => Ok(None),
     }
 }
 
