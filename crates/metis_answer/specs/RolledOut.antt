@@ -1,12 +1,13 @@
 -- What is said of a rollout from a plan's actions to goals.
 --     rollout_plan u old fresh      the rollout, as a plan without dups
 --     rollout_text u old fresh      the lines of its text, in which each action names the actions of other instances that it waits for
+--     IsOld u old left judged      what is known of the old actions when the rollout is made
 --     RollsOutPairs u old g lines      the lines are those of the rollout from the actions to the plan that rounds come to for the pairs
 --     RollsOut u goals old lines      the same of the pairs for goals, which some actions attain
 --     PutsRollout u goals old lines status      the actions are a steadfast run, and the lines are those of such a rollout where some actions attain the goals, and else of a refusal
 --     RolledOut u goals old lines status      that, or the one line is that of the first action that cannot be done, or of the first that is not steadfast
-use Rattle.std.specs.Prelude.{◌≡◌, ◌⊎◌, ℕ, List, []}
-use Rattle.std.specs.List.{count_by}
+use Rattle.std.specs.Prelude.{◌≡◌, ◌⊎◌, ◌<◌, ℕ, List, [], length}
+use Rattle.std.specs.List.{All, count_by}
 use Rattle.metis_choice.specs.Resolutions.{ArePairsFor}
 use Rattle.metis_ids.specs.Action.{makes}
 use Rattle.metis_ids.specs.Plans.{Plan}
@@ -15,15 +16,27 @@ use Rattle.metis_ids.specs.declared.goals.Goal.{Goal}
 use Rattle.metis_planner.specs.Rounds.{IsByRounds}
 use Rattle.metis_rollout.specs.Rollout.{renumbered, rollout}
 use Rattle.metis_universe.specs.Steadfast.{IsSteadfastRun}
-use Rattle.metis_universe.specs.Config.{empty}
+use Rattle.metis_universe.specs.Config.{Config, empty}
+use Rattle.metis_universe.specs.Numbers.{IsOf}
 use Rattle.metis_universe.specs.Goal.{Attains, Holds}
 use Rattle.metis_universe.specs.Goals.{AttainsGoals, HoldsGoals}
 use Rattle.metis_universe.specs.Step.{after_all}
 use Rattle.metis_universe.specs.Universe.{Universe}
 use Rattle.metis_deploy.specs.Steady.{HasBadAction, HasLooseAction}
+use Rattle.metis_gather.specs.Commands.{plan_limit}
+use Rattle.metis_waits.specs.Judged.{IsJudged}
+use Rattle.metis_waits.specs.declared.judged.Judged.{Judged}
 use Rattle.metis_answer.specs.Planned.{Refuses, plan_text}
 use Rattle.metis_output.specs.declared.status.Status.{Status}
 use Rattle.metis_output.specs.declared.status.Status.TheVariants.{Done, No}
+
+-- a steadfast run of few actions with its numbers, what it leaves, and the run judged
+pub record IsOld (u : Universe) (old : List Action) (left : Config) (judged : Judged) : Type 0 where
+  pub steady : IsSteadfastRun u old
+  pub numbers : All (IsOf u) old
+  pub short : length old < plan_limit
+  pub leaves : left ≡ after_all u empty old
+  pub waits : IsJudged u old judged
 
 abbrev pub plan_of : List Action → Plan
 plan_of actions = record { actions = actions; dups = []; instances = count_by makes actions }

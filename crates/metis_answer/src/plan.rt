@@ -8,6 +8,7 @@ ghost use Rattle.metis_universe.specs.Numbers.{IsOf};
 ghost use Rattle.metis_universe.specs.Steadfast.{is_steadfast};
 ghost use Rattle.metis_universe.specs.Universe.{pair_count};
 ghost use Rattle.metis_layers.specs.Layers.{IsLayers};
+ghost use Rattle.metis_waits.specs.Judged.{IsBegun};
 ghost use Rattle.metis_waits.specs.Waits.{AreWaits};
 ghost use Rattle.metis_gather.specs.Answer as answer;
 ghost use Rattle.metis_answer.specs.Answers.{IsAnswer};
@@ -25,7 +26,7 @@ use metis_outside::{Sink, Trouble};
 use metis_planner::{nothing_is_doubled_without_a_cycle, plan_over};
 use metis_text::{write_plan, write_refusal};
 use metis_universe::Universe;
-use metis_waits::{WFault, Waits, waits};
+use metis_waits::{Judged, WFault, Waits};
 use std::alloc::Global;
 
 /// Puts a plan for the goals, or a refusal where nothing attains them.
@@ -66,7 +67,6 @@ fn put_plan_for<K: Sink>(
 }
 
 /// Puts the plan, each action with the actions of other instances that it waits for.
-#[tactic(auto, using(metis_outside::proofs::Writing::front_of_nothing))]
 pub fn write_actions<K: Sink>(
     alloc: Global,
     u: &Universe,
@@ -80,21 +80,47 @@ pub fn write_actions<K: Sink>(
     ensures text { Writes (plan_text u.now plan.now) (K.written out.old) (K.written out.new) result }
     ensures cause { CountsFault (K.faults out.old) (K.faults out.new) result }
 {
-    match waits_in(alloc, u, &plan.actions) {
+    write_further(alloc, u, Judged::new(alloc, u), plan, out)
+}
+
+/// The same, where the first ones of the actions are judged.
+#[tactic(auto, using(metis_outside::proofs::Writing::front_of_nothing))]
+pub fn write_further<K: Sink>(
+    alloc: Global,
+    u: &Universe,
+    judged: Judged,
+    plan: &Plan,
+    out: &mut K,
+) -> Result<(), Trouble>
+    requires numbers { All (IsOf u.now) plan.now.actions }
+    requires steadfast { IsTrue (is_steadfast u.now plan.now.actions) }
+    requires few { length plan.now.actions < 2 ^ 32 - 1 }
+    requires dups { All (λ d. d.pair < pair_count u.now) plan.now.dups }
+    requires begun { IsBegun u.now plan.now.actions judged }
+    ensures text { Writes (plan_text u.now plan.now) (K.written out.old) (K.written out.new) result }
+    ensures cause { CountsFault (K.faults out.old) (K.faults out.new) result }
+{
+    match waits_in(alloc, u, judged, &plan.actions) {
         Ok(waits) => write_plan(alloc, u, plan, &waits, out),
         Err(_) => Err(Trouble::NoMemory),
     }
 }
 
 // What each action waits for. No provider leaves its pair while a binding to it stands, so there is no loose action.
-fn waits_in(alloc: Global, u: &Universe, actions: &[Action]) -> Result<Waits, NoMemory>
+fn waits_in(
+    alloc: Global,
+    u: &Universe,
+    judged: Judged,
+    actions: &[Action],
+) -> Result<Waits, NoMemory>
     requires numbers { All (IsOf u.now) actions.now }
     requires steadfast { IsTrue (is_steadfast u.now actions.now) }
     requires few { length actions.now < 2 ^ 32 - 1 }
+    requires begun { IsBegun u.now actions.now judged }
     ensures { IfOk result (AreWaits actions.now) }
 {
-    match waits(alloc, u, actions) {
-        Ok(waits) => Ok(waits),
+    match judged.go_on(alloc, u, actions) {
+        Ok(all) => Ok(all.into_waits()),
         Err(WFault::NoMemory) => Err(NoMemory),
         Err(WFault::Loose(_)) => unreachable!(),
     }

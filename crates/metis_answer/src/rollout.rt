@@ -11,18 +11,19 @@ ghost use Rattle.metis_universe.specs.Goal.{Attains};
 ghost use Rattle.metis_universe.specs.GoalWords.{IsWordable};
 ghost use Rattle.metis_universe.specs.Goals.{IsGoalOf};
 ghost use Rattle.metis_universe.specs.Numbers.{IsOf};
-ghost use Rattle.metis_universe.specs.Step.{IsRun};
+ghost use Rattle.metis_universe.specs.Step.{IsRun, after_all};
 ghost use Rattle.metis_universe.specs.Universe.{pair_count};
 ghost use Rattle.metis_gather.specs.Answer as answer;
 ghost use Rattle.metis_gather.specs.Commands.{plan_limit};
 ghost use Rattle.metis_answer.specs.Answers.{IsAnswer};
 ghost use Rattle.metis_output.specs.Shown.{Shown};
-ghost use Rattle.metis_answer.specs.RolledOut.{PutsRolloutTo, RolloutAnswer, rollout_plan, rollout_text};
+ghost use Rattle.metis_answer.specs.RolledOut.{IsOld, PutsRolloutTo, RolloutAnswer, rollout_plan, rollout_text};
 
 use crate::aim::{Aim, aim_of};
-use crate::plan::write_actions;
+use crate::plan::write_further;
 use metis_choice::pairs_for_goals_hold_them;
-use metis_deploy::{first_bad, first_loose, write_bad, write_loose};
+use metis_config::Config;
+use metis_deploy::{Followed, follow, write_bad, write_loose};
 use metis_ids::{Action, Goal, NoMemory, PairIx, Plan};
 use metis_layers::table::Layers;
 use metis_output::{Status, said};
@@ -31,6 +32,7 @@ use metis_planner::plan_over;
 use metis_rollout::{rollout, rollout_replaces};
 use metis_text::write_refusal;
 use metis_universe::Universe;
+use metis_waits::{Judged, WFault};
 use std::alloc::Global;
 
 /// Puts the first old action that cannot be done; or else a plan that begins with the old actions, makes what the goals ask for
@@ -49,19 +51,22 @@ pub fn put_rollout<K: Sink>(
     requires short { length old.now < plan_limit }
     ensures { Shown (IsAnswer (answer.Rollout u.now goals.now old.now)) (K.written out.old) (K.written out.new) (K.faults out.old) (K.faults out.new) result }
 {
-    match first_bad(alloc, u, old) {
-        Ok(None) => put_steady(alloc, u, goals, old, out),
-        Ok(Some((number, fault))) => { said(write_bad(alloc, u, number, &fault, out), Status::No) }
+    match follow(alloc, u, old) {
+        Ok(Followed::Left(left)) => put_steady(alloc, u, goals, old, left, out),
+        Ok(Followed::Bad(number, fault)) => {
+            said(write_bad(alloc, u, number, &fault, out), Status::No)
+        }
         Err(_) => Status::NoMemory,
     }
 }
 
-// Puts the first old action that is not steadfast, or else goes on.
+// Puts the first old action that is not steadfast, or else goes on from what they leave.
 fn put_steady<K: Sink>(
     alloc: Global,
     u: &Universe,
     goals: &[Goal],
     old: &[Action],
+    left: Config,
     out: &mut K,
 ) -> Status
     requires few { length goals.now ≤ 256 }
@@ -70,30 +75,41 @@ fn put_steady<K: Sink>(
     requires numbers { All (IsOf u.now) old.now }
     requires short { length old.now < plan_limit }
     requires runs { IsRun u.now empty old.now }
+    requires left { left ≡ after_all u.now empty old.now }
     ensures { Shown (IsAnswer (answer.Rollout u.now goals.now old.now)) (K.written out.old) (K.written out.new) (K.faults out.old) (K.faults out.new) result }
 {
-    match first_loose(alloc, u, old) {
-        Ok(None) => put_goals(alloc, u, goals, old, out),
-        Ok(Some(number)) => said(write_loose(alloc, number, out), Status::No),
-        Err(_) => Status::NoMemory,
+    match Judged::new(alloc, u).go_on(alloc, u, old) {
+        Ok(judged) => put_goals(
+            alloc,
+            u,
+            goals,
+            Old {
+                actions: old,
+                left,
+                judged,
+            },
+            out,
+        ),
+        Err(WFault::Loose(number)) => said(write_loose(alloc, number, out), Status::No),
+        Err(WFault::NoMemory) => Status::NoMemory,
     }
 }
 
+/// The old actions, with what they leave, and judged.
+#[derive(Drop)]
+struct Old<'a> {
+    actions: &'a [Action],
+    left: Config,
+    judged: Judged,
+}
+
 // Puts the rollout to the pairs for the goals, or a refusal.
-fn put_goals<K: Sink>(
-    alloc: Global,
-    u: &Universe,
-    goals: &[Goal],
-    old: &[Action],
-    out: &mut K,
-) -> Status
+fn put_goals<K: Sink>(alloc: Global, u: &Universe, goals: &[Goal], old: Old, out: &mut K) -> Status
     requires few { length goals.now ≤ 256 }
     requires within { All (IsGoalOf u.now) goals.now }
     requires wordable { All (IsWordable u.now) goals.now }
-    requires numbers { All (IsOf u.now) old.now }
-    requires short { length old.now < plan_limit }
-    requires steady { IsSteadfastRun u.now old.now }
-    ensures { Shown (RolloutAnswer u.now goals.now old.now) (K.written out.old) (K.written out.new) (K.faults out.old) (K.faults out.new) result }
+    requires old { IsOld u.now old.actions.now old.left old.judged }
+    ensures { Shown (RolloutAnswer u.now goals.now old.entry.actions.now) (K.written out.old) (K.written out.new) (K.faults out.old) (K.faults out.new) result }
 {
     pairs_for_goals_hold_them();
     match aim_of(alloc, u, goals) {
@@ -108,7 +124,7 @@ fn put_rollout_to<K: Sink>(
     alloc: Global,
     u: &Universe,
     layers: &Layers,
-    old: &[Action],
+    old: Old,
     pairs: &[PairIx],
     out: &mut K,
 ) -> Status
@@ -116,10 +132,8 @@ fn put_rollout_to<K: Sink>(
     requires within { All (λ p. p < pair_count u.now) pairs.now }
     requires layers { IsLayers u.now layers.now }
     requires attained { Attains u.now pairs.now }
-    requires numbers { All (IsOf u.now) old.now }
-    requires short { length old.now < plan_limit }
-    requires steady { IsSteadfastRun u.now old.now }
-    ensures { Shown (PutsRolloutTo u.now old.now pairs.now) (K.written out.old) (K.written out.new) (K.faults out.old) (K.faults out.new) result }
+    requires old { IsOld u.now old.actions.now old.left old.judged }
+    ensures { Shown (PutsRolloutTo u.now old.entry.actions.now pairs.now) (K.written out.old) (K.written out.new) (K.faults out.old) (K.faults out.new) result }
 {
     u.keeps_invariant();
     rollout_replaces();
@@ -138,21 +152,20 @@ fn write_rollout<K: Sink>(
     alloc: Global,
     u: &Universe,
     layers: &Layers,
-    old: &[Action],
+    old: Old,
     fresh: &[Action],
     out: &mut K,
 ) -> Result<(), Trouble>
     requires layers { IsLayers u.now layers.now }
-    requires old { IsSteadfastRun u.now old.now }
+    requires old { IsOld u.now old.actions.now old.left old.judged }
     requires fresh { IsSteadfastRun u.now fresh.now }
-    requires old_ours { All (IsOf u.now) old.now }
     requires fresh_ours { All (IsOf u.now) fresh.now }
-    requires few { length old.now + length fresh.now < 2 ^ 29 }
-    ensures text { Writes (rollout_text u.now old.now fresh.now) (K.written out.old) (K.written out.new) result }
+    requires few { length old.actions.now + length fresh.now < 2 ^ 29 }
+    ensures text { Writes (rollout_text u.now old.entry.actions.now fresh.now) (K.written out.old) (K.written out.new) result }
     ensures cause { CountsFault (K.faults out.old) (K.faults out.new) result }
 {
-    match rollout_between(alloc, u, layers, old, fresh) {
-        Ok(plan) => write_actions(alloc, u, &plan, out),
+    match rollout_between(alloc, u, layers, old.actions, fresh, old.left) {
+        Ok(plan) => write_further(alloc, u, old.judged, &plan, out),
         Err(_) => Err(Trouble::NoMemory),
     }
 }
@@ -164,6 +177,7 @@ fn rollout_between(
     layers: &Layers,
     old: &[Action],
     fresh: &[Action],
+    left: Config,
 ) -> Result<Plan, NoMemory>
     requires layers { IsLayers u.now layers.now }
     requires old { IsSteadfastRun u.now old.now }
@@ -171,12 +185,13 @@ fn rollout_between(
     requires old_ours { All (IsOf u.now) old.now }
     requires fresh_ours { All (IsOf u.now) fresh.now }
     requires few { length old.now + length fresh.now < 2 ^ 29 }
+    requires left { left ≡ after_all u.now empty old.now }
     ensures plan { IfOk result (λ plan. plan ≡ rollout_plan u.now old.now fresh.now) }
     ensures steady { IfOk result (λ plan. IsSteadfastRun u.now plan.actions) }
     ensures ours { IfOk result (λ plan. All (IsOf u.now) plan.actions) }
     ensures short { IfOk result (λ plan. length plan.actions < 2 ^ 32 - 1) }
 {
-    let actions = rollout(alloc, u, layers, old, fresh)?;
+    let actions = rollout(alloc, u, layers, old, fresh, left)?;
     let instances = made_by(&actions);
     Ok(Plan {
         actions,

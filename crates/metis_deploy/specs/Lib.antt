@@ -1,5 +1,6 @@
 pub mod Controlled
 pub mod Crewed
+pub mod Followed
 pub mod Placed
 pub mod Scripts
 pub mod Steady

@@ -2,12 +2,13 @@
 ghost use Rattle.std.specs.Prelude.{◌≡◌, ◌<◌, ◌-◌, ◌^◌, [], ◌∷◌, IfOk, IfSome, IsTrue, None, Some, length, option_map, string_bytes};
 ghost use Rattle.std.specs.List.{All};
 ghost use Rattle.metis_actions.specs.Faults.{IsFaultOf, fault_text};
+ghost use Rattle.metis_deploy.specs.Followed.{IsFollowed};
 ghost use Rattle.metis_deploy.specs.Steady.{bad_line, loose_line, standing_after};
 ghost use Rattle.metis_outside.specs.Faults.{CountsFault};
 ghost use Rattle.metis_outside.specs.Pieces.{bytes_of};
 ghost use Rattle.metis_outside.specs.Writes.{Writes};
 ghost use Rattle.metis_replay.specs.Exact.{IsFirstBad, Tells};
-ghost use Rattle.metis_replay.specs.Progress.{IsVerdictOf};
+ghost use Rattle.metis_replay.specs.Progress.{IsVerdictOf, after_feeding};
 ghost use Rattle.metis_universe.specs.Config.{empty};
 ghost use Rattle.metis_universe.specs.Goals.{IsGoalOf};
 ghost use Rattle.metis_universe.specs.Numbers.{IsOf};
@@ -16,6 +17,7 @@ ghost use Rattle.metis_universe.specs.Step.{IsRun};
 ghost use Rattle.metis_waits.specs.Waits.{IsFirstLoose};
 
 use metis_actions::{AFault, write_fault};
+use metis_config::Config;
 use metis_ids::{Action, Goal, NoMemory};
 use metis_outside::{CalmSink, Sink, Trouble};
 use metis_replay::{Replay, Verdict, replay_is_exact, replay_keeps_what_was_done};
@@ -41,11 +43,51 @@ pub fn replayed(
     replay_is_exact();
     replay_keeps_what_was_done();
     u.keeps_invariant();
+    let replay = replay_of(alloc, u, actions)?;
+    Ok((replay.finish(goals), replay.config().count()))
+}
+
+/// The replay of the actions from the empty configuration.
+pub fn replay_of<'u>(
+    alloc: Global,
+    u: &'u Universe,
+    actions: &[Action],
+) -> Result<Replay<'u>, NoMemory>
+    requires numbers { All (IsOf u.now) actions.now }
+    requires few { length actions.now < 2 ^ 32 - 1 }
+    ensures { IfOk result (λ replay. replay ≡ after_feeding u.now actions.now) }
+{
+    replay_keeps_what_was_done();
     let mut replay = Replay::new(alloc, u);
     for action in actions {
         replay.feed(action)?;
     }
-    Ok((replay.finish(goals), replay.config().count()))
+    Ok(replay)
+}
+
+/// What actions left from the empty configuration on, or the first of them that cannot be done.
+#[derive(Drop)]
+pub enum Followed {
+    /// Each was done, and left this.
+    Left(Config),
+    /// The number of the first that cannot be done, counted from 1, and why.
+    Bad(u32, AFault),
+}
+
+/// Follows the actions from the empty configuration on.
+pub fn follow(alloc: Global, u: &Universe, actions: &[Action]) -> Result<Followed, NoMemory>
+    requires numbers { All (IsOf u.now) actions.now }
+    requires few { length actions.now < 2 ^ 32 - 1 }
+    ensures { IfOk result (IsFollowed u.now actions.now) }
+{
+    replay_is_exact();
+    replay_keeps_what_was_done();
+    u.keeps_invariant();
+    let replay = replay_of(alloc, u, actions)?;
+    match replay.finish(&[]) {
+        Verdict::Bad(number, fault) => Ok(Followed::Bad(number, fault)),
+        Verdict::Good | Verdict::Missing(..) => Ok(Followed::Left(replay.into_config())),
+    }
 }
 
 /// The number of the first action that cannot be done from the empty configuration on, and why.
@@ -60,10 +102,10 @@ pub fn first_bad(
     ensures numbers { IfOk result (λ bad. IfSome bad (λ b. IsFaultOf u.now b.1)) }
     ensures runs { IfOk result (λ bad. bad ≡ None → IsRun u.now empty actions.now) }
 {
-    let (verdict, _) = replayed(alloc, u, actions, &[])?;
-    match verdict {
-        Verdict::Bad(number, fault) => Ok(Some((number, fault))),
-        Verdict::Good | Verdict::Missing(..) => Ok(None),
+    let followed = follow(alloc, u, actions)?;
+    match &followed {
+        Followed::Bad(number, fault) => Ok(Some((*number, *fault))),
+        Followed::Left(_) => Ok(None),
     }
 }
 

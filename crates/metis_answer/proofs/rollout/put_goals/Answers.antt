@@ -21,7 +21,7 @@ pub returns-in-Ok-Pairs : goal.returns-in-Ok-Pairs
 returns-in-Ok-Pairs g c =
     let u = c.args.u.now in
     let goals = c.args.goals.now in
-    let old = c.args.old.now in
+    let old = c.args.old.actions.now in
     let pairs = c.in-Ok-Pairs.pairs.items in
     let aim = rw c.in-Ok-Pairs.field-0-is at c.in-Ok-Pairs.ensures in
     let attains = c.pairs_for_goals_hold_them.ensures.attains u goals pairs aim.resolved aim.attained in

@@ -6,4 +6,4 @@ use Rattle.metis_answer.proofs.rollout.write_rollout.Goals as goal
 
 pub returns-in-Ok-clause-text : goal.returns-in-Ok-clause-text
 returns-in-Ok-clause-text g c =
-    subst (λ (p : Plan). Writes (plan_text c.args.u.now p) (g.K.Sink.written c.args.out.now) (g.K.Sink.written c.write_actions.new.out) c.write_actions.result) c.in-Ok.ensures.plan c.write_actions.ensures.text
+    subst (λ (p : Plan). Writes (plan_text c.args.u.now p) (g.K.Sink.written c.args.out.now) (g.K.Sink.written c.write_further.new.out) c.write_further.result) c.in-Ok.ensures.plan c.write_further.ensures.text
