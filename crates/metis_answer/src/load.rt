@@ -17,7 +17,7 @@ ghost use Rattle.metis_answer.specs.Answers.{IsAnswer};
 ghost use Rattle.metis_output.specs.Shown.{Shown};
 ghost use Rattle.metis_answer.specs.Loaded.{Summed, counts_line, load_line};
 
-use crate::replay::replayed;
+use metis_deploy::replayed;
 use metis_gen::{closed_sets_hold_all, targets_are_pairs, targets_of, universe_of};
 use metis_ids::{Action, Goal, NoMemory, PairIx, Plan};
 use metis_output::{Status, said};
