@@ -15,8 +15,9 @@ use Rattle.metis_layers.specs.LayerOrder.{path_to}
 use Rattle.metis_layers.specs.SlotLines.{slot_lines}
 use Rattle.metis_support.proofs.Selections.{is_support, layer_is, origin_is, same_provider_pairs, same_slots, some_is}
 use Rattle.metis_support.specs.Support.{Support, IsSupport, is_number, is_selected, provider_at, provider_pairs, support_of}
-use Rattle.metis_rollout.specs.Holders.{AreFew, TellsTruly, first_among, holder_at}
+use Rattle.metis_rollout.specs.Holders.{AreFew, IsScaffoldIn, TellsTruly, ends_among, first_among, holder_at}
 use Rattle.metis_rollout.specs.Rollout.{scaffold_ends, scaffold_holder, scaffold_list, scaffold_pairs}
+use Rattle.metis_rollout.specs.declared.scaffolding.Scaffold.{Scaffold}
 use Rattle.metis_rollout.proofs.Scaffold.{end_layer, end_selected}
 use Rattle.metis_rollout.proofs.ScaffoldSize.{scaffold_short}
 use Rattle.metis_rollout.proofs.Tabulated.{firsts_all, firsts_few}
@@ -51,14 +52,14 @@ module _ (u : Universe) (table : IsTable u) (g : List ℕ) (all : All (λ p. IsS
   pub truth : TellsTruly u s
   truth = subst (TellsTruly u) (sym is) (record { origins = origin_is u table.universe g each; layers = layer_is u table.universe g each })
 
-  module _ (l : Layers) (layers : IsLayers u l) (pairs : List ℕ) (found : pairs ≡ filter (has (provider_pairs s)) l.order) where
-    pub pairs_are : pairs ≡ scaffold_pairs u g
-    pairs_are = found ∙ (λ i. filter (has (provider_pairs (is i))) (layers.order i)) ∙ ap (λ ps. filter (has ps) (layered u)) (same_provider_pairs u table.universe g each)
+  module _ (l : Layers) (layers : IsLayers u l) where
+    pairs_are : filter (has (provider_pairs s)) l.order ≡ scaffold_pairs u g
+    pairs_are = (λ i. filter (has (provider_pairs (is i))) (layers.order i)) ∙ ap (λ ps. filter (has ps) (layered u)) (same_provider_pairs u table.universe g each)
 
     -- where each of these pairs stands as often as it has slots
-    module _ (counts ends : List ℕ) (counted : (p : ℕ) → slice_index_or counts p 0 ≡ slots_by (provider_at s) u s.selected.members p) (repeated : ends ≡ flat_map (λ p. replicate (slice_index_or counts p 0) p) pairs) where
+    module _ (ends : List ℕ) (among : ends ≡ ends_among u s l.order) where
       are : ends ≡ scaffold_ends u g
-      are = repeated ∙ (λ i. flat_map (λ p. replicate ((counted p ∙ ap (λ (v : Support). slots_by (provider_at v) u v.selected.members p) is ∙ same_slots u table.universe g each p) i) p) (pairs_are i))
+      are = among ∙ (λ i. flat_map (λ p. replicate ((ap (λ (v : Support). slots_by (provider_at v) u v.selected.members p) is ∙ same_slots u table.universe g each p) i) p) (pairs_are i))
 
       there : (k d : ℕ) → k < length ends → has (scaffold_ends u g) (slice_index_or ends k d) ≡ true
       there k d low = ap (λ ps. has ps (slice_index_or ends k d)) (sym are) ∙ has_at ends k d low
@@ -71,15 +72,15 @@ module _ (u : Universe) (table : IsTable u) (g : List ℕ) (all : All (λ p. IsS
         few = omega (arith, ap length are, (scaffold_short u g table).0);
       }
 
--- a table of their first places
-module _ (u : Universe) (table : IsTable u) (s : Support) (g ends : List ℕ) (e : AreEnds u s g ends) (firsts : List ℕ) (made : firsts ≡ map (first_among u ends) (range_with_len 0 (port_count u))) where
-  pub firsts_are : firsts ≡ map (first_among u (scaffold_ends u g)) (range_with_len 0 (port_count u))
-  firsts_are = made ∙ ap (λ ps. map (first_among u ps) (range_with_len 0 (port_count u))) e.are
+-- what is made of them
+module _ (u : Universe) (table : IsTable u) (s : Support) (g ends : List ℕ) (e : AreEnds u s g ends) (scaffold : Scaffold) (is : IsScaffoldIn u ends scaffold) where
+  pub firsts_are : scaffold.firsts ≡ map (first_among u (scaffold_ends u g)) (range_with_len 0 (port_count u))
+  firsts_are = is.firsts ∙ ap (λ ps. map (first_among u ps) (range_with_len 0 (port_count u))) e.are
 
-  pub firsts_low : AreFew firsts
-  firsts_low = subst AreFew (sym made) (firsts_few u ends (port_count u) e.few)
+  pub firsts_low : AreFew scaffold.firsts
+  firsts_low = subst AreFew (sym is.firsts) (firsts_few u ends (port_count u) e.few)
 
-  pub list_is : slot_lines u (holder_at firsts) 0 (map (path_to u) ends) ≡ scaffold_list u g
+  pub list_is : scaffold.actions.items ≡ scaffold_list u g
   list_is =
-      let holder : holder_at firsts ≡ scaffold_holder u g = ap holder_at firsts_are ∙ firsts_all u table.universe (scaffold_ends u g) in
-      λ i. slot_lines u (holder i) 0 (map (path_to u) (e.are i))
+      let holder : holder_at scaffold.firsts ≡ scaffold_holder u g = ap holder_at firsts_are ∙ firsts_all u table.universe (scaffold_ends u g) in
+      is.actions ∙ (λ i. slot_lines u (holder i) 0 (map (path_to u) (e.are i)))

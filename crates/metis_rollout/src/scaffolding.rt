@@ -1,13 +1,13 @@
 //! The scaffold: for each pair from which a selection takes a port, an instance for each slot.
-ghost use Rattle.std.specs.Prelude.{◌≡◌, ◌<◌, ◌≤◌, ℕ, IfOk, IsSome, length, map};
+ghost use Rattle.std.specs.Prelude.{◌≡◌, ◌<◌, ◌≤◌, ℕ, IfOk, IsSome, IsTrue, length, map};
 ghost use Rattle.std.specs.List.{All, filter, range_with_len, slice_index_or};
 ghost use Rattle.std.specs.Option.{option_map_or};
 ghost use Rattle.metis_universe.specs.Layers.{layer_of};
 ghost use Rattle.metis_universe.specs.Universe.{has, pair_count, port_count};
 ghost use Rattle.metis_layers.specs.LayerOrder.{place_of};
 ghost use Rattle.metis_layers.specs.Layers.{IsLayers};
-ghost use Rattle.metis_support.specs.Support.{IsSupport, provider_pairs, support_of};
-ghost use Rattle.metis_rollout.specs.Holders.{AreFew, first_among};
+ghost use Rattle.metis_support.specs.Support.{IsSupport, is_selected, provider_pairs, support_of};
+ghost use Rattle.metis_rollout.specs.Holders.{AreFew, IsScaffoldIn, TellsTruly, ends_among, first_among};
 ghost use Rattle.metis_rollout.specs.Rollout.{scaffold_ends, scaffold_list};
 
 use crate::lines::lines_to;
@@ -45,16 +45,43 @@ pub fn scaffold_for(
 {
     u.keeps_invariant();
     let support = selection_for(alloc, u, l, targets)?;
-    let pairs = pairs_provided_from(alloc, u, l, &support)?;
-    let counts = slot_counts(alloc, u, &support)?;
-    let ends = repeated(alloc, &counts, &pairs)?;
-    let firsts = firsts_of(alloc, u, l, &ends)?;
-    let actions = lines_to(alloc, u, &support, &firsts, &ends)?;
+    let ends = ends_among(alloc, u, l, &support)?;
+    scaffold_in(alloc, u, l, &support, &ends)
+}
+
+// The scaffold whose instances are in these pairs, which a selection has.
+fn scaffold_in(
+    alloc: Global,
+    u: &Universe,
+    l: &Layers,
+    s: &Support,
+    ends: &[PairIx],
+) -> Result<Scaffold, NoMemory>
+    requires layers { IsLayers u.now l.now }
+    requires support { IsSupport u.now s.now }
+    requires truth { TellsTruly u.now s.now }
+    requires few { length ends.now ≤ 32000 }
+    requires within { All (λ p. p < pair_count u.now) ends.now }
+    requires selected { All (λ p. IsTrue (is_selected s.now p)) ends.now }
+    ensures { IfOk result (IsScaffoldIn u.now ends.now) }
+{
+    let firsts = firsts_of(alloc, u, l, ends)?;
+    let actions = lines_to(alloc, u, s, &firsts, ends)?;
     Ok(Scaffold {
         actions,
         count: ends.len() as u32,
         firsts,
     })
+}
+
+// The pairs from which some port is taken, by layer and then by number, each once for each of its slots.
+fn ends_among(alloc: Global, u: &Universe, l: &Layers, s: &Support) -> Result<Vec<PairIx>, NoMemory>
+    requires { IsSupport u.now s.now }
+    ensures { IfOk result (λ ends. ends.items ≡ ends_among u.now s.now l.now.order) }
+{
+    let pairs = pairs_provided_from(alloc, u, l, s)?;
+    let counts = slot_counts(alloc, u, s)?;
+    repeated(alloc, &counts, &pairs)
 }
 
 // The selection of pairs that have a layer.
