@@ -1,4 +1,5 @@
 pub mod Composed
 pub mod FileBytes
+pub mod NamedGoals
 pub mod Said
 pub mod TurnsRead

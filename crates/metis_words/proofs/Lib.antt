@@ -1,3 +1,4 @@
 pub mod FormRead
 pub mod Misfits
+pub mod NumberLaws
 pub mod NumbersRead

@@ -1,3 +1,4 @@
 pub mod Forms
 pub mod TargetName
 pub mod Words
+pub mod Numbers

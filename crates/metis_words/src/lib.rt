@@ -2,7 +2,9 @@
 #![tactic(auto)]
 
 mod grammar;
+mod laws;
 mod words;
 
 pub use grammar::read_words;
+pub use laws::numbers_are_all_words;
 pub use words::{Command, TargetWord, Verb, WordFault};
