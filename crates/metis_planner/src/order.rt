@@ -17,10 +17,7 @@ use metis_sort::{Sorted, sort};
 use std::alloc::Global;
 
 /// The actions of the events of the lines, in the order of the events, which have no cycle.
-pub fn ordered_actions(
-    alloc: Global,
-    over: &OverLines<'_>,
-) -> Result<Vec<Action>, NoMemory>
+pub fn ordered_actions(alloc: Global, over: &OverLines<'_>) -> Result<Vec<Action>, NoMemory>
     requires { HasCycle (numbered (graph_over over.now)) → ⊥ }
     ensures { IfOk result (λ actions. actions.items ≡ emission over.now.universe (graph_over over.now) (ordered_events (graph_over over.now))) }
 {

@@ -4,7 +4,7 @@ ghost use Rattle.std.specs.List.{list_any, slice_index_or};
 ghost use Rattle.metis_ids.specs.Lists.{has};
 ghost use Rattle.metis_ids.specs.declared.events.Event.{Event};
 ghost use Rattle.metis_ids.specs.declared.events.Event.TheVariants.{At, End};
-ghost use Rattle.metis_lines.specs.Events.{is_among, is_end, is_event, same_event, step_count};
+ghost use Rattle.metis_lines.specs.Events.{is_among, is_end, same_event, step_count};
 ghost use Rattle.metis_lines.specs.LifeLines.{LifeLines};
 ghost use Rattle.metis_lines.specs.Over.{graph_over};
 ghost use Rattle.metis_rounds.specs.Going.{HasOwnLine, HasSeen, IsGoing, IsMissing, all_taken, is_on, use_at, use_event, uses_at};

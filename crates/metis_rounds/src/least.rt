@@ -1,8 +1,7 @@
 //! The least event that an event waits for.
 ghost use Rattle.std.specs.Prelude.{◌≡◌, ◌<◌, ◌≤◌, None, ℕ, IfNone, IfSome, IsTrue, length, map};
-ghost use Rattle.metis_ids.specs.declared.events.Event.{Event};
 ghost use Rattle.metis_lines.specs.AbstractPlan.{last};
-ghost use Rattle.metis_lines.specs.Events.{event_cmp, is_event};
+ghost use Rattle.metis_lines.specs.Events.{is_event};
 ghost use Rattle.metis_lines.specs.Over.{graph_over};
 ghost use Rattle.metis_events.specs.Gathered.{IsSlotThere, without_supplies};
 ghost use Rattle.metis_rounds.specs.Going.{use_at, use_event};

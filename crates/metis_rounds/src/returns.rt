@@ -4,7 +4,7 @@ ghost use Rattle.std.specs.List.{list_any, slice_index_or};
 ghost use Rattle.metis_ids.specs.declared.events.Event.{Event as EventValue};
 ghost use Rattle.metis_ids.specs.declared.events.Event.TheVariants.{At};
 ghost use Rattle.metis_lines.specs.AbstractPlan.{AbstractPlan};
-ghost use Rattle.metis_lines.specs.Events.{is_end, is_return_of, leaving, same_event, step_count};
+ghost use Rattle.metis_lines.specs.Events.{is_end, is_return_of, leaving, same_event};
 ghost use Rattle.metis_lines.specs.LifeLines.{line_at, line_supplies, slot_holding};
 ghost use Rattle.metis_lines.specs.Over.{graph_over};
 ghost use Rattle.metis_events.specs.Gathered.{IsSlotThere, without_supplies};

@@ -1,6 +1,6 @@
 //! Walks back over stuck events, which keep what they met.
 ghost use Rattle.std.specs.Prelude.{◌≡◌, ◌<◌, ◌≤◌, ◌-◌, ◌==◌, ◌&&◌, ◌++◌, ◌∷◌, [], IsTrue, IsFalse, IfNone, IfSome, IfOk, OnOk, length, nat_lt, take};
-ghost use Rattle.metis_lines.specs.Events.{event_cmp, is_among, same_event};
+ghost use Rattle.metis_lines.specs.Events.{is_among, same_event};
 ghost use Rattle.metis_ids.specs.declared.events.Event.{Event};
 ghost use Rattle.metis_rounds.specs.Walks.{IsApart, from_step, kept_steps, place_in, step_at};
 
