@@ -1,13 +1,13 @@
 //! From what stands to what is wanted.
-ghost use Rattle.std.specs.Prelude.{◌≡◌, ◌+◌, ◌-◌, ◌<◌, ◌^◌, ◌++◌, ℕ, List, IfOk, IsTrue, length};
+ghost use Rattle.std.specs.Prelude.{◌≡◌, ◌+◌, ◌-◌, ◌<◌, ◌^◌, ◌++◌, ℕ, List, IfOk, IsTrue, OnOk, length};
 ghost use Rattle.std.specs.List.{All};
 ghost use Rattle.metis_universe.specs.Config.{empty};
 ghost use Rattle.metis_universe.specs.Goal.{Holds};
 ghost use Rattle.metis_universe.specs.Numbers.{IsOf};
 ghost use Rattle.metis_universe.specs.Step.{after_all};
-ghost use Rattle.metis_universe.specs.Universe.{is_empty};
+ghost use Rattle.metis_universe.specs.Universe.{Universe, has, is_empty};
 ghost use Rattle.metis_layers.specs.Layers.{IsLayers};
-ghost use Rattle.metis_rollout.specs.Rollout.{cleared_by, members, renumbered, rollout};
+ghost use Rattle.metis_rollout.specs.Rollout.{cleared_by, free_number, members, news_of, renumbered, rollout};
 ghost use Rattle.metis_rollout.specs.Standing.{AreTogether};
 ghost use Rattle.metis_universe.specs.Steadfast.{IsSteadfastRun};
 
@@ -15,10 +15,11 @@ use crate::clearing::{delete_unreferenced, unbind_idle};
 use crate::cyclic::remove_cycles;
 use crate::names::{made_by, names_for, next_free, push_renumbered};
 use metis_config::Config;
-use metis_ids::{Action, NoMemory};
+use metis_ids::{Action, InstNo, NoMemory};
 use metis_layers::table::Layers;
 use metis_universe::Universe;
 use std::alloc::Global;
+use std::collections::BTreeSet;
 
 /// The old actions, the fresh ones beside what they leave, and then the removal of the old instances; of those that are bound in
 /// a cycle beside a scaffold. The configuration is what the old actions leave.
@@ -53,15 +54,34 @@ pub fn rollout(
     u.keeps_invariant();
     let used = made_by(alloc, old)?;
     let mut next = next_free(&used, 0);
-    let names = names_for(alloc, &used, &mut next, fresh)?;
-    let mut actions = Vec::new(alloc);
-    actions.extend_from_slice(old)?;
-    push_renumbered(&names, fresh, &mut actions)?;
+    let mut actions = side_by_side(alloc, &used, &mut next, old, fresh)?;
     let mut c = left;
     unbind_idle(alloc, u, &mut c, &mut actions)?;
     delete_unreferenced(alloc, &mut c, &mut actions)?;
     if c.count() > 0 {
         remove_cycles(alloc, u, l, &used, &mut next, &c, &mut actions)?;
     }
+    Ok(actions)
+}
+
+// The old actions, and then the fresh ones under the first free numbers. Then `next` is the free number behind them.
+fn side_by_side(
+    alloc: Global,
+    used: &BTreeSet<InstNo>,
+    next: &mut u32,
+    old: &[Action],
+    fresh: &[Action],
+) -> Result<Vec<Action>, NoMemory>
+    requires steadfast { (u : Universe) × IsSteadfastRun u fresh.now }
+    requires used { (z : ℕ) → has used.now.keys z ≡ has (news_of old.now) z }
+    requires next { next.old ≡ free_number used.now.keys 0 }
+    requires few { length used.now.keys + length used.now.keys + length fresh.now + 2 < 2 ^ 32 }
+    ensures list { IfOk result (λ list. list.items ≡ old.now ++ renumbered old.now fresh.now) }
+    ensures next { OnOk result (next.new ≡ free_number used.now.keys (length (news_of fresh.now))) }
+{
+    let names = names_for(alloc, used, next, fresh)?;
+    let mut actions = Vec::new(alloc);
+    actions.extend_from_slice(old)?;
+    push_renumbered(&names, fresh, &mut actions)?;
     Ok(actions)
 }

@@ -1,16 +1,14 @@
-use Rattle.std.proofs.Common.{List, ℕ, Some, true, arith, ◌≡◌, ◌+◌, ◌<◌, ◌-◌, ◌^◌, length, ◌++◌, sym, subst, ◌∙◌, ap, map, nat_eq}
+use Rattle.std.proofs.Common.{List, arith, ◌≡◌, ◌+◌, ◌<◌, ◌-◌, ◌^◌, length, ◌++◌, sym, subst, ◌∙◌, ap}
 use Rattle.std.specs.Prelude.{IsSome}
 use Rattle.std.specs.List.{All}
-use Rattle.std.specs.Map.{lookup}
 use Rattle.metis_ids.specs.declared.actions.Action.{Action}
 use Rattle.metis_universe.specs.Config.{empty}
 use Rattle.metis_universe.specs.Goal.{Holds}
 use Rattle.metis_universe.specs.Layers.{layer_of}
 use Rattle.metis_universe.specs.Numbers.{IsOf}
 use Rattle.metis_universe.specs.Step.{after_all}
-use Rattle.metis_universe.specs.Universe.{has, is_empty}
-use Rattle.metis_layers.specs.LayerOrder.{place_of}
-use Rattle.metis_rollout.specs.Rollout.{cycle_removal, free_number, idle_unbinds, members, named, news_of, pairs_in, renumber, rollout, unreferenced_deletes}
+use Rattle.metis_universe.specs.Universe.{is_empty}
+use Rattle.metis_rollout.specs.Rollout.{cycle_removal, free_number, idle_unbinds, members, news_of, pairs_in, renumbered, rollout, unreferenced_deletes}
 use Rattle.metis_universe.specs.Steadfast.{IsSteadfastRun}
 use Rattle.metis_rollout.proofs.Layered.{left_layered}
 use Rattle.metis_rollout.proofs.Listed.{left_is, listed, listed_long, none_left, some_left}
@@ -32,26 +30,13 @@ remove_cycles-requires-clause-layered c =
     subst (λ d. All (λ p. IsSome (layer_of c.args.u.now p)) (pairs_in d)) (sym is) (left_layered c.args.u.now c.args.old.now c.keeps_invariant.ensures.universe c.requires.old)
 
 pub remove_cycles-requires-clause-next : goal.remove_cycles-requires-clause-next
-remove_cycles-requires-clause-next c =
-    let used = c.in_ok-used.used.keys in
-    let count = length (news_of c.args.fresh.now) in
-    let same : 0 + count ≡ count = omega arith in
-    (count, c.in_ok-names.ensures.next 0 c.next_free-next.ensures ∙ ap (free_number used) same, omega (arith, c.in_ok-used.ensures.few, news_few c.args.fresh.now, c.requires.few))
+remove_cycles-requires-clause-next c = (length (news_of c.args.fresh.now), c.in_ok-actions.ensures.next, omega (arith, c.in_ok-used.ensures.few, news_few c.args.fresh.now, c.requires.few))
 
 -- what stands in the list when the unreferenced instances are deleted
-begun : (c : goal.After-drop-used-2) → c.delete_unreferenced.new.actions.items ≡ ((c.args.old.now ++ map (renumber (named c.in_ok-names.names.entries)) c.args.fresh.now) ++ idle_unbinds c.args.u.now c.args.left) ++ unreferenced_deletes c.unbind_idle.new.c
+begun : (c : goal.After-drop-used-2) → c.delete_unreferenced.new.actions.items ≡ ((c.args.old.now ++ renumbered c.args.old.now c.args.fresh.now) ++ idle_unbinds c.args.u.now c.args.left) ++ unreferenced_deletes c.unbind_idle.new.c
 begun c =
-    let first : c.extend_from_slice.new.self.items ≡ c.args.old.now = c.in_ok-extend_from_slice.ensures.items ∙ ap (λ l. l ++ c.args.old.now) c.new-actions.ensures.items in
-    let second : c.push_renumbered.new.actions.items ≡ c.args.old.now ++ map (renumber (named c.in_ok-names.names.entries)) c.args.fresh.now = c.in_ok-push_renumbered.ensures ∙ ap (λ l. l ++ map (renumber (named c.in_ok-names.names.entries)) c.args.fresh.now) first in
-    let third = c.in_ok-unbind_idle.ensures.actions ∙ ap (λ l. l ++ idle_unbinds c.args.u.now c.args.left) second in
+    let third = c.in_ok-unbind_idle.ensures.actions ∙ ap (λ l. l ++ idle_unbinds c.args.u.now c.args.left) c.in_ok-actions.ensures.list in
     c.in_ok-delete_unreferenced.ensures.actions ∙ ap (λ l. l ++ unreferenced_deletes c.unbind_idle.new.c) third
-
--- each fresh instance has the number of its place
-names : (c : goal.After-drop-used-2) → (z : ℕ) → has (news_of c.args.fresh.now) z ≡ true → lookup (nat_eq z) c.in_ok-names.names.entries ≡ Some (free_number c.in_ok-used.used.keys (place_of (news_of c.args.fresh.now) z))
-names c z there =
-    let place = place_of (news_of c.args.fresh.now) z in
-    let same : 0 + place ≡ place = omega arith in
-    c.in_ok-names.ensures.names 0 c.next_free-next.ensures z there ∙ ap (λ k. Some (free_number c.in_ok-used.used.keys k)) same
 
 is_list : (c : goal.After-drop-used-2) → c.if-count-gt0.actions.items ≡ rollout c.args.u.now c.args.old.now c.args.fresh.now
 is_list c =
@@ -59,23 +44,23 @@ is_list c =
     let old = c.args.old.now in
     let fresh = c.args.fresh.now in
     let used = c.in_ok-used.used.keys in
-    let table = c.in_ok-names.names.entries in
     let e = c.delete_unreferenced.new.c in
     let gone = c.in_ok-delete_unreferenced.ensures.config u in
     let is = left_is u old c.args.left c.unbind_idle.new.c e c.requires.left c.in_ok-unbind_idle.ensures.config gone in
     let count = length (news_of fresh) in
-    let same : 0 + count ≡ count = omega arith in
-    let next = c.in_ok-names.ensures.next 0 c.next_free-next.ensures ∙ ap (free_number used) same in
     elim c.if-count-gt0.branch [
       | then-count-gt0+in_ok-remove_cycles w ↦ ap (λ v. v.items) w.actions-is
-          ∙ listed_long u old fresh w.remove_cycles.new.actions.items used table c.args.left c.unbind_idle.new.c e c.requires.fresh (some_left e.instances (omega (arith, c.count.ensures, w.if-count-gt0.true)))
-          c.in_ok-used.ensures.same (names c) c.requires.left c.in_ok-unbind_idle.ensures.config gone
-          (w.in_ok-remove_cycles.ensures count next ∙ ap (λ l. l ++ cycle_removal u (λ k. free_number used (count + k)) e) (begun c))
+          ∙ listed_long u old fresh w.remove_cycles.new.actions.items used c.args.left c.unbind_idle.new.c e (some_left e.instances (omega (arith, c.count.ensures, w.if-count-gt0.true)))
+          c.in_ok-used.ensures.same c.requires.left c.in_ok-unbind_idle.ensures.config gone
+          (w.in_ok-remove_cycles.ensures count c.in_ok-actions.ensures.next ∙ ap (λ l. l ++ cycle_removal u (λ k. free_number used (count + k)) e) (begun c))
       | else-count-gt0 w ↦ ap (λ v. v.items) w.actions-is
-          ∙ listed u old fresh c.delete_unreferenced.new.actions.items used table c.args.left c.unbind_idle.new.c c.requires.old c.requires.fresh
+          ∙ listed u old fresh c.delete_unreferenced.new.actions.items c.args.left c.unbind_idle.new.c c.requires.old c.requires.fresh
           (ap (λ d. is_empty (members d)) (sym is) ∙ none_left e.instances (omega (arith, c.count.ensures, w.if-count-gt0.false)))
-          c.in_ok-used.ensures.same (names c) c.requires.left c.in_ok-unbind_idle.ensures.config (begun c)
+          c.requires.left c.in_ok-unbind_idle.ensures.config (begun c)
     ]
+
+pub side_by_side-requires-clause-steadfast : goal.side_by_side-requires-clause-steadfast
+side_by_side-requires-clause-steadfast c = (c.args.u.now, c.requires.fresh)
 
 pub returns-clause-list : goal.returns-clause-list
 returns-clause-list c = is_list c
