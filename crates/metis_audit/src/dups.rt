@@ -3,11 +3,11 @@ ghost use Rattle.std.specs.Prelude.{◌≡◌, ◌<◌, ◌^◌, ℕ, IfOk, IsTr
 ghost use Rattle.metis_support.specs.Support.{IsSupport};
 ghost use Rattle.metis_lines.specs.Justified.{own_pairs};
 ghost use Rattle.metis_lines.specs.LifeLines.{AreLines, lines_of};
-ghost use Rattle.metis_audit.specs.Forced.{IsFirstUnforced, is_forced_at};
+ghost use Rattle.metis_audit.specs.Forced.{IsFirstUnforced, is_forced, is_forced_at};
 
 use crate::cycles::is_forced;
-use metis_ids::{Dup, NoMemory};
-use metis_lines::Lines;
+use metis_ids::{Dup, Event, NoMemory, PairIx};
+use metis_lines::{Lines, OverLines};
 use metis_support::Support;
 use metis_universe::Universe;
 use std::alloc::Global;
@@ -16,24 +16,40 @@ use std::alloc::Global;
 /// of its own for the pair of each.
 pub fn first_unforced(
     alloc: Global,
-    u: &Universe,
-    s: &Support,
+    universe: &Universe,
+    support: &Support,
     lines: &mut Lines,
     dups: &[Dup],
 ) -> Result<Option<u32>, NoMemory>
-    requires over { IsSupport u.now s.now }
-    requires lines { AreLines u.now s.now lines.old }
-    requires first { lines.old ≡ lines_of u.now s.now lines.old.targets [] }
+    requires over { IsSupport universe.now support.now }
+    requires lines { AreLines universe.now support.now lines.old }
+    requires first { lines.old ≡ lines_of universe.now support.now lines.old.targets [] }
     requires few { length dups.now < 2 ^ 32 }
-    ensures unforced { IfOk result (λ k. MatchOption k ((i : ℕ) → i < length dups.now → IsTrue (is_forced_at u.now s.now lines.old.targets dups.now i)) (IsFirstUnforced u.now s.now lines.old.targets dups.now)) }
-    ensures own { IfOk result (λ k. MatchOption k (lines.new ≡ lines_of u.now s.now lines.old.targets (own_pairs dups.now)) (λ _. ⊤)) }
+    ensures unforced { IfOk result (λ k. MatchOption k ((i : ℕ) → i < length dups.now → IsTrue (is_forced_at universe.now support.now lines.old.targets dups.now i)) (IsFirstUnforced universe.now support.now lines.old.targets dups.now)) }
+    ensures own { IfOk result (λ k. MatchOption k (lines.new ≡ lines_of universe.now support.now lines.old.targets (own_pairs dups.now)) (λ _. ⊤)) }
 {
     for index in 0..dups.len() {
         let dup = &dups[index];
-        if !is_forced(u, s, lines, dup.pair, &dup.cycle) {
+        if !forces(universe, support, lines, dup.pair, &dup.cycle) {
             return Ok(Some(index as u32 + 1));
         }
-        lines.own_line(alloc, s, dup.pair)?;
+        lines.own_line(alloc, support, dup.pair)?;
     }
     Ok(None)
+}
+
+// Whether the cycle forces a dup of the pair over these lines.
+fn forces<'a>(
+    universe: &'a Universe,
+    support: &'a Support,
+    lines: &'a Lines,
+    pair: PairIx,
+    cycle: &[Event],
+) -> bool
+    requires over { IsSupport universe.now support.now }
+    requires lines { AreLines universe.now support.now lines.now }
+    ensures { result ≡ is_forced universe.now support.now lines.now pair cycle.now }
+{
+    let over = OverLines::over(universe, support, lines);
+    is_forced(&over, pair, cycle)
 }

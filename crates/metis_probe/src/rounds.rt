@@ -1,7 +1,8 @@
 ghost use Rattle.std.specs.Prelude.{◌≡◌, ◌≤◌, ℕ, IsTrue, OnOk, length};
 ghost use Rattle.metis_universe.specs.Universe.{has};
 ghost use Rattle.metis_support.specs.Support.{IsSupport, is_selected};
-ghost use Rattle.metis_lines.specs.LifeLines.{AreLines, plan_of};
+ghost use Rattle.metis_lines.specs.Over.{graph_over};
+ghost use Rattle.metis_lines.specs.LifeLines.{AreLines};
 ghost use Rattle.metis_events.specs.Edges.{graph_of};
 ghost use Rattle.metis_events.specs.Numbered.{dag_of};
 ghost use Rattle.metis_ids.specs.Order.{IsOrder};
@@ -16,7 +17,7 @@ use metis_emit::{emit, least_order_ends_late, sorted_numbers_are_least};
 use metis_events::{EventGraph, dag_is_of_the_plan};
 use metis_ids::{Action, NodeIx, PairIx, order_is_a_sorting};
 use metis_layers::layers;
-use metis_lines::Lines;
+use metis_lines::{Lines, OverLines};
 use metis_sort::{Reach, Sorted, sort};
 use metis_support::Support;
 use metis_universe::Universe;
@@ -111,24 +112,25 @@ fn write_own_line(text: &mut String, line: u32, pair: PairIx) -> Result<(), Stop
 }
 
 // Whether there is a cycle.
-fn write_round(
+fn write_round<'a>(
     alloc: Global,
     text: &mut String,
-    u: &Universe,
-    s: &Support,
-    lines: &Lines,
+    u: &'a Universe,
+    s: &'a Support,
+    lines: &'a Lines,
 ) -> Result<bool, Stop>
     requires over { IsSupport u.now s.now }
     requires lines { AreLines u.now s.now lines.now }
 {
     write_lines(text, s, lines)?;
-    let graph = EventGraph::of(alloc, u, s, lines)?;
+    let over = OverLines::over(u, s, lines);
+    let graph = EventGraph::of(alloc, &over)?;
     write_edges(text, &graph, graph.nodes())?;
     let sorted = sort(alloc, &graph)?;
     write_sorted(text, &graph, graph.nodes(), &sorted)?;
     match &sorted {
         Sorted::Order(nodes) => {
-            write_actions(text, &actions_of(alloc, u, s, lines, &graph, nodes)?)?;
+            write_actions(text, &actions_of(alloc, &over, &graph, nodes)?)?;
             Ok(false)
         }
         Sorted::Cycle(_) => Ok(true),
@@ -138,24 +140,20 @@ fn write_round(
 // The actions of the events, where these stand in an order of the graph.
 fn actions_of(
     alloc: Global,
-    u: &Universe,
-    s: &Support,
-    lines: &Lines,
+    over: &OverLines<'_>,
     graph: &EventGraph,
     nodes: &[NodeIx],
 ) -> Result<Vec<Action>, Stop>
-    requires over { IsSupport u.now s.now }
-    requires lines { AreLines u.now s.now lines.now }
-    requires graph { graph.now ≡ graph_of (plan_of u.now s.now lines.now) }
+    requires graph { graph.now ≡ graph_of (graph_over over.now) }
     requires order { IsOrder (dag_of graph.now) nodes.now }
 {
-    u.keeps_invariant();
+    over.keeps_invariant();
     dag_is_of_the_plan();
     order_is_a_sorting();
     sorted_numbers_are_least();
     least_order_ends_late();
     let events = events_of(alloc, graph, nodes)?;
-    Ok(emit(alloc, u, s, lines, &events)?)
+    Ok(emit(alloc, over, &events)?)
 }
 
 fn write_actions(text: &mut String, actions: &[Action]) -> Result<(), Stop> {
@@ -165,11 +163,11 @@ fn write_actions(text: &mut String, actions: &[Action]) -> Result<(), Stop> {
     Ok(())
 }
 
-fn counts(
+fn counts<'a>(
     alloc: Global,
     text: &mut String,
-    u: &Universe,
-    s: &Support,
+    u: &'a Universe,
+    s: &'a Support,
     targets: &[PairIx],
 ) -> Result<(), Stop>
     requires over { IsSupport u.now s.now }
@@ -179,7 +177,8 @@ fn counts(
     let lines = Lines::new(alloc, u, s, targets)?;
     let (count, loose) = (lines.count(), lines.loose());
     write!(text, "lines {count} loose {loose}\n")?;
-    let graph = EventGraph::of(alloc, u, s, &lines)?;
+    let over = OverLines::over(u, s, &lines);
+    let graph = EventGraph::of(alloc, &over)?;
     let (events, edges) = (graph.nodes(), count_edges(&graph, graph.nodes()));
     write!(text, "events {events} edges {edges}\n")?;
     write_length(text, &sort(alloc, &graph)?)

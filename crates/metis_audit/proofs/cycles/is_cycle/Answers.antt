@@ -12,7 +12,7 @@ use borrow.Author.Count.{below_more}
 
 pub returns-then-not-precedes : goal.returns-then-not-precedes
 returns-then-not-precedes c =
-    let w = plan_of c.args.u.now c.args.s.now c.args.l.now in
+    let w = plan_of c.args.over.now.universe c.args.over.now.support c.args.over.now.lines in
     let es = c.args.cycle.now in
     let i = c.loop-index.index in
     let read = get_or_read es i c.index-cycle-index.result c.loop-index-test.true c.index-cycle-index.is End in
@@ -20,7 +20,7 @@ returns-then-not-precedes c =
 
 pub loop-index-preserved : goal.loop-index-preserved
 loop-index-preserved c =
-    let w = plan_of c.args.u.now c.args.s.now c.args.l.now in
+    let w = plan_of c.args.over.now.universe c.args.over.now.support c.args.over.now.lines in
     let es = c.args.cycle.now in
     let i = c.loop-index.index in
     let read = get_or_read es i c.index-cycle-index.result c.loop-index-test.true c.index-cycle-index.is End in
@@ -31,4 +31,4 @@ returns c =
     let es = c.args.cycle.now in
     let some = eqb-false (length es) 0 (sym c.if-is_empty.ensures) in
     let all = c.loop-index-test.false in
-    sym (round (plan_of c.args.u.now c.args.s.now c.args.l.now) es (omega arith) (λ m low. c.loop-index.invariant m (omega arith)))
+    sym (round (plan_of c.args.over.now.universe c.args.over.now.support c.args.over.now.lines) es (omega arith) (λ m low. c.loop-index.invariant m (omega arith)))

@@ -11,7 +11,7 @@ use borrow.Author.Count.{below_more}
 
 pub loop-index-preserved : goal.loop-index-preserved
 loop-index-preserved c =
-    let w = plan_of c.args.u.now c.args.s.now c.args.l.now in
+    let w = plan_of c.args.over.now.universe c.args.over.now.support c.args.over.now.lines in
     let es = c.args.cycle.now in
     let i = c.loop-index.index in
     let read = get_or_read es i c.index-cycle-index.result c.loop-index-test.true c.index-cycle-index.is End in
@@ -20,11 +20,11 @@ loop-index-preserved c =
 pub returns : goal.returns
 returns c =
     let all = c.loop-index-test.false in
-    sym (not_leading (plan_of c.args.u.now c.args.s.now c.args.l.now) c.args.cycle.now c.args.held.now.0 c.args.held.now.1 (λ m low. c.loop-index.invariant m (omega arith)))
+    sym (not_leading (plan_of c.args.over.now.universe c.args.over.now.support c.args.over.now.lines) c.args.cycle.now c.args.held.now.0 c.args.held.now.1 (λ m low. c.loop-index.invariant m (omega arith)))
 
 pub returns-then-is_exit : goal.returns-then-is_exit
 returns-then-is_exit c =
-    let w = plan_of c.args.u.now c.args.s.now c.args.l.now in
+    let w = plan_of c.args.over.now.universe c.args.over.now.support c.args.over.now.lines in
     let es = c.args.cycle.now in
     let i = c.loop-index.index in
     let read = get_or_read es i c.index-cycle-index.result c.loop-index-test.true c.index-cycle-index.is End in

@@ -9,10 +9,10 @@ use Rattle.metis_audit.specs.Forced.{is_forced, is_forced_at}
 use Rattle.metis_audit.proofs.dups.first_unforced.Goals as goal
 use borrow.Author.Count.{below_more}
 
-pub returns-then-not-is_forced-clause-unforced : goal.returns-then-not-is_forced-clause-unforced
-returns-then-not-is_forced-clause-unforced c =
-    let u = c.args.u.now in
-    let s = c.args.s.now in
+pub returns-then-not-forces-clause-unforced : goal.returns-then-not-forces-clause-unforced
+returns-then-not-forces-clause-unforced c =
+    let u = c.args.universe.now in
+    let s = c.args.support.now in
     let g = c.args.lines.now.targets in
     let ds = c.args.dups.now in
     let i = c.loop-index.index in
@@ -25,17 +25,17 @@ returns-then-not-is_forced-clause-unforced c =
     record {
       first = omega arith;
       last = omega arith;
-      fails = ap (is_forced_at u s g ds) back ∙ forced_here u s g ds i d c.loop-index.lines is c.loop-index.invariant.0 ∙ sym (c.if-not-is_forced.ensures ∙ (λ j. is_forced u s c.loop-index.lines (pair j) (cycle j)));
+      fails = ap (is_forced_at u s g ds) back ∙ forced_here u s g ds i d c.loop-index.lines is c.loop-index.invariant.0 ∙ sym (c.if-not-forces.ensures ∙ (λ j. is_forced u s c.loop-index.lines (pair j) (cycle j)));
       before = λ m before. c.loop-index.invariant.2 m (omega arith);
     }
 
 pub own_line-requires-clause-loose : goal.own_line-requires-clause-loose
-own_line-requires-clause-loose c = (goes_on c.args.u.now c.args.s.now c.requires.over c.loop-index.lines c.loop-index.invariant.1 c.dup.inside.pair c.deref.result.now (sym c.if-not-is_forced.ensures)).loose
+own_line-requires-clause-loose c = (goes_on c.args.universe.now c.args.support.now c.requires.over c.loop-index.lines c.loop-index.invariant.1 c.dup.inside.pair c.deref.result.now (sym c.if-not-forces.ensures)).loose
 
 pub loop-index-preserved : goal.loop-index-preserved
 loop-index-preserved c =
-    let u = c.args.u.now in
-    let s = c.args.s.now in
+    let u = c.args.universe.now in
+    let s = c.args.support.now in
     let g = c.args.lines.now.targets in
     let ds = c.args.dups.now in
     let i = c.loop-index.index in
@@ -47,5 +47,5 @@ loop-index-preserved c =
           ∙ ap (lines_of u s g) (ap (λ p. own_pairs (take i ds) ++ p ∷ []) pair ∙ sym (own_more ds i d c.loop-index-test.true c.index-dups-index.is)),
       c.in_ok-own_line.ensures.lines u c.loop-index.invariant.1,
       below_more (λ m. is_forced_at u s g ds m ≡ true) i c.loop-index.invariant.2
-          (forced_here u s g ds i d c.loop-index.lines is c.loop-index.invariant.0 ∙ sym (c.if-not-is_forced.ensures ∙ (λ j. is_forced u s c.loop-index.lines (pair j) (cycle j)))),
+          (forced_here u s g ds i d c.loop-index.lines is c.loop-index.invariant.0 ∙ sym (c.if-not-forces.ensures ∙ (λ j. is_forced u s c.loop-index.lines (pair j) (cycle j)))),
     )

@@ -10,17 +10,17 @@ pub returns-then-is_slot_at : goal.returns-then-is_slot_at
 returns-then-is_slot_at c =
     let held = c.args.held.now in
     let low = c.loop-slot-test.true in
-    sym (any_counted (is_at held.0 held.1) (holder_of c.args.l.now c.args.provider) 1 c.args.count (c.loop-slot.slot + 1) (omega arith) (omega (arith, low)) (sym c.if-is_slot_at.ensures))
+    sym (any_counted (is_at held.0 held.1) (holder_of c.args.over.now.lines c.args.provider) 1 c.args.count (c.loop-slot.slot + 1) (omega arith) (omega (arith, low)) (sym c.if-is_slot_at.ensures))
 
 pub loop-slot-preserved : goal.loop-slot-preserved
 loop-slot-preserved c =
     let held = c.args.held.now in
-    below_more (λ m. is_at held.0 held.1 (holder_of c.args.l.now c.args.provider (m + 1)) ≡ false) c.loop-slot.slot c.loop-slot.invariant (sym c.if-is_slot_at.ensures)
+    below_more (λ m. is_at held.0 held.1 (holder_of c.args.over.now.lines c.args.provider (m + 1)) ≡ false) c.loop-slot.slot c.loop-slot.invariant (sym c.if-is_slot_at.ensures)
 
 pub returns : goal.returns
 returns c =
     let held = c.args.held.now in
-    let x = c.args.l.now in
+    let x = c.args.over.now.lines in
     let p = c.args.provider in
     let past = c.loop-slot-test.false in
     sym (none_in_row (is_at held.0 held.1) (holder_of x p) 1 c.args.count (λ k one few.

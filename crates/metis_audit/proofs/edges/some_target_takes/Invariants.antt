@@ -6,4 +6,4 @@ use Rattle.metis_audit.proofs.edges.some_target_takes.Given as goal
 
 -- none of the lines before takes from the place
 abbrev pub invariant-loop-number : goal.invariant-loop-number
-invariant-loop-number l = (m : ℕ) → m < l.number → takes l.u l.s l.l m (last (without_supplies l.l) m) l.held.0 l.held.1 ≡ false
+invariant-loop-number l = (m : ℕ) → m < l.number → takes l.over.universe l.over.support l.over.lines m (last (without_supplies l.over.lines) m) l.held.0 l.held.1 ≡ false

@@ -6,4 +6,4 @@ use Rattle.metis_audit.proofs.edges.takes.Given as goal
 
 -- none of the ports before is taken from the place
 abbrev pub invariant-loop-port : goal.invariant-loop-port
-invariant-loop-port l = list_any (takes_port l.u l.s l.l (get_or (line_at l.l l.taker.0) l.taker.1 0) l.held.0 l.held.1) (take l.port-index l.port-items) ≡ false
+invariant-loop-port l = list_any (takes_port l.over.universe l.over.support l.over.lines (get_or (line_at l.over.lines l.taker.0) l.taker.1 0) l.held.0 l.held.1) (take l.port-index l.port-items) ≡ false
