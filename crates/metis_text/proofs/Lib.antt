@@ -8,10 +8,12 @@ pub mod DupPlaces
 pub mod DupWords
 pub mod DupsRead
 pub mod Faults
+pub mod FirstFlaws
 pub mod Formed
 pub mod KindsKept
 pub mod Lengths
 pub mod LineFeeds
+pub mod LineFlaws
 pub mod NamedFaults
 pub mod PairsRead
 pub mod PlanLines

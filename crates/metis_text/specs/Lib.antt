@@ -6,5 +6,6 @@ pub mod Kinds
 pub mod PlanText
 pub mod Reading
 pub mod Reads
+pub mod RefusalFlaws
 pub mod RefusalReading
 pub mod RefusalText
