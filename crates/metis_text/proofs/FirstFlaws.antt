@@ -16,7 +16,7 @@ use Rattle.metis_outside.specs.Pieces.{bytes_of}
 use Rattle.metis_tokens.proofs.KnownLines.{exactly_is}
 use Rattle.metis_tokens.proofs.LinesTaken.{read_next_is, read_next_number}
 use Rattle.metis_tokens.proofs.Outcomes.{and_then_is}
-use Rattle.metis_tokens.proofs.Readers.{Flawed, read_fails}
+use Rattle.metis_tokens.proofs.Readers.{and_then_wrong}
 use Rattle.metis_tokens.specs.Cursor.{Lines, ended, exactly, fault_at, lines_of, read_next}
 use Rattle.metis_tokens.specs.Flaws.{and_then}
 use Rattle.metis_tokens.specs.Line.{end_line, words}
@@ -29,64 +29,18 @@ use Rattle.metis_text.proofs.LineFlaws.{exactly_fails, lacks_fails, pair_fails, 
 use Rattle.metis_text.proofs.PairsRead.{ArePairs, pairs_are}
 use Rattle.metis_text.proofs.RefusalLines.{lacks_is, lacks_tokens, next_pair_is, size_is, size_tokens}
 use Rattle.metis_text.proofs.RefusalSets.{pairs_ascend}
+use Rattle.metis_text.proofs.DueRead.{IsLeft, one_more, stops}
+use Rattle.metis_text.specs.DueLines.{IfFault}
 use Rattle.metis_text.specs.Faults.{IsPastRefusal}
-use Rattle.metis_text.specs.RefusalFlaws.{AreBegun, Due, HasFlaw, HasRefusalFault, IfFault, IsBegun, NoFeed, begun_lines, first_line, goal_line, last_line, next_pair, of_line, past_end, size_line, too_short, with_all, with_first, with_goal, with_none, with_pairs}
+use Rattle.metis_text.specs.RefusalFlaws.{AreBegun, Due, HasFlaw, HasRefusalFault, IsBegun, begun_lines, first_line, goal_line, last_line, next_pair, of_line, past_end, size_line, too_short, with_all, with_first, with_goal, with_none, with_pairs}
 use Rattle.metis_text.specs.RefusalReading.{ReadsRefusal, above, lacks_in, next_pair_in, pairs_from, refusal_end_from, refusal_in, refusal_parts, refusal_set_from, size_in}
 use Rattle.metis_text.specs.declared.refusal_text.Refusal.{Refusal}
 use Rattle.metis_text.specs.RefusalText.{lacks_line, pair_line, pairs_line, refusal_bytes, refusal_header, refusal_lines}
 
--- ---- readers that fail
-
-pub and_then_fails : {A B : Type 0} (r : Result A TFault) (next : A → Result B TFault) (f : TFault) → and_then r next ≡ Err f → (r ≡ Err f) ⊎ ((a : A) × (r ≡ Ok a) × (next a ≡ Err f))
-and_then_fails (Ok a) next f h = inr (a, refl, h)
-and_then_fails (Err g) next f h = inl (cc)
-
-not_feed : (b : ℕ) → not (b == 10) ≡ true → b ≢ 10
-not_feed b h is = both_ways (b == 10) (grind (arith, nat_tests)) (eq-eqb b 10 is)
-
-none_fed : (bytes : List ℕ) → no_feed bytes ≡ true → NoFeed bytes
-none_fed bytes h = All-weaker (λ b. not (b == 10) ≡ true) (λ b. b ≢ 10) not_feed bytes (AllPass-from_list_all (λ b. not (b == 10)) bytes h)
-
--- ---- lines, and what is left
-
--- these lines were read, and this is left
-record IsLeft (bytes : List ℕ) (lines : List (List ℕ)) (l : Lines) : Type 0 where
-  text : bytes ≡ bytes_of lines ++ l.rest
-  number : l.number ≡ length lines
-
--- the same, one line further
-one_more : {A : Type 0} (read : List ℕ → Result A Flaw) (bytes : List ℕ) (lines : List (List ℕ)) (l : Lines) (p : A × Lines) (line : List ℕ) → IsLeft bytes lines l → read_next read l ≡ Ok p → l.rest ≡ line ++ (10 ∷ p.1.rest) → IsLeft bytes (lines ++ (line ++ codes "\n") ∷ []) p.1
-one_more read bytes lines l p line left h is =
-    let feed = line ++ codes "\n" in
-    let whole : bytes_of (lines ++ feed ∷ []) ≡ bytes_of lines ++ feed = concat-append lines (feed ∷ []) ∙ ap (λ r. bytes_of lines ++ r) (append-nil feed) in
-    let rest : l.rest ≡ feed ++ p.1.rest = is ∙ sym (append_assoc line (codes "\n") p.1.rest) in
-    let number = read_next_number read l p h in
-    let count = left.number in
-    record {
-      text = left.text ∙ ap (λ r. bytes_of lines ++ r) rest ∙ sym (append_assoc (bytes_of lines) feed p.1.rest) ∙ ap (λ b. b ++ p.1.rest) (sym whole);
-      number = number ∙ ap (λ n. n + 1) count ∙ sym (length_push lines feed);
-    }
-
 module _ (u : Universe) (bytes : List ℕ) (f : TFault) where
-  -- the line that is due cannot be read
-  stops : {A : Type 0} (read : List ℕ → Result A Flaw) (due : Due) (lines : List (List ℕ)) (l : Lines) → IsBegun u lines due → IsLeft bytes lines l
+  stop : {A : Type 0} (read : List ℕ → Result A Flaw) (due : Due) (lines : List (List ℕ)) (l : Lines) → IsBegun u lines due → IsLeft bytes lines l
       → ((line : List ℕ) (flaw : Flaw) → read line ≡ Err flaw → HasFlaw u due line flaw) → read_next read l ≡ Err f → HasRefusalFault u bytes f
-  stops {A} read due lines l begun left wrong h = elim (read_fails read l f h) [
-    | inl (none, short) ↦ too_short (record { lines = lines; due = due; piece = l.rest; begun = begun; text = left.text; no_feed = none_fed l.rest none; fault = short })
-    | inr flawed ↦
-        of_line (record {
-          lines = lines;
-          due = due;
-          line = flawed.line;
-          behind = flawed.behind;
-          flaw = flawed.flaw;
-          begun = begun;
-          text = left.text ∙ ap (λ r. bytes_of lines ++ r) flawed.text;
-          no_feed = none_fed flawed.line flawed.none;
-          wrong = wrong flawed.line flawed.flaw flawed.wrong;
-          fault = flawed.fault ∙ ap (λ n. fault_at (n + 1) flawed.flaw) left.number;
-        })
-  ]
+  stop read due lines l begun left wrong h = elim (stops (IsBegun u) (HasFlaw u) bytes f read due lines l begun left wrong h) [ inl short ↦ too_short short | inr flawed ↦ of_line flawed ]
 
   module _ (table : IsTable u) (lacks : Goal) (its : IsWordable u lacks) where
     -- ---- the last line
@@ -113,8 +67,8 @@ module _ (u : Universe) (bytes : List ℕ) (f : TFault) where
     end_stops set l are left h =
         let begun = with_all lacks set are refl refl in
         let lines = begun_lines u lacks (length set) set in
-        elim (and_then_fails (read_next (exactly (codes "end")) l) (λ e. and_then (ended e.1) (λ _. Ok (refusal_parts lacks set))) f h) [
-          | inl wrong ↦ stops (exactly (codes "end")) last_line lines l begun left (exactly_fails (codes "end")) wrong
+        elim (and_then_wrong (read_next (exactly (codes "end")) l) (λ e. and_then (ended e.1) (λ _. Ok (refusal_parts lacks set))) f h) [
+          | inl wrong ↦ stop (exactly (codes "end")) last_line lines l begun left (exactly_fails (codes "end")) wrong
           | inr (e, right, later) ↦
               let one = read_next_is (exactly (codes "end")) l e right in
               let same = exactly_is (codes "end") one.0 e.0 one.1 in
@@ -149,11 +103,11 @@ module _ (u : Universe) (bytes : List ℕ) (f : TFault) where
 
       pairs_stop : (n : ℕ) (set : List ℕ) (l : Lines) → PairsLeft set l → length set + n ≡ size → pairs_from u n set l ≡ Err f → HasRefusalFault u bytes f
       pairs_stop zero set l before count h = cc
-      pairs_stop (suc n) set l before count h = elim (and_then_fails (read_next (next_pair_in u set) l) (λ p. pairs_from u n (set ++ p.0 ∷ []) p.1) f h) [
+      pairs_stop (suc n) set l before count h = elim (and_then_wrong (read_next (next_pair_in u set) l) (λ p. pairs_from u n (set ++ p.0 ∷ []) p.1) f h) [
         | inl wrong ↦
             let more : length set < size = omega arith in
             let begun = with_pairs lacks size set (begun_with set before.are) more refl refl in
-            stops (next_pair_in u set) (next_pair set) (begun_lines u lacks size set) l begun before.left (pair_fails u table.universe table.named set) wrong
+            stop (next_pair_in u set) (next_pair set) (begun_lines u lacks size set) l begun before.left (pair_fails u table.universe table.named set) wrong
         | inr (p, right, later) ↦ pairs_stop n (set ++ p.0 ∷ []) p.1 (next_left set l p before right) (let long = length_push set p.0 in omega arith) later
       ]
 
@@ -170,7 +124,7 @@ module _ (u : Universe) (bytes : List ℕ) (f : TFault) where
       set_stops l left h =
           let start : PairsLeft [] l = record { are = tt; left = left } in
           let none : length {A = ℕ} [] + size ≡ size = omega arith in
-          elim (and_then_fails (pairs_from u size [] l) (λ pairs. refusal_end_from (refusal_parts lacks pairs.0) pairs.1) f h) [
+          elim (and_then_wrong (pairs_from u size [] l) (λ pairs. refusal_end_from (refusal_parts lacks pairs.0) pairs.1) f h) [
             | inl wrong ↦ pairs_stop size [] l start none wrong
             | inr (q, right, later) ↦
                 let all = pairs_left size [] l q start none right in
@@ -181,8 +135,8 @@ module _ (u : Universe) (bytes : List ℕ) (f : TFault) where
     goal_stops : (l : Lines) → IsLeft bytes (refusal_header ∷ lacks_line u lacks ∷ []) l → refusal_set_from u lacks l ≡ Err f → HasRefusalFault u bytes f
     goal_stops l left h =
         let lines = refusal_header ∷ lacks_line u lacks ∷ [] in
-        elim (and_then_fails (read_next size_in l) (λ size. and_then (pairs_from u size.0 [] size.1) (λ pairs. refusal_end_from (refusal_parts lacks pairs.0) pairs.1)) f h) [
-          | inl wrong ↦ stops size_in size_line lines l (with_goal lacks its refl refl) left size_fails wrong
+        elim (and_then_wrong (read_next size_in l) (λ size. and_then (pairs_from u size.0 [] size.1) (λ pairs. refusal_end_from (refusal_parts lacks pairs.0) pairs.1)) f h) [
+          | inl wrong ↦ stop size_in size_line lines l (with_goal lacks its refl refl) left size_fails wrong
           | inr (size, right, later) ↦
               let one = read_next_is size_in l size right in
               let says = size_is one.0 size.0 one.1 in
@@ -196,14 +150,14 @@ module _ (u : Universe) (bytes : List ℕ) (f : TFault) where
       let header = exactly (codes "metis refusal 1") in
       let l = lines_of bytes 0 in
       let start : IsLeft bytes [] l = record { text = refl; number = refl } in
-      elim (and_then_fails (read_next header l) (λ first. and_then (read_next (lacks_in u) first.1) (λ lacks. refusal_set_from u lacks.0 lacks.1)) f h) [
-        | inl wrong ↦ stops header first_line [] l (with_none refl refl) start (exactly_fails (codes "metis refusal 1")) wrong
+      elim (and_then_wrong (read_next header l) (λ first. and_then (read_next (lacks_in u) first.1) (λ lacks. refusal_set_from u lacks.0 lacks.1)) f h) [
+        | inl wrong ↦ stop header first_line [] l (with_none refl refl) start (exactly_fails (codes "metis refusal 1")) wrong
         | inr (first, right, later) ↦
             let one = read_next_is header l first right in
             let same = exactly_is (codes "metis refusal 1") one.0 first.0 one.1 in
             let left = one_more header bytes [] l first (codes "metis refusal 1") start right (one.2 ∙ ap (λ b. b ++ (10 ∷ first.1.rest)) same) in
-            elim (and_then_fails (read_next (lacks_in u) first.1) (λ lacks. refusal_set_from u lacks.0 lacks.1) f later) [
-              | inl wrong ↦ stops (lacks_in u) goal_line (refusal_header ∷ []) first.1 (with_first refl refl) left (lacks_fails u table.universe table.named) wrong
+            elim (and_then_wrong (read_next (lacks_in u) first.1) (λ lacks. refusal_set_from u lacks.0 lacks.1) f later) [
+              | inl wrong ↦ stop (lacks_in u) goal_line (refusal_header ∷ []) first.1 (with_first refl refl) left (lacks_fails u table.universe table.named) wrong
               | inr (lacks, right', later') ↦
                   let two = read_next_is (lacks_in u) first.1 lacks right' in
                   let says = lacks_is u two.0 lacks.0 two.1 in

@@ -3,6 +3,7 @@ pub mod ActionRead
 pub mod ActionTokens
 pub mod AfterTokens
 pub mod Ascends
+pub mod DueRead
 pub mod DupLine
 pub mod DupPlaces
 pub mod DupWords

@@ -27,7 +27,8 @@ use Rattle.metis_universe.specs.GoalWords.{IsWordable, goal_named, goal_word}
 use Rattle.metis_universe.specs.Names.{is_name}
 use Rattle.metis_universe.specs.PairWords.{is_colon, pair_names, pair_word}
 use Rattle.metis_universe.specs.Universe.{IsNamed, IsUniverse, Universe, pair_count, pair_named}
-use Rattle.metis_text.specs.RefusalFlaws.{AreTwoNames, IsLacksFlaw, IsOther, IsPairFlaw, IsSizeFlaw, lacks_with, size_with}
+use Rattle.metis_text.specs.DueLines.{IsOther}
+use Rattle.metis_text.specs.RefusalFlaws.{AreTwoNames, IsLacksFlaw, IsPairFlaw, IsSizeFlaw, lacks_with, size_with}
 use Rattle.metis_text.specs.RefusalReading.{above, lacks_in, lacks_of_tokens, next_pair_in, pair_of_tokens, size_in, size_of_tokens}
 
 -- ---- a line that is known

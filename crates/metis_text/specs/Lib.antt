@@ -1,4 +1,5 @@
 pub mod ActionLine
+pub mod DueLines
 pub mod DupLine
 pub mod Faults
 pub mod InRange

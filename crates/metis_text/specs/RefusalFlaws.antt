@@ -1,36 +1,27 @@
 -- Which fault bytes have that are no text of a refusal: by the lines before it, and by what its own line says.
---     NoFeed line      it has no line feed
 --     AreTwoNames word      it is two names with a colon between them
 --     lacks_with word, size_with digits      the line of the goal with this word;  that of the number with these digits
---     IsOther bytes line f      the line is not these bytes
 --     IsLacksFlaw u line f, IsSizeFlaw line f, IsPairFlaw u set line f      what is wrong with the line of the goal;  with that of the number of pairs;  with that of a pair behind these
 --     Due, HasFlaw u due line f      which line is due;  where that one is due, this one has the flaw and no graver one
 --     IsBegun u lines due      the lines are the beginning of a text, and this one is due behind them
---     HasEnded u bytes f, IsOfDue u bytes f      nothing but a piece without a line feed stands behind a beginning;  the line behind a beginning is not the one that is due
---     HasRefusalFault u bytes f      one of these, or more stands behind the text of a refusal
---     IfFault result P      of a fault that is no want of memory
+--     HasRefusalFault u bytes f      nothing but a piece without a line feed stands behind a beginning, or the line that is due has a flaw, or more stands behind the text of a refusal
 use Rattle.std.specs.Prelude.{◌≡◌, ◌≢◌, ◌<◌, ◌≤◌, ◌^◌, ◌+◌, ℕ, List, [], ◌∷◌, ◌++◌, Result, Ok, Err, IsTrue, codes, length, map, ⊤}
 use Rattle.std.specs.List.{All}
 use Rattle.std.specs.List.Sorted.{IsStrictlyIncreasing}
 use Rattle.std.specs.Str.Parse.{digits_value}
 use Rattle.metis_ids.specs.declared.goals.Goal.{Goal}
-use Rattle.metis_outside.specs.Pieces.{bytes_of}
-use Rattle.metis_tokens.specs.Cursor.{fault_at}
 use Rattle.metis_tokens.specs.Line.{words}
 use Rattle.metis_tokens.specs.Tokens.{is_number}
 use Rattle.metis_tokens.specs.declared.fault.TFault.{TFault}
-use Rattle.metis_tokens.specs.declared.fault.TFault.TheVariants.{NoMemory, Short}
 use Rattle.metis_tokens.specs.declared.flaw.Flaw.{Flaw}
 use Rattle.metis_tokens.specs.declared.flaw.Flaw.TheVariants.{Form, Number, Name}
 use Rattle.metis_universe.specs.GoalWords.{IsWordable, goal_word}
 use Rattle.metis_universe.specs.Names.{is_name}
 use Rattle.metis_universe.specs.PairWords.{pair_word}
 use Rattle.metis_universe.specs.Universe.{Universe, pair_count}
+use Rattle.metis_text.specs.DueLines.{HasEnded, IsOfDue, IsOther}
 use Rattle.metis_text.specs.Faults.{IsPastRefusal}
 use Rattle.metis_text.specs.RefusalText.{lacks_line, pair_line, pairs_line, refusal_header}
-
-abbrev pub NoFeed : List ℕ → Type 0
-NoFeed line = All (λ b. b ≢ 10) line
 
 pub record AreTwoNames (word : List ℕ) : Type 0 where
   pub kind : List ℕ
@@ -46,11 +37,6 @@ abbrev pub size_with : List ℕ → List ℕ
 size_with digits = words (codes "pairs" ∷ digits ∷ [])
 
 -- ---- what is wrong with a line
-
-abbrev pub IsOther : List ℕ → List ℕ → Flaw → Type 0
-IsOther bytes line Form = line ≢ bytes
-IsOther bytes line Number = ⊥
-IsOther bytes line Name = ⊥
 
 -- the word is no two names, or no goal has it
 abbrev pub IsLacksFlaw : Universe → List ℕ → Flaw → Type 0
@@ -105,32 +91,7 @@ pub data IsBegun (u : Universe) (lines : List (List ℕ)) (due : Due) : Type 0 w
 
 -- ---- which fault the bytes have
 
-pub record HasEnded (u : Universe) (bytes : List ℕ) (f : TFault) : Type 0 where
-  pub lines : List (List ℕ)
-  pub due : Due
-  pub piece : List ℕ
-  pub begun : IsBegun u lines due
-  pub text : bytes ≡ bytes_of lines ++ piece
-  pub no_feed : NoFeed piece
-  pub fault : f ≡ Short
-
-pub record IsOfDue (u : Universe) (bytes : List ℕ) (f : TFault) : Type 0 where
-  pub lines : List (List ℕ)
-  pub due : Due
-  pub line : List ℕ
-  pub behind : List ℕ
-  pub flaw : Flaw
-  pub begun : IsBegun u lines due
-  pub text : bytes ≡ bytes_of lines ++ (line ++ (codes "\n" ++ behind))
-  pub no_feed : NoFeed line
-  pub wrong : HasFlaw u due line flaw
-  pub fault : f ≡ fault_at (length lines + 1) flaw
-
 pub data HasRefusalFault (u : Universe) (bytes : List ℕ) (f : TFault) : Type 0 where
-  too_short : HasEnded u bytes f → HasRefusalFault u bytes f
-  of_line : IsOfDue u bytes f → HasRefusalFault u bytes f
+  too_short : HasEnded (IsBegun u) bytes f → HasRefusalFault u bytes f
+  of_line : IsOfDue (IsBegun u) (HasFlaw u) bytes f → HasRefusalFault u bytes f
   past_end : IsPastRefusal u bytes f → HasRefusalFault u bytes f
-
-abbrev pub IfFault : {A : Type 0} → Result A TFault → (TFault → Type 0) → Type 0
-IfFault (Ok x) P = ⊤
-IfFault (Err fault) P = fault ≢ NoMemory → P fault

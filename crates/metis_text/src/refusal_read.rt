@@ -2,7 +2,8 @@
 ghost use Rattle.std.specs.Prelude.{◌≡◌, ◌<◌, ◌-◌, ◌^◌, IfOk, [], length};
 ghost use Rattle.metis_tokens.specs.Cursor.{read_next, Reads};
 ghost use Rattle.metis_text.specs.RefusalReading.{ReadsRefusal, lacks_in, pairs_from, refusal_in, size_in};
-ghost use Rattle.metis_text.specs.RefusalFlaws.{HasRefusalFault, IfFault};
+ghost use Rattle.metis_text.specs.DueLines.{IfFault};
+ghost use Rattle.metis_text.specs.RefusalFlaws.{HasRefusalFault};
 ghost use Rattle.metis_text.specs.RefusalText.{refusal_bytes};
 ghost use Rattle.metis_universe.specs.GoalWords.{IsWordable};
 ghost use Rattle.metis_universe.specs.Universe.{pair_count};
