@@ -3,6 +3,7 @@ pub mod ActionRead
 pub mod ActionTokens
 pub mod AfterTokens
 pub mod Ascends
+pub mod CountsFlaw
 pub mod DueRead
 pub mod DupLine
 pub mod DupPlaces
@@ -20,6 +21,7 @@ pub mod PairsRead
 pub mod PlanLines
 pub mod PlanParts
 pub mod PlanRead
+pub mod PlanStops
 pub mod RefusalFaults
 pub mod RefusalLines
 pub mod RefusalPairs

@@ -116,7 +116,7 @@ in_range_fails : (n : ℕ) (b : Bool) (f : Flaw) → nat_lt n (2 ^ 32) ≡ b →
 in_range_fails n true f is h = cc
 in_range_fails n false f is h = (cc, ltb-false n (2 ^ 32) is)
 
-number_formed : (digits : List ℕ) → is_number digits ≡ true → number_in digits ≢ Err Form
+pub number_formed : (digits : List ℕ) → is_number digits ≡ true → number_in digits ≢ Err Form
 number_formed digits is h =
     let range : in_range (digits_value 10 digits) ≡ Err Form = sym (ap (λ b. if◌then◌else◌ {A = Result ℕ Flaw} b (in_range (digits_value 10 digits)) (Err Form)) is) ∙ h in
     let told = (in_range_fails (digits_value 10 digits) (nat_lt (digits_value 10 digits) (2 ^ 32)) Form refl range).0 in cc

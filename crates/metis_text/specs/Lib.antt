@@ -4,6 +4,7 @@ pub mod DupLine
 pub mod Faults
 pub mod InRange
 pub mod Kinds
+pub mod PlanFlaws
 pub mod PlanText
 pub mod Reading
 pub mod Reads
