@@ -13,7 +13,7 @@ use Rattle.metis_ids.specs.Plans.{Dup, Plan}
 use Rattle.metis_outside.specs.Pieces.{bytes_of}
 use Rattle.metis_universe.specs.Universe.{IsTable, Universe}
 use Rattle.metis_text.specs.DupLine.{DupRow}
-use Rattle.metis_text.specs.Faults.{IsFault, IsWellFormedButCount, recounted}
+use Rattle.metis_text.specs.Faults.{IsFault, IsMiscounted, IsPastEnd, IsWellFormedButCount, recounted}
 use Rattle.metis_tokens.specs.Line.{numbered, end_line}
 use Rattle.metis_text.specs.PlanText.{action_line, action_lines, dup_line, dup_lines, plan_bytes, plan_end, plan_lines}
 use Rattle.metis_tokens.specs.Cursor.{Lines, fault_at, lines_of}
@@ -31,6 +31,7 @@ use Rattle.metis_text.proofs.PlanRead.{AreParts, numbers_of_parts, parts_bytes}
 use Rattle.metis_text.proofs.PlanParts.{AreCounts}
 use Rattle.metis_tokens.proofs.Readers.{Wrong, and_then_wrong}
 use Rattle.metis_text.proofs.RowPlaces.{rows_long}
+use Rattle.metis_text.proofs.RowsRead.{AreRows}
 use Rattle.metis_text.proofs.WholeLines.{LinesAre, lines_are, lines_read}
 
 -- ---- how many lines there are
@@ -48,13 +49,15 @@ many_lines u p after long =
 
 -- ---- the plan that was read
 
-dup_from : DupRow → Dup
+abbrev pub dup_from : DupRow → Dup
 dup_from d = record { pair = d.0; cycle = d.1 }
 
 dups_back : (dups : List DupRow) → map dup_row (map dup_from dups) ≡ dups
-unfolding dup_from
 dups_back [] = refl
 dups_back (d ∷ dups) = ap (λ l. d ∷ l) (dups_back dups)
+
+abbrev pub plan_of : Parts → Plan
+plan_of q = record { actions = q.rows.actions; dups = map dup_from q.dups; instances = q.instances }
 
 record PlanRead (u : Universe) (l : Lines) (w : Parts × Lines) : Type 0 where
   plan : Plan
@@ -65,27 +68,31 @@ record PlanRead (u : Universe) (l : Lines) (w : Parts × Lines) : Type 0 where
   number : w.1.number ≡ l.number + length (plan_lines u plan after)
 
 module _ (u : Universe) where
+  -- what was read, where its number of instances may be wrong
+  pub formed_of : (q : Parts) → AreRows u [] q.rows.actions q.rows.after → AreDups u 1 q.dups → AreCounts (numbers_of_parts q) → IsWellFormedButCount u (plan_of q) q.rows.after
+  formed_of q rows dups counts =
+      let back = dups_back q.dups in
+      let many = count_by-le-length makes q.rows.actions in
+      let right : AreParts u (said (recounted (plan_of q)) q.rows.after) = record {
+        rows = rows;
+        dups = subst (AreDups u 1) (sym back) dups;
+        counts = record { instances = omega (arith, many, counts.actions); actions = counts.actions; dups = omega (arith, counts.dups, ap length back) };
+        counted = refl;
+      } in
+      record { recounted_so = formed u (recounted (plan_of q)) q.rows.after right; few_instances = counts.instances }
+
   plan_are : (l : Lines) (w : Parts × Lines) → LinesAre u l w → PlanRead u l w
   plan_are l w are =
       let q = w.0 in
       let after = q.rows.after in
-      let plan : Plan = record { actions = q.rows.actions; dups = map dup_from q.dups; instances = q.instances } in
-      let back = dups_back q.dups in
-      let is : said plan after ≡ q = λ i. parts q.instances q.rows (back i) in
-      let many = count_by-le-length makes q.rows.actions in
-      let right : AreParts u (said (recounted plan) after) = record {
-        rows = are.rows;
-        dups = subst (AreDups u 1) (sym back) are.dups;
-        counts = record { instances = omega (arith, many, are.counts.actions); actions = are.counts.actions; dups = omega (arith, are.counts.dups, ap length back) };
-        counted = refl;
-      } in
+      let is : said (plan_of q) after ≡ q = λ i. parts q.instances q.rows (dups_back q.dups i) in
       let long = rows_long u [] q.rows.actions after are.rows in
-      let lines = many_lines u plan after long in record {
-        plan = plan;
+      let lines = many_lines u (plan_of q) after long in record {
+        plan = plan_of q;
         after = after;
         is = is;
-        text = are.text ∙ ap (λ b. b ++ w.1.rest) (sym (ap (parts_bytes u) is) ∙ said_bytes u plan after);
-        formed_so = record { recounted_so = formed u (recounted plan) after right; few_instances = are.counts.instances };
+        text = are.text ∙ ap (λ b. b ++ w.1.rest) (sym (ap (parts_bytes u) is) ∙ said_bytes u (plan_of q) after);
+        formed_so = formed_of q are.rows are.dups are.counts;
         number = omega (arith, are.number, lines, length-map q.dups dup_from);
       }
 
@@ -110,14 +117,18 @@ module _ (u : Universe) where
   unclosed : (w : Parts × Lines) (f : TFault) → closed w ≡ Err f → Unclosed w f
   unclosed w f h = unclosed_by w f (length w.1.rest == 0) (count_by makes w.0.rows.actions == w.0.instances) refl refl h
 
-  of_plan : (bytes : List ℕ) (w : Parts × Lines) (f : TFault) → PlanRead u (lines_of bytes 0) w → ((1 ≤ length w.1.rest) × (f ≡ Line (w.1.number + 1))) ⊎ ((w.1.rest ≡ []) × (count_by makes w.0.rows.actions ≢ w.0.instances) × (f ≡ Line 2)) → IsFault u bytes f
+  of_plan : (bytes : List ℕ) (w : Parts × Lines) (f : TFault) → PlanRead u (lines_of bytes 0) w → ((1 ≤ length w.1.rest) × (f ≡ Line (w.1.number + 1))) ⊎ ((w.1.rest ≡ []) × (count_by makes w.0.rows.actions ≢ w.0.instances) × (f ≡ Line 2)) → IsPastEnd u bytes f ⊎ IsMiscounted u bytes f
   of_plan bytes w f read (inl more) =
       let number : w.1.number ≡ length (plan_lines u read.plan read.after) = omega (arith, read.number) in
-      IsFault.past_end (record { plan = read.plan; after = read.after; more = w.1.rest; text = read.text; formed = read.formed_so; some = more.0; fault = more.1 ∙ ap (λ n. Line (n + 1)) number })
+      inl (record { plan = read.plan; after = read.after; more = w.1.rest; text = read.text; formed = read.formed_so; some = more.0; fault = more.1 ∙ ap (λ n. Line (n + 1)) number })
   of_plan bytes w f read (inr wrong) =
       let text : bytes ≡ plan_bytes u read.plan read.after = read.text ∙ ap (λ r. plan_bytes u read.plan read.after ++ r) wrong.0 ∙ append-nil (plan_bytes u read.plan read.after) in
       let other : read.plan.instances ≢ count_by makes read.plan.actions = λ h. wrong.1 (sym (ap (λ q. count_by makes q.rows.actions) read.is) ∙ sym h ∙ ap (λ q. q.instances) read.is) in
-      IsFault.miscounted (record { plan = read.plan; after = read.after; text = text; formed = read.formed_so; wrong = other; fault = wrong.2 })
+      inr (record { plan = read.plan; after = read.after; text = text; formed = read.formed_so; wrong = other; fault = wrong.2 })
+
+  -- all lines were read, and then more stands there or the count is wrong
+  pub closed_fails : (bytes : List ℕ) (w : Parts × Lines) (f : TFault) → lines_from u (lines_of bytes 0) ≡ Ok w → closed w ≡ Err f → IsPastEnd u bytes f ⊎ IsMiscounted u bytes f
+  closed_fails bytes w f is h = of_plan bytes w f (plan_are (lines_of bytes 0) w (lines_are u (lines_of bytes 0) w is)) (unclosed w f h).why
 
   of_wrong : (bytes : List ℕ) (f : TFault) → (f ≡ Short) ⊎ Wrong (lines_from u) (lines_of bytes 0) f → IsFault u bytes f
   of_wrong bytes f (inl short) = IsFault.too_short short
@@ -136,7 +147,7 @@ module _ (u : Universe) where
 
   of_lines : (bytes : List ℕ) (f : TFault) → (lines_from u (lines_of bytes 0) ≡ Err f) ⊎ ((w : Parts × Lines) × (lines_from u (lines_of bytes 0) ≡ Ok w) × (closed w ≡ Err f)) → IsFault u bytes f
   of_lines bytes f (inl h) = of_wrong bytes f ((plan_text u).reads.wrong (lines_of bytes 0) f h)
-  of_lines bytes f (inr (w, is, h)) = of_plan bytes w f (plan_are (lines_of bytes 0) w (lines_are u (lines_of bytes 0) w is)) (unclosed w f h).why
+  of_lines bytes f (inr (w, is, h)) = elim (closed_fails bytes w f is h) [ inl more ↦ IsFault.past_end more | inr wrong ↦ IsFault.miscounted wrong ]
 
   pub told_is_fault : (bytes : List ℕ) (f : TFault) → plan_in u bytes ≡ Err f → IsFault u bytes f
   told_is_fault bytes f h = of_lines bytes f (and_then_wrong (lines_from u (lines_of bytes 0)) closed f (sym ((plan_text u).whole (lines_of bytes 0)) ∙ h))

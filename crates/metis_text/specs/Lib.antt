@@ -1,10 +1,13 @@
 pub mod ActionLine
+pub mod DueLines
 pub mod DupLine
 pub mod Faults
 pub mod InRange
 pub mod Kinds
+pub mod PlanFlaws
 pub mod PlanText
 pub mod Reading
 pub mod Reads
+pub mod RefusalFlaws
 pub mod RefusalReading
 pub mod RefusalText

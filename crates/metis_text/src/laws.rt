@@ -12,11 +12,13 @@ ghost use Rattle.metis_universe.specs.Waits.{numbers};
 ghost use Rattle.metis_text.specs.Faults.{IsFault, IsRefusalFault, IsWellFormedButCount};
 ghost use Rattle.metis_text.specs.InRange.{IsPlanInRange};
 ghost use Rattle.metis_ids.specs.Action.{makes};
+ghost use Rattle.metis_text.specs.PlanFlaws.{HasPlanFault};
 ghost use Rattle.metis_text.specs.PlanText.{IsWellFormed, plan_bytes, plan_lines};
 ghost use Rattle.metis_text.specs.Reading.{Parts, plan_in};
 ghost use Rattle.metis_text.specs.Reads.{said};
 ghost use Rattle.metis_tokens.specs.declared.fault.TFault.{TFault};
 ghost use Rattle.metis_tokens.specs.declared.fault.TFault.TheVariants.{Line, Short};
+ghost use Rattle.metis_text.specs.RefusalFlaws.{HasRefusalFault};
 ghost use Rattle.metis_text.specs.RefusalReading.{RefusalParts, refusal_in, refusal_parts};
 ghost use Rattle.metis_text.specs.RefusalText.{IsRefusal, refusal_bytes, refusal_lines};
 ghost use Rattle.metis_waits.specs.Waits.{waits_on_others};
@@ -46,6 +48,13 @@ pub fn no_text_begins_with_a_fault()
 /// instances are not counted.
 pub fn told_fault_is_one()
     ensures { (u : Universe) (bytes : List ℕ) (fault : TFault) → plan_in u bytes ≡ Err fault → IsFault u bytes fault }
+{}
+
+/// Each fault that is told of a plan is the one that the bytes have by the lines before it and by its own line. The lines before
+/// are the beginning of a text, and its own line is not the one that is due behind them. `Short` is told of the beginning of a
+/// text and a piece without its line feed alone.
+pub fn told_fault_is_had()
+    ensures { (u : Universe) (bytes : List ℕ) (fault : TFault) → plan_in u bytes ≡ Err fault → HasPlanFault u bytes fault }
 {}
 
 /// Where bytes stand behind the text of a plan with lists that is well formed, but perhaps for its number of instances, the
@@ -119,6 +128,13 @@ pub fn no_refusal_begins_with_a_fault()
 /// Each fault of a refusal that is told is one, as `told_fault_is_one` says it of a plan's.
 pub fn told_refusal_fault_is_one()
     ensures { (u : Universe) (bytes : List ℕ) (fault : TFault) → refusal_in u bytes ≡ Err fault → IsRefusalFault u bytes fault }
+{}
+
+/// Each fault that is told of a refusal is the one that the bytes have by the lines before it and by its own line. Where a line
+/// has a word for a goal or a pair that is not there, this is told only if no number of the line is wrong, and a number out of
+/// range is no wrong form. `Short` is told of the beginning of a text and a piece without its line feed alone.
+pub fn told_refusal_fault_is_had()
+    ensures { (u : Universe) (bytes : List ℕ) (fault : TFault) → IsTable u → refusal_in u bytes ≡ Err fault → HasRefusalFault u bytes fault }
 {}
 
 /// Where bytes stand behind the text of a refusal, the line behind the last one is told.

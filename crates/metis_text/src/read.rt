@@ -2,6 +2,8 @@
 ghost use Rattle.std.specs.Prelude.{◌≡◌, ◌<◌, ◌-◌, ◌^◌, ◌&&◌, IfOk, [], codes, length, map};
 ghost use Rattle.std.specs.Str.{bytes_eq};
 ghost use Rattle.metis_tokens.specs.Flaws.{both, made};
+ghost use Rattle.metis_text.specs.DueLines.{IfFault};
+ghost use Rattle.metis_text.specs.PlanFlaws.{HasPlanFault};
 ghost use Rattle.metis_text.specs.Reading.{body_from, counts_in, counts_of_tokens, counted, dups_from, end_from, parts, plan_in, rows_from, rows_of};
 ghost use Rattle.metis_tokens.specs.Cursor.{read_next, Reads};
 ghost use Rattle.metis_text.specs.Reads.{IsTextOf, ReadsPlan, dup_row, numbers_of};
@@ -34,6 +36,9 @@ pub fn read_plan(alloc: Global, u: &Universe, bytes: &[u8]) -> Result<PlanText, 
     // So the bytes are the text of what is read, and this is well formed.
     ensures text { IfOk result (λ t. IsTextOf u.now t bytes.now) }
     ensures fewer { IfOk result (λ t. length t.plan.actions < length bytes.now) }
+
+    // Each fault is that of the first line that is not the one that is due, or of an end that is missing, or of the count.
+    ensures fault { IfFault result (λ f. HasPlanFault u.now bytes.now f) }
 {
     read_text(alloc, u, bytes)
 }

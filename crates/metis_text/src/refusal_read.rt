@@ -2,6 +2,8 @@
 ghost use Rattle.std.specs.Prelude.{◌≡◌, ◌<◌, ◌-◌, ◌^◌, IfOk, [], length};
 ghost use Rattle.metis_tokens.specs.Cursor.{read_next, Reads};
 ghost use Rattle.metis_text.specs.RefusalReading.{ReadsRefusal, lacks_in, pairs_from, refusal_in, size_in};
+ghost use Rattle.metis_text.specs.DueLines.{IfFault};
+ghost use Rattle.metis_text.specs.RefusalFlaws.{HasRefusalFault};
 ghost use Rattle.metis_text.specs.RefusalText.{refusal_bytes};
 ghost use Rattle.metis_universe.specs.GoalWords.{IsWordable};
 ghost use Rattle.metis_universe.specs.Universe.{pair_count};
@@ -23,7 +25,11 @@ pub fn read_refusal(alloc: Global, u: &Universe, bytes: &[u8]) -> Result<Refusal
 
     // So the bytes are the text of what is read.
     ensures text { IfOk result (λ r. bytes.now ≡ refusal_bytes u.now r.pairs.members r.lacks) }
+
+    // Each fault is that of the first line that is wrong, by what this line says, or of an end that is missing.
+    ensures fault { IfFault result (λ f. HasRefusalFault u.now bytes.now f) }
 {
+    u.keeps_invariant();
     read_text(alloc, u, bytes)
 }
 

@@ -37,6 +37,9 @@ digit_printed d h = grind (arith, nat_tests)
 digit_no_point : (d : ℕ) → is_ascii_digit d ≡ true → not (d == 46) ≡ true
 digit_no_point d h = grind (arith, nat_tests)
 
+pub printed_digits : (t : List ℕ) → all_ascii_digits t ≡ true → printed t ≡ true
+printed_digits t h = all_weaker is_ascii_digit (nat_lt 32) digit_printed t (sym (each_digit t) ∙ h)
+
 pub printed_decimal : (n : ℕ) → n < 2 ^ 32 → printed (decimal n) ≡ true
 printed_decimal n small = all_weaker is_ascii_digit (nat_lt 32) digit_printed (decimal n) (all_digits n small)
 

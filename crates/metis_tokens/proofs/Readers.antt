@@ -137,6 +137,27 @@ module _ {A : Type 0} (read : List ℕ → Result A Flaw) where
       no_fault : (flaw : Flaw) → with_left (lines_of c.behind (l.number + 1)) (Err flaw) ≡ Err Short → ⊥
       no_fault flaw h = elim flaw as (λ f. with_left (lines_of c.behind (l.number + 1)) (Err f) ≡ Err Short → ⊥) [ Form ↦ (λ h. cc) | Number ↦ (λ h. cc) | Name ↦ (λ h. cc) ] h
 
+  -- where a line cannot be read: it has no end, or a flaw
+  pub record Flawed (l : Lines) (f : TFault) : Type 0 where
+    pub line : List ℕ
+    pub behind : List ℕ
+    pub flaw : Flaw
+    pub text : l.rest ≡ line ++ (10 ∷ behind)
+    pub none : no_feed line ≡ true
+    pub wrong : read line ≡ Err flaw
+    pub fault : f ≡ fault_at (l.number + 1) flaw
+
+  flawed_by : (l : Lines) (f : TFault) (c : Cut l.rest) (x : Result A Flaw) → read c.front ≡ x → with_left (lines_of c.behind (l.number + 1)) x ≡ Err f → Flawed l f
+  flawed_by l f c (Ok a) is h = cc
+  flawed_by l f c (Err flaw) is h = record { line = c.front; behind = c.behind; flaw = flaw; text = c.text; none = c.none; wrong = is; fault = cc }
+
+  flawed_at : (l : Lines) (f : TFault) → read_next read l ≡ Err f → (no_feed l.rest ≡ true) ⊎ Cut l.rest → ((no_feed l.rest ≡ true) × (f ≡ Short)) ⊎ Flawed l f
+  flawed_at l f h (inl none) = let short = short_of l.rest l.number none in inl (none, cc)
+  flawed_at l f h (inr c) = inr (flawed_by l f c (read c.front) refl (sym (here l c) ∙ h))
+
+  pub read_fails : (l : Lines) (f : TFault) → read_next read l ≡ Err f → ((no_feed l.rest ≡ true) × (f ≡ Short)) ⊎ Flawed l f
+  read_fails l f h = flawed_at l f h (cut l.rest)
+
   took_at : (l : Lines) (p : A × Lines) → read_next read l ≡ Ok p → (no_feed l.rest ≡ true) ⊎ Cut l.rest → Took (read_next read) l p
   took_at l p h (inl none) = let short = short_of l.rest l.number none in cc
   took_at l p h (inr c) = took_line l c p (read c.front) refl (sym (here l c) ∙ h)

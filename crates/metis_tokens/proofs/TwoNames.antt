@@ -33,12 +33,15 @@ module _ {A : Type 0} (find : List ℕ → List ℕ → Option A) where
       let names = and_parts (is_name kind) (is_name name) form.0 in
       record { kind = kind; name = name; is = cut_back is_colon 58 word (λ x is. eqb-true x 58 is) (name_some name names.1); at = found_is (find kind name) a form.1 }
 
-  pub word_read : (kind name : List ℕ) (a : A) → is_name kind ≡ true → is_name name ≡ true → find kind name ≡ Some a → of_names find (pair_names (kind ++ (58 ∷ name))) ≡ Ok a
-  word_read kind name a kind_is name_is at =
+  -- what is read of a word of two names is what is found by these
+  pub word_found : (kind name : List ℕ) → is_name kind ≡ true → is_name name ≡ true → of_names find (pair_names (kind ++ (58 ∷ name))) ≡ found (find kind name)
+  word_found kind name kind_is name_is =
       let no_colon = no_colon_name kind kind_is in
       (λ i. of_names find (if_names (before_cut is_colon kind 58 name no_colon refl i) (after_cut is_colon kind 58 name no_colon refl i)))
       ∙ ap (λ b. of_names find (if b then Some (kind, name) else None)) (and_from _ _ kind_is name_is)
-      ∙ ap found at
+
+  pub word_read : (kind name : List ℕ) (a : A) → is_name kind ≡ true → is_name name ≡ true → find kind name ≡ Some a → of_names find (pair_names (kind ++ (58 ∷ name))) ≡ Ok a
+  word_read kind name a kind_is name_is at = word_found kind name kind_is name_is ∙ ap found at
 
 pub word_printed : (kind name : List ℕ) → is_name kind ≡ true → is_name name ≡ true → printed (kind ++ (58 ∷ name)) ≡ true
 word_printed kind name kind_is name_is = list_all-append _ kind (58 ∷ name) ∙ and_from _ _ (printed_name kind kind_is) (printed_name name name_is)
