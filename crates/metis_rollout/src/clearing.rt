@@ -14,8 +14,23 @@ use metis_ids::{Action, InstNo, NoMemory, PortIx};
 use metis_universe::Universe;
 use std::alloc::Global;
 
-/// Ends each binding whose port its requirer does not require.
-pub fn unbind_idle(
+/// Takes down what stands, until each instance that is left has a binding to it.
+pub fn clear(
+    alloc: Global,
+    u: &Universe,
+    c: &mut Config,
+    actions: &mut Vec<Action>,
+) -> Result<(), NoMemory>
+    requires { IsOver u.now c.old }
+    ensures actions { OnOk result (actions.new.items ≡ (actions.old.items ++ idle_unbinds u.now c.old) ++ unreferenced_deletes (after_all u.now c.old (idle_unbinds u.now c.old))) }
+    ensures config { OnOk result (c.new ≡ after_all u.now (after_all u.now c.old (idle_unbinds u.now c.old)) (unreferenced_deletes (after_all u.now c.old (idle_unbinds u.now c.old)))) }
+{
+    unbind_idle(alloc, u, c, actions)?;
+    delete_unreferenced(alloc, c, actions)
+}
+
+// Ends each binding whose port its requirer does not require.
+fn unbind_idle(
     alloc: Global,
     u: &Universe,
     c: &mut Config,
@@ -83,9 +98,9 @@ fn end(c: &mut Config, tie: Binding, actions: &mut Vec<Action>) -> Result<(), No
     Ok(())
 }
 
-/// Again and again removes the least instance to which no binding points. Each removal looks at the bindings of the one that
-/// goes, and not at the other instances.
-pub fn delete_unreferenced(
+// Again and again removes the least instance to which no binding points. Each removal looks at the bindings of the one that
+// goes, and not at the other instances.
+fn delete_unreferenced(
     alloc: Global,
     c: &mut Config,
     actions: &mut Vec<Action>,

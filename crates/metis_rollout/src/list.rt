@@ -11,7 +11,7 @@ ghost use Rattle.metis_rollout.specs.Rollout.{cleared_by, free_number, members, 
 ghost use Rattle.metis_rollout.specs.Standing.{AreTogether};
 ghost use Rattle.metis_universe.specs.Steadfast.{IsSteadfastRun};
 
-use crate::clearing::{delete_unreferenced, unbind_idle};
+use crate::clearing::clear;
 use crate::cyclic::remove_cycles;
 use crate::names::{made_by, names_for, next_free, push_renumbered};
 use metis_config::Config;
@@ -56,8 +56,7 @@ pub fn rollout(
     let mut next = next_free(&used, 0);
     let mut actions = side_by_side(alloc, &used, &mut next, old, fresh)?;
     let mut c = left;
-    unbind_idle(alloc, u, &mut c, &mut actions)?;
-    delete_unreferenced(alloc, &mut c, &mut actions)?;
+    clear(alloc, u, &mut c, &mut actions)?;
     if c.count() > 0 {
         remove_cycles(alloc, u, l, &used, &mut next, &c, &mut actions)?;
     }

@@ -1,4 +1,4 @@
-use Rattle.std.proofs.Common.{List, arith, ◌≡◌, ◌+◌, ◌<◌, ◌-◌, ◌^◌, length, ◌++◌, sym, subst, ◌∙◌, ap}
+use Rattle.std.proofs.Common.{refl, List, arith, ◌≡◌, ◌+◌, ◌<◌, ◌-◌, ◌^◌, length, ◌++◌, sym, subst, ◌∙◌, ap}
 use Rattle.std.specs.Prelude.{IsSome}
 use Rattle.std.specs.List.{All}
 use Rattle.metis_ids.specs.declared.actions.Action.{Action}
@@ -21,22 +21,22 @@ use Rattle.metis_rollout.proofs.Within.{rollout_within}
 use Rattle.metis_rollout.proofs.list.rollout.Goals as goal
 use Rattle.metis_rollout.proofs.list.rollout.Goals.{then-count-gt0+in_ok-remove_cycles, else-count-gt0}
 
-pub unbind_idle-requires : goal.unbind_idle-requires
-unbind_idle-requires c = rw c.requires.left (over_left c.args.u.now c.args.old.now c.keeps_invariant.ensures.universe c.requires.old_ours)
+pub clear-requires : goal.clear-requires
+clear-requires c = rw c.requires.left (over_left c.args.u.now c.args.old.now c.keeps_invariant.ensures.universe c.requires.old_ours)
 
 pub remove_cycles-requires-clause-layered : goal.remove_cycles-requires-clause-layered
 remove_cycles-requires-clause-layered c =
-    let is = left_is c.args.u.now c.args.old.now c.args.left c.unbind_idle.new.c c.delete_unreferenced.new.c c.requires.left c.in_ok-unbind_idle.ensures.config (c.in_ok-delete_unreferenced.ensures.config c.args.u.now) in
+    let is = left_is c.args.u.now c.args.old.now c.args.left (after_all c.args.u.now c.args.left (idle_unbinds c.args.u.now c.args.left)) c.clear.new.c c.requires.left refl c.in_ok-clear.ensures.config in
     subst (λ d. All (λ p. IsSome (layer_of c.args.u.now p)) (pairs_in d)) (sym is) (left_layered c.args.u.now c.args.old.now c.keeps_invariant.ensures.universe c.requires.old)
 
 pub remove_cycles-requires-clause-next : goal.remove_cycles-requires-clause-next
 remove_cycles-requires-clause-next c = (length (news_of c.args.fresh.now), c.in_ok-actions.ensures.next, omega (arith, c.in_ok-used.ensures.few, news_few c.args.fresh.now, c.requires.few))
 
 -- what stands in the list when the unreferenced instances are deleted
-begun : (c : goal.After-drop-used-2) → c.delete_unreferenced.new.actions.items ≡ ((c.args.old.now ++ renumbered c.args.old.now c.args.fresh.now) ++ idle_unbinds c.args.u.now c.args.left) ++ unreferenced_deletes c.unbind_idle.new.c
+begun : (c : goal.After-drop-used-2) → c.clear.new.actions.items ≡ ((c.args.old.now ++ renumbered c.args.old.now c.args.fresh.now) ++ idle_unbinds c.args.u.now c.args.left) ++ unreferenced_deletes (after_all c.args.u.now c.args.left (idle_unbinds c.args.u.now c.args.left))
 begun c =
-    let third = c.in_ok-unbind_idle.ensures.actions ∙ ap (λ l. l ++ idle_unbinds c.args.u.now c.args.left) c.in_ok-actions.ensures.list in
-    c.in_ok-delete_unreferenced.ensures.actions ∙ ap (λ l. l ++ unreferenced_deletes c.unbind_idle.new.c) third
+    let d = after_all c.args.u.now c.args.left (idle_unbinds c.args.u.now c.args.left) in
+    c.in_ok-clear.ensures.actions ∙ ap (λ l. (l ++ idle_unbinds c.args.u.now c.args.left) ++ unreferenced_deletes d) c.in_ok-actions.ensures.list
 
 is_list : (c : goal.After-drop-used-2) → c.if-count-gt0.actions.items ≡ rollout c.args.u.now c.args.old.now c.args.fresh.now
 is_list c =
@@ -44,19 +44,20 @@ is_list c =
     let old = c.args.old.now in
     let fresh = c.args.fresh.now in
     let used = c.in_ok-used.used.keys in
-    let e = c.delete_unreferenced.new.c in
-    let gone = c.in_ok-delete_unreferenced.ensures.config u in
-    let is = left_is u old c.args.left c.unbind_idle.new.c e c.requires.left c.in_ok-unbind_idle.ensures.config gone in
+    let d = after_all u c.args.left (idle_unbinds u c.args.left) in
+    let e = c.clear.new.c in
+    let gone = c.in_ok-clear.ensures.config in
+    let is = left_is u old c.args.left d e c.requires.left refl gone in
     let count = length (news_of fresh) in
     elim c.if-count-gt0.branch [
       | then-count-gt0+in_ok-remove_cycles w ↦ ap (λ v. v.items) w.actions-is
-          ∙ listed_long u old fresh w.remove_cycles.new.actions.items used c.args.left c.unbind_idle.new.c e (some_left e.instances (omega (arith, c.count.ensures, w.if-count-gt0.true)))
-          c.in_ok-used.ensures.same c.requires.left c.in_ok-unbind_idle.ensures.config gone
+          ∙ listed_long u old fresh w.remove_cycles.new.actions.items used c.args.left d e (some_left e.instances (omega (arith, c.count.ensures, w.if-count-gt0.true)))
+          c.in_ok-used.ensures.same c.requires.left refl gone
           (w.in_ok-remove_cycles.ensures count c.in_ok-actions.ensures.next ∙ ap (λ l. l ++ cycle_removal u (λ k. free_number used (count + k)) e) (begun c))
       | else-count-gt0 w ↦ ap (λ v. v.items) w.actions-is
-          ∙ listed u old fresh c.delete_unreferenced.new.actions.items c.args.left c.unbind_idle.new.c c.requires.old c.requires.fresh
+          ∙ listed u old fresh c.clear.new.actions.items c.args.left d c.requires.old c.requires.fresh
           (ap (λ d. is_empty (members d)) (sym is) ∙ none_left e.instances (omega (arith, c.count.ensures, w.if-count-gt0.false)))
-          c.requires.left c.in_ok-unbind_idle.ensures.config (begun c)
+          c.requires.left refl (begun c)
     ]
 
 pub side_by_side-requires-clause-steadfast : goal.side_by_side-requires-clause-steadfast
