@@ -33,6 +33,8 @@ pub mod RowsRead
 pub mod RunLists
 pub mod RunMoves
 pub mod Shapes
+pub mod RowFlaws
+pub mod Tells
 pub mod TextBytes
 pub mod WaitRows
 pub mod WholeLines

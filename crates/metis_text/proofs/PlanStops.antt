@@ -23,6 +23,7 @@ use Rattle.metis_text.proofs.LineFlaws.{exactly_fails}
 use Rattle.metis_text.proofs.PlanLines.{closed, counts_then, dups_then, last_from, lines_from, plan_text, rows_then}
 use Rattle.metis_text.proofs.PlanParts.{AreCounts, counts_are, counts_tokens}
 use Rattle.metis_text.proofs.PlanRead.{numbers_of_parts}
+use Rattle.metis_text.proofs.RowFlaws.{row_fails}
 use Rattle.metis_text.proofs.RowLine.{IsRow, row_is, row_tokens}
 use Rattle.metis_text.proofs.RowPlaces.{rows_long}
 use Rattle.metis_text.proofs.RowsRead.{AreRows}
@@ -136,7 +137,7 @@ module _ (u : Universe) (bytes : List ℕ) (f : TFault) where
           let more : length rows.actions < c.1.0 = omega arith in
           let so = said_so rows [] before.are tt (omega arith) (omega arith) in
           let here : lines_with (row_lines rows) ≡ begun_plan u (plan_of (parts c.0 rows [])) rows.after c.1.0 c.1.1 = ap lines_with (sym (append-nil (row_lines rows))) ∙ begun_with rows [] in
-          stop (row_in u rows.actions) (next_action rows.actions) (lines_with (row_lines rows)) l (with_actions (plan_of (parts c.0 rows [])) rows.after c.1.0 c.1.1 so here refl more refl) before.left (λ line flaw h. h) wrong
+          stop (row_in u rows.actions) (next_action rows.actions) (lines_with (row_lines rows)) l (with_actions (plan_of (parts c.0 rows [])) rows.after c.1.0 c.1.1 so here refl more refl) before.left (row_fails u rows.actions) wrong
       | inr (p, right, later) ↦ rows_stop n (with_row rows p.0) p.1 (next_row rows l p before right) (let long = length_push rows.actions p.0.0 in omega arith) later
     ]
 
