@@ -5,6 +5,7 @@ pub mod AfterTokens
 pub mod Ascends
 pub mod CountsFlaw
 pub mod DueRead
+pub mod DupFlaws
 pub mod DupLine
 pub mod DupPlaces
 pub mod DupWords

@@ -1,5 +1,5 @@
 -- What is wrong with the line of an action that cannot be read.
-use Rattle.std.proofs.Common.{◌≡◌, ◌≢◌, ◌⊎◌, ℕ, ◌+◌, ◌<◌, ◌^◌, ◌&&◌, Bool, true, false, List, [], ◌∷◌, ◌++◌, length, map, Option, Some, None, Result, Ok, Err, refl, sym, ap, ◌∙◌, subst, inl, inr}
+use Rattle.std.proofs.Common.{◌≡◌, ◌≢◌, ℕ, ◌+◌, Bool, true, false, List, [], ◌∷◌, ◌++◌, length, map, Option, Some, None, Result, Ok, Err, refl, sym, ap, ◌∙◌, subst}
 use Rattle.std.specs.Prelude.{codes, ⊤}
 use Rattle.std.specs.Bool.{if◌then◌else◌}
 use Rattle.std.specs.List.{AllByRecursion, list_all}
@@ -16,16 +16,14 @@ use Rattle.metis_tokens.proofs.Outcomes.{AreRead, all_are}
 use Rattle.metis_tokens.proofs.Printed.{printed, printed_digits, printed_name}
 use Rattle.metis_tokens.specs.Flaws.{all_behind, both, made, right}
 use Rattle.metis_tokens.specs.Line.{words}
-use Rattle.metis_tokens.specs.Tokens.{due, is_number, named, number_in, starts_number, state_in, tokens}
+use Rattle.metis_tokens.specs.Tokens.{due, named, number_in, starts_number, state_in, tokens}
 use Rattle.metis_tokens.specs.declared.flaw.Flaw.{Flaw}
 use Rattle.metis_tokens.specs.declared.flaw.Flaw.TheVariants.{Form, Number, Name}
-use Rattle.metis_universe.specs.Names.{is_name}
 use Rattle.metis_universe.specs.Universe.{Universe, port_named, state_named, type_named}
 use Rattle.metis_text.proofs.CountsFlaw.{number_right}
 use Rattle.metis_text.proofs.Tells.{Tells, tells_all, tells_as, tells_both, tells_due, tells_made, tells_named, tells_number}
 use Rattle.metis_text.specs.ActionLine.{Row, Words, action_in, after_in, bind_action, delete_words, ends_in, kind_in, move_action, move_words, new_action, new_in, new_words, rise, row_in, row_of, row_with, states_in, tie_words, unbind_action}
 use Rattle.metis_text.specs.PlanFlaws.{ActionWords, AreNamesThere, IsActionWithin, IsAfterWithin, IsFormedAction, IsFormedAfter, IsFormedRow, IsInRange, IsNumeral, IsRowFlaw, IsRowWithin, IsStateThere, action_words, bind_of, delete_of, move_of, new_of, row_words, unbind_of}
-use Rattle.metis_text.specs.PlanText.{last_kind}
 
 -- ---- the list of an action
 
@@ -48,11 +46,8 @@ module _ (k : ℕ) where
   abbrev all : List (List ℕ) → Result (List ℕ) Flaw
   all ts = all_behind number_in (Ok []) ts
 
-  none_told : Tells {A = List ℕ} (Ok []) ⊤ ⊤ ⊤
-  none_told = record { form = λ _. tt; formed = λ _ h. cc; within = λ _ _. tt; right_so = λ _ _ h. cc; there = λ _ _ _ h. cc }
-
   all_told : (ts : List (List ℕ)) → Tells (all ts) (AllByRecursion IsNumeral ts) (AllByRecursion IsInRange ts) ⊤
-  all_told ts = tells_as (all ts) (tells_all ts ⊤ ⊤ (Ok []) none_told) (λ f. f.1) (λ f. (tt, f)) (λ r. r.1) (λ r. (tt, r)) (λ _ _ t. t)
+  all_told ts = tells_all number_in IsNumeral IsInRange tells_number ts
 
   -- where the numbers were read, whether they ascend is what is left
   rise_told : (ts : List (List ℕ)) (x : Result (List ℕ) Flaw) → all ts ≡ x → Tells (right (rise 0 k) x) (AllByRecursion IsNumeral ts) (AllByRecursion IsInRange ts × (rise 0 k (map (digits_value 10) ts) ≡ true)) ⊤
@@ -101,6 +96,9 @@ module _ (k : ℕ) where
     by false is =
         let other = λ (f : IsFormedAfter (word ∷ t ∷ more)). let yes = (bytes_eq-Decides word (codes "after")).1 f.0 in not_both_ways (bytes_eq word (codes "after")) is yes in
         record { form = λ h. absurd (h refl); formed = λ f. absurd (other f); within = λ h. absurd (h refl); right_so = λ f. absurd (other f); there = λ f. absurd (other f) }
+
+pub numeral_printed : (t : List ℕ) → IsNumeral t → printed t ≡ true
+numeral_printed t is = printed_digits t (and_parts (starts_number t) (all_ascii_digits t) is).1
 
 -- ---- the action
 
@@ -162,9 +160,6 @@ module _ (u : Universe) (earlier : List Action) where
   row_of_words number (bind_of r z y) after = refl
   row_of_words number (unbind_of r z y) after = refl
   row_of_words number (move_of z p q) after = refl
-
-  numeral_printed : (t : List ℕ) → IsNumeral t → printed t ≡ true
-  numeral_printed t is = printed_digits t (and_parts (starts_number t) (all_ascii_digits t) is).1
 
   numerals_printed : (ts : List (List ℕ)) → AllByRecursion IsNumeral ts → list_all printed ts ≡ true
   numerals_printed [] are = refl

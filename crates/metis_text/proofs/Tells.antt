@@ -1,11 +1,11 @@
 -- When the parts of a line are told to be wrong.
 --     Tells x F R T      no form is told where F holds, and then no number where R does, and then no name where T does
-use Rattle.std.proofs.Common.{◌≡◌, ◌≢◌, ◌⊎◌, ℕ, ◌<◌, ◌^◌, Bool, true, false, List, [], ◌∷◌, ◌++◌, Option, Some, None, Result, Ok, Err, refl, sym, ap, ◌∙◌, subst, inl, inr}
+use Rattle.std.proofs.Common.{◌≡◌, ◌≢◌, ℕ, ◌<◌, ◌^◌, Bool, true, false, List, [], ◌∷◌, ◌++◌, Option, Some, None, Result, Ok, Err, refl, sym, ap, ◌∙◌, subst, inl, inr}
 use Rattle.std.specs.Prelude.{⊤}
 use Rattle.std.specs.Bool.{if◌then◌else◌, nat_lt, ◌==◌}
 use Rattle.std.specs.List.{AllByRecursion}
 use Rattle.std.specs.Str.Parse.{digits_value}
-use Rattle.std.proofs.lemmas.Bool.{eq-eqb, eqb-true, lt-ltb, ltb-true}
+use Rattle.std.proofs.lemmas.Bool.{eq-eqb, eqb-true, ltb-true}
 use Rattle.metis_tokens.specs.Flaws.{all_behind, behind, both, found, made, right}
 use Rattle.metis_tokens.specs.Tokens.{due, in_range, is_number, named, number_in}
 use Rattle.metis_tokens.specs.declared.flaw.Flaw.{Flaw}
@@ -134,15 +134,15 @@ tells_due k t =
 -- ---- names
 
 module _ {A : Type 0} (find : List ℕ → Option A) where
-  found_form : (o : Option A) → found o ≢ Err Form
+  pub found_form : (o : Option A) → found o ≢ Err Form
   found_form None h = cc
   found_form (Some a) h = cc
 
-  found_number : (o : Option A) → found o ≢ Err Number
+  pub found_number : (o : Option A) → found o ≢ Err Number
   found_number None h = cc
   found_number (Some a) h = cc
 
-  found_there : (o : Option A) → o ≢ None → found o ≢ Err Name
+  pub found_there : (o : Option A) → o ≢ None → found o ≢ Err Name
   found_there None some h = some refl
   found_there (Some a) some h = cc
 
@@ -156,19 +156,27 @@ module _ {A : Type 0} (find : List ℕ → Option A) where
         there = λ is _ some h. found_there (find t) some (sym (looked is) ∙ h);
       }
 
--- ---- all numbers of a list
+-- ---- all things of a list
 
-behind_both : (x : Result (List ℕ) Flaw) (y : Result ℕ Flaw) → behind x y ≡ made (λ p. p.0 ++ p.1 ∷ []) (both x y)
+behind_both : {A : Type 0} (x : Result (List A) Flaw) (y : Result A Flaw) → behind x y ≡ made (λ p. p.0 ++ p.1 ∷ []) (both x y)
 behind_both (Ok xs) (Ok y) = refl
 behind_both (Ok xs) (Err g) = refl
 behind_both (Err f) (Ok y) = refl
 behind_both (Err f) (Err g) = refl
 
-pub tells_all : (ts : List (List ℕ)) (F R : Type 0) (x : Result (List ℕ) Flaw) → Tells x F R ⊤ → Tells (all_behind number_in x ts) (F × AllByRecursion IsNumeral ts) (R × AllByRecursion IsInRange ts) ⊤
-tells_all [] F R x one = tells_as x one (λ f. (f, tt)) (λ f. f.0) (λ r. (r, tt)) (λ r. r.0) (λ _ _ t. t)
-tells_all (t ∷ ts) F R x one =
-    let next : Tells (both x (number_in t)) (F × IsNumeral t) (R × IsInRange t) ⊤ = tells_as (both x (number_in t)) (tells_both x (number_in t) one (tells_number t)) (λ f. f) (λ f. f) (λ r. r) (λ r. r) (λ _ _ _. (tt, tt)) in
-    let pushed : Tells (behind x (number_in t)) (F × IsNumeral t) (R × IsInRange t) ⊤ =
-    subst (λ (r : Result (List ℕ) Flaw). Tells r (F × IsNumeral t) (R × IsInRange t) ⊤) (sym (behind_both x (number_in t))) (tells_made (λ p. p.0 ++ p.1 ∷ []) (both x (number_in t)) next) in
-    tells_as (all_behind number_in (behind x (number_in t)) ts) (tells_all ts (F × IsNumeral t) (R × IsInRange t) (behind x (number_in t)) pushed)
-    (λ f. (f.0.0, (f.0.1, f.1))) (λ f. ((f.0, f.1.0), f.1.1)) (λ r. (r.0.0, (r.0.1, r.1))) (λ r. ((r.0, r.1.0), r.1.1)) (λ _ _ t. t)
+module _ {A : Type 0} (read : List ℕ → Result A Flaw) (N S : List ℕ → Type 0) (each : (t : List ℕ) → Tells (read t) (N t) (S t) ⊤) where
+  tells_more : (ts : List (List ℕ)) (F R : Type 0) (x : Result (List A) Flaw) → Tells x F R ⊤ → Tells (all_behind read x ts) (F × AllByRecursion N ts) (R × AllByRecursion S ts) ⊤
+  tells_more [] F R x one = tells_as x one (λ f. (f, tt)) (λ f. f.0) (λ r. (r, tt)) (λ r. r.0) (λ _ _ t. t)
+  tells_more (t ∷ ts) F R x one =
+      let next : Tells (both x (read t)) (F × N t) (R × S t) ⊤ = tells_as (both x (read t)) (tells_both x (read t) one (each t)) (λ f. f) (λ f. f) (λ r. r) (λ r. r) (λ _ _ _. (tt, tt)) in
+      let pushed : Tells (behind x (read t)) (F × N t) (R × S t) ⊤ =
+      subst (λ (r : Result (List A) Flaw). Tells r (F × N t) (R × S t) ⊤) (sym (behind_both x (read t))) (tells_made (λ p. p.0 ++ p.1 ∷ []) (both x (read t)) next) in
+      tells_as (all_behind read (behind x (read t)) ts) (tells_more ts (F × N t) (R × S t) (behind x (read t)) pushed)
+      (λ f. (f.0.0, (f.0.1, f.1))) (λ f. ((f.0, f.1.0), f.1.1)) (λ r. (r.0.0, (r.0.1, r.1))) (λ r. ((r.0, r.1.0), r.1.1)) (λ _ _ t. t)
+
+  none_told : Tells {A = List A} (Ok []) ⊤ ⊤ ⊤
+  none_told = record { form = λ _. tt; formed = λ _ h. cc; within = λ _ _. tt; right_so = λ _ _ h. cc; there = λ _ _ _ h. cc }
+
+  -- all things that the tokens are
+  pub tells_all : (ts : List (List ℕ)) → Tells (all_behind read (Ok []) ts) (AllByRecursion N ts) (AllByRecursion S ts) ⊤
+  tells_all ts = tells_as (all_behind read (Ok []) ts) (tells_more ts ⊤ ⊤ (Ok []) none_told) (λ f. f.1) (λ f. (tt, f)) (λ r. r.1) (λ r. (tt, r)) (λ _ _ t. t)

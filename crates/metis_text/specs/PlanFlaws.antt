@@ -4,12 +4,15 @@
 --     ActionWords, row_words number a after      an action as it is written;  a line with this number, action, and words of its list
 --     IsFormedRow, IsRowWithin, AreNamesThere      these are numbers and names;  the numbers may stand there;  the names are there
 --     IsRowFlaw u earlier line f      what is wrong with the line of the action behind these
+--     dup_words number word events      a dup's line with this number, word and events
+--     IsFormedDup, IsDupWithin, IsPairThere      these are numbers, two names and events;  the numbers may stand there;  the pair is there
+--     IsDupFlaw u k line f      what is wrong with the line of dup number k
 --     PlanDue, HasPlanFlaw u due line f      which line is due;  where that one is due, this one has the flaw
 --     begun_plan u p after actions dups      the lines of a plan with lists so far, where the second line says that it has so many actions and dups
 --     IsPlanBegun u lines due      the lines are the beginning of a text, and this one is due behind them
 --     HasPlanFault u bytes f      nothing but a piece without a line feed stands behind a beginning, or the line that is due has a flaw, or more stands behind the text, or the instances are not counted
-use Rattle.std.specs.Prelude.{◌≡◌, ◌≢◌, ◌<◌, ◌^◌, ◌+◌, ℕ, List, [], ◌∷◌, ◌++◌, Err, IsTrue, None, codes, length, map, ⊤}
-use Rattle.std.specs.List.{AllByRecursion}
+use Rattle.std.specs.Prelude.{◌≡◌, ◌≢◌, ◌⊎◌, ◌<◌, ◌^◌, ◌+◌, ℕ, List, [], ◌∷◌, ◌++◌, IsTrue, None, codes, length, map, ⊤}
+use Rattle.std.specs.List.{AllByRecursion, after_first, before_first}
 use Rattle.std.specs.Option.{option_and_then}
 use Rattle.std.specs.Str.Parse.{digits_value}
 use Rattle.metis_ids.specs.Plans.{Plan}
@@ -20,11 +23,12 @@ use Rattle.metis_tokens.specs.declared.fault.TFault.{TFault}
 use Rattle.metis_tokens.specs.declared.flaw.Flaw.{Flaw}
 use Rattle.metis_tokens.specs.declared.flaw.Flaw.TheVariants.{Form, Number, Name}
 use Rattle.metis_universe.specs.Names.{is_name}
-use Rattle.metis_universe.specs.Universe.{Universe, port_named, state_named, type_named}
+use Rattle.metis_universe.specs.Universe.{Universe, pair_named, port_named, state_named, type_named}
 use Rattle.metis_text.specs.ActionLine.{rise}
 use Rattle.metis_text.specs.DueLines.{HasEnded, IsOfDue, IsOther}
-use Rattle.metis_text.specs.DupLine.{dup_in}
+use Rattle.metis_text.specs.DupLine.{is_point}
 use Rattle.metis_text.specs.Faults.{IsMiscounted, IsPastEnd, IsWellFormedButCount}
+use Rattle.metis_text.specs.RefusalFlaws.{AreTwoNames}
 use Rattle.metis_text.specs.PlanText.{action_lines, counts_line, dup_lines, last_kind, plan_header}
 
 abbrev pub counts_with : List ℕ → List ℕ → List ℕ → List ℕ
@@ -120,6 +124,39 @@ IsRowFlaw u earlier line Form = (number : List ℕ) (a : ActionWords) (after : L
 IsRowFlaw u earlier line Number = (number : List ℕ) × (a : ActionWords) × (after : List (List ℕ)) × IsFormedRow number a after × (line ≡ row_words number a after) × (IsRowWithin (length earlier + 1) number a after → ⊥)
 IsRowFlaw u earlier line Name = (number : List ℕ) × (a : ActionWords) × (after : List (List ℕ)) × IsFormedRow number a after × (line ≡ row_words number a after) × IsRowWithin (length earlier + 1) number a after × (AreNamesThere u earlier a → ⊥)
 
+-- ---- the line of a dup
+
+-- `end`, or two numbers with a point between them
+abbrev pub IsFormedEvent : List ℕ → Type 0
+IsFormedEvent t = (t ≡ codes "end") ⊎ (IsNumeral (before_first is_point t) × IsNumeral (after_first is_point t))
+
+abbrev pub IsEventWithin : List ℕ → Type 0
+IsEventWithin t = t ≢ codes "end" → IsInRange (before_first is_point t) × IsInRange (after_first is_point t)
+
+-- two or more
+abbrev pub AreFormedEvents : List (List ℕ) → Type 0
+AreFormedEvents [] = ⊥
+AreFormedEvents (first ∷ []) = ⊥
+AreFormedEvents (first ∷ second ∷ more) = AllByRecursion IsFormedEvent (first ∷ second ∷ more)
+
+abbrev pub dup_words : List ℕ → List ℕ → List (List ℕ) → List ℕ
+dup_words number word events = words (codes "dup" ∷ number ∷ word ∷ codes "cycle" ∷ events)
+
+abbrev pub IsFormedDup : List ℕ → List ℕ → List (List ℕ) → Type 0
+IsFormedDup number word events = IsNumeral number × (AreTwoNames word × AreFormedEvents events)
+
+abbrev pub IsDupWithin : ℕ → List ℕ → List (List ℕ) → Type 0
+IsDupWithin k number events = ((digits_value 10 number ≡ k) × (k < 2 ^ 32)) × AllByRecursion IsEventWithin events
+
+abbrev pub IsPairThere : Universe → List ℕ → Type 0
+IsPairThere u word = (two : AreTwoNames word) → pair_named u two.kind two.name ≢ None
+
+-- the line has no such words, or one of its numbers is wrong, or else its pair is not there
+abbrev pub IsDupFlaw : Universe → ℕ → List ℕ → Flaw → Type 0
+IsDupFlaw u k line Form = (number word : List ℕ) (events : List (List ℕ)) → IsFormedDup number word events → line ≢ dup_words number word events
+IsDupFlaw u k line Number = (number : List ℕ) × (word : List ℕ) × (events : List (List ℕ)) × IsFormedDup number word events × (line ≡ dup_words number word events) × (IsDupWithin k number events → ⊥)
+IsDupFlaw u k line Name = (number : List ℕ) × (word : List ℕ) × (events : List (List ℕ)) × IsFormedDup number word events × (line ≡ dup_words number word events) × IsDupWithin k number events × (IsPairThere u word → ⊥)
+
 -- ---- which line is due
 
 pub data PlanDue : Type 0 where
@@ -133,7 +170,7 @@ abbrev pub HasPlanFlaw : Universe → PlanDue → List ℕ → Flaw → Type 0
 HasPlanFlaw u first_line line f = IsOther (codes "metis plan 1") line f
 HasPlanFlaw u second_line line f = IsCountsFlaw line f
 HasPlanFlaw u (next_action earlier) line f = IsRowFlaw u earlier line f
-HasPlanFlaw u (next_dup k) line f = dup_in u k line ≡ Err f
+HasPlanFlaw u (next_dup k) line f = IsDupFlaw u k line f
 HasPlanFlaw u last_line line f = IsOther (codes "end") line f
 
 abbrev pub begun_plan : Universe → Plan → List (List ℕ) → ℕ → ℕ → List (List ℕ)
