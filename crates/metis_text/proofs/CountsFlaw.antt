@@ -1,8 +1,7 @@
 -- What is wrong with the second line of a plan that cannot be read.
-use Rattle.std.proofs.Common.{◌≡◌, ◌≢◌, ◌⊎◌, ℕ, ◌<◌, ◌≤◌, ◌^◌, ◌&&◌, Bool, true, false, List, [], ◌∷◌, Result, Ok, Err, refl, sym, ap, ◌∙◌, inl, inr}
+use Rattle.std.proofs.Common.{◌≡◌, ◌≢◌, ◌⊎◌, ℕ, ◌<◌, ◌^◌, ◌&&◌, Bool, true, false, List, [], ◌∷◌, Result, Ok, Err, refl, sym, ap, ◌∙◌, inl, inr}
 use Rattle.std.specs.Prelude.{codes}
 use Rattle.std.specs.Bool.{if◌then◌else◌, nat_lt}
-use Rattle.std.specs.List.{list_all}
 use Rattle.std.specs.Str.{all_ascii_digits, bytes_eq}
 use Rattle.std.specs.Str.Parse.{digits_value}
 use Rattle.std.proofs.lemmas.Bool.{and_from, and_parts, lt-ltb}
@@ -28,7 +27,7 @@ graver_one Number Name = inl refl
 graver_one Name h = inr refl
 
 -- the flaw that is told is that of a part
-both_fails : {A B : Type 0} (x : Result A Flaw) (y : Result B Flaw) (f : Flaw) → both x y ≡ Err f → (x ≡ Err f) ⊎ (y ≡ Err f)
+pub both_fails : {A B : Type 0} (x : Result A Flaw) (y : Result B Flaw) (f : Flaw) → both x y ≡ Err f → (x ≡ Err f) ⊎ (y ≡ Err f)
 both_fails (Ok a) (Ok b) f h = cc
 both_fails (Ok a) (Err g) f h = inr (cc)
 both_fails (Err g) (Ok b) f h = inl (cc)
@@ -40,11 +39,11 @@ graver_last Number = refl
 graver_last Name = refl
 
 -- a form that is wrong is told before all
-form_first : {A B : Type 0} (x : Result A Flaw) (y : Result B Flaw) → x ≡ Err Form → both x y ≡ Err Form
+pub form_first : {A B : Type 0} (x : Result A Flaw) (y : Result B Flaw) → x ≡ Err Form → both x y ≡ Err Form
 form_first x (Ok b) h = ap (λ x. both x (Ok b)) h
 form_first x (Err g) h = ap (λ x. both x (Err g)) h
 
-form_second : {A B : Type 0} (x : Result A Flaw) (y : Result B Flaw) → y ≡ Err Form → both x y ≡ Err Form
+pub form_second : {A B : Type 0} (x : Result A Flaw) (y : Result B Flaw) → y ≡ Err Form → both x y ≡ Err Form
 form_second (Ok a) y h = ap (both (Ok a)) h
 form_second (Err g) y h = ap (both (Err g)) h ∙ ap Err (graver_last g)
 
@@ -53,17 +52,17 @@ form_second (Err g) y h = ap (both (Err g)) h ∙ ap Err (graver_last g)
 number_range : (n : ℕ) → n < 2 ^ 32 → in_range n ≡ Ok n
 number_range n low = ap (λ b. if◌then◌else◌ {A = Result ℕ Flaw} b (Ok n) (Err Number)) (lt-ltb n (2 ^ 32) low)
 
-number_right : (t : List ℕ) → is_number t ≡ true → digits_value 10 t < 2 ^ 32 → number_in t ≡ Ok (digits_value 10 t)
+pub number_right : (t : List ℕ) → is_number t ≡ true → digits_value 10 t < 2 ^ 32 → number_in t ≡ Ok (digits_value 10 t)
 number_right t is low = ap (λ b. if◌then◌else◌ {A = Result ℕ Flaw} b (in_range (digits_value 10 t)) (Err Form)) is ∙ number_range (digits_value 10 t) low
 
-number_form : (t : List ℕ) → number_in t ≢ Err Form → is_number t ≡ true
+pub number_form : (t : List ℕ) → number_in t ≢ Err Form → is_number t ≡ true
 number_form t formed = elim (is_number t) as (λ b. if◌then◌else◌ {A = Result ℕ Flaw} b (in_range (digits_value 10 t)) (Err Form) ≢ Err Form → b ≡ true) [ true ↦ λ _. refl | false ↦ λ wrong. absurd (wrong refl) ] formed
 
 range_nameless : (n : ℕ) (b : Bool) → if◌then◌else◌ {A = Result ℕ Flaw} b (Ok n) (Err Number) ≢ Err Name
 range_nameless n true h = cc
 range_nameless n false h = cc
 
-number_nameless : (t : List ℕ) → number_in t ≢ Err Name
+pub number_nameless : (t : List ℕ) → number_in t ≢ Err Name
 number_nameless t = elim (is_number t) as (λ b. if◌then◌else◌ {A = Result ℕ Flaw} b (in_range (digits_value 10 t)) (Err Form) ≢ Err Name) [ true ↦ range_nameless (digits_value 10 t) (nat_lt (digits_value 10 t) (2 ^ 32)) | false ↦ λ h. cc ]
 
 -- ---- three numbers

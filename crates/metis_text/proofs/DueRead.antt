@@ -1,27 +1,21 @@
 -- The fault of a text of which one line after another is due stands behind lines that begin one.
 --     IsLeft bytes lines l      these lines were read, and this is left
 --     Stopped bytes f      the bytes end too early, or the line that is due has a flaw
-use Rattle.std.proofs.Common.{◌≡◌, ◌≢◌, ◌⊎◌, ℕ, zero, suc, ◌+◌, ◌<◌, ◌≤◌, ◌^◌, not, true, false, Bool, List, [], ◌∷◌, ◌++◌, length, map, Result, Ok, Err, refl, sym, ap, ◌∙◌, subst, append_assoc, append-nil, arith, inl, inr}
+use Rattle.std.proofs.Common.{◌≡◌, ◌≢◌, ◌⊎◌, ℕ, ◌+◌, not, true, List, [], ◌∷◌, ◌++◌, length, Result, Ok, Err, sym, ap, ◌∙◌, append_assoc, append-nil, arith, inl, inr}
 use Rattle.std.specs.Prelude.{codes}
-use Rattle.std.specs.Bool.{◌==◌, if◌then◌else◌}
-use Rattle.std.specs.List.{All}
-use Rattle.std.specs.List.Sorted.{IsStrictlyIncreasing}
+use Rattle.std.specs.Bool.{◌==◌}
 use Rattle.std.proofs.lemmas.Bool.{both_ways, eq-eqb}
 use Rattle.std.proofs.lemmas.Bool.Decides.{nat_tests}
-use Rattle.std.proofs.lemmas.List.{length-append, length-map, length_push, map-append}
-use Rattle.std.proofs.lemmas.List.Elements.{All-nil, All-weaker}
+use Rattle.std.proofs.lemmas.List.{length_push}
+use Rattle.std.proofs.lemmas.List.Elements.{All-weaker}
 use Rattle.std.proofs.lemmas.List.Folds.{concat-append}
 use Rattle.std.proofs.lemmas.List.Sums.{AllPass-from_list_all}
 use Rattle.metis_outside.proofs.Feeds.{no_feed}
 use Rattle.metis_outside.specs.Pieces.{bytes_of}
-use Rattle.metis_tokens.proofs.LinesTaken.{read_next_is, read_next_number}
-use Rattle.metis_tokens.proofs.Outcomes.{and_then_is}
-use Rattle.metis_tokens.proofs.Readers.{Flawed, read_fails}
-use Rattle.metis_tokens.specs.Cursor.{Lines, ended, exactly, fault_at, lines_of, read_next}
-use Rattle.metis_tokens.specs.Flaws.{and_then}
-use Rattle.metis_tokens.specs.Line.{end_line, words}
+use Rattle.metis_tokens.proofs.LinesTaken.{read_next_number}
+use Rattle.metis_tokens.proofs.Readers.{read_fails}
+use Rattle.metis_tokens.specs.Cursor.{Lines, fault_at, read_next}
 use Rattle.metis_tokens.specs.declared.fault.TFault.{TFault}
-use Rattle.metis_tokens.specs.declared.fault.TFault.TheVariants.{Line}
 use Rattle.metis_tokens.specs.declared.flaw.Flaw.{Flaw}
 use Rattle.metis_text.specs.DueLines.{HasEnded, IsOfDue, NoFeed}
 

@@ -1,23 +1,15 @@
 -- The fault of a text of a refusal stands behind lines that are the beginning of one.
-use Rattle.std.proofs.Common.{◌≡◌, ◌≢◌, ◌⊎◌, ℕ, zero, suc, ◌+◌, ◌<◌, ◌≤◌, ◌^◌, not, true, false, Bool, List, [], ◌∷◌, ◌++◌, length, map, Result, Ok, Err, refl, sym, ap, ◌∙◌, subst, append_assoc, append-nil, arith, inl, inr}
+use Rattle.std.proofs.Common.{◌≡◌, ℕ, zero, suc, ◌+◌, ◌<◌, ◌≤◌, ◌^◌, true, false, Bool, List, [], ◌∷◌, ◌++◌, length, Result, Ok, Err, refl, sym, ap, ◌∙◌, subst, append_assoc, append-nil, arith, inl, inr}
 use Rattle.std.specs.Prelude.{codes}
 use Rattle.std.specs.Bool.{◌==◌, if◌then◌else◌}
-use Rattle.std.specs.List.{All}
-use Rattle.std.specs.List.Sorted.{IsStrictlyIncreasing}
-use Rattle.std.proofs.lemmas.Bool.{both_ways, eq-eqb}
 use Rattle.std.proofs.lemmas.Bool.Decides.{nat_tests}
-use Rattle.std.proofs.lemmas.List.{length-append, length-map, length_push, map-append}
-use Rattle.std.proofs.lemmas.List.Elements.{All-nil, All-weaker}
-use Rattle.std.proofs.lemmas.List.Folds.{concat-append}
-use Rattle.std.proofs.lemmas.List.Sums.{AllPass-from_list_all}
+use Rattle.std.proofs.lemmas.List.{length_push, map-append}
 use Rattle.metis_ids.specs.declared.goals.Goal.{Goal}
-use Rattle.metis_outside.proofs.Feeds.{no_feed}
-use Rattle.metis_outside.specs.Pieces.{bytes_of}
 use Rattle.metis_tokens.proofs.KnownLines.{exactly_is}
-use Rattle.metis_tokens.proofs.LinesTaken.{read_next_is, read_next_number}
+use Rattle.metis_tokens.proofs.LinesTaken.{read_next_is}
 use Rattle.metis_tokens.proofs.Outcomes.{and_then_is}
 use Rattle.metis_tokens.proofs.Readers.{and_then_wrong}
-use Rattle.metis_tokens.specs.Cursor.{Lines, ended, exactly, fault_at, lines_of, read_next}
+use Rattle.metis_tokens.specs.Cursor.{Lines, ended, exactly, lines_of, read_next}
 use Rattle.metis_tokens.specs.Flaws.{and_then}
 use Rattle.metis_tokens.specs.Line.{end_line, words}
 use Rattle.metis_tokens.specs.declared.fault.TFault.{TFault}
@@ -26,16 +18,15 @@ use Rattle.metis_tokens.specs.declared.flaw.Flaw.{Flaw}
 use Rattle.metis_universe.specs.GoalWords.{IsWordable}
 use Rattle.metis_universe.specs.Universe.{IsTable, Universe, pair_count}
 use Rattle.metis_text.proofs.LineFlaws.{exactly_fails, lacks_fails, pair_fails, size_fails}
-use Rattle.metis_text.proofs.PairsRead.{ArePairs, pairs_are}
+use Rattle.metis_text.proofs.PairsRead.{ArePairs}
 use Rattle.metis_text.proofs.RefusalLines.{lacks_is, lacks_tokens, next_pair_is, size_is, size_tokens}
 use Rattle.metis_text.proofs.RefusalSets.{pairs_ascend}
 use Rattle.metis_text.proofs.DueRead.{IsLeft, one_more, stops}
 use Rattle.metis_text.specs.DueLines.{IfFault}
-use Rattle.metis_text.specs.Faults.{IsPastRefusal}
 use Rattle.metis_text.specs.RefusalFlaws.{AreBegun, Due, HasFlaw, HasRefusalFault, IsBegun, begun_lines, first_line, goal_line, last_line, next_pair, of_line, past_end, size_line, too_short, with_all, with_first, with_goal, with_none, with_pairs}
 use Rattle.metis_text.specs.RefusalReading.{ReadsRefusal, above, lacks_in, next_pair_in, pairs_from, refusal_end_from, refusal_in, refusal_parts, refusal_set_from, size_in}
 use Rattle.metis_text.specs.declared.refusal_text.Refusal.{Refusal}
-use Rattle.metis_text.specs.RefusalText.{lacks_line, pair_line, pairs_line, refusal_bytes, refusal_header, refusal_lines}
+use Rattle.metis_text.specs.RefusalText.{lacks_line, pair_line, pairs_line, refusal_header}
 
 module _ (u : Universe) (bytes : List ℕ) (f : TFault) where
   stop : {A : Type 0} (read : List ℕ → Result A Flaw) (due : Due) (lines : List (List ℕ)) (l : Lines) → IsBegun u lines due → IsLeft bytes lines l

@@ -5,6 +5,7 @@ pub mod AfterTokens
 pub mod Ascends
 pub mod CountsFlaw
 pub mod DueRead
+pub mod DupFlaws
 pub mod DupLine
 pub mod DupPlaces
 pub mod DupWords
@@ -33,6 +34,8 @@ pub mod RowsRead
 pub mod RunLists
 pub mod RunMoves
 pub mod Shapes
+pub mod RowFlaws
+pub mod Tells
 pub mod TextBytes
 pub mod WaitRows
 pub mod WholeLines

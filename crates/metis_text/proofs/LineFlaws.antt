@@ -1,5 +1,5 @@
 -- What is wrong with a line of a refusal that cannot be read.
-use Rattle.std.proofs.Common.{◌≡◌, ◌≢◌, ◌⊎◌, ℕ, ◌<◌, ◌≤◌, ◌^◌, ◌&&◌, Bool, true, false, List, [], ◌∷◌, ◌++◌, Option, Some, None, Result, Ok, Err, refl, sym, ap, ◌∙◌, subst, arith, inl, inr}
+use Rattle.std.proofs.Common.{◌≡◌, ◌≢◌, ◌⊎◌, ℕ, ◌<◌, ◌≤◌, ◌^◌, ◌&&◌, Bool, true, false, List, [], ◌∷◌, Option, Some, None, Result, Ok, Err, refl, sym, ap, ◌∙◌, subst, inl, inr}
 use Rattle.std.specs.Prelude.{codes}
 use Rattle.std.specs.Bool.{if◌then◌else◌, nat_lt}
 use Rattle.std.specs.List.{All, after_first, before_first, list_all}
@@ -41,7 +41,7 @@ exactly_fails bytes line f h = elim (bytes_eq line bytes) as (λ b. bytes_eq lin
 
 -- ---- words of two names
 
-two_printed : (word : List ℕ) (two : AreTwoNames word) → list_all (nat_lt 32) word ≡ true
+pub two_printed : (word : List ℕ) (two : AreTwoNames word) → list_all (nat_lt 32) word ≡ true
 two_printed word two = ap (list_all (nat_lt 32)) two.text ∙ word_printed two.kind two.name two.first two.second
 
 module _ {A : Type 0} (find : List ℕ → List ℕ → Option A) where
@@ -49,7 +49,7 @@ module _ {A : Type 0} (find : List ℕ → List ℕ → Option A) where
   found_flaw None f h = cc
   found_flaw (Some a) f h = cc
 
-  two_found : (word : List ℕ) (two : AreTwoNames word) → of_names find (pair_names word) ≡ found (find two.kind two.name)
+  pub two_found : (word : List ℕ) (two : AreTwoNames word) → of_names find (pair_names word) ≡ found (find two.kind two.name)
   two_found word two = ap (λ w. of_names find (pair_names w)) two.text ∙ word_found find two.kind two.name two.first two.second
 
   -- the word is no two names, or nothing is found by them

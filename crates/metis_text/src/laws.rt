@@ -51,8 +51,9 @@ pub fn told_fault_is_one()
 {}
 
 /// Each fault that is told of a plan is the one that the bytes have by the lines before it and by its own line. The lines before
-/// are the beginning of a text, and its own line is not the one that is due behind them. `Short` is told of the beginning of a
-/// text and a piece without its line feed alone.
+/// are the beginning of a text, and its own line is not the one that is due behind them. It has not the form of that one. Or it
+/// has, and a number in it is wrong. Or none is, and a name in it is not there. `Short` is told of the beginning of a text and a
+/// piece without its line feed alone.
 pub fn told_fault_is_had()
     ensures { (u : Universe) (bytes : List ℕ) (fault : TFault) → plan_in u bytes ≡ Err fault → HasPlanFault u bytes fault }
 {}
@@ -130,9 +131,8 @@ pub fn told_refusal_fault_is_one()
     ensures { (u : Universe) (bytes : List ℕ) (fault : TFault) → refusal_in u bytes ≡ Err fault → IsRefusalFault u bytes fault }
 {}
 
-/// Each fault that is told of a refusal is the one that the bytes have by the lines before it and by its own line. Where a line
-/// has a word for a goal or a pair that is not there, this is told only if no number of the line is wrong, and a number out of
-/// range is no wrong form. `Short` is told of the beginning of a text and a piece without its line feed alone.
+/// Each fault that is told of a refusal is the one that the bytes have by the lines before it and by its own line,
+/// as `told_fault_is_had` says it of a plan's.
 pub fn told_refusal_fault_is_had()
     ensures { (u : Universe) (bytes : List ℕ) (fault : TFault) → IsTable u → refusal_in u bytes ≡ Err fault → HasRefusalFault u bytes fault }
 {}
