@@ -74,13 +74,27 @@ fn rounds(
     requires few { length targets.now ≤ 256 }
 {
     let mut lines = Lines::new(alloc, u, s, targets)?;
+    rounds_from(alloc, text, u, s, &mut lines)
+}
+
+// The rounds from these lines on.
+fn rounds_from(
+    alloc: Global,
+    text: &mut String,
+    u: &Universe,
+    s: &Support,
+    lines: &mut Lines,
+) -> Result<(), Stop>
+    requires over { IsSupport u.now s.now }
+    requires lines { AreLines u.now s.now lines.old }
+{
     for _ in 0..lines.loose() {
-        let has_cycle = write_round(alloc, text, u, s, &lines)?;
-        if !has_cycle || !double_first(alloc, text, u, s, &mut lines)? {
+        let has_cycle = write_round(alloc, text, u, s, lines)?;
+        if !has_cycle || !double_first(alloc, text, u, s, lines)? {
             return Ok(());
         }
     }
-    write_round(alloc, text, u, s, &lines)?;
+    write_round(alloc, text, u, s, lines)?;
     Ok(())
 }
 
@@ -175,13 +189,21 @@ fn counts<'a>(
     requires few { length targets.now ≤ 256 }
 {
     let lines = Lines::new(alloc, u, s, targets)?;
-    let (count, loose) = (lines.count(), lines.loose());
+    counts_of(alloc, text, &OverLines::over(u, s, &lines))
+}
+
+fn counts_of(alloc: Global, text: &mut String, over: &OverLines<'_>) -> Result<(), Stop> {
+    let (count, loose) = (over.count(), over.lines().loose());
     write!(text, "lines {count} loose {loose}\n")?;
-    let over = OverLines::over(u, s, &lines);
-    let graph = EventGraph::of(alloc, &over)?;
-    let (events, edges) = (graph.nodes(), count_edges(&graph, graph.nodes()));
+    let graph = EventGraph::of(alloc, over)?;
+    graph_counts(alloc, text, &graph)
+}
+
+fn graph_counts(alloc: Global, text: &mut String, graph: &EventGraph) -> Result<(), Stop> {
+    let (events, edges) = (graph.nodes(), count_edges(graph, graph.nodes()));
     write!(text, "events {events} edges {edges}\n")?;
-    write_length(text, &sort(alloc, &graph)?)
+    let sorted = sort(alloc, graph)?;
+    write_length(text, &sorted)
 }
 
 fn write_length(text: &mut String, sorted: &Sorted) -> Result<(), Stop> {
