@@ -47,7 +47,8 @@ rollout_plan u old fresh = plan_of (rollout u old fresh)
 abbrev pub rollout_text : Universe → List Action → List Action → List (List ℕ)
 rollout_text u old fresh = plan_text u (rollout_plan u old fresh)
 
--- It is a steadfast run too, and ends in exactly what the fresh plan leaves, under its new numbers, and so with every one of the pairs.
+-- It is a steadfast run too, and ends in exactly what the fresh plan leaves, under its new numbers, and so with every one of the pairs. For
+-- no pairs nothing is left.
 pub record RollsOutPairs (u : Universe) (old : List Action) (g : List ℕ) (lines : List (List ℕ)) : Type 0 where
   pub attains : Attains u g
   pub fresh : Plan
@@ -55,18 +56,20 @@ pub record RollsOutPairs (u : Universe) (old : List Action) (g : List ℕ) (line
   pub steady : IsSteadfastRun u (rollout u old fresh.actions)
   pub ends : after_all u empty (rollout u old fresh.actions) ≡ after_all u empty (renumbered old fresh.actions)
   pub holds : Holds (after_all u empty (rollout u old fresh.actions)) g
+  pub none : g ≡ [] → after_all u empty (rollout u old fresh.actions) ≡ empty
   pub told : lines ≡ rollout_text u old fresh.actions
 
 abbrev pub PutsRolloutTo : Universe → List Action → List ℕ → List (List ℕ) → Status → Type 0
 PutsRolloutTo u old g lines status = (status ≡ Done) × RollsOutPairs u old g lines
 
--- So it ends with every one of the goals.
+-- So it ends with every one of the goals, and for no goals nothing is left.
 pub record RollsOut (u : Universe) (goals : List Goal) (old : List Action) (lines : List (List ℕ)) : Type 0 where
   pub attains : AttainsGoals u goals
   pub pairs : List ℕ
   pub resolved : ArePairsFor u goals pairs
   pub for_pairs : RollsOutPairs u old pairs lines
   pub holds : HoldsGoals u (after_all u empty (rollout u old for_pairs.fresh.actions)) goals
+  pub none : goals ≡ [] → after_all u empty (rollout u old for_pairs.fresh.actions) ≡ empty
 
 abbrev pub RolloutAnswer : Universe → List Goal → List Action → List (List ℕ) → Status → Type 0
 RolloutAnswer u goals old lines status = ((status ≡ Done) × RollsOut u goals old lines) ⊎ ((status ≡ No) × Refuses u goals lines)

@@ -28,8 +28,8 @@ use metis_ids::{Action, Goal, NoMemory, PairIx, Plan};
 use metis_layers::table::Layers;
 use metis_output::{Status, said};
 use metis_outside::{Sink, Trouble};
-use metis_planner::plan_over;
-use metis_rollout::{rollout, rollout_replaces};
+use metis_planner::{nothing_is_done_for_no_targets, plan_over};
+use metis_rollout::{rollout, rollout_replaces, teardown_leaves_nothing};
 use metis_text::write_refusal;
 use metis_universe::Universe;
 use metis_waits::{Judged, WFault};
@@ -137,6 +137,8 @@ fn put_rollout_to<K: Sink>(
 {
     u.keeps_invariant();
     rollout_replaces();
+    teardown_leaves_nothing();
+    nothing_is_done_for_no_targets();
     match plan_over(alloc, u, layers, pairs) {
         Ok(fresh) => said(
             write_rollout(alloc, u, layers, old, &fresh.actions, out),

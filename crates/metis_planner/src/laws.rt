@@ -15,3 +15,8 @@ pub fn rounds_come_to_one_plan()
 pub fn nothing_is_doubled_without_a_cycle()
     ensures { (u : Universe) (g : List ℕ) (p : Plan) → IsByRounds u g p → (HasCycle (numbered (graph_for u g [])) → ⊥) → p.dups ≡ [] }
 {}
+
+/// For no targets rounds come to the plan that does nothing.
+pub fn nothing_is_done_for_no_targets()
+    ensures { (u : Universe) (p : Plan) → IsByRounds u [] p → (p.actions ≡ []) × (p.dups ≡ []) × (p.instances ≡ 0) }
+{}

@@ -1,11 +1,21 @@
-use Rattle.std.proofs.Common.{arith, inl, inr, refl}
+use Rattle.std.proofs.Common.{◌≡◌, ℕ, List, [], ◌∷◌, arith, inl, inr, refl}
+use Rattle.metis_choice.specs.Resolutions.{ArePairsFor}
+use Rattle.metis_ids.specs.declared.goals.Goal.{Goal}
 use Rattle.metis_rollout.specs.Rollout.{rollout}
 use Rattle.metis_universe.proofs.Served.{goals_refused}
 use Rattle.metis_universe.specs.Config.{empty}
 use Rattle.metis_universe.specs.Step.{after_all}
+use Rattle.metis_universe.specs.Universe.{Universe}
 use Rattle.metis_output.proofs.Shown.{shown_by_writer, shown_weaker}
 use Rattle.metis_answer.specs.RolledOut.{PutsRolloutTo, RolloutAnswer}
 use Rattle.metis_answer.proofs.rollout.put_goals.Goals as goal
+
+no_pairs : (u : Universe) (goals : List Goal) (pairs : List ℕ) → ArePairsFor u goals pairs → goals ≡ [] → pairs ≡ []
+no_pairs u [] [] each none = refl
+no_pairs u [] (p ∷ pairs) each none = absurd each
+no_pairs u (g ∷ goals) pairs each none = absurd (some none) where
+  some : g ∷ goals ≡ [] → ⊥
+  some e = cc
 
 pub put_rollout_to-requires-clause-few : goal.put_rollout_to-requires-clause-few
 put_rollout_to-requires-clause-few g c =
@@ -26,7 +36,7 @@ returns-in-Ok-Pairs g c =
     let aim = rw c.in-Ok-Pairs.field-0-is at c.in-Ok-Pairs.ensures in
     let attains = c.pairs_for_goals_hold_them.ensures.attains u goals pairs aim.resolved aim.attained in
     shown_weaker (PutsRolloutTo u old pairs) (RolloutAnswer u goals old) _ _ _ _ _
-    (λ lines status is. inl (is.0, record { attains = attains; pairs = pairs; resolved = aim.resolved; for_pairs = is.1; holds = c.pairs_for_goals_hold_them.ensures.holds u (after_all u empty (rollout u old is.1.fresh.actions)) goals pairs aim.resolved is.1.holds })) (rw c.deref.ensures.value at c.put_rollout_to.ensures)
+    (λ lines status is. inl (is.0, record { attains = attains; pairs = pairs; resolved = aim.resolved; for_pairs = is.1; holds = c.pairs_for_goals_hold_them.ensures.holds u (after_all u empty (rollout u old is.1.fresh.actions)) goals pairs aim.resolved is.1.holds; none = λ no_goals. is.1.none (no_pairs u goals pairs aim.resolved no_goals) })) (rw c.deref.ensures.value at c.put_rollout_to.ensures)
 
 pub returns-in-Ok-Lacks : goal.returns-in-Ok-Lacks
 returns-in-Ok-Lacks g c =
