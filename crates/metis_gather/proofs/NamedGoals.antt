@@ -66,9 +66,9 @@ all_named u found place (target ∷ targets) (g ∷ goals) each =
 
 pub all_are_named : (place : ℕ) (u : Universe) (targets : List TargetName) (goals : List Goal) → goals_named place u targets ≡ Ok goals ↔ map (goal_of u) targets ≡ map Some goals
 all_are_named place u targets goals = (
-    λ h. let named = named_all u [] place targets goals h in named.each ∙ ap (map Some) (sym named.behind),
-    λ h. all_named u [] place targets goals h,
-  )
+  λ h. let named = named_all u [] place targets goals h in named.each ∙ ap (map Some) (sym named.behind),
+  λ h. all_named u [] place targets goals h,
+)
 
 -- ---- the first that means none
 

@@ -17,8 +17,8 @@ returns-in-Ok g c =
     let actions = ap (λ (p : Plan). p.actions) c.fresh.view_is in
     let steady : IsSteadfastRun u fresh.actions = found.run in
     let none : c.args.pairs.now ≡ [] → after_all u empty (rollout u old fresh.actions) ≡ empty = λ is.
-        subst (λ xs. after_all u empty (rollout u old xs) ≡ empty) (sym (c.nothing_is_done_for_no_targets.ensures u fresh (subst (λ g. IsByRounds u g fresh) is found.rounds)).0)
-        (c.teardown_leaves_nothing.ensures u old c.keeps_invariant.ensures.universe c.requires.old.steady).1 in
+    subst (λ xs. after_all u empty (rollout u old xs) ≡ empty) (sym (c.nothing_is_done_for_no_targets.ensures u fresh (subst (λ g. IsByRounds u g fresh) is found.rounds)).0)
+    (c.teardown_leaves_nothing.ensures u old c.keeps_invariant.ensures.universe c.requires.old.steady).1 in
     let done = c.rollout_replaces.ensures u old fresh.actions c.keeps_invariant.ensures.universe c.requires.old.steady steady in
     rw c.said.ensures
     (shown_by_writer _ _ _ _ _ _ _ c.write_rollout.result
