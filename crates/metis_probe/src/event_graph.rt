@@ -38,7 +38,8 @@ fn kind_word(kind: EdgeKind) -> &'static str {
     }
 }
 
-fn write_event(text: &mut String, event: &Event) -> Result<(), Stop> {
+/// Writes an event, with a space before it.
+pub fn write_event(text: &mut String, event: &Event) -> Result<(), Stop> {
     match *event {
         Event::At(line, step) => {
             let (line, step) = (line.0, step.0);

@@ -1,4 +1,4 @@
-ghost use Rattle.std.specs.Prelude.{◌≡◌, ◌<◌, IfSome, IsTrue, length, not};
+ghost use Rattle.std.specs.Prelude.{◌≡◌, ◌<◌, IsTrue, length, not};
 ghost use Rattle.metis_universe.specs.Universe.{has};
 ghost use Rattle.metis_lines.specs.LifeLines.{ends_in, is_loose, line_at};
 
@@ -64,21 +64,8 @@ fn write_holder(text: &mut String, lines: &Lines, pair: PairIx, slot: u32) -> Re
     Ok(())
 }
 
-/// The first provider pair whose line goes on from it.
-pub fn first_loose(s: &Support, lines: &Lines) -> Option<PairIx>
-    ensures provider { IfSome result (λ p. IsTrue (has lines.now.providers p)) }
-    ensures loose { IfSome result (λ p. IsTrue (is_loose lines.now p)) }
-{
-    for pair in s.provider_pairs() {
-        if goes_on(lines, *pair) {
-            return Some(*pair);
-        }
-    }
-    None
-}
-
-// Whether the line that holds the provider pair goes on from it.
-fn goes_on(lines: &Lines, pair: PairIx) -> bool
+/// Whether the line that holds the provider pair goes on from it.
+pub fn goes_on(lines: &Lines, pair: PairIx) -> bool
     ensures provider { IsTrue result → IsTrue (has lines.now.providers pair) }
     ensures loose { IsTrue result → IsTrue (is_loose lines.now pair) }
 {
