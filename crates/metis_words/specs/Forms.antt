@@ -1,24 +1,51 @@
--- How many words of each kind a command has.
-use Rattle.std.specs.Prelude.{ℕ}
+-- The row of a command: what it reads, and how many words of each kind it has.
+--     Reading      what a command reads of its file words
+--     reading verb, file_count verb      what the command reads, and so exactly so many file words
+use Rattle.std.specs.Prelude.{ℕ, ◌+◌, List, [], ◌∷◌, length}
 use Rattle.metis_words.specs.declared.words.Verb.{Verb}
 use Rattle.metis_words.specs.declared.words.Verb.TheVariants.{Plan, Replay, Refute, Audit, Sim, Crew, Waves, Control, Rollout, Place, Print, Load, Why, Confirm}
 
+-- What a file behind the universe holds: a plan, a refusal, an explanation, the script of a session or for a controller, the turns of a
+-- crew, or hosts and sizes.
+pub data TextKind : Type 0 where
+  PlanText : TextKind
+  RefusalText : TextKind
+  WhyText : TextKind
+  ScriptText : TextKind
+  TurnsText : TextKind
+  HostsText : TextKind
+
+-- No file; or a universe, and then a text of each of these kinds; or a universe in which the targets are goals, and then such texts.
+pub data Reading : Type 0 where
+  NoFile : Reading
+  OfUniverse : (texts : List TextKind) → Reading
+  OfGoals : (texts : List TextKind) → Reading
+
+abbrev pub reading : Verb → Reading
+reading Plan = OfGoals []
+reading Replay = OfGoals (PlanText ∷ [])
+reading Refute = OfGoals (RefusalText ∷ [])
+reading Audit = OfGoals (PlanText ∷ [])
+reading Sim = OfUniverse (ScriptText ∷ [])
+reading Crew = OfUniverse (PlanText ∷ TurnsText ∷ [])
+reading Waves = OfUniverse (PlanText ∷ [])
+reading Control = OfUniverse (PlanText ∷ ScriptText ∷ [])
+reading Rollout = OfGoals (PlanText ∷ [])
+reading Place = OfUniverse (PlanText ∷ HostsText ∷ [])
+reading Print = OfUniverse []
+reading Load = NoFile
+reading Why = OfGoals []
+reading Confirm = OfGoals (WhyText ∷ [])
+
+-- a file for the universe, and one for each text
+abbrev pub files_of : Reading → ℕ
+files_of NoFile = 0
+files_of (OfUniverse texts) = length texts + 1
+files_of (OfGoals texts) = length texts + 1
+
 -- exactly so many file words
 abbrev pub file_count : Verb → ℕ
-file_count Plan = 1
-file_count Replay = 2
-file_count Refute = 2
-file_count Audit = 2
-file_count Sim = 2
-file_count Crew = 3
-file_count Waves = 2
-file_count Control = 3
-file_count Rollout = 2
-file_count Place = 3
-file_count Print = 1
-file_count Load = 0
-file_count Why = 1
-file_count Confirm = 2
+file_count verb = files_of (reading verb)
 
 -- at most so many target words
 abbrev pub target_limit : Verb → ℕ
