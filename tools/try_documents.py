@@ -9,8 +9,9 @@ The status is 0, or what a comment `# status N` behind the command says. A block
 written into that file. `./try` is the program itself, and with --try the real script, which builds it anew. Commands of
 the kit, `rt`, are listed and not run, and so are importers where their source is not there: Debian's index, PyYAML, units.
 
-It also looks up the laws that pages cite, their links, README's length, and the list of docs/HEADLINE.md. It ends with
-status 1 where something is not as a page says.
+It also looks up the laws that pages cite, their links, README's length, the list of docs/HEADLINE.md, and the lines that
+a page shows as a diff: those behind `+` stand in the file named above them, in this order. It ends with status 1 where
+something is not as a page says.
 """
 
 import importlib.util
@@ -185,6 +186,18 @@ def names_in_sources():
     return {name for it in [*files, *TOP.glob("bench/*.py")] for name in re.findall(r"\w+", it.read_text(errors="replace"))}
 
 
+def lines_not_there(path):
+    """The lines that a page shows as added to a file, behind the line `+++ FILE`, and that do not stand in it, in their order."""
+    for block in re.findall(r"(?ms)^```diff\n(.*?)^```$", path.read_text()):
+        lines = iter(())
+        for shown in block.splitlines():
+            if shown.startswith("+++ "):
+                name = shown[4:]
+                lines = iter([it.strip() for it in text_of(TOP / name).splitlines()])
+            elif shown.startswith("+") and shown[1:].strip() not in lines:
+                yield f"{path.relative_to(TOP)}: not a line of {name}: {shown[1:].strip()}"
+
+
 def look_up():
     """What pages cite and is not there."""
     known = names_in_sources()
@@ -192,6 +205,7 @@ def look_up():
         cited = {name for name in LAW.findall(path.read_text()) if name not in known}
         yield from (f"{path.relative_to(TOP)}: no such law or definition: {name}" for name in sorted(cited))
         yield from broken_links(path)
+        yield from lines_not_there(path)
     lines = len((TOP / "README.md").read_text().splitlines())
     if lines > LINES_OF_README:
         yield f"README.md: {lines} lines, more than {LINES_OF_README}"

@@ -125,3 +125,29 @@ gathers_then {S} {X} {Y} {Z} {W} files faults opens view view' part more shelf m
       files = h.files ∙ g.files;
       came = came_then view' start (more (view y)) g.taken h.taken _ _ _ _ _ _ r goes_on g.came.1 g.came.2 h.came;
     }
+
+-- what was read is seen as a part of more
+gathers_as : {S X Y Z W : Type 0} (files : S → Option (List ℕ → List ℕ)) (faults opens : S → ℕ) (view : Y → X) (view' : W → Z)
+    (part : (X → Script) → Script) (f : X → Z) (shelf shelf' : S) (y : Y) (w : W)
+    → view' w ≡ f (view y) → Gathers files faults opens view part shelf shelf' (Ok y)
+    → Gathers files faults opens view' (λ next. part (λ x. next (f x))) shelf shelf' (Ok w)
+gathers_as files faults opens view view' part f shelf shelf' y w is g =
+    gathers_judged files faults opens view view' part (λ x next. next (f x)) shelf shelf' y (Ok w) g (λ next. ap next (sym is))
+
+module _ {S X Y M T Z W : Type 0} (files : S → Option (List ℕ → List ℕ)) (faults opens : S → ℕ) (view : Y → X) (seen : T → M) (view' : W → Z)
+    (part : (X → Script) → Script) (text : X → (M → Script) → Script) (both : X → M → Z) (shelf mid shelf' : S) where
+  -- one more text behind what was read
+  pub gathers_text : (y : Y) (t : T) (w : W) → view' w ≡ both (view y) (seen t)
+      → Gathers files faults opens view part shelf mid (Ok y) → Gathers files faults opens seen (text (view y)) mid shelf' (Ok t)
+      → Gathers files faults opens view' (λ next. part (λ x. text x (λ said. next (both x said)))) shelf shelf' (Ok w)
+  gathers_text y t w is g h =
+      gathers_then files faults opens view view' part (λ x next. text x (λ said. next (both x said))) shelf mid shelf' y (Ok w) g
+      (gathers_as files faults opens seen view' (text (view y)) (both (view y)) mid shelf' t w is h)
+
+  -- a run that stops in it
+  pub gathers_no_text : (y : Y) (halt : Stop)
+      → Gathers files faults opens view part shelf mid (Ok y) → Gathers files faults opens seen (text (view y)) mid shelf' (Err halt)
+      → Gathers files faults opens view' (λ next. part (λ x. text x (λ said. next (both x said)))) shelf shelf' (Err halt)
+  gathers_no_text y halt g h =
+      gathers_then files faults opens view view' part (λ x next. text x (λ said. next (both x said))) shelf mid shelf' y (Err halt) g
+      (gathers_stopped files faults opens seen view' (text (view y)) (λ said next. next (both (view y) said)) mid shelf' halt h)

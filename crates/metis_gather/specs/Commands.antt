@@ -1,5 +1,5 @@
--- What each command does with its files.
-use Rattle.std.specs.Prelude.{ℕ, ◌+◌, List, [], ◌∷◌, ◌++◌, length, map, nat_le, Option, Some, None, Result, Ok, Err, if◌then◌else◌}
+-- What each command does with its files: it reads its inputs, as the row of its verb says, and answers over them.
+use Rattle.std.specs.Prelude.{ℕ, ◌+◌, ◌-◌, List, [], ◌∷◌, ◌++◌, length, map, nat_le, Option, Some, None, Result, Ok, Err, if◌then◌else◌}
 use Rattle.metis_ids.specs.declared.goals.Goal.{Goal}
 use Rattle.metis_universe.specs.GoalWords.{goal_named}
 use Rattle.metis_universe.specs.Universe.{Universe}
@@ -9,7 +9,6 @@ use Rattle.metis_gather.specs.declared.refusal.Refusal.TheVariants as refusal
 use Rattle.metis_words.specs.declared.words.Verb.{Verb}
 use Rattle.metis_words.specs.declared.words.Verb.TheVariants.{Plan, Replay, Refute, Audit, Sim, Crew, Waves, Control, Rollout, Place, Print, Load, Why, Confirm}
 use Rattle.metis_gather.specs.Answer as answer
-use Rattle.metis_ids.specs.declared.actions.Action.{Action}
 use Rattle.metis_ids.specs.Plans as plans
 use Rattle.metis_ids.specs.Plans.{Dup}
 use Rattle.metis_place.specs.HostsText.{hosts_in}
@@ -25,6 +24,7 @@ use Rattle.metis_ujson.specs.declared.faults.UFault.{UFault}
 use Rattle.metis_gather.specs.Script.{Script, Read, Refuse, Reply}
 use Rattle.metis_words.specs.TargetName.{TargetName}
 use Rattle.metis_gather.specs.Turns.{turns_in}
+use Rattle.metis_words.specs.Forms.{Reading, NoFile, OfUniverse, OfGoals, TextKind, PlanText, RefusalText, WhyText, ScriptText, TurnsText, HostsText, reading}
 use Rattle.metis_words.specs.Words.{Form, word_at, form_of}
 use Rattle.metis_tokens.specs.Flaws.{and_then}
 
@@ -153,23 +153,6 @@ hosts_in_then u bytes next = judged next (or_hosts_refused (hosts_in u bytes))
 abbrev pub hosts_then : ℕ → Universe → List ℕ → (HostLists → Script) → Script
 hosts_then place u name next = bytes_then place name hosts_limit (λ bytes. hosts_in_then u bytes next)
 
-abbrev pub plan_script : List ℕ → List TargetName → Script
-plan_script file targets = goals_then 3 file targets (λ asked. Reply (answer.Plan asked.0 asked.1))
-
--- what a replay does once it has its universe and its targets
-abbrev pub replay_then : List ℕ → Universe × List Goal → Script
-replay_then plan asked = plan_then 3 asked.0 plan (λ parts. Reply (answer.Replay asked.0 asked.1 parts.rows.actions))
-
-abbrev pub replay_script : List ℕ → List ℕ → List TargetName → Script
-replay_script file plan targets = goals_then 4 file targets (replay_then plan)
-
--- what the check of a refusal does once it has its universe and its targets; the goal that the text names is not used
-abbrev pub refute_then : List ℕ → Universe × List Goal → Script
-refute_then text asked = refusal_then 3 asked.0 text (λ parts. Reply (answer.Refute asked.0 asked.1 parts.pairs))
-
-abbrev pub refute_script : List ℕ → List ℕ → List TargetName → Script
-refute_script file text targets = goals_then 4 file targets (refute_then text)
-
 -- a dup, and a plan, as a text says them
 abbrev pub dup_said : DupRow → Dup
 dup_said row = record { pair = row.0; cycle = row.1 }
@@ -177,104 +160,84 @@ dup_said row = record { pair = row.0; cycle = row.1 }
 abbrev pub plan_said : Parts → plans.Plan
 plan_said parts = record { actions = parts.rows.actions; dups = map dup_said parts.dups; instances = parts.instances }
 
--- what an audit does once it has its universe and its targets
-abbrev pub audit_then : List ℕ → Universe × List Goal → Script
-audit_then plan asked = plan_then 3 asked.0 plan (λ parts. Reply (answer.Audit asked.0 asked.1 (plan_said parts) parts.rows.after))
+-- ---- the texts behind the universe, by their kinds
 
-abbrev pub audit_script : List ℕ → List ℕ → List TargetName → Script
-audit_script file plan targets = goals_then 4 file targets (audit_then plan)
+-- what such a text says
+abbrev pub Meaning : TextKind → Type 0
+Meaning PlanText = Parts
+Meaning RefusalText = RefusalParts
+Meaning WhyText = WhyParts
+Meaning ScriptText = List ℕ
+Meaning TurnsText = List ℕ
+Meaning HostsText = HostLists
 
--- what a simulation does once it has its universe
-abbrev pub sim_then : List ℕ → Universe → Script
-sim_then input u = bytes_then 3 input session_limit (λ bytes. Reply (answer.Sim u bytes))
+-- the most bytes of it
+abbrev pub text_limit : TextKind → ℕ
+text_limit PlanText = plan_limit
+text_limit RefusalText = refusal_limit
+text_limit WhyText = why_limit
+text_limit ScriptText = session_limit
+text_limit TurnsText = turns_limit
+text_limit HostsText = hosts_limit
 
-abbrev pub sim_script : List ℕ → List ℕ → Script
-sim_script file input = universe_then 2 file (sim_then input)
+-- what these bytes say as such a text, or why they are refused
+abbrev pub meaning : Universe → (kind : TextKind) → List ℕ → Result (Meaning kind) Refusal
+meaning u PlanText bytes = or_plan_refused (plan_in u bytes)
+meaning u RefusalText bytes = or_refusal_refused (refusal_in u bytes)
+meaning u WhyText bytes = or_why_refused (why_in u bytes)
+meaning u ScriptText bytes = Ok bytes
+meaning u TurnsText bytes = or_turns_refused (turns_in bytes)
+meaning u HostsText bytes = or_hosts_refused (hosts_in u bytes)
 
--- what a crew does once it has its universe and the plan's actions; why these are no steadfast run is told behind what is wrong with
--- the turns
-abbrev pub crew_over : List ℕ → Universe → List Action → Script
-crew_over turns u actions = turns_then 4 turns (λ zs. Reply (answer.Crew u actions zs))
+-- reads the file of the word at this place, and goes on with what it says as such a text
+abbrev pub text_then : (kind : TextKind) → ℕ → Universe → List ℕ → (Meaning kind → Script) → Script
+text_then kind place u name next = bytes_then place name (text_limit kind) (λ bytes. judged next (meaning u kind bytes))
 
--- the same once it has its universe
-abbrev pub crew_then : List ℕ → List ℕ → Universe → Script
-crew_then plan turns u = plan_then 3 u plan (λ parts. crew_over turns u parts.rows.actions)
+-- what texts of these kinds say
+abbrev pub Meanings : List TextKind → Type 0
+Meanings [] = Unit {0}
+Meanings (kind ∷ kinds) = Meaning kind × Meanings kinds
 
-abbrev pub crew_script : List ℕ → List ℕ → List ℕ → Script
-crew_script file plan turns = universe_then 2 file (crew_then plan turns)
+-- the same of a text of each kind, one behind the other; the word at place 2 is the first file word
+abbrev pub texts_then : (kinds : List TextKind) → ℕ → Universe → List (List ℕ) → (Meanings kinds → Script) → Script
+texts_then [] place u names next = next tt
+texts_then (kind ∷ kinds) place u names next = text_then kind place u (word_at names (place - 2)) (λ said. texts_then kinds (place + 1) u names (λ more. next (said, more)))
 
--- what the start times of actions want once there is a universe; why these are no steadfast run is told in their place
-abbrev pub waves_then : List ℕ → List ℕ → Universe → Script
-waves_then plan numbers u = plan_then 3 u plan (λ parts. Reply (answer.Waves u parts.rows.actions numbers))
+-- ---- commands
 
-abbrev pub waves_script : List ℕ → List ℕ → List ℕ → Script
-waves_script file plan numbers = universe_then 2 file (waves_then plan numbers)
+-- what is read comes to: nothing; or a universe and texts; or a universe, the goals of the targets in it, and texts
+abbrev pub Inputs : Reading → Type 0
+Inputs NoFile = Unit {0}
+Inputs (OfUniverse kinds) = Universe × Meanings kinds
+Inputs (OfGoals kinds) = (Universe × List Goal) × Meanings kinds
 
--- what a controller and its agents do once they have their universe and the plan's actions; why these are no steadfast run is told
--- behind a script that is too long
-abbrev pub control_over : List ℕ → Universe → List Action → Script
-control_over script u actions = bytes_then 4 script session_limit (λ bytes. Reply (answer.Control u actions bytes))
+-- reads the files of these names, in their order, and goes on with what they come to
+abbrev pub inputs_then : (reading : Reading) → List (List ℕ) → List TargetName → (Inputs reading → Script) → Script
+inputs_then NoFile names targets next = next tt
+inputs_then (OfUniverse kinds) names targets next = universe_then 2 (word_at names 0) (λ u. texts_then kinds 3 u names (λ said. next (u, said)))
+inputs_then (OfGoals kinds) names targets next = goals_then (length kinds + 3) (word_at names 0) targets (λ asked. texts_then kinds 3 asked.0 names (λ said. next (asked, said)))
 
--- the same once there is a universe
-abbrev pub control_then : List ℕ → List ℕ → Universe → Script
-control_then plan script u = plan_then 3 u plan (λ parts. control_over script u parts.rows.actions)
+-- What is to be answered over its inputs, by the size or the numbers of its words. The goal that the text of a refusal or of an
+-- explanation names is not used. Whether actions are a steadfast run is told in the answer.
+abbrev pub answer_of : (verb : Verb) → Inputs (reading verb) → ℕ → List ℕ → answer.Answer
+answer_of Plan inputs size numbers = answer.Plan inputs.0.0 inputs.0.1
+answer_of Replay inputs size numbers = answer.Replay inputs.0.0 inputs.0.1 inputs.1.0.rows.actions
+answer_of Refute inputs size numbers = answer.Refute inputs.0.0 inputs.0.1 inputs.1.0.pairs
+answer_of Audit inputs size numbers = answer.Audit inputs.0.0 inputs.0.1 (plan_said inputs.1.0) inputs.1.0.rows.after
+answer_of Sim inputs size numbers = answer.Sim inputs.0 inputs.1.0
+answer_of Crew inputs size numbers = answer.Crew inputs.0 inputs.1.0.rows.actions inputs.1.1.0
+answer_of Waves inputs size numbers = answer.Waves inputs.0 inputs.1.0.rows.actions numbers
+answer_of Control inputs size numbers = answer.Control inputs.0 inputs.1.0.rows.actions inputs.1.1.0
+answer_of Rollout inputs size numbers = answer.Rollout inputs.0.0 inputs.0.1 inputs.1.0.rows.actions
+answer_of Place inputs size numbers = answer.Place inputs.0 inputs.1.0.rows.actions inputs.1.1.0
+answer_of Print inputs size numbers = answer.Print inputs.0
+answer_of Load inputs size numbers = answer.Load size
+answer_of Why inputs size numbers = answer.Why inputs.0.0 inputs.0.1
+answer_of Confirm inputs size numbers = answer.Confirm inputs.0.0 inputs.0.1 inputs.1.0.lines
 
-abbrev pub control_script : List ℕ → List ℕ → List ℕ → Script
-control_script file plan script = universe_then 2 file (control_then plan script)
-
--- what a rollout does once it has its universe and its targets; why the plan's actions are no steadfast run, or what refuses the
--- targets, is told in its place
-abbrev pub rollout_then : List ℕ → Universe × List Goal → Script
-rollout_then plan asked = plan_then 3 asked.0 plan (λ parts. Reply (answer.Rollout asked.0 asked.1 parts.rows.actions))
-
-abbrev pub rollout_script : List ℕ → List ℕ → List TargetName → Script
-rollout_script file plan targets = goals_then 4 file targets (rollout_then plan)
-
--- what a placement does once it has its universe and the plan's actions; why these are no steadfast run is told behind what is wrong
--- with the hosts
-abbrev pub place_over : List ℕ → Universe → List Action → Script
-place_over hosts u actions = hosts_then 4 u hosts (λ h. Reply (answer.Place u actions h))
-
--- the same once it has its universe
-abbrev pub place_then : List ℕ → List ℕ → Universe → Script
-place_then plan hosts u = plan_then 3 u plan (λ parts. place_over hosts u parts.rows.actions)
-
-abbrev pub place_script : List ℕ → List ℕ → List ℕ → Script
-place_script file plan hosts = universe_then 2 file (place_then plan hosts)
-
-abbrev pub print_script : List ℕ → Script
-print_script file = universe_then 2 file (λ u. Reply (answer.Print u))
-
--- a command that reads no file
-abbrev pub load_script : ℕ → Script
-load_script size = Reply (answer.Load size)
-
-abbrev pub why_script : List ℕ → List TargetName → Script
-why_script file targets = goals_then 3 file targets (λ asked. Reply (answer.Why asked.0 asked.1))
-
--- what the check of an explanation does once it has its universe and its targets; the goal that the text names is not used
-abbrev pub confirm_then : List ℕ → Universe × List Goal → Script
-confirm_then text asked = why_then 3 asked.0 text (λ parts. Reply (answer.Confirm asked.0 asked.1 parts.lines))
-
-abbrev pub confirm_script : List ℕ → List ℕ → List TargetName → Script
-confirm_script file text targets = goals_then 4 file targets (confirm_then text)
-
--- the script of each command
+-- a command reads its inputs, and answers over them
 abbrev pub command_script : Verb → List (List ℕ) → List TargetName → ℕ → List ℕ → Script
-command_script Plan files targets size numbers = plan_script (word_at files 0) targets
-command_script Replay files targets size numbers = replay_script (word_at files 0) (word_at files 1) targets
-command_script Refute files targets size numbers = refute_script (word_at files 0) (word_at files 1) targets
-command_script Audit files targets size numbers = audit_script (word_at files 0) (word_at files 1) targets
-command_script Sim files targets size numbers = sim_script (word_at files 0) (word_at files 1)
-command_script Crew files targets size numbers = crew_script (word_at files 0) (word_at files 1) (word_at files 2)
-command_script Waves files targets size numbers = waves_script (word_at files 0) (word_at files 1) numbers
-command_script Control files targets size numbers = control_script (word_at files 0) (word_at files 1) (word_at files 2)
-command_script Rollout files targets size numbers = rollout_script (word_at files 0) (word_at files 1) targets
-command_script Place files targets size numbers = place_script (word_at files 0) (word_at files 1) (word_at files 2)
-command_script Print files targets size numbers = print_script (word_at files 0)
-command_script Load files targets size numbers = load_script size
-command_script Why files targets size numbers = why_script (word_at files 0) targets
-command_script Confirm files targets size numbers = confirm_script (word_at files 0) (word_at files 1) targets
+command_script verb files targets size numbers = inputs_then (reading verb) files targets (λ inputs. Reply (answer_of verb inputs size numbers))
 
 -- the script of a run from its words
 abbrev pub script_from : Result Form ℕ → Script

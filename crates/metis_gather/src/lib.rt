@@ -2,14 +2,17 @@
 //! or why the run stops.
 #![tactic(auto)]
 
+mod asked;
+mod inputs;
 mod laws;
 mod reading;
 mod refusal;
 mod turns;
 
-pub use laws::goals_are_named_word_by_word;
-pub use reading::{
-    goals_from, hosts_from, plan_from, refusal_from, session_script_from, turns_from,
-    universe_from, why_from,
+pub use asked::{Asked, AskedPlan, Planned};
+pub use inputs::{
+    explanation_of, goals_and_plan_of, goals_of, hosts_of, plan_of, refusal_of, script_of,
+    session_of, turns_of, universe_of,
 };
+pub use laws::goals_are_named_word_by_word;
 pub use refusal::{Refusal, Stop};

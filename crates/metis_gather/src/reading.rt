@@ -5,6 +5,7 @@ ghost use Rattle.metis_universe.specs.GoalWords.{IsWordable};
 ghost use Rattle.metis_universe.specs.Goals.{IsGoalOf};
 ghost use Rattle.metis_universe.specs.Universe.{pair_count, type_count};
 ghost use Rattle.metis_universe.specs.Numbers.{IsOf};
+ghost use Rattle.metis_place.specs.HostsWritten.{IsEntry};
 ghost use Rattle.metis_text.specs.PlanText.{IsWellFormed};
 ghost use Rattle.metis_text.specs.Reads.{lists_of, parts_of};
 ghost use Rattle.metis_text.specs.RefusalReading.{refusal_of};
@@ -13,6 +14,7 @@ ghost use Rattle.metis_why_text.specs.WhyReading as why_reading;
 ghost use Rattle.metis_gather.specs.Commands.{bytes_then, universe_in_then, universe_then, targets_then, goals_then, plan_in_then, plan_limit, plan_then, refusal_in_then, refusal_then, session_limit, turns_in_then, turns_then, hosts_in_then, hosts_then, why_in_then, why_then};
 ghost use Rattle.metis_gather.specs.Gathers.{Gathers, Judges, or_stop};
 
+use crate::asked::Asked;
 use crate::refusal::{Refusal, Stop};
 use crate::turns::{TurnsFault, read_turns};
 use metis_ids::{Goal, InstNo};
@@ -127,17 +129,17 @@ pub fn goals_from<H: Shelf>(
     file: &str,
     place: u32,
     targets: &[TargetWord],
-) -> Result<(Universe, Vec<Goal>), Stop>
+) -> Result<Asked, Stop>
     requires few { length targets.now ≤ 256 }
     requires place { place ≤ 4 }
-    ensures gathers { Gathers H.files H.faults H.opens (λ asked. (asked.0, asked.1.items)) (goals_then place file.now targets.now) shelf.old shelf.new result }
-    ensures few { IfOk result (λ asked. length asked.1.items ≤ 256) }
-    ensures within { IfOk result (λ asked. All (IsGoalOf asked.0) asked.1.items) }
-    ensures wordable { IfOk result (λ asked. All (IsWordable asked.0) asked.1.items) }
+    ensures gathers { Gathers H.files H.faults H.opens (λ asked. (asked.universe, asked.goals.items)) (goals_then place file.now targets.now) shelf.old shelf.new result }
+    ensures few { IfOk result (λ asked. length asked.goals.items ≤ 256) }
+    ensures within { IfOk result (λ asked. All (IsGoalOf asked.universe) asked.goals.items) }
+    ensures wordable { IfOk result (λ asked. All (IsWordable asked.universe) asked.goals.items) }
 {
     let universe = universe_from(alloc, shelf, 2, file)?;
     let goals = goals_in(alloc, &universe, place, targets)?;
-    Ok((universe, goals))
+    Ok(Asked { universe, goals })
 }
 
 /// What the bytes say as the text of a plan.
@@ -277,6 +279,7 @@ fn hosts_in(alloc: Global, u: &Universe, bytes: &[u8]) -> Result<Hosts, Stop>
     ensures judges { Judges (λ h. h) (hosts_in_then u.now bytes.now) result }
     ensures few { IfOk result (λ h. length h.hosts ≤ 65536) }
     ensures sizes { IfOk result (λ h. length h.sizes ≡ type_count u.now) }
+    ensures entries { IfOk result (λ h. All IsEntry h.hosts) }
 {
     match read_hosts(alloc, u, bytes) {
         Ok(hosts) => Ok(hosts),
@@ -296,6 +299,7 @@ pub fn hosts_from<H: Shelf>(
     ensures gathers { Gathers H.files H.faults H.opens (λ h. h) (hosts_then place u.now name.now) shelf.old shelf.new result }
     ensures few { IfOk result (λ h. length h.hosts ≤ 65536) }
     ensures sizes { IfOk result (λ h. length h.sizes ≡ type_count u.now) }
+    ensures entries { IfOk result (λ h. All IsEntry h.hosts) }
 {
     let bytes = bytes_from(alloc, shelf, place, name, HOSTS_LIMIT)?;
     hosts_in(alloc, u, &bytes)

@@ -4,4 +4,4 @@ pub mod Openings
 pub mod OverFiles
 pub mod ReadFaults
 pub mod Refused
-pub mod SaidLines
+pub mod StopLines

@@ -1,27 +1,19 @@
 -- A run opens a file at least, and no more than its words name.
-use Rattle.std.proofs.Common.{◌≡◌, ℕ, zero, suc, ◌-◌, ◌≤◌, min, List, [], ◌∷◌, length, Result, Ok, Err, Bool, true, false, subst, inl, inr, nat_le, if◌then◌else◌, arith}
+use Rattle.std.proofs.Common.{◌≡◌, ℕ, zero, suc, ◌+◌, ◌-◌, ◌≤◌, min, List, [], ◌∷◌, length, Result, Ok, Err, Bool, true, false, subst, inl, inr, nat_le, if◌then◌else◌, arith}
 use Rattle.std.specs.declared.option.Option.{Option as Known}
-use Rattle.metis_ids.specs.declared.goals.Goal.{Goal}
-use Rattle.metis_ids.specs.declared.actions.Action.{Action}
-use Rattle.metis_text.specs.Reading.{plan_in}
-use Rattle.metis_text.specs.RefusalReading.{refusal_in}
 use Rattle.metis_gather.specs.declared.refusal.Refusal.{Refusal}
 use Rattle.metis_gather.specs.declared.refusal.Refusal.TheVariants.{TooLong, Word}
 use Rattle.metis_output.specs.declared.status.Status.{Status}
 use Rattle.metis_words.specs.declared.words.Verb.{Verb}
-use Rattle.metis_words.specs.declared.words.Verb.TheVariants.{Plan, Replay, Refute, Audit, Sim, Crew, Waves, Control, Rollout, Place, Print, Load, Why, Confirm}
 use Rattle.metis_gather.specs.Answer as answer
-use Rattle.metis_why_text.specs.WhyReading.{why_in}
-use Rattle.metis_gather.specs.Commands.{universe_then, waves_then, control_over, control_then, audit_then, plan_said, crew_over, crew_then, judged, or_plan_refused, or_refusal_refused, or_turns_refused, or_universe_refused, goals_named, plan_limit, refusal_limit, refute_then, replay_then, rollout_then, session_limit, sim_then, turns_limit, command_script, script_from, hosts_limit, or_hosts_refused, place_over, place_then, confirm_then, or_why_refused, why_limit}
-use Rattle.metis_place.specs.HostsText.{hosts_in}
+use Rattle.metis_gather.specs.Commands.{Inputs, Meaning, Meanings, answer_of, command_script, goals_named, inputs_then, judged, meaning, or_universe_refused, script_from, targets_then, text_limit, text_then, texts_then, universe_then}
 use Rattle.metis_top.specs.Course.{Ran, OnShelf}
 use Rattle.metis_gather.specs.Gathers.{AreTaken, IsRead, after}
 use Rattle.metis_ujson.specs.Document.{document_limit, universe_in}
-use Rattle.metis_words.specs.Forms.{file_count}
+use Rattle.metis_words.specs.Forms.{NoFile, OfGoals, OfUniverse, Reading, TextKind, file_count, files_of, reading}
 use Rattle.metis_top.specs.Openings.{OpensFiles, OpensSome}
 use Rattle.metis_gather.specs.Script.{Script, Read, Refuse, Reply}
 use Rattle.metis_words.specs.TargetName.{TargetName}
-use Rattle.metis_gather.specs.Turns.{turns_in}
 use Rattle.metis_words.specs.Words.{Form, word_at}
 use Rattle.metis_universe.specs.Universe.{Universe}
 
@@ -52,99 +44,39 @@ at_most_universe : (n place : ℕ) (name : List ℕ) (next : Universe → Script
 at_most_universe n place name next most = λ bytes.
     at_most_if n (nat_le (length bytes) document_limit) (judged next (or_universe_refused (universe_in bytes))) (TooLong place) (at_most_judged n next (or_universe_refused (universe_in bytes)) most)
 
-at_most_replay : (u : Universe) (g : List Goal) (plan : List ℕ) → IsAtMost 1 (replay_then plan (u, g))
-at_most_replay u g plan = λ bytes.
-    at_most_if 0 (nat_le (length bytes) plan_limit) (judged (λ parts. Reply (answer.Replay u g parts.rows.actions)) (or_plan_refused (plan_in u bytes))) (TooLong 3)
-    (at_most_judged 0 (λ parts. Reply (answer.Replay u g parts.rows.actions)) (or_plan_refused (plan_in u bytes)) (λ parts. tt))
+at_most_text : (n : ℕ) (kind : TextKind) (place : ℕ) (u : Universe) (name : List ℕ) (next : Meaning kind → Script) → ((said : Meaning kind) → IsAtMost n (next said)) → IsAtMost (suc n) (text_then kind place u name next)
+at_most_text n kind place u name next most = λ bytes.
+    at_most_if n (nat_le (length bytes) (text_limit kind)) (judged next (meaning u kind bytes)) (TooLong place) (at_most_judged n next (meaning u kind bytes) most)
 
-at_most_audit : (u : Universe) (g : List Goal) (plan : List ℕ) → IsAtMost 1 (audit_then plan (u, g))
-at_most_audit u g plan = λ bytes.
-    at_most_if 0 (nat_le (length bytes) plan_limit) (judged (λ parts. Reply (answer.Audit u g (plan_said parts) parts.rows.after)) (or_plan_refused (plan_in u bytes))) (TooLong 3)
-    (at_most_judged 0 (λ parts. Reply (answer.Audit u g (plan_said parts) parts.rows.after)) (or_plan_refused (plan_in u bytes)) (λ parts. tt))
+-- a file for each text
+at_most_texts : (kinds : List TextKind) (place : ℕ) (u : Universe) (names : List (List ℕ)) (next : Meanings kinds → Script) → ((said : Meanings kinds) → IsAtMost 0 (next said)) → IsAtMost (length kinds) (texts_then kinds place u names next)
+at_most_texts [] place u names next most = most tt
+at_most_texts (kind ∷ kinds) place u names next most =
+    at_most_text (length kinds) kind place u (word_at names (place - 2)) (λ said. texts_then kinds (place + 1) u names (λ more. next (said, more)))
+    (λ said. at_most_texts kinds (place + 1) u names (λ more. next (said, more)) (λ more. most (said, more)))
 
-at_most_rollout : (u : Universe) (g : List Goal) (plan : List ℕ) → IsAtMost 1 (rollout_then plan (u, g))
-at_most_rollout u g plan = λ bytes.
-    at_most_if 0 (nat_le (length bytes) plan_limit) (judged (λ parts. Reply (answer.Rollout u g parts.rows.actions)) (or_plan_refused (plan_in u bytes))) (TooLong 3)
-    (at_most_judged 0 (λ parts. Reply (answer.Rollout u g parts.rows.actions)) (or_plan_refused (plan_in u bytes)) (λ parts. tt))
+-- the files of a command
+at_most_inputs : (r : Reading) (names : List (List ℕ)) (targets : List TargetName) (next : Inputs r → Script) → ((inputs : Inputs r) → IsAtMost 0 (next inputs)) → IsAtMost (files_of r) (inputs_then r names targets next)
+at_most_inputs NoFile names targets next most = most tt
+at_most_inputs (OfUniverse kinds) names targets next most =
+    subst (λ n. IsAtMost n (inputs_then (OfUniverse kinds) names targets next)) (omega arith)
+    (at_most_universe (length kinds) 2 (word_at names 0) (λ u. texts_then kinds 3 u names (λ said. next (u, said))) (λ u. at_most_texts kinds 3 u names (λ said. next (u, said)) (λ said. most (u, said))))
+at_most_inputs (OfGoals kinds) names targets next most =
+    subst (λ n. IsAtMost n (inputs_then (OfGoals kinds) names targets next)) (omega arith)
+    (at_most_universe (length kinds) 2 (word_at names 0) (λ u. targets_then (length kinds + 3) u targets (λ goals. texts_then kinds 3 u names (λ said. next ((u, goals), said))))
+      (λ u. at_most_judged (length kinds) (λ goals. texts_then kinds 3 u names (λ said. next ((u, goals), said))) (goals_named (length kinds + 3) u targets)
+        (λ goals. at_most_texts kinds 3 u names (λ said. next ((u, goals), said)) (λ said. most ((u, goals), said)))))
 
-at_most_waves : (u : Universe) (plan numbers : List ℕ) → IsAtMost 1 (waves_then plan numbers u)
-at_most_waves u plan numbers = λ bytes.
-    at_most_if 0 (nat_le (length bytes) plan_limit) (judged (λ parts. Reply (answer.Waves u parts.rows.actions numbers)) (or_plan_refused (plan_in u bytes))) (TooLong 3)
-    (at_most_judged 0 (λ parts. Reply (answer.Waves u parts.rows.actions numbers)) (or_plan_refused (plan_in u bytes)) (λ parts. tt))
-
-at_most_refute : (u : Universe) (g : List Goal) (text : List ℕ) → IsAtMost 1 (refute_then text (u, g))
-at_most_refute u g text = λ bytes.
-    at_most_if 0 (nat_le (length bytes) refusal_limit) (judged (λ parts. Reply (answer.Refute u g parts.pairs)) (or_refusal_refused (refusal_in u bytes))) (TooLong 3)
-    (at_most_judged 0 (λ parts. Reply (answer.Refute u g parts.pairs)) (or_refusal_refused (refusal_in u bytes)) (λ parts. tt))
-
-at_most_confirm : (u : Universe) (g : List Goal) (text : List ℕ) → IsAtMost 1 (confirm_then text (u, g))
-at_most_confirm u g text = λ bytes.
-    at_most_if 0 (nat_le (length bytes) why_limit) (judged (λ parts. Reply (answer.Confirm u g parts.lines)) (or_why_refused (why_in u bytes))) (TooLong 3)
-    (at_most_judged 0 (λ parts. Reply (answer.Confirm u g parts.lines)) (or_why_refused (why_in u bytes)) (λ parts. tt))
-
-at_most_sim : (u : Universe) (input : List ℕ) → IsAtMost 1 (sim_then input u)
-at_most_sim u input = λ bytes. at_most_if 0 (nat_le (length bytes) session_limit) (Reply (answer.Sim u bytes)) (TooLong 3) tt
-
-at_most_crew_over : (u : Universe) (actions : List Action) (name : List ℕ) → IsAtMost 1 (crew_over name u actions)
-at_most_crew_over u actions name = λ bytes.
-    at_most_if 0 (nat_le (length bytes) turns_limit) (judged (λ zs. Reply (answer.Crew u actions zs)) (or_turns_refused (turns_in bytes))) (TooLong 4)
-    (at_most_judged 0 (λ zs. Reply (answer.Crew u actions zs)) (or_turns_refused (turns_in bytes)) (λ zs. tt))
-
-at_most_crew : (u : Universe) (plan name : List ℕ) → IsAtMost 2 (crew_then plan name u)
-at_most_crew u plan name = λ bytes.
-    at_most_if 1 (nat_le (length bytes) plan_limit) (judged (λ parts. crew_over name u parts.rows.actions) (or_plan_refused (plan_in u bytes))) (TooLong 3)
-    (at_most_judged 1 (λ parts. crew_over name u parts.rows.actions) (or_plan_refused (plan_in u bytes)) (λ parts. at_most_crew_over u parts.rows.actions name))
-
-at_most_control_over : (u : Universe) (actions : List Action) (name : List ℕ) → IsAtMost 1 (control_over name u actions)
-at_most_control_over u actions name = λ bytes. at_most_if 0 (nat_le (length bytes) session_limit) (Reply (answer.Control u actions bytes)) (TooLong 4) tt
-
-at_most_control : (u : Universe) (plan name : List ℕ) → IsAtMost 2 (control_then plan name u)
-at_most_control u plan name = λ bytes.
-    at_most_if 1 (nat_le (length bytes) plan_limit) (judged (λ parts. control_over name u parts.rows.actions) (or_plan_refused (plan_in u bytes))) (TooLong 3)
-    (at_most_judged 1 (λ parts. control_over name u parts.rows.actions) (or_plan_refused (plan_in u bytes)) (λ parts. at_most_control_over u parts.rows.actions name))
-
-at_most_place_over : (u : Universe) (actions : List Action) (name : List ℕ) → IsAtMost 1 (place_over name u actions)
-at_most_place_over u actions name = λ bytes.
-    at_most_if 0 (nat_le (length bytes) hosts_limit) (judged (λ h. Reply (answer.Place u actions h)) (or_hosts_refused (hosts_in u bytes))) (TooLong 4)
-    (at_most_judged 0 (λ h. Reply (answer.Place u actions h)) (or_hosts_refused (hosts_in u bytes)) (λ h. tt))
-
-at_most_place : (u : Universe) (plan name : List ℕ) → IsAtMost 2 (place_then plan name u)
-at_most_place u plan name = λ bytes.
-    at_most_if 1 (nat_le (length bytes) plan_limit) (judged (λ parts. place_over name u parts.rows.actions) (or_plan_refused (plan_in u bytes))) (TooLong 3)
-    (at_most_judged 1 (λ parts. place_over name u parts.rows.actions) (or_plan_refused (plan_in u bytes)) (λ parts. at_most_place_over u parts.rows.actions name))
-
--- the files of each command
 at_most_command : (verb : Verb) (files : List (List ℕ)) (targets : List TargetName) (size : ℕ) (numbers : List ℕ) → IsAtMost (file_count verb) (command_script verb files targets size numbers)
-at_most_command Plan files targets size numbers = at_most_universe 0 2 (word_at files 0) _ (λ u. at_most_judged 0 (λ g. Reply (answer.Plan u g)) (goals_named 3 u targets) (λ g. tt))
-at_most_command Replay files targets size numbers = at_most_universe 1 2 (word_at files 0) _ (λ u. at_most_judged 1 (λ g. replay_then (word_at files 1) (u, g)) (goals_named 4 u targets) (λ g. at_most_replay u g (word_at files 1)))
-at_most_command Refute files targets size numbers = at_most_universe 1 2 (word_at files 0) _ (λ u. at_most_judged 1 (λ g. refute_then (word_at files 1) (u, g)) (goals_named 4 u targets) (λ g. at_most_refute u g (word_at files 1)))
-at_most_command Audit files targets size numbers = at_most_universe 1 2 (word_at files 0) _ (λ u. at_most_judged 1 (λ g. audit_then (word_at files 1) (u, g)) (goals_named 4 u targets) (λ g. at_most_audit u g (word_at files 1)))
-at_most_command Sim files targets size numbers = at_most_universe 1 2 (word_at files 0) _ (λ u. at_most_sim u (word_at files 1))
-at_most_command Crew files targets size numbers = at_most_universe 2 2 (word_at files 0) _ (λ u. at_most_crew u (word_at files 1) (word_at files 2))
-at_most_command Waves files targets size numbers = at_most_universe 1 2 (word_at files 0) _ (λ u. at_most_waves u (word_at files 1) numbers)
-at_most_command Control files targets size numbers = at_most_universe 2 2 (word_at files 0) _ (λ u. at_most_control u (word_at files 1) (word_at files 2))
-at_most_command Rollout files targets size numbers = at_most_universe 1 2 (word_at files 0) _ (λ u. at_most_judged 1 (λ g. rollout_then (word_at files 1) (u, g)) (goals_named 4 u targets) (λ g. at_most_rollout u g (word_at files 1)))
-at_most_command Place files targets size numbers = at_most_universe 2 2 (word_at files 0) _ (λ u. at_most_place u (word_at files 1) (word_at files 2))
-at_most_command Print files targets size numbers = at_most_universe 0 2 (word_at files 0) _ (λ u. tt)
-at_most_command Load files targets size numbers = tt
-at_most_command Why files targets size numbers = at_most_universe 0 2 (word_at files 0) _ (λ u. at_most_judged 0 (λ g. Reply (answer.Why u g)) (goals_named 3 u targets) (λ g. tt))
-at_most_command Confirm files targets size numbers = at_most_universe 1 2 (word_at files 0) _ (λ u. at_most_judged 1 (λ g. confirm_then (word_at files 1) (u, g)) (goals_named 4 u targets) (λ g. at_most_confirm u g (word_at files 1)))
+at_most_command verb files targets size numbers = at_most_inputs (reading verb) files targets (λ inputs. Reply (answer_of verb inputs size numbers)) (λ inputs. tt)
+
+reads_first : (r : Reading) (names : List (List ℕ)) (targets : List TargetName) (next : Inputs r → Script) → 1 ≤ files_of r → IsRead (inputs_then r names targets next)
+reads_first NoFile names targets next some = absurd (omega (arith, some))
+reads_first (OfUniverse kinds) names targets next some = tt
+reads_first (OfGoals kinds) names targets next some = tt
 
 first_read : (verb : Verb) (files : List (List ℕ)) (targets : List TargetName) (size : ℕ) (numbers : List ℕ) → 1 ≤ file_count verb → IsRead (command_script verb files targets size numbers)
-first_read Plan files targets size numbers some = tt
-first_read Replay files targets size numbers some = tt
-first_read Refute files targets size numbers some = tt
-first_read Audit files targets size numbers some = tt
-first_read Sim files targets size numbers some = tt
-first_read Crew files targets size numbers some = tt
-first_read Waves files targets size numbers some = tt
-first_read Control files targets size numbers some = tt
-first_read Rollout files targets size numbers some = tt
-first_read Place files targets size numbers some = tt
-first_read Print files targets size numbers some = tt
-first_read Load files targets size numbers some = absurd (omega (arith, some))
-first_read Why files targets size numbers some = tt
-first_read Confirm files targets size numbers some = tt
+first_read verb files targets size numbers some = reads_first (reading verb) files targets (λ inputs. Reply (answer_of verb inputs size numbers)) some
 
 -- what is left of a script after so many files
 record Left (n : ℕ) (taken : List (List ℕ)) (script : Script) : Type 0 where

@@ -13,7 +13,7 @@ use Rattle.metis_ids.specs.declared.goals.Goal.{Goal}
 use Rattle.metis_outside.specs.Writes.{Appends}
 use Rattle.metis_universe.specs.Tidy.{IsTidy}
 use Rattle.metis_gather.specs.Answer.{Plan as PlanOf}
-use Rattle.metis_gather.specs.Commands.{goals_named, plan_script, script_from, universe_in_then, targets_then}
+use Rattle.metis_gather.specs.Commands.{command_script, goals_named, script_from, universe_in_then, targets_then}
 use Rattle.metis_top.specs.Course.{Ran, Says, OnShelf}
 use Rattle.metis_output.specs.Shown.{Shown}
 use Rattle.metis_gather.specs.Gathers.{AreTaken, after}
@@ -25,6 +25,7 @@ use Rattle.metis_answer.specs.Planned.{PlanAnswer, PlansPairs, plan_text}
 use Rattle.metis_gather.specs.Script.{Script, Read, Refuse, Reply}
 use Rattle.metis_words.specs.TargetName.{TargetName}
 use Rattle.metis_words.specs.Words.{form_of}
+use Rattle.metis_words.specs.declared.words.Verb.TheVariants.{Plan as PlanVerb}
 use Rattle.metis_universe.specs.Universe.{Universe}
 
 -- no read failed, and memory did not run out, so the script has come to its end
@@ -74,7 +75,7 @@ over-universe file bytes taken u next is fits means =
 
 -- accepted words and an accepted document come to what is to be said of the targets
 over-plan : (file : List ℕ → List ℕ) (name : List ℕ) (targets : List TargetName) (u : Universe) (g : List Goal) → length (file name) ≤ document_limit → universe_in (file name) ≡ Ok u
-    → goals_named 3 u targets ≡ Ok g → over file (plan_script name targets) ≡ Reply (PlanOf u g)
+    → goals_named 3 u targets ≡ Ok g → over file (command_script PlanVerb (name ∷ []) targets 0 []) ≡ Reply (PlanOf u g)
 over-plan file name targets u g fits means found =
     over-universe file (file name) (take (document_limit + 1) (file name)) u (λ v. targets_then 3 v targets (λ goals. Reply (PlanOf v goals))) (take_all (document_limit + 1) (file name) (omega arith)) fits means
     ∙ rw found

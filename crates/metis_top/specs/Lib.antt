@@ -4,5 +4,4 @@ pub mod Honest
 pub mod Lines
 pub mod Numbered
 pub mod Openings
-pub mod PutLines
 pub mod Stops

@@ -1,8 +1,10 @@
 //! How a run ends before its work.
 ghost use Rattle.std.specs.Prelude.{◌≡◌, IfOk, string_bytes};
+ghost use Rattle.metis_gather.specs.declared.refusal.Stop.TheVariants.{Refused};
+ghost use Rattle.metis_output.specs.PutLines.{PutsLines};
 ghost use Rattle.metis_output.specs.Shown.{Shown};
 ghost use Rattle.metis_top.specs.Course.{StopSays};
-ghost use Rattle.metis_top.specs.Lines.{hosts_fault_line, plan_fault_line, refusal_fault_line, refusal_line, why_fault_line, universe_line, state_line, limit_line, read_fault_line, refusal_status};
+ghost use Rattle.metis_top.specs.Lines.{hosts_fault_line, is_told, plan_fault_line, refusal_fault_line, refusal_line, why_fault_line, universe_line, state_line, limit_line, read_fault_line, refusal_status};
 
 use metis_gather::{Refusal, Stop};
 use metis_output::{Status, say};
@@ -141,19 +143,45 @@ fn refusal_status(refusal: Refusal) -> Status
     }
 }
 
+// Whether the refusal has a line. Want of memory has none.
+fn is_told(refusal: Refusal) -> bool
+    ensures { result ≡ is_told refusal }
+{
+    match refusal {
+        Refusal::Universe(UFault::NoMemory)
+        | Refusal::PlanText(TFault::NoMemory)
+        | Refusal::RefusalText(TFault::NoMemory)
+        | Refusal::WhyText(TFault::NoMemory)
+        | Refusal::HostsText(HFault::NoMemory) => false,
+        _ => true,
+    }
+}
+
 /// Puts the line of a run that ends before its work.
 pub fn end<K: Sink>(alloc: Global, stop: Stop, out: &mut K) -> Status
-    ensures { Shown (StopSays stop) (K.written out.old) (K.written out.new) (K.faults out.old) (K.faults out.new) result }
+    ensures course { Shown (StopSays stop) (K.written out.old) (K.written out.new) (K.faults out.old) (K.faults out.new) result }
+    ensures lines { PutsLines (K.written out.old) (K.written out.new) result }
 {
     match stop {
-        Stop::Refused(refusal) => match refusal_line(alloc, refusal) {
-            Ok(line) => say(line.as_str(), refusal_status(refusal), out),
-            Err(_) => Status::NoMemory,
-        },
+        Stop::Refused(refusal) => end_refused(alloc, refusal, out),
         Stop::Failed(place) => match read_fault_line(alloc, place) {
             Ok(line) => say(line.as_str(), Status::ReadFault, out),
             Err(_) => Status::NoMemory,
         },
         Stop::NoMemory => Status::NoMemory,
+    }
+}
+
+// The same of a refusal.
+fn end_refused<K: Sink>(alloc: Global, refusal: Refusal, out: &mut K) -> Status
+    ensures course { Shown (StopSays (Refused refusal)) (K.written out.old) (K.written out.new) (K.faults out.old) (K.faults out.new) result }
+    ensures lines { PutsLines (K.written out.old) (K.written out.new) result }
+{
+    if !is_told(refusal) {
+        return Status::NoMemory;
+    }
+    match refusal_line(alloc, refusal) {
+        Ok(line) => say(line.as_str(), refusal_status(refusal), out),
+        Err(_) => Status::NoMemory,
     }
 }

@@ -6,26 +6,16 @@ ghost use Rattle.metis_top.specs.Course.{Ran};
 ghost use Rattle.metis_top.specs.Honest.{Headline, IsThePlan, PlansHave, Tells, Undisturbed};
 ghost use Rattle.metis_top.specs.Numbered.{TellsReadFault};
 ghost use Rattle.metis_top.specs.Openings.{OpensFiles};
-ghost use Rattle.metis_top.specs.PutLines.{PutsLines};
+ghost use Rattle.metis_output.specs.PutLines.{PutsLines};
 ghost use Rattle.metis_output.specs.Statuses.{IsVerdict};
 ghost use Rattle.metis_words.specs.Words.{form_of};
 ghost use Rattle.metis_top.specs.Stops.{word_stop};
 ghost use Rattle.metis_universe.specs.Texts.{texts};
 
-use crate::audit::audit_file;
-use crate::confirming::confirm_file;
-use crate::control::control_file;
-use crate::crew::crew_file;
-use crate::place::place_file;
-use crate::plan::plan_file;
-use crate::print::print_file;
-use crate::refute::refute_file;
-use crate::replay::replay_file;
-use crate::rollout::rollout_file;
-use crate::sim::sim_file;
+use crate::checks::{audit, confirm, refute, replay, simulate};
+use crate::deployments::{control, crew, place, waves};
 use crate::stop::end;
-use crate::waves::waves_file;
-use crate::why::why_file;
+use crate::targets::{plan, print, rollout, why};
 use metis_answer::put_load;
 use metis_gather::{Refusal, Stop};
 use metis_output::Status;
@@ -78,7 +68,8 @@ pub fn run<H: Shelf, K: Sink>(alloc: Global, words: &[String], shelf: &mut H, ou
 
 // Reads the words, and does what they say.
 fn follow<H: Shelf, K: Sink>(alloc: Global, words: &[String], shelf: &mut H, out: &mut K) -> Status
-    ensures { Ran H.files H.faults H.opens K.written K.faults (script_of (texts words.now)) shelf.old shelf.new out.old out.new result }
+    ensures course { Ran H.files H.faults H.opens K.written K.faults (script_of (texts words.now)) shelf.old shelf.new out.old out.new result }
+    ensures lines { PutsLines (K.written out.old) (K.written out.new) result }
 {
     match read_words(alloc, words) {
         Ok(command) => perform(alloc, &command, shelf, out),
@@ -96,58 +87,30 @@ fn word_stop(fault: WordFault) -> Stop
     }
 }
 
+// Does what the command's verb says.
 fn perform<H: Shelf, K: Sink>(
     alloc: Global,
     command: &Command,
     shelf: &mut H,
     out: &mut K,
 ) -> Status
-    ensures { Ran H.files H.faults H.opens K.written K.faults (command_script command.now.verb (texts command.now.files.items) command.now.targets.items command.now.size command.now.numbers.items) shelf.old shelf.new out.old out.new result }
+    ensures course { Ran H.files H.faults H.opens K.written K.faults (command_script command.now.verb (texts command.now.files.items) command.now.targets.items command.now.size command.now.numbers.items) shelf.old shelf.new out.old out.new result }
+    ensures lines { PutsLines (K.written out.old) (K.written out.new) result }
 {
     match command.verb {
-        Verb::Plan => plan_file(alloc, command.file(0), command.targets(), shelf, out),
-        Verb::Replay => {
-            let (file, plan) = (command.file(0), command.file(1));
-            replay_file(alloc, file, plan, command.targets(), shelf, out)
-        }
-        Verb::Refute => {
-            let (file, text) = (command.file(0), command.file(1));
-            refute_file(alloc, file, text, command.targets(), shelf, out)
-        }
-        Verb::Audit => {
-            let (file, plan) = (command.file(0), command.file(1));
-            audit_file(alloc, file, plan, command.targets(), shelf, out)
-        }
-        Verb::Sim => {
-            let (file, input) = (command.file(0), command.file(1));
-            sim_file(alloc, file, input, shelf, out)
-        }
-        Verb::Crew => {
-            let (file, plan) = (command.file(0), command.file(1));
-            crew_file(alloc, file, plan, command.file(2), shelf, out)
-        }
-        Verb::Waves => {
-            let (file, plan) = (command.file(0), command.file(1));
-            waves_file(alloc, file, plan, command.numbers(), shelf, out)
-        }
-        Verb::Control => {
-            let (file, plan) = (command.file(0), command.file(1));
-            control_file(alloc, file, plan, command.file(2), shelf, out)
-        }
-        Verb::Rollout => {
-            let (file, plan) = (command.file(0), command.file(1));
-            rollout_file(alloc, file, plan, command.targets(), shelf, out)
-        }
-        Verb::Place => {
-            let (file, plan) = (command.file(0), command.file(1));
-            place_file(alloc, file, plan, command.file(2), shelf, out)
-        }
-        Verb::Print => print_file(alloc, command.file(0), shelf, out),
+        Verb::Plan => plan(alloc, command, shelf, out),
+        Verb::Replay => replay(alloc, command, shelf, out),
+        Verb::Refute => refute(alloc, command, shelf, out),
+        Verb::Audit => audit(alloc, command, shelf, out),
+        Verb::Sim => simulate(alloc, command, shelf, out),
+        Verb::Crew => crew(alloc, command, shelf, out),
+        Verb::Waves => waves(alloc, command, shelf, out),
+        Verb::Control => control(alloc, command, shelf, out),
+        Verb::Rollout => rollout(alloc, command, shelf, out),
+        Verb::Place => place(alloc, command, shelf, out),
+        Verb::Print => print(alloc, command, shelf, out),
         Verb::Load => put_load(alloc, command.size, out),
-        Verb::Why => why_file(alloc, command.file(0), command.targets(), shelf, out),
-        Verb::Confirm => {
-            let (file, text) = (command.file(0), command.file(1));
-            confirm_file(alloc, file, text, command.targets(), shelf, out)
-        }
+        Verb::Why => why(alloc, command, shelf, out),
+        Verb::Confirm => confirm(alloc, command, shelf, out),
     }
 }

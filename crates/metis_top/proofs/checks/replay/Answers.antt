@@ -1,0 +1,25 @@
+use Rattle.std.proofs.Common.{◌≡◌, ◌≢◌, ℕ, List}
+use Rattle.metis_universe.specs.Universe.{Universe}
+use Rattle.metis_ids.specs.declared.goals.Goal.{Goal}
+use Rattle.metis_ids.specs.declared.actions.Action.{Action}
+use Rattle.metis_answer.specs.Replayed.{Replayed, verdict_status}
+use Rattle.metis_replay.specs.declared.verdict.Verdict.{Verdict}
+use Rattle.metis_replay.specs.declared.verdict.Verdict.TheVariants.{Good, Bad, Missing}
+use Rattle.metis_output.specs.declared.status.Status.{Status}
+use Rattle.metis_output.specs.declared.status.Status.TheVariants.{ReadFault}
+use Rattle.metis_top.proofs.Gathered.{done_is_calm, no_is_calm, ran_answered, ran_halted}
+use Rattle.metis_words.specs.declared.words.Verb.TheVariants.{Replay}
+use Rattle.metis_top.proofs.checks.replay.Goals as goal
+
+calm_replay : (u : Universe) (goals : List Goal) (actions : List Action) (lines : List (List ℕ)) (status : Status) → Replayed u goals actions lines status → status ≢ ReadFault
+calm_replay u goals actions lines status replayed = ends replayed.verdict replayed.is where
+  ends : (v : Verdict) → status ≡ verdict_status v → status ≢ ReadFault
+  ends Good is = done_is_calm status is
+  ends (Bad k f) is = no_is_calm status is
+  ends (Missing p have want) is = no_is_calm status is
+
+pub returns-in-Ok-clause-course : goal.returns-in-Ok-clause-course
+returns-in-Ok-clause-course g c = ran_answered _ _ _ _ _ _ Replay _ _ _ _ _ _ _ _ _ _ _ c.requires (calm_replay _ _ _) c.in-Ok.ensures c.put_verdict.ensures.answer
+
+pub returns-in-Err-clause-course : goal.returns-in-Err-clause-course
+returns-in-Err-clause-course g c = ran_halted _ _ _ _ _ _ Replay _ _ _ _ _ _ _ _ _ c.in-Err.stop _ c.requires c.in-Err.ensures c.end.ensures.course

@@ -1,0 +1,19 @@
+use Rattle.std.proofs.Common.{◌≡◌, ◌≢◌, ℕ, List, inl, inr}
+use Rattle.metis_universe.specs.Universe.{Universe}
+use Rattle.metis_ids.specs.declared.goals.Goal.{Goal}
+use Rattle.metis_answer.specs.Explained.{WhyAnswer}
+use Rattle.metis_output.specs.declared.status.Status.{Status}
+use Rattle.metis_output.specs.declared.status.Status.TheVariants.{ReadFault}
+use Rattle.metis_top.proofs.Gathered.{done_is_calm, no_is_calm, ran_answered, ran_halted}
+use Rattle.metis_words.specs.declared.words.Verb.TheVariants.{Why}
+use Rattle.metis_top.proofs.targets.why.Goals as goal
+
+calm_why : (u : Universe) (goals : List Goal) (lines : List (List ℕ)) (status : Status) → WhyAnswer u goals lines status → status ≢ ReadFault
+calm_why u goals lines status (inl is) = done_is_calm status is.0
+calm_why u goals lines status (inr is) = no_is_calm status is.0
+
+pub returns-in-Ok-clause-course : goal.returns-in-Ok-clause-course
+returns-in-Ok-clause-course g c = ran_answered _ _ _ _ _ _ Why _ _ _ _ _ _ _ _ _ _ _ c.requires (calm_why _ _) c.in-Ok.ensures c.put_why.ensures.answer
+
+pub returns-in-Err-clause-course : goal.returns-in-Err-clause-course
+returns-in-Err-clause-course g c = ran_halted _ _ _ _ _ _ Why _ _ _ _ _ _ _ _ _ c.in-Err.stop _ c.requires c.in-Err.ensures c.end.ensures.course
