@@ -59,10 +59,12 @@ at_most_texts (kind ∷ kinds) place u names next most =
 at_most_inputs : (r : Reading) (names : List (List ℕ)) (targets : List TargetName) (next : Inputs r → Script) → ((inputs : Inputs r) → IsAtMost 0 (next inputs)) → IsAtMost (files_of r) (inputs_then r names targets next)
 at_most_inputs NoFile names targets next most = most tt
 at_most_inputs (OfUniverse kinds) names targets next most =
-    subst (λ n. IsAtMost n (inputs_then (OfUniverse kinds) names targets next)) (omega arith)
+    let same : suc (length kinds) ≡ length kinds + 1 = omega arith in
+    subst (λ n. IsAtMost n (inputs_then (OfUniverse kinds) names targets next)) same
     (at_most_universe (length kinds) 2 (word_at names 0) (λ u. texts_then kinds 3 u names (λ said. next (u, said))) (λ u. at_most_texts kinds 3 u names (λ said. next (u, said)) (λ said. most (u, said))))
 at_most_inputs (OfGoals kinds) names targets next most =
-    subst (λ n. IsAtMost n (inputs_then (OfGoals kinds) names targets next)) (omega arith)
+    let same : suc (length kinds) ≡ length kinds + 1 = omega arith in
+    subst (λ n. IsAtMost n (inputs_then (OfGoals kinds) names targets next)) same
     (at_most_universe (length kinds) 2 (word_at names 0) (λ u. targets_then (length kinds + 3) u targets (λ goals. texts_then kinds 3 u names (λ said. next ((u, goals), said))))
       (λ u. at_most_judged (length kinds) (λ goals. texts_then kinds 3 u names (λ said. next ((u, goals), said))) (goals_named (length kinds + 3) u targets)
         (λ goals. at_most_texts kinds 3 u names (λ said. next ((u, goals), said)) (λ said. most ((u, goals), said)))))

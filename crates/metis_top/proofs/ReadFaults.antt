@@ -77,7 +77,7 @@ numbered_texts : (kinds : List TextKind) (place : ℕ) (u : Universe) (names : L
 numbered_texts [] place u names next n = n tt place
 numbered_texts (kind ∷ kinds) place u names next n =
     numbered_text kind place u (word_at names (place - 2)) (λ said. texts_then kinds (place + 1) u names (λ more. next (said, more)))
-    (λ said. subst (λ k. Numbered k (texts_then kinds (place + 1) u names (λ more. next (said, more)))) (omega arith)
+    (λ said. let same : place + 1 ≡ suc place = omega arith in subst (λ k. Numbered k (texts_then kinds (place + 1) u names (λ more. next (said, more)))) same
       (numbered_texts kinds (place + 1) u names (λ more. next (said, more)) (λ more first. n (said, more) first)))
 
 -- the files of a command

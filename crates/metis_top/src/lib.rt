@@ -2,7 +2,7 @@
 #![tactic(auto)]
 
 mod checks;
-mod deployments;
+mod plans;
 mod in_memory;
 mod stop;
 mod targets;

@@ -13,7 +13,7 @@ ghost use Rattle.metis_top.specs.Stops.{word_stop};
 ghost use Rattle.metis_universe.specs.Texts.{texts};
 
 use crate::checks::{audit, confirm, refute, replay, simulate};
-use crate::deployments::{control, crew, place, waves};
+use crate::plans::{control, crew, place, waves};
 use crate::stop::end;
 use crate::targets::{plan, print, rollout, why};
 use metis_answer::put_load;

@@ -24,7 +24,7 @@ calm_audit u goals plan after lines status (inl audited) = ends audited.for_pair
 calm_audit u goals plan after lines status (inr lacking) = no_is_calm status lacking.is
 
 pub returns-in-Ok-clause-course : goal.returns-in-Ok-clause-course
-returns-in-Ok-clause-course g c = ran_answered _ _ _ _ _ _ Audit _ _ _ _ _ _ _ _ _ _ _ c.requires (calm_audit _ _ _ _) c.in-Ok.ensures c.put_audit.ensures.answer
+returns-in-Ok-clause-course g c = ran_answered _ _ _ _ _ _ Audit _ _ _ _ _ _ _ _ _ _ _ c.requires (calm_audit _ _ _ _) c.in-Ok.ensures.gathers c.put_audit.ensures.answer
 
 pub returns-in-Err-clause-course : goal.returns-in-Err-clause-course
-returns-in-Err-clause-course g c = ran_halted _ _ _ _ _ _ Audit _ _ _ _ _ _ _ _ _ c.in-Err.stop _ c.requires c.in-Err.ensures c.end.ensures.course
+returns-in-Err-clause-course g c = ran_halted _ _ _ _ _ _ Audit _ _ _ _ _ _ _ _ _ c.in-Err.stop _ c.requires c.in-Err.ensures.gathers c.end.ensures.course

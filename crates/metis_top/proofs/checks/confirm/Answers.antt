@@ -20,7 +20,7 @@ calm_confirm u goals why lines status confirms = ends (verdict u why goals) conf
   ends confirmation.LacksNone is = no_is_calm status is
 
 pub returns-in-Ok-clause-course : goal.returns-in-Ok-clause-course
-returns-in-Ok-clause-course g c = ran_answered _ _ _ _ _ _ Confirm _ _ _ _ _ _ _ _ _ _ _ c.requires (calm_confirm _ _ _) c.in-Ok.ensures c.put_confirmation.ensures.answer
+returns-in-Ok-clause-course g c = ran_answered _ _ _ _ _ _ Confirm _ _ _ _ _ _ _ _ _ _ _ c.requires (calm_confirm _ _ _) c.in-Ok.ensures.gathers c.put_confirmation.ensures.answer
 
 pub returns-in-Err-clause-course : goal.returns-in-Err-clause-course
-returns-in-Err-clause-course g c = ran_halted _ _ _ _ _ _ Confirm _ _ _ _ _ _ _ _ _ c.in-Err.stop _ c.requires c.in-Err.ensures c.end.ensures.course
+returns-in-Err-clause-course g c = ran_halted _ _ _ _ _ _ Confirm _ _ _ _ _ _ _ _ _ c.in-Err.stop _ c.requires c.in-Err.ensures.gathers c.end.ensures.course

@@ -19,7 +19,7 @@ calm_refute u goals set lines status judged = ends judged.verdict judged.is wher
   ends LacksNone is = no_is_calm status is
 
 pub returns-in-Ok-clause-course : goal.returns-in-Ok-clause-course
-returns-in-Ok-clause-course g c = ran_answered _ _ _ _ _ _ Refute _ _ _ _ _ _ _ _ _ _ _ c.requires (calm_refute _ _ _) c.in-Ok.ensures c.put_judgement.ensures.answer
+returns-in-Ok-clause-course g c = ran_answered _ _ _ _ _ _ Refute _ _ _ _ _ _ _ _ _ _ _ c.requires (calm_refute _ _ _) c.in-Ok.ensures.gathers c.put_judgement.ensures.answer
 
 pub returns-in-Err-clause-course : goal.returns-in-Err-clause-course
-returns-in-Err-clause-course g c = ran_halted _ _ _ _ _ _ Refute _ _ _ _ _ _ _ _ _ c.in-Err.stop _ c.requires c.in-Err.ensures c.end.ensures.course
+returns-in-Err-clause-course g c = ran_halted _ _ _ _ _ _ Refute _ _ _ _ _ _ _ _ _ c.in-Err.stop _ c.requires c.in-Err.ensures.gathers c.end.ensures.course

@@ -19,7 +19,7 @@ calm_replay u goals actions lines status replayed = ends replayed.verdict replay
   ends (Missing p have want) is = no_is_calm status is
 
 pub returns-in-Ok-clause-course : goal.returns-in-Ok-clause-course
-returns-in-Ok-clause-course g c = ran_answered _ _ _ _ _ _ Replay _ _ _ _ _ _ _ _ _ _ _ c.requires (calm_replay _ _ _) c.in-Ok.ensures c.put_verdict.ensures.answer
+returns-in-Ok-clause-course g c = ran_answered _ _ _ _ _ _ Replay _ _ _ _ _ _ _ _ _ _ _ c.requires (calm_replay _ _ _) c.in-Ok.ensures.gathers c.put_verdict.ensures.answer
 
 pub returns-in-Err-clause-course : goal.returns-in-Err-clause-course
-returns-in-Err-clause-course g c = ran_halted _ _ _ _ _ _ Replay _ _ _ _ _ _ _ _ _ c.in-Err.stop _ c.requires c.in-Err.ensures c.end.ensures.course
+returns-in-Err-clause-course g c = ran_halted _ _ _ _ _ _ Replay _ _ _ _ _ _ _ _ _ c.in-Err.stop _ c.requires c.in-Err.ensures.gathers c.end.ensures.course

@@ -15,7 +15,7 @@ calm_rollout u goals actions lines status (inr (inl loose)) = no_is_calm status 
 calm_rollout u goals actions lines status (inr (inr puts)) = elim puts.answer [ inl is ↦ done_is_calm status is.0 | inr is ↦ no_is_calm status is.0 ]
 
 pub returns-in-Ok-clause-course : goal.returns-in-Ok-clause-course
-returns-in-Ok-clause-course g c = ran_answered _ _ _ _ _ _ Rollout _ _ _ _ _ _ _ _ _ _ _ c.requires (calm_rollout _ _ _) c.in-Ok.ensures c.put_rollout.ensures.answer
+returns-in-Ok-clause-course g c = ran_answered _ _ _ _ _ _ Rollout _ _ _ _ _ _ _ _ _ _ _ c.requires (calm_rollout _ _ _) c.in-Ok.ensures.gathers c.put_rollout.ensures.answer
 
 pub returns-in-Err-clause-course : goal.returns-in-Err-clause-course
-returns-in-Err-clause-course g c = ran_halted _ _ _ _ _ _ Rollout _ _ _ _ _ _ _ _ _ c.in-Err.stop _ c.requires c.in-Err.ensures c.end.ensures.course
+returns-in-Err-clause-course g c = ran_halted _ _ _ _ _ _ Rollout _ _ _ _ _ _ _ _ _ c.in-Err.stop _ c.requires c.in-Err.ensures.gathers c.end.ensures.course

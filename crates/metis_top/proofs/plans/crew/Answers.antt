@@ -6,7 +6,7 @@ use Rattle.metis_output.specs.declared.status.Status.{Status}
 use Rattle.metis_output.specs.declared.status.Status.TheVariants.{ReadFault}
 use Rattle.metis_top.proofs.Gathered.{done_is_calm, no_is_calm, ran_answered, ran_halted}
 use Rattle.metis_words.specs.declared.words.Verb.TheVariants.{Crew}
-use Rattle.metis_top.proofs.deployments.crew.Goals as goal
+use Rattle.metis_top.proofs.plans.crew.Goals as goal
 
 calm_crew : (u : Universe) (actions : List Action) (x : List ℕ) (lines : List (List ℕ)) (status : Status) → Crewed u actions x lines status → status ≢ ReadFault
 calm_crew u actions x lines status (inl bad) = no_is_calm status bad.is
@@ -14,7 +14,7 @@ calm_crew u actions x lines status (inr (inl loose)) = no_is_calm status loose.i
 calm_crew u actions x lines status (inr (inr done)) = done_is_calm status done.is
 
 pub returns-in-Ok-clause-course : goal.returns-in-Ok-clause-course
-returns-in-Ok-clause-course g c = ran_answered _ _ _ _ _ _ Crew _ _ _ _ _ _ _ _ _ _ _ c.requires (calm_crew _ _ _) c.in-Ok.ensures c.put_crew.ensures.answer
+returns-in-Ok-clause-course g c = ran_answered _ _ _ _ _ _ Crew _ _ _ _ _ _ _ _ _ _ _ c.requires (calm_crew _ _ _) c.in-Ok.ensures.gathers c.put_crew.ensures.answer
 
 pub returns-in-Err-clause-course : goal.returns-in-Err-clause-course
-returns-in-Err-clause-course g c = ran_halted _ _ _ _ _ _ Crew _ _ _ _ _ _ _ _ _ c.in-Err.stop _ c.requires c.in-Err.ensures c.end.ensures.course
+returns-in-Err-clause-course g c = ran_halted _ _ _ _ _ _ Crew _ _ _ _ _ _ _ _ _ c.in-Err.stop _ c.requires c.in-Err.ensures.gathers c.end.ensures.course

@@ -7,7 +7,7 @@ use Rattle.metis_output.specs.declared.status.Status.{Status}
 use Rattle.metis_output.specs.declared.status.Status.TheVariants.{ReadFault}
 use Rattle.metis_top.proofs.Gathered.{done_is_calm, no_is_calm, ran_answered, ran_halted}
 use Rattle.metis_words.specs.declared.words.Verb.TheVariants.{Place}
-use Rattle.metis_top.proofs.deployments.place.Goals as goal
+use Rattle.metis_top.proofs.plans.place.Goals as goal
 
 calm_place : (u : Universe) (actions : List Action) (x : HostLists) (lines : List (List ℕ)) (status : Status) → Placed u actions x lines status → status ≢ ReadFault
 calm_place u actions x lines status (inl bad) = no_is_calm status bad.is
@@ -16,7 +16,7 @@ calm_place u actions x lines status (inr (inr (inl none))) = no_is_calm status n
 calm_place u actions x lines status (inr (inr (inr placed))) = done_is_calm status placed.is
 
 pub returns-in-Ok-clause-course : goal.returns-in-Ok-clause-course
-returns-in-Ok-clause-course g c = ran_answered _ _ _ _ _ _ Place _ _ _ _ _ _ _ _ _ _ _ c.requires (calm_place _ _ _) c.in-Ok.ensures c.put_place.ensures.answer
+returns-in-Ok-clause-course g c = ran_answered _ _ _ _ _ _ Place _ _ _ _ _ _ _ _ _ _ _ c.requires (calm_place _ _ _) c.in-Ok.ensures.gathers c.put_place.ensures.answer
 
 pub returns-in-Err-clause-course : goal.returns-in-Err-clause-course
-returns-in-Err-clause-course g c = ran_halted _ _ _ _ _ _ Place _ _ _ _ _ _ _ _ _ c.in-Err.stop _ c.requires c.in-Err.ensures c.end.ensures.course
+returns-in-Err-clause-course g c = ran_halted _ _ _ _ _ _ Place _ _ _ _ _ _ _ _ _ c.in-Err.stop _ c.requires c.in-Err.ensures.gathers c.end.ensures.course
