@@ -1,9 +1,5 @@
-pub mod Aims
-pub mod AnswerLines
-pub mod Confirmations
-pub mod FirstGoals
+pub mod LoadLines
 pub mod Loads
 pub mod NeverLoose
 pub mod PrintedAudits
 pub mod Replies
-pub mod Sessions

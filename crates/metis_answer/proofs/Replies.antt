@@ -1,5 +1,5 @@
 -- What is answered.
-use Rattle.std.proofs.Common.{◌≡◌, ℕ, ◌+◌, ◌*◌, ◌≤◌, ◌^◌, List, [], ◌∷◌, length, get_or, refl, sym, ap, ◌∙◌, subst, inl, inr, arith}
+use Rattle.std.proofs.Common.{◌≡◌, ℕ, ◌+◌, ◌*◌, ◌≤◌, ◌^◌, List, [], length, get_or, refl, sym, ◌∙◌, subst, inl, inr, arith}
 use Rattle.std.specs.List.{count_by}
 use Rattle.metis_ids.specs.declared.actions.Action.{Action}
 use Rattle.metis_ids.specs.Plans.{Plan}
@@ -19,16 +19,11 @@ use Rattle.metis_universe.specs.Universe.{IsTable, Universe, greatest_demand}
 use Rattle.metis_planner.specs.Outcomes.{EventBelow}
 use Rattle.metis_planner.specs.PlanFor.{IsPlanFor}
 use Rattle.metis_planner.specs.Rounds.{numbered}
-use Rattle.metis_replay.specs.Exact.{Tells}
-use Rattle.metis_replay.specs.declared.verdict.Verdict.{Verdict}
-use Rattle.metis_replay.specs.declared.verdict.Verdict.TheVariants.{Good, Bad, Missing}
 use Rattle.metis_text.specs.InRange.{IsEventInRange}
 use Rattle.metis_ids.specs.Action.{makes}
 use Rattle.metis_text.specs.PlanText.{IsWellFormed}
 use Rattle.metis_answer.specs.Planned.{IsDoubledByNeed, IsPlan, PlanAnswer, PutsPlan, others, plan_text}
 use Rattle.metis_text.specs.RefusalText.{refusal_lines}
-use Rattle.metis_answer.specs.Replayed.{Replayed, good_line, verdict_line, verdict_status}
-use Rattle.metis_deploy.specs.Steady.{standing_after}
 use Rattle.metis_output.specs.declared.status.Status.{Status}
 use Rattle.metis_output.specs.declared.status.Status.TheVariants.{Done, No}
 
@@ -68,10 +63,3 @@ answer_for_goals u goals pairs resolved attains lines status (is, p) = inl (is, 
 -- the lines of a refusal answer
 pub answer_by_refusal : (u : Universe) (goals : List Goal) (s : List ℕ) (g : Goal) → IsAttainedSet u s → GoalRefusal u goals s g → PlanAnswer u goals (refusal_lines u s g) No
 answer_by_refusal u goals s g all refusal = inr (refl, record { unattained = goals_refused u goals s g refusal; set = s; lacking = g; refusal = record { refusal = refusal; all = all }; told = refl })
-
--- the line of a verdict answers
-pub answer_by_verdict : (u : Universe) (g : List Goal) (actions : List Action) (v : Verdict) (standing : ℕ) → Tells u actions g v → (v ≡ Good → standing ≡ standing_after u actions)
-    → Replayed u g actions (verdict_line u standing (length actions) v ∷ []) (verdict_status v)
-answer_by_verdict u g actions Good standing tells stands = record { verdict = Good; tells = tells; told = ap (λ n. good_line n (length actions) ∷ []) (stands refl); is = refl }
-answer_by_verdict u g actions (Bad n f) standing tells stands = record { verdict = Bad n f; tells = tells; told = refl; is = refl }
-answer_by_verdict u g actions (Missing p have want) standing tells stands = record { verdict = Missing p have want; tells = tells; told = refl; is = refl }

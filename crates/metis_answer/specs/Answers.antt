@@ -1,18 +1,18 @@
 -- The lines that answer, and the status.
 use Rattle.std.specs.Prelude.{◌≡◌, ℕ, List, [], ◌∷◌}
 use Rattle.metis_ujson.specs.Canonical.{canonical}
-use Rattle.metis_answer.specs.Audited.{Audited}
+use Rattle.metis_check.specs.Audited.{Audited}
 use Rattle.metis_deploy.specs.Controlled.{Controlled}
-use Rattle.metis_answer.specs.Confirmed.{Confirms}
+use Rattle.metis_check.specs.Confirmed.{Confirms}
 use Rattle.metis_deploy.specs.Crewed.{Crewed}
-use Rattle.metis_answer.specs.Explained.{WhyAnswer}
-use Rattle.metis_answer.specs.Judged.{Judged}
+use Rattle.metis_check.specs.Explained.{WhyAnswer}
+use Rattle.metis_check.specs.Judged.{Judged}
 use Rattle.metis_answer.specs.Loaded.{Loaded}
 use Rattle.metis_deploy.specs.Placed.{Placed}
 use Rattle.metis_answer.specs.Planned.{PlanAnswer}
-use Rattle.metis_answer.specs.Replayed.{Replayed}
+use Rattle.metis_check.specs.Replayed.{Replayed}
 use Rattle.metis_answer.specs.RolledOut.{RolledOut}
-use Rattle.metis_answer.specs.Simulated.{Simulated}
+use Rattle.metis_check.specs.Simulated.{Simulated}
 use Rattle.metis_deploy.specs.Waved.{Waved}
 use Rattle.metis_output.specs.declared.status.Status.{Status}
 use Rattle.metis_output.specs.declared.status.Status.TheVariants.{Done}

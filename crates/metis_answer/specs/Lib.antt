@@ -1,11 +1,4 @@
-pub mod Aims
 pub mod Answers
-pub mod Audited
-pub mod Confirmed
-pub mod Explained
-pub mod Judged
 pub mod Loaded
 pub mod Planned
-pub mod Replayed
 pub mod RolledOut
-pub mod Simulated

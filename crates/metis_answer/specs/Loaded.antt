@@ -16,7 +16,7 @@ use Rattle.metis_replay.specs.declared.verdict.Verdict.{Verdict}
 use Rattle.metis_replay.specs.declared.verdict.Verdict.TheVariants.{Good, Bad, Missing}
 use Rattle.metis_gen.specs.Generated.{generated, generated_targets}
 use Rattle.metis_planner.specs.Rounds.{IsByRounds}
-use Rattle.metis_answer.specs.Replayed.{verdict_status}
+use Rattle.metis_check.specs.Replayed.{verdict_status}
 use Rattle.metis_output.specs.declared.status.Status.{Status}
 use Rattle.metis_output.specs.declared.status.Status.TheVariants.{Done}
 

@@ -1,18 +1,10 @@
 //! Laws over the definitions.
-ghost use Rattle.std.specs.Prelude.{◌≡◌, ℕ, List, [], ◌∷◌, codes};
+ghost use Rattle.std.specs.Prelude.{ℕ, List};
 ghost use Rattle.metis_ids.specs.declared.goals.Goal.{Goal};
 ghost use Rattle.metis_audit.specs.Audits.{IsAnswer};
 ghost use Rattle.metis_audit.specs.declared.answers.Answer.TheVariants.{Justified};
 ghost use Rattle.metis_universe.specs.Universe.{IsUniverse, Universe};
-ghost use Rattle.metis_sim.specs.Session.{Session, reply};
-ghost use Rattle.metis_sim.specs.declared.reply.Reply.TheVariants.{Bye};
 ghost use Rattle.metis_answer.specs.Planned.{Plans, others};
-ghost use Rattle.metis_answer.specs.Simulated.{replies_to};
-
-/// Behind the reply to `quit` nothing is put, whatever lines follow.
-pub fn nothing_is_put_behind_quit()
-    ensures { (u : Universe) (s : Session) (line : List ℕ) (lines : List (List ℕ)) → reply s line ≡ Bye → replies_to u s (line ∷ lines) ≡ codes "bye\n" ∷ [] }
-{}
 
 /// The plan that is printed is justified for the pairs for its goals, with the numbers that stand behind its actions.
 pub fn printed_plans_are_justified()

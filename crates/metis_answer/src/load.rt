@@ -14,6 +14,7 @@ ghost use Rattle.metis_planner.specs.Rounds.{IsByRounds};
 ghost use Rattle.metis_gen.specs.Generated.{generated, generated_targets};
 ghost use Rattle.metis_gather.specs.Answer as answer;
 ghost use Rattle.metis_answer.specs.Answers.{IsAnswer};
+ghost use Rattle.metis_output.specs.PutLines.{PutsLines};
 ghost use Rattle.metis_output.specs.Shown.{Shown};
 ghost use Rattle.metis_answer.specs.Loaded.{Summed, counts_line, load_line};
 
@@ -29,10 +30,12 @@ use metis_universe::Universe;
 use std::alloc::{AllocError, Global};
 
 /// Makes the generated universe of this size, plans for its targets, replays the plan, and puts its counts.
+#[tactic(auto, using(metis_output::proofs::PutLines::puts_nothing))]
 pub fn put_load<K: Sink>(alloc: Global, n: u32, out: &mut K) -> Status
     requires at_least { 1 ≤ n }
     requires at_most { n ≤ 128 }
-    ensures { Shown (IsAnswer (answer.Load n)) (K.written out.old) (K.written out.new) (K.faults out.old) (K.faults out.new) result }
+    ensures answer { Shown (IsAnswer (answer.Load n)) (K.written out.old) (K.written out.new) (K.faults out.old) (K.faults out.new) result }
+    ensures lines { PutsLines (K.written out.old) (K.written out.new) result }
 {
     match generated_goal(alloc, n) {
         Ok((universe, targets)) => put_planned_load(alloc, n, &universe, &targets, out),
@@ -53,6 +56,7 @@ fn generated_goal(alloc: Global, n: u32) -> Result<(Universe, Vec<PairIx>), NoMe
 }
 
 // The same where both are made.
+#[tactic(auto, using(metis_output::proofs::PutLines::puts_nothing))]
 fn put_planned_load<K: Sink>(
     alloc: Global,
     n: u32,
@@ -63,7 +67,8 @@ fn put_planned_load<K: Sink>(
     requires at_most { n ≤ 128 }
     requires universe { u.now ≡ generated n }
     requires targets { targets.now ≡ generated_targets n }
-    ensures { Shown (IsAnswer (answer.Load n)) (K.written out.old) (K.written out.new) (K.faults out.old) (K.faults out.new) result }
+    ensures answer { Shown (IsAnswer (answer.Load n)) (K.written out.old) (K.written out.new) (K.faults out.old) (K.faults out.new) result }
+    ensures lines { PutsLines (K.written out.old) (K.written out.new) result }
 {
     rounds_come_to_one_plan();
     match plan_for(alloc, n, u, targets) {
@@ -95,6 +100,7 @@ fn plan_for(alloc: Global, n: u32, u: &Universe, targets: &[PairIx]) -> Result<P
 }
 
 // Replays a plan, and puts its counts where it is good.
+#[tactic(auto, using(metis_output::proofs::PutLines::puts_nothing))]
 fn put_summary<K: Sink>(
     alloc: Global,
     n: u32,
@@ -106,7 +112,8 @@ fn put_summary<K: Sink>(
     requires numbers { All (IsOf u.now) plan.now.actions }
     requires few { length plan.now.actions < 2 ^ 32 - 1 }
     requires within { All (λ p. p < pair_count u.now) targets.now }
-    ensures { Shown (Summed n u.now targets.now plan.now) (K.written out.old) (K.written out.new) (K.faults out.old) (K.faults out.new) result }
+    ensures answer { Shown (Summed n u.now targets.now plan.now) (K.written out.old) (K.written out.new) (K.faults out.old) (K.faults out.new) result }
+    ensures lines { PutsLines (K.written out.old) (K.written out.new) result }
 {
     match verdict_on(alloc, u, &plan.actions, targets) {
         Ok(Verdict::Good) => said(write_load(alloc, n, u, targets, plan, out), Status::Done),

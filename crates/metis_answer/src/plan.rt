@@ -12,12 +12,13 @@ ghost use Rattle.metis_waits.specs.Judged.{IsBegun};
 ghost use Rattle.metis_waits.specs.Waits.{AreWaits};
 ghost use Rattle.metis_gather.specs.Answer as answer;
 ghost use Rattle.metis_answer.specs.Answers.{IsAnswer};
+ghost use Rattle.metis_output.specs.PutLines.{PutsLines};
 ghost use Rattle.metis_output.specs.Shown.{Shown};
 ghost use Rattle.metis_answer.specs.Planned.{PutsPlan, plan_text};
 ghost use Rattle.metis_outside.specs.Faults.{CountsFault};
 ghost use Rattle.metis_outside.specs.Writes.{Writes};
 
-use crate::aim::{Aim, aim_of};
+use metis_check::{Aim, aim_of};
 use metis_choice::pairs_for_goals_hold_them;
 use metis_ids::{Action, Goal, NoMemory, PairIx, Plan};
 use metis_layers::table::Layers;
@@ -30,12 +31,15 @@ use metis_waits::{Judged, WFault, Waits};
 use std::alloc::Global;
 
 /// Puts a plan for the goals, or a refusal where nothing attains them.
+#[tactic(auto, using(metis_output::proofs::PutLines::puts_nothing))]
 pub fn put_plan<K: Sink>(alloc: Global, u: &Universe, goals: &[Goal], out: &mut K) -> Status
     requires few { length goals.now ≤ 256 }
     requires within { All (IsGoalOf u.now) goals.now }
     requires wordable { All (IsWordable u.now) goals.now }
-    ensures { Shown (IsAnswer (answer.Plan u.now goals.now)) (K.written out.old) (K.written out.new) (K.faults out.old) (K.faults out.new) result }
+    ensures answer { Shown (IsAnswer (answer.Plan u.now goals.now)) (K.written out.old) (K.written out.new) (K.faults out.old) (K.faults out.new) result }
+    ensures lines { PutsLines (K.written out.old) (K.written out.new) result }
 {
+    u.keeps_invariant();
     pairs_for_goals_hold_them();
     match aim_of(alloc, u, goals) {
         Ok(Aim::Pairs(pairs, layers)) => put_plan_for(alloc, u, &layers, &pairs, out),
@@ -45,6 +49,7 @@ pub fn put_plan<K: Sink>(alloc: Global, u: &Universe, goals: &[Goal], out: &mut 
 }
 
 // Puts a plan for the pairs. There is one, since some list of actions attains them.
+#[tactic(auto, using(metis_output::proofs::PutLines::puts_nothing))]
 fn put_plan_for<K: Sink>(
     alloc: Global,
     u: &Universe,
@@ -56,7 +61,8 @@ fn put_plan_for<K: Sink>(
     requires within { All (λ p. p < pair_count u.now) pairs.now }
     requires layers { IsLayers u.now layers.now }
     requires attained { Attains u.now pairs.now }
-    ensures { Shown (PutsPlan u.now pairs.now) (K.written out.old) (K.written out.new) (K.faults out.old) (K.faults out.new) result }
+    ensures answer { Shown (PutsPlan u.now pairs.now) (K.written out.old) (K.written out.new) (K.faults out.old) (K.faults out.new) result }
+    ensures lines { PutsLines (K.written out.old) (K.written out.new) result }
 {
     u.keeps_invariant();
     nothing_is_doubled_without_a_cycle();

@@ -16,11 +16,12 @@ ghost use Rattle.metis_universe.specs.Universe.{pair_count};
 ghost use Rattle.metis_gather.specs.Answer as answer;
 ghost use Rattle.metis_gather.specs.Commands.{plan_limit};
 ghost use Rattle.metis_answer.specs.Answers.{IsAnswer};
+ghost use Rattle.metis_output.specs.PutLines.{PutsLines};
 ghost use Rattle.metis_output.specs.Shown.{Shown};
 ghost use Rattle.metis_answer.specs.RolledOut.{IsOld, PutsRolloutTo, RolloutAnswer, rollout_plan, rollout_text};
 
-use crate::aim::{Aim, aim_of};
 use crate::plan::write_further;
+use metis_check::{Aim, aim_of};
 use metis_choice::pairs_for_goals_hold_them;
 use metis_config::Config;
 use metis_deploy::{Followed, follow, write_bad, write_loose};
@@ -37,6 +38,7 @@ use std::alloc::Global;
 
 /// Puts the first old action that cannot be done; or else a plan that begins with the old actions, makes what the goals ask for
 /// beside what these leave, and then removes that; or a refusal where nothing attains the goals.
+#[tactic(auto, using(metis_output::proofs::PutLines::puts_nothing))]
 pub fn put_rollout<K: Sink>(
     alloc: Global,
     u: &Universe,
@@ -49,7 +51,8 @@ pub fn put_rollout<K: Sink>(
     requires wordable { All (IsWordable u.now) goals.now }
     requires numbers { All (IsOf u.now) old.now }
     requires short { length old.now < plan_limit }
-    ensures { Shown (IsAnswer (answer.Rollout u.now goals.now old.now)) (K.written out.old) (K.written out.new) (K.faults out.old) (K.faults out.new) result }
+    ensures answer { Shown (IsAnswer (answer.Rollout u.now goals.now old.now)) (K.written out.old) (K.written out.new) (K.faults out.old) (K.faults out.new) result }
+    ensures lines { PutsLines (K.written out.old) (K.written out.new) result }
 {
     match follow(alloc, u, old) {
         Ok(Followed::Left(left)) => put_steady(alloc, u, goals, old, left, out),
@@ -61,6 +64,7 @@ pub fn put_rollout<K: Sink>(
 }
 
 // Puts the first old action that is not steadfast, or else goes on from what they leave.
+#[tactic(auto, using(metis_output::proofs::PutLines::puts_nothing))]
 fn put_steady<K: Sink>(
     alloc: Global,
     u: &Universe,
@@ -76,7 +80,8 @@ fn put_steady<K: Sink>(
     requires short { length old.now < plan_limit }
     requires runs { IsRun u.now empty old.now }
     requires left { left ≡ after_all u.now empty old.now }
-    ensures { Shown (IsAnswer (answer.Rollout u.now goals.now old.now)) (K.written out.old) (K.written out.new) (K.faults out.old) (K.faults out.new) result }
+    ensures answer { Shown (IsAnswer (answer.Rollout u.now goals.now old.now)) (K.written out.old) (K.written out.new) (K.faults out.old) (K.faults out.new) result }
+    ensures lines { PutsLines (K.written out.old) (K.written out.new) result }
 {
     match Judged::new(alloc, u).go_on(alloc, u, old) {
         Ok(judged) => put_goals(
@@ -104,13 +109,16 @@ struct Old<'a> {
 }
 
 // Puts the rollout to the pairs for the goals, or a refusal.
+#[tactic(auto, using(metis_output::proofs::PutLines::puts_nothing))]
 fn put_goals<K: Sink>(alloc: Global, u: &Universe, goals: &[Goal], old: Old, out: &mut K) -> Status
     requires few { length goals.now ≤ 256 }
     requires within { All (IsGoalOf u.now) goals.now }
     requires wordable { All (IsWordable u.now) goals.now }
     requires old { IsOld u.now old.actions.now old.left old.judged }
-    ensures { Shown (RolloutAnswer u.now goals.now old.entry.actions.now) (K.written out.old) (K.written out.new) (K.faults out.old) (K.faults out.new) result }
+    ensures answer { Shown (RolloutAnswer u.now goals.now old.entry.actions.now) (K.written out.old) (K.written out.new) (K.faults out.old) (K.faults out.new) result }
+    ensures lines { PutsLines (K.written out.old) (K.written out.new) result }
 {
+    u.keeps_invariant();
     pairs_for_goals_hold_them();
     match aim_of(alloc, u, goals) {
         Ok(Aim::Pairs(pairs, layers)) => put_rollout_to(alloc, u, &layers, old, &pairs, out),
@@ -120,6 +128,7 @@ fn put_goals<K: Sink>(alloc: Global, u: &Universe, goals: &[Goal], old: Old, out
 }
 
 // Puts the rollout to the pairs. There is a plan for them, since some list of actions attains them.
+#[tactic(auto, using(metis_output::proofs::PutLines::puts_nothing))]
 fn put_rollout_to<K: Sink>(
     alloc: Global,
     u: &Universe,
@@ -133,7 +142,8 @@ fn put_rollout_to<K: Sink>(
     requires layers { IsLayers u.now layers.now }
     requires attained { Attains u.now pairs.now }
     requires old { IsOld u.now old.actions.now old.left old.judged }
-    ensures { Shown (PutsRolloutTo u.now old.entry.actions.now pairs.now) (K.written out.old) (K.written out.new) (K.faults out.old) (K.faults out.new) result }
+    ensures answer { Shown (PutsRolloutTo u.now old.entry.actions.now pairs.now) (K.written out.old) (K.written out.new) (K.faults out.old) (K.faults out.new) result }
+    ensures lines { PutsLines (K.written out.old) (K.written out.new) result }
 {
     u.keeps_invariant();
     rollout_replaces();

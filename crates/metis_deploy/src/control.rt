@@ -9,6 +9,7 @@ ghost use Rattle.metis_universe.specs.Numbers.{IsOf};
 ghost use Rattle.metis_universe.specs.Step.{IsRun};
 ghost use Rattle.metis_waits.specs.Waits.{AreWaits};
 ghost use Rattle.metis_deploy.specs.Controlled.{Controlled};
+ghost use Rattle.metis_output.specs.PutLines.{PutsLines};
 ghost use Rattle.metis_output.specs.Shown.{Shown};
 ghost use Rattle.metis_deploy.specs.Scripts.{script_lines};
 
@@ -24,6 +25,7 @@ use std::alloc::Global;
 
 /// Puts the first action that cannot be done, or else what a controller and the agents of the plan's instances answer to the lines
 /// of the script.
+#[tactic(auto, using(metis_output::proofs::PutLines::puts_nothing))]
 pub fn put_control<K: Sink>(
     alloc: Global,
     u: &Universe,
@@ -34,7 +36,8 @@ pub fn put_control<K: Sink>(
     requires numbers { All (IsOf u.now) actions.now }
     requires few { length actions.now < 2 ^ 32 - 1 }
     requires short { length script.now ≤ 65536 }
-    ensures { Shown (Controlled u.now actions.now script.now) (K.written out.old) (K.written out.new) (K.faults out.old) (K.faults out.new) result }
+    ensures answer { Shown (Controlled u.now actions.now script.now) (K.written out.old) (K.written out.new) (K.faults out.old) (K.faults out.new) result }
+    ensures lines { PutsLines (K.written out.old) (K.written out.new) result }
 {
     match first_bad(alloc, u, actions) {
         Ok(None) => put_steady(alloc, u, actions, script, out),
@@ -44,6 +47,7 @@ pub fn put_control<K: Sink>(
 }
 
 // Puts the first action that is not steadfast, or else the answers to the script.
+#[tactic(auto, using(metis_output::proofs::PutLines::puts_nothing))]
 fn put_steady<K: Sink>(
     alloc: Global,
     u: &Universe,
@@ -55,7 +59,8 @@ fn put_steady<K: Sink>(
     requires few { length actions.now < 2 ^ 32 - 1 }
     requires short { length script.now ≤ 65536 }
     requires runs { IsRun u.now empty actions.now }
-    ensures { Shown (Controlled u.now actions.now script.now) (K.written out.old) (K.written out.new) (K.faults out.old) (K.faults out.new) result }
+    ensures answer { Shown (Controlled u.now actions.now script.now) (K.written out.old) (K.written out.new) (K.faults out.old) (K.faults out.new) result }
+    ensures lines { PutsLines (K.written out.old) (K.written out.new) result }
 {
     match waits(alloc, u, actions) {
         Ok(waits) => said(

@@ -7,6 +7,7 @@ ghost use Rattle.metis_universe.specs.Config.{empty};
 ghost use Rattle.metis_universe.specs.Numbers.{IsOf};
 ghost use Rattle.metis_universe.specs.Step.{IsRun};
 ghost use Rattle.metis_waits.specs.Waits.{AreWaits};
+ghost use Rattle.metis_output.specs.PutLines.{PutsByLine, PutsLines};
 ghost use Rattle.metis_output.specs.Shown.{Shown};
 ghost use Rattle.metis_deploy.specs.Crewed.{Crewed, crew_lines, lines_left, progress_line, turn_line};
 
@@ -20,6 +21,7 @@ use metis_waits::{WFault, Waits, waits};
 use std::alloc::{AllocError, Global};
 
 /// Puts the first action that cannot be done, or else what a crew over the actions answers to the turns.
+#[tactic(auto, using(metis_output::proofs::PutLines::puts_nothing))]
 pub fn put_crew<K: Sink>(
     alloc: Global,
     u: &Universe,
@@ -29,7 +31,8 @@ pub fn put_crew<K: Sink>(
 ) -> Status
     requires numbers { All (IsOf u.now) actions.now }
     requires few { length actions.now < 2 ^ 32 - 1 }
-    ensures { Shown (Crewed u.now actions.now turns.now) (K.written out.old) (K.written out.new) (K.faults out.old) (K.faults out.new) result }
+    ensures answer { Shown (Crewed u.now actions.now turns.now) (K.written out.old) (K.written out.new) (K.faults out.old) (K.faults out.new) result }
+    ensures lines { PutsLines (K.written out.old) (K.written out.new) result }
 {
     match first_bad(alloc, u, actions) {
         Ok(None) => put_turns(alloc, u, actions, turns, out),
@@ -39,6 +42,7 @@ pub fn put_crew<K: Sink>(
 }
 
 // Puts the first action that is not steadfast, or else the answers to the turns.
+#[tactic(auto, using(metis_output::proofs::PutLines::puts_nothing))]
 fn put_turns<K: Sink>(
     alloc: Global,
     u: &Universe,
@@ -49,7 +53,8 @@ fn put_turns<K: Sink>(
     requires numbers { All (IsOf u.now) actions.now }
     requires few { length actions.now < 2 ^ 32 - 1 }
     requires runs { IsRun u.now empty actions.now }
-    ensures { Shown (Crewed u.now actions.now turns.now) (K.written out.old) (K.written out.new) (K.faults out.old) (K.faults out.new) result }
+    ensures answer { Shown (Crewed u.now actions.now turns.now) (K.written out.old) (K.written out.new) (K.faults out.old) (K.faults out.new) result }
+    ensures lines { PutsLines (K.written out.old) (K.written out.new) result }
 {
     match waits(alloc, u, actions) {
         Ok(waits) => said(
@@ -62,6 +67,7 @@ fn put_turns<K: Sink>(
 }
 
 // Puts the answers to the turns, one after the other, and then how many actions are done.
+#[tactic(auto, using(metis_output::proofs::PutLines::puts_none))]
 fn write_turns<K: Sink>(
     alloc: Global,
     actions: &[Action],
@@ -71,6 +77,7 @@ fn write_turns<K: Sink>(
 ) -> Result<(), Trouble>
     requires { AreWaits actions.now waits.now }
     ensures text { Writes (crew_lines actions.now turns.now) (K.written out.old) (K.written out.new) result }
+    ensures lines { PutsByLine (K.written out.old) (K.written out.new) result }
     ensures cause { CountsFault (K.faults out.old) (K.faults out.new) result }
 {
     let Ok(crew) = Crew::new(alloc, actions, waits) else {
@@ -100,6 +107,7 @@ struct CrewLines<'a> {
 impl<'a> Lines for CrewLines<'a> {
     ghost rest = { λ c. lines_left c.crew.actions c.crew.counts c.turns.now c.ended };
 
+    #[tactic(auto, using(crate::proofs::CrewLines::is_turn_line, crate::proofs::CrewLines::is_progress_line))]
     fn next_line(&mut self) -> Result<Option<String>, AllocError> {
         if let Some((instance, turns)) = self.turns.split_first() {
             let answer = self.crew.step(*instance);

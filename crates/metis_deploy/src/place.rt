@@ -9,6 +9,8 @@ ghost use Rattle.metis_universe.specs.Numbers.{IsOf};
 ghost use Rattle.metis_universe.specs.Steadfast.{is_steadfast};
 ghost use Rattle.metis_universe.specs.Step.{IsRun};
 ghost use Rattle.metis_universe.specs.Universe.{type_count};
+ghost use Rattle.metis_place.specs.HostsWritten.{IsEntry};
+ghost use Rattle.metis_output.specs.PutLines.{PutsLines};
 ghost use Rattle.metis_output.specs.Shown.{Shown};
 ghost use Rattle.metis_deploy.specs.Placed.{Placed, hold_line, hold_lines, hold_of_action, inst_made, made_of, no_room_line, on_line, on_lines, placed_line, placing_lines};
 
@@ -23,6 +25,7 @@ use std::alloc::{AllocError, Global};
 
 /// Puts the first action that cannot be done, or else the host of each instance that the actions make, and what they wait for
 /// besides.
+#[tactic(auto, using(metis_output::proofs::PutLines::puts_nothing))]
 pub fn put_place<K: Sink>(
     alloc: Global,
     u: &Universe,
@@ -34,7 +37,8 @@ pub fn put_place<K: Sink>(
     requires few { length actions.now < 2 ^ 32 - 1 }
     requires hosts { length h.now.hosts ≤ 65536 }
     requires sizes { length h.now.sizes ≡ type_count u.now }
-    ensures { Shown (Placed u.now actions.now h.now) (K.written out.old) (K.written out.new) (K.faults out.old) (K.faults out.new) result }
+    ensures answer { Shown (Placed u.now actions.now h.now) (K.written out.old) (K.written out.new) (K.faults out.old) (K.faults out.new) result }
+    ensures lines { All IsEntry h.now.hosts → PutsLines (K.written out.old) (K.written out.new) result }
 {
     match first_bad(alloc, u, actions) {
         Ok(None) => put_steady(alloc, u, actions, h, out),
@@ -44,6 +48,7 @@ pub fn put_place<K: Sink>(
 }
 
 // Puts the first action that is not steadfast, or else where the instances are.
+#[tactic(auto, using(metis_output::proofs::PutLines::puts_nothing))]
 fn put_steady<K: Sink>(
     alloc: Global,
     u: &Universe,
@@ -56,7 +61,8 @@ fn put_steady<K: Sink>(
     requires runs { IsRun u.now empty actions.now }
     requires hosts { length h.now.hosts ≤ 65536 }
     requires sizes { length h.now.sizes ≡ type_count u.now }
-    ensures { Shown (Placed u.now actions.now h.now) (K.written out.old) (K.written out.new) (K.faults out.old) (K.faults out.new) result }
+    ensures answer { Shown (Placed u.now actions.now h.now) (K.written out.old) (K.written out.new) (K.faults out.old) (K.faults out.new) result }
+    ensures lines { All IsEntry h.now.hosts → PutsLines (K.written out.old) (K.written out.new) result }
 {
     match first_loose(alloc, u, actions) {
         Ok(None) => put_placing(alloc, u, actions, h, out),
@@ -66,6 +72,7 @@ fn put_steady<K: Sink>(
 }
 
 // Puts the first New for which no host has room, or else where the instances are.
+#[tactic(auto, using(metis_output::proofs::PutLines::puts_nothing))]
 fn put_placing<K: Sink>(
     alloc: Global,
     u: &Universe,
@@ -78,7 +85,8 @@ fn put_placing<K: Sink>(
     requires steadfast { IsTrue (is_steadfast u.now actions.now) }
     requires hosts { length h.now.hosts ≤ 65536 }
     requires sizes { length h.now.sizes ≡ type_count u.now }
-    ensures { Shown (Placed u.now actions.now h.now) (K.written out.old) (K.written out.new) (K.faults out.old) (K.faults out.new) result }
+    ensures answer { Shown (Placed u.now actions.now h.now) (K.written out.old) (K.written out.new) (K.faults out.old) (K.faults out.new) result }
+    ensures lines { All IsEntry h.now.hosts → PutsLines (K.written out.old) (K.written out.new) result }
 {
     match place(alloc, u, actions, h) {
         Ok(placing) => said(

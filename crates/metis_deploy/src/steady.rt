@@ -7,6 +7,7 @@ ghost use Rattle.metis_deploy.specs.Steady.{bad_line, loose_line, standing_after
 ghost use Rattle.metis_outside.specs.Faults.{CountsFault};
 ghost use Rattle.metis_outside.specs.Pieces.{bytes_of};
 ghost use Rattle.metis_outside.specs.Writes.{Writes};
+ghost use Rattle.metis_output.specs.PutLines.{PutsByLine};
 ghost use Rattle.metis_replay.specs.Exact.{IsFirstBad, Tells};
 ghost use Rattle.metis_replay.specs.Progress.{IsVerdictOf, after_feeding};
 ghost use Rattle.metis_universe.specs.Config.{empty};
@@ -124,7 +125,7 @@ pub fn first_loose(alloc: Global, u: &Universe, actions: &[Action]) -> Result<Op
 }
 
 /// Puts the line of an action that cannot be done, with its number and why, by one put.
-#[tactic(auto, using(metis_outside::proofs::Writing::front_of_nothing))]
+#[tactic(auto, using(metis_outside::proofs::Writing::front_of_nothing, metis_output::proofs::PutLines::puts_none))]
 pub fn write_bad<K: Sink>(
     alloc: Global,
     u: &Universe,
@@ -134,8 +135,10 @@ pub fn write_bad<K: Sink>(
 ) -> Result<(), Trouble>
     requires { IsFaultOf u.now fault.now }
     ensures text { Writes (bad_line number (fault_text u.now fault.now) ∷ []) (K.written out.old) (K.written out.new) result }
+    ensures lines { PutsByLine (K.written out.old) (K.written out.new) result }
     ensures cause { CountsFault (K.faults out.old) (K.faults out.new) result }
 {
+    u.keeps_invariant();
     match bad_line(alloc, u, number, fault) {
         Ok(line) => put_line(line.bytes(), out),
         Err(_) => Err(Trouble::NoMemory),
@@ -156,9 +159,10 @@ fn bad_line(alloc: Global, u: &Universe, number: u32, fault: &AFault) -> Result<
 }
 
 /// Puts the line of the first action that is not steadfast.
-#[tactic(auto, using(metis_outside::proofs::Writing::front_of_nothing))]
+#[tactic(auto, using(metis_outside::proofs::Writing::front_of_nothing, metis_output::proofs::PutLines::puts_none))]
 pub fn write_loose<K: Sink>(alloc: Global, number: u32, out: &mut K) -> Result<(), Trouble>
     ensures text { Writes (loose_line number ∷ []) (K.written out.old) (K.written out.new) result }
+    ensures lines { PutsByLine (K.written out.old) (K.written out.new) result }
     ensures cause { CountsFault (K.faults out.old) (K.faults out.new) result }
 {
     let line = loose_line(alloc, number)?;

@@ -6,6 +6,7 @@ ghost use Rattle.metis_outside.specs.Writes.{Writes};
 ghost use Rattle.metis_universe.specs.Config.{empty};
 ghost use Rattle.metis_universe.specs.Numbers.{IsOf};
 ghost use Rattle.metis_universe.specs.Step.{IsRun};
+ghost use Rattle.metis_output.specs.PutLines.{PutsLines};
 ghost use Rattle.metis_output.specs.Shown.{Shown};
 ghost use Rattle.metis_deploy.specs.Waved.{Waved, chain_line, durations_of, end_lines, finish_line, schedule_lines, start_line, start_lines};
 
@@ -21,6 +22,7 @@ use std::alloc::{AllocError, Global};
 
 /// Puts the first action that cannot be done, or else for each action its earliest and its latest start, by durations of these
 /// numbers, and when all is done, with the chain of actions that takes as long.
+#[tactic(auto, using(metis_output::proofs::PutLines::puts_nothing))]
 pub fn put_waves<K: Sink>(
     alloc: Global,
     u: &Universe,
@@ -32,7 +34,8 @@ pub fn put_waves<K: Sink>(
     requires few { length actions.now < 2 ^ 32 - 1 }
     requires five { length numbers.now ≡ 5 }
     requires small { All (λ n. n ≤ 1000000) numbers.now }
-    ensures { Shown (Waved u.now actions.now numbers.now) (K.written out.old) (K.written out.new) (K.faults out.old) (K.faults out.new) result }
+    ensures answer { Shown (Waved u.now actions.now numbers.now) (K.written out.old) (K.written out.new) (K.faults out.old) (K.faults out.new) result }
+    ensures lines { PutsLines (K.written out.old) (K.written out.new) result }
 {
     match first_bad(alloc, u, actions) {
         Ok(None) => put_schedules(alloc, u, actions, numbers, out),
@@ -42,6 +45,7 @@ pub fn put_waves<K: Sink>(
 }
 
 // Puts the first action that is not steadfast, or else the schedules.
+#[tactic(auto, using(metis_output::proofs::PutLines::puts_nothing))]
 fn put_schedules<K: Sink>(
     alloc: Global,
     u: &Universe,
@@ -54,7 +58,8 @@ fn put_schedules<K: Sink>(
     requires runs { IsRun u.now empty actions.now }
     requires five { length numbers.now ≡ 5 }
     requires small { All (λ n. n ≤ 1000000) numbers.now }
-    ensures { Shown (Waved u.now actions.now numbers.now) (K.written out.old) (K.written out.new) (K.faults out.old) (K.faults out.new) result }
+    ensures answer { Shown (Waved u.now actions.now numbers.now) (K.written out.old) (K.written out.new) (K.faults out.old) (K.faults out.new) result }
+    ensures lines { PutsLines (K.written out.old) (K.written out.new) result }
 {
     match waits(alloc, u, actions) {
         Ok(found) => match waves(alloc, actions, &found, &durations_of(numbers)) {

@@ -7,8 +7,8 @@ use Rattle.metis_output.proofs.Shown.{shown_weaker}
 use Rattle.metis_answer.specs.Loaded.{Loaded, Summed}
 use Rattle.metis_answer.proofs.load.put_planned_load.Goals as goal
 
-pub returns-in-Ok : goal.returns-in-Ok
-returns-in-Ok g c =
+pub returns-in-Ok-clause-answer : goal.returns-in-Ok-clause-answer
+returns-in-Ok-clause-answer g c =
     let n = c.args.n in
     let u = c.args.u.now in
     let targets = c.args.targets.now in
@@ -16,4 +16,4 @@ returns-in-Ok g c =
     let found = c.in-Ok.ensures in
     let k = subst IsUniverse (sym (c.requires.universe ∙ generated_tables n (omega arith))) (tables_universe n) in
     shown_weaker (Summed n u targets plan) (Loaded n) _ _ _ _ _
-    (loaded_by_summary n u targets plan k c.requires.universe c.requires.targets found.plan (λ other by. c.rounds_come_to_one_plan.ensures u targets other plan by found.plan) found.numbers found.runs found.holds) c.put_summary.ensures
+    (loaded_by_summary n u targets plan k c.requires.universe c.requires.targets found.plan (λ other by. c.rounds_come_to_one_plan.ensures u targets other plan by found.plan) found.numbers found.runs found.holds) c.put_summary.ensures.answer

@@ -3,7 +3,7 @@ use Rattle.std.specs.List.{All}
 use Rattle.metis_ids.specs.declared.goals.Goal.{Goal}
 use Rattle.metis_universe.specs.Goals.{IsGoalOf, pair_goals}
 use Rattle.metis_replay.specs.Exact.{Tells}
-use Rattle.metis_answer.proofs.Aims.{pairs_are_goals}
+use Rattle.metis_check.proofs.Aims.{pairs_are_goals}
 use Rattle.metis_answer.proofs.load.verdict_on.Goals as goal
 
 pub replayed-requires-clause-within : goal.replayed-requires-clause-within

@@ -1,0 +1,10 @@
+pub mod Aims
+pub mod AuditLines
+pub mod ConfirmationLines
+pub mod Confirmations
+pub mod FirstGoals
+pub mod JudgementLines
+pub mod SessionLines
+pub mod Sessions
+pub mod VerdictLines
+pub mod Verdicts

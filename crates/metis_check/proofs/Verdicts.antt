@@ -1,0 +1,17 @@
+-- What is said of a verdict.
+use Rattle.std.proofs.Common.{◌≡◌, ℕ, List, [], ◌∷◌, length, refl, ap}
+use Rattle.metis_deploy.specs.Steady.{standing_after}
+use Rattle.metis_ids.specs.declared.actions.Action.{Action}
+use Rattle.metis_ids.specs.declared.goals.Goal.{Goal}
+use Rattle.metis_replay.specs.Exact.{Tells}
+use Rattle.metis_replay.specs.declared.verdict.Verdict.{Verdict}
+use Rattle.metis_replay.specs.declared.verdict.Verdict.TheVariants.{Good, Bad, Missing}
+use Rattle.metis_universe.specs.Universe.{Universe}
+use Rattle.metis_check.specs.Replayed.{Replayed, good_line, verdict_line, verdict_status}
+
+-- the line of a verdict answers
+pub answer_by_verdict : (u : Universe) (g : List Goal) (actions : List Action) (v : Verdict) (standing : ℕ) → Tells u actions g v → (v ≡ Good → standing ≡ standing_after u actions)
+    → Replayed u g actions (verdict_line u standing (length actions) v ∷ []) (verdict_status v)
+answer_by_verdict u g actions Good standing tells stands = record { verdict = Good; tells = tells; told = ap (λ n. good_line n (length actions) ∷ []) (stands refl); is = refl }
+answer_by_verdict u g actions (Bad n f) standing tells stands = record { verdict = Bad n f; tells = tells; told = refl; is = refl }
+answer_by_verdict u g actions (Missing p have want) standing tells stands = record { verdict = Missing p have want; tells = tells; told = refl; is = refl }
