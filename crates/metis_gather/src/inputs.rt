@@ -14,7 +14,7 @@ ghost use Rattle.metis_why.specs.Confirm.{IsLineOf};
 ghost use Rattle.metis_why_text.specs.WhyReading as why_reading;
 ghost use Rattle.metis_words.specs.Forms.{OfUniverse, OfGoals, file_count, target_limit};
 ghost use Rattle.metis_words.specs.Forms as kind;
-ghost use Rattle.metis_gather.specs.Commands.{inputs_then, plan_limit};
+ghost use Rattle.metis_gather.specs.Commands.{inputs_then, plan_limit, session_limit};
 ghost use Rattle.metis_gather.specs.Gathers.{Gathers};
 
 use crate::asked::{Asked, AskedPlan, Planned};
@@ -165,6 +165,7 @@ pub fn script_of<H: Shelf>(
     ensures gathers { Gathers H.files H.faults H.opens (λ read. (read.0.universe, (parts_of read.0.text, (read.1.items, tt)))) (inputs_then (OfUniverse (kind.PlanText ∷ kind.ScriptText ∷ [])) (texts command.now.files.items) command.now.targets.items) shelf.old shelf.new result }
     ensures numbers { IfOk result (λ read. All (IsOf read.0.universe) read.0.text.plan.actions) }
     ensures few { IfOk result (λ read. length read.0.text.plan.actions < 2 ^ 32 - 1) }
+    ensures short { IfOk result (λ read. length read.1.items ≤ session_limit) }
 {
     let planned = plan_of(alloc, command, shelf)?;
     let script = session_script_from(alloc, shelf, 4, command.file(2))?;

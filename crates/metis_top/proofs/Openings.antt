@@ -66,8 +66,8 @@ at_most_inputs (OfGoals kinds) names targets next most =
     let same : suc (length kinds) ≡ length kinds + 1 = omega arith in
     subst (λ n. IsAtMost n (inputs_then (OfGoals kinds) names targets next)) same
     (at_most_universe (length kinds) 2 (word_at names 0) (λ u. targets_then (length kinds + 3) u targets (λ goals. texts_then kinds 3 u names (λ said. next ((u, goals), said))))
-      (λ u. at_most_judged (length kinds) (λ goals. texts_then kinds 3 u names (λ said. next ((u, goals), said))) (goals_named (length kinds + 3) u targets)
-        (λ goals. at_most_texts kinds 3 u names (λ said. next ((u, goals), said)) (λ said. most ((u, goals), said)))))
+    (λ u. at_most_judged (length kinds) (λ goals. texts_then kinds 3 u names (λ said. next ((u, goals), said))) (goals_named (length kinds + 3) u targets)
+    (λ goals. at_most_texts kinds 3 u names (λ said. next ((u, goals), said)) (λ said. most ((u, goals), said)))))
 
 at_most_command : (verb : Verb) (files : List (List ℕ)) (targets : List TargetName) (size : ℕ) (numbers : List ℕ) → IsAtMost (file_count verb) (command_script verb files targets size numbers)
 at_most_command verb files targets size numbers = at_most_inputs (reading verb) files targets (λ inputs. Reply (answer_of verb inputs size numbers)) (λ inputs. tt)

@@ -78,7 +78,7 @@ numbered_texts [] place u names next n = n tt place
 numbered_texts (kind ∷ kinds) place u names next n =
     numbered_text kind place u (word_at names (place - 2)) (λ said. texts_then kinds (place + 1) u names (λ more. next (said, more)))
     (λ said. let same : place + 1 ≡ suc place = omega arith in subst (λ k. Numbered k (texts_then kinds (place + 1) u names (λ more. next (said, more)))) same
-      (numbered_texts kinds (place + 1) u names (λ more. next (said, more)) (λ more first. n (said, more) first)))
+    (numbered_texts kinds (place + 1) u names (λ more. next (said, more)) (λ more first. n (said, more) first)))
 
 -- the files of a command
 numbered_inputs : (r : Reading) (names : List (List ℕ)) (targets : List TargetName) (next : Inputs r → Script) → ((inputs : Inputs r) (first : ℕ) → Numbered first (next inputs)) → Numbered 2 (inputs_then r names targets next)
@@ -88,7 +88,7 @@ numbered_inputs (OfUniverse kinds) names targets next n =
 numbered_inputs (OfGoals kinds) names targets next n =
     numbered_universe 2 (word_at names 0) (λ u. targets_then (length kinds + 3) u targets (λ goals. texts_then kinds 3 u names (λ said. next ((u, goals), said))))
     (λ u. numbered_judged 3 (λ goals. texts_then kinds 3 u names (λ said. next ((u, goals), said))) (goals_named (length kinds + 3) u targets)
-      (λ goals. numbered_texts kinds 3 u names (λ said. next ((u, goals), said)) (λ said. n ((u, goals), said))))
+    (λ goals. numbered_texts kinds 3 u names (λ said. next ((u, goals), said)) (λ said. n ((u, goals), said))))
 
 numbered_script : (form : Result Form ℕ) → Numbered 2 (script_from form)
 numbered_script (Ok form) = numbered_inputs (reading form.verb) form.files form.targets (λ inputs. Reply (answer_of form.verb inputs form.size form.numbers)) (λ inputs first. tt)

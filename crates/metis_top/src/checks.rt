@@ -28,8 +28,14 @@ pub fn replay<H: Shelf, K: Sink>(
     match goals_and_plan_of(alloc, command, shelf) {
         Ok(read) => {
             let asked = &read.asked;
-            put_verdict(alloc, &asked.universe, &read.text.plan.actions, &asked.goals, out)
-        },
+            put_verdict(
+                alloc,
+                &asked.universe,
+                &read.text.plan.actions,
+                &asked.goals,
+                out,
+            )
+        }
         Err(stop) => end(alloc, stop, out),
     }
 }
@@ -48,7 +54,7 @@ pub fn refute<H: Shelf, K: Sink>(
     match refusal_of(alloc, command, shelf) {
         Ok((asked, refusal)) => {
             put_judgement(alloc, &asked.universe, &refusal.pairs, &asked.goals, out)
-        },
+        }
         Err(stop) => end(alloc, stop, out),
     }
 }
@@ -66,8 +72,14 @@ pub fn audit<H: Shelf, K: Sink>(
 {
     match goals_and_plan_of(alloc, command, shelf) {
         Ok(read) => {
-            put_audit(alloc, &read.asked.universe, &read.text, &read.asked.goals, out)
-        },
+            put_audit(
+                alloc,
+                &read.asked.universe,
+                &read.text,
+                &read.asked.goals,
+                out,
+            )
+        }
         Err(stop) => end(alloc, stop, out),
     }
 }
@@ -86,7 +98,7 @@ pub fn confirm<H: Shelf, K: Sink>(
     match explanation_of(alloc, command, shelf) {
         Ok((asked, why)) => {
             put_confirmation(alloc, &asked.universe, &why.lines, &asked.goals, out)
-        },
+        }
         Err(stop) => end(alloc, stop, out),
     }
 }

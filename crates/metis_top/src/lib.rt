@@ -2,8 +2,8 @@
 #![tactic(auto)]
 
 mod checks;
-mod plans;
 mod in_memory;
+mod plans;
 mod stop;
 mod targets;
 mod top;

@@ -28,7 +28,7 @@ pub fn crew<H: Shelf, K: Sink>(
     match turns_of(alloc, command, shelf) {
         Ok((read, turns)) => {
             put_crew(alloc, &read.universe, &read.text.plan.actions, &turns, out)
-        },
+        }
         Err(stop) => end(alloc, stop, out),
     }
 }
@@ -49,7 +49,7 @@ pub fn waves<H: Shelf, K: Sink>(
         Ok(read) => {
             let numbers = command.numbers();
             put_waves(alloc, &read.universe, &read.text.plan.actions, numbers, out)
-        },
+        }
         Err(stop) => end(alloc, stop, out),
     }
 }
@@ -68,7 +68,7 @@ pub fn control<H: Shelf, K: Sink>(
     match script_of(alloc, command, shelf) {
         Ok((read, script)) => {
             put_control(alloc, &read.universe, &read.text.plan.actions, &script, out)
-        },
+        }
         Err(stop) => end(alloc, stop, out),
     }
 }
@@ -87,7 +87,7 @@ pub fn place<H: Shelf, K: Sink>(
     match hosts_of(alloc, command, shelf) {
         Ok((read, hosts)) => {
             put_place(alloc, &read.universe, &read.text.plan.actions, &hosts, out)
-        },
+        }
         Err(stop) => end(alloc, stop, out),
     }
 }

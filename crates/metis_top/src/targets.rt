@@ -45,8 +45,14 @@ pub fn rollout<H: Shelf, K: Sink>(
     match goals_and_plan_of(alloc, command, shelf) {
         Ok(read) => {
             let asked = &read.asked;
-            put_rollout(alloc, &asked.universe, &asked.goals, &read.text.plan.actions, out)
-        },
+            put_rollout(
+                alloc,
+                &asked.universe,
+                &asked.goals,
+                &read.text.plan.actions,
+                out,
+            )
+        }
         Err(stop) => end(alloc, stop, out),
     }
 }

@@ -1,13 +1,14 @@
-use Rattle.std.proofs.Common.{◌≡◌, ◌≢◌, ℕ, List}
+use Rattle.std.proofs.Common.{◌≡◌, ◌≢◌, ℕ, List, ap}
 use Rattle.metis_universe.specs.Universe.{Universe}
 use Rattle.metis_ids.specs.declared.goals.Goal.{Goal}
 use Rattle.metis_ids.specs.declared.actions.Action.{Action}
-use Rattle.metis_answer.specs.Replayed.{Replayed, verdict_status}
+use Rattle.metis_check.specs.Replayed.{Replayed, verdict_status}
 use Rattle.metis_replay.specs.declared.verdict.Verdict.{Verdict}
 use Rattle.metis_replay.specs.declared.verdict.Verdict.TheVariants.{Good, Bad, Missing}
 use Rattle.metis_output.specs.declared.status.Status.{Status}
 use Rattle.metis_output.specs.declared.status.Status.TheVariants.{ReadFault}
 use Rattle.metis_top.proofs.Gathered.{done_is_calm, no_is_calm, ran_answered, ran_halted}
+use Rattle.metis_gather.specs.declared.asked.AskedPlan.{AskedPlan}
 use Rattle.metis_words.specs.declared.words.Verb.TheVariants.{Replay}
 use Rattle.metis_top.proofs.checks.replay.Goals as goal
 
@@ -19,7 +20,12 @@ calm_replay u goals actions lines status replayed = ends replayed.verdict replay
   ends (Missing p have want) is = no_is_calm status is
 
 pub returns-in-Ok-clause-course : goal.returns-in-Ok-clause-course
-returns-in-Ok-clause-course g c = ran_answered _ _ _ _ _ _ Replay _ _ _ _ _ _ _ _ _ _ _ c.requires (calm_replay _ _ _) c.in-Ok.ensures.gathers c.put_verdict.ensures.answer
+returns-in-Ok-clause-course g c =
+    let universe = ap (λ (read : AskedPlan). read.asked.universe) c.read.view_is in
+    let goals = ap (λ (read : AskedPlan). read.asked.goals.items) c.read.view_is in
+    let actions = ap (λ (read : AskedPlan). read.text.plan.actions) c.read.view_is in
+    ran_answered _ _ _ _ _ _ Replay _ _ _ _ _ _ _ _ _ c.in-Ok.read _ c.requires (calm_replay _ _ _) c.in-Ok.ensures.gathers
+    (rw (c.deref.ensures.value, c.deref-in-Ok.ensures.value, universe, goals, actions) at c.put_verdict.ensures.answer)
 
 pub returns-in-Err-clause-course : goal.returns-in-Err-clause-course
 returns-in-Err-clause-course g c = ran_halted _ _ _ _ _ _ Replay _ _ _ _ _ _ _ _ _ c.in-Err.stop _ c.requires c.in-Err.ensures.gathers c.end.ensures.course

@@ -1,4 +1,4 @@
-use Rattle.std.proofs.Common.{◌≡◌, ◌≢◌, ℕ, List, inl, inr}
+use Rattle.std.proofs.Common.{◌≡◌, ◌≢◌, ℕ, List, inl, inr, ap}
 use Rattle.metis_universe.specs.Universe.{Universe}
 use Rattle.metis_ids.specs.declared.actions.Action.{Action}
 use Rattle.metis_deploy.specs.Placed.{Placed}
@@ -6,6 +6,7 @@ use Rattle.metis_place.specs.Placement.{HostLists}
 use Rattle.metis_output.specs.declared.status.Status.{Status}
 use Rattle.metis_output.specs.declared.status.Status.TheVariants.{ReadFault}
 use Rattle.metis_top.proofs.Gathered.{done_is_calm, no_is_calm, ran_answered, ran_halted}
+use Rattle.metis_gather.specs.declared.asked.Planned.{Planned}
 use Rattle.metis_words.specs.declared.words.Verb.TheVariants.{Place}
 use Rattle.metis_top.proofs.plans.place.Goals as goal
 
@@ -16,7 +17,11 @@ calm_place u actions x lines status (inr (inr (inl none))) = no_is_calm status n
 calm_place u actions x lines status (inr (inr (inr placed))) = done_is_calm status placed.is
 
 pub returns-in-Ok-clause-course : goal.returns-in-Ok-clause-course
-returns-in-Ok-clause-course g c = ran_answered _ _ _ _ _ _ Place _ _ _ _ _ _ _ _ _ _ _ c.requires (calm_place _ _ _) c.in-Ok.ensures.gathers c.put_place.ensures.answer
+returns-in-Ok-clause-course g c =
+    let universe = ap (λ (read : Planned). read.universe) c.read.view_is in
+    let actions = ap (λ (read : Planned). read.text.plan.actions) c.read.view_is in
+    ran_answered _ _ _ _ _ _ Place _ _ _ _ _ _ _ _ _ (c.in-Ok.read, c.in-Ok.hosts) _ c.requires (calm_place _ _ _) c.in-Ok.ensures.gathers
+    (rw (c.deref.ensures.value, universe, actions) at c.put_place.ensures.answer)
 
 pub returns-in-Err-clause-course : goal.returns-in-Err-clause-course
 returns-in-Err-clause-course g c = ran_halted _ _ _ _ _ _ Place _ _ _ _ _ _ _ _ _ c.in-Err.stop _ c.requires c.in-Err.ensures.gathers c.end.ensures.course

@@ -13,7 +13,9 @@ calm_plan u goals lines status (inl is) = done_is_calm status is.0
 calm_plan u goals lines status (inr is) = no_is_calm status is.0
 
 pub returns-in-Ok-clause-course : goal.returns-in-Ok-clause-course
-returns-in-Ok-clause-course g c = ran_answered _ _ _ _ _ _ Plan _ _ _ _ _ _ _ _ _ _ _ c.requires (calm_plan _ _) c.in-Ok.ensures.gathers c.put_plan.ensures.answer
+returns-in-Ok-clause-course g c =
+    ran_answered _ _ _ _ _ _ Plan _ _ _ _ _ _ _ _ _ c.in-Ok.asked _ c.requires (calm_plan _ _) c.in-Ok.ensures.gathers
+    (rw c.deref.ensures.value at c.put_plan.ensures.answer)
 
 pub returns-in-Err-clause-course : goal.returns-in-Err-clause-course
 returns-in-Err-clause-course g c = ran_halted _ _ _ _ _ _ Plan _ _ _ _ _ _ _ _ _ c.in-Err.stop _ c.requires c.in-Err.ensures.gathers c.end.ensures.course

@@ -1,7 +1,7 @@
 use Rattle.std.proofs.Common.{◌≡◌, ◌≢◌, ℕ, List, inl, inr}
 use Rattle.metis_universe.specs.Universe.{Universe}
 use Rattle.metis_ids.specs.declared.goals.Goal.{Goal}
-use Rattle.metis_answer.specs.Explained.{WhyAnswer}
+use Rattle.metis_check.specs.Explained.{WhyAnswer}
 use Rattle.metis_output.specs.declared.status.Status.{Status}
 use Rattle.metis_output.specs.declared.status.Status.TheVariants.{ReadFault}
 use Rattle.metis_top.proofs.Gathered.{done_is_calm, no_is_calm, ran_answered, ran_halted}
@@ -13,7 +13,9 @@ calm_why u goals lines status (inl is) = done_is_calm status is.0
 calm_why u goals lines status (inr is) = no_is_calm status is.0
 
 pub returns-in-Ok-clause-course : goal.returns-in-Ok-clause-course
-returns-in-Ok-clause-course g c = ran_answered _ _ _ _ _ _ Why _ _ _ _ _ _ _ _ _ _ _ c.requires (calm_why _ _) c.in-Ok.ensures.gathers c.put_why.ensures.answer
+returns-in-Ok-clause-course g c =
+    ran_answered _ _ _ _ _ _ Why _ _ _ _ _ _ _ _ _ c.in-Ok.asked _ c.requires (calm_why _ _) c.in-Ok.ensures.gathers
+    (rw c.deref.ensures.value at c.put_why.ensures.answer)
 
 pub returns-in-Err-clause-course : goal.returns-in-Err-clause-course
 returns-in-Err-clause-course g c = ran_halted _ _ _ _ _ _ Why _ _ _ _ _ _ _ _ _ c.in-Err.stop _ c.requires c.in-Err.ensures.gathers c.end.ensures.course
