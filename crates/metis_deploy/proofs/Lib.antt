@@ -3,6 +3,5 @@ pub mod CrewLines
 pub mod CrewTurns
 pub mod PlaceLines
 pub mod ScriptEnds
-pub mod Starts
 pub mod SteadyLines
 pub mod WaveLines
