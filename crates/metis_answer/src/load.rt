@@ -1,8 +1,6 @@
 //! The command that plans for a generated universe.
-ghost use Rattle.std.specs.Prelude.{◌≡◌, ◌<◌, ◌≤◌, ◌-◌, ◌^◌, [], ◌∷◌, IfOk, length, string_bytes};
+ghost use Rattle.std.specs.Prelude.{◌≡◌, ◌<◌, ◌≤◌, ◌-◌, ◌^◌, IfOk, length, string_bytes};
 ghost use Rattle.std.specs.List.{All};
-ghost use Rattle.metis_outside.specs.Faults.{CountsFault};
-ghost use Rattle.metis_outside.specs.Writes.{Writes};
 ghost use Rattle.metis_universe.specs.Config.{empty};
 ghost use Rattle.metis_universe.specs.Goal.{Holds};
 ghost use Rattle.metis_universe.specs.Goals.{pair_goals};
@@ -21,11 +19,10 @@ ghost use Rattle.metis_answer.specs.Loaded.{Summed, counts_line, load_line};
 use metis_deploy::replayed;
 use metis_gen::{closed_sets_hold_all, targets_are_pairs, targets_of, universe_of};
 use metis_ids::{Action, Goal, NoMemory, PairIx, Plan};
-use metis_output::{Status, said};
-use metis_outside::{Sink, Trouble};
+use metis_output::{Status, say};
+use metis_outside::Sink;
 use metis_planner::{Outcome, plan, rounds_come_to_one_plan};
 use metis_replay::Verdict;
-use metis_tokens::put_line;
 use metis_universe::Universe;
 use std::alloc::{AllocError, Global};
 
@@ -116,7 +113,10 @@ fn put_summary<K: Sink>(
     ensures lines { PutsLines (K.written out.old) (K.written out.new) result }
 {
     match verdict_on(alloc, u, &plan.actions, targets) {
-        Ok(Verdict::Good) => said(write_load(alloc, n, u, targets, plan, out), Status::Done),
+        Ok(Verdict::Good) => match load_line(alloc, n, u, targets, plan) {
+            Ok(line) => say(line.as_str(), Status::Done, out),
+            Err(_) => Status::NoMemory,
+        },
         Ok(Verdict::Bad(..) | Verdict::Missing(..)) => Status::No,
         Err(_) => Status::NoMemory,
     }
@@ -148,22 +148,6 @@ fn goals_of(alloc: Global, pairs: &[PairIx]) -> Result<Vec<Goal>, NoMemory>
         goals.push(Goal::Pair(*pair))?;
     }
     Ok(goals)
-}
-
-#[tactic(auto, using(metis_outside::proofs::Writing::front_of_nothing))]
-fn write_load<K: Sink>(
-    alloc: Global,
-    n: u32,
-    u: &Universe,
-    targets: &[PairIx],
-    plan: &Plan,
-    out: &mut K,
-) -> Result<(), Trouble>
-    ensures text { Writes (load_line n u.now targets.now plan.now ∷ []) (K.written out.old) (K.written out.new) result }
-    ensures cause { CountsFault (K.faults out.old) (K.faults out.new) result }
-{
-    let line = load_line(alloc, n, u, targets, plan)?;
-    put_line(line.as_bytes(), out)
 }
 
 fn load_line(

@@ -11,11 +11,11 @@ ghost use Rattle.metis_output.specs.PutLines.{PutsLines};
 ghost use Rattle.metis_output.specs.Shown.{Shown};
 
 use crate::aim::{Aim, aim_of};
-use crate::audit_line::{write_audit, write_lacking};
+use crate::audit_line::{audit_line, lacking_line};
 use metis_audit::{Answer, audit};
 use metis_choice::pairs_for_goals_hold_them;
 use metis_ids::{Goal, PairIx};
-use metis_output::{Status, said};
+use metis_output::{Status, say};
 use metis_outside::Sink;
 use metis_text::PlanText;
 use metis_universe::Universe;
@@ -42,7 +42,10 @@ pub fn put_audit<K: Sink>(
     pairs_for_goals_hold_them();
     match aim_of(alloc, u, goals) {
         Ok(Aim::Pairs(pairs, _)) => put_audit_for(alloc, u, text, &pairs, out),
-        Ok(Aim::Lacks(refusal)) => said(write_lacking(alloc, u, refusal.lacks, out), Status::No),
+        Ok(Aim::Lacks(refusal)) => match lacking_line(alloc, u, refusal.lacks) {
+            Ok(line) => say(line.as_str(), Status::No, out),
+            Err(_) => Status::NoMemory,
+        },
         Err(_) => Status::NoMemory,
     }
 }
@@ -65,10 +68,10 @@ fn put_audit_for<K: Sink>(
 {
     u.keeps_invariant();
     match audit(alloc, u, text, pairs) {
-        Ok(answer) => {
-            let put = write_audit(alloc, u, &text.plan, &answer, out);
-            said(put, status_of(&answer))
-        }
+        Ok(answer) => match audit_line(alloc, u, &text.plan, &answer) {
+            Ok(line) => say(line.as_str(), status_of(&answer), out),
+            Err(_) => Status::NoMemory,
+        },
         Err(_) => Status::NoMemory,
     }
 }

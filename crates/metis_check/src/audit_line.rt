@@ -1,7 +1,5 @@
-//! Writes the line of an audit.
-ghost use Rattle.std.specs.Prelude.{◌≡◌, [], ◌∷◌, IfOk, codes, string_bytes};
-ghost use Rattle.metis_outside.specs.Faults.{CountsFault};
-ghost use Rattle.metis_outside.specs.Writes.{Writes};
+//! The line of an audit.
+ghost use Rattle.std.specs.Prelude.{◌≡◌, IfOk, codes, string_bytes};
 ghost use Rattle.metis_universe.specs.GoalWords.{goal_word};
 ghost use Rattle.metis_universe.specs.Goals.{IsGoalOf};
 ghost use Rattle.metis_check.specs.Judged.{word_line};
@@ -10,54 +8,19 @@ ghost use Rattle.metis_check.specs.Audited.{NamesPairOf, audit_line, count_line,
 use crate::judgement_line::goal_line;
 use metis_audit::Answer;
 use metis_ids::{Goal, Plan};
-use metis_outside::{Sink, Trouble};
-use metis_tokens::put_line;
 use metis_universe::Universe;
 use std::alloc::{AllocError, Global};
 
-/// Puts the line by one put.
-pub fn write_audit<K: Sink>(
-    alloc: Global,
-    u: &Universe,
-    plan: &Plan,
-    answer: &Answer,
-    out: &mut K,
-) -> Result<(), Trouble>
-    requires { NamesPairOf u.now answer.now }
-    ensures text { Writes (audit_line u.now plan.now answer.now ∷ []) (K.written out.old) (K.written out.new) result }
-    ensures cause { CountsFault (K.faults out.old) (K.faults out.new) result }
-{
-    match audit_line(alloc, u, plan, answer) {
-        Ok(line) => put_line(line.as_bytes(), out),
-        Err(_) => Err(Trouble::NoMemory),
-    }
-}
-
-/// Puts the line of a goal that is not attained, by one put.
-pub fn write_lacking<K: Sink>(
-    alloc: Global,
-    u: &Universe,
-    goal: Goal,
-    out: &mut K,
-) -> Result<(), Trouble>
-    requires { IsGoalOf u.now goal }
-    ensures text { Writes (word_line (codes "notattained") (goal_word u.now goal) ∷ []) (K.written out.old) (K.written out.new) result }
-    ensures cause { CountsFault (K.faults out.old) (K.faults out.new) result }
-{
-    match lacking_line(alloc, u, goal) {
-        Ok(line) => put_line(line.as_bytes(), out),
-        Err(_) => Err(Trouble::NoMemory),
-    }
-}
-
-fn lacking_line(alloc: Global, u: &Universe, goal: Goal) -> Result<String, AllocError>
+/// The line of a goal that is not attained.
+pub fn lacking_line(alloc: Global, u: &Universe, goal: Goal) -> Result<String, AllocError>
     requires { IsGoalOf u.now goal }
     ensures { IfOk result (λ line. string_bytes line ≡ word_line (codes "notattained") (goal_word u.now goal)) }
 {
     goal_line(alloc, u, "notattained", goal)
 }
 
-fn audit_line(
+/// The line of an answer on the plan.
+pub fn audit_line(
     alloc: Global,
     u: &Universe,
     plan: &Plan,

@@ -1,8 +1,6 @@
 //! The command that checks an explanation.
-ghost use Rattle.std.specs.Prelude.{◌≡◌, ◌<◌, ◌^◌, [], ◌∷◌, IfOk, length, string_bytes};
+ghost use Rattle.std.specs.Prelude.{◌≡◌, ◌<◌, ◌^◌, IfOk, length, string_bytes};
 ghost use Rattle.std.specs.List.{All};
-ghost use Rattle.metis_outside.specs.Faults.{CountsFault};
-ghost use Rattle.metis_outside.specs.Writes.{Writes};
 ghost use Rattle.metis_universe.specs.Goals.{IsGoalOf};
 ghost use Rattle.metis_why.specs.Confirm.{IsLineOf};
 ghost use Rattle.metis_check.specs.Confirmed.{Confirms, IsSayable, confirmation_line, confirmation_status, unfounded_line};
@@ -11,14 +9,14 @@ ghost use Rattle.metis_output.specs.Shown.{Shown};
 
 use crate::judgement_line::goal_line;
 use metis_ids::Goal;
-use metis_output::{Status, said};
-use metis_outside::{Sink, Trouble};
-use metis_tokens::put_line;
+use metis_output::{Status, say};
+use metis_outside::Sink;
 use metis_universe::Universe;
 use metis_why::{Confirmation, Line, confirm};
 use std::alloc::{AllocError, Global};
 
 /// Puts what the lines come to as an explanation for the goals.
+#[tactic(auto, using(metis_output::proofs::PutLines::puts_nothing))]
 pub fn put_confirmation<K: Sink>(
     alloc: Global,
     u: &Universe,
@@ -34,23 +32,9 @@ pub fn put_confirmation<K: Sink>(
 {
     u.keeps_invariant();
     let confirmation = confirm(u, lines, goals);
-    let put = write_confirmation(alloc, u, &confirmation, out);
-    said(put, status_of(&confirmation))
-}
-
-fn write_confirmation<K: Sink>(
-    alloc: Global,
-    u: &Universe,
-    confirmation: &Confirmation,
-    out: &mut K,
-) -> Result<(), Trouble>
-    requires { IsSayable u.now confirmation.now }
-    ensures text { Writes (confirmation_line u.now confirmation.now ∷ []) (K.written out.old) (K.written out.new) result }
-    ensures cause { CountsFault (K.faults out.old) (K.faults out.new) result }
-{
-    match confirmation_line(alloc, u, confirmation) {
-        Ok(line) => put_line(line.as_bytes(), out),
-        Err(_) => Err(Trouble::NoMemory),
+    match confirmation_line(alloc, u, &confirmation) {
+        Ok(line) => say(line.as_str(), status_of(&confirmation), out),
+        Err(_) => Status::NoMemory,
     }
 }
 

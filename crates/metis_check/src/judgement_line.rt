@@ -1,7 +1,5 @@
-//! Writes the line of a refusal that was checked.
-ghost use Rattle.std.specs.Prelude.{◌≡◌, ◌<◌, [], ◌∷◌, ◌++◌, IfOk, codes, string_bytes};
-ghost use Rattle.metis_outside.specs.Faults.{CountsFault};
-ghost use Rattle.metis_outside.specs.Writes.{Writes};
+//! The line of a refusal that was checked.
+ghost use Rattle.std.specs.Prelude.{◌≡◌, ◌<◌, ◌++◌, IfOk, codes, string_bytes};
 ghost use Rattle.metis_universe.specs.GoalWords.{goal_word};
 ghost use Rattle.metis_universe.specs.Goals.{IsGoalOf};
 ghost use Rattle.metis_universe.specs.PairWords.{pair_word};
@@ -10,30 +8,16 @@ ghost use Rattle.metis_refusal.specs.Claims.{NamesOf};
 ghost use Rattle.metis_check.specs.Judged.{judgement_line, open_line, word_line};
 
 use metis_ids::{Goal, PairIx};
-use metis_outside::{Sink, Trouble};
 use metis_refusal::Verdict2;
-use metis_tokens::put_line;
 use metis_universe::Universe;
 use std::alloc::{AllocError, Global};
 
-/// Puts the line by one put.
-pub fn write_judgement<K: Sink>(
+/// The line of a verdict on a set of pairs.
+pub fn judgement_line(
     alloc: Global,
     u: &Universe,
     judgement: &Verdict2,
-    out: &mut K,
-) -> Result<(), Trouble>
-    requires { NamesOf u.now judgement.now }
-    ensures text { Writes (judgement_line u.now judgement.now ∷ []) (K.written out.old) (K.written out.new) result }
-    ensures cause { CountsFault (K.faults out.old) (K.faults out.new) result }
-{
-    match judgement_line(alloc, u, judgement) {
-        Ok(line) => put_line(line.as_bytes(), out),
-        Err(_) => Err(Trouble::NoMemory),
-    }
-}
-
-fn judgement_line(alloc: Global, u: &Universe, judgement: &Verdict2) -> Result<String, AllocError>
+) -> Result<String, AllocError>
     requires { NamesOf u.now judgement.now }
     ensures { IfOk result (λ line. string_bytes line ≡ judgement_line u.now judgement.now) }
 {

@@ -7,15 +7,16 @@ ghost use Rattle.metis_output.specs.PutLines.{PutsLines};
 ghost use Rattle.metis_output.specs.Shown.{Shown};
 ghost use Rattle.metis_check.specs.Judged.{Judged, judgement_status};
 
-use crate::judgement_line::write_judgement;
+use crate::judgement_line::judgement_line;
 use metis_ids::{Goal, PairSet};
-use metis_output::{Status, said};
+use metis_output::{Status, say};
 use metis_outside::Sink;
 use metis_refusal::{Verdict2, check_closed};
 use metis_universe::Universe;
 use std::alloc::Global;
 
 /// Puts what the set of pairs comes to as a refusal of the goals.
+#[tactic(auto, using(metis_output::proofs::PutLines::puts_nothing))]
 pub fn put_judgement<K: Sink>(
     alloc: Global,
     u: &Universe,
@@ -30,8 +31,10 @@ pub fn put_judgement<K: Sink>(
 {
     u.keeps_invariant();
     let judgement = check_closed(u, set, goals);
-    let put = write_judgement(alloc, u, &judgement, out);
-    said(put, status_of(&judgement))
+    match judgement_line(alloc, u, &judgement) {
+        Ok(line) => say(line.as_str(), status_of(&judgement), out),
+        Err(_) => Status::NoMemory,
+    }
 }
 
 fn status_of(judgement: &Verdict2) -> Status

@@ -10,7 +10,7 @@ use Rattle.std.specs.declared.option.Option.{Option as Known}
 use Rattle.metis_outside.proofs.Writing.{Appends-trans, front_of_first, front_of_second}
 use Rattle.metis_outside.specs.Writes.{Appends, AppendsFront}
 use Rattle.metis_place.specs.Placement.{HostLists, name_of}
-use Rattle.metis_deploy.specs.Placed.{hold_lines, hold_of_action, inst_made, made_of, on_line, on_lines}
+use Rattle.metis_deploy.specs.Placed.{inst_made, made_of, on_line, on_lines}
 
 abbrev pub blocks : {X : Type 0} → (ℕ → X → List (List ℕ)) → ℕ → List X → List (List ℕ)
 blocks text k [] = []
@@ -45,12 +45,6 @@ module _ {X : Type 0} (text : ℕ → X → List (List ℕ)) (xs : List X) (i : 
       let all : blocks text 1 xs ≡ (first ++ next) ++ others =
       ap (blocks text 1) (sym (take-append-drop (i + 1) xs)) ∙ blocks_append text 1 (take (i + 1) xs) (drop (i + 1) xs) ∙ ap (λ l. l ++ others) blocks_next in
       subst (λ l. AppendsFront old new l) (sym all) (front_of_first old new (first ++ next) others (front_of_second old mid new first next put front))
-
--- ---- the lines of further waits
-
-pub holds_are : (k : ℕ) (holds : List (List ℕ)) → blocks hold_of_action k holds ≡ hold_lines k holds
-holds_are k [] = refl
-holds_are k (ms ∷ holds) = ap (λ l. hold_of_action k ms ++ l) (holds_are (k + 1) holds)
 
 -- ---- the lines of instances on hosts
 

@@ -1,8 +1,8 @@
 pub mod Blocks
 pub mod CrewLines
 pub mod CrewTurns
+pub mod Holds
 pub mod PlaceLines
 pub mod ScriptEnds
-pub mod Starts
 pub mod SteadyLines
 pub mod WaveLines

@@ -1,5 +1,5 @@
 -- Where a plan's instances are is told by lines.
-use Rattle.std.proofs.Common.{◌≡◌, ℕ, ◌==◌, suc, zero, ◌+◌, Bool, true, false, not, List, [], ◌∷◌, ◌++◌, length, map, refl, if◌then◌else◌, decimal, arith}
+use Rattle.std.proofs.Common.{◌≡◌, ℕ, ◌==◌, suc, zero, ◌+◌, Bool, true, false, not, List, [], ◌∷◌, ◌++◌, length, map, refl, sym, subst, if◌then◌else◌, decimal, arith}
 use Rattle.std.specs.Prelude.{codes}
 use Rattle.std.specs.List.{All, zip}
 use Rattle.std.proofs.lemmas.Bool.{and_parts}
@@ -37,6 +37,12 @@ IsLine-placed_line made hosts = by_two (codes "placed ") made (codes " hosts ") 
 
 pub IsLine-no_room_line : (k size free : ℕ) → IsLine (no_room_line k size free)
 IsLine-no_room_line k size free = by_three (codes "noroom ") k (codes " size ") size (codes " free ") free refl refl refl
+
+pub is_hold_line : (bytes : List ℕ) (k : ℕ) (ms : List ℕ) → bytes ≡ hold_line k ms → IsLine bytes
+is_hold_line bytes k ms same = subst IsLine (sym same) (IsLine-hold_line k ms)
+
+pub is_placed_line : (bytes : List ℕ) (made hosts : ℕ) → bytes ≡ placed_line made hosts → IsLine bytes
+is_placed_line bytes made hosts same = subst IsLine (sym same) (IsLine-placed_line made hosts)
 
 -- the names of hosts have no line feed
 names_have_none : (es : List (List ℕ × ℕ)) → All IsEntry es → All (λ e. no_feed e.0 ≡ true) es

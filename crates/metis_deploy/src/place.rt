@@ -1,5 +1,5 @@
 //! The command that puts a plan's instances on hosts.
-ghost use Rattle.std.specs.Prelude.{◌≡◌, ◌≤◌, ◌<◌, ◌-◌, ◌^◌, ◌++◌, [], ◌∷◌, IfOk, IsTrue, OnOk, length, string_bytes};
+ghost use Rattle.std.specs.Prelude.{◌≡◌, ◌≤◌, ◌<◌, ◌-◌, ◌^◌, ◌++◌, [], ◌∷◌, ◌+◌, IfNone, IfOk, IfSome, IsTrue, OnOk, drop, get_or, length, string_bytes};
 ghost use Rattle.std.specs.List.{All};
 ghost use Rattle.std.specs.Option.{option_to_list};
 ghost use Rattle.metis_outside.specs.Faults.{CountsFault};
@@ -12,11 +12,11 @@ ghost use Rattle.metis_universe.specs.Universe.{type_count};
 ghost use Rattle.metis_place.specs.HostsWritten.{IsEntry};
 ghost use Rattle.metis_output.specs.PutLines.{PutsLines};
 ghost use Rattle.metis_output.specs.Shown.{Shown};
-ghost use Rattle.metis_deploy.specs.Placed.{Placed, hold_line, hold_lines, hold_of_action, inst_made, made_of, no_room_line, on_line, on_lines, placed_line, placing_lines};
+ghost use Rattle.metis_deploy.specs.Placed.{Placed, hold_line, hold_lines, inst_made, made_of, no_room_line, on_line, on_lines, placed_line, placing_lines, rest_left};
 
 use crate::steady::{first_bad, first_loose, write_bad, write_loose};
 use metis_ids::{Action, InstNo};
-use metis_output::{Status, said};
+use metis_output::{Lines, Status, put_all, said};
 use metis_outside::{Sink, Trouble};
 use metis_place::{Hold, Hosts, PFault, Placing, place};
 use metis_tokens::{push_numbers, put_line};
@@ -210,49 +210,64 @@ fn write_rest<K: Sink>(
     ensures text { Writes (hold_lines 1 holds.now ++ placed_line made hosts ∷ []) (K.written out.old) (K.written out.new) result }
     ensures cause { CountsFault (K.faults out.old) (K.faults out.new) result }
 {
-    write_holds(alloc, holds, out)?;
-    write_counts(alloc, made, hosts, out)
+    let mut lines = RestLines {
+        alloc,
+        holds,
+        at: 0,
+        made,
+        hosts,
+        ended: false,
+    };
+    put_all(&mut lines, out)
 }
 
-// Puts the further waits of each action that has some.
-fn write_holds<K: Sink>(alloc: Global, holds: &[Hold], out: &mut K) -> Result<(), Trouble>
-    ensures text { Writes (hold_lines 1 holds.now) (K.written out.old) (K.written out.new) result }
-    ensures cause { CountsFault (K.faults out.old) (K.faults out.new) result }
-{
-    for (k, hold) in holds.iter().enumerate() {
-        write_hold(alloc, k + 1, &hold.numbers, out)?;
-    }
-    Ok(())
-}
-
-// Puts the further waits of an action, if it has some.
-fn write_hold<K: Sink>(
+/// The further waits of the actions from a place on, where they have some, and then the counts.
+#[derive(Drop)]
+struct RestLines<'a> {
     alloc: Global,
-    number: usize,
-    waits: &[u32],
-    out: &mut K,
-) -> Result<(), Trouble>
-    ensures text { Writes (hold_of_action number waits.now) (K.written out.old) (K.written out.new) result }
-    ensures cause { CountsFault (K.faults out.old) (K.faults out.new) result }
-{
-    if waits.is_empty() {
-        return Ok(());
-    }
-    put_hold(alloc, number, waits, out)
+    holds: &'a [Hold],
+    at: usize,
+    made: usize,
+    hosts: usize,
+    ended: bool,
 }
 
-#[tactic(auto, using(metis_outside::proofs::Writing::front_of_nothing))]
-fn put_hold<K: Sink>(
-    alloc: Global,
-    number: usize,
-    waits: &[u32],
-    out: &mut K,
-) -> Result<(), Trouble>
-    ensures text { Writes (hold_line number waits.now ∷ []) (K.written out.old) (K.written out.new) result }
-    ensures cause { CountsFault (K.faults out.old) (K.faults out.new) result }
+impl<'a> Lines for RestLines<'a> {
+    ghost rest = { λ r. rest_left (r.at + 1) (drop r.at r.holds.now) r.made r.hosts r.ended };
+
+    #[tactic(auto, using(crate::proofs::PlaceLines::is_hold_line, crate::proofs::PlaceLines::is_placed_line))]
+    fn next_line(&mut self) -> Result<Option<String>, AllocError> {
+        if let Some(at) = next_hold(self.holds, self.at) {
+            let holds = self.holds;
+            let hold = &holds[at];
+            let line = hold_line(self.alloc, at + 1, &hold.numbers)?;
+            self.at = at + 1;
+            return Ok(Some(line));
+        }
+        if self.ended {
+            return Ok(None);
+        }
+        let line = placed_line(self.alloc, self.made, self.hosts)?;
+        self.ended = true;
+        Ok(Some(line))
+    }
+}
+
+// The place of the next action that has further waits.
+fn next_hold(holds: &[Hold], from: usize) -> Option<usize>
+    ensures within { IfSome result (λ i. i < length holds.now) }
+    ensures some { IfSome result (λ i. hold_lines (from + 1) (drop from holds.now) ≡ hold_line (i + 1) (get_or holds.now i []) ∷ hold_lines (i + 1 + 1) (drop (i + 1) holds.now)) }
+    ensures none { IfNone result (hold_lines (from + 1) (drop from holds.now) ≡ []) }
 {
-    let line = hold_line(alloc, number, waits)?;
-    put_line(line.as_bytes(), out)
+    let mut at = from;
+    while at < holds.len() {
+        let hold = &holds[at];
+        if !hold.numbers.is_empty() {
+            return Some(at);
+        }
+        at += 1;
+    }
+    None
 }
 
 fn hold_line(alloc: Global, number: usize, waits: &[u32]) -> Result<String, AllocError>
@@ -262,20 +277,6 @@ fn hold_line(alloc: Global, number: usize, waits: &[u32]) -> Result<String, Allo
     push_numbers(&mut line, waits)?;
     line.push_str("\n")?;
     Ok(line)
-}
-
-#[tactic(auto, using(metis_outside::proofs::Writing::front_of_nothing))]
-fn write_counts<K: Sink>(
-    alloc: Global,
-    made: usize,
-    hosts: usize,
-    out: &mut K,
-) -> Result<(), Trouble>
-    ensures text { Writes (placed_line made hosts ∷ []) (K.written out.old) (K.written out.new) result }
-    ensures cause { CountsFault (K.faults out.old) (K.faults out.new) result }
-{
-    let line = placed_line(alloc, made, hosts)?;
-    put_line(line.as_bytes(), out)
 }
 
 fn placed_line(alloc: Global, made: usize, hosts: usize) -> Result<String, AllocError>

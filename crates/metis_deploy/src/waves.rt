@@ -1,20 +1,21 @@
 //! The command that tells when a plan's actions may start.
-ghost use Rattle.std.specs.Prelude.{◌≡◌, ◌<◌, ◌≤◌, ◌-◌, ◌^◌, [], ◌∷◌, IfOk, length, string_bytes};
-ghost use Rattle.std.specs.List.{All};
+ghost use Rattle.std.specs.Prelude.{◌≡◌, ◌+◌, ◌<◌, ◌≤◌, ◌-◌, ◌^◌, IfOk, drop, length, string_bytes};
+ghost use Rattle.std.specs.List.{All, zip};
 ghost use Rattle.metis_outside.specs.Faults.{CountsFault};
 ghost use Rattle.metis_outside.specs.Writes.{Writes};
+ghost use Rattle.metis_tokens.specs.Line.{numbered};
 ghost use Rattle.metis_universe.specs.Config.{empty};
 ghost use Rattle.metis_universe.specs.Numbers.{IsOf};
 ghost use Rattle.metis_universe.specs.Step.{IsRun};
-ghost use Rattle.metis_output.specs.PutLines.{PutsLines};
+ghost use Rattle.metis_output.specs.PutLines.{PutsByLine, PutsLines};
 ghost use Rattle.metis_output.specs.Shown.{Shown};
-ghost use Rattle.metis_deploy.specs.Waved.{Waved, chain_line, durations_of, end_lines, finish_line, schedule_lines, start_line, start_lines};
+ghost use Rattle.metis_deploy.specs.Waved.{Waved, chain_line, durations_of, ends_left, finish_line, schedule_lines, start_line};
 
 use crate::steady::{first_bad, write_bad, write_loose};
 use metis_ids::Action;
-use metis_output::{Status, said};
+use metis_output::{Chain, Lines, Status, put_all, said};
 use metis_outside::{Sink, Trouble};
-use metis_tokens::{push_numbers, put_line};
+use metis_tokens::push_numbers;
 use metis_universe::Universe;
 use metis_waits::{WFault, waits};
 use metis_waves::{Durations, Waves, waves};
@@ -89,42 +90,48 @@ fn durations_of(numbers: &[u32]) -> Durations
 fn write_schedules<K: Sink>(alloc: Global, w: &Waves, out: &mut K) -> Result<(), Trouble>
     requires { length w.now.latest ≡ length w.now.earliest }
     ensures text { Writes (schedule_lines w.now) (K.written out.old) (K.written out.new) result }
+    ensures lines { PutsByLine (K.written out.old) (K.written out.new) result }
     ensures cause { CountsFault (K.faults out.old) (K.faults out.new) result }
 {
-    write_starts(alloc, &w.earliest, &w.latest, out)?;
-    write_ends(alloc, w.finish, &w.chain, out)
+    let first = StartLines {
+        alloc,
+        earliest: &w.earliest,
+        latest: &w.latest,
+        at: 0,
+    };
+    let second = EndLines {
+        alloc,
+        finish: w.finish,
+        chain: &w.chain,
+        finished: false,
+        ended: false,
+    };
+    put_all(&mut Chain { first, second }, out)
 }
 
-// Puts the earliest and the latest start of each action.
-fn write_starts<K: Sink>(
+/// The earliest and the latest start of each action from a place on.
+#[derive(Drop)]
+struct StartLines<'a> {
     alloc: Global,
-    earliest: &[u64],
-    latest: &[u64],
-    out: &mut K,
-) -> Result<(), Trouble>
-    requires { length latest.now ≡ length earliest.now }
-    ensures text { Writes (start_lines earliest.now latest.now) (K.written out.old) (K.written out.new) result }
-    ensures cause { CountsFault (K.faults out.old) (K.faults out.new) result }
-{
-    for index in 0..earliest.len() {
-        write_start(alloc, index + 1, earliest[index], latest[index], out)?;
+    earliest: &'a [u64],
+    latest: &'a [u64],
+    at: usize,
+    ghost paired: { length latest.now ≡ length earliest.now },
+}
+
+impl<'a> Lines for StartLines<'a> {
+    ghost rest = { λ s. numbered start_line (s.at + 1) (zip (drop s.at s.earliest.now) (drop s.at s.latest.now)) };
+
+    #[tactic(auto, using(crate::proofs::WaveLines::is_start_line))]
+    fn next_line(&mut self) -> Result<Option<String>, AllocError> {
+        if self.at >= self.earliest.len() {
+            return Ok(None);
+        }
+        let (early, late) = (self.earliest[self.at], self.latest[self.at]);
+        let line = start_line(self.alloc, self.at + 1, early, late)?;
+        self.at += 1;
+        Ok(Some(line))
     }
-    Ok(())
-}
-
-#[tactic(auto, using(metis_outside::proofs::Writing::front_of_nothing))]
-fn write_start<K: Sink>(
-    alloc: Global,
-    number: usize,
-    early: u64,
-    late: u64,
-    out: &mut K,
-) -> Result<(), Trouble>
-    ensures text { Writes (start_line number (early, late) ∷ []) (K.written out.old) (K.written out.new) result }
-    ensures cause { CountsFault (K.faults out.old) (K.faults out.new) result }
-{
-    let line = start_line(alloc, number, early, late)?;
-    put_line(line.as_bytes(), out)
 }
 
 fn start_line(alloc: Global, number: usize, early: u64, late: u64) -> Result<String, AllocError>
@@ -133,43 +140,39 @@ fn start_line(alloc: Global, number: usize, early: u64, late: u64) -> Result<Str
     format!(in alloc; "{number} at {early} to {late}\n")
 }
 
-// Puts when all is done, and the chain.
-#[tactic(auto, using(metis_outside::proofs::Writing::front_of_line, metis_outside::proofs::Writing::writes_behind))]
-fn write_ends<K: Sink>(
+/// When all is done, and then the chain.
+#[derive(Drop)]
+struct EndLines<'a> {
     alloc: Global,
     finish: u64,
-    chain: &[u32],
-    out: &mut K,
-) -> Result<(), Trouble>
-    ensures text { Writes (end_lines finish chain.now) (K.written out.old) (K.written out.new) result }
-    ensures cause { CountsFault (K.faults out.old) (K.faults out.new) result }
-{
-    write_finish(alloc, finish, out)?;
-    write_chain(alloc, chain, out)
+    chain: &'a [u32],
+    finished: bool,
+    ended: bool,
 }
 
-#[tactic(auto, using(metis_outside::proofs::Writing::front_of_nothing))]
-fn write_finish<K: Sink>(alloc: Global, finish: u64, out: &mut K) -> Result<(), Trouble>
-    ensures text { Writes (finish_line finish ∷ []) (K.written out.old) (K.written out.new) result }
-    ensures cause { CountsFault (K.faults out.old) (K.faults out.new) result }
-{
-    let line = finish_line(alloc, finish)?;
-    put_line(line.as_bytes(), out)
+impl<'a> Lines for EndLines<'a> {
+    ghost rest = { λ e. ends_left e.finish e.chain.now e.finished e.ended };
+
+    #[tactic(auto, using(crate::proofs::WaveLines::is_finish_line, crate::proofs::WaveLines::is_chain_line))]
+    fn next_line(&mut self) -> Result<Option<String>, AllocError> {
+        if self.ended {
+            return Ok(None);
+        }
+        if self.finished {
+            let line = chain_line(self.alloc, self.chain)?;
+            self.ended = true;
+            return Ok(Some(line));
+        }
+        let line = finish_line(self.alloc, self.finish)?;
+        self.finished = true;
+        Ok(Some(line))
+    }
 }
 
 fn finish_line(alloc: Global, finish: u64) -> Result<String, AllocError>
     ensures { IfOk result (λ line. string_bytes line ≡ finish_line finish) }
 {
     format!(in alloc; "finish {finish}\n")
-}
-
-#[tactic(auto, using(metis_outside::proofs::Writing::front_of_nothing))]
-fn write_chain<K: Sink>(alloc: Global, chain: &[u32], out: &mut K) -> Result<(), Trouble>
-    ensures text { Writes (chain_line chain.now ∷ []) (K.written out.old) (K.written out.new) result }
-    ensures cause { CountsFault (K.faults out.old) (K.faults out.new) result }
-{
-    let line = chain_line(alloc, chain)?;
-    put_line(line.as_bytes(), out)
 }
 
 fn chain_line(alloc: Global, chain: &[u32]) -> Result<String, AllocError>
