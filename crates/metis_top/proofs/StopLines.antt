@@ -1,5 +1,5 @@
 -- The lines of a run that ends before its work are lines.
-use Rattle.std.proofs.Common.{◌≡◌, ◌≢◌, ℕ, true, ◌++◌, refl, sym, ap, ◌∙◌}
+use Rattle.std.proofs.Common.{◌≡◌, ◌≢◌, ℕ, true, refl, sym, ap, ◌∙◌}
 use Rattle.std.proofs.lemmas.Bool.{false≢true}
 use Rattle.std.specs.Prelude.{codes}
 use Rattle.metis_outside.proofs.Feeds.{IsLine-from}

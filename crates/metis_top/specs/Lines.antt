@@ -13,7 +13,7 @@ use Rattle.metis_gather.specs.declared.refusal.Refusal.{Refusal}
 use Rattle.metis_gather.specs.declared.refusal.Refusal.TheVariants.{Word, TooLong}
 use Rattle.metis_gather.specs.declared.refusal.Refusal.TheVariants as refusal
 use Rattle.metis_output.specs.declared.status.Status.{Status}
-use Rattle.metis_output.specs.declared.status.Status.TheVariants.{BadWords, BadInput, NoMemory}
+use Rattle.metis_output.specs.declared.status.Status.TheVariants.{BadWords, BadInput}
 
 abbrev pub limit_line : LimitKind → ℕ → List ℕ
 limit_line States n = codes "bad universe U12 states " ++ (decimal n ++ codes "\n")

@@ -1,4 +1,4 @@
-use Rattle.std.proofs.Common.{◌≡◌, ◌≢◌, ℕ, List}
+use Rattle.std.proofs.Common.{◌≢◌, ℕ, List}
 use Rattle.metis_universe.specs.Universe.{Universe}
 use Rattle.metis_check.specs.Simulated.{Simulated}
 use Rattle.metis_output.specs.declared.status.Status.{Status}

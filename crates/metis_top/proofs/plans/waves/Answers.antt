@@ -1,4 +1,4 @@
-use Rattle.std.proofs.Common.{◌≡◌, ◌≢◌, ℕ, List, inl, inr, ap}
+use Rattle.std.proofs.Common.{◌≢◌, ℕ, List, inl, inr, ap}
 use Rattle.metis_universe.specs.Universe.{Universe}
 use Rattle.metis_ids.specs.declared.actions.Action.{Action}
 use Rattle.metis_deploy.specs.Waved.{Waved}

@@ -1,4 +1,4 @@
-use Rattle.std.proofs.Common.{◌≡◌, ◌≢◌, ℕ, List, inl, inr}
+use Rattle.std.proofs.Common.{◌≢◌, ℕ, List, inl, inr}
 use Rattle.metis_universe.specs.Universe.{Universe}
 use Rattle.metis_ids.specs.declared.goals.Goal.{Goal}
 use Rattle.metis_check.specs.Explained.{WhyAnswer}

@@ -1,4 +1,4 @@
-use Rattle.std.proofs.Common.{◌≡◌, ◌≢◌, ℕ, List, subst, sym}
+use Rattle.std.proofs.Common.{◌≢◌, ℕ, List, subst, sym}
 use Rattle.metis_answer.specs.Loaded.{Loaded}
 use Rattle.metis_gather.specs.Answer.{Load as LoadOf}
 use Rattle.metis_gather.specs.Commands.{command_script}
