@@ -28,7 +28,7 @@ pub fn agents_of(alloc: Global, actions: &[Action]) -> Result<BTreeMap<InstNo, A
     Ok(agents)
 }
 
-// The action is the instance's, behind its others.
+// The action is the instance's, behind its others. The first one goes to a new agent, which has none yet.
 fn add(
     alloc: Global,
     agents: &mut BTreeMap<InstNo, Agent>,
@@ -42,7 +42,7 @@ fn add(
     if let Some(agent) = agents.get_mut(&z) {
         return agent.take_on(number);
     }
-    let mut agent = Agent::idle(alloc, z);
+    let mut agent = Agent::new(alloc, z, &[])?;
     agent.take_on(number)?;
     agents.insert(z, agent)?;
     Ok(())

@@ -2,6 +2,7 @@ ghost use Rattle.std.specs.Prelude.{◌≡◌, ◌<◌, IfOk, length, map};
 ghost use Rattle.std.specs.List.{All};
 ghost use Rattle.metis_events.specs.Edges.{event_at};
 
+use crate::lists::put;
 use crate::stop::Stop;
 use metis_events::{EdgeKind, EventGraph};
 use metis_ids::{Event, NodeIx};
@@ -19,34 +20,34 @@ pub fn write_edges(text: &mut String, graph: &EventGraph, count: u32) -> Result<
 }
 
 fn write_before(text: &mut String, graph: &EventGraph, event: &Event) -> Result<(), Stop> {
-    write!(text, "before")?;
+    put(text, "before")?;
     write_event(text, event)?;
-    write!(text, ":")?;
+    put(text, ":")?;
     for edge in graph.before(*event) {
         write_event(text, &edge.from)?;
-        write!(text, " {}", kind_word(edge.kind))?;
+        put(text, kind_word(edge.kind))?;
     }
-    write!(text, "\n")?;
-    Ok(())
+    put(text, "\n")
 }
 
 fn kind_word(kind: EdgeKind) -> &'static str {
     match kind {
-        EdgeKind::Go => "go",
-        EdgeKind::Start => "start",
-        EdgeKind::Return => "return",
+        EdgeKind::Go => " go",
+        EdgeKind::Start => " start",
+        EdgeKind::Return => " return",
     }
 }
 
 /// Writes an event, with a space before it.
 pub fn write_event(text: &mut String, event: &Event) -> Result<(), Stop> {
     match *event {
-        Event::At(line, step) => {
-            let (line, step) = (line.0, step.0);
-            write!(text, " {line}.{step}")?;
-        }
-        Event::End => write!(text, " end")?,
+        Event::At(line, step) => write_step(text, line.0, step.0),
+        Event::End => put(text, " end"),
     }
+}
+
+fn write_step(text: &mut String, line: u32, step: u32) -> Result<(), Stop> {
+    write!(text, " {line}.{step}")?;
     Ok(())
 }
 
@@ -84,8 +85,8 @@ pub fn write_sorted(
     requires { count ≡ length graph.now.events }
 {
     match sorted {
-        Sorted::Order(nodes) => write_nodes(text, graph, count, "order", nodes),
-        Sorted::Cycle(nodes) => write_nodes(text, graph, count, "cycle", nodes),
+        Sorted::Order(nodes) => write_nodes(text, graph, count, "order:", nodes),
+        Sorted::Cycle(nodes) => write_nodes(text, graph, count, "cycle:", nodes),
     }
 }
 
@@ -98,12 +99,11 @@ fn write_nodes(
 ) -> Result<(), Stop>
     requires { count ≡ length graph.now.events }
 {
-    write!(text, "{word}:")?;
+    put(text, word)?;
     for node in nodes {
         if node.0 < count {
             write_event(text, &graph.event(*node))?;
         }
     }
-    write!(text, "\n")?;
-    Ok(())
+    put(text, "\n")
 }

@@ -1,8 +1,9 @@
 ghost use Rattle.std.specs.Prelude.{◌<◌};
 ghost use Rattle.metis_universe.specs.Universe.{pair_count, port_count};
 
-use crate::lists::write_or;
+use crate::lists::{put, put_number, write_or};
 use crate::stop::Stop;
+use crate::tables::{write_pair_name, write_port_name};
 use metis_ids::{PairIx, PortIx};
 use metis_layers::layers;
 use metis_layers::table::Layers;
@@ -13,9 +14,7 @@ use std::alloc::Global;
 pub fn write_layers(alloc: Global, text: &mut String, u: &Universe) -> Result<(), Stop> {
     let layers = layers(alloc, u)?;
     write_tables(text, u, &layers)?;
-    write_past_the_end(text, u, &layers)?;
-    write_order(text, &layers)?;
-    write_counts(text, layers)
+    write_attained(text, layers)
 }
 
 fn write_tables(text: &mut String, u: &Universe, layers: &Layers) -> Result<(), Stop> {
@@ -25,26 +24,33 @@ fn write_tables(text: &mut String, u: &Universe, layers: &Layers) -> Result<(), 
     for number in 0..u.ports() {
         write_provider(text, u, layers, PortIx(number))?;
     }
-    Ok(())
+    write_past_the_end(text, u, layers)?;
+    write_order(text, layers)
 }
 
 fn write_past_the_end(text: &mut String, u: &Universe, layers: &Layers) -> Result<(), Stop> {
-    write!(text, "past the end")?;
+    put(text, "past the end")?;
     write_or(text, layers.of(PairIx(u.pairs())), "never")?;
-    let provider = layers.first_provider(PortIx(u.ports()));
-    write_or(text, provider.map(|p| p.0), "never")
+    write_first(text, layers, PortIx(u.ports()))
+}
+
+// Writes the number of the port's first provider.
+fn write_first(text: &mut String, layers: &Layers, port: PortIx) -> Result<(), Stop> {
+    match layers.first_provider(port) {
+        Some(pair) => put_number(text, pair.0),
+        None => put(text, " never"),
+    }
 }
 
 fn write_order(text: &mut String, layers: &Layers) -> Result<(), Stop> {
-    write!(text, "\norder")?;
+    put(text, "\norder")?;
     for pair in layers.in_order() {
-        let number = pair.0;
-        write!(text, " {number}")?;
+        put_number(text, pair.0)?;
     }
     Ok(())
 }
 
-fn write_counts(text: &mut String, layers: Layers) -> Result<(), Stop> {
+fn write_attained(text: &mut String, layers: Layers) -> Result<(), Stop> {
     let count = layers.attained().count();
     let taken = layers.into_attained().count();
     write!(text, "\nattained {count}, and {taken} are taken out\n")?;
@@ -54,11 +60,10 @@ fn write_counts(text: &mut String, layers: Layers) -> Result<(), Stop> {
 fn write_layer(text: &mut String, u: &Universe, layers: &Layers, pair: PairIx) -> Result<(), Stop>
     requires { pair < pair_count u.now }
 {
-    let (number, kind, state) = (pair.0, u.type_name(u.type_of(pair)), u.state_name(pair));
-    write!(text, "pair {number} {kind}:{state}: layer")?;
+    write_pair_name(text, u, pair)?;
+    put(text, "layer")?;
     write_or(text, layers.of(pair), "never")?;
-    write!(text, "\n")?;
-    Ok(())
+    put(text, "\n")
 }
 
 fn write_provider(
@@ -69,9 +74,8 @@ fn write_provider(
 ) -> Result<(), Stop>
     requires { port < port_count u.now }
 {
-    let (number, name) = (port.0, u.port_name(port));
-    write!(text, "port {number} {name}: first provider")?;
-    write_or(text, layers.first_provider(port).map(|p| p.0), "never")?;
-    write!(text, "\n")?;
-    Ok(())
+    write_port_name(text, u, port)?;
+    put(text, "first provider")?;
+    write_first(text, layers, port)?;
+    put(text, "\n")
 }

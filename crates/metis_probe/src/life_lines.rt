@@ -2,6 +2,7 @@ ghost use Rattle.std.specs.Prelude.{◌≡◌, ◌<◌, IsTrue, length, not};
 ghost use Rattle.metis_universe.specs.Universe.{has};
 ghost use Rattle.metis_lines.specs.LifeLines.{ends_in, is_loose, line_at};
 
+use crate::lists::{put, put_number};
 use crate::stop::Stop;
 use metis_ids::{LineIx, PairIx, StepIx};
 use metis_lines::Lines;
@@ -15,7 +16,10 @@ pub fn write_lines(text: &mut String, s: &Support, lines: &Lines) -> Result<(), 
     for pair in s.provider_pairs() {
         write_holders(text, lines, *pair)?;
     }
-    let loose = lines.loose();
+    write_loose(text, lines.loose())
+}
+
+fn write_loose(text: &mut String, loose: u32) -> Result<(), Stop> {
     write!(text, "loose {loose}\n")?;
     Ok(())
 }
@@ -23,44 +27,48 @@ pub fn write_lines(text: &mut String, s: &Support, lines: &Lines) -> Result<(), 
 fn write_line(text: &mut String, lines: &Lines, line: LineIx) -> Result<(), Stop>
     requires { line < length lines.now.lines }
 {
-    let number = line.0;
-    let of = if lines.is_target(line) {
-        ", a target's"
-    } else {
-        ""
-    };
-    write!(text, "line {number}{of}:")?;
+    write_line_name(text, line.0, lines.is_target(line))?;
     let last = lines.last(line);
     for step in 0..last.0 + 1 {
-        let pair = lines.station(line, StepIx(step)).0;
-        write!(text, " {pair}")?;
+        put_number(text, lines.station(line, StepIx(step)).0)?;
     }
-    write!(text, "\n")?;
+    put(text, "\n")
+}
+
+fn write_line_name(text: &mut String, number: u32, target: bool) -> Result<(), Stop> {
+    let of = if target { ", a target's" } else { "" };
+    write!(text, "line {number}{of}:")?;
     Ok(())
 }
 
 // Writes where each slot of the pair is held.
 fn write_holders(text: &mut String, lines: &Lines, pair: PairIx) -> Result<(), Stop> {
     for before in 0..lines.slots(pair) {
+        write_slot(text, pair.0, before + 1)?;
         write_holder(text, lines, pair, before + 1)?;
     }
     Ok(())
 }
 
-fn write_holder(text: &mut String, lines: &Lines, pair: PairIx, slot: u32) -> Result<(), Stop> {
-    let number = pair.0;
+// The first slot goes without its number.
+fn write_slot(text: &mut String, pair: u32, slot: u32) -> Result<(), Stop> {
     if slot == 1 {
-        write!(text, "pair {number} ")?;
+        write!(text, "pair {pair} is ")?;
     } else {
-        write!(text, "pair {number} slot {slot} ")?;
+        write!(text, "pair {pair} slot {slot} is ")?;
     }
+    Ok(())
+}
+
+fn write_holder(text: &mut String, lines: &Lines, pair: PairIx, slot: u32) -> Result<(), Stop> {
     match lines.holder(pair, slot) {
-        Some((line, station)) => {
-            let (line, station) = (line.0, station.0);
-            write!(text, "is held at {line}.{station}\n")?;
-        }
-        None => write!(text, "is not held\n")?,
+        Some((line, station)) => write_station(text, line.0, station.0),
+        None => put(text, "not held\n"),
     }
+}
+
+fn write_station(text: &mut String, line: u32, station: u32) -> Result<(), Stop> {
+    write!(text, "held at {line}.{station}\n")?;
     Ok(())
 }
 

@@ -25,11 +25,15 @@ fn probe_line<R: Files + Print + AllocGlobal>(rt: &R, line: &str) -> Result<(), 
         return Ok(());
     }
     println!(rt; "$ {line}")?;
-    let words: Vec<&str> = line.split(' ').collect(rt.alloc())?;
     let mut text = String::new(rt.alloc());
-    write_probe(rt, &mut text, &words)?;
+    write_words(rt, &mut text, line)?;
     print!(rt; "{text}")?;
     Ok(())
+}
+
+fn write_words<R: Files + AllocGlobal>(rt: &R, text: &mut String, line: &str) -> Result<(), Stop> {
+    let words: Vec<&str> = line.split(' ').collect(rt.alloc())?;
+    write_probe(rt, text, &words)
 }
 
 // The first word says what is written, and the second is the file of the universe.
@@ -82,7 +86,7 @@ fn write_kind<R: Files + AllocGlobal>(
 ) -> Result<(), Stop> {
     let alloc = rt.alloc();
     match kind {
-        Kind::Tables => write_tables(alloc, text, u),
+        Kind::Tables => write_tables(text, u),
         Kind::Names => write_names(text, u, rest),
         Kind::Layers => write_layers(alloc, text, u),
         Kind::Waits => write_waits(rt, text, u, first_of(rest)?),

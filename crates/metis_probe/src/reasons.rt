@@ -1,8 +1,9 @@
-ghost use Rattle.std.specs.Prelude.{IfSome};
+ghost use Rattle.std.specs.Prelude.{IfOk};
 ghost use Rattle.std.specs.List.{All};
 ghost use Rattle.metis_universe.specs.Goals.{IsGoalOf};
 ghost use Rattle.metis_why.specs.Confirm.{IsLineOf};
 
+use crate::lists::put;
 use crate::stop::Stop;
 use metis_ids::Goal;
 use metis_universe::Universe;
@@ -16,17 +17,14 @@ pub fn write_reasons(
     u: &Universe,
     word: &str,
 ) -> Result<(), Stop> {
-    let Some(goal) = goal_in(u, word) else {
-        return Err(Stop::NoProbe);
-    };
+    let goal = goal_in(u, word)?;
     match why(alloc, u, &goal)? {
-        Because::Attained => write!(text, "attained\n")?,
+        Because::Attained => put(text, "attained\n"),
         Because::Lines(lines) => {
             write_all(text, u, &lines)?;
-            write_confirmation(text, confirm(u, &lines, &[goal]))?;
+            write_confirmation(text, u, &lines, goal)
         }
     }
-    Ok(())
 }
 
 /// Writes how many lines there are.
@@ -36,38 +34,29 @@ pub fn write_reason_count(
     u: &Universe,
     word: &str,
 ) -> Result<(), Stop> {
-    let Some(goal) = goal_in(u, word) else {
-        return Err(Stop::NoProbe);
-    };
+    let goal = goal_in(u, word)?;
     match why(alloc, u, &goal)? {
-        Because::Attained => write!(text, "attained\n")?,
+        Because::Attained => put(text, "attained\n"),
         Because::Lines(lines) => {
-            let count = lines.len();
-            write!(text, "lines {count}\n")?;
-            write_confirmation(text, confirm(u, &lines, &[goal]))?;
+            write_count(text, lines.len())?;
+            write_confirmation(text, u, &lines, goal)
         }
     }
+}
+
+fn write_count(text: &mut String, count: usize) -> Result<(), Stop> {
+    write!(text, "lines {count}\n")?;
     Ok(())
 }
 
-// The goal that the word asks for, where no type is named `port`.
-fn goal_in(u: &Universe, word: &str) -> Option<Goal>
-    ensures { IfSome result (IsGoalOf u.now) }
+// The goal that the word asks for.
+fn goal_in(u: &Universe, word: &str) -> Result<Goal, Stop>
+    ensures { IfOk result (IsGoalOf u.now) }
 {
-    let (kind, name) = word.split_once(':')?;
-    if kind == "port" {
-        let port = u.port_named(name)?;
-        return if port.0 < u.ports() {
-            Some(Goal::Port(port))
-        } else {
-            None
-        };
+    match word.split_once(':') {
+        Some((kind, name)) => u.goal_named(kind, name).ok_or(Stop::NoProbe),
+        None => Err(Stop::NoProbe),
     }
-    let pair = u.pair_named(kind, name)?;
-    if pair.0 < u.pairs() {
-        return Some(Goal::Pair(pair));
-    }
-    None
 }
 
 fn write_all(text: &mut String, u: &Universe, lines: &[Line]) -> Result<(), Stop>
@@ -82,22 +71,44 @@ fn write_all(text: &mut String, u: &Universe, lines: &[Line]) -> Result<(), Stop
 fn write_reason(text: &mut String, u: &Universe, line: &Line) -> Result<(), Stop>
     requires { IsLineOf u.now line.now }
 {
-    let (kind, state) = (u.type_name(u.type_of(line.pair)), u.state_name(line.pair));
+    write_pair(
+        text,
+        u.type_name(u.type_of(line.pair)),
+        u.state_name(line.pair),
+    )?;
     match line.reason {
-        Reason::Needs(port) => {
-            let name = u.port_name(port);
-            write!(text, "{kind}:{state} needs {name}\n")?;
-        }
-        Reason::Comes => write!(text, "{kind}:{state} comes\n")?,
+        Reason::Needs(port) => write_need(text, u.port_name(port)),
+        Reason::Comes => put(text, " comes\n"),
     }
+}
+
+fn write_pair(text: &mut String, kind: &str, state: &str) -> Result<(), Stop> {
+    write!(text, "{kind}:{state}")?;
     Ok(())
 }
 
-fn write_confirmation(text: &mut String, confirmation: Confirmation) -> Result<(), Stop> {
-    match confirmation {
-        Confirmation::Confirmed(_) => write!(text, "confirmed\n")?,
-        Confirmation::Unfounded(place) => write!(text, "unfounded {place}\n")?,
-        Confirmation::LacksNone => write!(text, "lacks none\n")?,
+fn write_need(text: &mut String, port: &str) -> Result<(), Stop> {
+    write!(text, " needs {port}\n")?;
+    Ok(())
+}
+
+fn write_confirmation(
+    text: &mut String,
+    u: &Universe,
+    lines: &[Line],
+    goal: Goal,
+) -> Result<(), Stop>
+    requires lines { All (IsLineOf u.now) lines.now }
+    requires goal { IsGoalOf u.now goal }
+{
+    match confirm(u, lines, &[goal]) {
+        Confirmation::Confirmed(_) => put(text, "confirmed\n"),
+        Confirmation::Unfounded(place) => write_unfounded(text, place),
+        Confirmation::LacksNone => put(text, "lacks none\n"),
     }
+}
+
+fn write_unfounded(text: &mut String, place: usize) -> Result<(), Stop> {
+    write!(text, "unfounded {place}\n")?;
     Ok(())
 }

@@ -1,8 +1,10 @@
-ghost use Rattle.std.specs.Prelude.{◌≡◌, ◌≤◌, ℕ, IsTrue, OnOk, length};
-ghost use Rattle.metis_universe.specs.Universe.{Universe as Model, has};
+ghost use Rattle.std.specs.Prelude.{◌≡◌, ◌+◌, ◌<◌, ◌≤◌, ℕ, IfOk, IsTrue, OnOk, length};
+ghost use Rattle.std.specs.List.{All};
+ghost use Rattle.metis_universe.specs.Universe.{Universe as Model, has, pair_count};
+ghost use Rattle.metis_choice.specs.Choices.{IfSupport};
 ghost use Rattle.metis_support.specs.Support.{IsSupport, is_selected};
 ghost use Rattle.metis_lines.specs.Over.{graph_over};
-ghost use Rattle.metis_lines.specs.LifeLines.{AreLines};
+ghost use Rattle.metis_lines.specs.LifeLines.{AreLines, loose};
 ghost use Rattle.metis_events.specs.Edges.{graph_of};
 ghost use Rattle.metis_events.specs.Numbered.{dag_of};
 ghost use Rattle.metis_ids.specs.Order.{IsOrder};
@@ -11,14 +13,15 @@ ghost use Rattle.metis_sort.specs.Sorted.{IsSorted};
 use crate::event_graph::{count_edges, events_of, write_edges, write_event, write_sorted};
 use crate::goals::targets_in;
 use crate::life_lines::{goes_on, write_lines};
+use crate::lists::put;
 use crate::stop::Stop;
 use metis_choice::{Choice, choose};
 use metis_emit::{emit, least_order_ends_late, sorted_numbers_are_least};
 use metis_events::{EventGraph, dag_is_of_the_plan};
-use metis_ids::{Action, Dup, NodeIx, PairIx, order_is_a_sorting};
+use metis_ids::{Action, Dup, NoMemory, NodeIx, PairIx, order_is_a_sorting};
 use metis_layers::layers;
 use metis_lines::{Lines, OverLines};
-use metis_rounds::{Round, Rounds};
+use metis_rounds::{Round, Rounds, StuckRounds};
 use metis_sort::{Reach, Sorted, sort};
 use metis_support::Support;
 use metis_universe::Universe;
@@ -32,10 +35,8 @@ pub fn write_rounds(
     u: &Universe,
     words: &[&str],
 ) -> Result<(), Stop> {
-    u.keeps_invariant();
     let targets = targets_in(alloc, u, words)?;
-    let layers = layers(alloc, u)?;
-    match choose(alloc, u, &layers, &targets)? {
+    match chosen(alloc, u, &targets)? {
         Choice::Support(support) => rounds(alloc, text, u, &support, &targets),
         Choice::Lacks(pair) => write_lacks(text, pair),
     }
@@ -48,13 +49,22 @@ pub fn write_counts(
     u: &Universe,
     words: &[&str],
 ) -> Result<(), Stop> {
-    u.keeps_invariant();
     let targets = targets_in(alloc, u, words)?;
-    let layers = layers(alloc, u)?;
-    match choose(alloc, u, &layers, &targets)? {
+    match chosen(alloc, u, &targets)? {
         Choice::Support(support) => counts(alloc, text, u, &support, &targets),
         Choice::Lacks(pair) => write_lacks(text, pair),
     }
+}
+
+// The support of the targets, or the first one that has no layer.
+fn chosen(alloc: Global, u: &Universe, targets: &[PairIx]) -> Result<Choice, NoMemory>
+    requires { All (λ p. p < pair_count u.now) targets.now }
+    ensures over { IfSupport result (IsSupport u.now) }
+    ensures selected { IfSupport result (λ s. (p : ℕ) → IsTrue (has targets.now p) → IsTrue (is_selected s p)) }
+{
+    u.keeps_invariant();
+    let layers = layers(alloc, u)?;
+    choose(alloc, u, &layers, targets)
 }
 
 fn write_lacks(text: &mut String, pair: PairIx) -> Result<(), Stop> {
@@ -74,59 +84,79 @@ fn rounds(
     requires selected { (p : ℕ) → IsTrue (has targets.now p) → IsTrue (is_selected s.now p) }
     requires few { length targets.now ≤ 256 }
 {
-    let mut lines = Lines::new(alloc, u, s, targets)?;
-    rounds_from(alloc, text, u, s, targets, &mut lines)
+    let mut dups = Vec::new(alloc);
+    let count = go_through(alloc, u, s, targets, &mut dups)?;
+    write_all(alloc, text, u, s, targets, &dups)?;
+    write_ended(text, count)
 }
 
-// All rounds, each by the graph of the lines, which is made anew, and by the rounds of the planner, which go on.
-fn rounds_from(
+// Goes from round to round of the planner, notes what they double, and tells how many lines there are at last.
+fn go_through(
+    alloc: Global,
+    u: &Universe,
+    s: &Support,
+    targets: &[PairIx],
+    dups: &mut Vec<Dup>,
+) -> Result<u32, Stop>
+    requires over { IsSupport u.now s.now }
+    requires selected { (p : ℕ) → IsTrue (has targets.now p) → IsTrue (is_selected s.now p) }
+    requires few { length targets.now ≤ 256 }
+{
+    let mut rounds = Rounds::new(alloc, u, s, targets)?;
+    'rounds: loop {
+        match rounds.go_on(alloc)? {
+            Round::Ended(lines) => return Ok(lines.count()),
+            Round::Stuck(stuck) => rounds = doubled(alloc, stuck, dups)?,
+        }
+    }
+}
+
+// Notes what is doubled.
+fn doubled<'a>(
+    alloc: Global,
+    stuck: StuckRounds<'a>,
+    dups: &mut Vec<Dup>,
+) -> Result<Rounds<'a>, Stop>
+    ensures { IfOk result (λ rounds. loose rounds.lines + 1 ≡ loose stuck.entry.lines) }
+{
+    let (dup, rounds) = stuck.double(alloc)?;
+    dups.push(dup)?;
+    Ok(rounds)
+}
+
+// Writes each round, by the graph of the lines, which is made anew, and what is doubled then.
+fn write_all(
     alloc: Global,
     text: &mut String,
     u: &Universe,
     s: &Support,
     targets: &[PairIx],
-    lines: &mut Lines,
+    dups: &[Dup],
 ) -> Result<(), Stop>
     requires over { IsSupport u.now s.now }
-    requires lines { AreLines u.now s.now lines.old }
     requires selected { (p : ℕ) → IsTrue (has targets.now p) → IsTrue (is_selected s.now p) }
     requires few { length targets.now ≤ 256 }
 {
-    let mut rounds = Rounds::new(alloc, u, s, targets)?;
-    for _ in 0..lines.loose() {
-        write_round(alloc, text, u, s, lines)?;
-        match next_rounds(alloc, text, s, lines, rounds)? {
-            Some(next) => rounds = next,
-            None => return Ok(()),
-        }
-    }
-    write_round(alloc, text, u, s, lines)?;
-    next_rounds(alloc, text, s, lines, rounds)?;
-    Ok(())
+    let mut lines = Lines::new(alloc, u, s, targets)?;
+    write_each(alloc, text, u, s, &mut lines, dups)
 }
 
-// Where events of the rounds that go on are stuck, writes what they double, and gives that pair a line of its own here too.
-fn next_rounds<'a>(
+fn write_each(
     alloc: Global,
     text: &mut String,
+    u: &Universe,
     s: &Support,
     lines: &mut Lines,
-    rounds: Rounds<'a>,
-) -> Result<Option<Rounds<'a>>, Stop>
-    requires { (u : Model) × AreLines u s.now lines.old }
-    ensures { OnOk result ((u : Model) → AreLines u s.now lines.old → AreLines u s.now lines.new) }
+    dups: &[Dup],
+) -> Result<(), Stop>
+    requires over { IsSupport u.now s.now }
+    requires lines { AreLines u.now s.now lines.old }
 {
-    match rounds.go_on(alloc)? {
-        Round::Ended(ended) => {
-            write_ended(text, ended.count())?;
-            Ok(None)
-        }
-        Round::Stuck(stuck) => {
-            let (dup, next) = stuck.double(alloc)?;
-            double(alloc, text, s, lines, &dup)?;
-            Ok(Some(next))
-        }
+    for dup in dups {
+        write_round(alloc, text, u, s, lines)?;
+        double(alloc, text, s, lines, dup)?;
     }
+    write_round(alloc, text, u, s, lines)
 }
 
 fn write_ended(text: &mut String, count: u32) -> Result<(), Stop> {
@@ -154,12 +184,15 @@ fn double(
 }
 
 fn write_dup(text: &mut String, dup: &Dup) -> Result<(), Stop> {
-    let number = dup.pair.0;
-    write!(text, "rounds double pair {number} by:")?;
+    write_doubled(text, dup.pair.0)?;
     for event in &dup.cycle {
         write_event(text, event)?;
     }
-    write!(text, "\n")?;
+    put(text, "\n")
+}
+
+fn write_doubled(text: &mut String, pair: u32) -> Result<(), Stop> {
+    write!(text, "rounds double pair {pair} by:")?;
     Ok(())
 }
 
@@ -181,15 +214,43 @@ fn write_round<'a>(
     requires lines { AreLines u.now s.now lines.now }
 {
     write_lines(text, s, lines)?;
-    let over = OverLines::over(u, s, lines);
-    let graph = EventGraph::of(alloc, &over)?;
+    write_events(alloc, text, &OverLines::over(u, s, lines))
+}
+
+fn write_events(alloc: Global, text: &mut String, over: &OverLines<'_>) -> Result<(), Stop> {
+    let graph = EventGraph::of(alloc, over)?;
     write_edges(text, &graph, graph.nodes())?;
-    let sorted = sort(alloc, &graph)?;
-    write_sorted(text, &graph, graph.nodes(), &sorted)?;
-    if let Sorted::Order(nodes) = &sorted {
-        write_actions(text, &actions_of(alloc, &over, &graph, nodes)?)?;
+    write_order(alloc, text, over, &graph)
+}
+
+fn write_order(
+    alloc: Global,
+    text: &mut String,
+    over: &OverLines<'_>,
+    graph: &EventGraph,
+) -> Result<(), Stop>
+    requires { graph.now ≡ graph_of (graph_over over.now) }
+{
+    let sorted = sort(alloc, graph)?;
+    write_sorted(text, graph, graph.nodes(), &sorted)?;
+    match &sorted {
+        Sorted::Order(nodes) => write_ordered(alloc, text, over, graph, nodes),
+        Sorted::Cycle(_) => Ok(()),
     }
-    Ok(())
+}
+
+fn write_ordered(
+    alloc: Global,
+    text: &mut String,
+    over: &OverLines<'_>,
+    graph: &EventGraph,
+    nodes: &[NodeIx],
+) -> Result<(), Stop>
+    requires graph { graph.now ≡ graph_of (graph_over over.now) }
+    requires order { IsOrder (dag_of graph.now) nodes.now }
+{
+    let actions = actions_of(alloc, over, graph, nodes)?;
+    write_actions(text, &actions)
 }
 
 // The actions of the events, where these stand in an order of the graph.
@@ -234,24 +295,31 @@ fn counts<'a>(
 }
 
 fn counts_of(alloc: Global, text: &mut String, over: &OverLines<'_>) -> Result<(), Stop> {
-    let (count, loose) = (over.count(), over.lines().loose());
-    write!(text, "lines {count} loose {loose}\n")?;
+    write_line_counts(text, over.count(), over.lines().loose())?;
     let graph = EventGraph::of(alloc, over)?;
     graph_counts(alloc, text, &graph)
 }
 
-fn graph_counts(alloc: Global, text: &mut String, graph: &EventGraph) -> Result<(), Stop> {
-    let (events, edges) = (graph.nodes(), count_edges(graph, graph.nodes()));
-    write!(text, "events {events} edges {edges}\n")?;
-    let sorted = sort(alloc, graph)?;
-    write_length(text, &sorted)
+fn write_line_counts(text: &mut String, count: u32, loose: u32) -> Result<(), Stop> {
+    write!(text, "lines {count} loose {loose}\n")?;
+    Ok(())
 }
 
-fn write_length(text: &mut String, sorted: &Sorted) -> Result<(), Stop> {
-    let (word, length) = match sorted {
-        Sorted::Order(nodes) => ("order", nodes.len()),
-        Sorted::Cycle(nodes) => ("cycle", nodes.len()),
-    };
+fn graph_counts(alloc: Global, text: &mut String, graph: &EventGraph) -> Result<(), Stop> {
+    write_event_counts(text, graph.nodes(), count_edges(graph, graph.nodes()))?;
+    let sorted = sort(alloc, graph)?;
+    match &sorted {
+        Sorted::Order(nodes) => write_length(text, "order", nodes.len()),
+        Sorted::Cycle(nodes) => write_length(text, "cycle", nodes.len()),
+    }
+}
+
+fn write_event_counts(text: &mut String, events: u32, edges: u64) -> Result<(), Stop> {
+    write!(text, "events {events} edges {edges}\n")?;
+    Ok(())
+}
+
+fn write_length(text: &mut String, word: &str, length: usize) -> Result<(), Stop> {
     write!(text, "{word} of {length}\n")?;
     Ok(())
 }

@@ -183,7 +183,7 @@ impl Arguments for Line {
     }
 }
 
-// The words come whole and in order, but for one that is no UTF-8.
+// Words of these lengths are given whole and in order.
 fn expect_words(
     rt: &impl Abort,
     alloc: Global,
@@ -195,16 +195,18 @@ fn expect_words(
         broken,
     };
     let words = words_given(alloc, &line)?;
-    assert!(rt; words.len() == lengths.len());
-    for (place, (word, length)) in words.iter().zip(lengths).enumerate() {
-        let wanted = if place as u64 + 1 == broken as u64 {
-            0
-        } else {
-            *length
-        };
+    expect_given(rt, &words, &line);
+    Ok(())
+}
+
+// The words have their lengths, but for one that is no UTF-8, which is given as an empty one.
+fn expect_given(rt: &impl Abort, words: &[String], line: &Line) {
+    assert!(rt; words.len() == line.lengths.len());
+    for (place, (word, length)) in words.iter().zip(&line.lengths).enumerate() {
+        let is_broken = place as u64 + 1 == line.broken as u64;
+        let wanted = if is_broken { 0 } else { *length };
         assert!(rt; word.len() == wanted, "{place}");
     }
-    Ok(())
 }
 
 #[test]

@@ -22,8 +22,14 @@ fn web_file(alloc: Global) -> Result<Vec<(String, Vec<u8>)>, AllocError> {
     Ok(files)
 }
 
-// Plans the server with a put of this number that fails, of which so many bytes are kept, and compares the status and all that was
-// put.
+// Plans the server, over files that are read byte by byte.
+fn plan_server(alloc: Global, out: &mut MemSink) -> Result<Status, AllocError> {
+    let words = words_in(alloc, "plan,web.json,Web:run")?;
+    let mut shelf = MemShelf::in_pieces(alloc, web_file(alloc)?, Vec::new(alloc), 1);
+    Ok(run(alloc, &words, &mut shelf, out))
+}
+
+// Plans it with a put of this number that fails, of which so many bytes are kept, and compares the status and all that was put.
 fn expect_run(
     rt: &impl Abort,
     alloc: Global,
@@ -31,11 +37,9 @@ fn expect_run(
     keep: u32,
     status: Status,
     text: &[u8],
-) -> Result<(), Fail> {
-    let words = words_in(alloc, "plan,web.json,Web:run")?;
-    let mut shelf = MemShelf::in_pieces(alloc, web_file(alloc)?, Vec::new(alloc), 1);
+) -> Result<(), AllocError> {
     let mut out = MemSink::keeping(alloc, vec![in alloc; put]?, keep);
-    let answered = run(alloc, &words, &mut shelf, &mut out);
+    let answered = plan_server(alloc, &mut out)?;
     assert!(rt; answered == status, "put {put} keeps {keep}");
     assert!(rt; out.bytes() == text, "put {put} keeps {keep}");
     Ok(())
@@ -53,7 +57,8 @@ fn expect_fronts(rt: &impl Abort, alloc: Global, keep: u32) -> Result<(), Fail> 
         start = start.saturating_add(piece.len());
     }
     let behind = put.saturating_add(1);
-    expect_run(rt, alloc, behind, keep, Status::Done, PLAN.as_bytes())
+    expect_run(rt, alloc, behind, keep, Status::Done, PLAN.as_bytes())?;
+    Ok(())
 }
 
 #[test]

@@ -1,6 +1,7 @@
 //! Words with spaces, which no line of a transcript can have.
 use metis_words::{WordFault, read_words};
 use std::alloc::{AllocError, Global};
+use std::process::Abort;
 use std::test::Fail;
 
 /// The words between the commas of the line.
@@ -10,6 +11,19 @@ pub(crate) fn words_in(alloc: Global, line: &str) -> Result<Vec<String>, AllocEr
         words.push(String::from_str(alloc, word)?)?;
     }
     Ok(words)
+}
+
+fn expect_fault(rt: &impl Abort, alloc: Global, line: &str, place: u32) -> Result<(), AllocError> {
+    let words = words_in(alloc, line)?;
+    let fault = read_words(alloc, &words).err();
+    assert!(rt; fault == Some(WordFault::At(place)), "{line}");
+    Ok(())
+}
+
+fn expect_command(rt: &impl Abort, alloc: Global, line: &str) -> Result<(), AllocError> {
+    let words = words_in(alloc, line)?;
+    assert!(rt; read_words(alloc, &words).is_ok(), "{line}");
+    Ok(())
 }
 
 #[test]
@@ -22,11 +36,8 @@ fn a_word_may_have_a_space(rt: HostRuntime) -> Result<(), Fail> {
         ("print ,a file.json", 1),
         ("plan,-,Svc", 3),
     ] {
-        let words = words_in(alloc, line)?;
-        let fault = read_words(alloc, &words).err();
-        assert_eq!(rt; fault, Some(WordFault::At(place)), "{line}");
+        expect_fault(&rt, alloc, line, place)?;
     }
-    let words = words_in(alloc, "plan,a file.json")?;
-    assert!(rt; read_words(alloc, &words).is_ok());
+    expect_command(&rt, alloc, "plan,a file.json")?;
     Ok(())
 }

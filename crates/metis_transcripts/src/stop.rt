@@ -2,7 +2,7 @@ use metis_outside::{ReadAnswer, Trouble};
 use std::alloc::AllocError;
 
 /// Why not all cases were run.
-#[derive(Clone, Copy, Debug, Drop, PartialEq, Eq)]
+#[derive(Clone, Copy, Debug, Drop)]
 pub enum Stop {
     /// The file of the cases was not read.
     Unread(ReadAnswer),

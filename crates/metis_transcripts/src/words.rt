@@ -7,7 +7,7 @@ ghost use Rattle.metis_transcripts.specs.Cases.{role_of, words_in};
 use std::alloc::{AllocError, Global};
 
 /// What a line of a file of cases is.
-#[derive(Clone, Copy, PartialEq, Eq)]
+#[derive(Clone, Copy)]
 pub enum Role {
     /// It is empty or a comment.
     Remark,

@@ -28,6 +28,6 @@ pub returns : goal.returns
 returns c =
     let old = c.args.agents.now.entries in
     let same = c.get_mut.follows.holds-at-none in
-    added_new old c.insert.new.self.entries c.args.z c.args.number c.take_on-2.new.self (sym c.in_default.ensures.value) (c.in_ok-take_on.ensures ∙ ap (λ (a : AgentState). with_number a c.args.number) c.idle-agent.ensures)
+    added_new old c.insert.new.self.entries c.args.z c.args.number c.take_on-2.new.self (sym c.in_default.ensures.value) (c.in_ok-take_on.ensures ∙ ap (λ (a : AgentState). with_number a c.args.number) c.in_ok-agent.ensures)
     (c.in_ok-insert.ensures.entries ∙ (λ i. insert_entry nat_cmp (same i).entries c.args.z c.take_on-2.new.self))
     (λ q. c.in_ok-insert.ensures.updates.0 q ∙ (λ i. cond (is_at (nat_cmp c.args.z) q) (Some c.take_on-2.new.self) (lookup (is_at (nat_cmp q)) (same i).entries)))

@@ -1,4 +1,4 @@
-use Rattle.std.proofs.Common.{◌≡◌, ◌∙◌, ℕ, Option, Bor, Some, None, ap, sym, not, refl}
+use Rattle.std.proofs.Common.{◌≡◌, ◌∙◌, Option, Bor, Some, None, ap, sym, not, refl}
 use Rattle.std.specs.Prelude.{is_some, IfSome}
 use Rattle.std.specs.Option.{option_copied}
 use Rattle.metis_universe.specs.Universe.{is_empty}
