@@ -4,6 +4,7 @@
 --     IsWaiting w ns waiting l      what comes next on line l waits for an event that is not taken, and is listed there, unless that is the end
 --     HasSeen u s x t ns met left      what was found taken before what comes next on each line is taken
 --     IsGoing u s x t g pending      no stuck event is taken, what was seen is taken, and each line waits, or is to be looked at again
+--     HasNoLines g      it has no line yet
 --     HasOwnLine u s x z p held      z has one more own pair than x
 --     is_on l e      whether the event is one of line l
 --     all_taken ns, event_count w      how many events are taken;  how many there are but for the end
@@ -58,6 +59,13 @@ pub record IsGoing (u : Universe) (s : Support) (x : LifeLines) (t : List (List 
   pub work : (l : ℕ) → IsTrue (has g.work.items l) → l < length x.lines
   pub ahead : (l : ℕ) → IsTrue (has pending l) → l < length x.lines
   pub waits : (l : ℕ) → l < length x.lines → taken_of g.taken.items l < step_count (plan_of u s x) l → IsFalse (has pending l) → IsFalse (has g.work.items l) → IsWaiting (plan_of u s x) g.taken.items g.waiting l
+
+pub record HasNoLines (g : Going) : Type 0 where
+  pub taken : g.taken.items ≡ []
+  pub met : g.met.items ≡ []
+  pub left : g.left.items ≡ []
+  pub waiting : g.waiting ≡ []
+  pub work : g.work.items ≡ []
 
 -- whether the event is one of line l
 abbrev pub is_on : ℕ → Event → Bool

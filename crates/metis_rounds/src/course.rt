@@ -3,13 +3,13 @@ ghost use Rattle.std.specs.Prelude.{◌≡◌, ◌<◌, ◌≤◌, ◌+◌, ◌+
 ghost use Rattle.metis_ids.specs.Cycle.{cycle_of};
 ghost use Rattle.metis_universe.specs.Universe.{has};
 ghost use Rattle.metis_support.specs.Support.{IsSupport, is_selected};
-ghost use Rattle.metis_lines.specs.LifeLines.{LifeLines, is_loose, lines_of, loose, plan_of};
+ghost use Rattle.metis_lines.specs.LifeLines.{AreLines, LifeLines, is_loose, lines_of, loose, plan_of};
 ghost use Rattle.metis_lines.specs.Over.{graph_over};
 ghost use Rattle.metis_events.specs.Edges.{graph_of};
 ghost use Rattle.metis_events.specs.Numbered.{dag_of, nth_event};
 ghost use Rattle.metis_rounds.specs.Course.{IfMore, IsCourse};
 ghost use Rattle.metis_rounds.specs.Forced.{IsForced};
-ghost use Rattle.metis_rounds.specs.Going.{HasOwnLine, IsGoing};
+ghost use Rattle.metis_rounds.specs.Going.{HasNoLines, HasOwnLine, IsGoing};
 ghost use Rattle.metis_rounds.specs.Reach.{HasEnded, HasStopped, taken_of};
 ghost use Rattle.metis_rounds.specs.Tables.{HasReturns, HasUses};
 ghost use Rattle.metis_rounds.specs.Walks.{IsWalk};
@@ -61,19 +61,55 @@ impl Course {
         ensures lines { IfOk result (λ r. r.lines ≡ lines_of universe.now support.now targets.now []) }
     {
         let lines = Lines::new(alloc, universe, support, targets)?;
-        let over = OverLines::over(universe, support, &lines);
-        let uses = Uses::of(alloc, &over)?;
-        let returns = returns_of(alloc, &over, &uses)?;
-        let going = Going::new(alloc, &over, &returns)?;
-        Ok(Course {
+        let mut course = Course::of_lines(alloc, lines);
+        course.begin(alloc, universe, support)?;
+        Ok(course)
+    }
+
+    // The lines, without their tables.
+    fn of_lines(alloc: Global, lines: Lines) -> Course
+        ensures lines { result.lines ≡ lines }
+        ensures going { HasNoLines result.going }
+        ensures walk { result.walk ≡ [] }
+        ensures places { (result.first ≡ 0) × (result.done ≡ 0) }
+    {
+        Course {
             lines,
-            uses,
-            returns,
-            going,
+            uses: Uses::new(alloc),
+            returns: EventTable::new(alloc),
+            going: Going::empty(alloc),
             walk: Walk::new(alloc),
             first: 0,
             done: 0,
-        })
+        }
+    }
+
+    // Makes the tables of the lines, where there are none.
+    fn begin<'a>(
+        &mut self,
+        alloc: Global,
+        universe: &'a Universe,
+        support: &'a Support,
+    ) -> Result<(), NoMemory>
+        requires support { IsSupport universe.now support.now }
+        requires lines { AreLines universe.now support.now self.old.lines }
+        requires going { HasNoLines self.old.going }
+        requires walk { self.old.walk ≡ [] }
+        requires places { (self.old.first ≡ 0) × (self.old.done ≡ 0) }
+        ensures course { OnOk result (IsCourse universe.now support.now self.new) }
+        ensures lines { self.new.lines ≡ self.old.lines }
+    {
+        let over = OverLines::over(universe, support, &self.lines);
+        self.uses = Uses::of(alloc, &over)?;
+        self.returns = returns_of(alloc, &over, &self.uses)?;
+        self.going.begin(alloc, &over)
+    }
+
+    /// Its lines.
+    pub fn into_lines(self) -> Lines
+        ensures { result ≡ self.lines }
+    {
+        self.lines
     }
 
     /// Takes what can be taken. Whether events are stuck then.
@@ -99,8 +135,28 @@ impl Course {
         }
     }
 
-    /// The dup that the cycle of the events forces, where some are stuck.
-    pub fn dup<'a>(
+    /// The dup that the cycle of the events forces, where some are stuck. Its pair gets a line of its own.
+    pub fn double<'a>(
+        &mut self,
+        alloc: Global,
+        universe: &'a Universe,
+        support: &'a Support,
+    ) -> Result<Dup, NoMemory>
+        requires course { IsCourse universe.now support.now self.old }
+        requires stopped { HasStopped (plan_of universe.now support.now self.old.lines) self.old.going.taken.items }
+        ensures course { OnOk result (IsCourse universe.now support.now self.new) }
+        ensures forced { IfOk result (IsForced (plan_of universe.now support.now self.old.lines)) }
+        ensures lines { IfOk result (λ d. self.new.lines ≡ lines_of universe.now support.now self.old.lines.targets (self.old.lines.own ++ d.pair ∷ [])) }
+        ensures loose { OnOk result (loose self.new.lines + 1 ≡ loose self.old.lines) }
+    {
+        universe.keeps_invariant();
+        let dup = self.dup(alloc, universe, support)?;
+        self.own_line(alloc, universe, support, dup.pair)?;
+        Ok(dup)
+    }
+
+    // The dup that the cycle of the events forces, where some are stuck.
+    fn dup<'a>(
         &mut self,
         alloc: Global,
         universe: &'a Universe,
@@ -150,8 +206,8 @@ impl Course {
         )
     }
 
-    /// Gives a provider pair a line of its own, where the line that holds it goes on from there.
-    pub fn own_line<'a>(
+    // Gives a provider pair a line of its own, where the line that holds it goes on from there.
+    fn own_line<'a>(
         &mut self,
         alloc: Global,
         universe: &'a Universe,

@@ -7,7 +7,7 @@ ghost use Rattle.metis_ids.specs.declared.events.Event.TheVariants.{At, End};
 ghost use Rattle.metis_lines.specs.Events.{is_among, is_end, same_event, step_count};
 ghost use Rattle.metis_lines.specs.LifeLines.{LifeLines};
 ghost use Rattle.metis_lines.specs.Over.{graph_over};
-ghost use Rattle.metis_rounds.specs.Going.{HasOwnLine, HasSeen, IsGoing, IsMissing, all_taken, is_on, use_at, use_event, uses_at};
+ghost use Rattle.metis_rounds.specs.Going.{HasNoLines, HasOwnLine, HasSeen, IsGoing, IsMissing, all_taken, is_on, use_at, use_event, uses_at};
 ghost use Rattle.metis_rounds.specs.Reach.{HasAllBefore, WaitsFor, is_taken, next_of, taken_of, with_next};
 ghost use Rattle.metis_rounds.specs.Returns.{IsUse};
 ghost use Rattle.metis_rounds.specs.Tables.{HasGrown, HasReturns, HasUses, has_row, row_at};
@@ -150,26 +150,33 @@ pub fn slots_at<'a>(
 }
 
 impl Going {
-    /// Nothing is taken, and each line is to be looked at.
-    pub fn new(alloc: Global, over: &OverLines<'_>, returns: &EventTable) -> Result<Going, NoMemory>
-        ensures { IfOk result (λ g. IsGoing over.now.universe over.now.support over.now.lines returns.now g []) }
+    /// No line.
+    pub fn empty(alloc: Global) -> Going
+        ensures { HasNoLines result }
     {
-        let mut going = Going {
+        Going {
             taken: Vec::new(alloc),
             met: Vec::new(alloc),
             left: Vec::new(alloc),
             waiting: EventTable::new(alloc),
             work: Vec::new(alloc),
-        };
+        }
+    }
+
+    /// Adds the lines where there are none. Nothing is taken, and each line is to be looked at.
+    pub fn begin(&mut self, alloc: Global, over: &OverLines<'_>) -> Result<(), NoMemory>
+        requires { HasNoLines self.old }
+        ensures { OnOk result ((t : List (List (List Event))) → IsGoing over.now.universe over.now.support over.now.lines t self.new []) }
+    {
         for number in 0..over.count() {
             let line = LineIx(number);
-            going.waiting.add_line(alloc, step_count(over, line))?;
-            going.taken.push(0)?;
-            going.met.push(0)?;
-            going.left.push(0)?;
-            going.work.push(line)?;
+            self.waiting.add_line(alloc, step_count(over, line))?;
+            self.taken.push(0)?;
+            self.met.push(0)?;
+            self.left.push(0)?;
+            self.work.push(line)?;
         }
-        Ok(going)
+        Ok(())
     }
 
     /// Takes what can be taken, until each line waits for something or has no event left.

@@ -101,7 +101,7 @@ impl<'a> Rounds<'a> {
                 course,
             }));
         }
-        Ok(Round::Ended(course.lines))
+        Ok(Round::Ended(course.into_lines()))
     }
 }
 
@@ -118,9 +118,7 @@ impl<'a> StuckRounds<'a> {
             support,
             mut course,
         } = self;
-        universe.keeps_invariant();
-        let dup = course.dup(alloc, universe, support)?;
-        course.own_line(alloc, universe, support, dup.pair)?;
+        let dup = course.double(alloc, universe, support)?;
         Ok((
             dup,
             Rounds {

@@ -38,6 +38,13 @@ impl Model for Uses {
 }
 
 impl Uses {
+    /// A table of no pairs.
+    pub fn new(alloc: Global) -> Uses {
+        Uses {
+            rows: Vec::new(alloc),
+        }
+    }
+
     /// Those of the selected pairs. It goes once over what they require.
     pub fn of(alloc: Global, over: &OverLines<'_>) -> Result<Uses, NoMemory>
         ensures { IfOk result (HasUses over.now.universe over.now.support) }

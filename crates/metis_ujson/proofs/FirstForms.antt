@@ -1,6 +1,6 @@
 -- The fault of form that is told of a document is the first.
-use Rattle.std.proofs.Common.{◌≡◌, ℕ, zero, suc, ◌+◌, ◌<◌, ◌⊎◌, true, false, is_some, List, [], ◌∷◌, Option, Some, None, Result, Ok, Err, codes, inl, inr, refl, ap, sym, ◌∙◌, subst, zero-add, add-zero, arith}
-use Rattle.std.specs.Prelude.{◌↔◌, IsNone, IsSome, slice_get}
+use Rattle.std.proofs.Common.{◌≡◌, ℕ, zero, suc, ◌+◌, ◌⊎◌, true, false, is_some, List, ◌∷◌, Option, Some, None, Result, Ok, Err, codes, inl, inr, refl, ap, sym, ◌∙◌, subst, arith}
+use Rattle.std.specs.Prelude.{IsNone, IsSome, slice_get}
 use Rattle.serde_json.specs.Data.{Data, Items, no_items, item}
 use Rattle.metis_ids.proofs.Options.{none_from_IsNone}
 use Rattle.metis_universe.specs.RowShapes.{StateRow, TypeRow}

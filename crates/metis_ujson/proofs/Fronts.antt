@@ -1,13 +1,12 @@
 -- Lists that are read from the front: what was read, before what the rest means.
-use Rattle.std.proofs.Common.{◌≡◌, ℕ, ◌+◌, ◌<◌, List, [], ◌∷◌, ◌++◌, Option, Some, None, Result, Ok, Err, refl, sym, ap, ◌∙◌, append_assoc, drop, get_or, length, map, take}
-use Rattle.std.proofs.lemmas.List.{at_drop_more, map-append, take_more}
+use Rattle.std.proofs.Common.{◌≡◌, ℕ, ◌+◌, ◌<◌, List, [], ◌∷◌, ◌++◌, Option, Some, None, Result, Ok, Err, refl, sym, ap, ◌∙◌, append_assoc, get_or, length, map, take}
+use Rattle.std.proofs.lemmas.List.{map-append, take_more}
 use Rattle.serde_json.specs.Data.{string}
-use Rattle.serde_json.specs.View.{items_view, view}
+use Rattle.serde_json.specs.View.{view}
 use Rattle.serde_json.specs.declared.value.Value.{Value}
 use Rattle.metis_universe.specs.RowShapes.{StateRow, TypeRow}
-use Rattle.metis_ujson.specs.Document.{state_in, states_from, type_in, types_from, with_first, with_state, with_type}
+use Rattle.metis_ujson.specs.Document.{with_first, with_state, with_type}
 use Rattle.metis_ujson.specs.declared.faults.UFault.{UFault}
-use Rattle.metis_ujson.specs.declared.faults.UFault.TheVariants.{StateForm}
 
 abbrev pub after_front : {A : Type 0} → List A → Option (List A) → Option (List A)
 after_front front None = None
@@ -29,20 +28,6 @@ behind-state front row fault (Ok rest) = ap Ok (sym (append_assoc front (row ∷
 pub behind-type : (front : List TypeRow) (row : TypeRow) (rest : Result (List TypeRow) UFault) → behind front (with_type (Ok row) rest) ≡ behind (front ++ row ∷ []) rest
 behind-type front row (Err later) = refl
 behind-type front row (Ok rest) = ap Ok (sym (append_assoc front (row ∷ []) rest))
-
--- ---- one value more of a list, which stands at this place
-
-pub types-next : (version : ℕ) (front : List TypeRow) (values : List Value) (i : ℕ) (v : Value) → i < length values → v ≡ get_or values i v →
-    behind front (types_from version i (items_view (drop i values))) ≡ behind front (with_type (type_in version i (view v)) (types_from version (i + 1) (items_view (drop (i + 1) values))))
-types-next version front values i v low is =
-    let rest = types_from version (i + 1) (items_view (drop (i + 1) values)) in
-    at_drop_more (λ vs. behind front (types_from version i (items_view vs))) values i v low ∙ ap (λ x. behind front (with_type (type_in version i (view x)) rest)) (sym is)
-
-pub states-next : (version kind : ℕ) (front : List StateRow) (values : List Value) (i : ℕ) (v : Value) → i < length values → v ≡ get_or values i v →
-    behind front (states_from version kind i (items_view (drop i values))) ≡ behind front (with_state (state_in version (view v)) (StateForm kind i) (states_from version kind (i + 1) (items_view (drop (i + 1) values))))
-states-next version kind front values i v low is =
-    let rest = states_from version kind (i + 1) (items_view (drop (i + 1) values)) in
-    at_drop_more (λ vs. behind front (states_from version kind i (items_view vs))) values i v low ∙ ap (λ x. behind front (with_state (state_in version (view x)) (StateForm kind i) rest)) (sym is)
 
 -- one name more of a list
 pub names-next : (name : ℕ → List ℕ) (names names' : List Value) (xs : List ℕ) (i x : ℕ) (v : Value) → i < length xs → x ≡ get_or xs i x → names' ≡ names ++ v ∷ [] → view v ≡ string (name x) →

@@ -5,7 +5,7 @@
 --     IsRead v d      the value is a state
 --     IsWhole v d      the value is a type, and each of its states is one
 --     IsFirstFault bytes f      the bytes have this fault of form, and none before it
-use Rattle.std.specs.Prelude.{◌≡◌, ◌⊎◌, ◌<◌, ℕ, List, [], ◌∷◌, Option, Some, None, IsNone, IsSome, codes, slice_get}
+use Rattle.std.specs.Prelude.{◌≡◌, ◌<◌, ℕ, List, [], ◌∷◌, Some, None, IsNone, IsSome, codes, slice_get}
 use Rattle.serde_json.specs.Data.{Data, Items, no_items, item}
 use Rattle.metis_ujson.specs.Document.{json_of, list_at, state_in, text_at, version_in}
 use Rattle.metis_ujson.specs.declared.faults.UFault.{UFault}

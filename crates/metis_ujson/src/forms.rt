@@ -1,7 +1,8 @@
 //! The rows that a universe document spells.
-ghost use Rattle.std.specs.Prelude.{◌≡◌, ◌<◌, ◌^◌, ◌↔◌, codes, length, IsTrue, IfOk, option_map};
+ghost use Rattle.std.specs.Prelude.{◌≡◌, ◌<◌, ◌^◌, ◌↔◌, codes, length, IsTrue, IfOk, option_and_then, option_map};
+ghost use Rattle.std.specs.String.{string_bytes};
 ghost use Rattle.metis_universe.specs.Texts.{texts};
-ghost use Rattle.serde_json.specs.Find.{get};
+ghost use Rattle.serde_json.specs.Find.{get, as_array};
 ghost use Rattle.serde_json.specs.View.{view, items_view};
 ghost use Rattle.metis_ujson.specs.Document.{json_of, without_last_newline, texts_in, texts_or_none, text_at, number_at, list_at, need_in, need_object, needs_in, needs_or_none, state_in, states_from, type_in, types_from, version_in, rows_of, rows_in};
 ghost use Rattle.metis_ujson.specs.Reads.{Reads, ReadsJson};
@@ -31,8 +32,8 @@ impl Model for Spelled {
 pub fn read_rows(alloc: Global, bytes: &[u8]) -> Result<Spelled, UFault>
     ensures { Reads (λ s. s) result (rows_in bytes.now) }
 {
-    let root = read_json(alloc, strip_newline(bytes))?;
-    read_types(alloc, &root)
+    let mut root = read_json(alloc, strip_newline(bytes))?;
+    read_types(alloc, &mut root)
 }
 
 // The bytes without a last line feed.
@@ -85,19 +86,39 @@ fn text_at<'a>(value: &'a Value, key: &str) -> Option<&'a str>
     }
 }
 
-fn list_at<'a>(value: &'a Value, key: &str) -> Option<&'a Vec<Value>>
-    ensures { option_map (λ list. items_view list.now.items) result ≡ list_at key.now (view value.now) }
+// Takes the list at the key out of the value. What is left of the value is not looked at again.
+fn take_list(value: &mut Value, key: &str) -> Option<Vec<Value>>
+    ensures { option_map (λ list. items_view list.items) result ≡ list_at key.now (view value.old) }
 {
-    match value.get(key) {
-        Some(list) => list.as_array(),
+    match value.get_mut(key) {
+        Some(list) => array_in(list.take()),
         None => None,
     }
 }
 
-fn read_types(alloc: Global, root: &Value) -> Result<Spelled, UFault>
-    ensures { Reads (λ s. s) result (rows_of (view root.now)) }
+fn array_in(value: Value) -> Option<Vec<Value>>
+    ensures { option_map (λ list. items_view list.items) result ≡ as_array (view value) }
 {
-    let (Some(version), Some(types)) = (version_in(root), list_at(root, "types")) else {
+    match value {
+        Value::Array(items) => Some(items),
+        _ => None,
+    }
+}
+
+// A copy of the text at the key.
+fn read_text_at(alloc: Global, value: &Value, key: &str) -> Result<Option<String>, AllocError>
+    ensures { IfOk result (λ text. option_map (λ t. string_bytes t) text ≡ text_at key.now (view value.now)) }
+{
+    match text_at(value, key) {
+        Some(text) => Ok(Some(String::from_str(alloc, text)?)),
+        None => Ok(None),
+    }
+}
+
+fn read_types(alloc: Global, root: &mut Value) -> Result<Spelled, UFault>
+    ensures { Reads (λ s. s) result (rows_of (view root.old)) }
+{
+    let (Some(version), Some(types)) = (version_in(root), take_list(root, "types")) else {
         return Err(UFault::NotUniverse);
     };
     let types = read_type_list(alloc, version, types)?;
@@ -111,35 +132,35 @@ fn can_count(values: &[Value]) -> bool
     (values.len() as u64) < 1 << 32
 }
 
-fn read_type_list(alloc: Global, version: u32, types: &[Value]) -> Result<Vec<TypeRow>, UFault>
-    ensures { Reads (λ rows. rows.items) result (types_from version 0 (items_view types.now)) }
+fn read_type_list(alloc: Global, version: u32, types: Vec<Value>) -> Result<Vec<TypeRow>, UFault>
+    ensures { Reads (λ rows. rows.items) result (types_from version 0 (items_view types.items)) }
 {
-    if !can_count(types) {
+    if !can_count(&types) {
         return Err(UFault::NoMemory);
     }
     let mut rows = Vec::new(alloc);
-    for (place, value) in types.iter().enumerate() {
-        let row = read_type(alloc, version, place as u32, value)?;
+    for value in types {
+        let place = rows.len() as u32;
+        let row = read_type(alloc, version, place, value)?;
         rows.push(row)?;
     }
     Ok(rows)
 }
 
-fn read_type(alloc: Global, version: u32, place: u32, value: &Value) -> Result<TypeRow, UFault>
-    ensures { Reads (λ row. row) result (type_in version place (view value.now)) }
+fn read_type(alloc: Global, version: u32, place: u32, mut value: Value) -> Result<TypeRow, UFault>
+    ensures { Reads (λ row. row) result (type_in version place (view value)) }
 {
     let (Some(name), Some(initial), Some(states)) = (
-        text_at(value, "name"),
-        text_at(value, "initial"),
-        list_at(value, "states"),
+        read_text_at(alloc, &value, "name")?,
+        read_text_at(alloc, &value, "initial")?,
+        take_list(&mut value, "states"),
     ) else {
         return Err(UFault::TypeForm(place));
     };
-    let states = read_state_list(alloc, version, place, states)?;
     Ok(TypeRow {
-        name: String::from_str(alloc, name)?,
-        initial: String::from_str(alloc, initial)?,
-        states,
+        name,
+        initial,
+        states: read_state_list(alloc, version, place, states)?,
     })
 }
 
@@ -147,40 +168,37 @@ fn read_state_list(
     alloc: Global,
     version: u32,
     kind: u32,
-    states: &[Value],
+    states: Vec<Value>,
 ) -> Result<Vec<StateRow>, UFault>
-    ensures { Reads (λ rows. rows.items) result (states_from version kind 0 (items_view states.now)) }
+    ensures { Reads (λ rows. rows.items) result (states_from version kind 0 (items_view states.items)) }
 {
-    if !can_count(states) {
+    if !can_count(&states) {
         return Err(UFault::NoMemory);
     }
     let mut rows = Vec::new(alloc);
-    for (place, value) in states.iter().enumerate() {
+    for value in states {
+        let place = rows.len() as u32;
         match read_state(alloc, version, value)? {
             Some(row) => rows.push(row)?,
-            None => return Err(UFault::StateForm(kind, place as u32)),
+            None => return Err(UFault::StateForm(kind, place)),
         }
     }
     Ok(rows)
 }
 
-fn read_state(alloc: Global, version: u32, value: &Value) -> Result<Option<StateRow>, AllocError>
-    ensures { IfOk result (λ row. row ≡ state_in version (view value.now)) }
+fn read_state(alloc: Global, version: u32, mut value: Value) -> Result<Option<StateRow>, AllocError>
+    ensures { IfOk result (λ row. row ≡ state_in version (view value)) }
 {
-    let Some(name) = text_at(value, "name") else {
-        return Ok(None);
-    };
-    let Some(provide) = read_texts_at(alloc, value, "provide")? else {
-        return Ok(None);
-    };
-    let Some(require) = read_needs_at(alloc, version, value)? else {
-        return Ok(None);
-    };
-    let Some(next) = read_texts_at(alloc, value, "next")? else {
+    let (Some(name), Some(provide), Some(next), Some(require)) = (
+        read_text_at(alloc, &value, "name")?,
+        read_texts_at(alloc, &value, "provide")?,
+        read_texts_at(alloc, &value, "next")?,
+        take_needs(alloc, version, &mut value)?,
+    ) else {
         return Ok(None);
     };
     Ok(Some(StateRow {
-        name: String::from_str(alloc, name)?,
+        name,
         provide,
         require,
         next,
@@ -213,29 +231,39 @@ fn read_texts(alloc: Global, items: &[Value]) -> Result<Option<Vec<String>>, All
     Ok(Some(list))
 }
 
-// The entries of the list `require`, none where there is no such key.
-fn read_needs_at(
+// Takes the entries of the list `require` out of the state, none where there is no such key.
+fn take_needs(
     alloc: Global,
     version: u32,
-    value: &Value,
+    value: &mut Value,
 ) -> Result<Option<Vec<NeedRow>>, AllocError>
-    ensures { IfOk result (λ list. option_map (λ v. v.items) list ≡ needs_or_none version (get (codes "require") (view value.now))) }
+    ensures { IfOk result (λ list. option_map (λ v. v.items) list ≡ needs_or_none version (get (codes "require") (view value.old))) }
 {
-    match value.get("require") {
-        Some(list) => match list.as_array() {
-            Some(items) => read_needs(alloc, version, items),
-            None => Ok(None),
-        },
+    match value.get_mut("require") {
+        Some(list) => read_needs_in(alloc, version, list.take()),
         None => Ok(Some(Vec::new(alloc))),
+    }
+}
+
+fn read_needs_in(
+    alloc: Global,
+    version: u32,
+    list: Value,
+) -> Result<Option<Vec<NeedRow>>, AllocError>
+    ensures { IfOk result (λ needs. option_map (λ v. v.items) needs ≡ option_and_then (needs_in version) (as_array (view list))) }
+{
+    match array_in(list) {
+        Some(items) => read_needs(alloc, version, items),
+        None => Ok(None),
     }
 }
 
 fn read_needs(
     alloc: Global,
     version: u32,
-    items: &[Value],
+    items: Vec<Value>,
 ) -> Result<Option<Vec<NeedRow>>, AllocError>
-    ensures { IfOk result (λ list. option_map (λ v. v.items) list ≡ needs_in version (items_view items.now)) }
+    ensures { IfOk result (λ list. option_map (λ v. v.items) list ≡ needs_in version (items_view items.items)) }
 {
     let mut list = Vec::with_capacity(alloc, items.len())?;
     for item in items {
@@ -247,14 +275,14 @@ fn read_needs(
     Ok(Some(list))
 }
 
-// An entry of required ports: a text, or in version 2 also an object.
-fn read_need(alloc: Global, version: u32, item: &Value) -> Result<Option<NeedRow>, AllocError>
-    ensures { IfOk result (λ need. need ≡ need_in version (view item.now)) }
+// An entry of required ports: a text, which is taken as it stands, or in version 2 also an object.
+fn read_need(alloc: Global, version: u32, item: Value) -> Result<Option<NeedRow>, AllocError>
+    ensures { IfOk result (λ need. need ≡ need_in version (view item)) }
 {
-    match item.as_str() {
-        Some(port) => Ok(Some(need_of(alloc, port, 1)?)),
-        None if version == 2 => read_need_object(alloc, item),
-        None => Ok(None),
+    match item {
+        Value::String(port) => Ok(Some(NeedRow { port, count: 1 })),
+        other if version == 2 => read_need_object(alloc, &other),
+        _ => Ok(None),
     }
 }
 
@@ -264,14 +292,8 @@ fn read_need_object(alloc: Global, item: &Value) -> Result<Option<NeedRow>, Allo
     let (Some(port), Some(count)) = (text_at(item, "port"), number_at(item, "count")) else {
         return Ok(None);
     };
-    Ok(Some(need_of(alloc, port, count)?))
-}
-
-fn need_of(alloc: Global, port: &str, count: u64) -> Result<NeedRow, AllocError>
-    ensures { IfOk result (λ need. need ≡ record { port = port.now; count = count }) }
-{
-    Ok(NeedRow {
+    Ok(Some(NeedRow {
         port: String::from_str(alloc, port)?,
         count,
-    })
+    }))
 }

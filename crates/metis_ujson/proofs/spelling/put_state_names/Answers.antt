@@ -1,4 +1,4 @@
-use Rattle.std.proofs.Common.{◌≡◌, ◌∷◌, [], length, take, sym, ap, ◌∙◌, arith, subst}
+use Rattle.std.proofs.Common.{◌≡◌, length, take, ap, ◌∙◌, arith, subst}
 use Rattle.std.proofs.Math.Seq.{take-length}
 use Rattle.json.specs.Token.{begin_array, end_array}
 use Rattle.json.specs.Token as token

@@ -1,6 +1,5 @@
 use Rattle.std.proofs.Common.{◌≡◌, ◌++◌, ◌∷◌, [], ap, ◌∙◌}
 use Rattle.json.specs.Print.{print}
-use Rattle.serde_json.specs.Written.{compact_text}
 use Rattle.serde_json.proofs.Texts.{print-outline}
 use Rattle.metis_ujson.specs.Canonical.{document_of, rows_of_universe}
 use Rattle.metis_ujson.specs.Spelling.{tokens_of}

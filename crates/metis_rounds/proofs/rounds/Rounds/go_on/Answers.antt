@@ -33,4 +33,4 @@ returns c =
     let now : state_of u s r.lines ≡ c.args.self = ap (state_of u s) c.in_ok-go_on.ensures.lines ∙ c.self.view_is in
     let ended = subst (λ (b : Bool). IfMore (Ok b) (HasStopped w r.going.taken.items) (HasEnded w r.going.taken.items)) c.if-branch.false c.in_ok-go_on.ensures.more in
     let none = no_cycle_left u s r.lines c.keeps_invariant.ensures.universe c.self.invariant.support course.lines r.going.taken.items course.going.safe ended in
-    (ap (λ (a : RoundsState). a.lines) now, subst (λ (a : RoundsState). HasCycle (dag_of (graph_of (graph_now a))) → ⊥) now none)
+    (c.into_lines.ensures ∙ ap (λ (a : RoundsState). a.lines) now, subst (λ (a : RoundsState). HasCycle (dag_of (graph_of (graph_now a))) → ⊥) now none)

@@ -5,12 +5,12 @@ use Rattle.metis_ids.specs.declared.events.Event.TheVariants.{At}
 use Rattle.metis_rounds.specs.Reach.{taken_of}
 use Rattle.metis_rounds.specs.Tables.{has_row}
 use Rattle.metis_rounds.proofs.Beginning.{IsBeginning, begins, more_rows, one_more, still_none}
-use Rattle.metis_rounds.proofs.going.Going.new.Goals as goal
+use Rattle.metis_rounds.proofs.going.Going.begin.Goals as goal
 
 pub loop-number-preserved : goal.loop-number-preserved
 loop-number-preserved c =
     let before = c.loop-number.invariant in
-    let g = c.loop-number.going in
+    let g = c.loop-number.self in
     let n = c.loop-number.number in
     let x = c.args.over.now.lines in
     let taken : c.push.new.self.items ≡ g.taken.items ++ 0 ∷ [] = c.in_ok-push.ensures.items in
@@ -31,7 +31,7 @@ loop-number-preserved c =
     }
 
 pub returns : goal.returns
-returns c =
+returns c = λ t.
     let all : c.loop-number.number ≡ length c.args.over.now.lines.lines = omega (arith, c.count-number-end.ensures.count) in
-    let g = c.loop-number.going in
-    begins c.args.over.now.universe c.args.over.now.support c.args.over.now.lines c.args.returns.now g (subst (λ n. IsBeginning c.args.over.now.lines n g) all c.loop-number.invariant)
+    let g = c.loop-number.self in
+    begins c.args.over.now.universe c.args.over.now.support c.args.over.now.lines t g (subst (λ n. IsBeginning c.args.over.now.lines n g) all c.loop-number.invariant)
