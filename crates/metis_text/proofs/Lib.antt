@@ -18,6 +18,7 @@ pub mod Lengths
 pub mod LineFeeds
 pub mod LineFlaws
 pub mod NamedFaults
+pub mod NextRead
 pub mod PairsRead
 pub mod PlanLines
 pub mod PlanParts

@@ -1,7 +1,9 @@
 //! Reads the text of a plan.
-ghost use Rattle.std.specs.Prelude.{◌≡◌, ◌<◌, ◌-◌, ◌^◌, ◌&&◌, IfOk, [], codes, length, map};
+ghost use Rattle.std.specs.Prelude.{◌≡◌, ◌<◌, ◌-◌, ◌+◌, ◌^◌, ◌&&◌, IfOk, [], codes, length, map};
 ghost use Rattle.std.specs.Str.{bytes_eq};
 ghost use Rattle.metis_tokens.specs.Flaws.{both, made};
+ghost use Rattle.metis_text.specs.ActionLine.{row_in};
+ghost use Rattle.metis_text.specs.DupLine.{dup_in};
 ghost use Rattle.metis_text.specs.DueLines.{IfFault};
 ghost use Rattle.metis_text.specs.PlanFlaws.{HasPlanFault};
 ghost use Rattle.metis_text.specs.Reading.{body_from, counts_in, counts_of_tokens, counted, dups_from, end_from, parts, plan_in, rows_from, rows_of};
@@ -138,13 +140,29 @@ fn read_rows<'a>(
     let mut rows = Rows::new(alloc);
     let mut tokens = Vec::new(alloc);
     for index in 0..count {
-        let line = lines.next_line()?;
-        match row_in(alloc, u, &rows, index + 1, line, &mut tokens)? {
-            Ok((action, after)) => rows = rows.add(action, after)?,
-            Err(flaw) => return Err(flaw.at(lines.number())),
-        }
+        let (action, after) = next_row(alloc, u, &rows, index + 1, lines, &mut tokens)?;
+        rows = rows.add(action, after)?;
     }
     Ok(rows)
+}
+
+// The action of the next line, which has this number, with its list.
+fn next_row<'a>(
+    alloc: Global,
+    u: &Universe,
+    rows: &Rows,
+    number: u32,
+    lines: &mut Lines<'a>,
+    tokens: &mut Vec<&'a [u8]>,
+) -> Result<(Action, Vec<u32>), TFault>
+    requires { number ≡ length rows.now.actions + 1 }
+    ensures { Reads (λ row. (row.0, row.1.items)) result lines.new (read_next (row_in u.now rows.now.actions) lines.old) }
+{
+    let line = lines.next_line()?;
+    match row_in(alloc, u, rows, number, line, tokens)? {
+        Ok(row) => Ok(row),
+        Err(flaw) => Err(flaw.at(lines.number())),
+    }
 }
 
 // So many dups.
@@ -158,13 +176,20 @@ fn read_dups(
 {
     let mut dups = Vec::new(alloc);
     for index in 0..count {
-        let line = lines.next_line()?;
-        match dup_in(alloc, u, index + 1, line)? {
-            Ok(dup) => dups.push(dup)?,
-            Err(flaw) => return Err(flaw.at(lines.number())),
-        }
+        dups.push(next_dup(alloc, u, index + 1, lines)?)?;
     }
     Ok(dups)
+}
+
+// The dup of the next line, which has this number.
+fn next_dup(alloc: Global, u: &Universe, number: u32, lines: &mut Lines<'_>) -> Result<Dup, TFault>
+    ensures { Reads dup_row result lines.new (read_next (dup_in u.now number) lines.old) }
+{
+    let line = lines.next_line()?;
+    match dup_in(alloc, u, number, line)? {
+        Ok(dup) => Ok(dup),
+        Err(flaw) => Err(flaw.at(lines.number())),
+    }
 }
 
 // The instances are as many as the actions make.
