@@ -6,3 +6,4 @@ pub mod Numbers
 pub mod ShownNumbers
 pub mod Undone
 pub mod WordLists
+pub mod WrittenItems

@@ -2,7 +2,7 @@
 use metis_ids::InstNo;
 
 /// Why a line asks for no action.
-#[derive(Clone, Copy, PartialEq, Eq)]
+#[derive(Clone, Copy)]
 pub enum Misread {
     /// It has no form of a line.
     Form,
