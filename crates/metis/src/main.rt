@@ -10,5 +10,5 @@ use std::process::ExitCode;
 fn main(rt: HostRuntime) -> ExitCode {
     let mut files = DiskShelf::new(&rt);
     let mut out = StdSink::new(&rt);
-    ExitCode::from(exit_code(rt.alloc(), &rt, &mut files, &mut out))
+    exit_code(rt.alloc(), &rt, &mut files, &mut out)
 }

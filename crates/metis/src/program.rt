@@ -1,11 +1,13 @@
 //! The whole program, over the words, the files and the output that it is handed.
 ghost use Rattle.std.specs.Prelude.{◌≡◌, ◌⊎◌};
+ghost use Rattle.std.specs.Process.{exit_status};
 ghost use Rattle.metis_output.specs.Statuses.{code_of};
 ghost use Rattle.metis.specs.Program.{IsRun};
 
 use metis_outside::{Arguments, Shelf, Sink, words_given};
 use metis_top::{Status, run};
 use std::alloc::Global;
+use std::process::ExitCode;
 
 /// Runs over the words that were given, and answers the exit code: that of the run's status. Where memory runs out
 /// before the words are read, nothing is done, and the code is that of want of memory.
@@ -14,12 +16,12 @@ pub fn exit_code<A: Arguments, H: Shelf, K: Sink>(
     arguments: &A,
     shelf: &mut H,
     out: &mut K,
-) -> u8
+) -> ExitCode
     ensures { IsRun (A.words arguments.now) H.files H.faults H.opens K.written K.faults shelf.old shelf.new out.old out.new result
-        ⊎ ((result ≡ code_of Status.NoMemory) × (shelf.new ≡ shelf.old) × (out.new ≡ out.old)) }
+        ⊎ ((exit_status result ≡ code_of Status.NoMemory) × (shelf.new ≡ shelf.old) × (out.new ≡ out.old)) }
 {
     match words_given(alloc, arguments) {
-        Ok(words) => run(alloc, &words, shelf, out).code(),
-        Err(_) => Status::NoMemory.code(),
+        Ok(words) => ExitCode::from(run(alloc, &words, shelf, out).code()),
+        Err(_) => ExitCode::from(Status::NoMemory.code()),
     }
 }

@@ -30,7 +30,7 @@ use metis_layers::table::Layers;
 use metis_output::{Status, said};
 use metis_outside::{Sink, Trouble};
 use metis_planner::{nothing_is_done_for_no_targets, plan_over};
-use metis_rollout::{rollout, rollout_replaces, teardown_leaves_nothing};
+use metis_rollout::{rollout_from, rollout_replaces, teardown_leaves_nothing};
 use metis_text::write_refusal;
 use metis_universe::Universe;
 use metis_waits::{Judged, WFault};
@@ -203,7 +203,7 @@ fn rollout_between(
     ensures ours { IfOk result (λ plan. All (IsOf u.now) plan.actions) }
     ensures short { IfOk result (λ plan. length plan.actions < 2 ^ 32 - 1) }
 {
-    let actions = rollout(alloc, u, layers, old, fresh, left)?;
+    let actions = rollout_from(alloc, u, layers, old, fresh, left)?;
     let instances = made_by(&actions);
     Ok(Plan {
         actions,

@@ -1,7 +1,6 @@
 //! Configurations: which instance is in which pair, and what is bound to what.
 #![tactic(auto)]
 
-mod binding;
 mod bindings;
 mod config;
 mod crowd;
@@ -11,7 +10,6 @@ mod lists;
 mod met;
 mod supply;
 
-pub use binding::Binding;
 pub use bindings::Bindings;
 pub use config::Config;
 pub use lists::{Instances, Ties};

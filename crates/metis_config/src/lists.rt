@@ -1,7 +1,6 @@
 //! The instances and the bindings of a configuration, one by one.
 ghost use Rattle.std.specs.Iterator.{YieldsFirst, item_count};
 
-use crate::binding::Binding;
 use metis_ids::{InstNo, PairIx, PortIx};
 use std::collections::{btree_map, btree_set};
 use std::marker::Model;
@@ -33,7 +32,7 @@ impl Iterator for Instances<'_> {
     }
 }
 
-/// The bindings that are still to come, by port, then requirer, then provider. Contracts see them as their list.
+/// The bindings that are still to come, each as its port, its requirer and its provider, ascending. Contracts see them as their list.
 #[derive(Drop)]
 pub struct Ties<'a> {
     pub(crate) rest: btree_set::Iter<'a, (PortIx, InstNo, InstNo)>,
@@ -49,18 +48,13 @@ impl<'a> Model for Ties<'a> {
 }
 
 impl Iterator for Ties<'_> {
-    type Item = Binding;
+    type Item = (PortIx, InstNo, InstNo);
 
     ghost next_gives = { YieldsFirst (λ i. i) };
 
     ghost remaining = { item_count (λ i. i) };
 
-    fn next(&mut self) -> Option<Binding> {
-        let &(port, requirer, provider) = self.rest.next()?;
-        Some(Binding {
-            port,
-            requirer,
-            provider,
-        })
+    fn next(&mut self) -> Option<(PortIx, InstNo, InstNo)> {
+        self.rest.next().copied()
     }
 }

@@ -6,10 +6,8 @@ pub mod Gathering
 pub mod Holding
 pub mod InRows
 pub mod Instances
-pub mod Joins
-pub mod NodeRows
 pub mod Numbered
+pub mod NumberRows
 pub mod Ranks
 pub mod Returns
-pub mod Successors
 pub mod Targets

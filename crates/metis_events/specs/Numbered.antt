@@ -5,7 +5,7 @@
 --     dag_of g      the graph whose nodes are these numbers, and whose last node is the last of them
 --     IsJoined g      there is an event, and each edge leads from an event of the graph
 --     numbers_into g b      the numbers of the events from which the edges into event b lead
---     IsKept events edges after      what holds of the three lists that a graph keeps. The events strictly ascend; there is one at least, and there are fewer than 2^32. At the place of each event stand in `edges` the edges into it, which lead from events of the list and stand in the order of these. At the same place stand in `after` the numbers of the events to which edges lead from it: they ascend, each as often as there are such edges.
+--     IsKept events edges dag      what holds of what a graph keeps. The events strictly ascend, and there are fewer than 2^32. At the place of each event stand in `edges` the edges into it. The dag is the graph of their numbers
 --     nth_event w n      the event of the number, by line and then by step, `End` last
 --     IsGraphOf w g      g has the events' numbers as nodes, that of `End` as its last one, and an edge where one event precedes another
 use Rattle.std.specs.Prelude.{ℕ, suc, ◌≡◌, ◌<◌, ◌-◌, ◌^◌, List, [], length, map, slice_index_or}
@@ -13,7 +13,7 @@ use Rattle.std.specs.List.{All, flat_map, position_or_len, range_with_len}
 use Rattle.std.specs.List.Sorted.{IsStrictlySortedBy}
 use Rattle.metis_ids.specs.declared.events.Event.{Event}
 use Rattle.metis_ids.specs.declared.events.Event.TheVariants.{End}
-use Rattle.metis_ids.specs.Graph.{Graph, IsGraph, afters, befores, is_edge}
+use Rattle.metis_ids.specs.Graph.{Graph, IsGraph, is_edge}
 use Rattle.metis_lines.specs.AbstractPlan.{AbstractPlan}
 use Rattle.metis_lines.specs.Events.{event_cmp, events, precedes, same_event}
 use Rattle.metis_events.specs.declared.edges.Edge.{Edge}
@@ -38,14 +38,11 @@ pub record IsJoined (g : EventGraph) : Type 0 where
 abbrev pub numbers_into : EventGraph → ℕ → List ℕ
 numbers_into g b = map (λ (e : Edge). number_of g e.from) (slice_index_or g.edges b [])
 
-pub record IsKept (events : List Event) (edges : List (List Edge)) (after : List (List ℕ)) : Type 0 where
+pub record IsKept (events : List Event) (edges : List (List Edge)) (dag : Graph) : Type 0 where
   pub each : length edges ≡ length events
   pub few : length events < 2 ^ 32
   pub ascend : IsStrictlySortedBy event_cmp events
-  pub joined : IsJoined (graph_by events edges)
-  pub rows : length after ≡ length events
-  pub each_afters : (n : ℕ) → n < length events → slice_index_or after n [] ≡ afters (dag_of (graph_by events edges)) n
-  pub each_befores : (n : ℕ) → n < length events → numbers_into (graph_by events edges) n ≡ befores (dag_of (graph_by events edges)) n
+  pub is_dag : dag ≡ dag_of (graph_by events edges)
 
 abbrev pub nth_event : AbstractPlan → ℕ → Event
 nth_event w n = slice_index_or (events w) n End

@@ -6,28 +6,25 @@ ghost use Rattle.metis_events.specs.Edges.{before, edges_into, event_at, graph_o
 ghost use Rattle.metis_events.specs.Gathered.{without_supplies};
 ghost use Rattle.metis_events.specs.Numbered.{dag_of};
 
-use crate::afters::after_rows;
 use crate::edges::{Edge, EdgeList};
 use crate::gather::{add_go_edges, add_supplies, step_count};
-use crate::node_rows::NodeRow;
+use crate::numbers::number_rows;
 use crate::rows::{EdgeRow, edge_rows, place_of};
-use metis_ids::{Event, LineIx, NoMemory, NodeIx, StepIx, Steps};
+use metis_ids::{Event, LineIx, NoMemory, NodeIx, StepIx};
 use metis_lines::OverLines;
-use metis_sort::Reach;
+use metis_sort::Dag;
 use std::alloc::Global;
 use std::marker::Model;
-use std::sync::ledger::Ledger;
 
-/// The events, numbered from 0, with the edges into each. As a graph that is sorted it has these numbers, and its last event as the
-/// last node.
+/// The events, numbered from 0, with the edges into each.
 #[derive(Drop)]
 pub struct EventGraph {
     events: Vec<Event>,
     /// Where the events of each line start.
     starts: Vec<usize>,
     edges: Vec<EdgeRow>,
-    /// For each event, the numbers of the events to which edges lead from it.
-    afters: Vec<NodeRow>,
+    /// The graph of the numbers.
+    dag: Dag,
 }
 
 impl Model for EventGraph {
@@ -38,7 +35,7 @@ impl Model for EventGraph {
 
     ghost view = { λ a. record { events = a.events.items; edges = a.edges.items } };
 
-    ghost invariant = { λ a. IsKept a.events.items a.edges.items a.afters.items };
+    ghost invariant = { λ a. IsKept a.events.items a.edges.items a.dag };
 }
 
 impl EventGraph {
@@ -50,12 +47,14 @@ impl EventGraph {
         let events = all_events(alloc, over)?;
         let starts = line_starts(alloc, over)?;
         let edges = edges_into_all(alloc, over, &events, &starts)?;
-        let afters = after_rows(alloc, &events, &starts, &edges)?;
+        let befores = number_rows(alloc, &events, &starts, &edges)?;
+        let last = NodeIx(events.len() as u32 - 1);
+        let dag = Dag::of_befores(alloc, befores, last)?;
         Ok(EventGraph {
             events,
             starts,
             edges,
-            afters,
+            dag,
         })
     }
 
@@ -85,34 +84,13 @@ impl EventGraph {
     {
         self.events[n.0 as usize]
     }
-}
 
-impl Reach for EventGraph {
-    ghost graph = { dag_of };
-
-    fn nodes(&self) -> u32 {
-        self.events.len() as u32
-    }
-
-    fn last_node(&self) -> NodeIx {
-        NodeIx(self.events.len() as u32 - 1)
-    }
-
-    fn indegree<L: Ledger>(&self, n: NodeIx, steps: &mut Steps<L>) -> usize {
-        steps.tick();
-        self.edges[n.0 as usize].len()
-    }
-
-    fn after_at<L: Ledger>(&self, n: NodeIx, k: usize, steps: &mut Steps<L>) -> Option<NodeIx> {
-        steps.tick();
-        self.afters[n.0 as usize].get(k)
-    }
-
-    fn before_at<L: Ledger>(&self, n: NodeIx, k: usize, steps: &mut Steps<L>) -> Option<NodeIx> {
-        steps.tick();
-        let edge = self.edges[n.0 as usize].get(k)?;
-        let from = place_of(&self.events, &self.starts, &edge.from)?;
-        Some(NodeIx(from as u32))
+    /// The graph of the numbers: its nodes are those of the events, its edges lead as the edges between these, and its last node is
+    /// the number of the last event.
+    pub fn dag(&self) -> &Dag
+        ensures { result.now ≡ dag_of self.now }
+    {
+        &self.dag
     }
 }
 

@@ -1,12 +1,11 @@
 //! What has to happen before what on life lines, as a graph.
 #![tactic(auto)]
 
-mod afters;
 mod edges;
 mod gather;
 pub mod graph;
 mod laws;
-mod node_rows;
+mod numbers;
 mod rows;
 
 pub use edges::{Edge, EdgeKind, events_are_ordered};

@@ -23,7 +23,7 @@ pub fn ordered_actions(alloc: Global, over: &OverLines<'_>) -> Result<Vec<Action
 {
     over.keeps_invariant();
     let graph = EventGraph::of(alloc, over)?;
-    match sort(alloc, &graph)? {
+    match sort(alloc, graph.dag())? {
         Sorted::Order(nodes) => actions_of(alloc, over, &graph, &nodes),
         Sorted::Cycle(_) => unreachable!(),
     }

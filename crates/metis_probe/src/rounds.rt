@@ -231,8 +231,8 @@ fn write_order(
 ) -> Result<(), Stop>
     requires { graph.now ≡ graph_of (graph_over over.now) }
 {
-    let sorted = sort(alloc, graph)?;
-    write_sorted(text, graph, graph.nodes(), &sorted)?;
+    let sorted = sort(alloc, graph.dag())?;
+    write_sorted(text, graph, graph.dag().nodes(), &sorted)?;
     match &sorted {
         Sorted::Order(nodes) => write_ordered(alloc, text, over, graph, nodes),
         Sorted::Cycle(_) => Ok(()),
@@ -306,8 +306,9 @@ fn write_line_counts(text: &mut String, count: u32, loose: u32) -> Result<(), St
 }
 
 fn graph_counts(alloc: Global, text: &mut String, graph: &EventGraph) -> Result<(), Stop> {
-    write_event_counts(text, graph.nodes(), count_edges(graph, graph.nodes()))?;
-    let sorted = sort(alloc, graph)?;
+    let nodes = graph.dag().nodes();
+    write_event_counts(text, nodes, count_edges(graph, nodes))?;
+    let sorted = sort(alloc, graph.dag())?;
     match &sorted {
         Sorted::Order(nodes) => write_length(text, "order", nodes.len()),
         Sorted::Cycle(nodes) => write_length(text, "cycle", nodes.len()),

@@ -17,19 +17,28 @@ use Rattle.std.proofs.lemmas.List.{take_all, take_more}
 use Rattle.metis_ids.specs.declared.actions.Action.{Action}
 use Rattle.metis_ids.proofs.Lists.{take_short}
 use Rattle.metis_universe.specs.Universe.{Universe, has}
-use Rattle.metis_universe.specs.Config.{config_of}
+use Rattle.metis_universe.specs.Config.{Config, config_of, empty}
+use Rattle.metis_universe.specs.Step.{Allows, IsRun, after, after_all}
+use Rattle.metis_layers.proofs.Going.{after_all-append}
 use Rattle.std.specs.BTreeMap.{insert_entry}
 use Rattle.metis_universe.specs.Steadfast.{is_steadfast, is_steadfast_after}
 use Rattle.metis_universe.proofs.Edits.{pair_of-put}
 use Rattle.metis_rollout.specs.Standing.{is_made}
 use Rattle.metis_rollout.proofs.FreeNumbers.{free_number-low}
 use Rattle.metis_rollout.proofs.Together.{has-news}
-use Rattle.metis_universe.proofs.Places.{steadfast_at}
+use Rattle.metis_universe.proofs.Places.{run_at, steadfast_at}
 
 item_at : (xs : List Action) (i : ℕ) (d : Action) → i < length xs → slice_get xs i ≡ Some (get_or xs i d)
 item_at [] i d low = absurd (omega arith)
 item_at (x ∷ xs) zero d low = refl
 item_at (x ∷ xs) (suc i) d low = item_at xs i d (omega arith)
+
+pub allowed_next : (u : Universe) (xs : List Action) (i : ℕ) (a : Action) (c : Config) → IsRun u empty xs → i < length xs → a ≡ get_or xs i a → c ≡ after_all u empty (take i xs) → Allows u c a
+allowed_next u xs i a c run low is before = subst (λ d. Allows u d a) (sym before) (run_at u xs i a run (item_at xs i a low ∙ ap Some (sym is))).0
+
+pub config_next : (u : Universe) (xs : List Action) (i : ℕ) (a : Action) (c d : Config) → i < length xs → a ≡ get_or xs i a → c ≡ after_all u empty (take i xs) → d ≡ after u c a → d ≡ after_all u empty (take (i + 1) xs)
+config_next u xs i a c d low is before now =
+    now ∙ ap (λ e. after u e a) before ∙ sym (after_all-append u empty (take i xs) (a ∷ [])) ∙ ap (λ b. after_all u empty (take i xs ++ b ∷ [])) is ∙ ap (after_all u empty) (sym (take_more xs i a low))
 
 -- ---- a search through numbers
 

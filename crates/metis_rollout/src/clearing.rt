@@ -9,7 +9,7 @@ ghost use Rattle.metis_universe.specs.Step.{after_all};
 ghost use Rattle.metis_rollout.specs.Rollout.{idle_unbinds, is_idle, unreferenced_deletes, unbind};
 
 use crate::unreferenced::{let_go, unreferenced_of};
-use metis_config::{Binding, Config};
+use metis_config::Config;
 use metis_ids::{Action, InstNo, NoMemory, PortIx};
 use metis_universe::Universe;
 use std::alloc::Global;
@@ -46,13 +46,13 @@ fn unbind_idle(
 }
 
 // The bindings whose port their requirer does not require.
-fn idle(alloc: Global, u: &Universe, c: &Config) -> Result<Vec<Binding>, NoMemory>
+fn idle(alloc: Global, u: &Universe, c: &Config) -> Result<Vec<(PortIx, InstNo, InstNo)>, NoMemory>
     requires { IsOver u.now c.now }
     ensures { IfOk result (λ ties. ties.items ≡ filter (is_idle u.now c.now) c.now.bindings) }
 {
     let mut ties = Vec::new(alloc);
     for tie in c.bindings() {
-        if is_idle(u, c, tie.port, tie.requirer) {
+        if is_idle(u, c, tie.0, tie.1) {
             ties.push(tie)?;
         }
     }
@@ -71,7 +71,11 @@ fn is_idle(u: &Universe, c: &Config, r: PortIx, z: InstNo) -> bool
 }
 
 // Ends these bindings, one after the other.
-fn untie_all(c: &mut Config, ties: &[Binding], actions: &mut Vec<Action>) -> Result<(), NoMemory>
+fn untie_all(
+    c: &mut Config,
+    ties: &[(PortIx, InstNo, InstNo)],
+    actions: &mut Vec<Action>,
+) -> Result<(), NoMemory>
     requires ascending { IsStrictlySortedBy binding_cmp ties.now }
     requires bound { All (λ b. IsTrue (is_bound c.old b.0 b.1 b.2)) ties.now }
     ensures actions { OnOk result (actions.new.items ≡ actions.old.items ++ map unbind ties.now) }
@@ -84,17 +88,18 @@ fn untie_all(c: &mut Config, ties: &[Binding], actions: &mut Vec<Action>) -> Res
 }
 
 // Ends the binding.
-fn end(c: &mut Config, tie: Binding, actions: &mut Vec<Action>) -> Result<(), NoMemory>
+fn end(
+    c: &mut Config,
+    tie: (PortIx, InstNo, InstNo),
+    actions: &mut Vec<Action>,
+) -> Result<(), NoMemory>
     requires { IsTrue (is_bound c.old tie.0 tie.1 tie.2) }
     ensures actions { OnOk result (actions.new.items ≡ actions.old.items ++ unbind tie ∷ []) }
     ensures config { OnOk result (c.new ≡ untie c.old tie.0 tie.1 tie.2) }
 {
-    actions.push(Action::Unbind {
-        port: tie.port,
-        inst: tie.requirer,
-        to: tie.provider,
-    })?;
-    c.untie(tie.port, tie.requirer, tie.provider);
+    let (port, inst, to) = tie;
+    actions.push(Action::Unbind { port, inst, to })?;
+    c.untie(port, inst, to);
     Ok(())
 }
 

@@ -11,8 +11,8 @@ ghost use Rattle.metis_sim.specs.Replies.{IsReplyOf, binding_line, counts_line, 
 
 use crate::{Reply, Session};
 use metis_actions::{AFault, write_fault};
-use metis_config::{Binding, Config};
-use metis_ids::{InstNo, Ix, PairIx};
+use metis_config::Config;
+use metis_ids::{InstNo, Ix, PairIx, PortIx};
 use metis_outside::{CalmSink, Sink, Trouble};
 use metis_tokens::{put_line, write_missing};
 use metis_universe::Universe;
@@ -177,15 +177,16 @@ fn write_bindings<K: Sink>(
 fn write_binding<K: Sink>(
     alloc: Global,
     u: &Universe,
-    tie: Binding,
+    tie: (PortIx, InstNo, InstNo),
     out: &mut K,
 ) -> Result<(), Trouble>
     requires { tie.0 < port_count u.now }
     ensures text { Writes (binding_line u.now tie ∷ []) (K.written out.old) (K.written out.new) result }
     ensures cause { CountsFault (K.faults out.old) (K.faults out.new) result }
 {
-    let port = u.port_name(tie.port);
-    let line = binding_line(alloc, port, tie.requirer.number(), tie.provider.number())?;
+    let (port, requirer, provider) = tie;
+    let name = u.port_name(port);
+    let line = binding_line(alloc, name, requirer.number(), provider.number())?;
     put_line(line.as_bytes(), out)
 }
 

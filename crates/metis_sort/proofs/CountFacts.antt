@@ -113,6 +113,12 @@ module _ (g : Graph) (ok : IsGraph g) where
   pub waiting_first : (n : ℕ) → length (befores g n) ≡ waiting g [] n
   waiting_first n = length-befores n ∙ ap length (filter_agree (λ e. nat_eq e.1 n) (awaits [] n) (λ e. sym (and_true (nat_eq e.1 n))) g.edges)
 
+  pub few_afters : (a : ℕ) → length (afters g a) ≤ length g.edges
+  few_afters a = let e = length-afters a in let f = filter_short (λ e. nat_eq e.0 a) g.edges in omega arith
+
+  pub few_befores : (n : ℕ) → length (befores g n) ≤ length g.edges
+  few_befores n = let e = length-befores n in let f = filter_short (λ e. nat_eq e.1 n) g.edges in omega arith
+
 -- ---- entries of pieces
 
 occurrences-same : (n k b : ℕ) → b ≡ n → occurrences n (replicate k b) ≡ k
@@ -152,12 +158,25 @@ no_edges a n m high (e ∷ es) all =
     ap (λ c. length (cond (nat_eq e.0 a && c) (e ∷ filter (joins a n) es) (filter (joins a n) es))) (ne_eqb e.1 n (λ q. absurd (omega (arith, all.0))))
     ∙ elim (nat_eq e.0 a) as (λ b. length (cond (b && false) (e ∷ filter (joins a n) es) (filter (joins a n) es)) ≡ 0) [ true ↦ no_edges a n m high es all.1 | false ↦ no_edges a n m high es all.1 ]
 
+pub no_edges_from : (a n m : ℕ) → m ≤ a → (es : List (ℕ × ℕ)) → AllByRecursion (λ e. e.0 < m) es → length (filter (joins a n) es) ≡ 0
+no_edges_from a n m high [] all = refl
+no_edges_from a n m high (e ∷ es) all =
+    ap (λ c. length (cond (c && nat_eq e.1 n) (e ∷ filter (joins a n) es) (filter (joins a n) es))) (ne_eqb e.0 a (λ q. absurd (omega (arith, all.0))))
+    ∙ no_edges_from a n m high es all.1
+
 module _ (g : Graph) (ok : IsGraph g) where
   pub occurrences-afters : (a n : ℕ) → occurrences n (afters g a) ≡ edge_count g a n
   occurrences-afters a n =
       elim (cases_lt n g.nodes) [
         | inl low ↦ occurrences-inside (edge_count g a) n g.nodes 0 (omega arith) (omega arith)
         | inr high ↦ occurrences-outside (edge_count g a) n g.nodes 0 (λ b above below e. absurd (omega arith)) ∙ sym (no_edges a n g.nodes high g.edges (recursion_from_All (λ e. e.1 < g.nodes) g.edges ok.to))
+      ]
+
+  pub occurrences-befores : (a n : ℕ) → occurrences a (befores g n) ≡ edge_count g a n
+  occurrences-befores a n =
+      elim (cases_lt a g.nodes) [
+        | inl low ↦ occurrences-inside (λ b. edge_count g b n) a g.nodes 0 (omega arith) (omega arith)
+        | inr high ↦ occurrences-outside (λ b. edge_count g b n) a g.nodes 0 (λ b above below e. absurd (omega arith)) ∙ sym (no_edges_from a n g.nodes high g.edges (recursion_from_All (λ e. e.0 < g.nodes) g.edges ok.from))
       ]
 
   pub has-afters : (a n : ℕ) → has (afters g a) n ≡ is_edge g a n

@@ -13,7 +13,7 @@ use std::alloc::Global;
 use std::sync::ledger::Ledger;
 
 /// The least node that waits.
-pub fn first_waiting(waits: &[usize]) -> Option<NodeIx>
+pub fn first_waiting(waits: &[u32]) -> Option<NodeIx>
     requires { length waits.now < 2 ^ 32 }
     ensures { result ≡ find (λ n. not (slice_index waits.now n == 0)) (range_with_len 0 (length waits.now)) }
 {
@@ -29,7 +29,7 @@ pub fn first_waiting(waits: &[usize]) -> Option<NodeIx>
 pub fn cycle<G: Reach, L: Ledger>(
     alloc: Global,
     g: &G,
-    waits: &[usize],
+    waits: &[u32],
     start: NodeIx,
     steps: &mut Steps<L>,
 ) -> Result<Vec<NodeIx>, NoMemory>
@@ -55,10 +55,11 @@ pub fn cycle<G: Reach, L: Ledger>(
 fn stuck_before<G: Reach, L: Ledger>(
     g: &G,
     node: NodeIx,
-    waits: &[usize],
+    waits: &[u32],
     steps: &mut Steps<L>,
 ) -> NodeIx
     requires graph { IsGraph (G.graph g.now) }
+    requires few { length (G.graph g.now).edges < 2 ^ 32 }
     requires node { node < (G.graph g.now).nodes }
     requires waits { waits.now ≡ all_waiting (G.graph g.now) (order_of (G.graph g.now)) }
     requires some { IsTrue (has_before (G.graph g.now) (stuck (G.graph g.now)) node) }

@@ -2,12 +2,16 @@
 #![tactic(auto)]
 
 mod cycle;
+mod dag;
 mod order;
 mod reach;
 mod ready;
+mod rows;
 mod sorted;
 mod sorting;
 
+pub use dag::Dag;
 pub use reach::Reach;
+pub use rows::NodeRow;
 pub use sorted::Sorted;
 pub use sorting::{sort, sort_counted};

@@ -18,7 +18,7 @@ pub fn order_within<G: Reach, L: Ledger>(
     alloc: Global,
     g: &G,
     steps: &mut Steps<L>,
-) -> Result<(Vec<NodeIx>, Vec<usize>), NoMemory>
+) -> Result<(Vec<NodeIx>, Vec<u32>), NoMemory>
     ensures order { IfOk result (λ x. x.0.items ≡ order_of (G.graph g.now)) }
     ensures waits { IfOk result (λ x. x.1.items ≡ all_waiting (G.graph g.now) (order_of (G.graph g.now))) }
     ensures few { IfOk result (λ x. length x.1.items < 2 ^ 32) }
@@ -42,7 +42,7 @@ fn in_degrees<G: Reach, L: Ledger>(
     g: &G,
     nodes: u32,
     steps: &mut Steps<L>,
-) -> Result<Vec<usize>, NoMemory>
+) -> Result<Vec<u32>, NoMemory>
     requires nodes { nodes ≡ (G.graph g.now).nodes }
     requires graph { IsGraph (G.graph g.now) }
     ensures waits { IfOk result (λ w. w.items ≡ all_waiting (G.graph g.now) []) }
@@ -56,7 +56,7 @@ fn in_degrees<G: Reach, L: Ledger>(
 }
 
 // The nodes that wait for no edge.
-fn ready_first(alloc: Global, last: NodeIx, waits: &[usize]) -> Result<Ready, NoMemory>
+fn ready_first(alloc: Global, last: NodeIx, waits: &[u32]) -> Result<Ready, NoMemory>
     requires { length waits.now < 2 ^ 32 }
     ensures last { IfOk result (λ r. r.last ≡ last) }
     ensures ready { IfOk result (λ r. (n : ℕ) → offers r.others.keys r.last r.with_last n ≡ (nat_lt n (length waits.now) && (slice_index waits.now n == 0))) }
@@ -74,11 +74,12 @@ fn ready_first(alloc: Global, last: NodeIx, waits: &[usize]) -> Result<Ready, No
 fn release<G: Reach, L: Ledger>(
     g: &G,
     node: NodeIx,
-    waits: &mut [usize],
+    waits: &mut [u32],
     ready: &mut Ready,
     steps: &mut Steps<L>,
 ) -> Result<(), NoMemory>
     requires graph { IsGraph (G.graph g.now) }
+    requires few { length (G.graph g.now).edges < 2 ^ 32 }
     requires node { node < (G.graph g.now).nodes }
     requires size { length waits.old ≡ (G.graph g.now).nodes }
     requires owed { (n : ℕ) → occurrences n (afters (G.graph g.now) node) ≤ slice_index waits.old n }
@@ -96,7 +97,7 @@ fn release<G: Reach, L: Ledger>(
 }
 
 // The node waits for one edge fewer, and is ready where it waits for none.
-fn settle(waits: &mut [usize], node: NodeIx, ready: &mut Ready) -> Result<(), NoMemory>
+fn settle(waits: &mut [u32], node: NodeIx, ready: &mut Ready) -> Result<(), NoMemory>
     requires within { node < length waits.old }
     requires owed { 0 < slice_index waits.old node }
     ensures last { ready.new.last ≡ ready.old.last }

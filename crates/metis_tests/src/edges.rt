@@ -1,5 +1,5 @@
 //! The adapters to the system, over a system that is made up.
-ghost use Rattle.std.specs.Prelude.{◌≤◌, IfOk, None, length};
+ghost use Rattle.std.specs.Prelude.{◌≤◌, IfOk, None, false, length};
 ghost use Rattle.std.specs.Io.{ReadsAtMost, WritesAtMost};
 
 use metis_outside::{Arguments, Disk, DiskShelf, Shelf, Sink, StdSink, Trouble, words_given};
@@ -38,7 +38,8 @@ impl Read for Shaky {
     }
 }
 
-/// A disk with the file `shaky`, and an input of the same bytes. Any other name is refused.
+/// A disk with three files of the same bytes, two of them in folders, and an input that goes on as they do. Any other name is
+/// refused.
 #[derive(Drop)]
 struct Shelfful {
     inputs: Cell<u32>,
@@ -51,8 +52,10 @@ impl Disk for Shelfful {
 
     ghost files = { λ _. None };
 
+    ghost opens = { λ _ _. false };
+
     fn open(&self, name: &str) -> io::Result<Shaky> {
-        if name == "shaky" {
+        if name == "shaky" || name == "plans/shaky" || name == "/srv/plans/shaky" {
             Ok(Shaky { reads: 0 })
         } else {
             Err(Error::from(ErrorKind::PermissionDenied))
@@ -80,8 +83,11 @@ fn expect_reads<D: Disk>(rt: &impl Abort, disk: &D) {
     for wanted in [Ok(1), Ok(1), Err(Trouble::Failed), Err(Trouble::Failed)] {
         expect_taken(rt, &mut shelf, wanted);
     }
-    expect_opened(rt, &mut shelf, "-", Ok(()));
-    expect_taken(rt, &mut shelf, Ok(1));
+    for name in ["plans/shaky", "/srv/plans/shaky", "-"] {
+        expect_opened(rt, &mut shelf, name, Ok(()));
+        expect_taken(rt, &mut shelf, Ok(1));
+    }
+    expect_opened(rt, &mut shelf, "srv/plans/shaky", Err(Trouble::Failed));
     expect_opened(rt, &mut shelf, "-x", Err(Trouble::Failed));
     expect_taken(rt, &mut shelf, Ok(0));
 }
@@ -132,27 +138,39 @@ impl Print for Slow {
     }
 }
 
-// Puts seven bytes, and tells how many calls that took.
-fn expect_put(rt: &impl Abort, most: usize, fails: u32, wanted: Result<(), Trouble>, calls: u32) {
+// Puts the piece, and tells how many calls that took.
+fn expect_put(
+    rt: &impl Abort,
+    piece: &[u8],
+    most: usize,
+    fails: u32,
+    wanted: Result<(), Trouble>,
+    calls: u32,
+) {
     let out = Slow {
         most,
         fails,
         calls: Cell::new(0),
     };
-    let put = StdSink::new(&out).put(b"a line\n");
+    let put = StdSink::new(&out).put(piece);
     assert!(rt; put == wanted, "{most} a call");
     let made = out.calls.get();
     assert!(rt; made == calls, "{most} a call");
 }
 
 #[test]
-fn output_that_takes_little_and_fails(rt: HostRuntime) {
-    expect_put(&rt, 100, 9, Ok(()), 1);
-    expect_put(&rt, 1, 9, Ok(()), 7);
-    expect_put(&rt, 5, 9, Ok(()), 2);
-    expect_put(&rt, 0, 9, Err(Trouble::Failed), 1);
-    expect_put(&rt, 1, 3, Err(Trouble::Failed), 3);
-    expect_put(&rt, 100, 1, Err(Trouble::Failed), 1);
+fn output_that_takes_little_and_fails(rt: HostRuntime) -> Result<(), AllocError> {
+    let line = b"a line\n";
+    expect_put(&rt, line, 100, 9, Ok(()), 1);
+    expect_put(&rt, line, 1, 9, Ok(()), 7);
+    expect_put(&rt, line, 5, 9, Ok(()), 2);
+    expect_put(&rt, line, 0, 9, Err(Trouble::Failed), 1);
+    expect_put(&rt, line, 1, 3, Err(Trouble::Failed), 3);
+    expect_put(&rt, line, 100, 1, Err(Trouble::Failed), 1);
+    let large = vec![in rt.alloc(); b'x'; 1_000_000]?;
+    expect_put(&rt, &large, 65_536, 99, Ok(()), 16);
+    expect_put(&rt, &large, 65_536, 16, Err(Trouble::Failed), 16);
+    Ok(())
 }
 
 /// Words of these lengths behind the program's name, the last one of which is no UTF-8 where that is said.

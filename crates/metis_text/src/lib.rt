@@ -30,4 +30,5 @@ pub use read::read_plan;
 pub use refusal_read::read_refusal;
 pub use refusal_text::Refusal;
 pub use refusal_write::write_refusal;
+pub use metis_tokens::TFault;
 pub use write::write_plan;

@@ -2,12 +2,10 @@
 #![tactic(auto)]
 
 mod checks;
-mod in_memory;
 mod plans;
 mod stop;
 mod targets;
 mod top;
 
-pub use in_memory::run_in_memory;
 pub use metis_output::Status;
 pub use top::run;

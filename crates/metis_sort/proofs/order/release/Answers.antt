@@ -5,6 +5,7 @@ use Rattle.metis_ids.specs.Lists.{has}
 use Rattle.metis_ids.proofs.Lists.{end_past}
 use Rattle.metis_ids.specs.Counts.{occurrences}
 use Rattle.metis_sort.specs.Ready.{offers}
+use Rattle.metis_sort.proofs.CountFacts.{few_afters}
 use Rattle.metis_sort.proofs.ReleaseFacts.{place_low, entry_within, waits_some, waits_step, ready_step}
 use Rattle.metis_sort.proofs.order.release.Goals as goal
 
@@ -25,6 +26,14 @@ settle-requires-clause-owed g c =
     let size = c.loop-next.auto.waits in
     let all = c.requires.size in
     waits_some ys c.loop-next.k c.in-Some.next here c.loop-next.waits c.args.waits.now c.loop-next.invariant.waits (omega arith) (c.requires.owed c.in-Some.next)
+
+pub overflow_add-k : goal.overflow_add-k
+overflow_add-k g c =
+    let graph = g.G.Reach.graph c.args.g.now in
+    let low = place_low (afters graph c.args.node) c.loop-next.k c.in-Some.next (sym c.in-Some.ensures.value) in
+    let few = few_afters graph c.requires.graph c.args.node in
+    let all = c.requires.few in
+    omega arith
 
 pub loop-next-smaller : goal.loop-next-smaller
 loop-next-smaller g c =

@@ -1,0 +1,51 @@
+//! The numbers of the events from which edges lead.
+ghost use Rattle.std.specs.Prelude.{◌≡◌, ◌<◌, ◌^◌, length, map, IfOk};
+ghost use Rattle.std.specs.List.{All, position_or_len};
+ghost use Rattle.std.specs.List.Sorted.{IsStrictlySortedBy};
+ghost use Rattle.metis_lines.specs.Events.{event_cmp, same_event};
+ghost use Rattle.metis_events.specs.Numbered.{IsJoined, graph_by, number_of};
+
+use crate::edges::Edge;
+use crate::rows::{EdgeRow, place_of};
+use metis_ids::{Event, NoMemory, NodeIx};
+use metis_sort::NodeRow;
+use std::alloc::Global;
+
+/// For each of the events, the numbers of those from which the edges into it lead, in their order.
+pub fn number_rows(
+    alloc: Global,
+    events: &[Event],
+    starts: &[usize],
+    edges: &[EdgeRow],
+) -> Result<Vec<NodeRow>, NoMemory>
+    requires few { length events.now < 2 ^ 32 }
+    requires ascend { IsStrictlySortedBy event_cmp events.now }
+    requires joined { IsJoined (graph_by events.now edges.now) }
+    ensures { IfOk result (λ rows. rows.items ≡ map (map (λ e. number_of (graph_by events.now edges.now) e.from)) edges.now) }
+{
+    let mut rows = Vec::with_capacity(alloc, edges.len())?;
+    for row in edges {
+        rows.push(numbers_of(alloc, events, starts, row.as_slice())?)?;
+    }
+    Ok(rows)
+}
+
+// The numbers of the events from which these edges lead.
+fn numbers_of(
+    alloc: Global,
+    events: &[Event],
+    starts: &[usize],
+    edges: &[Edge],
+) -> Result<NodeRow, NoMemory>
+    requires few { length events.now < 2 ^ 32 }
+    requires ascend { IsStrictlySortedBy event_cmp events.now }
+    requires from { All (λ e. position_or_len (same_event e.from) events.now < length events.now) edges.now }
+    ensures { IfOk result (λ row. row ≡ map (λ e. position_or_len (same_event e.from) events.now) edges.now) }
+{
+    let mut row = NodeRow::with_capacity(alloc, edges.len())?;
+    for edge in edges {
+        let from = place_of(events, starts, &edge.from).unwrap();
+        row.push(NodeIx(from as u32))?;
+    }
+    Ok(row)
+}
