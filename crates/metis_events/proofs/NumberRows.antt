@@ -1,24 +1,19 @@
 -- The rows of numbers from which the edges into each event lead, and their graph.
-use Rattle.std.proofs.Common.{◌≡◌, ℕ, zero, suc, ◌+◌, ◌-◌, ◌<◌, ◌≤◌, ◌^◌, List, [], ◌∷◌, ◌++◌, length, get_or, map, replicate, refl, sym, ap, ◌∙◌, subst, arith}
+use Rattle.std.proofs.Common.{◌≡◌, ℕ, zero, suc, ◌+◌, ◌-◌, ◌<◌, ◌≤◌, List, [], ◌∷◌, ◌++◌, length, get_or, map, replicate, refl, sym, ap, ◌∙◌, arith}
 use Rattle.std.specs.List.{All, filter, flat_map, range_with_len}
-use Rattle.std.specs.List.Sorted.{IsStrictlySortedBy}
 use Rattle.std.proofs.lemmas.List.{get_or-map, get_or_default, length-map, map-append}
-use Rattle.metis_ids.specs.Graph.{Graph}
 use Rattle.metis_ids.specs.declared.events.Event.{Event}
 use Rattle.metis_ids.specs.declared.events.Event.TheVariants.{End}
-use Rattle.metis_universe.specs.Universe.{Universe}
 use Rattle.metis_lines.specs.AbstractPlan.{AbstractPlan}
-use Rattle.metis_lines.specs.Events.{event_cmp, events}
-use Rattle.metis_lines.specs.Soundness.{IsFormed}
+use Rattle.metis_lines.specs.Events.{events}
 use Rattle.metis_sort.specs.Dag.{ascending, edges_to, graph_into}
 use Rattle.metis_sort.proofs.DagFacts.{pieces_ascend}
-use Rattle.metis_events.proofs.AllEvents.{events_ascend}
 use Rattle.metis_events.proofs.Befores.{number_of_event}
 use Rattle.metis_events.specs.declared.edges.Edge.{Edge}
 use Rattle.metis_events.specs.declared.edges.EdgeKind.{EdgeKind}
 use Rattle.metis_events.specs.declared.edges.EdgeKind.TheVariants.{Go, Start, Return}
 use Rattle.metis_events.specs.Edges.{EventGraph, before, edge_of, edges_from, graph_of, is_edge}
-use Rattle.metis_events.specs.Numbered.{IsKept, dag_of, graph_by, joins_into, nth_event, number_of, numbers_into}
+use Rattle.metis_events.specs.Numbered.{dag_of, joins_into, nth_event, number_of, numbers_into}
 
 -- ---- the rows as a graph
 

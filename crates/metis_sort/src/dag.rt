@@ -55,11 +55,7 @@ impl Dag {
 
     /// The graph in which these rows, one for each node, are the nodes from which edges lead to it: ascending, each as often as
     /// there are edges. It goes over the edges once. No memory is said to be there for 2^32 edges and more.
-    pub fn of_befores(
-        alloc: Global,
-        before: Vec<NodeRow>,
-        last: NodeIx,
-    ) -> Result<Dag, NoMemory>
+    pub fn of_befores(alloc: Global, before: Vec<NodeRow>, last: NodeIx) -> Result<Dag, NoMemory>
         requires last { last < length before.items }
         requires small { length before.items < 2 ^ 32 }
         requires rows { All (λ row. ascending (length before.items) row ≡ row) before.items }

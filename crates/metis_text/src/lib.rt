@@ -25,10 +25,10 @@ pub use laws::{
     told_fault_is_one, told_refusal_fault_is_had, told_refusal_fault_is_one, well_formed_is_read,
     written_run_is_read, written_run_is_well_formed,
 };
+pub use metis_tokens::TFault;
 pub use plan_text::PlanText;
 pub use read::read_plan;
 pub use refusal_read::read_refusal;
 pub use refusal_text::Refusal;
 pub use refusal_write::write_refusal;
-pub use metis_tokens::TFault;
 pub use write::write_plan;

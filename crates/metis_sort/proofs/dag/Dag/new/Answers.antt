@@ -5,7 +5,7 @@ use Rattle.std.proofs.lemmas.Result.{IfOk-weaker}
 use Rattle.metis_ids.specs.Graph.{Graph, IsGraph, befores, edge_count, joins}
 use Rattle.metis_ids.specs.Lists.{has}
 use Rattle.metis_ids.specs.Counts.{occurrences}
-use Rattle.metis_sort.specs.Dag.{HasEdgesOf, ascending, graph_into, turned_row}
+use Rattle.metis_sort.specs.Dag.{HasEdgesOf, ascending, turned_row}
 use Rattle.metis_sort.proofs.DagFacts.{afters_within, befores_ascend, befores_is, ends_within, has_edges}
 use Rattle.metis_sort.proofs.dag.Dag.new.Goals as goal
 
