@@ -14,6 +14,7 @@ use Rattle.metis_ids.specs.Plans.{Plan}
 use Rattle.metis_ids.specs.declared.actions.Action.{Action}
 use Rattle.metis_ids.specs.declared.goals.Goal.{Goal}
 use Rattle.metis_planner.specs.Rounds.{IsByRounds}
+use Rattle.metis_rollout.specs.Guarded.{GoesOnGuarded, NeverLacks}
 use Rattle.metis_rollout.specs.Rollout.{renumbered, rollout}
 use Rattle.metis_universe.specs.Steadfast.{IsSteadfastRun}
 use Rattle.metis_universe.specs.Config.{Config, empty}
@@ -48,7 +49,8 @@ abbrev pub rollout_text : Universe → List Action → List Action → List (Lis
 rollout_text u old fresh = plan_text u (rollout_plan u old fresh)
 
 -- It is a steadfast run too, and ends in exactly what the fresh plan leaves, under its new numbers, and so with every one of the pairs. For
--- no pairs nothing is left.
+-- no pairs nothing is left. Carried out in an order that keeps the waits and is guarded, it never lacks both what was and what is to be.
+-- The waits alone do not say so: each order of the old actions goes on to a guarded one, and to others.
 pub record RollsOutPairs (u : Universe) (old : List Action) (g : List ℕ) (lines : List (List ℕ)) : Type 0 where
   pub attains : Attains u g
   pub fresh : Plan
@@ -57,6 +59,8 @@ pub record RollsOutPairs (u : Universe) (old : List Action) (g : List ℕ) (line
   pub ends : after_all u empty (rollout u old fresh.actions) ≡ after_all u empty (renumbered old fresh.actions)
   pub holds : Holds (after_all u empty (rollout u old fresh.actions)) g
   pub none : g ≡ [] → after_all u empty (rollout u old fresh.actions) ≡ empty
+  pub never_lacks : NeverLacks u old fresh.actions
+  pub goes_on : GoesOnGuarded u old fresh.actions
   pub told : lines ≡ rollout_text u old fresh.actions
 
 abbrev pub PutsRolloutTo : Universe → List Action → List ℕ → List (List ℕ) → Status → Type 0

@@ -30,7 +30,10 @@ use metis_layers::table::Layers;
 use metis_output::{Status, said};
 use metis_outside::{Sink, Trouble};
 use metis_planner::{nothing_is_done_for_no_targets, plan_over};
-use metis_rollout::{rollout_from, rollout_replaces, teardown_leaves_nothing};
+use metis_rollout::{
+    guarded_rollout_goes_on, guarded_rollout_never_lacks, rollout_from, rollout_replaces,
+    teardown_leaves_nothing,
+};
 use metis_text::write_refusal;
 use metis_universe::Universe;
 use metis_waits::{Judged, WFault};
@@ -147,6 +150,8 @@ fn put_rollout_to<K: Sink>(
 {
     u.keeps_invariant();
     rollout_replaces();
+    guarded_rollout_never_lacks();
+    guarded_rollout_goes_on();
     teardown_leaves_nothing();
     nothing_is_done_for_no_targets();
     match plan_over(alloc, u, layers, pairs) {

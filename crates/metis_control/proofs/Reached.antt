@@ -45,7 +45,7 @@ got [] p q (suc i) h = absurd (none_packet q h)
 got (x ∷ ps) p q zero h = inl h
 got (x ∷ ps) p q (suc i) h = got ps p q i h
 
-still : (xs : List ℕ) (k m : ℕ) → has xs m ≡ true → has (xs ++ k ∷ []) m ≡ true
+pub still : (xs : List ℕ) (k m : ℕ) → has xs m ≡ true → has (xs ++ k ∷ []) m ≡ true
 still xs k m h = has_pushed xs k m ∙ or_left _ _ h
 
 last_there : (xs : List ℕ) (k : ℕ) → has (xs ++ k ∷ []) k ≡ true
@@ -124,7 +124,7 @@ pub acked_changed : (A : List Action) (w : WorldState) (acked : List ℕ) → Is
 acked_changed A w acked r ran = record { kept = r.kept; done = r.done; order_number = r.order_number; order_waits = r.order_waits; ack = r.ack; acked = ran }
 
 -- the answer and the state by a test
-abbrev by : Bool → Told × WorldState → Told × WorldState → Told × WorldState
+abbrev pub by : Bool → Told × WorldState → Told × WorldState → Told × WorldState
 by b x y = if b then x else y
 
 pub ordered_keeps : (A : List Action) (w : WorldState) (k : ℕ) → IsReached A w → IsReached A (ordered A w k).1
@@ -173,7 +173,7 @@ hear_keeps A w (event.Order k) r = ordered_keeps A w k r
 hear_keeps A w (event.Deliver n) r = delivered_keeps A w n r
 hear_keeps A w (event.Restart n) r = restarted_keeps A w n r
 
-events_keep : (A : List Action) (w : WorldState) (es : List Happening) → IsReached A w → IsReached A (after_events A w es)
+pub events_keep : (A : List Action) (w : WorldState) (es : List Happening) → IsReached A w → IsReached A (after_events A w es)
 events_keep A w [] r = r
 events_keep A w (e ∷ es) r = events_keep A (hear A w e).1 es (hear_keeps A w e r)
 
@@ -212,3 +212,27 @@ order_sent A w some =
           ∙ ap (λ b. (by b (Acked k, w) (held_or_sent w k (first_wait A w.acked k))).0) least.2
           ∙ ap (λ o. (held_or_sent w k o).0) (find_none (has w.acked) (waits A k) least.3),
     )
+
+-- ---- what arrives
+
+pub order_done : (A : List Action) (w : WorldState) (n k : ℕ) → IsReached A w → packet_at w.packets n ≡ Some (packet.Order k) → has (hear A w (event.Deliver n)).1.ran k ≡ true
+order_done A w n k r at = ap (λ o. has (option_map_or (came A w) o (NoPacket n, w)).1.ran k) at ∙ by_done (is_done A w.counts k) refl where
+  by_done : (b : Bool) → is_done A w.counts k ≡ b → has (by b (Again k (next_number w), with_packet w (packet.Ack k)) (Executed k (next_number w), with_packet (with_run A w k) (packet.Ack k))).1.ran k ≡ true
+  by_done true e = sym (r.done k) ∙ e
+  by_done false e = last_there w.ran k
+
+pub last_packet : (ps : List Packet) (p : Packet) → slice_get (ps ++ p ∷ []) (length ps) ≡ Some p
+last_packet [] p = refl
+last_packet (q ∷ ps) p = last_packet ps p
+
+pub order_answered : (A : List Action) (w : WorldState) (n k : ℕ) → packet_at w.packets n ≡ Some (packet.Order k) → packet_at (hear A w (event.Deliver n)).1.packets (suc (length w.packets)) ≡ Some (packet.Ack k)
+order_answered A w n k at = ap (λ o. slice_get (option_map_or (came A w) o (NoPacket n, w)).1.packets (length w.packets)) at ∙ by_done (is_done A w.counts k) where
+  by_done : (b : Bool) → slice_get (by b (Again k (next_number w), with_packet w (packet.Ack k)) (Executed k (next_number w), with_packet (with_run A w k) (packet.Ack k))).1.packets (length w.packets) ≡ Some (packet.Ack k)
+  by_done true = last_packet w.packets (packet.Ack k)
+  by_done false = last_packet w.packets (packet.Ack k)
+
+pub ack_noted : (A : List Action) (w : WorldState) (n k : ℕ) → packet_at w.packets n ≡ Some (packet.Ack k) → has (hear A w (event.Deliver n)).1.acked k ≡ true
+ack_noted A w n k at = ap (λ o. has (option_map_or (came A w) o (NoPacket n, w)).1.acked k) at ∙ by_acked (has w.acked k) refl where
+  by_acked : (b : Bool) → has w.acked k ≡ b → has (by b (Known k, w) (Noted k, with_acked w (w.acked ++ k ∷ []))).1.acked k ≡ true
+  by_acked true e = e
+  by_acked false e = last_there w.acked k

@@ -10,6 +10,8 @@ pub mod Loads
 pub mod Settling
 pub mod Shortened
 pub mod FurtherIs
+pub mod Fewest
+pub mod SeatFacts
 pub mod Tallies
 pub mod Holdings
 pub mod Placed

@@ -5,6 +5,7 @@ pub mod HostsFaults
 pub mod HostsText
 pub mod HostsWritten
 pub mod Placement
+pub mod Seated
 pub mod Rooms
 pub mod RoomsFall
 pub mod Settled

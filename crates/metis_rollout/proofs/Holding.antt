@@ -7,11 +7,12 @@ use Rattle.std.proofs.lemmas.Bool.{eq-eqb, eqb-true, ne_eqb, cases_eq, false≢t
 use Rattle.std.proofs.lemmas.List.Sums.{length-filter}
 use Rattle.metis_ids.specs.declared.actions.Action.{Action}
 use Rattle.metis_universe.specs.Universe.{Universe, has}
-use Rattle.metis_universe.specs.Config.{config_of, empty}
+use Rattle.metis_universe.specs.Config.{Config, IsConfig, config_of, empty}
 use Rattle.metis_universe.specs.Goal.{holding}
 use Rattle.metis_universe.specs.Step.{after_all}
 use Rattle.metis_universe.proofs.Edits.{pair_of-remove}
 use Rattle.metis_layers.proofs.Going.{GoesOn, at}
+use Rattle.metis_rollout.specs.Guarded.{StandsIn}
 use Rattle.metis_rollout.specs.Rollout.{fresh_name, renumbered}
 use Rattle.metis_rollout.specs.Standing.{is_made}
 use Rattle.metis_rollout.proofs.Quiet.{has-keys, keys-has}
@@ -91,3 +92,9 @@ renumbered_holds u old fresh go p =
     (λ z w h g e. r.apart z w (used z h) (used w g) e)
     (λ z q h. r.pairs z (used z (keys-has c.instances z (subst IsSome (sym h) refl))) ∙ h) in
     omega (arith, length-filter (λ (e : ℕ × ℕ). nat_eq e.1 p) c.instances, length-filter (λ (e : ℕ × ℕ). nat_eq e.1 p) d.instances)
+
+-- each pair of d has as many instances in c, where all that stands in d stands in c
+pub standing_holds : (d c : Config) → IsConfig d → StandsIn d c → (p : ℕ) → holding d p ≤ holding c p
+standing_holds d c good stands p =
+    let count = fits p (λ z. z) d.instances c.instances (sorted_unlike (keys_of d.instances) good.ascending) (λ z w _ _ e. e) stands.pairs in
+    omega (arith, length-filter (λ (e : ℕ × ℕ). nat_eq e.1 p) d.instances, length-filter (λ (e : ℕ × ℕ). nat_eq e.1 p) c.instances)

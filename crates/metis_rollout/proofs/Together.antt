@@ -34,7 +34,7 @@ split1 : (P : ℕ → Type 0) (xs ys : List Action) → AllTouch P (xs ++ ys) �
 split1 P [] ys all = tt
 split1 P (a ∷ xs) ys all = (all.0, split1 P xs ys all.1)
 
-split2 : (P : ℕ → Type 0) (xs ys : List Action) → AllTouch P (xs ++ ys) → AllTouch P ys
+pub split2 : (P : ℕ → Type 0) (xs ys : List Action) → AllTouch P (xs ++ ys) → AllTouch P ys
 split2 P [] ys all = all
 split2 P (a ∷ xs) ys all = split2 P xs ys all.1
 

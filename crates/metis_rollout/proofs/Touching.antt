@@ -122,7 +122,7 @@ module _ (S T : ℕ → Bool) (o : AreOpposite S T) where
     one (Unbind r z y) at = off z at.0 ∙ sym (off y at.1)
     one (Move z p q) at = tt
 
-  actor_at : (a : Action) (P : ℕ → Type 0) → Touches P a → P (actor_of a)
+  pub actor_at : (a : Action) (P : ℕ → Type 0) → Touches P a → P (actor_of a)
   actor_at (New z t) P at = at
   actor_at (Delete z) P at = at
   actor_at (Bind r z y) P at = at.0

@@ -26,7 +26,7 @@ use Rattle.metis_rollout.proofs.FreeNumbers.{free_number-apart, free_number-free
 use Rattle.metis_rollout.proofs.Going.{going_from_steady}
 use Rattle.metis_rollout.proofs.Holding.{renumbered_holds}
 use Rattle.metis_rollout.proofs.Quiet.{quiet_goes, quiet_makes_none}
-use Rattle.metis_rollout.proofs.Removal.{cleared, cleared_goes, cleared_leaves, cleared_makes, left, left_correct, left_good, replaces, short, short_rollout, stood, untied}
+use Rattle.metis_rollout.proofs.Removal.{Removes, cleared, cleared_goes, cleared_leaves, cleared_makes, cleared_removes, left, left_correct, left_good, replaces, short, short_rollout, stood, untied}
 use Rattle.metis_rollout.proofs.Renaming.{bound_ren, pair_ren, ren_goes, touches_ren}
 use Rattle.metis_rollout.proofs.Required.{needed_first}
 use Rattle.metis_rollout.proofs.Scaffold.{holders_differ, scaffold_down, scaffold_goes, scaffold_serves, slot, slot_back}
@@ -222,11 +222,22 @@ module _ (u : Universe) (k : IsUniverse u) (old fresh : List Action) (s : IsStea
       ∙ ap (λ b. b || false) (list_any-append (is_new z) cut scaffold ∙ ap (λ b. b || is_made scaffold z) (cut_used z ∙ fresh_unused u old fresh fresh_going z h))
       ∙ ap (λ b. b || false) (false_from_ne_true (is_made scaffold z) (λ is. let by = used_touched Image z scaffold images is in names_other of.0 by.0 of.1 (of.2 ∙ sym by.2)))
 
+  with_scaffold : is_empty (members what) ≡ false → removal u f (stood u old) ≡ rest
+  with_scaffold some =
+      ap (λ b. idle_unbinds u (stood u old) ++ (unreferenced_deletes (untied u old) ++ cond b [] (cycle_removal u f what))) some
+      ∙ sym (append_assoc (idle_unbinds u (stood u old)) (unreferenced_deletes (untied u old)) (cycle_removal u f what))
+
+  -- the removal makes nothing that the fresh list makes, and leaves nothing
+  pub removes : Removes u old (removal u f (stood u old)) (renumbered old fresh)
+  removes = elim (is_empty (members what)) as (λ b. is_empty (members what) ≡ b → Removes u old (removal u f (stood u old)) (renumbered old fresh)) [
+    | true ↦ λ none. subst (λ l. Removes u old l (renumbered old fresh)) (sym (short u old fresh none)) (cleared_removes u old fresh s t none)
+    | false ↦ λ some. subst (λ l. Removes u old l (renumbered old fresh)) (sym (with_scaffold some)) (record { goes = rest_goes; apart = rest_apart; gone = rest_gone })
+  ] refl
+
   -- with a scaffold
   long : is_empty (members what) ≡ false → IsSteadfastRun u (rollout u old fresh) × (after_all u empty (rollout u old fresh) ≡ after_all u empty (renumbered old fresh))
   long some =
-      let shape : removal u f (stood u old) ≡ rest = ap (λ b. idle_unbinds u (stood u old) ++ (unreferenced_deletes (untied u old) ++ cond b [] (cycle_removal u f what))) some
-      ∙ sym (append_assoc (idle_unbinds u (stood u old)) (unreferenced_deletes (untied u old)) (cycle_removal u f what)) in
+      let shape = with_scaffold some in
       let e : rollout u old fresh ≡ old ++ (renumbered old fresh ++ rest) = ap (λ l. old ++ (renumbered old fresh ++ l)) shape in
       let done = replaces u old fresh rest t (record { goes = rest_goes; apart = rest_apart; gone = rest_gone }) in
       (subst (IsSteadfastRun u) (sym e) done.0, ap (after_all u empty) e ∙ done.1)

@@ -103,7 +103,8 @@ fn bind_slots(
 fn unbind_all(c: &Config, actions: &mut Vec<Action>) -> Result<(), NoMemory>
     ensures { OnOk result (actions.new.items ≡ actions.old.items ++ map unbind c.now.bindings) }
 {
-    for (port, inst, to) in c.bindings() {
+    for tie in c.bindings() {
+        let (port, inst, to) = tie;
         actions.push(Action::Unbind { port, inst, to })?;
     }
     Ok(())

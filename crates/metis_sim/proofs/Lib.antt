@@ -1,6 +1,7 @@
 pub mod ActionNumbers
 pub mod Answered
 pub mod CheckNumbers
+pub mod CheckWords
 pub mod Courses
 pub mod Numbers
 pub mod ShownNumbers

@@ -1,5 +1,8 @@
 //! Laws over the definitions.
-ghost use Rattle.std.specs.Prelude.{◌≡◌, ◌≢◌, ℕ, List, ◌∷◌, IsFalse, IsTrue, codes, map};
+ghost use Rattle.std.specs.Prelude.{◌≡◌, ◌≢◌, ◌↔◌, ℕ, List, ◌∷◌, IsFalse, IsTrue, Some, codes, map};
+ghost use Rattle.metis_ids.specs.declared.goals.Goal.{Goal};
+ghost use Rattle.metis_sim.specs.Checks.{goals_of};
+ghost use Rattle.metis_sim.specs.Words.{goal_of_word};
 ghost use Rattle.std.specs.List.{AllByRecursion};
 ghost use Rattle.metis_universe.specs.Config.{Correct};
 ghost use Rattle.metis_universe.specs.Universe.{Universe, IsUniverse};
@@ -14,6 +17,11 @@ pub fn undo_takes_back()
 /// After any lines, from a new session on, the configuration is correct, and so is each that is kept.
 pub fn kept_configurations_are_correct()
     ensures { (u : Universe) (lines : List (List ℕ)) → IsUniverse u → let s = after_lines (begin u) lines in AllByRecursion (Correct u) (s.config ∷ s.earlier) }
+{}
+
+/// The goals of a check are those of its words, one for one and in their order; there are none where some word asks for none.
+pub fn goals_are_of_their_words()
+    ensures { (u : Universe) (words : List (List ℕ)) (goals : List Goal) → goals_of u words ≡ Some goals ↔ (map (goal_of_word u) words ≡ map (λ g. Some g) goals) }
 {}
 
 /// Only `Did`, `Undone` and `Bye` change a session.

@@ -13,7 +13,7 @@ mod session;
 mod write;
 
 pub use laws::{
-    kept_configurations_are_correct, nothing_else_changes, nothing_follows_quit,
+    goals_are_of_their_words, kept_configurations_are_correct, nothing_else_changes, nothing_follows_quit,
     only_ended_sessions_say_so, only_quit_ends_a_session, undo_takes_back,
 };
 pub use reply::Reply;

@@ -4,6 +4,7 @@ pub mod Clients
 pub mod Counted
 pub mod Examples
 pub mod Gathered
+pub mod GoesOn
 pub mod KeptRuns
 pub mod LastPlaces
 pub mod LetGo

@@ -1,5 +1,5 @@
 //! Laws of orders that keep the waits.
-ghost use Rattle.std.specs.Prelude.{◌≡◌, ◌↔◌, ℕ, IsTrue, List};
+ghost use Rattle.std.specs.Prelude.{◌≡◌, ◌↔◌, ◌++◌, ℕ, IsTrue, List};
 ghost use Rattle.metis_ids.specs.declared.actions.Action.{Action};
 ghost use Rattle.metis_universe.specs.Config.{empty};
 ghost use Rattle.metis_universe.specs.Steadfast.{is_steadfast};
@@ -30,6 +30,11 @@ pub fn kept_order_is_a_run()
 /// Each of these orders that has every action ends in the configuration in which the actions end in their own order.
 pub fn complete_order_ends_alike()
     ensures { (u : Universe) (actions : List Action) (ks : List ℕ) → IsRun u empty actions → IsTrue (is_steadfast u actions) → IsKept actions ks → IsTrue (is_complete actions ks) → after_all u empty (picked actions ks) ≡ after_all u empty actions }
+{}
+
+/// Each order that keeps the waits, whether the actions are a run or not, goes on to one that has every action.
+pub fn kept_order_goes_on()
+    ensures { (actions : List Action) (ks : List ℕ) → IsKept actions ks → (more : List ℕ) × IsKept actions (ks ++ more) × IsTrue (is_complete actions (ks ++ more)) }
 {}
 
 /// The order in which the actions stand keeps their waits, whether they are a run or not. It has every action, and its actions

@@ -23,10 +23,11 @@ returns-in-Ok-clause-answer g c =
     let none : c.args.pairs.now ≡ [] → after_all u empty (rollout u old fresh.actions) ≡ empty = λ is.
     subst (λ xs. after_all u empty (rollout u old xs) ≡ empty) (sym (c.nothing_is_done_for_no_targets.ensures u fresh (subst (λ g. IsByRounds u g fresh) is found.rounds)).0)
     (c.teardown_leaves_nothing.ensures u old c.keeps_invariant.ensures.universe c.requires.old.steady).1 in
+    let never_lacks = c.guarded_rollout_never_lacks.ensures.configurations u old fresh.actions c.keeps_invariant.ensures.universe c.requires.old.steady steady in
     let done = c.rollout_replaces.ensures u old fresh.actions c.keeps_invariant.ensures.universe c.requires.old.steady steady in
     rw c.said.ensures
     (shown_by_writer _ _ _ _ _ _ _ c.write_rollout.result
-    (refl, record { attains = c.requires.attained; fresh = fresh; rounds = found.rounds; steady = done.0; ends = done.1; holds = done.2 c.args.pairs.now found.holds; none = none; told = refl })
+    (refl, record { attains = c.requires.attained; fresh = fresh; rounds = found.rounds; steady = done.0; ends = done.1; holds = done.2 c.args.pairs.now found.holds; none = none; never_lacks = never_lacks; goes_on = c.guarded_rollout_goes_on.ensures u old fresh.actions; told = refl })
     (rw (← actions) (rw c.deref.ensures.value at c.write_rollout.ensures.text)) c.write_rollout.ensures.cause)
 
 pub returns-in-Ok-clause-lines : goal.returns-in-Ok-clause-lines
