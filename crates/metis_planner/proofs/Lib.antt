@@ -1,3 +1,4 @@
+pub mod Ending
 pub mod Forced
 pub mod Lists
 pub mod Named

@@ -2,13 +2,19 @@
 ghost use Rattle.std.specs.Prelude.{◌≡◌, ℕ, List, []};
 ghost use Rattle.metis_ids.specs.Cycle.{HasCycle};
 ghost use Rattle.metis_ids.specs.Plans.{Plan};
-ghost use Rattle.metis_universe.specs.Universe.{Universe};
+ghost use Rattle.metis_universe.specs.Goal.{Attains};
+ghost use Rattle.metis_universe.specs.Universe.{IsTable, Universe};
 ghost use Rattle.metis_lines.specs.Justified.{graph_for};
 ghost use Rattle.metis_planner.specs.Rounds.{IsByRounds, numbered};
 
 /// Rounds come to one plan alone, so it is a function of the universe and the targets.
 pub fn rounds_come_to_one_plan()
     ensures { (u : Universe) (g : List ℕ) (p q : Plan) → IsByRounds u g p → IsByRounds u g q → p ≡ q }
+{}
+
+/// For targets that some actions attain they do come to one.
+pub fn attained_targets_have_a_plan_by_rounds()
+    ensures { (u : Universe) (g : List ℕ) → IsTable u → Attains u g → (p : Plan) × IsByRounds u g p }
 {}
 
 /// Where the events of the lines for the targets alone have no cycle, nothing is doubled.
