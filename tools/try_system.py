@@ -1,10 +1,11 @@
 #!/usr/bin/env python3
 """Tries the built program on what only the system can show: python3 tools/try_system.py [PROGRAM]
 
-The gate does not run this: no proof says what a real file, a pipe or a full device gives. Each case has the words, what stands
-on standard input, where standard output goes, and the status and the text that have to come. The last line counts them.
+No proof says what a real file, a pipe or a full device gives, which words the system hands over, or with which status a process
+ends. Each case has the words, what stands on standard input, where standard output goes, and the status and the text that have to
+come. `{folder}` in a word is the absolute path of the folder that the program runs in. The last line counts the cases.
 """
-import os, shutil, subprocess, sys, tempfile
+import json, os, shutil, subprocess, sys, tempfile
 
 WEB = b'''{"aeolus":1,"types":[{"name":"Db","initial":"off","states":[{"name":"off","next":["on"]},{"name":"on","provide":["sql"]}]},{"name":"Web","initial":"off","states":[{"name":"off","next":["run"]},{"name":"run","require":["sql"]}]}]}'''
 PRINTED = b'''{"aeolus":1,"types":[{"initial":"off","name":"Db","states":[{"name":"off","next":["on"],"provide":[],"require":[]},{"name":"on","next":[],"provide":["sql"],"require":[]}]},{"initial":"off","name":"Web","states":[{"name":"off","next":["run"],"provide":[],"require":[]},{"name":"run","next":[],"provide":[],"require":["sql"]}]}]}\n'''
@@ -18,6 +19,23 @@ instances 2 actions 5 dups 0
 end
 '''
 
+
+
+def universe_of_a_megabyte():
+    """The canonical text of a universe whose one line is past 1 MB: 400 types of four states, of which each provides ten ports with
+    long names."""
+    long = 'x' * 48
+    states = [[f'{long}_{kind:03}_{state}' for state in range(4)] for kind in range(400)]
+    types = [{'initial': names[0], 'name': f'{long}_{kind:03}',
+              'states': [{'name': name, 'next': names[at + 1:at + 2], 'provide': [f'{long}_{at}_{port}' for port in range(10)], 'require': []}
+                         for at, name in enumerate(names)]}
+             for kind, names in enumerate(states)]
+    return json.dumps({'aeolus': 1, 'types': types}, separators=(',', ':')).encode() + b'\n'
+
+
+LARGE = universe_of_a_megabyte()
+assert len(LARGE) > 1_000_000
+
 here = os.path.dirname(os.path.abspath(__file__))
 program = os.path.abspath(sys.argv[1] if len(sys.argv) > 1 else os.path.join(here, '..', 'crates', 'metis', 'out', 'metis'))
 
@@ -25,6 +43,12 @@ program = os.path.abspath(sys.argv[1] if len(sys.argv) > 1 else os.path.join(her
 cases = [
     ('a file', ['print', 'web.json'], b'', 'pipe', 0, PRINTED),
     ('a file, and then the input', ['replay', 'web.json', '-', 'Web:run'], PLAN, 'pipe', 0, b'good standing 2 actions 5\n'),
+    ('a file by its absolute path', ['print', '{folder}/web.json'], b'', 'pipe', 0, PRINTED),
+    ('an absolute path of which a part is a relative one', ['print', '{folder}/plans/../web.json'], b'', 'pipe', 0, PRINTED),
+    ('files in folders', ['replay', 'plans/a universe.json', './plans/web.plan', 'Web:run'], b'', 'pipe', 0, b'good standing 2 actions 5\n'),
+    ('a file in a folder that is not there', ['print', 'plan/web.json'], b'', 'pipe', 4, b'read fault 2\n'),
+    ('a line past 1 MB, through pipes', ['print', '-'], LARGE, 'pipe', 0, LARGE),
+    ('a line past 1 MB to a full device', ['print', '-'], LARGE, 'full', 5, b''),
     ('the input, and then a file', ['replay', '-', 'web.plan', 'Web:run'], WEB, 'pipe', 0, b'good standing 2 actions 5\n'),
     ('an empty input', ['print', '-'], b'', 'pipe', 3, b'bad universe U1\n'),
     ('a file whose name begins with a dash', ['print', '-x.json'], b'no JSON', 'pipe', 0, PRINTED),
@@ -62,7 +86,7 @@ cases = [
 
 def run(folder, words, given, where):
     user = {'user': 'nobody', 'group': 'nogroup', 'extra_groups': []} if os.geteuid() == 0 else {}
-    command = [os.path.join(folder, 'metis')] + words
+    command = [os.path.join(folder, 'metis')] + [it.replace('{folder}', folder) if isinstance(it, str) else it for it in words]
     if where == 'full':
         with open('/dev/full', 'wb') as full:
             done = subprocess.run(command, input=given, stdout=full, cwd=folder, **user)
@@ -90,6 +114,10 @@ with tempfile.TemporaryDirectory() as folder:
             file.write(content)
     os.chmod(os.path.join(folder, 'secret.json'), 0)
     os.mkdir(os.path.join(folder, 'folder'))
+    os.mkdir(os.path.join(folder, 'plans'))
+    for name, content in [('a universe.json', WEB), ('web.plan', PLAN)]:
+        with open(os.path.join(folder, 'plans', name), 'wb') as file:
+            file.write(content)
     for what, words, given, where, status, text in cases:
         got = run(folder, words, given, where)
         if got != (status, text):
