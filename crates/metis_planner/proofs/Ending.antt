@@ -13,7 +13,6 @@ use Rattle.metis_universe.specs.Goal.{Attainable, Attains}
 use Rattle.metis_universe.specs.Layers.{layer_of}
 use Rattle.metis_universe.specs.Universe.{Universe, IsTable, IsUniverse, greatest_demand, has}
 use Rattle.metis_layers.proofs.Order.{attained_set}
-use Rattle.metis_support.specs.Support.{support_of}
 use Rattle.metis_events.proofs.Numbered.{graph_of_plan}
 use Rattle.metis_lines.specs.AbstractPlan.{line_count}
 use Rattle.metis_lines.specs.Justified.{lines_for, own_pairs}
