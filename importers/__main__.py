@@ -11,6 +11,7 @@ SOURCES = {
     "debian": "packages of Debian, as dpkg installs them",
     "compose": "a Compose project",
     "systemd": "a target of systemd with the units that it pulls in",
+    "show": "shows what Metis printed, with names in place of numbers",
 }
 
 

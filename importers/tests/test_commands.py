@@ -68,7 +68,7 @@ class ImportersTest(unittest.TestCase):
 
 class ShowTest(unittest.TestCase):
     def shown(self, text):
-        status, shown, fault = run("tools/show.py", text=text)
+        status, shown, fault = run("-m", "importers", "show", text=text)
         self.assertEqual((status, fault), (0, ""))
         return [" ".join(line.split()) for line in shown.split("\n")[:-1]]
 
@@ -99,7 +99,7 @@ class ShowTest(unittest.TestCase):
         self.assertEqual(self.shown(EXPLANATION), expected)
 
     def test_json(self):
-        status, shown, _ = run("tools/show.py", "--json", text=PLAN)
+        status, shown, _ = run("-m", "importers", "show", "--json", text=PLAN)
         value = json.loads(shown)
         self.assertEqual((status, value["kind"], len(value["actions"])), (0, "plan", 6))
         bind = {
@@ -116,9 +116,9 @@ class ShowTest(unittest.TestCase):
         move = {"number": 3, "action": "move", "instance": 1, "type": "Db", "from": "off", "to": "on", "after": []}
         self.assertEqual(value["actions"][2], move)
         self.assertEqual(value["dups"], [{"pair": "Db:on", "cycle": ["0.2", "1.end"]}])
-        _, shown, _ = run("tools/show.py", "--json", text=REFUSAL)
+        _, shown, _ = run("-m", "importers", "show", "--json", text=REFUSAL)
         self.assertEqual(json.loads(shown), {"kind": "refusal", "lacks": "port:sql", "pairs": ["Db:off", "Web:off"]})
-        _, shown, _ = run("tools/show.py", "--json", text=EXPLANATION)
+        _, shown, _ = run("-m", "importers", "show", "--json", text=EXPLANATION)
         expected = {
             "kind": "explanation",
             "lacks": "port:http",
@@ -134,8 +134,8 @@ class ShowTest(unittest.TestCase):
 
     def test_bad_input_gets_one_line_and_status_1(self):
         self.assertEqual(
-            run("tools/show.py", text="good standing 1 actions 2\n"),
-            (1, "", "show: line 1: no plan, refusal or explanation, but 'good standing 1 actions 2'\n"),
+            run("-m", "importers", "show", text="good standing 1 actions 2\n"),
+            (1, "", "importers: line 1: no plan, refusal or explanation, but 'good standing 1 actions 2'\n"),
         )
-        status, shown, line = run("tools/show.py", "/nowhere/plan.txt")
+        status, shown, line = run("-m", "importers", "show", "/nowhere/plan.txt")
         self.assertEqual((status, shown, line.count("\n")), (1, "", 1))
