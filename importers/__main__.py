@@ -11,6 +11,8 @@ SOURCES = {
     "debian": "packages of Debian, as dpkg installs them",
     "compose": "a Compose project",
     "systemd": "a target of systemd with the units that it pulls in",
+    "sketch": "a sketch with a line a type, or the sketch of a universe",
+    "check": "a look over a document or a sketch: what is wrong, or was perhaps not meant",
     "show": "shows what Metis printed, with names in place of numbers",
 }
 
