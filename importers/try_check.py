@@ -71,7 +71,12 @@ def places_in(value, found):
 
 def damage_value(draw, value):
     """Puts junk somewhere, takes something away, says it twice, or gives a key another name."""
-    where = draw.choice(places_in(value, []) or [value])
+    places = places_in(value, []) or [value]
+    counted = [it for it in places if isinstance(it, dict) and "count" in it]
+    if counted and draw.random() < 0.2:
+        draw.choice(counted)["count"] = draw.choice((0, 17, 2**64, 2**64 - 1, 2.0, -1))
+        return
+    where = draw.choice(places)
     if isinstance(where, dict) and where:
         key = draw.choice(list(where))
         if draw.random() < 0.3:

@@ -33,7 +33,7 @@ def text_of(name: str) -> str:
 
 
 def pages() -> list[str]:
-    found = [*TOP.glob("*.md"), *TOP.glob("docs/*.md"), *TOP.glob("importers/*.md"), *TOP.glob("docs/*.1")]
+    found = [*TOP.glob("*.md"), *TOP.glob("docs/*.md"), *TOP.glob("*porters/*.md"), *TOP.glob("docs/*.1")]
     return sorted(str(it.relative_to(TOP)) for it in found if it.name != "CHANGELOG.md")
 
 
@@ -84,7 +84,8 @@ def of_the_gate() -> Iterator[str]:
     """The table of docs/GATE.md has each crate once, and its columns come to the minutes that are told above it."""
     name = "docs/GATE.md"
     rows = ROW_OF_A_CRATE.findall((TOP / name).read_text())
-    yield from unequal(name, "crates of the table", sorted(row[0] for row in rows), sorted(crates()))
+    without = sorted({row[0] for row in rows} ^ set(crates()))
+    yield from unequal(name, "crates in the table or in crates.txt alone", without, [])
     found = SHARES.search(text_of(name))
     sums = tuple(round(column([row[place] for row in rows]) / 60) for place in (1, 2, 3, 4))
     yield from unequal(name, "minutes of the columns", found and tuple(map(int, found.groups())), sums)
