@@ -34,7 +34,7 @@ check_program() {
     METIS_UNPROVED=no "$top/metis" print "$top/examples/web.json" >/dev/null || fail "there is no proved program"
     # What `rt try` builds has checks of its own in it.
     ! grep -aq __asan_init "$program" || fail "$program is a program that was built without a proof"
-    kit=$(rt version) || fail "rt is not on the path, so the kit cannot be named"
+    kit=$(rt version 2>/dev/null) || fail "rt is not on the path, so the kit cannot be named"
     # The program is to need the C library alone.
     others=$(ldd "$program" | awk '{print $1}' | grep -Ev '^(linux-vdso|libc|/lib.*/ld-linux)' || true)
     [ -z "$others" ] || fail "the program needs more than the C library: $others"
@@ -67,7 +67,7 @@ changelog() {
     echo "$NAME ($version) unstable; urgency=medium"
     echo
     awk -v head="## $version" '$0 == head {on = 1; next} /^## / {on = 0} on' "$top/CHANGELOG.md" |
-        sed -n 's/^- /  * /p; s/^  \([^ ]\)/    \1/p'
+        sed -n 's/^- /  * /p; t; s/^  \([^ ]\)/    \1/p'
     echo
     echo " -- $(maintainer)  $(LC_ALL=C date -u -R -d "@$SOURCE_DATE_EPOCH")"
 }
@@ -173,6 +173,7 @@ instances 2 actions 5 dups 0
 end'
     [ "$("$1/bin/metis" plan "$examples/web.json" Web:run)" = "$plan" ] || fail "the unpacked program prints another plan"
     [ "$("$1/bin/metis" plan "$examples/web.json" Web:run | "$1/bin/metis-show" | tail -1)" = '   5  Web#0: off -> run' ] || fail "the unpacked metis-show shows another plan"
+    [ "$(echo 'a: off > on' | "$1/bin/metis-import" sketch | "$1/bin/metis" plan - a:on | sed -n 2p)" = 'instances 1 actions 2 dups 0' ] || fail "the unpacked metis-import makes another universe"
     [ -f "$examples/shop/shop.json" ] || fail "an example is not there"
 }
 
