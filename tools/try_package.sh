@@ -36,7 +36,9 @@ mkdir empty
 ln -s /bin/sh /usr/bin/readlink empty
 [ "$(PATH=$PWD/empty /usr/bin/metis-import sketch 2>&1 || true)" = 'metis-import: Python 3.11 or later has to be there' ]
 dpkg -P metis-planner >/dev/null
-[ ! -e /usr/lib/metis-planner ] && [ ! -e /usr/share/doc/metis-planner ] && [ ! -e /usr/bin/metis ]
+for left in /usr/lib/metis-planner /usr/share/doc/metis-planner /usr/bin/metis /usr/bin/metis-import; do
+    [ ! -e "$left" ]
+done
 echo 'the package is good'
 TRY
 chroot "$root" bash /root/try.sh
