@@ -10,6 +10,7 @@ import sys
 from collections.abc import Iterator
 
 from importers import document
+from importers.document import Refused
 from importers.sketch import bytes_of, read_sketch
 from importers.universe import Named, Note, Reading, Rows, StateRow, TypeRow, near, read_document, shown
 
@@ -142,6 +143,20 @@ def lines_of(path: str, reading: Reading, targets: list[str]) -> list[str]:
     return [*lines, f"{path}: {more} more"] if more > 0 else lines
 
 
+def put(lines: list[str]) -> None:
+    """Writes the lines by itself, since the status is 1 behind them."""
+    try:
+        sys.stdout.write("".join(f"{line}\n" for line in lines))
+        sys.stdout.flush()
+    except OSError as fault:
+        # What is left unwritten would be tried once more at the end.
+        os.dup2(os.open(os.devnull, os.O_WRONLY), sys.stdout.fileno())
+        if not isinstance(fault, BrokenPipeError):
+            raise Refused(f"standard output: {fault.strerror}") from None
+    except AttributeError:
+        raise Refused("standard output is closed") from None
+
+
 def add_arguments(parser: argparse.ArgumentParser) -> None:
     parser.add_argument("file", metavar="FILE", help="a document or a sketch; - is standard input")
     parser.add_argument("targets", metavar="TARGET", nargs="*", help="TYPE:STATE or port:PORT, as `plan` takes them")
@@ -153,9 +168,5 @@ def run(arguments: argparse.Namespace) -> tuple[str, list[str]]:
     lines = lines_of(arguments.file, reading, arguments.targets)
     if not lines:
         return "", []
-    try:
-        sys.stdout.write("".join(f"{line}\n" for line in lines))
-        sys.stdout.flush()
-    except BrokenPipeError:
-        os.dup2(os.open(os.devnull, os.O_WRONLY), sys.stdout.fileno())
+    put(lines)
     raise SystemExit(1)

@@ -106,10 +106,14 @@ def of_the_kit() -> Iterator[str]:
 
 
 def of_first_use() -> Iterator[str]:
-    """README's times of `rt ci`, which docs/GATE.md has."""
-    row = re.search(r"(?m)^\| `rt ci` \| (\d+) min \| (\d+) min \|$", (TOP / "README.md").read_text())
-    found = sought("docs/GATE.md", r"(\d+) minutes by the clock and \*\*(\d+) minutes of processor")
-    yield from unequal("README.md", "minutes of rt ci", row and row.groups(), found and found.groups())
+    """README's times of `rt ci` and of tools/build.py, which docs/GATE.md has."""
+    for command, pattern in (
+        ("rt ci", r"(\d+) minutes by the clock and \*\*(\d+) minutes of processor"),
+        ("tools/build.py", r"Without edits it takes (\d+) by the clock and (\d+) of processor"),
+    ):
+        row = re.search(rf"(?m)^\| `{command}` \| (\d+) min \| (\d+) min \|$", (TOP / "README.md").read_text())
+        found = sought("docs/GATE.md", pattern)
+        yield from unequal("README.md", f"minutes of {command}", row and row.groups(), found and found.groups())
 
 
 def of_other_tools() -> Iterator[str]:
