@@ -1,5 +1,5 @@
 #!/usr/bin/env python3
-"""Tries the commands that README, TUTORIAL, MODELLING and IMPORTERS show, and compares what they print, byte for byte.
+"""Tries the commands that pages and the man page show, and compares what they print, byte for byte.
 
     tools/try_documents.py [PROGRAM]
 
@@ -16,6 +16,7 @@ status 1 where something is not as a page says.
 
 import importlib.util
 import itertools
+import os
 import pathlib
 import re
 import shutil
@@ -27,6 +28,9 @@ import figures
 
 TOP = pathlib.Path(__file__).resolve().parent.parent
 PAGES = ("README.md", "docs/TUTORIAL.md", "docs/MODELLING.md", "docs/IMPORTERS.md")
+# In it commands have the names that the package gives them, and their statuses are not shown.
+MANUAL = "docs/metis.1"
+OF_THE_PACKAGE = {"metis-import": "importers", "metis-show": "importers show"}
 INDENT = "    "
 INTO_FILE = re.compile(r"into\s+`([^`]+)`:$")
 STATUS = re.compile(r"# status (\d+)$")
@@ -89,8 +93,25 @@ def blocks_of(page):
         at += 1
 
 
+def steps_of_manual(name):
+    """What the man page has a reader do: there `cat` of a file shows what is to be in it."""
+    steps, is_example = [], False
+    for number, line in enumerate((TOP / name).read_text().splitlines(), 1):
+        if line.startswith((".Bd -literal", ".Ed")):
+            is_example = line.startswith(".Bd")
+        elif is_example and line.startswith("$ cat "):
+            steps.append(Step(f"{name}:{number}", "", line.removeprefix("$ cat ")))
+        elif is_example and line.startswith("$ "):
+            steps.append(Step(f"{name}:{number}", line[2:]))
+        elif is_example:
+            steps[-1].lines.append(line)
+    return steps, []
+
+
 def steps_of(name):
     """What the page has a reader do, in order, and what is wrong with how it says so."""
+    if name == MANUAL:
+        return steps_of_manual(name)
     steps, wrong = [], []
     for start, block, before in blocks_of((TOP / name).read_text()):
         into = INTO_FILE.search(before)
@@ -114,8 +135,16 @@ def lay_out(folder, program):
     """What a reader has in the top folder, with the program in place of the script that would build it."""
     for name in ("examples", "importers", "tools"):
         (folder / name).symlink_to(TOP / name)
-    (folder / "metis").write_text(f'#!/bin/sh\nexec "{program}" "$@"\n')
-    (folder / "metis").chmod(0o755)
+    write_command(folder / "metis", f'exec "{program}"')
+    for name, module in OF_THE_PACKAGE.items():
+        write_command(folder / "commands" / name, f'PYTHONPATH="{TOP}" exec python3 -m {module}')
+    (folder / "commands" / "metis").symlink_to(folder / "metis")
+
+
+def write_command(path, words):
+    path.parent.mkdir(exist_ok=True)
+    path.write_text(f'#!/bin/sh\n{words} "$@"\n')
+    path.chmod(0o755)
 
 
 def not_ignored(folder, before):
@@ -148,7 +177,7 @@ def faults_of(steps, kept):
             continue
         printed, said, status = (text_of(kept / f"{at}.{kind}") for kind in ("out", "err", "status"))
         status = status.strip()
-        if status != str(step.status()):
+        if status != str(step.status()) and not step.place.startswith(MANUAL):
             yield f"{step.place}: status {status or 'none'}: {step.command}\n{said}"
         elif not step.fits(printed):
             yield f"{step.place}: another text: {step.command}\n{printed}"
@@ -167,7 +196,9 @@ def try_page(name, program):
         top = pathlib.Path(folder)
         lay_out(top, program)
         before = {it.name for it in top.iterdir()}
-        subprocess.run(["bash", "-c", shell_of(steps, pathlib.Path(kept))], cwd=folder, check=False, timeout=600)
+        path = f"{top / 'commands'}:{os.environ['PATH']}" if name == MANUAL else os.environ["PATH"]
+        script = shell_of(steps, pathlib.Path(kept))
+        subprocess.run(["bash", "-c", script], cwd=folder, env={**os.environ, "PATH": path}, check=False, timeout=600)
         wrong += faults_of(steps, pathlib.Path(kept))
         wrong += [f"{name}: not in .gitignore: {it}" for it in not_ignored(top, before)]
     return sum(1 for step in steps if not step.name), wrong
@@ -227,7 +258,7 @@ def main(words):
         print(f"there is no program {program}", file=sys.stderr)
         return 2
     wrong = list(itertools.chain(look_up(), figures.faults(program)))
-    for name in PAGES:
+    for name in (*PAGES, MANUAL):
         tried, faults = try_page(name, program)
         print(f"{name}: {tried} commands tried, {len(faults)} otherwise than the page says")
         wrong += faults
