@@ -12,9 +12,9 @@ from collections.abc import Iterator
 from importers import document
 from importers.document import Refused
 from importers.sketch import bytes_of, read_sketch
-from importers.universe import Named, Note, Reading, Rows, StateRow, TypeRow, near, read_document, shown
+from importers.universe import Named, Note, Reading, Rows, StateRow, TypeRow, Unknown, read_document, shown
 
-# More lines than these nobody reads, and each looks for a name that is near.
+# More lines than these nobody reads.
 MOST_LINES = 100
 
 
@@ -48,9 +48,8 @@ def of_ports(rows: Rows) -> Iterator[Note]:
         for port in state.require:
             if port.name not in provided and port.name not in told:
                 told.add(port.name)
-                # A universe may lack thousands, and to look for a near name costs more than all else.
-                hint = near(port.name, provided) if len(told) <= MOST_LINES else ""
-                yield Note(port.at, f"{pair(row, state)} requires {shown(port.name)}, and nobody provides it{hint}")
+                reason = f"{pair(row, state)} requires {shown(port.name)}, and nobody provides it"
+                yield Note(port.at, reason, Unknown(port.name, provided))
 
 
 def reached_in(row: TypeRow) -> set[str]:
@@ -96,14 +95,14 @@ def goals_of(rows: Rows, words: list[str]) -> tuple[list[TypeRow], list[Note]]:
                 wanted += provided[name]
             else:
                 what = "nobody provides this port" if name in required else "there is no such port"
-                notes.append(Note(0, f"the target {shown(word)}: {what}{near(name, provided)}"))
+                notes.append(Note(0, f"the target {shown(word)}: {what}", Unknown(name, provided)))
         elif not colon or kind not in types:
-            notes.append(Note(0, f"the target {shown(word)}: there is no such type{near(kind, types)}"))
+            notes.append(Note(0, f"the target {shown(word)}: there is no such type", Unknown(kind, types)))
         else:
             wanted.append(types[kind])
             states = [state.name.name for state in types[kind].states]
             if name not in states:
-                notes.append(Note(0, f"the target {shown(word)}: its type has no such state{near(name, states)}"))
+                notes.append(Note(0, f"the target {shown(word)}: its type has no such state", Unknown(name, states)))
     return wanted, notes
 
 
@@ -136,9 +135,8 @@ def notes_of(reading: Reading, targets: list[str]) -> list[Note]:
 
 def lines_of(path: str, reading: Reading, targets: list[str]) -> list[str]:
     """All that there is to say, the fault that Metis prints first."""
-    said = [(it.at, it.reason + (f" ({it.line})" if it.line else "")) for it in reading.faults]
-    said += [(it.at, it.text) for it in notes_of(reading, targets)]
-    lines = [f"{path}:{':'.join(map(str, reading.lines.place(at)))}: {text}" for at, text in said[:MOST_LINES]]
+    said = [*reading.faults, *notes_of(reading, targets)]
+    lines = [f"{path}:{':'.join(map(str, reading.lines.place(it.at)))}: {it.text()}" for it in said[:MOST_LINES]]
     more = len(said) - MOST_LINES
     return [*lines, f"{path}: {more} more"] if more > 0 else lines
 

@@ -262,7 +262,7 @@ def rows_of(path: str, reading: Reading) -> Rows:
     if reading.faults:
         fault = reading.faults[0]
         line, column = reading.lines.place(fault.at)
-        raise Refused(f"{path}:{line}:{column}: {fault.reason}")
+        raise Refused(f"{path}:{line}:{column}: {fault.text()}")
     return reading.rows
 
 

@@ -2,8 +2,9 @@
 
 import dataclasses
 import difflib
+import itertools
 import re
-from collections.abc import Iterator
+from collections.abc import Collection, Iterator
 
 from importers import document
 from importers.places import Lines, NoJson, Node, Object, read_json
@@ -14,6 +15,9 @@ TYPE_KEYS = ("name", "initial", "states")
 STATE_KEYS = ("name", "provide", "require", "next")
 NEED_KEYS = ("port", "count")
 LONGEST_SHOWN = 72
+# Among so many words one that is near is sought, and so much longer or shorter it may be.
+MOST_KNOWN = 4_000
+FARTHEST = 3
 
 
 @dataclasses.dataclass(frozen=True, slots=True)
@@ -49,20 +53,44 @@ class Rows:
 
 
 @dataclasses.dataclass(frozen=True, slots=True)
+class Unknown:
+    """A word that is not known, and those that are. The one that is near is sought when somebody is to read it."""
+
+    word: str
+    known: Collection[str]
+
+    def hint(self) -> str:
+        """The nearest word as a question; nothing where none is near."""
+        around = len(self.word)
+        words = [it for it in itertools.islice(self.known, MOST_KNOWN) if abs(len(it) - around) <= FARTHEST]
+        found = difflib.get_close_matches(self.word, words, 1, 0.6)
+        return f"; did you mean {shown(found[0])}?" if found else ""
+
+
+@dataclasses.dataclass(frozen=True, slots=True)
+class Note:
+    """What stands at a place, and was perhaps not meant."""
+
+    at: int
+    reason: str
+    unknown: Unknown | None = None
+
+    def text(self) -> str:
+        return self.reason + (self.unknown.hint() if self.unknown else "")
+
+
+@dataclasses.dataclass(frozen=True, slots=True)
 class Fault:
     """A reason for which Metis refuses a document: the line that it prints, and where and why it is so."""
 
     line: str
     at: int
     reason: str
+    unknown: Unknown | None = None
 
-
-@dataclasses.dataclass(frozen=True, slots=True)
-class Note:
-    """What Metis takes, and was perhaps not meant."""
-
-    at: int
-    text: str
+    def text(self) -> str:
+        behind = f" ({self.line})" if self.line else ""
+        return self.reason + (self.unknown.hint() if self.unknown else "") + behind
 
 
 @dataclasses.dataclass(frozen=True, slots=True)
@@ -80,12 +108,6 @@ def shown(text: str) -> str:
     if NAME.fullmatch(text) and len(text) <= LONGEST_SHOWN:
         return text
     return ascii(text if len(text) <= LONGEST_SHOWN else f"{text[:LONGEST_SHOWN]}..")
-
-
-def near(word: str, words) -> str:
-    """The word of these that is nearest, as a question; nothing where none is near."""
-    found = difflib.get_close_matches(word, list(words), 1, 0.6)
-    return f"; did you mean {shown(found[0])}?" if found else ""
 
 
 def is_name(text: str) -> bool:
@@ -113,7 +135,7 @@ class Form:
             if member.name in seen:
                 self.notes.append(Note(member.at, f"the key {shown(member.name)} stands here once more, and the last one counts"))
             elif member.name not in known:
-                self.notes.append(Note(member.at, f"the key {shown(member.name)} is not read{near(member.name, known)}"))
+                self.notes.append(Note(member.at, f"the key {shown(member.name)} is not read", Unknown(member.name, known)))
             seen.add(member.name)
 
     def root(self, root: Node) -> Rows | None:
@@ -232,13 +254,13 @@ def faults_of_type(place: int, row: TypeRow, first_of: dict[str, int]) -> Iterat
     demand = sum(sum(greatest_counts(state.require).values()) for state in row.states)
     yield from limit("requires", demand, document.MOST_REQUIRED, name.at, f"the providers that the states of {kind} require are")
     if row.initial.name not in states:
-        reason = f"initial {shown(row.initial.name)} is none of the states of {kind}{near(row.initial.name, states)}"
-        yield Fault(f"bad universe U9 type {place}", row.initial.at, reason)
+        reason = f"initial {shown(row.initial.name)} is none of the states of {kind}"
+        yield Fault(f"bad universe U9 type {place}", row.initial.at, reason, Unknown(row.initial.name, states))
     for at, state in enumerate(row.states):
         for entry, after in enumerate(state.next):
             if after.name not in states:
-                reason = f"next {shown(after.name)} is none of the states of {kind}{near(after.name, states)}"
-                yield Fault(f"bad universe U10 type {place} state {at} entry {entry}", after.at, reason)
+                line = f"bad universe U10 type {place} state {at} entry {entry}"
+                yield Fault(line, after.at, f"next {shown(after.name)} is none of the states of {kind}", Unknown(after.name, states))
 
 
 def faults_of_rows(rows: Rows) -> Iterator[Fault]:

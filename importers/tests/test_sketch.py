@@ -142,7 +142,7 @@ class CommandTest(unittest.TestCase):
             path.write_text('{"aeolus":1,"types":[\n{"name":"A","initial":"b","states":[{"name":"a"}]}]}')
             for words, text, line in (
                 ((), "a: b\nc\n", "importers: -:2:2: a colon is due behind the type's name: NAME: STATE > STATE(-port +port)\n"),
-                (("--from", str(path)), "", f"importers: {path}:2:23: initial b is none of the states of A\n"),
+                (("--from", str(path)), "", f"importers: {path}:2:23: initial b is none of the states of A (bad universe U9 type 0)\n"),
                 (("--from", "/nowhere"), "", "importers: /nowhere: No such file or directory\n"),
                 ((), " " * 4_194_305, "importers: -: more than 4194304 bytes\n"),
             ):

@@ -111,7 +111,7 @@ class RowsTest(unittest.TestCase):
 class KeysTest(unittest.TestCase):
     def notes(self, text):
         reading = read_document(text.encode())
-        return [(*reading.lines.place(note.at), note.text) for note in reading.notes]
+        return [(*reading.lines.place(note.at), note.text()) for note in reading.notes]
 
     def test_keys_that_are_not_read(self):
         text = '{"aeolus":2,"Types":[],"types":[\n{"name":"A","initial":"a","state":[],"states":[\n{"name":"a","requires":["x"],"require":[\n{"port":"p","count":1,"min":2}]}]}]}'
