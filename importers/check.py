@@ -74,7 +74,8 @@ def of_states(rows: Rows) -> Iterator[Note]:
                 yield Note(state.name.at, f"{pair(row, state)}: no move leads here from the initial state {initial}")
             if name == row.initial.name and state.require:
                 advice = f"begin in a state before it, which leads to {initial} and requires nothing"
-                yield Note(state.name.at, f"{pair(row, state)} requires {shown(state.require[0].name)}, so nothing can be made in it: {advice}")
+                reason = f"{pair(row, state)} requires {shown(state.require[0].name)}, so nothing can be made in it"
+                yield Note(state.name.at, f"{reason}: {advice}")
 
 
 def of_words(rows: Rows) -> Iterator[Note]:

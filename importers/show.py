@@ -1,55 +1,24 @@
 """Shows what Metis prints with names in place of numbers, one line an action, or with --json as one JSON object.
 
-That is a plan, as `plan` and `rollout` print it, a refusal, an explanation, or, beside their plan, what `waves` and `place` print.
+That is a plan, as `plan` and `rollout` print it, a refusal, or an explanation. It is also what `waves` and `place` print, where
+their plan is named.
 """
 
 import argparse
-import dataclasses
 import json
 import re
 import sys
+from collections.abc import Iterator
 
-from importers import texts
+from importers import over_plans, texts
 from importers.document import Refused
 
 # As many as Metis reads of a plan.
 MOST_BYTES = 268_435_456
 OTHER_BYTE = re.compile(rb"[^\x20-\x7e\n]")
-AT = re.compile(r"([0-9]+) at ([0-9]+) to ([0-9]+)")
-ON = re.compile(r"on ([0-9]+) ([A-Za-z0-9_./@-]+)")
-HOLD = re.compile(r"hold ([0-9]+) after ([0-9]+(?: [0-9]+)*)")
-NO_ROOM = re.compile(r"noroom ([0-9]+) size ([0-9]+) free ([0-9]+)")
 
 
-@dataclasses.dataclass(frozen=True)
-class Schedule:
-    """When the actions of a plan may start, at the earliest and at the latest, when all is done, and what takes that long."""
-
-    plan: texts.Plan
-    starts: tuple[tuple[int, int], ...]
-    finish: int
-    chain: tuple[int, ...]
-
-
-@dataclasses.dataclass(frozen=True)
-class Placement:
-    """The host of each instance of a plan, and what actions wait for besides."""
-
-    plan: texts.Plan
-    host_of: dict[int, str]
-    holds: dict[int, tuple[int, ...]]
-
-
-@dataclasses.dataclass(frozen=True)
-class NoRoom:
-    """The action that makes an instance of this size, where no host has more than so much room."""
-
-    action: texts.Action
-    size: int
-    free: int
-
-
-def what(action):
+def what(action: texts.Action) -> str:
     """An action in words."""
     who = f"{action.type}#{action.instance}"
     words = action.words
@@ -65,7 +34,7 @@ def what(action):
     return f"{who} lets {words[0]} of {provider} go"
 
 
-def plan_lines(plan):
+def plan_lines(plan: texts.Plan) -> Iterator[str]:
     words = [what(action) for action in plan.actions]
     width = max(map(len, words), default=0)
     for action, each in zip(plan.actions, words):
@@ -76,7 +45,7 @@ def plan_lines(plan):
         yield f"one more for {dup.pair}: without it each of {events} would wait for the next, and the last for the first"
 
 
-def refusal_lines(refusal):
+def refusal_lines(refusal: texts.Refusal) -> Iterator[str]:
     yield f"{refusal.lacks} is not attained; these {len(refusal.pairs)} pairs are:"
     for pair in refusal.pairs:
         yield f"  {pair}"
@@ -99,7 +68,7 @@ def reason_in_words(reason):
     return f"{reason.pair} needs {reason.needs}, {provided(reason.names)}"
 
 
-def explanation_lines(explanation):
+def explanation_lines(explanation: texts.Explanation) -> Iterator[str]:
     goal = explanation.lacks
     if explanation.providers is not None:
         goal += f", {provided(explanation.providers)},"
@@ -108,7 +77,7 @@ def explanation_lines(explanation):
         yield f"  {reason_in_words(reason)}"
 
 
-def plan_value(plan):
+def plan_value(plan: texts.Plan) -> dict:
     return {
         "kind": "plan",
         "actions": [action_value(action) for action in plan.actions],
@@ -116,7 +85,7 @@ def plan_value(plan):
     }
 
 
-def action_value(action):
+def action_value(action: texts.Action) -> dict:
     value = {"number": action.number, "action": action.verb, "instance": action.instance, "type": action.type}
     if action.verb == "move":
         value |= {"from": action.words[1], "to": action.words[2]}
@@ -125,11 +94,11 @@ def action_value(action):
     return {**value, "after": list(action.after)}
 
 
-def refusal_value(refusal):
+def refusal_value(refusal: texts.Refusal) -> dict:
     return {"kind": "refusal", "lacks": refusal.lacks, "pairs": list(refusal.pairs)}
 
 
-def explanation_value(explanation):
+def explanation_value(explanation: texts.Explanation) -> dict:
     return {
         "kind": "explanation",
         "lacks": explanation.lacks,
@@ -146,7 +115,7 @@ def reason_value(reason):
     return value
 
 
-def schedule_lines(schedule):
+def schedule_lines(schedule: over_plans.Schedule) -> Iterator[str]:
     actions, chain = schedule.plan.actions, set(schedule.chain)
     words = [what(action) for action in actions]
     width = max(map(len, words), default=0)
@@ -158,7 +127,7 @@ def schedule_lines(schedule):
     yield f"all is done at {schedule.finish}, which the actions of the chain take one after the other"
 
 
-def schedule_value(schedule):
+def schedule_value(schedule: over_plans.Schedule) -> dict:
     rows = zip(schedule.plan.actions, schedule.starts)
     return {
         "kind": "schedule",
@@ -168,7 +137,7 @@ def schedule_value(schedule):
     }
 
 
-def placement_lines(placement):
+def placement_lines(placement: over_plans.Placement) -> Iterator[str]:
     made = [(action, f"{action.type}#{action.instance}") for action in placement.plan.actions if action.verb == "new"]
     width = max((len(who) for _, who in made), default=0)
     for action, who in made:
@@ -178,19 +147,20 @@ def placement_lines(placement):
         yield f"{number:>4}  {what(placement.plan.actions[number - 1])} waits for room, after {behind}"
 
 
-def placement_value(placement):
+def placement_value(placement: over_plans.Placement) -> dict:
     made = [action for action in placement.plan.actions if action.verb == "new"]
     rows = [{"instance": each.instance, "type": each.type, "host": placement.host_of[each.instance]} for each in made]
     holds = [{"action": number, "after": list(others)} for number, others in placement.holds.items()]
     return {"kind": "placement", "instances": rows, "holds": holds}
 
 
-def no_room_lines(refused):
+def no_room_lines(refused: over_plans.NoRoom) -> Iterator[str]:
     who = f"{refused.action.type}#{refused.action.instance}"
-    yield f"no host has room for {who}, of size {refused.size}, which action {refused.action.number} makes; the most that is free is {refused.free}"
+    which = f"of size {refused.size}, which action {refused.action.number} makes"
+    yield f"no host has room for {who}, {which}; the most that is free is {refused.free}"
 
 
-def no_room_value(refused):
+def no_room_value(refused: over_plans.NoRoom) -> dict:
     return {"kind": "noroom", "action": action_value(refused.action), "size": refused.size, "free": refused.free}
 
 
@@ -198,81 +168,13 @@ SHOWN = {
     texts.Plan: (plan_lines, plan_value),
     texts.Refusal: (refusal_lines, refusal_value),
     texts.Explanation: (explanation_lines, explanation_value),
-    Schedule: (schedule_lines, schedule_value),
-    Placement: (placement_lines, placement_value),
-    NoRoom: (no_room_lines, no_room_value),
+    over_plans.Schedule: (schedule_lines, schedule_value),
+    over_plans.Placement: (placement_lines, placement_value),
+    over_plans.NoRoom: (no_room_lines, no_room_value),
 }
 
 
-def refuse(line, reason):
-    raise texts.NoText(f"line {line}: {reason}")
-
-
-def action_at(plan, number, line):
-    if not 1 <= number <= len(plan.actions):
-        refuse(line, f"the plan has no action {number}")
-    return plan.actions[number - 1]
-
-
-def read_schedule(lines, plan):
-    """What `waves` prints over a plan: a line for each of its actions, and then two more."""
-    count = len(plan.actions)
-    if len(lines) != count + 2:
-        refuse(len(lines), f"{len(lines)} lines, where the plan has {count} actions, and two lines follow them")
-    starts = []
-    for number, text in enumerate(lines[:count], 1):
-        found = AT.fullmatch(text)
-        if not found or int(found[1]) != number:
-            refuse(number, f"not '{number} at E to L'")
-        starts.append((int(found[2]), int(found[3])))
-    finish, chain = lines[count].split(" "), lines[count + 1].split(" ")
-    if len(finish) != 2 or finish[0] != "finish":
-        refuse(count + 1, "not 'finish T'")
-    if chain[0] != "chain":
-        refuse(count + 2, "not 'chain' and the numbers of actions")
-    numbers = texts.numbers(count + 2, chain[1:])
-    for number in numbers:
-        action_at(plan, number, count + 2)
-    return Schedule(plan, tuple(starts), texts.numbers(count + 1, finish[1:])[0], numbers)
-
-
-def read_placement(lines, plan):
-    """What `place` prints over a plan: a line for each of its instances, one for each action that is held, and the count."""
-    made, host_of, holds = [each.instance for each in plan.actions if each.verb == "new"], {}, {}
-    for line, (text, instance) in enumerate(zip(lines, made), 1):
-        found = ON.fullmatch(text)
-        if not found or int(found[1]) != instance:
-            refuse(line, f"not 'on {instance} HOST', as the plan makes its instances")
-        host_of[instance] = found[2]
-    for line, text in enumerate(lines[len(made) : -1], len(made) + 1):
-        found = HOLD.fullmatch(text)
-        if not found:
-            refuse(line, "not 'hold K after' and the numbers of actions")
-        numbers = tuple(map(int, found[2].split(" ")))
-        for number in (int(found[1]), *numbers):
-            action_at(plan, number, line)
-        holds[int(found[1])] = numbers
-    if len(lines) <= len(made) or not re.fullmatch(f"placed {len(made)} hosts [0-9]+", lines[-1]):
-        refuse(len(lines), f"not 'placed {len(made)} hosts H'")
-    return Placement(plan, host_of, holds)
-
-
-def read_no_room(lines, plan):
-    found = NO_ROOM.fullmatch(lines[0])
-    if not found or len(lines) > 1:
-        refuse(1, "not 'noroom K size S free F' alone")
-    return NoRoom(action_at(plan, int(found[1]), 1), int(found[2]), int(found[3]))
-
-
-# How the text of an answer over a plan begins.
-OF_A_PLAN = (
-    (re.compile(r"1 at |finish "), read_schedule),
-    (re.compile(r"on |placed "), read_placement),
-    (re.compile(r"noroom "), read_no_room),
-)
-
-
-def bytes_of(path):
+def bytes_of(path: str) -> bytes:
     try:
         with sys.stdin.buffer if path == "-" else open(path, "rb") as file:
             return file.read(MOST_BYTES + 1)
@@ -280,7 +182,7 @@ def bytes_of(path):
         raise Refused(f"{path}: {fault.strerror}") from None
 
 
-def text_of(path):
+def text_of(path: str) -> str:
     """A text of Metis, which has the printable bytes of ASCII and line feeds alone."""
     found = bytes_of(path)
     if len(found) > MOST_BYTES:
@@ -292,19 +194,16 @@ def text_of(path):
     return found.decode("ascii")
 
 
-def read(text, plan_path):
+def read(text: str, plan_path: str | None):
     """What a text is, with the plan that it speaks of, where its numbers are those of another text."""
-    for begins, reader in OF_A_PLAN:
-        if begins.match(text):
-            if plan_path is None:
-                raise Refused("its numbers are those of a plan: name it, --plan PLAN")
-            plan = texts.read(text_of(plan_path))
-            if not isinstance(plan, texts.Plan):
-                raise Refused(f"{plan_path}: no plan")
-            if not text.endswith("\n"):
-                refuse(text.count("\n") + 1, "the text ends inside a line")
-            return reader(text.split("\n")[:-1], plan)
-    return texts.read(text)
+    if not over_plans.is_over_a_plan(text):
+        return texts.read(text)
+    if plan_path is None:
+        raise Refused("its numbers are those of a plan: name it, --plan PLAN")
+    plan = texts.read(text_of(plan_path))
+    if not isinstance(plan, texts.Plan):
+        raise Refused(f"{plan_path}: no plan")
+    return over_plans.read(text, plan)
 
 
 def add_arguments(parser: argparse.ArgumentParser) -> None:
