@@ -136,7 +136,7 @@ def notes_of(reading: Reading, targets: list[str]) -> list[Note]:
 
 def lines_of(path: str, reading: Reading, targets: list[str]) -> list[str]:
     """All that there is to say, the fault that Metis prints first."""
-    said = [*reading.faults, *notes_of(reading, targets)]
+    said, path = [*reading.faults, *notes_of(reading, targets)], path if path.isprintable() else ascii(path)
     lines = [f"{path}:{':'.join(map(str, reading.lines.place(it.at)))}: {it.text()}" for it in said[:MOST_LINES]]
     more = len(said) - MOST_LINES
     return [*lines, f"{path}: {more} more"] if more > 0 else lines

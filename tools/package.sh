@@ -86,9 +86,12 @@ PYTHONPATH=\${script%/bin/*}/lib/$NAME exec python3 -B -P -m $1 "\$@"
 COMMAND
 }
 
+# Such a command, and a man page that is the planner's, which speaks of it.
 install_command() {
-    command_of "$2" >"$work/command"
-    install -D -m 755 "$work/command" "$1"
+    local root=$1 name=$2 module=$3
+    command_of "$module" >"$work/command"
+    install -D -m 755 "$work/command" "$root/bin/$name"
+    echo '.so man1/metis.1' | gzip -9n >"$root/share/man/man1/$name.1.gz"
 }
 
 # The files of some folders that git tracks, below another folder, but for those that a pattern names.
@@ -105,11 +108,11 @@ lay_out() {
     local root=$1 documents=$1/share/doc/$NAME modules=$1/lib/$NAME
     install -D -m 755 "$program" "$root/bin/metis"
     lay_tracked "$modules" '/(tests|try_[a-z_]*\.py$)' importers exporters
-    install_command "$root/bin/metis-import" importers
-    install_command "$root/bin/metis-show" "importers show"
-    [ ! -d "$top/exporters" ] || install_command "$root/bin/metis-export" exporters
     install -D -m 644 "$top/docs/metis.1" "$root/share/man/man1/metis.1"
     gzip -9n "$root/share/man/man1/metis.1"
+    install_command "$root" metis-import importers
+    install_command "$root" metis-show "importers show"
+    [ ! -d "$top/exporters" ] || install_command "$root" metis-export exporters
     install -D -m 644 "$top/completion/metis.bash" "$root/share/bash-completion/completions/metis"
     install -D -m 644 "$top/completion/_metis" "$root/share/zsh/vendor-completions/_metis"
     lay_tracked "$documents" '^docs/metis\.1$' README.md CONTRIBUTING.md CHANGELOG.md docs examples
