@@ -13,6 +13,7 @@ import copy
 import json
 import pathlib
 import random
+import re
 import subprocess
 import sys
 
@@ -25,7 +26,9 @@ from importers.universe import read_document
 SIDE_BY_SIDE = 2
 NAMES = ("a", "b", "on", "off", "sql", "http", "x/y", "a-b", "v1.2", "u@h", "_", "port", "A" * 64)
 # What may stand where something else is due.
-JUNK = (None, True, 0, 1, 2, 3, 16, 17, -1, 1.0, 1e300, 2**64, 2**64 - 1, "", "a b", "é", "a:b", "A" * 65, "on", [], {}, ["on"], [1], {"port": "sql", "count": 2})
+NUMBERS = (0, 1, 2, 3, 16, 17, -1, 1.0, 1e300, 2**64, 2**64 - 1)
+JUNK = (None, True, *NUMBERS, "", "a b", "é", "a:b", "A" * 65, "on", [], {}, ["on"], [1], {"port": "sql", "count": 2})
+FORMS_OF_NUMBERS = (*map(str, NUMBERS), "-0", "1e0", "01", "+1", "1.", "-", "1e999")
 CHARACTERS = '{}[]",:\\/ \n\t\r0123456789-+.eEaunltf\x00\x1f\x7fé\U0001f600\ufeff#\''
 KINDS = {f"U{number}" for number in range(1, 14)} | {f"U12 {what}" for what in ("states", "requires", "pairs", "ports")}
 
@@ -108,13 +111,14 @@ def damage_limit(draw, value):
         value["types"] += [{"name": f"t{at}", "initial": "s0", "states": states} for at in range(several - 24)]
     else:
         for at in range(several - 24):
-            value["types"].append({"name": f"t{at}", "initial": "s", "states": [{"name": "s", "provide": [f"p{at}.{each}" for each in range(100)]}]})
+            states = [{"name": "s", "provide": [f"p{at}.{each}" for each in range(100)]}]
+            value["types"].append({"name": f"t{at}", "initial": "s", "states": states})
 
 
 def damage_text(draw, text):
-    """Takes a character away, puts one in, changes two, repeats a part, or ends the text early."""
+    """Takes a character away, puts one in, changes two, repeats a part, ends early, nests, or writes a number or a text otherwise."""
     place = draw.randrange(len(text) + 1)
-    kind = draw.randrange(7)
+    kind = draw.randrange(8)
     if kind == 0:
         return text[:place] + text[place + 1 :]
     if kind == 1:
@@ -127,8 +131,12 @@ def damage_text(draw, text):
         end = draw.randrange(place, len(text) + 1)
         return text[:end] + text[place:end] + text[end:]
     if kind == 5:
-        depth = draw.choice((120, 126, 127, 130))
+        depth = draw.randrange(118, 130)
         return text.replace('"on"', "[" * depth + "]" * depth, 1)
+    numbers = list(re.finditer(r"(?<=:)( ?)[0-9]+", text))
+    if kind == 6 and numbers:
+        found = draw.choice(numbers)
+        return text[: found.start()] + draw.choice(FORMS_OF_NUMBERS) + text[found.end() :]
     escape = draw.choice(("\\u006f", "\\ud83d\\ude00", "\\ud83d", "\\udc00", "\\x", "\\n", "\\/", "\\u00g0"))
     return text.replace('"o', f'"{escape}', draw.randrange(1, 4))
 
@@ -182,7 +190,8 @@ def try_documents(program, count, draw, pool):
         said = f"{faults[0].line}\n" if faults else None
         if (status, text) != (3, said) if faults else status:
             wrong.append(f"check says {said!r} where print has status {status}, {text[:80]!r}:\n{data[:400]!r}")
-        wrong += [f"no value stands at {it.at}, where check sees {it.line}:\n{data[:400]!r}" for it in faults if not is_at_a_value(data, it)]
+        lost = [it for it in faults if not is_at_a_value(data, it)]
+        wrong += [f"no value stands at {it.at}, where check sees {it.line}:\n{data[:400]!r}" for it in lost]
         met.update(kinds_of(text) if status == 3 else ["taken"])
     return wrong, met
 
@@ -213,7 +222,8 @@ def main():
     draw = random.Random(arguments.seed)
     with concurrent.futures.ThreadPoolExecutor(SIDE_BY_SIDE) as pool:
         wrong, met = try_documents(arguments.program, arguments.documents, draw, pool)
-        print(f"{arguments.documents} documents: {len(wrong)} otherwise; " + ", ".join(f"{kind} {met[kind]}" for kind in sorted(met)))
+        counts = ", ".join(f"{kind} {met[kind]}" for kind in sorted(met))
+        print(f"{arguments.documents} documents: {len(wrong)} otherwise; {counts}")
         wrong += [f"never met: {kind}" for kind in sorted(KINDS - set(met)) if arguments.documents]
         other = list(try_sketches(arguments.program, arguments.universes, draw, pool))
         print(f"{arguments.universes} universes and the examples to a sketch and back: {len(other)} otherwise")
