@@ -159,7 +159,8 @@ def of_the_words() -> Iterator[str]:
     lines = readme.split("<details>")[0].count("\n")
     if lines > LINES_OF_README:
         yield f"README.md: {lines} lines before its last part, more than {LINES_OF_README}"
-    newest = re.search(r"(?m)^## (\S+)$", (TOP / "CHANGELOG.md").read_text())
+    # What has no number yet stands above.
+    newest = re.search(r"(?m)^## (\d\S*)$", (TOP / "CHANGELOG.md").read_text())
     yield from unequal("CHANGELOG.md", "the version", newest and newest[1], (TOP / "VERSION").read_text().strip())
 
 
