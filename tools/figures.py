@@ -134,11 +134,12 @@ def of_the_importers(program: pathlib.Path) -> Iterator[str]:
     found = sought("README.md", r"Plans for (\d+) packages of Debian, and for (\d+) drawn at random")
     yield from unequal("README.md", "packages", found and tuple(map(int, found.groups())), drawn and (len(rows), int(drawn[1])))
     found = sought("README.md", r"brings (\d+) packages in order")
-    yield from unequal("README.md", "packages of wordpress", found and found[1], rows["wordpress"].split(" | ")[0])
+    figures = {package: row.split(" | ") for package, row in rows.items()}
+    yield from unequal("README.md", "packages of wordpress", found and found[1], figures.get("wordpress", [None])[0])
     for package in ("lvm2", "wordpress"):
         words = [program, "plan", TOP / "examples" / f"{package}.json", f"port:{package}"]
         head = subprocess.run(words, capture_output=True, text=True, check=False).stdout.split()
-        yield from unequal(name, f"actions of {package}", rows[package].split(" | ")[2], head[6] if len(head) > 6 else None)
+        yield from unequal(name, f"actions of {package}", figures.get(package, [None])[-1], head[6] if len(head) > 6 else None)
 
 
 def of_the_limits() -> Iterator[str]:
