@@ -7,11 +7,11 @@ their plan is named.
 import argparse
 import json
 import re
-import sys
 from collections.abc import Iterator
 
 from importers import over_plans, texts
 from importers.document import Refused
+from importers.sketch import bytes_of
 
 # As many as Metis reads of a plan.
 MOST_BYTES = 268_435_456
@@ -174,19 +174,9 @@ SHOWN = {
 }
 
 
-def bytes_of(path: str) -> bytes:
-    try:
-        with sys.stdin.buffer if path == "-" else open(path, "rb") as file:
-            return file.read(MOST_BYTES + 1)
-    except OSError as fault:
-        raise Refused(f"{path}: {fault.strerror}") from None
-
-
 def text_of(path: str) -> str:
     """A text of Metis, which has the printable bytes of ASCII and line feeds alone."""
-    found = bytes_of(path)
-    if len(found) > MOST_BYTES:
-        raise Refused(f"{path}: more than {MOST_BYTES} bytes")
+    found = bytes_of(path, MOST_BYTES)
     other = OTHER_BYTE.search(found)
     if other:
         line = found.count(b"\n", 0, other.start()) + 1

@@ -250,12 +250,15 @@ def sketched(rows: Rows) -> str:
 
 
 def bytes_of(path: str, most: int = document.MOST_BYTES) -> bytes:
-    """What is in a file or on standard input, and at most one byte more than is taken."""
+    """What is in a file or on standard input, where it is not longer than is taken."""
     try:
         with sys.stdin.buffer if path == "-" else open(path, "rb") as file:
-            return file.read(most + 1)
+            found = file.read(most + 1)
     except OSError as fault:
         raise Refused(f"{path}: {fault.strerror}") from None
+    if len(found) > most:
+        raise Refused(f"{path}: more than {most} bytes")
+    return found
 
 
 def rows_of(path: str, reading: Reading) -> Rows:
@@ -276,10 +279,7 @@ def add_arguments(parser: argparse.ArgumentParser) -> None:
 def run(arguments: argparse.Namespace) -> tuple[str, list[str]]:
     if arguments.universe is not None:
         return sketched(rows_of(arguments.universe, read_document(bytes_of(arguments.universe)))), []
-    data = bytes_of(arguments.file)
-    if len(data) > document.MOST_BYTES:
-        raise Refused(f"{arguments.file}: more than {document.MOST_BYTES} bytes")
-    text = written(rows_of(arguments.file, read_sketch(data)))
+    text = written(rows_of(arguments.file, read_sketch(bytes_of(arguments.file))))
     if len(text) > document.MOST_BYTES:
         raise Refused(f"the document has {len(text)} bytes, and Metis takes at most {document.MOST_BYTES}")
     return text, []
