@@ -256,6 +256,8 @@ def bytes_of(path: str, most: int = document.MOST_BYTES) -> bytes:
             found = file.read(most + 1)
     except OSError as fault:
         raise Refused(f"{path}: {fault.strerror}") from None
+    except AttributeError:
+        raise Refused("standard input is closed") from None
     if len(found) > most:
         raise Refused(f"{path}: more than {most} bytes")
     return found
