@@ -91,9 +91,9 @@ def of_the_gate() -> Iterator[str]:
     yield from unequal(name, "minutes of the columns", found and tuple(map(int, found.groups())), sums)
     found = sought(name, r"stands, took (\d+)\.")
     yield from unequal(name, "the dearest proof", found and int(found[1]), max(int(row[1]) for row in rows))
-    found = sought(name, r"An edit takes (\d+) seconds on average")
-    average = round(column([row[3] for row in rows]) / counts_of_sources()[1])
-    yield from unequal(name, "seconds of an edit", found and int(found[1]), average)
+    found = sought(name, r"That was for (\d+) edits, which is (\d+) seconds for each")
+    average = round(column([row[3] for row in rows]) / int(found[1])) if found else None
+    yield from unequal(name, "seconds of an edit", found and int(found[2]), average)
 
 
 def of_the_kit() -> Iterator[str]:
