@@ -152,9 +152,9 @@ Description: planner for the deployment of components, proved
  those that they wait for, or a refusal that anyone can check. It also
  replays, audits, times, places, rolls out and carries out plans.
  .
- The planner needs libc6 $(wanted_libc) or later and nothing else. The importers, which
- make universes of packages, Compose projects and systemd's targets, need
- Python 3.11.
+ The planner needs libc6 $(wanted_libc) or later and nothing else. The commands beside
+ it, which make universes of packages, Compose projects and systemd's targets,
+ and show plans, need Python 3.11.
 CONTROL
     (cd "$root" && find usr -type f -exec md5sum {} + | LC_ALL=C sort -k 2 >DEBIAN/md5sums)
     dpkg-deb --root-owner-group --build "$root" "$made/${NAME}_${version}_$architecture.deb" >/dev/null
