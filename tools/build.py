@@ -31,13 +31,12 @@ def read_lines() -> dict[str, str]:
     return {line.split(":")[0].split()[0]: line for line in lines if line}
 
 
-def below(lines, crate):
-    """The crate and all crates of the repository that it stands on, lowest first."""
-    found = []
+def below(lines, crate, found=()):
+    """All crates of the repository that the crate stands on, and it, behind those that were found before; lowest first."""
     for lower in lines[crate].split(":", 1)[1].split():
-        if lower in lines:
-            found += [it for it in below(lines, lower) if it not in found]
-    return [*found, crate]
+        if lower in lines and lower not in found:
+            found = below(lines, lower, found)
+    return (*found, crate)
 
 
 def copy_sources(lines, crates, room):
