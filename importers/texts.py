@@ -275,3 +275,19 @@ def random_order(plan, random):
             if waits_for[other] == 0:
                 ready.append(other)
     return order
+
+
+def in_words(action):
+    """An action in words, as `Web#0 takes sql from Db#1`."""
+    who = f"{action.type}#{action.instance}"
+    words = action.words
+    if action.verb == "new":
+        return f"make {who}"
+    if action.verb == "delete":
+        return f"delete {who}"
+    if action.verb == "move":
+        return f"{who}: {words[1]} -> {words[2]}"
+    provider = f"{action.provider_type}#{action.provider}"
+    if action.verb == "bind":
+        return f"{who} takes {words[0]} from {provider}"
+    return f"{who} lets {words[0]} of {provider} go"
