@@ -1,6 +1,7 @@
 """python3 -m exporters make|ninja|done|split|dot|gantt|mermaid ..: carries a plan further (see README.md beside this file)."""
 
 import argparse
+import gc
 import importlib
 import os
 import sys
@@ -59,4 +60,5 @@ def main() -> int:
 
 
 if __name__ == "__main__":
+    gc.disable()  # of a large plan nothing becomes garbage, and looking for it takes a third of the time
     sys.exit(main())

@@ -2,6 +2,7 @@
 
 import argparse
 import dataclasses
+import functools
 import hashlib
 from collections.abc import Callable, Iterable, Iterator
 
@@ -56,9 +57,14 @@ class Export:
     rules: tuple[Rule | None, ...]  # of the steps
     rollouts: tuple[Rollout, ...] = ()
 
+    @functools.cached_property
+    def plan_text(self) -> str:
+        return written(self.plan)
+
+    @functools.cached_property
     def digest(self) -> str:
         """What tells this export from another one into the same folder."""
-        parts = (written(self.plan), self.commands, sorted(self.hosts.items()), self.rollouts)
+        parts = (self.plan_text, self.commands, sorted(self.hosts.items()), self.rollouts)
         return hashlib.sha256("\n".join(map(str, parts)).encode()).hexdigest()[:DIGEST_LENGTH]
 
     def host(self, instance: int) -> str:

@@ -45,7 +45,7 @@ def makefile(found: Export) -> Iterator[str]:
     if row > MOST_IN_A_ROW:
         raise Refused(f"{row} actions wait one for the other, and make is good for {MOST_IN_A_ROW}: use ninja")
     instances = sum(step.action.verb == "new" for step in found.steps)
-    yield HEAD.format(actions=len(found.steps), instances=instances, digest=found.digest())
+    yield HEAD.format(actions=len(found.steps), instances=instances, digest=found.digest)
     yield f"all: |{marks(ends_of(found.steps))}\nMakefile: ;\n\n"
     for place, rollout in enumerate(found.rollouts, 1):
         old, fresh = found.steps[: rollout.old], found.steps[rollout.old : rollout.fresh]

@@ -41,7 +41,7 @@ def run(arguments: argparse.Namespace) -> tuple[str, list[str]]:
 
 
 def ninja_file(found: Export) -> Iterator[str]:
-    yield HEAD.format(actions=len(found.steps), digest=found.digest())
+    yield HEAD.format(actions=len(found.steps), digest=found.digest)
     jobs = list(found.jobs())
     for pool in sorted({pool_of(found, job) for job in jobs if job.rule and job.rule.lock}):
         yield f"pool {pool}\n  depth = 1\n"

@@ -6,7 +6,7 @@ import shlex
 from typing import TYPE_CHECKING
 
 from exporters.commands import Commands
-from exporters.folder import STEPS, Folder, written
+from exporters.folder import STEPS, Folder
 from exporters.inputs import write_whole
 from importers.document import Refused
 
@@ -26,9 +26,9 @@ def write_folder(folder: Folder, export: "Export", name: str, text: str) -> None
     write_steps(folder.path / STEPS, export.commands)
     write_whole(folder.path / RUN, script(export))
     make_executable(folder.path / RUN)
-    folder.write_plan(written(export.plan), export.rollouts)
+    folder.write_plan(export.plan_text, export.rollouts)
     write_whole(folder.path / name, text)
-    folder.drop_engines(but=name, digest=export.digest())
+    folder.drop_engines(but=name, digest=export.digest)
 
 
 def make_executable(path: pathlib.Path) -> None:
@@ -59,7 +59,7 @@ def script(export: "Export") -> str:
     hosts = commands.hosts.values()
     filled = {
         "ACTIONS": str(len(export.steps)),
-        "EXPORT": export.digest(),
+        "EXPORT": export.digest,
         "RULES": "".join(rules),
         "HOSTS": "".join(
             f'  {host.name}) exec timeout -k 10 $((limit ? limit + {GRACE} : 0)) {shlex.join(host.via)} "$@" ;;\n'
