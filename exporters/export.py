@@ -93,19 +93,17 @@ def run(arguments: argparse.Namespace, name: str, text_of: Callable[[Export], It
     """Writes the plan into its folder, with the file of this name that an engine reads."""
     folder = Folder(arguments.to)
     handed, notes = handed_in(arguments)
-    is_new = not folder.has_plan()
-    if is_new:
+    if folder.has_plan():
+        folder.make()
+        with folder.held():
+            origin = origin_there(folder, handed.plan, handed.steps, arguments)
+            write_folder(folder, *whole(handed, origin, text_of), name)
+    else:
         folder.check_empty()
         origin = origin_of_new(handed.plan, handed.steps, arguments)
         export, text = whole(handed, origin, text_of)
-    folder.make()
-    with folder.held():
-        if is_new and folder.has_plan():
-            raise Refused(f"{folder.path}: somebody else has just written it")
-        if not is_new:
-            origin = origin_there(folder, handed.plan, handed.steps, arguments)
-            export, text = whole(handed, origin, text_of)
-        write_folder(folder, export, name, text)
+        with folder.made():
+            write_folder(folder, export, text, name)
     return "", [*origin.notes, *notes]
 
 

@@ -6,6 +6,7 @@ import fcntl
 import os
 import pathlib
 import re
+import shutil
 from collections.abc import Iterable, Iterator, Sequence
 
 from exporters.inputs import read_plan, read_text, write_whole
@@ -69,6 +70,20 @@ class Folder:
             except BlockingIOError:
                 raise Refused(f"{self.path}: a step of its plan is being done, or somebody else writes it") from None
             yield
+
+    @contextlib.contextmanager
+    def made(self) -> Iterator[None]:
+        """While a new folder is written; where that cannot be done, nothing of it stays."""
+        self.make()
+        with self.held():
+            if self.has_plan():
+                raise Refused(f"{self.path}: somebody else has just written it")
+            try:
+                yield
+            except BaseException:
+                for path in self.path.iterdir():
+                    shutil.rmtree(path) if path.is_dir() else path.unlink()
+                raise
 
     def plan(self) -> texts.Plan:
         return read_plan(str(self.path / PLAN))

@@ -21,11 +21,11 @@ HOLE = re.compile(r"@([A-Z]+)@(\n?)")
 WITHOUT_LOCKS = "exec 7>&- 8>&- 9>&-"
 
 
-def write_folder(folder: Folder, export: "Export", name: str, text: str) -> None:
-    """The file that an engine reads comes last: until it is there, `run` refuses what the one before it says."""
-    write_steps(folder.path / STEPS, export.commands)
+def write_folder(folder: Folder, export: "Export", text: str, name: str) -> None:
+    """`run` comes first and what an engine reads comes last: until all is there, the one refuses what the other says."""
     write_whole(folder.path / RUN, script(export))
     make_executable(folder.path / RUN)
+    write_steps(folder.path / STEPS, export.commands)
     folder.write_plan(export.plan_text, export.rollouts)
     write_whole(folder.path / name, text)
     folder.drop_engines(but=name, digest=export.digest)

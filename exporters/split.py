@@ -4,6 +4,7 @@
 """
 
 import argparse
+import pathlib
 import shutil
 from collections.abc import Iterable, Sequence
 
@@ -56,12 +57,15 @@ def names_of(step: Step) -> tuple[str, ...]:
 def write_new(folder: Folder, new: Folder, names: Iterable[str], plan: str) -> None:
     """The folder of what is new, as a whole or not at all."""
     new.check_empty()
-    try:
-        new.make()
+    with new.made():
         for name in names:
             if (folder.path / name).exists():
-                shutil.copy2(folder.path / name, new.path / name)
+                copy(folder.path / name, new.path / name)
         new.write_plan(plan, ())
-    except (OSError, Refused) as fault:
-        shutil.rmtree(new.path, ignore_errors=True)
-        raise fault if isinstance(fault, Refused) else Refused(f"{new.path}: {fault.strerror}") from fault
+
+
+def copy(source: pathlib.Path, target: pathlib.Path) -> None:
+    try:
+        shutil.copy2(source, target)
+    except OSError as fault:
+        raise Refused(f"{target}: {fault.strerror}") from fault
