@@ -11,7 +11,7 @@ from exporters.folder import Folder, written
 from exporters.inputs import read_plan, read_text
 from exporters.origin import Origin, origin_of_new, origin_there
 from exporters.patterns import subject
-from exporters.placement import read_placement
+from exporters.placement import Placement, read_placement
 from exporters.rollouts import Rollout
 from exporters.script import write_folder
 from exporters.steps import Step, steps_of
@@ -118,18 +118,19 @@ def handed_in(arguments: argparse.Namespace) -> tuple[Export, list[str]]:
     plan = read_plan(arguments.plan)
     steps = steps_of(plan, arguments.plan)
     commands = read_commands(arguments.commands)
-    if arguments.universe:
-        commands.check_fits(set(subjects(types_of(read_text(arguments.universe), arguments.universe))))
-    hosts: dict[int, str] = {}
-    if arguments.placement:
-        placement = read_placement(arguments.placement, plan)
+    placement = read_placement(arguments.placement, plan) if arguments.placement else Placement({}, {})
+    types = types_of(read_text(arguments.universe), arguments.universe) if arguments.universe else None
+    try:
         commands.check_hosts(placement.hosts.values())
-        steps, hosts = placement.held(steps), placement.hosts
+        if types is not None:
+            commands.check_fits(set(subjects(types)))
+    except Refused as refused:
+        raise Refused(f"{arguments.commands}: {refused}") from refused
     rules, without = rules_of(steps, commands)
     if without and arguments.strict:
         raise Refused(f"{arguments.commands}: no step fits {kinds_of(without)}")
     notes = [f"nothing is done for {kinds_of(without)}: no step of the commands fits"] if without else []
-    return Export(plan, steps, commands, hosts, rules), notes
+    return Export(plan, placement.held(steps), commands, placement.hosts, rules), notes
 
 
 def rules_of(steps: Iterable[Step], commands: Commands) -> tuple[tuple[Rule | None, ...], dict[str, int]]:

@@ -94,6 +94,12 @@ class Root:
         (self.path / "etc/blog").mkdir(mode=0o700)
         (self.path / "etc/blog/admin-password").write_text(f"{PASSWORD}\n")
 
+    def settle(self) -> None:
+        """Whether apt can work here: the machine's own dpkg may have been at work when the root was made."""
+        for words in (["dpkg", "--configure", "-a"], ["apt-get", "-q", "-y", "--fix-broken", "install"], ["apt-get", "check"]):
+            done = self.inside("env", "DEBIAN_FRONTEND=noninteractive", *words)
+        expect(done.returncode == 0, done.stdout)
+
     def __exit__(self, *_: object) -> None:
         for process in self.processes():
             with contextlib.suppress(ProcessLookupError):
@@ -175,6 +181,12 @@ class Watcher:
     def __enter__(self) -> "Watcher":
         self.thread.start()
         return self
+
+    def settle(self) -> None:
+        """Whether apt can work here: the machine's own dpkg may have been at work when the root was made."""
+        for words in (["dpkg", "--configure", "-a"], ["apt-get", "-q", "-y", "--fix-broken", "install"], ["apt-get", "check"]):
+            done = self.inside("env", "DEBIAN_FRONTEND=noninteractive", *words)
+        expect(done.returncode == 0, done.stdout)
 
     def __exit__(self, *_: object) -> None:
         self.is_over.set()
@@ -275,10 +287,11 @@ class Blog:
 def check_nothing_is_left(root: Root, packages: list[str]) -> None:
     left = [str(path) for path in (root.path / "var/lib/blog").iterdir() if path.name != "users" or any(path.iterdir())]
     names = {line.split()[0] for line in packages}
-    kept = [line for line in root.packages() if line.split()[0] not in names and line.endswith("ii ")]
+    kept = [line.split()[0] for line in root.packages() if line.split()[0] not in names]
+    services = [name for name in kept if re.match("haproxy|apache2|libapache2|mariadb|wordpress|php", name)]
     processes = [process.number for process in root.processes()]
-    say(f"left: {len(processes)} processes, {len(left)} folders, and {len(kept)} packages on which the four depended")
-    services = [line for line in kept if re.match(r"(haproxy|apache2|libapache2-mod-php|mariadb-server|wordpress) ", line)]
+    say(f"left: {len(processes)} processes, {len(left)} folders, {len(services)} packages of the services")
+    say(f"left by apt, since something else suggests them: {' '.join(kept) or 'nothing'}")
     expect(not processes and not left and not services, f"{processes} {left} {services}")
 
 
@@ -292,6 +305,7 @@ def main() -> int:
     texts = pathlib.Path(tempfile.mkdtemp())
     try:
         with Root(place) as root:
+            root.settle()
             packages = root.packages()
             blog = Blog(arguments.metis, root, texts)
             blog.comes_up(arguments.chart)

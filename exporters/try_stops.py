@@ -36,7 +36,7 @@ COMMANDS = """
 [[step]]
 when = "Pausing: new"
 retries = 1
-pause = 2
+pause = 3
 run = '[ -n "$(find done -name "0.1")" ] || [ -e {top}/again ] || exit 1; echo "$METIS_ACTION" >>{top}/trace'
 [[step]]
 when = "Locked: new"
@@ -65,13 +65,16 @@ class Stopped:
             time.sleep(AT_ONCE)
             before = self.running()
             (os.killpg if to_group else os.kill)(run.pid, sent)
+            sent_at = time.monotonic()
             run.wait()
+            took = time.monotonic() - sent_at
         time.sleep(AT_ONCE)
         left, marks = self.running(), self.marks()
         expect(before >= ACTIONS, f"only {before} processes were running")
         if sent == signal.SIGKILL:
             self.wait_for_the_end()
         else:
+            expect(took < 1, f"it took {took:.1f} s to stop")
             expect(left == 0, f"{left} processes are left")
             expect(marks == 0 and not self.trace(), f"{marks} marks, {self.trace()}")
         done = len(self.trace())
@@ -80,7 +83,7 @@ class Stopped:
         expect(resumed.returncode == 0, resumed.stdout)
         lines = self.trace()
         expect(sorted(lines) == sorted(set(lines)) and len(lines) == ACTIONS == self.marks(), lines)
-        return f"{before} processes ran, {left} were left after a second; {done} steps ended by themselves, {ACTIONS - done} in the next run"
+        return f"{before} processes ran, and ended within {took:.1f} s but for {left}; {done} steps ended by themselves, {ACTIONS - done} in the next run"
 
     def running(self) -> int:
         """How many processes work in the folder, without the engine."""

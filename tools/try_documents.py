@@ -1,5 +1,5 @@
 #!/usr/bin/env python3
-"""Tries the commands that README, TUTORIAL, MODELLING and IMPORTERS show, and compares what they print, byte for byte.
+"""Tries the commands that README, TUTORIAL, MODELLING, IMPORTERS and EXPORTERS show, and compares what they print, byte for byte.
 
     tools/try_documents.py [PROGRAM] [--try]
 
@@ -7,7 +7,8 @@ PROGRAM is the built program, crates/metis/out/metis where none is given. In a p
 after the other in one shell; the lines up to the next one are what is printed, where a line `...` stands for any lines.
 The status is 0, or what a comment `# status N` behind the command says. A block behind the words "into `NAME`:" is
 written into that file. `./try` is the program itself, and with --try the real script, which builds it anew. Commands of
-the kit, `rt`, are listed and not run, and so are importers where their source is not there: Debian's index, PyYAML, units.
+the kit, `rt`, are listed and not run, and so are importers where their source is not there (Debian's index, PyYAML, units), and
+Graphviz. Plans are carried out by make, which has to be there.
 
 It also looks up the laws that pages cite, their links, README's length, the list of docs/HEADLINE.md, and the lines that
 a page shows as a diff: those behind `+` stand in the file named above them, in this order. It ends with status 1 where
@@ -23,7 +24,7 @@ import sys
 import tempfile
 
 TOP = pathlib.Path(__file__).resolve().parent.parent
-PAGES = ("README.md", "docs/TUTORIAL.md", "docs/MODELLING.md", "docs/IMPORTERS.md")
+PAGES = ("README.md", "docs/TUTORIAL.md", "docs/MODELLING.md", "docs/IMPORTERS.md", "docs/EXPORTERS.md")
 LINES_OF_README = 200
 INDENT = "    "
 INTO_FILE = re.compile(r"into\s+`([^`]+)`:$")
@@ -34,6 +35,7 @@ NEEDS = (
     (re.compile(r"^(PYTHONPATH=\.\. )?python3 -m importers debian "), lambda: bool(shutil.which("apt-cache")) and bool(run_out("apt-cache", "dumpavail"))),
     (re.compile(r"^(PYTHONPATH=\.\. )?python3 -m importers compose .*\.ya?ml"), lambda: importlib.util.find_spec("yaml") is not None),
     (re.compile(r"^(PYTHONPATH=\.\. )?python3 -m importers systemd "), lambda: pathlib.Path("/lib/systemd/system").is_dir()),
+    (re.compile(r"^dot "), lambda: bool(shutil.which("dot"))),
 )
 # A command that a page shows without trying it.
 SHOWN = re.compile(r"^(\./)?(metis|try) (plan|replay|refute|audit|why|confirm|sim|crew|waves|control|rollout|place|print|load) ")
@@ -110,7 +112,7 @@ def steps_of(name):
 
 def lay_out(folder, program, real_try):
     """What a reader has in the top folder, with the program in place of the scripts that would build it."""
-    for name in ("examples", "importers", "tools"):
+    for name in ("examples", "exporters", "importers", "tools"):
         (folder / name).symlink_to(TOP / name)
     for name in ("metis", "try"):
         script = TOP / "try" if name == "try" and real_try else program

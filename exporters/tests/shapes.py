@@ -58,6 +58,7 @@ end
 )
 TAKEN_DOWN = WEB.replace("actions 5", "actions 7").replace("end\n", "6 delete 0\n7 delete 1 after 6\nend\n")
 LINE = 'echo "$METIS_ACTION $METIS_NAME $METIS_VERB ${METIS_PROVIDER_NAME-} [$METIS_BOUND] $METIS_HOST $METIS_ADDRESS ${VIA-}" >>"$TRACE"\n'
+NEEDED = ("make", "flock", "timeout")
 WHENS = ("*: new", "*: delete", "*: bind *", "*: unbind *", "*: * -> *")
 HEAD = """
 [env]
@@ -96,6 +97,8 @@ class FolderCase(unittest.TestCase):
     """A test with a folder `f`, to which plans are exported, and a trace that their steps write."""
 
     def setUp(self):
+        if not all(map(shutil.which, NEEDED)):
+            self.skipTest(f"{', '.join(NEEDED)} are not all there")
         self.top = pathlib.Path(tempfile.mkdtemp())
         self.addCleanup(shutil.rmtree, self.top)
         self.folder = self.top / "f"
