@@ -7,7 +7,8 @@ PROGRAM is the built program, crates/metis/out/metis where none is given. In a p
 after the other in one shell; the lines up to the next one are what is printed, where a line `...` stands for any lines.
 The status is 0, or what a comment `# status N` behind the command says. A block behind the words "into `NAME`:" is
 written into that file. Commands that prove, install or show a manual are listed and not run, and so are importers where
-their source is not there: Debian's index, PyYAML, units. What a page has written stands in .gitignore.
+their source is not there (Debian's index, PyYAML, units), and Graphviz. Plans are carried out by make, which has to be
+there. What a page has written stands in .gitignore.
 
 It also looks up the laws that pages cite, their links, their figures (tools/figures.py), the list of docs/HEADLINE.md, and
 the lines that a page shows as a diff: those behind `+` stand in the file named above them, in this order. It ends with
@@ -27,10 +28,10 @@ import tempfile
 import figures
 
 TOP = pathlib.Path(__file__).resolve().parent.parent
-PAGES = ("README.md", "docs/TUTORIAL.md", "docs/MODELLING.md", "docs/IMPORTERS.md")
+PAGES = ("README.md", "docs/TUTORIAL.md", "docs/MODELLING.md", "docs/IMPORTERS.md", "docs/EXPORTERS.md")
 # In it commands have the names that the package gives them, and their statuses are not shown.
 MANUAL = "docs/metis.1"
-OF_THE_PACKAGE = {"metis-import": "importers", "metis-show": "importers show"}
+OF_THE_PACKAGE = {"metis-import": "importers", "metis-show": "importers show", "metis-export": "exporters"}
 INDENT = "    "
 INTO_FILE = re.compile(r"into\s+`([^`]+)`:$")
 STATUS = re.compile(r"# status (\d+)$")
@@ -40,6 +41,7 @@ NEEDS = (
     (re.compile(r"^(PYTHONPATH=\.\. )?python3 -m importers debian "), lambda: bool(shutil.which("apt-cache")) and bool(run_out("apt-cache", "dumpavail"))),
     (re.compile(r"^(PYTHONPATH=\.\. )?python3 -m importers compose .*\.ya?ml"), lambda: importlib.util.find_spec("yaml") is not None),
     (re.compile(r"^(PYTHONPATH=\.\. )?python3 -m importers systemd "), lambda: pathlib.Path("/lib/systemd/system").is_dir()),
+    (re.compile(r"^dot "), lambda: bool(shutil.which("dot"))),
 )
 # A command that a page shows without trying it.
 SHOWN = re.compile(r"^(\./)?metis (plan|replay|refute|audit|why|confirm|sim|crew|waves|control|rollout|place|print|load) ")
@@ -133,7 +135,7 @@ def steps_of(name):
 
 def lay_out(folder, program):
     """What a reader has in the top folder, with the program in place of the script that would build it."""
-    for name in ("examples", "importers", "tools"):
+    for name in ("examples", "exporters", "importers", "tools"):
         (folder / name).symlink_to(TOP / name)
     write_command(folder / "metis", f'exec "{program}"')
     for name, module in OF_THE_PACKAGE.items():
