@@ -1,6 +1,8 @@
 """A Compose project: its networks, volumes, images and services, and what each service waits for."""
 
+import collections
 import dataclasses
+import functools
 
 from importers.compose_input import COMPLETED, HEALTHY, STARTED, read_project
 from importers.document import RESERVED, ComponentType, Names, Refused, State, document, one_each, two_states
@@ -71,9 +73,14 @@ class Deployment:
                     work += [*self.things(name), *self.needs(name)]
         return found
 
-    def asked(self, name):
-        """The milestones of a service that some other one waits for."""
-        return {self.needs(each).get(name) for each in self.wanted} - {None}
+    @functools.cached_property
+    def asked(self):
+        """For each service its milestones that some other one waits for."""
+        asked = collections.defaultdict(set)
+        for name in self.wanted:
+            for other, milestone in self.needs(name).items():
+                asked[other].add(milestone)
+        return asked
 
 
 class Writer:
@@ -101,7 +108,7 @@ class Writer:
 
     def milestones(self, name):
         """The milestones that a service comes to, later ones last, and whether these are components of their own."""
-        asked = self.deployment.asked(name)
+        asked = self.deployment.asked.get(name, ())
         later = [each for each in (HEALTHY, COMPLETED) if each in asked]
         return later, bool(later) and (STARTED in asked or len(later) > 1)
 

@@ -1,13 +1,11 @@
 """Reads a Compose project, as `docker compose config --format json` prints it, or as a file where PyYAML is there."""
 
 import dataclasses
-import json
-import pathlib
 import re
-import sys
 from typing import NamedTuple
 
 from importers.document import Refused
+from importers.reading import listed, mapping, read_text, value_of
 
 STARTED, HEALTHY, COMPLETED = "started", "healthy", "completed"
 MILESTONES = {
@@ -15,6 +13,7 @@ MILESTONES = {
     "service_healthy": HEALTHY,
     "service_completed_successfully": COMPLETED,
 }
+AS_JSON = "`docker compose config --format json` prints a project as JSON"
 # Sources of a short volume that are folders of the host: a path, or a variable for one.
 HOST_FOLDER = re.compile(r"[./~$\\]|[A-Za-z]:[\\/]")
 
@@ -44,46 +43,8 @@ class Project:
     external: frozenset[str]  # networks and volumes that are not the project's own, as `network/NAME`
 
 
-def read_text(path):
-    try:
-        told = sys.stdin.buffer.read() if path == "-" else pathlib.Path(path).read_bytes()
-        return told.decode("utf-8")
-    except OSError as fault:
-        raise Refused(f"{path}: {fault.strerror}") from fault
-    except UnicodeDecodeError as fault:
-        raise Refused(f"{path}: no UTF-8 text") from fault
-
-
-def value_of(text, path):
-    """The value that a text of JSON, or of YAML, says."""
-    try:
-        return json.loads(text)
-    except RecursionError as fault:
-        raise Refused(f"{path}: nested too deeply") from fault
-    except json.JSONDecodeError:
-        return value_of_yaml(text, path)
-
-
-def value_of_yaml(text, path):
-    try:
-        import yaml
-    except ImportError:
-        raise Refused(
-            f"{path}: no JSON, and PyYAML is not there to read YAML; "
-            "`docker compose config --format json` prints a project as JSON"
-        ) from None
-    try:
-        return yaml.safe_load(text)
-    except yaml.YAMLError as fault:
-        place = getattr(fault, "problem_mark", None)
-        where = f" line {place.line + 1}:" if place else ""
-        raise Refused(f"{path}: no YAML:{where} {getattr(fault, 'problem', None) or 'it cannot be read'}") from fault
-    except (RecursionError, ValueError) as fault:
-        raise Refused(f"{path}: no YAML: {' '.join(str(fault).split())}") from fault
-
-
 def read_project(path):
-    project = value_of(read_text(path), path)
+    project = value_of(read_text(path), path, AS_JSON)
     if not isinstance(project, dict) or not mapping(project, "services", path):
         raise Refused(f"{path}: no Compose project, since it has no services")
     if "include" in project:
@@ -97,26 +58,6 @@ def read_project(path):
     told_services = {str(name): told for name, told in mapping(project, "services", path).items()}
     services = {name: service_of(name, told_services[name], project) for name in sorted(told_services)}
     return Project(str(project.get("name", "")), services, frozenset(external))
-
-
-def mapping(owner, key, where):
-    """The mapping under a key, empty where there is none."""
-    found = owner.get(key)
-    if found is None:
-        return {}
-    if not isinstance(found, dict):
-        raise Refused(f"{where}: '{key}' is no mapping")
-    return found
-
-
-def listed(owner, key, where):
-    """The list under a key, empty where there is none."""
-    found = owner.get(key)
-    if found is None:
-        return []
-    if not isinstance(found, list):
-        raise Refused(f"{where}: '{key}' is no list")
-    return found
 
 
 def service_of(name, told, project):
@@ -193,7 +134,7 @@ def needs_of(name, told):
     for other in depends:
         each = mapping(depends, other, f"{where}, depends_on")
         condition = each.get("condition", "service_started")
-        if condition not in MILESTONES:
+        if not isinstance(condition, str) or condition not in MILESTONES:
             raise Refused(f"{where}: no condition {condition}, for {other}")
         needs[str(other)] = Need(MILESTONES[condition], each.get("required", True) is not False)
     for other in implied(told, where):

@@ -5,7 +5,7 @@ import functools
 from typing import NamedTuple
 
 from importers.control import alternatives, relation
-from importers.document import Refused
+from importers.document import MOST_PAIRS, Refused
 from importers.packages import BARS, NEEDS, RECOMMENDS, source_of, version_of
 
 IN_WORDS = {"<<": "below", "<": "up-to", "<=": "up-to", "=": "exactly", ">=": "from", ">": "from", ">>": "above"}
@@ -164,6 +164,8 @@ class Installation:
             name = work.popleft()
             if name in self.chosen:
                 continue
+            if len(self.chosen) > MOST_PAIRS:
+                raise Refused(f"more than {MOST_PAIRS} packages, and Metis takes at most {MOST_PAIRS} pairs of type and state")
             if self.choices.index.fault(name):
                 raise Refused(f"package {name}: {self.choices.index.fault(name)}")
             self.chosen[name] = None

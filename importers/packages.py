@@ -114,13 +114,9 @@ class Pool:
         """The packages that meet a relation: that of the name, and then those that provide it, by name."""
         if wanted.architecture not in self.architectures:
             return []
-        found = []
-        if wanted.name in self.packages and self.allows(wanted):
-            found.append(wanted.name)
-        for name, version in self.providers.get(wanted.name, ()):
-            if wanted.allows(version) and name not in found:
-                found.append(name)
-        return found
+        own = [wanted.name] if wanted.name in self.packages and self.allows(wanted) else []
+        providing = (name for name, version in self.providers.get(wanted.name, ()) if wanted.allows(version))
+        return list(dict.fromkeys([*own, *providing]))
 
     def allows(self, wanted):
         """Whether a relation allows the version of its package; one that is none meets what names no version."""
