@@ -48,7 +48,7 @@ libip4tc2 libpcre2-8-0 libdevmapper1.02.1 libargon2-1 libjson-c5 libuuid1 libcap
 """.split()
 COMMON = """
 dbus dbus-system-bus-common dmeventd udev systemd-sysv systemd-timesyncd systemd-resolved systemd-container systemd-oomd cron rsyslog apt man-db
-util-linux e2fsprogs logrotate apparmor auditd openssh-server ufw nftables chrony unattended-upgrades sysstat lvm2 mdadm
+util-linux e2fsprogs logrotate apparmor auditd openssh-server ufw nftables unattended-upgrades sysstat lvm2 mdadm
 smartmontools acpid irqbalance polkitd dbus-user-session kmod procps console-setup keyboard-configuration plymouth
 fwupd udisks2 nfs-common rpcbind samba winbind wpasupplicant anacron ifupdown
 """.split()
@@ -65,7 +65,7 @@ kea-dhcp4-server influxdb gdnsd stunnel4 tinyproxy privoxy ganeti iscsid targetc
 """.split()
 DESKTOP = """
 gdm3 lightdm sddm network-manager modemmanager bluez cups-daemon cups-browsed avahi-daemon colord accountsservice
-packagekit upower rtkit bolt geoclue-2.0 thermald tlp power-profiles-daemon switcheroo-control iio-sensor-proxy
+packagekit upower rtkit bolt geoclue-2.0 thermald power-profiles-daemon switcheroo-control iio-sensor-proxy
 usbmuxd pcscd fprintd brltty speech-dispatcher flatpak snapd low-memory-monitor earlyoom zram-tools
 systemd-zram-generator systemd-cron systemd-coredump systemd-homed systemd-userdbd kexec-tools iwd connman
 network-dispatcher networkd-dispatcher openvpn wireguard-tools strongswan-starter tor transmission-daemon minidlna
@@ -73,7 +73,7 @@ mpd pulseaudio pipewire xrdp tigervnc-standalone-server x11-common xserver-xorg-
 kbd apt-config-auto-update apt-listbugs apticron debsums etckeeper fcron btrfsmaintenance btrfs-progs xfsprogs zfs-zed
 zfsutils-linux snapper timeshift rsync nullmailer exim4-base haveged rng-tools5 rng-tools-debian rasdaemon mcelog
 lm-sensors fancontrol nut-server nut-client apcupsd hddtemp hdparm laptop-mode-tools powertop tuned preload uptimed
-vnstat darkstat ntpsec fail2ban firewalld docker.io libvirt-daemon-system qemu-guest-agent spice-vdagent virtualbox-guest-utils
+vnstat darkstat fail2ban docker.io libvirt-daemon-system qemu-guest-agent spice-vdagent virtualbox-guest-utils
 open-vm-tools lxc gpsd usbguard opensnitch kdeconnect xscreensaver acpi-support laptop-detect bluetooth dundee ofono
 """.split()
 

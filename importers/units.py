@@ -128,7 +128,7 @@ class Folders:
         self.notes = []
         places = {folder: self.root.real(folder) for folder in FOLDERS}
         self.places = {place for place in places.values() if place is not None}
-        self.entries = {folder: self.root.names(folder) for folder in FOLDERS}
+        self.entries = {folder: frozenset(self.root.names(folder)) for folder in FOLDERS}
         # Of two folders that are one place the first stands for both.
         firsts = {place: folder for folder, place in reversed(places.items())}
         self.folders = [folder for folder in FOLDERS if firsts.get(places[folder]) == folder]
@@ -233,8 +233,9 @@ class Folders:
         for owners in (*self.owners(name), [kind_of(name)]):
             for folder in self.folders:
                 for owner in owners:
-                    for entry in self.root.names(f"{folder}/{owner}{suffix}"):
-                        found.setdefault(entry, f"{folder}/{owner}{suffix}/{entry}")
+                    if f"{owner}{suffix}" in self.entries[folder]:
+                        for entry in self.root.names(f"{folder}/{owner}{suffix}"):
+                            found.setdefault(entry, f"{folder}/{owner}{suffix}/{entry}")
         return [(entry, path) for entry, path in sorted(found.items()) if not self.is_masked(path)]
 
     def drop_ins(self, name):

@@ -190,6 +190,54 @@ class DebianTest(HostileCase):
         self.assertTrue(all(line.isprintable() for line in said.splitlines()), said)
 
 
+class SystemdTest(HostileCase):
+    def unit(self, name, text):
+        path = self.folder / "etc/systemd/system" / name
+        path.parent.mkdir(parents=True, exist_ok=True)
+        path.write_text(text)
+        return path
+
+    def ended(self, target):
+        return ended("systemd", "--root", self.folder, target)
+
+    def test_names(self):
+        self.unit("t.target", "[Unit]\n")
+        for name in ("../../../../etc/passwd", "t.target/../t.target", "/etc/passwd.service", ESCAPE + ".target", "\udc80.target"):
+            line = self.refused("systemd", "--root", self.folder, name)
+            self.assertTrue(line.startswith("no name of a unit: "), line)
+
+    def test_paths_in_place_of_names(self):
+        names = f"../x.service /etc/x.service {ESCAPE}.service ..service .service a@b@c.service {'x' * 300}.service"
+        self.unit("t.target", f"[Unit]\nDefaultDependencies=no\nWants={names}\nRequires=../y.service\n")
+        status, printed, said = self.ended("t.target")
+        self.assertEqual((status, len(json.loads(printed)["types"])), (0, 2))
+        self.assertTrue(all(line.isprintable() for line in said.splitlines()), said)
+
+    def test_links_that_never_end(self):
+        os.symlink("b.target", self.unit("a", "").parent / "a.target")
+        os.symlink("a.target", self.unit("b", "").parent / "b.target")
+        self.assertEqual(self.refused("systemd", "--root", self.folder, "a.target"), "a.target: a link that leads back to itself")
+
+    def test_no_file(self):
+        for target in ("/dev/zero", "/proc/self/mem", "/"):
+            path = self.unit("x", "").parent / "z.target"
+            path.unlink(missing_ok=True)
+            path.symlink_to(target)
+            self.assertIn("leads to no file that can be read", self.refused("systemd", "--root", self.folder, "z.target"))
+
+    def test_many_names(self):
+        names = " ".join(f"u{number}.service" for number in range(100_000))
+        self.unit("t.target", f"[Unit]\nDefaultDependencies=no\nWants={names}\n")
+        self.assertEqual(self.ended("t.target")[0], 0)
+        for number in range(2_100):
+            self.unit(f"u{number}.service", "[Unit]\nDefaultDependencies=no\n")
+        self.assertEqual(self.refused("systemd", "--root", self.folder, "t.target"), "t.target pulls in more than 2000 units")
+
+    def test_a_long_line(self):
+        self.unit("t.target", "[Unit]\n" + "Wants=\\\n" * 100_000 + "a.service")
+        self.assertEqual(self.ended("t.target")[0], 0)
+
+
 class OutputTest(HostileCase):
     PROJECT = '{"services": {"a": {}}}'
 
