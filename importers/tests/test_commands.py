@@ -44,7 +44,7 @@ class ImportersTest(unittest.TestCase):
                     "",
                     "a cycle of Pre-Depends: a pre-depends on b, which needs a first; the cycle is a, b",
                 ),
-                (["debian", "--index", str(index), "c"], "", "no relation to a package: 'd e'"),
+                (["debian", "--index", str(index), "c"], "", "package c: no relation to a package: 'd e'"),
                 (["compose"], undefined, "service a: it depends on b, which nobody defines"),
                 (["compose"], "[1]", "-: no Compose project, since it has no services"),
                 (["compose", "--given", "b"], undefined.replace('["b"]', "[]"), None),
