@@ -11,7 +11,8 @@ from collections.abc import Iterator
 
 from importers import document
 from importers.document import Refused
-from importers.sketch import bytes_of, read_sketch
+from importers.reading import read_bytes
+from importers.sketch import read_sketch
 from importers.universe import Named, Note, Reading, Rows, StateRow, TypeRow, Unknown, read_document, shown
 
 # More lines than these nobody reads.
@@ -162,7 +163,7 @@ def add_arguments(parser: argparse.ArgumentParser) -> None:
 
 
 def run(arguments: argparse.Namespace) -> tuple[str, list[str]]:
-    data = bytes_of(arguments.file)
+    data = read_bytes(arguments.file, document.MOST_BYTES)
     reading = read_document(data) if is_document(arguments.file, data) else read_sketch(data)
     lines = lines_of(arguments.file, reading, arguments.targets)
     if not lines:

@@ -20,6 +20,8 @@ def read_bytes(path, most=MOST_TEXT):
                 told = file.read(most + 1)
     except (OSError, ValueError) as fault:
         raise Refused(f"{path}: {getattr(fault, 'strerror', None) or fault}") from fault
+    except AttributeError as fault:
+        raise Refused("standard input is closed") from fault
     if len(told) > most:
         raise Refused(f"{path}: more than {most} bytes")
     return told

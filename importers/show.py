@@ -11,7 +11,7 @@ from collections.abc import Iterator
 
 from importers import over_plans, texts
 from importers.document import Refused
-from importers.sketch import bytes_of
+from importers.reading import read_bytes
 
 # As many as Metis reads of a plan.
 MOST_BYTES = 268_435_456
@@ -176,7 +176,7 @@ SHOWN = {
 
 def text_of(path: str) -> str:
     """A text of Metis, which has the printable bytes of ASCII and line feeds alone."""
-    found = bytes_of(path, MOST_BYTES)
+    found = read_bytes(path, MOST_BYTES)
     other = OTHER_BYTE.search(found)
     if other:
         line = found.count(b"\n", 0, other.start()) + 1

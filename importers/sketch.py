@@ -11,11 +11,11 @@ import argparse
 import dataclasses
 import json
 import re
-import sys
 
 from importers import document
 from importers.document import Refused
 from importers.places import Lines
+from importers.reading import read_bytes
 from importers.universe import Fault, Named, Reading, Rows, StateRow, TypeRow, faults_of_rows, greatest_counts, read_document, shown
 
 BLANKS = re.compile(r"[ \t\r]*")
@@ -249,20 +249,6 @@ def sketched(rows: Rows) -> str:
     return "".join(f"{line}\n" for line in lines)
 
 
-def bytes_of(path: str, most: int = document.MOST_BYTES) -> bytes:
-    """What is in a file or on standard input, where it is not longer than is taken."""
-    try:
-        with sys.stdin.buffer if path == "-" else open(path, "rb") as file:
-            found = file.read(most + 1)
-    except OSError as fault:
-        raise Refused(f"{path}: {fault.strerror}") from None
-    except AttributeError:
-        raise Refused("standard input is closed") from None
-    if len(found) > most:
-        raise Refused(f"{path}: more than {most} bytes")
-    return found
-
-
 def rows_of(path: str, reading: Reading) -> Rows:
     if reading.faults:
         fault = reading.faults[0]
@@ -280,8 +266,8 @@ def add_arguments(parser: argparse.ArgumentParser) -> None:
 
 def run(arguments: argparse.Namespace) -> tuple[str, list[str]]:
     if arguments.universe is not None:
-        return sketched(rows_of(arguments.universe, read_document(bytes_of(arguments.universe)))), []
-    text = written(rows_of(arguments.file, read_sketch(bytes_of(arguments.file))))
+        return sketched(rows_of(arguments.universe, read_document(read_bytes(arguments.universe, document.MOST_BYTES)))), []
+    text = written(rows_of(arguments.file, read_sketch(read_bytes(arguments.file, document.MOST_BYTES))))
     if len(text) > document.MOST_BYTES:
         raise Refused(f"the document has {len(text)} bytes, and Metis takes at most {document.MOST_BYTES}")
     return text, []
