@@ -1,4 +1,6 @@
-"""python3 -m exporters make|ninja|done|split|dot|gantt|mermaid ..: carries a plan further (see README.md beside this file)."""
+"""python3 -m exporters make|ninja|done|split|dot|gantt|mermaid ..: carries a plan further (see README.md beside this
+file).
+"""
 
 import argparse
 import gc

@@ -40,8 +40,8 @@ class Chart:
 
     def lines(self) -> Iterator[str]:
         width, height = self.left + WIDTH + MARGIN, TOP + LANE * len(self.lanes) + 20
-        yield f'<svg xmlns="http://www.w3.org/2000/svg" width="{width:.0f}" height="{height}" viewBox="0 0 {width:.0f} {height}"'
-        yield ' font-family="DejaVu Sans, sans-serif" font-size="10">\n'
+        yield f'<svg xmlns="http://www.w3.org/2000/svg" width="{width:.0f}" height="{height}"'
+        yield f' viewBox="0 0 {width:.0f} {height}" font-family="DejaVu Sans, sans-serif" font-size="10">\n'
         yield f'<rect width="{width:.0f}" height="{height}" fill="white"/>\n'
         yield from self.legend()
         yield from (self.tick(time, height, "#e4e4e4", "#666666") for time in self.ticks())
@@ -54,7 +54,8 @@ class Chart:
         x = self.left
         used = {bar.step.action.verb for lane in self.lanes for bar in lane}
         for name, fill in [*((verb, FILLS[verb]) for verb in VERBS if verb in used), ("the longest chain", CRITICAL)]:
-            yield f'<rect x="{x:.1f}" y="8" width="12" height="10" fill="{fill}"/><text x="{x + 16:.1f}" y="17">{name}</text>\n'
+            yield f'<rect x="{x:.1f}" y="8" width="12" height="10" fill="{fill}"/>'
+            yield f'<text x="{x + 16:.1f}" y="17">{name}</text>\n'
             x += 30 + CHARACTER * len(name)
 
     def ticks(self) -> list[int]:
@@ -87,9 +88,11 @@ class Chart:
         yield f"<g><title>{tip.replace('>', '&gt;')}</title>"
         if bar.slack and is_long:
             end, middle = x + width, y + BAR / 2
-            yield f'<line x1="{end:.1f}" y1="{middle}" x2="{end + bar.slack * self.scale:.1f}" y2="{middle}" stroke="#bbbbbb" stroke-dasharray="2 2"/>'
+            yield f'<line x1="{end:.1f}" y1="{middle}" x2="{end + bar.slack * self.scale:.1f}" y2="{middle}"'
+            yield ' stroke="#bbbbbb" stroke-dasharray="2 2"/>'
         fill = CRITICAL if bar.is_critical else FILLS[action.verb]
-        yield f'<rect x="{x:.1f}" y="{y}" width="{width:.1f}" height="{BAR}" fill="{fill}" stroke="white" stroke-width="0.7"/>'
+        yield f'<rect x="{x:.1f}" y="{y}" width="{width:.1f}" height="{BAR}" fill="{fill}"'
+        yield ' stroke="white" stroke-width="0.7"/>'
         for label in (f"{action.number} {short(action)}", str(action.number)):
             if len(label) * CHARACTER < width - 4:
                 ink = "white" if bar.is_critical else "black"

@@ -72,13 +72,6 @@ class Commands:
     rules: tuple[Rule, ...]
     patterns: Patterns = dataclasses.field(repr=False, compare=False)
 
-    def check_fits(self, whole: set[str]) -> None:
-        """Refuses a step that fits none of all that actions may be."""
-        fitting = self.patterns.fitting(whole)
-        for place, rule in enumerate(self.rules):
-            if place not in fitting:
-                raise Refused(f"step {rule.number} ({rule.when}) fits nothing in the universe")
-
     def check_hosts(self, hosts: Iterable[str]) -> None:
         for host in hosts:
             if host not in self.hosts:

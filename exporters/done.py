@@ -1,4 +1,6 @@
-"""Prints what of the plan in a folder is done, as a plan: `metis replay` says what stands, `metis rollout` takes it away."""
+"""Prints what of the plan in a folder is done, as a plan: `metis replay` says what stands, `metis rollout` takes it
+away.
+"""
 
 import argparse
 

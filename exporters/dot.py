@@ -1,7 +1,8 @@
 """A picture for Graphviz: `python3 -m exporters dot plan.txt | dot -Tsvg -o plan.svg`.
 
-Of a plan: a lane an instance, its actions from left to right, and dashed arrows to what waits for them. Of a universe: a box a
-type with its states, and arrows from the state that provides a port over the port to the states that require it.
+Of a plan: a lane an instance, its actions from left to right, and dashed arrows to what waits for them. Of a universe:
+a box a type with its states, and arrows from the state that provides a port over the port to the states that require
+it.
 """
 
 import argparse

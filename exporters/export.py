@@ -15,7 +15,7 @@ from exporters.placement import Placement, read_placement
 from exporters.rollouts import Rollout
 from exporters.script import write_folder
 from exporters.steps import Step, steps_of
-from exporters.universe import subjects, types_of
+from exporters.universe import Happenings, types_of
 from importers import texts
 from importers.document import Refused
 
@@ -25,15 +25,26 @@ MOST_KINDS = 12
 
 
 def add_arguments(parser: argparse.ArgumentParser) -> None:
-    parser.add_argument("plan", metavar="PLAN", help="what `metis plan` or `metis rollout` printed; - is standard input")
-    parser.add_argument("--commands", metavar="FILE", required=True, help="what each step means (TOML)")
-    parser.add_argument("--to", metavar="FOLDER", required=True, help="made where it is not there; what is done in it stays done")
     parser.add_argument(
-        "--from", metavar="OLD", dest="olds", action="append", default=[], help="the plan of which PLAN is a rollout, where FOLDER has none"
+        "plan", metavar="PLAN", help="what `metis plan` or `metis rollout` printed; - is standard input"
+    )
+    parser.add_argument("--commands", metavar="FILE", required=True, help="what each step means (TOML)")
+    parser.add_argument(
+        "--to", metavar="FOLDER", required=True, help="made where it is not there; what is done in it stays done"
+    )
+    parser.add_argument(
+        "--from",
+        metavar="OLD",
+        dest="olds",
+        action="append",
+        default=[],
+        help="the plan of which PLAN is a rollout, where FOLDER has none",
     )
     parser.add_argument("--waits-alone", action="store_true", help="what goes on from another plan is no rollout")
     parser.add_argument("--placement", metavar="FILE", help="what `metis place` printed for PLAN")
-    parser.add_argument("--universe", metavar="FILE", help="refuse steps that fit nothing in it, as those with a misspelt name")
+    parser.add_argument(
+        "--universe", metavar="FILE", help="refuse steps that fit nothing in it, as those with a misspelt name"
+    )
     parser.add_argument("--strict", action="store_true", help="refuse a plan with actions for which there is no step")
 
 
@@ -123,7 +134,7 @@ def handed_in(arguments: argparse.Namespace) -> tuple[Export, list[str]]:
     try:
         commands.check_hosts(placement.hosts.values())
         if types is not None:
-            commands.check_fits(set(subjects(types)))
+            commands.patterns.check_fits(Happenings(types))
     except Refused as refused:
         raise Refused(f"{arguments.commands}: {refused}") from refused
     rules, without = rules_of(steps, commands)

@@ -61,7 +61,7 @@ class Folder:
     def held(self) -> Iterator[None]:
         """While nothing is being done in the folder, and nobody else writes it."""
         try:
-            lock = open(self.path / LOCK / FOLDER_LOCK, "ab")  # noqa: SIM115
+            lock = open(self.path / LOCK / FOLDER_LOCK, "ab")
         except OSError as fault:
             raise Refused(f"{fault.filename}: {fault.strerror}") from fault
         with lock:
@@ -92,7 +92,7 @@ class Folder:
         return steps_of(self.plan(), str(self.path / PLAN))
 
     def rollouts(self, count: int) -> tuple[Rollout, ...]:
-        """The rollouts in its plan, which has so many actions. One that goes on from these was being written, and is not there."""
+        """The rollouts in its plan, which has so many actions. One that goes on from all of them was never written whole."""
         path = self.path / ROLLOUTS
         found = [ROLLOUT.fullmatch(line) for line in read_text(str(path)).splitlines()]
         if not all(found):
@@ -122,7 +122,8 @@ class Folder:
             for number in step.waits if step.key in marks else ():
                 if steps[number - 1].key not in marks:
                     raise Refused(
-                        f"{self.path}: action {step.action.number} is done in it, and action {number}, for which that waits, is not"
+                        f"{self.path}: action {step.action.number} is done in it, and action {number}, for which that "
+                        "waits, is not"
                     )
         return set(marks)
 

@@ -1,8 +1,9 @@
-"""A chart of when each action starts, as SVG: `gantt PLAN WAVES N N N N N` from what `metis waves` printed for a plan and these
-five numbers, or `gantt FOLDER` of what really happened in a folder.
+"""A chart of when each action starts, as SVG: `gantt PLAN WAVES N N N N N` from what `metis waves` printed for a plan
+and these five numbers, or `gantt FOLDER` of what really happened in a folder.
 
-A lane is an instance. A bar is an action, from its start to its end. The dotted line behind it is the time that it may lose.
-Red bars are the chain that takes as long as the whole: who wants to be done sooner has to make one of these shorter.
+A lane is an instance. A bar is an action, from its start to its end. The dotted line behind it is the time that it may
+lose. Red bars are the chain that takes as long as the whole: who wants to be done sooner has to make one of these
+shorter.
 """
 
 import argparse
@@ -31,7 +32,9 @@ MOST_LANES = 300
 def add_arguments(parser: argparse.ArgumentParser) -> None:
     parser.add_argument("plan", metavar="PLAN|FOLDER")
     parser.add_argument("waves", metavar="WAVES", nargs="?", help="what `metis waves UNIVERSE PLAN N N N N N` printed")
-    parser.add_argument("times", metavar="N", type=int, nargs="*", help="how long a new, a delete, a bind, an unbind and a move take")
+    parser.add_argument(
+        "times", metavar="N", type=int, nargs="*", help="how long a new, a delete, a bind, an unbind and a move take"
+    )
     parser.add_argument("--unit", default="", help="of the times, as s or min")
     help_text = f"refuse to draw more lanes ({MOST_LANES})"
     parser.add_argument("--most", type=int, default=MOST_LANES, metavar="N", help=help_text)
@@ -79,14 +82,18 @@ def read_waves(path: str) -> tuple[list[tuple[int, int]], int, set[int]]:
     return starts, int(finish[1]), {int(word) for word in chain[1].split()}
 
 
-def check(steps: Sequence[Step], starts: Sequence[tuple[int, int]], finish: int, times: dict[str, int], path: str) -> None:
+def check(
+    steps: Sequence[Step], starts: Sequence[tuple[int, int]], finish: int, times: dict[str, int], path: str
+) -> None:
     """Refuses waves of another plan, or of other numbers."""
     if len(starts) != len(steps):
         raise Refused(f"{path}: it has {len(starts)} actions, and the plan {len(steps)}")
     ends = [start + times[step.action.verb] for step, (start, _) in zip(steps, starts)]
     for step, (start, latest) in zip(steps, starts):
         if start != max((ends[number - 1] for number in step.waits), default=0) or latest < start:
-            raise Refused(f"{path}: action {step.action.number} starts at {start}, which the plan and these five numbers do not give")
+            raise Refused(
+                f"{path}: action {step.action.number} starts at {start}, which the plan and these five numbers do not give"
+            )
     if finish != max(ends, default=0):
         raise Refused(f"{path}: it ends at {finish}, which the plan and these five numbers do not give")
 
@@ -102,7 +109,13 @@ def bars_of_folder(folder: Folder) -> list[Bar]:
     first = min(start for start, _ in took.values())
     chain = chain_of(folder, steps, took)
     return [
-        Bar(step, took[step.action.number][0] - first, took[step.action.number][1] - first, 0, step.action.number in chain)
+        Bar(
+            step,
+            took[step.action.number][0] - first,
+            took[step.action.number][1] - first,
+            0,
+            step.action.number in chain,
+        )
         for step in steps
         if step.action.number in took
     ]
@@ -122,7 +135,11 @@ def chain_of(folder: Folder, steps: Sequence[Step], took: dict[int, tuple[float,
                 fresh = range(rollouts[place].old + 1, rollouts[place].fresh + 1)
                 last_fresh[place] = max(fresh, key=lambda other: ended[other])
             waits.append(last_fresh[place])
-        last = max((other if other in took else before[other] for other in waits), key=lambda other: ended.get(other, 0), default=None)
+        last = max(
+            (other if other in took else before[other] for other in waits),
+            key=lambda other: ended.get(other, 0),
+            default=None,
+        )
         before[number] = last
         ended[number] = took[number][1] if number in took else ended.get(last, 0)
     chain, number = set(), max(took, key=lambda each: took[each][1])

@@ -49,7 +49,8 @@ def makefile(found: Export) -> Iterator[str]:
     yield f"all: |{marks(ends_of(found.steps))}\nMakefile: ;\n\n"
     for place, rollout in enumerate(found.rollouts, 1):
         old, fresh = found.steps[: rollout.old], found.steps[rollout.old : rollout.fresh]
-        yield f"# Of what {rollout.old} actions leave nothing goes before all that is new stands.\n.PHONY: old-{place} fresh-{place}\n"
+        yield f"# Of what {rollout.old} actions leave nothing goes before all that is new stands.\n"
+        yield f".PHONY: old-{place} fresh-{place}\n"
         yield f"old-{place}: |{marks(ends_of(old))}\nfresh-{place}: |{marks(ends_of(fresh))}\n\n"
     keys = [step.key for step in found.steps]
     for job in found.jobs():

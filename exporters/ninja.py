@@ -60,6 +60,6 @@ def ninja_file(found: Export) -> Iterator[str]:
 
 
 def pool_of(found: Export, job: Job) -> str:
-    """The pool of those that are done one at a time. `run` sees to that too, but here none of them takes a place while it waits."""
+    """The pool of those that are done one at a time. `run` sees to that too, but here none takes a place while it waits."""
     host = re.sub(r"[^A-Za-z0-9]", "_", found.host(job.step.action.instance))
     return f"{job.rule.lock}.{host}"

@@ -29,14 +29,14 @@ def origin_of_new(plan: texts.Plan, steps: Sequence[Step], arguments: argparse.N
     gone = first_gone(steps[: counts[0]] if counts else steps)
     if gone:
         raise Refused(
-            f"{arguments.plan}: a rollout, since by action {gone.action.number} {who(gone.action)} goes, and with it all that it "
-            "was bound to. Say by --from OLD from which plan it goes on; where it is none, say --waits-alone"
+            f"{arguments.plan}: a rollout, since by action {gone.action.number} {who(gone.action)} goes, and with it all "
+            "that it was bound to. Say by --from OLD from which plan it goes on; where it is none, say --waits-alone"
         )
     if not counts:
         return Origin(())
     note = (
-        f"it goes on from {counts[-1]} actions, of which none is done in {arguments.to}: make does them too. Where what they "
-        f"leave stands already, `make -t old-{len(counts)}` marks them as done"
+        f"it goes on from {counts[-1]} actions: make does those of them that are not done in {arguments.to}, too. Where "
+        f"what they leave stands already, `make -t old-{len(counts)}` marks them as done"
     )
     return Origin(rollouts_at(steps, counts, arguments), (note,))
 

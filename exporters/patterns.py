@@ -1,8 +1,9 @@
 """Which step of a commands file an action has: the first that fits, where `*` stands for any part of one name."""
 
 import re
-from collections.abc import Sequence
+from collections.abc import Iterable, Sequence
 
+from exporters.universe import Happenings
 from importers import texts
 from importers.document import Refused
 
@@ -28,25 +29,37 @@ def subject(action: texts.Action) -> str:
     return f"{action.type}: {action.verb} {words[0]} from {action.provider_type}"
 
 
+def compiled(text: str) -> re.Pattern:
+    """Each `*` but the last stands for as little as it can, once and for all: so no pattern takes long."""
+    first, *others = map(re.escape, text.split("*"))
+    if not others:
+        return re.compile(first)
+    middle = "".join(f"(?>{ANYTHING}?{each})" for each in others[:-1])
+    return re.compile(f"{first}{middle}{ANYTHING}{others[-1]}")
+
+
+def matching(part: str, names: Iterable[str]) -> list[str]:
+    """Those of some names for which a part of a pattern stands."""
+    return list(filter(compiled(part).fullmatch, names)) if "*" in part else [name for name in names if name == part]
+
+
 class Patterns:
-    """The patterns of a commands file. Those without `*` are looked up, so that many of them cost no more than a few."""
+    """The patterns of a commands file. Those without `*` are looked up, so that many cost no more than a few."""
 
     def __init__(self, whens: Sequence[str]) -> None:
+        self.found: list[re.Match] = []
         self.exact: dict[str, int] = {}
         self.starred: list[tuple[int, re.Pattern]] = []
         for place, when in enumerate(whens):
-            if not WHEN.fullmatch(when):
+            found = WHEN.fullmatch(when)
+            if not found:
                 raise Refused(f"step {place + 1}: {texts.shown(when)} is no {FORMS}")
+            self.found.append(found)
             if "*" in when:
-                self.starred.append((place, self.compiled(when)))
+                is_of_any = found["bind"] and not found["provider"]
+                self.starred.append((place, compiled(f"{when} from *" if is_of_any else when)))
             elif self.exact.setdefault(when, place) != place:
                 raise Refused(f"step {place + 1}: step {self.exact[when] + 1} is for {when} already")
-
-    @staticmethod
-    def compiled(when: str) -> re.Pattern:
-        found = WHEN.fullmatch(when)
-        whole = when if not found["bind"] or found["provider"] else f"{when} from *"
-        return re.compile(ANYTHING.join(map(re.escape, whole.split("*"))))
 
     def first(self, text: str) -> int | None:
         """The place of the first pattern that fits a subject."""
@@ -59,8 +72,22 @@ class Patterns:
                 return place
         return least
 
-    def fitting(self, whole: set[str]) -> set[int]:
-        """The places of the patterns that fit some of these subjects."""
-        short = {text.rpartition(" from ")[0] for text in whole}
-        exact = {place for when, place in self.exact.items() if when in whole or when in short}
-        return exact | {place for place, pattern in self.starred if any(map(pattern.fullmatch, whole))}
+    def check_fits(self, happenings: Happenings) -> None:
+        """Refuses a pattern that fits nothing that may happen in a universe."""
+        for place, found in enumerate(self.found):
+            if not may_happen(found, happenings):
+                raise Refused(f"step {place + 1} ({found[0]}) fits nothing in the universe")
+
+
+def may_happen(found: re.Match, happenings: Happenings) -> bool:
+    kind = found["type"]
+    kinds = matching(kind, happenings.moves) if "*" in kind else [kind] if kind in happenings.moves else []
+    if found["verb"]:
+        return bool(kinds)
+    if found["bind"]:
+        provider = found["provider"] or "*"
+        ports = {port for each in kinds for port in matching(found["port"], happenings.required[each])}
+        return any(matching(provider, happenings.providers.get(port, ())) for port in ports)
+    state, after = compiled(found["state"]), compiled(found["next"])
+    moves = (move for each in kinds for move in happenings.moves[each])
+    return any(state.fullmatch(one) and after.fullmatch(other) for one, other in moves)

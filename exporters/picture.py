@@ -31,7 +31,9 @@ class Port:
 
 def add_arguments(parser: argparse.ArgumentParser) -> None:
     parser.add_argument("file", metavar="FILE", help="a plan, or a universe; - is standard input")
-    parser.add_argument("--instances", action="store_true", help="of a plan draw one box an instance, and who takes what from whom")
+    parser.add_argument(
+        "--instances", action="store_true", help="of a plan draw one box an instance, and who takes what from whom"
+    )
     help_text = f"refuse to draw more boxes ({MOST_BOXES})"
     parser.add_argument("--most", type=int, default=MOST_BOXES, metavar="N", help=help_text)
 
@@ -54,7 +56,9 @@ def read(arguments: argparse.Namespace) -> Drawn:
 
 def check_size(count: int, most: int, what: str, instead: str) -> None:
     if count > most:
-        raise Refused(f"{count} {what}, and a picture of more than {most} is not read by anybody: {instead}, or with --most {count}")
+        raise Refused(
+            f"{count} {what}, and a picture of more than {most} is not read by anybody: {instead}, or with --most {count}"
+        )
 
 
 def short(action: texts.Action) -> str:

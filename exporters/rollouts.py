@@ -1,8 +1,8 @@
 """Where a rollout stands in a list of actions, and so what must not begin before what.
 
-A rollout is the old plan's actions, the fresh ones, and the removal of what the old ones leave. The waits alone would let
-the removal come before the fresh ones. Where no action of the removal comes before the last fresh one, what stood or what
-is to stand is whole at each moment: the law `guarded_rollout_never_lacks`.
+A rollout is the old plan's actions, the fresh ones, and the removal of what the old ones leave. The waits alone would
+let the removal come before the fresh ones. Where no action of the removal comes before the last fresh one, what stood
+or what is to stand is whole at each moment: the law `guarded_rollout_never_lacks`.
 """
 
 import dataclasses
@@ -34,7 +34,9 @@ def rollout_in(steps: Sequence[Step], old: int) -> Rollout:
     cut = next((place for place, step in enumerate(steps) if place >= old and step.action.instance in made), len(steps))
     last = {step.action.instance: step.action.verb for step in steps[cut:]}
     removed = made | {instance for instance, verb in last.items() if verb == "delete"}
-    fresh = next((place for place, step in enumerate(steps) if place >= old and step.action.instance in removed), len(steps))
+    fresh = next(
+        (place for place, step in enumerate(steps) if place >= old and step.action.instance in removed), len(steps)
+    )
     for step in steps[fresh:]:
         if step.action.instance not in removed:
             raise Refused(
@@ -78,7 +80,9 @@ def head_of(group: dict[int, int], instance: int) -> int:
 def barrier_of(step: Step, rollouts: Sequence[Rollout]) -> int | None:
     """The place of the rollout in whose removal the step is, where there is something fresh that it has to wait for."""
     number = step.action.number
-    found = (place for place, rollout in enumerate(rollouts) if rollout.has_fresh() and rollout.fresh < number <= rollout.end)
+    found = (
+        place for place, rollout in enumerate(rollouts) if rollout.has_fresh() and rollout.fresh < number <= rollout.end
+    )
     return next(found, None)
 
 

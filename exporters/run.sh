@@ -58,6 +58,8 @@ say() { if [ -z "$quiet" ]; then echo "$what$1"; fi; }
 exec 7>>lock/.folder
 flock -s -n 7 || not_now "somebody writes the folder anew"
 if [ "${METIS_EXPORT-@EXPORT@}" != @EXPORT@ ]; then not_now "the folder was written anew; call make again"; fi
+# A step that calls make for a purpose of its own gets none of this make's flags.
+unset METIS_EXPORT MAKEFLAGS MFLAGS MAKELEVEL MAKEOVERRIDES
 
 log=log/$key again=''
 if [ -e "$log" ]; then again=yes; fi

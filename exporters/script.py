@@ -52,7 +52,8 @@ def script(export: "Export") -> str:
     """The script `run`, with what differs from step to step and from host to host."""
     commands = export.commands
     rules = [
-        f"{rule.number}) step={rule.slug}.sh limit={rule.timeout} retries={rule.retries} pause={rule.pause} lock={rule.lock} ;;\n"
+        f"{rule.number}) step={rule.slug}.sh limit={rule.timeout} retries={rule.retries} pause={rule.pause} "
+        f"lock={rule.lock} ;;\n"
         for rule in commands.rules
         if not rule.does_nothing
     ]
@@ -70,4 +71,6 @@ def script(export: "Export") -> str:
         "CLOSED": WITHOUT_LOCKS,
         "SHELL": shlex.join(commands.shell),
     }
-    return HOLE.sub(lambda found: filled[found[1]] + ("" if filled[found[1]].endswith("\n") else found[2]), TEMPLATE.read_text())
+    return HOLE.sub(
+        lambda found: filled[found[1]] + ("" if filled[found[1]].endswith("\n") else found[2]), TEMPLATE.read_text()
+    )

@@ -1,6 +1,8 @@
-"""Gives up a rollout that stopped: what it has made so far gets a folder of its own, to be taken down there, and the old stays.
+"""Gives up a rollout that stopped: what it has made so far gets a folder of its own, to be taken down there, and the
+old stays.
 
-`metis rollout UNIVERSE NEW/plan.txt` is the plan for that. What is new takes nothing from the old, so each part is a plan.
+`metis rollout UNIVERSE NEW/plan.txt` is the plan for that. What is new takes nothing from the old, so each part is a
+plan.
 """
 
 import argparse
@@ -46,7 +48,9 @@ def check_parts(folder: Folder, steps: Sequence[Step], old: int, fresh_end: int,
         raise Refused(f"{folder.path}: what is old is being taken away already; go on instead")
     for step in steps[old:fresh_end]:
         if any(number <= old for number in step.waits):
-            raise Refused(f"{folder.path}: action {step.action.number} takes from what is old, so the two cannot be parted")
+            raise Refused(
+                f"{folder.path}: action {step.action.number} takes from what is old, so the two cannot be parted"
+            )
 
 
 def names_of(step: Step) -> tuple[str, ...]:

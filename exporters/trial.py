@@ -41,7 +41,11 @@ def exporters(*words: object) -> str:
 
 
 def engine_words(engine: str, folder: pathlib.Path, jobs: int) -> list[str]:
-    return ["make", "-s", f"-j{jobs}", "-C", str(folder)] if engine == "make" else ["ninja", f"-j{jobs}", "-C", str(folder)]
+    return (
+        ["make", "-s", f"-j{jobs}", "-C", str(folder)]
+        if engine == "make"
+        else ["ninja", f"-j{jobs}", "-C", str(folder)]
+    )
 
 
 def carry_out(words: list[str]) -> subprocess.CompletedProcess[str]:

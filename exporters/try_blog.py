@@ -3,12 +3,13 @@
 
     python3 exporters/try_blog.py [--metis PROGRAM] [--chart FILE]
 
-It wants root on a Debian machine with apt's index, overlay mounts, and the TCP ports 13301, 13305, 18002 to 18007, 18100 and 18104 of the
-loopback address. All is done by `make -j8` in a root of its own over this machine's, which is taken away at the end. The
-application comes up, while a port is taken at first, so that MariaDB cannot start; it is asked through haproxy, and WordPress
-is set up. A rollout that cannot start its MariaDB is given up, and what it made taken down. A second one fails in the same
-way, is resumed, and ends; meanwhile the front is asked each 0.2 s. Then all is taken down. In the end no process, no file and
-no package may be left. The transcript is printed, with the seconds since the beginning.
+It wants root on a Debian machine with apt's index, overlay mounts, and the TCP ports 13301, 13305, 18002 to 18007,
+18100 and 18104 of the loopback address. All is done by `make -j8` in a root of its own over this machine's, which is
+taken away at the end. The application comes up, while a port is taken at first, so that MariaDB cannot start; it is
+asked through haproxy, and WordPress is set up. A rollout that cannot start its MariaDB is given up, and what it made
+taken down. A second one fails in the same way, is resumed, and ends; meanwhile the front is asked each 0.2 s. Then all
+is taken down. In the end no process, no file and no package may be left. The transcript is printed, with the seconds
+since the beginning.
 """
 
 import argparse
@@ -96,7 +97,11 @@ class Root:
 
     def settle(self) -> None:
         """Whether apt can work here: the machine's own dpkg may have been at work when the root was made."""
-        for words in (["dpkg", "--configure", "-a"], ["apt-get", "-q", "-y", "--fix-broken", "install"], ["apt-get", "check"]):
+        for words in (
+            ["dpkg", "--configure", "-a"],
+            ["apt-get", "-q", "-y", "--fix-broken", "install"],
+            ["apt-get", "check"],
+        ):
             done = self.inside("env", "DEBIAN_FRONTEND=noninteractive", *words)
         expect(done.returncode == 0, done.stdout)
 
@@ -118,7 +123,9 @@ class Root:
         return trial.carry_out(["chroot", str(self.path), *words])
 
     def packages(self) -> list[str]:
-        return self.inside("dpkg-query", "--show", "--showformat", "${Package} ${Version} ${db:Status-Abbrev}\n").stdout.splitlines()
+        return self.inside(
+            "dpkg-query", "--show", "--showformat", "${Package} ${Version} ${db:Status-Abbrev}\n"
+        ).stdout.splitlines()
 
     def carry_out(self, folder: str, *more: str) -> int:
         """Carries out what is exported to a folder, and gives the status of make."""
@@ -184,7 +191,11 @@ class Watcher:
 
     def settle(self) -> None:
         """Whether apt can work here: the machine's own dpkg may have been at work when the root was made."""
-        for words in (["dpkg", "--configure", "-a"], ["apt-get", "-q", "-y", "--fix-broken", "install"], ["apt-get", "check"]):
+        for words in (
+            ["dpkg", "--configure", "-a"],
+            ["apt-get", "-q", "-y", "--fix-broken", "install"],
+            ["apt-get", "check"],
+        ):
             done = self.inside("env", "DEBIAN_FRONTEND=noninteractive", *words)
         expect(done.returncode == 0, done.stdout)
 
@@ -196,12 +207,15 @@ class Watcher:
         counts = {port: sum(front == port for _, front in self.answers) for port in (OLD_FRONT, NEW_FRONT, 0)}
         gaps = [other - one for (one, _), (other, _) in zip(self.answers, self.answers[1:])]
         return (
-            f"asked {len(self.answers)} times, at most {max(gaps, default=0):.1f} s apart: {counts[OLD_FRONT]} answers of the old front, "
-            f"{counts[NEW_FRONT]} of the new one, {counts[0]} times none"
+            f"asked {len(self.answers)} times, at most {max(gaps, default=0):.1f} s apart: "
+            f"{counts[OLD_FRONT]} answers of the old front, {counts[NEW_FRONT]} of the new one, {counts[0]} times none"
         )
 
     def check(self) -> None:
-        expect(len(self.answers) > 10 and all(front for _, front in self.answers), "the front did not answer at each moment")
+        expect(
+            len(self.answers) > 10 and all(front for _, front in self.answers),
+            "the front did not answer at each moment",
+        )
 
 
 class Blog:
@@ -217,7 +231,9 @@ class Blog:
 
     def export(self, plan: pathlib.Path, folder: str = "blog") -> None:
         say(f"$ python3 -m exporters make {plan.name} --commands examples/blog.toml --to {folder}")
-        trial.exporters("make", plan, "--commands", COMMANDS, "--universe", UNIVERSE, "--to", self.root.folder.parent / folder)
+        trial.exporters(
+            "make", plan, "--commands", COMMANDS, "--universe", UNIVERSE, "--to", self.root.folder.parent / folder
+        )
 
     def stands(self, count: int, *targets: str) -> None:
         """Whether so many instances stand by the program's own replay of what is done."""
@@ -252,8 +268,9 @@ class Blog:
         with Watcher() as watcher:
             with taken(NEW_DATABASE):
                 expect(self.root.carry_out("/srv/blog", "-k") == 2, "it did not fail")
-            say(f"$ python3 -m exporters split blog new\n{trial.exporters('split', self.root.folder, self.root.folder.parent / 'new')}")
-            self.export(self.planned("rollout", self.root.folder.parent / "new" / "plan.txt"), "new")
+            new = self.root.folder.parent / "new"
+            say(f"$ python3 -m exporters split blog new\n{trial.exporters('split', self.root.folder, new)}")
+            self.export(self.planned("rollout", new / "plan.txt"), "new")
             expect(self.root.carry_out("/srv/new") == 0, "it did not end")
         say(watcher.told())
         watcher.check()

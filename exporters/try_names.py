@@ -3,9 +3,9 @@
 
     python3 exporters/try_names.py [--metis PROGRAM] [--universes N]
 
-What each step sees in its variables has to be what the plan says, by make and by ninja, with types, states, ports and hosts
-that are drawn from words such as `-rf`, `..`, `/etc/passwd`, `@make` or 64 dashes. The steps are named one by one, or all at
-once. Graphviz has to take the pictures. make, ninja and dot have to be there.
+What each step sees in its variables has to be what the plan says, by make and by ninja, with types, states, ports and
+hosts that are drawn from words such as `-rf`, `..`, `/etc/passwd`, `@make` or 64 dashes. The steps are named one by
+one, or all at once. Graphviz has to take the pictures. make, ninja and dot have to be there.
 """
 
 import argparse
@@ -24,11 +24,44 @@ from exporters.trial import TOP, Failed, expect
 from importers import texts
 
 WORST = (
-    *("-rf", "--", "-", "..", ".", "/", "/etc/passwd", "../../x", "@", "@make", "a/b", "a_b", "a@b", "new", "delete", "bind"),
-    *("after", "end", "from", "-n", "--help", "all", "fresh-1", "Makefile", "x" * 64, "-" * 64, "/" * 64, "C", "n", "e", "0"),
+    *(
+        "-rf",
+        "--",
+        "-",
+        "..",
+        ".",
+        "/",
+        "/etc/passwd",
+        "../../x",
+        "@",
+        "@make",
+        "a/b",
+        "a_b",
+        "a@b",
+        "new",
+        "delete",
+        "bind",
+    ),
+    *(
+        "after",
+        "end",
+        "from",
+        "-n",
+        "--help",
+        "all",
+        "fresh-1",
+        "Makefile",
+        "x" * 64,
+        "-" * 64,
+        "/" * 64,
+        "C",
+        "n",
+        "e",
+        "0",
+    ),
     *("-e", "EOF", "done/0.1", "phony", "@RULES@"),
 )
-TEXT = "it's \"quoted\" $HOME `id` $(id) \\ \\n %s * ? # ; & | < > ! ~ {} [] \t é\nsecond line"
+TEXT = 'it\'s "quoted" $HOME `id` $(id) \\ \\n %s * ? # ; & | < > ! ~ {} [] \t é\nsecond line'
 BODY = f"""
 [ "$TEXT" = "$(cat "$TOP/text")" ]
 {trial.TRACED}
@@ -46,7 +79,10 @@ def universe(names: list[str]) -> dict:
     types = []
     before = None
     for kind, low, high, port in zip(names[:4], names[4:8], names[5:9], names[9:13]):
-        states = [{"name": low, "next": [high]}, {"name": high, "provide": [port], "require": [before] if before else []}]
+        states = [
+            {"name": low, "next": [high]},
+            {"name": high, "provide": [port], "require": [before] if before else []},
+        ]
         types.append({"name": kind, "initial": low, "states": states})
         before = port
     return {"aeolus": 1, "types": types}
@@ -69,7 +105,9 @@ class Trial:
         back = self.written("p", trial.printed(self.program, "rollout", self.top / "u", self.top / "up"))
         plan = texts.read(back)
         self.written("h", f"metis hosts 1\nhost {self.hosts[0]} 2\nhost {self.hosts[1]} 9\nend\n")
-        placed = self.written("placed", trial.printed(self.program, "place", self.top / "u", self.top / "p", self.top / "h"))
+        placed = self.written(
+            "placed", trial.printed(self.program, "place", self.top / "u", self.top / "p", self.top / "h")
+        )
         self.written("c.toml", self.commands(plan))
         files = ["--commands", self.top / "c.toml", "--placement", self.top / "placed", "--universe", self.top / "u"]
         trial.exporters(self.engine, self.top / "p", *files, "--strict", "--to", self.top / "f")
@@ -106,7 +144,11 @@ class Trial:
             number, line, kind, name, host = row.split("|")
             action = wanted.pop(int(number))
             seen = (line, kind, name, host)
-            meant = (f"{action.verb} {' '.join(action.words)}", action.type, steps.name_of(action.type, action.instance))
+            meant = (
+                f"{action.verb} {' '.join(action.words)}",
+                action.type,
+                steps.name_of(action.type, action.instance),
+            )
             expect(seen == (*meant, host_of[action.instance]), f"{seen} in place of {meant}")
             expect(re.fullmatch(r"[A-Za-z0-9][A-Za-z0-9_.-]{0,80}", name) is not None, name)
             expect(instance_of.setdefault(name, action.instance) == action.instance, name)

@@ -4,10 +4,10 @@
     python3 exporters/try_orders.py [--metis PROGRAM] [--seeds N]
 
 Each step waits for a random moment, and then writes its action down. What was written is made a plan text again, and
-`replay` has to find it good, with each action in it once. In four passes of ten some steps fail at random; the next pass goes
-on. The engine, the number of jobs and the order of the goals are drawn. In a rollout each front of what was written, from
-where the old plan is done, has to hold the old targets or the new ones by `replay`. Half of the rollouts are exported into
-the folder of the old plan, and half into an empty one, with --from. make and ninja have to be there.
+`replay` has to find it good, with each action in it once. In four passes of ten some steps fail at random; the next
+pass goes on. The engine, the number of jobs and the order of the goals are drawn. In a rollout each front of what was
+written, from where the old plan is done, has to hold the old targets or the new ones by `replay`. Half of the rollouts
+are exported into the folder of the old plan, and half into an empty one, with --from. make and ninja have to be there.
 """
 
 import argparse
@@ -114,18 +114,28 @@ class Run:
 
     def judge_fronts(self, lines: list[str], old: int) -> None:
         """Whether the old targets are held, or the new ones, at each moment from where the old plan is done."""
-        old_lines = {line.split(" ", 1)[1].partition(" after")[0] for line in (self.top / "plan.txt").read_text().splitlines()[2 : 2 + old]}
+        old_lines = {
+            line.split(" ", 1)[1].partition(" after")[0]
+            for line in (self.top / "plan.txt").read_text().splitlines()[2 : 2 + old]
+        }
         begin = max(place for place, line in enumerate(lines) if line in old_lines)
         for place in range(begin, len(lines)):
             text = trial.plan_text(lines[: place + 1])
-            verdicts = (trial.printed(self.program, "replay", self.universe, "-", *goals, text=text) for goals in (self.case.targets, self.case.later))
-            expect(any(verdict.startswith("good ") for verdict in verdicts), f"nothing stands behind {lines[: place + 1]}")
+            verdicts = (
+                trial.printed(self.program, "replay", self.universe, "-", *goals, text=text)
+                for goals in (self.case.targets, self.case.later)
+            )
+            expect(
+                any(verdict.startswith("good ") for verdict in verdicts), f"nothing stands behind {lines[: place + 1]}"
+            )
 
 
 def main() -> int:
     parser = argparse.ArgumentParser(description=__doc__, formatter_class=argparse.RawDescriptionHelpFormatter)
     parser.add_argument("--metis", default=str(TOP / "metis"), metavar="PROGRAM")
-    parser.add_argument("--seeds", type=int, default=40, metavar="N", help="how often each of the six cases is carried out (40)")
+    parser.add_argument(
+        "--seeds", type=int, default=40, metavar="N", help="how often each of the six cases is carried out (40)"
+    )
     arguments = parser.parse_args()
     for case in CASES:
         orders, failed = set(), 0
@@ -138,7 +148,10 @@ def main() -> int:
                     print(f"{case.name}, seed {seed}, by {run.engine}: {fault}")
                     return 1
                 failed += run.failed
-        print(f"{case.name}: {arguments.seeds} times good, in {len(orders)} orders; {failed} passes failed and were resumed", flush=True)
+        print(
+            f"{case.name}: {arguments.seeds} times good, in {len(orders)} orders; {failed} passes failed and were resumed",
+            flush=True,
+        )
     return 0
 
 

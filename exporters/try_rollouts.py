@@ -3,10 +3,10 @@
 
     python3 exporters/try_rollouts.py [--metis PROGRAM] [--universes N]
 
-The waits of each text have to be those that it was printed with. What is new in a rollout has to end where the program's own plan
-for the same targets says, also where old instances are bound in a cycle, so that a scaffold is made. A rollout has to be told
-from a plan without its old plan. Each part of a list that has all that its actions wait for has to be a plan: the program makes
-a rollout to nothing of it, and `replay` has to find that nothing stands.
+The waits of each text have to be those that it was printed with. What is new in a rollout has to end where the
+program's own plan for the same targets says, also where old instances are bound in a cycle, so that a scaffold is made.
+A rollout has to be told from a plan without its old plan. Each part of a list that has all that its actions wait for
+has to be a plan: the program makes a rollout to nothing of it, and `replay` has to find that nothing stands.
 """
 
 import argparse
@@ -30,8 +30,15 @@ PARTS = 3
 CYCLIC = {
     "aeolus": 1,
     "types": [
-        {"name": kind, "initial": "off", "states": [
-            {"name": "off", "next": ["on"]}, {"name": "on", "provide": [gives], "next": ["full"]}, {"name": "full", "provide": [gives], "require": [takes]}]}
+        {
+            "name": kind,
+            "initial": "off",
+            "states": [
+                {"name": "off", "next": ["on"]},
+                {"name": "on", "provide": [gives], "next": ["full"]},
+                {"name": "full", "provide": [gives], "require": [takes]},
+            ],
+        }
         for kind, gives, takes in (("A", "x", "y"), ("B", "y", "x"))
     ],
 }
@@ -94,7 +101,10 @@ def try_rollout(universe: Universe, old: str, goals: list[str]) -> tuple[steps.S
         return steps_in(old)
     rolled = steps_in(universe.printed("rollout", universe.kept("old.txt", old), *goals))
     found = rollout_in(rolled, count)
-    expect(found.fresh == count + len(texts.read(fresh).actions), f"{found}, and {len(texts.read(fresh).actions)} are fresh:\n{old}")
+    expect(
+        found.fresh == count + len(texts.read(fresh).actions),
+        f"{found}, and {len(texts.read(fresh).actions)} are fresh:\n{old}",
+    )
     expect(first_gone(rolled) is not None, f"it is not told from a plan: {goals}\n{old}")
     return rolled
 
@@ -154,7 +164,8 @@ def main() -> int:
         except (Failed, Refused, texts.NoText) as fault:
             print(f"universe {seed}: {fault}")
             return 1
-    print(f"{arguments.universes} universes: {plans} plans and rollouts, and {PARTS * plans} parts of them, are what they are taken for")
+    counted = f"{plans} plans and rollouts, and {PARTS * plans} parts of them"
+    print(f"{arguments.universes} universes: {counted}, are what they are taken for")
     return 0
 
 

@@ -3,10 +3,11 @@
 
     python3 exporters/try_stops.py
 
-By make and by ninja: Ctrl-C, SIGTERM to the engine, a terminal that is closed, and SIGKILL to the engine, while steps run, wait
-for a lock and pause between two tries. After the first three nothing may be left running and nothing be marked. After each the
-next run does what is left, and each action once. A full disk is a small file system of memory, for which root is needed: the
-exporters and the steps have to say so, and no mark may be there in part. make and ninja have to be there.
+By make and by ninja: Ctrl-C, SIGTERM to the engine, a terminal that is closed, and SIGKILL to the engine, while steps
+run, wait for a lock and pause between two tries. After the first three nothing may be left running and nothing be
+marked. After each the next run does what is left, and each action once. A full disk is a small file system of memory,
+for which root is needed: the exporters and the steps have to say so, and no mark may be there in part. make and ninja
+have to be there.
 """
 
 import os
@@ -61,7 +62,9 @@ class Stopped:
         self.words = trial.engine_words(engine, self.folder, ACTIONS)
 
     def go(self, sent: signal.Signals, to_group: bool) -> str:
-        with subprocess.Popen(self.words, stdout=subprocess.DEVNULL, stderr=subprocess.DEVNULL, start_new_session=True) as run:
+        with subprocess.Popen(
+            self.words, stdout=subprocess.DEVNULL, stderr=subprocess.DEVNULL, start_new_session=True
+        ) as run:
             time.sleep(AT_ONCE)
             before = self.running()
             (os.killpg if to_group else os.kill)(run.pid, sent)
@@ -83,7 +86,8 @@ class Stopped:
         expect(resumed.returncode == 0, resumed.stdout)
         lines = self.trace()
         expect(sorted(lines) == sorted(set(lines)) and len(lines) == ACTIONS == self.marks(), lines)
-        return f"{before} processes ran, and ended within {took:.1f} s but for {left}; {done} steps ended by themselves, {ACTIONS - done} in the next run"
+        ended = f"{before} processes ran, and ended within {took:.1f} s but for {left}"
+        return f"{ended}; {done} steps ended by themselves, {ACTIONS - done} in the next run"
 
     def running(self) -> int:
         """How many processes work in the folder, without the engine."""
@@ -121,7 +125,7 @@ class FullDisk:
         self.plan.write_text(trial.plan_text(["new 0 A", "new 1 B", "move 1 off on", "new 2 C"]))
         fills = f"dd if=/dev/zero of={self.filling} 2>/dev/null || true"
         body = f'[ "$METIS_ACTION" != 3 ] || [ -n "$METIS_AGAIN" ] || {fills}; echo "$METIS_ACTION" >>{top}/trace'
-        steps = "".join(f'[[step]]\nwhen = "{when}"\nrun = \'{body}\'\n' for when in ("*: new", "*: * -> *"))
+        steps = "".join(f"[[step]]\nwhen = \"{when}\"\nrun = '{body}'\n" for when in ("*: new", "*: * -> *"))
         self.commands.write_text(steps)
         self.words = trial.engine_words(engine, self.folder, 1)
 
@@ -134,7 +138,10 @@ class FullDisk:
 
     def refused(self) -> str:
         done = self.export()
-        expect(done.returncode == 1 and done.stderr.count("\n") == 1 and "No space left on device" in done.stderr, done.stderr)
+        expect(
+            done.returncode == 1 and done.stderr.count("\n") == 1 and "No space left on device" in done.stderr,
+            done.stderr,
+        )
         return done.stderr.strip()
 
     def go(self) -> list[str]:
@@ -157,7 +164,9 @@ class FullDisk:
         expect(stopped.returncode != 0 and not self.trace(), stopped.stdout)
         self.filling.unlink()
         stopped = trial.carry_out(self.words)
-        told = [line for line in stopped.stdout.splitlines() if "could not be written, so it will be done again" in line]
+        told = [
+            line for line in stopped.stdout.splitlines() if "could not be written, so it will be done again" in line
+        ]
         expect(stopped.returncode != 0 and len(told) == 1, stopped.stdout)
         yield told[0]
         self.check_marks()
@@ -182,9 +191,16 @@ def main() -> int:
         for engine in ENGINES:
             for name, sent, to_group in STOPS:
                 with tempfile.TemporaryDirectory() as top:
-                    print(f"{engine}, {name}: {Stopped(engine, pathlib.Path(top).resolve()).go(sent, to_group)}", flush=True)
+                    print(
+                        f"{engine}, {name}: {Stopped(engine, pathlib.Path(top).resolve()).go(sent, to_group)}",
+                        flush=True,
+                    )
             with tempfile.TemporaryDirectory() as top:
-                for line in FullDisk(engine, pathlib.Path(top).resolve()).go() if os.geteuid() == 0 else ["not tried, since this is not root"]:
+                for line in (
+                    FullDisk(engine, pathlib.Path(top).resolve()).go()
+                    if os.geteuid() == 0
+                    else ["not tried, since this is not root"]
+                ):
                     print(f"{engine}, a full disk: {line}", flush=True)
     except Failed as fault:
         print(f"FAILED: {fault}")

@@ -1,7 +1,6 @@
-"""A universe as it is drawn, and as steps of a commands file are looked up in it. The program alone checks it whole."""
+"""A universe as it is drawn, and what may happen in it. The program alone checks it whole."""
 
 import json
-from collections.abc import Iterator
 
 from importers import texts
 from importers.document import MOST_BYTES, ComponentType, Refused, State
@@ -14,7 +13,9 @@ def types_of(text: str, path: str) -> tuple[ComponentType, ...]:
     try:
         return tuple(type_of(row) for row in json.loads(text)["types"])
     except (ValueError, KeyError, TypeError, AttributeError, RecursionError) as fault:
-        raise Refused(f"{path}: no universe ({type(fault).__name__}: {fault}); `metis print` names the place") from fault
+        raise Refused(
+            f"{path}: no universe ({type(fault).__name__}: {fault}); `metis print` names the place"
+        ) from fault
 
 
 def type_of(row: dict) -> ComponentType:
@@ -42,19 +43,14 @@ def text_of(value: object) -> str:
     return value
 
 
-def subjects(types: tuple[ComponentType, ...]) -> Iterator[str]:
-    """All that actions in the universe may be, as patterns of a commands file are compared with it."""
-    providers: dict[str, set[str]] = {}
-    for kind in types:
-        for state in kind.states:
-            for port in state.provide:
-                providers.setdefault(port, set()).add(kind.name)
-    for kind in types:
-        yield f"{kind.name}: new"
-        yield f"{kind.name}: delete"
-        for state in kind.states:
-            yield from (f"{kind.name}: {state.name} -> {other}" for other in state.next)
-            for port in state.require:
-                for provider in sorted(providers.get(port, ())):
-                    yield f"{kind.name}: bind {port} from {provider}"
-                    yield f"{kind.name}: unbind {port} from {provider}"
+class Happenings:
+    """All that actions in a universe may be: which types there are, how each moves, and what it may take from whom."""
+
+    def __init__(self, types: tuple[ComponentType, ...]) -> None:
+        self.moves = {kind.name: {(state.name, each) for state in kind.states for each in state.next} for kind in types}
+        self.required = {kind.name: {port for state in kind.states for port in state.require} for kind in types}
+        self.providers: dict[str, set[str]] = {}
+        for kind in types:
+            for state in kind.states:
+                for port in state.provide:
+                    self.providers.setdefault(port, set()).add(kind.name)

@@ -57,7 +57,10 @@ end
 """,
 )
 TAKEN_DOWN = WEB.replace("actions 5", "actions 7").replace("end\n", "6 delete 0\n7 delete 1 after 6\nend\n")
-LINE = 'echo "$METIS_ACTION $METIS_NAME $METIS_VERB ${METIS_PROVIDER_NAME-} [$METIS_BOUND] $METIS_HOST $METIS_ADDRESS ${VIA-}" >>"$TRACE"\n'
+LINE = (
+    'echo "$METIS_ACTION $METIS_NAME $METIS_VERB ${METIS_PROVIDER_NAME-} [$METIS_BOUND] '
+    '$METIS_HOST $METIS_ADDRESS ${VIA-}" >>"$TRACE"\n'
+)
 NEEDED = ("make", "flock", "timeout")
 WHENS = ("*: new", "*: delete", "*: bind *", "*: unbind *", "*: * -> *")
 HEAD = """
@@ -105,7 +108,9 @@ class FolderCase(unittest.TestCase):
 
     def commands(self, body=LINE, **options):
         lines = "".join(f"{key} = {value}\n" for key, value in options.items())
-        return HEAD.format(top=self.top) + "".join(f"[[step]]\nwhen = \"{when}\"\n{lines}run = '''\n{body}'''\n" for when in WHENS)
+        return HEAD.format(top=self.top) + "".join(
+            f"[[step]]\nwhen = \"{when}\"\n{lines}run = '''\n{body}'''\n" for when in WHENS
+        )
 
     def export(self, plan, form="make", commands=None, more=()):
         (self.top / "plan").write_text(plan)

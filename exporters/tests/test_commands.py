@@ -50,13 +50,16 @@ class CommandsTest(unittest.TestCase):
     def test_the_first_that_fits_counts(self):
         rules, without = export.rules_of(steps_of(CROSSED), read(RULES))
         self.assertEqual(
-            [rule and rule.number for rule in rules], [4, None, 4, None, 1, 2, None, 5, 4, None, 3, None, None, None, None]
+            [rule and rule.number for rule in rules],
+            [4, None, 4, None, 1, 2, None, 5, 4, None, 3, None, None, None, None],
         )
         self.assertEqual(without["A: a0 -> a1"], 2)
         self.assertIn("A: a0 -> a1 (2 times), B: b0 -> b1, A: a2 -> a3", export.kinds_of(without))
 
     def test_only_some_kinds_are_named(self):
-        self.assertTrue(export.kinds_of({f"T{number}: new": 1 for number in range(15)}).endswith("T11: new and 3 more kinds"))
+        self.assertTrue(
+            export.kinds_of({f"T{number}: new": 1 for number in range(15)}).endswith("T11: new and 3 more kinds")
+        )
 
     def test_a_star_stands_for_a_part_of_one_name(self):
         for when, text, fits in (
@@ -70,6 +73,11 @@ class CommandsTest(unittest.TestCase):
             ("a: bind p from r*", "a: bind p from q", False),
             ("a.b: new", "axb: new", False),
             ("*.b: new", "a.xb: new", False),
+            ("*a*b*: new", "xaxxbx: new", True),
+            ("*a*b*: new", "xbxxax: new", False),
+            ("*: *a -> **", "T: aba -> c", True),
+            ("a*: new", "b/a: new", False),
+            (f"{'a*' * 30}b: new", f"{'a' * 64}: new", False),
         ):
             with self.subTest(when=when):
                 self.assertEqual(Patterns([when]).first(text), 0 if fits else None)
@@ -85,7 +93,10 @@ class CommandsTest(unittest.TestCase):
             (STEP + "run = 1", "step 1: run is no text"),
             (STEP + 'run = "a\\u0000"', "step 1: run has a byte that no script has"),
             (STEP + 'run = "a"\nlock = "a b"', "step 1: lock is no word of letters, digits and _"),
-            (STEP + 'run = "a"\nretry = 1', "step 1: nothing is known of 'retry'; there are lock, pause, retries, run, timeout, when"),
+            (
+                STEP + 'run = "a"\nretry = 1',
+                "step 1: nothing is known of 'retry'; there are lock, pause, retries, run, timeout, when",
+            ),
             (STEP + 'run = "a"\nretries = 1001', "step 1: retries is not from 0 to 1000"),
             (2 * (STEP + 'run = "a"\n'), "step 2: step 1 is for A: new already"),
             ('[[step]]\nwhen = "A: make"\nrun = ""', None),
@@ -112,7 +123,11 @@ class CommandsTest(unittest.TestCase):
                 self.assertIn(" is no 'TYPE: new', ", str(caught.exception))
 
     def test_what_is_no_script_and_no_toml_is_refused(self):
-        for text, reason in ((STEP + 'run = "if"', "step 1 \\(A: new\\): "), (STEP + 'run = "}"', "step 1"), ("= 1", "Invalid")):
+        for text, reason in (
+            (STEP + 'run = "if"', "step 1 \\(A: new\\): "),
+            (STEP + 'run = "}"', "step 1"),
+            ("= 1", "Invalid"),
+        ):
             with self.subTest(text=text), self.assertRaisesRegex(Refused, f"c.toml: {reason}"):
                 read(text)
 
@@ -123,7 +138,7 @@ class CommandsTest(unittest.TestCase):
 
 class UniverseTest(unittest.TestCase):
     def test_a_misspelt_step_is_found(self):
-        whole = set(universe.subjects(universe.types_of(json.dumps(UNIVERSE), "u")))
+        whole = universe.Happenings(universe.types_of(json.dumps(UNIVERSE), "u"))
         for when, fits in (
             ("A: a -> b", True),
             ("A: b -> a", False),
@@ -135,24 +150,37 @@ class UniverseTest(unittest.TestCase):
             ("B: delete", True),
             ("C: new", False),
             ("*: c -> *", False),
+            ("A*: *a -> *", True),
+            ("*: bind * from A", False),
+            ("*: bind p* from *B", True),
+            ("*: new", True),
         ):
             found = read(f'[[step]]\nwhen = "{when}"\nrun = "true"\n')
             with self.subTest(when=when):
                 if fits:
-                    found.check_fits(whole)
+                    found.patterns.check_fits(whole)
                 else:
                     with self.assertRaises(Refused) as caught:
-                        found.check_fits(whole)
+                        found.patterns.check_fits(whole)
                     self.assertEqual(str(caught.exception), f"step 1 ({when}) fits nothing in the universe")
 
     def test_types_have_their_initial_state_first(self):
         one, other = universe.types_of(json.dumps(UNIVERSE), "u")
         self.assertEqual([state.name for state in one.states], ["a", "b"])
-        self.assertEqual((one.states[0].next, one.states[1].require, other.states[0].provide), (("b",), {"p": 2, "q": 1}, ("p",)))
+        self.assertEqual(
+            (one.states[0].next, one.states[1].require, other.states[0].provide), (("b",), {"p": 2, "q": 1}, ("p",))
+        )
 
     def test_what_is_no_universe_is_refused(self):
         wrong = json.dumps(UNIVERSE)
-        for text in ("{}", "{", "[]", '{"types": [1]}', wrong.replace('"B"', '"B\\u001b"'), wrong.replace('"initial": "a"', '"initial": 1')):
+        for text in (
+            "{}",
+            "{",
+            "[]",
+            '{"types": [1]}',
+            wrong.replace('"B"', '"B\\u001b"'),
+            wrong.replace('"initial": "a"', '"initial": 1'),
+        ):
             with self.subTest(text=text), self.assertRaisesRegex(Refused, "u: no universe"):
                 universe.types_of(text, "u")
         with self.assertRaisesRegex(Refused, "more than 4194304 bytes"):

@@ -42,10 +42,15 @@ class CarriedOutTest(FolderCase):
 
     def test_an_action_without_a_command_is_only_marked(self):
         said = self.exported(WEB, commands='[[step]]\nwhen = "Web: *  -> *"\nrun = "true"\n'.replace("  ", " "))
-        self.assertIn("nothing is done for Web: new, Db: new, Db: off -> on, Web: bind sql from Db: no step of the commands fits\n", said)
+        self.assertIn(
+            "nothing is done for Web: new, Db: new, Db: off -> on, Web: bind sql from Db: no step of the commands fits\n",
+            said,
+        )
         self.assertEqual(self.make()[0], 0)
         self.assertEqual((self.folder / "done" / "0.2").read_text(), "bind sql 0 1\n")
-        self.assertIn("no step fits Web: new, Db: new", self.refused(WEB, commands='[env]\nX = ""\n', more=["--strict"]))
+        self.assertIn(
+            "no step fits Web: new, Db: new", self.refused(WEB, commands='[env]\nX = ""\n', more=["--strict"])
+        )
 
     def test_a_dry_run_does_nothing_and_errors_are_not_ignored(self):
         self.exported(CROSSED, commands='[[step]]\nwhen = "*: * -> *"\nrun = "exit 1"\n')
@@ -94,7 +99,9 @@ class CarriedOutTest(FolderCase):
 
     def test_steps_with_a_lock_are_done_one_at_a_time(self):
         body = '[ ! -e "$TOP/now" ]; touch "$TOP/now"; sleep 0.05; rm "$TOP/now"\n'
-        self.exported(plan_text(*(f"new {number} A" for number in range(4))), commands=self.commands(body, lock='"apt"'))
+        self.exported(
+            plan_text(*(f"new {number} A" for number in range(4))), commands=self.commands(body, lock='"apt"')
+        )
         self.assertEqual(self.make("-j4")[0], 0)
 
     def test_odd_values_and_input(self):
@@ -102,6 +109,12 @@ class CarriedOutTest(FolderCase):
         self.exported(plan_text("new 0 A"), commands=self.commands(body))
         self.assertEqual(self.make()[0], 0)
         self.assertEqual(self.trace(), ["it's $HOME `x` \"\\ é", "no input"])
+
+    def test_a_step_may_call_make_for_itself(self):
+        # A rule that is built into make, which the folder's own Makefile switches off.
+        body = 'cd "$TOP"\necho built >a.sh\nmake -s a\ncat a >>"$TRACE"\n'
+        self.exported(plan_text("new 0 A"), commands=self.commands(body))
+        self.assertEqual((self.make("-j2")[0], self.trace()), (0, ["built"]))
 
     def test_hosts(self):
         (self.top / "placed").write_text(PLACED.replace("hold 9 after 4 6\n", ""))
@@ -183,9 +196,15 @@ class FolderTest(FolderCase):
         self.assertIn("nothing is known of 'x'", self.refused(WEB, commands="x = 1"))
         self.assertIn("No such file", self.refused(WEB, more=["--placement", self.top / "nowhere"]))
         (self.top / "placed").write_text(PLACED)
-        self.assertIn("of which the commands say nothing", self.refused(CROSSED, commands="", more=["--placement", self.top / "placed"]))
+        self.assertIn(
+            "of which the commands say nothing",
+            self.refused(CROSSED, commands="", more=["--placement", self.top / "placed"]),
+        )
         universe = TOP / "examples" / "web.json"
-        self.assertIn("step 1 (Wob: new) fits nothing", self.refused(WEB, commands='[[step]]\nwhen="Wob: new"\nrun=""', more=["--universe", universe]))
+        self.assertIn(
+            "step 1 (Wob: new) fits nothing",
+            self.refused(WEB, commands='[[step]]\nwhen="Wob: new"\nrun=""', more=["--universe", universe]),
+        )
         long = plan_text("new 0 A", *(f"move 0 s{number} s{number + 1}" for number in range(10_000)))
         self.assertIn("10001 actions wait one for the other, and make is good for 10000: use ninja", self.refused(long))
         self.assertFalse(self.folder.exists())
@@ -213,7 +232,9 @@ class RolloutTest(FolderCase):
         self.exported(WEB)
         self.make()
         for _ in range(2):
-            self.assertIn("it goes on from 5 actions; what these leave stays until all that is new stands", self.exported(ROLLED))
+            self.assertIn(
+                "it goes on from 5 actions; what these leave stays until all that is new stands", self.exported(ROLLED)
+            )
         self.assertEqual(self.make("done/0.4")[0], 0)
         numbers = self.numbers()
         self.assertEqual((sorted(numbers), numbers[-1]), (list(range(1, 12)), 11))
@@ -221,7 +242,9 @@ class RolloutTest(FolderCase):
     @unittest.skipUnless(shutil.which("ninja"), "no ninja")
     def test_nor_by_ninja(self):
         (self.top / "old").write_text(WEB)
-        self.assertIn("`make -t old-1` marks them as done", self.exported(ROLLED, "ninja", more=["--from", self.top / "old"]))
+        self.assertIn(
+            "`make -t old-1` marks them as done", self.exported(ROLLED, "ninja", more=["--from", self.top / "old"])
+        )
         subprocess.run(["ninja", "--quiet", "-C", self.folder, "done/1.3"], check=True, capture_output=True)
         self.assertEqual(sorted(self.numbers()[-2:]), [11, 12])
 
@@ -236,11 +259,16 @@ class RolloutTest(FolderCase):
 
     def test_another_old_plan_is_refused(self):
         (self.top / "old").write_text(CROSSED)
-        self.assertIn("it does not begin with the 15 actions of", self.refused(ROLLED, more=["--from", self.top / "old"]))
+        self.assertIn(
+            "it does not begin with the 15 actions of", self.refused(ROLLED, more=["--from", self.top / "old"])
+        )
         (self.top / "old").write_text(plan_text("new 0 Web"))
         self.assertIn("no rollout of the 1 actions before", self.refused(ROLLED, more=["--from", self.top / "old"]))
         self.exported(WEB)
-        self.assertIn("does not go on from the 1 actions that --from names", self.refused(ROLLED, more=["--from", self.top / "old"]))
+        self.assertIn(
+            "does not go on from the 1 actions that --from names",
+            self.refused(ROLLED, more=["--from", self.top / "old"]),
+        )
 
     def test_what_is_no_rollout_may_be_carried_out_by_its_waits_alone(self):
         replaced = plan_text("new 0 Db", "delete 0", "new 1 Db")
@@ -289,7 +317,9 @@ class RolloutTest(FolderCase):
         self.make()
         self.exported(ROLLED)
         self.make("done/3.1")
-        part = WEB.replace("instances 2 actions 5", "instances 4 actions 10").replace("end\n", "6 new 3 Db\n7 new 4 Db\n8 delete 0\n")
+        part = WEB.replace("instances 2 actions 5", "instances 4 actions 10").replace(
+            "end\n", "6 new 3 Db\n7 new 4 Db\n8 delete 0\n"
+        )
         self.assertIn("it goes on from 6 actions", self.exported(f"{part}9 delete 1 after 8\n10 delete 3\nend\n"))
         self.assertEqual((self.folder / "rollouts").read_text(), "6 7 10\n")
 
@@ -308,8 +338,13 @@ class SplitTest(FolderCase):
         self.make("done/2.2")
         status, _, said = call("split", self.folder, self.top / "new")
         self.assertEqual((status, self.marks()), (0, ["0.1", "0.2", "0.3", "1.1", "1.2"]))
-        self.assertEqual(said, f"exporters: 3 actions are in {self.top}/new, and {self.folder} has its 5 old ones: export both anew\n")
-        self.assertEqual((self.top / "new" / "plan.txt").read_text(), plan_text("new 2 Web", "new 3 Db", "move 3 off on"))
+        self.assertEqual(
+            said,
+            f"exporters: 3 actions are in {self.top}/new, and {self.folder} has its 5 old ones: export both anew\n",
+        )
+        self.assertEqual(
+            (self.top / "new" / "plan.txt").read_text(), plan_text("new 2 Web", "new 3 Db", "move 3 off on")
+        )
         self.assertEqual(self.marks(self.top / "new"), ["2.1", "3.1", "3.2"])
         self.assertTrue((self.top / "new" / "log" / "2.2").exists())
         self.assertEqual((self.folder / "plan.txt").read_text(), WEB)
@@ -328,7 +363,9 @@ class SplitTest(FolderCase):
         (self.top / "new" / "mine").touch()
         self.assertIn("new: it has no plan.txt, and is not empty", call("split", self.folder, self.top / "new")[2])
         self.make()
-        self.assertIn("what is old is being taken away already; go on instead", call("split", self.folder, self.top / "other")[2])
+        self.assertIn(
+            "what is old is being taken away already; go on instead", call("split", self.folder, self.top / "other")[2]
+        )
         self.assertFalse((self.top / "other").exists())
 
 
@@ -341,7 +378,9 @@ class WordsTest(unittest.TestCase):
             (["bake"], 2, None),
             (["make"], 2, None),
         ):
-            done = subprocess.run([sys.executable, "-m", "exporters", *words], cwd=TOP, capture_output=True, text=True, check=False)
+            done = subprocess.run(
+                [sys.executable, "-m", "exporters", *words], cwd=TOP, capture_output=True, text=True, check=False
+            )
             self.assertEqual((done.returncode, done.stdout), (status, ""), words)
             self.assertEqual(done.stderr if said else None, said)
 

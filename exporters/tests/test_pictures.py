@@ -50,13 +50,18 @@ class PictureTest(FolderCase):
 
     def test_what_is_too_much_is_refused(self):
         for words, reason in (
-            (["--most", "3"], "15 actions, and a picture of more than 3 is not read by anybody: draw it with --instances, or with --most 15"),
+            (
+                ["--most", "3"],
+                "15 actions, and a picture of more than 3 is not read by anybody: draw it with --instances, or with --most 15",
+            ),
             (["--instances", "--most", "2"], "3 instances, and a picture of more than 2"),
         ):
             status, picture, said = self.drawn(CROSSED, "dot", "-", *words)
             self.assertEqual((status, picture, said.count("\n")), (1, "", 1))
             self.assertIn(reason, said)
-        self.assertIn("3 states, and a picture of more than 2", self.drawn(json.dumps(UNIVERSE), "mermaid", "-", "--most", "2")[2])
+        self.assertIn(
+            "3 states, and a picture of more than 2", self.drawn(json.dumps(UNIVERSE), "mermaid", "-", "--most", "2")[2]
+        )
 
     def test_a_universe_with_a_port_that_nobody_provides(self):
         picture = self.drawn(json.dumps(UNIVERSE), "dot", "-")[1]
@@ -94,10 +99,18 @@ class ChartTest(FolderCase):
     def test_waves_of_something_else_are_refused(self):
         for waves, numbers, reason in (
             (WAVES, "20 5 1 1 61".split(), "action 4 starts at 80, which the plan and these five numbers do not give"),
-            (WAVES.replace("finish 141", "finish 142"), NUMBERS, "it ends at 142, which the plan and these five numbers do not give"),
+            (
+                WAVES.replace("finish 141", "finish 142"),
+                NUMBERS,
+                "it ends at 142, which the plan and these five numbers do not give",
+            ),
             (WAVES.replace("5 at 81 to 81\n", ""), NUMBERS, "it has 4 actions, and the plan 5"),
             (WAVES.replace("2 at 0", "3 at 0"), NUMBERS, "line 2 is not '2 at E to L'"),
-            (WAVES.replace("finish", "loose"), NUMBERS, "not what `metis waves` prints, since it does not end in 'finish T' and 'chain K ..'"),
+            (
+                WAVES.replace("finish", "loose"),
+                NUMBERS,
+                "not what `metis waves` prints, since it does not end in 'finish T' and 'chain K ..'",
+            ),
             ("bad 1 A2 0\n", NUMBERS, "not what `metis waves` prints"),
             (WAVES, NUMBERS[:4], "a chart is made of a folder, or of a plan, its waves and the five numbers"),
         ):
@@ -119,13 +132,22 @@ class ChartTest(FolderCase):
         status, chart, said = call("gantt", self.folder)
         self.assertEqual((status, said), (0, ""))
         xml.dom.minidom.parseString(chart)
-        red = [line.split("<title>")[1].split(" ")[0] for line in chart.splitlines() if "<title>" in line and CRITICAL in line]
+        red = [
+            line.split("<title>")[1].split(" ")[0]
+            for line in chart.splitlines()
+            if "<title>" in line and CRITICAL in line
+        ]
         # 11 waited for the barrier, and what ended last of the fresh ones is 10, behind 9, behind 6.
         self.assertEqual(red, ["6", "9", "10", "11"])
         self.assertIn(">10.5 s</text>", chart)
 
     def test_ticks_are_round_and_few(self):
-        for finish, expected in ((0, []), (5, [0, 1, 2, 3, 4]), (141, [0, 20, 40, 60, 80, 100, 120]), (7_000_000, list(range(0, 7_000_000, 1_000_000)))):
+        for finish, expected in (
+            (0, []),
+            (5, [0, 1, 2, 3, 4]),
+            (141, [0, 20, 40, 60, 80, 100, 120]),
+            (7_000_000, list(range(0, 7_000_000, 1_000_000))),
+        ):
             chart = Chart([], "")
             chart.finish = finish
             self.assertEqual(chart.ticks(), expected)

@@ -39,13 +39,21 @@ class RolloutTest(unittest.TestCase):
                 rollout_in(steps_of(plan_text(*lines)), 1)
 
     def test_the_whole_removal_waits_and_nothing_else(self):
-        for text, rollout, removal in ((ROLLED, Rollout(5, 10, 12), [11, 12]), (plan_text(*CYCLE), Rollout(4, 5, 13), [*range(6, 14)])):
+        for text, rollout, removal in (
+            (ROLLED, Rollout(5, 10, 12), [11, 12]),
+            (plan_text(*CYCLE), Rollout(4, 5, 13), [*range(6, 14)]),
+        ):
             waiting = [step.action.number for step in steps_of(text) if barrier_of(step, [rollout]) == 0]
             self.assertEqual(waiting, removal)
         self.assertEqual({barrier_of(step, [Rollout(5, 5, 7)]) for step in steps_of(TAKEN_DOWN)}, {None})
 
     def test_a_rollout_is_told_from_a_plan_by_what_goes_with_all_that_it_was_bound_to(self):
-        for text in (WEB, CROSSED, TAKEN_DOWN, plan_text("new 0 A", "new 1 B", "bind p 0 1 after 2", "unbind p 0 1", "delete 1 after 4")):
+        for text in (
+            WEB,
+            CROSSED,
+            TAKEN_DOWN,
+            plan_text("new 0 A", "new 1 B", "bind p 0 1 after 2", "unbind p 0 1", "delete 1 after 4"),
+        ):
             self.assertIsNone(first_gone(steps_of(text)))
         self.assertEqual(first_gone(steps_of(ROLLED)).action.number, 11)
         self.assertEqual(first_gone(steps_of(plan_text(*CYCLE))).action.number, 11)
@@ -55,7 +63,9 @@ class RolloutTest(unittest.TestCase):
         self.assertEqual(longest_chain(steps_of(ROLLED), ()), 6)
         self.assertEqual(longest_chain(steps_of(ROLLED), [Rollout(5, 10, 12)]), 6)
         lines = ("new 0 A", *("new 1 A", "move 1 a b", "move 1 b c"), "delete 0")
-        self.assertEqual([longest_chain(steps_of(plan_text(*lines)), rollouts) for rollouts in ((), [Rollout(1, 4, 5)])], [3, 4])
+        self.assertEqual(
+            [longest_chain(steps_of(plan_text(*lines)), rollouts) for rollouts in ((), [Rollout(1, 4, 5)])], [3, 4]
+        )
 
 
 if __name__ == "__main__":

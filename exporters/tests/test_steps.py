@@ -18,7 +18,9 @@ class StepsTest(unittest.TestCase):
 
     def test_a_delete_lets_all_that_it_took_go_once(self):
         lines = ("bind q 0 1 after 2", "delete 0", "delete 1 after 5")
-        self.assertEqual([step.waits for step in steps_of(plan_text(*BOUND, *lines))], [(), (), (1, 2), (2, 3), (4,), (2, 5)])
+        self.assertEqual(
+            [step.waits for step in steps_of(plan_text(*BOUND, *lines))], [(), (), (1, 2), (2, 3), (4,), (2, 5)]
+        )
 
     def test_what_was_let_go_before_a_move_is_not_waited_for_behind_it(self):
         lines = ("unbind p 0 1", "move 1 b c after 4", "move 1 c d")
