@@ -1,34 +1,70 @@
 """A Compose project: its networks, volumes, images and services, and what each service waits for."""
 
-import dataclasses
+import collections
+import functools
 
 from importers.compose_input import COMPLETED, HEALTHY, STARTED, read_project
-from importers.document import RESERVED, ComponentType, Names, Refused, State, document, one_each, two_states
+from importers.compose_next import NEXT, PROJECT, Beside
+from importers.document import (
+    MOST_OF_A_PORT,
+    RESERVED,
+    ComponentType,
+    Names,
+    Refused,
+    State,
+    check_limits,
+    document,
+    one_each,
+    two_states,
+)
 
-PROJECT = "project"
 # A service of one of these names is written `service/NAME`, so that no two types have one name.
 TAKEN = (PROJECT, RESERVED, "network", "volume", "image", "service")
-NEXT = "@next"
+REPLACE_DATA = "--replace-data"
 
 
 def switched_on(project, profiles):
     """The services that are wanted: those without a profile, and those of a profile that is asked for."""
-    names = set(project.services)
     on = {
         name
         for name, service in project.services.items()
         if not service.profiles or service.profiles & set(profiles) or "*" in profiles
     }
     for name in sorted(on):
-        for other, need in project.services[name].needs.items():
-            if other not in names and need.is_required:
-                raise Refused(f"service {name}: it depends on {other}, which nobody defines")
-            if other in names and other not in on and need.is_required:
-                raise Refused(
-                    f"service {name}: it depends on {other}, which is off; "
-                    f"--profile {sorted(project.services[other].profiles)[0]} switches it on"
-                )
+        check_service(project, on, project.services[name])
     return {name for name in on if project.services[name].replicas > 0}
+
+
+def check_service(project, on, service):
+    """Refuses a service with which Compose would fail, or wait for ever."""
+    where = f"service {service.name}"
+    if service.container_name and service.replicas > 1:
+        raise Refused(f"{where}: {service.replicas} replicas cannot all have the name {service.container_name}")
+    for other in service.built_on:
+        if other not in project.services:
+            raise Refused(f"{where}: it is built on {other}, which nobody defines")
+    for other, need in service.needs.items():
+        if other not in project.services and need.is_required:
+            raise Refused(f"{where}: it depends on {other}, which nobody defines")
+        if other not in project.services or not need.is_required:
+            continue
+        if other not in on:
+            raise Refused(
+                f"{where}: it depends on {other}, which is off; "
+                f"--profile {sorted(project.services[other].profiles)[0]} switches it on"
+            )
+        fault = never_comes(project.services[other], need)
+        if fault:
+            raise Refused(f"{where}: {fault}")
+
+
+def never_comes(service, need):
+    """Why a service never comes to the milestone that somebody waits for, or None."""
+    if need.milestone == HEALTHY and service.is_never_healthy:
+        return f"it waits for {service.name} to be healthy, whose healthcheck is off"
+    if need.milestone == COMPLETED and service.restarts:
+        return f"it waits for {service.name} to complete, which starts again whenever it ends (restart: {service.restarts})"
+    return None
 
 
 class Deployment:
@@ -37,8 +73,23 @@ class Deployment:
     def __init__(self, project, profiles, given):
         self.project = project
         self.on = switched_on(project, profiles)
-        self.given = self.closed({name for name in given if self.knows(name)})
+        self.given = frozenset()
+        self.give(given)
+
+    def give(self, names):
+        """Takes more for what stands: those of these names that the project has, with all that they stand on."""
+        self.given = self.closed({*self.given, *(name for name in names if self.knows(name))})
         self.wanted = sorted(self.on - self.given)
+        self.__dict__.pop("asked", None)
+
+    def holding_data(self):
+        """The project's own volumes, and the services that write to one."""
+        services = [name for name in sorted(self.on) if self.own_volumes(self.service(name).written_volumes)]
+        volumes = {volume for name in self.on for volume in self.own_volumes(self.service(name).volumes)}
+        return [*services, *sorted(volumes)]
+
+    def own_volumes(self, names):
+        return [f"volume/{name}" for name in names if f"volume/{name}" not in self.project.external]
 
     def service(self, name):
         return self.project.services[name]
@@ -48,12 +99,32 @@ class Deployment:
         service = self.service(name)
         things = [f"network/{each}" for each in service.networks] + [f"volume/{each}" for each in service.volumes]
         own = [each for each in things if each not in self.project.external]
-        return [*own, f"image/{service.image}"]
+        return [*own, self.image(name)]
+
+    def image(self, name):
+        return f"image/{self.service(name).image}"
+
+    def images(self):
+        """For each image that is needed those in which its build goes on."""
+        found, work = {}, list(self.wanted)
+        while work:
+            name = work.pop()
+            if self.image(name) in self.given:
+                continue
+            built_on = [other for other in self.service(name).built_on if self.image(other) != self.image(name)]
+            known = found.setdefault(self.image(name), {})
+            work += [other for other in built_on if self.image(other) not in known]
+            known.update((self.image(other), None) for other in built_on)
+        return found
 
     def needs(self, name):
         """The milestone of each service that one waits for. For one that is off, or has no replicas, nobody waits."""
         needs = self.service(name).needs.items()
-        return {other: need.milestone for other, need in sorted(needs) if other in self.on}
+        return {
+            other: need.milestone
+            for other, need in sorted(needs)
+            if other in self.on and never_comes(self.service(other), need) is None
+        }
 
     def knows(self, name):
         """Whether the project has a service, network, volume or image of this name."""
@@ -71,9 +142,14 @@ class Deployment:
                     work += [*self.things(name), *self.needs(name)]
         return found
 
-    def asked(self, name):
-        """The milestones of a service that some other one waits for."""
-        return {self.needs(each).get(name) for each in self.wanted} - {None}
+    @functools.cached_property
+    def asked(self):
+        """For each service its milestones that some other one waits for."""
+        asked = collections.defaultdict(set)
+        for name in self.wanted:
+            for other, milestone in self.needs(name).items():
+                asked[other].add(milestone)
+        return asked
 
 
 class Writer:
@@ -85,8 +161,11 @@ class Writer:
 
     def types(self):
         services = [each for name in self.deployment.wanted for each in self.service(name)]
-        things = {thing for name in self.deployment.wanted for thing in self.things(name)}
-        made = [two_states(thing, "absent", "there", (thing,)) for thing in sorted(things)]
+        things = {thing: () for name in self.deployment.wanted for thing in self.things(name)}
+        given = self.deployment.given
+        for image, built_on in self.deployment.images().items():
+            things[self.names.of(image)] = [self.names.of(each) for each in built_on if each not in given]
+        made = [two_states(thing, "absent", "there", (thing,), one_each(things[thing])) for thing in sorted(things)]
         return [*services, *made, self.whole()]
 
     def type_name(self, name):
@@ -101,7 +180,7 @@ class Writer:
 
     def milestones(self, name):
         """The milestones that a service comes to, later ones last, and whether these are components of their own."""
-        asked = self.deployment.asked(name)
+        asked = self.deployment.asked.get(name, ())
         later = [each for each in (HEALTHY, COMPLETED) if each in asked]
         return later, bool(later) and (STARTED in asked or len(later) > 1)
 
@@ -146,61 +225,87 @@ class Writer:
         return two_states(PROJECT, "down", "up", (), required)
 
 
-def beside(first, second, names):
-    """The types of two projects in one universe: those of the first, and those of the second that are not the same.
+class Plan:
+    """One project, or two in one universe, with what of them stands."""
 
-    A type of the second that differs from the first's of its name, or requires what such a one provides, stands as
-    NAME@next, and so do the ports that it provides.
-    """
-    standing = {each.name: each for each in first}
-    renamed = {PROJECT}
-    while True:
-        ports = {port for each in second if each.name in renamed for state in each.states for port in state.provide}
-        more = {each.name for each in second if each.name in standing and differs(each, standing[each.name], ports)}
-        if more <= renamed:
-            break
-        renamed |= more
-    port_of = {port: names.of(port + NEXT) for port in ports}
-    fresh = [each for each in second if each.name in renamed or each.name not in standing]
-    return [*first, *(moved(each, renamed, port_of, names) for each in fresh)]
+    def __init__(self, projects, profiles=(), given=(), replaces_data=False):
+        self.deployments = [Deployment(project, profiles, given) for project in projects]
+        for name in given:
+            if not any(deployment.knows(name) for deployment in self.deployments):
+                raise Refused(f"--given {name}: the project has no service, network, volume or image of this name")
+        self.kept = [] if replaces_data else self.keep_data()
+        self.given = [*given, *self.kept]
+        self.names = Names()
+        self.types = [Writer(deployment, self.names).types() for deployment in self.deployments]
+        for types in self.types:
+            check_limits(types)
+        self.beside = Beside(*self.types, self.names) if len(projects) > 1 else None
 
+    def keep_data(self):
+        """What holds data in a project that another one follows: it is given, so that no plan takes it away."""
+        first, *later = self.deployments
+        kept = [name for name in first.holding_data() if name not in first.given] if later else []
+        for deployment in self.deployments:
+            deployment.give(kept)
+        return kept
 
-def differs(component, standing, ports):
-    return component != standing or any(port in ports for state in component.states for port in state.require)
+    def document(self):
+        return document(self.comment(), self.beside.types() if self.beside else self.types[0], self.names)
 
-
-def moved(component, renamed, port_of, names):
-    name = names.of(component.name + NEXT) if component.name in renamed else component.name
-    states = tuple(
-        dataclasses.replace(
-            state,
-            provide=tuple(port_of.get(port, port) for port in state.provide),
-            require={port_of.get(port, port): count for port, count in state.require.items()},
+    def comment(self):
+        named = " and then ".join(
+            f"the Compose project {each.project.name or 'without a name'} with {len(each.on)} services"
+            for each in self.deployments
         )
-        for state in component.states
-    )
-    return ComponentType(name, states)
+        standing = f", where {', '.join(self.given)} stands" if self.given else ""
+        targets = f"{PROJECT}:up" + (f" or {PROJECT}{NEXT}:up" if self.beside else "")
+        return f"{named}{standing}, by importers compose; target: {targets}"
+
+    def notes(self):
+        """What was left open, or to others."""
+        for deployment in self.deployments:
+            yield from deployment.project.notes
+            yield from healths(deployment)
+            yield from shared_ports(deployment)
+        if self.kept:
+            yield f"given, since it holds data: {', '.join(self.kept)}; {REPLACE_DATA} takes it as all else"
+        if self.beside:
+            yield from self.twice()
+
+    def twice(self):
+        """The services that stand twice while one follows the other, with what a host has once."""
+        first, second = (deployment.project.services for deployment in self.deployments)
+        for name in sorted(set(self.deployments[0].wanted) & set(self.deployments[1].wanted)):
+            if Writer(self.deployments[0], self.names).type_name(name) not in self.beside.renamed:
+                continue
+            ports = sorted(set(first[name].ports) & set(second[name].ports))
+            has_one_name = first[name].container_name and first[name].container_name == second[name].container_name
+            taken = [f"port {port}" for port in ports] + [f"the name {first[name].container_name}"] * bool(has_one_name)
+            if taken:
+                yield f"{name} and {name}{NEXT} both take {', '.join(taken)}, so they cannot stand on one host at once"
 
 
-def universe(projects, profiles=(), given=()):
+def healths(deployment):
+    """Notes on services whose health somebody waits for, and whose check has to be in their image."""
+    for name in deployment.wanted:
+        if HEALTHY in deployment.asked.get(name, ()) and not deployment.service(name).is_checked:
+            yield f"{name} has no healthcheck here: it gets healthy if its image has one"
+
+
+def shared_ports(deployment):
+    """Notes on ports of the host that more than one container takes."""
+    takers = collections.defaultdict(list)
+    for name in deployment.wanted:
+        for port in deployment.service(name).ports:
+            takers[port] += [name] * min(deployment.service(name).replicas, MOST_OF_A_PORT)
+    for port, names in sorted(takers.items()):
+        if len(names) > 1:
+            yield f"port {port} is taken by {len(names)} containers, of {', '.join(dict.fromkeys(names))}: one host has it once"
+
+
+def universe(projects, profiles=(), given=(), replaces_data=False):
     """The document of a project, or of one and the next one."""
-    deployments = [Deployment(project, profiles, given) for project in projects]
-    for name in given:
-        if not any(deployment.knows(name) for deployment in deployments):
-            raise Refused(f"--given {name}: the project has no service, network, volume or image of this name")
-    names = Names()
-    types = [Writer(deployment, names).types() for deployment in deployments]
-    whole = types[0] if len(types) == 1 else beside(*types, names)
-    return document(comment(deployments, given), whole, names)
-
-
-def comment(deployments, given):
-    named = " and then ".join(
-        f"the Compose project {each.project.name or 'without a name'} with {len(each.on)} services" for each in deployments
-    )
-    standing = f", where {', '.join(given)} stands" if given else ""
-    targets = f"{PROJECT}:up" + (f" or {PROJECT}{NEXT}:up" if len(deployments) > 1 else "")
-    return f"{named}{standing}, by importers compose; target: {targets}"
+    return Plan(projects, profiles, given, replaces_data).document()
 
 
 def add_arguments(parser):
@@ -214,9 +319,15 @@ def add_arguments(parser):
         metavar="NAME",
         help="what stands, with all that it needs, and is left alone: SERVICE, network/N, volume/N or image/I",
     )
+    parser.add_argument(
+        REPLACE_DATA,
+        action="store_true",
+        help="with --next: volumes, and services that write to them, are made anew and taken away as all else",
+    )
 
 
 def run(arguments):
     paths = [arguments.file] + ([arguments.next] if arguments.next else [])
     projects = [read_project(path) for path in paths]
-    return universe(projects, arguments.profile, arguments.given), []
+    plan = Plan(projects, arguments.profile, arguments.given, arguments.replace_data)
+    return plan.document(), list(dict.fromkeys(plan.notes()))

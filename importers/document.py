@@ -17,10 +17,19 @@ LONGEST_NAME = 64
 # In a universe with a type of this name the word `port:NAME` would ask for a state of that type.
 RESERVED = "port"
 DIGEST_LENGTH = 12
+LONGEST_LINE = 1_000
+LONGEST_COMMENT = 100_000
 
 
 class Refused(Exception):
     """Why nothing is made of an input, in one line."""
+
+
+def plain(text, longest=LONGEST_LINE):
+    """A text as one line, of a length that can be read, and without what a terminal would obey."""
+    line = " ".join(text[: 4 * longest].split())
+    safe = "".join(each if each.isprintable() else each.encode("unicode_escape").decode() for each in line)
+    return safe if len(safe) <= longest else safe[:longest] + " .."
 
 
 @dataclasses.dataclass(frozen=True)
@@ -71,7 +80,7 @@ class Names:
         name = re.sub(r"[^A-Za-z0-9_./@-]", "_", text)
         is_taken = self.text_of.get(name, text) != text
         if is_taken or name in (RESERVED, "") or len(name) > LONGEST_NAME:
-            digest = hashlib.sha256(text.encode()).hexdigest()[:DIGEST_LENGTH]
+            digest = hashlib.sha256(text.encode(errors="surrogatepass")).hexdigest()[:DIGEST_LENGTH]
             name = f"{name[: LONGEST_NAME - DIGEST_LENGTH - 1]}-{digest}"
         self.text_of[name] = text
         return name
@@ -164,7 +173,7 @@ def document(comment, types, names):
     counts = (count for component in whole for state in component.states for count in state.require.values())
     version = 2 if any(count > 1 for count in counts) else 1
     lines = ",\n".join(written_type(component) for component in whole)
-    text = f'{{"aeolus":{version},"comment":{json.dumps(comment)},"types":[\n{lines}]}}\n'
+    text = f'{{"aeolus":{version},"comment":{json.dumps(plain(comment, LONGEST_COMMENT))},"types":[\n{lines}]}}\n'
     if len(text) > MOST_BYTES:
         raise Refused(f"the document has {len(text)} bytes, and Metis takes at most {MOST_BYTES}")
     return text

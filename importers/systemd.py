@@ -2,21 +2,33 @@
 
 import collections
 
+from importers import unit_names
 from importers.document import Names, Refused, document, one_each, two_states
-from importers.units import FOLDERS, HARD_PULLS, MADE_AT_BOOT, PULLS, Folders, with_defaults
+from importers.unit_defaults import with_defaults
+from importers.unit_names import is_name, kind_of
+from importers.units import FOLDERS, Folders, Unit
 
 BOOT = "boot"
 MOST_NAMED = 6
+MOST_UNITS = 2_000
+PULLS = ("Requires", "BindsTo", "Wants", "Upholds")
+HARD_PULLS = ("Requires", "BindsTo")
+# A target comes after these of its units; those that it only asks to stand already count too.
+OF_TARGETS = (*PULLS, "Requisite")
+# Units of these kinds are made at boot, of the kernel's or the machine's own tables; where no file has one it is given.
+MADE_AT_BOOT = ("device", "slice", "scope", "mount", "swap", "automount")
 
 
 def is_given(name):
-    return name.rpartition(".")[2] in MADE_AT_BOOT
+    return kind_of(name) in MADE_AT_BOOT
 
 
 class Pulled:
     """All units that one pulls in, and those that are not there."""
 
     def __init__(self, folders, target):
+        self.folders = folders
+        self.target = target
         self.units = {}
         self.absent = set()
         work = collections.deque([target])
@@ -28,25 +40,51 @@ class Pulled:
             if unit is None:
                 self.absent.add(name)
                 continue
-            unit = self.units[name] = with_defaults(unit)
+            if len(self.units) > MOST_UNITS:
+                raise Refused(f"{target} pulls in more than {MOST_UNITS} units")
+            unit = self.units[name] = self.whole(unit)
             work += [other for key in PULLS for other in unit[key]]
         self.absent = {name for name in self.absent if not is_given(name)}
 
+    def whole(self, unit):
+        """A unit with what systemd adds, where each name is that of a unit itself."""
+        whole = with_defaults(unit)
+        for path in whole["RequiresMountsFor"]:
+            self.add_mounts(whole, path)
+        own = {key: list(map(self.folders.own_name, whole[key])) for key in (*OF_TARGETS, "After", "Before", "Conflicts")}
+        return Unit(unit.name, {**whole.settings, **own})
+
+    def add_mounts(self, unit, path):
+        """Orders a unit after the mounts that a path lies on; those that a file has are pulled in."""
+        path = unit_names.with_specifiers(path, unit.name) or ""
+        for mount in unit_names.mounts_above(path):
+            if mount != unit.name and self.folders.load(mount) is not None:
+                unit.settings["After"].append(mount)
+                unit.settings["Requires"].append(mount)
+
     def failing(self):
         """The units that cannot start, each with a unit that it requires and that is not there or cannot start."""
+        requiring = collections.defaultdict(list)
+        for name, unit in self.units.items():
+            for key in HARD_PULLS:
+                for other in unit[key]:
+                    requiring[other].append(name)
         failing = {}
-        while True:
-            more = {
-                name: other
-                for name, unit in self.units.items()
-                if name not in failing
-                for key in HARD_PULLS
-                for other in unit[key]
-                if other in self.absent or other in failing
-            }
-            if not more:
-                return failing
-            failing.update(more)
+        work = collections.deque(sorted(self.absent))
+        while work:
+            other = work.popleft()
+            for name in requiring[other]:
+                if name not in failing:
+                    failing[name] = other
+                    work.append(name)
+        return failing
+
+    def never_met(self):
+        """The units that ask for another one to stand already, which nothing here starts."""
+        for name, unit in sorted(self.units.items()):
+            for other in unit["Requisite"]:
+                if other not in self.units and not is_given(other):
+                    yield name, other
 
     def orders(self):
         """For each unit those after which it starts."""
@@ -60,7 +98,7 @@ class Pulled:
                     after[other].add(name)
         for name, unit in self.units.items():
             if unit.kind == "target" and unit.has_defaults:
-                after[name] |= {other for key in PULLS for other in unit[key] if self.is_before(other, name, after)}
+                after[name] |= {other for key in OF_TARGETS for other in unit[key] if self.is_before(other, name, after)}
         return after
 
     def is_before(self, other, target, after):
@@ -69,17 +107,28 @@ class Pulled:
         return unit is not None and other != target and unit.has_defaults and target not in after[other]
 
     def leave_out(self, names):
-        for name in names:
-            del self.units[name]
+        """Takes away these units, and those that nothing else pulls in."""
+        reached, work = set(), [self.target]
+        while work:
+            name = work.pop()
+            if name in self.units and name not in names and name not in reached:
+                reached.add(name)
+                work += [other for key in PULLS for other in self.units[name][key]]
+        self.units = {name: unit for name, unit in self.units.items() if name in reached}
 
 
 def universe(folders, target):
     """The document of a target, and notes on what is left out."""
+    if not is_name(target) or unit_names.is_template(target):
+        raise Refused(f"no name of a unit: {target}")
     name = folders.own_name(target)
-    if folders.first(name) is None and folders.load(name) is None:
-        raise Refused(f"no unit {target} in {', '.join('/' + each for each in FOLDERS)}")
     if folders.load(name) is None:
-        raise Refused(f"{target} is masked, so it is never started")
+        path = folders.first(name)
+        if path is None:
+            raise Refused(f"no unit {target} in {', '.join('/' + each for each in FOLDERS)}")
+        if folders.is_masked(path):
+            raise Refused(f"{target} is masked, so it is never started")
+        raise Refused(f"{target}: /{path} leads to no file that can be read")
     pulled = Pulled(folders, name)
     failing = pulled.failing()
     notes = [f"{each} requires {other}, which is not there or cannot start" for each, other in sorted(failing.items())]
@@ -98,6 +147,9 @@ def left_out(pulled, failing):
     if wanted:
         more = ", .." if len(wanted) > MOST_NAMED else ""
         yield f"wanted, and not there: {', '.join(wanted[:MOST_NAMED])}{more}"
+    yield from (note for note in dict.fromkeys(pulled.folders.notes))
+    for name, other in pulled.never_met():
+        yield f"{name} asks for {other} to stand already, and nothing here starts that: it will fail"
     conflicts = sum(
         other in pulled.units and other != name for name, unit in pulled.units.items() for other in unit["Conflicts"]
     )

@@ -3,10 +3,15 @@
 import dataclasses
 import re
 
-NUMBER = re.compile(r"0|[1-9][0-9]*")
-PAIR = re.compile(r"[A-Za-z0-9_./@-]+:[A-Za-z0-9_./@-]+")
-# How many words stand behind the verb of an action, and which of them are instances.
+# Names and numbers, as docs/FORMATS.md has them.
+NAME = re.compile(r"[A-Za-z0-9_./@-]{1,64}")
+PAIR = re.compile(rf"{NAME.pattern}:{NAME.pattern}")
+NUMBER = re.compile(r"0|[1-9][0-9]{0,9}")
+MOST_NUMBER = 4_294_967_295
+# How many words stand behind the verb of an action, and which of them are instances; the others are names.
 FORMS = {"new": (2, (0,)), "delete": (1, (0,)), "bind": (3, (1, 2)), "unbind": (3, (1, 2)), "move": (3, (0,))}
+# How much of a word is shown where it is refused.
+LONGEST_SHOWN = 80
 
 
 class NoText(ValueError):
@@ -17,7 +22,12 @@ def refuse(line, reason):
     raise NoText(f"line {line}: {reason}")
 
 
-@dataclasses.dataclass(frozen=True)
+def shown(text):
+    """A text in quotes, without what a terminal would obey, and not all of a long one."""
+    return ascii(text if len(text) <= LONGEST_SHOWN else f"{text[:LONGEST_SHOWN]}..")
+
+
+@dataclasses.dataclass(frozen=True, slots=True)
 class Action:
     """An action of a plan, with the numbers of those of other instances that it waits for."""
 
@@ -89,7 +99,7 @@ def read(text):
     lines = text.split("\n")
     readers = {"metis plan 1": read_plan, "metis refusal 1": read_refusal, "metis why 1": read_explanation}
     if lines[0] not in readers:
-        refuse(1, f"no plan, refusal or explanation, but {lines[0]!r}")
+        refuse(1, f"no plan, refusal or explanation, but {shown(lines[0])}")
     if lines[-1] != "":
         refuse(len(lines), "the text ends inside a line")
     return readers[lines[0]](lines[:-1])
@@ -110,9 +120,19 @@ def check_end(lines, number):
 
 def numbers(line, words):
     for word in words:
-        if not NUMBER.fullmatch(word):
-            refuse(line, f"no number: {word!r}")
+        if not NUMBER.fullmatch(word) or int(word) > MOST_NUMBER:
+            refuse(line, f"no number: {shown(word)}")
     return tuple(map(int, words))
+
+
+def name(line, word, known):
+    """The word, where it is a name. Each name is looked at once, and kept once however often it stands in a text."""
+    kept = known.get(word)
+    if kept is None:
+        if not NAME.fullmatch(word):
+            refuse(line, f"no name: {shown(word)}")
+        kept = known[word] = word
+    return kept
 
 
 def read_plan(lines):
@@ -120,8 +140,8 @@ def read_plan(lines):
     if head[::2] != ["instances", "actions", "dups"] or len(head) != 6:
         refuse(2, "not 'instances I actions A dups D'")
     instances, action_count, dup_count = numbers(2, head[1::2])
-    type_of = {}
-    actions = tuple(read_action(lines, number, type_of) for number in range(1, action_count + 1))
+    type_of, known = {}, {}
+    actions = tuple(read_action(lines, number, type_of, known) for number in range(1, action_count + 1))
     if sum(action.verb == "new" for action in actions) != instances:
         refuse(2, "not the number of instances that are made")
     first_dup = action_count + 3
@@ -130,8 +150,8 @@ def read_plan(lines):
     return Plan(actions, dups)
 
 
-def read_action(lines, number, type_of):
-    """An action; `type_of` has the type of each instance that the lines before it made."""
+def read_action(lines, number, type_of, known):
+    """An action; `type_of` has the type of each instance that the lines before it made, and `known` the names so far."""
     line = number + 2
     words = line_at(lines, line)
     if len(words) < 2 or words[1] not in FORMS:
@@ -146,18 +166,26 @@ def read_action(lines, number, type_of):
     after = numbers(line, rest[1:])
     if any(not 1 <= each < number for each in after):
         refuse(line, "an action waits for earlier ones alone")
+    if any(one >= other for one, other in zip(after, after[1:])):
+        refuse(line, "the numbers behind 'after' do not ascend")
+    own = tuple(name(line, word, known) for word in own)
     if words[1] == "new":
         type_of[named[0]] = own[1]
     for instance in named:
         if instance not in type_of:
             refuse(line, f"no line before made instance {instance}")
-    return Action(number, words[1], tuple(own), after, tuple(type_of[instance] for instance in named))
+    return Action(number, words[1], own, after, tuple(type_of[instance] for instance in named))
 
 
 def read_dup(lines, line, number):
     words = line_at(lines, line)
     if words[:2] != ["dup", str(number)] or words[3:4] != ["cycle"] or len(words) < 6:
         refuse(line, f"not 'dup {number} TYPE:STATE cycle' and two or more events")
+    if not PAIR.fullmatch(words[2]):
+        refuse(line, f"no pair: {shown(words[2])}")
+    for event in words[4:]:
+        if not NAME.fullmatch(event):
+            refuse(line, f"no event: {shown(event)}")
     return Dup(words[2], tuple(words[4:]))
 
 
@@ -185,7 +213,7 @@ def read_refusal(lines):
     pairs = counted(lines, "pairs")
     for place, pair in enumerate(pairs):
         if not PAIR.fullmatch(pair):
-            refuse(place + 4, f"no pair: {pair!r}")
+            refuse(place + 4, f"no pair: {shown(pair)}")
     return Refusal(goal, tuple(pairs))
 
 
@@ -197,7 +225,7 @@ def names_in(line, words):
         return ()
     for word in words[1:]:
         if not PAIR.fullmatch(word):
-            refuse(line, f"no pair: {word!r}")
+            refuse(line, f"no pair: {shown(word)}")
     return tuple(words[1:])
 
 
@@ -212,13 +240,13 @@ def read_reason(text, line):
     words = text.split(" ")
     pair, rest = words[0], words[1:]
     if not PAIR.fullmatch(pair):
-        refuse(line, f"no pair: {pair!r}")
+        refuse(line, f"no pair: {shown(pair)}")
     if rest[:1] == ["needs"] and len(rest) > 2:
-        return Reason(pair, rest[1], False, False, names_in(line, rest[2:]))
+        return Reason(pair, name(line, rest[1], {}), False, False, names_in(line, rest[2:]))
     if rest[:1] == ["comes"]:
         return Reason(pair, None, False, True, names_in(line, rest[1:]))
     if rest[:2] == ["starts", "needing"] and rest[3:5] == ["and", "comes"]:
-        return Reason(pair, rest[2], True, True, names_in(line, rest[5:]))
+        return Reason(pair, name(line, rest[2], {}), True, True, names_in(line, rest[5:]))
     return refuse(line, "no reason")
 
 
@@ -247,3 +275,19 @@ def random_order(plan, random):
             if waits_for[other] == 0:
                 ready.append(other)
     return order
+
+
+def in_words(action):
+    """An action in words, as `Web#0 takes sql from Db#1`."""
+    who = f"{action.type}#{action.instance}"
+    words = action.words
+    if action.verb == "new":
+        return f"make {who}"
+    if action.verb == "delete":
+        return f"delete {who}"
+    if action.verb == "move":
+        return f"{who}: {words[1]} -> {words[2]}"
+    provider = f"{action.provider_type}#{action.provider}"
+    if action.verb == "bind":
+        return f"{who} takes {words[0]} from {provider}"
+    return f"{who} lets {words[0]} of {provider} go"

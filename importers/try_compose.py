@@ -21,6 +21,7 @@ sys.path.insert(0, str(TOP))
 
 from importers import compose, compose_input, texts
 from importers.document import Refused
+from importers.reading import read_text, value_of
 
 REACHED = {
     "service_started": ("started", "healthy", "completed"),
@@ -153,7 +154,7 @@ def check(plan, services, orders, is_up):
 def try_project(metis, path, arguments):
     """Lines on one project, and whether all was as it says."""
     document = compose.universe([compose_input.read_project(path)], arguments.profile)
-    project = compose_input.value_of(compose_input.read_text(path), path)
+    project = value_of(read_text(path), path, compose_input.AS_JSON)
     mark_external(project)
     services = wanted_services(project, arguments.profile)
     with tempfile.TemporaryDirectory() as folder:

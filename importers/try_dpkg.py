@@ -1,23 +1,28 @@
 #!/usr/bin/env python3
-"""Carries out plans with the real dpkg, or compares universes with apt:
+"""Carries out plans with the real dpkg, and compares universes with apt:
 
-    python3 importers/try_dpkg.py [--metis PROGRAM] [--orders N] [--apt|--installed] PACKAGE ..
+    python3 importers/try_dpkg.py [--metis PROGRAM] [--orders N] [--installed] [--apt] [--draw N] [PACKAGE ..]
 
 For each package of this machine's index a universe is made, the program (the script `metis` of this repository, if none
 is named) plans for it, and dpkg does what the plan says, in the printed order and in N random ones (1) that keep its
-waits. It does so in a root of its own, a temporary folder, in which the base system stands as installed, and with empty
-packages that have the real control fields: so dpkg looks at each Depends, Pre-Depends, Conflicts and Breaks with its
-version as it would for the real ones. In the end every package that dpkg knows has to be installed. dpkg has to be there,
-and the rights of root, since it asks for them.
+waits. It does so in a root of its own, a temporary folder, in which the base system stands as installed, or with
+--installed all that stands on this machine, and with empty packages that have the real control fields: so dpkg looks at
+each Depends, Pre-Depends, Conflicts and Breaks with its version as it would for the real ones. In the end every package
+that dpkg knows has to be installed, those of the universe in the versions of the index, and `apt-get check` has to find
+no dependence of the root that is not met. dpkg and apt have to be there, and the rights of root, since dpkg asks for them.
 
 What a move is: a package outside cycles is unpacked and configured; of one in a cycle, its files are unpacked by one
 move, and its set-up is the other; dpkg is handed the set-ups of a cycle together, at the last of them.
 
-With --apt nothing is carried out: the packages of each universe are compared with those that `apt-get -s install
---no-install-recommends` would newly install where the base system stands; with --installed, on this machine.
+With --apt the packages of each universe, upgrades included, are also compared with those that `apt-get -s install
+--no-install-recommends` would install where the same stands. With --draw N packages are drawn besides: those N of the
+index that could be installed or upgraded whose names have the smallest sha256. The last lines count how many plans were
+carried out, and how many sets are the same. The status is 0 if all plans that were made were carried out and left no
+dependence unmet, whatever apt does.
 """
 
 import argparse
+import hashlib
 import pathlib
 import random
 import re
@@ -31,11 +36,13 @@ sys.path.insert(0, str(TOP))
 
 from importers import debian, texts
 from importers.document import Names, Refused
+from importers.install_order import InstallOrder
+from importers.installation import Installation
+from importers.packages import STATUS, named
 
-KEPT = "Version Architecture Multi-Arch Depends Pre-Depends Provides Conflicts Breaks Replaces".split()
-INSTALLED = "Status: install ok installed\n"
+# Those by which apt also knows two records for the same version.
+KEPT = "Source Version Architecture Multi-Arch Installed-Size Depends Pre-Depends Provides Conflicts Breaks Replaces".split()
 LAST_OF_A_FAULT = 400
-MOST_NAMED = 8
 
 
 class Failed(Exception):
@@ -83,34 +90,49 @@ class Root:
         self.status.write_text(status_of(given))
 
     def dpkg(self, *words):
-        command = ["dpkg", f"--root={self.folder}", "--force-unsafe-io", "--no-triggers", *words]
+        options = ["--force-unsafe-io", "--no-triggers", "--auto-deconfigure"]
+        command = ["dpkg", f"--root={self.folder}", *options, *words]
         done = subprocess.run(command, stdout=subprocess.PIPE, stderr=subprocess.STDOUT, text=True, check=False)
         self.calls += 1
         if done.returncode:
             told = " ".join(done.stdout.split())
             raise Failed(f"{' '.join(map(str, words))}: {told[-LAST_OF_A_FAULT:]}")
 
-    def check(self, names):
-        """Everything that dpkg knows is installed, and so are these packages."""
-        installed = set()
+    def check(self, index, names):
+        """Everything that dpkg knows is installed, and so are these packages, in the versions of the index."""
+        installed = {}
         for stanza in self.status.read_text().split("\n\n"):
-            found = re.search(r"^Package: (.*)\n(?:.*\n)*?Status: (.*)$", stanza, re.MULTILINE)
-            if found and found[2] != "install ok installed":
-                raise Failed(f"{found[1]} is left: {found[2]}")
-            if found:
-                installed.add(found[1])
-        if not set(names) <= installed:
-            raise Failed(f"not installed: {sorted(set(names) - installed)}")
+            fields = dict(re.findall(r"^(Package|Status|Version): (.*)$", stanza, re.MULTILINE))
+            if fields and not fields["Status"].endswith(" ok installed"):
+                raise Failed(f"{fields['Package']} is left: {fields['Status']}")
+            if fields:
+                installed[fields["Package"]] = fields["Version"]
+        for name in names:
+            if installed.get(name) != index.packages[name]["Version"]:
+                raise Failed(f"{name} is there as {installed.get(name)}")
+        self.check_dependences()
+
+    def check_dependences(self):
+        """No dependence of any package is unmet, and nothing that conflicts stands together, as apt sees it."""
+        told = apt_of(self.status, "-o", "Dir::State::lists=/nonexistent", "check")
+        if told.returncode:
+            raise Failed(f"apt-get check: {' '.join(told.stderr.split())[-LAST_OF_A_FAULT:]}")
+
+
+def apt_of(status, *words):
+    """What apt-get answers where a status file says what stands."""
+    command = ["apt-get", "-o", f"Dir::State::status={status}", "-o", "Dir::Cache::pkgcache=", *words]
+    return subprocess.run(command, stdout=subprocess.PIPE, stderr=subprocess.PIPE, text=True, check=False)
 
 
 class Steps:
     """What dpkg has to do for the moves of a plan."""
 
-    def __init__(self, installation):
+    def __init__(self, order):
         names = Names()
-        self.circles = installation.circles
-        self.set_up = {debian.port_of(names, name): name for name in installation.chosen}
-        self.files = {debian.port_of(names, name, debian.FILES): name for name in installation.circles}
+        self.circles = order.circles
+        self.set_up = {debian.port_of(names, name): name for name in order.installation.chosen}
+        self.files = {debian.port_of(names, name, debian.FILES): name for name in order.circles}
         self.waiting = {}
 
     def do(self, component, root, packages):
@@ -129,15 +151,16 @@ class Steps:
             root.dpkg("--configure", *self.waiting[group])
 
 
-def carry_out(order, installation, packages):
+def carry_out(actions, order, packages):
     """Does actions in this order; how many times dpkg was called."""
+    installation = order.installation
     with tempfile.TemporaryDirectory() as folder:
         root = Root(pathlib.Path(folder), installation.choices.given)
-        steps = Steps(installation)
-        for action in order:
+        steps = Steps(order)
+        for action in actions:
             if action.verb == "move":
                 steps.do(action.type, root, packages)
-        root.check(installation.chosen)
+        root.check(installation.choices.index, installation.chosen)
         return root.calls
 
 
@@ -151,85 +174,117 @@ def plan_of(metis, document, name):
 
 
 def try_package(metis, name, orders, choices, packages):
-    """A line on one package, and whether dpkg did all of it."""
+    """A line on how dpkg took the plans for a package, and whether it was well; None where no document was made."""
     try:
         document, _ = debian.universe(choices, debian.Request([name]))
-        installation = debian.Installation(choices, [name])
+    except Refused as refused:
+        return f"{name}: no document: {refused}", None
+    order = InstallOrder(Installation(choices, [name]))
+    try:
         plan = plan_of(metis, document, name)
-        calls = [carry_out(plan.actions, installation, packages)]
+        calls = [carry_out(plan.actions, order, packages)]
         for seed in range(orders):
-            order = texts.random_order(plan, random.Random(seed))
-            calls.append(carry_out(order, installation, packages))
-    except (Failed, Refused, texts.NoText) as fault:
+            calls.append(carry_out(texts.random_order(plan, random.Random(seed)), order, packages))
+    except (Failed, texts.NoText) as fault:
         return f"{name}: {fault}", False
-    in_cycles = len(installation.circles)
+    chosen = order.installation.chosen
+    upgraded = sum(each in choices.given.packages for each in chosen)
     return (
-        f"{name}: {len(installation.chosen)} packages, {in_cycles} in cycles; {len(plan.actions)} actions; "
-        f"{len(calls)} orders, {calls[0]} calls of dpkg each: installed"
+        f"{name}: {len(chosen)} packages, {upgraded} of them upgraded, {len(order.circles)} in cycles; "
+        f"{len(plan.actions)} actions; {len(calls)} orders, {calls[0]} calls of dpkg each: installed"
     ), len(set(calls)) == 1
 
 
 def status_of(given):
     """A status file in which the given packages stand."""
-    stanzas = (control(name, fields, INSTALLED) for name, fields in sorted(given.packages.items()))
+    stanzas = (control(name, fields, status_line(fields)) for name, fields in sorted(given.packages.items()))
     return "\n".join(stanzas)
 
 
+def status_line(fields):
+    essential = "Essential: yes\n" if fields.get("Essential") == "yes" else ""
+    return f"Status: {fields.get('Status', 'install ok installed')}\n{essential}"
+
+
 def apt_set(name, status):
-    """The packages that apt would newly install; None where it would not install this one."""
-    command = ["apt-get", "-s", "-o", f"Dir::State::status={status}", "install", "--no-install-recommends", name]
-    done = subprocess.run(command, stdout=subprocess.PIPE, stderr=subprocess.DEVNULL, text=True, check=False)
+    """The packages that apt would install, upgrade or remove; None where it would not install this one."""
+    done = apt_of(status, "-s", "install", "--no-install-recommends", name)
     if done.returncode:
         return None
-    return {found[1].split(":")[0] for found in re.finditer(r"^Inst (\S+) \(", done.stdout, re.MULTILINE)}
+    removed = {f"{each} removed" for each in words_behind("Remv", done.stdout)}
+    return set(words_behind("Inst", done.stdout)) | removed
+
+
+def words_behind(verb, text):
+    return [found[1].split(":")[0] for found in re.finditer(rf"^{verb} (\S+)", text, re.MULTILINE)]
 
 
 def some(names):
-    return ", ".join(sorted(names)[:MOST_NAMED]) + (", .." if len(names) > MOST_NAMED else "")
+    return named(sorted(names))
 
 
 def compare(name, choices, status):
-    """A line on what is new here and what is new for apt, and whether both are the same."""
-    if name not in choices.index.packages:
-        return f"{name}: not in the index", False
-    installation = debian.Installation(choices, [] if choices.stands(name) else [name])
-    ours = set(installation.chosen) - set(choices.given.packages)
-    is_possible = not installation.missing and not installation.conflicts()
+    """A line on what is installed or upgraded here and by apt, and whether both are the same."""
+    installation = Installation(choices, [name])
+    ours = set(installation.chosen)
+    faults = [*debian.faults(installation), *(f"nothing provides {each}" for each in installation.missing)]
     theirs = apt_set(name, status)
-    if theirs is None or not is_possible:
-        here, there = "possible" if is_possible else "not possible", "not possible" if theirs is None else "possible"
-        return f"{name}: {here} here, {there} for apt", theirs is None and not is_possible
+    if theirs is None or faults:
+        here, there = faults[0] if faults else "possible", "not possible" if theirs is None else "possible"
+        removed = some(each for each in theirs or () if each.endswith(" removed"))
+        more = f", with {removed}" if removed else ""
+        return f"{name}: here {here}; for apt {there}{more}", theirs is None and bool(faults)
     if ours == theirs:
-        return f"{name}: {len(ours)} new packages, the same as apt's", True
+        return f"{name}: {len(ours)} packages, the same as apt's", True
     only = [f"only {who}: {some(names)}" for who, names in (("here", ours - theirs), ("apt", theirs - ours)) if names]
-    return f"{name}: {len(ours)} new packages, {len(theirs)} for apt; {'; '.join(only)}", False
+    return f"{name}: {len(ours)} packages, {len(theirs)} for apt; {'; '.join(only)}", False
+
+
+def drawn(choices, count):
+    """The packages that could be installed or upgraded, by the smallest digests of their names."""
+    names = [name for name in choices.index.packages if not choices.stands(name)]
+    return sorted(names, key=lambda name: hashlib.sha256(name.encode()).hexdigest())[:count]
+
+
+def parser_of_words():
+    parser = argparse.ArgumentParser(description=__doc__, formatter_class=argparse.RawDescriptionHelpFormatter)
+    parser.add_argument("--metis", default=str(TOP / "metis"), metavar="PROGRAM")
+    parser.add_argument("packages", metavar="PACKAGE", nargs="*")
+    parser.add_argument("--orders", type=int, default=1, metavar="N")
+    parser.add_argument("--draw", type=int, default=0, metavar="N")
+    parser.add_argument("--apt", action="store_true")
+    parser.add_argument("--installed", action="store_true")
+    return parser
 
 
 def main():
-    parser = argparse.ArgumentParser(description=__doc__, formatter_class=argparse.RawDescriptionHelpFormatter)
-    parser.add_argument("--metis", default=str(TOP / "metis"), metavar="PROGRAM")
-    parser.add_argument("packages", metavar="PACKAGE", nargs="+")
-    parser.add_argument("--orders", type=int, default=1, metavar="N")
-    parser.add_argument("--apt", action="store_true")
-    parser.add_argument("--installed", action="store_true")
-    arguments = parser.parse_args()
-    choices = debian.choices_of(status_path=debian.STATUS if arguments.installed else None)
-    good = 0
+    arguments = parser_of_words().parse_args()
+    choices = debian.choices_of(status_path=STATUS if arguments.installed else None)
+    names = [*arguments.packages, *drawn(choices, arguments.draw)]
+    unknown = [name for name in names if name not in choices.index.packages]
+    if unknown or not names:
+        print(f"not in the index: {some(unknown)}" if unknown else "no package is named or drawn", file=sys.stderr)
+        return 2
+    done, refused, same = 0, 0, 0
     with tempfile.TemporaryDirectory() as folder:
         packages = Packages(pathlib.Path(folder), choices.index)
-        status = debian.STATUS
+        status = STATUS
         if not arguments.installed:
             status = pathlib.Path(folder) / "status"
             status.write_text(status_of(choices.given))
-        for name in arguments.packages:
-            if arguments.apt or arguments.installed:
-                line, is_good = compare(name, choices, status)
-            else:
-                line, is_good = try_package(arguments.metis, name, arguments.orders, choices, packages)
-            good += is_good
+        for name in names:
+            line, is_good = try_package(arguments.metis, name, arguments.orders, choices, packages)
             print(line, flush=True)
-    print(f"{good} of {len(arguments.packages)} as expected")
-    return 0 if good == len(arguments.packages) else 1
+            done += is_good is True
+            refused += is_good is None
+            if arguments.apt and not choices.stands(name):
+                line, is_same = compare(name, choices, status)
+                print(f"  {line}", flush=True)
+                same += is_same
+    print(f"{done} of {len(names)} carried out and whole, {refused} refused")
+    if arguments.apt:
+        print(f"{same} of {len(names)} sets as apt has them")
+    return 0 if done + refused == len(names) else 1
 
 
 if __name__ == "__main__":

@@ -21,7 +21,7 @@ from importers import debian
 from importers.document import Refused
 
 MOST_NAMED = 20
-PLAN, DOUBLES, CONFLICT = "a plan", "a plan with doubles", "a plan for packages that conflict"
+PLAN, DOUBLES, CONFLICT = "a plan", "a plan with doubles", "refused, since packages conflict"
 
 
 def outcome(choices, metis, name):
@@ -29,22 +29,27 @@ def outcome(choices, metis, name):
     try:
         document, notes = debian.universe(choices, debian.Request([name]))
     except Refused as refused:
-        words = str(refused)
-        if "pairs of type and state" in words:
-            return "past the limit of pairs", 0
-        return ("a cycle of Pre-Depends" if "Pre-Depends" in words else words), 0
+        return cause_of(str(refused)), 0
     pairs = document.count('"name":') - document.count('"initial":')
     command = [metis, "plan", "-", debian.target(name)]
     done = subprocess.run(command, input=document, stdout=subprocess.PIPE, text=True, check=False)
     if done.returncode == 0:
         has_doubles = not done.stdout.split("\n", 2)[1].endswith(" dups 0")
-        has_conflict = any(note.endswith(debian.CONFLICT) for note in notes)
-        return (DOUBLES if has_doubles else CONFLICT if has_conflict else PLAN), pairs
+        return (DOUBLES if has_doubles else PLAN), pairs
     if done.returncode == 1 and any(note.endswith(debian.MISSING) for note in notes):
         return "a dependence that nothing provides", pairs
     if done.returncode == 1:
         return "refused though all is there", pairs
     return f"status {done.returncode}: {done.stdout.strip()}", pairs
+
+
+def cause_of(words):
+    """The kind of a refusal."""
+    if "pairs of type and state" in words:
+        return "past the limit of pairs"
+    if debian.CONFLICT in words:
+        return CONFLICT
+    return "a cycle of Pre-Depends" if "Pre-Depends" in words else words
 
 
 def work(task):

@@ -1,65 +1,299 @@
 #!/usr/bin/env python3
-"""Compares the units and orders of a target with those of systemd itself: python3 importers/try_systemd.py TARGET
+"""Compares the units and orders of targets with those of systemd itself:
+
+    python3 importers/try_systemd.py [--folder FOLDER]
+    python3 importers/try_systemd.py --here TARGET ..
+
+The first form makes two roots of Debian's packages, a server and a desktop of more than 90 packages with units each, in
+which `systemctl preset-all` has enabled what Debian enables, and compares multi-user.target and graphical.target in
+both; and then the corner cases of try_systemd_cases.py, each in a root with systemd alone. The packages are fetched with
+`apt-get download` into FOLDER, or a temporary one. The rights of root are needed, for `unshare` and `chroot`. The second
+form compares targets of this machine.
 
 systemd is asked by `systemd --test`, which starts nothing, as a user without rights, and without its generators. What it
 would start, but for units without a file that it makes at boot, has to be what the importer found, and the orders of
-these units have to be the same.
+these units have to be the same. Two differences are known, and seen by what systemd itself says of the units; they are
+printed as such. It starts a wanted unit though one that this requires is not there, and it drops one of two units that
+conflict.
 """
 
+import argparse
+import dataclasses
 import os
+import pathlib
 import re
+import shutil
 import subprocess
 import sys
-import pathlib
+import tempfile
 
 TOP = pathlib.Path(__file__).resolve().parent.parent
 sys.path.insert(0, str(TOP))
 
 from importers.systemd import Pulled, is_given
+from importers.try_systemd_cases import CASES
 from importers.units import Folders
 
 PROGRAM = "/lib/systemd/systemd"
 NOBODY = 65534
+TARGETS = ("multi-user.target", "graphical.target")
+FOLDER_OF = {"etc": "etc/systemd/system", "run": "run/systemd/system", "lib": "lib/systemd/system"}
+LEAST_WITH_UNITS = 90
+FETCHED_AT_ONCE = 20
+# systemd with all that it is linked against.
+RUNNING = """
+systemd libsystemd-shared libc6 libacl1 libaudit1 libblkid1 libcap2 libcrypt1 libcryptsetup12 libfdisk1 libgcrypt20
+libgpg-error0 libkmod2 liblz4-1 liblzma5 libmount1 libpam0g libseccomp2 libselinux1 libssl3 libzstd1 libapparmor1
+libip4tc2 libpcre2-8-0 libdevmapper1.02.1 libargon2-1 libjson-c5 libuuid1 libcap-ng0 zlib1g libudev1
+""".split()
+COMMON = """
+dbus dbus-system-bus-common dmeventd udev systemd-sysv systemd-timesyncd systemd-resolved systemd-container systemd-oomd cron rsyslog apt man-db
+util-linux e2fsprogs logrotate apparmor auditd openssh-server ufw nftables unattended-upgrades sysstat lvm2 mdadm
+smartmontools acpid irqbalance polkitd dbus-user-session kmod procps console-setup keyboard-configuration plymouth
+fwupd udisks2 nfs-common rpcbind samba winbind wpasupplicant anacron ifupdown
+""".split()
+SERVER = """
+nginx-common apache2 postgresql-common mariadb-server redis-server memcached haproxy varnish squid named bind9 unbound
+dnsmasq isc-dhcp-server fail2ban netfilter-persistent postfix dovecot-core opendkim spamd spamassassin clamav-daemon
+clamav-freshclam rspamd docker.io containerd podman libvirt-daemon-system lxc qemu-guest-agent open-vm-tools multipath-tools
+open-iscsi nfs-kernel-server autofs prometheus prometheus-node-exporter prometheus-alertmanager collectd-core
+zabbix-agent munin-node nagios-nrpe-server snmpd tomcat10 php8.2-fpm uwsgi puppet-agent tor openvpn wireguard-tools
+strongswan-starter keepalived corosync pacemaker etcd-server vsftpd proftpd-core rsync mosquitto rabbitmq-server slapd
+sssd-common krb5-kdc krb5-admin-server freeradius minidlna systemd-journal-remote drbd-utils glusterfs-server ceph-mon
+ceph-osd ceph-mgr ceph-common bird2 frr knot nsd pdns-server pdns-recursor coturn prosody ejabberd erlang-base monit supervisor
+kea-dhcp4-server influxdb gdnsd stunnel4 tinyproxy privoxy ganeti iscsid targetcli-fb at atop
+""".split()
+DESKTOP = """
+gdm3 lightdm sddm network-manager modemmanager bluez cups-daemon cups-browsed avahi-daemon colord accountsservice
+packagekit upower rtkit bolt geoclue-2.0 thermald power-profiles-daemon switcheroo-control iio-sensor-proxy
+usbmuxd pcscd fprintd brltty speech-dispatcher flatpak snapd low-memory-monitor earlyoom zram-tools
+systemd-zram-generator systemd-cron systemd-coredump systemd-homed systemd-userdbd kexec-tools iwd connman
+network-dispatcher networkd-dispatcher openvpn wireguard-tools strongswan-starter tor transmission-daemon minidlna
+mpd pulseaudio pipewire xrdp tigervnc-standalone-server x11-common xserver-xorg-core saned sane-utils ipp-usb gpm
+kbd apt-config-auto-update apt-listbugs apticron debsums etckeeper fcron btrfsmaintenance btrfs-progs xfsprogs zfs-zed
+zfsutils-linux snapper timeshift rsync nullmailer exim4-base haveged rng-tools5 rng-tools-debian rasdaemon mcelog
+lm-sensors fancontrol nut-server nut-client apcupsd hddtemp hdparm laptop-mode-tools powertop tuned preload uptimed
+vnstat darkstat fail2ban docker.io libvirt-daemon-system qemu-guest-agent spice-vdagent virtualbox-guest-utils
+open-vm-tools lxc gpsd usbguard opensnitch kdeconnect xscreensaver acpi-support laptop-detect bluetooth dundee ofono
+""".split()
 
 
-def told_by_systemd(target):
-    """Of each unit that systemd would start, the units after which it starts."""
-    command = [PROGRAM, "--test", "--system", f"--unit={target}"]
-    if os.geteuid() == 0:
-        command = ["setpriv", f"--reuid={NOBODY}", f"--regid={NOBODY}", "--clear-groups", *command]
+class Failed(Exception):
+    """What could not be tried."""
+
+
+def run_in(root, *words):
+    """Runs systemd in a root, or on this machine for none, as a user without rights; what it printed."""
+    as_nobody = ["setpriv", f"--reuid={NOBODY}", f"--regid={NOBODY}", "--clear-groups"]
     nowhere = dict.fromkeys(("HOME", "XDG_CONFIG_HOME", "SYSTEMD_GENERATOR_PATH"), "/nonexistent")
+    command = [PROGRAM, "--test", "--system", *words]
+    if root is not None:
+        mounts = 'mount --bind /proc "$1/proc" && mount --rbind /sys "$1/sys" && root=$1 && shift && exec chroot'
+        command = ["unshare", "-m", "sh", "-c", f'{mounts} --userspec={NOBODY}:{NOBODY} "$root" "$@"', "sh", root, *command]
+    elif os.geteuid() == 0:
+        command = [*as_nobody, *command]
     environment = {**os.environ, **nowhere}
-    done = subprocess.run(command, env=environment, stdout=subprocess.PIPE, stderr=subprocess.DEVNULL, text=True, check=False)
-    after, started = {}, set()
-    for part in re.split(r"^\t?-> Unit ", done.stdout, flags=re.MULTILINE)[1:]:
-        name = part.partition(":\n")[0]
-        after[name] = set(re.findall(r"^\t\tAfter: (\S+)", part, re.MULTILINE))
+    done = subprocess.run(
+        command, env=environment, stdout=subprocess.PIPE, stderr=subprocess.PIPE, text=True, check=False, timeout=120
+    )
+    if done.returncode:
+        raise Failed(f"systemd ended with status {done.returncode}: {done.stderr.strip()[-300:]}")
+    return done.stdout
+
+
+@dataclasses.dataclass(frozen=True)
+class Told:
+    """What systemd says of the units that it loaded: those that it would start, and what their files come to."""
+
+    started: frozenset[str]
+    settings: dict[str, dict[str, set[str]]]
+
+    def of(self, name, key):
+        return self.settings.get(name, {}).get(key, set())
+
+    def lacks_what_it_requires(self, name, seen=frozenset()):
+        """Whether a unit requires one that is not there, or one that does."""
+        for other in (self.of(name, "Requires") | self.of(name, "BindsTo")) - seen:
+            if "loaded" not in self.of(other, "Unit Load State") or self.lacks_what_it_requires(other, seen | {name}):
+                return True
+        return False
+
+    def conflicts(self, name):
+        """Whether a unit conflicts with one that is started."""
+        return bool((self.of(name, "Conflicts") | self.of(name, "ConflictedBy")) & self.started)
+
+
+def told_by_systemd(root, target):
+    settings, started = {}, set()
+    for part in re.split(r"^\t?-> Unit ", run_in(root, f"--unit={target}"), flags=re.MULTILINE)[1:]:
+        own = settings[part.partition(":\n")[0]] = {}
+        for key, word in re.findall(r"^\t\t([A-Z][A-Za-z ]+): (\S+)", part, re.MULTILINE):
+            own.setdefault(key, set()).add(word)
         started |= set(re.findall(r"Action: (\S+) -> start", part))
-    return {name: after[name] & started for name in started}
+    if not started:
+        raise Failed(f"systemd would start nothing for {target}")
+    return Told(frozenset(started), settings)
 
 
-def main():
-    target = sys.argv[1] if len(sys.argv) == 2 else sys.exit(__doc__)
-    theirs = told_by_systemd(target)
-    folders = Folders()
+def compare(root, target):
+    """How systemd and the importer differ: what is not known, what is, a line each, and a line that counts what is the same."""
+    told = told_by_systemd(root, target)
+    folders = Folders(root or "/")
     pulled = Pulled(folders, folders.own_name(target))
     pulled.leave_out(pulled.failing())
     ours = pulled.orders()
-    for name in sorted(set(ours) - set(theirs)):
-        print(f"only here: {name}")
-    theirs = {name: after for name, after in theirs.items() if name in ours or not is_given(name)}
-    for name in sorted(set(theirs) - set(ours)):
-        print(f"only systemd: {name}")
-    same, other = 0, 0
-    for name in sorted(set(ours) & set(theirs)):
-        told = {each for each in theirs[name] if each in ours}
+    theirs = {name for name in told.started if name in ours or not is_given(name)}
+    lines, known, same = [], [], 0
+    for name in sorted(ours.keys() - theirs):
+        (known if told.conflicts(name) else lines).append(f"only here: {name}")
+    for name in sorted(theirs - ours.keys()):
+        (known if told.lacks_what_it_requires(name) else lines).append(f"only systemd: {name}")
+    for name in sorted(ours.keys() & theirs):
+        after = {each for each in told.of(name, "After") if each in ours and each in told.started}
         mine = {each for each in ours[name] if each in theirs}
-        same += len(told & mine)
-        other += len(told ^ mine)
-        for each in sorted(told ^ mine):
-            print(f"only {'systemd' if each in told else 'here'}: {name} after {each}")
-    print(f"{len(set(ours) & set(theirs))} units and {same} orders the same, {other} orders not")
-    return 0 if set(ours) == set(theirs) and other == 0 else 1
+        same += len(after & mine)
+        lines += [f"only {'systemd' if each in after else 'here'}: {name} after {each}" for each in sorted(after ^ mine)]
+    count = f"{len(ours.keys() & theirs)} units and {same} orders the same, {len(lines)} things not, {len(known)} as known"
+    return lines, known, count
+
+
+def report(title, root, target):
+    """Prints how a comparison came out; whether all was the same."""
+    try:
+        lines, known, count = compare(root, target)
+    except (Failed, subprocess.TimeoutExpired) as fault:
+        lines, known, count = [str(fault)], [], "not compared"
+    for line in [*lines, *(f"known: {line}" for line in known)]:
+        print(f"  {line}")
+    print(f"{title}: {count}", flush=True)
+    return not lines
+
+
+def fetch(folder, names):
+    """Fetches the packages that this machine's index has, each once; the files."""
+    told = subprocess.run(["apt-cache", "pkgnames"], stdout=subprocess.PIPE, text=True, check=True).stdout.split()
+    known = set(told)
+    there = {path.name.partition("_")[0] for path in folder.glob("*.deb")}
+    wanted = [name for name in dict.fromkeys(names) if name in known and name not in there]
+    for at in range(0, len(wanted), FETCHED_AT_ONCE):
+        command = ["apt-get", "download", *wanted[at : at + FETCHED_AT_ONCE]]
+        subprocess.run(command, cwd=folder, stderr=subprocess.DEVNULL, stdout=subprocess.DEVNULL, check=False)
+    return [path for path in sorted(folder.glob("*.deb")) if path.name.partition("_")[0] in set(names)]
+
+
+def unpack(package, root, is_whole):
+    """Unpacks a package, or only what systemd reads of it; whether it has units."""
+    listed = subprocess.Popen(["dpkg-deb", "--fsys-tarfile", package], stdout=subprocess.PIPE)
+    wanted = [] if is_whole else ["--wildcards", "./lib/systemd/*", "./usr/lib/systemd/*", "./etc/systemd/*"]
+    done = subprocess.run(
+        ["tar", "-x", "-v", "-C", root, *wanted], stdin=listed.stdout, stdout=subprocess.PIPE, stderr=subprocess.DEVNULL,
+        text=True, check=False,
+    )
+    listed.wait()
+    return "/systemd/system/" in done.stdout
+
+
+def lay_base(root, running):
+    """A root in which systemd can be asked."""
+    for name in ("proc", "sys", "dev", "etc", "tmp", "run/systemd/system"):
+        (root / name).mkdir(parents=True, exist_ok=True)
+    for package in running:
+        unpack(package, root, True)
+    (root / "dev" / "null").touch()
+    for name in ("tmp", "run", "run/systemd"):
+        (root / name).chmod(0o1777)
+
+
+def make_root(root, running, packages):
+    """A root of packages, in which what they bring is enabled as Debian does; how many of them have units.
+
+    systemctl cannot enable what is masked, says so, and goes on.
+    """
+    lay_base(root, running)
+    count = sum(unpack(package, root, False) for package in packages)
+    subprocess.run(
+        ["systemctl", f"--root={root}", "preset-all"], stdout=subprocess.DEVNULL, stderr=subprocess.DEVNULL, check=False
+    )
+    return count
+
+
+def lay_case(root, text):
+    """Writes the files and links of a corner case below a root."""
+    files, file = {}, None
+    for line in text.strip("\n").split("\n"):
+        link = re.fullmatch(r"(\S+) -> (\S+)", line)
+        head = re.fullmatch(r"((?:etc|run|lib|/)\S*):", line)
+        if link:
+            place_of(root, link[1]).symlink_to(link[2])
+        elif head:
+            file = files[place_of(root, head[1])] = []
+        else:
+            file.append(line + "\n")
+    for path, lines in files.items():
+        whole = "".join(lines)
+        if path.name.endswith(".service") and path.name != "empty.service" and "ExecStart=" not in whole:
+            whole += "[Service]\nExecStart=/bin/true\n"
+        path.write_text(whole if whole or path.name == "empty.service" else "[Unit]\n", newline="")
+
+
+def place_of(root, name):
+    folder, _, rest = name.partition("/")
+    path = root / rest if folder == "" else root / FOLDER_OF[folder] / rest
+    path.parent.mkdir(parents=True, exist_ok=True)
+    return path
+
+
+def try_roots(folder, running):
+    """Compares both targets in both roots."""
+    is_good = True
+    for title, names in (("server", SERVER), ("desktop", DESKTOP)):
+        packages = fetch(folder, [*COMMON, *names])
+        with tempfile.TemporaryDirectory() as place:
+            root = pathlib.Path(place) / "root"
+            root.mkdir(mode=0o755)
+            pathlib.Path(place).chmod(0o755)
+            count = make_root(root, running, packages)
+            print(f"{title}: {count} packages with units")
+            is_good &= count >= LEAST_WITH_UNITS
+            for target in TARGETS:
+                is_good &= report(f"{title}, {target}", root, target)
+    return is_good
+
+
+def try_cases(running):
+    """Compares the corner cases, each in a root with systemd alone."""
+    is_good = True
+    with tempfile.TemporaryDirectory() as place:
+        pathlib.Path(place).chmod(0o755)
+        base = pathlib.Path(place) / "base"
+        base.mkdir(mode=0o755)
+        lay_base(base, running)
+        for title, text in CASES.items():
+            root = pathlib.Path(place) / "case"
+            subprocess.run(["cp", "-a", "--reflink=auto", "-l", base, root], check=True)
+            lay_case(root, text)
+            is_good &= report(title, root, "case.target")
+            shutil.rmtree(root)
+    return is_good
+
+
+def main():
+    parser = argparse.ArgumentParser(description=__doc__, formatter_class=argparse.RawDescriptionHelpFormatter)
+    parser.add_argument("--folder", metavar="FOLDER")
+    parser.add_argument("--here", action="store_true")
+    parser.add_argument("--cases", action="store_true", help="the corner cases alone")
+    parser.add_argument("targets", metavar="TARGET", nargs="*")
+    arguments = parser.parse_args()
+    if arguments.here:
+        return 0 if all([report(target, None, target) for target in arguments.targets or TARGETS]) else 1
+    with tempfile.TemporaryDirectory() as temporary:
+        folder = pathlib.Path(arguments.folder or temporary)
+        folder.mkdir(parents=True, exist_ok=True)
+        running = fetch(folder, RUNNING)
+        is_good = try_cases(running)
+        if not arguments.cases:
+            is_good &= try_roots(folder, running)
+    return 0 if is_good else 1
 
 
 if __name__ == "__main__":

@@ -1,35 +1,50 @@
-"""Reads unit files of systemd as they lie in folders: links, drop-ins, masks, instances, default dependencies."""
+"""Reads unit files of systemd as they lie in folders: links, drop-ins, masks, instances, and other names."""
 
 import collections
 import dataclasses
-import os
-import pathlib
-import re
 
+from importers import unit_names
 from importers.document import Refused
+from importers.root_folder import RootFolder
+from importers.unit_names import is_name, is_template, kind_of, template_of
 
 # From the first to the last that is looked at.
 FOLDERS = (
+    "etc/systemd/system.control",
+    "run/systemd/system.control",
+    "run/systemd/transient",
     "run/systemd/generator.early",
     "etc/systemd/system",
+    "etc/systemd/system.attached",
     "run/systemd/system",
+    "run/systemd/system.attached",
     "run/systemd/generator",
     "usr/local/lib/systemd/system",
     "usr/lib/systemd/system",
     "lib/systemd/system",
     "run/systemd/generator.late",
 )
-PULLS = ("Requires", "Requisite", "BindsTo", "Wants", "Upholds")
-HARD_PULLS = ("Requires", "Requisite", "BindsTo")
-ORDERS = ("After", "Before")
-NAMES_OF_UNITS = frozenset((*PULLS, *ORDERS, "Conflicts", "Sockets", "Service", "Unit"))
-OTHERS = "DefaultDependencies Type Accept OnCalendar PrivateTmp StandardOutput StandardError".split()
-LISTS = NAMES_OF_UNITS.union(OTHERS)
-# Units of these kinds are made at boot, of the kernel's or the machine's own tables; where no file has one it is given.
-MADE_AT_BOOT = ("device", "slice", "scope", "mount", "swap", "automount")
-WANTED_FOLDERS = {"Wants": ".wants", "Requires": ".requires", "Upholds": ".upholds"}
-RUN_PROGRAMS = ("service", "mount", "swap")
-SET_OF_TRIGGER = {"socket": "sockets.target", "timer": "timers.target", "path": "paths.target"}
+MOST_FILE = 4 * 1024 * 1024
+MOST_LINKS = 40
+SAME_KEYS = {"BindTo": "BindsTo", "RequiresOverridable": "Requires", "RequisiteOverridable": "Requisite"}
+DEPENDENCIES = frozenset("Requires Requisite BindsTo Wants Upholds After Before Conflicts".split())
+OF_UNIT = DEPENDENCIES | {"DefaultDependencies", "RequiresMountsFor"}
+# Names of other units in sections of their kinds, and what else of these says what a unit comes after.
+NAMES_OF_OTHERS = frozenset(("Sockets", "Service", "Unit", "Slice"))
+EXECUTION = frozenset(
+    "PrivateTmp DynamicUser LogNamespace StandardInput StandardOutput StandardError WorkingDirectory RootDirectory RootImage "
+    "RuntimeDirectory StateDirectory CacheDirectory LogsDirectory ConfigurationDirectory".split()
+)
+OF_PATHS = frozenset("PathExists PathExistsGlob PathChanged PathModified DirectoryNotEmpty".split())
+OF_SOCKETS = frozenset(
+    "ListenStream ListenDatagram ListenSequentialPacket ListenFIFO ListenSpecial ListenUSBFunction "
+    "ExecStartPre ExecStartPost ExecStopPre ExecStopPost".split()
+)
+OTHERS = frozenset("Type BusName Accept OnCalendar Persistent What Where Options".split())
+OF_KINDS = NAMES_OF_OTHERS | EXECUTION | OF_PATHS | OF_SOCKETS | OTHERS
+# What an empty assignment does not take back.
+STAYING = DEPENDENCIES | {"RequiresMountsFor", "Sockets"}
+LINKED = {"Wants": ".wants", "Requires": ".requires", "Upholds": ".upholds"}
 
 
 @dataclasses.dataclass
@@ -44,167 +59,198 @@ class Unit:
 
     @property
     def kind(self):
-        return self.name.rpartition(".")[2]
+        return kind_of(self.name)
 
     @property
     def has_defaults(self):
         return is_true(self["DefaultDependencies"], True)
+
+    def last(self, key):
+        """The word that counts of a setting that has one, or an empty one."""
+        return self[key][-1] if self[key] else ""
 
 
 def is_true(words, default):
     return words[-1].lower() in ("yes", "true", "1", "on", "y", "t") if words else default
 
 
-def template_of(name):
-    """The template of an instance, or None: `getty@.service` of `getty@tty1.service`."""
-    found = re.fullmatch(r"([^@]+@)(.+)(\.[a-z]+)", name)
-    return found[1] + found[3] if found else None
+def whole_lines(text):
+    """The lines of a unit file: continued ones joined, and comments left out, also those inside a continued line."""
+    kept = ""
+    for line in text.split("\n"):
+        if line.lstrip().startswith(("#", ";")):
+            continue
+        kept += line
+        backslashes = len(kept) - len(kept.rstrip("\\"))
+        if backslashes % 2:
+            kept = kept[:-1] + " "
+            continue
+        yield kept.strip()
+        kept = ""
+    yield kept.strip()
 
 
-def settings_in(text, settings):
-    """Adds the assignments of a unit file; an empty one takes back what stands so far."""
-    joined = re.sub(r"\\\n", " ", text)
-    for line in joined.split("\n"):
-        line = line.strip()
+def words_of(key, value):
+    """The words of a value: names of units stand without quotes, and others may have some."""
+    words = value.split()
+    return words if key in DEPENDENCIES else [word.strip("\"'") for word in words]
+
+
+def settings_in(text, kind, settings):
+    """Adds the assignments of a unit file that stand in their own section; an empty one takes back what may be taken.
+
+    Behind a line that begins as the name of a section, and is none, nothing counts; whether there is no such line.
+    """
+    section = ""
+    for line in whole_lines(text.removeprefix("\ufeff")):
+        if line.startswith("["):
+            if not line.endswith("]"):
+                return False
+            section = line[1:-1]
+            continue
         key, equals, value = line.partition("=")
-        key = key.strip()
-        if line.startswith(("#", ";")) or not equals or key not in LISTS:
+        key = SAME_KEYS.get(key.strip(), key.strip())
+        wanted = "Unit" if key in OF_UNIT else kind.capitalize() if key in OF_KINDS else None
+        if not equals or section != wanted:
             continue
         if value.strip():
-            settings[key] += [word.strip('"') for word in value.split()]
-        else:
+            settings[key] += words_of(key, value)
+        elif key not in STAYING:
             settings[key] = []
+    return True
 
 
 class Folders:
     """The folders of unit files below a root."""
 
     def __init__(self, root="/"):
-        self.root = pathlib.Path(root)
-        self.folders = [self.root / each for each in FOLDERS]
+        self.root = RootFolder(root)
+        self.notes = []
+        places = {folder: self.root.real(folder) for folder in FOLDERS}
+        self.places = {place for place in places.values() if place is not None}
+        self.entries = {folder: frozenset(self.root.names(folder)) for folder in FOLDERS}
+        # Of two folders that are one place the first stands for both.
+        firsts = {place: folder for folder, place in reversed(places.items())}
+        self.folders = [folder for folder in FOLDERS if firsts.get(places[folder]) == folder]
+        self.first_of = {}
+        for folder in self.folders:
+            for name in self.entries[folder]:
+                if is_name(name):
+                    self.first_of.setdefault(name, f"{folder}/{name}")
+        self.loaded = {}
+        self.other_names = self.names_by_links()
+
+    def names_by_links(self):
+        """For each unit its other names."""
+        others = collections.defaultdict(list)
+        for name, path in sorted(self.first_of.items()):
+            if self.root.link(path) is not None:
+                own = self.own_name(name)
+                if own != name:
+                    others[own].append(name)
+        return others
 
     def first(self, name):
         """The file or link of this name that comes first, or None."""
-        return next((each / name for each in self.folders if os.path.lexists(each / name)), None)
+        return self.first_of.get(name)
+
+    def alias(self, name):
+        """The unit that a link of this name leads to, or None: a link out of these folders is a file of that name."""
+        path = self.first(name)
+        target = self.root.link(path) if path else None
+        if target is None or self.is_masked(path):
+            return None
+        other = target.rpartition("/")[2]
+        whole = target if target.startswith("/") else f"{path.rpartition('/')[0]}/{target}"
+        is_inside = self.root.real(whole.rpartition("/")[0]) in self.places
+        if not is_inside or other in (name, template_of(name)) or not is_name(other) or kind_of(other) != kind_of(name):
+            return None
+        return other
 
     def own_name(self, name):
         """The name of the unit for which a name is another one, by links."""
-        seen = set()
-        while name not in seen:
-            seen.add(name)
-            path = self.first(name)
-            if path is None or not path.is_symlink():
+        for _ in range(MOST_LINKS):
+            other = self.alias(name)
+            if other is None and self.first(name) is None and template_of(name):
+                template = self.alias(template_of(name))
+                other = template and is_template(template) and unit_names.instance_of_template(template, name)
+            if not other:
                 return name
-            target = os.path.basename(os.readlink(path))
-            if target in ("null", name, template_of(name)):
-                return name
-            name = target
+            name = other
         raise Refused(f"{name}: a link that leads back to itself")
 
     def load(self, name):
         """The unit of this name; None where no file has it, or it is masked."""
+        if name not in self.loaded:
+            self.loaded[name] = self.read(name)
+        return self.loaded[name]
+
+    def read(self, name):
         path = self.first(name) or (template_of(name) and self.first(template_of(name)))
-        if not path or self.is_masked(path):
+        if not path or is_template(name) or self.is_masked(path):
+            return None
+        text = self.text(path)
+        if text is None:
+            self.notes.append(f"{name}: /{path} leads to no file that can be read")
             return None
         settings = collections.defaultdict(list)
-        settings_in(self.text(path), settings)
+        if not settings_in(text, kind_of(name), settings):
+            self.notes.append(f"{name}: /{path} has a line that begins with [ and names no section, so it is not read")
+            return None
         for each in self.drop_ins(name):
-            settings_in(self.text(each), settings)
-        for key, suffix in WANTED_FOLDERS.items():
+            settings_in(self.text(each) or "", kind_of(name), settings)
+        for key, suffix in LINKED.items():
             settings[key] += self.linked(name, suffix)
-        for key in NAMES_OF_UNITS.intersection(settings):
+        for key in settings.keys() & (DEPENDENCIES | NAMES_OF_OTHERS):
             settings[key] = self.named(name, settings[key])
         return Unit(name, settings)
 
     def is_masked(self, path):
-        if path.is_symlink() and os.readlink(path) == "/dev/null":
+        if self.root.real(path) == "dev/null":
             return True
-        return self.inside(path).is_file() and self.inside(path).stat().st_size == 0
-
-    def inside(self, path):
-        """The file that a link leads to, where links that begin with `/` begin at the root of these folders."""
-        while path.is_symlink():
-            target = os.readlink(path)
-            path = self.root / target.lstrip("/") if target.startswith("/") else path.parent / target
-        return path
+        file = self.root.file(path)
+        return file is not None and file.stat().st_size == 0
 
     def text(self, path):
+        """The text of a file, or None where it cannot be read."""
+        file = self.root.file(path)
         try:
-            return self.inside(path).read_text("utf-8", "replace")
-        except OSError as fault:
-            raise Refused(f"{path}: {fault.strerror}") from fault
+            if file is None or file.stat().st_size > MOST_FILE:
+                return None
+            with file.open("rb") as opened:
+                return opened.read(MOST_FILE).decode("utf-8", "replace")
+        except OSError:
+            return None
+
+    def owners(self, name):
+        """The names whose folders of drop-ins and links count for a unit, the nearest first, in lists for each name."""
+        for each in (name, *self.other_names[name]):
+            yield unit_names.names_of_folders(each)
+
+    def beside(self, name, suffix):
+        """The entries of the folders of a suffix that count for a unit: of those with one name the first one's path."""
+        found = {}
+        for owners in (*self.owners(name), [kind_of(name)]):
+            for folder in self.folders:
+                for owner in owners:
+                    if f"{owner}{suffix}" in self.entries[folder]:
+                        for entry in self.root.names(f"{folder}/{owner}{suffix}"):
+                            found.setdefault(entry, f"{folder}/{owner}{suffix}/{entry}")
+        return [(entry, path) for entry, path in sorted(found.items()) if not self.is_masked(path)]
 
     def drop_ins(self, name):
-        """The drop-ins of a unit, in the order of their names; of two with one name the one of the first folder."""
-        kind = name.rpartition(".")[2]
-        found = {}
-        for owner in (name, template_of(name), kind):
-            for folder in self.folders:
-                for path in sorted((folder / f"{owner}.d").glob("*.conf")) if owner else ():
-                    found.setdefault(path.name, path)
-        return [found[each] for each in sorted(found)]
+        """The drop-ins of a unit, in the order of their names."""
+        return [path for entry, path in self.beside(name, ".d") if entry.endswith(".conf")]
 
     def linked(self, name, suffix):
-        return sorted({entry.name for folder in self.folders for entry in (folder / (name + suffix)).glob("*")})
+        return [entry for entry, _ in self.beside(name, suffix) if is_name(entry)]
 
     def named(self, name, words):
         """The units that words name: with the specifiers that a name alone settles; those with others are left out."""
-        stem, _, kind = name.rpartition(".")
-        prefix, _, instance = stem.partition("@")
-        of_specifier = {"%n": name, "%N": stem, "%p": prefix, "%i": instance, "%I": instance, "%%": "%"}
-        settled = (re.sub(r"%.", lambda found: of_specifier.get(found[0], found[0]), word) for word in words)
-        return [self.own_name(word) for word in settled if "%" not in word and "." in word]
-
-
-def with_defaults(unit):
-    """Adds what systemd adds by itself to a unit, but for the order of targets."""
-    settings = collections.defaultdict(list, unit.settings)
-    triggered = triggered_by(unit)
-    if triggered:
-        settings["Before"].append(triggered)
-    if unit.kind == "service":
-        settings["Wants"] += unit["Sockets"]
-        settings["After"] += unit["Sockets"]
-        if unit["Type"] == ["dbus"]:
-            settings["Requires"].append("dbus.socket")
-            settings["After"].append("dbus.socket")
-    if unit.kind in RUN_PROGRAMS:
-        add_for_programs(unit, settings)
-    if unit.has_defaults:
-        add_defaults(unit, settings)
-    return Unit(unit.name, settings)
-
-
-def add_for_programs(unit, settings):
-    """What comes before the programs of a unit: where their words go, and their own temporary folder."""
-    output = unit["StandardOutput"] or ["journal"]
-    error = unit["StandardError"] or ["inherit"]
-    if any(word.startswith(("journal", "kmsg")) for word in (output[-1], error[-1])):
-        settings["After"].append("systemd-journald.socket")
-    if is_true(unit["PrivateTmp"], False):
-        settings["After"].append("systemd-tmpfiles-setup.service")
-
-
-def add_defaults(unit, settings):
-    if unit.kind == "service":
-        settings["Requires"].append("sysinit.target")
-        settings["After"] += ["sysinit.target", "basic.target"]
-    elif unit.kind in SET_OF_TRIGGER:
-        settings["Requires"].append("sysinit.target")
-        settings["After"].append("sysinit.target")
-        settings["Before"].append(SET_OF_TRIGGER[unit.kind])
-        if unit["OnCalendar"]:
-            settings["After"] += ["time-set.target", "time-sync.target"]
-    elif unit.kind in ("mount", "automount"):
-        settings["After"].append("local-fs-pre.target")
-        settings["Before"].append("local-fs.target")
-    elif unit.kind == "swap":
-        settings["Before"].append("swap.target")
-
-
-def triggered_by(unit):
-    """The service that a socket, a timer or a path starts later on, and before which it comes."""
-    if unit.kind not in SET_OF_TRIGGER or (unit.kind == "socket" and is_true(unit["Accept"], False)):
-        return None
-    named = unit["Service"] if unit.kind == "socket" else unit["Unit"]
-    return named[-1] if named else unit.name.rpartition(".")[0] + ".service"
+        found = []
+        for word in words:
+            other = unit_names.with_specifiers(word, name)
+            if other is None or not is_name(other):
+                continue
+            found.append(self.own_name(unit_names.instance_of_template(other, name) if is_template(other) else other))
+        return found

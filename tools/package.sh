@@ -1,10 +1,11 @@
 #!/bin/bash
-# Makes a Debian package and an archive of the proved program, with the man page, the documents and the examples, and a
-# file of their SHA-256 sums; then unpacks both and has each print a plan.
+# Makes a Debian package and an archive of the proved program, with what its pages show: importers and exporters, examples,
+# documents, the man page, completion; and a file of their SHA-256 sums. Then unpacks both, and has each plan and show the plan.
 #
 #     tools/package.sh [FOLDER]      the folder is out/package at the top of the repository, where none is given
 #
-# ./metis proves and builds the program first where need be. Two runs over the same program make the same bytes.
+# Only what is committed is packed, with a program that is proved: it is proved first where need be. The package says which
+# commit and which kit it is of. Two runs over the same program make the same bytes. It needs libc6 2.34 or later to run.
 set -euo pipefail
 
 NAME=metis-planner
@@ -20,16 +21,31 @@ fail() {
     exit 1
 }
 
-# The time that all files get: that of the last commit, or of VERSION where there is none.
-SOURCE_DATE_EPOCH=$(git -C "$top" log -1 --format=%ct 2>/dev/null || stat -c %Y "$top/VERSION")
-export SOURCE_DATE_EPOCH
+# What is packed is what the commit has, and nothing else.
+check_tree() {
+    commit=$(git -C "$top" rev-parse HEAD 2>/dev/null) || fail "this is no checkout of git, so no commit can be named"
+    [ -z "$(git -C "$top" status --porcelain)" ] || fail "the checkout is not as its commit: commit, or take away what git status lists"
+    # The time that all files get.
+    SOURCE_DATE_EPOCH=$(git -C "$top" log -1 --format=%ct)
+    export SOURCE_DATE_EPOCH
+}
+
+check_program() {
+    METIS_UNPROVED=no "$top/metis" print "$top/examples/web.json" >/dev/null || fail "there is no proved program"
+    # What `rt try` builds has checks of its own in it.
+    ! grep -aq __asan_init "$program" || fail "$program is a program that was built without a proof"
+    kit=$(rt version 2>/dev/null) || fail "rt is not on the path, so the kit cannot be named"
+    # The program is to need the C library alone.
+    others=$(ldd "$program" | awk '{print $1}' | grep -Ev '^(linux-vdso|libc|/lib.*/ld-linux)' || true)
+    [ -z "$others" ] || fail "the program needs more than the C library: $others"
+}
 
 # Who made the package: as Debian's tools have it, or else the author of the last commit.
 maintainer() {
     if [ -n "${DEBEMAIL:-}" ]; then
         echo "${DEBFULLNAME:-$DEBEMAIL} <$DEBEMAIL>"
     else
-        git -C "$top" log -1 --format='%an <%ae>' 2>/dev/null || echo 'unknown <unknown@localhost>'
+        git -C "$top" log -1 --format='%an <%ae>'
     fi
 }
 
@@ -38,15 +54,70 @@ wanted_libc() {
     grep -ao 'GLIBC_2\.[0-9]*' "$program" | cut -d_ -f2 | sort -Vu | tail -1
 }
 
-# The program, the man page, the documents and the examples, below a folder such as /usr.
+# What the program was proved by, for whoever wants to do so again.
+proved() {
+    echo "commit $commit"
+    echo "kit $kit"
+    echo "sha256 of bin/metis $(sha256sum <"$program" | cut -d' ' -f1)"
+    echo "rt ci at that commit, with that kit, proves it and makes these bytes."
+}
+
+# The changes of this version, as Debian has them.
+changelog() {
+    echo "$NAME ($version) unstable; urgency=medium"
+    echo
+    awk -v head="## $version" '$0 == head {on = 1; next} /^## / {on = 0} on' "$top/CHANGELOG.md" |
+        sed -n 's/^- /  * /p; t; s/^  \([^ ]\)/    \1/p'
+    echo
+    echo " -- $(maintainer)  $(LC_ALL=C date -u -R -d "@$SOURCE_DATE_EPOCH")"
+}
+
+# A command that runs a module of Python below the same folder, wherever that is unpacked. It leaves nothing there.
+command_of() {
+    cat <<COMMAND
+#!/bin/sh
+# Python's modules lie beside this command, in ../lib.
+script=\$(readlink -f "\$0")
+python3 -c 'import sys; sys.exit(sys.version_info < (3, 11))' 2>/dev/null || {
+    echo "\${0##*/}: Python 3.11 or later has to be there" >&2
+    exit 1
+}
+PYTHONPATH=\${script%/bin/*}/lib/$NAME exec python3 -B -P -m $1 "\$@"
+COMMAND
+}
+
+# Such a command, and a man page that is the planner's, which speaks of it.
+install_command() {
+    local root=$1 name=$2 module=$3
+    command_of "$module" >"$work/command"
+    install -D -m 755 "$work/command" "$root/bin/$name"
+    echo '.so man1/metis.1' | gzip -9n >"$root/share/man/man1/$name.1.gz"
+}
+
+# The files of some folders that git tracks, below another folder, but for those that a pattern names.
+lay_tracked() {
+    local root=$1 left_out=$2
+    shift 2
+    git -C "$top" ls-files -- "$@" | grep -Ev "$left_out" | while read -r file; do
+        install -D -m 644 "$top/$file" "$root/$file"
+    done
+}
+
+# All of it below a folder such as /usr.
 lay_out() {
-    local root=$1 documents=$1/share/doc/$NAME
+    local root=$1 documents=$1/share/doc/$NAME modules=$1/lib/$NAME
     install -D -m 755 "$program" "$root/bin/metis"
+    lay_tracked "$modules" '/(tests|try_[a-z_]*\.py$)' importers exporters
     install -D -m 644 "$top/docs/metis.1" "$root/share/man/man1/metis.1"
     gzip -9n "$root/share/man/man1/metis.1"
-    install -D -m 644 -t "$documents" "$top"/README.md "$top"/CONTRIBUTING.md "$top"/CHANGELOG.md
-    install -D -m 644 -t "$documents/docs" "$top"/docs/*.md
-    install -D -m 644 -t "$documents/examples" "$top"/examples/*.json
+    install_command "$root" metis-import importers
+    install_command "$root" metis-show "importers show"
+    [ ! -d "$top/exporters" ] || install_command "$root" metis-export exporters
+    install -D -m 644 "$top/completion/metis.bash" "$root/share/bash-completion/completions/metis"
+    install -D -m 644 "$top/completion/_metis" "$root/share/zsh/vendor-completions/_metis"
+    lay_tracked "$documents" '^docs/metis\.1$' README.md CONTRIBUTING.md CHANGELOG.md docs examples
+    proved >"$documents/PROVED"
+    changelog | gzip -9n >"$documents/changelog.gz"
 }
 
 make_archive() {
@@ -54,7 +125,7 @@ make_archive() {
     lay_out "$work/$folder"
     tar --sort=name --owner=0 --group=0 --numeric-owner --mtime="@$SOURCE_DATE_EPOCH" -C "$work" -cf - "$folder" | gzip -9n >"$made/$folder.tar.gz"
     tar -C "$work/tried" -xzf "$made/$folder.tar.gz"
-    try_program "$work/tried/$folder"
+    try_out "$work/tried/$folder"
     echo "$folder.tar.gz"
 }
 
@@ -70,6 +141,8 @@ Version: $version
 Architecture: $architecture
 Maintainer: $(maintainer)
 Depends: libc6 (>= $(wanted_libc))
+Recommends: python3 (>= 3.11)
+Suggests: python3-yaml
 Installed-Size: $size
 Section: admin
 Priority: optional
@@ -78,16 +151,21 @@ Description: planner for the deployment of components, proved
  provides and requires. For targets it prints a plan, whose actions name
  those that they wait for, or a refusal that anyone can check. It also
  replays, audits, times, places, rolls out and carries out plans.
+ .
+ The planner needs libc6 $(wanted_libc) or later and nothing else. The commands beside
+ it, which make universes of packages, Compose projects and systemd's targets,
+ and show plans, need Python 3.11.
 CONTROL
     (cd "$root" && find usr -type f -exec md5sum {} + | LC_ALL=C sort -k 2 >DEBIAN/md5sums)
     dpkg-deb --root-owner-group --build "$root" "$made/${NAME}_${version}_$architecture.deb" >/dev/null
     dpkg-deb -x "$made/${NAME}_${version}_$architecture.deb" "$work/tried/deb"
-    try_program "$work/tried/deb/usr"
+    try_out "$work/tried/deb/usr"
     echo "${NAME}_${version}_$architecture.deb"
 }
 
-# Has the unpacked program print the plan that README shows.
-try_program() {
+# Has what was unpacked print the plan that README shows, and show it.
+try_out() {
+    local examples=$1/share/doc/$NAME/examples
     local plan='metis plan 1
 instances 2 actions 5 dups 0
 1 new 0 Web
@@ -96,14 +174,15 @@ instances 2 actions 5 dups 0
 4 bind sql 0 1 after 3
 5 move 0 off run
 end'
-    [ "$("$1/bin/metis" plan "$1/share/doc/$NAME/examples/web.json" Web:run)" = "$plan" ] || fail "the unpacked program prints another plan"
+    [ "$("$1/bin/metis" plan "$examples/web.json" Web:run)" = "$plan" ] || fail "the unpacked program prints another plan"
+    [ "$("$1/bin/metis" plan "$examples/web.json" Web:run | "$1/bin/metis-show" | tail -1)" = '   5  Web#0: off -> run' ] || fail "the unpacked metis-show shows another plan"
+    [ "$(echo 'a: off > on' | "$1/bin/metis-import" sketch | "$1/bin/metis" plan - a:on | sed -n 2p)" = 'instances 1 actions 2 dups 0' ] || fail "the unpacked metis-import makes another universe"
+    [ -f "$examples/shop/shop.json" ] || fail "an example is not there"
 }
 
 command -v dpkg-deb >/dev/null || fail "dpkg-deb is not there: this wants Debian's tools"
-"$top/metis" print "$top/examples/web.json" >/dev/null || fail "there is no program"
-# The program is to need the C library alone.
-others=$(ldd "$program" | awk '{print $1}' | grep -Ev '^(linux-vdso|libc|/lib.*/ld-linux)' || true)
-[ -z "$others" ] || fail "the program needs more than the C library: $others"
+check_tree
+check_program
 umask 022
 mkdir -p "$made" "$work/tried"
 files=$(make_archive && make_deb)

@@ -1,20 +1,23 @@
 #!/usr/bin/env python3
-"""Tries the commands that README, TUTORIAL, MODELLING and IMPORTERS show, and compares what they print, byte for byte.
+"""Tries the commands that pages and the man page show, and compares what they print, byte for byte.
 
-    tools/try_documents.py [PROGRAM] [--try]
+    tools/try_documents.py [PROGRAM]
 
 PROGRAM is the built program, crates/metis/out/metis where none is given. In a page, lines behind `$ ` are typed, one
 after the other in one shell; the lines up to the next one are what is printed, where a line `...` stands for any lines.
 The status is 0, or what a comment `# status N` behind the command says. A block behind the words "into `NAME`:" is
-written into that file. `./try` is the program itself, and with --try the real script, which builds it anew. Commands of
-the kit, `rt`, are listed and not run, and so are importers where their source is not there: Debian's index, PyYAML, units.
+written into that file. Commands that prove, install or show a manual are listed and not run, and so are importers where
+their source is not there (Debian's index, PyYAML, units), and Graphviz. Plans are carried out by make, which has to be
+there. What a page has written stands in .gitignore.
 
-It also looks up the laws that pages cite, their links, README's length, the list of docs/HEADLINE.md, and the lines that
-a page shows as a diff: those behind `+` stand in the file named above them, in this order. It ends with status 1 where
-something is not as a page says.
+It also looks up the laws that pages cite, their links, their figures (tools/figures.py), the list of docs/HEADLINE.md, and
+the lines that a page shows as a diff: those behind `+` stand in the file named above them, in this order. It ends with
+status 1 where something is not as a page says.
 """
 
 import importlib.util
+import itertools
+import os
 import pathlib
 import re
 import shutil
@@ -22,21 +25,26 @@ import subprocess
 import sys
 import tempfile
 
+import figures
+
 TOP = pathlib.Path(__file__).resolve().parent.parent
-PAGES = ("README.md", "docs/TUTORIAL.md", "docs/MODELLING.md", "docs/IMPORTERS.md")
-LINES_OF_README = 200
+PAGES = ("README.md", "docs/TUTORIAL.md", "docs/MODELLING.md", "docs/IMPORTERS.md", "docs/EXPORTERS.md")
+# In it commands have the names that the package gives them, and their statuses are not shown.
+MANUAL = "docs/metis.1"
+OF_THE_PACKAGE = {"metis-import": "importers", "metis-show": "importers show", "metis-export": "exporters"}
 INDENT = "    "
 INTO_FILE = re.compile(r"into\s+`([^`]+)`:$")
 STATUS = re.compile(r"# status (\d+)$")
 # What a command needs beside this repository, by how it begins: whether it is there.
 NEEDS = (
-    (re.compile(r"^rt "), lambda: False),
+    (re.compile(r"^(rt|apt|man|tools/build.py)\b"), lambda: False),
     (re.compile(r"^(PYTHONPATH=\.\. )?python3 -m importers debian "), lambda: bool(shutil.which("apt-cache")) and bool(run_out("apt-cache", "dumpavail"))),
     (re.compile(r"^(PYTHONPATH=\.\. )?python3 -m importers compose .*\.ya?ml"), lambda: importlib.util.find_spec("yaml") is not None),
     (re.compile(r"^(PYTHONPATH=\.\. )?python3 -m importers systemd "), lambda: pathlib.Path("/lib/systemd/system").is_dir()),
+    (re.compile(r"^dot "), lambda: bool(shutil.which("dot"))),
 )
 # A command that a page shows without trying it.
-SHOWN = re.compile(r"^(\./)?(metis|try) (plan|replay|refute|audit|why|confirm|sim|crew|waves|control|rollout|place|print|load) ")
+SHOWN = re.compile(r"^(\./)?metis (plan|replay|refute|audit|why|confirm|sim|crew|waves|control|rollout|place|print|load) ")
 # A law has a name of three words or more; shorter ones may be anything.
 LAW = re.compile(r"`([a-z0-9]+(?:_[a-z0-9]+){2,})`")
 LINK = re.compile(r"\]\(([^)\s]+)\)")
@@ -87,8 +95,25 @@ def blocks_of(page):
         at += 1
 
 
+def steps_of_manual(name):
+    """What the man page has a reader do: there `cat` of a file shows what is to be in it."""
+    steps, is_example = [], False
+    for number, line in enumerate((TOP / name).read_text().splitlines(), 1):
+        if line.startswith((".Bd -literal", ".Ed")):
+            is_example = line.startswith(".Bd")
+        elif is_example and line.startswith("$ cat "):
+            steps.append(Step(f"{name}:{number}", "", line.removeprefix("$ cat ")))
+        elif is_example and line.startswith("$ "):
+            steps.append(Step(f"{name}:{number}", line[2:]))
+        elif is_example:
+            steps[-1].lines.append(line)
+    return steps, []
+
+
 def steps_of(name):
     """What the page has a reader do, in order, and what is wrong with how it says so."""
+    if name == MANUAL:
+        return steps_of_manual(name)
     steps, wrong = [], []
     for start, block, before in blocks_of((TOP / name).read_text()):
         into = INTO_FILE.search(before)
@@ -108,14 +133,27 @@ def steps_of(name):
     return steps, wrong
 
 
-def lay_out(folder, program, real_try):
-    """What a reader has in the top folder, with the program in place of the scripts that would build it."""
-    for name in ("examples", "importers", "tools"):
+def lay_out(folder, program):
+    """What a reader has in the top folder, with the program in place of the script that would build it."""
+    for name in ("examples", "exporters", "importers", "tools"):
         (folder / name).symlink_to(TOP / name)
-    for name in ("metis", "try"):
-        script = TOP / "try" if name == "try" and real_try else program
-        (folder / name).write_text(f'#!/bin/sh\nexec "{script}" "$@"\n')
-        (folder / name).chmod(0o755)
+    write_command(folder / "metis", f'exec "{program}"')
+    for name, module in OF_THE_PACKAGE.items():
+        write_command(folder / "commands" / name, f'PYTHONPATH="{TOP}" exec python3 -m {module}')
+    (folder / "commands" / "metis").symlink_to(folder / "metis")
+
+
+def write_command(path, words):
+    path.parent.mkdir(exist_ok=True)
+    path.write_text(f'#!/bin/sh\n{words} "$@"\n')
+    path.chmod(0o755)
+
+
+def not_ignored(folder, before):
+    """What the commands of a page made in the top folder, and what git would list there."""
+    made = sorted(it.name + "/" * it.is_dir() for it in folder.iterdir() if it.name not in before)
+    ran = subprocess.run(["git", "check-ignore", "--no-index", "--stdin"], input="\n".join(made), cwd=TOP, capture_output=True, text=True, check=False)
+    return [] if ran.returncode > 1 else [it for it in made if it not in ran.stdout.splitlines()]
 
 
 def shell_of(steps, kept):
@@ -141,15 +179,15 @@ def faults_of(steps, kept):
             continue
         printed, said, status = (text_of(kept / f"{at}.{kind}") for kind in ("out", "err", "status"))
         status = status.strip()
-        if status != str(step.status()):
+        if status != str(step.status()) and not step.place.startswith(MANUAL):
             yield f"{step.place}: status {status or 'none'}: {step.command}\n{said}"
         elif not step.fits(printed):
             yield f"{step.place}: another text: {step.command}\n{printed}"
-        elif said and not step.command.startswith("./try "):
+        elif said:
             yield f"{step.place}: on standard error: {said}"
 
 
-def try_page(name, program, real_try):
+def try_page(name, program):
     """Takes the steps of a page in a folder of its own. Returns how many commands were tried, and what is wrong."""
     steps, wrong = steps_of(name)
     left_out = [step for step in steps if not can_run(step.command)]
@@ -157,9 +195,15 @@ def try_page(name, program, real_try):
         print(f"{step.place}: not run: {step.command}")
     steps = [step for step in steps if step not in left_out]
     with tempfile.TemporaryDirectory() as folder, tempfile.TemporaryDirectory() as kept:
-        lay_out(pathlib.Path(folder), program, real_try)
-        subprocess.run(["bash", "-c", shell_of(steps, pathlib.Path(kept))], cwd=folder, check=False, timeout=600)
+        top = pathlib.Path(folder)
+        lay_out(top, program)
+        before = {it.name for it in top.iterdir()}
+        path = f"{top / 'commands'}:{os.environ['PATH']}" if name == MANUAL else os.environ["PATH"]
+        script = shell_of(steps, pathlib.Path(kept))
+        subprocess.run(["bash", "-c", script], cwd=folder, env={**os.environ, "PATH": path}, check=False, timeout=600)
         wrong += faults_of(steps, pathlib.Path(kept))
+        if name != MANUAL:
+            wrong += [f"{name}: not in .gitignore: {it}" for it in not_ignored(top, before)]
     return sum(1 for step in steps if not step.name), wrong
 
 
@@ -206,24 +250,19 @@ def look_up():
         yield from (f"{path.relative_to(TOP)}: no such law or definition: {name}" for name in sorted(cited))
         yield from broken_links(path)
         yield from lines_not_there(path)
-    lines = len((TOP / "README.md").read_text().splitlines())
-    if lines > LINES_OF_README:
-        yield f"README.md: {lines} lines, more than {LINES_OF_README}"
     listed = subprocess.run([TOP / "tools" / "reading_list.py", "--check"], capture_output=True, text=True, check=False)
     if listed.returncode:
         yield f"docs/HEADLINE.md: {listed.stdout}{listed.stderr}"
 
 
 def main(words):
-    real_try = "--try" in words
-    names = [word for word in words if word != "--try"]
-    program = pathlib.Path(names[0] if names else TOP / "crates" / "metis" / "out" / "metis").resolve()
+    program = pathlib.Path(words[0] if words else TOP / "crates" / "metis" / "out" / "metis").resolve()
     if not program.is_file():
         print(f"there is no program {program}", file=sys.stderr)
         return 2
-    wrong = list(look_up())
-    for name in PAGES:
-        tried, faults = try_page(name, program, real_try)
+    wrong = list(itertools.chain(look_up(), figures.faults(program)))
+    for name in (*PAGES, MANUAL):
+        tried, faults = try_page(name, program)
         print(f"{name}: {tried} commands tried, {len(faults)} otherwise than the page says")
         wrong += faults
     print(*wrong, sep="\n", end="\n" if wrong else "")

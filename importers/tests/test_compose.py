@@ -5,7 +5,7 @@ import tempfile
 import unittest
 import unittest.mock
 
-from importers import compose, compose_input
+from importers import compose, compose_input, compose_variables
 from importers.document import Refused
 from importers.tests.shapes import shape
 
@@ -203,6 +203,113 @@ class ReplicasTest(unittest.TestCase):
         self.assertEqual(found["project"], project("project/part-1", "project/part-2")["project"])
 
 
+class FailingTest(unittest.TestCase):
+    """There is no plan where Compose would fail, or wait for ever."""
+
+    def refused(self, services, **more):
+        with self.assertRaises(Refused) as caught:
+            imported(services, **more)
+        return str(caught.exception)
+
+    def test_a_health_that_is_never_checked(self):
+        reason = "service a: it waits for b to be healthy, whose healthcheck is off"
+        for check in ({"disable": True}, {"disable": "true"}, {"test": ["NONE"]}, {"test": "NONE"}):
+            self.assertEqual(self.refused({"a": waiting(b="service_healthy"), "b": alone(healthcheck=check)}), reason)
+        imported({"a": waiting(b="service_healthy"), "b": alone(healthcheck={"test": "x", "disable": "false"})})
+        imported({"a": waiting(b="service_started"), "b": alone(healthcheck={"disable": True})})
+
+    def test_one_that_never_completes(self):
+        for told in ({"restart": "always"}, {"restart": "unless-stopped"}, {"deploy": {"restart_policy": {"condition": "any"}}}):
+            reason = self.refused({"a": waiting(b="service_completed_successfully"), "b": alone(**told)})
+            self.assertRegex(reason, "^service a: it waits for b to complete, which starts again whenever it ends [(]restart: ")
+        for told in ({"restart": "no"}, {"restart": "on-failure:3"}, {"restart": "always", "deploy": {"restart_policy": {"condition": "none"}}}):
+            imported({"a": waiting(b="service_completed_successfully"), "b": alone(**told)})
+
+    def test_one_that_depends_on_itself(self):
+        for told in ({"depends_on": ["a"]}, {"links": ["a:x"]}, {"network_mode": "service:a"}):
+            self.assertEqual(self.refused({"a": {"image": "i", **told}}), "service a: it depends on itself")
+
+    def test_replicas_with_one_name(self):
+        services = {"a": alone(container_name="x", deploy={"replicas": 2})}
+        self.assertEqual(self.refused(services), "service a: 2 replicas cannot all have the name x")
+
+    def test_what_it_can_do_without_does_not_hold_it_up(self):
+        need = {"b": {"condition": "service_healthy", "required": "false"}}
+        found = imported({"a": alone(depends_on=need), "b": alone(healthcheck={"disable": True})})
+        self.assertEqual(found["a"], service("a")["a"])
+
+
+class FlagTest(unittest.TestCase):
+    def test_words_in_quotes(self):
+        tables = {"networks": {"n": {"external": "false"}, "m": {"external": "True"}}}
+        found = imported({"a": {"image": "i", "networks": ["n", "m"]}}, **tables)
+        self.assertIn("network/n", found)
+        self.assertNotIn("network/m", found)
+        with self.assertRaisesRegex(Refused, "^network n: 'external' is neither true nor false: maybe$"):
+            imported({"a": alone()}, networks={"n": {"external": "maybe"}})
+
+
+class BuildTest(unittest.TestCase):
+    def test_an_image_that_is_built_on_that_of_another_service(self):
+        for contexts in ({"base": "service:b", "files": "./x"}, ["base=service:b"]):
+            services = {
+                "a": {"build": {"context": ".", "additional_contexts": contexts}, "network_mode": "none"},
+                "b": {"build": ".", "network_mode": "none", "profiles": ["off"]},
+            }
+            found = imported(services)
+            self.assertEqual(found["image/a"], ["absent > there", "there +image/a -image/b > absent"])
+            self.assertEqual(found["image/b"], thing("image/b")["image/b"])
+            self.assertNotIn("b", found)
+
+    def test_one_that_nobody_defines(self):
+        with self.assertRaisesRegex(Refused, "^service a: it is built on b, which nobody defines$"):
+            imported({"a": {"build": {"additional_contexts": {"x": "service:b"}}}})
+
+
+class VariablesTest(unittest.TestCase):
+    def text(self, text, **values):
+        return compose_variables.Variables(values).inside(text)
+
+    def test_values(self):
+        for text, expected in {
+            "a$B-${B}-$$B": "ab-b-$B",
+            "${X:-${B}c}": "bc",
+            "${E-x}${E:-y}": "y",
+            "${B:+there}${X+gone}": "there",
+            "${B:?no}": "b",
+        }.items():
+            self.assertEqual(self.text(text, B="b", E=""), expected, text)
+        self.assertEqual(self.text({"$B": ["$B", 1, None]}, B="b"), {"$B": ["b", 1, None]})
+
+    def test_what_is_not_set_stays_and_is_kept(self):
+        variables = compose_variables.Variables({})
+        self.assertEqual(variables.inside(["x:$T", "y:${T}"]), ["x:$T", "y:${T}"])
+        self.assertEqual(list(variables.notes()), ["the variable T is not set, and stays as it stands in: $T"])
+
+    def test_refused(self):
+        for text, reason in {
+            "${T:?say which}": "the variable T is not set: say which",
+            "a$-": "no variable behind the $ in: a$-; $$ says one",
+            "${T": "no brace closes the variable in: ${T",
+            "${9}": "no variable: ${9}",
+            "${X:-" * 30 + "}" * 30: "variables inside variables too deeply",
+        }.items():
+            with self.assertRaises(Refused) as caught:
+                self.text(text)
+            self.assertEqual(str(caught.exception), reason)
+
+    def test_a_project_with_what_lies_beside_it(self):
+        with tempfile.TemporaryDirectory() as folder:
+            path = pathlib.Path(folder) / "compose.yaml"
+            path.write_text(json.dumps({"services": {"a": alone(image="x:${METIS_TAG}", environment=["Y=$METIS_UNLOOKED"])}}))
+            (path.parent / ".env").write_text("# a file\nexport METIS_TAG='7' \n")
+            (path.parent / "compose.override.yml").write_text("services: {}\n")
+            project = compose_input.read_project(str(path))
+        self.assertEqual(project.services["a"].image, "x:7")
+        self.assertEqual(len(project.notes), 1)
+        self.assertRegex(project.notes[0], "compose.override.yml lies beside it, and is not read; `docker compose config`")
+
+
 class ProfilesTest(unittest.TestCase):
     SERVICES = {
         "a": alone(depends_on={"b": {"condition": "service_started", "required": False}}),
@@ -288,6 +395,50 @@ class NextTest(unittest.TestCase):
             "project@next": project("a/started")["project"],
         }
         self.assertEqual(shape(compose.universe(both)), expected)
+
+
+DATA = {"db": alone(image="d:1", volumes=["vol:/d"]), "api": alone(image="a:1", depends_on=["db"], volumes=["vol:/d:ro"])}
+
+
+class DataTest(unittest.TestCase):
+    """A later form of a project takes away no data."""
+
+    def plan(self, second, **options):
+        first = project_of(DATA, volumes={"vol": {}})
+        return compose.Plan([first, project_of(second, volumes={"vol": {}, "more": {}})], **options)
+
+    def test_volumes_and_who_writes_to_them_are_given(self):
+        plan = self.plan({"db": {**DATA["db"], "image": "d:2"}, "api": {**DATA["api"], "image": "a:2"}})
+        found = shape(plan.document())
+        self.assertEqual(sorted(found), ["api", "api@next", "image/a_1", "image/a_2", "project", "project@next"])
+        self.assertEqual(found["api"], service("api", things=("image/a_1",))["api"])
+        reason = "given, since it holds data: db, volume/vol; --replace-data takes it as all else"
+        self.assertEqual(list(plan.notes()), [reason])
+        self.assertIn("where db, volume/vol stands", json.loads(plan.document())["comment"])
+
+    def test_unless_asked_for(self):
+        plan = self.plan({"db": {**DATA["db"], "image": "d:2"}}, replaces_data=True)
+        self.assertTrue({"db", "db@next", "volume/vol"} <= set(shape(plan.document())))
+        self.assertEqual(list(plan.notes()), [])
+
+    def test_what_is_new_is_made(self):
+        plan = self.plan({**DATA, "new": alone(volumes=["more:/m"])})
+        self.assertIn("volume/more", shape(plan.document()))
+
+    def test_what_a_host_has_once(self):
+        web = alone(ports=["127.0.0.1:80:80", "90", "53:53/udp", {"target": 1, "published": "443"}], container_name="web")
+        first, second = project_of({"web": web}), project_of({"web": {**web, "image": "j"}})
+        reason = "web and web@next both take port 127.0.0.1:80, port 443, port 53/udp, the name web, so they cannot stand on one host at once"
+        self.assertEqual(list(compose.Plan([first, second]).notes()), [reason])
+        self.assertEqual(list(compose.Plan([first, first]).notes()), [])
+
+    def test_a_port_that_replicas_share(self):
+        plan = compose.Plan([project_of({"a": alone(ports=["80:80"], scale=2), "b": alone(ports=["80:1"])})])
+        self.assertEqual(list(plan.notes()), ["port 80 is taken by 3 containers, of a, b: one host has it once"])
+
+    def test_a_health_that_only_an_image_can_check(self):
+        plan = compose.Plan([project_of({"a": waiting(b="service_healthy"), "b": alone()})])
+        self.assertEqual(list(plan.notes()), ["b has no healthcheck here: it gets healthy if its image has one"])
 
 
 class RefusedTest(unittest.TestCase):

@@ -47,12 +47,20 @@ def installed(name, version="1", **fields):
     return package(name, version, Status="install ok installed", **fields)
 
 
-def imported(names, *stanzas, is_strict=False, stands=None):
+def imported(names, *stanzas, stands=None, **options):
     """The shape of the universe of these packages, and the notes."""
-    document, notes = debian.universe(
-        choices(*stanzas, installed=stands), debian.Request(names.split(), is_strict)
-    )
+    request = debian.Request(names.split(), **options)
+    document, notes = debian.universe(choices(*stanzas, installed=stands), request)
     return shape(document), notes
+
+
+def refusal(names, *stanzas, **options):
+    """The reason for which there is no document."""
+    try:
+        imported(names, *stanzas, **options)
+    except Refused as refused:
+        return str(refused)
+    raise AssertionError("a document was made")
 
 
 def simple(name, *needs):
@@ -165,19 +173,41 @@ class AlternativesTest(unittest.TestCase):
         )
         self.assertEqual(found, {**simple("a", "c", "e"), **simple("c"), **simple("e")})
 
-    def test_where_all_conflict_the_first_is_taken(self):
-        found, notes = imported("a", package("a", Conflicts="b, c", Depends="b | c"), package("b"), package("c"))
+    def test_where_all_conflict_it_is_the_first_that_is_refused(self):
+        stanzas = package("a", Conflicts="b, c", Depends="b | c"), package("b"), package("c")
+        self.assertEqual(
+            refusal("a", *stanzas),
+            "a and b conflict, and dpkg will not have both; --allow-conflicts makes a document all the same",
+        )
+        found, notes = imported("a", *stanzas, allows_conflicts=True)
         self.assertEqual(found, {**simple("a", "b"), **simple("b")})
         self.assertEqual(notes, [f"a and b {debian.CONFLICT}"])
+
+    def test_one_that_stands_in_an_earlier_version_comes_before_a_new_one(self):
+        stanzas = package("a", Depends="b | c (>= 2)"), package("b"), package("c", "2")
+        found, _ = imported("a", *stanzas, stands=[installed("c", "1")])
+        self.assertEqual(found, {**simple("a", "c"), **simple("c")})
+
+    def test_a_package_whose_record_is_bad_is_passed_over(self):
+        found, _ = imported("a", package("a", Depends="b | c"), package("b", Depends="x y"), package("c"))
+        self.assertEqual(found, {**simple("a", "c"), **simple("c")})
 
 
 class ConflictTest(unittest.TestCase):
     def test_with_what_is_given(self):
         given = [installed("x", Provides="b"), installed("y", Breaks="c (<< 2)"), installed("a", Conflicts="d")]
         stanzas = package("a", "2", Depends="c, d", Conflicts="b, a"), package("c"), package("d")
-        _, notes = imported("a", *stanzas, stands=given)
+        self.assertEqual(
+            refusal("a", *stanzas, stands=given),
+            "a and x conflict, and dpkg will not have both (and 1 more); --allow-conflicts makes a document all the same",
+        )
+        _, notes = imported("a", *stanzas, stands=given, allows_conflicts=True)
         # The earlier version of a itself goes when the later one comes.
         self.assertEqual(notes, [f"a and x {debian.CONFLICT}", f"c and y {debian.CONFLICT}"])
+
+    def test_between_two_that_are_asked_for(self):
+        reason = refusal("a b", package("a"), package("b", Breaks="a"))
+        self.assertTrue(reason.startswith("a and b conflict"), reason)
 
     def test_what_one_provides_and_conflicts_with_is_no_conflict(self):
         _, notes = imported("a", package("a", Depends="b"), package("b", Provides="x", Conflicts="x"))
@@ -292,6 +322,136 @@ class InstalledTest(unittest.TestCase):
         self.assertEqual(found, simple("b"))
 
 
+class UpgradeTest(unittest.TestCase):
+    """What stands stays whole when a part of it is upgraded."""
+
+    def test_who_depends_on_the_version_that_goes_joins(self):
+        given = [installed("lib"), installed("tool", Depends="lib (= 1)"), installed("other", Depends="lib")]
+        stanzas = package("a", Depends="lib (>= 2)"), package("lib", "2"), package("tool", "2", Depends="lib (= 2)")
+        found, notes = imported("a", *stanzas, package("other", "2"), stands=given)
+        expected = {
+            "a": ["absent > installed", "installed +a/alone -lib > absent"],
+            **simple("lib"),
+            **simple("tool", "lib"),
+            "a/request": ["open > met", "met +a -a/alone -tool > open"],
+        }
+        self.assertEqual(found, expected)
+        self.assertEqual(notes, ["upgraded too, so that what stands stays whole: tool"])
+
+    def test_who_depends_on_a_name_that_goes_joins(self):
+        given = [installed("lib", Provides="api (= 1)"), installed("tool", Depends="api (= 1)")]
+        stanzas = package("lib", "2", Provides="api (= 2)"), package("tool", "2", Depends="api (= 2)")
+        found, _ = imported("lib", *stanzas, stands=given)
+        self.assertEqual(sorted(found), ["lib", "lib/request", "tool"])
+
+    def test_it_goes_on_until_nothing_changes(self):
+        given = [installed("a"), installed("b", Depends="a (= 1)"), installed("c", Depends="b (= 1)"), installed("d")]
+        stanzas = package("a", "2"), package("b", "2", Depends="a (= 2)"), package("c", "2", Depends="b (= 2), d (>= 2)")
+        found, _ = imported("a", *stanzas, package("d", "2"), stands=given)
+        self.assertEqual(found["a/request"][1], "met +a -a/alone -b -c -d > open")
+        self.assertEqual(found["c"], simple("c", "b", "d")["c"])
+
+    def test_what_a_chosen_package_leans_on_may_be_lost_to_another(self):
+        given = [installed("lib", Provides="x"), installed("y")]
+        stanzas = package("a", Depends="x"), package("b", Depends="lib (>= 2)"), package("lib", "2"), package("y", "2", Provides="x")
+        found, _ = imported("a b", *stanzas, stands=given)
+        self.assertEqual(found["a"], simple("a", "y")["a"])
+
+    def test_where_no_upgrade_helps_another_package_does(self):
+        given = [installed("lib", Provides="x"), installed("tool", Depends="x")]
+        found, _ = imported("lib", package("lib", "2"), package("y", Provides="x"), stands=given)
+        self.assertEqual(sorted(found), ["lib", "lib/request", "y"])
+
+    def test_who_would_lose_a_dependence_is_named(self):
+        given = [installed("lib"), installed("tool", Depends="lib (= 1)")]
+        reason = "tool, which is given, would lose lib/exactly-1, on which it depends; --allow-conflicts makes a document all the same"
+        self.assertEqual(refusal("lib", package("lib", "2"), stands=given), reason)
+        held = [given[0], package("tool", Depends="lib (= 1)", Status="hold ok installed")]
+        self.assertEqual(refusal("lib", package("lib", "2"), package("tool", "2"), stands=held), reason)
+        found, notes = imported("lib", package("lib", "2"), stands=given, allows_conflicts=True)
+        self.assertEqual(found, simple("lib"))
+        self.assertEqual(notes, ["tool, which is given, would lose lib/exactly-1, on which it depends"])
+
+    def test_what_is_broken_by_a_new_package_is_upgraded_before_it(self):
+        given = [installed("old"), installed("rest", Conflicts="a (<< 9)")]
+        stanzas = package("a", Breaks="old (<< 2)"), package("old", "2"), package("rest", "2")
+        found, notes = imported("a", *stanzas, stands=given)
+        self.assertEqual(found, {**simple("a", "rest", "old"), **simple("old"), **simple("rest")})
+        self.assertEqual(notes, [])
+
+    def test_what_breaks_and_is_needed_is_unpacked_first_where_it_has_to_be(self):
+        # The new old needs a, and a breaks the one that stands: dpkg takes its set-up back meanwhile.
+        given = [installed("old")]
+        stanzas = package("a", Breaks="old (<< 2)"), package("old", "2", Depends="a")
+        found, _ = imported("a", *stanzas, stands=given)
+        self.assertEqual(found["a"], ["absent > installed", "installed +a/alone > absent"])
+        self.assertEqual(found["old"], simple("old", "a/alone")["old"])
+        stanzas = package("a", Conflicts="old (<< 2)"), package("old", "2", Depends="a")
+        found, _ = imported("a", *stanzas, stands=given)
+        self.assertEqual(found["a/files"][1], "unpacked +a/unpacked -old/unpacked > absent")
+        self.assertEqual(found["a/circle"][1], "settled +a +old -a/configured -old/configured > open")
+
+    def test_an_upgrade_that_does_not_help_is_a_conflict(self):
+        given = [installed("old")]
+        stanzas = package("a", Breaks="old (<< 3)"), package("old", "2")
+        self.assertTrue(refusal("a", *stanzas, stands=given).startswith("a and old conflict"))
+
+    def test_the_same_source_is_upgraded_together(self):
+        given = [installed("one"), installed("two"), installed("three")]
+        stanzas = package("one", "2", Source="s"), package("two", "2", Source="s"), package("three", "2", Source="s (3)")
+        found, _ = imported("one", *stanzas, stands=given)
+        self.assertEqual(sorted(found), ["one", "one/request", "two"])
+
+    def test_what_is_held_stays(self):
+        held = package("lib", Status="hold ok installed")
+        found, notes = imported("a", package("a", Depends="lib (>= 2)"), package("lib", "2"), stands=[held])
+        self.assertEqual(notes, ["a depends on lib/from-2, which nothing provides: there will be no plan"])
+        self.assertEqual(found, simple("a", "lib/from-2"))
+
+    def test_one_target_for_all_that_is_asked_for(self):
+        given = [installed("lib"), installed("tool", Depends="lib (= 1)")]
+        stanzas = package("lib", "2"), package("tool", "2", Depends="lib (= 2)"), package("a")
+        document, _ = debian.universe(choices(*stanzas, installed=given), debian.Request(["lib", "a"]))
+        self.assertEqual(json.loads(document)["comment"].partition("targets: ")[2], "port:lib")
+        self.assertEqual(shape(document)["lib/request"][1], "met +lib +a -lib/alone -a/alone -tool > open")
+
+
+class RecommendsTest(unittest.TestCase):
+    def test_they_are_followed_on_request(self):
+        stanzas = package("a", Recommends="b | c, libc6"), package("b", Depends="d", Recommends="e"), package("d"), package("e")
+        found, _ = imported("a", *stanzas, with_recommends=True)
+        self.assertEqual(found["a/request"], ["open > met", "met +a -a/alone -b -d -e > open"])
+        self.assertEqual(found["b"], simple("b", "d")["b"])
+        found, _ = imported("a", *stanzas)
+        self.assertEqual(found, simple("a"))
+
+    def test_what_cannot_be_had_or_conflicts_is_left_out(self):
+        stanzas = package("a", Recommends="b, c, x"), package("b", Depends="d"), package("d", Conflicts="a"), package("c", Depends="y")
+        found, notes = imported("a", *stanzas, with_recommends=True)
+        self.assertEqual((found, notes), (simple("a"), ["recommended, and left out: b, c, x"]))
+
+    def test_what_the_version_that_stands_does_without(self):
+        given = [installed("a", Recommends="b")]
+        stanzas = package("a", "2", Recommends="b, c"), package("b"), package("c")
+        found, _ = imported("a", *stanzas, stands=given, with_recommends=True)
+        self.assertEqual(sorted(found), ["a", "a/request", "c"])
+
+
+class IndexTest(unittest.TestCase):
+    def test_the_highest_version_counts(self):
+        stanzas = package("a", "1.9", Depends="x"), package("a", "1.10", Depends="b"), package("a", "1.10~rc1"), package("b")
+        found, _ = imported("a", *stanzas)
+        self.assertEqual(found, {**simple("a", "b"), **simple("b")})
+        found, _ = imported("a", package("a", "x:1"), package("a", "1"), package("a", "y:9"))
+        self.assertEqual(found, simple("a"))
+
+    def test_a_bad_record_of_the_base_hurts_no_request(self):
+        found, notes = imported("a", package("a"), package("base", Priority="required", Depends="x y"))
+        self.assertEqual(found, simple("a"))
+        reason = "base, which is given, has a record that cannot be read, and is left as it is: no relation to a package: 'x y'"
+        self.assertEqual(notes, [reason])
+
+
 class RefusedTest(unittest.TestCase):
     def refused(self, names, *stanzas):
         with self.assertRaises(Refused) as caught:
@@ -308,9 +468,18 @@ class RefusedTest(unittest.TestCase):
     def test_all_is_given(self):
         self.assertEqual(self.refused("dpkg"), "dpkg: given already, so nothing is left to install")
 
-    def test_a_dependence_that_is_none(self):
-        with self.assertRaisesRegex(ValueError, "no relation to a package: 'b c'"):
-            imported("a", package("a", Depends="b c"))
+    def test_a_bad_record_is_named_where_it_is_needed(self):
+        bad = package("a", Depends="b c"), package("d", "1:2:"), package("e", "x:1"), package("f", "9" * 5000 + ":1")
+        reason = "package a: no relation to a package: 'b c'"
+        self.assertEqual(self.refused("a", *bad), reason)
+        self.assertEqual(self.refused("g", *bad, package("g", Depends="a")), reason)
+        self.assertEqual(self.refused("e", *bad), "package e: no version: 'x:1'")
+        self.assertRegex(self.refused("f", *bad), "^package f: no version: '9+[.][.]'$")
+        found, notes = imported("h", *bad, package("h"))
+        self.assertEqual((found, notes), (simple("h"), []))
+
+    def test_a_name_that_is_none(self):
+        self.assertEqual(self.refused("a/files", package("a/files")), "package a/files: no name of a package: 'a/files'")
 
     def test_too_many_packages(self):
         others = [f"n{number:04}" for number in range(1001)]

@@ -164,20 +164,144 @@ class FilesTest(unittest.TestCase):
                 "a.service": service("After=b.service"),
                 f"{LOCAL}/a.service": service("# After=b.service\nAfter = \\\n t.target"),
                 "b.service": service("After=a.service"),
-                "b.service.d/10.conf": "[Unit]\nAfter=\nAfter=b.service",
+                "b.service.d/10.conf": "[Unit]\nAfter=c.service",
                 f"{LOCAL}/b.service.d/10.conf": "[Unit]\nAfter=\nAfter=t.target",
                 "service.d/20.conf": "[Unit]\nWants=c.service",
                 "c.service": service(),
             },
         )
+        # An empty assignment takes no order back.
         expected = {
             **active("a.service", "t.target"),
-            **active("b.service", "t.target"),
+            **active("b.service", "a.service", "t.target"),
             **active("c.service"),
             **active("t.target"),
             **boot("a.service", "b.service", "c.service", "t.target"),
         }
         self.assertEqual(found, expected)
+
+
+    def test_folders_of_other_names_templates_and_prefixes(self):
+        names = ["alias", "template", "instance", "prefix", "far"]
+        found, _ = imported(
+            "t.target",
+            {
+                "t.target": unit("Wants=a-b@x.service c.service"),
+                "a-b@.service": service(),
+                "c.service": service(),
+                "other.service.wants/alias.service": "",
+                "a-b@.service.wants/template.service": "",
+                "a-b@x.service.requires/instance@.service": service(),
+                "a-@x.service.wants/far.service": service(),
+                "a-.service.d/x.conf": "[Unit]\nWants=prefix.service",
+                **{f"{name}.service": service() for name in names},
+                "instance@.service": service(),
+            },
+            [("other.service", "c.service")],
+        )
+        # An empty file masks, in a folder of links too; a template stands for the instance of the unit.
+        expected = ["a-b@x.service", "c.service", "far.service", "instance@x.service", "prefix.service", "t.target"]
+        self.assertEqual(sorted(set(found) - {"boot"}), expected)
+
+    def test_templates_by_another_name(self):
+        found, _ = imported(
+            "t.target",
+            {"t.target": unit("Wants=auto@x.service"), "real@.service": service("Wants=of-%i.service"), "of-x.service": service()},
+            [("auto@.service", "real@.service")],
+        )
+        self.assertEqual(sorted(set(found) - {"boot"}), ["of-x.service", "real@x.service", "t.target"])
+
+    def test_a_link_out_of_the_folders_with_another_name(self):
+        files = {"t.target": unit("Wants=a.service"), "opt/systemd/system/b.service": service("After=t.target")}
+        found, _ = imported("t.target", files, [(f"{LOCAL}/a.service", "/opt/systemd/system/b.service")])
+        self.assertEqual(found["a.service"], active("a.service", "t.target")["a.service"])
+
+    def test_links_end_at_the_root(self):
+        found, notes = imported(
+            "t.target",
+            {"t.target": unit("Wants=a.service b.service"), "opt/systemd/system/a.service": service("After=t.target")},
+            [("a.service", "../../../../../../../../opt/systemd/system/a.service"), ("b.service", "../" * 30 + "etc/passwd")],
+        )
+        self.assertEqual(sorted(found), ["a.service", "boot", "t.target"])
+        self.assertIn("b.service: /lib/systemd/system/b.service leads to no file that can be read", notes)
+
+    def test_dangling_and_circular_links_are_notes(self):
+        files = {"t.target": unit("Wants=a.service b.service")}
+        links = [("a.service", "/opt/gone"), ("b.service", "/opt/round"), ("opt/systemd/system/x", "x"), ("y", "y")]
+        found, notes = imported("t.target", files, links)
+        self.assertEqual(sorted(found), ["boot", "t.target"])
+        self.assertEqual(notes[0], "wanted, and not there: a.service, b.service")
+        self.assertEqual(notes[1], "a.service: /lib/systemd/system/a.service leads to no file that can be read")
+
+    def test_lines(self):
+        text = "\ufeff[Unit]\nDefaultDependencies=no\nWants=a.service \\\n # no\n; no\n b.service \\\\\nWants=\"c.service\"\n[Service]\nWants=d.service\n"
+        files = {"t.target": text, **{f"{name}.service": service() for name in "abcd"}}
+        found, _ = imported("t.target", files)
+        self.assertEqual(sorted(found), ["a.service", "b.service", "boot", "t.target"])
+
+    def test_a_line_that_begins_as_a_section(self):
+        files = {"t.target": unit("Wants=a.service b.service"), "a.service": service() + "[Unit\n", "b.service": service()}
+        files["b.service.d/x.conf"] = "[Unit]\nWants=c.service\n[Unit\nWants=d.service\n"
+        found, notes = imported("t.target", {**files, "c.service": service(), "d.service": service()})
+        self.assertEqual(sorted(found), ["b.service", "boot", "c.service", "t.target"])
+        self.assertIn("a.service: /lib/systemd/system/a.service has a line that begins with [ and names no section, so it is not read", notes)
+
+
+class RulesTest(unittest.TestCase):
+    """What systemd adds by itself; try_systemd.py compares more of it with systemd."""
+
+    def active_after(self, name, text, *others, more=""):
+        """What a unit of this text starts after, of units that the target pulls in beside it."""
+        files = {other: unit() for other in others}
+        files |= {"t.target": unit(f"Wants={name} {' '.join(others)} {more}"), name: text}
+        found, notes = imported("t.target", files)
+        return found[name][1].split()[2:-2], notes
+
+    def test_asking_for_what_stands_pulls_nothing_in(self):
+        files = {"t.target": unit("Wants=a.service"), "a.service": service("Requisite=b.service"), "b.service": service()}
+        found, notes = imported("t.target", files)
+        self.assertEqual(sorted(found), ["a.service", "boot", "t.target"])
+        self.assertEqual(notes, ["a.service asks for b.service to stand already, and nothing here starts that: it will fail"])
+
+    def test_mounts(self):
+        sets = "local-fs.target remote-fs.target local-fs-pre.target remote-fs-pre.target network.target network-online.target".split()
+        cases = {
+            "srv-a.mount": ("Type=nfs", "-network-online.target -network.target -remote-fs-pre.target"),
+            "srv-b.mount": ("Options=ro,_netdev", "-network-online.target -network.target -remote-fs-pre.target"),
+            "srv-c.mount": ("Type=ext4", "-local-fs-pre.target"),
+            "proc-d.mount": ("Type=x", ""),
+            "run-e.mount": ("Type=tmpfs", "-local-fs-pre.target"),
+        }
+        for name, (text, expected) in cases.items():
+            after, _ = self.active_after(name, f"[Mount]\nStandardOutput=null\n{text}", *sets)
+            self.assertEqual(" ".join(after), expected, name)
+
+    def test_a_path_that_has_to_be_mounted(self):
+        files = {
+            "t.target": unit("Wants=a.service"),
+            "a.service": service("RequiresMountsFor=/srv/data/deep"),
+            "srv-data.mount": unit(rest="[Mount]\nStandardOutput=null\n"),
+        }
+        found, _ = imported("t.target", files)
+        self.assertEqual(found["a.service"], active("a.service", "srv-data.mount")["a.service"])
+
+    def test_the_bus_and_temporary_folders(self):
+        others = "dbus.socket", "systemd-tmpfiles-setup.service", "systemd-remount-fs.service", "systemd-journald.socket"
+        for text, expected in {
+            "BusName=a.b": "-dbus.socket",
+            "Type=simple\nBusName=a.b": "",
+            "DynamicUser=yes": "-systemd-tmpfiles-setup.service",
+            "StateDirectory=x": "-systemd-remount-fs.service",
+            "StandardOutput=\n": "-systemd-journald.socket",
+            "StandardOutput=\nStandardInput=socket": "",
+        }.items():
+            after, _ = self.active_after("a.service", unit(rest=f"[Service]\nStandardOutput=null\n{text}\n"), *others)
+            self.assertEqual(" ".join(after), expected, text)
+
+    def test_what_only_a_unit_that_is_left_out_pulls_in(self):
+        files = {"t.target": unit("Wants=a.service"), "a.service": service("Requires=n.service\nWants=b.service"), "b.service": service()}
+        found, _ = imported("t.target", files)
+        self.assertEqual(sorted(found), ["boot", "t.target"])
 
 
 class MissingTest(unittest.TestCase):
@@ -235,12 +359,20 @@ class RefusedTest(unittest.TestCase):
         return str(caught.exception)
 
     def test_no_such_unit(self):
-        self.assertRegex(self.refused("x.target", {"t.target": unit()}), "^no unit x.target in /run/.*, /etc/systemd/system,")
+        self.assertRegex(self.refused("x.target", {"t.target": unit()}), "^no unit x.target in /etc/.*, /run/.*, /lib/systemd/system,")
 
     def test_masked(self):
         reason = "t.target is masked, so it is never started"
         self.assertEqual(self.refused("t.target", {}, [("t.target", "/dev/null")]), reason)
         self.assertEqual(self.refused("t.target", {"t.target": ""}), reason)
+
+    def test_no_name(self):
+        for name in ("../../etc/passwd", "/etc/x.target", "x", "a@.service", "x.target.wants", "x\x1b.target", "a" * 260 + ".target"):
+            self.assertEqual(self.refused(name, {"t.target": unit()}), f"no name of a unit: {name}")
+
+    def test_no_folder(self):
+        with self.assertRaisesRegex(Refused, "^/nowhere/at/all: no folder$"):
+            Folders("/nowhere/at/all")
 
     def test_links_in_a_circle(self):
         reason = self.refused("a.target", {}, [("a.target", "b.target"), ("b.target", "a.target")])

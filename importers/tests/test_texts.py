@@ -72,10 +72,16 @@ class ReadTest(unittest.TestCase):
             head + "1 new 0\nend\n": "line 3: not the form of 'new'",
             head + "1 new 0 A after\nend\n": "line 3: not the form of 'new'",
             head + "1 new 0 A after 1\nend\n": "line 3: an action waits for earlier ones alone",
+            head + "1 new 0 A after 1 1\nend\n": "line 3: an action waits for earlier ones alone",
             head + "1 move 0 a b\nend\n": "line 3: no line before made instance 0",
+            head.replace("1 dups", "4294967296 dups"): "line 2: no number: '4294967296'",
+            head.replace("1 dups", "9" * 5000 + " dups"): f"line 2: no number: '{'9' * 80}..'",
+            PLAN.replace("delete 1 after 5", "delete 1 after 5 4"): "line 8: the numbers behind 'after' do not ascend",
             head + "1 new 0 A\nstop\n": "line 4: not the line 'end'",
             head + "1 new 0 A\nend\nend\n": "line 5: the text goes on behind its end",
             head.replace("1 actions", "2 actions") + "1 new 0 A\nend\n": "line 2: not the number of instances that are made",
+            PLAN.replace("Db:on", "Db"): "line 9: no pair: 'Db'",
+            PLAN.replace("0.2", "0.2\x1b[2J"): "line 9: no event: '0.2\\x1b[2J'",
             PLAN.replace("dup 1", "dup 2"): "line 9: not 'dup 1 TYPE:STATE cycle' and two or more events",
             REFUSAL.replace("lacks", "has"): "line 2: not 'lacks TARGET'",
             REFUSAL.replace("pairs 2", "pairs 3"): "line 7: the text ends before it",
@@ -83,10 +89,29 @@ class ReadTest(unittest.TestCase):
             EXPLANATION.replace("needs sql from none", "lacks sql"): "line 4: no reason",
             EXPLANATION.replace("Web:off Web:on", "Web"): "line 5: no pair: 'Web'",
             EXPLANATION.replace(" from Db:from", ""): "line 7: no reason",
+            EXPLANATION.replace("needs sql", "needs s:l"): "line 4: no name: 's:l'",
+            EXPLANATION.replace("needing disk", "needing $disk"): "line 6: no name: '$disk'",
         }.items():
             with self.assertRaises(texts.NoText, msg=text) as caught:
                 texts.read(text)
             self.assertEqual(str(caught.exception), reason)
+
+    def test_what_is_no_name_is_refused_wherever_a_name_stands(self):
+        longest = "x" * 64
+        for word in ("x;touch${IFS}y", "$(info)", "a\tb", "a:b", "\u00e9", f"{longest}x", "a*", "", "a\x1b[2J"):
+            for line, before in ((3, "Web\n"), (5, "off"), (5, "on\n"), (6, "sql")):
+                text = PLAN.replace(before, word + "\n" * before.count("\n"), 1)
+                with self.subTest(word=word, line=line), self.assertRaises(texts.NoText) as caught:
+                    texts.read(text)
+                self.assertEqual(str(caught.exception), f"line {line}: no name: {texts.shown(word)}")
+            for text, line in ((REFUSAL, 4), (EXPLANATION, 5)):
+                with self.subTest(word=word, text=text), self.assertRaisesRegex(texts.NoText, f"line {line}: no "):
+                    texts.read(text.replace("\nDb:off", f"\nDb:{word}").replace("\nWeb:slow", f"\nWeb:{word}"))
+        self.assertEqual(texts.read(PLAN.replace("Web", longest)).actions[0].type, longest)
+
+    def test_what_is_shown_of_a_word_is_short_and_harmless(self):
+        self.assertEqual(texts.shown("a\x1b[2J\x9b\u202e"), "'a\\x1b[2J\\x9b\\u202e'")
+        self.assertEqual(len(texts.shown("x" * 100_000)), texts.LONGEST_SHOWN + 4)
 
 
 class OrderTest(unittest.TestCase):

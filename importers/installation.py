@@ -1,0 +1,316 @@
+"""What a request for packages comes to: which are installed, and which of those that stand are upgraded with them."""
+
+import collections
+import functools
+from typing import NamedTuple
+
+from importers.control import alternatives, relation
+from importers.document import MOST_PAIRS, Refused
+from importers.packages import BARS, NEEDS, RECOMMENDS, source_of, version_of
+
+IN_WORDS = {"<<": "below", "<": "up-to", "<=": "up-to", "=": "exactly", ">=": "from", ">": "from", ">>": "above"}
+
+
+class Options(NamedTuple):
+    """What may meet one part of a dependence: packages that stand, and others of the index."""
+
+    given: tuple[str, ...]
+    names: tuple[str, ...]
+    wanted: str
+
+
+def in_words(wanted):
+    """A relation as a name that no package has, but where it allows any version and architecture."""
+    words = [wanted.name]
+    if wanted.architecture is not None:
+        words.append(wanted.architecture)
+    if wanted.operator is not None:
+        words.append(f"{IN_WORDS[wanted.operator]}-{wanted.version}")
+    return "/".join(words)
+
+
+class Choices:
+    """An index beside what is given: which packages may meet a dependence, and which do not go together."""
+
+    def __init__(self, index, given):
+        self.index = index
+        self.given = given
+        self.options = functools.cache(self._options)
+        self.barred_by = functools.cache(self._barred_by)
+
+    def stands(self, name):
+        """Whether a package is given and stays so: in the version of the index or a later one, or held."""
+        given = self.given.packages.get(name)
+        if given is None:
+            return False
+        if self.index.fault(name) or self.given.fault(name) or self.given.is_held(name):
+            return True
+        return version_of(given) >= version_of(self.index.packages[name])
+
+    def can_upgrade(self, name):
+        return name in self.index.packages and not self.stands(name)
+
+    @functools.cached_property
+    def barred_by_given(self):
+        """For each package that given ones conflict with or break, these."""
+        barred = collections.defaultdict(list)
+        for name in self.given.packages:
+            for other in self._met_by_index(self.given, name):
+                barred[other].append(name)
+        return barred
+
+    @functools.cached_property
+    def leaning_on(self):
+        """For each given package the given ones that depend on it, each with the part that it meets."""
+        leaning = collections.defaultdict(list)
+        for name in self.given.packages:
+            for part in self.given.sound_parts(name, *NEEDS):
+                options = self.options(part)
+                for other in options.given:
+                    if other != name:
+                        leaning[other].append((name, options))
+        return leaning
+
+    @functools.cached_property
+    def upgrades_of_source(self):
+        """For each source of the index, with its version, the given packages that an upgrade brings to it."""
+        upgrades = collections.defaultdict(list)
+        for name in self.given.packages:
+            if self.can_upgrade(name):
+                upgrades[source_of(name, self.index.packages[name])].append(name)
+        return upgrades
+
+    def _options(self, part):
+        wanted = alternatives(part)
+        given = dict.fromkeys(name for each in wanted for name in self.given.meeting(each))
+        names = dict.fromkeys(name for each in wanted for name in self.index.meeting(each) if not self.stands(name))
+        return Options(tuple(given), tuple(names), in_words(wanted[0]))
+
+    def _met_by_index(self, pool, name):
+        parts = pool.sound_parts(name, *BARS)
+        return frozenset(other for part in parts for other in self.index.meeting(relation(part))) - {name}
+
+    def _barred_by(self, name):
+        """The packages of the index that this one conflicts with or breaks."""
+        return self._met_by_index(self.index, name)
+
+    def clashes(self, name, *fields):
+        """The given packages that do not go together with this one of the index, but for its own earlier version."""
+        for part in self.index.sound_parts(name, *(fields or BARS)):
+            yield from (other for other in self.given.meeting(relation(part)) if other != name)
+
+    def bars(self, name, other, field):
+        """Whether the standing version of a package bars one of the index by this field."""
+        return any(other in self.index.meeting(relation(part)) for part in self.given.sound_parts(name, field))
+
+    def given_against(self, name):
+        """The given packages that are barred by this one or bar it."""
+        yield from self.barred_by_given.get(name, ())
+        yield from self.clashes(name)
+
+    def go_together(self, name, other):
+        return other not in self.barred_by(name) and name not in self.barred_by(other)
+
+    def is_mended(self, name, other):
+        """Whether an upgrade of a given package ends what it has against this one, or this one against it."""
+        return self.can_upgrade(other) and self.go_together(name, other)
+
+    def stuck_against(self, name):
+        """The given packages that do not go together with this one in any version that there is."""
+        return (other for other in self.given_against(name) if not self.is_mended(name, other))
+
+
+class Installation:
+    """The packages that a request comes to, and which of them meets each dependence.
+
+    What is needed whatever is chosen comes first. Then each dependence that several packages may meet is met, in the
+    order in which it was found, by one that is there anyway; else by one that stands in an earlier version; else by the
+    first that conflicts with none, else by the first. What a choice needs in turn comes before the next choice.
+
+    Then what stands is kept whole. A given package joins, in its later version, if it depends on what an upgrade takes
+    away, or does not go together with what is installed, until nothing changes. So does one that comes from the same
+    source as what is installed, as apt has it, unless that would not be whole.
+    """
+
+    def __init__(self, choices, requested, with_recommends=False):
+        self.choices = choices
+        self.chosen = {}
+        self.barred = set()
+        self.open = collections.deque()
+        self.fresh = collections.deque()  # chosen, and what stands was not compared with it
+        self.missing = {}
+        self.broken = {}  # a given package, and the dependence that it would lose
+        self.leaning_on = collections.defaultdict(list)  # as that of the choices, of chosen packages
+        self.unrecommended = {}
+        self.take(requested)
+        self.settle()
+        self.bring_companions()
+        if with_recommends:
+            self.follow_recommends()
+
+    def settle(self):
+        while self.open or self.fresh:
+            if self.open:
+                names = self.open.popleft()
+                if not any(name in self.chosen for name in names):
+                    self.take([self.preferred(names)])
+            else:
+                self.keep_whole(self.fresh.popleft())
+
+    def take(self, names):
+        """Takes these packages and all that they need without a choice."""
+        work = collections.deque(names)
+        while work:
+            name = work.popleft()
+            if name in self.chosen:
+                continue
+            if len(self.chosen) > MOST_PAIRS:
+                raise Refused(f"more than {MOST_PAIRS} packages, and Metis takes at most {MOST_PAIRS} pairs of type and state")
+            if self.choices.index.fault(name):
+                raise Refused(f"package {name}: {self.choices.index.fault(name)}")
+            self.chosen[name] = None
+            self.fresh.append(name)
+            self.barred |= self.choices.barred_by(name)
+            for options in self.options_of(name, *NEEDS):
+                for other in options.given:
+                    self.leaning_on[other].append((name, options))
+                if not self.is_held(options):
+                    work += self.forced(name, options)
+
+    def forced(self, name, options):
+        """The one package that meets a dependence; where there are several it is left open, and no one is missing."""
+        if len(options.names) == 1:
+            return options.names
+        if options.names:
+            self.open.append(options.names)
+        else:
+            self.missing[options.wanted] = name
+        return ()
+
+    def is_held(self, options):
+        """Whether what stands and stays, or what was chosen, meets a dependence."""
+        return self.stays(options) or any(name in self.chosen for name in options.names)
+
+    def stays(self, options):
+        return any(name not in self.chosen for name in options.given)
+
+    def keep_whole(self, name):
+        """Upgrades what is given and is not whole beside a package that was chosen."""
+        if name in self.choices.given.packages:
+            for other, options in self.leaning_on[name]:
+                if not self.is_held(options):
+                    self.take(self.forced(other, options))
+            for other, options in self.choices.leaning_on.get(name, ()):
+                if other not in self.chosen and not self.is_held(options):
+                    self.mend(other, options)
+        for other in self.choices.given_against(name):
+            if other not in self.chosen and self.choices.is_mended(name, other):
+                self.take([other])
+
+    def mend(self, name, options):
+        """Upgrades a given package that loses a dependence, or else installs what meets it."""
+        if self.choices.can_upgrade(name):
+            self.take([name])
+        elif options.names:
+            self.take(self.forced(name, options))
+        else:
+            self.broken[name] = options.wanted
+
+    def options_of(self, name, *fields):
+        """The options of each part of these fields that the package itself does not meet."""
+        for part in self.choices.index.parts(name, *fields):
+            options = self.choices.options(part)
+            if name not in options.names:
+                yield options
+
+    def preferred(self, names):
+        """One that stands in an earlier version and is free, else the first that is free, else the first."""
+        earlier = (name for name in names if name in self.choices.given.packages)
+        return next((name for name in (*earlier, *names) if self.is_free(name)), names[0])
+
+    def is_free(self, name):
+        return (
+            name not in self.barred
+            and self.choices.index.fault(name) is None
+            and not any(other not in self.chosen for other in self.choices.stuck_against(name))
+            and self.choices.barred_by(name).isdisjoint(self.chosen)
+        )
+
+    def needs(self, name, *fields):
+        """What a package needs by these fields, each once: packages that were chosen, or a name that nobody has."""
+        return list(
+            dict.fromkeys(
+                next((each for each in options.names if each in self.chosen), options.wanted)
+                for options in self.options_of(name, *fields)
+                if not self.stays(options)
+            )
+        )
+
+    def conflicts(self, names=None):
+        """Pairs of packages, one of them of these, that dpkg would not have installed together."""
+        found = set()
+        for name in self.chosen if names is None else names:
+            others = self.choices.barred_by(name).intersection(self.chosen)
+            standing = (other for other in self.choices.given_against(name) if other not in self.chosen)
+            found.update((min(name, other), max(name, other)) for other in (*others, *standing))
+        return sorted(found)
+
+    def bring_companions(self):
+        """Upgrades the given packages that come from the same source as a chosen one."""
+        work = collections.deque(self.chosen)
+        while work and self.choices.upgrades_of_source:
+            name = work.popleft()
+            source = source_of(name, self.choices.index.packages[name])
+            for other in self.choices.upgrades_of_source.get(source, ()):
+                before = len(self.chosen)
+                if other not in self.chosen and self.try_to_take(other):
+                    work += list(self.chosen)[before:]
+
+    def follow_recommends(self):
+        """Takes what chosen packages recommend, each part by one package that goes together with all others."""
+        work = collections.deque(self.chosen)
+        while work:
+            name = work.popleft()
+            for part in self.choices.index.parts(name, RECOMMENDS):
+                options = self.choices.options(part)
+                if name in options.names or self.is_held(options) or self.was_left_out(name, options):
+                    continue
+                before = len(self.chosen)
+                if any(self.try_to_take(each) for each in options.names if self.is_free(each)):
+                    self.bring_companions()
+                    work += list(self.chosen)[before:]
+                else:
+                    self.unrecommended[options.wanted] = name
+
+    def was_left_out(self, name, options):
+        """Whether the version that stands recommends the same, and does without it."""
+        if name not in self.choices.given.packages:
+            return False
+        standing = map(self.choices.options, self.choices.given.sound_parts(name, RECOMMENDS))
+        return any(each.names == options.names and not each.given for each in standing)
+
+    def try_to_take(self, name):
+        """Takes a package with all that it needs, unless that does not go together with the rest."""
+        kept = self.state()
+        try:
+            self.take([name])
+            self.settle()
+        except Refused:
+            self.restore(kept)
+            return False
+        fresh = list(self.chosen)[len(kept[0]) :]
+        is_whole = self.missing == kept[2] and self.broken == kept[3]
+        is_good = is_whole and self.barred.isdisjoint(fresh) and not self.conflicts(fresh)
+        if not is_good:
+            self.restore(kept)
+        return is_good
+
+    def state(self):
+        leaning_on = {name: list(each) for name, each in self.leaning_on.items()}
+        return dict(self.chosen), set(self.barred), dict(self.missing), dict(self.broken), leaning_on
+
+    def restore(self, state):
+        self.chosen, self.barred, self.missing, self.broken, leaning_on = state
+        self.leaning_on = collections.defaultdict(list, leaning_on)
+        self.open.clear()
+        self.fresh.clear()
