@@ -123,6 +123,14 @@ class CarriedOutTest(FolderCase):
         self.assertIn("4 B-1 move  [] left 127.0.1.1 ", self.trace())
         self.assertIn("10 A-2 move  [] right right right", self.trace())
 
+    def test_hosts_with_the_names_of_the_shells_own_words(self):
+        (self.top / "placed").write_text("on 0 esac\non 1 in\nplaced 2 hosts 2\n")
+        hosts = '[hosts.esac]\naddress = "127.0.1.1"\n[hosts.in]\nvia = ["env", "VIA=in"]\n'
+        self.exported(WEB, commands=f"{self.commands()}{hosts}", more=["--placement", self.top / "placed"])
+        self.assertEqual(self.make()[0], 0)
+        self.assertIn("4 Web-0 bind Db-1 [] esac 127.0.1.1 ", self.trace())
+        self.assertIn("3 Db-1 move  [] in in in", self.trace())
+
     def test_what_a_placement_holds_is_waited_for(self):
         (self.top / "placed").write_text(PLACED.replace("after 4 6", "after 8"))
         self.exported(CROSSED, more=["--placement", self.top / "placed"])
