@@ -25,6 +25,9 @@ HEAD = """\
 export METIS_EXPORT := {digest}
 MAKEFLAGS += --no-builtin-rules --no-builtin-variables
 .SUFFIXES:
+ifneq ($(filter 3.%,$(MAKE_VERSION)),)
+$(error this wants GNU make 4)
+endif
 flags := $(firstword -$(MAKEFLAGS))
 ifneq ($(findstring i,$(flags)),)
 $(error an action that fails must not be taken for done: use make -k)

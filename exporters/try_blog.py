@@ -189,16 +189,6 @@ class Watcher:
         self.thread.start()
         return self
 
-    def settle(self) -> None:
-        """Whether apt can work here: the machine's own dpkg may have been at work when the root was made."""
-        for words in (
-            ["dpkg", "--configure", "-a"],
-            ["apt-get", "-q", "-y", "--fix-broken", "install"],
-            ["apt-get", "check"],
-        ):
-            done = self.inside("env", "DEBIAN_FRONTEND=noninteractive", *words)
-        expect(done.returncode == 0, done.stdout)
-
     def __exit__(self, *_: object) -> None:
         self.is_over.set()
         self.thread.join()

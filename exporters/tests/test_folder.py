@@ -59,6 +59,7 @@ class CarriedOutTest(FolderCase):
             self.assertEqual(self.marks(), [], words)
         self.assertEqual(self.make("-n")[1].count("./run "), 7)
         self.assertIn("use make -k", self.make("-i")[2])
+        self.assertIn("this wants GNU make 4", self.make("MAKE_VERSION=3.81")[2])
 
     def test_a_failure_stops_what_waits_for_it_and_nothing_else(self):
         self.exported(CROSSED, commands=self.commands(FAILS))
