@@ -193,7 +193,7 @@ class Watcher:
         self.is_over.set()
         self.thread.join()
 
-    def told(self) -> str:
+    def summary(self) -> str:
         counts = {port: sum(front == port for _, front in self.answers) for port in (OLD_FRONT, NEW_FRONT, 0)}
         gaps = [other - one for (one, _), (other, _) in zip(self.answers, self.answers[1:])]
         return (
@@ -262,7 +262,7 @@ class Blog:
             say(f"$ python3 -m exporters split blog new\n{trial.exporters('split', self.root.folder, new)}")
             self.export(self.planned("rollout", new / "plan.txt"), "new")
             expect(self.root.carry_out("/srv/new") == 0, "it did not end")
-        say(watcher.told())
+        say(watcher.summary())
         watcher.check()
         expect(all(front == OLD_FRONT for _, front in watcher.answers), "the old front did not answer")
         self.export(self.first)
@@ -277,7 +277,7 @@ class Blog:
                 expect(self.root.carry_out("/srv/blog") == 2, "it did not fail")
             expect(self.root.carry_out("/srv/blog") == 0, "it did not end")
             time.sleep(2)
-        say(watcher.told())
+        say(watcher.summary())
         watcher.check()
         expect("WordPress" in asked(NEW_FRONT) and not asked(OLD_FRONT), "another front answers")
         self.stands(4, TARGET)
