@@ -51,6 +51,7 @@ FORM = {
     "blog_public": "0",
 }
 MOUNTS = (("proc", "proc", "proc"), ("tmpfs", "tmpfs", "run"), ("tmpfs", "tmpfs", "tmp"))
+OPENER = urllib.request.build_opener(urllib.request.ProxyHandler({}))
 BEGUN = time.monotonic()
 
 
@@ -165,7 +166,7 @@ def asked(port: int, path: str = PAGE, form: dict[str, str] | None = None) -> st
     """What is answered on a port; nothing where nobody answers."""
     data = urllib.parse.urlencode(form).encode() if form else None
     try:
-        with urllib.request.urlopen(f"http://127.0.0.1:{port}{path}", data, timeout=5) as answer:
+        with OPENER.open(f"http://127.0.0.1:{port}{path}", data, timeout=5) as answer:
             return answer.read().decode("utf-8", "replace")
     except (OSError, urllib.error.URLError):
         return ""
@@ -211,7 +212,7 @@ class Watcher:
 class Blog:
     def __init__(self, program: str, root: Root, place: pathlib.Path) -> None:
         self.program, self.root, self.place = program, root, place
-        self.first, self.second = self.planned("plan", TARGET), place / "rollout.txt"
+        self.first = self.planned("plan", TARGET)
         self.second = self.planned("rollout", self.first, TARGET)
 
     def planned(self, verb: str, *words: object) -> pathlib.Path:
@@ -307,6 +308,9 @@ def main() -> int:
     parser.add_argument("--metis", default=str(TOP / "metis"), metavar="PROGRAM")
     parser.add_argument("--chart", metavar="FILE", help="write what `gantt` makes of the first part into this file")
     arguments = parser.parse_args()
+    if os.geteuid() != 0:
+        say("it wants root")
+        return 1
     signal.signal(signal.SIGTERM, lambda *_: sys.exit(1))
     place = pathlib.Path(tempfile.mkdtemp(dir="/var/tmp"))
     texts = pathlib.Path(tempfile.mkdtemp())
