@@ -11,7 +11,7 @@ from importers.document import Refused
 __all__ = ["add_arguments", "run"]
 
 NAME = "Makefile"
-# GNU make goes along a chain by recursion, and anew after each action: 20,000 in a row take half a minute, 30,000 its stack.
+# GNU make goes along a chain by recursion, and anew after each action (docs/EXPORTERS.md has figures).
 MOST_IN_A_ROW = 10_000
 
 HEAD = """\
