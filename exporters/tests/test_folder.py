@@ -1,11 +1,14 @@
 import fcntl
+import os
 import pathlib
 import shutil
 import subprocess
 import sys
 import unittest
+from unittest import mock
 
 from exporters.tests.shapes import CROSSED, LINE, PLACED, ROLLED, TAKEN_DOWN, WEB, FolderCase, call, plan_text
+from importers.document import Refused
 
 TOP = pathlib.Path(__file__).resolve().parents[2]
 FAILS = LINE + 'if [ "$METIS_ACTION" = 4 ]; then printf "this is \\033[2J\\302\\233why é\\n"; exit 7; fi\n'
@@ -28,10 +31,14 @@ class CarriedOutTest(FolderCase):
         self.make("done/0.6")
         before = len(self.trace())
         self.exported(CROSSED, "ninja")
-        words = ["ninja", "--quiet", "-C", self.folder]
-        self.assertEqual(subprocess.run(words, check=False, capture_output=True).returncode, 0)
+        words = ["ninja", "-C", self.folder]
+        done = subprocess.run(words, check=False, capture_output=True, text=True)
+        self.assertEqual((done.returncode, done.stdout.count("\n[")), (0, 7))
         self.assertEqual((before, len(self.trace())), (8, 15))
         self.assertEqual(self.make("-q")[0], 0)
+        self.exported(CROSSED, "ninja", commands=self.commands("true\n"))
+        done = subprocess.run(words, check=False, capture_output=True, text=True)
+        self.assertIn("no work to do", done.stdout)
 
     def test_the_file_of_another_engine_stays_only_where_it_says_the_same(self):
         self.exported(WEB)
@@ -80,6 +87,12 @@ class CarriedOutTest(FolderCase):
         self.assertRegex(times, r"^[0-9]{10,}\.[0-9]{3} [0-9]{10,}\.[0-9]{3}$")
         self.assertEqual(subprocess.run(["sh", "-eu", self.folder / "log" / "0.2.sh"], check=False).returncode, 0)
         self.assertEqual(self.numbers().count(4), 2)
+        # What is done is not done again, whatever is called, and whatever the times of the marks are.
+        words = ["./run", "0.2", "3", "4", ":", "bind", "0", "Web", "sql", "1", "Db", ":"]
+        self.assertEqual(subprocess.run(words, cwd=self.folder, check=False).returncode, 0)
+        self.assertEqual(self.numbers().count(4), 2)
+        os.utime(self.folder / "done" / "1.1", (2_000_000_000, 2_000_000_000))
+        self.assertEqual(self.make("-q")[0], 0)
 
     def test_it_is_tried_again_as_often_as_it_may_be(self):
         body = 'echo again >>"$TRACE"\n[ "$(grep -c again "$TRACE")" -ge 3 ]\n'
@@ -217,6 +230,9 @@ class FolderTest(FolderCase):
         long = plan_text("new 0 A", *(f"move 0 s{number} s{number + 1}" for number in range(10_000)))
         self.assertIn("10001 actions wait one for the other, and make is good for 10000: use ninja", self.refused(long))
         self.assertFalse(self.folder.exists())
+        with mock.patch("exporters.script.make_executable", side_effect=Refused("the disk is full")):
+            self.assertIn("the disk is full", self.refused(WEB))
+        self.assertEqual(list(self.folder.iterdir()), [])
         self.exported(long, "ninja")
 
     def test_another_plan_is_refused(self):
@@ -254,8 +270,8 @@ class RolloutTest(FolderCase):
         self.assertIn(
             "`make -t old-1` marks them as done", self.exported(ROLLED, "ninja", more=["--from", self.top / "old"])
         )
-        subprocess.run(["ninja", "--quiet", "-C", self.folder, "done/1.3"], check=True, capture_output=True)
-        self.assertEqual(sorted(self.numbers()[-2:]), [11, 12])
+        subprocess.run(["ninja", "--quiet", "-C", self.folder, "done/0.4"], check=True, capture_output=True)
+        self.assertEqual((sorted(self.numbers()), self.numbers()[-1]), (list(range(1, 12)), 11))
 
     def test_in_an_empty_folder_the_old_plan_is_asked_for(self):
         said = self.refused(ROLLED)
