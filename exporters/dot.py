@@ -27,10 +27,7 @@ INITIAL, PROVIDED, UNPROVIDED, LINK = "#eeeeee", "#d7e8f7", "#f4c7b8", "#1f5fa8"
 
 
 def run(arguments: argparse.Namespace) -> tuple[str, list[str]]:
-    drawn = picture.read(arguments)
-    if drawn.types is not None:
-        return "".join(universe_lines(drawn.types)), []
-    return "".join(instance_lines(drawn.steps) if arguments.instances else plan_lines(drawn.steps)), []
+    return picture.drawn(arguments, universe_lines, instance_lines, plan_lines), []
 
 
 def quoted(text: str) -> str:

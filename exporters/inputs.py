@@ -27,11 +27,11 @@ def read_first(path: str) -> str:
     return decoded(sys.stdin.buffer.read(MOST_BYTES + 1), path, MOST_BYTES)
 
 
-def decoded(told: bytes, path: str, most: int) -> str:
-    if len(told) > most:
+def decoded(data: bytes, path: str, most: int) -> str:
+    if len(data) > most:
         raise Refused(f"{path}: more than {most} bytes")
     try:
-        return told.decode("utf-8")
+        return data.decode("utf-8")
     except UnicodeDecodeError as fault:
         raise Refused(f"{path}: no UTF-8 text") from fault
 

@@ -11,7 +11,7 @@ from importers.document import Refused
 __all__ = ["add_arguments", "run"]
 
 NAME = "Makefile"
-# GNU make goes along a chain by recursion, and anew after each action: 20,000 in a row take half a minute, 30,000 its stack.
+# GNU make goes along a chain by recursion, and anew after each action (docs/EXPORTERS.md has figures).
 MOST_IN_A_ROW = 10_000
 
 HEAD = """\
@@ -25,6 +25,9 @@ HEAD = """\
 export METIS_EXPORT := {digest}
 MAKEFLAGS += --no-builtin-rules --no-builtin-variables
 .SUFFIXES:
+ifneq ($(filter 3.%,$(MAKE_VERSION)),)
+$(error this wants GNU make 4)
+endif
 flags := $(firstword -$(MAKEFLAGS))
 ifneq ($(findstring i,$(flags)),)
 $(error an action that fails must not be taken for done: use make -k)

@@ -14,10 +14,7 @@ HEAD = "flowchart LR\n"
 
 
 def run(arguments: argparse.Namespace) -> tuple[str, list[str]]:
-    drawn = picture.read(arguments)
-    if drawn.types is not None:
-        return "".join(universe_lines(drawn.types)), []
-    return "".join(instance_lines(drawn.steps) if arguments.instances else plan_lines(drawn.steps)), []
+    return picture.drawn(arguments, universe_lines, instance_lines, plan_lines), []
 
 
 def subgraph(name: str, label: str) -> str:

@@ -2,7 +2,7 @@
 
 import argparse
 import dataclasses
-from collections.abc import Iterable, Sequence
+from collections.abc import Callable, Iterable, Sequence
 
 from exporters.inputs import plan_of, read_first
 from exporters.steps import Step, steps_of
@@ -11,14 +11,6 @@ from importers import texts
 from importers.document import ComponentType, Refused
 
 MOST_BOXES = 150
-
-
-@dataclasses.dataclass(frozen=True)
-class Drawn:
-    """The steps of a plan, or the types of a universe."""
-
-    steps: tuple[Step, ...]
-    types: tuple[ComponentType, ...] | None
 
 
 @dataclasses.dataclass(frozen=True)
@@ -38,20 +30,25 @@ def add_arguments(parser: argparse.ArgumentParser) -> None:
     parser.add_argument("--most", type=int, default=MOST_BOXES, metavar="N", help=help_text)
 
 
-def read(arguments: argparse.Namespace) -> Drawn:
-    """What is to be drawn, where it is not too much."""
+def drawn(
+    arguments: argparse.Namespace,
+    of_universe: Callable[[Sequence[ComponentType]], Iterable[str]],
+    of_instances: Callable[[Sequence[Step]], Iterable[str]],
+    of_plan: Callable[[Sequence[Step]], Iterable[str]],
+) -> str:
+    """The picture of what a file has, by the one of the three that fits, where it is not too much."""
     text = read_first(arguments.file)
     if text.lstrip()[:1] == "{":
         types = types_of(text, arguments.file)
         check_size(sum(len(kind.states) for kind in types), arguments.most, "states", "draw a part of the universe")
-        return Drawn((), types)
+        return "".join(of_universe(types))
     steps = steps_of(plan_of(text, arguments.file), arguments.file)
     if arguments.instances:
         instances = sum(step.action.verb == "new" for step in steps)
         check_size(instances, arguments.most, "instances", "draw a smaller plan")
-    else:
-        check_size(len(steps), arguments.most, "actions", "draw it with --instances")
-    return Drawn(steps, None)
+        return "".join(of_instances(steps))
+    check_size(len(steps), arguments.most, "actions", "draw it with --instances")
+    return "".join(of_plan(steps))
 
 
 def check_size(count: int, most: int, what: str, instead: str) -> None:

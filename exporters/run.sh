@@ -86,18 +86,19 @@ if [ -e "done/$key" ]; then exit 0; fi
 
 # A command in the background, so that a signal is heard at once and handed on to it, and by timeout to all that it started.
 # It keeps the locks while it runs, also where this script is killed; what a step starts does not, or a server would keep them.
-child=
+is_busy=
 attend() {
+  is_busy=yes
   "$@" &
-  child=$!
   status=0
-  wait "$child" || status=$?
-  child=
+  wait "$!" || status=$?
+  is_busy=
 }
 stop() {
-  if [ -n "$child" ]; then
-    kill -TERM "$child" 2>/dev/null || :
-    wait "$child" || :
+  set +u
+  if [ -n "$is_busy" ] && [ -n "$!" ]; then
+    kill -TERM "$!" 2>/dev/null || :
+    wait "$!" || :
   fi
   echo "== stopped by a signal" >&9 || :
   exit 143

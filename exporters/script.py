@@ -63,11 +63,11 @@ def script(export: "Export") -> str:
         "EXPORT": export.digest,
         "RULES": "".join(rules),
         "HOSTS": "".join(
-            f'  {host.name}) exec timeout -k 10 $((limit ? limit + {GRACE} : 0)) {shlex.join(host.via)} "$@" ;;\n'
+            f"  '{host.name}') exec timeout -k 10 $((limit ? limit + {GRACE} : 0)) {shlex.join(host.via)} \"$@\" ;;\n"
             for host in hosts
             if host.via
         ),
-        "ADDRESSES": "".join(f"  {host.name}) address={shlex.quote(host.address)} ;;\n" for host in hosts),
+        "ADDRESSES": "".join(f"  '{host.name}') address={shlex.quote(host.address)} ;;\n" for host in hosts),
         "CLOSED": WITHOUT_LOCKS,
         "SHELL": shlex.join(commands.shell),
     }

@@ -132,8 +132,7 @@ class Course:
         if provider is None:
             refuse(action, "there is no such binding to let go")
         provider.users -= 1
-        if provider.freed[-1:] != [action.number]:
-            provider.freed.append(action.number)
+        provider.freed.append(action.number)
 
 
 def steps_of(plan: texts.Plan, path: str) -> tuple[Step, ...]:

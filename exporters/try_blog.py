@@ -51,6 +51,7 @@ FORM = {
     "blog_public": "0",
 }
 MOUNTS = (("proc", "proc", "proc"), ("tmpfs", "tmpfs", "run"), ("tmpfs", "tmpfs", "tmp"))
+OPENER = urllib.request.build_opener(urllib.request.ProxyHandler({}))
 BEGUN = time.monotonic()
 
 
@@ -165,7 +166,7 @@ def asked(port: int, path: str = PAGE, form: dict[str, str] | None = None) -> st
     """What is answered on a port; nothing where nobody answers."""
     data = urllib.parse.urlencode(form).encode() if form else None
     try:
-        with urllib.request.urlopen(f"http://127.0.0.1:{port}{path}", data, timeout=5) as answer:
+        with OPENER.open(f"http://127.0.0.1:{port}{path}", data, timeout=5) as answer:
             return answer.read().decode("utf-8", "replace")
     except (OSError, urllib.error.URLError):
         return ""
@@ -189,21 +190,11 @@ class Watcher:
         self.thread.start()
         return self
 
-    def settle(self) -> None:
-        """Whether apt can work here: the machine's own dpkg may have been at work when the root was made."""
-        for words in (
-            ["dpkg", "--configure", "-a"],
-            ["apt-get", "-q", "-y", "--fix-broken", "install"],
-            ["apt-get", "check"],
-        ):
-            done = self.inside("env", "DEBIAN_FRONTEND=noninteractive", *words)
-        expect(done.returncode == 0, done.stdout)
-
     def __exit__(self, *_: object) -> None:
         self.is_over.set()
         self.thread.join()
 
-    def told(self) -> str:
+    def summary(self) -> str:
         counts = {port: sum(front == port for _, front in self.answers) for port in (OLD_FRONT, NEW_FRONT, 0)}
         gaps = [other - one for (one, _), (other, _) in zip(self.answers, self.answers[1:])]
         return (
@@ -221,7 +212,7 @@ class Watcher:
 class Blog:
     def __init__(self, program: str, root: Root, place: pathlib.Path) -> None:
         self.program, self.root, self.place = program, root, place
-        self.first, self.second = self.planned("plan", TARGET), place / "rollout.txt"
+        self.first = self.planned("plan", TARGET)
         self.second = self.planned("rollout", self.first, TARGET)
 
     def planned(self, verb: str, *words: object) -> pathlib.Path:
@@ -272,7 +263,7 @@ class Blog:
             say(f"$ python3 -m exporters split blog new\n{trial.exporters('split', self.root.folder, new)}")
             self.export(self.planned("rollout", new / "plan.txt"), "new")
             expect(self.root.carry_out("/srv/new") == 0, "it did not end")
-        say(watcher.told())
+        say(watcher.summary())
         watcher.check()
         expect(all(front == OLD_FRONT for _, front in watcher.answers), "the old front did not answer")
         self.export(self.first)
@@ -287,7 +278,7 @@ class Blog:
                 expect(self.root.carry_out("/srv/blog") == 2, "it did not fail")
             expect(self.root.carry_out("/srv/blog") == 0, "it did not end")
             time.sleep(2)
-        say(watcher.told())
+        say(watcher.summary())
         watcher.check()
         expect("WordPress" in asked(NEW_FRONT) and not asked(OLD_FRONT), "another front answers")
         self.stands(4, TARGET)
@@ -317,6 +308,9 @@ def main() -> int:
     parser.add_argument("--metis", default=str(TOP / "metis"), metavar="PROGRAM")
     parser.add_argument("--chart", metavar="FILE", help="write what `gantt` makes of the first part into this file")
     arguments = parser.parse_args()
+    if os.geteuid() != 0:
+        say("it wants root")
+        return 1
     signal.signal(signal.SIGTERM, lambda *_: sys.exit(1))
     place = pathlib.Path(tempfile.mkdtemp(dir="/var/tmp"))
     texts = pathlib.Path(tempfile.mkdtemp())

@@ -59,7 +59,7 @@ WORST = (
         "e",
         "0",
     ),
-    *("-e", "EOF", "done/0.1", "phony", "@RULES@"),
+    *("-e", "EOF", "done/0.1", "phony", "@RULES@", "esac", "in", "if", "done", "export", "exec"),
 )
 TEXT = 'it\'s "quoted" $HOME `id` $(id) \\ \\n %s * ? # ; & | < > ! ~ {} [] \t é\nsecond line'
 BODY = f"""

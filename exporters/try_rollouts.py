@@ -5,8 +5,8 @@
 
 The waits of each text have to be those that it was printed with. What is new in a rollout has to end where the
 program's own plan for the same targets says, also where old instances are bound in a cycle, so that a scaffold is made.
-A rollout has to be told from a plan without its old plan. Each part of a list that has all that its actions wait for
-has to be a plan: the program makes a rollout to nothing of it, and `replay` has to find that nothing stands.
+A rollout has to be recognized without its old plan. Each part of a list that has all that its actions wait for has to
+be a plan: the program makes a rollout to nothing of it, and `replay` has to find that nothing stands.
 """
 
 import argparse
@@ -105,7 +105,7 @@ def try_rollout(universe: Universe, old: str, goals: list[str]) -> tuple[steps.S
         found.fresh == count + len(texts.read(fresh).actions),
         f"{found}, and {len(texts.read(fresh).actions)} are fresh:\n{old}",
     )
-    expect(first_gone(rolled) is not None, f"it is not told from a plan: {goals}\n{old}")
+    expect(first_gone(rolled) is not None, f"it is taken for a plan: {goals}\n{old}")
     return rolled
 
 

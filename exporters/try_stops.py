@@ -164,11 +164,11 @@ class FullDisk:
         expect(stopped.returncode != 0 and not self.trace(), stopped.stdout)
         self.filling.unlink()
         stopped = trial.carry_out(self.words)
-        told = [
+        said = [
             line for line in stopped.stdout.splitlines() if "could not be written, so it will be done again" in line
         ]
-        expect(stopped.returncode != 0 and len(told) == 1, stopped.stdout)
-        yield told[0]
+        expect(stopped.returncode != 0 and len(said) == 1, stopped.stdout)
+        yield said[0]
         self.check_marks()
         self.filling.unlink()
         resumed = trial.carry_out(self.words)

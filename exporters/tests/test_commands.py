@@ -82,6 +82,10 @@ class CommandsTest(unittest.TestCase):
             with self.subTest(when=when):
                 self.assertEqual(Patterns([when]).first(text), 0 if fits else None)
 
+    def test_of_two_without_a_star_the_first_counts_too(self):
+        for whens in (("A: bind p from B", "A: bind p"), ("A: bind p", "A: bind p from B"), ("*: bind *", "A: bind p")):
+            self.assertEqual(Patterns(whens).first("A: bind p from B"), 0)
+
     def test_faults_are_named(self):
         for text, reason in (
             ("x = 1", "the file: nothing is known of 'x'; there are env, hosts, shell, step, timeout"),

@@ -1,11 +1,14 @@
 import fcntl
+import os
 import pathlib
 import shutil
 import subprocess
 import sys
 import unittest
+from unittest import mock
 
 from exporters.tests.shapes import CROSSED, LINE, PLACED, ROLLED, TAKEN_DOWN, WEB, FolderCase, call, plan_text
+from importers.document import Refused
 
 TOP = pathlib.Path(__file__).resolve().parents[2]
 FAILS = LINE + 'if [ "$METIS_ACTION" = 4 ]; then printf "this is \\033[2J\\302\\233why é\\n"; exit 7; fi\n'
@@ -28,10 +31,14 @@ class CarriedOutTest(FolderCase):
         self.make("done/0.6")
         before = len(self.trace())
         self.exported(CROSSED, "ninja")
-        words = ["ninja", "--quiet", "-C", self.folder]
-        self.assertEqual(subprocess.run(words, check=False, capture_output=True).returncode, 0)
+        words = ["ninja", "-C", self.folder]
+        done = subprocess.run(words, check=False, capture_output=True, text=True)
+        self.assertEqual((done.returncode, done.stdout.count("\n[")), (0, 7))
         self.assertEqual((before, len(self.trace())), (8, 15))
         self.assertEqual(self.make("-q")[0], 0)
+        self.exported(CROSSED, "ninja", commands=self.commands("true\n"))
+        done = subprocess.run(words, check=False, capture_output=True, text=True)
+        self.assertIn("no work to do", done.stdout)
 
     def test_the_file_of_another_engine_stays_only_where_it_says_the_same(self):
         self.exported(WEB)
@@ -59,6 +66,7 @@ class CarriedOutTest(FolderCase):
             self.assertEqual(self.marks(), [], words)
         self.assertEqual(self.make("-n")[1].count("./run "), 7)
         self.assertIn("use make -k", self.make("-i")[2])
+        self.assertIn("this wants GNU make 4", self.make("MAKE_VERSION=3.81")[2])
 
     def test_a_failure_stops_what_waits_for_it_and_nothing_else(self):
         self.exported(CROSSED, commands=self.commands(FAILS))
@@ -79,6 +87,12 @@ class CarriedOutTest(FolderCase):
         self.assertRegex(times, r"^[0-9]{10,}\.[0-9]{3} [0-9]{10,}\.[0-9]{3}$")
         self.assertEqual(subprocess.run(["sh", "-eu", self.folder / "log" / "0.2.sh"], check=False).returncode, 0)
         self.assertEqual(self.numbers().count(4), 2)
+        # What is done is not done again, whatever is called, and whatever the times of the marks are.
+        words = ["./run", "0.2", "3", "4", ":", "bind", "0", "Web", "sql", "1", "Db", ":"]
+        self.assertEqual(subprocess.run(words, cwd=self.folder, check=False).returncode, 0)
+        self.assertEqual(self.numbers().count(4), 2)
+        os.utime(self.folder / "done" / "1.1", (2_000_000_000, 2_000_000_000))
+        self.assertEqual(self.make("-q")[0], 0)
 
     def test_it_is_tried_again_as_often_as_it_may_be(self):
         body = 'echo again >>"$TRACE"\n[ "$(grep -c again "$TRACE")" -ge 3 ]\n'
@@ -122,6 +136,14 @@ class CarriedOutTest(FolderCase):
         self.assertEqual(self.make("-j4")[0], 0)
         self.assertIn("4 B-1 move  [] left 127.0.1.1 ", self.trace())
         self.assertIn("10 A-2 move  [] right right right", self.trace())
+
+    def test_hosts_with_the_names_of_the_shells_own_words(self):
+        (self.top / "placed").write_text("on 0 esac\non 1 in\nplaced 2 hosts 2\n")
+        hosts = '[hosts.esac]\naddress = "127.0.1.1"\n[hosts.in]\nvia = ["env", "VIA=in"]\n'
+        self.exported(WEB, commands=f"{self.commands()}{hosts}", more=["--placement", self.top / "placed"])
+        self.assertEqual(self.make()[0], 0)
+        self.assertIn("4 Web-0 bind Db-1 [] esac 127.0.1.1 ", self.trace())
+        self.assertIn("3 Db-1 move  [] in in in", self.trace())
 
     def test_what_a_placement_holds_is_waited_for(self):
         (self.top / "placed").write_text(PLACED.replace("after 4 6", "after 8"))
@@ -208,6 +230,9 @@ class FolderTest(FolderCase):
         long = plan_text("new 0 A", *(f"move 0 s{number} s{number + 1}" for number in range(10_000)))
         self.assertIn("10001 actions wait one for the other, and make is good for 10000: use ninja", self.refused(long))
         self.assertFalse(self.folder.exists())
+        with mock.patch("exporters.script.make_executable", side_effect=Refused("the disk is full")):
+            self.assertIn("the disk is full", self.refused(WEB))
+        self.assertEqual(list(self.folder.iterdir()), [])
         self.exported(long, "ninja")
 
     def test_another_plan_is_refused(self):
@@ -245,8 +270,8 @@ class RolloutTest(FolderCase):
         self.assertIn(
             "`make -t old-1` marks them as done", self.exported(ROLLED, "ninja", more=["--from", self.top / "old"])
         )
-        subprocess.run(["ninja", "--quiet", "-C", self.folder, "done/1.3"], check=True, capture_output=True)
-        self.assertEqual(sorted(self.numbers()[-2:]), [11, 12])
+        subprocess.run(["ninja", "--quiet", "-C", self.folder, "done/0.4"], check=True, capture_output=True)
+        self.assertEqual((sorted(self.numbers()), self.numbers()[-1]), (list(range(1, 12)), 11))
 
     def test_in_an_empty_folder_the_old_plan_is_asked_for(self):
         said = self.refused(ROLLED)

@@ -47,7 +47,7 @@ class RolloutTest(unittest.TestCase):
             self.assertEqual(waiting, removal)
         self.assertEqual({barrier_of(step, [Rollout(5, 5, 7)]) for step in steps_of(TAKEN_DOWN)}, {None})
 
-    def test_a_rollout_is_told_from_a_plan_by_what_goes_with_all_that_it_was_bound_to(self):
+    def test_a_rollout_is_recognized_by_what_goes_with_all_that_it_was_bound_to(self):
         for text in (
             WEB,
             CROSSED,
