@@ -1,10 +1,11 @@
 //! Prints what inner calls answer: for each line of the file `probes.txt`, in the folder that it runs in, the tables of a
-//! universe, what names mean in it, its layers, the waits of a plan's actions, why a goal is never attained, or the life lines for some targets with the graph
-//! of their events.
+//! universe, what names mean in it, its layers, the waits of a plan's actions, why a goal is never attained, or the life
+//! lines for some targets with the graph of their events; or the order of a plain graph.
 #![tactic(auto)]
 
 mod event_graph;
 mod goals;
+mod graphs;
 mod layers;
 mod life_lines;
 mod lists;

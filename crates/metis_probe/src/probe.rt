@@ -1,3 +1,4 @@
+use crate::graphs::write_sorting;
 use crate::layers::write_layers;
 use crate::names::write_names;
 use crate::reasons::{write_reason_count, write_reasons};
@@ -36,7 +37,7 @@ fn write_words<R: Files + AllocGlobal>(rt: &R, text: &mut String, line: &str) ->
     write_probe(rt, text, &words)
 }
 
-// The first word says what is written, and the second is the file of the universe.
+// The first word says what is written. The second is the file of the universe, but for a plain graph.
 fn write_probe<R: Files + AllocGlobal>(
     rt: &R,
     text: &mut String,
@@ -45,6 +46,9 @@ fn write_probe<R: Files + AllocGlobal>(
     let [verb, file, rest @ ..] = words else {
         return Err(Stop::NoProbe);
     };
+    if *verb == "sort" {
+        return write_sorting(rt.alloc(), text, &words[1..]);
+    }
     let kind = kind_of(verb).ok_or(Stop::NoProbe)?;
     let universe = universe_in(rt, file)?;
     write_kind(rt, text, &universe, kind, rest)

@@ -219,7 +219,7 @@ fn write_round<'a>(
 
 fn write_events(alloc: Global, text: &mut String, over: &OverLines<'_>) -> Result<(), Stop> {
     let graph = EventGraph::of(alloc, over)?;
-    write_edges(text, &graph, graph.nodes())?;
+    write_edges(text, &graph, graph.dag().nodes())?;
     write_order(alloc, text, over, &graph)
 }
 
