@@ -1,6 +1,8 @@
 pub mod CountTokens
+pub mod FirstFlaws
 pub mod GoalTokens
 pub mod ItemLines
+pub mod LineFlaws
 pub mod LineTokens
 pub mod LinesRead
 pub mod Named

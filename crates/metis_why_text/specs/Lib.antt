@@ -1,3 +1,4 @@
 pub mod WhyFaults
+pub mod WhyFlaws
 pub mod WhyReading
 pub mod WhyText

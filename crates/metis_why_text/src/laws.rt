@@ -8,6 +8,7 @@ ghost use Rattle.metis_tokens.specs.declared.fault.TFault.TheVariants as faults;
 ghost use Rattle.metis_universe.specs.Universe.{Universe, IsTable};
 ghost use Rattle.metis_why.specs.declared.reason.Line.{Line};
 ghost use Rattle.metis_why_text.specs.WhyFaults.{IsWhyFault};
+ghost use Rattle.metis_why_text.specs.WhyFlaws.{HasWhyFault};
 ghost use Rattle.metis_why_text.specs.WhyReading.{WhyParts, why_in, why_parts};
 ghost use Rattle.metis_why_text.specs.WhyText.{IsWhyText, why_bytes, why_lines};
 
@@ -40,6 +41,12 @@ pub fn no_why_begins_with_a_fault()
 /// lines up to it have whatever stands behind them and not before the last of them ends, or bytes stand behind the last line.
 pub fn told_why_fault_is_one()
     ensures { (u : Universe) (bytes : List ℕ) (fault : TFault) → why_in u bytes ≡ Err fault → IsWhyFault u bytes fault }
+{}
+
+/// Each fault that is told of an explanation is the one that the bytes have by the lines before it and by its own line: those are
+/// the beginning of a text, and the line that is due behind them has the flaw that is told, or no end. Or bytes stand behind the end.
+pub fn told_why_fault_is_had()
+    ensures { (u : Universe) (bytes : List ℕ) (fault : TFault) → IsTable u → why_in u bytes ≡ Err fault → HasWhyFault u bytes fault }
 {}
 
 /// Where bytes stand behind the text of an explanation, the line behind the last one is told.

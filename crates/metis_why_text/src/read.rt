@@ -1,9 +1,11 @@
 //! Reads the text of an explanation.
 ghost use Rattle.std.specs.Prelude.{◌≡◌, ◌<◌, ◌-◌, ◌^◌, IfOk, [], length};
 ghost use Rattle.std.specs.List.{All};
+ghost use Rattle.metis_text.specs.DueLines.{IfFault};
 ghost use Rattle.metis_tokens.specs.Cursor.{read_next, Reads};
 ghost use Rattle.metis_universe.specs.GoalWords.{IsWordable};
 ghost use Rattle.metis_why.specs.Confirm.{IsTellable};
+ghost use Rattle.metis_why_text.specs.WhyFlaws.{HasWhyFault};
 ghost use Rattle.metis_why_text.specs.WhyReading.{ReadsWhy, count_in, lacks_in, line_in, lines_from, why_in};
 ghost use Rattle.metis_why_text.specs.WhyText.{why_bytes};
 
@@ -24,7 +26,11 @@ pub fn read_why(alloc: Global, u: &Universe, bytes: &[u8]) -> Result<Explanation
 
     // So the bytes are the text of what is read.
     ensures text { IfOk result (λ why. bytes.now ≡ why_bytes u.now why.lacks why.lines.items) }
+
+    // Each fault is that of the first line that is wrong, by what this line says, or of an end that is missing.
+    ensures fault { IfFault result (λ f. HasWhyFault u.now bytes.now f) }
 {
+    u.keeps_invariant();
     read_text(alloc, u, bytes)
 }
 
