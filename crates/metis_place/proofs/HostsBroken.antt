@@ -12,7 +12,8 @@ use Rattle.std.proofs.lemmas.List.Splits.{join_with_byte-slice_split, length-sli
 use Rattle.std.proofs.lemmas.Slice.Eq.{bytes_eq-Decides}
 use Rattle.metis_universe.specs.Universe.{Universe}
 use Rattle.metis_place.specs.Entries.{Entries}
-use Rattle.metis_place.specs.HostsFaults.{IfFault, IsBegun, IsHostsFault, NoFeed, begun_bytes, next_number, too_short, of_first, of_line, past_end, in_first, in_later}
+use Rattle.metis_place.specs.HostsFaults.{IfFault, IsBegun, IsHostsFault, NoFeed, begun_bytes, too_short, of_first, of_line, past_end, in_first, in_later}
+use Rattle.metis_place.specs.HostsFlaws.{next_number}
 use Rattle.metis_place.specs.HostsText.{ReadsHosts, SeenLines, end_from, hosts_in, hosts_of, is_last, last_piece, lines_from, nothing, pieces, text_of, whole_lines, with_line}
 use Rattle.metis_tokens.specs.Cursor.{is_feed}
 use Rattle.metis_tokens.specs.Flaws.{and_then}
@@ -20,6 +21,7 @@ use Rattle.metis_place.specs.HostsWritten.{host_line, hosts_bytes, hosts_header,
 use Rattle.metis_place.specs.Placement.{HostLists}
 use Rattle.metis_place.specs.declared.hosts_fault.HFault.{HFault}
 use Rattle.metis_place.specs.declared.hosts_fault.HFault.TheVariants.{Line, Short}
+use Rattle.metis_place.proofs.HostsLineFlaws.{flaw_had}
 use Rattle.metis_place.proofs.HostsRead.{Say, all_words, cut_last, fed, fed_host, fed_size, host_words, none_said, one_more, size_words, some_is}
 
 -- ---- outcomes
@@ -126,6 +128,7 @@ module _ (u : Universe) (bytes : List ℕ) (lines : List (List ℕ)) (rest : Lis
   lines_broken all are (at front line later seen say at' other wrong) =
       let here : lines ≡ codes "metis hosts 1" ∷ (front ++ line ∷ later) = are ∙ ap (λ l. codes "metis hosts 1" ∷ l) at' in
       let number : length front + 2 ≡ next_number seen.hosts seen.sizes = ap (λ n. n + 2) (said_count u front seen say) in
+      let told : with_line u (next_number seen.hosts seen.sizes) seen line ≡ Err f = ap (λ k. with_line u k seen line) (sym number) ∙ wrong in
       of_line (record {
         hosts = seen.hosts;
         sizes = seen.sizes;
@@ -135,7 +138,8 @@ module _ (u : Universe) (bytes : List ℕ) (lines : List (List ℕ)) (rest : Lis
         text = text front (line ∷ later) seen say here ∙ ap (λ l. begun_bytes seen.hosts seen.sizes ++ l) (append_assoc (fed line) (concat (map fed later)) rest ∙ append_assoc line (codes "\n") (concat (map fed later) ++ rest));
         no_feed = first_of (codes "metis hosts 1" ∷ front) (later ++ rest ∷ []) line (subst (All NoFeed) (ap (λ l. l ++ rest ∷ []) here ∙ append_assoc (codes "metis hosts 1" ∷ front) (line ∷ later) (rest ∷ [])) each);
         goes_on = other;
-        fault = ap (λ k. with_line u k seen line) (sym number) ∙ wrong;
+        fault = told;
+        wrong = flaw_had u seen.hosts seen.sizes line f told;
       })
   lines_broken all are (past front later seen say at' some more fault) =
       let here : lines ≡ codes "metis hosts 1" ∷ (front ++ codes "end" ∷ later) = are ∙ ap (λ l. codes "metis hosts 1" ∷ l) at' in

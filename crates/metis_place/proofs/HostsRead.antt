@@ -43,7 +43,7 @@ and_then_is : {A B : Type 0} (x : Result A HFault) (next : A → Result B HFault
 and_then_is (Ok a) next b h = (a, refl, h)
 and_then_is (Err f) next b h = cc
 
-none_is : {X : Type 0} (xs : List X) → (length xs == 0) ≡ true → xs ≡ []
+pub none_is : {X : Type 0} (xs : List X) → (length xs == 0) ≡ true → xs ≡ []
 none_is [] h = refl
 none_is (x ∷ xs) h = absurd (other (length xs) h) where
   other : (n : ℕ) → (suc n == 0) ≡ true → ⊥

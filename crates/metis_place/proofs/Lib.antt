@@ -20,6 +20,7 @@ pub mod Within
 pub mod Examples
 pub mod Entries
 pub mod HostsBroken
+pub mod HostsLineFlaws
 pub mod HostsNamed
 pub mod HostsRead
 pub mod HostsLines

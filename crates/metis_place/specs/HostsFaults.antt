@@ -1,8 +1,7 @@
 -- Where the faults of the text of hosts come from.
 --     NoFeed line      it has no line feed
 --     IsBegun u hosts sizes, begun_bytes hosts sizes      what the lines of a text say that can be read so far;  these lines, the first one before them
---     next_number hosts sizes      the number of the line behind them
---     IsTooShort, IsOfFirst, IsOfLine, IsPastEnd u bytes f      the bytes end before the last line does;  the first line is another;  the line behind those that can be read has a fault;  more stands behind the last line
+--     IsTooShort, IsOfFirst, IsOfLine, IsPastEnd u bytes f      the bytes end before the last line does;  the first line is another;  the line behind those that can be read has a flaw, and is told;  more stands behind the last line
 --     IsHostsFault u bytes f      one of these
 --     IfFault result P      of a fault that is no want of memory
 use Rattle.std.specs.Prelude.{◌≡◌, ◌≢◌, ◌≤◌, ℕ, ◌+◌, ◌==◌, not, List, ◌∷◌, ◌++◌, Result, Ok, Err, IsTrue, IsFalse, codes, length, map, ⊤}
@@ -10,6 +9,7 @@ use Rattle.std.specs.List.{All, concat, list_all}
 use Rattle.std.specs.Option.{is_some}
 use Rattle.metis_universe.specs.Universe.{Universe, type_named}
 use Rattle.metis_place.specs.Entries.{Entries}
+use Rattle.metis_place.specs.HostsFlaws.{IsHostsFlaw, next_number}
 use Rattle.metis_place.specs.HostsText.{is_last, seen_lines, with_line}
 use Rattle.metis_place.specs.HostsWritten.{IsEntry, IsHostsText, are_apart, host_line, hosts_bytes, hosts_header, size_line}
 use Rattle.metis_place.specs.declared.hosts_fault.HFault.{HFault}
@@ -28,9 +28,6 @@ pub record IsBegun (u : Universe) (hosts sizes : Entries) : Type 0 where
 abbrev pub begun_bytes : Entries → Entries → List ℕ
 begun_bytes hosts sizes = concat (hosts_header ∷ (map host_line hosts ++ map size_line sizes))
 
-abbrev pub next_number : Entries → Entries → ℕ
-next_number hosts sizes = length hosts + length sizes + 2
-
 -- nothing but the beginning of a line stands behind lines that can be read, or the first line has no end
 pub data IsTooShort (u : Universe) (bytes : List ℕ) (f : HFault) : Type 0 where
   in_first : NoFeed bytes → f ≡ Short → IsTooShort u bytes f
@@ -44,7 +41,7 @@ pub record IsOfFirst (bytes : List ℕ) (f : HFault) : Type 0 where
   pub other : line ≢ codes "metis hosts 1"
   pub fault : f ≡ Line 1
 
--- the line is not the last one, and it cannot be taken in
+-- the line is not the last one, and it cannot be taken in, for what is wrong with it
 pub record IsOfLine (u : Universe) (bytes : List ℕ) (f : HFault) : Type 0 where
   pub hosts : Entries
   pub sizes : Entries
@@ -55,6 +52,7 @@ pub record IsOfLine (u : Universe) (bytes : List ℕ) (f : HFault) : Type 0 wher
   pub no_feed : NoFeed line
   pub goes_on : IsFalse (is_last (seen_lines hosts sizes) line)
   pub fault : with_line u (next_number hosts sizes) (seen_lines hosts sizes) line ≡ Err f
+  pub wrong : IsHostsFlaw u hosts sizes line f
 
 pub record IsPastEnd (u : Universe) (bytes : List ℕ) (f : HFault) : Type 0 where
   pub hosts : Entries

@@ -2,6 +2,7 @@ pub mod Entries
 pub mod FirstPlace
 pub mod Holding
 pub mod HostsFaults
+pub mod HostsFlaws
 pub mod HostsText
 pub mod HostsWritten
 pub mod Placement

@@ -227,7 +227,7 @@ pub fn read_hosts(alloc: Global, u: &Universe, bytes: &[u8]) -> Result<Hosts, HF
     // So the bytes are the text of what is read.
     ensures text { IfOk result (λ h. IsTextOf u.now h bytes.now) }
 
-    // Each fault comes of the first line that is wrong, or of an end that is missing.
+    // Each fault comes of the first line that is wrong, and is what is wrong with it, or of an end that is missing.
     ensures fault { IfFault result (λ f. IsHostsFault u.now bytes.now f) }
     ensures few { IfOk result (λ h. length h.hosts ≤ 65536) }
     ensures sizes { IfOk result (λ h. length h.sizes ≡ type_count u.now) }

@@ -18,7 +18,8 @@ pub use hosts::Hosts;
 pub use hosts_fault::HFault;
 pub use hosts_text::read_hosts;
 pub use laws::{
-    further_waits_are_earlier, further_waits_are_fewest, held_order_goes_on, hosts_text_is_read,
-    no_host_is_overfull, own_order_is_held, seats_are_the_instances,
+    further_waits_are_earlier, further_waits_are_fewest, held_order_goes_on,
+    hosts_line_has_its_flaw, hosts_text_is_read, no_host_is_overfull, own_order_is_held,
+    seats_are_the_instances,
 };
 pub use placing::{Placing, place};
