@@ -3,6 +3,8 @@ pub mod Answered
 pub mod CheckNumbers
 pub mod CheckWords
 pub mod Courses
+pub mod FormFacts
+pub mod FormReplies
 pub mod Numbers
 pub mod ShownNumbers
 pub mod Undone

@@ -1,5 +1,6 @@
 pub mod Changes
 pub mod Checks
+pub mod Forms
 pub mod Orders
 pub mod Replies
 pub mod Session

@@ -2,12 +2,14 @@
 ghost use Rattle.std.specs.Prelude.{◌≡◌, ◌≢◌, ◌↔◌, ℕ, List, ◌∷◌, IsFalse, IsTrue, Some, codes, map};
 ghost use Rattle.metis_ids.specs.declared.goals.Goal.{Goal};
 ghost use Rattle.metis_sim.specs.Checks.{goals_of};
+ghost use Rattle.metis_sim.specs.Forms.{HasForm, IsOfUnknown};
+ghost use Rattle.metis_tokens.specs.Tokens.{tokens};
 ghost use Rattle.metis_sim.specs.Words.{goal_of_word};
 ghost use Rattle.std.specs.List.{AllByRecursion};
 ghost use Rattle.metis_universe.specs.Config.{Correct};
 ghost use Rattle.metis_universe.specs.Universe.{Universe, IsUniverse};
 ghost use Rattle.metis_sim.specs.Session.{Session, after_line, after_lines, answer, begin, changes, replies, reply};
-ghost use Rattle.metis_sim.specs.declared.reply.Reply.TheVariants.{Bye, Did, Ended, Undone};
+ghost use Rattle.metis_sim.specs.declared.reply.Reply.TheVariants.{BadLine, Bye, Did, Ended, Undone, Unknown};
 
 /// After an action that was done, `undo` gives the session before it again, and with it its configuration.
 pub fn undo_takes_back()
@@ -17,6 +19,17 @@ pub fn undo_takes_back()
 /// After any lines, from a new session on, the configuration is correct, and so is each that is kept.
 pub fn kept_configurations_are_correct()
     ensures { (u : Universe) (lines : List (List ℕ)) → IsUniverse u → let s = after_lines (begin u) lines in AllByRecursion (Correct u) (s.config ∷ s.earlier) }
+{}
+
+/// A line is bad exactly when it has none of the forms.
+pub fn bad_lines_have_no_form()
+    ensures { (s : Session) (line : List ℕ) → IsFalse s.ended → reply s line ≡ BadLine ↔ (HasForm line → ⊥) }
+{}
+
+/// A line of a form is answered `Unknown` exactly when it names a type, a port, a state or a target that is not there. A state is
+/// looked up in the type of which the instance is; where the instance is not there, the line is refused.
+pub fn unknown_lines_name_nothing()
+    ensures { (s : Session) (line : List ℕ) → IsFalse s.ended → reply s line ≡ Unknown ↔ IsOfUnknown s.universe s.config (tokens line) }
 {}
 
 /// The goals of a check are those of its words, one for one and in their order; there are none where some word asks for none.
