@@ -1,11 +1,14 @@
 #!/usr/bin/env python3
-"""Tries the built program over plans of half a million actions: python3 tools/try_sizes.py [PROGRAM]
+"""Tries the built program over plans of up to four million actions: python3 tools/try_sizes.py [PROGRAM]
 
-No contract says that memory suffices, so a program that gives up past some size keeps all of them. Each case runs one command over
-the plan of the tower of 31 types, or over a script as long as one may be, and compares every line of the answer with what this file
-works out from the actions, by the rules of docs/MODEL.md and docs/FORMATS.md. The last line counts the cases.
+No contract says that memory suffices, so a program that gives up past some size keeps all of them. Most cases run one command over
+the plan of the tower of 31 types, or over a script as long as one may be, and compare every line of the answer with what this file
+works out from the actions, by the rules of docs/MODEL.md and docs/FORMATS.md. Two universes are as large as they may be: one whose
+plan has 1,922 dups, and one whose plan has 16,513 instances. The last line counts the cases.
 """
 
+import collections
+import json
 import pathlib
 import random
 import subprocess
@@ -38,6 +41,10 @@ class Answer:
     lines: list[str]
 
 
+# A case: its name, what was printed, what has to be, and the status.
+Case = tuple[str, list[str], list[str], int]
+
+
 class Program:
     def __init__(self, path: str, folder: str) -> None:
         self.path, self.folder = path, pathlib.Path(folder)
@@ -46,6 +53,13 @@ class Program:
         path = self.folder / name
         path.write_text(text)
         return str(path)
+
+    def into(self, name: str, *words: str) -> tuple[str, int]:
+        """The file that the answer goes into, which is too large to be held, and the status."""
+        path = self.folder / name
+        with open(path, "wb") as file:
+            done = subprocess.run([self.path, *words], stdin=subprocess.DEVNULL, stdout=file, timeout=300)
+        return str(path), done.returncode
 
     def answer(self, *words: str) -> Answer:
         done = subprocess.run([self.path, *words], stdin=subprocess.DEVNULL, stdout=subprocess.PIPE, timeout=300)
@@ -64,6 +78,34 @@ def actions_of(lines: list[str]) -> list[Action]:
         actions.append(Action(verb, instance, words[-1], own + tuple(map(int, after.split()))))
         last[instance] = number
     return actions
+
+
+# ---- universes
+
+
+def tower(sizes: list[int]) -> dict:
+    """Types of so many states each. All but the last state provide a port, and the second state of the next type requires them all."""
+    types, below = [], []
+    for k, size in enumerate(sizes):
+        states = [{"name": f"s{j}", "provide": [f"p{k}.{j}"], "next": [f"s{j + 1}"]} for j in range(size - 1)]
+        states[1]["require"] = below
+        types.append({"name": f"t{k}", "initial": "s0", "states": [*states, {"name": f"s{size - 1}"}]})
+        below = [f"p{k}.{j}" for j in range(size - 1)]
+    return {"aeolus": 1, "types": types}
+
+
+def slots(count: int, before: int, serving: int) -> dict:
+    """Types with so many states before those that provide a port each, of which the first requires 16 providers of each port below."""
+    types, below = [], []
+    for k in range(count):
+        names = [f"b{j}" for j in range(before)] + [f"s{j}" for j in range(serving)]
+        states = [{"name": name, "next": names[at + 1 : at + 2]} for at, name in enumerate(names)]
+        states[before]["require"] = [{"port": port, "count": 16} for port in below]
+        below = [f"p{k}.{j}" for j in range(serving)]
+        for state, port in zip(states[before:], below):
+            state["provide"] = [port]
+        types.append({"name": f"t{k}", "initial": names[0], "states": states})
+    return {"aeolus": 2, "types": types}
 
 
 # ---- what has to be answered
@@ -161,8 +203,7 @@ def session_case() -> tuple[str, list[str]]:
 # ---- the cases
 
 
-def cases(program: Program) -> Iterator[tuple[str, list[str], list[str], int]]:
-    """The name of each case, what was printed and what has to be, and the status."""
+def cases(program: Program) -> Iterator[Case]:
     targets = [f"t{k}:s63" for k in range(31)]
     plan = program.answer("plan", UNIVERSE, *targets)
     path = program.file("plan.txt", "\n".join(plan.lines) + "\n")
@@ -201,9 +242,10 @@ def cases(program: Program) -> Iterator[tuple[str, list[str], list[str], int]]:
     yield "sim", session.lines, answers, session.status
 
     yield from rollout_cases(program, path, actions)
+    yield from universe_cases(program)
 
 
-def rollout_cases(program: Program, path: str, old: list[Action]) -> Iterator[tuple[str, list[str], list[str], int]]:
+def rollout_cases(program: Program, path: str, old: list[Action]) -> Iterator[Case]:
     """The old actions, those of the plan for the targets, and one deletion for each old instance that stands. It replays as good."""
     targets = ["t30:s63", "t0:s1"]
     fresh = actions_of(program.answer("plan", UNIVERSE, *targets).lines)
@@ -219,6 +261,35 @@ def rollout_cases(program: Program, path: str, old: list[Action]) -> Iterator[tu
     text = program.file("rollout.txt", "\n".join(rollout.lines) + "\n")
     replay = program.answer("replay", UNIVERSE, text, *targets)
     yield "rollout: replay", replay.lines, [f"good standing {kept} actions {len(actions)}"], replay.status
+
+
+def universe_cases(program: Program) -> Iterator[Case]:
+    """A life line that goes on holds one pair of a type that the type above it needs, and each other one is doubled."""
+    sizes = [64] * 31 + [16]
+    targets = [f"t{k}:s{size - 1}" for k, size in enumerate(sizes)]
+    dups = sum(size - 2 for size in sizes[:-1])
+    yield from whole_case(program, "tower", tower(sizes), targets, len(sizes) + dups, dups)
+
+    # Each slot of each pair of all types but the last is an instance. One of them is the target's, and the last type has its own.
+    count, serving = 130, 8
+    instances = (count - 1) * serving * 16 + 1
+    yield from whole_case(program, "slots", slots(count, 7, serving), [f"t{k}:s7" for k in range(count)], instances, (count - 1) * 7)
+
+
+def whole_case(program: Program, name: str, universe: dict, targets: list[str], instances: int, dups: int) -> Iterator[Case]:
+    """The counts of a plan, its audit and its replay."""
+    path = program.file(f"{name}.json", json.dumps(universe))
+    plan, status = program.into(f"{name}.txt", "plan", path, *targets)
+    with open(plan) as lines:
+        head = [next(lines).rstrip("\n") for _ in range(2)]
+        verbs = collections.Counter(line.split(" ", 2)[1] for line in lines if line[0].isdigit())
+    actions = sum(verbs.values())
+    yield f"{name}: plan", head, ["metis plan 1", f"instances {instances} actions {actions} dups {dups}"], status
+    yield f"{name}: instances", [str(verbs["new"])], [str(instances)], status
+    audit = program.answer("audit", path, plan, *targets)
+    yield f"{name}: audit", audit.lines, [f"justified instances {instances} dups {dups}"], audit.status
+    replay = program.answer("replay", path, plan, *targets)
+    yield f"{name}: replay", replay.lines, [f"good standing {instances - verbs['delete']} actions {actions}"], replay.status
 
 
 def first_difference(printed: list[str], due: list[str]) -> str:

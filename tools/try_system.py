@@ -74,6 +74,7 @@ cases = [
     ('an empty word', ['print', ''], b'', 'pipe', 2, b'bad word 2\n'),
     ('a word that is not UTF-8 in the middle', ['plan', b'\xff', 'Db:off'], b'', 'pipe', 2, b'bad word 2\n'),
     ('a target that is not UTF-8', ['plan', 'web.json', 'Db:off', b'Db:\xff', 'Db:off'], b'', 'pipe', 2, b'bad word 4\n'),
+    ('400 words', ['plan', 'web.json', *['Db:off'] * 398], b'', 'pipe', 2, b'bad word 259\n'),
     ('a word of 256 bytes', ['print', 'd' * 255 + '/', 'more'], b'', 'pipe', 2, b'bad word 3\n'),
     ('a word of 257 bytes', ['print', './' * 124 + '/web.json'], b'', 'pipe', 0, PRINTED),
     ('a word of 5,000 bytes', ['plan', 'web.json', 'Db:' + 'x' * 5000], b'', 'pipe', 2, b'bad word 3\n'),
