@@ -15,5 +15,6 @@ pub mod Nearest
 pub mod Reached
 pub mod Reasons
 pub mod Soundness
+pub mod Stepped
 pub mod Told
 pub mod Tried

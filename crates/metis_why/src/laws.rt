@@ -15,6 +15,7 @@ ghost use Rattle.metis_why.specs.Circles.{IsCircle, IsNaming};
 ghost use Rattle.metis_why.specs.Confirm.{verdict};
 ghost use Rattle.metis_why.specs.Flags.{IsInside};
 ghost use Rattle.metis_why.specs.Nearing.{AreApart};
+ghost use Rattle.metis_why.specs.Steps.{IsCalledFor};
 ghost use Rattle.metis_why.specs.Trying.{AreTried, IsFewest, IsWaitedFor};
 ghost use Rattle.metis_why.specs.declared.reason.Line.{Line};
 
@@ -64,6 +65,11 @@ pub fn a_circle_shows()
 /// no pair, or closes a circle.
 pub fn the_last_line_shows()
     ensures { (u : Universe) (g : Goal) (above : List Line) (last : Line) (p : ℕ) → IsWhy u g (above ++ last ∷ []) → IsTrue (has (named_by u last.pair last.reason) p) → IsTrue (listed above p) ⊎ (last.pair ≡ p) }
+{}
+
+/// Each line of an explanation by the rules of choice is there for a reason: the goal wants its pair, or a line above it names it.
+pub fn each_line_is_named_above()
+    ensures { (u : Universe) (g : Goal) (above below : List Line) (l : Line) → IsByChoice u g (above ++ l ∷ below) → IsCalledFor u g above l.pair }
 {}
 
 /// The order of distance has the pairs that are reached from the goal, each once: it is the least set that has those that the goal
