@@ -4,6 +4,7 @@ pub mod Confirmed
 pub mod Distances
 pub mod Fallen
 pub mod First
+pub mod Farther
 pub mod Followed
 pub mod Forced
 pub mod Going
