@@ -70,7 +70,7 @@ noted_right list (q ∷ pairs) p there = elim (or_cases (nat_eq q p) (has pairs 
   | inr later ↦ noted_right (step list q) pairs p later
 ]
 
-noted_cases : (list pairs : List ℕ) (p : ℕ) → has (noted list pairs) p ≡ true → (has list p ≡ true) ⊎ (has pairs p ≡ true)
+pub noted_cases : (list pairs : List ℕ) (p : ℕ) → has (noted list pairs) p ≡ true → (has list p ≡ true) ⊎ (has pairs p ≡ true)
 noted_cases list [] p there = inl there
 noted_cases list (q ∷ pairs) p there = elim (noted_cases (step list q) pairs p there) [
   | inl before ↦ elim (step_cases list q p before) [ inl old ↦ inl old | inr same ↦ inr (or_left (nat_eq q p) (has pairs p) (eq-eqb q p same)) ]
@@ -81,14 +81,14 @@ pub noted_apart : (list pairs : List ℕ) → AreApart list → AreApart (noted 
 noted_apart list [] apart = apart
 noted_apart list (q ∷ pairs) apart = noted_apart (step list q) pairs (step_apart list q apart)
 
-noted_front : (list pairs : List ℕ) → (rest : List ℕ) × (noted list pairs ≡ list ++ rest)
+pub noted_front : (list pairs : List ℕ) → (rest : List ℕ) × (noted list pairs ≡ list ++ rest)
 noted_front list [] = ([], sym (append-nil list))
 noted_front list (q ∷ pairs) =
     let one = step_front list q in
     let more = noted_front (step list q) pairs in
     (one.0 ++ more.0, more.1 ∙ ap (λ l. l ++ more.0) one.1 ∙ append_assoc list one.0 more.0)
 
-noted_at : (list pairs : List ℕ) (n : ℕ) → n < length list → get_or (noted list pairs) n 0 ≡ get_or list n 0
+pub noted_at : (list pairs : List ℕ) (n : ℕ) → n < length list → get_or (noted list pairs) n 0 ≡ get_or list n 0
 noted_at list pairs n low = let front = noted_front list pairs in ap (λ l. get_or l n 0) front.1 ∙ get_or_append_left list front.0 0 n low
 
 -- ---- lists that are read, place by place
@@ -108,11 +108,11 @@ module _ (names : ℕ → List ℕ) (first : List ℕ) where
     ];
   }
 
-  read_apart : (n : ℕ) → AreApart (read_to names first n)
+  pub read_apart : (n : ℕ) → AreApart (read_to names first n)
   read_apart zero = noted_apart [] first tt
   read_apart (suc n) = noted_apart (read_to names first n) (names (get_or (read_to names first n) n 0)) (read_apart n)
 
-  read_starts : (n p : ℕ) → has first p ≡ true → has (read_to names first n) p ≡ true
+  pub read_starts : (n p : ℕ) → has first p ≡ true → has (read_to names first n) p ≡ true
   read_starts zero p there = noted_right [] first p there
   read_starts (suc n) p there = noted_left (read_to names first n) (names (get_or (read_to names first n) n 0)) p (read_starts n p there)
 
@@ -128,7 +128,7 @@ module _ (names : ℕ → List ℕ) (first : List ℕ) where
         | inr new ↦ go (get_or old n 0) (before (get_or old n 0) (has_at old n 0 low)) p new
       ]
 
-  read_done : (n : ℕ) → ((m : ℕ) → m < n → m < length (read_to names first m)) → (m : ℕ) → m < n → (p : ℕ) → has (names (get_or (read_to names first n) m 0)) p ≡ true → has (read_to names first n) p ≡ true
+  pub read_done : (n : ℕ) → ((m : ℕ) → m < n → m < length (read_to names first m)) → (m : ℕ) → m < n → (p : ℕ) → has (names (get_or (read_to names first n) m 0)) p ≡ true → has (read_to names first n) p ≡ true
   read_done zero within m below p there = absurd (omega arith)
   read_done (suc n) within m below p there =
       let old : List ℕ = read_to names first n in

@@ -4,6 +4,7 @@ pub mod Confirmed
 pub mod Distances
 pub mod Fallen
 pub mod First
+pub mod Farther
 pub mod Followed
 pub mod Forced
 pub mod Going
@@ -15,5 +16,6 @@ pub mod Nearest
 pub mod Reached
 pub mod Reasons
 pub mod Soundness
+pub mod Stepped
 pub mod Told
 pub mod Tried

@@ -15,13 +15,13 @@ use Rattle.metis_why.specs.Nearing.{AreApart, IsFront, IsNearing}
 
 -- ---- places
 
-place_past : (order : List ℕ) (p : ℕ) → has order p ≡ false → place_in order p ≡ length order
+pub place_past : (order : List ℕ) (p : ℕ) → has order p ≡ false → place_in order p ≡ length order
 place_past [] p away = refl
 place_past (q ∷ order) p away =
     let parts = or_parts (nat_eq q p) (has order p) away in
     ap (λ b. cond b 0 (suc (place_in order p))) parts.0 ∙ ap (λ n. suc n) (place_past order p parts.1)
 
-place_low : (order : List ℕ) (p : ℕ) → has order p ≡ true → place_in order p < length order
+pub place_low : (order : List ℕ) (p : ℕ) → has order p ≡ true → place_in order p < length order
 place_low [] p there = absurd (false≢true there)
 place_low (q ∷ order) p there = by (nat_eq q p) refl (place_low order p) where
   by : (b : Bool) → nat_eq q p ≡ b → (has order p ≡ true → place_in order p < length order) → cond b 0 (suc (place_in order p)) < suc (length order)
@@ -57,7 +57,7 @@ place_read order n p apart low at = ap (place_in order) (at ∙ get_or_default o
 -- ---- a front of an order
 
 module _ (front rest : List ℕ) where
-  front_place : (p : ℕ) → has front p ≡ true → place_in (front ++ rest) p ≡ place_in front p
+  pub front_place : (p : ℕ) → has front p ≡ true → place_in (front ++ rest) p ≡ place_in front p
   front_place p there = go front there where
     go : (front : List ℕ) → has front p ≡ true → place_in (front ++ rest) p ≡ place_in front p
     go [] there = absurd (false≢true there)
@@ -69,7 +69,7 @@ module _ (front rest : List ℕ) where
         | inr later ↦ ap (λ n. suc n) (more later)
       ]
 
-  front_least : (p : ℕ) → place_in front p ≤ place_in (front ++ rest) p
+  pub front_least : (p : ℕ) → place_in front p ≤ place_in (front ++ rest) p
   front_least p = go front where
     go : (front : List ℕ) → place_in front p ≤ place_in (front ++ rest) p
     go [] = omega arith

@@ -10,11 +10,12 @@ ghost use Rattle.metis_universe.specs.Step.{IsRun, after_all};
 ghost use Rattle.metis_universe.specs.Universe.{Universe, IsUniverse, has, pair_count};
 ghost use Rattle.metis_why.specs.Answer.{IsFirstUnattained, IsLacking};
 ghost use Rattle.metis_why.specs.Barred.{Covers, IsBarred, IsNeeded, IsReason, IsWhy, listed, named_by, outside};
-ghost use Rattle.metis_why.specs.Choice.{IsByChoice, IsByDistance, IsNearest, may_name, reason_in};
+ghost use Rattle.metis_why.specs.Choice.{IsByChoice, IsByDistance, IsNearest, may_name, place_in, reason_in};
 ghost use Rattle.metis_why.specs.Circles.{IsCircle, IsNaming};
 ghost use Rattle.metis_why.specs.Confirm.{verdict};
 ghost use Rattle.metis_why.specs.Flags.{IsInside};
 ghost use Rattle.metis_why.specs.Nearing.{AreApart};
+ghost use Rattle.metis_why.specs.Steps.{IsCalledFor, IsWithinSteps};
 ghost use Rattle.metis_why.specs.Trying.{AreTried, IsFewest, IsWaitedFor};
 ghost use Rattle.metis_why.specs.declared.reason.Line.{Line};
 
@@ -66,6 +67,11 @@ pub fn the_last_line_shows()
     ensures { (u : Universe) (g : Goal) (above : List Line) (last : Line) (p : ℕ) → IsWhy u g (above ++ last ∷ []) → IsTrue (has (named_by u last.pair last.reason) p) → IsTrue (listed above p) ⊎ (last.pair ≡ p) }
 {}
 
+/// Each line of an explanation by the rules of choice is there for a reason: the goal wants its pair, or a line above it names it.
+pub fn each_line_is_named_above()
+    ensures { (u : Universe) (g : Goal) (above below : List Line) (l : Line) → IsByChoice u g (above ++ l ∷ below) → IsCalledFor u g above l.pair }
+{}
+
 /// The order of distance has the pairs that are reached from the goal, each once: it is the least set that has those that the goal
 /// wants and, with each pair, those for which it may wait.
 pub fn the_order_is_reached()
@@ -73,6 +79,11 @@ pub fn the_order_is_reached()
     ensures covers { (u : Universe) (x : ℕ → Bool) (g : Goal) (order : List ℕ) → IsByDistance u x g order → Covers u (has order) g }
     ensures closed { (u : Universe) (x : ℕ → Bool) (g : Goal) (order : List ℕ) (q : ℕ) → IsByDistance u x g order → IsTrue (has order q) → IsTrue (list_all (has order) (may_name u x q)) }
     ensures least { (u : Universe) (x y : ℕ → Bool) (g : Goal) (order : List ℕ) → IsByDistance u x g order → Covers u y g → ((q : ℕ) → IsTrue (y q) → IsTrue (list_all y (may_name u x q))) → IsInside (has order) y }
+{}
+
+/// The order of distance goes from near to far: what stands before a pair that is within n steps of the goal is within n steps too.
+pub fn the_order_is_by_distance()
+    ensures { (u : Universe) (x : ℕ → Bool) (g : Goal) (order : List ℕ) (n p q : ℕ) → IsByDistance u x g order → IsWithinSteps u x g n q → place_in order p < place_in order q → IsWithinSteps u x g n p }
 {}
 
 /// Trying the pairs of the order from the last to the first comes to the nearest set: with each the greatest barred set without it

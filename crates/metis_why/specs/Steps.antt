@@ -1,0 +1,21 @@
+-- How the lines and the pairs behind a goal are come to from it.
+--     some_names u lines p      one of the lines names the pair
+--     IsCalledFor u g lines p      the goal wants the pair, or one of the lines names it
+--     IsWithinSteps u x g n p      the goal wants p, or p is come to from a pair that it wants in n steps at most, each to a pair for which the one before may wait
+use Rattle.std.specs.Prelude.{◌⊎◌, ℕ, zero, suc, Bool, List, IsTrue}
+use Rattle.std.specs.List.{list_any}
+use Rattle.metis_ids.specs.declared.goals.Goal.{Goal}
+use Rattle.metis_universe.specs.Universe.{Universe, has}
+use Rattle.metis_why.specs.Barred.{named_by, wanted_by}
+use Rattle.metis_why.specs.Choice.{may_name}
+use Rattle.metis_why.specs.declared.reason.Line.{Line}
+
+abbrev pub some_names : Universe → List Line → ℕ → Bool
+some_names u lines p = list_any (λ l. has (named_by u l.pair l.reason) p) lines
+
+abbrev pub IsCalledFor : Universe → Goal → List Line → ℕ → Type 0
+IsCalledFor u g lines p = IsTrue (has (wanted_by u g) p) ⊎ IsTrue (some_names u lines p)
+
+abbrev pub IsWithinSteps : Universe → (ℕ → Bool) → Goal → ℕ → ℕ → Type 0
+IsWithinSteps u x g zero p = IsTrue (has (wanted_by u g) p)
+IsWithinSteps u x g (suc n) p = IsWithinSteps u x g n p ⊎ ((q : ℕ) × IsWithinSteps u x g n q × IsTrue (has (may_name u x q) p))
