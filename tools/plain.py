@@ -185,6 +185,12 @@ def look_at(name: str) -> tuple[list[str], str]:
     return list(faults_of(name, sentences, EXCEPTIONS.get(name, ()))), summary_of(name, sentences, len(path.read_text().split()))
 
 
+def faults() -> Iterator[str]:
+    """What is wrong with the pages that have to be plain."""
+    for name in PAGES:
+        yield from look_at(name)[0]
+
+
 def main(names: list[str]) -> int:
     names = names or list(PAGES)
     missing = [name for name in names if not (TOP / name).is_file()]
