@@ -77,10 +77,10 @@ CASES = (
 
 
 def commands_of_rows() -> dict[str, str]:
-    """How each row of the table begins, with the command in its third cell."""
+    """How each row of the table begins, with the command in its second cell."""
     table = (TOP / PAGE).read_text().split(HEADING)[1].split("\n#")[0]
     rows = [CELL.split(line) for line in table.splitlines() if line.startswith("| ")][1:]
-    return {row[1].strip(): SPAN.search(row[3])[1].replace("\\|", "|") for row in rows}
+    return {row[1].strip(): SPAN.search(row[2])[1].replace("\\|", "|") for row in rows}
 
 
 def lay_out(folder: pathlib.Path, program: pathlib.Path) -> None:
