@@ -5,8 +5,8 @@
 
 PAGE is a page in Markdown or a man page; those of PAGES if none is given. It names each sentence of more than 35 words, a page
 whose sentences have more than 18 words on average, and each phrase of a list. Then it prints a line for each page that says how
-long it is. There `where` is counted if it follows a comma: mostly it means 'if'. The status is 1 if anything was named, and 2 if
-a page is not there.
+long it is. There `where` is counted if it begins a sentence or follows a comma: mostly it means 'if'. The status is 1 if
+anything was named, and 2 if a page is not there.
 
 Code is not read, and inline code is one word. A cell of a table is a paragraph of its own, and so is an item of a list. Words
 without a full stop, as most cells and all headings are, may be too long, but they do not count in the average.
@@ -22,6 +22,10 @@ TOP = pathlib.Path(__file__).resolve().parent.parent
 PAGES = ("README.md", "docs/TUTORIAL.md", "docs/MODELLING.md", "docs/FORMATS.md", "docs/EXPORTERS.md", "docs/metis.1")
 LONGEST = 35
 AVERAGE = 18
+# 'For' means because if a clause follows: by a word that begins one, or by a subject of two words and its verb.
+CLAUSE = "it|they|he|she|we|you|there|this|that|these|those|then|what|who|no|none|nobody|nothing|not|such|in|if|where|when|else"
+SUBJECT = r"(?:a|an|the|each|all|some|its|their) \w+"
+VERB = "(?:is|are|was|were|has|have|had|can|cannot|do|does|may|must)"
 # What is said of sentences, in their plain text with single blanks; `^` is the beginning of one.
 PHRASES = (
     ("exactly where", r"\bexactly where\b"),
@@ -32,7 +36,7 @@ PHRASES = (
     ("no contract says it", r"\bno contract says\b"),
     ("is told", r"\b(?:is|are|was|were) told\b"),
     ("one put", r"\bone put\b"),
-    ("For, which means because", r"^For (?:it|they|he|she|we|you|there|this|that|these|those|then|what|who|no|none|nobody|nothing|not|such|in|if|where|when|else)\b"),
+    ("For, which means because", rf"^For (?:{CLAUSE}|{SUBJECT} {VERB})\b"),
     ("Where, which means if", r"^Where\b(?!.*\?$)"),
     ("if and only if", r"\bif and only if\b"),
     ("save for", r"\bsave (?:for|that)\b"),
@@ -42,7 +46,7 @@ PHRASES = (
 # What a page may keep: some words of the sentence, and why.
 EXCEPTIONS: dict[str, tuple[tuple[str, str], ...]] = {}
 
-WHERE = re.compile(r", where\b")
+WHERE = re.compile(r"^Where\b|, where\b")
 FENCE = re.compile(r"^\s*(```|~~~)")
 ITEM = re.compile(r"^\s*(?:[-*+]|\d+\.)\s+")
 RULE = re.compile(r"^\s*\|(?:\s*:?-+:?\s*\|)+\s*$")
@@ -175,7 +179,7 @@ def summary_of(name: str, sentences: list[Sentence], words: int) -> str:
     wheres = sum(len(WHERE.findall(it.words)) for it in sentences)
     longest = max((it.length() for it in sentences), default=0)
     whole = sum(it.is_whole for it in sentences)
-    return f"{name}: {words} words, {whole} sentences, {average_of(sentences):.1f} words on average, {longest} at most, {wheres} times ', where'"
+    return f"{name}: {words} words, {whole} sentences, {average_of(sentences):.1f} words on average, {longest} at most, {wheres} times 'where' for 'if'"
 
 
 def look_at(name: str) -> tuple[list[str], str]:

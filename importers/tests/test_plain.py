@@ -123,16 +123,18 @@ class PlainPages(unittest.TestCase):
         self.assertEqual(self.faults("It is.\n", (("it was", "gone"),)), ["page.md:1: an exception that nothing needs: it was"])
 
     def test_each_phrase_of_the_list_can_be_found(self):
-        for said in ("It is exactly where it is.", "Where things stand.", "It is a front of it.", "That is so in the code, and no contract says it.", "For nobody does.", "It is whole, if and only if it is.", "A line is one put."):
+        for said in ("It is exactly where it is.", "Where things stand.", "It is a front of it.", "That is so in the code, and no contract says it.", "For nobody does.", "For a path has no end.", "It is whole, if and only if it is.", "A line is one put."):
             self.assertTrue(self.faults(said), said)
-        for said in ("For each of them it is.", "Where is it?", "He told it.", "It stands where it stood."):
+        for said in ("For each of them it is.", "For the plan it is.", "Where is it?", "He told it.", "It stands where it stood."):
             self.assertEqual(self.faults(said), [], said)
 
     def test_the_status_and_the_count_of_where(self):
         status, lines = self.main(self.page("It is, where it is. It is there, where it was.\n"))
         self.assertEqual((status, len(lines)), (0, 1))
-        self.assertIn("11 words, 2 sentences, 5.5 words on average, 6 at most, 2 times ', where'", lines[0])
-        self.assertEqual(self.main(self.page(PAGE))[0], 1)
+        self.assertIn("11 words, 2 sentences, 5.5 words on average, 6 at most, 2 times 'where' for 'if'", lines[0])
+        status, lines = self.main(self.page(PAGE))
+        self.assertEqual(status, 1)
+        self.assertTrue(lines[-1].endswith("1 times 'where' for 'if'"), lines[-1])
         self.assertEqual(self.main(TOP / "docs" / "NOTHING.md"), (2, [f"there is no page {TOP / 'docs' / 'NOTHING.md'}"]))
 
 
