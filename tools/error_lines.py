@@ -48,7 +48,7 @@ def of_a_line(row: str, text: str, words: str, line: str, number: int, found: st
 
 CASES = (
     Case("a refusal", "", "plan waiting.json Shop:up", "metis refusal 1", {"UNIVERSE": "waiting.json", "TARGETS": "Shop:up"}, "Shop:up needs mail from Mail:up"),
-    Case("`bad word 1`", "", "plans web.json", "bad word 1", {"WORDS": "plans web.json"}, "^plans$"),
+    Case("`bad word K`", "", "plans web.json", "bad word 1", {"WORDS": "plans web.json", "K": "1"}, "^plans$"),
     Case("`bad word K`", "", "plan web.json Web/run", "bad word 3", {"WORDS": "plan web.json Web/run", "K": "3"}, "^Web/run$"),
     Case("`bad word K` of", "", "plan web.json Web:runs", "bad word 3", {"UNIVERSE": "web.json", "TARGETS": "Web:runs"}, "no such state; did you mean run"),
     Case("`too long K`", " " * 65_537, "sim web.json text.txt", "too long 3", OF_TEXT, "^65537 text.txt$"),
