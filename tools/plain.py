@@ -58,6 +58,8 @@ END = re.compile(r"[.!?][)\"'\u2019\u201d]*(?= |$)")
 # Macros of a man page whose words stand in a sentence; any other one ends the paragraph.
 INLINE = {".Ar", ".Nm", ".Cm", ".Ql", ".Pa", ".Sq", ".Pq", ".No", ".Op"}
 MARK = re.compile(r" ([.,:;?]+)$")
+# The number of a line, while its text is joined with that of others.
+PLACE = re.compile(r"\x00\d+\x00")
 
 
 @dataclasses.dataclass(frozen=True)
@@ -80,7 +82,7 @@ class Finding:
 
 def plain_text(text: str) -> str:
     """A paragraph without its marks: links by their words, and inline code as one word."""
-    text = SPAN.sub("code", text)
+    text = SPAN.sub(lambda span: "code" + "".join(PLACE.findall(span[0])), text)
     text = LINK.sub(r"\1", text)
     text = TAG.sub("", text)
     return re.sub(r"\*\*|(?<!\w)[*_](?=\w)|(?<=\w)[*_](?!\w)", "", text)
@@ -133,9 +135,9 @@ def sentences_of(piece: list[tuple[int, str]]) -> Iterator[Sentence]:
     line, begin = piece[0][0], 0
     for end in [*(found.end() for found in END.finditer(text)), len(text)]:
         part = text[begin:end]
-        numbers = [int(it) for it in re.findall(r"\x00(\d+)\x00", part)]
-        starts_line = re.match(r" ?\x00", part)
-        words = re.sub(r" +", " ", re.sub(r"\x00\d+\x00", "", part)).strip()
+        numbers = [int(it.strip("\x00")) for it in PLACE.findall(part)]
+        starts_line = PLACE.match(part.lstrip())
+        words = re.sub(r" +", " ", PLACE.sub("", part)).strip()
         if words:
             yield Sentence(numbers[0] if starts_line else line, words, bool(re.search(r"[.!?:][)\"'\u2019\u201d]*$", words)))
         line, begin = (numbers or [line])[-1], end

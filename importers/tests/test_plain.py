@@ -103,6 +103,10 @@ class PlainPages(unittest.TestCase):
             ],
         )
 
+    def test_code_and_links_may_stand_on_two_lines(self):
+        text = "See `a code\nspan` and [a\nlink](x.md). Next.\nLast.\n"
+        self.assertEqual([(it.line, it.words) for it in self.sentences(text)], [(1, "See code and a link."), (3, "Next."), (4, "Last.")])
+
     def test_a_manual_is_read_without_its_synopsis_and_examples(self):
         found = [(it.line, it.words) for it in self.sentences(MANUAL, "page.1")]
         self.assertEqual(found, [(6, "code prints a code."), (9, "Where it can.")])
