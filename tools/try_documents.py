@@ -11,8 +11,10 @@ their source is not there (Debian's index, PyYAML, units), and Graphviz. Plans a
 there. What a page has written stands in .gitignore.
 
 It also looks up the laws that pages cite, their links, their figures (tools/figures.py), the list of docs/HEADLINE.md, and
-the lines that a page shows as a diff: those behind `+` stand in the file named above them, in this order. It ends with
-status 1 where something is not as a page says.
+the lines that a page shows as a diff: those behind `+` stand in the file named above them, in this order. It looks whether
+the pages for operators are in plain English (tools/plain.py) and whether the words of the first pages are defined before they
+are used (tools/first_words.py), and it tries the commands that lead from an error line to its place (tools/error_lines.py). It
+ends with status 1 if something is not as a page says.
 """
 
 import importlib.util
@@ -25,7 +27,10 @@ import subprocess
 import sys
 import tempfile
 
+import error_lines
 import figures
+import first_words
+import plain
 
 TOP = pathlib.Path(__file__).resolve().parent.parent
 PAGES = ("README.md", "docs/TUTORIAL.md", "docs/MODELLING.md", "docs/IMPORTERS.md", "docs/EXPORTERS.md")
@@ -260,7 +265,7 @@ def main(words):
     if not program.is_file():
         print(f"there is no program {program}", file=sys.stderr)
         return 2
-    wrong = list(itertools.chain(look_up(), figures.faults(program)))
+    wrong = list(itertools.chain(look_up(), figures.faults(program), error_lines.faults(program), plain.faults(), first_words.faults()))
     for name in (*PAGES, MANUAL):
         tried, faults = try_page(name, program)
         print(f"{name}: {tried} commands tried, {len(faults)} otherwise than the page says")
