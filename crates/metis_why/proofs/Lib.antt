@@ -7,6 +7,7 @@ pub mod First
 pub mod Farther
 pub mod Followed
 pub mod Forced
+pub mod Found
 pub mod Going
 pub mod Lacking
 pub mod Left

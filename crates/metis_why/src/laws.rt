@@ -5,7 +5,7 @@ ghost use Rattle.metis_ids.specs.declared.actions.Action.{Action};
 ghost use Rattle.metis_ids.specs.declared.goals.Goal.{Goal};
 ghost use Rattle.metis_universe.specs.Closed.{Closed};
 ghost use Rattle.metis_universe.specs.Config.{empty};
-ghost use Rattle.metis_universe.specs.Goals.{AttainsGoals, places_of, serving};
+ghost use Rattle.metis_universe.specs.Goals.{AttainsGoals, IsGoalOf, places_of, serving};
 ghost use Rattle.metis_universe.specs.Step.{IsRun, after_all};
 ghost use Rattle.metis_universe.specs.Universe.{Universe, IsUniverse, has, pair_count};
 ghost use Rattle.metis_why.specs.Answer.{IsFirstUnattained, IsLacking};
@@ -102,6 +102,11 @@ pub fn none_of_the_nearest_can_be_left_out()
 pub fn a_reason_is_the_port_of_the_fewest()
     ensures needs { (u : Universe) (x : ℕ → Bool) (q r : ℕ) → IsUniverse u → q < pair_count u → reason_in u x q ≡ Reason.Needs r → IsFewest u x q r }
     ensures comes { (u : Universe) (x : ℕ → Bool) (q s : ℕ) → reason_in u x q ≡ Reason.Comes → IsWaitedFor u x q s → ⊥ }
+{}
+
+/// Where no list of actions attains a goal, there is an explanation of it by the rules of choice.
+pub fn there_is_an_explanation()
+    ensures { (u : Universe) (g : Goal) → IsUniverse u → IsGoalOf u g → (AttainsGoals u (g ∷ []) → ⊥) → (lines : List Line) × IsByChoice u g lines }
 {}
 
 /// There is one explanation of a goal by the rules of choice, so it is a function of the universe and the goal.
