@@ -10,7 +10,7 @@ use Rattle.metis_why.proofs.Followed.{noted_cases, noted_front, noted_right, rea
 use Rattle.metis_why.proofs.Nearest.{front_least, front_place, place_low, place_past}
 use Rattle.metis_why.specs.Barred.{wanted_by}
 use Rattle.metis_why.specs.Choice.{IsByDistance, may_name, place_in, read_to}
-use Rattle.metis_why.specs.Steps.{IsWithinSteps}
+use Rattle.metis_why.specs.Steps.{IsFromNearToFar, IsWithinSteps}
 
 -- ---- lists that are read, and how they grow
 
@@ -105,8 +105,8 @@ front_has front rest p q there less = by (has front p) refl where
       let low = place_low front q there in
       absurd (omega (arith, past, low, less, front_place front rest q there, front_least front rest p))
 
-pub nearer_first : (u : Universe) (x : ℕ → Bool) (g : Goal) (order : List ℕ) (n p q : ℕ) → IsByDistance u x g order → IsWithinSteps u x g n q → place_in order p < place_in order q → IsWithinSteps u x g n p
-nearer_first u x g order n p q far near less =
+pub nearer_first : (u : Universe) (x : ℕ → Bool) (g : Goal) (order : List ℕ) → IsByDistance u x g order → IsFromNearToFar u x g order
+nearer_first u x g order far n p q near less =
     let at = layer u x g order far n in
     let front = front_of u x g order far at.0 at.1 in
     at.3 p (front_has (Read u x g order far at.0) front.0 p q (at.2 q near) (subst (λ l. place_in l p < place_in l q) front.1 less))

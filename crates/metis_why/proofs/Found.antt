@@ -65,7 +65,7 @@ module _ (u : Universe) (x : ℕ → Bool) (q : ℕ) where
   comes_by (Needs r) why none = absurd (both_ways (list_all x (providers_of u r)) (none r why.own) why.waits)
   comes_by Comes why none = why
 
-  reason_best : (reason : Reason) → IsReason u x q reason → IsReason u x q (reason_in u x q)
+  pub reason_best : (reason : Reason) → IsReason u x q reason → IsReason u x q (reason_in u x q)
   reason_best reason why = by (fewest_port u (λ r. list_all x (providers_of u r)) (required_of u q)) refl where
     by : (o : Option ℕ) → fewest_port u (λ r. list_all x (providers_of u r)) (required_of u q) ≡ o → IsReason u x q (reason_by o)
     by None is = comes_by reason why (fewest_none u (λ r. list_all x (providers_of u r)) None (required_of u q) is).1
