@@ -69,10 +69,7 @@ module _ (u : Universe) (x : ℕ → Bool) (g : Goal) (order : List ℕ) (far : 
   layer (suc n) = next (layer n) where
     next : ((m : ℕ) × (m ≤ far.count) × ((p : ℕ) → Within n p → has (Read m) p ≡ true) × ((p : ℕ) → has (Read m) p ≡ true → Within n p)) →
         (m : ℕ) × (m ≤ far.count) × ((p : ℕ) → Within (suc n) p → has (Read m) p ≡ true) × ((p : ℕ) → has (Read m) p ≡ true → Within (suc n) p)
-    next (m, low, there_by, within_by) = (k, least, there, within) where
-      k : ℕ
-      k = length (Read m)
-
+    next (m, low, there_by, within_by) = (length (Read m), least, there, within) where
       least : length (Read m) ≤ far.count
       least = size m low
 
