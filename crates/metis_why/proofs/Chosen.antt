@@ -115,7 +115,7 @@ module _ (u : Universe) (x : ℕ → Bool) where
 
   -- ---- lines
 
-  listed_in : (pairs : List ℕ) (p : ℕ) → listed (lines_in u x pairs) p ≡ has pairs p
+  pub listed_in : (pairs : List ℕ) (p : ℕ) → listed (lines_in u x pairs) p ≡ has pairs p
   listed_in [] p = refl
   listed_in (q ∷ pairs) p = λ i. nat_eq q p || listed_in pairs p i
 

@@ -6,11 +6,11 @@ use Rattle.std.proofs.lemmas.List.{append-nil, get_or_append_left}
 use Rattle.metis_ids.proofs.Lists.{has-append, has_at, place_of}
 use Rattle.metis_ids.specs.declared.goals.Goal.{Goal}
 use Rattle.metis_universe.specs.Universe.{Universe, has}
-use Rattle.metis_why.proofs.Followed.{noted_cases, noted_front, noted_right, read_done}
+use Rattle.metis_why.proofs.Followed.{noted_cases, noted_front, noted_right, read_done, reading_each}
 use Rattle.metis_why.proofs.Nearest.{front_least, front_place, place_low, place_past}
 use Rattle.metis_why.specs.Barred.{wanted_by}
 use Rattle.metis_why.specs.Choice.{IsByDistance, may_name, place_in, read_to}
-use Rattle.metis_why.specs.Steps.{IsWithinSteps}
+use Rattle.metis_why.specs.Steps.{IsFromNearToFar, IsWithinSteps}
 
 -- ---- lists that are read, and how they grow
 
@@ -69,10 +69,7 @@ module _ (u : Universe) (x : ℕ → Bool) (g : Goal) (order : List ℕ) (far : 
   layer (suc n) = next (layer n) where
     next : ((m : ℕ) × (m ≤ far.count) × ((p : ℕ) → Within n p → has (Read m) p ≡ true) × ((p : ℕ) → has (Read m) p ≡ true → Within n p)) →
         (m : ℕ) × (m ≤ far.count) × ((p : ℕ) → Within (suc n) p → has (Read m) p ≡ true) × ((p : ℕ) → has (Read m) p ≡ true → Within (suc n) p)
-    next (m, low, there_by, within_by) = (k, least, there, within) where
-      k : ℕ
-      k = length (Read m)
-
+    next (m, low, there_by, within_by) = (length (Read m), least, there, within) where
       least : length (Read m) ≤ far.count
       least = size m low
 
@@ -105,8 +102,12 @@ front_has front rest p q there less = by (has front p) refl where
       let low = place_low front q there in
       absurd (omega (arith, past, low, less, front_place front rest q there, front_least front rest p))
 
-pub nearer_first : (u : Universe) (x : ℕ → Bool) (g : Goal) (order : List ℕ) (n p q : ℕ) → IsByDistance u x g order → IsWithinSteps u x g n q → place_in order p < place_in order q → IsWithinSteps u x g n p
-nearer_first u x g order n p q far near less =
+pub nearer_first : (u : Universe) (x : ℕ → Bool) (g : Goal) (order : List ℕ) → IsByDistance u x g order → IsFromNearToFar u x g order
+nearer_first u x g order far n p q near less =
     let at = layer u x g order far n in
     let front = front_of u x g order far at.0 at.1 in
     at.3 p (front_has (Read u x g order far at.0) front.0 p q (at.2 q near) (subst (λ l. place_in l p < place_in l q) front.1 less))
+
+pub some_steps : (u : Universe) (x : ℕ → Bool) (g : Goal) (order : List ℕ) (p : ℕ) → IsByDistance u x g order → has order p ≡ true → (n : ℕ) × IsWithinSteps u x g n p
+some_steps u x g order p far there =
+    reading_each (may_name u x) (wanted_by u g) (λ r. (n : ℕ) × IsWithinSteps u x g n r) (λ r wanted. (0, wanted)) (λ q at r named. (suc at.0, inr (q, at.1, named))) order far.count far.read p there

@@ -88,7 +88,7 @@ noted_front list (q ∷ pairs) =
     let more = noted_front (step list q) pairs in
     (one.0 ++ more.0, more.1 ∙ ap (λ l. l ++ more.0) one.1 ∙ append_assoc list one.0 more.0)
 
-pub noted_at : (list pairs : List ℕ) (n : ℕ) → n < length list → get_or (noted list pairs) n 0 ≡ get_or list n 0
+noted_at : (list pairs : List ℕ) (n : ℕ) → n < length list → get_or (noted list pairs) n 0 ≡ get_or list n 0
 noted_at list pairs n low = let front = noted_front list pairs in ap (λ l. get_or l n 0) front.1 ∙ get_or_append_left list front.0 0 n low
 
 -- ---- lists that are read, place by place
@@ -112,7 +112,7 @@ module _ (names : ℕ → List ℕ) (first : List ℕ) where
   read_apart zero = noted_apart [] first tt
   read_apart (suc n) = noted_apart (read_to names first n) (names (get_or (read_to names first n) n 0)) (read_apart n)
 
-  pub read_starts : (n p : ℕ) → has first p ≡ true → has (read_to names first n) p ≡ true
+  read_starts : (n p : ℕ) → has first p ≡ true → has (read_to names first n) p ≡ true
   read_starts zero p there = noted_right [] first p there
   read_starts (suc n) p there = noted_left (read_to names first n) (names (get_or (read_to names first n) n 0)) p (read_starts n p there)
 

@@ -1,3 +1,4 @@
+pub mod ByChoice
 pub mod Chosen
 pub mod Circled
 pub mod Confirmed
@@ -7,6 +8,7 @@ pub mod First
 pub mod Farther
 pub mod Followed
 pub mod Forced
+pub mod Found
 pub mod Going
 pub mod Lacking
 pub mod Left

@@ -22,7 +22,7 @@ use Rattle.metis_why.specs.declared.reason.Line.{Line}
 use Rattle.metis_why.specs.declared.reason.Reason.{Reason}
 use Rattle.metis_why.specs.declared.reason.Reason.TheVariants.{Needs, Comes}
 
-own_back : (u : Universe) (q : ℕ) (reason : Reason) → IsOwn u q reason → own_holds u q reason ≡ true
+pub own_back : (u : Universe) (q : ℕ) (reason : Reason) → IsOwn u q reason → own_holds u q reason ≡ true
 own_back u q (Needs r) own = own
 own_back u q Comes own = ap not own
 

@@ -26,7 +26,7 @@ use Rattle.metis_why.specs.declared.reason.Reason.TheVariants.{Needs, Comes}
 
 -- ---- one pair is tried
 
-inside_without : (x y : ℕ → Bool) (q : ℕ) → IsInside y x → y q ≡ false → IsInside y (without x q)
+pub inside_without : (x y : ℕ → Bool) (q : ℕ) → IsInside y x → y q ≡ false → IsInside y (without x q)
 inside_without x y q inside away p there = and_from (x p) (not (nat_eq q p)) (inside p there) (ap not (false_from_ne_true (nat_eq q p) (λ same. both_ways (y q) away (ap y (eqb-true q p same) ∙ there))))
 
 gone : (x z : ℕ → Bool) (q : ℕ) → IsInside z (without x q) → z q ≡ false

@@ -5,17 +5,17 @@ ghost use Rattle.metis_ids.specs.declared.actions.Action.{Action};
 ghost use Rattle.metis_ids.specs.declared.goals.Goal.{Goal};
 ghost use Rattle.metis_universe.specs.Closed.{Closed};
 ghost use Rattle.metis_universe.specs.Config.{empty};
-ghost use Rattle.metis_universe.specs.Goals.{AttainsGoals, places_of, serving};
+ghost use Rattle.metis_universe.specs.Goals.{AttainsGoals, IsGoalOf, places_of, serving};
 ghost use Rattle.metis_universe.specs.Step.{IsRun, after_all};
 ghost use Rattle.metis_universe.specs.Universe.{Universe, IsUniverse, has, pair_count};
 ghost use Rattle.metis_why.specs.Answer.{IsFirstUnattained, IsLacking};
 ghost use Rattle.metis_why.specs.Barred.{Covers, IsBarred, IsNeeded, IsReason, IsWhy, listed, named_by, outside};
-ghost use Rattle.metis_why.specs.Choice.{IsByChoice, IsByDistance, IsNearest, may_name, place_in, reason_in};
+ghost use Rattle.metis_why.specs.Choice.{IsByChoice, IsByDistance, IsNearest, may_name, reason_in};
 ghost use Rattle.metis_why.specs.Circles.{IsCircle, IsNaming};
 ghost use Rattle.metis_why.specs.Confirm.{verdict};
 ghost use Rattle.metis_why.specs.Flags.{IsInside};
 ghost use Rattle.metis_why.specs.Nearing.{AreApart};
-ghost use Rattle.metis_why.specs.Steps.{IsCalledFor, IsWithinSteps};
+ghost use Rattle.metis_why.specs.Steps.{IsCalledFor, IsFromNearToFar, IsWithinSteps};
 ghost use Rattle.metis_why.specs.Trying.{AreTried, IsFewest, IsWaitedFor};
 ghost use Rattle.metis_why.specs.declared.reason.Line.{Line};
 
@@ -67,7 +67,7 @@ pub fn the_last_line_shows()
     ensures { (u : Universe) (g : Goal) (above : List Line) (last : Line) (p : ℕ) → IsWhy u g (above ++ last ∷ []) → IsTrue (has (named_by u last.pair last.reason) p) → IsTrue (listed above p) ⊎ (last.pair ≡ p) }
 {}
 
-/// Each line of an explanation by the rules of choice is there for a reason: the goal wants its pair, or a line above it names it.
+/// Each line of an explanation by the rules of choice is called for: the goal wants its pair, or a line above it names it.
 pub fn each_line_is_named_above()
     ensures { (u : Universe) (g : Goal) (above below : List Line) (l : Line) → IsByChoice u g (above ++ l ∷ below) → IsCalledFor u g above l.pair }
 {}
@@ -81,9 +81,11 @@ pub fn the_order_is_reached()
     ensures least { (u : Universe) (x y : ℕ → Bool) (g : Goal) (order : List ℕ) → IsByDistance u x g order → Covers u y g → ((q : ℕ) → IsTrue (y q) → IsTrue (list_all y (may_name u x q))) → IsInside (has order) y }
 {}
 
-/// The order of distance goes from near to far: what stands before a pair that is within n steps of the goal is within n steps too.
+/// The order of distance goes from near to far: each of its pairs is within some number of steps of the goal, and what stands before
+/// it is within that number too.
 pub fn the_order_is_by_distance()
-    ensures { (u : Universe) (x : ℕ → Bool) (g : Goal) (order : List ℕ) (n p q : ℕ) → IsByDistance u x g order → IsWithinSteps u x g n q → place_in order p < place_in order q → IsWithinSteps u x g n p }
+    ensures within { (u : Universe) (x : ℕ → Bool) (g : Goal) (order : List ℕ) (p : ℕ) → IsByDistance u x g order → IsTrue (has order p) → (n : ℕ) × IsWithinSteps u x g n p }
+    ensures far { (u : Universe) (x : ℕ → Bool) (g : Goal) (order : List ℕ) → IsByDistance u x g order → IsFromNearToFar u x g order }
 {}
 
 /// Trying the pairs of the order from the last to the first comes to the nearest set: with each the greatest barred set without it
@@ -102,6 +104,16 @@ pub fn none_of_the_nearest_can_be_left_out()
 pub fn a_reason_is_the_port_of_the_fewest()
     ensures needs { (u : Universe) (x : ℕ → Bool) (q r : ℕ) → IsUniverse u → q < pair_count u → reason_in u x q ≡ Reason.Needs r → IsFewest u x q r }
     ensures comes { (u : Universe) (x : ℕ → Bool) (q s : ℕ) → reason_in u x q ≡ Reason.Comes → IsWaitedFor u x q s → ⊥ }
+{}
+
+/// Where no list of actions attains a goal, there is an explanation of it by the rules of choice.
+pub fn there_is_an_explanation()
+    ensures { (u : Universe) (g : Goal) → IsUniverse u → IsGoalOf u g → (AttainsGoals u (g ∷ []) → ⊥) → (lines : List Line) × IsByChoice u g lines }
+{}
+
+/// What is told by the rules of choice is an explanation: each pair has one line and a reason, and none can be left out.
+pub fn what_is_chosen_is_an_explanation()
+    ensures { (u : Universe) (g : Goal) (lines : List Line) → IsGoalOf u g → IsByChoice u g lines → IsWhy u g lines }
 {}
 
 /// There is one explanation of a goal by the rules of choice, so it is a function of the universe and the goal.
