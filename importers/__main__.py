@@ -1,4 +1,4 @@
-"""python3 -m importers debian|compose|systemd ..: prints a universe's document (see README.md beside this file)."""
+"""python3 -m importers debian|compose|systemd|kubernetes ..: prints a universe's document (see README.md beside this file)."""
 
 import argparse
 import importlib
@@ -11,6 +11,7 @@ SOURCES = {
     "debian": "packages of Debian, as dpkg installs them",
     "compose": "a Compose project",
     "systemd": "a target of systemd with the units that it pulls in",
+    "kubernetes": "manifests of Kubernetes, as Helm or Argo CD applies them",
 }
 
 

@@ -20,7 +20,7 @@ sys.path.insert(0, str(TOP))
 from importers import debian
 from importers.document import Refused
 
-MOST_NAMED = 20
+MOST_NAMED = 60
 PLAN, DOUBLES, CONFLICT = "a plan", "a plan with doubles", "refused, since packages conflict"
 
 
