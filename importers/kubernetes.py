@@ -109,7 +109,7 @@ def comment(needs, given):
 def notes_on(needs):
     missing = list(needs.missing())
     for key, port in missing[:MOST_NAMED]:
-        hint = "no definition of it is here" if port.startswith("kind/") else "which nothing here gives"
+        hint = "which no definition here brings" if port.startswith("kind/") else "which nothing here gives"
         yield f"{key} needs {port}, {hint}: there will be no plan, unless it is given"
     if len(missing) > MOST_NAMED:
         yield f"and {len(missing) - MOST_NAMED} more needs that nothing here gives"

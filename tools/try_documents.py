@@ -32,7 +32,7 @@ STATUS = re.compile(r"# status (\d+)$")
 NEEDS = (
     (re.compile(r"^rt "), lambda: False),
     (re.compile(r"^(PYTHONPATH=\.\. )?python3 -m importers debian "), lambda: bool(shutil.which("apt-cache")) and bool(run_out("apt-cache", "dumpavail"))),
-    (re.compile(r"^(PYTHONPATH=\.\. )?python3 -m importers compose .*\.ya?ml"), lambda: importlib.util.find_spec("yaml") is not None),
+    (re.compile(r"^(PYTHONPATH=\.\. )?python3 -m importers (compose|kubernetes) .*\.ya?ml"), lambda: importlib.util.find_spec("yaml") is not None),
     (re.compile(r"^(PYTHONPATH=\.\. )?python3 -m importers systemd "), lambda: pathlib.Path("/lib/systemd/system").is_dir()),
 )
 # A command that a page shows without trying it.

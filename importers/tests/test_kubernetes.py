@@ -174,7 +174,7 @@ class CustomTest(unittest.TestCase):
 
     def test_no_definition(self):
         found, notes = imported(manifest("Thing", "t", "own.io/v1"))
-        reason = "Thing/n/t needs kind/Thing.own.io, no definition of it is here: there will be no plan, unless it is given"
+        reason = "Thing/n/t needs kind/Thing.own.io, which no definition here brings: there will be no plan, unless it is given"
         self.assertEqual(notes, [reason])
         _, notes = imported(manifest("Thing", "t", "own.io/v1"), given=["kind/Thing.own.io"])
         self.assertEqual(notes, [])
