@@ -1,7 +1,7 @@
 #!/usr/bin/env python3
 """Carries out plans with the real dpkg, and compares universes with apt:
 
-    python3 importers/try_dpkg.py [--metis PROGRAM] [--orders N] [--installed] [--apt] [--draw N] [PACKAGE ..]
+    python3 importers/try_dpkg.py [--metis PROGRAM] [--orders N] [--installed] [--recommends] [--apt] [--draw N] PACKAGE ..
 
 For each package of this machine's index a universe is made, the program (the script `metis` of this repository, if none
 is named) plans for it, and dpkg does what the plan says, in the printed order and in N random ones (1) that keep its
@@ -14,8 +14,8 @@ no dependence of the root that is not met. dpkg and apt have to be there, and th
 What a move is: a package outside cycles is unpacked and configured; of one in a cycle, its files are unpacked by one
 move, and its set-up is the other; dpkg is handed the set-ups of a cycle together, at the last of them.
 
-With --apt the packages of each universe, upgrades included, are also compared with those that `apt-get -s install
---no-install-recommends` would install where the same stands. With --draw N packages are drawn besides: those N of the
+With --recommends what is recommended is installed, too. With --apt the packages of each universe, upgrades included, are
+also compared with those that `apt-get -s install` would install where the same stands, with or without recommendations. With --draw N packages are drawn besides: those N of the
 index that could be installed or upgraded whose names have the smallest sha256. The last lines count how many plans were
 carried out, and how many sets are the same. The status is 0 if all plans that were made were carried out and left no
 dependence unmet, whatever apt does.
@@ -173,17 +173,17 @@ def plan_of(metis, document, name):
     return found
 
 
-def try_package(metis, name, orders, choices, packages):
+def try_package(name, arguments, choices, packages):
     """A line on how dpkg took the plans for a package, and whether it was well; None where no document was made."""
     try:
-        document, _ = debian.universe(choices, debian.Request([name]))
+        document, _ = debian.universe(choices, debian.Request([name], with_recommends=arguments.recommends))
     except Refused as refused:
         return f"{name}: no document: {refused}", None
-    order = InstallOrder(Installation(choices, [name]))
+    order = InstallOrder(Installation(choices, [name], arguments.recommends))
     try:
-        plan = plan_of(metis, document, name)
+        plan = plan_of(arguments.metis, document, name)
         calls = [carry_out(plan.actions, order, packages)]
-        for seed in range(orders):
+        for seed in range(arguments.orders):
             calls.append(carry_out(texts.random_order(plan, random.Random(seed)), order, packages))
     except (Failed, texts.NoText) as fault:
         return f"{name}: {fault}", False
@@ -206,9 +206,9 @@ def status_line(fields):
     return f"Status: {fields.get('Status', 'install ok installed')}\n{essential}"
 
 
-def apt_set(name, status):
+def apt_set(name, status, with_recommends):
     """The packages that apt would install, upgrade or remove; None where it would not install this one."""
-    done = apt_of(status, "-s", "install", "--no-install-recommends", name)
+    done = apt_of(status, "-s", "install", f"--{'' if with_recommends else 'no-'}install-recommends", name)
     if done.returncode:
         return None
     removed = {f"{each} removed" for each in words_behind("Remv", done.stdout)}
@@ -223,12 +223,12 @@ def some(names):
     return named(sorted(names))
 
 
-def compare(name, choices, status):
+def compare(name, choices, status, with_recommends):
     """A line on what is installed or upgraded here and by apt, and whether both are the same."""
-    installation = Installation(choices, [name])
+    installation = Installation(choices, [name], with_recommends)
     ours = set(installation.chosen)
     faults = [*debian.faults(installation), *(f"nothing provides {each}" for each in installation.missing)]
-    theirs = apt_set(name, status)
+    theirs = apt_set(name, status, with_recommends)
     if theirs is None or faults:
         here, there = faults[0] if faults else "possible", "not possible" if theirs is None else "possible"
         removed = some(each for each in theirs or () if each.endswith(" removed"))
@@ -254,6 +254,7 @@ def parser_of_words():
     parser.add_argument("--draw", type=int, default=0, metavar="N")
     parser.add_argument("--apt", action="store_true")
     parser.add_argument("--installed", action="store_true")
+    parser.add_argument("--recommends", action="store_true")
     return parser
 
 
@@ -273,12 +274,12 @@ def main():
             status = pathlib.Path(folder) / "status"
             status.write_text(status_of(choices.given))
         for name in names:
-            line, is_good = try_package(arguments.metis, name, arguments.orders, choices, packages)
+            line, is_good = try_package(name, arguments, choices, packages)
             print(line, flush=True)
             done += is_good is True
             refused += is_good is None
             if arguments.apt and not choices.stands(name):
-                line, is_same = compare(name, choices, status)
+                line, is_same = compare(name, choices, status, arguments.recommends)
                 print(f"  {line}", flush=True)
                 same += is_same
     print(f"{done} of {len(names)} carried out and whole, {refused} refused")
