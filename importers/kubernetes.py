@@ -2,7 +2,8 @@
 
 from importers.document import ComponentType, Names, Refused, State, document, one_each, two_states
 from importers.kubernetes_input import is_true, read_manifests
-from importers.kubernetes_needs import APPLIED, Needs, last_state
+from importers.kubernetes_kinds import APPLIED, last_state
+from importers.kubernetes_needs import Needs
 from importers.kubernetes_phases import Steps
 
 WHOLE = "manifests"
@@ -124,9 +125,15 @@ def notes_on(needs):
 
 
 def add_arguments(parser):
-    parser.add_argument("files", metavar="FILE", nargs="*", default=["-"], help="manifests; standard input if none is named")
-    parser.add_argument("--namespace", default="default", metavar="NAME", help="where objects lie that name no namespace")
-    parser.add_argument("--wait", action="store_true", help="as Helm's: hooks behind an installation run when all of it is ready")
+    parser.add_argument(
+        "files", metavar="FILE", nargs="*", default=["-"], help="manifests; standard input if none is named"
+    )
+    parser.add_argument(
+        "--namespace", default="default", metavar="NAME", help="where objects lie that name no namespace"
+    )
+    parser.add_argument(
+        "--wait", action="store_true", help="as Helm's: hooks behind an installation run when all of it is ready"
+    )
     parser.add_argument(
         "--given",
         action="append",

@@ -158,12 +158,16 @@ def parts_of(told, path, default, scopes):
         raise Refused(f"{path}: {kind} without an apiVersion: {version}")
     metadata = mapping(told, "metadata", f"{path}: {kind}")
     told["metadata"] = metadata
-    name = text_at(metadata, "name", f"{path}: {kind}") or text_at(metadata, "generateName", f"{path}: {kind}").rstrip("-.")
+    name = text_at(metadata, "name", f"{path}: {kind}") or text_at(metadata, "generateName", f"{path}: {kind}").rstrip(
+        "-."
+    )
     if not NAME.fullmatch(name):
         raise Refused(f"{path}: {kind} without a name that is one: {name}")
     namespace = text_at(metadata, "namespace", f"{path}: {kind}/{name}")
     if namespace and not NAME.fullmatch(namespace):
         raise Refused(f"{path}: {kind}/{name} in no namespace that is one: {namespace}")
     own = group["group"] or ""
-    lies_in_one = scopes.get((own, kind), kind not in WITHOUT_NAMESPACE and not (own not in BUILT_IN_GROUPS and kind.startswith("Cluster")))
+    lies_in_one = scopes.get(
+        (own, kind), kind not in WITHOUT_NAMESPACE and not (own not in BUILT_IN_GROUPS and kind.startswith("Cluster"))
+    )
     return own, kind, (namespace or default) if lies_in_one else "", name

@@ -4,42 +4,14 @@ import collections
 import functools
 
 from importers.document import Refused
-from importers.kubernetes_input import listed_texts, mappings_in, text_at, texts_of
+from importers.kubernetes_input import mappings_in, text_at, texts_of
+from importers.kubernetes_kinds import ENDPOINTS, kind_port, last_state, made_secret, pod_labels
 from importers.kubernetes_pods import references, template_of, waits
 from importers.kubernetes_webhooks import CONFIGURATIONS, NAME_OF_NAMESPACE, POD, conversions_of, plural_of, webhooks_of
 from importers.reading import mapping, mapping_at
 
-LONG_RUNNING = ("Deployment", "StatefulSet", "DaemonSet", "ReplicaSet", "ReplicationController", "Pod")
-# The last milestone of what is more than there: what it is called, beside the state in which it is only applied.
-ENDPOINTS, APPLIED = "@endpoints", "@applied"
 MOST_WEBHOOKS = 300
-# Kinds whose controllers make a secret, and where its name stands; else it has that of the object.
-SECRETS_OF = {
-    ("cert-manager.io", "Certificate"): "spec.secretName",
-    ("external-secrets.io", "ExternalSecret"): "spec.target.name",
-    ("bitnami.com", "SealedSecret"): "spec.template.metadata.name",
-    ("secrets.hashicorp.com", "VaultStaticSecret"): "spec.destination.name",
-    ("secrets.hashicorp.com", "VaultDynamicSecret"): "spec.destination.name",
-}
 BINDINGS = ("RoleBinding", "ClusterRoleBinding")
-
-
-def kind_port(kind, group):
-    """The port of a kind that a definition brings."""
-    return f"kind/{kind}.{group}"
-
-
-def last_state(manifest):
-    """The state in which an object is well, behind that in which it is applied; None where that is one."""
-    if manifest.is_custom:
-        return None
-    if manifest.kind == "CustomResourceDefinition":
-        return "established"
-    if manifest.kind == "APIService":
-        return "available"
-    if manifest.kind == "Job" or (manifest.kind == "Pod" and text_at(manifest.spec, "restartPolicy", manifest.key) in ("Never", "OnFailure")):
-        return "complete"
-    return "ready" if manifest.kind in LONG_RUNNING else None
 
 
 class Needs:
@@ -105,7 +77,9 @@ class Needs:
         if manifest.kind == "APIService":
             service = mapping(manifest.spec, "service", manifest.key)
             if service:
-                yield from self.endpoints(text_at(service, "namespace", manifest.key), text_at(service, "name", manifest.key))
+                yield from self.endpoints(
+                    text_at(service, "namespace", manifest.key), text_at(service, "name", manifest.key)
+                )
         elif template_of(manifest) is not None and manifest.kind != "CronJob":
             if manifest.spec.get("replicas") != 0:
                 yield from self.of_pods(manifest)
@@ -133,14 +107,18 @@ class Needs:
         account = text_at(mapping(template_of(manifest), "spec", manifest.key), "serviceAccountName", manifest.key)
         yield from self.soft(manifest, *self.bindings_of((manifest.namespace, account or "default")))
         if manifest.kind == "StatefulSet":
-            yield from self.soft(manifest, f"Service/{manifest.namespace}/{text_at(manifest.spec, 'serviceName', manifest.key)}")
+            yield from self.soft(
+                manifest, f"Service/{manifest.namespace}/{text_at(manifest.spec, 'serviceName', manifest.key)}"
+            )
 
     def lacks(self, key, entry):
         """Whether an object is here, has entries, and not this one."""
         manifest = self.by_key.get(key)
         if manifest is None:
             return False
-        entries = [name for table in ("data", "stringData", "binaryData") for name in mapping(manifest.told, table, key)]
+        entries = [
+            name for table in ("data", "stringData", "binaryData") for name in mapping(manifest.told, table, key)
+        ]
         return bool(entries) and entry not in entries
 
     @functools.cached_property
@@ -281,17 +259,3 @@ class Needs:
             return True
         needed = (port for needs in (self.applying, self.running) for ports in needs.values() for port in ports)
         return any(name in (port, port.partition("@")[0]) for port in needed)
-
-
-def made_secret(manifest):
-    """The secret that the controller of a well-known kind makes of an object."""
-    path = SECRETS_OF.get((manifest.group, manifest.kind))
-    if path is not None:
-        owner, _, key = path.rpartition(".")
-        name = text_at(mapping_at(manifest.told, owner, manifest.key), key, manifest.key) or manifest.name
-        yield f"Secret/{manifest.namespace}/{name}"
-
-
-def pod_labels(manifest):
-    template = template_of(manifest)
-    return {} if template is None else texts_of(mapping_at(template, "metadata.labels", manifest.key), manifest.key)

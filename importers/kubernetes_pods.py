@@ -35,7 +35,9 @@ KINDS_OF_WORDS = {
 }
 # How a command is cut into words, and what stands before and behind the host in one.
 BETWEEN_WORDS = re.compile(r"[\s\"'`;|&()<>,]+")
-HOST = re.compile(r"(?:(?P<scheme>[a-z][a-z0-9+.-]*)://)?(?:[^@/]*@)?(?P<host>[a-z0-9](?:[a-z0-9.-]*[a-z0-9])?)(?P<rest>[:/.$].*)?")
+HOST = re.compile(
+    r"(?:(?P<scheme>[a-z][a-z0-9+.-]*)://)?(?:[^@/]*@)?(?P<host>[a-z0-9](?:[a-z0-9.-]*[a-z0-9])?)(?P<rest>[:/.$].*)?"
+)
 SETTING = re.compile(r"(?P<name>[A-Za-z_-][A-Za-z0-9_.-]*)=(?P<value>.*)")
 OF_HOSTS = re.compile(r"host|addr|url|uri|server|endpoint|service|broker|target|peer|dsn", re.IGNORECASE)
 # Options behind which no host stands.

@@ -167,7 +167,9 @@ def try_project(metis, path, arguments):
         down = texts.read(printed(metis, "rollout", universe, plan))
     faults = check(up, services, arguments.orders, True) + check(down, services, arguments.orders, False)
     lines = [f"{path}: {count} times {fault}" for fault, count in faults.items()]
-    counts = f"{len(up.actions)} actions up, {len(down.actions) - len(up.actions)} down; {arguments.orders + 1} orders each"
+    counts = (
+        f"{len(up.actions)} actions up, {len(down.actions) - len(up.actions)} down; {arguments.orders + 1} orders each"
+    )
     return [*lines, f"{path}: {counts}, {sum(faults.values())} faults"], not faults
 
 

@@ -1,12 +1,12 @@
 #!/usr/bin/env python3
 """Carries out plans with the real dpkg, and compares universes with apt:
 
-    python3 importers/try_dpkg.py [--metis PROGRAM] [--orders N] [--installed] [--recommends] [--apt] [--draw N] PACKAGE ..
+    python3 importers/try_dpkg.py [--metis PROGRAM] [--orders N] [--installed | --status FILE] [--recommends] [--apt] [--draw N] PACKAGE ..
 
 For each package of this machine's index a universe is made, the program (the script `metis` of this repository, if none
 is named) plans for it, and dpkg does what the plan says, in the printed order and in N random ones (1) that keep its
 waits. It does so in a root of its own, a temporary folder, in which the base system stands as installed, or with
---installed all that stands on this machine, and with empty packages that have the real control fields: so dpkg looks at
+--installed all that stands on this machine, or on one whose file `status` is named, and with empty packages that have the real control fields: so dpkg looks at
 each Depends, Pre-Depends, Conflicts and Breaks with its version as it would for the real ones. In the end every package
 that dpkg knows has to be installed, those of the universe in the versions of the index, and `apt-get check` has to find
 no dependence of the root that is not met. dpkg and apt have to be there, and the rights of root, since dpkg asks for them.
@@ -253,14 +253,15 @@ def parser_of_words():
     parser.add_argument("--orders", type=int, default=1, metavar="N")
     parser.add_argument("--draw", type=int, default=0, metavar="N")
     parser.add_argument("--apt", action="store_true")
-    parser.add_argument("--installed", action="store_true")
+    parser.add_argument("--installed", dest="status", action="store_const", const=str(STATUS))
+    parser.add_argument("--status", metavar="FILE")
     parser.add_argument("--recommends", action="store_true")
     return parser
 
 
 def main():
     arguments = parser_of_words().parse_args()
-    choices = debian.choices_of(status_path=STATUS if arguments.installed else None)
+    choices = debian.choices_of(status_path=arguments.status)
     names = [*arguments.packages, *drawn(choices, arguments.draw)]
     unknown = [name for name in names if name not in choices.index.packages]
     if unknown or not names:
@@ -269,8 +270,8 @@ def main():
     done, refused, same = 0, 0, 0
     with tempfile.TemporaryDirectory() as folder:
         packages = Packages(pathlib.Path(folder), choices.index)
-        status = STATUS
-        if not arguments.installed:
+        status = arguments.status
+        if status is None:
             status = pathlib.Path(folder) / "status"
             status.write_text(status_of(choices.given))
         for name in names:

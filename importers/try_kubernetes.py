@@ -32,7 +32,11 @@ LAST = ("there", "ready", "complete", "established", "available")
 def name_of(told):
     inside = told["metadata"].get("namespace")
     alone = told["kind"].startswith("Cluster") or told["kind"] in (
-        "Namespace", "CustomResourceDefinition", "ValidatingWebhookConfiguration", "MutatingWebhookConfiguration", "APIService"
+        "Namespace",
+        "CustomResourceDefinition",
+        "ValidatingWebhookConfiguration",
+        "MutatingWebhookConfiguration",
+        "APIService",
     )
     return "/".join([told["kind"], *([] if alone else [inside or "default"]), told["metadata"]["name"]])
 
@@ -51,7 +55,10 @@ def named_in(pod):
     text = yaml.safe_dump(pod["spec"])
     for kind, pattern in (
         ("Secret", r"secretKeyRef:\n\s+key: \S+\n\s+name: (\S+)|secretRef:\n\s+name: (\S+)|secretName: (\S+)"),
-        ("ConfigMap", r"configMapRef:\n\s+name: (\S+)|configMap:\n(?:\s+items:\n(?:\s+- .*\n(?:\s+path: .*\n)?)+)?\s+name: (\S+)"),
+        (
+            "ConfigMap",
+            r"configMapRef:\n\s+name: (\S+)|configMap:\n(?:\s+items:\n(?:\s+- .*\n(?:\s+path: .*\n)?)+)?\s+name: (\S+)",
+        ),
         ("PersistentVolumeClaim", r"claimName: (\S+)"),
         ("ServiceAccount", r"serviceAccountName: (\S+)"),
     ):
@@ -68,7 +75,9 @@ def rank(told, has_waves):
     if not hook:
         return 1, 0, ""
     phase = 0 if "pre-install" in hook else 2 if "post-install" in hook else None
-    return None if phase is None else (phase, int(annotation(told, "helm.sh/hook-weight") or 0), told["metadata"]["name"])
+    return (
+        None if phase is None else (phase, int(annotation(told, "helm.sh/hook-weight") or 0), told["metadata"]["name"])
+    )
 
 
 class Cluster:
@@ -122,7 +131,10 @@ class Cluster:
             self.fault(f"{name} before {inside}")
         group = told["apiVersion"].partition("/")[0]
         for definition, each in self.told.items():
-            if each["kind"] == "CustomResourceDefinition" and (each["spec"]["group"], each["spec"]["names"]["kind"]) == (group, told["kind"]):
+            if each["kind"] == "CustomResourceDefinition" and (
+                each["spec"]["group"],
+                each["spec"]["names"]["kind"],
+            ) == (group, told["kind"]):
                 if not self.is_well(definition):
                     self.fault(f"{name} before {definition}")
         self.ask_webhooks(name, told, group if "/" in told["apiVersion"] else "", told["kind"].lower())
@@ -134,7 +146,11 @@ class Cluster:
                 rules = [rule for rule in each["rules"] if group in rule["apiGroups"] or "*" in rule["apiGroups"]]
                 is_asked = any(word.startswith(("*", kind)) for rule in rules for word in rule["resources"])
                 skips = each.get("namespaceSelector", {}).get("matchExpressions", [])
-                labels = self.told.get(f"Namespace/{told['metadata'].get('namespace')}", {}).get("metadata", {}).get("labels", {})
+                labels = (
+                    self.told.get(f"Namespace/{told['metadata'].get('namespace')}", {})
+                    .get("metadata", {})
+                    .get("labels", {})
+                )
                 if is_asked and not any(skip["key"] in labels for skip in skips):
                     service = each["clientConfig"]["service"]
                     if not self.answers(service["namespace"], service["name"]):
@@ -144,7 +160,10 @@ class Cluster:
         """Whether a pod is ready behind a service."""
         selector = self.told[f"Service/{inside}/{service}"]["spec"]["selector"].items()
         return any(
-            pod_of(told) and told["kind"] != "Job" and selector <= pod_of(told)["metadata"].get("labels", {}).items() and self.is_well(name)
+            pod_of(told)
+            and told["kind"] != "Job"
+            and selector <= pod_of(told)["metadata"].get("labels", {}).items()
+            and self.is_well(name)
             for name, told in self.told.items()
         )
 
@@ -195,7 +214,9 @@ def run_orders(plan, cluster, orders):
 
 def try_file(path, arguments):
     """Lines on one file, and whether all was as a cluster would have it."""
-    document, _ = kubernetes.universe(kubernetes_input.read_manifests([path], "default"), arguments.given, arguments.wait)
+    document, _ = kubernetes.universe(
+        kubernetes_input.read_manifests([path], "default"), arguments.given, arguments.wait
+    )
     told = [each for each in yaml.safe_load_all(pathlib.Path(path).read_text()) if each]
     manifests = {name_of(each): each for each in told if name_of(each) not in arguments.given}
     with tempfile.TemporaryDirectory() as folder:

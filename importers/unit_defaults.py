@@ -4,7 +4,7 @@ import collections
 
 from importers import unit_names
 from importers.units import OF_PATHS, OF_SOCKETS, Unit, is_true
-from importers.unit_names import kind_of, parts_of
+from importers.unit_names import parts_of
 
 RUN_PROGRAMS = ("service", "mount", "swap")
 IN_SLICES = (*RUN_PROGRAMS, "socket")

@@ -54,7 +54,12 @@ def definition(kind="Thing", group="own.io", plural="things", annotations=None, 
 
 def webhook(service="s", resources=("things",), groups=("own.io",), annotations=None, **more):
     rule = {"apiGroups": list(groups), "apiVersions": ["*"], "operations": ["CREATE"], "resources": list(resources)}
-    told = {"name": "w.own.io", "rules": [rule], "clientConfig": {"service": {"name": service, "namespace": "n"}}, **more}
+    told = {
+        "name": "w.own.io",
+        "rules": [rule],
+        "clientConfig": {"service": {"name": service, "namespace": "n"}},
+        **more,
+    }
     version = "admissionregistration.k8s.io/v1"
     return manifest("ValidatingWebhookConfiguration", "w", version, None, annotations, webhooks=[told])
 
@@ -96,7 +101,10 @@ class ObjectsTest(unittest.TestCase):
                 {"name": "1", "secret": {"secretName": "s1"}},
                 {"name": "2", "configMap": {"name": "c1", "items": [{"key": "k"}]}},
                 {"name": "3", "persistentVolumeClaim": {"claimName": "p1"}},
-                {"name": "4", "projected": {"sources": [{"secret": {"name": "s2"}}, {"configMap": {"name": "kube-root-ca.crt"}}]}},
+                {
+                    "name": "4",
+                    "projected": {"sources": [{"secret": {"name": "s2"}}, {"configMap": {"name": "kube-root-ca.crt"}}]},
+                },
                 {"name": "5", "secret": {"secretName": "s3", "optional": True}},
                 {"name": "6", "emptyDir": {}},
             ],
@@ -139,7 +147,10 @@ class ObjectsTest(unittest.TestCase):
 
     def test_what_is_better_there_first_is_never_missing(self):
         binding = manifest(
-            "RoleBinding", "b", "rbac.authorization.k8s.io/v1", roleRef={"kind": "Role", "name": "r"},
+            "RoleBinding",
+            "b",
+            "rbac.authorization.k8s.io/v1",
+            roleRef={"kind": "Role", "name": "r"},
             subjects=[{"kind": "ServiceAccount", "name": "a"}],
         )
         role = manifest("Role", "r", "rbac.authorization.k8s.io/v1")
@@ -152,7 +163,11 @@ class ObjectsTest(unittest.TestCase):
 
     def test_a_secret_that_a_controller_makes(self):
         certificate = manifest("Certificate", "c", "cert-manager.io/v1", spec={"secretName": "tls"})
-        found, _ = imported(certificate, workload(volumes=[{"name": "1", "secret": {"secretName": "tls"}}]), given=["kind/Certificate.cert-manager.io"])
+        found, _ = imported(
+            certificate,
+            workload(volumes=[{"name": "1", "secret": {"secretName": "tls"}}]),
+            given=["kind/Certificate.cert-manager.io"],
+        )
         self.assertEqual(found["Certificate/n/c"][1], "there +Certificate/n/c +Secret/n/tls > absent")
 
     def test_a_job_that_is_not_to_run(self):
@@ -168,7 +183,8 @@ class CustomTest(unittest.TestCase):
         found, _ = imported(definition(), manifest("Thing", "t", "own.io/v1"))
         name = "CustomResourceDefinition/things.own.io"
         self.assertEqual(
-            found[name], ["absent > applied", "applied > established > absent", f"established +{name} +kind/Thing.own.io > applied"]
+            found[name],
+            ["absent > applied", "applied > established > absent", f"established +{name} +kind/Thing.own.io > applied"],
         )
         self.assertEqual(found["Thing/n/t"][1], "there +Thing/n/t -kind/Thing.own.io > absent")
 
@@ -181,7 +197,11 @@ class CustomTest(unittest.TestCase):
 
     def test_a_group_that_a_service_brings(self):
         api = manifest(
-            "APIService", "v1.agg.io", "apiregistration.k8s.io/v1", None, spec={"group": "agg.io", "service": {"name": "s", "namespace": "n"}}
+            "APIService",
+            "v1.agg.io",
+            "apiregistration.k8s.io/v1",
+            None,
+            spec={"group": "agg.io", "service": {"name": "s", "namespace": "n"}},
         )
         found, _ = imported(api, service(app="a"), workload(labels={"app": "a"}), manifest("Report", "r", "agg.io/v1"))
         self.assertEqual(needs_of(found, "APIService/v1.agg.io"), ["Service/n/s", "Service/n/s@endpoints"])
@@ -281,13 +301,19 @@ class WebhookTest(unittest.TestCase):
             self.assertEqual(self.needs(hook), [])
 
     def test_the_labels_of_a_namespace(self):
-        hook = webhook(namespaceSelector={"matchExpressions": [{"key": "skip", "operator": "NotIn", "values": ["yes"]}]})
-        self.assertEqual(self.needs(hook, manifest("Namespace", "n", namespace=None, labels={"skip": "yes"})), ["Namespace/n"])
+        hook = webhook(
+            namespaceSelector={"matchExpressions": [{"key": "skip", "operator": "NotIn", "values": ["yes"]}]}
+        )
+        self.assertEqual(
+            self.needs(hook, manifest("Namespace", "n", namespace=None, labels={"skip": "yes"})), ["Namespace/n"]
+        )
         self.assertEqual(self.needs(hook, manifest("Namespace", "n", namespace=None)), ["Namespace/n", *self.ANSWER])
 
     def test_pods(self):
         other = workload(name="other")
-        self.assertEqual(self.needs(webhook(resources=["pods"], groups=[""]), other, key="Deployment/n/other"), self.ANSWER)
+        self.assertEqual(
+            self.needs(webhook(resources=["pods"], groups=[""]), other, key="Deployment/n/other"), self.ANSWER
+        )
 
     def test_what_the_service_stands_on_is_there_before(self):
         hook = webhook(resources=["*"], groups=["*"])
@@ -306,10 +332,21 @@ class WebhookTest(unittest.TestCase):
 
     def test_conditions_are_not_looked_at(self):
         found, notes = imported(*self.BEHIND, webhook(matchConditions=[{"name": "x", "expression": "true"}]))
-        self.assertEqual(notes, ["ValidatingWebhookConfiguration/w: matchConditions are not looked at, so it is taken to be asked about nothing"])
+        self.assertEqual(
+            notes,
+            [
+                "ValidatingWebhookConfiguration/w: matchConditions are not looked at, so it is taken to be asked about nothing"
+            ],
+        )
 
     def test_plurals(self):
-        kinds = {"Pod": "pods", "Ingress": "ingresses", "NetworkPolicy": "networkpolicies", "Gateway": "gateways", "Endpoints": "endpoints"}
+        kinds = {
+            "Pod": "pods",
+            "Ingress": "ingresses",
+            "NetworkPolicy": "networkpolicies",
+            "Gateway": "gateways",
+            "Endpoints": "endpoints",
+        }
         for kind, plural in kinds.items():
             self.assertEqual(kubernetes_webhooks.plural_of(kind), plural)
 
@@ -336,7 +373,8 @@ class StepsTest(unittest.TestCase):
         found, _ = imported(*stanzas)
         self.assertEqual(found["Deployment/n/w"], ["absent > applied", "applied +Deployment/n/w@applied > absent"])
         self.assertEqual(
-            found["Deployment/n/w@ready"], ["awaited > ready", "ready +Deployment/n/w -Deployment/n/w@applied > awaited"]
+            found["Deployment/n/w@ready"],
+            ["awaited > ready", "ready +Deployment/n/w -Deployment/n/w@applied > awaited"],
         )
         self.assertEqual(needs_of(found, "step/1"), ["Deployment/n/w@applied", "Job/n/own@applied"])
         found, _ = imported(*stanzas, waits=True)
@@ -380,7 +418,9 @@ class GivenTest(unittest.TestCase):
             self.assertEqual(needs_of(found, "Deployment/n/w"), [])
 
     def test_a_service_stands_with_what_answers(self):
-        found, notes = imported(definition(), webhook("away"), manifest("Thing", "t", "own.io/v1"), given=["Service/n/away"])
+        found, notes = imported(
+            definition(), webhook("away"), manifest("Thing", "t", "own.io/v1"), given=["Service/n/away"]
+        )
         self.assertEqual((needs_of(found, "Thing/n/t"), notes), (["kind/Thing.own.io"], []))
 
     def test_a_name_that_nothing_has(self):
@@ -412,8 +452,12 @@ class RefusedTest(unittest.TestCase):
 
     def test_values_of_other_forms(self):
         self.assertEqual(self.refused(workload(volumes="x")), "Deployment/n/w: 'volumes' is no list")
-        self.assertEqual(self.refused(workload(volumes=["x"])), "Deployment/n/w: 'volumes' has an entry that is no mapping")
-        self.assertEqual(self.refused(workload(serviceAccountName=["x"])), "Deployment/n/w: 'serviceAccountName' is no text")
+        self.assertEqual(
+            self.refused(workload(volumes=["x"])), "Deployment/n/w: 'volumes' has an entry that is no mapping"
+        )
+        self.assertEqual(
+            self.refused(workload(serviceAccountName=["x"])), "Deployment/n/w: 'serviceAccountName' is no text"
+        )
         told = manifest("ConfigMap", annotations={"argocd.argoproj.io/sync-wave": "first"})
         self.assertEqual(self.refused(told), "ConfigMap/n/x: argocd.argoproj.io/sync-wave is no whole number: first")
 
@@ -435,7 +479,9 @@ class NamesTest(unittest.TestCase):
         self.assertEqual(sorted(found), ["Pod/default/run1", "Pod/default/run2", "manifests"])
 
     def test_where_objects_lie_that_name_no_namespace(self):
-        found, _ = imported(manifest("ConfigMap", namespace=None), manifest("ClusterRole", "r", "rbac.authorization.k8s.io/v1", None))
+        found, _ = imported(
+            manifest("ConfigMap", namespace=None), manifest("ClusterRole", "r", "rbac.authorization.k8s.io/v1", None)
+        )
         self.assertEqual(sorted(found), ["ClusterRole/r", "ConfigMap/default/x", "manifests"])
 
 
