@@ -2,6 +2,7 @@
 
 from importers.document import ComponentType, Names, Refused, State, document, one_each, two_states
 from importers.kubernetes_input import is_true, read_manifests
+from importers.kubernetes_given import given_names
 from importers.kubernetes_kinds import APPLIED, last_state
 from importers.kubernetes_needs import Needs
 from importers.kubernetes_phases import Steps
@@ -82,13 +83,12 @@ def is_suspended(manifest):
 
 
 def needs_of(manifests, given, waits):
-    """The needs of manifests in their steps, where each name that is given is one of theirs."""
+    """The needs of manifests in their steps, without what is given."""
     steps = Steps(manifests, waits)
     everything = Needs(manifests, steps, frozenset())
-    for name in given:
-        if not everything.mentions(name):
-            raise Refused(f"--given {name}: no object here has this name or needs it")
-    return Needs(manifests, steps, frozenset(given)) if given else everything
+    if not given:
+        return everything
+    return Needs(manifests, steps, frozenset(given_names(given, everything.mentioned_names())))
 
 
 def universe(manifests, given=(), waits=False):
@@ -139,7 +139,7 @@ def add_arguments(parser):
         action="append",
         default=[],
         metavar="NAME",
-        help="what the cluster has: KIND/NAMESPACE/NAME, KIND/NAME, or kind/KIND.GROUP for a definition",
+        help="what the cluster has: KIND/NAMESPACE/NAME, KIND/NAME, or kind/KIND.GROUP for a definition of custom resources",
     )
 
 

@@ -253,9 +253,7 @@ class Needs:
                 if port not in self.given_by:
                     yield manifest.key, port
 
-    def mentions(self, name):
-        """Whether a name is that of an object here, or of something that one needs."""
-        if name in self.known:
-            return True
+    def mentioned_names(self):
+        """The names of all objects here, and of all that one needs."""
         needed = (port for needs in (self.applying, self.running) for ports in needs.values() for port in ports)
-        return any(name in (port, port.partition("@")[0]) for port in needed)
+        return dict.fromkeys((*sorted(self.known), *(port.partition("@")[0] for port in needed)))

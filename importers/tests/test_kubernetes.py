@@ -417,6 +417,16 @@ class GivenTest(unittest.TestCase):
             self.assertEqual((sorted(found), notes), (["Deployment/n/w", "manifests"], []))
             self.assertEqual(needs_of(found, "Deployment/n/w"), [])
 
+    def test_names_as_kubectl_takes_them(self):
+        stanzas = workload(**self.POD), manifest("Thing", "t", "own.io/v1")
+        for names in (
+            ["secret/s", "crd/things.own.io"],
+            ["secrets/n/s", "customresourcedefinitions/things.own.io"],
+            ["Secret/s", "kind/Thing.own.io"],
+        ):
+            found, notes = imported(*stanzas, given=names)
+            self.assertEqual((needs_of(found, "Deployment/n/w"), needs_of(found, "Thing/n/t"), notes), ([], [], []))
+
     def test_a_service_stands_with_what_answers(self):
         found, notes = imported(
             definition(), webhook("away"), manifest("Thing", "t", "own.io/v1"), given=["Service/n/away"]
