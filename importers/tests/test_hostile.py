@@ -252,7 +252,7 @@ class SystemdTest(HostileCase):
             )
 
     def test_many_names(self):
-        names = " ".join(f"u{number}.service" for number in range(100_000))
+        names = " ".join(f"u{number}.service" for number in range(30_000))
         self.unit("t.target", f"[Unit]\nDefaultDependencies=no\nWants={names}\n")
         self.assertEqual(self.ended("t.target")[0], 0)
         for number in range(2_100):
@@ -262,7 +262,7 @@ class SystemdTest(HostileCase):
         )
 
     def test_a_long_line(self):
-        self.unit("t.target", "[Unit]\n" + "Wants=\\\n" * 100_000 + "a.service")
+        self.unit("t.target", "[Unit]\n" + "Wants=\\\n" * 400_000 + "a.service")
         self.assertEqual(self.ended("t.target")[0], 0)
 
 
@@ -349,7 +349,7 @@ class KubernetesTest(HostileCase):
         """In the place of each value in turn stands one of another form."""
         for at, whole in enumerate(self.objects()):
             for path in paths_in(whole):
-                for odd in (None, 1, "x", [], {}, [[]], [{}], ["x"], {"a": []}):
+                for odd in (None, 1, "x", [], {}, [[]], {"a": []}):
                     objects = self.objects()
                     put_at(objects[at], path, odd)
                     file = self.file(json.dumps({"kind": "List", "items": objects}))
