@@ -5,8 +5,8 @@ import functools
 
 from importers.document import Refused
 from importers.kubernetes_input import mappings_in, text_at, texts_of
-from importers.kubernetes_kinds import ENDPOINTS, kind_port, last_state, made_secret, pod_labels
-from importers.kubernetes_pods import references, template_of, waits
+from importers.kubernetes_kinds import ENDPOINTS, LONG_RUNNING, kind_port, last_state, made_secret, pod_labels
+from importers.kubernetes_pods import awaited_labels, references, template_of, waits
 from importers.kubernetes_webhooks import CONFIGURATIONS, NAME_OF_NAMESPACE, POD, conversions_of, plural_of, webhooks_of
 from importers.reading import mapping, mapping_at
 
@@ -104,12 +104,20 @@ class Needs:
                     yield from self.endpoints(each.namespace, each.name)
             elif key in self.by_key:
                 yield from self.hard(key)
+        for pair in awaited_labels(manifest):
+            yield from self.hard(*self.labelled(pair, manifest))
         account = text_at(mapping(template_of(manifest), "spec", manifest.key), "serviceAccountName", manifest.key)
         yield from self.soft(manifest, *self.bindings_of((manifest.namespace, account or "default")))
         if manifest.kind == "StatefulSet":
             yield from self.soft(
                 manifest, f"Service/{manifest.namespace}/{text_at(manifest.spec, 'serviceName', manifest.key)}"
             )
+
+    def labelled(self, pair, manifest):
+        """The other workloads of a namespace whose pods have a label."""
+        for each in self.of_kind(*LONG_RUNNING):
+            if each.namespace == manifest.namespace and each is not manifest and pair in pod_labels(each).items():
+                yield each.key
 
     def lacks(self, key, entry):
         """Whether an object is here, has entries, and not this one."""

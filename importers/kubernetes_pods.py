@@ -22,6 +22,8 @@ NAMED_OBJECT = re.compile(
     r"(?<![\w.-])(jobs?|deployments?|deploy|statefulsets?|sts|daemonsets?|ds|pods?|po)(?:-wr|-we|\.[a-z0-9.]+)?[/ ]+"
     r"([a-z0-9][a-z0-9.-]*)"
 )
+# Pods that are waited for by a label.
+LABELLED_PODS = re.compile(r"(?<![\w.-])(?:pods?|po)\b[^;|&]{0,200}?\s(?:-l|--selector)[ =]?([A-Za-z0-9./_-]+)=([A-Za-z0-9._-]+)")
 KINDS_OF_WORDS = {
     "job": "Job",
     "deployment": "Deployment",
@@ -124,16 +126,26 @@ def of_container(container, inside, where):
         yield from needed("ConfigMap", mapping(source, "configMapKeyRef", where), "name", inside, where)
 
 
+def init_containers(manifest):
+    """The containers that end before the others begin."""
+    spec = mapping(template_of(manifest), "spec", manifest.key)
+    return [each for each in mappings_in(spec, "initContainers", manifest.key) if each.get("restartPolicy") != "Always"]
+
+
+def awaited_labels(manifest):
+    """The labels, as pairs, by which init containers wait for pods."""
+    for container in init_containers(manifest):
+        text = " ".join(text for key in ("command", "args") for text in listed_texts(container, key, manifest.key))
+        yield from LABELLED_PODS.findall(text)
+
+
 def waits(manifest, services):
     """What the init containers of a workload wait for: services by their names, and objects by kind and name.
 
     `services` has the manifest of each service, by namespace and name. What they wait for is read off their commands,
     arguments and environment.
     """
-    spec = mapping(template_of(manifest), "spec", manifest.key)
-    for container in mappings_in(spec, "initContainers", manifest.key):
-        if container.get("restartPolicy") == "Always":
-            continue
+    for container in init_containers(manifest):
         text = " ".join(text for key in ("command", "args") for text in listed_texts(container, key, manifest.key))
         for kind, name in NAMED_OBJECT.findall(text):
             kind = KINDS_OF_WORDS.get(kind) or KINDS_OF_WORDS[kind.rstrip("s")]

@@ -386,7 +386,7 @@ class KubernetesTest(HostileCase):
         self.assertEqual(
             self.refused("kubernetes", self.file(json.dumps(told))), "50000 webhooks, and at most 300 are asked"
         )
-        command = ["x " * 1_000_000 + "a-" * 100_000 + "jobs " * 100_000]
+        command = ["x " * 1_000_000 + "a-" * 100_000 + "jobs pods " * 100_000]
         pod = {
             "kind": "Pod",
             "apiVersion": "v1",

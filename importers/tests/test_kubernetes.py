@@ -262,6 +262,8 @@ class WaitsTest(unittest.TestCase):
         ):
             self.assertEqual(self.waited(*words), ["Job/n/migrate"], words)
         self.assertEqual(self.waited("kubectl", "wait", "job/other"), [])
+        for words in (("kubectl", "wait", "pod", "-l", "app=db"), ("k8s-wait-for", "pod", "-lapp=db")):
+            self.assertEqual(self.waited(*words), ["StatefulSet/n/db"], words)
 
     def test_a_container_that_goes_on_beside_the_others_waits_for_nobody(self):
         container = {"name": "s", "restartPolicy": "Always", "args": ["db:5432"]}
