@@ -14,7 +14,6 @@ import collections
 import pathlib
 import random
 import re
-import subprocess
 import sys
 import tempfile
 
@@ -24,7 +23,7 @@ TOP = pathlib.Path(__file__).resolve().parent.parent
 sys.path.insert(0, str(TOP))
 
 from importers import kubernetes, kubernetes_input, texts
-from importers.document import Refused
+from importers.trying import printed, try_files
 
 LAST = ("there", "ready", "complete", "established", "available")
 
@@ -240,10 +239,6 @@ def try_file(path, arguments):
     return [*lines, f"{path}: {counts}; {arguments.orders + 1} orders each, {sum(faults.values())} faults"], not faults
 
 
-def printed(metis, *words):
-    return subprocess.run([metis, *words], stdout=subprocess.PIPE, text=True, check=False).stdout
-
-
 def main():
     parser = argparse.ArgumentParser(description=__doc__, formatter_class=argparse.RawDescriptionHelpFormatter)
     parser.add_argument("files", metavar="FILE", nargs="+")
@@ -252,15 +247,7 @@ def main():
     parser.add_argument("--wait", action="store_true")
     parser.add_argument("--given", action="append", default=[], metavar="NAME")
     arguments = parser.parse_args()
-    is_good = True
-    for path in arguments.files:
-        try:
-            lines, is_right = try_file(path, arguments)
-        except (Refused, texts.NoText) as fault:
-            lines, is_right = [f"{path}: {fault}"], False
-        print("\n".join(lines), flush=True)
-        is_good = is_good and is_right
-    return 0 if is_good else 1
+    return try_files(arguments.files, lambda path: try_file(path, arguments))
 
 
 if __name__ == "__main__":
