@@ -1,8 +1,8 @@
 """Manifests of Kubernetes: the objects of a stream, and what each needs before the cluster takes it and it is well."""
 
 from importers.document import ComponentType, Names, Refused, State, document, one_each, two_states
-from importers.kubernetes_input import is_true, read_manifests
 from importers.kubernetes_given import given_names
+from importers.kubernetes_input import is_true, read_manifests
 from importers.kubernetes_kinds import APPLIED, last_state
 from importers.kubernetes_needs import Needs
 from importers.kubernetes_phases import Steps

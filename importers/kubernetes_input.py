@@ -103,6 +103,8 @@ def is_true(owner, key):
 
 def read_manifests(paths, namespace):
     """The objects of all files, in their order; those that name no namespace lie in the one that is named here."""
+    if not NAME.fullmatch(namespace):
+        raise Refused(f"--namespace {namespace}: no name of a namespace")
     told = [(each, path) for path in paths for each in objects_in(path)]
     if len(told) > MOST_OBJECTS:
         raise Refused(f"{len(told)} objects, and Metis takes at most {MOST_PAIRS} pairs of type and state")

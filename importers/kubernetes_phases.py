@@ -8,6 +8,8 @@ HELM_HOOK, HELM_WEIGHT = "helm.sh/hook", "helm.sh/hook-weight"
 ARGO_HOOK, ARGO_WAVE = "argocd.argoproj.io/hook", "argocd.argoproj.io/sync-wave"
 BEFORE, MAIN, AFTER = 0, 1, 2
 PHASES_OF_HELM = {"pre-install": BEFORE, "crd-install": BEFORE, "post-install": AFTER}
+# Argo CD does not tell an installation from an upgrade.
+PHASES_OF_HELM_IN_ARGO = {**PHASES_OF_HELM, "pre-upgrade": BEFORE, "post-upgrade": AFTER}
 PHASES_OF_ARGO = {"PreSync": BEFORE, "Sync": MAIN, "PostSync": AFTER}
 WHOLE = re.compile(r"[-+]?[0-9]{1,9}")
 
@@ -76,7 +78,7 @@ def rank_in_argo(manifest):
     phases = [PHASES_OF_ARGO[hook] for hook in hooks if hook in PHASES_OF_ARGO]
     if not hooks:
         hooks = hooks_of(manifest, HELM_HOOK)
-        phases = [PHASES_OF_HELM[hook] for hook in hooks if hook in PHASES_OF_HELM]
+        phases = [PHASES_OF_HELM_IN_ARGO[hook] for hook in hooks if hook in PHASES_OF_HELM_IN_ARGO]
     if hooks and not phases:
         return None
     key = ARGO_WAVE if ARGO_WAVE in manifest.annotations else HELM_WEIGHT

@@ -396,7 +396,7 @@ class StepsTest(unittest.TestCase):
             workload(name="a"),
             manifest("ConfigMap", "c", annotations=wave("-1")),
             job("before", {"argocd.argoproj.io/hook": "PreSync"}),
-            job("behind", hooked("post-install", weight="3")),
+            job("behind", hooked("post-upgrade", weight="3")),
         )
         self.assertEqual(needs_of(found, "step/1"), ["Job/n/before"])
         self.assertEqual(needs_of(found, "step/2"), ["step/1", "ConfigMap/n/c"])
@@ -478,6 +478,10 @@ class RefusedTest(unittest.TestCase):
 
     def test_no_manifests(self):
         self.assertRegex(self.refused(), "no manifests$")
+
+    def test_a_namespace_that_is_none(self):
+        with self.assertRaisesRegex(Refused, "^--namespace a/b: no name of a namespace$"):
+            kubernetes_input.read_manifests(["x"], "a/b")
 
     def test_too_many(self):
         stanzas = [manifest("ConfigMap", f"c{number}") for number in range(1001)]
