@@ -131,6 +131,7 @@ class Steps:
     def __init__(self, order):
         names = Names()
         self.circles = order.circles
+        self.breaking = order.breaking
         self.set_up = {debian.port_of(names, name): name for name in order.installation.chosen}
         self.files = {debian.port_of(names, name, debian.FILES): name for name in order.circles}
         self.waiting = {}
@@ -142,7 +143,15 @@ class Steps:
         elif self.set_up.get(component) in self.circles:
             self.configure(self.set_up[component], root)
         elif component in self.set_up:
-            root.dpkg("--install", packages.path(self.set_up[component]))
+            self.install(self.set_up[component], root, packages)
+
+    def install(self, package, root, packages):
+        """Unpacks and configures a package. Where dpkg takes back a set-up for it, it is not to try that again already."""
+        if package in self.breaking:
+            root.dpkg("--unpack", packages.path(package))
+            root.dpkg("--configure", package)
+        else:
+            root.dpkg("--install", packages.path(package))
 
     def configure(self, package, root):
         group = tuple(self.circles[package])

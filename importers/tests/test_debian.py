@@ -405,17 +405,33 @@ class UpgradeTest(unittest.TestCase):
         self.assertEqual(found, {**simple("a", "rest", "old"), **simple("old"), **simple("rest")})
         self.assertEqual(notes, [])
 
-    def test_what_breaks_and_is_needed_is_unpacked_first_where_it_has_to_be(self):
-        # The new old needs a, and a breaks the one that stands: dpkg takes its set-up back meanwhile.
+    def test_what_is_broken_and_needs_what_breaks_it_is_unpacked_first(self):
         given = [installed("old")]
-        stanzas = package("a", Breaks="old (<< 2)"), package("old", "2", Depends="a")
-        found, _ = imported("a", *stanzas, stands=given)
+        for field in ("Breaks", "Conflicts"):
+            stanzas = package("a", **{field: "old (<< 2)"}), package("old", "2", Depends="a")
+            found, _ = imported("a", *stanzas, stands=given)
+            self.assertEqual(found["a/files"][1], "unpacked +a/unpacked -old/unpacked > absent")
+            self.assertEqual(found["old/files"][1], "unpacked +old/unpacked > absent")
+            self.assertEqual(found["a/circle"][1], "settled +a +old -a/configured -old/configured > open")
+
+    def test_what_is_broken_and_pre_depends_on_what_breaks_it_is_set_back_meanwhile(self):
+        stanzas = package("a", Breaks="old (<< 2)"), package("old", "2", Pre_Depends="b"), package("b", Depends="a")
+        found, _ = imported("a", *stanzas, stands=[installed("old")])
         self.assertEqual(found["a"], ["absent > installed", "installed +a/alone > absent"])
-        self.assertEqual(found["old"], simple("old", "a/alone")["old"])
-        stanzas = package("a", Conflicts="old (<< 2)"), package("old", "2", Depends="a")
-        found, _ = imported("a", *stanzas, stands=given)
-        self.assertEqual(found["a/files"][1], "unpacked +a/unpacked -old/unpacked > absent")
-        self.assertEqual(found["a/circle"][1], "settled +a +old -a/configured -old/configured > open")
+        self.assertEqual(found["old"], simple("old", "b")["old"])
+        self.assertEqual(found["b"], simple("b", "a/alone")["b"])
+
+    def test_a_third_one_that_pre_depends_on_what_breaks(self):
+        stanzas = package("a", Breaks="old (<< 2)"), package("old", "2", Depends="b"), package("b", Pre_Depends="a")
+        found, _ = imported("a", *stanzas, stands=[installed("old")])
+        self.assertEqual(found["a"], ["absent > installed", "installed +a/alone > absent"])
+        self.assertEqual(found["old"], simple("old", "b")["old"])
+
+    def test_two_that_break_each_other(self):
+        given = [installed("a"), installed("b")]
+        stanzas = package("a", "2", Breaks="b (<< 2)"), package("b", "2", Breaks="a (<< 2)")
+        found, _ = imported("a b", *stanzas, stands=given)
+        self.assertEqual(found, {**simple("a", "b"), **simple("b")})
 
     def test_an_upgrade_that_does_not_help_is_a_conflict(self):
         given = [installed("old")]
