@@ -175,7 +175,7 @@ def universe(choices, request):
         raise Refused(f"{found[0]}{more}; {ALLOW_CONFLICTS} makes a document all the same")
     order = InstallOrder(installation)
     if not request.is_strict:
-        order.check_pre_depends()
+        order.check()
     notes += unsound(choices)
     notes += (f"{name} depends on {missing}, {MISSING}" for missing, name in installation.missing.items())
     notes += found[:MOST_NAMED]

@@ -107,6 +107,16 @@ class InstallOrder:
         """The packages that are upgraded before this one, but for what it depends on; in a cycle, that are unpacked."""
         return list(dict.fromkeys([*self.conflicting_before[name], *self.broken_before.get(name, ())]))
 
+    def check(self):
+        """Refuses what dpkg cannot install in any order."""
+        self.check_pre_depends()
+        for name, circle in sorted(cycles(self.conflicting_before).items()):
+            other = next(each for each in self.conflicting_before[name] if each in circle)
+            raise Refused(
+                f"a cycle of Conflicts: {name} conflicts with {other} until that is upgraded, and the other way round; "
+                f"the cycle is {', '.join(circle)}"
+            )
+
     def check_pre_depends(self):
         """A cycle in which a package pre-depends on another one is one that dpkg cannot install either."""
         for name in sorted(self.circles):

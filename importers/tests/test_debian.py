@@ -427,6 +427,12 @@ class UpgradeTest(unittest.TestCase):
         self.assertEqual(found["a"], ["absent > installed", "installed +a/alone > absent"])
         self.assertEqual(found["old"], simple("old", "b")["old"])
 
+    def test_two_that_conflict_with_each_other_until_they_are_upgraded(self):
+        given = [installed("a"), installed("b")]
+        stanzas = package("a", "2", Conflicts="b (<< 2)"), package("b", "2", Conflicts="a (<< 2)")
+        reason = "a cycle of Conflicts: a conflicts with b until that is upgraded, and the other way round; the cycle is a, b"
+        self.assertEqual(refusal("a", *stanzas, stands=given), reason)
+
     def test_two_that_break_each_other(self):
         given = [installed("a"), installed("b")]
         stanzas = package("a", "2", Breaks="b (<< 2)"), package("b", "2", Breaks="a (<< 2)")
