@@ -23,7 +23,9 @@ NAMED_OBJECT = re.compile(
     r"([a-z0-9][a-z0-9.-]*)"
 )
 # Pods that are waited for by a label.
-LABELLED_PODS = re.compile(r"(?<![\w.-])(?:pods?|po)\b[^;|&]{0,200}?\s(?:-l|--selector)[ =]?([A-Za-z0-9./_-]+)=([A-Za-z0-9._-]+)")
+LABELLED_PODS = re.compile(
+    r"(?<![\w.-])(?:pods?|po)\b[^;|&]{0,200}?\s(?:-l|--selector)[ =]?([A-Za-z0-9./_-]+)=([A-Za-z0-9._-]+)"
+)
 KINDS_OF_WORDS = {
     "job": "Job",
     "deployment": "Deployment",

@@ -38,7 +38,9 @@ def outcome(choices, metis, name):
     except Refused as refused:
         return cause_of(str(refused)), 0
     pairs = document.count('"name":') - document.count('"initial":')
-    if not any(note.endswith(debian.MISSING) for note in notes) and not is_whole(choices, Installation(choices, [name])):
+    if not any(note.endswith(debian.MISSING) for note in notes) and not is_whole(
+        choices, Installation(choices, [name])
+    ):
         return BROKEN, pairs
     command = [metis, "plan", "-", debian.target(name)]
     done = subprocess.run(command, input=document, stdout=subprocess.PIPE, text=True, check=False)
