@@ -18,7 +18,7 @@ class Steps:
     """The steps in which objects are applied: those of one step at once, and each step when the one before it is done.
 
     What a step waits for differs. Argo CD, and Helm with its hooks, go on when all of a step is healthy or complete. Helm
-    goes on from what is no hook as soon as it is applied, unless it is told to wait.
+    goes on from what is no hook as soon as it is applied, unless it is to wait.
     """
 
     def __init__(self, manifests, waits):

@@ -1,4 +1,4 @@
-"""What the scripts share that try plans for files: how the program is run, and how what came of each file is told."""
+"""What the scripts share that try plans for files: how the program is run, and what is printed of each file."""
 
 import subprocess
 
