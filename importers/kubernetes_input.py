@@ -117,7 +117,7 @@ def read_manifests(paths, namespace):
         groups.setdefault(kind, set()).add(group)
     manifests, made = {}, {}
     for (group, kind, inside, name), (each, path) in zip(parts, told):
-        shown = f"{kind}.{group}" if len(groups[kind]) > 1 and group else kind
+        shown = f"{kind}.{group}" if len(groups[kind]) > 1 and group not in BUILT_IN_GROUPS else kind
         key = "/".join(filter(None, (shown, inside, name)))
         if "name" not in each["metadata"]:
             made[key] = made.get(key, 0) + 1

@@ -209,7 +209,7 @@ class CustomTest(unittest.TestCase):
 
     def test_two_groups_with_one_kind(self):
         found, _ = imported(manifest("Job", "a", "batch/v1", spec={"template": {}}), manifest("Job", "a", "own.io/v1"))
-        self.assertEqual(sorted(found), ["Job.batch/n/a", "Job.own.io/n/a", "manifests"])
+        self.assertEqual(sorted(found), ["Job.own.io/n/a", "Job/n/a", "manifests"])
 
     def test_cluster_scope_by_the_definition(self):
         found, _ = imported(definition(scope="Cluster"), manifest("Thing", "t", "own.io/v1", None))
