@@ -100,7 +100,10 @@ class Needs:
             key = "/".join((each.kind, each.namespace, each.name))
             if each.kind == "Service":
                 # One that waits for its own service asks for its mates, which answer before they are ready.
-                if self.services[each.namespace, each.name] not in self.answered_by(manifest):
+                service = self.services[each.namespace, each.name]
+                if each.is_looked_up and service.spec.get("clusterIP") != "None":
+                    yield from self.hard(service.key)
+                elif service not in self.answered_by(manifest):
                     yield from self.endpoints(each.namespace, each.name)
             elif key in self.by_key:
                 yield from self.hard(key)

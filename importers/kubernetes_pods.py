@@ -48,6 +48,8 @@ OF_HOSTS = re.compile(r"host|addr|url|uri|server|endpoint|service|broker|target|
 OF_OTHERS = frozenset(
     "-d --dbname --db --database -D -U -u --user --username -n --namespace -p --password -P -l --selector -c --context -o".split()
 )
+# Commands that only ask for the address of a name, which a service has before a pod behind it is ready.
+LOOKUPS = frozenset("nslookup dig host getent".split())
 LOCAL = ("", ".svc", ".svc.cluster.local")
 # What the cluster makes in each namespace by itself.
 MADE_BY_CLUSTER = ("kube-root-ca.crt", "openshift-service-ca.crt")
@@ -61,6 +63,7 @@ class Reference(NamedTuple):
     name: str
     key: str = ""
     is_soft: bool = False  # whether the pod runs without it, if with less
+    is_looked_up: bool = False  # whether only the address of a service is asked for
 
 
 def template_of(manifest):
@@ -156,15 +159,18 @@ def waits(manifest, services):
         for each in mappings_in(container, "env", manifest.key):
             told = f"{text_at(each, 'name', manifest.key)}={text_at(each, 'value', manifest.key)}"
             hosts += hosts_in(told)
-        for host in dict.fromkeys(hosts):
+        for host, is_looked_up in dict.fromkeys(hosts):
             service = service_named(host, manifest.namespace, services)
             if service is not None:
-                yield Reference("Service", service.namespace, service.name)
+                yield Reference("Service", service.namespace, service.name, is_looked_up=is_looked_up)
 
 
 def hosts_in(text):
-    """The words of a command that may name a host: no paths, and no values of options that say something else."""
-    before = ""
+    """The words of a command that may name a host, and whether only its address is asked for.
+
+    No paths are among them, and no values of options that say something else.
+    """
+    before, further_before = "", ""
     for word in BETWEEN_WORDS.split(text):
         setting = SETTING.fullmatch(word)
         value = setting["value"] if setting else word
@@ -174,8 +180,8 @@ def hosts_in(text):
             is_said = bool(OF_HOSTS.search(setting["name"])) if setting else before not in OF_OTHERS
             is_path = "/" in value and not is_address
             if (is_address or is_said) and not is_path:
-                yield found["host"]
-        before = word
+                yield found["host"], before in LOOKUPS or further_before in LOOKUPS
+        before, further_before = word, before
 
 
 def service_named(word, namespace, services):

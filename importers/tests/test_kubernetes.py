@@ -234,11 +234,12 @@ class WaitsTest(unittest.TestCase):
             ("sh", "-c", "until pg_isready -q -h db -U shop; do :; done"),
             ("wait-for-it", "db:5432", "--", "true"),
             ("curl", "http://user@db.n.svc.cluster.local:80/health"),
-            ("nslookup", "db.n"),
             ("dockerize", "-wait=tcp://db:5432"),
             ("run", "--host=db"),
         ):
             self.assertEqual(self.waited(*words), both, words)
+        for words in (("sh", "-c", "until nslookup db.n; do :; done"), ("getent", "hosts", "db"), ("dig", "+short", "db")):
+            self.assertEqual(self.waited(*words), ["Service/n/db"], words)
         self.assertEqual(self.waited("wait", DB_HOST="db"), both)
         self.assertEqual(self.waited("wait", DATABASE="postgres://u:p@db/x"), both)
 
