@@ -91,10 +91,11 @@ class YamlTest(unittest.TestCase):
             ("a: 1\nb:\n  c: 1\n  c: 2\n", "F: line 4: the key 'c' stands twice in one mapping"),
             ("a: !own x\n", "F: line 1: the tag '!own' is not known here"),
             ("a: {<<: 1}\n", "F: line 1: '<<' of what is no mapping"),
-            ("a: *b\n", "F: no YAML: line 1: found undefined alias"),
             ("[a]: 1\n", "F: line 1: a key that is no text"),
         ):
             self.assertEqual(reason(text), expected)
+        # PyYAML says more than the library of C behind it.
+        self.assertRegex(reason("a: *b\n"), "^F: no YAML: line 1: found undefined alias")
 
     def test_what_pyyaml_reads_is_read(self):
         paths = [*TOP.glob("examples/**/*.yaml"), *TOP.glob("importers/tests/projects/*.yaml")]
