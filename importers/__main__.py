@@ -1,4 +1,4 @@
-"""python3 -m importers debian|compose|systemd ..: prints a universe's document (see README.md beside this file)."""
+"""python3 -m importers debian|compose|systemd|kubernetes|sketch|check|show ..: prints a universe's document (see README.md beside this file)."""
 
 import argparse
 import importlib
@@ -11,6 +11,7 @@ SOURCES = {
     "debian": "packages of Debian, as dpkg installs them",
     "compose": "a Compose project",
     "systemd": "a target of systemd with the units that it pulls in",
+    "kubernetes": "manifests of Kubernetes, as Helm or Argo CD applies them",
     "sketch": "a sketch with a line a type, or the sketch of a universe",
     "check": "a look over a document or a sketch: what is wrong, or was perhaps not meant",
     "show": "shows what Metis printed, with names in place of numbers",

@@ -5,10 +5,10 @@ from typing import NamedTuple
 from importers.control import NoControlFile
 from importers.document import Names, Refused, document, one_each, two_states
 from importers.install_order import InstallOrder
-from importers.installation import Choices, Installation
+from importers.installation import Installation
+from importers.package_choices import Choices
 from importers.packages import (
     MOST_NAMED,
-    NEEDS,
     STATUS,
     Pool,
     architecture_in,
@@ -175,7 +175,7 @@ def universe(choices, request):
         raise Refused(f"{found[0]}{more}; {ALLOW_CONFLICTS} makes a document all the same")
     order = InstallOrder(installation)
     if not request.is_strict:
-        order.check_pre_depends()
+        order.check()
     notes += unsound(choices)
     notes += (f"{name} depends on {missing}, {MISSING}" for missing, name in installation.missing.items())
     notes += found[:MOST_NAMED]
@@ -230,7 +230,9 @@ def add_arguments(parser):
     parser.add_argument(
         "--installed", action="store_true", help="what stands on this machine is given, in place of the base system"
     )
-    parser.add_argument("--status", metavar="FILE", help="the same of another machine, by its file /var/lib/dpkg/status")
+    parser.add_argument(
+        "--status", metavar="FILE", help="the same of another machine, by its file /var/lib/dpkg/status"
+    )
     parser.add_argument("--strict", action="store_true", help="no rule for cycles: such packages are refused")
     parser.add_argument("--recommends", action="store_true", help="what packages recommend is installed, too")
     parser.add_argument(

@@ -51,7 +51,9 @@ class Pulled:
         whole = with_defaults(unit)
         for path in whole["RequiresMountsFor"]:
             self.add_mounts(whole, path)
-        own = {key: list(map(self.folders.own_name, whole[key])) for key in (*OF_TARGETS, "After", "Before", "Conflicts")}
+        own = {
+            key: list(map(self.folders.own_name, whole[key])) for key in (*OF_TARGETS, "After", "Before", "Conflicts")
+        }
         return Unit(unit.name, {**whole.settings, **own})
 
     def add_mounts(self, unit, path):
@@ -98,7 +100,9 @@ class Pulled:
                     after[other].add(name)
         for name, unit in self.units.items():
             if unit.kind == "target" and unit.has_defaults:
-                after[name] |= {other for key in OF_TARGETS for other in unit[key] if self.is_before(other, name, after)}
+                after[name] |= {
+                    other for key in OF_TARGETS for other in unit[key] if self.is_before(other, name, after)
+                }
         return after
 
     def is_before(self, other, target, after):
@@ -138,7 +142,9 @@ def universe(folders, target):
     notes += left_out(pulled, failing)
     metis_names = Names()
     types = types_of(pulled, failing, metis_names)
-    comment = f"{target} with the {len(pulled.units) - 1} units that it pulls in, by importers systemd; target: {BOOT}:up"
+    comment = (
+        f"{target} with the {len(pulled.units) - 1} units that it pulls in, by importers systemd; target: {BOOT}:up"
+    )
     return document(comment, types, metis_names), notes
 
 

@@ -12,7 +12,6 @@ import argparse
 import collections
 import pathlib
 import random
-import subprocess
 import sys
 import tempfile
 
@@ -20,8 +19,8 @@ TOP = pathlib.Path(__file__).resolve().parent.parent
 sys.path.insert(0, str(TOP))
 
 from importers import compose, compose_input, texts
-from importers.document import Refused
 from importers.reading import read_text, value_of
+from importers.trying import printed, try_files
 
 REACHED = {
     "service_started": ("started", "healthy", "completed"),
@@ -127,11 +126,6 @@ def mark_external(project):
         told["external"] = external
 
 
-def printed(metis, *words):
-    done = subprocess.run([metis, *words], stdout=subprocess.PIPE, text=True, check=False)
-    return done.stdout
-
-
 def check(plan, services, orders, is_up):
     """The faults of the printed order and of random ones, how often each."""
     faults = collections.Counter()
@@ -167,7 +161,9 @@ def try_project(metis, path, arguments):
         down = texts.read(printed(metis, "rollout", universe, plan))
     faults = check(up, services, arguments.orders, True) + check(down, services, arguments.orders, False)
     lines = [f"{path}: {count} times {fault}" for fault, count in faults.items()]
-    counts = f"{len(up.actions)} actions up, {len(down.actions) - len(up.actions)} down; {arguments.orders + 1} orders each"
+    counts = (
+        f"{len(up.actions)} actions up, {len(down.actions) - len(up.actions)} down; {arguments.orders + 1} orders each"
+    )
     return [*lines, f"{path}: {counts}, {sum(faults.values())} faults"], not faults
 
 
@@ -178,15 +174,7 @@ def main():
     parser.add_argument("--orders", type=int, default=200, metavar="N")
     parser.add_argument("--profile", action="append", default=[], metavar="P")
     arguments = parser.parse_args()
-    is_good = True
-    for path in arguments.files:
-        try:
-            lines, is_right = try_project(arguments.metis, path, arguments)
-        except (Refused, texts.NoText) as fault:
-            lines, is_right = [f"{path}: {fault}"], False
-        print("\n".join(lines), flush=True)
-        is_good = is_good and is_right
-    return 0 if is_good else 1
+    return try_files(arguments.files, lambda path: try_project(arguments.metis, path, arguments))
 
 
 if __name__ == "__main__":

@@ -1,12 +1,12 @@
 #!/usr/bin/env python3
 """Carries out plans with the real dpkg, and compares universes with apt:
 
-    python3 importers/try_dpkg.py [--metis PROGRAM] [--orders N] [--installed] [--apt] [--draw N] [PACKAGE ..]
+    python3 importers/try_dpkg.py [--metis PROGRAM] [--orders N] [--installed | --status FILE] [--recommends] [--apt] [--draw N] PACKAGE ..
 
 For each package of this machine's index a universe is made, the program (the script `metis` of this repository, if none
 is named) plans for it, and dpkg does what the plan says, in the printed order and in N random ones (1) that keep its
 waits. It does so in a root of its own, a temporary folder, in which the base system stands as installed, or with
---installed all that stands on this machine, and with empty packages that have the real control fields: so dpkg looks at
+--installed all that stands on this machine, or on one whose file `status` is named, and with empty packages that have the real control fields: so dpkg looks at
 each Depends, Pre-Depends, Conflicts and Breaks with its version as it would for the real ones. In the end every package
 that dpkg knows has to be installed, those of the universe in the versions of the index, and `apt-get check` has to find
 no dependence of the root that is not met. dpkg and apt have to be there, and the rights of root, since dpkg asks for them.
@@ -14,8 +14,8 @@ no dependence of the root that is not met. dpkg and apt have to be there, and th
 What a move is: a package outside cycles is unpacked and configured; of one in a cycle, its files are unpacked by one
 move, and its set-up is the other; dpkg is handed the set-ups of a cycle together, at the last of them.
 
-With --apt the packages of each universe, upgrades included, are also compared with those that `apt-get -s install
---no-install-recommends` would install where the same stands. With --draw N packages are drawn besides: those N of the
+With --recommends what is recommended is installed, too. With --apt the packages of each universe, upgrades included, are
+also compared with those that `apt-get -s install` would install where the same stands, with or without recommendations. With --draw N packages are drawn besides: those N of the
 index that could be installed or upgraded whose names have the smallest sha256. The last lines count how many plans were
 carried out, and how many sets are the same. The status is 0 if all plans that were made were carried out and left no
 dependence unmet, whatever apt does.
@@ -131,6 +131,7 @@ class Steps:
     def __init__(self, order):
         names = Names()
         self.circles = order.circles
+        self.breaking = order.breaking
         self.set_up = {debian.port_of(names, name): name for name in order.installation.chosen}
         self.files = {debian.port_of(names, name, debian.FILES): name for name in order.circles}
         self.waiting = {}
@@ -142,7 +143,15 @@ class Steps:
         elif self.set_up.get(component) in self.circles:
             self.configure(self.set_up[component], root)
         elif component in self.set_up:
-            root.dpkg("--install", packages.path(self.set_up[component]))
+            self.install(self.set_up[component], root, packages)
+
+    def install(self, package, root, packages):
+        """Unpacks and configures a package. Where dpkg takes back a set-up for it, it is not to try that again already."""
+        if package in self.breaking:
+            root.dpkg("--unpack", packages.path(package))
+            root.dpkg("--configure", package)
+        else:
+            root.dpkg("--install", packages.path(package))
 
     def configure(self, package, root):
         group = tuple(self.circles[package])
@@ -173,17 +182,17 @@ def plan_of(metis, document, name):
     return found
 
 
-def try_package(metis, name, orders, choices, packages):
+def try_package(name, arguments, choices, packages):
     """A line on how dpkg took the plans for a package, and whether it was well; None where no document was made."""
     try:
-        document, _ = debian.universe(choices, debian.Request([name]))
+        document, _ = debian.universe(choices, debian.Request([name], with_recommends=arguments.recommends))
     except Refused as refused:
         return f"{name}: no document: {refused}", None
-    order = InstallOrder(Installation(choices, [name]))
+    order = InstallOrder(Installation(choices, [name], arguments.recommends))
     try:
-        plan = plan_of(metis, document, name)
+        plan = plan_of(arguments.metis, document, name)
         calls = [carry_out(plan.actions, order, packages)]
-        for seed in range(orders):
+        for seed in range(arguments.orders):
             calls.append(carry_out(texts.random_order(plan, random.Random(seed)), order, packages))
     except (Failed, texts.NoText) as fault:
         return f"{name}: {fault}", False
@@ -206,9 +215,9 @@ def status_line(fields):
     return f"Status: {fields.get('Status', 'install ok installed')}\n{essential}"
 
 
-def apt_set(name, status):
+def apt_set(name, status, with_recommends):
     """The packages that apt would install, upgrade or remove; None where it would not install this one."""
-    done = apt_of(status, "-s", "install", "--no-install-recommends", name)
+    done = apt_of(status, "-s", "install", f"--{'' if with_recommends else 'no-'}install-recommends", name)
     if done.returncode:
         return None
     removed = {f"{each} removed" for each in words_behind("Remv", done.stdout)}
@@ -223,12 +232,12 @@ def some(names):
     return named(sorted(names))
 
 
-def compare(name, choices, status):
+def compare(name, choices, status, with_recommends):
     """A line on what is installed or upgraded here and by apt, and whether both are the same."""
-    installation = Installation(choices, [name])
+    installation = Installation(choices, [name], with_recommends)
     ours = set(installation.chosen)
     faults = [*debian.faults(installation), *(f"nothing provides {each}" for each in installation.missing)]
-    theirs = apt_set(name, status)
+    theirs = apt_set(name, status, with_recommends)
     if theirs is None or faults:
         here, there = faults[0] if faults else "possible", "not possible" if theirs is None else "possible"
         removed = some(each for each in theirs or () if each.endswith(" removed"))
@@ -253,13 +262,15 @@ def parser_of_words():
     parser.add_argument("--orders", type=int, default=1, metavar="N")
     parser.add_argument("--draw", type=int, default=0, metavar="N")
     parser.add_argument("--apt", action="store_true")
-    parser.add_argument("--installed", action="store_true")
+    parser.add_argument("--installed", dest="status", action="store_const", const=str(STATUS))
+    parser.add_argument("--status", metavar="FILE")
+    parser.add_argument("--recommends", action="store_true")
     return parser
 
 
 def main():
     arguments = parser_of_words().parse_args()
-    choices = debian.choices_of(status_path=STATUS if arguments.installed else None)
+    choices = debian.choices_of(status_path=arguments.status)
     names = [*arguments.packages, *drawn(choices, arguments.draw)]
     unknown = [name for name in names if name not in choices.index.packages]
     if unknown or not names:
@@ -268,17 +279,17 @@ def main():
     done, refused, same = 0, 0, 0
     with tempfile.TemporaryDirectory() as folder:
         packages = Packages(pathlib.Path(folder), choices.index)
-        status = STATUS
-        if not arguments.installed:
+        status = arguments.status
+        if status is None:
             status = pathlib.Path(folder) / "status"
             status.write_text(status_of(choices.given))
         for name in names:
-            line, is_good = try_package(arguments.metis, name, arguments.orders, choices, packages)
+            line, is_good = try_package(name, arguments, choices, packages)
             print(line, flush=True)
             done += is_good is True
             refused += is_good is None
             if arguments.apt and not choices.stands(name):
-                line, is_same = compare(name, choices, status)
+                line, is_same = compare(name, choices, status, arguments.recommends)
                 print(f"  {line}", flush=True)
                 same += is_same
     print(f"{done} of {len(names)} carried out and whole, {refused} refused")

@@ -32,6 +32,7 @@ sys.path.insert(0, str(TOP))
 
 from importers.systemd import Pulled, is_given
 from importers.try_systemd_cases import CASES
+from importers.try_systemd_roots import COMMON, DESKTOP, RUNNING, SERVER
 from importers.units import Folders
 
 PROGRAM = "/lib/systemd/systemd"
@@ -40,42 +41,6 @@ TARGETS = ("multi-user.target", "graphical.target")
 FOLDER_OF = {"etc": "etc/systemd/system", "run": "run/systemd/system", "lib": "lib/systemd/system"}
 LEAST_WITH_UNITS = 90
 FETCHED_AT_ONCE = 20
-# systemd with all that it is linked against.
-RUNNING = """
-systemd libsystemd-shared libc6 libacl1 libaudit1 libblkid1 libcap2 libcrypt1 libcryptsetup12 libfdisk1 libgcrypt20
-libgpg-error0 libkmod2 liblz4-1 liblzma5 libmount1 libpam0g libseccomp2 libselinux1 libssl3 libzstd1 libapparmor1
-libip4tc2 libpcre2-8-0 libdevmapper1.02.1 libargon2-1 libjson-c5 libuuid1 libcap-ng0 zlib1g libudev1
-""".split()
-COMMON = """
-dbus dbus-system-bus-common dmeventd udev systemd-sysv systemd-timesyncd systemd-resolved systemd-container systemd-oomd cron rsyslog apt man-db
-util-linux e2fsprogs logrotate apparmor auditd openssh-server ufw nftables unattended-upgrades sysstat lvm2 mdadm
-smartmontools acpid irqbalance polkitd dbus-user-session kmod procps console-setup keyboard-configuration plymouth
-fwupd udisks2 nfs-common rpcbind samba winbind wpasupplicant anacron ifupdown
-""".split()
-SERVER = """
-nginx-common apache2 postgresql-common mariadb-server redis-server memcached haproxy varnish squid named bind9 unbound
-dnsmasq isc-dhcp-server fail2ban netfilter-persistent postfix dovecot-core opendkim spamd spamassassin clamav-daemon
-clamav-freshclam rspamd docker.io containerd podman libvirt-daemon-system lxc qemu-guest-agent open-vm-tools multipath-tools
-open-iscsi nfs-kernel-server autofs prometheus prometheus-node-exporter prometheus-alertmanager collectd-core
-zabbix-agent munin-node nagios-nrpe-server snmpd tomcat10 php8.2-fpm uwsgi puppet-agent tor openvpn wireguard-tools
-strongswan-starter keepalived corosync pacemaker etcd-server vsftpd proftpd-core rsync mosquitto rabbitmq-server slapd
-sssd-common krb5-kdc krb5-admin-server freeradius minidlna systemd-journal-remote drbd-utils glusterfs-server ceph-mon
-ceph-osd ceph-mgr ceph-common bird2 frr knot nsd pdns-server pdns-recursor coturn prosody ejabberd erlang-base monit supervisor
-kea-dhcp4-server influxdb gdnsd stunnel4 tinyproxy privoxy ganeti iscsid targetcli-fb at atop
-""".split()
-DESKTOP = """
-gdm3 lightdm sddm network-manager modemmanager bluez cups-daemon cups-browsed avahi-daemon colord accountsservice
-packagekit upower rtkit bolt geoclue-2.0 thermald power-profiles-daemon switcheroo-control iio-sensor-proxy
-usbmuxd pcscd fprintd brltty speech-dispatcher flatpak snapd low-memory-monitor earlyoom zram-tools
-systemd-zram-generator systemd-cron systemd-coredump systemd-homed systemd-userdbd kexec-tools iwd connman
-network-dispatcher networkd-dispatcher openvpn wireguard-tools strongswan-starter tor transmission-daemon minidlna
-mpd pulseaudio pipewire xrdp tigervnc-standalone-server x11-common xserver-xorg-core saned sane-utils ipp-usb gpm
-kbd apt-config-auto-update apt-listbugs apticron debsums etckeeper fcron btrfsmaintenance btrfs-progs xfsprogs zfs-zed
-zfsutils-linux snapper timeshift rsync nullmailer exim4-base haveged rng-tools5 rng-tools-debian rasdaemon mcelog
-lm-sensors fancontrol nut-server nut-client apcupsd hddtemp hdparm laptop-mode-tools powertop tuned preload uptimed
-vnstat darkstat fail2ban docker.io libvirt-daemon-system qemu-guest-agent spice-vdagent virtualbox-guest-utils
-open-vm-tools lxc gpsd usbguard opensnitch kdeconnect xscreensaver acpi-support laptop-detect bluetooth dundee ofono
-""".split()
 
 
 class Failed(Exception):
@@ -89,7 +54,16 @@ def run_in(root, *words):
     command = [PROGRAM, "--test", "--system", *words]
     if root is not None:
         mounts = 'mount --bind /proc "$1/proc" && mount --rbind /sys "$1/sys" && root=$1 && shift && exec chroot'
-        command = ["unshare", "-m", "sh", "-c", f'{mounts} --userspec={NOBODY}:{NOBODY} "$root" "$@"', "sh", root, *command]
+        command = [
+            "unshare",
+            "-m",
+            "sh",
+            "-c",
+            f'{mounts} --userspec={NOBODY}:{NOBODY} "$root" "$@"',
+            "sh",
+            root,
+            *command,
+        ]
     elif os.geteuid() == 0:
         command = [*as_nobody, *command]
     environment = {**os.environ, **nowhere}
@@ -152,8 +126,12 @@ def compare(root, target):
         after = {each for each in told.of(name, "After") if each in ours and each in told.started}
         mine = {each for each in ours[name] if each in theirs}
         same += len(after & mine)
-        lines += [f"only {'systemd' if each in after else 'here'}: {name} after {each}" for each in sorted(after ^ mine)]
-    count = f"{len(ours.keys() & theirs)} units and {same} orders the same, {len(lines)} things not, {len(known)} as known"
+        lines += [
+            f"only {'systemd' if each in after else 'here'}: {name} after {each}" for each in sorted(after ^ mine)
+        ]
+    count = (
+        f"{len(ours.keys() & theirs)} units and {same} orders the same, {len(lines)} things not, {len(known)} as known"
+    )
     return lines, known, count
 
 
@@ -186,8 +164,12 @@ def unpack(package, root, is_whole):
     listed = subprocess.Popen(["dpkg-deb", "--fsys-tarfile", package], stdout=subprocess.PIPE)
     wanted = [] if is_whole else ["--wildcards", "./lib/systemd/*", "./usr/lib/systemd/*", "./etc/systemd/*"]
     done = subprocess.run(
-        ["tar", "-x", "-v", "-C", root, *wanted], stdin=listed.stdout, stdout=subprocess.PIPE, stderr=subprocess.DEVNULL,
-        text=True, check=False,
+        ["tar", "-x", "-v", "-C", root, *wanted],
+        stdin=listed.stdout,
+        stdout=subprocess.PIPE,
+        stderr=subprocess.DEVNULL,
+        text=True,
+        check=False,
     )
     listed.wait()
     return "/systemd/system/" in done.stdout

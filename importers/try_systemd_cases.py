@@ -212,7 +212,7 @@ Type=proc
     "paths that have to be mounted": """
 lib/case.target:
 [Unit]
-Wants=one.service two.mount one.socket one.path keep.timer x.automount
+Wants=one.service two.mount one.socket one.path keep.timer x.automount image.mount remote.mount specified.socket
 lib/one.service:
 [Unit]
 RequiresMountsFor="/srv/data/deep"
@@ -241,6 +241,19 @@ lib/two.mount:
 What=/opt/x
 Where=/two
 Options=bind
+lib/image.mount:
+[Mount]
+What=/opt/image
+Where=/image
+Type=ext4
+lib/remote.mount:
+[Mount]
+What=/opt/image
+Where=/remote
+Options=_netdev
+lib/specified.socket:
+[Socket]
+ListenStream=%S/of-%p/socket
 lib/one.socket:
 [Socket]
 ListenStream=/opt/socket

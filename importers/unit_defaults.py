@@ -4,7 +4,7 @@ import collections
 
 from importers import unit_names
 from importers.units import OF_PATHS, OF_SOCKETS, Unit, is_true
-from importers.unit_names import kind_of, parts_of
+from importers.unit_names import parts_of
 
 RUN_PROGRAMS = ("service", "mount", "swap")
 IN_SLICES = (*RUN_PROGRAMS, "socket")
@@ -86,7 +86,7 @@ def add_for_programs(unit, settings):
     if any(unit[key] for key in WRITTEN_FOLDERS):
         settings.add("After", of=["systemd-remount-fs.service"])
     for key in ("WorkingDirectory", "RootDirectory", "RootImage"):
-        settings.add("RequiresMountsFor", of=[each for each in unit[key][-1:] if each.startswith("/")])
+        settings.add("RequiresMountsFor", of=absolute(unit[key][-1:], unit.name))
     if unit["LogNamespace"]:
         sockets = [f"systemd-journald{part}@{unit.last('LogNamespace')}.socket" for part in ("", "-varlink")]
         settings.add("After", "Requires", of=sockets)
@@ -111,13 +111,25 @@ def add_paths(unit, settings):
         paths = [word for key in OF_PATHS for word in unit[key]]
     elif unit.kind == "timer" and is_true(unit["Persistent"], False):
         paths = ["/var/lib/systemd/timers"]
-    elif unit.kind in ("mount", "automount"):
+    elif unit.kind == "automount":
         paths = [above(place_of(unit))]
-        if unit.kind == "mount" and "bind" in options_of(unit) or "rbind" in options_of(unit):
-            paths += unit["What"][-1:]
+    elif unit.kind == "mount":
+        paths = [above(place_of(unit)), *source_of(unit)]
     elif unit.kind == "swap":
         paths = unit["What"][-1:]
-    settings.add("RequiresMountsFor", of=[each for each in paths if each.startswith("/")])
+    settings.add("RequiresMountsFor", of=absolute(paths, unit.name))
+
+
+def absolute(paths, name):
+    """Those of these paths of a unit that begin at the root, with what their specifiers stand for."""
+    settled = (unit_names.with_specifiers(path, name) for path in paths)
+    return [path.replace("%", "%%") for path in settled if path is not None and path.startswith("/")]
+
+
+def source_of(unit):
+    """What a mount mounts, where that is a path whose own mounts it needs: not if it comes over the network."""
+    is_of_path = {"bind", "rbind", "loop"} & {*options_of(unit), unit.last("Type")}
+    return unit["What"][-1:] if is_of_path or not is_remote(unit) else []
 
 
 def above(path):
@@ -173,19 +185,21 @@ def add_for_mount(unit, settings):
     place, options = place_of(unit), options_of(unit)
     if place in OUTSIDE or any(f"{place}/".startswith(f"{each}/") for each in BELOW_OUTSIDE):
         return
-    kind = unit.last("Type").removeprefix("fuse.")
-    is_remote = "_netdev" in options or kind in NETWORK_FILE_SYSTEMS
-    where = "remote-fs" if is_remote else "local-fs"
+    where = "remote-fs" if is_remote(unit) else "local-fs"
     settings.add("After", of=[f"{where}-pre.target"])
     if not is_left_alone(unit):
         settings.add("Before", of=[f"{where}.target"])
-    if is_remote:
+    if is_remote(unit):
         settings.add("After", of=["network.target", "network-online.target"])
         settings.add("Wants", of=["network-online.target"])
     elif QUOTAS & options and "bind" not in options:
         settings.add("Wants", "Before", of=["systemd-quotacheck.service", "quotaon.service"])
-    if kind == "tmpfs":
+    if unit.last("Type") == "tmpfs":
         settings.add("After", of=["swap.target"])
+
+
+def is_remote(unit):
+    return "_netdev" in options_of(unit) or unit.last("Type").removeprefix("fuse.") in NETWORK_FILE_SYSTEMS
 
 
 def is_left_alone(unit):

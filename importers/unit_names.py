@@ -73,7 +73,11 @@ def names_of_folders(name):
 def escaped(text):
     """A text in the form in which it stands in a name."""
     shown = (
-        "-" if each == "/" else each if re.fullmatch(r"[A-Za-z0-9:_.]", each) and (at or each != ".") else hexadecimal(each)
+        "-"
+        if each == "/"
+        else each
+        if re.fullmatch(r"[A-Za-z0-9:_.]", each) and (at or each != ".")
+        else hexadecimal(each)
         for at, each in enumerate(text)
     )
     return "".join(shown)

@@ -76,18 +76,17 @@ def is_true(words, default):
 
 def whole_lines(text):
     """The lines of a unit file: continued ones joined, and comments left out, also those inside a continued line."""
-    kept = ""
+    kept = []
     for line in text.split("\n"):
         if line.lstrip().startswith(("#", ";")):
             continue
-        kept += line
-        backslashes = len(kept) - len(kept.rstrip("\\"))
+        backslashes = len(line) - len(line.rstrip("\\"))
         if backslashes % 2:
-            kept = kept[:-1] + " "
+            kept.append(line[:-1])
             continue
-        yield kept.strip()
-        kept = ""
-    yield kept.strip()
+        yield " ".join([*kept, line]).strip()
+        kept = []
+    yield " ".join(kept).strip()
 
 
 def words_of(key, value):

@@ -20,7 +20,10 @@ MERGE = "<<"
 CONSTANTS = {"": None, "~": None, "null": None, "Null": None, "NULL": None}
 CONSTANTS |= {word: True for word in ("true", "True", "TRUE")} | {word: False for word in ("false", "False", "FALSE")}
 WHOLE = re.compile(r"[-+]?[0-9]{1,18}")
-FRACTION = re.compile(r"[-+]?(?:[0-9]{1,300}\.[0-9]{0,300}|\.[0-9]{1,300}|[0-9]{1,300})(?:[eE][-+]?[0-9]{1,3})?")
+EXPONENT = r"[eE][-+]?[0-9]{1,3}"
+FRACTION = re.compile(
+    rf"[-+]?(?:(?:[0-9]{{1,300}}\.[0-9]{{0,300}}|\.[0-9]{{1,300}})(?:{EXPONENT})?|[0-9]{{1,300}}{EXPONENT})"
+)
 
 
 class Nodes(yaml.CSafeLoader if IS_FAST else yaml.SafeLoader):

@@ -44,7 +44,7 @@ STATUS = re.compile(r"# status (\d+)$")
 NEEDS = (
     (re.compile(r"^(rt|apt|man|tools/build.py)\b"), lambda: False),
     (re.compile(r"^(PYTHONPATH=\.\. )?python3 -m importers debian "), lambda: bool(shutil.which("apt-cache")) and bool(run_out("apt-cache", "dumpavail"))),
-    (re.compile(r"^(PYTHONPATH=\.\. )?python3 -m importers compose .*\.ya?ml"), lambda: importlib.util.find_spec("yaml") is not None),
+    (re.compile(r"^(PYTHONPATH=\.\. )?python3 -m importers (compose|kubernetes) .*\.ya?ml"), lambda: importlib.util.find_spec("yaml") is not None),
     (re.compile(r"^(PYTHONPATH=\.\. )?python3 -m importers systemd "), lambda: pathlib.Path("/lib/systemd/system").is_dir()),
     (re.compile(r"^dot "), lambda: bool(shutil.which("dot"))),
 )

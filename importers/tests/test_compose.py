@@ -171,16 +171,18 @@ class ServicesTest(unittest.TestCase):
 
     def test_services_with_names_that_are_taken(self):
         found = imported({"project": alone(), "port": alone(depends_on=["project"]), "volume": alone()})
-        self.assertEqual(
-            list(found), ["service/port", "service/project", "service/volume", "image/i", "project"]
-        )
+        self.assertEqual(list(found), ["service/port", "service/project", "service/volume", "image/i", "project"])
         self.assertEqual(found["service/port"], service("service/port", ["service/project/started"])["service/port"])
 
 
 class ReplicasTest(unittest.TestCase):
     def test_they_are_a_count(self):
         found = imported(
-            {"a": waiting(b="service_healthy", c="service_started"), "b": alone(deploy={"replicas": 3}), "c": alone(scale=2)}
+            {
+                "a": waiting(b="service_healthy", c="service_started"),
+                "b": alone(deploy={"replicas": 3}),
+                "c": alone(scale=2),
+            }
         )
         self.assertEqual(found["a"], service("a", ["b/healthy*3", "c/started*2"])["a"])
         self.assertEqual(found["project"], project("a/started", "b/healthy*3", "c/started*2")["project"])
@@ -219,10 +221,20 @@ class FailingTest(unittest.TestCase):
         imported({"a": waiting(b="service_started"), "b": alone(healthcheck={"disable": True})})
 
     def test_one_that_never_completes(self):
-        for told in ({"restart": "always"}, {"restart": "unless-stopped"}, {"deploy": {"restart_policy": {"condition": "any"}}}):
+        for told in (
+            {"restart": "always"},
+            {"restart": "unless-stopped"},
+            {"deploy": {"restart_policy": {"condition": "any"}}},
+        ):
             reason = self.refused({"a": waiting(b="service_completed_successfully"), "b": alone(**told)})
-            self.assertRegex(reason, "^service a: it waits for b to complete, which starts again whenever it ends [(]restart: ")
-        for told in ({"restart": "no"}, {"restart": "on-failure:3"}, {"restart": "always", "deploy": {"restart_policy": {"condition": "none"}}}):
+            self.assertRegex(
+                reason, "^service a: it waits for b to complete, which starts again whenever it ends [(]restart: "
+            )
+        for told in (
+            {"restart": "no"},
+            {"restart": "on-failure:3"},
+            {"restart": "always", "deploy": {"restart_policy": {"condition": "none"}}},
+        ):
             imported({"a": waiting(b="service_completed_successfully"), "b": alone(**told)})
 
     def test_one_that_depends_on_itself(self):
@@ -301,13 +313,17 @@ class VariablesTest(unittest.TestCase):
     def test_a_project_with_what_lies_beside_it(self):
         with tempfile.TemporaryDirectory() as folder:
             path = pathlib.Path(folder) / "compose.yaml"
-            path.write_text(json.dumps({"services": {"a": alone(image="x:${METIS_TAG}", environment=["Y=$METIS_UNLOOKED"])}}))
+            path.write_text(
+                json.dumps({"services": {"a": alone(image="x:${METIS_TAG}", environment=["Y=$METIS_UNLOOKED"])}})
+            )
             (path.parent / ".env").write_text("# a file\nexport METIS_TAG='7' \n")
             (path.parent / "compose.override.yml").write_text("services: {}\n")
             project = compose_input.read_project(str(path))
         self.assertEqual(project.services["a"].image, "x:7")
         self.assertEqual(len(project.notes), 1)
-        self.assertRegex(project.notes[0], "compose.override.yml lies beside it, and is not read; `docker compose config`")
+        self.assertRegex(
+            project.notes[0], "compose.override.yml lies beside it, and is not read; `docker compose config`"
+        )
 
 
 class ProfilesTest(unittest.TestCase):
@@ -385,7 +401,6 @@ class NextTest(unittest.TestCase):
         }
         self.assertEqual(found, expected)
 
-
     def test_the_same_project_twice_has_a_target_for_each(self):
         both = [project_of({"a": alone()}), project_of({"a": alone()})]
         expected = {
@@ -397,7 +412,10 @@ class NextTest(unittest.TestCase):
         self.assertEqual(shape(compose.universe(both)), expected)
 
 
-DATA = {"db": alone(image="d:1", volumes=["vol:/d"]), "api": alone(image="a:1", depends_on=["db"], volumes=["vol:/d:ro"])}
+DATA = {
+    "db": alone(image="d:1", volumes=["vol:/d"]),
+    "api": alone(image="a:1", depends_on=["db"], volumes=["vol:/d:ro"]),
+}
 
 
 class DataTest(unittest.TestCase):
@@ -426,7 +444,9 @@ class DataTest(unittest.TestCase):
         self.assertIn("volume/more", shape(plan.document()))
 
     def test_what_a_host_has_once(self):
-        web = alone(ports=["127.0.0.1:80:80", "90", "53:53/udp", {"target": 1, "published": "443"}], container_name="web")
+        web = alone(
+            ports=["127.0.0.1:80:80", "90", "53:53/udp", {"target": 1, "published": "443"}], container_name="web"
+        )
         first, second = project_of({"web": web}), project_of({"web": {**web, "image": "j"}})
         reason = "web and web@next both take port 127.0.0.1:80, port 443, port 53/udp, the name web, so they cannot stand on one host at once"
         self.assertEqual(list(compose.Plan([first, second]).notes()), [reason])
@@ -461,7 +481,9 @@ class RefusedTest(unittest.TestCase):
 
     def test_a_service_that_is_off(self):
         services = {"a": alone(depends_on=["b"]), "b": alone(profiles=["debug"])}
-        self.assertEqual(self.refused(services), "service a: it depends on b, which is off; --profile debug switches it on")
+        self.assertEqual(
+            self.refused(services), "service a: it depends on b, which is off; --profile debug switches it on"
+        )
 
     def test_a_condition_that_there_is_not(self):
         reason = "service a: no condition service_ready, for b"
@@ -492,7 +514,9 @@ class RefusedTest(unittest.TestCase):
         self.assertEqual(self.refused_text(b'{"services": {}}'), "FILE: no Compose project, since it has no services")
         self.assertEqual(self.refused_text(b'{"services": [1]}'), "FILE: 'services' is no mapping")
         include = b'{"include": ["x"], "services": {"a": {}}}'
-        self.assertEqual(self.refused_text(include), "FILE: it includes other files; `docker compose config` resolves them")
+        self.assertEqual(
+            self.refused_text(include), "FILE: it includes other files; `docker compose config` resolves them"
+        )
 
     def test_no_text(self):
         self.assertEqual(self.refused_text(b"\xff"), "FILE: no UTF-8 text")

@@ -95,7 +95,11 @@ class PlainTest(unittest.TestCase):
 
     def test_other_architectures_are_not_there(self):
         found, notes = imported(
-            "a", package("a", Depends="b:i386 | c, d:any"), package("b", Architecture="i386"), package("c"), package("d")
+            "a",
+            package("a", Depends="b:i386 | c, d:any"),
+            package("b", Architecture="i386"),
+            package("c"),
+            package("d"),
         )
         self.assertEqual(found, {**simple("a", "c", "d"), **simple("c"), **simple("d")})
         self.assertEqual(notes, [])
@@ -118,13 +122,13 @@ class AlternativesTest(unittest.TestCase):
         self.assertEqual(found, {**simple("a", "b"), **simple("b")})
 
     def test_one_that_is_needed_anyway(self):
-        found, _ = imported("a", package("a", Depends="b | c, d"), package("b"), package("c"), package("d", Depends="c"))
+        found, _ = imported(
+            "a", package("a", Depends="b | c, d"), package("b"), package("c"), package("d", Depends="c")
+        )
         self.assertEqual(found, {**simple("a", "c", "d"), **simple("c"), **simple("d", "c")})
 
     def test_one_that_an_earlier_choice_brought(self):
-        found, _ = imported(
-            "a", package("a", Depends="b | c, d | b"), package("b"), package("c"), package("d")
-        )
+        found, _ = imported("a", package("a", Depends="b | c, d | b"), package("b"), package("c"), package("d"))
         self.assertEqual(found, {**simple("a", "b"), **simple("b")})
 
     def test_one_that_is_given(self):
@@ -156,7 +160,11 @@ class AlternativesTest(unittest.TestCase):
         )
         self.assertEqual(found, {**simple("a", "d", "c"), **simple("c"), **simple("d")})
         found, _ = imported(
-            "a", package("a", Depends="d, b | c"), package("b", Breaks="x (<< 3)"), package("c"), package("d", Provides="x (= 2)")
+            "a",
+            package("a", Depends="d, b | c"),
+            package("b", Breaks="x (<< 3)"),
+            package("c"),
+            package("d", Provides="x (= 2)"),
         )
         self.assertEqual(found, {**simple("a", "d", "c"), **simple("c"), **simple("d")})
 
@@ -222,9 +230,7 @@ class MissingTest(unittest.TestCase):
 
     def test_another_version_is_not_there_either(self):
         found, notes = imported("a", package("a", Depends="b (>= 2:5~), c"), package("b"), package("c", Depends="b"))
-        self.assertEqual(
-            found, {**simple("a", "b/from-2_5_", "c"), **simple("b"), **simple("c", "b")}
-        )
+        self.assertEqual(found, {**simple("a", "b/from-2_5_", "c"), **simple("b"), **simple("c", "b")})
         self.assertEqual(notes, ["a depends on b/from-2:5~, which nothing provides: there will be no plan"])
 
     def test_another_architecture_is_not_there_either(self):
@@ -232,7 +238,13 @@ class MissingTest(unittest.TestCase):
         self.assertEqual(found["a"], simple("a", "b/i386/below-2", "c")["a"])
 
 
-TWO = (package("a", Depends="b, c"), package("b", Depends="a, d"), package("c"), package("d"), package("e", Depends="a"))
+TWO = (
+    package("a", Depends="b, c"),
+    package("b", Depends="a, d"),
+    package("c"),
+    package("d"),
+    package("e", Depends="a"),
+)
 
 
 class CycleTest(unittest.TestCase):
@@ -290,7 +302,10 @@ class TargetsTest(unittest.TestCase):
 class InstalledTest(unittest.TestCase):
     def test_what_stands_is_given_in_place_of_the_base(self):
         found, _ = imported(
-            "a", package("a", Depends="b, init, libc6"), package("b"), stands=[installed("b"), installed("libc6", "2.36")]
+            "a",
+            package("a", Depends="b, init, libc6"),
+            package("b"),
+            stands=[installed("b"), installed("libc6", "2.36")],
         )
         self.assertEqual(found, {**simple("a", "init"), **simple("init")})
 
@@ -308,7 +323,9 @@ class InstalledTest(unittest.TestCase):
         self.assertEqual(found, simple("a"))
 
     def test_nothing_is_taken_back_to_an_earlier_version(self):
-        found, notes = imported("a", package("a", Depends="x"), package("b", "1", Provides="x"), stands=[installed("b", "2")])
+        found, notes = imported(
+            "a", package("a", Depends="x"), package("b", "1", Provides="x"), stands=[installed("b", "2")]
+        )
         self.assertEqual(found, simple("a", "x"))
         self.assertEqual(notes, ["a depends on x, which nothing provides: there will be no plan"])
 
@@ -346,14 +363,23 @@ class UpgradeTest(unittest.TestCase):
 
     def test_it_goes_on_until_nothing_changes(self):
         given = [installed("a"), installed("b", Depends="a (= 1)"), installed("c", Depends="b (= 1)"), installed("d")]
-        stanzas = package("a", "2"), package("b", "2", Depends="a (= 2)"), package("c", "2", Depends="b (= 2), d (>= 2)")
+        stanzas = (
+            package("a", "2"),
+            package("b", "2", Depends="a (= 2)"),
+            package("c", "2", Depends="b (= 2), d (>= 2)"),
+        )
         found, _ = imported("a", *stanzas, package("d", "2"), stands=given)
         self.assertEqual(found["a/request"][1], "met +a -a/alone -b -c -d > open")
         self.assertEqual(found["c"], simple("c", "b", "d")["c"])
 
     def test_what_a_chosen_package_leans_on_may_be_lost_to_another(self):
         given = [installed("lib", Provides="x"), installed("y")]
-        stanzas = package("a", Depends="x"), package("b", Depends="lib (>= 2)"), package("lib", "2"), package("y", "2", Provides="x")
+        stanzas = (
+            package("a", Depends="x"),
+            package("b", Depends="lib (>= 2)"),
+            package("lib", "2"),
+            package("y", "2", Provides="x"),
+        )
         found, _ = imported("a b", *stanzas, stands=given)
         self.assertEqual(found["a"], simple("a", "y")["a"])
 
@@ -379,17 +405,39 @@ class UpgradeTest(unittest.TestCase):
         self.assertEqual(found, {**simple("a", "rest", "old"), **simple("old"), **simple("rest")})
         self.assertEqual(notes, [])
 
-    def test_what_breaks_and_is_needed_is_unpacked_first_where_it_has_to_be(self):
-        # The new old needs a, and a breaks the one that stands: dpkg takes its set-up back meanwhile.
+    def test_what_is_broken_and_needs_what_breaks_it_is_unpacked_first(self):
         given = [installed("old")]
-        stanzas = package("a", Breaks="old (<< 2)"), package("old", "2", Depends="a")
-        found, _ = imported("a", *stanzas, stands=given)
+        for field in ("Breaks", "Conflicts"):
+            stanzas = package("a", **{field: "old (<< 2)"}), package("old", "2", Depends="a")
+            found, _ = imported("a", *stanzas, stands=given)
+            self.assertEqual(found["a/files"][1], "unpacked +a/unpacked -old/unpacked > absent")
+            self.assertEqual(found["old/files"][1], "unpacked +old/unpacked > absent")
+            self.assertEqual(found["a/circle"][1], "settled +a +old -a/configured -old/configured > open")
+
+    def test_what_is_broken_and_pre_depends_on_what_breaks_it_is_set_back_meanwhile(self):
+        stanzas = package("a", Breaks="old (<< 2)"), package("old", "2", Pre_Depends="b"), package("b", Depends="a")
+        found, _ = imported("a", *stanzas, stands=[installed("old")])
         self.assertEqual(found["a"], ["absent > installed", "installed +a/alone > absent"])
-        self.assertEqual(found["old"], simple("old", "a/alone")["old"])
-        stanzas = package("a", Conflicts="old (<< 2)"), package("old", "2", Depends="a")
-        found, _ = imported("a", *stanzas, stands=given)
-        self.assertEqual(found["a/files"][1], "unpacked +a/unpacked -old/unpacked > absent")
-        self.assertEqual(found["a/circle"][1], "settled +a +old -a/configured -old/configured > open")
+        self.assertEqual(found["old"], simple("old", "b")["old"])
+        self.assertEqual(found["b"], simple("b", "a/alone")["b"])
+
+    def test_a_third_one_that_pre_depends_on_what_breaks(self):
+        stanzas = package("a", Breaks="old (<< 2)"), package("old", "2", Depends="b"), package("b", Pre_Depends="a")
+        found, _ = imported("a", *stanzas, stands=[installed("old")])
+        self.assertEqual(found["a"], ["absent > installed", "installed +a/alone > absent"])
+        self.assertEqual(found["old"], simple("old", "b")["old"])
+
+    def test_two_that_conflict_with_each_other_until_they_are_upgraded(self):
+        given = [installed("a"), installed("b")]
+        stanzas = package("a", "2", Conflicts="b (<< 2)"), package("b", "2", Conflicts="a (<< 2)")
+        reason = "a cycle of Conflicts: a conflicts with b until that is upgraded, and the other way round; the cycle is a, b"
+        self.assertEqual(refusal("a", *stanzas, stands=given), reason)
+
+    def test_two_that_break_each_other(self):
+        given = [installed("a"), installed("b")]
+        stanzas = package("a", "2", Breaks="b (<< 2)"), package("b", "2", Breaks="a (<< 2)")
+        found, _ = imported("a b", *stanzas, stands=given)
+        self.assertEqual(found, {**simple("a", "b"), **simple("b")})
 
     def test_an_upgrade_that_does_not_help_is_a_conflict(self):
         given = [installed("old")]
@@ -398,7 +446,11 @@ class UpgradeTest(unittest.TestCase):
 
     def test_the_same_source_is_upgraded_together(self):
         given = [installed("one"), installed("two"), installed("three")]
-        stanzas = package("one", "2", Source="s"), package("two", "2", Source="s"), package("three", "2", Source="s (3)")
+        stanzas = (
+            package("one", "2", Source="s"),
+            package("two", "2", Source="s"),
+            package("three", "2", Source="s (3)"),
+        )
         found, _ = imported("one", *stanzas, stands=given)
         self.assertEqual(sorted(found), ["one", "one/request", "two"])
 
@@ -418,7 +470,12 @@ class UpgradeTest(unittest.TestCase):
 
 class RecommendsTest(unittest.TestCase):
     def test_they_are_followed_on_request(self):
-        stanzas = package("a", Recommends="b | c, libc6"), package("b", Depends="d", Recommends="e"), package("d"), package("e")
+        stanzas = (
+            package("a", Recommends="b | c, libc6"),
+            package("b", Depends="d", Recommends="e"),
+            package("d"),
+            package("e"),
+        )
         found, _ = imported("a", *stanzas, with_recommends=True)
         self.assertEqual(found["a/request"], ["open > met", "met +a -a/alone -b -d -e > open"])
         self.assertEqual(found["b"], simple("b", "d")["b"])
@@ -426,7 +483,12 @@ class RecommendsTest(unittest.TestCase):
         self.assertEqual(found, simple("a"))
 
     def test_what_cannot_be_had_or_conflicts_is_left_out(self):
-        stanzas = package("a", Recommends="b, c, x"), package("b", Depends="d"), package("d", Conflicts="a"), package("c", Depends="y")
+        stanzas = (
+            package("a", Recommends="b, c, x"),
+            package("b", Depends="d"),
+            package("d", Conflicts="a"),
+            package("c", Depends="y"),
+        )
         found, notes = imported("a", *stanzas, with_recommends=True)
         self.assertEqual((found, notes), (simple("a"), ["recommended, and left out: b, c, x"]))
 
@@ -439,7 +501,12 @@ class RecommendsTest(unittest.TestCase):
 
 class IndexTest(unittest.TestCase):
     def test_the_highest_version_counts(self):
-        stanzas = package("a", "1.9", Depends="x"), package("a", "1.10", Depends="b"), package("a", "1.10~rc1"), package("b")
+        stanzas = (
+            package("a", "1.9", Depends="x"),
+            package("a", "1.10", Depends="b"),
+            package("a", "1.10~rc1"),
+            package("b"),
+        )
         found, _ = imported("a", *stanzas)
         self.assertEqual(found, {**simple("a", "b"), **simple("b")})
         found, _ = imported("a", package("a", "x:1"), package("a", "1"), package("a", "y:9"))
@@ -479,7 +546,9 @@ class RefusedTest(unittest.TestCase):
         self.assertEqual((found, notes), (simple("h"), []))
 
     def test_a_name_that_is_none(self):
-        self.assertEqual(self.refused("a/files", package("a/files")), "package a/files: no name of a package: 'a/files'")
+        self.assertEqual(
+            self.refused("a/files", package("a/files")), "package a/files: no name of a package: 'a/files'"
+        )
 
     def test_too_many_packages(self):
         others = [f"n{number:04}" for number in range(1001)]

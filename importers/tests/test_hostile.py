@@ -13,7 +13,8 @@ import unittest
 import unittest.mock
 
 from importers import __main__ as program
-from importers.document import plain
+from importers import kubernetes, kubernetes_input
+from importers.document import Refused, plain
 from importers.tests.test_commands import TOP
 
 try:
@@ -77,7 +78,20 @@ class ComposeTest(HostileCase):
         return self.project({"services": {"a": told, "b": {}}})
 
     def test_values_of_other_forms(self):
-        odd = [None, 1, 1.5, True, "x", [], {}, [[]], [{}], {"b": []}, {"b": {"condition": ["x"]}}, {"b": {"condition": {}}}]
+        odd = [
+            None,
+            1,
+            1.5,
+            True,
+            "x",
+            [],
+            {},
+            [[]],
+            [{}],
+            {"b": []},
+            {"b": {"condition": ["x"]}},
+            {"b": {"condition": {}}},
+        ]
         keys = "depends_on deploy networks volumes links volumes_from profiles image scale network_mode healthcheck".split()
         for key in keys:
             for value in odd:
@@ -162,7 +176,9 @@ class DebianTest(HostileCase):
     def test_relations(self):
         self.assertEqual(self.index("a\nDepends: b (>= \u0663)"), "package a: no version: '\u0663'")
         self.assertEqual(self.index("a\nDepends: b\x1b[31m"), "package a: no relation to a package: 'b\\x1b[31m'")
-        self.assertRegex(self.index(f"a\nDepends: {'(' * 100_000}"), "^package a: no relation to a package: '[(]+[.][.]'$")
+        self.assertRegex(
+            self.index(f"a\nDepends: {'(' * 100_000}"), "^package a: no relation to a package: '[(]+[.][.]'$"
+        )
 
     def test_a_field_of_many_folded_lines(self):
         self.assertRegex(self.index("a\nDepends: b (" + "\n x" * 1_000_000), "^package a: no relation to a package")
@@ -202,7 +218,13 @@ class SystemdTest(HostileCase):
 
     def test_names(self):
         self.unit("t.target", "[Unit]\n")
-        for name in ("../../../../etc/passwd", "t.target/../t.target", "/etc/passwd.service", ESCAPE + ".target", "\udc80.target"):
+        for name in (
+            "../../../../etc/passwd",
+            "t.target/../t.target",
+            "/etc/passwd.service",
+            ESCAPE + ".target",
+            "\udc80.target",
+        ):
             line = self.refused("systemd", "--root", self.folder, name)
             self.assertTrue(line.startswith("no name of a unit: "), line)
 
@@ -216,26 +238,188 @@ class SystemdTest(HostileCase):
     def test_links_that_never_end(self):
         os.symlink("b.target", self.unit("a", "").parent / "a.target")
         os.symlink("a.target", self.unit("b", "").parent / "b.target")
-        self.assertEqual(self.refused("systemd", "--root", self.folder, "a.target"), "a.target: a link that leads back to itself")
+        self.assertEqual(
+            self.refused("systemd", "--root", self.folder, "a.target"), "a.target: a link that leads back to itself"
+        )
 
     def test_no_file(self):
         for target in ("/dev/zero", "/proc/self/mem", "/"):
             path = self.unit("x", "").parent / "z.target"
             path.unlink(missing_ok=True)
             path.symlink_to(target)
-            self.assertIn("leads to no file that can be read", self.refused("systemd", "--root", self.folder, "z.target"))
+            self.assertIn(
+                "leads to no file that can be read", self.refused("systemd", "--root", self.folder, "z.target")
+            )
 
     def test_many_names(self):
-        names = " ".join(f"u{number}.service" for number in range(100_000))
+        names = " ".join(f"u{number}.service" for number in range(30_000))
         self.unit("t.target", f"[Unit]\nDefaultDependencies=no\nWants={names}\n")
         self.assertEqual(self.ended("t.target")[0], 0)
         for number in range(2_100):
             self.unit(f"u{number}.service", "[Unit]\nDefaultDependencies=no\n")
-        self.assertEqual(self.refused("systemd", "--root", self.folder, "t.target"), "t.target pulls in more than 2000 units")
+        self.assertEqual(
+            self.refused("systemd", "--root", self.folder, "t.target"), "t.target pulls in more than 2000 units"
+        )
 
     def test_a_long_line(self):
-        self.unit("t.target", "[Unit]\n" + "Wants=\\\n" * 100_000 + "a.service")
+        self.unit("t.target", "[Unit]\n" + "Wants=\\\n" * 400_000 + "a.service")
         self.assertEqual(self.ended("t.target")[0], 0)
+
+
+class KubernetesTest(HostileCase):
+    POD = {
+        "serviceAccountName": "a",
+        "imagePullSecrets": [{"name": "s"}],
+        "volumes": [
+            {
+                "name": "v",
+                "secret": {"secretName": "s", "items": [{"key": "k"}]},
+                "projected": {"sources": [{"secret": {"name": "s"}}]},
+            }
+        ],
+        "initContainers": [
+            {"name": "i", "command": ["nc", "s"], "args": ["x"], "env": [{"name": "A", "value": "s:1"}]}
+        ],
+        "containers": [
+            {
+                "name": "c",
+                "envFrom": [{"secretRef": {"name": "s"}}],
+                "env": [{"valueFrom": {"secretKeyRef": {"name": "s", "key": "k"}}}],
+            }
+        ],
+    }
+
+    def objects(self):
+        def told(kind, version="v1", **more):
+            metadata = {
+                "name": "s",
+                "namespace": "n",
+                "labels": {"l": "1"},
+                "annotations": {"helm.sh/hook": "pre-install", "helm.sh/hook-weight": "1"},
+            }
+            return {"apiVersion": version, "kind": kind, "metadata": metadata, **more}
+
+        rule = {"apiGroups": ["*"], "operations": ["*"], "resources": ["*"], "scope": "*"}
+        hook = {
+            "rules": [rule],
+            "clientConfig": {"service": {"name": "s", "namespace": "n"}},
+            "namespaceSelector": {
+                "matchLabels": {"l": "1"},
+                "matchExpressions": [{"key": "l", "operator": "In", "values": ["1"]}],
+            },
+        }
+        subjects = [{"kind": "ServiceAccount", "name": "a", "namespace": "n"}]
+        definition = {
+            "group": "g.io",
+            "names": {"kind": "K", "plural": "ks"},
+            "scope": "Namespaced",
+            "conversion": {"strategy": "Webhook", "webhook": {"clientConfig": {"service": {"name": "s"}}}},
+        }
+        path = {"backend": {"service": {"name": "s"}}}
+        return [
+            told(
+                "Deployment",
+                "apps/v1",
+                spec={"replicas": 1, "template": {"metadata": {"labels": {"l": "1"}}, "spec": self.POD}},
+            ),
+            told("CronJob", "batch/v1", spec={"jobTemplate": {"spec": {"template": {"spec": self.POD}}}}),
+            told("Service", spec={"selector": {"l": "1"}}),
+            told("Secret", data={"k": "x"}),
+            told("ValidatingWebhookConfiguration", "admissionregistration.k8s.io/v1", webhooks=[hook]),
+            told("CustomResourceDefinition", "apiextensions.k8s.io/v1", spec=definition),
+            told("K", "g.io/v1", spec={}),
+            told(
+                "APIService",
+                "apiregistration.k8s.io/v1",
+                spec={"group": "g2.io", "service": {"name": "s", "namespace": "n"}},
+            ),
+            told(
+                "RoleBinding", "rbac.authorization.k8s.io/v1", roleRef={"kind": "Role", "name": "r"}, subjects=subjects
+            ),
+            told(
+                "Ingress",
+                "networking.k8s.io/v1",
+                spec={"ingressClassName": "i", "rules": [{"http": {"paths": [path]}}]},
+            ),
+            told("PersistentVolumeClaim", spec={"storageClassName": "s", "volumeName": "v"}),
+            told("Certificate", "cert-manager.io/v1", spec={"secretName": "t"}),
+        ]
+
+    def test_values_of_other_forms(self):
+        """In the place of each value in turn stands one of another form."""
+        for at, whole in enumerate(self.objects()):
+            for path in paths_in(whole):
+                for odd in (None, 1, "x", [], {}, [[]], {"a": []}):
+                    objects = self.objects()
+                    put_at(objects[at], path, odd)
+                    file = self.file(json.dumps({"kind": "List", "items": objects}))
+                    with self.subTest(path=path, odd=odd), contextlib.suppress(Refused):
+                        document, _ = kubernetes.universe(kubernetes_input.read_manifests([str(file)], "default"))
+                        self.assertIn("types", json.loads(document))
+
+    def test_control_characters(self):
+        for told in (
+            {"kind": ESCAPE},
+            {"kind": "Pod", "apiVersion": ESCAPE},
+            {"kind": "Pod", "apiVersion": "v1", "metadata": {"name": ESCAPE}},
+        ):
+            self.assertIn("\\x1b[31m", self.refused("kubernetes", self.file(json.dumps(told))))
+        self.assertIn(
+            "\\x1b[31m",
+            self.refused(
+                "kubernetes",
+                self.file('{"kind": "Pod", "apiVersion": "v1", "metadata": {"name": "a"}}'),
+                "--given",
+                ESCAPE,
+            ),
+        )
+
+    def test_sizes(self):
+        self.assertEqual(self.refused("kubernetes", "/dev/zero"), "/dev/zero: more than 16777216 bytes")
+        hooks = [{"clientConfig": {"service": {"name": "s", "namespace": "n"}}, "rules": []}] * 50_000
+        told = {
+            "kind": "ValidatingWebhookConfiguration",
+            "apiVersion": "admissionregistration.k8s.io/v1",
+            "metadata": {"name": "w"},
+            "webhooks": hooks,
+        }
+        self.assertEqual(
+            self.refused("kubernetes", self.file(json.dumps(told))), "50000 webhooks, and at most 300 are asked"
+        )
+        command = ["x " * 1_000_000 + "a-" * 100_000 + "jobs pods " * 100_000]
+        pod = {
+            "kind": "Pod",
+            "apiVersion": "v1",
+            "metadata": {"name": "p"},
+            "spec": {"initContainers": [{"command": command}]},
+        }
+        self.assertEqual(ended("kubernetes", self.file(json.dumps(pod)))[0], 0)
+
+    @unittest.skipUnless(yaml, "PyYAML is not there")
+    def test_yaml(self):
+        self.assertEqual(
+            self.refused("kubernetes", self.file("kind: Pod\n---\n" + bomb())),
+            "file: line 9: more than 1000000 values, with what aliases stand for",
+        )
+        self.assertEqual(
+            self.refused("kubernetes", self.file("---\n" * 1000)),
+            f"{self.folder}/file: no manifests".replace(f"{self.folder}/", ""),
+        )
+
+
+def paths_in(value, path=()):
+    """The place of each value in a value, as keys and numbers."""
+    if path:
+        yield path
+    entries = value.items() if isinstance(value, dict) else enumerate(value) if isinstance(value, list) else ()
+    for key, each in entries:
+        yield from paths_in(each, (*path, key))
+
+
+def put_at(value, path, odd):
+    for key in path[:-1]:
+        value = value[key]
+    value[path[-1]] = odd
 
 
 class OutputTest(HostileCase):

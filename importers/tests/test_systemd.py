@@ -87,7 +87,9 @@ class OrderTest(unittest.TestCase):
         found, _ = imported(
             "t.target",
             {
-                "t.target": unit("Wants=a.service s.socket w.timer basic.target sockets.target timers.target time-set.target"),
+                "t.target": unit(
+                    "Wants=a.service s.socket w.timer basic.target sockets.target timers.target time-set.target"
+                ),
                 "a.service": "[Service]\nPrivateTmp=yes\nType=dbus\n",
                 "s.socket": "[Socket]\nService=a.service\n",
                 "w.timer": "[Timer]\nOnCalendar=daily\nUnit=a.service\n",
@@ -129,7 +131,11 @@ class FilesTest(unittest.TestCase):
     def test_folders_of_links_and_instances(self):
         found, _ = imported(
             "t.target",
-            {"t.target": unit(), "a@.service": service("After=b@%i.service"), "b@.service": service("Before=%p@x.service")},
+            {
+                "t.target": unit(),
+                "a@.service": service("After=b@%i.service"),
+                "b@.service": service("Before=%p@x.service"),
+            },
             [
                 (f"{LOCAL}/t.target.wants/a@one.service", "/lib/systemd/system/a@.service"),
                 ("t.target.requires/b@one.service", "../b@.service"),
@@ -149,7 +155,9 @@ class FilesTest(unittest.TestCase):
             {"t.target": unit("Wants=other.service"), "a.service": service("After=t.target")},
             [("default.target", "t.target"), ("other.service", "/lib/systemd/system/a.service")],
         )
-        self.assertEqual(found, {**active("a.service", "t.target"), **active("t.target"), **boot("a.service", "t.target")})
+        self.assertEqual(
+            found, {**active("a.service", "t.target"), **active("t.target"), **boot("a.service", "t.target")}
+        )
 
     def test_a_link_to_a_file_elsewhere(self):
         files = {"t.target": unit("Wants=a.service"), "opt/systemd/system/a.service": service("After=t.target")}
@@ -180,7 +188,6 @@ class FilesTest(unittest.TestCase):
         }
         self.assertEqual(found, expected)
 
-
     def test_folders_of_other_names_templates_and_prefixes(self):
         names = ["alias", "template", "instance", "prefix", "far"]
         found, _ = imported(
@@ -206,7 +213,11 @@ class FilesTest(unittest.TestCase):
     def test_templates_by_another_name(self):
         found, _ = imported(
             "t.target",
-            {"t.target": unit("Wants=auto@x.service"), "real@.service": service("Wants=of-%i.service"), "of-x.service": service()},
+            {
+                "t.target": unit("Wants=auto@x.service"),
+                "real@.service": service("Wants=of-%i.service"),
+                "of-x.service": service(),
+            },
             [("auto@.service", "real@.service")],
         )
         self.assertEqual(sorted(set(found) - {"boot"}), ["of-x.service", "real@x.service", "t.target"])
@@ -220,7 +231,10 @@ class FilesTest(unittest.TestCase):
         found, notes = imported(
             "t.target",
             {"t.target": unit("Wants=a.service b.service"), "opt/systemd/system/a.service": service("After=t.target")},
-            [("a.service", "../../../../../../../../opt/systemd/system/a.service"), ("b.service", "../" * 30 + "etc/passwd")],
+            [
+                ("a.service", "../../../../../../../../opt/systemd/system/a.service"),
+                ("b.service", "../" * 30 + "etc/passwd"),
+            ],
         )
         self.assertEqual(sorted(found), ["a.service", "boot", "t.target"])
         self.assertIn("b.service: /lib/systemd/system/b.service leads to no file that can be read", notes)
@@ -234,17 +248,24 @@ class FilesTest(unittest.TestCase):
         self.assertEqual(notes[1], "a.service: /lib/systemd/system/a.service leads to no file that can be read")
 
     def test_lines(self):
-        text = "\ufeff[Unit]\nDefaultDependencies=no\nWants=a.service \\\n # no\n; no\n b.service \\\\\nWants=\"c.service\"\n[Service]\nWants=d.service\n"
+        text = '\ufeff[Unit]\nDefaultDependencies=no\nWants=a.service \\\n # no\n; no\n b.service \\\\\nWants="c.service"\n[Service]\nWants=d.service\n'
         files = {"t.target": text, **{f"{name}.service": service() for name in "abcd"}}
         found, _ = imported("t.target", files)
         self.assertEqual(sorted(found), ["a.service", "b.service", "boot", "t.target"])
 
     def test_a_line_that_begins_as_a_section(self):
-        files = {"t.target": unit("Wants=a.service b.service"), "a.service": service() + "[Unit\n", "b.service": service()}
+        files = {
+            "t.target": unit("Wants=a.service b.service"),
+            "a.service": service() + "[Unit\n",
+            "b.service": service(),
+        }
         files["b.service.d/x.conf"] = "[Unit]\nWants=c.service\n[Unit\nWants=d.service\n"
         found, notes = imported("t.target", {**files, "c.service": service(), "d.service": service()})
         self.assertEqual(sorted(found), ["b.service", "boot", "c.service", "t.target"])
-        self.assertIn("a.service: /lib/systemd/system/a.service has a line that begins with [ and names no section, so it is not read", notes)
+        self.assertIn(
+            "a.service: /lib/systemd/system/a.service has a line that begins with [ and names no section, so it is not read",
+            notes,
+        )
 
 
 class RulesTest(unittest.TestCase):
@@ -258,10 +279,16 @@ class RulesTest(unittest.TestCase):
         return found[name][1].split()[2:-2], notes
 
     def test_asking_for_what_stands_pulls_nothing_in(self):
-        files = {"t.target": unit("Wants=a.service"), "a.service": service("Requisite=b.service"), "b.service": service()}
+        files = {
+            "t.target": unit("Wants=a.service"),
+            "a.service": service("Requisite=b.service"),
+            "b.service": service(),
+        }
         found, notes = imported("t.target", files)
         self.assertEqual(sorted(found), ["a.service", "boot", "t.target"])
-        self.assertEqual(notes, ["a.service asks for b.service to stand already, and nothing here starts that: it will fail"])
+        self.assertEqual(
+            notes, ["a.service asks for b.service to stand already, and nothing here starts that: it will fail"]
+        )
 
     def test_mounts(self):
         sets = "local-fs.target remote-fs.target local-fs-pre.target remote-fs-pre.target network.target network-online.target".split()
@@ -286,7 +313,12 @@ class RulesTest(unittest.TestCase):
         self.assertEqual(found["a.service"], active("a.service", "srv-data.mount")["a.service"])
 
     def test_the_bus_and_temporary_folders(self):
-        others = "dbus.socket", "systemd-tmpfiles-setup.service", "systemd-remount-fs.service", "systemd-journald.socket"
+        others = (
+            "dbus.socket",
+            "systemd-tmpfiles-setup.service",
+            "systemd-remount-fs.service",
+            "systemd-journald.socket",
+        )
         for text, expected in {
             "BusName=a.b": "-dbus.socket",
             "Type=simple\nBusName=a.b": "",
@@ -299,7 +331,11 @@ class RulesTest(unittest.TestCase):
             self.assertEqual(" ".join(after), expected, text)
 
     def test_what_only_a_unit_that_is_left_out_pulls_in(self):
-        files = {"t.target": unit("Wants=a.service"), "a.service": service("Requires=n.service\nWants=b.service"), "b.service": service()}
+        files = {
+            "t.target": unit("Wants=a.service"),
+            "a.service": service("Requires=n.service\nWants=b.service"),
+            "b.service": service(),
+        }
         found, _ = imported("t.target", files)
         self.assertEqual(sorted(found), ["boot", "t.target"])
 
@@ -359,7 +395,10 @@ class RefusedTest(unittest.TestCase):
         return str(caught.exception)
 
     def test_no_such_unit(self):
-        self.assertRegex(self.refused("x.target", {"t.target": unit()}), "^no unit x.target in /etc/.*, /run/.*, /lib/systemd/system,")
+        self.assertRegex(
+            self.refused("x.target", {"t.target": unit()}),
+            "^no unit x.target in /etc/.*, /run/.*, /lib/systemd/system,",
+        )
 
     def test_masked(self):
         reason = "t.target is masked, so it is never started"
@@ -367,7 +406,15 @@ class RefusedTest(unittest.TestCase):
         self.assertEqual(self.refused("t.target", {"t.target": ""}), reason)
 
     def test_no_name(self):
-        for name in ("../../etc/passwd", "/etc/x.target", "x", "a@.service", "x.target.wants", "x\x1b.target", "a" * 260 + ".target"):
+        for name in (
+            "../../etc/passwd",
+            "/etc/x.target",
+            "x",
+            "a@.service",
+            "x.target.wants",
+            "x\x1b.target",
+            "a" * 260 + ".target",
+        ):
             self.assertEqual(self.refused(name, {"t.target": unit()}), f"no name of a unit: {name}")
 
     def test_no_folder(self):
