@@ -1,4 +1,4 @@
-"""python3 -m importers debian|compose|systemd|kubernetes|sketch|check|show ..: prints a universe's document (see README.md beside this file)."""
+"""python3 -m importers debian|compose|systemd|kubernetes|sketch .., check .., show ..: see README.md beside this file."""
 
 import argparse
 import importlib

@@ -130,7 +130,7 @@ def of_the_importers(program: pathlib.Path) -> Iterator[str]:
     """What was carried out by dpkg, which importers/README.md has as a table, with the plans of the examples."""
     name = "importers/README.md"
     rows = dict(re.findall(r"(?m)^\| ([a-z0-9.+-]+) \| ([\d,]+ \| [\d,]+ \| [\d,]+) \|$", (TOP / name).read_text()))
-    drawn = sought(name, r"(\d+) packages were drawn at random")
+    drawn = sought(name, r"(\d+) packages were drawn")
     found = sought("README.md", r"Plans for (\d+) packages of Debian, and for (\d+) drawn at random")
     yield from unequal("README.md", "packages", found and tuple(map(int, found.groups())), drawn and (len(rows), int(drawn[1])))
     found = sought("README.md", r"brings (\d+) packages in order")
