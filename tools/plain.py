@@ -19,7 +19,7 @@ import sys
 from collections.abc import Iterator
 
 TOP = pathlib.Path(__file__).resolve().parent.parent
-PAGES = ("README.md", "docs/TUTORIAL.md", "docs/MODELLING.md", "docs/FORMATS.md", "docs/EXPORTERS.md", "docs/metis.1")
+PAGES = ("README.md", "docs/TUTORIAL.md", "docs/MODELLING.md", "docs/FORMATS.md", "docs/IMPORTERS.md", "docs/EXPORTERS.md", "docs/metis.1")
 LONGEST = 35
 AVERAGE = 18
 # 'For' means because if a clause follows: by a word that begins one, or by a subject of two words and its verb.
