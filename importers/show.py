@@ -18,24 +18,8 @@ MOST_BYTES = 268_435_456
 OTHER_BYTE = re.compile(rb"[^\x20-\x7e\n]")
 
 
-def what(action: texts.Action) -> str:
-    """An action in words."""
-    who = f"{action.type}#{action.instance}"
-    words = action.words
-    if action.verb == "new":
-        return f"make {who}"
-    if action.verb == "delete":
-        return f"delete {who}"
-    if action.verb == "move":
-        return f"{who}: {words[1]} -> {words[2]}"
-    provider = f"{action.provider_type}#{action.provider}"
-    if action.verb == "bind":
-        return f"{who} takes {words[0]} from {provider}"
-    return f"{who} lets {words[0]} of {provider} go"
-
-
 def plan_lines(plan: texts.Plan) -> Iterator[str]:
-    words = [what(action) for action in plan.actions]
+    words = [texts.in_words(action) for action in plan.actions]
     width = max(map(len, words), default=0)
     for action, each in zip(plan.actions, words):
         behind = f"after {', '.join(map(str, action.after))}" if action.after else ""
@@ -117,7 +101,7 @@ def reason_value(reason):
 
 def schedule_lines(schedule: over_plans.Schedule) -> Iterator[str]:
     actions, chain = schedule.plan.actions, set(schedule.chain)
-    words = [what(action) for action in actions]
+    words = [texts.in_words(action) for action in actions]
     width = max(map(len, words), default=0)
     starts = [f"at {early}" if early == late else f"at {early} to {late}" for early, late in schedule.starts]
     breadth = max(map(len, starts), default=0)
