@@ -128,7 +128,7 @@ def placement_lines(placement: over_plans.Placement) -> Iterator[str]:
         yield f"{who:<{width}}  on {placement.host_of[action.instance]}"
     for number, others in placement.holds.items():
         behind = ", ".join(map(str, others))
-        yield f"{number:>4}  {what(placement.plan.actions[number - 1])} waits for room, after {behind}"
+        yield f"{number:>4}  {texts.in_words(placement.plan.actions[number - 1])} waits for room, after {behind}"
 
 
 def placement_value(placement: over_plans.Placement) -> dict:
