@@ -115,7 +115,7 @@ lay_out() {
     [ ! -d "$top/exporters" ] || install_command "$root" metis-export exporters
     install -D -m 644 "$top/completion/metis.bash" "$root/share/bash-completion/completions/metis"
     install -D -m 644 "$top/completion/_metis" "$root/share/zsh/vendor-completions/_metis"
-    lay_tracked "$documents" '^docs/metis\.1$' README.md CONTRIBUTING.md CHANGELOG.md docs examples
+    lay_tracked "$documents" '^docs/metis\.1$' README.md CONTRIBUTING.md CHANGELOG.md docs examples importers/README.md exporters/README.md
     proved >"$documents/PROVED"
     changelog | gzip -9n >"$documents/changelog.gz"
 }
