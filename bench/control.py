@@ -5,7 +5,7 @@
 
 PROGRAM is the built planner, as crates/metis/out/metis. The plans are those of replay.py. Each script has as many lines as fit into the
 65,536 bytes that are read. What has to be answered is known from how a script is made. The least time of eight runs counts, and it is
-that of the processor. The status is 1 where an answer is not one that has to come. docs/BENCHMARKS.md says how to read the table.
+that of the processor. The status is 1 where an answer is not one that has to come. docs/dev/BENCHMARKS.md says how to read the table.
 """
 
 import sys

@@ -5,7 +5,7 @@
 
 PROGRAM is the built planner, as crates/metis/out/metis. The plans are those of replay.py. Each is printed by `plan`, and then a
 crew takes turns over it in three orders. Whose turn it is, and what an answer may be, is told by the plan's text. The least time of
-two runs counts, and it is that of the processor. The status is 1 where an answer is not one that has to come. docs/BENCHMARKS.md
+two runs counts, and it is that of the processor. The status is 1 where an answer is not one that has to come. docs/dev/BENCHMARKS.md
 says how to read the table.
 """
 

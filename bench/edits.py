@@ -5,7 +5,7 @@
 
 PROGRAM is the built planner, as crates/metis/out/metis. Each text is well formed and a run, so that its verdict is good;
 how many instances stand and how many actions there are is worked out here. The least time of two runs counts, and it is
-that of the processor. The status is 1 where an answer is not the one that has to come. docs/BENCHMARKS.md says how to read the table.
+that of the processor. The status is 1 where an answer is not the one that has to come. docs/dev/BENCHMARKS.md says how to read the table.
 """
 
 import json

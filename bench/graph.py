@@ -6,7 +6,7 @@
 PROBE is the built program of probes, as crates/metis_probe/out/metis_probe. For each size it makes one probe, `graph`, over the
 universe that `load` generates, with the same targets: the universe is read, the layers are counted, a support is chosen, and the
 lines, the graph and its sort are made once. The script makes three runs and takes the least time of the processor. The status is
-1 where the counts are not those that have to come. docs/BENCHMARKS.md says how to read the table.
+1 where the counts are not those that have to come. docs/dev/BENCHMARKS.md says how to read the table.
 """
 
 import json

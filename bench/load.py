@@ -5,7 +5,7 @@
 
 PROGRAM is the built planner, as crates/metis/out/metis. Each run makes the generated universe of the size, plans for its targets,
 replays the plan, and prints its counts. The script makes three runs and takes the least time of the processor. The status is 1
-where an answer is not the one that has to come. docs/BENCHMARKS.md says how to read the table.
+where an answer is not the one that has to come. docs/dev/BENCHMARKS.md says how to read the table.
 """
 
 import os

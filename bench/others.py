@@ -14,7 +14,7 @@ PROGRAM is the built program, as crates/metis/out/metis; SECONDS is how long cli
                 double, and answers a cycle with an error
 
 The seconds are by the clock, for the whole run of each, the least of three; of one that takes over five seconds one run. The script
-looks at each answer, and its status is 1 where one is not what has to come. docs/BENCHMARKS.md says how to read the table.
+looks at each answer, and its status is 1 where one is not what has to come. docs/dev/BENCHMARKS.md says how to read the table.
 """
 
 import json
@@ -49,7 +49,7 @@ served(T,I,P,t) :- st(T,I,S,t), req(T,S,P), st(U,J,V,t), st(U,J,W,t-1), prov(U,V
 
 
 def generated(size):
-    """The types of the generated universe (docs/MODEL.md): the name of each, and for each state its ports and what follows."""
+    """The types of the generated universe (docs/dev/MODEL.md): the name of each, and for each state its ports and what follows."""
     types = []
     for place in range(size):
         here, before = f"{place:03}", f"{place - 1:03}"

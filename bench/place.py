@@ -5,7 +5,7 @@
 
 PROGRAM is the built planner, as crates/metis/out/metis. The plans and the hosts are made here, and each line that has to come is known from
 how they are made. The least time of two runs counts, and it is that of the processor. The status is 1 where a line is not one that has
-to come. docs/BENCHMARKS.md says how to read the table.
+to come. docs/dev/BENCHMARKS.md says how to read the table.
 """
 
 import sys

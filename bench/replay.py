@@ -6,7 +6,7 @@
 PROGRAM is the built planner, as crates/metis/out/metis. The universe is near the limits, and the plans are for up to as many
 targets as there may be. Each plan is printed by `plan`, then read by `replay` with its last line cut off, which ends the run before the
 replay, and at last replayed whole. The least time of three runs counts, and it is that of the processor. The status is 1 where an answer
-is not the one that has to come. docs/BENCHMARKS.md says how to read the table.
+is not the one that has to come. docs/dev/BENCHMARKS.md says how to read the table.
 """
 
 import json

@@ -6,7 +6,7 @@
 PROGRAM is the built planner, as crates/metis/out/metis. The plans are those of replay.py, rolled out to the same targets, and torn down.
 The rings are instances that each are bound to the next, and the last to the first: they need a scaffold. How many actions have to come
 is known from how a plan is made. The least time of a few runs counts, and it is that of the processor. The status is 1 where an answer
-is not the one that has to come. docs/BENCHMARKS.md says how to read the table.
+is not the one that has to come. docs/dev/BENCHMARKS.md says how to read the table.
 """
 
 import json

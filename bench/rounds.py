@@ -14,7 +14,7 @@ ports, and their states follow one another.
 
 So each type's early states serve the next type while its line goes on, and all but one of them have to be doubled. The targets are
 256 instances in last states. The script works out how many instances and dups there are, and looks at the last line; the status is
-1 where one is not what it has to be. docs/BENCHMARKS.md says how to read the table.
+1 where one is not what it has to be. docs/dev/BENCHMARKS.md says how to read the table.
 """
 
 import filecmp

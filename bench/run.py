@@ -5,7 +5,7 @@
 
 PROGRAM is the built planner, as crates/metis/out/metis. For each kind of universe and each size the command
 `PROGRAM plan FILE TARGET` is run a few times, where the target is the last type's state on. The least time counts.
-The status is 1 where an answer is not the one that has to come, and docs/BENCHMARKS.md says how to read the table.
+The status is 1 where an answer is not the one that has to come, and docs/dev/BENCHMARKS.md says how to read the table.
 """
 
 import json

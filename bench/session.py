@@ -5,7 +5,7 @@
 
 PROGRAM is the built planner, as crates/metis/out/metis. Each script has at most the 65,536 bytes that are read, and all of its
 actions are done, so that all configurations are kept. The status is 1 where an answer is not the one that has to come.
-docs/BENCHMARKS.md says how to read the table.
+docs/dev/BENCHMARKS.md says how to read the table.
 """
 
 import json

@@ -8,7 +8,7 @@ states in a row. Those of odd number provide a port each, and require sixteen pr
 before it; the others have no ports. So each provider pair has sixteen slots, and each instance lets go of what it took before it
 takes the next, so that nothing has to be doubled. The targets are 256 instances of the last type in its last state. The script
 works out the second line of the plan and looks at the last one; the status is 1 where one is not what it has to be.
-docs/BENCHMARKS.md says how to read the table.
+docs/dev/BENCHMARKS.md says how to read the table.
 """
 
 import json

@@ -6,7 +6,7 @@
 PROGRAM is the built planner, as crates/metis/out/metis. The texts of the plans are made here, larger ones than are printed within the
 limits. What the lines have to be is worked out from the texts alone: an action waits for the numbers behind its `after` and for the
 previous one of its instance. The least time of two runs counts, and it is that of the processor. The status is 1 where an answer is
-not the one that has to come. docs/BENCHMARKS.md says how to read the table.
+not the one that has to come. docs/dev/BENCHMARKS.md says how to read the table.
 """
 
 import json

@@ -18,7 +18,7 @@ its callgrind, which do not depend on what else the machine does. The goal is la
 What has to be printed is known from how a universe is made, and in small ones of the same kind it is what tools/second_why.py finds.
 The status is 1 where an answer is not the one that has to come, or where a run takes more than it may: for `chain` ten times what
 `plan` takes and 2.3 times the size before, and for each kind BOUND instructions. A kind that goes past BOUND is not tried any
-larger. docs/BENCHMARKS.md says how to read the table.
+larger. docs/dev/BENCHMARKS.md says how to read the table.
 """
 
 import json

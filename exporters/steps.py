@@ -60,7 +60,7 @@ class Instance:
 
 
 class Course:
-    """Follows a list of actions. What each waits for follows from the actions alone, as docs/MODEL.md defines it."""
+    """Follows a list of actions. What each waits for follows from the actions alone, as docs/dev/MODEL.md defines it."""
 
     def __init__(self) -> None:
         self.instances: dict[int, Instance] = {}

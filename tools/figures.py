@@ -22,7 +22,7 @@ COUNTS = re.compile(r"There are (\w+) crates, (\w+) edits, (\w+) programs and (\
 PASSED = re.compile(r"(\d+) passed, 0 failed")
 KIT = re.compile(r"rattle-kit-\w+")
 LIMITS = re.compile(r"at most ([\d,]+) pairs,? (?:and )?([\d,]+) ports(?:, (\d+) states a type and (\d+)\s+providers)?")
-# A crate's row in docs/GATE.md: the seconds of its proof, its ground, its edits and the last look.
+# A crate's row in docs/dev/GATE.md: the seconds of its proof, its ground, its edits and the last look.
 ROW_OF_A_CRATE = re.compile(r"(?m)^\| `(metis\w*)` \| ([\d-]+) \| ([\d-]+) \| ([\d-]+) \| ([\d-]+) \|$")
 SHARES = re.compile(r"The proofs took (\d+) of these, the grounds (\d+), the edits (\d+), and the last looks (\d+)\.")
 
@@ -33,7 +33,7 @@ def text_of(name: str) -> str:
 
 
 def pages() -> list[str]:
-    found = [*TOP.glob("*.md"), *TOP.glob("docs/*.md"), *TOP.glob("*porters/*.md"), *TOP.glob("docs/*.1")]
+    found = [*TOP.glob("*.md"), *TOP.glob("docs/**/*.md"), *TOP.glob("*porters/*.md"), *TOP.glob("docs/*.1")]
     return sorted(str(it.relative_to(TOP)) for it in found if it.name != "CHANGELOG.md")
 
 
@@ -68,11 +68,11 @@ def counts_of_sources() -> tuple[int, int, int, int]:
 
 
 def of_the_sources() -> Iterator[str]:
-    """What docs/GATE.md and README count, and what `rt ci` ends with: a crate and an edit pass each."""
+    """What docs/dev/GATE.md and README count, and what `rt ci` ends with: a crate and an edit pass each."""
     counts = counts_of_sources()
-    found = COUNTS.search(text_of("docs/GATE.md"))
+    found = COUNTS.search(text_of("docs/dev/GATE.md"))
     told = tuple(map(number, found.groups())) if found else None
-    yield from unequal("docs/GATE.md", "crates, edits, programs and tests", told, counts)
+    yield from unequal("docs/dev/GATE.md", "crates, edits, programs and tests", told, counts)
     for name in pages():
         for passed in PASSED.findall(text_of(name)):
             yield from unequal(name, "passed", int(passed), counts[0] + counts[1])
@@ -81,8 +81,8 @@ def of_the_sources() -> Iterator[str]:
 
 
 def of_the_gate() -> Iterator[str]:
-    """The table of docs/GATE.md has each crate once, and its columns come to the minutes that are told above it."""
-    name = "docs/GATE.md"
+    """The table of docs/dev/GATE.md has each crate once, and its columns come to the minutes that are told above it."""
+    name = "docs/dev/GATE.md"
     rows = ROW_OF_A_CRATE.findall((TOP / name).read_text())
     without = sorted({row[0] for row in rows} ^ set(crates()))
     yield from unequal(name, "crates in the table or in crates.txt alone", without, [])
@@ -106,24 +106,24 @@ def of_the_kit() -> Iterator[str]:
 
 
 def of_first_use() -> Iterator[str]:
-    """README's times of `rt ci` and of tools/build.py, which docs/GATE.md has."""
+    """README's times of `rt ci` and of tools/build.py, which docs/dev/GATE.md has."""
     for command, pattern in (
         ("rt ci", r"(\d+) minutes by the clock and \*\*(\d+) minutes of processor"),
         ("tools/build.py", r"Without edits it takes (\d+) by the clock and (\d+) of processor"),
     ):
         row = re.search(rf"(?m)^\| `{command}` \| (\d+) min \| (\d+) min \|$", (TOP / "README.md").read_text())
-        found = sought("docs/GATE.md", pattern)
+        found = sought("docs/dev/GATE.md", pattern)
         yield from unequal("README.md", f"minutes of {command}", row and row.groups(), found and found.groups())
 
 
 def of_other_tools() -> Iterator[str]:
-    """README's seconds beside other tools, which docs/BENCHMARKS.md has."""
-    row = re.search(r"(?m)^\| 128 \| ([\d,]+) \| ([\d.]+) \| - \| - \| ([\d.]+) \|$", (TOP / "docs/BENCHMARKS.md").read_text())
-    half = re.search(r"(?m)^\| 64 \| ([\d,]+) \| [\d.]+ \| none in (\d+) \|", (TOP / "docs/BENCHMARKS.md").read_text())
+    """README's seconds beside other tools, which docs/dev/BENCHMARKS.md has."""
+    row = re.search(r"(?m)^\| 128 \| ([\d,]+) \| ([\d.]+) \| - \| - \| ([\d.]+) \|$", (TOP / "docs/dev/BENCHMARKS.md").read_text())
+    half = re.search(r"(?m)^\| 64 \| ([\d,]+) \| [\d.]+ \| none in (\d+) \|", (TOP / "docs/dev/BENCHMARKS.md").read_text())
     found = sought("README.md", r"over ([\d,]+) pairs takes ([\d.]+) s\. terraform takes ([\d.]+) s .* none in (\d+) s, for half")
     right = row and half and (row[1], row[2], f"{float(row[3]):.1f}", half[2])
     yield from unequal("README.md", "seconds beside other tools", found and found.groups(), right)
-    yield from unequal("docs/BENCHMARKS.md", "half as many pairs", half and number(half[1]) * 2, row and number(row[1]))
+    yield from unequal("docs/dev/BENCHMARKS.md", "half as many pairs", half and number(half[1]) * 2, row and number(row[1]))
 
 
 def of_the_importers(program: pathlib.Path) -> Iterator[str]:

@@ -2,7 +2,7 @@
 """Lists what the headline stands on: every definition that the clause `headline` of `run` reaches, file by file.
 
     tools/reading_list.py             prints the list
-    tools/reading_list.py --write     writes it into docs/HEADLINE.md, between its marks
+    tools/reading_list.py --write     writes it into docs/dev/HEADLINE.md, between its marks
     tools/reading_list.py --check     ends with status 1 where the page has another list, or where its table of phrases names
                                       a definition that is not on the list, or leaves one out of the promised part
 
@@ -15,7 +15,7 @@ import re
 import sys
 
 TOP = pathlib.Path(__file__).resolve().parent.parent
-PAGE = TOP / "docs" / "HEADLINE.md"
+PAGE = TOP / "docs" / "dev" / "HEADLINE.md"
 CLAUSE_FILE, CLAUSE = TOP / "crates" / "metis_top" / "src" / "top.rt", "headline"
 # What is promised, apart from what is asked of words and files.
 PROMISE = ("metis_top.specs.Deployment", "DeploysOrRefuses")

@@ -10,7 +10,7 @@ that are in order and words of the right form; of others it tells no fault. tool
 A set x of pairs bars a pair that is not free for one of two reasons. The pair requires a port, and each pair that provides
 the port is in x. Or each pair from which a move leads to it is in x. The set is barred where it bars each of its pairs. It
 covers a goal where it has the pair, or each pair that provides the port. What a barred set covers no list of actions
-attains (docs/MODEL.md). Which lines are printed, where several would do, is settled by three rules:
+attains (docs/dev/MODEL.md). Which lines are printed, where several would do, is settled by three rules:
 
 - Pairs are tried one after the other, the farthest from the goal first, and left out where the rest still covers it. The
   distance counts over all reasons that a pair has among those that are not attained.

@@ -10,7 +10,7 @@ written into that file. Commands that prove, install or show a manual are listed
 their source is not there (Debian's index, PyYAML, units), and Graphviz. Plans are carried out by make, which has to be
 there. What a page has written stands in .gitignore.
 
-It also looks up the laws that pages cite, their links, their figures (tools/figures.py), the list of docs/HEADLINE.md, and
+It also looks up the laws that pages cite, their links, their figures (tools/figures.py), the list of docs/dev/HEADLINE.md, and
 the lines that a page shows as a diff: those behind `+` stand in the file named above them, in this order. It looks whether
 the pages for operators are in plain English (tools/plain.py) and whether the words of the first pages are defined before they
 are used (tools/first_words.py), and it tries the commands that lead from an error line to its place (tools/error_lines.py). It
@@ -250,14 +250,15 @@ def lines_not_there(path):
 def look_up():
     """What pages cite and is not there."""
     known = names_in_sources()
-    for path in [*TOP.glob("*.md"), *TOP.glob("docs/*.md")]:
+    for path in [*TOP.glob("*.md"), *TOP.glob("docs/**/*.md")]:
         cited = {name for name in LAW.findall(path.read_text()) if name not in known}
         yield from (f"{path.relative_to(TOP)}: no such law or definition: {name}" for name in sorted(cited))
-        yield from broken_links(path)
         yield from lines_not_there(path)
+    for path in [*TOP.glob("*.md"), *TOP.glob("docs/**/*.md"), *TOP.glob("*porters/*.md")]:
+        yield from broken_links(path)
     listed = subprocess.run([TOP / "tools" / "reading_list.py", "--check"], capture_output=True, text=True, check=False)
     if listed.returncode:
-        yield f"docs/HEADLINE.md: {listed.stdout}{listed.stderr}"
+        yield f"docs/dev/HEADLINE.md: {listed.stdout}{listed.stderr}"
 
 
 def main(words):

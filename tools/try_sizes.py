@@ -3,7 +3,7 @@
 
 No contract says that memory suffices, so a program that gives up past some size keeps all of them. Most cases run one command over
 the plan of the tower of 31 types, or over a script as long as one may be, and compare every line of the answer with what this file
-works out from the actions, by the rules of docs/MODEL.md and docs/FORMATS.md. Two universes are as large as they may be: one whose
+works out from the actions, by the rules of docs/dev/MODEL.md and docs/FORMATS.md. Two universes are as large as they may be: one whose
 plan has 1,922 dups, and one whose plan has 16,513 instances. The last line counts the cases.
 """
 
