@@ -3,17 +3,17 @@
 
     tools/try_documents.py [PROGRAM]
 
-PROGRAM is the built program, crates/metis/out/metis where none is given. In a page, lines behind `$ ` are typed, one
-after the other in one shell; the lines up to the next one are what is printed, where a line `...` stands for any lines.
-The status is 0, or what a comment `# status N` behind the command says. A block behind the words "into `NAME`:" is
-written into that file. Commands that prove, install or show a manual are listed and not run, and so are importers where
-their source is not there (Debian's index, PyYAML, units), and Graphviz. Plans are carried out by make, which has to be
-there. What a page has written stands in .gitignore.
+PROGRAM is the built program, crates/metis/out/metis where none is given. Each page is tried that shows what to type: lines
+behind `$ ` are typed, one after the other in one shell; the lines up to the next one are what is printed, where a line
+`...` stands for any lines. The status is 0, or what a comment `# status N` behind the command says. A block behind the
+words "into `NAME`:" is written into that file. Commands that prove, install or show a manual are listed and not run, and so
+are importers where their source is not there (Debian's index, PyYAML, units), and Graphviz. Plans are carried out by make,
+which has to be there. What a page has written stands in .gitignore.
 
-It also looks up the laws that pages cite, their links, their figures (tools/figures.py), the list of docs/dev/HEADLINE.md, and
-the lines that a page shows as a diff: those behind `+` stand in the file named above them, in this order. It looks whether
-the pages for operators are in plain English (tools/plain.py) and whether the words of the first pages are defined before they
-are used (tools/first_words.py), and it tries the commands that lead from an error line to its place (tools/error_lines.py). It
+It also looks up the laws that pages cite, their links, their figures (tools/figures.py), the list of docs/dev/HEADLINE.md,
+and the lines that a page shows as a diff: those behind `+` stand in the file named above them, in this order. It looks
+whether pages are in plain English (tools/plain.py) and whether the words of the first pages are defined before they are
+used (tools/first_words.py), and it tries the commands that lead from an error line to its place (tools/error_lines.py). It
 ends with status 1 if something is not as a page says.
 """
 
@@ -33,7 +33,6 @@ import first_words
 import plain
 
 TOP = pathlib.Path(__file__).resolve().parent.parent
-PAGES = ("README.md", "docs/TUTORIAL.md", "docs/MODELLING.md", "docs/IMPORTERS.md", "docs/EXPORTERS.md")
 # In it commands have the names that the package gives them, and their statuses are not shown.
 MANUAL = "docs/metis.1"
 OF_THE_PACKAGE = {"metis-import": "importers", "metis-show": "importers show", "metis-export": "exporters"}
@@ -98,6 +97,16 @@ def blocks_of(page):
         else:
             before, paragraph = paragraph or before, []
         at += 1
+
+
+def pages():
+    """All pages of the repository that a reader may follow."""
+    return sorted([*TOP.glob("*.md"), *TOP.glob("docs/**/*.md"), *TOP.glob("*porters/*.md")])
+
+
+def pages_with_commands():
+    """The names of the pages that show what to type."""
+    return [str(it.relative_to(TOP)) for it in pages() if any(block[0].startswith("$ ") for _, block, _ in blocks_of(it.read_text()))]
 
 
 def steps_of_manual(name):
@@ -254,7 +263,7 @@ def look_up():
         cited = {name for name in LAW.findall(path.read_text()) if name not in known}
         yield from (f"{path.relative_to(TOP)}: no such law or definition: {name}" for name in sorted(cited))
         yield from lines_not_there(path)
-    for path in [*TOP.glob("*.md"), *TOP.glob("docs/**/*.md"), *TOP.glob("*porters/*.md")]:
+    for path in pages():
         yield from broken_links(path)
     listed = subprocess.run([TOP / "tools" / "reading_list.py", "--check"], capture_output=True, text=True, check=False)
     if listed.returncode:
@@ -267,7 +276,7 @@ def main(words):
         print(f"there is no program {program}", file=sys.stderr)
         return 2
     wrong = list(itertools.chain(look_up(), figures.faults(program), error_lines.faults(program), plain.faults(), first_words.faults()))
-    for name in (*PAGES, MANUAL):
+    for name in (*pages_with_commands(), MANUAL):
         tried, faults = try_page(name, program)
         print(f"{name}: {tried} commands tried, {len(faults)} otherwise than the page says")
         wrong += faults
