@@ -20,7 +20,7 @@ from collections.abc import Iterator
 
 TOP = pathlib.Path(__file__).resolve().parent.parent
 OF_OPERATORS = ("README.md", "CHANGELOG.md", *(f"docs/{name}" for name in ("TUTORIAL.md", "MODELLING.md", "FORMATS.md", "IMPORTERS.md", "EXPORTERS.md", "metis.1")))
-OF_DEVELOPERS = ("CONTRIBUTING.md", *(f"docs/dev/{name}.md" for name in ("MODEL", "PROOFS", "HEADLINE", "MAP", "DECISIONS", "GATE", "BENCHMARKS")))
+OF_DEVELOPERS = ("CONTRIBUTING.md", "importers/README.md", "exporters/README.md", *(f"docs/dev/{name}.md" for name in ("MODEL", "PROOFS", "HEADLINE", "MAP", "DECISIONS", "GATE", "BENCHMARKS")))
 PAGES = (*OF_OPERATORS, *OF_DEVELOPERS)
 LONGEST = 35
 AVERAGE = 18
