@@ -19,8 +19,28 @@ import sys
 from collections.abc import Iterator
 
 TOP = pathlib.Path(__file__).resolve().parent.parent
-OF_OPERATORS = ("README.md", "CHANGELOG.md", *(f"docs/{name}" for name in ("TUTORIAL.md", "MODELLING.md", "FORMATS.md", "IMPORTERS.md", "EXPORTERS.md", "metis.1")))
-OF_DEVELOPERS = ("CONTRIBUTING.md", "importers/README.md", "exporters/README.md", *(f"docs/dev/{name}.md" for name in ("MODEL", "PROOFS", "HEADLINE", "MAP", "DECISIONS", "GATE", "BENCHMARKS")))
+OF_OPERATORS = (
+    "README.md",
+    "CHANGELOG.md",
+    "docs/TUTORIAL.md",
+    "docs/MODELLING.md",
+    "docs/FORMATS.md",
+    "docs/IMPORTERS.md",
+    "docs/EXPORTERS.md",
+    "docs/metis.1",
+)
+OF_DEVELOPERS = (
+    "CONTRIBUTING.md",
+    "docs/dev/MODEL.md",
+    "docs/dev/PROOFS.md",
+    "docs/dev/HEADLINE.md",
+    "docs/dev/MAP.md",
+    "docs/dev/DECISIONS.md",
+    "docs/dev/GATE.md",
+    "docs/dev/BENCHMARKS.md",
+    "importers/README.md",
+    "exporters/README.md",
+)
 PAGES = (*OF_OPERATORS, *OF_DEVELOPERS)
 LONGEST = 35
 AVERAGE = 18
