@@ -9,4 +9,4 @@ mod texts;
 pub use faults::AFault;
 pub use laws::{each_reason_comes_first, none_where_the_step_is_correct};
 pub use steps::apply;
-pub use texts::write_fault;
+pub use texts::{fault_text, write_fault};

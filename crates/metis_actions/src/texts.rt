@@ -28,7 +28,8 @@ pub fn write_fault<K: Sink>(
     out.put(text.as_bytes())
 }
 
-fn fault_text(alloc: Global, u: &Universe, f: &AFault) -> Result<String, AllocError>
+/// The text of the fault.
+pub fn fault_text(alloc: Global, u: &Universe, f: &AFault) -> Result<String, AllocError>
     requires { IsFaultOf u.now f.now }
     ensures { IfOk result (λ text. string_bytes text ≡ fault_text u.now f.now) }
 {

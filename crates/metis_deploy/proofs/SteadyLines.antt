@@ -1,5 +1,5 @@
--- What is said of a plan that is no steadfast run is a line.
-use Rattle.std.proofs.Common.{◌≡◌, ℕ, true, ◌++◌, refl}
+-- What is said of a plan that is no steadfast run: it is a line, and it is so.
+use Rattle.std.proofs.Common.{◌≡◌, ◌⊎◌, ℕ, true, List, ◌++◌, Err, inl, inr, refl}
 use Rattle.std.specs.Prelude.{codes}
 use Rattle.std.specs.List.{list_all}
 use Rattle.std.proofs.lemmas.Bool.{and_from}
@@ -12,7 +12,11 @@ use Rattle.metis_outside.specs.Pieces.{IsLine}
 use Rattle.metis_output.proofs.LineWords.{by_word}
 use Rattle.metis_tokens.proofs.WordFeeds.{no_feed-pair_word, no_feed-port_name_of}
 use Rattle.metis_universe.specs.Universe.{IsNamed, Universe}
-use Rattle.metis_deploy.specs.Steady.{bad_line, loose_line}
+use Rattle.metis_ids.specs.declared.actions.Action.{Action}
+use Rattle.metis_output.specs.declared.status.Status.{Status}
+use Rattle.metis_deploy.specs.Steady.{HasBadAction, HasLooseAction, IsSteady, IsUnsteadyIn, TellsUnsteady, bad_line, loose_line}
+use Rattle.metis_deploy.specs.declared.steady.Unsteady.{Unsteady}
+use Rattle.metis_deploy.specs.declared.steady.Unsteady.TheVariants as unsteady
 
 module _ (u : Universe) (named : IsNamed u) where
   no_feed-fault_tokens : (f : AFault) → list_all no_feed (fault_tokens u f) ≡ true
@@ -35,3 +39,24 @@ module _ (u : Universe) (named : IsNamed u) where
 
 pub IsLine-loose_line : (k : ℕ) → IsLine (loose_line k)
 IsLine-loose_line k = by_number (codes "loose ") k refl
+
+-- what is told of actions that are no steadfast run
+pub unsteady_told : (u : Universe) (actions : List Action) (why : Unsteady) → IsSteady u actions (Err why) → (lines : List (List ℕ)) (status : Status) → TellsUnsteady u why lines status
+    → HasBadAction u actions lines status ⊎ HasLooseAction u actions lines status
+unsteady_told u actions (unsteady.Bad k f) is lines status told = inl (record { number = k; fault = f; first = is.0; told = told.0; is = told.1 })
+unsteady_told u actions (unsteady.Loose k) is lines status told = inr (record { runs = is.0; number = k; first = is.1; told = told.0; is = told.1 })
+unsteady_told u actions unsteady.NoMemory is lines status told = absurd told
+
+-- beside what is told of a steadfast run
+pub unsteady_first : (u : Universe) (actions : List Action) (why : Unsteady) (P : List (List ℕ) → Status → Type 0) → IsSteady u actions (Err why)
+    → (lines : List (List ℕ)) (status : Status) → TellsUnsteady u why lines status → HasBadAction u actions lines status ⊎ (HasLooseAction u actions lines status ⊎ P lines status)
+unsteady_first u actions why P is lines status told = elim (unsteady_told u actions why is lines status told) [
+  | inl bad ↦ inl bad
+  | inr loose ↦ inr (inl loose)
+]
+
+-- it names what the universe has
+pub unsteady_in : (u : Universe) (actions : List Action) (why : Unsteady) → IsSteady u actions (Err why) → IsUnsteadyIn u why
+unsteady_in u actions (unsteady.Bad k f) is = is.1
+unsteady_in u actions (unsteady.Loose k) is = tt
+unsteady_in u actions unsteady.NoMemory is = tt

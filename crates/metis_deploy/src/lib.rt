@@ -16,6 +16,7 @@ pub use laws::a_crew_has_a_line_for_each_turn;
 pub use place::put_place;
 pub use script::{pieces_of, without_empty_end};
 pub use steady::{
-    Followed, first_bad, first_loose, follow, replay_of, replayed, write_bad, write_loose,
+    Followed, Unsteady, follow, replay_of, replayed, steady_waits, unsteady_answer, write_bad,
+    write_loose,
 };
 pub use waves::put_waves;

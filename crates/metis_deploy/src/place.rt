@@ -14,18 +14,17 @@ ghost use Rattle.metis_output.specs.PutLines.{PutsLines};
 ghost use Rattle.metis_output.specs.Shown.{Shown};
 ghost use Rattle.metis_deploy.specs.Placed.{Placed, hold_line, hold_lines, inst_made, made_of, no_room_line, on_line, on_lines, placed_line, placing_lines, rest_left};
 
-use crate::steady::{first_bad, first_loose, write_bad, write_loose};
+use crate::steady::{steady_waits, unsteady_answer};
 use metis_ids::{Action, InstNo};
-use metis_output::{Lines, Status, put_all, said};
+use metis_output::{Lines, Status, finish, put_all, said};
 use metis_outside::{Sink, Trouble};
 use metis_place::{Hold, Hosts, PFault, Placing, place};
 use metis_tokens::{push_numbers, put_line};
 use metis_universe::Universe;
 use std::alloc::{AllocError, Global};
 
-/// Puts the first action that cannot be done, or else the host of each instance that the actions make, and what they wait for
-/// besides.
-#[tactic(auto, using(metis_output::proofs::PutLines::puts_nothing))]
+/// Puts the first action that cannot be done or is not steadfast, or else the host of each instance that the actions make, and what
+/// they wait for besides.
 pub fn put_place<K: Sink>(
     alloc: Global,
     u: &Universe,
@@ -40,34 +39,9 @@ pub fn put_place<K: Sink>(
     ensures answer { Shown (Placed u.now actions.now h.now) (K.written out.old) (K.written out.new) (K.faults out.old) (K.faults out.new) result }
     ensures lines { All IsEntry h.now.hosts → PutsLines (K.written out.old) (K.written out.new) result }
 {
-    match first_bad(alloc, u, actions) {
-        Ok(None) => put_steady(alloc, u, actions, h, out),
-        Ok(Some((number, fault))) => { said(write_bad(alloc, u, number, &fault, out), Status::No) }
-        Err(_) => Status::NoMemory,
-    }
-}
-
-// Puts the first action that is not steadfast, or else where the instances are.
-#[tactic(auto, using(metis_output::proofs::PutLines::puts_nothing))]
-fn put_steady<K: Sink>(
-    alloc: Global,
-    u: &Universe,
-    actions: &[Action],
-    h: &Hosts,
-    out: &mut K,
-) -> Status
-    requires numbers { All (IsOf u.now) actions.now }
-    requires few { length actions.now < 2 ^ 32 - 1 }
-    requires runs { IsRun u.now empty actions.now }
-    requires hosts { length h.now.hosts ≤ 65536 }
-    requires sizes { length h.now.sizes ≡ type_count u.now }
-    ensures answer { Shown (Placed u.now actions.now h.now) (K.written out.old) (K.written out.new) (K.faults out.old) (K.faults out.new) result }
-    ensures lines { All IsEntry h.now.hosts → PutsLines (K.written out.old) (K.written out.new) result }
-{
-    match first_loose(alloc, u, actions) {
-        Ok(None) => put_placing(alloc, u, actions, h, out),
-        Ok(Some(number)) => said(write_loose(alloc, number, out), Status::No),
-        Err(_) => Status::NoMemory,
+    match steady_waits(alloc, u, actions) {
+        Ok(_waits) => put_placing(alloc, u, actions, h, out),
+        Err(why) => finish(alloc, unsteady_answer(alloc, u, why), out),
     }
 }
 
@@ -211,20 +185,18 @@ fn write_rest<K: Sink>(
     ensures cause { CountsFault (K.faults out.old) (K.faults out.new) result }
 {
     let mut lines = RestLines {
-        alloc,
         holds,
         at: 0,
         made,
         hosts,
         ended: false,
     };
-    put_all(&mut lines, out)
+    put_all(alloc, &mut lines, out)
 }
 
 /// The further waits of the actions from a place on, where they have some, and then the counts.
 #[derive(Drop)]
 struct RestLines<'a> {
-    alloc: Global,
     holds: &'a [Hold],
     at: usize,
     made: usize,
@@ -236,20 +208,20 @@ impl<'a> Lines for RestLines<'a> {
     ghost rest = { λ r. rest_left (r.at + 1) (drop r.at r.holds.now) r.made r.hosts r.ended };
 
     #[tactic(auto, using(crate::proofs::PlaceLines::is_hold_line, crate::proofs::PlaceLines::is_placed_line))]
-    fn next_line(&mut self) -> Result<Option<String>, AllocError> {
+    fn next_line(&mut self, line: &mut String) -> Result<bool, AllocError> {
         if let Some(at) = next_hold(self.holds, self.at) {
             let holds = self.holds;
             let hold = &holds[at];
-            let line = hold_line(self.alloc, at + 1, &hold.numbers)?;
+            set_hold_line(line, at + 1, &hold.numbers)?;
             self.at = at + 1;
-            return Ok(Some(line));
+            return Ok(true);
         }
         if self.ended {
-            return Ok(None);
+            return Ok(false);
         }
-        let line = placed_line(self.alloc, self.made, self.hosts)?;
+        set_placed_line(line, self.made, self.hosts)?;
         self.ended = true;
-        Ok(Some(line))
+        Ok(true)
     }
 }
 
@@ -270,17 +242,19 @@ fn next_hold(holds: &[Hold], from: usize) -> Option<usize>
     None
 }
 
-fn hold_line(alloc: Global, number: usize, waits: &[u32]) -> Result<String, AllocError>
-    ensures { IfOk result (λ line. string_bytes line ≡ hold_line number waits.now) }
+fn set_hold_line(line: &mut String, number: usize, waits: &[u32]) -> Result<(), AllocError>
+    ensures { OnOk result (string_bytes line.new ≡ hold_line number waits.now) }
 {
-    let mut line = format!(in alloc; "hold {number} after")?;
-    push_numbers(&mut line, waits)?;
+    line.clear();
+    write!(line, "hold {number} after")?;
+    push_numbers(line, waits)?;
     line.push_str("\n")?;
-    Ok(line)
+    Ok(())
 }
 
-fn placed_line(alloc: Global, made: usize, hosts: usize) -> Result<String, AllocError>
-    ensures { IfOk result (λ line. string_bytes line ≡ placed_line made hosts) }
+fn set_placed_line(line: &mut String, made: usize, hosts: usize) -> Result<(), AllocError>
+    ensures { OnOk result (string_bytes line.new ≡ placed_line made hosts) }
 {
-    format!(in alloc; "placed {made} hosts {hosts}\n")
+    line.clear();
+    write!(line, "placed {made} hosts {hosts}\n")
 }

@@ -1,11 +1,10 @@
 //! Whether a plan's actions are a steadfast run.
-ghost use Rattle.std.specs.Prelude.{◌≡◌, ◌<◌, ◌-◌, ◌^◌, [], ◌∷◌, IfOk, IfSome, IsTrue, None, Some, length, option_map, string_bytes};
+ghost use Rattle.std.specs.Prelude.{◌≡◌, ◌<◌, ◌-◌, ◌^◌, [], ◌∷◌, IfOk, IfSome, None, length, string_bytes};
 ghost use Rattle.std.specs.List.{All};
 ghost use Rattle.metis_actions.specs.Faults.{IsFaultOf, fault_text};
 ghost use Rattle.metis_deploy.specs.Followed.{IsFollowed};
-ghost use Rattle.metis_deploy.specs.Steady.{bad_line, loose_line, standing_after};
+ghost use Rattle.metis_deploy.specs.Steady.{IsSteady, IsUnsteadyIn, TellsUnsteady, bad_line, loose_line, standing_after};
 ghost use Rattle.metis_outside.specs.Faults.{CountsFault};
-ghost use Rattle.metis_outside.specs.Pieces.{bytes_of};
 ghost use Rattle.metis_outside.specs.Writes.{Writes};
 ghost use Rattle.metis_output.specs.PutLines.{PutsByLine};
 ghost use Rattle.metis_replay.specs.Exact.{IsFirstBad, Tells};
@@ -13,18 +12,17 @@ ghost use Rattle.metis_replay.specs.Progress.{IsVerdictOf, after_feeding};
 ghost use Rattle.metis_universe.specs.Config.{empty};
 ghost use Rattle.metis_universe.specs.Goals.{IsGoalOf};
 ghost use Rattle.metis_universe.specs.Numbers.{IsOf};
-ghost use Rattle.metis_universe.specs.Steadfast.{is_steadfast};
 ghost use Rattle.metis_universe.specs.Step.{IsRun};
-ghost use Rattle.metis_waits.specs.Waits.{IsFirstLoose};
 
-use metis_actions::{AFault, write_fault};
+use metis_actions::{AFault, fault_text};
 use metis_config::Config;
 use metis_ids::{Action, Goal, NoMemory};
-use metis_outside::{CalmSink, Sink, Trouble};
+use metis_output::{Answer, Once, Status, line_answer};
+use metis_outside::{Sink, Trouble};
 use metis_replay::{Replay, Verdict, replay_is_exact, replay_keeps_what_was_done};
 use metis_tokens::put_line;
 use metis_universe::Universe;
-use metis_waits::{WFault, waits};
+use metis_waits::{WFault, Waits, waits};
 use std::alloc::{AllocError, Global};
 
 /// What the actions came to, and how many instances stood then.
@@ -91,8 +89,32 @@ pub fn follow(alloc: Global, u: &Universe, actions: &[Action]) -> Result<Followe
     }
 }
 
-/// The number of the first action that cannot be done from the empty configuration on, and why.
-pub fn first_bad(
+/// Why actions are no steadfast run, or that memory ran out.
+#[derive(Clone, Copy)]
+pub enum Unsteady {
+    /// The number of the first that cannot be done, counted from 1, and why.
+    Bad(u32, AFault),
+    /// They can be done, and this is the number of the first that is not steadfast, counted from 1.
+    Loose(u32),
+    /// Memory ran out.
+    NoMemory,
+}
+
+/// What each of the actions waits for, where they are a steadfast run from the empty configuration on.
+pub fn steady_waits(alloc: Global, u: &Universe, actions: &[Action]) -> Result<Waits, Unsteady>
+    requires numbers { All (IsOf u.now) actions.now }
+    requires few { length actions.now < 2 ^ 32 - 1 }
+    ensures { IsSteady u.now actions.now result }
+{
+    match first_bad(alloc, u, actions) {
+        Ok(None) => waits_of_run(alloc, u, actions),
+        Ok(Some((number, fault))) => Err(Unsteady::Bad(number, fault)),
+        Err(_) => Err(Unsteady::NoMemory),
+    }
+}
+
+// The number of the first action that cannot be done from the empty configuration on, and why.
+fn first_bad(
     alloc: Global,
     u: &Universe,
     actions: &[Action],
@@ -110,18 +132,52 @@ pub fn first_bad(
     }
 }
 
-/// The number of the first action that is not steadfast.
-pub fn first_loose(alloc: Global, u: &Universe, actions: &[Action]) -> Result<Option<u32>, NoMemory>
+// The same of actions that can be done.
+fn waits_of_run(alloc: Global, u: &Universe, actions: &[Action]) -> Result<Waits, Unsteady>
     requires numbers { All (IsOf u.now) actions.now }
     requires few { length actions.now < 2 ^ 32 - 1 }
-    ensures loose { IfOk result (λ loose. IfSome loose (λ k. IsFirstLoose u.now actions.now k)) }
-    ensures steadfast { IfOk result (λ loose. loose ≡ None → IsTrue (is_steadfast u.now actions.now)) }
+    requires runs { IsRun u.now empty actions.now }
+    ensures { IsSteady u.now actions.now result }
 {
     match waits(alloc, u, actions) {
-        Ok(_) => Ok(None),
-        Err(WFault::Loose(number)) => Ok(Some(number)),
-        Err(WFault::NoMemory) => Err(NoMemory),
+        Ok(waits) => Ok(waits),
+        Err(WFault::Loose(number)) => Err(Unsteady::Loose(number)),
+        Err(WFault::NoMemory) => Err(Unsteady::NoMemory),
     }
+}
+
+/// The answer of actions that are no steadfast run: the line that says which of them, and why.
+pub fn unsteady_answer(alloc: Global, u: &Universe, why: Unsteady) -> Result<Answer<Once>, NoMemory>
+    requires { IsUnsteadyIn u.now why }
+    ensures { IfOk result (λ a. TellsUnsteady u.now why a.lines a.status) }
+{
+    u.keeps_invariant();
+    match why {
+        Unsteady::Bad(number, fault) => {
+            let line = bad_line(alloc, u, number, &fault)?;
+            Ok(line_answer(line, Status::No))
+        }
+        Unsteady::Loose(number) => {
+            let line = loose_line(alloc, number)?;
+            Ok(line_answer(line, Status::No))
+        }
+        Unsteady::NoMemory => Err(NoMemory),
+    }
+}
+
+fn bad_line(alloc: Global, u: &Universe, number: u32, fault: &AFault) -> Result<String, AllocError>
+    requires { IsFaultOf u.now fault.now }
+    ensures { IfOk result (λ line. string_bytes line ≡ bad_line number (fault_text u.now fault.now)) }
+{
+    let text = fault_text(alloc, u, fault)?;
+    let text = text.as_str();
+    format!(in alloc; "bad {number} {text}\n")
+}
+
+fn loose_line(alloc: Global, number: u32) -> Result<String, AllocError>
+    ensures { IfOk result (λ line. string_bytes line ≡ loose_line number) }
+{
+    format!(in alloc; "loose {number}\n")
 }
 
 /// Puts the line of an action that cannot be done, with its number and why, by one put.
@@ -139,23 +195,8 @@ pub fn write_bad<K: Sink>(
     ensures cause { CountsFault (K.faults out.old) (K.faults out.new) result }
 {
     u.keeps_invariant();
-    match bad_line(alloc, u, number, fault) {
-        Ok(line) => put_line(line.bytes(), out),
-        Err(_) => Err(Trouble::NoMemory),
-    }
-}
-
-// The line, put together in memory.
-fn bad_line(alloc: Global, u: &Universe, number: u32, fault: &AFault) -> Result<CalmSink, Trouble>
-    requires { IsFaultOf u.now fault.now }
-    ensures { IfOk result (λ line. option_map bytes_of (⟦<CalmSink as Sink>⟧.written line) ≡ Some (bad_line number (fault_text u.now fault.now))) }
-{
-    let mut line = CalmSink::new(alloc);
-    let start = format!(in alloc; "bad {number} ")?;
-    line.put(start.as_bytes())?;
-    write_fault(alloc, u, fault, &mut line)?;
-    line.put(b"\n")?;
-    Ok(line)
+    let line = bad_line(alloc, u, number, fault)?;
+    put_line(line.as_bytes(), out)
 }
 
 /// Puts the line of the first action that is not steadfast.
@@ -167,10 +208,4 @@ pub fn write_loose<K: Sink>(alloc: Global, number: u32, out: &mut K) -> Result<(
 {
     let line = loose_line(alloc, number)?;
     put_line(line.as_bytes(), out)
-}
-
-fn loose_line(alloc: Global, number: u32) -> Result<String, AllocError>
-    ensures { IfOk result (λ line. string_bytes line ≡ loose_line number) }
-{
-    format!(in alloc; "loose {number}\n")
 }

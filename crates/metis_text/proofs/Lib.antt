@@ -41,3 +41,4 @@ pub mod TextBytes
 pub mod WaitRows
 pub mod WholeLines
 pub mod WrittenRun
+pub mod Yielded

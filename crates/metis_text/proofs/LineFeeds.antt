@@ -35,12 +35,12 @@ event_tokens : (es : List Event) → list_all no_feed (map event_token es) ≡ t
 event_tokens [] = refl
 event_tokens (e ∷ es) = and_from _ _ (no_feed-event_token e) (event_tokens es)
 
-IsLine-counts_line : (instances actions dups : ℕ) → IsLine (counts_line instances actions dups)
+pub IsLine-counts_line : (instances actions dups : ℕ) → IsLine (counts_line instances actions dups)
 IsLine-counts_line instances actions dups =
     IsLine-line (codes "instances" ∷ decimal instances ∷ codes "actions" ∷ decimal actions ∷ codes "dups" ∷ decimal dups ∷ [])
     (and_from _ _ (no_feed-decimal instances) (and_from _ _ (no_feed-decimal actions) (and_from _ _ (no_feed-decimal dups) refl)))
 
-IsLine-pairs_line : (n : ℕ) → IsLine (pairs_line n)
+pub IsLine-pairs_line : (n : ℕ) → IsLine (pairs_line n)
 IsLine-pairs_line n = IsLine-line (codes "pairs" ∷ decimal n ∷ []) (and_from _ _ (no_feed-decimal n) refl)
 
 module _ (u : Universe) (named : IsNamed u) where
@@ -51,22 +51,22 @@ module _ (u : Universe) (named : IsNamed u) where
   no_feed-action_tokens (Unbind r z y) = and_from _ _ (no_feed-port_name_of u named r) (and_from _ _ (no_feed-decimal z) (and_from _ _ (no_feed-decimal y) refl))
   no_feed-action_tokens (Move z p q) = and_from _ _ (no_feed-decimal z) (and_from _ _ (no_feed-state_name_of u named p) (and_from _ _ (no_feed-state_name_of u named q) refl))
 
-  IsLine-action_line : (k : ℕ) (row : Action × List ℕ) → IsLine (action_line u k row)
+  pub IsLine-action_line : (k : ℕ) (row : Action × List ℕ) → IsLine (action_line u k row)
   IsLine-action_line k row =
       IsLine-line ((decimal k ∷ action_tokens u row.0) ++ after_tokens row.1)
       (list_all-append no_feed (decimal k ∷ action_tokens u row.0) (after_tokens row.1)
       ∙ and_from _ _ (and_from _ _ (no_feed-decimal k) (no_feed-action_tokens row.0)) (list_tokens row.1))
 
-  IsLine-dup_line : (k : ℕ) (d : Dup) → IsLine (dup_line u k d)
+  pub IsLine-dup_line : (k : ℕ) (d : Dup) → IsLine (dup_line u k d)
   IsLine-dup_line k d =
       IsLine-line (dup_tokens u k d.pair ++ map event_token d.cycle)
       (list_all-append no_feed (dup_tokens u k d.pair) (map event_token d.cycle)
       ∙ and_from _ _ (and_from _ _ (no_feed-decimal k) (and_from _ _ (no_feed-pair_word u named d.pair) refl)) (event_tokens d.cycle))
 
-  IsLine-lacks_line : (g : Goal) → IsLine (lacks_line u g)
+  pub IsLine-lacks_line : (g : Goal) → IsLine (lacks_line u g)
   IsLine-lacks_line g = IsLine-line (codes "lacks" ∷ goal_word u g ∷ []) (and_from _ _ (no_feed-goal_word u named g) refl)
 
-  IsLine-pair_line : (p : ℕ) → IsLine (pair_line u p)
+  pub IsLine-pair_line : (p : ℕ) → IsLine (pair_line u p)
   IsLine-pair_line p = IsLine-line (pair_word u p ∷ []) (and_from _ _ (no_feed-pair_word u named p) refl)
 
   -- ---- whole texts

@@ -1,12 +1,15 @@
 -- Actions beside the lists of what they wait for.
-use Rattle.std.proofs.Common.{◌≡◌, ℕ, ◌+◌, ◌-◌, ◌<◌, ◌≤◌, List, [], length, take, get_or, sym, ap, ◌∙◌, arith}
-use Rattle.std.proofs.lemmas.List.{take_all}
+use Rattle.std.proofs.Common.{◌≡◌, ℕ, ◌+◌, ◌-◌, ◌<◌, ◌≤◌, List, [], ◌∷◌, drop, length, take, get_or, sym, ap, ◌∙◌, arith}
+use Rattle.std.proofs.lemmas.List.{drop_more, take_all}
 use Rattle.std.proofs.lemmas.List.FromFn.{length-map-range_with_len}
 use Rattle.std.proofs.lemmas.Slice.Zip.{length-zip, get_or-zip}
 use Rattle.std.specs.List.{zip}
 use Rattle.metis_ids.specs.declared.actions.Action.{Action}
 use Rattle.metis_waits.specs.Waits.{WaitLists, AreWaits, list_of, waits_on_others}
+use Rattle.metis_universe.specs.Universe.{Universe}
 use Rattle.metis_universe.specs.Waits.{waits}
+use Rattle.metis_tokens.specs.Line.{numbered}
+use Rattle.metis_text.specs.PlanText.{action_line, actions_left}
 
 others_long : (actions : List Action) (w : WaitLists) → AreWaits actions w → length w.others ≡ length actions
 others_long actions w are = ap length are.others ∙ length-map-range_with_len (waits_on_others actions) 1 (length actions)
@@ -39,3 +42,14 @@ all_rows actions w i are past =
     let long = others_long actions w are in
     let size = length-zip actions w.others in
     take_all i (zip actions w.others) (omega (arith, long, size, past))
+
+-- the line of an action, and those behind it
+pub next_left : (u : Universe) (actions : List Action) (w : WaitLists) (i : ℕ) (a : Action) → AreWaits actions w → i < length actions → a ≡ get_or actions i a
+    → actions_left u actions w.others i ≡ action_line u (i + 1) (a, list_of w.others (i + 1)) ∷ actions_left u actions w.others (i + 1)
+next_left u actions w i a are within is =
+    let long = others_long actions w are in
+    let place : i + 1 - 1 ≡ i = omega arith in
+    let rest = actions_left u actions w.others (i + 1) in
+    ap (λ xs. numbered (action_line u) (i + 1) (zip xs (drop i w.others))) (drop_more actions i a within)
+    ∙ ap (λ ys. numbered (action_line u) (i + 1) (zip (get_or actions i a ∷ drop (i + 1) actions) ys)) (drop_more w.others i [] (omega (arith, long, within)))
+    ∙ ap (λ b. action_line u (i + 1) (b, get_or w.others i []) ∷ rest) (sym is) ∙ ap (λ n. action_line u (i + 1) (a, get_or w.others n []) ∷ rest) (sym place)

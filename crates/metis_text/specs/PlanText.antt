@@ -1,13 +1,14 @@
 -- The text of a plan.
 --     action_tokens u a, after_tokens ks      what stands in an action's line behind its number;  and behind that, for the numbers of its list
 --     action_line u k row      the line of action number k, where the row is the action and its list
+--     actions_left u actions after at, IsListed u actions w      the lines of the actions from a place on;  what is known of actions whose lines are made
 --     event_token e      an event's token
 --     dup_line u k d      the line of dup number k
 --     plan_lines u p after      the lines of the whole text, where `after` has a list for each action
 --     plan_bytes u p after      its bytes
 --     last_kind z actions      the type of the last New of instance z, if there is one
 --     IsWellFormed u p after      what a text says that can be read
-use Rattle.std.specs.Prelude.{◌≡◌, ◌<◌, ◌≤◌, ℕ, zero, suc, ◌^◌, ◌==◌, cond, List, [], ◌∷◌, ◌++◌, length, map, codes, decimal, Option, Some, None}
+use Rattle.std.specs.Prelude.{◌≡◌, ◌<◌, ◌≤◌, ℕ, zero, suc, ◌+◌, ◌^◌, drop, ◌==◌, cond, List, [], ◌∷◌, ◌++◌, length, map, codes, decimal, Option, Some, None}
 use Rattle.std.specs.List.{All, count_by, slice_index_or, zip}
 use Rattle.std.specs.List.Sorted.{IsStrictlyIncreasing}
 use Rattle.metis_ids.specs.Action.{makes}
@@ -23,6 +24,7 @@ use Rattle.metis_universe.specs.Numbers.{IsOf}
 use Rattle.metis_universe.specs.PairWords.{pair_word}
 use Rattle.metis_universe.specs.Universe.{Universe, pair_count, type_of, type_name_of, state_name_of, port_name_of}
 use Rattle.metis_universe.specs.Waits.{action_at, before}
+use Rattle.metis_waits.specs.Waits.{AreWaits, WaitLists}
 
 abbrev pub action_tokens : Universe → Action → List (List ℕ)
 action_tokens u (New z t) = codes "new" ∷ decimal z ∷ type_name_of u t ∷ []
@@ -61,6 +63,16 @@ counts_of p = counts_line p.instances (length p.actions) (length p.dups)
 
 abbrev pub action_lines : Universe → List Action → List (List ℕ) → List (List ℕ)
 action_lines u actions after = numbered (action_line u) 1 (zip actions after)
+
+-- those from a place on
+abbrev pub actions_left : Universe → List Action → List (List ℕ) → ℕ → List (List ℕ)
+actions_left u actions after at = numbered (action_line u) (at + 1) (zip (drop at actions) (drop at after))
+
+-- what is known of actions whose lines are made
+pub record IsListed (u : Universe) (actions : List Action) (w : WaitLists) : Type 0 where
+  pub numbers : All (IsOf u) actions
+  pub waited : AreWaits actions w
+  pub few : length actions < 2 ^ 32
 
 abbrev pub dup_lines : Universe → List Dup → List (List ℕ)
 dup_lines u dups = numbered (dup_line u) 1 dups

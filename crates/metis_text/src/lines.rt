@@ -107,33 +107,39 @@ fn push_after(line: &mut String, after: &[u32]) -> Result<(), AllocError>
     push_numbers(line, after)
 }
 
-/// The line of the dup that has this number.
-pub fn dup_line(alloc: Global, u: &Universe, number: usize, dup: &Dup) -> Result<String, AllocError>
+/// The line becomes that of the dup that has this number.
+pub fn set_dup_line(
+    line: &mut String,
+    u: &Universe,
+    number: usize,
+    dup: &Dup,
+) -> Result<(), AllocError>
     requires { dup.now.pair < pair_count u.now }
-    ensures { IfOk result (λ text. string_bytes text ≡ dup_line u.now number dup.now) }
+    ensures { OnOk result (string_bytes line.new ≡ dup_line u.now number dup.now) }
 {
-    let mut line = dup_words(alloc, u, number, dup.pair)?;
-    push_events(&mut line, &dup.cycle)?;
+    line.clear();
+    push_dup(line, u, number, dup.pair)?;
+    push_events(line, &dup.cycle)?;
     line.push_str("\n")?;
-    Ok(line)
+    Ok(())
 }
 
-fn dup_words(alloc: Global, u: &Universe, number: usize, pair: PairIx) -> Result<String, AllocError>
+fn push_dup(line: &mut String, u: &Universe, number: usize, pair: PairIx) -> Result<(), AllocError>
     requires { pair < pair_count u.now }
-    ensures { IfOk result (λ text. string_bytes text ≡ words (dup_tokens u.now number pair)) }
+    ensures { OnOk result (string_bytes line.new ≡ string_bytes line.old ++ words (dup_tokens u.now number pair)) }
 {
-    cycle_words(
-        alloc,
+    push_cycle(
+        line,
         number,
         u.type_name(u.type_of(pair)),
         u.state_name(pair),
     )
 }
 
-fn cycle_words(alloc: Global, number: usize, kind: &str, state: &str) -> Result<String, AllocError>
-    ensures { IfOk result (λ text. string_bytes text ≡ words (codes "dup" ∷ decimal number ∷ (kind.now ++ (codes ":" ++ state.now)) ∷ codes "cycle" ∷ [])) }
+fn push_cycle(line: &mut String, number: usize, kind: &str, state: &str) -> Result<(), AllocError>
+    ensures { OnOk result (string_bytes line.new ≡ string_bytes line.old ++ words (codes "dup" ∷ decimal number ∷ (kind.now ++ (codes ":" ++ state.now)) ∷ codes "cycle" ∷ [])) }
 {
-    format!(in alloc; "dup {number} {kind}:{state} cycle")
+    write!(line, "dup {number} {kind}:{state} cycle")
 }
 
 fn push_events(line: &mut String, cycle: &[Event]) -> Result<(), AllocError>

@@ -1,13 +1,17 @@
-use Rattle.std.proofs.Common.{inl, refl}
-use Rattle.metis_output.proofs.Shown.{shown_by_writer}
-use Rattle.metis_output.proofs.PutLines.{said_lines}
+use Rattle.std.proofs.Common.{◌⊎◌}
+use Rattle.metis_output.proofs.Given.{given_then}
+use Rattle.metis_deploy.proofs.SteadyLines.{unsteady_first, unsteady_in}
+use Rattle.metis_deploy.specs.Placed.{HasNoRoom, IsOnHosts, Placed}
+use Rattle.metis_deploy.specs.Steady.{TellsUnsteady}
 use Rattle.metis_deploy.proofs.place.put_place.Goals as goal
 
-pub returns-in-Ok-Some-clause-answer : goal.returns-in-Ok-Some-clause-answer
-returns-in-Ok-Some-clause-answer g c =
-    let found = rw c.in-Ok-Some.field-0-is at c.in-Ok-Some.ensures in
-    rw c.said.ensures
-    (shown_by_writer _ _ _ _ _ _ _ c.write_bad.result (inl (record { number = c.in-Ok-Some.number; fault = c.in-Ok-Some.fault; first = found.bad; told = refl; is = refl })) c.write_bad.ensures.text c.write_bad.ensures.cause)
+pub unsteady_answer-requires : goal.unsteady_answer-requires
+unsteady_answer-requires g c = unsteady_in c.args.u.now c.args.actions.now c.in-Err.why c.in-Err.ensures
 
-pub returns-in-Ok-Some-clause-lines : goal.returns-in-Ok-Some-clause-lines
-returns-in-Ok-Some-clause-lines g c = λ entries. rw c.said.ensures (said_lines _ _ _ c.write_bad.result c.write_bad.ensures.lines)
+pub returns-in-Err-clause-answer : goal.returns-in-Err-clause-answer
+returns-in-Err-clause-answer g c =
+    let u = c.args.u.now in
+    let actions = c.args.actions.now in
+    let h = c.args.h.now in
+    let why = c.in-Err.why in
+    given_then (TellsUnsteady u why) (Placed u actions h) _ c.unsteady_answer.result _ _ _ _ _ (unsteady_first u actions why (λ lines status. HasNoRoom u actions h lines status ⊎ IsOnHosts u actions h lines status) c.in-Err.ensures) c.unsteady_answer.ensures c.finish.ensures.answer

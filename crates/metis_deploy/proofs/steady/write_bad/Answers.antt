@@ -1,11 +1,8 @@
 use Rattle.std.proofs.Common.{◌∙◌, sym, subst}
-use Rattle.std.specs.Prelude.{IfSome}
 use Rattle.metis_outside.specs.Pieces.{IsLine}
 use Rattle.metis_output.proofs.PutLines.{by_one_line}
 use Rattle.metis_deploy.proofs.SteadyLines.{IsLine-bad_line}
 use Rattle.metis_deploy.proofs.steady.write_bad.Goals as goal
 
-pub returns-in-Ok-clause-lines : goal.returns-in-Ok-clause-lines
-returns-in-Ok-clause-lines g c =
-    by_one_line _ _ _ c.put_line.result
-    (subst (λ o. IfSome o IsLine) (sym (sym c.bytes.ensures ∙ c.in-Ok.ensures)) (IsLine-bad_line c.args.u.now c.keeps_invariant.ensures.named c.args.number c.args.fault.now)) c.put_line.ensures.text
+pub returns-clause-lines : goal.returns-clause-lines
+returns-clause-lines g c = by_one_line _ _ _ c.put_line.result (subst IsLine (sym (c.as_bytes.ensures.value ∙ c.in_ok-line.ensures)) (IsLine-bad_line c.args.u.now c.keeps_invariant.ensures.named c.args.number c.args.fault.now)) c.put_line.ensures.text
