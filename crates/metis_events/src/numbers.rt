@@ -1,5 +1,5 @@
 //! The numbers of the events from which edges lead.
-ghost use Rattle.std.specs.Prelude.{◌≡◌, ◌<◌, ◌^◌, length, map, IfOk};
+ghost use Rattle.std.specs.Prelude.{◌≡◌, ◌<◌, ◌^◌, length, map, IfOk, OnOk};
 ghost use Rattle.std.specs.List.{All, position_or_len};
 ghost use Rattle.std.specs.List.Sorted.{IsStrictlySortedBy};
 ghost use Rattle.metis_lines.specs.Events.{event_cmp, same_event};
@@ -8,7 +8,7 @@ ghost use Rattle.metis_events.specs.Numbered.{IsJoined, graph_by, number_of};
 use crate::edges::Edge;
 use crate::rows::{EdgeRow, place_of};
 use metis_ids::{Event, NoMemory, NodeIx};
-use metis_sort::NodeRow;
+use metis_sort::NodeRows;
 use std::alloc::Global;
 
 /// For each of the events, the numbers of those from which the edges into it lead, in their order.
@@ -17,35 +17,37 @@ pub fn number_rows(
     events: &[Event],
     starts: &[usize],
     edges: &[EdgeRow],
-) -> Result<Vec<NodeRow>, NoMemory>
+) -> Result<NodeRows, NoMemory>
     requires few { length events.now < 2 ^ 32 }
     requires ascend { IsStrictlySortedBy event_cmp events.now }
     requires joined { IsJoined (graph_by events.now edges.now) }
-    ensures { IfOk result (λ rows. rows.items ≡ map (map (λ e. number_of (graph_by events.now edges.now) e.from)) edges.now) }
+    ensures { IfOk result (λ rows. rows ≡ map (map (λ e. number_of (graph_by events.now edges.now) e.from)) edges.now) }
 {
-    let mut rows = Vec::with_capacity(alloc, edges.len())?;
+    let mut rows = NodeRows::new(alloc)?;
+    let mut numbers = Vec::new(alloc);
     for row in edges {
-        rows.push(numbers_of(alloc, events, starts, row.as_slice())?)?;
+        put_numbers(&mut numbers, events, starts, row.as_slice())?;
+        rows.push(&numbers)?;
     }
     Ok(rows)
 }
 
-// The numbers of the events from which these edges lead.
-fn numbers_of(
-    alloc: Global,
+// Puts the numbers of the events from which these edges lead in the place of others.
+fn put_numbers(
+    numbers: &mut Vec<NodeIx>,
     events: &[Event],
     starts: &[usize],
     edges: &[Edge],
-) -> Result<NodeRow, NoMemory>
+) -> Result<(), NoMemory>
     requires few { length events.now < 2 ^ 32 }
     requires ascend { IsStrictlySortedBy event_cmp events.now }
     requires from { All (λ e. position_or_len (same_event e.from) events.now < length events.now) edges.now }
-    ensures { IfOk result (λ row. row ≡ map (λ e. position_or_len (same_event e.from) events.now) edges.now) }
+    ensures { OnOk result (numbers.new.items ≡ map (λ e. position_or_len (same_event e.from) events.now) edges.now) }
 {
-    let mut row = NodeRow::with_capacity(alloc, edges.len())?;
+    numbers.clear();
     for edge in edges {
         let from = place_of(events, starts, &edge.from).unwrap();
-        row.push(NodeIx(from as u32))?;
+        numbers.push(NodeIx(from as u32))?;
     }
-    Ok(row)
+    Ok(())
 }

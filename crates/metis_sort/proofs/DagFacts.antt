@@ -1,17 +1,18 @@
 -- The rows of a graph, as they are made.
-use Rattle.std.proofs.Common.{◌≡◌, ℕ, zero, suc, ◌+◌, ◌<◌, ◌≤◌, ◌^◌, Bool, true, false, not, cond, ◌&&◌, ◌||◌, List, [], ◌∷◌, ◌++◌, length, get_or, set, take, replicate, refl, sym, ap, ◌∙◌, arith, nat_eq, inl, inr, length-append, append_assoc}
-use Rattle.std.specs.List.{AllByRecursion, filter, flat_map, range_with_len}
-use Rattle.std.proofs.lemmas.Bool.{false≢true, cases_eq, cases_lt, eq-eqb, ne_eqb}
-use Rattle.std.proofs.lemmas.List.{get_or-set_same, get_or-set_other, get_or_read, get_or_past, length-map, take_more, replicate_more}
+use Rattle.std.proofs.Common.{◌≡◌, ℕ, zero, suc, ◌+◌, ◌<◌, ◌≤◌, ◌^◌, Bool, true, false, not, cond, ◌&&◌, ◌||◌, List, [], ◌∷◌, ◌++◌, drop, length, get_or, map, set, take, replicate, refl, sym, subst, ap, ◌∙◌, add-one, arith, nat_eq, inl, inr, length-append, append_assoc}
+use Rattle.std.specs.List.{All, AllByRecursion, filter, flat_map, range_with_len}
+use Rattle.std.proofs.lemmas.Bool.{false≢true, cases_eq, cases_lt, eq-eqb, eqb-true, ne_eqb, or_cases}
+use Rattle.std.proofs.lemmas.List.{append-nil, get_or-set_same, get_or-set_other, get_or_past, length-map, length-replicate, take-append-drop, take_more, replicate_more}
 use Rattle.std.proofs.lemmas.List.Concat.{flat_map-append}
 use Rattle.std.proofs.lemmas.List.Elements.{All-from_recursion, filter-append, recursion_from_All}
 use Rattle.metis_ids.specs.Graph.{Graph, IsGraph, afters, befores, edge_count, is_edge, joins}
 use Rattle.metis_ids.specs.Lists.{has}
-use Rattle.metis_ids.proofs.Lists.{range_more}
+use Rattle.metis_ids.proofs.Lists.{filter_short, flat_more, list_any-flat_map, range_more, some_member, take_short}
 use Rattle.metis_ids.proofs.Taken.{edge_from, edge_to}
 use Rattle.metis_ids.proofs.Counts.{occurrences-append}
 use Rattle.metis_ids.specs.Counts.{occurrences}
 use Rattle.metis_sort.specs.Dag.{HasEdgesOf, IsDag, ascending, edges_into, edges_to, graph_into, turned_row}
+use Rattle.metis_sort.specs.Rows.{joined}
 use Rattle.metis_sort.proofs.CountFacts.{any_by_count, has-afters, no_edges, occurrences-afters, occurrences-befores, occurrences-inside, occurrences-outside}
 
 pub member : (xs : List ℕ) (i x : ℕ) → i < length xs → x ≡ get_or xs i x → has xs x ≡ true
@@ -24,24 +25,76 @@ member (y ∷ xs) (suc i) x low is = later (nat_eq y x) (member xs i x (omega ar
   later true h = refl
   later false h = h
 
+-- ---- counts
+
+one_here : (y x : ℕ) → y ≡ x → occurrences y (x ∷ []) ≡ 1
+one_here y x same = ap (λ b. length (cond b (x ∷ []) [])) (eq-eqb x y (sym same))
+
+none_here : (y x : ℕ) → (y ≡ x → ⊥) → occurrences y (x ∷ []) ≡ 0
+none_here y x other = ap (λ b. length (cond b (x ∷ []) [])) (ne_eqb x y (λ e. other (sym e)))
+
+occurrences_next : (y x : ℕ) (xs : List ℕ) (i : ℕ) → i < length xs → x ≡ get_or xs i x → occurrences y (take (i + 1) xs) ≡ occurrences y (take i xs) + occurrences y (x ∷ [])
+occurrences_next y x xs i within here = ap (occurrences y) (take_more xs i x within ∙ ap (λ z. take i xs ++ z ∷ []) (sym here)) ∙ occurrences-append y (take i xs) (x ∷ [])
+
+-- an entry is not among those before it
+pub occurrences_room : (xs : List ℕ) (i x : ℕ) → i < length xs → x ≡ get_or xs i x → occurrences x (take i xs) < occurrences x xs
+occurrences_room xs i x within here =
+    let next = occurrences_next x x xs i within here in
+    let one = one_here x x refl in
+    let parts = ap (occurrences x) (sym (take-append-drop (i + 1) xs)) ∙ occurrences-append x (take (i + 1) xs) (drop (i + 1) xs) in
+    omega (arith, next, one, parts)
+
+pub occurrences_few : (xs : List ℕ) (i x : ℕ) → occurrences x (take i xs) ≤ i
+occurrences_few xs i x =
+    let short = filter_short (λ y. nat_eq y x) (take i xs) in
+    let taken = take_short xs i in
+    omega (arith, short, taken)
+
+pub count_more : (counts xs : List ℕ) (i x : ℕ) → x < length counts → i < length xs → x ≡ get_or xs i x → ((y : ℕ) → get_or counts y 0 ≡ occurrences y (take i xs)) → (y : ℕ) → get_or (set counts x (get_or counts x 0 + 1)) y 0 ≡ occurrences y (take (i + 1) xs)
+count_more counts xs i x low within here old y =
+    let next = occurrences_next y x xs i within here in
+    elim (cases_eq y x) [
+      | inl same ↦
+          let at = ap (λ k. get_or (set counts x (get_or counts x 0 + 1)) k 0) same ∙ get_or-set_same counts x (get_or counts x 0 + 1) 0 low in
+          let was = ap (λ k. get_or counts k 0) (sym same) ∙ old y in
+          omega (arith, next, one_here y x same, at, was)
+      | inr other ↦ omega (arith, next, none_here y x other, get_or-set_other counts x y (get_or counts x 0 + 1) 0 other, old y)
+    ]
+
+-- the row of the entry is one longer
+pub filled_more : (rows : List (List ℕ)) (xs : List ℕ) (i x n : ℕ) → x < length rows → i < length xs → x ≡ get_or xs i x → ((y : ℕ) → length (get_or rows y []) ≡ occurrences y (take i xs)) → (y : ℕ) → length (get_or (set rows x (get_or rows x [] ++ n ∷ [])) y []) ≡ occurrences y (take (i + 1) xs)
+filled_more rows xs i x n low within here old y =
+    let row = get_or rows x [] ++ n ∷ [] in
+    let next = occurrences_next y x xs i within here in
+    elim (cases_eq y x) [
+      | inl same ↦
+          let at = ap (λ k. length (get_or (set rows x row) k [])) same ∙ ap length (get_or-set_same rows x row [] low) ∙ length-append (get_or rows x []) (n ∷ []) in
+          let was = ap (λ k. length (get_or rows k [])) (sym same) ∙ old y in
+          omega (arith, next, one_here y x same, at, was)
+      | inr other ↦
+          let at = ap length (get_or-set_other rows x y row [] other) in
+          omega (arith, next, none_here y x other, at, old y)
+    ]
+
 -- ---- one edge more
 
-pub edge_more : (rows : List (List ℕ)) (row new : List ℕ) (e : ℕ × ℕ) (edges : List (ℕ × ℕ)) (i m : ℕ) → length rows ≡ m → e.1 < m → row ≡ get_or rows e.1 row → new ≡ row ++ e.0 ∷ [] → i < length edges → e ≡ get_or edges i e →
+pub edge_more : (rows : List (List ℕ)) (e : ℕ × ℕ) (edges : List (ℕ × ℕ)) (i m : ℕ) → length rows ≡ m → e.1 < m → i < length edges → e ≡ get_or edges i e →
     ((a b : ℕ) → b < m → occurrences a (get_or rows b []) ≡ length (filter (joins a b) (take i edges))) →
-    (a b : ℕ) → b < m → occurrences a (get_or (set rows e.1 new) b []) ≡ length (filter (joins a b) (take (i + 1) edges))
-edge_more rows row new e edges i m size low is added within here old a b below =
+    (a b : ℕ) → b < m → occurrences a (get_or (set rows e.1 (get_or rows e.1 [] ++ e.0 ∷ [])) b []) ≡ length (filter (joins a b) (take (i + 1) edges))
+edge_more rows e edges i m size low within here old a b below =
+    let row = get_or rows e.1 [] ++ e.0 ∷ [] in
     let more : length (filter (joins a b) (take (i + 1) edges)) ≡ length (filter (joins a b) (take i edges)) + length (filter (joins a b) (e ∷ [])) =
     ap (λ es. length (filter (joins a b) es)) (take_more edges i e within ∙ ap (λ x. take i edges ++ x ∷ []) (sym here))
     ∙ ap length (filter-append (joins a b) (take i edges) (e ∷ [])) ∙ length-append (filter (joins a b) (take i edges)) (filter (joins a b) (e ∷ [])) in
     elim (cases_eq b e.1) [
       | inl same ↦
-          let at : get_or (set rows e.1 new) b [] ≡ row ++ e.0 ∷ [] = ap (λ k. get_or (set rows e.1 new) k []) same ∙ get_or-set_same rows e.1 new [] (omega arith) ∙ added in
-          let was : occurrences a row ≡ length (filter (joins a b) (take i edges)) = ap (occurrences a) (get_or_read rows e.1 row (omega arith) is []) ∙ ap (λ k. occurrences a (get_or rows k [])) (sym same) ∙ old a b below in
+          let at : get_or (set rows e.1 row) b [] ≡ row = ap (λ k. get_or (set rows e.1 row) k []) same ∙ get_or-set_same rows e.1 row [] (omega arith) in
+          let was : occurrences a (get_or rows e.1 []) ≡ length (filter (joins a b) (take i edges)) = ap (λ k. occurrences a (get_or rows k [])) (sym same) ∙ old a b below in
           let one : occurrences a (e.0 ∷ []) ≡ length (filter (joins a b) (e ∷ [])) = by (nat_eq e.0 a) (nat_eq e.1 b) (eq-eqb e.1 b (sym same)) in
-          let parts = ap (occurrences a) at ∙ occurrences-append a row (e.0 ∷ []) in
+          let parts = ap (occurrences a) at ∙ occurrences-append a (get_or rows e.1 []) (e.0 ∷ []) in
           omega (arith, parts, was, one, more)
       | inr other ↦
-          let at = ap (occurrences a) (get_or-set_other rows e.1 b new [] other) in
+          let at = ap (occurrences a) (get_or-set_other rows e.1 b row [] other) in
           let was = old a b below in
           let none : length (filter (joins a b) (e ∷ [])) ≡ 0 = no_one (nat_eq e.0 a) (nat_eq e.1 b) (ne_eqb e.1 b (λ q. other (sym q))) in
           omega (arith, at, was, none, more)
@@ -58,25 +111,90 @@ edge_more rows row new e edges i m size low is added within here old a b below =
 
 -- ---- one row more
 
-pub row_more : (rows first : List (List ℕ)) (row new : List ℕ) (x n : ℕ) (to : List ℕ) (i : ℕ) → x < length rows → row ≡ get_or rows x row → new ≡ row ++ n ∷ [] → i < length to → x ≡ get_or to i x →
+pub row_more : (rows first : List (List ℕ)) (x n : ℕ) (to : List ℕ) (i : ℕ) → x < length rows → i < length to → x ≡ get_or to i x →
     ((y : ℕ) → get_or rows y [] ≡ get_or first y [] ++ replicate (occurrences y (take i to)) n) →
-    (y : ℕ) → get_or (set rows x new) y [] ≡ get_or first y [] ++ replicate (occurrences y (take (i + 1) to)) n
-row_more rows first row new x n to i low is added within here old y =
-    let more : occurrences y (take (i + 1) to) ≡ occurrences y (take i to) + occurrences y (x ∷ []) =
-    ap (occurrences y) (take_more to i x within ∙ ap (λ z. take i to ++ z ∷ []) (sym here)) ∙ occurrences-append y (take i to) (x ∷ []) in
+    (y : ℕ) → get_or (set rows x (get_or rows x [] ++ n ∷ [])) y [] ≡ get_or first y [] ++ replicate (occurrences y (take (i + 1) to)) n
+row_more rows first x n to i low within here old y =
+    let more = occurrences_next y x to i within here in
+    let row = get_or rows x [] ++ n ∷ [] in
     elim (cases_eq y x) [
       | inl same ↦
-          let one : occurrences y (x ∷ []) ≡ 1 = ap (λ b. length (cond b (x ∷ []) [])) (eq-eqb x y (sym same)) in
-          let count : occurrences y (take (i + 1) to) ≡ occurrences y (take i to) + 1 = omega (arith, more, one) in
-          ap (λ k. get_or (set rows x new) k []) same ∙ get_or-set_same rows x new [] low ∙ added
-          ∙ ap (λ r. r ++ n ∷ []) (get_or_read rows x row low is [] ∙ ap (λ k. get_or rows k []) (sym same) ∙ old y)
+          let count : occurrences y (take (i + 1) to) ≡ occurrences y (take i to) + 1 = omega (arith, more, one_here y x same) in
+          ap (λ k. get_or (set rows x row) k []) same ∙ get_or-set_same rows x row [] low
+          ∙ ap (λ r. r ++ n ∷ []) (ap (λ k. get_or rows k []) (sym same) ∙ old y)
           ∙ append_assoc (get_or first y []) (replicate (occurrences y (take i to)) n) (n ∷ [])
           ∙ ap (λ r. get_or first y [] ++ r) (replicate_more (occurrences y (take i to)) n ∙ ap (λ k. replicate k n) (sym count))
       | inr other ↦
-          let none : occurrences y (x ∷ []) ≡ 0 = ap (λ b. length (cond b (x ∷ []) [])) (ne_eqb x y (λ e. other (sym e))) in
-          let count : occurrences y (take (i + 1) to) ≡ occurrences y (take i to) = omega (arith, more, none) in
-          get_or-set_other rows x y new [] other ∙ old y ∙ ap (λ k. get_or first y [] ++ replicate k n) (sym count)
+          let count : occurrences y (take (i + 1) to) ≡ occurrences y (take i to) = omega (arith, more, none_here y x other) in
+          get_or-set_other rows x y row [] other ∙ old y ∙ ap (λ k. get_or first y [] ++ replicate k n) (sym count)
     ]
+
+-- ---- rows and the nodes of all
+
+module _ (rows : List (List ℕ)) where
+  abbrev before : ℕ → List ℕ
+  before m = flat_map (λ i. get_or rows i []) (range_with_len 0 m)
+
+  before_more : (m : ℕ) → before (suc m) ≡ before m ++ get_or rows m []
+  before_more m = ap before (sym (add-one m)) ∙ flat_more (λ i. get_or rows i []) m
+
+  -- what stands in some row stands in one of them
+  pub in_joined : (x m : ℕ) → ((i : ℕ) → has (get_or rows i []) x ≡ true → x < m) → has (joined rows) x ≡ true → x < m
+  in_joined x m each there =
+      let found = some_member (λ i. has (get_or rows i []) x) (range_with_len 0 (length rows)) (sym (list_any-flat_map (λ y. nat_eq y x) (λ i. get_or rows i []) (range_with_len 0 (length rows))) ∙ there) in
+      each found.0 found.2
+
+  -- a row that is turned is as long as its node stands in rows
+  pub turned_length : (x m : ℕ) → length (flat_map (λ i. replicate (occurrences x (get_or rows i [])) i) (range_with_len 0 m)) ≡ occurrences x (before m)
+  turned_length x zero = refl
+  turned_length x (suc m) =
+      let f : ℕ → List ℕ = λ i. replicate (occurrences x (get_or rows i [])) i in
+      let parts = ap (λ k. length (flat_map f (range_with_len 0 k))) (sym (add-one m)) ∙ ap length (flat_more f m) ∙ length-append (flat_map f (range_with_len 0 m)) (f m) in
+      let now = length-replicate (occurrences x (get_or rows m [])) m in
+      let rest = turned_length x m in
+      let all = ap (occurrences x) (before_more m) ∙ occurrences-append x (before m) (get_or rows m []) in
+      omega (arith, parts, now, rest, all)
+
+  pub occurrences_below : (x i m : ℕ) → i < m → occurrences x (before i) + occurrences x (get_or rows i []) ≤ occurrences x (before m)
+  occurrences_below x i zero low = absurd (omega arith)
+  occurrences_below x i (suc m) low =
+      let all = ap (occurrences x) (before_more m) ∙ occurrences-append x (before m) (get_or rows m []) in
+      elim (cases_eq i m) [
+        | inl same ↦
+            let earlier = ap (λ k. occurrences x (before k)) same in
+            let now = ap (λ k. occurrences x (get_or rows k [])) same in
+            omega (arith, all, earlier, now)
+        | inr other ↦
+            let rest = occurrences_below x i m (omega arith) in
+            omega (arith, all, rest)
+      ]
+
+  -- as many edges as nodes in rows
+  pub edges_into_count : (m : ℕ) → length (flat_map (λ b. edges_to (get_or rows b []) b) (range_with_len 0 m)) ≡ length (before m)
+  edges_into_count zero = refl
+  edges_into_count (suc m) =
+      let f : ℕ → List (ℕ × ℕ) = λ b. edges_to (get_or rows b []) b in
+      let more : length (flat_map f (range_with_len 0 (suc m))) ≡ length (flat_map f (range_with_len 0 m)) + length (f m) =
+      ap (λ k. length (flat_map f (range_with_len 0 k))) (sym (add-one m))
+      ∙ ap (λ r. length (flat_map f r)) (range_more m) ∙ ap length (flat_map-append f (range_with_len 0 m) (m ∷ []))
+      ∙ length-append (flat_map f (range_with_len 0 m)) (flat_map f (m ∷ []))
+      ∙ ap (λ r. length (flat_map f (range_with_len 0 m)) + length r) (append-nil (f m)) in
+      let mapped : length (f m) ≡ length (get_or rows m []) = length-map {B = ℕ × ℕ} (get_or rows m []) (λ (a : ℕ). (a, m)) in
+      let all = ap length (before_more m) ∙ length-append (before m) (get_or rows m []) in
+      let rest = edges_into_count m in
+      omega (arith, more, mapped, all, rest)
+
+-- ---- the nodes to which edges lead
+
+ends_low : (m : ℕ) (es : List (ℕ × ℕ)) (x : ℕ) → AllByRecursion (λ (e : ℕ × ℕ). e.1 < m) es → has (map (λ (e : ℕ × ℕ). e.1) es) x ≡ true → x < m
+ends_low m [] x all there = absurd (false≢true there)
+ends_low m (e ∷ es) x all there = elim (or_cases (nat_eq e.1 x) (has (map (λ (f : ℕ × ℕ). f.1) es) x) there) [
+  | inl now ↦ subst (λ k. k < m) (eqb-true e.1 x now) all.0
+  | inr later ↦ ends_low m es x all.1 later
+]
+
+pub ends_below : (m : ℕ) (es : List (ℕ × ℕ)) → All (λ (e : ℕ × ℕ). e.1 < m) es → (x : ℕ) → has (map (λ (e : ℕ × ℕ). e.1) es) x ≡ true → x < m
+ends_below m es all x there = ends_low m es x (recursion_from_All (λ (e : ℕ × ℕ). e.1 < m) es all) there
 
 -- ---- the whole graph
 
@@ -285,13 +403,3 @@ module _ (g : Graph) (ok : IsGraph g) (rows : List (List ℕ)) (size : length ro
           ∙ sym (no_edges a b g.nodes (omega arith) g.edges (recursion_from_All (λ (e : ℕ × ℕ). e.1 < g.nodes) g.edges ok.to))
     ];
   }
-
--- ---- how many edges there are
-
-pub edges_more : (rows : List (List ℕ)) (i : ℕ) → length (flat_map (λ b. edges_to (get_or rows b []) b) (range_with_len 0 (i + 1))) ≡ length (flat_map (λ b. edges_to (get_or rows b []) b) (range_with_len 0 i)) + length (get_or rows i [])
-edges_more rows i =
-    let f : ℕ → List (ℕ × ℕ) = λ b. edges_to (get_or rows b []) b in
-    let parts = length-append (flat_map f (range_with_len 0 i)) (flat_map f (i ∷ [])) in
-    let none = length-append (f i) [] in
-    let mapped : length (f i) ≡ length (get_or rows i []) = length-map {B = ℕ × ℕ} (get_or rows i []) (λ (a : ℕ). (a, i)) in
-    ap (λ r. length (flat_map f r)) (range_more i) ∙ ap length (flat_map-append f (range_with_len 0 i) (i ∷ [])) ∙ omega (arith, parts, none, mapped)

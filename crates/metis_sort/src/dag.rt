@@ -1,13 +1,15 @@
 //! Graphs that hold the predecessors and the successors of each node.
-ghost use Rattle.std.specs.Prelude.{◌≡◌, ◌^◌, ◌<◌, ◌++◌, ℕ, [], IsTrue, IfOk, OnOk, length, replicate};
+ghost use Rattle.std.specs.Prelude.{◌≡◌, ◌+◌, ◌^◌, ◌<◌, ◌≤◌, ◌++◌, ℕ, [], IsTrue, IfOk, length, map, replicate, slice_index};
 ghost use Rattle.std.specs.List.{All, filter, slice_index_or};
 ghost use Rattle.metis_ids.specs.Graph.{joins};
 ghost use Rattle.metis_ids.specs.Lists.{has};
 ghost use Rattle.metis_ids.specs.Counts.{occurrences};
 ghost use Rattle.metis_sort.specs.Dag.{HasEdgesOf, ascending, edges_into, graph_into, turned_row};
+ghost use Rattle.metis_sort.specs.Rows.{HasRoom};
 
+use crate::filling::Filling;
 use crate::reach::Reach;
-use crate::rows::{NodeRow, empty_rows};
+use crate::rows::NodeRows;
 use metis_ids::{NoMemory, NodeIx, Steps};
 use std::alloc::Global;
 use std::marker::Model;
@@ -18,8 +20,8 @@ use std::sync::ledger::Ledger;
 #[derive(Drop)]
 pub struct Dag {
     last: NodeIx,
-    before: Vec<NodeRow>,
-    after: Vec<NodeRow>,
+    before: NodeRows,
+    after: NodeRows,
 }
 
 impl Model for Dag {
@@ -28,13 +30,13 @@ impl Model for Dag {
 
     ghost Value = { Graph };
 
-    ghost view = { λ a. graph_into a.before.items a.last };
+    ghost view = { λ a. graph_into a.before a.last };
 
-    ghost invariant = { λ a. IsDag (graph_into a.before.items a.last) a.after.items a.before.items };
+    ghost invariant = { λ a. IsDag (graph_into a.before a.last) a.after a.before };
 }
 
 impl Dag {
-    /// The graph of so many nodes and these edges, in any order. It goes over the edges four times.
+    /// The graph of so many nodes and these edges, in any order. It goes over the edges four times, and counts them before each time.
     pub fn new(
         alloc: Global,
         n: u32,
@@ -54,16 +56,13 @@ impl Dag {
     }
 
     /// The graph in which these rows, one for each node, are the nodes from which edges lead to it: ascending, each as often as
-    /// there are edges. It goes over the edges once. No memory is said to be there for 2^32 edges and more.
-    pub fn of_befores(alloc: Global, before: Vec<NodeRow>, last: NodeIx) -> Result<Dag, NoMemory>
-        requires last { last < length before.items }
-        requires small { length before.items < 2 ^ 32 }
-        requires rows { All (λ row. ascending (length before.items) row ≡ row) before.items }
-        ensures { IfOk result (λ g. g ≡ graph_into before.items last) }
+    /// there are edges. It goes over the edges twice.
+    pub fn of_befores(alloc: Global, before: NodeRows, last: NodeIx) -> Result<Dag, NoMemory>
+        requires last { last < length before }
+        requires small { length before < 2 ^ 32 }
+        requires rows { All (λ row. ascending (length before) row ≡ row) before }
+        ensures { IfOk result (λ g. g ≡ graph_into before last) }
     {
-        if !are_few(&before) {
-            return Err(NoMemory);
-        }
         let after = turned(alloc, &before)?;
         Ok(Dag {
             last,
@@ -86,33 +85,18 @@ impl Reach for Dag {
 
     fn indegree<L: Ledger>(&self, n: NodeIx, steps: &mut Steps<L>) -> u32 {
         steps.tick();
-        self.before[n.0 as usize].len() as u32
+        self.before.row(n.0 as usize).len() as u32
     }
 
     fn after_at<L: Ledger>(&self, n: NodeIx, k: u32, steps: &mut Steps<L>) -> Option<NodeIx> {
         steps.tick();
-        self.after[n.0 as usize].get(k)
+        self.after.row(n.0 as usize).get(k as usize).copied()
     }
 
     fn before_at<L: Ledger>(&self, n: NodeIx, k: u32, steps: &mut Steps<L>) -> Option<NodeIx> {
         steps.tick();
-        self.before[n.0 as usize].get(k)
+        self.before.row(n.0 as usize).get(k as usize).copied()
     }
-}
-
-// Whether the rows have fewer than 2^32 nodes together.
-fn are_few(rows: &[NodeRow]) -> bool
-    ensures { IsTrue result → length (edges_into rows.now) < 2 ^ 32 }
-{
-    let mut left = u32::MAX;
-    for row in rows {
-        let count = row.len();
-        if count > left as usize {
-            return false;
-        }
-        left -= count as u32;
-    }
-    true
 }
 
 // For each node, from where edges lead to it.
@@ -120,40 +104,70 @@ fn rows_by_end(
     alloc: Global,
     count: usize,
     edges: &[(NodeIx, NodeIx)],
-) -> Result<Vec<NodeRow>, NoMemory>
-    requires { All (λ e. e.1 < count) edges.now }
-    ensures size { IfOk result (λ rows. length rows.items ≡ count) }
-    ensures counts { IfOk result (λ rows. (a b : ℕ) → b < count → occurrences a (slice_index_or rows.items b []) ≡ length (filter (joins a b) edges.now)) }
+) -> Result<NodeRows, NoMemory>
+    requires to { All (λ e. e.1 < count) edges.now }
+    requires few { length edges.now < 2 ^ 32 }
+    ensures size { IfOk result (λ rows. length rows ≡ count) }
+    ensures counts { IfOk result (λ rows. (a b : ℕ) → b < count → occurrences a (slice_index_or rows b []) ≡ length (filter (joins a b) edges.now)) }
 {
-    let mut rows = empty_rows(alloc, count)?;
+    let counts = counts_of(alloc, count, &ends_of(alloc, edges)?)?;
+    let mut rows = Filling::with_room(alloc, &counts)?;
     for (from, to) in edges {
-        rows[to.0 as usize].push(*from)?;
+        rows.push(*to, *from);
     }
-    Ok(rows)
+    Ok(rows.done())
+}
+
+// The nodes to which the edges lead.
+fn ends_of(alloc: Global, edges: &[(NodeIx, NodeIx)]) -> Result<Vec<NodeIx>, NoMemory>
+    ensures { IfOk result (λ ends. ends.items ≡ map (λ e. e.1) edges.now) }
+{
+    let mut ends = Vec::with_capacity(alloc, edges.len())?;
+    for (_, to) in edges {
+        ends.push(*to)?;
+    }
+    Ok(ends)
+}
+
+// How often each of so many nodes stands among these.
+fn counts_of(alloc: Global, count: usize, nodes: &[NodeIx]) -> Result<Vec<u32>, NoMemory>
+    requires within { (x : ℕ) → IsTrue (has nodes.now x) → x < count }
+    requires few { length nodes.now < 2 ^ 32 }
+    ensures size { IfOk result (λ counts. length counts.items ≡ count) }
+    ensures counts { IfOk result (λ counts. (x : ℕ) → slice_index counts.items x ≡ occurrences x nodes.now) }
+{
+    let mut counts = vec![in alloc; 0; count]?;
+    for node in nodes {
+        counts[node.0 as usize] += 1;
+    }
+    Ok(counts)
 }
 
 // For each node, the numbers of the rows in which it stands.
-fn turned(alloc: Global, rows: &[NodeRow]) -> Result<Vec<NodeRow>, NoMemory>
-    requires few { length rows.now < 2 ^ 32 }
+fn turned(alloc: Global, rows: &NodeRows) -> Result<NodeRows, NoMemory>
+    requires small { length rows.now < 2 ^ 32 }
     requires within { (i x : ℕ) → IsTrue (has (slice_index_or rows.now i []) x) → x < length rows.now }
-    ensures size { IfOk result (λ turned. length turned.items ≡ length rows.now) }
-    ensures rows { IfOk result (λ turned. (x : ℕ) → x < length rows.now → slice_index_or turned.items x [] ≡ turned_row rows.now x) }
+    ensures size { IfOk result (λ turned. length turned ≡ length rows.now) }
+    ensures rows { IfOk result (λ turned. (x : ℕ) → x < length rows.now → slice_index_or turned x [] ≡ turned_row rows.now x) }
+    ensures few { IfOk result (λ _. length (edges_into rows.now) < 2 ^ 32) }
 {
-    let mut turned = empty_rows(alloc, rows.len())?;
-    for (i, row) in rows.iter().enumerate() {
-        add_to_rows(&mut turned, NodeIx(i as u32), row.as_slice())?;
+    let counts = counts_of(alloc, rows.len(), rows.all())?;
+    let mut turned = Filling::with_room(alloc, &counts)?;
+    for i in 0..rows.len() {
+        add_to_rows(&mut turned, NodeIx(i as u32), rows.row(i));
     }
-    Ok(turned)
+    Ok(turned.done())
 }
 
 // Adds the node to the rows of these nodes.
-fn add_to_rows(rows: &mut Vec<NodeRow>, node: NodeIx, to: &[NodeIx]) -> Result<(), NoMemory>
-    requires { (x : ℕ) → IsTrue (has to.now x) → x < length rows.old.items }
-    ensures size { length rows.new.items ≡ length rows.old.items }
-    ensures rows { OnOk result ((x : ℕ) → slice_index_or rows.new.items x [] ≡ slice_index_or rows.old.items x [] ++ replicate (occurrences x to.now) node) }
+fn add_to_rows(rows: &mut Filling, node: NodeIx, to: &[NodeIx])
+    requires within { (x : ℕ) → IsTrue (has to.now x) → x < length rows.old.rows }
+    requires room { (x : ℕ) → x < length rows.old.rows → HasRoom rows.old x (occurrences x to.now) }
+    ensures size { length rows.new.rows ≡ length rows.old.rows }
+    ensures starts { rows.new.starts ≡ rows.old.starts }
+    ensures rows { (x : ℕ) → slice_index_or rows.new.rows x [] ≡ slice_index_or rows.old.rows x [] ++ replicate (occurrences x to.now) node }
 {
     for x in to {
-        rows[x.0 as usize].push(node)?;
+        rows.push(*x, node);
     }
-    Ok(())
 }

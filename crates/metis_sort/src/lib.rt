@@ -3,6 +3,7 @@
 
 mod cycle;
 mod dag;
+mod filling;
 mod order;
 mod reach;
 mod ready;
@@ -12,6 +13,6 @@ mod sorting;
 
 pub use dag::Dag;
 pub use reach::Reach;
-pub use rows::NodeRow;
+pub use rows::NodeRows;
 pub use sorted::Sorted;
 pub use sorting::{sort, sort_counted};

@@ -1,75 +1,83 @@
-//! Rows of nodes, one for each node of a graph.
-ghost use Rattle.std.specs.Prelude.{◌≡◌, ◌++◌, ◌∷◌, [], IfOk, OnOk, length, replicate};
-ghost use Rattle.std.specs.List.{slice_get};
+//! Rows of nodes in one list, one behind the other.
+ghost use Rattle.std.specs.Prelude.{◌≡◌, ◌++◌, ◌∷◌, ◌^◌, ◌<◌, [], IfOk, OnOk, length};
+ghost use Rattle.std.specs.List.{slice_get, slice_index_or};
+ghost use Rattle.metis_sort.specs.Rows.{joined};
 
 use metis_ids::{NoMemory, NodeIx};
 use std::alloc::Global;
 use std::marker::Model;
 
-/// Some nodes. Contracts see them as their list.
+/// Rows of nodes. Contracts see them as a list of lists.
 #[derive(Drop)]
-pub struct NodeRow {
-    nodes: Vec<NodeIx>,
+pub struct NodeRows {
+    /// Where each row starts, and behind the last one where it ends.
+    pub(crate) starts: Vec<u32>,
+    pub(crate) nodes: Vec<NodeIx>,
 }
 
-impl Model for NodeRow {
+impl Model for NodeRows {
     ghost use Rattle.std.specs.Prelude.{List, ℕ};
+    ghost use Rattle.metis_sort.specs.Rows.{IsSpread, rows_by};
 
-    ghost Value = { List ℕ };
+    ghost Value = { List (List ℕ) };
 
-    ghost view = { λ a. a.nodes.items };
+    ghost view = { λ a. rows_by a.starts.items a.nodes.items };
+
+    ghost invariant = { λ a. IsSpread a.starts.items a.nodes.items };
 }
 
-impl NodeRow {
-    /// No node, with room for so many.
-    pub fn with_capacity(alloc: Global, count: usize) -> Result<NodeRow, NoMemory>
-        ensures { IfOk result (λ row. row ≡ []) }
+impl NodeRows {
+    /// No row.
+    pub fn new(alloc: Global) -> Result<NodeRows, NoMemory>
+        ensures { IfOk result (λ rows. rows ≡ []) }
     {
-        Ok(NodeRow {
-            nodes: Vec::with_capacity(alloc, count)?,
+        Ok(NodeRows {
+            starts: vec![in alloc; 0; 1]?,
+            nodes: Vec::new(alloc),
         })
     }
 
-    /// Appends a node.
-    pub fn push(&mut self, node: NodeIx) -> Result<(), NoMemory>
-        ensures { OnOk result (self.new ≡ self.old ++ node ∷ []) }
+    /// Appends a row. No memory is said to be there for 2^32 nodes and more.
+    pub fn push(&mut self, row: &[NodeIx]) -> Result<(), NoMemory>
+        ensures { OnOk result (self.new ≡ self.old ++ row.now ∷ []) }
     {
-        self.nodes.push(node)?;
-        Ok(())
+        let count = self.nodes.len();
+        if row.len() > (u32::MAX as usize) - count {
+            return Err(NoMemory);
+        }
+        self.nodes.extend_from_slice(row)?;
+        match self.starts.push((count + row.len()) as u32) {
+            Ok(()) => Ok(()),
+            Err(_) => {
+                self.nodes.truncate(count);
+                Err(NoMemory)
+            }
+        }
     }
 
-    /// How many nodes there are.
+    /// How many rows there are.
     pub fn len(&self) -> usize
         ensures { result ≡ length self.now }
     {
-        self.nodes.len()
+        self.starts.len() - 1
     }
 
-    /// The node of a place, and none past the end.
-    pub fn get(&self, k: u32) -> Option<NodeIx>
-        ensures { result ≡ slice_get self.now k }
+    /// The nodes of a row.
+    pub fn row(&self, number: usize) -> &[NodeIx]
+        requires { number < length self.now }
+        ensures { result.now ≡ slice_index_or self.now number [] }
     {
-        self.nodes.get(k as usize).copied()
+        let start = self.starts[number] as usize;
+        let end = self.starts[number + 1] as usize;
+        &self.nodes[start..end]
     }
 
-    /// The nodes.
-    pub fn as_slice(&self) -> &[NodeIx]
-        ensures { result.now ≡ self.now }
+    /// The nodes of all rows.
+    pub fn all(&self) -> &[NodeIx]
+        ensures nodes { result.now ≡ joined self.now }
+        ensures few { length result.now < 2 ^ 32 }
     {
-        self.nodes.as_slice()
+        let _starts = &self.starts;
+        &self.nodes
     }
-}
-
-/// An empty row for each of so many nodes.
-#[tactic(auto, using(std::proofs::lemmas::List::replicate_more))]
-pub fn empty_rows(alloc: Global, count: usize) -> Result<Vec<NodeRow>, NoMemory>
-    ensures { IfOk result (λ rows. rows.items ≡ replicate count []) }
-{
-    let mut rows = Vec::with_capacity(alloc, count)?;
-    for _ in 0..count {
-        rows.push(NodeRow {
-            nodes: Vec::new(alloc),
-        })?;
-    }
-    Ok(rows)
 }

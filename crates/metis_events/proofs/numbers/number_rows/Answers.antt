@@ -6,8 +6,8 @@ use Rattle.metis_events.specs.declared.edges.Edge.{Edge}
 use Rattle.metis_events.specs.Numbered.{graph_by, number_of}
 use Rattle.metis_events.proofs.numbers.number_rows.Goals as goal
 
-pub numbers_of-requires-clause-from : goal.numbers_of-requires-clause-from
-numbers_of-requires-clause-from c =
+pub put_numbers-requires-clause-from : goal.put_numbers-requires-clause-from
+put_numbers-requires-clause-from c =
     subst (λ (ys : List Edge). All (λ (y : Edge). position_or_len (same_event y.from) c.args.events.now < length c.args.events.now) ys) (sym (c.as_slice.ensures ∙ c.row-item.is))
     (c.requires.joined.from c.loop-row.row-index c.row-item.result (omega arith))
 
@@ -16,7 +16,7 @@ loop-row-preserved c =
     let number : List Edge → List ℕ = map (λ (e : Edge). number_of (graph_by c.args.events.now c.args.edges.now) e.from) in
     let edges = c.args.edges.now in
     let i = c.loop-row.row-index in
-    let row : c.in_ok-numbers_of.field-0 ≡ number (get_or edges i c.row-item.result) = c.in_ok-numbers_of.ensures ∙ ap number (c.as_slice.ensures ∙ c.row-item.is) in
-    c.in_ok-push.ensures.items ∙ (λ j. c.loop-row.invariant j ++ row j ∷ [])
+    let row : c.deref.result.now ≡ number (get_or edges i c.row-item.result) = c.deref.ensures.value ∙ c.in_ok-put_numbers.ensures ∙ ap number (c.as_slice.ensures ∙ c.row-item.is) in
+    c.in_ok-push.ensures ∙ (λ j. c.loop-row.invariant j ++ row j ∷ [])
     ∙ sym (map-append number (take i edges) (get_or edges i c.row-item.result ∷ []))
     ∙ ap (map number) (sym (take_more edges i c.row-item.result c.loop-row-test.true))

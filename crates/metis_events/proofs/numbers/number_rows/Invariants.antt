@@ -5,4 +5,4 @@ use Rattle.metis_events.proofs.numbers.number_rows.Given as goal
 
 -- the rows so far have their numbers
 abbrev pub invariant-loop-row : goal.invariant-loop-row
-invariant-loop-row l = l.rows.items ≡ map (map (λ (e : Edge). number_of (graph_by l.events l.edges) e.from)) (take l.row-index l.edges)
+invariant-loop-row l = l.rows ≡ map (map (λ (e : Edge). number_of (graph_by l.events l.edges) e.from)) (take l.row-index l.edges)

@@ -43,7 +43,7 @@ of_befores-requires-clause-rows c =
     let w : AbstractPlan = plan_of c.args.over.now.universe c.args.over.now.support c.args.over.now.lines in
     let listed : c.in_ok-events.events.items ≡ events w = c.in_ok-events.ensures.events in
     let rows : c.in_ok-edges.edges.items ≡ map (before w) (events w) = c.in_ok-edges.ensures ∙ ap (map (before w)) (c.deref.ensures.value ∙ listed) in
-    let made : c.in_ok-befores.befores.items ≡ rows_of (graph_of w) = c.in_ok-befores.ensures ∙ (λ i. rows_of (graph_by ((c.deref-3.ensures.value ∙ listed) i) ((c.deref-5.ensures.value ∙ rows) i))) in
+    let made : c.in_ok-befores.befores ≡ rows_of (graph_of w) = c.in_ok-befores.ensures ∙ (λ i. rows_of (graph_by ((c.deref-3.ensures.value ∙ listed) i) ((c.deref-5.ensures.value ∙ rows) i))) in
     subst (λ (r : List (List ℕ)). All (λ row. ascending (length r) row ≡ row) r) (sym made) (rows_ascend w)
 
 pub invariant_of-result : goal.invariant_of-result
@@ -54,7 +54,7 @@ invariant_of-result c =
     let listed : all ≡ events w = c.in_ok-events.ensures.events in
     let rows : edges ≡ map (before w) (events w) = c.in_ok-edges.ensures ∙ ap (map (before w)) (c.deref.ensures.value ∙ listed) in
     let each : length edges ≡ length all = ap length rows ∙ length-map (events w) (before w) ∙ sym (ap length listed) in
-    let made : c.in_ok-befores.befores.items ≡ rows_of (graph_by all edges) = c.in_ok-befores.ensures ∙ (λ i. rows_of (graph_by (c.deref-3.ensures.value i) (c.deref-5.ensures.value i))) in
+    let made : c.in_ok-befores.befores ≡ rows_of (graph_by all edges) = c.in_ok-befores.ensures ∙ (λ i. rows_of (graph_by (c.deref-3.ensures.value i) (c.deref-5.ensures.value i))) in
     let count : c.len.result ≡ length all = c.len.ensures ∙ sym c.deref.ensures.len ∙ ap length c.deref.ensures.value in
     record {
       each = each;

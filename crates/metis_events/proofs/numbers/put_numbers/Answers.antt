@@ -4,7 +4,7 @@ use Rattle.std.specs.List.{position_or_len}
 use Rattle.std.specs.Option.{IsSome}
 use Rattle.metis_lines.specs.Events.{same_event}
 use Rattle.metis_events.specs.declared.edges.Edge.{Edge}
-use Rattle.metis_events.proofs.numbers.numbers_of.Goals as goal
+use Rattle.metis_events.proofs.numbers.put_numbers.Goals as goal
 
 pub unwrap-from-requires : goal.unwrap-from-requires
 unwrap-from-requires c =
