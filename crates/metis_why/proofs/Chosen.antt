@@ -1,14 +1,13 @@
 -- The chosen reasons, lines and pairs.
 use Rattle.std.proofs.Common.{◌≡◌, ℕ, ◌+◌, ◌<◌, ◌≤◌, zero, suc, Bool, true, false, cond, not, ◌||◌, List, [], ◌∷◌, ◌++◌, length, take, set, replicate, Option, Some, None, get_or, refl, sym, ap, ◌∙◌, subst, arith, inl, inr, nat_eq}
 use Rattle.std.specs.Prelude.{◌⊎◌, MatchOption, fold, nat_lt}
-use Rattle.std.specs.List.{All, flat_map, list_all}
+use Rattle.std.specs.List.{All, list_all}
 use Rattle.std.proofs.lemmas.Bool.{both_ways, cases_eq, cases_lt, eq-eqb, eqb-true, false_from_ne_true, false≢true, le-ltb, lt-ltb, ne_eqb, not-false, not-true, or_cases, or_left, or_right, true_from_ne_false}
-use Rattle.std.proofs.lemmas.List.{append-nil, get_or-set_other, get_or-set_same, length-replicate, length-set, length_push, map-append, take_all, take_more}
-use Rattle.std.proofs.lemmas.List.Concat.{flat_map-append}
+use Rattle.std.proofs.lemmas.List.{get_or-set_other, get_or-set_same, length-replicate, length-set, length_push, map-append}
 use Rattle.std.proofs.Math.Bool.{or-false}
 use Rattle.std.proofs.lemmas.List.Elements.{All-take}
 use Rattle.std.proofs.lemmas.List.Sums.{fold_more}
-use Rattle.metis_ids.proofs.Lists.{all_at, any_at, has-append, has-push, list_any-flat_map, some_member}
+use Rattle.metis_ids.proofs.Lists.{all_at, has-push}
 use Rattle.metis_ids.specs.declared.goals.Goal.{Goal}
 use Rattle.metis_refusal.proofs.Searches.{unset}
 use Rattle.metis_refusal.specs.Supplies.{flag}
@@ -96,23 +95,6 @@ module _ (u : Universe) (x : ℕ → Bool) where
 
   pub told_more : (lines : List Line) (list pairs : List ℕ) (i p : ℕ) → i < length pairs → p ≡ get_or pairs i p → lines ≡ lines_in u x (noted (noted list (take i pairs)) (p ∷ [])) → lines ≡ lines_in u x (noted list (take (i + 1) pairs))
   told_more lines list pairs i p low at are = are ∙ ap (lines_in u x) (sym (noted_more list pairs i p low at))
-
--- ---- what each of a list names
-
-pub named_more : (f : ℕ → List ℕ) (old new ports : List ℕ) (i r : ℕ) → i < length ports → r ≡ get_or ports i r → old ≡ flat_map f (take i ports) → new ≡ old ++ f r → new ≡ flat_map f (take (i + 1) ports)
-named_more f old new ports i r low at before is =
-    let one : flat_map f (r ∷ []) ≡ f r = append-nil (f r) in
-    is ∙ (λ j. before j ++ f r) ∙ ap (λ l. flat_map f (take i ports) ++ l) (sym one) ∙ sym (flat_map-append f (take i ports) (r ∷ []))
-    ∙ ap (λ k. flat_map f (take i ports ++ k ∷ [])) at ∙ ap (flat_map f) (sym (take_more ports i r low))
-
-pub push_none : (xs ys : List ℕ) (b : Bool) → b ≡ true → xs ≡ xs ++ cond b [] ys
-push_none xs ys b on = sym (ap (λ c. xs ++ cond c [] ys) on ∙ append-nil xs)
-
-pub push_all : (xs ys new : List ℕ) (b : Bool) → b ≡ false → new ≡ xs ++ ys → new ≡ xs ++ cond b [] ys
-push_all xs ys new b off is = is ∙ ap (λ c. xs ++ cond c [] ys) (sym off)
-
-pub flat_whole : (f : ℕ → List ℕ) (names ports all : List ℕ) (i : ℕ) → names ≡ flat_map f (take i ports) → length ports ≤ i → ports ≡ all → names ≡ flat_map f all
-flat_whole f names ports all i before past same = before ∙ ap (flat_map f) (take_all i ports past ∙ same)
 
 -- ---- the port that the fewest pairs provide
 
@@ -221,12 +203,6 @@ seen_more flags list new p seen low off is = record {
     | inl same ↦ ap (flag (set flags p true)) same ∙ get_or-set_same flags p true false (omega (arith, low, seen.places)) ∙ sym (has-push list p q ∙ or_right (has list q) (nat_eq p q) (eq-eqb p q (sym same)))
     | inr other ↦ get_or-set_other flags p q true false other ∙ seen.same q ∙ sym (has-push list p q ∙ ap (λ b. has list q || b) (ne_eqb p q (λ e. other (sym e))) ∙ or-false (has list q))
   ]
-
-pub noted_there : (flags : List Bool) (list : List ℕ) (p : ℕ) → AreSeen flags list → flag flags p ≡ true → list ≡ noted list (p ∷ [])
-noted_there flags list p seen on = ap (λ b. cond b list (list ++ p ∷ [])) (sym (sym (seen.same p) ∙ on))
-
-pub noted_new : (flags : List Bool) (list new : List ℕ) (p : ℕ) → AreSeen flags list → flag flags p ≡ false → new ≡ list ++ p ∷ [] → new ≡ noted list (p ∷ [])
-noted_new flags list new p seen off is = is ∙ ap (λ b. cond b list (list ++ p ∷ [])) (sym (sym (seen.same p) ∙ off))
 
 -- ---- there is one choice
 

@@ -1,15 +1,15 @@
 -- Costs that are lowered, and the order that they come to.
-use Rattle.std.proofs.Common.{◌≡◌, ℕ, zero, suc, ◌+◌, ◌*◌, ◌<◌, ◌≤◌, Bool, true, false, cond, ◌||◌, List, [], ◌∷◌, ◌++◌, length, refl, sym, ap, ◌∙◌, subst, arith, inl, inr, nat_eq}
+use Rattle.std.proofs.Common.{◌≡◌, ℕ, suc, ◌+◌, ◌*◌, ◌<◌, ◌≤◌, Bool, true, false, cond, List, [], ◌∷◌, ◌++◌, length, refl, sym, ap, ◌∙◌, subst, arith, inl, inr, nat_eq}
 use Rattle.std.specs.Prelude.{◌⊎◌, fold, nat_lt}
-use Rattle.std.specs.List.{count_by, list_all}
-use Rattle.std.proofs.lemmas.Bool.{both_ways, cases_eq, cases_lt, eq-eqb, eqb-true, false≢true, ltb-false, ltb-true, ne_eqb, or_cases, or_left, or_parts, or_right}
+use Rattle.std.specs.List.{list_all}
+use Rattle.std.proofs.lemmas.Bool.{both_ways, cases_eq, eq-eqb, eqb-true, false≢true, ltb-false, ltb-true, or_cases, or_left, or_parts, or_right}
 use Rattle.std.proofs.lemmas.List.{length_push}
 use Rattle.std.proofs.Math.Nat.{mul-le-mul_left, mul-suc}
 use Rattle.metis_ids.proofs.Lists.{has-append, has_one}
 use Rattle.metis_ids.specs.declared.goals.Goal.{Goal}
 use Rattle.metis_universe.specs.Universe.{Universe, has, providers_of, required_of}
 use Rattle.metis_why.specs.Barred.{before_of, named_by, wanted_by}
-use Rattle.metis_why.specs.Choice.{Ascends, IsBefore, IsByDistance, IsCost, IsDistance, IsStep, further, wanted}
+use Rattle.metis_why.specs.Choice.{Ascends, IsBefore, IsByDistance, IsCost, IsStep, further, wanted}
 use Rattle.metis_why.specs.Costs.{IsFirst, IsReaching, led_by, led_on, lowered}
 use Rattle.metis_why.specs.declared.reason.Reason.{Reason}
 use Rattle.metis_why.specs.declared.reason.Reason.TheVariants.{Needs, Comes}
@@ -173,7 +173,6 @@ module _ (u : Universe) (x : ℕ → Bool) (g : Goal) (size top : ℕ) where
       (low : (p n : ℕ) → IsCost u x g p n → p < count) (few : (reason : Reason) → length (named_by u q reason) ≤ size)
       (most : (p : ℕ) → e p ≤ f p) (there : (reason : Reason) (p : ℕ) → IsStep u x q reason p → e p ≤ f q + length (named_by u q reason))
       (cases : (p : ℕ) → (e p ≡ f p) ⊎ ((reason : Reason) × IsStep u x q reason p × (e p ≡ f q + length (named_by u q reason)))) where
-
     cases_far : (p : ℕ) → (e p ≡ f p) ⊎ (f q < e p)
     cases_far p = elim (cases p) [
       | inl same ↦ inl same

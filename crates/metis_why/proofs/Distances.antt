@@ -1,10 +1,9 @@
 -- The pairs behind a goal, from near to far, and their fronts.
 use Rattle.std.proofs.Common.{◌≡◌, ℕ, ◌+◌, ◌<◌, ◌≤◌, Bool, true, false, ◌||◌, List, [], ◌∷◌, ◌++◌, length, min, take, drop, get_or, refl, sym, ap, ◌∙◌, subst, arith, nat_eq}
 use Rattle.std.specs.List.{All}
-use Rattle.std.proofs.lemmas.List.{get_or_default, take-append-drop, take_min, take_more}
-use Rattle.metis_ids.proofs.Lists.{all_at, has-push, has_at}
+use Rattle.std.proofs.lemmas.List.{take-append-drop, take_min, take_more}
+use Rattle.metis_ids.proofs.Lists.{all_at, has-push}
 use Rattle.metis_ids.specs.declared.goals.Goal.{Goal}
-use Rattle.metis_universe.proofs.Correctness.{all_has}
 use Rattle.metis_universe.specs.Universe.{Universe, has, pair_count}
 use Rattle.metis_why.proofs.Going.{all_from}
 use Rattle.metis_why.proofs.Nearest.{has_take}

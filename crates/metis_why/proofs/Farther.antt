@@ -1,13 +1,11 @@
 -- The pairs to which ways lead, from near to far: there is one such order, and it goes from near to far.
-use Rattle.std.proofs.Common.{◌≡◌, ℕ, zero, suc, ◌<◌, ◌≤◌, Bool, true, false, cond, List, [], ◌∷◌, ◌++◌, length, refl, sym, ap, ◌∙◌, subst, arith, inl, inr, nat_eq}
-use Rattle.std.specs.Prelude.{◌⊎◌}
+use Rattle.std.proofs.Common.{◌≡◌, ℕ, suc, ◌<◌, ◌≤◌, Bool, true, false, cond, List, [], ◌∷◌, refl, sym, ap, ◌∙◌, subst, arith, inl, inr, nat_eq}
 use Rattle.std.specs.List.{flat_map, list_all}
-use Rattle.std.proofs.lemmas.Bool.{both_ways, cases_eq, cases_lt, eq-eqb, eqb-true, false_from_ne_true, false≢true, or_cases, or_left, or_parts, or_right}
+use Rattle.std.proofs.lemmas.Bool.{both_ways, eq-eqb, eqb-true, false_from_ne_true, false≢true, or_cases, or_left, or_right}
 use Rattle.metis_ids.proofs.Lists.{any_at, has-append, list_any-flat_map, some_member}
 use Rattle.metis_ids.specs.declared.goals.Goal.{Goal}
 use Rattle.metis_universe.proofs.Correctness.{all_from_has, all_has}
 use Rattle.metis_universe.specs.Universe.{Universe, has, providers_of, required_of}
-use Rattle.metis_why.proofs.Nearest.{place_low, place_past}
 use Rattle.metis_why.specs.Barred.{Covers, before_of, named_by, wanted_by}
 use Rattle.metis_why.specs.Choice.{Ascends, IsBefore, IsByDistance, IsCost, IsStep, all_in, further, may_name, place_in, wanted}
 use Rattle.metis_why.specs.Flags.{IsInside}

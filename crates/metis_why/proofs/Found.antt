@@ -1,16 +1,12 @@
 -- There is an explanation by the rules of choice.
 use Rattle.std.proofs.Common.{◌≡◌, ℕ, zero, suc, ◌+◌, ◌<◌, ◌≤◌, Bool, true, false, cond, not, ◌&&◌, List, [], ◌∷◌, length, get_or, Option, Some, None, refl, sym, ap, subst, arith, inl, inr, nat_eq}
 use Rattle.std.specs.Prelude.{◌⊎◌, nat_lt}
-use Rattle.std.specs.List.{count_by, list_all, range_with_len}
+use Rattle.std.specs.List.{count_by, list_all}
 use Rattle.std.proofs.lemmas.Bool.{and_parts, both_ways, cases_lt, eq-eqb, eqb-true, false_from_ne_true, false≢true, lt-ltb, ltb-true, not-true, or_cases, or_left, or_right, true_from_ne_false}
 use Rattle.std.proofs.lemmas.List.Elements.{All-cons, All-nil}
-use Rattle.std.proofs.lemmas.List.FromFn.{length-range_with_len}
-use Rattle.metis_ids.proofs.Lists.{has_range}
 use Rattle.metis_ids.specs.declared.goals.Goal.{Goal}
 use Rattle.metis_layers.specs.LayerOrder.{attained_pairs}
 use Rattle.metis_universe.proofs.Correctness.{all_has}
-use Rattle.metis_universe.proofs.Demands.{no_more}
-use Rattle.metis_universe.specs.Config.{AreDifferent}
 use Rattle.metis_universe.specs.Goals.{AttainsGoals, IsGoalOf}
 use Rattle.metis_universe.specs.Universe.{Universe, IsUniverse, all_pairs, has, pair_count, providers_of, required_of}
 use Rattle.metis_why.proofs.Chosen.{distance_enough, fewest_none, fewest_some}
@@ -25,7 +21,7 @@ use Rattle.metis_why.proofs.Told.{own_back}
 use Rattle.metis_why.proofs.Tried.{inside_without, tried_nearest}
 use Rattle.metis_why.specs.Answer.{IsLacking}
 use Rattle.metis_why.specs.Barred.{Covers, IsBarred, IsOwn, IsReason, named_by, wanted_by}
-use Rattle.metis_why.specs.Choice.{IsByChoice, IsFollowed, IsNearest, IsReadTo, IsTold, fewest_port, lines_in, may_name, names_in, noted, reason_by, reason_in}
+use Rattle.metis_why.specs.Choice.{IsByChoice, IsFollowed, IsNearest, IsReadTo, IsTold, fewest_port, lines_in, names_in, noted, reason_by, reason_in}
 use Rattle.metis_why.specs.Confirm.{own_holds}
 use Rattle.metis_why.specs.Flags.{IsGreatest, IsInside, IsWithin}
 use Rattle.metis_why.specs.Leaving.{IsEnough}

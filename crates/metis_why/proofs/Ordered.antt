@@ -1,8 +1,8 @@
 -- The next pair of the order, and that there is an order.
-use Rattle.std.proofs.Common.{◌≡◌, ℕ, zero, suc, ◌+◌, ◌*◌, ◌<◌, ◌≤◌, Bool, true, false, cond, List, [], ◌∷◌, ◌++◌, length, take, Option, Some, None, refl, sym, ap, ◌∙◌, subst, arith, inl, inr, nat_eq, get_or, lit<, set, ◌-◌}
-use Rattle.std.specs.Prelude.{◌⊎◌, fold, nat_lt}
-use Rattle.std.specs.List.{All, filter, list_all, range_with_len}
-use Rattle.std.proofs.lemmas.Bool.{cases_eq, cases_lt, eq-eqb, eqb-true, false≢true, ltb-false, ltb-true, or_cases, or_left, or_right}
+use Rattle.std.proofs.Common.{◌≡◌, ℕ, zero, suc, ◌+◌, ◌*◌, ◌<◌, ◌≤◌, Bool, true, false, List, [], ◌∷◌, ◌++◌, length, Option, Some, None, refl, sym, ap, ◌∙◌, subst, arith, inl, inr, get_or, lit<, set, ◌-◌}
+use Rattle.std.specs.Prelude.{◌⊎◌, nat_lt}
+use Rattle.std.specs.List.{All, filter, range_with_len}
+use Rattle.std.proofs.lemmas.Bool.{cases_eq, cases_lt, false≢true, ltb-false, ltb-true}
 use Rattle.std.proofs.lemmas.List.{get_or_default, length_push}
 use Rattle.std.proofs.lemmas.List.FromFn.{length-range_with_len}
 use Rattle.std.proofs.lemmas.List.Sums.{count_by-le-length, length-filter}
@@ -148,7 +148,6 @@ module _ (u : Universe) (x : ℕ → Bool) (g : Goal) (enough : IsEnough u g x) 
   order_done f order all none = let few = ordered_short f order all in reaching_done u x g size top (pair_count u) f order all none low_cost (few_named u size limit) (omega (arith, few, limit)) room
 
   order_go : (more : ℕ) (f : ℕ → ℕ) (order : List ℕ) → ((e : ℕ → ℕ) (q : ℕ) → IsReaching u x g size top e (order ++ q ∷ []) → (w : List ℕ) × IsByDistance u x g w) → IsReaching u x g size top f order → (o : Option ℕ) → IsNext top f (has order) (pair_count u) o → (w : List ℕ) × IsByDistance u x g w
-
   order_go more f order go all None none = (order, order_done f order all none)
   order_go more f order go all (Some q) next = go (led_on u x (f q) f q) q (order_more f (led_on u x (f q) f q) order q all next refl)
 

@@ -8,7 +8,6 @@ use Rattle.std.proofs.lemmas.List.Kept.{AllPairs-from_increasing}
 use Rattle.metis_ids.proofs.Lists.{has_here, place_of}
 use Rattle.metis_ids.specs.declared.goals.Goal.{Goal}
 use Rattle.metis_universe.specs.Universe.{Universe, IsUniverse, has, pair_count, providers_of, required_of}
-use Rattle.metis_universe.proofs.Correctness.{all_from_has, all_has}
 use Rattle.metis_why.proofs.Chosen.{distance_enough, fewest_none, fewest_some}
 use Rattle.metis_why.proofs.Farther.{distance_apart}
 use Rattle.metis_why.proofs.Lacking.{lacking_barred}
@@ -17,7 +16,7 @@ use Rattle.metis_why.proofs.Nearest.{nearing_done, nearing_more, nearing_start, 
 use Rattle.metis_why.proofs.Reasons.{all_inside}
 use Rattle.metis_why.specs.Answer.{IsLacking}
 use Rattle.metis_why.specs.Barred.{Covers, wanted_by}
-use Rattle.metis_why.specs.Choice.{IsByDistance, IsNearest, fewer, fewest_port, may_name, place_in, reason_by, reason_in}
+use Rattle.metis_why.specs.Choice.{IsByDistance, IsNearest, fewer, fewest_port, place_in, reason_by, reason_in}
 use Rattle.metis_why.specs.Flags.{IsGreatest, IsInside}
 use Rattle.metis_why.specs.Leaving.{IsEnough}
 use Rattle.metis_why.specs.Nearing.{AreApart, IsFront, IsNearing}

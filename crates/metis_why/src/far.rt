@@ -47,11 +47,7 @@ pub fn by_distance(
 }
 
 // Of the pairs to which a way is known and that are not in the order yet the nearest, the first of those that are as near.
-fn nearest(
-    u: &Universe,
-    far: &[u32; PAIR_LIMIT],
-    ordered: &[bool; PAIR_LIMIT],
-) -> Option<PairIx>
+fn nearest(u: &Universe, far: &[u32; PAIR_LIMIT], ordered: &[bool; PAIR_LIMIT]) -> Option<PairIx>
     ensures { IsNext NEVER (far_in far.now) (flag ordered.now) (pair_count u.now) result }
 {
     u.keeps_invariant();
