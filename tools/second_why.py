@@ -12,8 +12,9 @@ the port is in x. Or each pair from which a move leads to it is in x. The set is
 covers a goal where it has the pair, or each pair that provides the port. What a barred set covers no list of actions
 attains (docs/dev/MODEL.md). Which lines are printed, where several would do, is settled by three rules:
 
-- Pairs are tried one after the other, the farthest from the goal first, and left out where the rest still covers it. The
-  distance counts over all reasons that a pair has among those that are not attained.
+- Pairs are tried one after the other, the farthest from the goal first, and left out where the rest still covers it. Of pairs
+  that are as far the last by number comes first. The pairs that the goal wants are at no distance. Each reason that a pair has
+  among those that are not attained leads to the pairs that it names, and these are farther by as many as it names.
 - Of a pair's reasons a port is told before its moves. Of several ports it is the one that the fewest pairs provide, and of
   these the first.
 - The pairs that the goal wants come first. Behind them come, line after line, those that the line names, each once.
@@ -146,13 +147,25 @@ def settled(u, x):
         x -= out
 
 
-def by_distance(u, x, goal):
-    """Pairs by how far they are from the goal: those that it wants, and then those for which these may wait, each once."""
-    order = list(wanted(u, goal))
-    for pair in order:  # grows as it goes
+def distances(u, x, goal):
+    """What a way from the goal to a pair costs at least: a step by a reason costs as many as the pairs that the reason names."""
+    far = {pair: 0 for pair in wanted(u, goal)}
+    nearer = list(far)
+    for pair in nearer:  # grows as it goes
         for reason in reasons(u, x, pair):
-            order += [other for other in named(u, pair, reason) if other not in order]
-    return order
+            others = named(u, pair, reason)
+            cost = far[pair] + len(others)
+            for other in others:
+                if other not in far or cost < far[other]:
+                    far[other] = cost
+                    nearer.append(other)
+    return far
+
+
+def by_distance(u, x, goal):
+    """The pairs behind the goal from near to far, and those that are as near by their numbers."""
+    far = distances(u, x, goal)
+    return sorted(far, key=lambda pair: (far[pair], pair))
 
 
 def needed(u, x, goal):

@@ -1,26 +1,26 @@
 -- The chosen reasons, lines and pairs.
 use Rattle.std.proofs.Common.{◌≡◌, ℕ, ◌+◌, ◌<◌, ◌≤◌, zero, suc, Bool, true, false, cond, not, ◌||◌, List, [], ◌∷◌, ◌++◌, length, take, set, replicate, Option, Some, None, get_or, refl, sym, ap, ◌∙◌, subst, arith, inl, inr, nat_eq}
 use Rattle.std.specs.Prelude.{◌⊎◌, MatchOption, fold, nat_lt}
-use Rattle.std.specs.List.{All, flat_map, list_all}
+use Rattle.std.specs.List.{All, list_all}
 use Rattle.std.proofs.lemmas.Bool.{both_ways, cases_eq, cases_lt, eq-eqb, eqb-true, false_from_ne_true, false≢true, le-ltb, lt-ltb, ne_eqb, not-false, not-true, or_cases, or_left, or_right, true_from_ne_false}
-use Rattle.std.proofs.lemmas.List.{append-nil, get_or-set_other, get_or-set_same, length-replicate, length-set, length_push, map-append, take_all, take_more}
-use Rattle.std.proofs.lemmas.List.Concat.{flat_map-append}
+use Rattle.std.proofs.lemmas.List.{get_or-set_other, get_or-set_same, length-replicate, length-set, length_push, map-append}
 use Rattle.std.proofs.Math.Bool.{or-false}
 use Rattle.std.proofs.lemmas.List.Elements.{All-take}
 use Rattle.std.proofs.lemmas.List.Sums.{fold_more}
-use Rattle.metis_ids.proofs.Lists.{all_at, any_at, has-append, has-push, list_any-flat_map, some_member}
+use Rattle.metis_ids.proofs.Lists.{all_at, has-push}
 use Rattle.metis_ids.specs.declared.goals.Goal.{Goal}
 use Rattle.metis_refusal.proofs.Searches.{unset}
 use Rattle.metis_refusal.specs.Supplies.{flag}
 use Rattle.metis_universe.proofs.Correctness.{all_from_has, all_has}
 use Rattle.metis_universe.proofs.Served.{count-cons}
 use Rattle.metis_universe.specs.Universe.{Universe, has, next_of, pair_count, provides, providers_of, required_of}
-use Rattle.metis_why.proofs.Followed.{followed_done, followed_one, followed_starts, noted_more, reading_each}
+use Rattle.metis_why.proofs.Farther.{cost_inside, distance_covers, distance_one, distance_step}
+use Rattle.metis_why.proofs.Followed.{followed_one, noted_more}
 use Rattle.metis_why.proofs.Nearest.{nearest_one}
 use Rattle.metis_why.proofs.Soundness.{kept_by, passes_of}
 use Rattle.metis_why.specs.Answer.{IsLacking}
 use Rattle.metis_why.specs.Barred.{IsReason, before_of, listed, named_by, wanted_by}
-use Rattle.metis_why.specs.Choice.{IsByChoice, IsByDistance, IsNearest, IsReadTo, IsTold, all_in, fewer, fewest_port, line_in, lines_in, may_name, names_in, noted, reason_by, reason_in}
+use Rattle.metis_why.specs.Choice.{IsByChoice, IsByDistance, IsNearest, IsStep, IsTold, fewer, fewest_port, line_in, lines_in, names_in, noted, reason_by, reason_in}
 use Rattle.metis_why.specs.Flags.{AreGiven, AreLed}
 use Rattle.metis_why.specs.Leaving.{IsEnough}
 use Rattle.metis_why.specs.Nearing.{AreSeen}
@@ -32,7 +32,7 @@ use Rattle.metis_why.specs.declared.reason.Reason.TheVariants.{Needs, Comes}
 -- ---- what the flags of ports and pairs say
 
 module _ (u : Universe) (x : ℕ → Bool) where
-  given_is : (given : List Bool) → AreGiven u x given → (r : ℕ) → not (flag given r) ≡ list_all x (providers_of u r)
+  pub given_is : (given : List Bool) → AreGiven u x given → (r : ℕ) → not (flag given r) ≡ list_all x (providers_of u r)
   given_is given are r = by (flag given r) refl where
     by : (b : Bool) → flag given r ≡ b → not b ≡ list_all x (providers_of u r)
     by true on =
@@ -42,7 +42,7 @@ module _ (u : Universe) (x : ℕ → Bool) where
         let at = passes_of u (λ z. provides u z r) y there in
         true_from_ne_false (x y) (λ away. both_ways (flag given r) off (are.by_each y r at.1 away at.0))))
 
-  led_is : (led : List Bool) → AreLed u x led → (q : ℕ) → not (flag led q) ≡ list_all x (before_of u q)
+  pub led_is : (led : List Bool) → AreLed u x led → (q : ℕ) → not (flag led q) ≡ list_all x (before_of u q)
   led_is led are q = by (flag led q) refl where
     by : (b : Bool) → flag led q ≡ b → not b ≡ list_all x (before_of u q)
     by true on =
@@ -57,61 +57,23 @@ module _ (u : Universe) (x : ℕ → Bool) where
   pub reason_chosen : (given : List Bool) → AreGiven u x given → (q : ℕ) (o : Option ℕ) → o ≡ fewest_port u (λ r. not (flag given r)) (required_of u q) → reason_by o ≡ reason_in u x q
   reason_chosen given are q o is = ap reason_by (is ∙ (λ i. fewest_port u (λ r. given_is given are r i) (required_of u q)))
 
-  -- ---- the pairs for which one may wait
-
-  may_by : (b c : Bool) (pairs : List ℕ) → not b ≡ c → cond b [] pairs ≡ cond c pairs []
-  may_by true c pairs is = ap (λ d. cond d pairs []) is
-  may_by false c pairs is = ap (λ d. cond d pairs []) is
-
-  pub may_name_by : (given led : List Bool) → AreGiven u x given → AreLed u x led → (q : ℕ) →
-      flat_map (λ r. cond (flag given r) [] (providers_of u r)) (required_of u q) ++ cond (flag led q) [] (before_of u q) ≡ may_name u x q
-  may_name_by given led g l q =
-      let port : (r : ℕ) → cond (flag given r) [] (providers_of u r) ≡ all_in x (providers_of u r) = λ r. may_by (flag given r) (list_all x (providers_of u r)) (providers_of u r) (given_is given g r) in
-      let move : cond (flag led q) [] (before_of u q) ≡ all_in x (before_of u q) = may_by (flag led q) (list_all x (before_of u q)) (before_of u q) (led_is led l q) in
-      λ i. flat_map (λ r. port r i) (required_of u q) ++ move i
-
-  all_in_inside : (pairs : List ℕ) (p : ℕ) → has (all_in x pairs) p ≡ true → x p ≡ true
-  all_in_inside pairs p there = by (list_all x pairs) refl there where
-    by : (b : Bool) → list_all x pairs ≡ b → has (cond b pairs []) p ≡ true → x p ≡ true
-    by true all there = all_has x p pairs all there
-    by false none there = absurd (false≢true there)
-
-  all_in_has : (pairs : List ℕ) (p : ℕ) → list_all x pairs ≡ true → has pairs p ≡ true → has (all_in x pairs) p ≡ true
-  all_in_has pairs p all there = ap (λ b. has (cond b pairs []) p) all ∙ there
-
-  pub may_inside : (q p : ℕ) → has (may_name u x q) p ≡ true → x p ≡ true
-  may_inside q p there =
-      elim (or_cases (has (flat_map (λ r. all_in x (providers_of u r)) (required_of u q)) p) (has (all_in x (before_of u q)) p)
-      (sym (has-append (flat_map (λ r. all_in x (providers_of u r)) (required_of u q)) (all_in x (before_of u q)) p) ∙ there)) [
-        | inl port ↦
-            let r = some_member (λ r. has (all_in x (providers_of u r)) p) (required_of u q) (sym (list_any-flat_map (λ z. nat_eq z p) (λ r. all_in x (providers_of u r)) (required_of u q)) ∙ port) in
-            all_in_inside (providers_of u r.0) p r.2
-        | inr move ↦ all_in_inside (before_of u q) p move
-      ]
-
-  may_has : (q : ℕ) (reason : Reason) (p : ℕ) → IsReason u x q reason → has (named_by u q reason) p ≡ true → has (may_name u x q) p ≡ true
-  may_has q (Needs r) p why there =
-      has-append (flat_map (λ r. all_in x (providers_of u r)) (required_of u q)) (all_in x (before_of u q)) p
-      ∙ or_left (has (flat_map (λ r. all_in x (providers_of u r)) (required_of u q)) p) (has (all_in x (before_of u q)) p)
-      (list_any-flat_map (λ z. nat_eq z p) (λ r. all_in x (providers_of u r)) (required_of u q)
-      ∙ any_at (λ r. has (all_in x (providers_of u r)) p) r (required_of u q) why.own (all_in_has (providers_of u r) p why.waits there))
-  may_has q Comes p why there =
-      has-append (flat_map (λ r. all_in x (providers_of u r)) (required_of u q)) (all_in x (before_of u q)) p
-      ∙ or_right (has (flat_map (λ r. all_in x (providers_of u r)) (required_of u q)) p) (has (all_in x (before_of u q)) p) (all_in_has (before_of u q) p why.waits there)
+  -- ---- the pairs behind the goal
 
   module _ (g : Goal) (enough : IsEnough u g x) where
-    pub read_inside : (order : List ℕ) (n : ℕ) → IsReadTo (may_name u x) (wanted_by u g) order n → (p : ℕ) → has order p ≡ true → x p ≡ true
-    read_inside order n read p there =
-        reading_each (may_name u x) (wanted_by u g) (λ r. x r ≡ true) (λ r wanted. all_has x r (wanted_by u g) enough.covers wanted) (λ q on r named. may_inside q r named) order n read p there
-
     pub distance_enough : (order : List ℕ) → IsByDistance u x g order → IsEnough u g (has order)
     distance_enough order far = record {
-      within = λ p there. enough.within p (read_inside order far.count far.read p there);
+      within = λ p there. enough.within p (inside p there);
       barred = λ q there.
-          let why = enough.barred q (read_inside order far.count far.read q there) in
-          (why.0, record { own = why.1.own; waits = all_from_has (has order) (named_by u q why.0) (λ p named. followed_done (may_name u x) (wanted_by u g) order far q p there (may_has q why.0 p why.1 named)) });
-      covers = all_from_has (has order) (wanted_by u g) (λ p wanted. followed_starts (may_name u x) (wanted_by u g) order far p wanted);
-    }
+          let why = enough.barred q (inside q there) in
+          (why.0, record { own = why.1.own; waits = all_from_has (has order) (named_by u q why.0) (λ p named. distance_step u x g order far q p why.0 there (step_of q p why.0 why.1 named)) });
+      covers = distance_covers u x g order far;
+    } where
+      inside : (p : ℕ) → has order p ≡ true → x p ≡ true
+      inside p there = cost_inside u x g enough.covers (far.distance p there).cost
+
+      step_of : (q p : ℕ) (reason : Reason) → IsReason u x q reason → has (named_by u q reason) p ≡ true → IsStep u x q reason p
+      step_of q p (Needs r) why named = record { asked = why.own; waits = why.waits; names = named }
+      step_of q p Comes why named = record { asked = tt; waits = why.waits; names = named }
 
   -- ---- lines
 
@@ -133,23 +95,6 @@ module _ (u : Universe) (x : ℕ → Bool) where
 
   pub told_more : (lines : List Line) (list pairs : List ℕ) (i p : ℕ) → i < length pairs → p ≡ get_or pairs i p → lines ≡ lines_in u x (noted (noted list (take i pairs)) (p ∷ [])) → lines ≡ lines_in u x (noted list (take (i + 1) pairs))
   told_more lines list pairs i p low at are = are ∙ ap (lines_in u x) (sym (noted_more list pairs i p low at))
-
--- ---- what each of a list names
-
-pub named_more : (f : ℕ → List ℕ) (old new ports : List ℕ) (i r : ℕ) → i < length ports → r ≡ get_or ports i r → old ≡ flat_map f (take i ports) → new ≡ old ++ f r → new ≡ flat_map f (take (i + 1) ports)
-named_more f old new ports i r low at before is =
-    let one : flat_map f (r ∷ []) ≡ f r = append-nil (f r) in
-    is ∙ (λ j. before j ++ f r) ∙ ap (λ l. flat_map f (take i ports) ++ l) (sym one) ∙ sym (flat_map-append f (take i ports) (r ∷ []))
-    ∙ ap (λ k. flat_map f (take i ports ++ k ∷ [])) at ∙ ap (flat_map f) (sym (take_more ports i r low))
-
-pub push_none : (xs ys : List ℕ) (b : Bool) → b ≡ true → xs ≡ xs ++ cond b [] ys
-push_none xs ys b on = sym (ap (λ c. xs ++ cond c [] ys) on ∙ append-nil xs)
-
-pub push_all : (xs ys new : List ℕ) (b : Bool) → b ≡ false → new ≡ xs ++ ys → new ≡ xs ++ cond b [] ys
-push_all xs ys new b off is = is ∙ ap (λ c. xs ++ cond c [] ys) (sym off)
-
-pub flat_whole : (f : ℕ → List ℕ) (names ports all : List ℕ) (i : ℕ) → names ≡ flat_map f (take i ports) → length ports ≤ i → ports ≡ all → names ≡ flat_map f all
-flat_whole f names ports all i before past same = before ∙ ap (flat_map f) (take_all i ports past ∙ same)
 
 -- ---- the port that the fewest pairs provide
 
@@ -259,12 +204,6 @@ seen_more flags list new p seen low off is = record {
     | inr other ↦ get_or-set_other flags p q true false other ∙ seen.same q ∙ sym (has-push list p q ∙ ap (λ b. has list q || b) (ne_eqb p q (λ e. other (sym e))) ∙ or-false (has list q))
   ]
 
-pub noted_there : (flags : List Bool) (list : List ℕ) (p : ℕ) → AreSeen flags list → flag flags p ≡ true → list ≡ noted list (p ∷ [])
-noted_there flags list p seen on = ap (λ b. cond b list (list ++ p ∷ [])) (sym (sym (seen.same p) ∙ on))
-
-pub noted_new : (flags : List Bool) (list new : List ℕ) (p : ℕ) → AreSeen flags list → flag flags p ≡ false → new ≡ list ++ p ∷ [] → new ≡ noted list (p ∷ [])
-noted_new flags list new p seen off is = is ∙ ap (λ b. cond b list (list ++ p ∷ [])) (sym (sym (seen.same p) ∙ off))
-
 -- ---- there is one choice
 
 lacking_one : (u : Universe) (x z : ℕ → Bool) → IsLacking u x → IsLacking u z → x ≡ z
@@ -287,6 +226,6 @@ pub choice_one : (u : Universe) (g : Goal) (v w : List Line) → IsByChoice u g 
 choice_one u g v w a b =
     let lacking : a.lacking ≡ b.lacking = lacking_one u a.lacking b.lacking a.are_lacking b.are_lacking in
     let distance : IsByDistance u b.lacking g a.order = subst (λ y. IsByDistance u y g a.order) lacking a.by_distance in
-    let order : a.order ≡ b.order = followed_one (may_name u b.lacking) (wanted_by u g) a.order b.order distance b.by_distance in
+    let order : a.order ≡ b.order = distance_one u b.lacking g a.order b.order distance b.by_distance in
     let nearest : IsNearest u g b.order a.needed = subst (λ l. IsNearest u g l a.needed) order a.nearest in
     told_one u g a.needed b.needed v w (nearest_one u g b.order a.needed b.needed nearest b.nearest) a.told b.told

@@ -1,36 +1,14 @@
 -- The pairs behind a goal, from near to far, and their fronts.
 use Rattle.std.proofs.Common.{◌≡◌, ℕ, ◌+◌, ◌<◌, ◌≤◌, Bool, true, false, ◌||◌, List, [], ◌∷◌, ◌++◌, length, min, take, drop, get_or, refl, sym, ap, ◌∙◌, subst, arith, nat_eq}
 use Rattle.std.specs.List.{All}
-use Rattle.std.proofs.lemmas.List.{get_or_default, take-append-drop, take_min, take_more}
-use Rattle.metis_ids.proofs.Lists.{all_at, has-push, has_at}
+use Rattle.std.proofs.lemmas.List.{take-append-drop, take_min, take_more}
+use Rattle.metis_ids.proofs.Lists.{all_at, has-push}
 use Rattle.metis_ids.specs.declared.goals.Goal.{Goal}
-use Rattle.metis_universe.proofs.Correctness.{all_has}
 use Rattle.metis_universe.specs.Universe.{Universe, has, pair_count}
-use Rattle.metis_why.proofs.Chosen.{may_inside, read_inside}
-use Rattle.metis_why.proofs.Followed.{reading_more}
 use Rattle.metis_why.proofs.Going.{all_from}
 use Rattle.metis_why.proofs.Nearest.{has_take}
-use Rattle.metis_why.specs.Barred.{wanted_by}
-use Rattle.metis_why.specs.Choice.{IsReadTo, may_name, noted}
 use Rattle.metis_why.specs.Flags.{IsWithin}
 use Rattle.metis_why.specs.Leaving.{IsEnough}
-
-module _ (u : Universe) (x : ℕ → Bool) (g : Goal) (enough : IsEnough u g x) where
-  pub wanted_low : (m : ℕ) (pairs : List ℕ) → pair_count u ≤ m → pairs ≡ wanted_by u g → All (λ p. p < m) pairs
-  wanted_low m pairs limit is =
-      subst (λ l. All (λ p. p < m) l) (sym is) (all_from (λ p. p < m) (wanted_by u g) (λ p there. let low = enough.within p (all_has x p (wanted_by u g) enough.covers there) in omega (arith, low, limit)))
-
-  pub names_low : (m q : ℕ) (pairs : List ℕ) → pair_count u ≤ m → pairs ≡ may_name u x q → All (λ p. p < m) pairs
-  names_low m q pairs limit is = subst (λ l. All (λ p. p < m) l) (sym is) (all_from (λ p. p < m) (may_name u x q) (λ p there. let low = enough.within p (may_inside u x q p there) in omega (arith, low, limit)))
-
-  pub next_low : (order : List ℕ) (n k p : ℕ) → IsReadTo (may_name u x) (wanted_by u g) order n → k < length order → p ≡ get_or order k p → p < pair_count u
-  next_low order n k p read low at = enough.within p (read_inside u x g enough order n read p (subst (λ r. has order r ≡ true) (sym at) (has_at order k p low)))
-
-pub distance_more : (u : Universe) (x : ℕ → Bool) (g : Goal) (old new names : List ℕ) (n p : ℕ) → IsReadTo (may_name u x) (wanted_by u g) old n → n < length old → p ≡ get_or old n p → names ≡ may_name u x p → new ≡ noted old names →
-    IsReadTo (may_name u x) (wanted_by u g) new (n + 1)
-distance_more u x g old new names n p read low at is step =
-    let here : p ≡ get_or old n 0 = at ∙ get_or_default old n p 0 low in
-    reading_more (may_name u x) (wanted_by u g) old new n read low (step ∙ ap (noted old) (is ∙ ap (may_name u x) here))
 
 -- ---- flags of a front
 

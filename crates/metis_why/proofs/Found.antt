@@ -1,30 +1,27 @@
 -- There is an explanation by the rules of choice.
 use Rattle.std.proofs.Common.{◌≡◌, ℕ, zero, suc, ◌+◌, ◌<◌, ◌≤◌, Bool, true, false, cond, not, ◌&&◌, List, [], ◌∷◌, length, get_or, Option, Some, None, refl, sym, ap, subst, arith, inl, inr, nat_eq}
 use Rattle.std.specs.Prelude.{◌⊎◌, nat_lt}
-use Rattle.std.specs.List.{count_by, list_all, range_with_len}
+use Rattle.std.specs.List.{count_by, list_all}
 use Rattle.std.proofs.lemmas.Bool.{and_parts, both_ways, cases_lt, eq-eqb, eqb-true, false_from_ne_true, false≢true, lt-ltb, ltb-true, not-true, or_cases, or_left, or_right, true_from_ne_false}
 use Rattle.std.proofs.lemmas.List.Elements.{All-cons, All-nil}
-use Rattle.std.proofs.lemmas.List.FromFn.{length-range_with_len}
-use Rattle.metis_ids.proofs.Lists.{has_range}
 use Rattle.metis_ids.specs.declared.goals.Goal.{Goal}
 use Rattle.metis_layers.specs.LayerOrder.{attained_pairs}
 use Rattle.metis_universe.proofs.Correctness.{all_has}
-use Rattle.metis_universe.proofs.Demands.{no_more}
-use Rattle.metis_universe.specs.Config.{AreDifferent}
 use Rattle.metis_universe.specs.Goals.{AttainsGoals, IsGoalOf}
 use Rattle.metis_universe.specs.Universe.{Universe, IsUniverse, all_pairs, has, pair_count, providers_of, required_of}
-use Rattle.metis_why.proofs.Chosen.{distance_enough, fewest_none, fewest_some, read_inside}
+use Rattle.metis_why.proofs.Chosen.{distance_enough, fewest_none, fewest_some}
 use Rattle.metis_why.proofs.First.{all_attained}
 use Rattle.metis_why.proofs.Followed.{read_apart, reading_each, reading_more, reading_start}
 use Rattle.metis_why.proofs.Lacking.{lacking_barred}
 use Rattle.metis_why.proofs.Listed.{count_less}
+use Rattle.metis_why.proofs.Ordered.{order_there, short}
 use Rattle.metis_why.proofs.Reasons.{all_inside}
 use Rattle.metis_why.proofs.Soundness.{pair_in}
 use Rattle.metis_why.proofs.Told.{own_back}
 use Rattle.metis_why.proofs.Tried.{inside_without, tried_nearest}
 use Rattle.metis_why.specs.Answer.{IsLacking}
 use Rattle.metis_why.specs.Barred.{Covers, IsBarred, IsOwn, IsReason, named_by, wanted_by}
-use Rattle.metis_why.specs.Choice.{IsByChoice, IsFollowed, IsNearest, IsReadTo, IsTold, fewest_port, lines_in, may_name, names_in, noted, reason_by, reason_in}
+use Rattle.metis_why.specs.Choice.{IsByChoice, IsFollowed, IsNearest, IsReadTo, IsTold, fewest_port, lines_in, names_in, noted, reason_by, reason_in}
 use Rattle.metis_why.specs.Confirm.{own_holds}
 use Rattle.metis_why.specs.Flags.{IsGreatest, IsInside, IsWithin}
 use Rattle.metis_why.specs.Leaving.{IsEnough}
@@ -35,15 +32,6 @@ use Rattle.metis_why.specs.declared.reason.Reason.{Reason}
 use Rattle.metis_why.specs.declared.reason.Reason.TheVariants.{Needs, Comes}
 
 -- ---- lists that are read come to an end
-
-different : (list : List ℕ) → AreApart list → AreDifferent list
-different [] apart = tt
-different (p ∷ list) apart = (apart.0, different list apart.1)
-
-short : (m : ℕ) (list : List ℕ) → AreApart list → ((p : ℕ) → has list p ≡ true → p < m) → length list ≤ m
-short m list apart low =
-    let most : length list ≤ length (range_with_len 0 m) = no_more list (range_with_len 0 m) (different list apart) (λ p there. let below = low p there in has_range 0 m p (omega arith) (omega (arith, below))) in
-    omega (arith, most, length-range_with_len 0 m)
 
 module _ (names : ℕ → List ℕ) (first : List ℕ) (m : ℕ) (low : (v : List ℕ) (n : ℕ) → IsReadTo names first v n → (p : ℕ) → has v p ≡ true → p < m) where
   followed_from : (more n : ℕ) (v : List ℕ) → m ≤ more + n → IsReadTo names first v n → (w : List ℕ) × IsFollowed names first w
@@ -194,7 +182,7 @@ found u g k low lost =
     let covers : list_all x (wanted_by u g) ≡ true =
     true_from_ne_false (list_all x (wanted_by u g)) (λ none. lost (all_attained u k x away (g ∷ []) (All-cons (IsGoalOf u) g [] low (All-nil (IsGoalOf u))) (sym (ap (λ b. cond b (Some g) None) none)))) in
     let enough : IsEnough u g x = record { within = away.within; barred = lacking_barred u k x away; covers = covers } in
-    let order = followed_there (may_name u x) (wanted_by u g) (pair_count u) (λ v n read p there. enough.within p (read_inside u x g enough v n read p there)) in
+    let order = order_there u x g enough in
     let all : IsEnough u g (has order.0) = distance_enough u x g enough order.0 order.1 in
     let tried = tried_there u g order.0 (has order.0) all.within in
     let z : ℕ → Bool = tried.0 in

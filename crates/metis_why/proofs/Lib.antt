@@ -2,6 +2,7 @@ pub mod ByChoice
 pub mod Chosen
 pub mod Circled
 pub mod Confirmed
+pub mod Costs
 pub mod Distances
 pub mod Fallen
 pub mod First
@@ -14,7 +15,9 @@ pub mod Lacking
 pub mod Left
 pub mod Listed
 pub mod ListedAll
+pub mod Lowered
 pub mod Nearest
+pub mod Ordered
 pub mod Reached
 pub mod Reasons
 pub mod Soundness

@@ -8,16 +8,15 @@ use Rattle.std.proofs.lemmas.List.Kept.{AllPairs-from_increasing}
 use Rattle.metis_ids.proofs.Lists.{has_here, place_of}
 use Rattle.metis_ids.specs.declared.goals.Goal.{Goal}
 use Rattle.metis_universe.specs.Universe.{Universe, IsUniverse, has, pair_count, providers_of, required_of}
-use Rattle.metis_universe.proofs.Correctness.{all_from_has, all_has}
 use Rattle.metis_why.proofs.Chosen.{distance_enough, fewest_none, fewest_some}
-use Rattle.metis_why.proofs.Followed.{followed_apart, followed_done, followed_starts, reading_each}
+use Rattle.metis_why.proofs.Farther.{distance_apart}
 use Rattle.metis_why.proofs.Lacking.{lacking_barred}
 use Rattle.metis_why.proofs.Left.{less_start}
 use Rattle.metis_why.proofs.Nearest.{nearing_done, nearing_more, nearing_start, place_apart}
 use Rattle.metis_why.proofs.Reasons.{all_inside}
 use Rattle.metis_why.specs.Answer.{IsLacking}
 use Rattle.metis_why.specs.Barred.{Covers, wanted_by}
-use Rattle.metis_why.specs.Choice.{IsByDistance, IsNearest, fewer, fewest_port, may_name, place_in, reason_by, reason_in}
+use Rattle.metis_why.specs.Choice.{IsByDistance, IsNearest, fewer, fewest_port, place_in, reason_by, reason_in}
 use Rattle.metis_why.specs.Flags.{IsGreatest, IsInside}
 use Rattle.metis_why.specs.Leaving.{IsEnough}
 use Rattle.metis_why.specs.Nearing.{AreApart, IsFront, IsNearing}
@@ -79,20 +78,8 @@ pub tried_nearest : (u : Universe) (g : Goal) (lacking : ℕ → Bool) (order : 
 tried_nearest u g lacking order needed k away covers far tried =
     let all : IsEnough u g lacking = record { within = away.within; barred = lacking_barred u k lacking away; covers = covers } in
     let enough : IsEnough u g (has order) = distance_enough u lacking g all order far in
-    tried_all u g order (followed_apart (may_name u lacking) (wanted_by u g) order far) (has order)
+    tried_all u g order (distance_apart u lacking g order far) (has order)
     (record { within = enough.within; greatest = record { barred = enough.barred; inside = λ p there. there; greatest = λ y barred inside. inside }; covers = enough.covers }) needed tried
-
--- ---- the order
-
-pub distance_least : (u : Universe) (x y : ℕ → Bool) (g : Goal) (order : List ℕ) → IsByDistance u x g order → Covers u y g → ((q : ℕ) → y q ≡ true → list_all y (may_name u x q) ≡ true) → IsInside (has order) y
-distance_least u x y g order far covers goes p there =
-    reading_each (may_name u x) (wanted_by u g) (λ r. y r ≡ true) (λ r wanted. all_has y r (wanted_by u g) covers wanted) (λ q on r named. all_has y r (may_name u x q) (goes q on) named) order far.count far.read p there
-
-pub distance_closed : (u : Universe) (x : ℕ → Bool) (g : Goal) (order : List ℕ) → IsByDistance u x g order → (q : ℕ) → has order q ≡ true → list_all (has order) (may_name u x q) ≡ true
-distance_closed u x g order far q there = all_from_has (has order) (may_name u x q) (λ p named. followed_done (may_name u x) (wanted_by u g) order far q p there named)
-
-pub distance_covers : (u : Universe) (x : ℕ → Bool) (g : Goal) (order : List ℕ) → IsByDistance u x g order → Covers u (has order) g
-distance_covers u x g order far = all_from_has (has order) (wanted_by u g) (λ p wanted. followed_starts (may_name u x) (wanted_by u g) order far p wanted)
 
 -- ---- the port that the fewest pairs provide
 

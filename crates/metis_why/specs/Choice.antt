@@ -6,7 +6,13 @@
 --     IsFollowed names first list      and it has no further place
 --     all_in x pairs      the pairs, where x has them all, and else none
 --     may_name u x q      the pairs for which q may wait, by any reason, where it waits for pairs of x: port by port, and then those from which a move leads to it
---     IsByDistance u x g order      the pairs behind the goal from near to far: those that it wants, and then pair by pair those that each may name
+--     IsAsked u q reason      q requires the port of the reason, if it has one
+--     IsStep u x q reason p      q waits by this reason for pairs of x alone, and p is one of them
+--     IsCost u x g p n      n is what a way from the goal to p costs: nothing where the goal wants p, and with each step as many more as its reason names
+--     IsDistance u x g p n      n is the least that such a way costs
+--     IsBefore far p q      p is nearer than q, or as near and has the lower number
+--     Ascends far order      each pair of the order is before all that stand behind it
+--     IsByDistance u x g order      the order has the pairs to which a way from the goal leads, from near to far, and those that are as near by their numbers
 --     place_in order p      how far p is: its place, and past all places where it has none
 --     IsNearest u g order x      x is barred and covers the goal; of the barred sets that do it is the one that lacks the farthest pair by which it differs from another
 --     fewer u best r, fewest_port u test ports      the port that fewer pairs provide, the first where as many do;  of the ports that pass the test
@@ -14,10 +20,10 @@
 --     line_in u x q, lines_in u x pairs, names_in u x q      the line with this reason;  one for each pair;  the pairs that it names
 --     IsTold u g x lines      the lines have this reason each: of the pairs that the goal wants, and then line by line of those that it names
 --     IsByChoice u g lines      they tell of the nearest set of the pairs that are not attainable
-use Rattle.std.specs.Prelude.{◌≡◌, ◌≤◌, ◌<◌, ◌==◌, ℕ, zero, suc, Bool, List, [], ◌∷◌, ◌++◌, length, map, fold, nat_lt, Option, Some, None, IsTrue, if◌then◌else◌}
+use Rattle.std.specs.Prelude.{◌≡◌, ◌≤◌, ◌<◌, ◌+◌, ◌⊎◌, ◌==◌, ℕ, zero, suc, Bool, List, [], ◌∷◌, ◌++◌, length, map, fold, nat_lt, Option, Some, None, IsTrue, if◌then◌else◌}
 use Rattle.std.specs.List.{flat_map, list_all, slice_index_or}
 use Rattle.metis_ids.specs.declared.goals.Goal.{Goal}
-use Rattle.metis_universe.specs.Universe.{Universe, has, providers_of, required_of}
+use Rattle.metis_universe.specs.Universe.{Universe, has, providers_of, required_of, requires}
 use Rattle.metis_why.specs.Answer.{IsLacking}
 use Rattle.metis_why.specs.Barred.{Covers, IsBarred, before_of, named_by, wanted_by}
 use Rattle.metis_why.specs.Flags.{IsInside}
@@ -52,8 +58,37 @@ all_in x pairs = if list_all x pairs then pairs else []
 abbrev pub may_name : Universe → (ℕ → Bool) → ℕ → List ℕ
 may_name u x q = flat_map (λ r. all_in x (providers_of u r)) (required_of u q) ++ all_in x (before_of u q)
 
-abbrev pub IsByDistance : Universe → (ℕ → Bool) → Goal → List ℕ → Type 0
-IsByDistance u x g order = IsFollowed (may_name u x) (wanted_by u g) order
+-- what a step asks of q alone
+abbrev pub IsAsked : Universe → ℕ → Reason → Type 0
+IsAsked u q (Needs r) = IsTrue (requires u q r)
+IsAsked u q Comes = Unit {0}
+
+pub record IsStep (u : Universe) (x : ℕ → Bool) (q : ℕ) (reason : Reason) (p : ℕ) : Type 0 where
+  pub asked : IsAsked u q reason
+  pub waits : IsTrue (list_all x (named_by u q reason))
+  pub names : IsTrue (has (named_by u q reason) p)
+
+pub data IsCost (u : Universe) (x : ℕ → Bool) (g : Goal) : ℕ → ℕ → Type 0 where
+  wanted : (p : ℕ) → IsTrue (has (wanted_by u g) p) → IsCost u x g p 0
+  further : (q n p : ℕ) (reason : Reason) → IsCost u x g q n → IsStep u x q reason p → IsCost u x g p (n + length (named_by u q reason))
+
+pub record IsDistance (u : Universe) (x : ℕ → Bool) (g : Goal) (p n : ℕ) : Type 0 where
+  pub cost : IsCost u x g p n
+  pub least : (m : ℕ) → IsCost u x g p m → n ≤ m
+
+abbrev pub IsBefore : (ℕ → ℕ) → ℕ → ℕ → Type 0
+IsBefore far p q = (far p < far q) ⊎ ((far p ≡ far q) × (p < q))
+
+abbrev pub Ascends : (ℕ → ℕ) → List ℕ → Type 0
+Ascends far [] = Unit {0}
+Ascends far (p ∷ order) = ((q : ℕ) → IsTrue (has order q) → IsBefore far p q) × Ascends far order
+
+-- far says how far each pair of the order is
+pub record IsByDistance (u : Universe) (x : ℕ → Bool) (g : Goal) (order : List ℕ) : Type 0 where
+  pub far : ℕ → ℕ
+  pub distance : (p : ℕ) → IsTrue (has order p) → IsDistance u x g p (far p)
+  pub all : (p n : ℕ) → IsCost u x g p n → IsTrue (has order p)
+  pub ascends : Ascends far order
 
 abbrev pub place_in : List ℕ → ℕ → ℕ
 place_in [] p = 0

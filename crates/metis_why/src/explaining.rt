@@ -10,9 +10,10 @@ ghost use Rattle.metis_why.specs.Confirm.{IsTellable};
 ghost use Rattle.metis_refusal.specs.Supplies.{flag};
 ghost use Rattle.metis_why.specs.Leaving.{IsEnough};
 
+use crate::far::by_distance;
 use crate::leaving::leave_out_all;
 use crate::listing::lines_of;
-use crate::near::{by_distance, keep_near};
+use crate::near::keep_near;
 use crate::outside::PAIR_LIMIT;
 use crate::reason::{Explanation, Line};
 use crate::settling::first_covered;

@@ -15,7 +15,7 @@ ghost use Rattle.metis_why.specs.Circles.{IsCircle, IsNaming};
 ghost use Rattle.metis_why.specs.Confirm.{verdict};
 ghost use Rattle.metis_why.specs.Flags.{IsInside};
 ghost use Rattle.metis_why.specs.Nearing.{AreApart};
-ghost use Rattle.metis_why.specs.Steps.{IsCalledFor, IsFromNearToFar, IsWithinSteps};
+ghost use Rattle.metis_why.specs.Steps.{IsCalledFor, IsFromNearToFar, IsWithinCost};
 ghost use Rattle.metis_why.specs.Trying.{AreTried, IsFewest, IsWaitedFor};
 ghost use Rattle.metis_why.specs.declared.reason.Line.{Line};
 
@@ -81,10 +81,10 @@ pub fn the_order_is_reached()
     ensures least { (u : Universe) (x y : ℕ → Bool) (g : Goal) (order : List ℕ) → IsByDistance u x g order → Covers u y g → ((q : ℕ) → IsTrue (y q) → IsTrue (list_all y (may_name u x q))) → IsInside (has order) y }
 {}
 
-/// The order of distance goes from near to far: each of its pairs is within some number of steps of the goal, and what stands before
-/// it is within that number too.
+/// The order of distance goes from near to far: a way from the goal leads to each of its pairs, and what stands before a pair that is
+/// within some cost is within that cost too.
 pub fn the_order_is_by_distance()
-    ensures within { (u : Universe) (x : ℕ → Bool) (g : Goal) (order : List ℕ) (p : ℕ) → IsByDistance u x g order → IsTrue (has order p) → (n : ℕ) × IsWithinSteps u x g n p }
+    ensures within { (u : Universe) (x : ℕ → Bool) (g : Goal) (order : List ℕ) (p : ℕ) → IsByDistance u x g order → IsTrue (has order p) → (n : ℕ) × IsWithinCost u x g n p }
     ensures far { (u : Universe) (x : ℕ → Bool) (g : Goal) (order : List ℕ) → IsByDistance u x g order → IsFromNearToFar u x g order }
 {}
 

@@ -1,10 +1,8 @@
 use Rattle.metis_refusal.specs.Supplies.{flag}
 use Rattle.metis_why.proofs.Chosen.{distance_enough}
-use Rattle.metis_why.proofs.Followed.{followed_apart}
+use Rattle.metis_why.proofs.Farther.{distance_apart}
 use Rattle.metis_why.proofs.Listed.{why_by}
 use Rattle.metis_why.proofs.Nearest.{cut_apart, cut_nearest, needed_where_nearest}
-use Rattle.metis_why.specs.Barred.{wanted_by}
-use Rattle.metis_why.specs.Choice.{may_name}
 use Rattle.metis_why.proofs.explaining.chosen_lines.Goals as goal
 
 pub keep_near-requires-clause-enough : goal.keep_near-requires-clause-enough
@@ -14,7 +12,7 @@ pub leave_out_all-requires-clause-apart : goal.leave_out_all-requires-clause-apa
 leave_out_all-requires-clause-apart c =
     let cut = c.in_ok-needed.ensures.cut in
     cut_apart c.in_ok-order.order.items c.keep_near.new.order.items c.deref.result.now cut.0 cut.1 c.deref.ensures.value
-    (followed_apart (may_name c.args.u.now (flag c.args.held.now)) (wanted_by c.args.u.now c.args.goal.now) c.in_ok-order.order.items c.in_ok-order.ensures)
+    (distance_apart c.args.u.now (flag c.args.held.now) c.args.goal.now c.in_ok-order.order.items c.in_ok-order.ensures)
 
 pub returns-clause-why : goal.returns-clause-why
 returns-clause-why c =
