@@ -22,7 +22,7 @@ use Rattle.metis_why_text.specs.WhyText.{comes_tokens, count_line, lacks_line, l
 IsLine-line : (ts : List (List ℕ)) → list_all no_feed ts ≡ true → IsLine (line ts)
 IsLine-line ts h = IsLine-from (words ts) (no_feed-join_with_byte 32 ts refl h)
 
-IsLine-count_line : (n : ℕ) → IsLine (count_line n)
+pub IsLine-count_line : (n : ℕ) → IsLine (count_line n)
 IsLine-count_line n = IsLine-line (codes "lines" ∷ decimal n ∷ []) (and_from _ _ (no_feed-decimal n) refl)
 
 module _ (u : Universe) (named : IsNamed u) where
@@ -46,7 +46,10 @@ module _ (u : Universe) (named : IsNamed u) where
   no_feed-lacks_tokens (Pair p) = and_from _ _ (no_feed-goal_word u named (Pair p)) refl
   no_feed-lacks_tokens (Port r) = and_from _ _ (no_feed-goal_word u named (Port r)) (no_feed-list_words (providers_of u r))
 
-  IsLine-line_text : (l : Line) → IsLine (line_text u l)
+  pub IsLine-lacks_line : (g : Goal) → IsLine (lacks_line u g)
+  IsLine-lacks_line g = IsLine-line (lacks_tokens u g) (no_feed-lacks_tokens g)
+
+  pub IsLine-line_text : (l : Line) → IsLine (line_text u l)
   IsLine-line_text l =
       IsLine-line (line_tokens u l)
       (list_all-append no_feed (pair_word u l.pair ∷ reason_tokens u l.pair l.reason) (list_words u (named_by u l.pair l.reason))
@@ -57,7 +60,7 @@ module _ (u : Universe) (named : IsNamed u) where
       let each = All-map IsLine (line_text u) lines (λ k d within. IsLine-line_text _) in
       let rest = All-append IsLine (map (line_text u) lines) (end_line ∷ []) each (one_line end_line (IsLine-line (codes "end" ∷ []) refl)) in
       All-cons IsLine why_header (why_body u lacks lines) (IsLine-line (codes "metis" ∷ codes "why" ∷ codes "1" ∷ []) refl)
-      (All-cons IsLine (lacks_line u lacks) (why_counted u lines) (IsLine-line (lacks_tokens u lacks) (no_feed-lacks_tokens lacks)) (All-cons IsLine (count_line (length lines)) (why_rest u lines) (IsLine-count_line (length lines)) rest))
+      (All-cons IsLine (lacks_line u lacks) (why_counted u lines) (IsLine-lacks_line lacks) (All-cons IsLine (count_line (length lines)) (why_rest u lines) (IsLine-count_line (length lines)) rest))
 
 pub why_lines_are_lines : (u : Universe) (lacks : Goal) (lines : List Line) → IsTable u → All IsLine (why_lines u lacks lines)
 why_lines_are_lines u lacks lines table = lines_of_numbers u table.named lacks lines
