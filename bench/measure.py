@@ -6,18 +6,17 @@ import hashlib
 import json
 import os
 import re
-import select
 import shutil
 import subprocess
 import sys
 import tempfile
-import time
 from collections.abc import Callable, Iterable, Iterator, Sequence
 from pathlib import Path
 from typing import Any, NoReturn
 
 Type = dict[str, Any]
 
+LAUNCH = Path(__file__).resolve().parent / "launch.py"
 # The most bytes of a text that a command takes beside a universe and a plan.
 LIMIT = 65536
 
@@ -98,22 +97,18 @@ class Run:
     megabytes: float
 
 
-def run(command: Sequence[str | Path], out: Path, folder: Path | None = None, limit: float | None = None, is_quiet: bool = False) -> Run:
+def run(command: Sequence[str | Path], out: Path, folder: Path | None = None, limit: float = 0, is_quiet: bool = False) -> Run:
     """One run of a command. What it prints goes into the file, and what it says on standard error nowhere if it is to be quiet.
-    It is killed if it takes longer than the limit, in seconds."""
+    It is killed if it takes longer than the limit, in seconds; 0 is no limit."""
+    told, file = os.pipe()
+    words = [sys.executable, "-I", "-S", LAUNCH, str(file), str(limit), *command]
     with open(out, "wb") as text:
-        begun = time.perf_counter()
-        child = subprocess.Popen(command, cwd=folder, stdin=subprocess.DEVNULL, stdout=text, stderr=subprocess.DEVNULL if is_quiet else None)
-        if limit is not None:
-            end = os.pidfd_open(child.pid)
-            if not select.select([end], [], [], limit)[0]:
-                child.kill()
-            os.close(end)
-        _, status, used = os.wait4(child.pid, 0)
-        clock = time.perf_counter() - begun
-    # so that Popen does not wait for it again
-    child.returncode = os.waitstatus_to_exitcode(status)
-    return Run(child.returncode, used.ru_utime + used.ru_stime, clock, used.ru_maxrss / 1024)
+        errors = subprocess.DEVNULL if is_quiet else None
+        subprocess.run(words, cwd=folder, stdin=subprocess.DEVNULL, stdout=text, stderr=errors, pass_fds=[file], check=True)
+    os.close(file)
+    with open(told, encoding="ascii") as numbers:
+        status, *others = numbers.read().split()
+    return Run(int(status), *map(float, others))
 
 
 def best(runs: int, command: Sequence[str | Path], out: Path, folder: Path | None = None) -> Run:
@@ -309,26 +304,14 @@ def large_targets(count: int) -> list[str]:
 
 @dataclasses.dataclass(frozen=True)
 class LargePlan:
-    """A plan for this many large targets."""
+    """A plan for this many large targets, its universe, and what it has to have."""
 
     size: int
     universe: Path
     file: Path
-
-    @property
-    def targets(self) -> list[str]:
-        return large_targets(self.size)
-
-    @property
-    def instances(self) -> int:
-        """One for each target, and the one that provides the common ports."""
-        return self.size + 1
-
-    @property
-    def actions(self) -> int:
-        """An instance is made, and for each further state two ports are bound, it moves, and the two ports before are unbound,
-        which the first state does not have."""
-        return 1 + self.size * (1 + 5 * (STATES - 1) - 2)
+    targets: list[str]
+    instances: int
+    actions: int
 
     def written(self, program: str, runs: int) -> Run:
         """The runs that print it into its file."""
@@ -339,10 +322,14 @@ class LargePlan:
 
 
 def large_plan(folder: Path, size: int) -> LargePlan:
-    """The plan for this many targets, which is not written yet, and its universe, which is."""
-    plan = LargePlan(size, folder / "u.json", folder / "p.txt")
-    write_universe(plan.universe, large_types())
-    return plan
+    """The plan for this many targets, which is not written yet, and its universe, which is.
+
+    There is an instance for each target, and the one that provides the common ports. An instance is made, and for each further
+    state two ports are bound, it moves, and the two ports before are unbound, which the first state does not have.
+    """
+    universe = folder / "u.json"
+    write_universe(universe, large_types())
+    return LargePlan(size, universe, folder / "p.txt", large_targets(size), size + 1, 1 + size * (1 + 5 * (STATES - 1) - 2))
 
 
 def large_plans(program: str, folder: Path, sizes: Iterable[int]) -> Iterator[LargePlan]:

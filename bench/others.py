@@ -73,12 +73,12 @@ def resources_of(types):
     return "\n".join(lines)
 
 
-def timed(words, folder, limit=None):
+def timed(words, folder, limit=0):
     """The status, and the least seconds by the clock; none where it takes too long."""
     clocks = []
     while not clocks or (len(clocks) < RUNS and clocks[0] < LONG):
         made = run(words, folder / "out", folder, limit, is_quiet=True)
-        if limit is not None and made.clock >= limit:
+        if limit and made.clock >= limit:
             return None, None
         clocks.append(made.clock)
     return made.status, min(clocks)
