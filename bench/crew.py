@@ -9,30 +9,10 @@ two runs counts, and it is that of the processor. The status is 1 where an answe
 says how to read the table.
 """
 
-import json
-import os
-import subprocess
-import sys
-import tempfile
-from pathlib import Path
-
-sys.dont_write_bytecode = True
-from replay import SIZES, document, expected, goals
+from measure import LARGE, Table, actors_and_waits, best, fail, large_plans, program_and_sizes, ratio, temporary_folder
 
 RUNS = 2
-
-COLUMNS = ("kind", "actions", "turns", "seconds", "megabytes", "to the size before, by the action")
-
-
-def actions_of(text):
-    """The actor of each action of the text, and the numbers behind its `after`."""
-    actors, after = [], []
-    for line in text.split("\n")[2:-2]:
-        words = line.split(" ")
-        actors.append(int(words[3] if words[1] in ("bind", "unbind") else words[2]))
-        fixed = {"new": 4, "delete": 3, "bind": 5, "unbind": 5, "move": 5}[words[1]]
-        after.append([int(word) for word in words[fixed + 1:]])
-    return actors, after
+TABLE = Table(("kind `{}`", "actions {:,}", "turns {:,}", "seconds {:.2f}", "megabytes {:,.0f}", "to the size before, by the action {:.2f}"))
 
 
 def own(actors):
@@ -77,64 +57,25 @@ def answers_are_right(turns, actors, after, lines):
     return list(lines) == [f"progress {len(done)} of {len(actors)}\n"]
 
 
-def timed(command, out):
-    """The status, and the least seconds of the processor and the most megabytes of a few runs. Their text goes into the file."""
-    best, most = None, 0
-    for _ in range(RUNS):
-        with open(out, "wb") as text:
-            child = subprocess.Popen(command, stdin=subprocess.DEVNULL, stdout=text)
-            _, status, usage = os.wait4(child.pid, 0)
-        seconds = usage.ru_utime + usage.ru_stime
-        best = seconds if best is None else min(best, seconds)
-        most = max(most, usage.ru_maxrss / 1024)
-    return os.waitstatus_to_exitcode(status), best, most
-
-
-def printed(program, folder, size):
-    """The universe, the plan's file and its text; or none where it does not have the actions that it has to have."""
-    universe, plan = folder / "u.json", folder / "p.txt"
-    universe.write_text(json.dumps(document(), separators=(",", ":")) + "\n")
-    with open(plan, "wb") as out:
-        subprocess.run([program, "plan", str(universe), *goals(size)], stdin=subprocess.DEVNULL, stdout=out, check=False)
-    text = plan.read_text()
-    instances, actions = expected(size)
-    head = f"metis plan 1\ninstances {instances} actions {actions} dups 0\n"
-    return (universe, plan, text) if text.startswith(head) else None
-
-
-def main(words):
-    if not words:
-        print("usage: crew.py PROGRAM [TARGETS ..]", file=sys.stderr)
-        return 2
-    program, sizes = words[0], [int(word) for word in words[1:]] or SIZES
-    print("| " + " | ".join(COLUMNS) + " |")
-    print("| " + " | ".join("---" for _ in COLUMNS) + " |", flush=True)
+def main():
+    program, sizes = program_and_sizes(__doc__, LARGE)
+    TABLE.head()
     before = {}
-    with tempfile.TemporaryDirectory() as name:
-        folder = Path(name)
-        for size in sizes:
-            files = printed(program, folder, size)
-            if files is None:
-                print(f"crew.py: {size} targets: the plan is not the one that has to come", file=sys.stderr)
-                return 1
-            universe, plan, text = files
-            actors, after = actions_of(text)
+    with temporary_folder() as folder:
+        script, out = folder / "t.txt", folder / "out"
+        for plan in large_plans(program, folder, sizes):
+            actors, after = actors_and_waits(plan.file.read_text())
             for kind in (own, waiting, rounds):
                 turns = kind(actors)
-                script, out = folder / "t.txt", folder / "out"
                 script.write_text(" ".join(map(str, turns)) + "\n")
-                status, seconds, megabytes = timed([program, "crew", str(universe), str(plan), str(script)], out)
+                run = best(RUNS, [program, "crew", plan.universe, plan.file, script], out)
                 with open(out) as lines:
-                    if status != 0 or not answers_are_right(turns, actors, after, lines):
-                        print(f"crew.py: {size} targets, {kind.__name__}: a wrong answer", file=sys.stderr)
-                        return 1
-                each = seconds / len(actors)
-                ratio = f"{each / before[kind]:.2f}" if kind in before else "-"
+                    if run.status != 0 or not answers_are_right(turns, actors, after, lines):
+                        fail(f"{plan.size} targets, {kind.__name__}: a wrong answer")
+                each = run.seconds / len(actors)
+                TABLE.row(kind.__name__, len(actors), len(turns), run.seconds, run.megabytes, ratio(each, before.get(kind)))
                 before[kind] = each
-                cells = (f"`{kind.__name__}`", f"{len(actors):,}", f"{len(turns):,}", f"{seconds:.2f}", f"{megabytes:,.0f}", ratio)
-                print("| " + " | ".join(cells) + " |", flush=True)
-    return 0
 
 
 if __name__ == "__main__":
-    sys.exit(main(sys.argv[1:]))
+    main()

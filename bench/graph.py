@@ -9,38 +9,14 @@ lines, the graph and its sort are made once. The script makes three runs and tak
 1 where the counts are not those that have to come. docs/dev/BENCHMARKS.md says how to read the table.
 """
 
-import json
-import os
-import subprocess
-import sys
-import tempfile
-from pathlib import Path
+import re
+
+from measure import Table, best, fail, generated, last_states, program_and_words, ratio, temporary_folder, write_universe
 
 SIZES = (8, 16, 32, 64, 128)
 RUNS = 3
-COLUMNS = ("size", "pairs", "lines", "events", "edges", "seconds", "to the size before")
-
-
-def states(names, provide, require):
-    """The states of a type, each of which leads to the next one."""
-    made = [{"name": name, "next": names[k + 1:k + 2]} for k, name in enumerate(names)]
-    for key, ports in (("provide", provide), ("require", require)):
-        for place, port in ports.items():
-            made[place][key] = [port]
-    return [{key: value for key, value in state.items() if value} for state in made]
-
-
-def document(size):
-    """The universe of the size: two types a place, of which each needs the other in its third state."""
-    types = []
-    for i in range(size):
-        tail = f"{i:03}"
-        before = {1: f"z{i - 1:03}"} if i > 0 else {}
-        left = states(["a0", "a1", "a2", "a3"], {1: "x" + tail}, {**before, 2: "y" + tail})
-        right = states(["b0", "b1", "b2", "b3"], {1: "y" + tail, 3: "z" + tail}, {2: "x" + tail})
-        types.append({"name": "left" + tail, "initial": "a0", "states": left})
-        types.append({"name": "right" + tail, "initial": "b0", "states": right})
-    return json.dumps({"aeolus": 1, "types": types}, separators=(",", ":"))
+TABLE = Table(
+    ("size {}", "pairs {}", "lines {}", "events {}", "edges {}", "seconds {:.3f}", "to the size before {:.2f}"), is_framed=False)
 
 
 def expected(size):
@@ -52,35 +28,22 @@ def expected(size):
     return lines, events, edges
 
 
-def run(probe, folder):
-    """What is put, and the seconds of the processor."""
-    child = subprocess.Popen([probe], stdout=subprocess.PIPE, cwd=folder)
-    text = child.stdout.read().decode()
-    _, status, usage = os.wait4(child.pid, 0)
-    if os.waitstatus_to_exitcode(status) != 0:
-        sys.exit(f"status {os.waitstatus_to_exitcode(status)}: {text}")
-    return text, usage.ru_utime + usage.ru_stime
-
-
 def main():
-    if len(sys.argv) != 2:
-        sys.exit(__doc__)
-    probe, before = str(Path(sys.argv[1]).resolve()), None
-    print(" | ".join(COLUMNS))
+    (probe, _), before = program_and_words(__doc__), None
+    TABLE.head()
     for size in SIZES:
-        targets = [f"left{i:03}:a3 right{i:03}:b3" for i in range(size)]
-        with tempfile.TemporaryDirectory() as folder:
-            Path(folder, "universe.json").write_text(document(size))
-            Path(folder, "probes.txt").write_text("graph universe.json " + " ".join(targets) + "\n")
-            runs = [run(probe, folder) for _ in range(RUNS)]
-        lines, events, edges = expected(size)
-        told = runs[0][0].split("\n")[1:]
-        if not told[0].startswith(f"lines {lines} loose ") or told[1] != f"events {events} edges {edges}":
-            sys.exit(f"graph of size {size}: {told}, and not lines {lines} events {events} edges {edges}")
-        seconds = min(time for _, time in runs)
-        ratio = "-" if before is None else f"{seconds / before:.2f}"
-        print(f"{size} | {8 * size} | {lines} | {events} | {edges} | {seconds:.3f} | {ratio}")
-        before = seconds
+        types, (lines, events, edges) = generated(size), expected(size)
+        with temporary_folder() as folder:
+            write_universe(folder / "universe.json", types)
+            (folder / "probes.txt").write_text(" ".join(["graph universe.json", *last_states(types)]) + "\n")
+            run = best(RUNS, [probe], folder / "out", folder)
+            told = (folder / "out").read_text()
+        wanted = rf".*\nlines {lines} loose .*\nevents {events} edges {edges}\n"
+        if run.status != 0 or not re.match(wanted, told):
+            fail(f"size {size}: status {run.status}, and {told[:200]!r} in place of lines {lines} events {events} edges {edges}")
+        TABLE.row(size, 8 * size, lines, events, edges, run.seconds, ratio(run.seconds, before))
+        before = run.seconds
 
 
-main()
+if __name__ == "__main__":
+    main()

@@ -19,16 +19,14 @@ looks at each answer, and its status is 1 where one is not what has to come. doc
 
 import json
 import os
-import pathlib
 import shutil
 import subprocess
-import sys
-import tempfile
-import time
+
+from measure import Table, counts_of, fail, generated, last_states, program_and_words, run, temporary_folder, write_universe
 
 SIZES = (1, 2, 3, 4, 8, 16, 32, 64, 128)
 RUNS, LONG = 3, 5
-COLUMNS = ("size", "pairs", "metis", "clingo", "steps", "terraform")
+TABLE = Table(("size {}", "pairs {}", "metis {:.3f}", "clingo {}", "steps {}", "terraform {:.2f}"), is_framed=False)
 CLINGO = """
 #program step(t).
 % Each instance does at most one action a step.
@@ -48,111 +46,95 @@ served(T,I,P,t) :- st(T,I,S,t), req(T,S,P), st(U,J,V,t), st(U,J,W,t-1), prov(U,V
 """
 
 
-def generated(size):
-    """The types of the generated universe (docs/dev/MODEL.md): the name of each, and for each state its ports and what follows."""
-    types = []
-    for place in range(size):
-        here, before = f"{place:03}", f"{place - 1:03}"
-        need = [f"z{before}"] if place else []
-        types.append((f"left{here}", [("a0", [], [], ["a1"]), ("a1", [f"x{here}"], need, ["a2"]), ("a2", [], [f"y{here}"], ["a3"]), ("a3", [], [], [])]))
-        types.append((f"right{here}", [("b0", [], [], ["b1"]), ("b1", [f"y{here}"], [], ["b2"]), ("b2", [], [f"x{here}"], ["b3"]), ("b3", [f"z{here}"], [], [])]))
-    return types
-
-
-def targets(types):
-    return [(name, states[-1][0]) for name, states in types]
-
-
-def document(types):
-    keys = ("name", "provide", "require", "next")
-    rows = [{"name": name, "initial": states[0][0], "states": [dict(zip(keys, state)) for state in states]} for name, states in types]
-    return json.dumps({"aeolus": 1, "types": rows})
-
-
 def program_of(types):
     """The universe for clingo."""
     lines = ["#include <incmode>.", "#program base."]
-    for name, states in types:
-        lines.append(f"init({name},{states[0][0]}). inst({name},1..2).")
-        for state, provide, require, following in states:
-            lines += [f"prov({name},{state},{port})." for port in provide] + [f"req({name},{state},{port})." for port in require]
-            lines += [f"next({name},{state},{other})." for other in following]
-    lines += [f"goal({name},{state})." for name, state in targets(types)]
+    for row in types:
+        name = row["name"]
+        lines.append(f"init({name},{row['initial']}). inst({name},1..2).")
+        for state in row["states"]:
+            for word, key in (("prov", "provide"), ("req", "require"), ("next", "next")):
+                lines += [f"{word}({name},{state['name']},{other})." for other in state.get(key, [])]
+    lines += ["goal({},{}).".format(*target.split(":")) for target in last_states(types)]
     return "\n".join(lines) + CLINGO
 
 
 def resources_of(types):
     """A resource for each pair, which depends on the pair before it and on those that provide what it requires."""
-    givers = {port: f"{name}_{state}" for name, states in types for state, provide, _, _ in states for port in provide}
+    givers = {port: f"{row['name']}_{state['name']}" for row in types for state in row["states"] for port in state.get("provide", [])}
     lines = ['terraform { required_version = ">= 1.4" }']
-    for name, states in types:
-        for at, (state, _, require, _) in enumerate(states):
-            needs = [f"{name}_{states[at - 1][0]}"] * (at > 0) + [givers[port] for port in require]
-            listed = ", ".join(f"terraform_data.{it}" for it in needs)
-            lines.append(f'resource "terraform_data" "{name}_{state}" {{\n  input      = "{state}"\n  depends_on = [{listed}]\n}}')
+    for row in types:
+        before = []
+        for state in row["states"]:
+            pair = f"{row['name']}_{state['name']}"
+            listed = ", ".join(f"terraform_data.{it}" for it in before + [givers[port] for port in state.get("require", [])])
+            lines.append(f'resource "terraform_data" "{pair}" {{\n  input      = "{state["name"]}"\n  depends_on = [{listed}]\n}}')
+            before = [pair]
     return "\n".join(lines)
 
 
-def timed(words, folder, limit=None):
-    """What the command prints, and its least seconds; none where it takes too long."""
-    times = []
-    while not times or (len(times) < RUNS and times[0] < LONG):
-        begun = time.perf_counter()
-        try:
-            ran = subprocess.run(words, cwd=folder, capture_output=True, text=True, timeout=limit, check=False, env={**os.environ, "CHECKPOINT_DISABLE": "1"})
-        except subprocess.TimeoutExpired:
+def timed(words, folder, limit=0):
+    """The status, and the least seconds by the clock; none where it takes too long."""
+    clocks = []
+    while not clocks or (len(clocks) < RUNS and clocks[0] < LONG):
+        made = run(words, folder / "out", folder, limit, is_quiet=True)
+        if limit and made.clock >= limit:
             return None, None
-        times.append(time.perf_counter() - begun)
-    return ran, min(times)
+        clocks.append(made.clock)
+    return made.status, min(clocks)
 
 
 def time_metis(program, types, folder):
-    (folder / "universe.json").write_text(document(types))
-    ran, seconds = timed([program, "plan", "universe.json", *(f"{name}:{state}" for name, state in targets(types))], folder)
+    write_universe(folder / "universe.json", types)
+    status, seconds = timed([program, "plan", "universe.json", *last_states(types)], folder)
     size = len(types) // 2
-    if ran.returncode or ran.stdout.splitlines()[1] != f"instances {3 * size} actions {18 * size - 3} dups {size}":
-        sys.exit(f"metis, size {size}: status {ran.returncode}: {ran.stdout[:200]}")
-    return f"{seconds:.3f}"
+    if status != 0 or counts_of(folder / "out") != (3 * size, 18 * size - 3, size):
+        fail(f"metis, size {size}: status {status}: {(folder / 'out').read_text()[:200]}")
+    return seconds
 
 
 def time_clingo(types, folder, limit):
-    """The seconds of a search and how many steps the plan that it finds has."""
+    """The seconds of a search, none where it took too long, and how many steps the plan that it finds has."""
     (folder / "universe.lp").write_text(program_of(types))
-    ran, seconds = timed(["clingo", "universe.lp", "1", "--outf=2"], folder, limit)
-    if ran is None:
-        return f"none in {limit}", "-"
-    answer = json.loads(ran.stdout)
+    status, seconds = timed(["clingo", "universe.lp", "1", "--outf=2"], folder, limit)
+    if status is None:
+        return None, None
+    answer = json.loads((folder / "out").read_text())
     if answer["Result"] != "SATISFIABLE":
-        sys.exit(f"clingo, size {len(types) // 2}: {answer['Result']}")
+        fail(f"clingo, size {len(types) // 2}: {answer['Result']}")
     # the first call has no step
-    return f"{seconds:.2f}", len(answer["Call"]) - 1
+    return seconds, len(answer["Call"]) - 1
 
 
 def time_terraform(types, folder):
     (folder / "main.tf").write_text(resources_of(types))
     subprocess.run(["terraform", "init", "-no-color"], cwd=folder, capture_output=True, check=True)
-    ran, seconds = timed(["terraform", "plan", "-no-color"], folder)
-    if ran.returncode or f"Plan: {4 * len(types)} to add" not in ran.stdout:
-        sys.exit(f"terraform, size {len(types) // 2}: status {ran.returncode}: {ran.stdout[-200:]}")
-    return f"{seconds:.2f}"
+    status, seconds = timed(["terraform", "plan", "-no-color"], folder)
+    told = (folder / "out").read_text()
+    if status != 0 or f"Plan: {4 * len(types)} to add" not in told:
+        fail(f"terraform, size {len(types) // 2}: status {status}: {told[-200:]}")
+    return seconds
 
 
 def main():
-    if len(sys.argv) not in (2, 3):
-        sys.exit(__doc__)
-    program, limit = pathlib.Path(sys.argv[1]).resolve(), int(sys.argv[2]) if len(sys.argv) == 3 else 60
+    program, words = program_and_words(__doc__, 2)
+    limit = int(words[0]) if words else 60
     searches, orders = (shutil.which(name) is not None for name in ("clingo", "terraform"))
-    print(" | ".join(COLUMNS))
+    os.environ["CHECKPOINT_DISABLE"] = "1"
+    TABLE.head()
     for size in SIZES:
-        types = generated(size)
-        with tempfile.TemporaryDirectory() as name:
-            folder = pathlib.Path(name)
+        types, found, steps, ordered = generated(size), None, None, None
+        with temporary_folder() as folder:
             metis = time_metis(program, types, folder)
-            found, steps = time_clingo(types, folder, limit) if searches else ("-", "-")
-            # what one size takes too long for, a larger one does too
-            searches = searches and not found.startswith("none")
-            ordered = time_terraform(types, folder) if orders else "-"
-        print(f"{size} | {8 * size} | {metis} | {found} | {steps} | {ordered}", flush=True)
+            if searches:
+                seconds, steps = time_clingo(types, folder, limit)
+                # what one size takes too long for, a larger one does too
+                searches = seconds is not None
+                found = f"{seconds:.2f}" if searches else f"none in {limit}"
+            if orders:
+                ordered = time_terraform(types, folder)
+        TABLE.row(size, 8 * size, metis, found, steps, ordered)
 
 
-main()
+if __name__ == "__main__":
+    main()

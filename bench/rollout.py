@@ -9,78 +9,49 @@ is known from how a plan is made. The least time of a few runs counts, and it is
 is not the one that has to come. docs/dev/BENCHMARKS.md says how to read the table.
 """
 
-import json
-import sys
-import tempfile
-from pathlib import Path
-
-sys.dont_write_bytecode = True
-from crew import printed, timed
-from replay import SIZES, expected, goals
+from measure import LARGE, Table, best, counts_of, fail, large_plans, line_of, plan_of, program_and_words, temporary_folder, write_universe
 
 RINGS = (1000, 10000, 100000)
-COLUMNS = ("from", "old actions", "actions", "seconds", "megabytes")
-
+RUNS = 2
+TABLE = Table(("from {}", "old actions {:,}", "actions {:,}", "seconds {:.2f}", "megabytes {:,.0f}"))
 # Each member of a ring is made where it provides `next`, and goes on to where it requires it too.
-RING = {"aeolus": 1, "types": [{"name": "Node", "initial": "off", "states": [
-    {"name": "off", "next": ["on"]}, {"name": "on", "provide": ["next"], "next": ["joined"]}, {"name": "joined", "provide": ["next"], "require": ["next"]}]}]}
+NODE = line_of("Node", [("off", [], []), ("on", ["next"], []), ("joined", ["next"], ["next"])])
 
 
 def ring(size):
-    """The text of a plan that closes a ring. Member k is bound to member k + 1, which was on first, and the last to a spare that is
+    """The actions of a plan that closes a ring. Member k is bound to member k + 1, which was on first, and the last to a spare that is
     let go for the first one."""
     rows = [f"new {size} Node", f"move {size} off on"]
     for number in reversed(range(size)):
         rows += [f"new {number} Node", f"move {number} off on", f"bind next {number} {number + 1}", f"move {number} on joined"]
-    rows += [f"bind next {size - 1} 0", f"unbind next {size - 1} {size}", f"delete {size}"]
-    lines = ["metis plan 1", f"instances {size + 1} actions {len(rows)} dups 0", *(f"{place} {row}" for place, row in enumerate(rows, 1)), "end", ""]
-    return "\n".join(lines), len(rows)
+    return rows + [f"bind next {size - 1} 0", f"unbind next {size - 1} {size}", f"delete {size}"]
 
 
-def row(program, folder, name, old, words, want):
-    """Runs a rollout and puts its row, or tells that its second line is not the one that has to come."""
-    out = folder / "out"
-    status, seconds, megabytes = timed([program, "rollout", *words], out)
-    with open(out, encoding="ascii") as text:
-        head = [text.readline() for _ in range(2)]
-    instances, actions = want
-    if status != 0 or head != ["metis plan 1\n", f"instances {instances} actions {actions} dups 0\n"]:
-        print(f"rollout.py: {name}, {old} actions: a wrong answer", file=sys.stderr)
-        return False
-    print("| " + " | ".join((name, f"{old:,}", f"{actions:,}", f"{seconds:.2f}", f"{megabytes:,.0f}")) + " |", flush=True)
-    return True
+def roll_out(program, files, name, old, targets, instances, actions):
+    """Times a rollout, which has to have these counts, and puts its row."""
+    out = files[0].parent / "out"
+    run = best(RUNS, [program, "rollout", *files, *targets], out)
+    if run.status != 0 or counts_of(out) != (instances, actions, 0):
+        fail(f"{name}, {old} actions: a wrong answer")
+    TABLE.row(name, old, actions, run.seconds, run.megabytes)
 
 
-def main(words):
-    if len(words) != 1:
-        print("usage: rollout.py PROGRAM", file=sys.stderr)
-        return 2
-    program = words[0]
-    print("| " + " | ".join(COLUMNS) + " |")
-    print("| " + " | ".join("---" for _ in COLUMNS) + " |", flush=True)
-    with tempfile.TemporaryDirectory() as name:
-        folder = Path(name)
-        for size in SIZES:
-            files = printed(program, folder, size)
-            if files is None:
-                print(f"rollout.py: {size} targets: the plan is not the one that has to come", file=sys.stderr)
-                return 1
-            instances, actions = expected(size)
-            both = [str(files[0]), str(files[1])]
-            if not row(program, folder, "a plan, to nothing", actions, both, (instances, actions + instances)):
-                return 1
-            if not row(program, folder, "a plan, to its targets", actions, both + goals(size), (2 * instances, 2 * actions + instances)):
-                return 1
+def main():
+    program, _ = program_and_words(__doc__)
+    TABLE.head()
+    with temporary_folder() as folder:
+        for plan in large_plans(program, folder, LARGE):
+            files, instances, actions = (plan.universe, plan.file), plan.instances, plan.actions
+            roll_out(program, files, "a plan, to nothing", actions, [], instances, actions + instances)
+            roll_out(program, files, "a plan, to its targets", actions, plan.targets, 2 * instances, 2 * actions + instances)
         universe, plan = folder / "ring.json", folder / "ring.plan"
-        universe.write_text(json.dumps(RING))
+        write_universe(universe, [NODE])
         for size in RINGS:
-            text, actions = ring(size)
-            plan.write_text(text)
+            rows = ring(size)
+            plan.write_text(plan_of(rows))
             # The scaffold is one instance, of two actions and a delete; each member is bound, unbound and deleted.
-            if not row(program, folder, f"a ring of {size:,}, to nothing", actions, [str(universe), str(plan)], (size + 2, actions + 3 + 3 * size)):
-                return 1
-    return 0
+            roll_out(program, (universe, plan), f"a ring of {size:,}, to nothing", len(rows), [], size + 2, len(rows) + 3 + 3 * size)
 
 
 if __name__ == "__main__":
-    sys.exit(main(sys.argv[1:]))
+    main()

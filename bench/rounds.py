@@ -1,7 +1,7 @@
 #!/usr/bin/env python3
 """Times plans over the universes that need the most rounds, and shows the memory that they take.
 
-    rounds.py PROGRAM [PLAIN WORDS]
+    rounds.py PROGRAM [PLAIN WORDS ..]
 
 PROGRAM is the built program, as crates/metis/out/metis, and PLAIN another that does the same, with words that stand before the
 command, to be timed beside it; then the two texts are compared. The universes are of four kinds; the types are alike but for the
@@ -18,33 +18,19 @@ So each type's early states serve the next type while its line goes on, and all 
 """
 
 import filecmp
-import json
-import os
-import subprocess
 import sys
-import tempfile
-from pathlib import Path
 
-SIZES = {"tower": (8, 16, 31), "pairs": (8, 16, 31), "slots": (28, 56, 111, 222), "ring": (8, 16, 31)}
+from measure import Table, counts_of, last_states, line_of, place_of, program_and_words, run, temporary_folder, write_universe
+
 TARGETS = 256
-COLUMNS = ("kind", "types", "rounds", "instances", "actions", "MB of text", "seconds", "MB of memory", "seconds of the other")
+TABLE = Table((
+    "kind {}", "types {}", "rounds {}", "instances {}", "actions {}", "MB of text {:.1f}", "seconds {:.2f}",
+    "MB of memory {:.0f}", "seconds of the other {:.2f}"), is_framed=False)
 
 
 def row(types, states_of):
     """The types, each of these states in a row: a state is the ports that it provides and those that it requires."""
-    made = []
-    for kind in range(types):
-        states = states_of(kind)
-        rows = []
-        for number, (provide, require) in enumerate(states):
-            state = {"name": f"s{number}", "next": [f"s{number + 1}"] if number + 1 < len(states) else []}
-            if provide:
-                state["provide"] = provide
-            if require:
-                state["require"] = require
-            rows.append(state)
-        made.append({"name": f"t{kind}", "initial": "s0", "states": rows})
-    return made
+    return [line_of(f"t{kind}", [(f"s{number}", *ports) for number, ports in enumerate(states_of(kind))]) for kind in range(types)]
 
 
 def tower(types, states, ports, demand, last):
@@ -59,7 +45,7 @@ def tower(types, states, ports, demand, last):
         wanted = [port if demand == 1 else {"port": port, "count": demand} for port in needs]
         return [(named(kind, n) if n in given else [], wanted if n == 1 else []) for n in range(states)]
 
-    return {"aeolus": 1 if demand == 1 else 2, "types": row(types, states_of)}
+    return row(types, states_of), 1 if demand == 1 else 2
 
 
 def ring(types, states):
@@ -80,20 +66,16 @@ def ring(types, states):
             made.append(([f"p{kind}.{number}"] if 1 <= number <= states - 2 else [], require))
         return made
 
-    return {"aeolus": 1, "types": row(types, states_of)}
+    return row(types, states_of), 1
 
 
-def universe(kind, types):
-    """The universe, and the words of its targets."""
-    made = {
-        "tower": lambda: tower(types, 64, 2, 1, False),
-        "pairs": lambda: tower(types, 64, 1, 2, False),
-        "slots": lambda: tower(types, 9, 1, 16, True),
-        "ring": lambda: ring(types, 64),
-    }[kind]()
-    last = len(made["types"][0]["states"]) - 1
-    words = [f"t{number}:s{last}" for number in range(types)]
-    return made, words + [f"t{types - 1}:s{last}"] * (TARGETS - types)
+# how many types there are, and how the types of a universe and its version are made
+KINDS = {
+    "tower": ((8, 16, 31), lambda types: tower(types, 64, 2, 1, False)),
+    "pairs": ((8, 16, 31), lambda types: tower(types, 64, 1, 2, False)),
+    "slots": ((28, 56, 111, 222), lambda types: tower(types, 9, 1, 16, True)),
+    "ring": ((8, 16, 31), lambda types: ring(types, 64)),
+}
 
 
 def counts(kind, types):
@@ -106,50 +88,27 @@ def counts(kind, types):
     return TARGETS + stages * 61, stages * 61
 
 
-def run(words, folder, name):
-    """Seconds of the processor, megabytes of memory and the place of the text of one plan."""
-    out = Path(folder, name)
-    with out.open("wb") as text:
-        child = subprocess.Popen(words, cwd=folder, stdout=text)
-        _, status, usage = os.wait4(child.pid, 0)
-        child.returncode = os.waitstatus_to_exitcode(status)
-    return usage.ru_utime + usage.ru_stime, usage.ru_maxrss / 1024, out, child.returncode == 0
-
-
-def head_and_end(out):
-    """The numbers of the second line, and whether the first and the last are right."""
-    with out.open("rb") as text:
-        first, second = text.readline(), text.readline().split()
-        text.seek(-4, os.SEEK_END)
-        right = first == b"metis plan 1\n" and text.read() == b"end\n"
-    return [int(word) for word in second[1::2]], right
-
-
 def main():
-    if len(sys.argv) < 2:
-        sys.exit(__doc__)
-    program, other = str(Path(sys.argv[1]).resolve()), sys.argv[2:]
-    if other:
-        other[0] = str(Path(other[0]).resolve())
+    program, other = program_and_words(__doc__, None)
+    other = [place_of(word) for word in other[:1]] + other[1:]
     failed = False
-    print(" | ".join(COLUMNS))
-    for kind, sizes in SIZES.items():
+    TABLE.head()
+    for kind, (sizes, made) in KINDS.items():
         for types in sizes:
-            with tempfile.TemporaryDirectory() as folder:
-                made, targets = universe(kind, types)
-                Path(folder, "u.json").write_text(json.dumps(made, separators=(",", ":")))
-                words = ["plan", "u.json"] + targets
-                seconds, memory, out, done = run([program] + words, folder, "plan.txt")
-                (instances, actions, dups), right = head_and_end(out)
-                wanted = counts(kind, types)
-                right = right and done and (instances - dups == TARGETS if kind == "ring" else (instances, dups) == wanted)
-                beside = "-"
+            with temporary_folder() as folder:
+                rows, version = made(types)
+                write_universe(folder / "u.json", rows, version)
+                words = ["plan", "u.json", *last_states(rows), *last_states(rows)[-1:] * (TARGETS - types)]
+                plan, theirs, taken = folder / "plan.txt", folder / "other.txt", None
+                mine = run([program, *words], plan, folder)
+                found = counts_of(plan) if mine.status == 0 else None
+                instances, actions, dups = found or (0, 0, 0)
+                right = instances - dups == TARGETS if kind == "ring" else (instances, dups) == counts(kind, types)
                 if other:
-                    taken, _, theirs, done = run(other + words, folder, "other.txt")
-                    beside = f"{taken:.2f}"
-                    right = right and done and filecmp.cmp(out, theirs, shallow=False)
-                size = out.stat().st_size / 1e6
-                print(f"{kind} | {types} | {dups + 1} | {instances} | {actions} | {size:.1f} | {seconds:.2f} | {memory:.0f} | {beside}", flush=True)
+                    run_beside = run([*other, *words], theirs, folder)
+                    taken = run_beside.seconds
+                    right = right and run_beside.status == 0 and filecmp.cmp(plan, theirs, shallow=False)
+                TABLE.row(kind, types, dups + 1, instances, actions, plan.stat().st_size / 1e6, mine.seconds, mine.megabytes, taken)
                 if not right:
                     print(f"not as it has to be: {kind} {types}")
                     failed = True

@@ -8,21 +8,13 @@ PROGRAM is the built planner, as crates/metis/out/metis. For each kind of univer
 The status is 1 where an answer is not the one that has to come, and docs/dev/BENCHMARKS.md says how to read the table.
 """
 
-import json
-import subprocess
 import sys
-import tempfile
-import time
-from pathlib import Path
 
-sys.dont_write_bytecode = True
-
-from universes import KINDS, document, width_of
+from measure import KINDS, Table, best, counts_of, last_states, program_and_words, ratio, temporary_folder, width_of, write_universe
 
 SIZES = (500, 1000, 2000)
 RUNS = 3
-
-COLUMNS = ("kind", "pairs", "instances", "actions", "to 500 pairs", "to the size before", "ms")
+TABLE = Table(("kind {}", "pairs {}", "instances {}", "actions {}", "to 500 pairs {:.2f}", "to the size before {:.2f}", "ms {:.1f}"))
 
 
 def expected(kind, pairs):
@@ -42,92 +34,26 @@ def expected(kind, pairs):
     return instances, 2 * instances + binds
 
 
-def one_run(command):
-    """The time of one run, in seconds, and its status and text."""
-    begin = time.perf_counter()
-    done = subprocess.run(command, stdin=subprocess.DEVNULL, stdout=subprocess.PIPE, check=False)
-    return time.perf_counter() - begin, done.returncode, done.stdout.decode("utf-8", "replace")
-
-
-def counts_of(lines):
-    """The numbers of instances and actions that the second line of a plan tells, or nothing."""
-    words = lines[1].split(" ") if len(lines) > 1 else []
-    if words[0:1] != ["instances"] or words[2:3] != ["actions"] or len(words) < 4:
-        return None
-    return (int(words[1]), int(words[3])) if words[1].isdigit() and words[3].isdigit() else None
-
-
-def fault_of(kind, pairs, status, text):
-    """What is wrong with the answer, or nothing."""
-    lines = text.splitlines()
-    if status != 0:
-        return f"status {status}, and the text begins with {lines[:1]}"
-    if lines[:1] != ["metis plan 1"]:
-        return f"the text begins with {lines[:1]}"
-    if lines[-1:] != ["end"]:
-        return f"the text ends with {lines[-1:]}"
-    told, wanted = counts_of(lines), expected(kind, pairs)
-    if told != wanted:
-        return f"instances and actions are {told}, and have to be {wanted}"
-    return None
-
-
-def measure(program, folder, kind, pairs):
-    """The least time of a few runs, in seconds, and what is wrong with one of their answers, or nothing."""
-    made = document(kind, pairs)
-    file = folder / f"{kind}{pairs}.json"
-    file.write_text(json.dumps(made, separators=(",", ":")) + "\n")
-    target = made["types"][-1]["name"] + ":on"
-    best = None
-    for _ in range(RUNS):
-        seconds, status, text = one_run([program, "plan", str(file), target])
-        fault = fault_of(kind, pairs, status, text)
-        if fault is not None:
-            return seconds, fault
-        best = seconds if best is None else min(best, seconds)
-    return best, None
-
-
-def ratio(seconds, base):
-    return "-" if base is None else f"{seconds / base:.2f}"
-
-
-def print_row(cells):
-    print("| " + " | ".join(str(cell) for cell in cells) + " |", flush=True)
-
-
-def measure_kind(program, folder, kind):
-    """Prints the rows of one kind, and answers whether each answer is right."""
-    right = True
-    first = before = None
-    for pairs in SIZES:
-        seconds, fault = measure(program, folder, kind, pairs)
-        if fault is not None:
-            print(f"{kind} with {pairs} pairs: {fault}", file=sys.stderr)
-            right, before = False, None
-            continue
-        if pairs == SIZES[0]:
-            first = seconds
-        ratios = (ratio(seconds, first), ratio(seconds, before))
-        print_row((kind, pairs, *expected(kind, pairs), *ratios, f"{seconds * 1000:.1f}"))
-        before = seconds
-    return right
-
-
-def main(words):
-    if len(words) != 1:
-        print("usage: run.py PROGRAM", file=sys.stderr)
-        return 2
-    print_row(COLUMNS)
-    print_row(["---"] * len(COLUMNS))
-    with tempfile.TemporaryDirectory() as name:
-        try:
-            right = [measure_kind(words[0], Path(name), kind) for kind in KINDS]
-        except OSError as fault:
-            print(f"run.py: {fault}", file=sys.stderr)
-            return 2
-    return 0 if all(right) else 1
+def main():
+    (program, _), right = program_and_words(__doc__), True
+    TABLE.head()
+    with temporary_folder() as folder:
+        universe, out = folder / "u.json", folder / "out"
+        for kind, made in KINDS.items():
+            first = before = None
+            for pairs in SIZES:
+                types, (instances, actions) = made(pairs // 2), expected(kind, pairs)
+                write_universe(universe, types)
+                run = best(RUNS, [program, "plan", universe, last_states(types)[-1]], out)
+                if run.status != 0 or counts_of(out) != (instances, actions, 0):
+                    print(f"{kind} with {pairs} pairs: status {run.status}, and the text begins with {out.read_text()[:100]!r}", file=sys.stderr)
+                    right, before = False, None
+                    continue
+                first = run.clock if pairs == SIZES[0] else first
+                TABLE.row(kind, pairs, instances, actions, ratio(run.clock, first), ratio(run.clock, before), 1000 * run.clock)
+                before = run.clock
+    sys.exit(0 if right else 1)
 
 
 if __name__ == "__main__":
-    sys.exit(main(sys.argv[1:]))
+    main()

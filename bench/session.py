@@ -1,5 +1,5 @@
 #!/usr/bin/env python3
-"""Times sessions over the longest scripts, and takes the most memory that they hold.
+"""Times sessions over the longest scripts, by the clock, and takes the most memory that they hold.
 
     session.py PROGRAM
 
@@ -8,62 +8,42 @@ actions are done, so that all configurations are kept. The status is 1 where an 
 docs/dev/BENCHMARKS.md says how to read the table.
 """
 
-import json
-import os
-import subprocess
 import sys
-import tempfile
-import time
-from pathlib import Path
 
-LIMIT = 65536
-COLUMNS = ("kind", "lines", "bytes", "seconds", "megabytes")
+from measure import LIMIT, Table, line_of, lines_in, program_and_words, run, temporary_folder, text_of, write_universe
 
-
-def document():
-    """One type, whose second state requires the port that its first one provides, so that its instances may be bound."""
-    states = [{"name": "a", "provide": ["p"], "next": ["b"]}, {"name": "b", "provide": ["p"], "require": ["p"]}]
-    return {"aeolus": 1, "types": [{"name": "A", "initial": "a", "states": states}]}
+TABLE = Table(("kind {}", "lines {:,}", "bytes {:,}", "seconds {:.2f}", "megabytes {:,.0f}"), is_framed=False)
+# Its second state requires the port that its first one provides, so that its instances may be bound.
+TYPE = line_of("A", [("a", ["p"], []), ("b", ["p"], ["p"])])
 
 
-def making():
-    """As many instances as the script has room for."""
-    lines, size, number = [], 0, 0
-    while True:
-        line = f"new {number} A"
-        if size + len(line) + 1 > LIMIT:
-            return lines
-        lines.append(line)
-        size += len(line) + 1
-        number += 1
+def making(space=LIMIT):
+    """As many instances as there is space for."""
+    return lines_in(space, [], lambda number: [f"new {number} A"])
+
+
+def half_made():
+    """Instances until half the script is full: the last one fills it."""
+    return making(LIMIT // 2 + len("new 1000 A"))
+
+
+def bound(space):
+    """As many bindings between a few instances as there is space for, each as the words behind the verb, with the lines that make them."""
+    count = 72
+    lines = [f"new {number} A" for number in range(count)]
+    size, made = len(text_of(lines)), []
+    for inst in range(count):
+        for to in range(count):
+            words = f"p {inst} {to}"
+            if inst != to and size + len(words) + 6 <= space:
+                made.append(words)
+                size += len(words) + 6
+    return lines + [f"bind {words}" for words in made], size, made
 
 
 def binding():
     """A few instances, and as many bindings between them as the script has room for."""
-    count = 72
-    lines = [f"new {number} A" for number in range(count)]
-    size = sum(len(line) + 1 for line in lines)
-    for inst in range(count):
-        for to in range(count):
-            line = f"bind p {inst} {to}"
-            if inst != to and size + len(line) + 1 <= LIMIT:
-                lines.append(line)
-                size += len(line) + 1
-    return lines
-
-
-def bound(room):
-    """As many bindings between a few instances as there is room for, each as the words behind the verb, with the lines that make them."""
-    count = 72
-    lines = [f"new {number} A" for number in range(count)]
-    size, made = sum(len(line) + 1 for line in lines), []
-    for inst in range(count):
-        for to in range(count):
-            words = f"p {inst} {to}"
-            if inst != to and size + len(words) + 6 <= room:
-                made.append(words)
-                size += len(words) + 6
-    return lines + [f"bind {words}" for words in made], size, made
+    return bound(LIMIT)[0]
 
 
 def unbinding():
@@ -78,51 +58,19 @@ def unbinding():
 
 def rebinding():
     """Bindings, of which one is ended again and again, and each end undone at once."""
-    lines, size, made = bound(LIMIT // 2)
-    while size + len(made[-1]) + 13 <= LIMIT:
-        lines += [f"unbind {made[-1]}", "undo"]
-        size += len(made[-1]) + 13
-    return lines
+    lines, _, made = bound(LIMIT // 2)
+    return lines_in(LIMIT, lines, lambda _: [f"unbind {made[-1]}", "undo"])
 
 
 def showing():
     """Half the script makes instances, and the other half shows them all again and again."""
-    lines, size, number = [], 0, 0
-    while size < LIMIT // 2:
-        line = f"new {number} A"
-        lines.append(line)
-        size += len(line) + 1
-        number += 1
-    while size + 5 <= LIMIT:
-        lines.append("show")
-        size += 5
-    return lines
+    return lines_in(LIMIT, half_made(), lambda _: ["show"])
 
 
 def undoing():
     """Actions, each undone at once, after as many instances as half the script has room for."""
-    lines, size, number = [], 0, 0
-    while size < LIMIT // 2:
-        line = f"new {number} A"
-        lines.append(line)
-        size += len(line) + 1
-        number += 1
-    while size + 15 <= LIMIT:
-        lines += [f"new {number} A", "undo"]
-        size += len(lines[-2]) + 6
-    return lines
-
-
-def run(program, folder, lines):
-    """The answer to the script, its seconds and its megabytes."""
-    script = folder / "script"
-    script.write_text("".join(line + "\n" for line in lines))
-    with open(folder / "out", "wb") as out:
-        start = time.time()
-        child = subprocess.Popen([program, "sim", str(folder / "universe.json"), str(script)], stdout=out)
-        _, status, usage = os.wait4(child.pid, 0)
-        seconds = time.time() - start
-    return os.waitstatus_to_exitcode(status), folder / "out", seconds, usage.ru_maxrss / 1024, script.stat().st_size
+    lines = half_made()
+    return lines_in(LIMIT, lines, lambda _: [f"new {len(lines)} A", "undo"])
 
 
 def answer_is_right(lines, out):
@@ -148,21 +96,21 @@ def answer_is_right(lines, out):
 
 
 def main():
-    if len(sys.argv) != 2:
-        sys.exit(__doc__)
-    right = True
-    print(" | ".join(COLUMNS))
-    with tempfile.TemporaryDirectory() as name:
-        folder = Path(name)
-        (folder / "universe.json").write_text(json.dumps(document()))
+    (program, _), right = program_and_words(__doc__), True
+    TABLE.head()
+    with temporary_folder() as folder:
+        universe, script, out = (folder / name for name in ("universe.json", "script", "out"))
+        write_universe(universe, [TYPE])
         for kind in (making, binding, unbinding, rebinding, showing, undoing):
             lines = kind()
-            status, out, seconds, megabytes, size = run(sys.argv[1], folder, lines)
-            if status != 0 or not answer_is_right(lines, out):
+            script.write_text(text_of(lines))
+            made = run([program, "sim", universe, script], out)
+            if made.status != 0 or not answer_is_right(lines, out):
                 right = False
                 print(f"{kind.__name__}: a wrong answer")
-            print(f"{kind.__name__} | {len(lines):,} | {size:,} | {seconds:.2f} | {megabytes:,.0f}")
+            TABLE.row(kind.__name__, len(lines), script.stat().st_size, made.clock, made.megabytes)
     sys.exit(0 if right else 1)
 
 
-main()
+if __name__ == "__main__":
+    main()

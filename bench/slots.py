@@ -11,32 +11,25 @@ works out the second line of the plan and looks at the last one; the status is 1
 docs/dev/BENCHMARKS.md says how to read the table.
 """
 
-import json
-import os
-import subprocess
 import sys
-import tempfile
-from pathlib import Path
+
+from measure import Table, counts_of, line_of, place_of, program_and_words, run, temporary_folder, write_universe
 
 SIZES = (15, 30, 59, 117)
 TARGETS, STATES, DEMAND = 256, 17, 16
-COLUMNS = ("types", "pairs", "instances", "actions", "MB of text", "seconds", "MB of memory")
+COLUMNS = (
+    "types {:,}", "pairs {:,}", "instances {:,}", "actions {:,}", "MB of text {:.1f}", "seconds {:.2f}", "MB of memory {:,.0f}",
+    "seconds of the other {:.2f}", "MB of memory {:,.0f}")
 
 
-def document(types):
-    """The universe with so many types."""
-    made = []
-    for kind in range(types):
-        states = []
-        for number in range(STATES):
-            state = {"name": f"s{number}", "next": [f"s{number + 1}"] if number + 1 < STATES else []}
-            if number % 2 == 1:
-                state["provide"] = [f"p{kind}.{number}"]
-                if kind > 0:
-                    state["require"] = [{"port": f"p{kind - 1}.{number}", "count": DEMAND}]
-            states.append(state)
-        made.append({"name": f"t{kind}", "initial": "s0", "states": states})
-    return {"aeolus": 2, "types": made}
+def types_of(count):
+    """This many types."""
+
+    def ports(kind, number):
+        require = [{"port": f"p{kind - 1}.{number}", "count": DEMAND}] if kind > 0 else []
+        return ([f"p{kind}.{number}"], require) if number % 2 == 1 else ([], [])
+
+    return [line_of(f"t{kind}", [(f"s{number}", *ports(kind, number)) for number in range(STATES)]) for kind in range(count)]
 
 
 def actions_to(last, binds, deleted):
@@ -56,41 +49,23 @@ def counts(types):
     return instances, actions
 
 
-def run(program, folder, types):
-    """Seconds of the processor, megabytes of memory and of text of one plan, and whether the text is right."""
-    words = [program, "plan", "u.json"] + [f"t{types - 1}:s{STATES - 1}"] * TARGETS
-    out = Path(folder, "plan.txt")
-    with out.open("wb") as text:
-        child = subprocess.Popen(words, cwd=folder, stdout=text)
-        _, status, usage = os.wait4(child.pid, 0)
-        child.returncode = os.waitstatus_to_exitcode(status)
-    instances, actions = counts(types)
-    with out.open("rb") as text:
-        lines = [text.readline(), text.readline()]
-        text.seek(-4, os.SEEK_END)
-        lines.append(text.read())
-    wanted = [b"metis plan 1\n", b"instances %d actions %d dups 0\n" % (instances, actions), b"end\n"]
-    seconds = usage.ru_utime + usage.ru_stime
-    right = child.returncode == 0 and lines == wanted
-    return seconds, usage.ru_maxrss / 1024, out.stat().st_size / 1e6, right
-
-
 def main():
-    if len(sys.argv) not in (2, 3):
-        sys.exit(__doc__)
-    programs = [os.path.abspath(word) for word in sys.argv[1:]]
-    good = True
-    print("| " + " | ".join(COLUMNS + ("seconds of the other", "MB of memory")[: 2 * (len(programs) - 1)]) + " |")
+    program, others = program_and_words(__doc__, 2)
+    programs = [program, *map(place_of, others)]
+    good, table = True, Table(COLUMNS[: 5 + 2 * len(programs)], is_ruled=False)
+    table.head()
     for types in SIZES:
         instances, actions = counts(types)
-        with tempfile.TemporaryDirectory() as folder:
-            Path(folder, "u.json").write_text(json.dumps(document(types), separators=(",", ":")))
-            runs = [run(program, folder, types) for program in programs]
-        good = good and all(right for *_, right in runs)
-        row = [f"{types:,}", f"{types * STATES:,}", f"{instances:,}", f"{actions:,}", f"{runs[0][2]:.1f}"]
-        for seconds, memory, _, _ in runs:
-            row += [f"{seconds:.2f}", f"{memory:,.0f}"]
-        print("| " + " | ".join(row) + " |", flush=True)
+        cells = []
+        with temporary_folder() as folder:
+            out = folder / "plan.txt"
+            write_universe(folder / "u.json", types_of(types), 2)
+            for program in programs:
+                made = run([program, "plan", "u.json", *[f"t{types - 1}:s{STATES - 1}"] * TARGETS], out, folder)
+                good = good and made.status == 0 and counts_of(out) == (instances, actions, 0)
+                cells += [made.seconds, made.megabytes]
+            size = out.stat().st_size / 1e6
+        table.row(types, types * STATES, instances, actions, size, *cells)
     if not good:
         print("an answer is not what it has to be")
     sys.exit(0 if good else 1)

@@ -9,26 +9,14 @@ previous one of its instance. The least time of two runs counts, and it is that 
 not the one that has to come. docs/dev/BENCHMARKS.md says how to read the table.
 """
 
-import json
-import sys
-import tempfile
-from pathlib import Path
-
-sys.dont_write_bytecode = True
-from crew import actions_of, timed
-from replay import STATES, document, long_name, port
+from measure import (
+    STATES, Table, actors_and_waits, best, common_port, fail, large_types, line_of, long_name, plan_of, program_and_words, ratio,
+    temporary_folder, text_of, write_universe)
 
 SIZES = (100_000, 200_000, 391_000)
+RUNS = 2
 DURATIONS = {"new": 20, "delete": 5, "bind": 1, "unbind": 1, "move": 60}
-
-COLUMNS = ("kind", "actions", "MB", "seconds", "megabytes", "to the size before, by the action")
-
-
-def text_of(lines):
-    """The text of a plan with these actions."""
-    made = sum(line.startswith("new ") for line in lines)
-    numbered = "".join(f"{number} {line}\n" for number, line in enumerate(lines, 1))
-    return f"metis plan 1\ninstances {made} actions {len(lines)} dups 0\n{numbered}end\n"
+TABLE = Table(("kind `{}`", "actions {:,}", "MB {:.1f}", "seconds {:.2f}", "megabytes {:,.0f}", "to the size before, by the action {:.2f}"))
 
 
 def lone(size):
@@ -40,19 +28,17 @@ def lone(size):
         lines.append(f"new {instance} {long_name('t0')}")
         for place in range(1, STATES):
             pair, before = ((0, 1), (2, 3)) if place % 2 == 0 else ((2, 3), (0, 1))
-            lines += [f"bind {port(one)} {instance} 0 after 1" for one in pair]
+            lines += [f"bind {common_port(one)} {instance} 0 after 1" for one in pair]
             lines.append(f"move {instance} {long_name(f's{place - 1}')} {long_name(f's{place}')}")
             if place > 1:
-                lines += [f"unbind {port(one)} {instance} 0" for one in before]
-    return document(), lines[:size]
+                lines += [f"unbind {common_port(one)} {instance} 0" for one in before]
+    return large_types(), lines[:size]
 
 
 def crowd(size):
     """Many users of one server, which goes on once all have let it go."""
-    server = {"name": "server", "initial": "off", "states": [
-        {"name": "off", "next": ["on"]}, {"name": "on", "provide": ["http"], "next": ["old"]}, {"name": "old"}]}
-    user = {"name": "user", "initial": "off", "states": [
-        {"name": "off", "next": ["on"]}, {"name": "on", "require": ["http"], "next": ["old"]}, {"name": "old"}]}
+    server = line_of("server", [("off", [], []), ("on", ["http"], []), ("old", [], [])])
+    user = line_of("user", [("off", [], []), ("on", [], ["http"]), ("old", [], [])])
     users = range(1, (size - 3) // 5 + 1)
     lines = ["new 0 server", "move 0 off on"]
     ends = []
@@ -61,12 +47,12 @@ def crowd(size):
                   f"unbind http {instance} 0"]
         ends.append(len(lines))
     lines.append("move 0 on old after " + " ".join(map(str, ends)))
-    return {"aeolus": 1, "types": [server, user]}, lines
+    return [server, user], lines
 
 
 def schedules(text):
     """The lines that have to come: each start as early as what it waits for lets it be, and as late as what waits for it does."""
-    actors, after = actions_of(text)
+    actors, after = actors_and_waits(text)
     takes = [DURATIONS[line.split(" ", 2)[1]] for line in text.split("\n")[2:-2]]
     last, waits = {}, []
     for number, (actor, others) in enumerate(zip(actors, after), 1):
@@ -86,36 +72,28 @@ def schedules(text):
     while chain and waits[chain[0] - 1]:
         chain.insert(0, next(other for other in waits[chain[0] - 1] if ends[other - 1] == early[chain[0] - 1]))
     rows = [f"{number} at {first} to {end - long}" for number, (first, end, long) in enumerate(zip(early, late_ends, takes), 1)]
-    return "".join(row + "\n" for row in [*rows, f"finish {finish}", " ".join(map(str, ["chain", *chain]))])
+    return text_of([*rows, f"finish {finish}", " ".join(map(str, ["chain", *chain]))])
 
 
-def main(words):
-    if len(words) != 1:
-        print("usage: waves.py PROGRAM", file=sys.stderr)
-        return 2
-    print("| " + " | ".join(COLUMNS) + " |")
-    print("| " + " | ".join("---" for _ in COLUMNS) + " |", flush=True)
-    with tempfile.TemporaryDirectory() as name:
-        universe, plan, out = (Path(name) / file for file in ("u.json", "p.txt", "out"))
+def main():
+    program, _ = program_and_words(__doc__)
+    TABLE.head()
+    with temporary_folder() as folder:
+        universe, plan, out = (folder / name for name in ("u.json", "p.txt", "out"))
         for kind in (lone, crowd):
             before = None
             for size in SIZES:
-                what, lines = kind(size)
-                text = text_of(lines)
-                universe.write_text(json.dumps(what, separators=(",", ":")) + "\n")
+                types, lines = kind(size)
+                text = plan_of(lines)
+                write_universe(universe, types)
                 plan.write_text(text)
-                command = [words[0], "waves", str(universe), str(plan), *map(str, DURATIONS.values())]
-                status, seconds, megabytes = timed(command, out)
-                if status != 0 or out.read_text() != schedules(text):
-                    print(f"waves.py: {kind.__name__}, {size}: a wrong answer", file=sys.stderr)
-                    return 1
-                each = seconds / len(lines)
-                ratio = f"{each / before:.2f}" if before else "-"
+                run = best(RUNS, [program, "waves", universe, plan, *map(str, DURATIONS.values())], out)
+                if run.status != 0 or out.read_text() != schedules(text):
+                    fail(f"{kind.__name__}, {size}: a wrong answer")
+                each = run.seconds / len(lines)
+                TABLE.row(kind.__name__, len(lines), len(text) / 1e6, run.seconds, run.megabytes, ratio(each, before))
                 before = each
-                cells = (f"`{kind.__name__}`", f"{len(lines):,}", f"{len(text) / 1e6:.1f}", f"{seconds:.2f}", f"{megabytes:,.0f}", ratio)
-                print("| " + " | ".join(cells) + " |", flush=True)
-    return 0
 
 
 if __name__ == "__main__":
-    sys.exit(main(sys.argv[1:]))
+    main()

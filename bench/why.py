@@ -21,15 +21,14 @@ The status is 1 where an answer is not the one that has to come, or where a run 
 larger. docs/dev/BENCHMARKS.md says how to read the table.
 """
 
-import json
 import random
 import re
 import subprocess
 import sys
-import tempfile
 from pathlib import Path
 
-sys.dont_write_bytecode = True
+from measure import Table, program_and_words, ratio, switch, temporary_folder, usage, write_universe
+
 sys.path.insert(0, str(Path(__file__).resolve().parent.parent / "tools"))
 
 import second_why as second
@@ -42,13 +41,9 @@ WINDOW, MOST_STATES, MOST_PORTS = 120, 64, 4000
 GIVERS = 60
 USELESS, USELESS_EACH = 2800, 250
 
-COLUMNS = ("kind", "pairs", "lines", "reading", "plan", "why", "confirm", "why to plan", "why to the size before")
-
-
-def switch(name, provide, require):
-    """A type that goes from off to on, where it provides and requires these ports."""
-    on = {"name": "on", "provide": provide, "require": require}
-    return {"name": name, "initial": "off", "states": [{"name": "off", "next": ["on"]}, on]}
+TABLE = Table((
+    "kind `{}`", "pairs {:,}", "lines {:,}", "reading {:,.1f}", "plan {:,.1f}", "why {:,.1f}", "confirm {:,.1f}", "why to plan {:.2f}",
+    "why to the size before {:.2f}"))
 
 
 def chain(pairs):
@@ -157,7 +152,7 @@ def counted(command, given=None):
 
 def measured(program, file, document, word, needed):
     """The instructions of each command by its name, how many lines there are, and what is wrong with the answers."""
-    file.write_text(json.dumps(document, separators=(",", ":")) + "\n")
+    write_universe(file, document["types"])
     text, lines = explanation(document, word, needed)
     runs = {
         "reading": (["why", file], None, lambda put, status: (put, status) == ("attained\n", 0)),
@@ -194,29 +189,24 @@ def try_kind(program, file, kind):
         counts, lines, faults = measured(program, file, document, word, needed)
         faults += past_bounds(kind, counts, before)
         wrong += [f"{pairs:,} pairs: {fault}" for fault in faults]
-        millions = [f"{counts[name] / 1e6:,.1f}" for name in ("reading", "plan", "why", "confirm")]
-        to_plan = f"{counts['why'] / counts['plan']:.2f}" if counts["plan"] else "-"
-        growth = f"{counts['why'] / before:.2f}" if before else "-"
-        print("| " + " | ".join((f"`{kind}`", f"{pairs:,}", f"{lines:,}", *millions, to_plan, growth)) + " |", flush=True)
+        millions = [counts[name] / 1e6 for name in ("reading", "plan", "why", "confirm")]
+        TABLE.row(kind, pairs, lines, *millions, ratio(counts["why"], counts["plan"]), ratio(counts["why"], before))
         before = counts["why"]
         if before > BOUND:
             break
     return [f"{kind}: {fault}" for fault in wrong]
 
 
-def main(words):
-    if not words or any(kind not in KINDS for kind in words[1:]):
-        print(f"usage: why.py PROGRAM [{' | '.join(KINDS)} ..]", file=sys.stderr)
-        return 2
-    print("| " + " | ".join(COLUMNS) + " |")
-    print("| " + " | ".join("---" for _ in COLUMNS) + " |", flush=True)
-    wrong = []
-    with tempfile.TemporaryDirectory() as folder:
-        for kind in words[1:] or KINDS:
-            wrong += try_kind(Path(words[0]).resolve(), Path(folder) / "universe.json", kind)
+def main():
+    program, kinds = program_and_words(__doc__, None)
+    if not set(kinds) <= set(KINDS):
+        usage(__doc__)
+    TABLE.head()
+    with temporary_folder() as folder:
+        wrong = [fault for kind in kinds or KINDS for fault in try_kind(program, folder / "universe.json", kind)]
     print(*(f"why.py: {fault}" for fault in wrong), sep="\n", end="\n" if wrong else "", file=sys.stderr)
-    return 1 if wrong else 0
+    sys.exit(1 if wrong else 0)
 
 
 if __name__ == "__main__":
-    sys.exit(main(sys.argv[1:]))
+    main()

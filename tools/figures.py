@@ -97,12 +97,11 @@ def of_the_gate() -> Iterator[str]:
 
 
 def of_the_kit() -> Iterator[str]:
-    """One name for the kit, which is that of the kit at hand."""
-    names = {(name, kit) for name in pages() for kit in KIT.findall(text_of(name))}
+    """README names the kits that have proved all. The kit at hand is one of these, and no page names another."""
+    proved = sorted(set(KIT.findall(text_of("README.md"))))
     here = subprocess.run(["rt", "version"], capture_output=True, text=True, check=False).stdout.split() if shutil.which("rt") else []
-    right = here[0] if here else min((kit for _, kit in names), default="")
-    for name, kit in sorted(names):
-        yield from unequal(name, "the kit", kit, right)
+    told = [(name, kit) for name in pages() for kit in KIT.findall(text_of(name))] + [("README.md", kit) for kit in here[:1]]
+    yield from (f"{name}: the kit {kit} is none of those that README names: {' and '.join(proved)}" for name, kit in told if kit not in proved)
 
 
 def of_first_use() -> Iterator[str]:

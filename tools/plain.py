@@ -64,6 +64,7 @@ PHRASES = (
     ("save for", r"\bsave (?:for|that)\b"),
     ("lest", r"\blest\b"),
     ("just where", r"\bjust where\b"),
+    ("so many", r"\bso many\b"),
     ("comes to", r"\bcomes? to (?!its end\b)"),
     ("want of memory", r"\bwant of memory\b"),
     ("stands besides", r"\bstands? besides\b"),

@@ -7,13 +7,12 @@ or more together. Each answer is worked out here, from the rules of docs/FORMATS
 text. What was executed is asked of `crew`: given the turns of the actors of the line `ran`, it has to answer that it did just these
 actions, in this order. The last line counts the scripts; the status is 1 where an answer is not the one that has to come.
 """
-import json, os, random, subprocess, sys, tempfile
+import os, random, subprocess, sys, tempfile
 
 HERE = os.path.dirname(os.path.abspath(__file__))
 sys.dont_write_bytecode = True
 sys.path.insert(0, os.path.join(HERE, '..', 'bench'))
-from crew import actions_of
-from replay import document, goals
+from measure import actors_and_waits, document, large_targets, large_types
 
 LIMIT, LINES = 65536, 10000
 DATA = os.path.join(HERE, '..', 'crates', 'metis_transcripts', 'data')
@@ -169,14 +168,14 @@ def run(program, folder, words):
 def plans(folder):
     """The universes and the targets."""
     with open(os.path.join(folder, 'chains.json'), 'w') as file:
-        json.dump(document(), file)
+        file.write(document(large_types()))
     data = lambda name: os.path.join(DATA, name)
     yield data('web.json'), ['Web:run']
     yield data('shop.json'), ['Proxy:plain']
     yield data('crossed.json'), ['A:a3', 'B:b3']
     yield os.path.join(EXAMPLES, 'wordpress.json'), ['wordpress:installed']
-    yield 'chains.json', goals(4)
-    yield 'chains.json', goals(32)
+    yield 'chains.json', large_targets(4)
+    yield 'chains.json', large_targets(32)
 
 
 def try_plan(program, folder, draw, universe, targets):
@@ -186,7 +185,7 @@ def try_plan(program, folder, draw, universe, targets):
         return None
     with open(os.path.join(folder, 'plan'), 'w') as file:
         file.write(text)
-    actors, after = actions_of(''.join(line + '\n' for line in text.split('\n')[:-1] if not line.startswith('dup ')))
+    actors, after = actors_and_waits(''.join(line + '\n' for line in text.split('\n')[:-1] if not line.startswith('dup ')))
     last, waits = {}, []
     for number, (actor, others) in enumerate(zip(actors, after), 1):
         waits.append(sorted({*others, last[actor]} if actor in last else set(others)))

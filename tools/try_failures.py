@@ -7,7 +7,7 @@ which an allocation is refused has to end with want of memory (status 6) or with
 be a front of the command's text. One in which an opening or a read fails tells which file it was, one in which a write fails puts
 whole lines, and one in which a read or a write moves a single byte answers as if nothing had happened. The last line counts the runs.
 """
-import os, shutil, subprocess, sys, tempfile
+import os, pathlib, re, subprocess, sys, tempfile
 
 LIBRARY = r'''
 #define _GNU_SOURCE
@@ -112,58 +112,21 @@ int open(const char *name, int flags, ...)
 }
 '''
 
-WEB = '{"aeolus":1,"types":[{"name":"Db","initial":"off","states":[{"name":"off","next":["on"]},{"name":"on","provide":["sql"]}]},{"name":"Web","initial":"off","states":[{"name":"off","next":["run"]},{"name":"run","require":["sql"]}]}]}'
-CROSSED = '{"aeolus":1,"types":[{"name":"A","initial":"a0","states":[{"name":"a0","next":["a1"]},{"name":"a1","provide":["x"],"next":["a2"]},{"name":"a2","require":["y"],"next":["a3"]},{"name":"a3"}]},{"name":"B","initial":"b0","states":[{"name":"b0","next":["b1"]},{"name":"b1","provide":["y"],"next":["b2"]},{"name":"b2","require":["x"],"next":["b3"]},{"name":"b3"}]}]}'
+TOP = pathlib.Path(__file__).resolve().parent.parent
+DATA = TOP / 'crates' / 'metis_transcripts' / 'data'
+TRANSCRIPTS = (DATA.parent / 'stdout').read_text()
+
+
+def case_of(command):
+    """What the first case of a command is given and what it answers, in the transcripts that the gate compares."""
+    before, after = TRANSCRIPTS.split(f'\n$ metis {command}\n', 1)
+    given = re.search(r'(?m)^(?:> .*\n)*\Z', before + '\n')[0]
+    return re.sub(r'(?m)^> ', '', given), re.split(r'(?m)^status \d+$', after, maxsplit=1)[0]
+
+
 # Each of the two needs the other in turn. One of them is doubled, and its double is deleted in the end.
-PLAN = '''metis plan 1
-instances 3 actions 15 dups 1
-1 new 0 A
-2 move 0 a0 a1
-3 new 1 B
-4 move 1 b0 b1
-5 bind y 0 1 after 4
-6 move 0 a1 a2
-7 move 0 a2 a3
-8 unbind y 0 1
-9 new 2 A
-10 move 2 a0 a1
-11 bind x 1 2 after 10
-12 move 1 b1 b2 after 8
-13 move 1 b2 b3
-14 unbind x 1 2
-15 delete 2 after 14
-dup 1 A:a1 cycle 0.2 1.3 1.2 0.3
-end
-'''
-SCRIPT = '''new 0 Db
-new 1 Web
-bind sql 1 0
-move 1 off run
-move 0 off on
-move 1 off run
-delete 0
-show
-undo
-check Web:run
-check Db:on
-quit
-'''
-REPLIES = '''ok
-ok
-ok
-refused A9 1 sql
-ok
-ok
-refused A9 1 sql
-instances 2 bindings 1
-0 Db:on
-1 Web:run
-sql 1 0
-undone
-missing Web:run have 0 want 1
-holds
-bye
-'''
+PLAN = (DATA / 'crossed.plan').read_text()
+SCRIPT, REPLIES = case_of('sim web.json -')
 EVENTS = '''order 1
 deliver 1
 deliver 1
@@ -196,37 +159,12 @@ on 2 h2
 placed 3 hosts 2
 '''
 # What is left of the plan is torn down.
-TORN = '''metis plan 1
-instances 3 actions 17 dups 0
-1 new 0 A
-2 move 0 a0 a1
-3 new 1 B
-4 move 1 b0 b1
-5 bind y 0 1 after 4
-6 move 0 a1 a2
-7 move 0 a2 a3
-8 unbind y 0 1
-9 new 2 A
-10 move 2 a0 a1
-11 bind x 1 2 after 10
-12 move 1 b1 b2 after 8
-13 move 1 b2 b3
-14 unbind x 1 2
-15 delete 2 after 14
-16 delete 0
-17 delete 1
-end
-'''
-# Nothing provides the disk that the database needs, which the server needs.
-LOST = '{"aeolus":1,"types":[{"name":"Web","initial":"off","states":[{"name":"off","next":["run"]},{"name":"run","require":["sql"]}]},{"name":"Db","initial":"off","states":[{"name":"off","next":["on"]},{"name":"on","provide":["sql"],"require":["disk"]}]}]}'
-EXPLANATION = '''metis why 1
-lacks Web:run
-lines 2
-Web:run needs sql from Db:on
-Db:on needs disk from none
-end
-'''
-FILES = {'lost.json': LOST, 'lost.why': EXPLANATION, 'web.json': WEB, 'crossed.json': CROSSED, 'crossed.plan': PLAN, 'web.script': SCRIPT, 'crossed.script': EVENTS, 'crossed.hosts': HOSTS}
+TORN = '\n'.join(['metis plan 1', 'instances 3 actions 17 dups 0', *PLAN.splitlines()[2:17], '16 delete 0', '17 delete 1', 'end', ''])
+# Nothing provides the disk that a database needs, which the server needs.
+_, EXPLANATION = case_of('why three.json Web:run')
+FILES = {
+    **{name: (DATA / name).read_text() for name in ('web.json', 'crossed.json', 'three.json')},
+    'three.why': EXPLANATION, 'crossed.plan': PLAN, 'web.script': SCRIPT, 'crossed.script': EVENTS, 'crossed.hosts': HOSTS}
 
 # The words, the text and the status of each command.
 COMMANDS = [
@@ -239,10 +177,10 @@ COMMANDS = [
     (['control', 'crossed.json', 'crossed.plan', 'crossed.script'], ANSWERS, 0),
     (['rollout', 'crossed.json', 'crossed.plan'], TORN, 0),
     (['place', 'crossed.json', 'crossed.plan', 'crossed.hosts'], SEATS, 0),
-    (['why', 'lost.json', 'Web:run'], EXPLANATION, 1),
+    (['why', 'three.json', 'Web:run'], EXPLANATION, 1),
     (['why', 'web.json', 'Web:run', 'Db:on'], 'attained\n', 0),
-    (['confirm', 'lost.json', 'lost.why', 'Web:run'], 'confirmed lacks Web:run\n', 0),
-    (['confirm', 'lost.json', 'lost.why', 'Db:off'], 'lacksnone\n', 1),
+    (['confirm', 'three.json', 'three.why', 'Web:run'], 'confirmed lacks Web:run\n', 0),
+    (['confirm', 'three.json', 'three.why', 'Db:off'], 'lacksnone\n', 1),
 ]
 
 # What the C library and the start of the program open and read by themselves goes to the real calls inside it, and is not counted.
