@@ -12,3 +12,4 @@ pub mod WhyBytes
 pub mod WhyFaults
 pub mod WhyLines
 pub mod WhyRead
+pub mod WhyShort

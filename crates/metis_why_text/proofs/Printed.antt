@@ -41,7 +41,7 @@ module _ (u : Universe) (is : IsUniverse u) (names : IsNamed u) where
   port_printed : (r : ℕ) → r < port_count u → printed (port_name_of u r) ≡ true
   port_printed r low = printed_name (port_name_of u r) (names.ports r low)
 
-  start_low : (q : ℕ) → q < pair_count u → IfSome (start_port u q) (λ r. r < port_count u)
+  pub start_low : (q : ℕ) → q < pair_count u → IfSome (start_port u q) (λ r. r < port_count u)
   start_low q low = elim (is_initial u q) as (λ b. IfSome (if b then slice_get (required_of u q) 0 else None) (λ r. r < port_count u)) [
     | true ↦ first_holds (λ r. r < port_count u) (required_of u q) (is.required q low).1
     | false ↦ tt

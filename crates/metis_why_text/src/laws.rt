@@ -1,11 +1,12 @@
 //! Laws of the text of an explanation.
-ghost use Rattle.std.specs.Prelude.{◌≡◌, ◌≢◌, ◌≤◌, ◌+◌, ℕ, List, ◌++◌, Ok, Err, length};
+ghost use Rattle.std.specs.Prelude.{◌≡◌, ◌≢◌, ◌≤◌, ◌+◌, ◌^◌, ℕ, List, ◌++◌, Ok, Err, length};
 ghost use Rattle.std.specs.List.{All};
 ghost use Rattle.metis_ids.specs.declared.goals.Goal.{Goal};
 ghost use Rattle.metis_outside.specs.Pieces.{IsLine};
 ghost use Rattle.metis_tokens.specs.declared.fault.TFault.{TFault};
 ghost use Rattle.metis_tokens.specs.declared.fault.TFault.TheVariants as faults;
 ghost use Rattle.metis_universe.specs.Universe.{Universe, IsTable};
+ghost use Rattle.metis_why.specs.Barred.{IsWhy};
 ghost use Rattle.metis_why.specs.declared.reason.Line.{Line};
 ghost use Rattle.metis_why_text.specs.WhyFaults.{IsWhyFault};
 ghost use Rattle.metis_why_text.specs.WhyFlaws.{HasWhyFault};
@@ -25,6 +26,11 @@ pub fn why_is_read()
 /// Each line of the text ends with a line feed, and has no other.
 pub fn why_has_lines()
     ensures { (u : Universe) (lacks : Goal) (lines : List Line) → IsTable u → All IsLine (why_lines u lacks lines) }
+{}
+
+/// The text of an explanation is short enough to be read: it has 2^30 bytes at most.
+pub fn why_text_is_short()
+    ensures { (u : Universe) (lacks : Goal) (lines : List Line) → IsTable u → IsWhyText u lacks lines → IsWhy u lacks lines → length (why_bytes u lacks lines) ≤ 2 ^ 30 }
 {}
 
 /// Each front of the text of an explanation, but the text, is read as short.
