@@ -14,13 +14,22 @@ pub fn write_sorting(alloc: Global, text: &mut String, words: &[&str]) -> Result
     let [count, last, edges @ ..] = words else {
         return Err(Stop::NoProbe);
     };
-    let count = number_of(count)?;
-    let last = number_of(last)?;
+    let (count, last) = (number_of(count)?, number_of(last)?);
+    let graph = graph_in(alloc, count, last, edges)?;
+    write_order(alloc, text, &graph)
+}
+
+// The graph of so many nodes with this last one and the edges that these words name.
+fn graph_in(alloc: Global, count: u32, last: u32, words: &[&str]) -> Result<Dag, Stop> {
     if last >= count {
         return Err(Stop::NoProbe);
     }
-    let graph = Dag::new(alloc, count, edges_in(alloc, count, edges)?, NodeIx(last))?;
-    let sorted = sort(alloc, &graph)?;
+    let edges = edges_in(alloc, count, words)?;
+    Ok(Dag::new(alloc, count, edges, NodeIx(last))?)
+}
+
+fn write_order(alloc: Global, text: &mut String, graph: &Dag) -> Result<(), Stop> {
+    let sorted = sort(alloc, graph)?;
     match &sorted {
         Sorted::Order(nodes) => write_nodes(text, "order:", nodes),
         Sorted::Cycle(nodes) => write_nodes(text, "cycle:", nodes),

@@ -84,10 +84,41 @@ fn rounds(
     requires selected { (p : ℕ) → IsTrue (has targets.now p) → IsTrue (is_selected s.now p) }
     requires few { length targets.now ≤ 256 }
 {
+    let gone = gone_through(alloc, u, s, targets)?;
+    write_gone(alloc, text, u, s, targets, &gone)
+}
+
+// What the planner's rounds doubled, and how many lines there are at last.
+#[derive(Drop)]
+struct Gone {
+    dups: Vec<Dup>,
+    count: u32,
+}
+
+fn gone_through(alloc: Global, u: &Universe, s: &Support, targets: &[PairIx]) -> Result<Gone, Stop>
+    requires over { IsSupport u.now s.now }
+    requires selected { (p : ℕ) → IsTrue (has targets.now p) → IsTrue (is_selected s.now p) }
+    requires few { length targets.now ≤ 256 }
+{
     let mut dups = Vec::new(alloc);
     let count = go_through(alloc, u, s, targets, &mut dups)?;
-    write_all(alloc, text, u, s, targets, &dups)?;
-    write_ended(text, count)
+    Ok(Gone { dups, count })
+}
+
+fn write_gone(
+    alloc: Global,
+    text: &mut String,
+    u: &Universe,
+    s: &Support,
+    targets: &[PairIx],
+    gone: &Gone,
+) -> Result<(), Stop>
+    requires over { IsSupport u.now s.now }
+    requires selected { (p : ℕ) → IsTrue (has targets.now p) → IsTrue (is_selected s.now p) }
+    requires few { length targets.now ≤ 256 }
+{
+    write_all(alloc, text, u, s, targets, &gone.dups)?;
+    write_ended(text, gone.count)
 }
 
 // Goes from round to round of the planner, notes what they double, and tells how many lines there are at last.
@@ -219,8 +250,19 @@ fn write_round<'a>(
 
 fn write_events(alloc: Global, text: &mut String, over: &OverLines<'_>) -> Result<(), Stop> {
     let graph = EventGraph::of(alloc, over)?;
-    write_edges(text, &graph, graph.dag().nodes())?;
-    write_order(alloc, text, over, &graph)
+    write_graph(alloc, text, over, &graph)
+}
+
+fn write_graph(
+    alloc: Global,
+    text: &mut String,
+    over: &OverLines<'_>,
+    graph: &EventGraph,
+) -> Result<(), Stop>
+    requires { graph.now ≡ graph_of (graph_over over.now) }
+{
+    write_edges(text, graph, graph.dag().nodes())?;
+    write_order(alloc, text, over, graph)
 }
 
 fn write_order(
@@ -232,8 +274,21 @@ fn write_order(
     requires { graph.now ≡ graph_of (graph_over over.now) }
 {
     let sorted = sort(alloc, graph.dag())?;
-    write_sorted(text, graph, graph.dag().nodes(), &sorted)?;
-    match &sorted {
+    write_sorting(alloc, text, over, graph, &sorted)
+}
+
+fn write_sorting(
+    alloc: Global,
+    text: &mut String,
+    over: &OverLines<'_>,
+    graph: &EventGraph,
+    sorted: &Sorted,
+) -> Result<(), Stop>
+    requires graph { graph.now ≡ graph_of (graph_over over.now) }
+    requires sorted { IsSorted (dag_of graph.now) sorted.now }
+{
+    write_sorted(text, graph, graph.dag().nodes(), sorted)?;
+    match sorted {
         Sorted::Order(nodes) => write_ordered(alloc, text, over, graph, nodes),
         Sorted::Cycle(_) => Ok(()),
     }

@@ -6,6 +6,7 @@
 --     IsSpread starts nodes      the starts ascend from 0 up to the number of the nodes, and the nodes can be counted
 --     Filling, filling_of starts ends nodes      rows that still have room: each goes up to its end, and may go on up to the start of the next one
 --     HasRoom f x n, IsFull f x      row x may go on by n nodes;  by none
+--     AreSpaced starts counts      each row has room for so many nodes
 --     IsRoomy starts ends nodes      each end stands between two starts, and these go from 0 up to the number of the nodes
 use Rattle.std.specs.Prelude.{ℕ, ◌≡◌, ◌+◌, ◌-◌, ◌<◌, ◌≤◌, ◌^◌, List, [], drop, length, map, slice_index, slice_index_or, take}
 use Rattle.std.specs.List.{flat_map, range_with_len}
@@ -42,6 +43,9 @@ HasRoom f x n = slice_index f.starts x + length (slice_index_or f.rows x []) + n
 
 abbrev pub IsFull : Filling → ℕ → Type 0
 IsFull f x = slice_index f.starts x + length (slice_index_or f.rows x []) ≡ slice_index f.starts (x + 1)
+
+abbrev pub AreSpaced : List ℕ → List ℕ → Type 0
+AreSpaced starts counts = (x : ℕ) → x < length counts → slice_index starts (x + 1) ≡ slice_index starts x + slice_index counts x
 
 pub record IsRoomy (starts ends nodes : List ℕ) : Type 0 where
   pub size : length starts ≡ length ends + 1

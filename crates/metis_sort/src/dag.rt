@@ -1,5 +1,5 @@
 //! Graphs that hold the predecessors and the successors of each node.
-ghost use Rattle.std.specs.Prelude.{◌≡◌, ◌+◌, ◌^◌, ◌<◌, ◌≤◌, ◌++◌, ℕ, [], IsTrue, IfOk, length, map, replicate, slice_index};
+ghost use Rattle.std.specs.Prelude.{◌≡◌, ◌^◌, ◌<◌, ◌++◌, ℕ, [], IsTrue, IfOk, length, map, replicate, slice_index};
 ghost use Rattle.std.specs.List.{All, filter, slice_index_or};
 ghost use Rattle.metis_ids.specs.Graph.{joins};
 ghost use Rattle.metis_ids.specs.Lists.{has};

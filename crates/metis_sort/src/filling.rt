@@ -1,7 +1,7 @@
 //! Rows of nodes that are filled in any order, each up to the room that it has.
-ghost use Rattle.std.specs.Prelude.{◌≡◌, ◌+◌, ◌++◌, ◌∷◌, ◌<◌, ℕ, [], IfOk, OnOk, length, slice_index, slice_set};
+ghost use Rattle.std.specs.Prelude.{◌≡◌, ◌+◌, ◌++◌, ◌∷◌, ◌<◌, ℕ, [], IfOk, length, slice_index, slice_set};
 ghost use Rattle.std.specs.List.{slice_index_or};
-ghost use Rattle.metis_sort.specs.Rows.{HasRoom, IsFull};
+ghost use Rattle.metis_sort.specs.Rows.{AreSpaced, HasRoom, IsFull};
 
 use crate::rows::NodeRows;
 use metis_ids::{NoMemory, NodeIx};
@@ -33,7 +33,7 @@ impl Filling {
     pub fn with_room(alloc: Global, counts: &[u32]) -> Result<Filling, NoMemory>
         ensures size { IfOk result (λ f. length f.rows ≡ length counts.now) }
         ensures rows { IfOk result (λ f. (x : ℕ) → slice_index_or f.rows x [] ≡ []) }
-        ensures room { IfOk result (λ f. (x : ℕ) → x < length counts.now → slice_index f.starts (x + 1) ≡ slice_index f.starts x + slice_index counts.now x) }
+        ensures room { IfOk result (λ f. AreSpaced f.starts counts.now) }
     {
         let starts = starts_of(alloc, counts)?;
         let mut ends = Vec::with_capacity(alloc, counts.len())?;
@@ -72,7 +72,7 @@ impl Filling {
 fn starts_of(alloc: Global, counts: &[u32]) -> Result<Vec<u32>, NoMemory>
     ensures size { IfOk result (λ starts. length starts.items ≡ length counts.now + 1) }
     ensures first { IfOk result (λ starts. slice_index starts.items 0 ≡ 0) }
-    ensures each { IfOk result (λ starts. (x : ℕ) → x < length counts.now → slice_index starts.items (x + 1) ≡ slice_index starts.items x + slice_index counts.now x) }
+    ensures each { IfOk result (λ starts. AreSpaced starts.items counts.now) }
 {
     let mut starts = vec![in alloc; 0; 1]?;
     let mut start: u32 = 0;

@@ -1,6 +1,6 @@
 //! Rows of nodes in one list, one behind the other.
 ghost use Rattle.std.specs.Prelude.{◌≡◌, ◌++◌, ◌∷◌, ◌^◌, ◌<◌, [], IfOk, OnOk, length};
-ghost use Rattle.std.specs.List.{slice_get, slice_index_or};
+ghost use Rattle.std.specs.List.{slice_index_or};
 ghost use Rattle.metis_sort.specs.Rows.{joined};
 
 use metis_ids::{NoMemory, NodeIx};
