@@ -19,7 +19,7 @@ use std::alloc::Global;
 /// No way to a pair costs as much.
 pub const NEVER: u32 = 4_294_967_295;
 
-/// The pairs behind the goal, from near to far. What is tried costs as many as there are pairs, for each of them.
+/// The pairs behind the goal, from near to far. It goes over all pairs once for each of these.
 pub fn by_distance(
     alloc: Global,
     u: &Universe,

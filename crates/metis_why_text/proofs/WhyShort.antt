@@ -1,8 +1,8 @@
 -- The text of an explanation is short enough to be read.
-use Rattle.std.proofs.Common.{◌≡◌, ℕ, zero, suc, ◌+◌, ◌*◌, ◌<◌, ◌≤◌, ◌^◌, Bool, true, false, cond, ◌&&◌, List, [], ◌∷◌, ◌++◌, Option, Some, None, length, map, refl, sym, ap, ◌∙◌, subst, arith, inl, inr, decimal, nat_eq, length-append, lit≤}
+use Rattle.std.proofs.Common.{◌≡◌, ℕ, suc, ◌*◌, ◌<◌, ◌≤◌, ◌^◌, true, List, [], ◌∷◌, ◌++◌, Option, Some, None, length, map, refl, sym, ap, ◌∙◌, arith, decimal, nat_eq, length-append, lit≤}
 use Rattle.std.specs.Prelude.{◌||◌, IfSome, codes, nat_le}
 use Rattle.std.specs.List.{All, list_all}
-use Rattle.std.proofs.lemmas.Bool.{and_parts, false≢true, leb-true, or_cases, or_left, or_right}
+use Rattle.std.proofs.lemmas.Bool.{and_parts, leb-true}
 use Rattle.std.proofs.lemmas.Fmt.{length-decimal-le_succ}
 use Rattle.std.proofs.lemmas.List.Elements.{All-append, All-cons, All-head, All-map, All-nil, All-tail}
 use Rattle.metis_ids.specs.declared.goals.Goal.{Goal}
@@ -12,10 +12,10 @@ use Rattle.metis_tokens.specs.Line.{line, words, end_line}
 use Rattle.metis_universe.specs.GoalWords.{IsWordable, goal_word}
 use Rattle.metis_universe.specs.Names.{is_between, is_name, is_name_byte}
 use Rattle.metis_universe.specs.PairWords.{pair_word}
-use Rattle.metis_universe.specs.Universe.{IsTable, Universe, all_pairs, has, is_initial, pair_count, port_count, port_name_of, providers_of, required_of, state_name_of, type_name_of, type_of}
+use Rattle.metis_universe.specs.Universe.{IsTable, Universe, has, pair_count, port_count, port_name_of, providers_of, state_name_of, type_name_of, type_of}
 use Rattle.metis_why.proofs.Ordered.{few_named, short}
 use Rattle.metis_why.specs.Barred.{AreOnce, IsNameable, IsWhy, listed, named_by}
-use Rattle.metis_why.specs.Confirm.{IsLineOf, IsTellable}
+use Rattle.metis_why.specs.Confirm.{IsLineOf}
 use Rattle.metis_why.specs.Nearing.{AreApart}
 use Rattle.metis_why.specs.declared.reason.Line.{Line}
 use Rattle.metis_why.specs.declared.reason.Reason.{Reason}
