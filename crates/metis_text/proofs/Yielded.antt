@@ -1,5 +1,5 @@
 -- What holds of all that an iterator still gives holds after a call of it.
-use Rattle.std.proofs.Common.{◌≡◌, List, [], Option, Some, None, subst, sym}
+use Rattle.std.proofs.Common.{List, Option, Some, None, subst, sym}
 use Rattle.std.specs.Iterator.{YieldsFirst}
 use Rattle.std.specs.List.{All}
 use Rattle.std.proofs.lemmas.List.Elements.{All-nil, All-tail}

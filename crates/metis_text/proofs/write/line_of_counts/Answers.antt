@@ -1,4 +1,4 @@
-use Rattle.std.proofs.Common.{refl, sym, subst}
+use Rattle.std.proofs.Common.{sym, subst}
 use Rattle.metis_outside.specs.Pieces.{IsLine}
 use Rattle.metis_text.proofs.LineFeeds.{IsLine-counts_line}
 use Rattle.metis_text.proofs.write.line_of_counts.Goals as goal

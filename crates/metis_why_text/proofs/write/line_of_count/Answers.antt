@@ -1,4 +1,4 @@
-use Rattle.std.proofs.Common.{refl, sym, subst}
+use Rattle.std.proofs.Common.{sym, subst}
 use Rattle.metis_outside.specs.Pieces.{IsLine}
 use Rattle.metis_why_text.proofs.WhyLines.{IsLine-count_line}
 use Rattle.metis_why_text.proofs.write.line_of_count.Goals as goal
