@@ -181,7 +181,7 @@ def plan_of(actions: Sequence[str]) -> str:
 def counts_of(plan: Path) -> tuple[int, ...] | None:
     """The instances, actions and dups that a plan tells, if its first two lines and its last one are those of a plan."""
     with open(plan, "rb") as text:
-        head = text.readline() + text.readline()
+        head = text.readline(256) + text.readline(256)
         text.seek(max(0, plan.stat().st_size - 4))
         found = re.fullmatch(rb"metis plan 1\ninstances (\d+) actions (\d+) dups (\d+)\n", head)
         return tuple(map(int, found.groups())) if found and text.read() == b"end\n" else None

@@ -22,7 +22,18 @@ import os
 import shutil
 import subprocess
 
-from measure import Table, counts_of, fail, generated, last_states, program_and_words, run, temporary_folder, write_universe
+from measure import (
+    Table,
+    counts_of,
+    fail,
+    generated,
+    last_states,
+    program_and_words,
+    run,
+    temporary_folder,
+    usage,
+    write_universe,
+)
 
 SIZES = (1, 2, 3, 4, 8, 16, 32, 64, 128)
 RUNS, LONG = 3, 5
@@ -75,12 +86,15 @@ def resources_of(types):
 
 def timed(words, folder, limit=0):
     """The status, and the least seconds by the clock; none where it takes too long."""
-    clocks = []
+    clocks, statuses = [], set()
     while not clocks or (len(clocks) < RUNS and clocks[0] < LONG):
         made = run(words, folder / "out", folder, limit, is_quiet=True)
         if limit and made.clock >= limit:
             return None, None
         clocks.append(made.clock)
+        statuses.add(made.status)
+    if len(statuses) > 1:
+        fail(f"{words[0]}: another status when it ran again: {sorted(statuses)}")
     return made.status, min(clocks)
 
 
@@ -118,6 +132,8 @@ def time_terraform(types, folder):
 
 def main():
     program, words = program_and_words(__doc__, 2)
+    if words and not (words[0].isascii() and words[0].isdigit() and int(words[0])):
+        usage(__doc__)
     limit = int(words[0]) if words else 60
     searches, orders = (shutil.which(name) is not None for name in ("clingo", "terraform"))
     os.environ["CHECKPOINT_DISABLE"] = "1"

@@ -81,8 +81,9 @@ def answer_is_right(lines, out):
             if line == "show":
                 if text.readline() != f"instances {made} bindings 0\n":
                     return False
-                for _ in range(made):
-                    text.readline()
+                for number in range(made):
+                    if text.readline() != f"{number} A:a\n":
+                        return False
             elif line == "undo":
                 made -= last.startswith("new")
                 if text.readline() != "undone\n":
