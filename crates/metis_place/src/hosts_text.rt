@@ -1,18 +1,18 @@
 //! Reads the text of hosts.
-ghost use Rattle.std.specs.Prelude.{◌≡◌, ◌≤◌, ◌+◌, IfOk, length, map};
-ghost use Rattle.std.specs.Str.{bytes_eq};
+ghost use Rattle.std.specs.Prelude.{◌≡◌, ◌≤◌, IfOk, length, map};
 ghost use Rattle.metis_tokens.specs.Flaws.{made};
 ghost use Rattle.metis_universe.specs.Universe.{type_count};
 ghost use Rattle.metis_place.specs.Entries.{entries_of, number_of};
 ghost use Rattle.metis_place.specs.HostsFaults.{IfFault, IsHostsFault};
 ghost use Rattle.metis_place.specs.HostsWritten.{IsTextOf};
-ghost use Rattle.metis_place.specs.HostsText.{ReadsHosts, Takes, end_from, entry_in, hosts_in, hosts_of, is_last, lines_from, nothing, pieces, sizes_of, text_of, whole_lines, last_piece, with_entry, with_host, with_line, with_size, with_tokens, with_words};
+ghost use Rattle.metis_place.specs.HostsText.{ReadsHosts, Takes, end_from, entry_in, hosts_in, hosts_of, is_last, lines_from, nothing, sizes_of, text_of, whole_lines, last_piece, with_entry, with_host, with_line, with_size, with_tokens, with_words};
 
 use crate::hosts::Hosts;
 use crate::hosts_fault::{HFault, fault_at};
 use indexmap::IndexMap;
 use metis_ids::TypeIx;
-use metis_tokens::{Flaw, number_in, tokens_of};
+use metis_tokens::bytes::is;
+use metis_tokens::{Flaw, number_in, pieces_of, tokens_of};
 use metis_universe::{Universe, name_in};
 use std::alloc::{AllocError, Global};
 use std::marker::Model;
@@ -162,13 +162,6 @@ impl Seen {
     }
 }
 
-// Whether the bytes are this text.
-fn is(bytes: &[u8], text: &str) -> bool
-    ensures { result ≡ bytes_eq bytes.now text.now }
-{
-    bytes == text.as_bytes()
-}
-
 // The name and the number that two tokens are.
 fn entry_in<'a>(name: &'a [u8], number: &[u8]) -> Result<(&'a str, u32), Flaw>
     ensures { made (λ e. (e.0.now, e.1)) result ≡ entry_in name.now number.now }
@@ -234,14 +227,6 @@ pub fn read_hosts(alloc: Global, u: &Universe, bytes: &[u8]) -> Result<Hosts, HF
 {
     let pieces = pieces_of(alloc, bytes)?;
     read_pieces(alloc, u, &pieces)
-}
-
-// What stands between the line feeds.
-fn pieces_of<'a>(alloc: Global, bytes: &'a [u8]) -> Result<Vec<&'a [u8]>, AllocError>
-    ensures pieces { IfOk result (λ v. map (λ piece. piece.now) v.items ≡ pieces bytes.now) }
-    ensures few { IfOk result (λ v. length v.items ≤ length bytes.now + 1) }
-{
-    bytes.split(|byte| *byte == b'\n').collect(alloc)
 }
 
 // The last piece is what stands behind the last line feed.

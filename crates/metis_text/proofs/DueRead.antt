@@ -14,7 +14,7 @@ use Rattle.metis_outside.proofs.Feeds.{no_feed}
 use Rattle.metis_outside.specs.Pieces.{bytes_of}
 use Rattle.metis_tokens.proofs.LinesTaken.{read_next_number}
 use Rattle.metis_tokens.proofs.Readers.{read_fails}
-use Rattle.metis_tokens.specs.Cursor.{Lines, fault_at, read_next}
+use Rattle.metis_tokens.specs.Cursor.{Cursor, fault_at, read_next}
 use Rattle.metis_tokens.specs.declared.fault.TFault.{TFault}
 use Rattle.metis_tokens.specs.declared.flaw.Flaw.{Flaw}
 use Rattle.metis_text.specs.DueLines.{HasEnded, IsOfDue, NoFeed}
@@ -27,12 +27,12 @@ none_fed bytes h = All-weaker (λ b. not (b == 10) ≡ true) (λ b. b ≢ 10) no
 
 -- ---- lines, and what is left
 
-pub record IsLeft (bytes : List ℕ) (lines : List (List ℕ)) (l : Lines) : Type 0 where
+pub record IsLeft (bytes : List ℕ) (lines : List (List ℕ)) (l : Cursor) : Type 0 where
   pub text : bytes ≡ bytes_of lines ++ l.rest
   pub number : l.number ≡ length lines
 
 -- the same, one line further
-pub one_more : {A : Type 0} (read : List ℕ → Result A Flaw) (bytes : List ℕ) (lines : List (List ℕ)) (l : Lines) (p : A × Lines) (line : List ℕ) → IsLeft bytes lines l → read_next read l ≡ Ok p → l.rest ≡ line ++ (10 ∷ p.1.rest) → IsLeft bytes (lines ++ (line ++ codes "\n") ∷ []) p.1
+pub one_more : {A : Type 0} (read : List ℕ → Result A Flaw) (bytes : List ℕ) (lines : List (List ℕ)) (l : Cursor) (p : A × Cursor) (line : List ℕ) → IsLeft bytes lines l → read_next read l ≡ Ok p → l.rest ≡ line ++ (10 ∷ p.1.rest) → IsLeft bytes (lines ++ (line ++ codes "\n") ∷ []) p.1
 one_more read bytes lines l p line left h is =
     let feed = line ++ codes "\n" in
     let whole : bytes_of (lines ++ feed ∷ []) ≡ bytes_of lines ++ feed = concat-append lines (feed ∷ []) ∙ ap (λ r. bytes_of lines ++ r) (append-nil feed) in
@@ -49,7 +49,7 @@ module _ {D : Type 0} (begun : List (List ℕ) → D → Type 0) (flawed : D →
   Stopped = HasEnded begun bytes f ⊎ IsOfDue begun flawed bytes f
 
   -- the line that is due cannot be read
-  pub stops : {A : Type 0} (read : List ℕ → Result A Flaw) (due : D) (lines : List (List ℕ)) (l : Lines) → begun lines due → IsLeft bytes lines l
+  pub stops : {A : Type 0} (read : List ℕ → Result A Flaw) (due : D) (lines : List (List ℕ)) (l : Cursor) → begun lines due → IsLeft bytes lines l
       → ((line : List ℕ) (flaw : Flaw) → read line ≡ Err flaw → flawed due line flaw) → read_next read l ≡ Err f → Stopped
   stops {A} read due lines l are left wrong h = elim (read_fails read l f h) [
     | inl (none, short) ↦ inl (record { lines = lines; due = due; piece = l.rest; are = are; text = left.text; no_feed = none_fed l.rest none; fault = short })

@@ -9,7 +9,7 @@ use Rattle.metis_universe.specs.Universe.{IsNamed, IsUniverse, Universe}
 use Rattle.metis_text.specs.DupLine.{DupRow, dup_in}
 use Rattle.metis_tokens.specs.Line.{line}
 use Rattle.metis_text.specs.PlanText.{dup_line}
-use Rattle.metis_tokens.specs.Cursor.{Lines, lines_of, read_next}
+use Rattle.metis_tokens.specs.Cursor.{Cursor, lines_of, read_next}
 use Rattle.metis_text.specs.Reading.{dups_from}
 use Rattle.metis_tokens.specs.Flaws.{and_then}
 use Rattle.metis_text.specs.Reads.{dup_row}
@@ -26,7 +26,7 @@ AreDups u k (d ∷ dups) = IsDupRow u k d × AreDups u (k + 1) dups
 abbrev pub dup_row_line : Universe → ℕ → DupRow → List ℕ
 dup_row_line u k row = line (dup_row_tokens u k row)
 
-pub record DupsRead (u : Universe) (left : ℕ) (dups : List DupRow) (l : Lines) (p : List DupRow × Lines) : Type 0 where
+pub record DupsRead (u : Universe) (left : ℕ) (dups : List DupRow) (l : Cursor) (p : List DupRow × Cursor) : Type 0 where
   pub added : List DupRow
   pub is : p.0 ≡ dups ++ added
   pub many : length added ≡ left
@@ -34,7 +34,7 @@ pub record DupsRead (u : Universe) (left : ℕ) (dups : List DupRow) (l : Lines)
   pub text : l.rest ≡ numbered_bytes (dup_row_line u) (length dups + 1) added ++ p.1.rest
 
 module _ (u : Universe) where
-  pub dups_are : (left : ℕ) (dups : List DupRow) (l : Lines) (p : List DupRow × Lines) → dups_from u left dups l ≡ Ok p → DupsRead u left dups l p
+  pub dups_are : (left : ℕ) (dups : List DupRow) (l : Cursor) (p : List DupRow × Cursor) → dups_from u left dups l ≡ Ok p → DupsRead u left dups l p
   dups_are zero dups l p h =
       let e : (dups, l) ≡ p = cc in
       record { added = []; is = sym (ap (λ q. q.0) e) ∙ sym (append-nil dups); many = refl; are = tt; text = ap (λ q. q.1.rest) e }
@@ -64,7 +64,7 @@ module _ (u : Universe) where
       let k = length dups + 1 in
       let others = numbered_bytes (dup_row_line u) (k + 1) added in
       let size = length_push dups d in
-      let behind = λ (p : DupRow × Lines). dups_from u (length added) (dups ++ p.0 ∷ []) p.1 in
+      let behind = λ (p : DupRow × Cursor). dups_from u (length added) (dups ++ p.0 ∷ []) p.1 in
       let more = dups_read is names added (dups ++ d ∷ []) rest (n + 1) (subst (λ j. AreDups u (j + 1) added) (sym size) are.1) in (
         more.0,
         ap (λ bytes. and_then (read_next (dup_in u k) (lines_of bytes n)) behind) (append_assoc (dup_row_line u k d) others rest)

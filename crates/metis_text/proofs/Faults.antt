@@ -16,7 +16,7 @@ use Rattle.metis_text.specs.DupLine.{DupRow}
 use Rattle.metis_text.specs.Faults.{IsFault, IsMiscounted, IsPastEnd, IsWellFormedButCount, recounted}
 use Rattle.metis_tokens.specs.Line.{numbered, end_line}
 use Rattle.metis_text.specs.PlanText.{action_line, action_lines, dup_line, dup_lines, plan_bytes, plan_end, plan_lines}
-use Rattle.metis_tokens.specs.Cursor.{Lines, fault_at, lines_of}
+use Rattle.metis_tokens.specs.Cursor.{Cursor, fault_at, lines_of}
 use Rattle.metis_text.specs.Reading.{Parts, parts, plan_from, plan_in}
 use Rattle.metis_tokens.specs.Flaws.{and_then}
 use Rattle.metis_text.specs.Reads.{dup_row, said}
@@ -59,7 +59,7 @@ dups_back (d ∷ dups) = ap (λ l. d ∷ l) (dups_back dups)
 abbrev pub plan_of : Parts → Plan
 plan_of q = record { actions = q.rows.actions; dups = map dup_from q.dups; instances = q.instances }
 
-record PlanRead (u : Universe) (l : Lines) (w : Parts × Lines) : Type 0 where
+record PlanRead (u : Universe) (l : Cursor) (w : Parts × Cursor) : Type 0 where
   plan : Plan
   after : List (List ℕ)
   is : said plan after ≡ w.0
@@ -81,7 +81,7 @@ module _ (u : Universe) where
       } in
       record { recounted_so = formed u (recounted (plan_of q)) q.rows.after right; few_instances = counts.instances }
 
-  plan_are : (l : Lines) (w : Parts × Lines) → LinesAre u l w → PlanRead u l w
+  plan_are : (l : Cursor) (w : Parts × Cursor) → LinesAre u l w → PlanRead u l w
   plan_are l w are =
       let q = w.0 in
       let after = q.rows.after in
@@ -98,7 +98,7 @@ module _ (u : Universe) where
 
   -- ---- each fault that is told is one
 
-  record Unclosed (w : Parts × Lines) (f : TFault) : Type 0 where
+  record Unclosed (w : Parts × Cursor) (f : TFault) : Type 0 where
     why : ((1 ≤ length w.1.rest) × (f ≡ Line (w.1.number + 1))) ⊎ ((w.1.rest ≡ []) × (count_by makes w.0.rows.actions ≢ w.0.instances) × (f ≡ Line 2))
 
   not_zero : (n : ℕ) → (n == 0) ≡ false → 1 ≤ n
@@ -107,17 +107,17 @@ module _ (u : Universe) where
   apart : (m n : ℕ) → (m == n) ≡ false → m ≢ n
   apart m n h = grind (arith, nat_tests)
 
-  unclosed_by : (w : Parts × Lines) (f : TFault) (nothing same : Bool) → (length w.1.rest == 0) ≡ nothing → (count_by makes w.0.rows.actions == w.0.instances) ≡ same
+  unclosed_by : (w : Parts × Cursor) (f : TFault) (nothing same : Bool) → (length w.1.rest == 0) ≡ nothing → (count_by makes w.0.rows.actions == w.0.instances) ≡ same
       → and_then {A = Unit {0}} (if nothing then Ok tt else Err (Line (w.1.number + 1))) (λ _. if same then Ok w.0 else Err (Line 2)) ≡ Err f → Unclosed w f
   unclosed_by w f true true none count h = cc
   unclosed_by w f true false none count h =
       record { why = inr (nil_from_length w.1.rest (eqb-true (length w.1.rest) 0 none), apart (count_by makes w.0.rows.actions) w.0.instances count, cc) }
   unclosed_by w f false same none count h = record { why = inl (not_zero (length w.1.rest) none, cc) }
 
-  unclosed : (w : Parts × Lines) (f : TFault) → closed w ≡ Err f → Unclosed w f
+  unclosed : (w : Parts × Cursor) (f : TFault) → closed w ≡ Err f → Unclosed w f
   unclosed w f h = unclosed_by w f (length w.1.rest == 0) (count_by makes w.0.rows.actions == w.0.instances) refl refl h
 
-  of_plan : (bytes : List ℕ) (w : Parts × Lines) (f : TFault) → PlanRead u (lines_of bytes 0) w → ((1 ≤ length w.1.rest) × (f ≡ Line (w.1.number + 1))) ⊎ ((w.1.rest ≡ []) × (count_by makes w.0.rows.actions ≢ w.0.instances) × (f ≡ Line 2)) → IsPastEnd u bytes f ⊎ IsMiscounted u bytes f
+  of_plan : (bytes : List ℕ) (w : Parts × Cursor) (f : TFault) → PlanRead u (lines_of bytes 0) w → ((1 ≤ length w.1.rest) × (f ≡ Line (w.1.number + 1))) ⊎ ((w.1.rest ≡ []) × (count_by makes w.0.rows.actions ≢ w.0.instances) × (f ≡ Line 2)) → IsPastEnd u bytes f ⊎ IsMiscounted u bytes f
   of_plan bytes w f read (inl more) =
       let number : w.1.number ≡ length (plan_lines u read.plan read.after) = omega (arith, read.number) in
       inl (record { plan = read.plan; after = read.after; more = w.1.rest; text = read.text; formed = read.formed_so; some = more.0; fault = more.1 ∙ ap (λ n. Line (n + 1)) number })
@@ -127,7 +127,7 @@ module _ (u : Universe) where
       inr (record { plan = read.plan; after = read.after; text = text; formed = read.formed_so; wrong = other; fault = wrong.2 })
 
   -- all lines were read, and then more stands there or the count is wrong
-  pub closed_fails : (bytes : List ℕ) (w : Parts × Lines) (f : TFault) → lines_from u (lines_of bytes 0) ≡ Ok w → closed w ≡ Err f → IsPastEnd u bytes f ⊎ IsMiscounted u bytes f
+  pub closed_fails : (bytes : List ℕ) (w : Parts × Cursor) (f : TFault) → lines_from u (lines_of bytes 0) ≡ Ok w → closed w ≡ Err f → IsPastEnd u bytes f ⊎ IsMiscounted u bytes f
   closed_fails bytes w f is h = of_plan bytes w f (plan_are (lines_of bytes 0) w (lines_are u (lines_of bytes 0) w is)) (unclosed w f h).why
 
   of_wrong : (bytes : List ℕ) (f : TFault) → (f ≡ Short) ⊎ Wrong (lines_from u) (lines_of bytes 0) f → IsFault u bytes f
@@ -145,7 +145,7 @@ module _ (u : Universe) where
         first = λ before rest at some. early_is_short (lines_from u) closed (plan_from u) (plan_text u) bytes before rest f w at some;
       })
 
-  of_lines : (bytes : List ℕ) (f : TFault) → (lines_from u (lines_of bytes 0) ≡ Err f) ⊎ ((w : Parts × Lines) × (lines_from u (lines_of bytes 0) ≡ Ok w) × (closed w ≡ Err f)) → IsFault u bytes f
+  of_lines : (bytes : List ℕ) (f : TFault) → (lines_from u (lines_of bytes 0) ≡ Err f) ⊎ ((w : Parts × Cursor) × (lines_from u (lines_of bytes 0) ≡ Ok w) × (closed w ≡ Err f)) → IsFault u bytes f
   of_lines bytes f (inl h) = of_wrong bytes f ((plan_text u).reads.wrong (lines_of bytes 0) f h)
   of_lines bytes f (inr (w, is, h)) = elim (closed_fails bytes w f is h) [ inl more ↦ IsFault.past_end more | inr wrong ↦ IsFault.miscounted wrong ]
 

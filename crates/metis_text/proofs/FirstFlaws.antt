@@ -9,7 +9,7 @@ use Rattle.metis_tokens.proofs.KnownLines.{exactly_is}
 use Rattle.metis_tokens.proofs.LinesTaken.{read_next_is}
 use Rattle.metis_tokens.proofs.Outcomes.{and_then_is}
 use Rattle.metis_tokens.proofs.Readers.{and_then_wrong}
-use Rattle.metis_tokens.specs.Cursor.{Lines, ended, exactly, lines_of, read_next}
+use Rattle.metis_tokens.specs.Cursor.{Cursor, ended, exactly, lines_of, read_next}
 use Rattle.metis_tokens.specs.Flaws.{and_then}
 use Rattle.metis_tokens.specs.Line.{end_line, words}
 use Rattle.metis_tokens.specs.declared.fault.TFault.{TFault}
@@ -29,14 +29,14 @@ use Rattle.metis_text.specs.declared.refusal_text.Refusal.{Refusal}
 use Rattle.metis_text.specs.RefusalText.{lacks_line, pair_line, pairs_line, refusal_header}
 
 module _ (u : Universe) (bytes : List ℕ) (f : TFault) where
-  stop : {A : Type 0} (read : List ℕ → Result A Flaw) (due : Due) (lines : List (List ℕ)) (l : Lines) → IsBegun u lines due → IsLeft bytes lines l
+  stop : {A : Type 0} (read : List ℕ → Result A Flaw) (due : Due) (lines : List (List ℕ)) (l : Cursor) → IsBegun u lines due → IsLeft bytes lines l
       → ((line : List ℕ) (flaw : Flaw) → read line ≡ Err flaw → HasFlaw u due line flaw) → read_next read l ≡ Err f → HasRefusalFault u bytes f
   stop read due lines l begun left wrong h = elim (stops (IsBegun u) (HasFlaw u) bytes f read due lines l begun left wrong h) [ inl short ↦ too_short short | inr flawed ↦ of_line flawed ]
 
   module _ (table : IsTable u) (lacks : Goal) (its : IsWordable u lacks) where
     -- ---- the last line
 
-    past_by : (set : List ℕ) (l : Lines) (nothing : Bool) → IsBegun u (begun_lines u lacks (length set) set) last_line → IsLeft bytes (begun_lines u lacks (length set) set ++ end_line ∷ []) l
+    past_by : (set : List ℕ) (l : Cursor) (nothing : Bool) → IsBegun u (begun_lines u lacks (length set) set) last_line → IsLeft bytes (begun_lines u lacks (length set) set ++ end_line ∷ []) l
         → AreBegun u lacks (length set) set → (length l.rest == 0) ≡ nothing
         → and_then {A = Unit {0}} (if nothing then Ok tt else Err (Line (l.number + 1))) (λ _. Ok (refusal_parts lacks set)) ≡ Err f → HasRefusalFault u bytes f
     past_by set l true begun left are is h = cc
@@ -54,7 +54,7 @@ module _ (u : Universe) (bytes : List ℕ) (f : TFault) where
           some : (n : ℕ) → (n == 0) ≡ false → 1 ≤ n
           some n h = grind (arith, nat_tests)
 
-    end_stops : (set : List ℕ) (l : Lines) → AreBegun u lacks (length set) set → IsLeft bytes (begun_lines u lacks (length set) set) l → refusal_end_from (refusal_parts lacks set) l ≡ Err f → HasRefusalFault u bytes f
+    end_stops : (set : List ℕ) (l : Cursor) → AreBegun u lacks (length set) set → IsLeft bytes (begun_lines u lacks (length set) set) l → refusal_end_from (refusal_parts lacks set) l ≡ Err f → HasRefusalFault u bytes f
     end_stops set l are left h =
         let begun = with_all lacks set are refl refl in
         let lines = begun_lines u lacks (length set) set in
@@ -73,11 +73,11 @@ module _ (u : Universe) (bytes : List ℕ) (f : TFault) where
       longer set p = ap (λ ls. refusal_header ∷ lacks_line u lacks ∷ pairs_line size ∷ ls) (sym (map-append (pair_line u) set (p ∷ [])))
 
       -- these pairs were read, and behind them these lines are left
-      record PairsLeft (set : List ℕ) (l : Lines) : Type 0 where
+      record PairsLeft (set : List ℕ) (l : Cursor) : Type 0 where
         are : ArePairs u [] set
         left : IsLeft bytes (begun_lines u lacks size set) l
 
-      next_left : (set : List ℕ) (l : Lines) (p : ℕ × Lines) → PairsLeft set l → read_next (next_pair_in u set) l ≡ Ok p → PairsLeft (set ++ p.0 ∷ []) p.1
+      next_left : (set : List ℕ) (l : Cursor) (p : ℕ × Cursor) → PairsLeft set l → read_next (next_pair_in u set) l ≡ Ok p → PairsLeft (set ++ p.0 ∷ []) p.1
       next_left set l p before h =
           let one = read_next_is (next_pair_in u set) l p h in
           let says = next_pair_is u set one.0 p.0 one.1 in
@@ -92,7 +92,7 @@ module _ (u : Universe) (bytes : List ℕ) (f : TFault) where
       begun_with : (set : List ℕ) → ArePairs u [] set → AreBegun u lacks size set
       begun_with set are = let up = pairs_ascend u set are in record { lacking = its; few = few; ascending = up.0; pairs = up.1 }
 
-      pairs_stop : (n : ℕ) (set : List ℕ) (l : Lines) → PairsLeft set l → length set + n ≡ size → pairs_from u n set l ≡ Err f → HasRefusalFault u bytes f
+      pairs_stop : (n : ℕ) (set : List ℕ) (l : Cursor) → PairsLeft set l → length set + n ≡ size → pairs_from u n set l ≡ Err f → HasRefusalFault u bytes f
       pairs_stop zero set l before count h = cc
       pairs_stop (suc n) set l before count h = elim (and_then_wrong (read_next (next_pair_in u set) l) (λ p. pairs_from u n (set ++ p.0 ∷ []) p.1) f h) [
         | inl wrong ↦
@@ -102,16 +102,16 @@ module _ (u : Universe) (bytes : List ℕ) (f : TFault) where
         | inr (p, right, later) ↦ pairs_stop n (set ++ p.0 ∷ []) p.1 (next_left set l p before right) (let long = length_push set p.0 in omega arith) later
       ]
 
-      pairs_left : (n : ℕ) (set : List ℕ) (l : Lines) (q : List ℕ × Lines) → PairsLeft set l → length set + n ≡ size → pairs_from u n set l ≡ Ok q → PairsLeft q.0 q.1 × (length q.0 ≡ size)
+      pairs_left : (n : ℕ) (set : List ℕ) (l : Cursor) (q : List ℕ × Cursor) → PairsLeft set l → length set + n ≡ size → pairs_from u n set l ≡ Ok q → PairsLeft q.0 q.1 × (length q.0 ≡ size)
       pairs_left zero set l q before count h =
           let is : (set, l) ≡ q = cc in
-          subst (λ (q : List ℕ × Lines). PairsLeft q.0 q.1 × (length q.0 ≡ size)) is (before, omega arith)
+          subst (λ (q : List ℕ × Cursor). PairsLeft q.0 q.1 × (length q.0 ≡ size)) is (before, omega arith)
       pairs_left (suc n) set l q before count h =
           let next = and_then_is (read_next (next_pair_in u set) l) (λ p. pairs_from u n (set ++ p.0 ∷ []) p.1) q h in
           let long = length_push set next.0.0 in
           pairs_left n (set ++ next.0.0 ∷ []) next.0.1 q (next_left set l next.0 before next.1) (omega arith) next.2
 
-      set_stops : (l : Lines) → IsLeft bytes (begun_lines u lacks size []) l → and_then (pairs_from u size [] l) (λ pairs. refusal_end_from (refusal_parts lacks pairs.0) pairs.1) ≡ Err f → HasRefusalFault u bytes f
+      set_stops : (l : Cursor) → IsLeft bytes (begun_lines u lacks size []) l → and_then (pairs_from u size [] l) (λ pairs. refusal_end_from (refusal_parts lacks pairs.0) pairs.1) ≡ Err f → HasRefusalFault u bytes f
       set_stops l left h =
           let start : PairsLeft [] l = record { are = tt; left = left } in
           let none : length {A = ℕ} [] + size ≡ size = omega arith in
@@ -123,7 +123,7 @@ module _ (u : Universe) (bytes : List ℕ) (f : TFault) where
                 end_stops q.0 q.1 are (subst (λ n. IsLeft bytes (begun_lines u lacks n q.0) q.1) (sym all.1) all.0.left) later
           ]
 
-    goal_stops : (l : Lines) → IsLeft bytes (refusal_header ∷ lacks_line u lacks ∷ []) l → refusal_set_from u lacks l ≡ Err f → HasRefusalFault u bytes f
+    goal_stops : (l : Cursor) → IsLeft bytes (refusal_header ∷ lacks_line u lacks ∷ []) l → refusal_set_from u lacks l ≡ Err f → HasRefusalFault u bytes f
     goal_stops l left h =
         let lines = refusal_header ∷ lacks_line u lacks ∷ [] in
         elim (and_then_wrong (read_next size_in l) (λ size. and_then (pairs_from u size.0 [] size.1) (λ pairs. refusal_end_from (refusal_parts lacks pairs.0) pairs.1)) f h) [

@@ -5,7 +5,7 @@ use Rattle.std.proofs.Common.{◌≡◌, ℕ, zero, suc, ◌+◌, ◌<◌, true,
 use Rattle.std.specs.Prelude.{⊤}
 use Rattle.std.specs.List.{flat_map}
 use Rattle.metis_universe.specs.Universe.{IsNamed, IsUniverse, Universe, pair_count}
-use Rattle.metis_tokens.specs.Cursor.{Lines, lines_of, read_next}
+use Rattle.metis_tokens.specs.Cursor.{Cursor, lines_of, read_next}
 use Rattle.metis_tokens.specs.Flaws.{and_then}
 use Rattle.metis_text.specs.RefusalReading.{above, next_pair_in, pairs_from}
 use Rattle.metis_text.specs.RefusalText.{pair_line}
@@ -17,7 +17,7 @@ abbrev pub ArePairs : Universe → List ℕ → List ℕ → Type 0
 ArePairs u before [] = ⊤
 ArePairs u before (p ∷ pairs) = (p < pair_count u) × (above before p ≡ true) × ArePairs u (before ++ p ∷ []) pairs
 
-pub record PairsRead (u : Universe) (left : ℕ) (pairs : List ℕ) (l : Lines) (p : List ℕ × Lines) : Type 0 where
+pub record PairsRead (u : Universe) (left : ℕ) (pairs : List ℕ) (l : Cursor) (p : List ℕ × Cursor) : Type 0 where
   pub added : List ℕ
   pub is : p.0 ≡ pairs ++ added
   pub many : length added ≡ left
@@ -25,7 +25,7 @@ pub record PairsRead (u : Universe) (left : ℕ) (pairs : List ℕ) (l : Lines) 
   pub text : l.rest ≡ flat_map (pair_line u) added ++ p.1.rest
 
 module _ (u : Universe) where
-  pub pairs_are : (left : ℕ) (pairs : List ℕ) (l : Lines) (p : List ℕ × Lines) → pairs_from u left pairs l ≡ Ok p → PairsRead u left pairs l p
+  pub pairs_are : (left : ℕ) (pairs : List ℕ) (l : Cursor) (p : List ℕ × Cursor) → pairs_from u left pairs l ≡ Ok p → PairsRead u left pairs l p
   pairs_are zero pairs l p h =
       let e : (pairs, l) ≡ p = cc in
       record { added = []; is = sym (ap (λ q. q.0) e) ∙ sym (append-nil pairs); many = refl; are = tt; text = ap (λ q. q.1.rest) e }
@@ -50,7 +50,7 @@ module _ (u : Universe) where
   pairs_read is names [] pairs rest n are = (n, sym (λ i. Ok (append-nil pairs i, lines_of rest n)))
   pairs_read is names (p ∷ added) pairs rest n are =
       let others = flat_map (pair_line u) added in
-      let behind = λ (q : ℕ × Lines). pairs_from u (length added) (pairs ++ q.0 ∷ []) q.1 in
+      let behind = λ (q : ℕ × Cursor). pairs_from u (length added) (pairs ++ q.0 ∷ []) q.1 in
       let more = pairs_read is names added (pairs ++ p ∷ []) rest (n + 1) are.2 in (
         more.0,
         ap (λ bytes. and_then (read_next (next_pair_in u pairs) (lines_of bytes n)) behind) (append_assoc (pair_line u p) others rest)

@@ -9,7 +9,7 @@ use Rattle.metis_ids.proofs.Tests.{nonzero}
 use Rattle.metis_universe.specs.Universe.{Universe}
 use Rattle.metis_text.specs.ActionLine.{row_in}
 use Rattle.metis_text.specs.DupLine.{DupRow, dup_in}
-use Rattle.metis_tokens.specs.Cursor.{Lines, ended, exactly, read_next}
+use Rattle.metis_tokens.specs.Cursor.{Cursor, ended, exactly, read_next}
 use Rattle.metis_text.specs.Reading.{Numbers, Parts, Rows, body_from, counted, counts_in, dups_from, end_from, parts, plan_from, rows_from, rows_of, with_row}
 use Rattle.metis_tokens.specs.Flaws.{and_then}
 use Rattle.metis_tokens.specs.declared.fault.TFault.{TFault}
@@ -18,60 +18,60 @@ use Rattle.metis_tokens.proofs.Outcomes.{and_then_behind}
 use Rattle.metis_tokens.proofs.Texts.{IsText}
 use Rattle.metis_tokens.proofs.Readers.{IsReader, done_reads, read_next_reads, then_reads}
 
-abbrev pub last_from : Parts → Lines → Result (Parts × Lines) TFault
+abbrev pub last_from : Parts → Cursor → Result (Parts × Cursor) TFault
 last_from p l = and_then (read_next (exactly (codes "end")) l) (λ e. Ok (p, e.1))
 
 -- nothing stands behind the last line, and the instances are counted
-abbrev pub closed : Parts × Lines → Result Parts TFault
+abbrev pub closed : Parts × Cursor → Result Parts TFault
 closed w = and_then (ended w.1) (λ _. counted w.0)
 
-pub closed_early : (p : Parts) (l : Lines) → 1 ≤ length l.rest → closed (p, l) ≡ Err (Line (l.number + 1))
+pub closed_early : (p : Parts) (l : Cursor) → 1 ≤ length l.rest → closed (p, l) ≡ Err (Line (l.number + 1))
 closed_early p l some = ap (λ b. and_then (if b then Ok tt else Err (Line (l.number + 1))) (λ _. counted p)) (nonzero (length l.rest) some)
 
-closed_by : (w : Parts × Lines) (nothing same : Bool) → and_then {A = Unit {0}} (if nothing then Ok tt else Err (Line (w.1.number + 1))) (λ _. if same then Ok w.0 else Err (Line 2)) ≢ Err Short
+closed_by : (w : Parts × Cursor) (nothing same : Bool) → and_then {A = Unit {0}} (if nothing then Ok tt else Err (Line (w.1.number + 1))) (λ _. if same then Ok w.0 else Err (Line 2)) ≢ Err Short
 closed_by w true true = λ h. cc
 closed_by w true false = λ h. cc
 closed_by w false same = λ h. cc
 
-closed_long : (w : Parts × Lines) → closed w ≢ Err Short
+closed_long : (w : Parts × Cursor) → closed w ≢ Err Short
 closed_long w = closed_by w (length w.1.rest == 0) (count_by makes w.0.rows.actions == w.0.instances)
 
-end_whole : (p : Parts) (l : Lines) → end_from p l ≡ and_then (last_from p l) closed
+end_whole : (p : Parts) (l : Cursor) → end_from p l ≡ and_then (last_from p l) closed
 end_whole p l = and_then_behind (read_next (exactly (codes "end")) l) (λ e. Ok (p, e.1)) closed (λ e. and_then (ended e.1) (λ _. counted p)) (λ e. refl)
 
 last_reads : (p : Parts) → IsReader (last_from p)
 last_reads p = then_reads (read_next (exactly (codes "end"))) (λ _ l. Ok (p, l)) (read_next_reads (exactly (codes "end"))) (λ _. done_reads p)
 
 module _ (u : Universe) where
-  abbrev pub dups_then : Numbers → Rows → Lines → Result (Parts × Lines) TFault
+  abbrev pub dups_then : Numbers → Rows → Cursor → Result (Parts × Cursor) TFault
   dups_then counts rows l = and_then (dups_from u counts.1.1 [] l) (λ dups. last_from (parts counts.0 rows dups.0) dups.1)
 
-  abbrev pub rows_then : Numbers → Lines → Result (Parts × Lines) TFault
+  abbrev pub rows_then : Numbers → Cursor → Result (Parts × Cursor) TFault
   rows_then counts l = and_then (rows_from u counts.1.0 (rows_of [] []) l) (λ rows. dups_then counts rows.0 rows.1)
 
-  abbrev pub counts_then : Lines → Result (Parts × Lines) TFault
+  abbrev pub counts_then : Cursor → Result (Parts × Cursor) TFault
   counts_then l = and_then (read_next counts_in l) (λ counts. rows_then counts.0 counts.1)
 
-  abbrev pub lines_from : Lines → Result (Parts × Lines) TFault
+  abbrev pub lines_from : Cursor → Result (Parts × Cursor) TFault
   lines_from l = and_then (read_next (exactly (codes "metis plan 1")) l) (λ header. counts_then header.1)
 
   -- ---- all lines, and then their end
 
-  dups_whole : (counts : Numbers) (rows : Rows) (l : Lines) → and_then (dups_from u counts.1.1 [] l) (λ dups. end_from (parts counts.0 rows dups.0) dups.1) ≡ and_then (dups_then counts rows l) closed
+  dups_whole : (counts : Numbers) (rows : Rows) (l : Cursor) → and_then (dups_from u counts.1.1 [] l) (λ dups. end_from (parts counts.0 rows dups.0) dups.1) ≡ and_then (dups_then counts rows l) closed
   dups_whole counts rows l =
       and_then_behind (dups_from u counts.1.1 [] l) (λ dups. last_from (parts counts.0 rows dups.0) dups.1) closed (λ dups. end_from (parts counts.0 rows dups.0) dups.1)
       (λ dups. end_whole (parts counts.0 rows dups.0) dups.1)
 
-  body_whole : (counts : Numbers) (l : Lines) → body_from u counts l ≡ and_then (rows_then counts l) closed
+  body_whole : (counts : Numbers) (l : Cursor) → body_from u counts l ≡ and_then (rows_then counts l) closed
   body_whole counts l =
       and_then_behind (rows_from u counts.1.0 (rows_of [] []) l) (λ rows. dups_then counts rows.0 rows.1) closed
       (λ rows. and_then (dups_from u counts.1.1 [] rows.1) (λ dups. end_from (parts counts.0 rows.0 dups.0) dups.1))
       (λ rows. dups_whole counts rows.0 rows.1)
 
-  counts_whole : (l : Lines) → and_then (read_next counts_in l) (λ counts. body_from u counts.0 counts.1) ≡ and_then (counts_then l) closed
+  counts_whole : (l : Cursor) → and_then (read_next counts_in l) (λ counts. body_from u counts.0 counts.1) ≡ and_then (counts_then l) closed
   counts_whole l = and_then_behind (read_next counts_in l) (λ counts. rows_then counts.0 counts.1) closed (λ counts. body_from u counts.0 counts.1) (λ counts. body_whole counts.0 counts.1)
 
-  plan_whole : (l : Lines) → plan_from u l ≡ and_then (lines_from l) closed
+  plan_whole : (l : Cursor) → plan_from u l ≡ and_then (lines_from l) closed
   plan_whole l =
       and_then_behind (read_next (exactly (codes "metis plan 1")) l) (λ header. counts_then header.1) closed
       (λ header. and_then (read_next counts_in header.1) (λ counts. body_from u counts.0 counts.1))

@@ -8,7 +8,7 @@ use Rattle.metis_tokens.proofs.KnownLines.{exactly_is}
 use Rattle.metis_tokens.proofs.LinesTaken.{read_next_is}
 use Rattle.metis_tokens.proofs.Outcomes.{and_then_is}
 use Rattle.metis_tokens.proofs.Readers.{and_then_wrong}
-use Rattle.metis_tokens.specs.Cursor.{Lines, exactly, lines_of, read_next}
+use Rattle.metis_tokens.specs.Cursor.{Cursor, exactly, lines_of, read_next}
 use Rattle.metis_tokens.specs.Line.{line, numbered, words}
 use Rattle.metis_tokens.specs.declared.fault.TFault.{TFault}
 use Rattle.metis_tokens.specs.declared.flaw.Flaw.{Flaw}
@@ -76,12 +76,12 @@ module _ (u : Universe) (bytes : List ℕ) (f : TFault) where
   abbrev Stop : Type 0
   Stop = HasEnded (IsPlanBegun u) bytes f ⊎ IsOfDue (IsPlanBegun u) (HasPlanFlaw u) bytes f
 
-  stop : {A : Type 0} (read : List ℕ → Result A Flaw) (due : PlanDue) (lines : List (List ℕ)) (l : Lines) → IsPlanBegun u lines due → IsLeft bytes lines l
+  stop : {A : Type 0} (read : List ℕ → Result A Flaw) (due : PlanDue) (lines : List (List ℕ)) (l : Cursor) → IsPlanBegun u lines due → IsLeft bytes lines l
       → ((line : List ℕ) (flaw : Flaw) → read line ≡ Err flaw → HasPlanFlaw u due line flaw) → read_next read l ≡ Err f → Stop
   stop read due lines l are left wrong h = stops (IsPlanBegun u) (HasPlanFlaw u) bytes f read due lines l are left wrong h
 
   -- the line that was read, where it is this one
-  further : {A : Type 0} (read : List ℕ → Result A Flaw) (lines : List (List ℕ)) (l : Lines) (p : A × Lines) (line : List ℕ) → IsLeft bytes lines l → (h : read_next read l ≡ Ok p)
+  further : {A : Type 0} (read : List ℕ → Result A Flaw) (lines : List (List ℕ)) (l : Cursor) (p : A × Cursor) (line : List ℕ) → IsLeft bytes lines l → (h : read_next read l ≡ Ok p)
       → (read_next_is read l p h).0 ≡ line → IsLeft bytes (lines ++ (line ++ codes "\n") ∷ []) p.1
   further read lines l p line left h same = one_more read bytes lines l p line left h ((read_next_is read l p h).2 ∙ ap (λ b. b ++ (10 ∷ p.1.rest)) same)
 
@@ -94,7 +94,7 @@ module _ (u : Universe) (bytes : List ℕ) (f : TFault) where
     abbrev row_lines : Rows → List (List ℕ)
     row_lines rows = numbered (action_line u) 1 (zip rows.actions rows.after)
 
-    record RowsLeft (rows : Rows) (l : Lines) : Type 0 where
+    record RowsLeft (rows : Rows) (l : Cursor) : Type 0 where
       are : AreRows u [] rows.actions rows.after
       left : IsLeft bytes (lines_with (row_lines rows)) l
 
@@ -104,7 +104,7 @@ module _ (u : Universe) (bytes : List ℕ) (f : TFault) where
         let number : 1 + length z ≡ length rows.actions + 1 = let size = zip_long rows.actions rows.after long in omega arith in
         sym (ap (numbered (action_line u) 1) (zip_push rows.actions rows.after row long) ∙ numbered_push (action_line u) 1 z row ∙ ap (λ n. numbered (action_line u) 1 z ++ action_line u n row ∷ []) number)
 
-    next_row : (rows : Rows) (l : Lines) (p : Row × Lines) → RowsLeft rows l → read_next (row_in u rows.actions) l ≡ Ok p → RowsLeft (with_row rows p.0) p.1
+    next_row : (rows : Rows) (l : Cursor) (p : Row × Cursor) → RowsLeft rows l → read_next (row_in u rows.actions) l ≡ Ok p → RowsLeft (with_row rows p.0) p.1
     next_row rows l p before h =
         let one = read_next_is (row_in u rows.actions) l p h in
         let says = row_is u rows.actions one.0 p.0 one.1 in
@@ -129,7 +129,7 @@ module _ (u : Universe) (bytes : List ℕ) (f : TFault) where
     begun_with : (rows : Rows) (dups : List DupRow) → lines_with (row_lines rows ++ numbered (dup_row_line u) 1 dups) ≡ begun_plan u (plan_of (parts c.0 rows dups)) rows.after c.1.0 c.1.1
     begun_with rows dups = ap (λ l. lines_with (row_lines rows ++ l)) (dups_as_read u 1 dups)
 
-    rows_stop : (n : ℕ) (rows : Rows) (l : Lines) → RowsLeft rows l → length rows.actions + n ≡ c.1.0 → rows_from u n rows l ≡ Err f → Stop
+    rows_stop : (n : ℕ) (rows : Rows) (l : Cursor) → RowsLeft rows l → length rows.actions + n ≡ c.1.0 → rows_from u n rows l ≡ Err f → Stop
     rows_stop zero rows l before count h = cc
     rows_stop (suc n) rows l before count h = elim (and_then_wrong (read_next (row_in u rows.actions) l) (λ p. rows_from u n (with_row rows p.0) p.1) f h) [
       | inl wrong ↦
@@ -140,10 +140,10 @@ module _ (u : Universe) (bytes : List ℕ) (f : TFault) where
       | inr (p, right, later) ↦ rows_stop n (with_row rows p.0) p.1 (next_row rows l p before right) (let long = length_push rows.actions p.0.0 in omega arith) later
     ]
 
-    rows_left : (n : ℕ) (rows : Rows) (l : Lines) (q : Rows × Lines) → RowsLeft rows l → length rows.actions + n ≡ c.1.0 → rows_from u n rows l ≡ Ok q → RowsLeft q.0 q.1 × (length q.0.actions ≡ c.1.0)
+    rows_left : (n : ℕ) (rows : Rows) (l : Cursor) (q : Rows × Cursor) → RowsLeft rows l → length rows.actions + n ≡ c.1.0 → rows_from u n rows l ≡ Ok q → RowsLeft q.0 q.1 × (length q.0.actions ≡ c.1.0)
     rows_left zero rows l q before count h =
         let is : (rows, l) ≡ q = cc in
-        subst (λ (q : Rows × Lines). RowsLeft q.0 q.1 × (length q.0.actions ≡ c.1.0)) is (before, omega arith)
+        subst (λ (q : Rows × Cursor). RowsLeft q.0 q.1 × (length q.0.actions ≡ c.1.0)) is (before, omega arith)
     rows_left (suc n) rows l q before count h =
         let next = and_then_is (read_next (row_in u rows.actions) l) (λ p. rows_from u n (with_row rows p.0) p.1) q h in
         let long = length_push rows.actions next.0.0.0 in
@@ -155,11 +155,11 @@ module _ (u : Universe) (bytes : List ℕ) (f : TFault) where
       abbrev with_dups_lines : List DupRow → List (List ℕ)
       with_dups_lines dups = lines_with (row_lines rows ++ numbered (dup_row_line u) 1 dups)
 
-      record DupsLeft (dups : List DupRow) (l : Lines) : Type 0 where
+      record DupsLeft (dups : List DupRow) (l : Cursor) : Type 0 where
         are : AreDups u 1 dups
         left : IsLeft bytes (with_dups_lines dups) l
 
-      next_dup_left : (dups : List DupRow) (l : Lines) (p : DupRow × Lines) → DupsLeft dups l → read_next (dup_in u (length dups + 1)) l ≡ Ok p → DupsLeft (dups ++ p.0 ∷ []) p.1
+      next_dup_left : (dups : List DupRow) (l : Cursor) (p : DupRow × Cursor) → DupsLeft dups l → read_next (dup_in u (length dups + 1)) l ≡ Ok p → DupsLeft (dups ++ p.0 ∷ []) p.1
       next_dup_left dups l p before h =
           let k = length dups + 1 in
           let one = read_next_is (dup_in u k) l p h in
@@ -180,7 +180,7 @@ module _ (u : Universe) (bytes : List ℕ) (f : TFault) where
       here_with : (dups : List DupRow) → with_dups_lines dups ≡ begun_plan u (plan_of (parts c.0 rows dups)) rows.after (length rows.actions) c.1.1
       here_with dups = begun_with rows dups ∙ ap (λ n. begun_plan u (plan_of (parts c.0 rows dups)) rows.after n c.1.1) (sym all)
 
-      dups_stop : (n : ℕ) (dups : List DupRow) (l : Lines) → DupsLeft dups l → length dups + n ≡ c.1.1 → dups_from u n dups l ≡ Err f → Stop
+      dups_stop : (n : ℕ) (dups : List DupRow) (l : Cursor) → DupsLeft dups l → length dups + n ≡ c.1.1 → dups_from u n dups l ≡ Err f → Stop
       dups_stop zero dups l before count h = cc
       dups_stop (suc n) dups l before count h = elim (and_then_wrong (read_next (dup_in u (length dups + 1)) l) (λ p. dups_from u n (dups ++ p.0 ∷ []) p.1) f h) [
         | inl wrong ↦
@@ -192,16 +192,16 @@ module _ (u : Universe) (bytes : List ℕ) (f : TFault) where
         | inr (p, right, later) ↦ dups_stop n (dups ++ p.0 ∷ []) p.1 (next_dup_left dups l p before right) (let long = length_push dups p.0 in omega arith) later
       ]
 
-      dups_left : (n : ℕ) (dups : List DupRow) (l : Lines) (q : List DupRow × Lines) → DupsLeft dups l → length dups + n ≡ c.1.1 → dups_from u n dups l ≡ Ok q → DupsLeft q.0 q.1 × (length q.0 ≡ c.1.1)
+      dups_left : (n : ℕ) (dups : List DupRow) (l : Cursor) (q : List DupRow × Cursor) → DupsLeft dups l → length dups + n ≡ c.1.1 → dups_from u n dups l ≡ Ok q → DupsLeft q.0 q.1 × (length q.0 ≡ c.1.1)
       dups_left zero dups l q before count h =
           let is : (dups, l) ≡ q = cc in
-          subst (λ (q : List DupRow × Lines). DupsLeft q.0 q.1 × (length q.0 ≡ c.1.1)) is (before, omega arith)
+          subst (λ (q : List DupRow × Cursor). DupsLeft q.0 q.1 × (length q.0 ≡ c.1.1)) is (before, omega arith)
       dups_left (suc n) dups l q before count h =
           let next = and_then_is (read_next (dup_in u (length dups + 1)) l) (λ p. dups_from u n (dups ++ p.0 ∷ []) p.1) q h in
           let long = length_push dups next.0.0 in
           dups_left n (dups ++ next.0.0 ∷ []) next.0.1 q (next_dup_left dups l next.0 before next.1) (omega arith) next.2
 
-      last_stops : (dups : List DupRow) (l : Lines) → DupsLeft dups l → length dups ≡ c.1.1 → last_from (parts c.0 rows dups) l ≡ Err f → Stop
+      last_stops : (dups : List DupRow) (l : Cursor) → DupsLeft dups l → length dups ≡ c.1.1 → last_from (parts c.0 rows dups) l ≡ Err f → Stop
       last_stops dups l before count h = elim (and_then_wrong (read_next (exactly (codes "end")) l) (λ e. Ok (parts c.0 rows dups, e.1)) f h) [
         | inl wrong ↦
             let p = plan_of (parts c.0 rows dups) in
@@ -212,7 +212,7 @@ module _ (u : Universe) (bytes : List ℕ) (f : TFault) where
         | inr (e, right, later) ↦ cc
       ]
 
-      dups_then_stops : (l : Lines) → IsLeft bytes (lines_with (row_lines rows)) l → dups_then u c rows l ≡ Err f → Stop
+      dups_then_stops : (l : Cursor) → IsLeft bytes (lines_with (row_lines rows)) l → dups_then u c rows l ≡ Err f → Stop
       dups_then_stops l left h =
           let start : DupsLeft [] l = record { are = tt; left = subst (λ ls. IsLeft bytes (lines_with ls) l) (sym (append-nil (row_lines rows))) left } in
           let none : length {A = DupRow} [] + c.1.1 ≡ c.1.1 = omega arith in
@@ -221,7 +221,7 @@ module _ (u : Universe) (bytes : List ℕ) (f : TFault) where
             | inr (q, right, later) ↦ let dups = dups_left c.1.1 [] l q start none right in last_stops q.0 q.1 dups.0 dups.1 later
           ]
 
-    rows_then_stops : (l : Lines) → IsLeft bytes (lines_with []) l → rows_then u c l ≡ Err f → Stop
+    rows_then_stops : (l : Cursor) → IsLeft bytes (lines_with []) l → rows_then u c l ≡ Err f → Stop
     rows_then_stops l left h =
         let start : RowsLeft (rows_of [] []) l = record { are = tt; left = left } in
         let none : length {A = Action} [] + c.1.0 ≡ c.1.0 = omega arith in
@@ -232,7 +232,7 @@ module _ (u : Universe) (bytes : List ℕ) (f : TFault) where
 
   -- ---- the first two lines
 
-  counts_then_stops : (l : Lines) → IsLeft bytes (plan_header ∷ []) l → counts_then u l ≡ Err f → Stop
+  counts_then_stops : (l : Cursor) → IsLeft bytes (plan_header ∷ []) l → counts_then u l ≡ Err f → Stop
   counts_then_stops l left h = elim (and_then_wrong (read_next counts_in l) (λ counts. rows_then u counts.0 counts.1) f h) [
     | inl wrong ↦ stop counts_in second_line (plan_header ∷ []) l (with_first refl refl) left counts_fail wrong
     | inr (c, right, later) ↦

@@ -10,7 +10,7 @@ use Rattle.metis_outside.specs.Pieces.{bytes_of}
 use Rattle.metis_universe.specs.Universe.{IsTable, Universe}
 use Rattle.metis_text.specs.Faults.{IsRefusalFault}
 use Rattle.metis_tokens.specs.Line.{end_line}
-use Rattle.metis_tokens.specs.Cursor.{Lines, ended, exactly, fault_at, lines_of, read_next}
+use Rattle.metis_tokens.specs.Cursor.{Cursor, ended, exactly, fault_at, lines_of, read_next}
 use Rattle.metis_tokens.specs.Flaws.{and_then}
 use Rattle.metis_text.specs.RefusalReading.{RefusalParts, lacks_in, next_pair_in, pairs_from, refusal_end_from, refusal_from, refusal_in, refusal_parts, refusal_set_from, size_in}
 use Rattle.metis_text.specs.RefusalText.{IsRefusal, pair_line, refusal_bytes, refusal_lines}
@@ -25,57 +25,57 @@ use Rattle.metis_tokens.proofs.LinesTaken.{read_next_number}
 
 -- ---- its lines, and then their end
 
-abbrev pub last_from : RefusalParts → Lines → Result (RefusalParts × Lines) TFault
+abbrev pub last_from : RefusalParts → Cursor → Result (RefusalParts × Cursor) TFault
 last_from r l = and_then (read_next (exactly (codes "end")) l) (λ e. Ok (r, e.1))
 
 -- nothing stands behind the last line
-abbrev pub closed : RefusalParts × Lines → Result RefusalParts TFault
+abbrev pub closed : RefusalParts × Cursor → Result RefusalParts TFault
 closed w = and_then (ended w.1) (λ _. Ok w.0)
 
-closed_early : (r : RefusalParts) (l : Lines) → 1 ≤ length l.rest → closed (r, l) ≡ Err (Line (l.number + 1))
+closed_early : (r : RefusalParts) (l : Cursor) → 1 ≤ length l.rest → closed (r, l) ≡ Err (Line (l.number + 1))
 closed_early r l some = ap (λ b. and_then {A = Unit {0}} (if b then Ok tt else Err (Line (l.number + 1))) (λ _. Ok r)) (nonzero (length l.rest) some)
 
-closed_by : (w : RefusalParts × Lines) (nothing : Bool) → and_then {A = Unit {0}} (if nothing then Ok tt else Err (Line (w.1.number + 1))) (λ _. Ok w.0) ≢ Err Short
+closed_by : (w : RefusalParts × Cursor) (nothing : Bool) → and_then {A = Unit {0}} (if nothing then Ok tt else Err (Line (w.1.number + 1))) (λ _. Ok w.0) ≢ Err Short
 closed_by w true = λ h. cc
 closed_by w false = λ h. cc
 
-closed_long : (w : RefusalParts × Lines) → closed w ≢ Err Short
+closed_long : (w : RefusalParts × Cursor) → closed w ≢ Err Short
 closed_long w = closed_by w (length w.1.rest == 0)
 
-end_whole : (r : RefusalParts) (l : Lines) → refusal_end_from r l ≡ and_then (last_from r l) closed
+end_whole : (r : RefusalParts) (l : Cursor) → refusal_end_from r l ≡ and_then (last_from r l) closed
 end_whole r l = and_then_behind (read_next (exactly (codes "end")) l) (λ e. Ok (r, e.1)) closed (λ e. and_then (ended e.1) (λ _. Ok r)) (λ e. refl)
 
 last_reads : (r : RefusalParts) → IsReader (last_from r)
 last_reads r = then_reads (read_next (exactly (codes "end"))) (λ _ l. Ok (r, l)) (read_next_reads (exactly (codes "end"))) (λ _. done_reads r)
 
 module _ (u : Universe) where
-  abbrev pub pairs_then : Goal → ℕ → Lines → Result (RefusalParts × Lines) TFault
+  abbrev pub pairs_then : Goal → ℕ → Cursor → Result (RefusalParts × Cursor) TFault
   pairs_then lacks size l = and_then (pairs_from u size [] l) (λ pairs. last_from (refusal_parts lacks pairs.0) pairs.1)
 
-  abbrev pub set_then : Goal → Lines → Result (RefusalParts × Lines) TFault
+  abbrev pub set_then : Goal → Cursor → Result (RefusalParts × Cursor) TFault
   set_then lacks l = and_then (read_next size_in l) (λ size. pairs_then lacks size.0 size.1)
 
-  abbrev pub lacks_then : Lines → Result (RefusalParts × Lines) TFault
+  abbrev pub lacks_then : Cursor → Result (RefusalParts × Cursor) TFault
   lacks_then l = and_then (read_next (lacks_in u) l) (λ lacks. set_then lacks.0 lacks.1)
 
-  abbrev pub lines_from : Lines → Result (RefusalParts × Lines) TFault
+  abbrev pub lines_from : Cursor → Result (RefusalParts × Cursor) TFault
   lines_from l = and_then (read_next (exactly (codes "metis refusal 1")) l) (λ header. lacks_then header.1)
 
-  pairs_whole : (lacks : Goal) (size : ℕ) (l : Lines) → and_then (pairs_from u size [] l) (λ pairs. refusal_end_from (refusal_parts lacks pairs.0) pairs.1) ≡ and_then (pairs_then lacks size l) closed
+  pairs_whole : (lacks : Goal) (size : ℕ) (l : Cursor) → and_then (pairs_from u size [] l) (λ pairs. refusal_end_from (refusal_parts lacks pairs.0) pairs.1) ≡ and_then (pairs_then lacks size l) closed
   pairs_whole lacks size l =
       and_then_behind (pairs_from u size [] l) (λ pairs. last_from (refusal_parts lacks pairs.0) pairs.1) closed (λ pairs. refusal_end_from (refusal_parts lacks pairs.0) pairs.1)
       (λ pairs. end_whole (refusal_parts lacks pairs.0) pairs.1)
 
-  set_whole : (lacks : Goal) (l : Lines) → refusal_set_from u lacks l ≡ and_then (set_then lacks l) closed
+  set_whole : (lacks : Goal) (l : Cursor) → refusal_set_from u lacks l ≡ and_then (set_then lacks l) closed
   set_whole lacks l =
       and_then_behind (read_next size_in l) (λ size. pairs_then lacks size.0 size.1) closed
       (λ size. and_then (pairs_from u size.0 [] size.1) (λ pairs. refusal_end_from (refusal_parts lacks pairs.0) pairs.1))
       (λ size. pairs_whole lacks size.0 size.1)
 
-  lacks_whole : (l : Lines) → and_then (read_next (lacks_in u) l) (λ lacks. refusal_set_from u lacks.0 lacks.1) ≡ and_then (lacks_then l) closed
+  lacks_whole : (l : Cursor) → and_then (read_next (lacks_in u) l) (λ lacks. refusal_set_from u lacks.0 lacks.1) ≡ and_then (lacks_then l) closed
   lacks_whole l = and_then_behind (read_next (lacks_in u) l) (λ lacks. set_then lacks.0 lacks.1) closed (λ lacks. refusal_set_from u lacks.0 lacks.1) (λ lacks. set_whole lacks.0 lacks.1)
 
-  whole : (l : Lines) → refusal_from u l ≡ and_then (lines_from l) closed
+  whole : (l : Cursor) → refusal_from u l ≡ and_then (lines_from l) closed
   whole l =
       and_then_behind (read_next (exactly (codes "metis refusal 1")) l) (λ header. lacks_then header.1) closed
       (λ header. and_then (read_next (lacks_in u) header.1) (λ lacks. refusal_set_from u lacks.0 lacks.1))
@@ -103,13 +103,13 @@ module _ (u : Universe) where
 
   -- ---- how many lines there are
 
-  pairs_number : (left : ℕ) (pairs : List ℕ) (l : Lines) (p : List ℕ × Lines) → pairs_from u left pairs l ≡ Ok p → p.1.number ≡ l.number + left
+  pairs_number : (left : ℕ) (pairs : List ℕ) (l : Cursor) (p : List ℕ × Cursor) → pairs_from u left pairs l ≡ Ok p → p.1.number ≡ l.number + left
   pairs_number zero pairs l p h = let e : (pairs, l) ≡ p = cc in let n : l.number ≡ p.1.number = ap (λ q. q.1.number) e in omega arith
   pairs_number (suc left) pairs l p h =
       let next = and_then_is (read_next (next_pair_in u pairs) l) (λ p. pairs_from u left (pairs ++ p.0 ∷ []) p.1) p h in
       omega (arith, read_next_number (next_pair_in u pairs) l next.0 next.1, pairs_number left (pairs ++ next.0.0 ∷ []) next.0.1 p next.2)
 
-  pairs_then_number : (lacks : Goal) (size : ℕ) (l : Lines) (w : RefusalParts × Lines) → pairs_then lacks size l ≡ Ok w → w.1.number ≡ l.number + (length w.0.pairs + 1)
+  pairs_then_number : (lacks : Goal) (size : ℕ) (l : Cursor) (w : RefusalParts × Cursor) → pairs_then lacks size l ≡ Ok w → w.1.number ≡ l.number + (length w.0.pairs + 1)
   pairs_then_number lacks size l w h =
       let pairs = and_then_is (pairs_from u size [] l) (λ pairs. last_from (refusal_parts lacks pairs.0) pairs.1) w h in
       let last = and_then_is (read_next (exactly (codes "end")) pairs.0.1) (λ e. Ok (refusal_parts lacks pairs.0.0, e.1)) w pairs.2 in
@@ -119,7 +119,7 @@ module _ (u : Universe) where
       let number : last.0.1.number ≡ w.1.number = ap (λ w. w.1.number) same in
       omega (arith, many, number, pairs_number size [] l pairs.0 pairs.1, read_next_number (exactly (codes "end")) pairs.0.1 last.0 last.1)
 
-  lines_number : (l : Lines) (w : RefusalParts × Lines) → lines_from l ≡ Ok w → w.1.number ≡ l.number + (length w.0.pairs + 4)
+  lines_number : (l : Cursor) (w : RefusalParts × Cursor) → lines_from l ≡ Ok w → w.1.number ≡ l.number + (length w.0.pairs + 4)
   lines_number l w h =
       let header = and_then_is (read_next (exactly (codes "metis refusal 1")) l) (λ header. lacks_then header.1) w h in
       let lacks = and_then_is (read_next (lacks_in u) header.0.1) (λ lacks. set_then lacks.0 lacks.1) w header.2 in
@@ -135,7 +135,7 @@ module _ (u : Universe) where
 
   -- ---- each fault that is told is one
 
-  unclosed_by : (w : RefusalParts × Lines) (f : TFault) (nothing : Bool) → (length w.1.rest == 0) ≡ nothing → and_then {A = Unit {0}} (if nothing then Ok tt else Err (Line (w.1.number + 1))) (λ _. Ok w.0) ≡ Err f
+  unclosed_by : (w : RefusalParts × Cursor) (f : TFault) (nothing : Bool) → (length w.1.rest == 0) ≡ nothing → and_then {A = Unit {0}} (if nothing then Ok tt else Err (Line (w.1.number + 1))) (λ _. Ok w.0) ≡ Err f
       → (1 ≤ length w.1.rest) × (f ≡ Line (w.1.number + 1))
   unclosed_by w f true none h = cc
   unclosed_by w f false none h = (not_zero (length w.1.rest) none, cc) where
@@ -143,7 +143,7 @@ module _ (u : Universe) where
     not_zero n h = grind (arith, nat_tests)
 
   -- the lines alone are a text that is read
-  of_end : (bytes : List ℕ) (w : RefusalParts × Lines) (f : TFault) → lines_from (lines_of bytes 0) ≡ Ok w → Took lines_from (lines_of bytes 0) w → (1 ≤ length w.1.rest) × (f ≡ Line (w.1.number + 1)) → IsRefusalFault u bytes f
+  of_end : (bytes : List ℕ) (w : RefusalParts × Cursor) (f : TFault) → lines_from (lines_of bytes 0) ≡ Ok w → Took lines_from (lines_of bytes 0) w → (1 ≤ length w.1.rest) × (f ≡ Line (w.1.number + 1)) → IsRefusalFault u bytes f
   of_end bytes w f is took past =
       let alone : refusal_in u (bytes_of took.front ++ []) ≡ Ok w.0 = text_by lines_from closed (refusal_from u) refusal_text (lines_of (bytes_of took.front ++ []) 0) (Ok (w.0, lines_of [] w.1.number)) (took.each []) in
       let text = refusal_is u (bytes_of took.front ++ []) w.0 alone in
@@ -173,7 +173,7 @@ module _ (u : Universe) where
         first = λ before rest at some. early_is_short lines_from closed (refusal_from u) refusal_text bytes before rest f w at some;
       })
 
-  of_lines : (bytes : List ℕ) (f : TFault) → (lines_from (lines_of bytes 0) ≡ Err f) ⊎ ((w : RefusalParts × Lines) × (lines_from (lines_of bytes 0) ≡ Ok w) × (closed w ≡ Err f)) → IsRefusalFault u bytes f
+  of_lines : (bytes : List ℕ) (f : TFault) → (lines_from (lines_of bytes 0) ≡ Err f) ⊎ ((w : RefusalParts × Cursor) × (lines_from (lines_of bytes 0) ≡ Ok w) × (closed w ≡ Err f)) → IsRefusalFault u bytes f
   of_lines bytes f (inl h) = of_wrong bytes f (lines_reads.wrong (lines_of bytes 0) f h)
   of_lines bytes f (inr (w, is, h)) = of_end bytes w f is (lines_reads.took (lines_of bytes 0) w is) (unclosed_by w f (length w.1.rest == 0) refl h)
 

@@ -6,7 +6,7 @@ use Rattle.metis_ids.specs.declared.goals.Goal.{Goal}
 use Rattle.metis_universe.specs.GoalWords.{IsWordable}
 use Rattle.metis_universe.specs.Universe.{IsTable, Universe}
 use Rattle.metis_tokens.specs.Line.{line, words, end_line}
-use Rattle.metis_tokens.specs.Cursor.{Lines, ended, exactly, lines_of, read_next}
+use Rattle.metis_tokens.specs.Cursor.{Cursor, ended, exactly, lines_of, read_next}
 use Rattle.metis_tokens.specs.Flaws.{and_then}
 use Rattle.metis_text.specs.RefusalReading.{ReadsRefusal, RefusalParts, lacks_in, pairs_from, refusal_end_from, refusal_in, refusal_of, refusal_parts, refusal_set_from, size_in}
 use Rattle.metis_text.specs.RefusalText.{IsRefusal, pair_line, refusal_bytes}
@@ -22,7 +22,7 @@ use Rattle.metis_text.proofs.TextBytes.{body_bytes, refusal_bytes_by_parts, rest
 
 -- ---- what was read was written
 
-end_is : (r q : RefusalParts) (l : Lines) → refusal_end_from r l ≡ Ok q → (r ≡ q) × (l.rest ≡ end_line)
+end_is : (r q : RefusalParts) (l : Cursor) → refusal_end_from r l ≡ Ok q → (r ≡ q) × (l.rest ≡ end_line)
 end_is r q l h =
     let last = and_then_is (read_next (exactly (codes "end")) l) (λ e. and_then (ended e.1) (λ _. Ok r)) q h in
     let one = read_next_is (exactly (codes "end")) l last.0 last.1 in
@@ -32,17 +32,17 @@ end_is r q l h =
     (cc, one.2 ∙ (λ i. bytes i ++ (10 ∷ none i)))
 
 -- a line that was read, and the text behind it
-line_behind : (l : Lines) (ts : List (List ℕ)) (bytes rest text : List ℕ) → l.rest ≡ bytes ++ (10 ∷ rest) → bytes ≡ words ts → rest ≡ text → l.rest ≡ line ts ++ text
+line_behind : (l : Cursor) (ts : List (List ℕ)) (bytes rest text : List ℕ) → l.rest ≡ bytes ++ (10 ∷ rest) → bytes ≡ words ts → rest ≡ text → l.rest ≡ line ts ++ text
 line_behind l ts bytes rest text is says behind = is ∙ (λ i. says i ++ (10 ∷ behind i)) ∙ sym (append_assoc (words ts) (10 ∷ []) text)
 
 module _ (u : Universe) where
   -- what was read behind the pair that the set lacks
-  record SetRead (lacks : Goal) (l : Lines) (q : RefusalParts) : Type 0 where
+  record SetRead (lacks : Goal) (l : Cursor) (q : RefusalParts) : Type 0 where
     lacking : lacks ≡ q.lacks
     are : ArePairs u [] q.pairs
     text : l.rest ≡ set_bytes u q.pairs
 
-  set_is : (lacks : Goal) (l : Lines) (q : RefusalParts) → refusal_set_from u lacks l ≡ Ok q → SetRead lacks l q
+  set_is : (lacks : Goal) (l : Cursor) (q : RefusalParts) → refusal_set_from u lacks l ≡ Ok q → SetRead lacks l q
   set_is lacks l q h =
       let size = and_then_is (read_next size_in l) (λ size. and_then (pairs_from u size.0 [] size.1) (λ pairs. refusal_end_from (refusal_parts lacks pairs.0) pairs.1)) q h in
       let first = read_next_is size_in l size.0 size.1 in

@@ -9,7 +9,7 @@ use Rattle.metis_ids.specs.declared.actions.Action.{Action}
 use Rattle.metis_universe.specs.Universe.{IsNamed, Universe}
 use Rattle.metis_text.specs.ActionLine.{Row, row_in}
 use Rattle.metis_text.specs.PlanText.{action_line}
-use Rattle.metis_tokens.specs.Cursor.{Lines, lines_of, read_next}
+use Rattle.metis_tokens.specs.Cursor.{Cursor, lines_of, read_next}
 use Rattle.metis_text.specs.Reading.{Rows, rows_from, rows_of, with_row}
 use Rattle.metis_tokens.specs.Flaws.{and_then}
 use Rattle.metis_tokens.proofs.LinesTaken.{line_and_rest, read_next_is, read_next_read}
@@ -23,7 +23,7 @@ AreRows u earlier [] (ks ∷ after) = ⊥
 AreRows u earlier (a ∷ actions) [] = ⊥
 AreRows u earlier (a ∷ actions) (ks ∷ after) = IsRow u earlier (a, ks) × AreRows u (earlier ++ a ∷ []) actions after
 
-pub record RowsRead (u : Universe) (left : ℕ) (rows : Rows) (l : Lines) (p : Rows × Lines) : Type 0 where
+pub record RowsRead (u : Universe) (left : ℕ) (rows : Rows) (l : Cursor) (p : Rows × Cursor) : Type 0 where
   pub actions : List Action
   pub after : List (List ℕ)
   pub is : p.0 ≡ rows_of (rows.actions ++ actions) (rows.after ++ after)
@@ -32,7 +32,7 @@ pub record RowsRead (u : Universe) (left : ℕ) (rows : Rows) (l : Lines) (p : R
   pub text : l.rest ≡ numbered_bytes (action_line u) (length rows.actions + 1) (zip actions after) ++ p.1.rest
 
 module _ (u : Universe) where
-  pub rows_are : (left : ℕ) (rows : Rows) (l : Lines) (p : Rows × Lines) → rows_from u left rows l ≡ Ok p → RowsRead u left rows l p
+  pub rows_are : (left : ℕ) (rows : Rows) (l : Cursor) (p : Rows × Cursor) → rows_from u left rows l ≡ Ok p → RowsRead u left rows l p
   rows_are zero rows l p h =
       let e : (rows, l) ≡ p = cc in record {
         actions = [];
@@ -70,7 +70,7 @@ module _ (u : Universe) where
   rows_read names (a ∷ actions) (ks ∷ after) earlier lists rest n are =
       let k = length earlier + 1 in
       let others = numbered_bytes (action_line u) (k + 1) (zip actions after) in
-      let behind = λ (p : Row × Lines). rows_from u (length actions) (with_row (rows_of earlier lists) p.0) p.1 in
+      let behind = λ (p : Row × Cursor). rows_from u (length actions) (with_row (rows_of earlier lists) p.0) p.1 in
       let more = rows_read names actions after (earlier ++ a ∷ []) (lists ++ ks ∷ []) rest (n + 1) are.1 in (
         more.0,
         ap (λ bytes. and_then (read_next (row_in u earlier) (lines_of bytes n)) behind) (append_assoc (action_line u k (a, ks)) others rest)

@@ -10,7 +10,7 @@ use Rattle.metis_text.specs.DupLine.{DupRow, dup_in}
 use Rattle.metis_tokens.specs.Flaws.{and_then}
 use Rattle.metis_tokens.specs.Line.{line, words, end_line}
 use Rattle.metis_text.specs.PlanText.{action_line, counts_line}
-use Rattle.metis_tokens.specs.Cursor.{Lines, exactly, lines_of, read_next}
+use Rattle.metis_tokens.specs.Cursor.{Cursor, exactly, lines_of, read_next}
 use Rattle.metis_text.specs.Reading.{Numbers, Parts, Rows, counts_in, dups_from, parts, rows_from, rows_of, with_row}
 use Rattle.metis_text.proofs.DupsRead.{AreDups, dup_row_line, dups_are, dups_read}
 use Rattle.metis_text.proofs.PlanLines.{counts_then, dups_then, last_from, lines_from, rows_then}
@@ -22,7 +22,7 @@ use Rattle.metis_text.proofs.PlanRead.{body_bytes, numbers_of_parts, parts_bytes
 use Rattle.metis_text.proofs.RowsRead.{AreRows, rows_are, rows_read}
 use Rattle.metis_text.proofs.TextBytes.{numbered_bytes}
 
-last_is : (p : Parts) (l : Lines) (w : Parts × Lines) → last_from p l ≡ Ok w → (p ≡ w.0) × (l.rest ≡ end_line ++ w.1.rest) × (w.1.number ≡ l.number + 1)
+last_is : (p : Parts) (l : Cursor) (w : Parts × Cursor) → last_from p l ≡ Ok w → (p ≡ w.0) × (l.rest ≡ end_line ++ w.1.rest) × (w.1.number ≡ l.number + 1)
 last_is p l w h =
     let last = and_then_is (read_next (exactly (codes "end")) l) (λ e. Ok (p, e.1)) w h in
     let same : (p, last.0.1) ≡ w = cc in
@@ -31,14 +31,14 @@ last_is p l w h =
     let number = read_next_number (exactly (codes "end")) l last.0 last.1 in
     (ap (λ w. w.0) same, one.2 ∙ (λ i. bytes i ++ (10 ∷ (same i).1.rest)), sym (ap (λ w. w.1.number) same) ∙ number)
 
-pub record BodyAre (u : Universe) (counts : Numbers) (l end : Lines) (q : Parts) : Type 0 where
+pub record BodyAre (u : Universe) (counts : Numbers) (l end : Cursor) (q : Parts) : Type 0 where
   pub text : l.rest ≡ body_bytes u q ++ end.rest
   pub same : counts ≡ numbers_of_parts q
   pub rows : AreRows u [] q.rows.actions q.rows.after
   pub dups : AreDups u 1 q.dups
   pub number : end.number ≡ l.number + (length q.rows.actions + length q.dups + 1)
 
-pub record LinesAre (u : Universe) (l : Lines) (w : Parts × Lines) : Type 0 where
+pub record LinesAre (u : Universe) (l : Cursor) (w : Parts × Cursor) : Type 0 where
   pub text : l.rest ≡ parts_bytes u w.0 ++ w.1.rest
   pub counts : AreCounts (numbers_of_parts w.0)
   pub rows : AreRows u [] w.0.rows.actions w.0.rows.after
@@ -46,13 +46,13 @@ pub record LinesAre (u : Universe) (l : Lines) (w : Parts × Lines) : Type 0 whe
   pub number : w.1.number ≡ l.number + (length w.0.rows.actions + length w.0.dups + 3)
 
 module _ (u : Universe) where
-  rows_number : (left : ℕ) (rows : Rows) (l : Lines) (p : Rows × Lines) → rows_from u left rows l ≡ Ok p → p.1.number ≡ l.number + left
+  rows_number : (left : ℕ) (rows : Rows) (l : Cursor) (p : Rows × Cursor) → rows_from u left rows l ≡ Ok p → p.1.number ≡ l.number + left
   rows_number zero rows l p h = let e : (rows, l) ≡ p = cc in let n : l.number ≡ p.1.number = ap (λ q. q.1.number) e in omega arith
   rows_number (suc left) rows l p h =
       let next = and_then_is (read_next (row_in u rows.actions) l) (λ p. rows_from u left (with_row rows p.0) p.1) p h in
       omega (arith, read_next_number (row_in u rows.actions) l next.0 next.1, rows_number left (with_row rows next.0.0) next.0.1 p next.2)
 
-  dups_number : (left : ℕ) (dups : List DupRow) (l : Lines) (p : List DupRow × Lines) → dups_from u left dups l ≡ Ok p → p.1.number ≡ l.number + left
+  dups_number : (left : ℕ) (dups : List DupRow) (l : Cursor) (p : List DupRow × Cursor) → dups_from u left dups l ≡ Ok p → p.1.number ≡ l.number + left
   dups_number zero dups l p h = let e : (dups, l) ≡ p = cc in let n : l.number ≡ p.1.number = ap (λ q. q.1.number) e in omega arith
   dups_number (suc left) dups l p h =
       let next = and_then_is (read_next (dup_in u (length dups + 1)) l) (λ p. dups_from u left (dups ++ p.0 ∷ []) p.1) p h in
@@ -63,7 +63,7 @@ module _ (u : Universe) where
   in_a_row : (xs ys zs rest : List ℕ) → xs ++ (ys ++ (zs ++ rest)) ≡ (xs ++ (ys ++ zs)) ++ rest
   in_a_row xs ys zs rest = ap (λ r. xs ++ r) (sym (append_assoc ys zs rest)) ∙ sym (append_assoc xs (ys ++ zs) rest)
 
-  body_are : (counts : Numbers) (l : Lines) (w : Parts × Lines) → rows_then u counts l ≡ Ok w → BodyAre u counts l w.1 w.0
+  body_are : (counts : Numbers) (l : Cursor) (w : Parts × Cursor) → rows_then u counts l ≡ Ok w → BodyAre u counts l w.1 w.0
   body_are counts l w h =
       let rows = and_then_is (rows_from u counts.1.0 (rows_of [] []) l) (λ rows. dups_then u counts rows.0 rows.1) w h in
       let dups = and_then_is (dups_from u counts.1.1 [] rows.0.1) (λ dups. last_from (parts counts.0 rows.0.0 dups.0) dups.1) w rows.2 in
@@ -83,14 +83,14 @@ module _ (u : Universe) where
         number = omega (arith, last.2, before, behind, r.many, d.many);
       })
 
-  record CountedAre (l : Lines) (w : Parts × Lines) : Type 0 where
+  record CountedAre (l : Cursor) (w : Parts × Cursor) : Type 0 where
     text : l.rest ≡ (counts_line w.0.instances (length w.0.rows.actions) (length w.0.dups) ++ body_bytes u w.0) ++ w.1.rest
     counts : AreCounts (numbers_of_parts w.0)
     rows : AreRows u [] w.0.rows.actions w.0.rows.after
     dups : AreDups u 1 w.0.dups
     number : w.1.number ≡ l.number + (length w.0.rows.actions + length w.0.dups + 2)
 
-  counted_are : (l : Lines) (w : Parts × Lines) → counts_then u l ≡ Ok w → CountedAre l w
+  counted_are : (l : Cursor) (w : Parts × Cursor) → counts_then u l ≡ Ok w → CountedAre l w
   counted_are l w h =
       let counts = and_then_is (read_next counts_in l) (λ counts. rows_then u counts.0 counts.1) w h in
       let second = read_next_is counts_in l counts.0 counts.1 in
@@ -107,7 +107,7 @@ module _ (u : Universe) where
         number = omega (arith, body.number, number);
       }
 
-  pub lines_are : (l : Lines) (w : Parts × Lines) → lines_from u l ≡ Ok w → LinesAre u l w
+  pub lines_are : (l : Cursor) (w : Parts × Cursor) → lines_from u l ≡ Ok w → LinesAre u l w
   lines_are l w h =
       let header = and_then_is (read_next (exactly (codes "metis plan 1")) l) (λ header. counts_then u header.1) w h in
       let first = read_next_is (exactly (codes "metis plan 1")) l header.0 header.1 in

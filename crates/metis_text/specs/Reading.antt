@@ -10,7 +10,7 @@ use Rattle.metis_tokens.specs.declared.fault.TFault.{TFault}
 use Rattle.metis_tokens.specs.declared.fault.TFault.TheVariants.{Line}
 use Rattle.metis_text.specs.ActionLine.{Row, row_in}
 use Rattle.metis_text.specs.DupLine.{DupRow, dup_in}
-use Rattle.metis_tokens.specs.Cursor.{Lines, lines_of, read_next, exactly, ended}
+use Rattle.metis_tokens.specs.Cursor.{Cursor, lines_of, read_next, exactly, ended}
 use Rattle.metis_tokens.specs.Flaws.{and_then, both}
 use Rattle.metis_ids.specs.Action.{makes}
 use Rattle.metis_tokens.specs.Tokens.{number_in, tokens}
@@ -41,12 +41,12 @@ abbrev pub with_row : Rows → Row → Rows
 with_row rows row = rows_of (rows.actions ++ row.0 ∷ []) (rows.after ++ row.1 ∷ [])
 
 -- so many more actions behind those that were read
-abbrev pub rows_from : Universe → ℕ → Rows → Lines → Result (Rows × Lines) TFault
+abbrev pub rows_from : Universe → ℕ → Rows → Cursor → Result (Rows × Cursor) TFault
 rows_from u zero rows l = Ok (rows, l)
 rows_from u (suc left) rows l = and_then (read_next (row_in u rows.actions) l) (λ p. rows_from u left (with_row rows p.0) p.1)
 
 -- so many more dups behind those that were read
-abbrev pub dups_from : Universe → ℕ → List DupRow → Lines → Result (List DupRow × Lines) TFault
+abbrev pub dups_from : Universe → ℕ → List DupRow → Cursor → Result (List DupRow × Cursor) TFault
 dups_from u zero dups l = Ok (dups, l)
 dups_from u (suc left) dups l = and_then (read_next (dup_in u (length dups + 1)) l) (λ p. dups_from u left (dups ++ p.0 ∷ []) p.1)
 
@@ -63,16 +63,16 @@ abbrev pub counted : Parts → Result Parts TFault
 counted p = if count_by makes p.rows.actions == p.instances then Ok p else Err (Line 2)
 
 -- the last line, and nothing behind it
-abbrev pub end_from : Parts → Lines → Result Parts TFault
+abbrev pub end_from : Parts → Cursor → Result Parts TFault
 end_from p l = and_then (read_next (exactly (codes "end")) l) (λ e. and_then (ended e.1) (λ _. counted p))
 
-abbrev pub body_from : Universe → Numbers → Lines → Result Parts TFault
+abbrev pub body_from : Universe → Numbers → Cursor → Result Parts TFault
 body_from u counts l =
     and_then (rows_from u counts.1.0 (rows_of [] []) l) (λ rows.
     and_then (dups_from u counts.1.1 [] rows.1) (λ dups.
     end_from (parts counts.0 rows.0 dups.0) dups.1))
 
-abbrev pub plan_from : Universe → Lines → Result Parts TFault
+abbrev pub plan_from : Universe → Cursor → Result Parts TFault
 plan_from u l =
     and_then (read_next (exactly (codes "metis plan 1")) l) (λ header.
     and_then (read_next counts_in header.1) (λ counts.

@@ -15,7 +15,7 @@ use Rattle.metis_tokens.specs.declared.flaw.Flaw.TheVariants.{Form}
 use Rattle.metis_text.specs.declared.refusal_text.Refusal.{Refusal}
 use Rattle.metis_tokens.specs.Words.{pair_in, goal_in}
 use Rattle.metis_tokens.specs.Flaws.{and_then, right}
-use Rattle.metis_tokens.specs.Cursor.{Lines, ended, exactly, lines_of, read_next}
+use Rattle.metis_tokens.specs.Cursor.{Cursor, ended, exactly, lines_of, read_next}
 use Rattle.metis_tokens.specs.Tokens.{number_in, tokens}
 use Rattle.metis_universe.specs.Universe.{Universe}
 
@@ -51,7 +51,7 @@ abbrev pub next_pair_in : Universe → List ℕ → List ℕ → Result ℕ Flaw
 next_pair_in u pairs line = right (above pairs) (pair_of_tokens u (tokens line))
 
 -- so many more pairs behind those that were read
-abbrev pub pairs_from : Universe → ℕ → List ℕ → Lines → Result (List ℕ × Lines) TFault
+abbrev pub pairs_from : Universe → ℕ → List ℕ → Cursor → Result (List ℕ × Cursor) TFault
 pairs_from u zero pairs l = Ok (pairs, l)
 pairs_from u (suc left) pairs l = and_then (read_next (next_pair_in u pairs) l) (λ p. pairs_from u left (pairs ++ p.0 ∷ []) p.1)
 
@@ -63,17 +63,17 @@ abbrev pub refusal_parts : Goal → List ℕ → RefusalParts
 refusal_parts lacks pairs = record { lacks = lacks; pairs = pairs }
 
 -- the last line, and nothing behind it
-abbrev pub refusal_end_from : RefusalParts → Lines → Result RefusalParts TFault
+abbrev pub refusal_end_from : RefusalParts → Cursor → Result RefusalParts TFault
 refusal_end_from r l = and_then (read_next (exactly (codes "end")) l) (λ e. and_then (ended e.1) (λ _. Ok r))
 
 -- the set, of which the first line says how many pairs it has
-abbrev pub refusal_set_from : Universe → Goal → Lines → Result RefusalParts TFault
+abbrev pub refusal_set_from : Universe → Goal → Cursor → Result RefusalParts TFault
 refusal_set_from u lacks l =
     and_then (read_next size_in l) (λ size.
     and_then (pairs_from u size.0 [] size.1) (λ pairs.
     refusal_end_from (refusal_parts lacks pairs.0) pairs.1))
 
-abbrev pub refusal_from : Universe → Lines → Result RefusalParts TFault
+abbrev pub refusal_from : Universe → Cursor → Result RefusalParts TFault
 refusal_from u l =
     and_then (read_next (exactly (codes "metis refusal 1")) l) (λ header.
     and_then (read_next (lacks_in u) header.1) (λ lacks.

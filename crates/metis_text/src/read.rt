@@ -17,7 +17,7 @@ use crate::plan_text::PlanText;
 use crate::rows::Rows;
 use metis_ids::{Action, Dup, Plan};
 use metis_tokens::bytes::is;
-use metis_tokens::cursor::{Lines, read_exactly};
+use metis_tokens::cursor::{Cursor, read_exactly};
 use metis_tokens::{Flaw, TFault, both, number_in, tokens_of};
 use metis_universe::Universe;
 use std::alloc::Global;
@@ -49,7 +49,7 @@ fn read_text(alloc: Global, u: &Universe, bytes: &[u8]) -> Result<PlanText, TFau
     requires { length bytes.now < 2 ^ 32 - 1 }
     ensures { ReadsPlan result (plan_in u.now bytes.now) }
 {
-    let mut lines = Lines::of(bytes);
+    let mut lines = Cursor::of(bytes);
     read_exactly("metis plan 1", &mut lines)?;
     let counts = read_counts(alloc, &mut lines)?;
     read_body(alloc, u, counts, &mut lines)
@@ -60,7 +60,7 @@ fn read_body(
     alloc: Global,
     u: &Universe,
     counts: Counts,
-    lines: &mut Lines<'_>,
+    lines: &mut Cursor<'_>,
 ) -> Result<PlanText, TFault>
     ensures { ReadsPlan result (body_from u.now (numbers_of counts) lines.old) }
 {
@@ -74,7 +74,7 @@ fn read_end(
     instances: u32,
     rows: Rows,
     dups: Vec<Dup>,
-    lines: &mut Lines<'_>,
+    lines: &mut Cursor<'_>,
 ) -> Result<PlanText, TFault>
     ensures { ReadsPlan result (end_from (parts instances rows (map dup_row dups.items)) lines.old) }
 {
@@ -83,7 +83,7 @@ fn read_end(
     counted(instances, rows, dups)
 }
 
-fn read_counts(alloc: Global, lines: &mut Lines<'_>) -> Result<Counts, TFault>
+fn read_counts(alloc: Global, lines: &mut Cursor<'_>) -> Result<Counts, TFault>
     ensures { Reads numbers_of result lines.new (read_next counts_in lines.old) }
 {
     let line = lines.next_line()?;
@@ -133,7 +133,7 @@ fn read_rows<'a>(
     alloc: Global,
     u: &Universe,
     count: u32,
-    lines: &mut Lines<'a>,
+    lines: &mut Cursor<'a>,
 ) -> Result<Rows, TFault>
     ensures { Reads (λ rows. rows) result lines.new (rows_from u.now count (rows_of [] []) lines.old) }
 {
@@ -152,7 +152,7 @@ fn next_row<'a>(
     u: &Universe,
     rows: &Rows,
     number: u32,
-    lines: &mut Lines<'a>,
+    lines: &mut Cursor<'a>,
     tokens: &mut Vec<&'a [u8]>,
 ) -> Result<(Action, Vec<u32>), TFault>
     requires { number ≡ length rows.now.actions + 1 }
@@ -170,7 +170,7 @@ fn read_dups(
     alloc: Global,
     u: &Universe,
     count: u32,
-    lines: &mut Lines<'_>,
+    lines: &mut Cursor<'_>,
 ) -> Result<Vec<Dup>, TFault>
     ensures { Reads (λ dups. map dup_row dups.items) result lines.new (dups_from u.now count [] lines.old) }
 {
@@ -182,7 +182,7 @@ fn read_dups(
 }
 
 // The dup of the next line, which has this number.
-fn next_dup(alloc: Global, u: &Universe, number: u32, lines: &mut Lines<'_>) -> Result<Dup, TFault>
+fn next_dup(alloc: Global, u: &Universe, number: u32, lines: &mut Cursor<'_>) -> Result<Dup, TFault>
     ensures { Reads dup_row result lines.new (read_next (dup_in u.now number) lines.old) }
 {
     let line = lines.next_line()?;

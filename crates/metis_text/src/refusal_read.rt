@@ -11,7 +11,7 @@ ghost use Rattle.metis_universe.specs.Universe.{pair_count};
 use crate::refusal_lines::{lacks_of, next_pair_of, size_of};
 use crate::refusal_text::Refusal;
 use metis_ids::{Goal, PairSet};
-use metis_tokens::cursor::{Lines, read_exactly};
+use metis_tokens::cursor::{Cursor, read_exactly};
 use metis_tokens::{TFault, tokens_of};
 use metis_universe::Universe;
 use std::alloc::Global;
@@ -38,7 +38,7 @@ fn read_text(alloc: Global, u: &Universe, bytes: &[u8]) -> Result<Refusal, TFaul
     ensures read { ReadsRefusal result (refusal_in u.now bytes.now) }
     ensures size { IfOk result (λ r. r.pairs.size ≡ pair_count u.now) }
 {
-    let mut lines = Lines::of(bytes);
+    let mut lines = Cursor::of(bytes);
     read_exactly("metis refusal 1", &mut lines)?;
     let lacks = read_lacks(alloc, u, &mut lines)?;
     let size = read_size(alloc, &mut lines)?;
@@ -48,7 +48,7 @@ fn read_text(alloc: Global, u: &Universe, bytes: &[u8]) -> Result<Refusal, TFaul
     Ok(Refusal { lacks, pairs })
 }
 
-fn read_lacks(alloc: Global, u: &Universe, lines: &mut Lines<'_>) -> Result<Goal, TFault>
+fn read_lacks(alloc: Global, u: &Universe, lines: &mut Cursor<'_>) -> Result<Goal, TFault>
     ensures { Reads (λ g. g) result lines.new (read_next (lacks_in u.now) lines.old) }
 {
     let line = lines.next_line()?;
@@ -59,7 +59,7 @@ fn read_lacks(alloc: Global, u: &Universe, lines: &mut Lines<'_>) -> Result<Goal
     }
 }
 
-fn read_size(alloc: Global, lines: &mut Lines<'_>) -> Result<u32, TFault>
+fn read_size(alloc: Global, lines: &mut Cursor<'_>) -> Result<u32, TFault>
     ensures { Reads (λ n. n) result lines.new (read_next size_in lines.old) }
 {
     let line = lines.next_line()?;
@@ -75,7 +75,7 @@ fn read_pairs(
     alloc: Global,
     u: &Universe,
     count: u32,
-    lines: &mut Lines<'_>,
+    lines: &mut Cursor<'_>,
 ) -> Result<PairSet, TFault>
     ensures read { Reads (λ set. set.members) result lines.new (pairs_from u.now count [] lines.old) }
     ensures size { IfOk result (λ set. set.size ≡ pair_count u.now) }

@@ -1,7 +1,6 @@
 pub mod Cuts
 pub mod FirstByte
 pub mod GoalTokens
-pub mod Items
 pub mod KnownLines
 pub mod LinesRead
 pub mod LinesTaken
@@ -9,12 +8,12 @@ pub mod NameTokens
 pub mod NamedFaults
 pub mod NumberRead
 pub mod NumberTokens
-pub mod NumberedLines
 pub mod Outcomes
 pub mod PairTokens
 pub mod Printed
 pub mod Readers
 pub mod SameLines
+pub mod ScriptEnds
 pub mod Texts
 pub mod TwoNames
 pub mod WordFeeds

@@ -7,13 +7,13 @@ use Rattle.std.proofs.lemmas.List.{drop_at, drop_more, length_push, take_at, tak
 use Rattle.std.proofs.lemmas.List.Quantifiers.{position-Some}
 use Rattle.metis_tokens.specs.Flaws.{and_then, made}
 use Rattle.metis_tokens.specs.Line.{line, words}
-use Rattle.metis_tokens.specs.Cursor.{Lines, is_feed, line_to, lines_of, next_line, read_next, told}
+use Rattle.metis_tokens.specs.Cursor.{Cursor, is_feed, line_to, lines_of, next_line, read_next, told}
 use Rattle.metis_tokens.specs.declared.flaw.Flaw.{Flaw}
 use Rattle.metis_tokens.proofs.Cuts.{cut_at, words_no_feed}
 use Rattle.metis_tokens.proofs.Outcomes.{and_then_is, made_is, told_is}
 use Rattle.metis_tokens.proofs.Printed.{printed}
 
-line_to_is : (l : Lines) (o : Option ℕ) (p : List ℕ × Lines) → position is_feed l.rest ≡ o → line_to l o ≡ Ok p → l.rest ≡ p.0 ++ (10 ∷ p.1.rest)
+line_to_is : (l : Cursor) (o : Option ℕ) (p : List ℕ × Cursor) → position is_feed l.rest ≡ o → line_to l o ≡ Ok p → l.rest ≡ p.0 ++ (10 ∷ p.1.rest)
 line_to_is l None p at h = cc
 line_to_is l (Some end) p at h =
     let here = position-Some is_feed l.rest end 0 at in
@@ -22,7 +22,7 @@ line_to_is l (Some end) p at h =
     sym (take-append-drop end l.rest) ∙ ap (λ r. take end l.rest ++ r) (drop_more l.rest end 0 here.0 ∙ ap (λ b. b ∷ drop (end + 1) l.rest) feed) ∙ (λ i. (is i).0 ++ (10 ∷ (is i).1.rest))
 
 -- a line that was read is said by its bytes, with a line feed behind them
-pub read_next_is : {A : Type 0} (read : List ℕ → Result A Flaw) (l : Lines) (p : A × Lines) → read_next read l ≡ Ok p → (bytes : List ℕ) × (read bytes ≡ Ok p.0) × (l.rest ≡ bytes ++ (10 ∷ p.1.rest))
+pub read_next_is : {A : Type 0} (read : List ℕ → Result A Flaw) (l : Cursor) (p : A × Cursor) → read_next read l ≡ Ok p → (bytes : List ℕ) × (read bytes ≡ Ok p.0) × (l.rest ≡ bytes ++ (10 ∷ p.1.rest))
 read_next_is read l p h =
     let next = and_then_is (next_line l) (λ p. made (λ a. (a, p.1)) (told p.1 (read p.0))) p h in
     let value = made_is (λ a. (a, next.0.1)) (told next.0.1 (read next.0.0)) p next.2 in
@@ -38,7 +38,7 @@ next_is bytes rest n no_feed =
 pub read_next_read : {A : Type 0} (read : List ℕ → Result A Flaw) (ts : List (List ℕ)) (rest : List ℕ) (n : ℕ) (a : A) → list_all printed ts ≡ true → read (words ts) ≡ Ok a
     → read_next read (lines_of (line ts ++ rest) n) ≡ Ok (a, lines_of rest (n + 1))
 read_next_read read ts rest n a print is =
-    let behind = λ (p : List ℕ × Lines). made (λ a. (a, p.1)) (told p.1 (read p.0)) in
+    let behind = λ (p : List ℕ × Cursor). made (λ a. (a, p.1)) (told p.1 (read p.0)) in
     ap (λ bytes. and_then (next_line (lines_of bytes n)) behind) (append_assoc (words ts) (10 ∷ []) rest)
     ∙ ap (λ r. and_then r behind) (next_is (words ts) rest n (words_no_feed ts print))
     ∙ ap (λ r. made (λ a. (a, lines_of rest (n + 1))) (told (lines_of rest (n + 1)) r)) is
@@ -49,11 +49,11 @@ line_and_rest ts others rest = sym (append_assoc (words ts) (10 ∷ []) (others 
 
 -- ---- the number of the line that was read last
 
-line_to_number : (l : Lines) (o : Option ℕ) (p : List ℕ × Lines) → line_to l o ≡ Ok p → p.1.number ≡ l.number + 1
+line_to_number : (l : Cursor) (o : Option ℕ) (p : List ℕ × Cursor) → line_to l o ≡ Ok p → p.1.number ≡ l.number + 1
 line_to_number l None p h = cc
 line_to_number l (Some end) p h = let is : (take end l.rest, lines_of (drop (end + 1) l.rest) (l.number + 1)) ≡ p = cc in sym (ap (λ p. p.1.number) is)
 
-pub read_next_number : {A : Type 0} (read : List ℕ → Result A Flaw) (l : Lines) (p : A × Lines) → read_next read l ≡ Ok p → p.1.number ≡ l.number + 1
+pub read_next_number : {A : Type 0} (read : List ℕ → Result A Flaw) (l : Cursor) (p : A × Cursor) → read_next read l ≡ Ok p → p.1.number ≡ l.number + 1
 read_next_number read l p h =
     let next = and_then_is (next_line l) (λ p. made (λ a. (a, p.1)) (told p.1 (read p.0))) p h in
     let value = made_is (λ a. (a, next.0.1)) (told next.0.1 (read next.0.0)) p next.2 in

@@ -6,7 +6,7 @@ use Rattle.metis_tokens.specs.declared.fault.TFault.{TFault}
 use Rattle.metis_tokens.specs.declared.fault.TFault.TheVariants.{Line, NoMemory}
 use Rattle.metis_tokens.specs.declared.flaw.Flaw.{Flaw}
 use Rattle.metis_tokens.specs.declared.flaw.Flaw.TheVariants.{Form, Name, Number}
-use Rattle.metis_tokens.specs.Cursor.{Lines, ended, fault_at, is_feed, line_to, next_line, read_next, told}
+use Rattle.metis_tokens.specs.Cursor.{Cursor, ended, fault_at, is_feed, line_to, next_line, read_next, told}
 
 abbrev pub IsNamed : {A : Type 0} → Result A TFault → Type 0
 IsNamed r = r ≡ Err NoMemory → ⊥
@@ -24,18 +24,18 @@ fault_at_named n Form h = cc
 fault_at_named n Number h = cc
 fault_at_named n Name h = cc
 
-pub told_named : {A : Type 0} (l : Lines) (x : Result A Flaw) → IsNamed (told l x)
+pub told_named : {A : Type 0} (l : Cursor) (x : Result A Flaw) → IsNamed (told l x)
 told_named l (Ok a) h = cc
 told_named l (Err flaw) h = fault_at_named l.number flaw (cc)
 
-pub line_to_named : (l : Lines) (end : Option ℕ) → IsNamed (line_to l end)
+pub line_to_named : (l : Cursor) (end : Option ℕ) → IsNamed (line_to l end)
 line_to_named l None h = cc
 line_to_named l (Some end) h = cc
 
-pub read_next_named : {A : Type 0} (read : List ℕ → Result A Flaw) (l : Lines) → IsNamed (read_next read l)
+pub read_next_named : {A : Type 0} (read : List ℕ → Result A Flaw) (l : Cursor) → IsNamed (read_next read l)
 read_next_named read l =
     and_then_named (next_line l) (λ p. made (λ a. (a, p.1)) (told p.1 (read p.0))) (line_to_named l (position is_feed l.rest))
     (λ p. made_named (λ a. (a, p.1)) (told p.1 (read p.0)) (told_named p.1 (read p.0)))
 
-pub ended_named : (l : Lines) → IsNamed (ended l)
+pub ended_named : (l : Cursor) → IsNamed (ended l)
 ended_named l = elim (length l.rest == 0) as (λ b. IsNamed {A = Unit {0}} (if b then Ok tt else Err (Line (l.number + 1)))) [ true ↦ λ h. cc | false ↦ λ h. cc ]

@@ -3,7 +3,7 @@ use Rattle.std.proofs.Common.{◌≡◌, ℕ, Bool, true, false, List, [], ◌�
 use Rattle.std.specs.Bool.{if◌then◌else◌}
 use Rattle.std.specs.List.{AllByRecursion, AllZip}
 use Rattle.metis_tokens.specs.Flaws.{all_behind, and_then, behind, both, found, made, right}
-use Rattle.metis_tokens.specs.Cursor.{Lines, told}
+use Rattle.metis_tokens.specs.Cursor.{Cursor, told}
 use Rattle.metis_tokens.specs.declared.fault.TFault.{TFault}
 use Rattle.metis_tokens.specs.declared.flaw.Flaw.{Flaw}
 use Rattle.metis_tokens.specs.declared.flaw.Flaw.TheVariants.{Number}
@@ -49,7 +49,7 @@ pub and_then_behind : {A B C : Type 0} (x : Result A TFault) (next : A → Resul
 and_then_behind (Ok a) next close both same = same a
 and_then_behind (Err f) next close both same = refl
 
-pub told_is : {A : Type 0} (l : Lines) (x : Result A Flaw) (a : A) → told l x ≡ Ok a → x ≡ Ok a
+pub told_is : {A : Type 0} (l : Cursor) (x : Result A Flaw) (a : A) → told l x ≡ Ok a → x ≡ Ok a
 told_is l (Ok b) a h = cc
 told_is l (Err f) a h = cc
 

@@ -13,7 +13,7 @@ use Rattle.std.proofs.lemmas.List.Folds.{concat-append}
 use Rattle.metis_outside.proofs.Feeds.{IsLine-from, no_feed, no_feed-append, one_line}
 use Rattle.metis_outside.specs.Pieces.{IsLine, bytes_of}
 use Rattle.metis_tokens.specs.Flaws.{and_then, made}
-use Rattle.metis_tokens.specs.Cursor.{Lines, fault_at, is_feed, line_to, lines_of, next_line, read_next, told}
+use Rattle.metis_tokens.specs.Cursor.{Cursor, fault_at, is_feed, line_to, lines_of, next_line, read_next, told}
 use Rattle.metis_tokens.specs.declared.fault.TFault.{TFault}
 use Rattle.metis_tokens.specs.declared.fault.TFault.TheVariants.{Short}
 use Rattle.metis_tokens.specs.declared.flaw.Flaw.{Flaw}
@@ -21,14 +21,14 @@ use Rattle.metis_tokens.specs.declared.flaw.Flaw.TheVariants.{Form, Number, Name
 use Rattle.metis_tokens.proofs.LinesTaken.{next_is}
 use Rattle.metis_tokens.proofs.Outcomes.{and_then_is}
 
-pub record Took {A : Type 0} (read : Lines → Result (A × Lines) TFault) (l : Lines) (p : A × Lines) : Type 0 where
+pub record Took {A : Type 0} (read : Cursor → Result (A × Cursor) TFault) (l : Cursor) (p : A × Cursor) : Type 0 where
   pub front : List (List ℕ)
   pub text : l.rest ≡ bytes_of front ++ p.1.rest
   pub lines : All IsLine front
   pub number : p.1.number ≡ l.number + length front
   pub each : (other : List ℕ) → read (lines_of (bytes_of front ++ other) l.number) ≡ Ok (p.0, lines_of other p.1.number)
 
-pub record Wrong {B : Type 0} (read : Lines → Result B TFault) (l : Lines) (f : TFault) : Type 0 where
+pub record Wrong {B : Type 0} (read : Cursor → Result B TFault) (l : Cursor) (f : TFault) : Type 0 where
   pub front : List (List ℕ)
   pub behind : List ℕ
   pub text : l.rest ≡ bytes_of front ++ behind
@@ -37,10 +37,10 @@ pub record Wrong {B : Type 0} (read : Lines → Result B TFault) (l : Lines) (f 
   pub fault : f ≡ fault_at (l.number + length front) flaw
   pub each : (other : List ℕ) → read (lines_of (bytes_of front ++ other) l.number) ≡ Err f
 
-pub record IsReader {A : Type 0} (read : Lines → Result (A × Lines) TFault) : Type 0 where
-  pub took : (l : Lines) (p : A × Lines) → read l ≡ Ok p → Took read l p
-  pub wrong : (l : Lines) (f : TFault) → read l ≡ Err f → (f ≡ Short) ⊎ Wrong read l f
-  pub short : (l : Lines) (tail : List ℕ) → no_feed tail ≡ true → read l ≡ Err Short → read (lines_of (l.rest ++ tail) l.number) ≡ Err Short
+pub record IsReader {A : Type 0} (read : Cursor → Result (A × Cursor) TFault) : Type 0 where
+  pub took : (l : Cursor) (p : A × Cursor) → read l ≡ Ok p → Took read l p
+  pub wrong : (l : Cursor) (f : TFault) → read l ≡ Err f → (f ≡ Short) ⊎ Wrong read l f
+  pub short : (l : Cursor) (tail : List ℕ) → no_feed tail ≡ true → read l ≡ Err Short → read (lines_of (l.rest ++ tail) l.number) ≡ Err Short
 
 -- ---- where the first line ends
 
@@ -81,13 +81,13 @@ one_front : (front other : List ℕ) → bytes_of ((front ++ 10 ∷ []) ∷ []) 
 one_front front other = ap (λ b. b ++ other) (append-nil (front ++ 10 ∷ [])) ∙ append_assoc front (10 ∷ []) other
 
 module _ {A : Type 0} (read : List ℕ → Result A Flaw) where
-  abbrev with_left : Lines → Result A Flaw → Result (A × Lines) TFault
+  abbrev with_left : Cursor → Result A Flaw → Result (A × Cursor) TFault
   with_left l x = made (λ a. (a, l)) (told l x)
 
   short_of : (xs : List ℕ) (n : ℕ) → no_feed xs ≡ true → read_next read (lines_of xs n) ≡ Err Short
   short_of xs n none = ap (λ r. and_then r (λ p. with_left p.1 (read p.0))) (no_line xs n none)
 
-  module _ (l : Lines) (c : Cut l.rest) where
+  module _ (l : Cursor) (c : Cut l.rest) where
     abbrev front_of : List (List ℕ)
     front_of = (c.front ++ 10 ∷ []) ∷ []
 
@@ -105,7 +105,7 @@ module _ {A : Type 0} (read : List ℕ → Result A Flaw) where
     here : read_next read l ≡ with_left (lines_of c.behind (l.number + 1)) (read c.front)
     here = ap (λ bytes. read_next read (lines_of bytes l.number)) text_of ∙ read_cut c.behind
 
-    took_line : (p : A × Lines) (x : Result A Flaw) → read c.front ≡ x → with_left (lines_of c.behind (l.number + 1)) x ≡ Ok p → Took (read_next read) l p
+    took_line : (p : A × Cursor) (x : Result A Flaw) → read c.front ≡ x → with_left (lines_of c.behind (l.number + 1)) x ≡ Ok p → Took (read_next read) l p
     took_line p (Ok a) is h =
         let same : (a, lines_of c.behind (l.number + 1)) ≡ p = cc in
         subst (Took (read_next read) l) same (record {
@@ -138,7 +138,7 @@ module _ {A : Type 0} (read : List ℕ → Result A Flaw) where
       no_fault flaw h = elim flaw as (λ f. with_left (lines_of c.behind (l.number + 1)) (Err f) ≡ Err Short → ⊥) [ Form ↦ (λ h. cc) | Number ↦ (λ h. cc) | Name ↦ (λ h. cc) ] h
 
   -- where a line cannot be read: it has no end, or a flaw
-  pub record Flawed (l : Lines) (f : TFault) : Type 0 where
+  pub record Flawed (l : Cursor) (f : TFault) : Type 0 where
     pub line : List ℕ
     pub behind : List ℕ
     pub flaw : Flaw
@@ -147,26 +147,26 @@ module _ {A : Type 0} (read : List ℕ → Result A Flaw) where
     pub wrong : read line ≡ Err flaw
     pub fault : f ≡ fault_at (l.number + 1) flaw
 
-  flawed_by : (l : Lines) (f : TFault) (c : Cut l.rest) (x : Result A Flaw) → read c.front ≡ x → with_left (lines_of c.behind (l.number + 1)) x ≡ Err f → Flawed l f
+  flawed_by : (l : Cursor) (f : TFault) (c : Cut l.rest) (x : Result A Flaw) → read c.front ≡ x → with_left (lines_of c.behind (l.number + 1)) x ≡ Err f → Flawed l f
   flawed_by l f c (Ok a) is h = cc
   flawed_by l f c (Err flaw) is h = record { line = c.front; behind = c.behind; flaw = flaw; text = c.text; none = c.none; wrong = is; fault = cc }
 
-  flawed_at : (l : Lines) (f : TFault) → read_next read l ≡ Err f → (no_feed l.rest ≡ true) ⊎ Cut l.rest → ((no_feed l.rest ≡ true) × (f ≡ Short)) ⊎ Flawed l f
+  flawed_at : (l : Cursor) (f : TFault) → read_next read l ≡ Err f → (no_feed l.rest ≡ true) ⊎ Cut l.rest → ((no_feed l.rest ≡ true) × (f ≡ Short)) ⊎ Flawed l f
   flawed_at l f h (inl none) = let short = short_of l.rest l.number none in inl (none, cc)
   flawed_at l f h (inr c) = inr (flawed_by l f c (read c.front) refl (sym (here l c) ∙ h))
 
-  pub read_fails : (l : Lines) (f : TFault) → read_next read l ≡ Err f → ((no_feed l.rest ≡ true) × (f ≡ Short)) ⊎ Flawed l f
+  pub read_fails : (l : Cursor) (f : TFault) → read_next read l ≡ Err f → ((no_feed l.rest ≡ true) × (f ≡ Short)) ⊎ Flawed l f
   read_fails l f h = flawed_at l f h (cut l.rest)
 
-  took_at : (l : Lines) (p : A × Lines) → read_next read l ≡ Ok p → (no_feed l.rest ≡ true) ⊎ Cut l.rest → Took (read_next read) l p
+  took_at : (l : Cursor) (p : A × Cursor) → read_next read l ≡ Ok p → (no_feed l.rest ≡ true) ⊎ Cut l.rest → Took (read_next read) l p
   took_at l p h (inl none) = let short = short_of l.rest l.number none in cc
   took_at l p h (inr c) = took_line l c p (read c.front) refl (sym (here l c) ∙ h)
 
-  wrong_at : (l : Lines) (f : TFault) → read_next read l ≡ Err f → (no_feed l.rest ≡ true) ⊎ Cut l.rest → (f ≡ Short) ⊎ Wrong (read_next read) l f
+  wrong_at : (l : Cursor) (f : TFault) → read_next read l ≡ Err f → (no_feed l.rest ≡ true) ⊎ Cut l.rest → (f ≡ Short) ⊎ Wrong (read_next read) l f
   wrong_at l f h (inl none) = let short = short_of l.rest l.number none in inl cc
   wrong_at l f h (inr c) = inr (wrong_line l c f (read c.front) refl (sym (here l c) ∙ h))
 
-  short_at : (l : Lines) (tail : List ℕ) → no_feed tail ≡ true → read_next read l ≡ Err Short → (no_feed l.rest ≡ true) ⊎ Cut l.rest → read_next read (lines_of (l.rest ++ tail) l.number) ≡ Err Short
+  short_at : (l : Cursor) (tail : List ℕ) → no_feed tail ≡ true → read_next read l ≡ Err Short → (no_feed l.rest ≡ true) ⊎ Cut l.rest → read_next read (lines_of (l.rest ++ tail) l.number) ≡ Err Short
   short_at l tail none h (inl before) = short_of (l.rest ++ tail) l.number (no_feed-append l.rest tail before none)
   short_at l tail none h (inr c) = absurd (not_short l c (read c.front) (sym (here l c) ∙ h))
 
@@ -180,11 +180,11 @@ module _ {A : Type 0} (read : List ℕ → Result A Flaw) where
 -- ---- more bytes
 
 -- a flaw that was told is told where more bytes stand behind all
-pub wrong_extends : {B : Type 0} (read : Lines → Result B TFault) (l : Lines) (f : TFault) (more : List ℕ) → Wrong read l f → read (lines_of (l.rest ++ more) l.number) ≡ Err f
+pub wrong_extends : {B : Type 0} (read : Cursor → Result B TFault) (l : Cursor) (f : TFault) (more : List ℕ) → Wrong read l f → read (lines_of (l.rest ++ more) l.number) ≡ Err f
 wrong_extends read l f more w = ap (λ bytes. read (lines_of bytes l.number)) (ap (λ b. b ++ more) w.text ∙ append_assoc (bytes_of w.front) w.behind more) ∙ w.each (w.behind ++ more)
 
 -- and what was read is read, with more left
-pub took_extends : {A : Type 0} (read : Lines → Result (A × Lines) TFault) (l : Lines) (p : A × Lines) (more : List ℕ) → Took read l p
+pub took_extends : {A : Type 0} (read : Cursor → Result (A × Cursor) TFault) (l : Cursor) (p : A × Cursor) (more : List ℕ) → Took read l p
     → read (lines_of (l.rest ++ more) l.number) ≡ Ok (p.0, lines_of (p.1.rest ++ more) p.1.number)
 took_extends read l p more t = ap (λ bytes. read (lines_of bytes l.number)) (ap (λ b. b ++ more) t.text ∙ append_assoc (bytes_of t.front) p.1.rest more) ∙ t.each (p.1.rest ++ more)
 
@@ -204,14 +204,14 @@ and_then_wrong (Err g) next f h = inl cc
 fronts : (one two : List (List ℕ)) (other : List ℕ) → bytes_of (one ++ two) ++ other ≡ bytes_of one ++ (bytes_of two ++ other)
 fronts one two other = ap (λ b. b ++ other) (concat-append one two) ∙ append_assoc (bytes_of one) (bytes_of two) other
 
-module _ {A B : Type 0} (first : Lines → Result (A × Lines) TFault) (next : A → Lines → Result (B × Lines) TFault) (one : IsReader first) (two : (a : A) → IsReader (next a)) where
-  abbrev goes_on : A × Lines → Result (B × Lines) TFault
+module _ {A B : Type 0} (first : Cursor → Result (A × Cursor) TFault) (next : A → Cursor → Result (B × Cursor) TFault) (one : IsReader first) (two : (a : A) → IsReader (next a)) where
+  abbrev goes_on : A × Cursor → Result (B × Cursor) TFault
   goes_on p = next p.0 p.1
 
-  abbrev whole : Lines → Result (B × Lines) TFault
+  abbrev whole : Cursor → Result (B × Cursor) TFault
   whole l = and_then (first l) goes_on
 
-  whole_took : (l : Lines) (p : B × Lines) → whole l ≡ Ok p → Took whole l p
+  whole_took : (l : Cursor) (p : B × Cursor) → whole l ≡ Ok p → Took whole l p
   whole_took l p h =
       let q = and_then_is (first l) goes_on p h in
       let t = one.took l q.0 q.1 in
@@ -226,7 +226,7 @@ module _ {A B : Type 0} (first : Lines → Result (A × Lines) TFault) (next : A
             ∙ s.each other;
       }
 
-  wrong_first : (l : Lines) (f : TFault) → (f ≡ Short) ⊎ Wrong first l f → (f ≡ Short) ⊎ Wrong whole l f
+  wrong_first : (l : Cursor) (f : TFault) → (f ≡ Short) ⊎ Wrong first l f → (f ≡ Short) ⊎ Wrong whole l f
   wrong_first l f (inl short) = inl short
   wrong_first l f (inr w) = inr (record {
     front = w.front;
@@ -238,7 +238,7 @@ module _ {A B : Type 0} (first : Lines → Result (A × Lines) TFault) (next : A
     each = λ other. ap (λ r. and_then r goes_on) (w.each other);
   })
 
-  wrong_next : (l : Lines) (q : A × Lines) (f : TFault) → Took first l q → (f ≡ Short) ⊎ Wrong (next q.0) q.1 f → (f ≡ Short) ⊎ Wrong whole l f
+  wrong_next : (l : Cursor) (q : A × Cursor) (f : TFault) → Took first l q → (f ≡ Short) ⊎ Wrong (next q.0) q.1 f → (f ≡ Short) ⊎ Wrong whole l f
   wrong_next l q f t (inl short) = inl short
   wrong_next l q f t (inr w) =
       let place : q.1.number + length w.front ≡ l.number + length (t.front ++ w.front) = omega (arith, t.number, length-append t.front w.front) in
@@ -255,11 +255,11 @@ module _ {A B : Type 0} (first : Lines → Result (A × Lines) TFault) (next : A
             ∙ w.each other;
       })
 
-  whole_wrong : (l : Lines) (f : TFault) → (first l ≡ Err f) ⊎ ((q : A × Lines) × (first l ≡ Ok q) × (goes_on q ≡ Err f)) → (f ≡ Short) ⊎ Wrong whole l f
+  whole_wrong : (l : Cursor) (f : TFault) → (first l ≡ Err f) ⊎ ((q : A × Cursor) × (first l ≡ Ok q) × (goes_on q ≡ Err f)) → (f ≡ Short) ⊎ Wrong whole l f
   whole_wrong l f (inl h) = wrong_first l f (one.wrong l f h)
   whole_wrong l f (inr (q, is, h)) = wrong_next l q f (one.took l q is) ((two q.0).wrong q.1 f h)
 
-  whole_short : (l : Lines) (tail : List ℕ) → no_feed tail ≡ true → (first l ≡ Err Short) ⊎ ((q : A × Lines) × (first l ≡ Ok q) × (goes_on q ≡ Err Short)) → whole (lines_of (l.rest ++ tail) l.number) ≡ Err Short
+  whole_short : (l : Cursor) (tail : List ℕ) → no_feed tail ≡ true → (first l ≡ Err Short) ⊎ ((q : A × Cursor) × (first l ≡ Ok q) × (goes_on q ≡ Err Short)) → whole (lines_of (l.rest ++ tail) l.number) ≡ Err Short
   whole_short l tail none (inl h) = ap (λ r. and_then r goes_on) (one.short l tail none h)
   whole_short l tail none (inr (q, is, h)) = ap (λ r. and_then r goes_on) (took_extends first l q tail (one.took l q is)) ∙ (two q.0).short q.1 tail none h
 

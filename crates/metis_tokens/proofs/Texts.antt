@@ -4,7 +4,7 @@ use Rattle.std.proofs.Common.{◌≡◌, ◌≢◌, ◌⊎◌, ℕ, ◌+◌, ◌
 use Rattle.std.specs.List.{All}
 use Rattle.std.proofs.lemmas.List.{length-append}
 use Rattle.metis_outside.specs.Pieces.{bytes_of}
-use Rattle.metis_tokens.specs.Cursor.{Lines, fault_at, lines_of}
+use Rattle.metis_tokens.specs.Cursor.{Cursor, fault_at, lines_of}
 use Rattle.metis_tokens.specs.Flaws.{and_then}
 use Rattle.metis_tokens.specs.declared.fault.TFault.{TFault}
 use Rattle.metis_tokens.specs.declared.fault.TFault.TheVariants.{Line, Short}
@@ -18,23 +18,23 @@ not_short n Form = λ h. cc
 not_short n Number = λ h. cc
 not_short n Name = λ h. cc
 
-pub record IsText {W R : Type 0} (lines : Lines → Result (W × Lines) TFault) (close : W × Lines → Result R TFault) (text : Lines → Result R TFault) : Type 0 where
+pub record IsText {W R : Type 0} (lines : Cursor → Result (W × Cursor) TFault) (close : W × Cursor → Result R TFault) (text : Cursor → Result R TFault) : Type 0 where
   pub reads : IsReader lines
-  pub whole : (l : Lines) → text l ≡ and_then (lines l) close
-  pub early : (w : W) (l : Lines) → 1 ≤ length l.rest → close (w, l) ≡ Err (Line (l.number + 1))
-  pub long : (w : W × Lines) → close w ≢ Err Short
+  pub whole : (l : Cursor) → text l ≡ and_then (lines l) close
+  pub early : (w : W) (l : Cursor) → 1 ≤ length l.rest → close (w, l) ≡ Err (Line (l.number + 1))
+  pub long : (w : W × Cursor) → close w ≢ Err Short
 
-module _ {W R : Type 0} (lines : Lines → Result (W × Lines) TFault) (close : W × Lines → Result R TFault) (text : Lines → Result R TFault) (is_text : IsText lines close text) where
+module _ {W R : Type 0} (lines : Cursor → Result (W × Cursor) TFault) (close : W × Cursor → Result R TFault) (text : Cursor → Result R TFault) (is_text : IsText lines close text) where
   abbrev text_in : List ℕ → Result R TFault
   text_in bytes = text (lines_of bytes 0)
 
   -- ---- more bytes
 
-  pub text_by : (l : Lines) (r : Result (W × Lines) TFault) → lines l ≡ r → text l ≡ and_then r close
+  pub text_by : (l : Cursor) (r : Result (W × Cursor) TFault) → lines l ≡ r → text l ≡ and_then r close
   text_by l r is = is_text.whole l ∙ ap (λ r. and_then r close) is
 
   -- a flaw of a line is told whatever stands behind it
-  pub wrong_line : (l : Lines) (f : TFault) → Wrong lines l f → Wrong text l f
+  pub wrong_line : (l : Cursor) (f : TFault) → Wrong lines l f → Wrong text l f
   wrong_line l f w = record {
     front = w.front;
     behind = w.behind;
@@ -45,11 +45,11 @@ module _ {W R : Type 0} (lines : Lines → Result (W × Lines) TFault) (close : 
     each = λ other. text_by (lines_of (bytes_of w.front ++ other) l.number) (Err f) (w.each other);
   }
 
-  pub wrong_more : (l : Lines) (f : TFault) (more : List ℕ) → Wrong lines l f → text (lines_of (l.rest ++ more) l.number) ≡ Err f
+  pub wrong_more : (l : Cursor) (f : TFault) (more : List ℕ) → Wrong lines l f → text (lines_of (l.rest ++ more) l.number) ≡ Err f
   wrong_more l f more w = wrong_extends text l f more (wrong_line l f w)
 
   -- a text that ends has no more behind its end
-  pub whole_more : (l : Lines) (w : W × Lines) (more : List ℕ) → lines l ≡ Ok w → 1 ≤ length more → text (lines_of (l.rest ++ more) l.number) ≡ Err (Line (w.1.number + 1))
+  pub whole_more : (l : Cursor) (w : W × Cursor) (more : List ℕ) → lines l ≡ Ok w → 1 ≤ length more → text (lines_of (l.rest ++ more) l.number) ≡ Err (Line (w.1.number + 1))
   whole_more l w more is some =
       let longer : lines (lines_of (l.rest ++ more) l.number) ≡ Ok (w.0, lines_of (w.1.rest ++ more) w.1.number) = took_extends lines l w more (is_text.reads.took l w is) in
       text_by (lines_of (l.rest ++ more) l.number) (Ok (w.0, lines_of (w.1.rest ++ more) w.1.number)) longer
@@ -66,7 +66,7 @@ module _ {W R : Type 0} (lines : Lines → Result (W × Lines) TFault) (close : 
   front_wrong bytes more f untold (inl short) = short
   front_wrong bytes more f untold (inr w) = absurd (untold (0 + length w.front) w.flaw (wrong_more (lines_of bytes 0) f more w ∙ ap Err w.fault))
 
-  front_of : (bytes more : List ℕ) (r : Result (W × Lines) TFault) → 1 ≤ length more → IsUntold (text_in (bytes ++ more)) → lines (lines_of bytes 0) ≡ r → text_in bytes ≡ Err Short
+  front_of : (bytes more : List ℕ) (r : Result (W × Cursor) TFault) → 1 ≤ length more → IsUntold (text_in (bytes ++ more)) → lines (lines_of bytes 0) ≡ r → text_in bytes ≡ Err Short
   unfolding IsUntold
   front_of bytes more (Ok w) some untold is = absurd (untold (w.1.number + 1) Form (whole_more (lines_of bytes 0) w more is some))
   front_of bytes more (Err f) some untold is =
@@ -89,14 +89,14 @@ module _ {W R : Type 0} (lines : Lines → Result (W × Lines) TFault) (close : 
 
   -- ---- a fault
 
-  closed_fails : (bytes more : List ℕ) (w : W × Lines) → lines (lines_of bytes 0) ≡ Ok w → 1 ≤ length more → (q : R) → text_in (bytes ++ more) ≢ Ok q
+  closed_fails : (bytes more : List ℕ) (w : W × Cursor) → lines (lines_of bytes 0) ≡ Ok w → 1 ≤ length more → (q : R) → text_in (bytes ++ more) ≢ Ok q
   closed_fails bytes more w is some q h = let wrong = whole_more (lines_of bytes 0) w more is some in cc
 
   more_fails : (bytes more : List ℕ) (f : TFault) (q : R) → (f ≡ Short) ⊎ Wrong lines (lines_of bytes 0) f → f ≢ Short → text_in (bytes ++ more) ≢ Ok q
   more_fails bytes more f q (inl short) long = absurd (long short)
   more_fails bytes more f q (inr w) long = λ h. let wrong = wrong_more (lines_of bytes 0) f more w in cc
 
-  fails_of : (bytes more : List ℕ) (f : TFault) (q : R) (r : Result (W × Lines) TFault) → lines (lines_of bytes 0) ≡ r → text_in bytes ≡ Err f → f ≢ Short → text_in (bytes ++ more) ≢ Ok q
+  fails_of : (bytes more : List ℕ) (f : TFault) (q : R) (r : Result (W × Cursor) TFault) → lines (lines_of bytes 0) ≡ r → text_in bytes ≡ Err f → f ≢ Short → text_in (bytes ++ more) ≢ Ok q
   fails_of bytes [] f q r is wrong long = λ h. let same : text_in (bytes ++ []) ≡ text_in bytes = ap (text_in) (append-nil bytes) in cc
   fails_of bytes (m ∷ more) f q (Ok w) is wrong long = closed_fails bytes (m ∷ more) w is (omega arith) q
   fails_of bytes (m ∷ more) f q (Err g) is wrong long =
@@ -109,7 +109,7 @@ module _ {W R : Type 0} (lines : Lines → Result (W × Lines) TFault) (close : 
 
   -- ---- no line, no fault
 
-  short_lines : (l : Lines) (r : Result (W × Lines) TFault) → lines l ≡ r → text l ≡ Err Short → lines l ≡ Err Short
+  short_lines : (l : Cursor) (r : Result (W × Cursor) TFault) → lines l ≡ r → text l ≡ Err Short → lines l ≡ Err Short
   short_lines l (Ok w) is short = absurd (is_text.long w (sym (text_by l (Ok w) is) ∙ short))
   short_lines l (Err f) is short = let here = text_by l (Err f) is in cc
 
@@ -134,7 +134,7 @@ module _ {W R : Type 0} (lines : Lines → Result (W × Lines) TFault) (close : 
       let none = same_lines w.front v.front (v.behind ++ rest) w.lines v.lines as_many (at ∙ ap (λ b. b ++ rest) v.text ∙ append_assoc (bytes_of v.front) v.behind rest) in
       absurd (omega (arith, ap length none, length-append v.behind rest, some))
 
-  early_by : (bytes before rest : List ℕ) (f : TFault) (w : Wrong lines (lines_of bytes 0) f) (r : Result (W × Lines) TFault) → bytes_of w.front ≡ before ++ rest → 1 ≤ length rest → lines (lines_of before 0) ≡ r
+  early_by : (bytes before rest : List ℕ) (f : TFault) (w : Wrong lines (lines_of bytes 0) f) (r : Result (W × Cursor) TFault) → bytes_of w.front ≡ before ++ rest → 1 ≤ length rest → lines (lines_of before 0) ≡ r
       → text_in before ≡ Err Short
   early_by bytes before rest f w (Ok p) at some is =
       let told = w.each [] in

@@ -10,11 +10,12 @@ use Rattle.std.proofs.lemmas.List.Elements.{All-cons}
 use Rattle.metis_ids.specs.declared.goals.Goal.{Goal}
 use Rattle.metis_ids.specs.declared.goals.Goal.TheVariants.{Pair, Port}
 use Rattle.metis_universe.specs.GoalWords.{goal_word}
-use Rattle.metis_outside.proofs.Feeds.{IsLine-from, no_feed, no_feed-append, no_feed-decimal, no_feed-join_with_byte}
+use Rattle.metis_outside.proofs.Feeds.{IsLine-append, IsLine-from, no_feed, no_feed-append, no_feed-decimal, no_feed-join_with_byte}
 use Rattle.metis_outside.specs.Pieces.{IsLine}
 use Rattle.metis_universe.specs.Names.{is_name, is_name_byte}
 use Rattle.metis_universe.specs.Universe.{IsNamed, Universe, no_kind, no_pair, pair_count, port_count, port_name_of, state_name_of, type_count, type_name_of, type_of}
-use Rattle.metis_tokens.specs.Line.{line, numbered, words, end_line}
+use Rattle.metis_tokens.specs.Line.{added, line, numbered, words, end_line}
+use Rattle.metis_tokens.specs.MissingLine.{missing_line}
 use Rattle.metis_universe.specs.PairWords.{pair_word}
 use Rattle.metis_tokens.proofs.Printed.{all_weaker}
 
@@ -68,3 +69,15 @@ number_tokens (k ∷ ks) = and_from _ _ (no_feed-decimal k) (number_tokens ks)
 pub numbered_lines : {X : Type 0} (text : ℕ → X → List ℕ) → ((k : ℕ) (x : X) → IsLine (text k x)) → (k : ℕ) (xs : List X) → All IsLine (numbered text k xs)
 numbered_lines text each k [] = λ i d within. absurd (omega arith)
 numbered_lines text each k (x ∷ xs) = All-cons IsLine (text k x) (numbered text (k + 1) xs) (each k x) (numbered_lines text each (k + 1) xs)
+
+pub no_feed-added_numbers : (ks : List ℕ) → no_feed (added (map decimal ks)) ≡ true
+no_feed-added_numbers [] = refl
+no_feed-added_numbers (k ∷ ks) = no_feed-append (codes " " ++ decimal k) (added (map decimal ks)) (no_feed-append (codes " ") (decimal k) refl (no_feed-decimal k)) (no_feed-added_numbers ks)
+
+pub IsLine-missing_line : (u : Universe) → IsNamed u → (g : Goal) (have want : ℕ) → IsLine (missing_line (goal_word u g) have want)
+IsLine-missing_line u named g have want =
+    let end : IsLine (codes " want " ++ (decimal want ++ codes "\n")) = IsLine-append (codes " want ") (decimal want ++ codes "\n") refl (IsLine-from (decimal want) (no_feed-decimal want)) in
+    let middle : IsLine (codes " have " ++ (decimal have ++ (codes " want " ++ (decimal want ++ codes "\n")))) =
+    IsLine-append (codes " have ") (decimal have ++ (codes " want " ++ (decimal want ++ codes "\n"))) refl (IsLine-append (decimal have) (codes " want " ++ (decimal want ++ codes "\n")) (no_feed-decimal have) end) in
+    IsLine-append (codes "missing ") (goal_word u g ++ (codes " have " ++ (decimal have ++ (codes " want " ++ (decimal want ++ codes "\n"))))) refl
+    (IsLine-append (goal_word u g) (codes " have " ++ (decimal have ++ (codes " want " ++ (decimal want ++ codes "\n")))) (no_feed-goal_word u named g) middle)

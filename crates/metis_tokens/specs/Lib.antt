@@ -3,5 +3,6 @@ pub mod Flaws
 pub mod Line
 pub mod LineFaults
 pub mod MissingLine
+pub mod Scripts
 pub mod Tokens
 pub mod Words

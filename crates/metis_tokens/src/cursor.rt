@@ -9,27 +9,27 @@ use std::marker::Model;
 
 /// What is left of a text of which so many lines were read.
 #[derive(Drop)]
-pub struct Lines<'a> {
+pub struct Cursor<'a> {
     rest: &'a [u8],
     number: u32,
     ghost fits: { number + length rest.now < 2 ^ 32 - 1 },
 }
 
-impl<'a> Model for Lines<'a> {
-    ghost use Rattle.metis_tokens.specs.Cursor.{Lines, lines_of};
+impl<'a> Model for Cursor<'a> {
+    ghost use Rattle.metis_tokens.specs.Cursor.{Cursor, lines_of};
 
-    ghost Value = { Lines };
+    ghost Value = { Cursor };
 
     ghost view = { λ l. lines_of l.rest.now l.number };
 }
 
-impl<'a> Lines<'a> {
+impl<'a> Cursor<'a> {
     /// The whole text.
-    pub fn of(bytes: &'a [u8]) -> Lines<'a>
+    pub fn of(bytes: &'a [u8]) -> Cursor<'a>
         requires { length bytes.now < 2 ^ 32 - 1 }
         ensures { result ≡ lines_of bytes.now 0 }
     {
-        Lines {
+        Cursor {
             rest: bytes,
             number: 0,
         }
@@ -70,7 +70,7 @@ impl<'a> Lines<'a> {
 }
 
 /// Reads a line of this text.
-pub fn read_exactly(text: &str, lines: &mut Lines<'_>) -> Result<(), TFault>
+pub fn read_exactly(text: &str, lines: &mut Cursor<'_>) -> Result<(), TFault>
     ensures { Reads (λ x. x) result lines.new (read_next (exactly text.now) lines.old) }
 {
     if is(lines.next_line()?, text) {

@@ -14,7 +14,7 @@ use Rattle.metis_tokens.proofs.KnownLines.{exactly_is}
 use Rattle.metis_tokens.proofs.LinesTaken.{read_next_is}
 use Rattle.metis_tokens.proofs.Outcomes.{and_then_is}
 use Rattle.metis_tokens.proofs.Readers.{and_then_wrong}
-use Rattle.metis_tokens.specs.Cursor.{Lines, ended, exactly, lines_of, read_next}
+use Rattle.metis_tokens.specs.Cursor.{Cursor, ended, exactly, lines_of, read_next}
 use Rattle.metis_tokens.specs.Flaws.{and_then}
 use Rattle.metis_tokens.specs.Line.{end_line, words}
 use Rattle.metis_tokens.specs.declared.fault.TFault.{TFault}
@@ -34,14 +34,14 @@ use Rattle.metis_why_text.specs.WhyReading.{ReadsWhy, count_in, lacks_in, line_i
 use Rattle.metis_why_text.specs.WhyText.{count_line, lacks_line, lacks_tokens, line_text, line_tokens, why_header}
 
 module _ (u : Universe) (bytes : List ℕ) (f : TFault) where
-  stop : {A : Type 0} (read : List ℕ → Result A Flaw) (due : WhyDue) (lines : List (List ℕ)) (l : Lines) → IsWhyBegun u lines due → IsLeft bytes lines l
+  stop : {A : Type 0} (read : List ℕ → Result A Flaw) (due : WhyDue) (lines : List (List ℕ)) (l : Cursor) → IsWhyBegun u lines due → IsLeft bytes lines l
       → ((line : List ℕ) (flaw : Flaw) → read line ≡ Err flaw → HasWhyFlaw u due line flaw) → read_next read l ≡ Err f → HasWhyFault u bytes f
   stop read due lines l begun left wrong h = elim (stops (IsWhyBegun u) (HasWhyFlaw u) bytes f read due lines l begun left wrong h) [ inl short ↦ too_short short | inr flawed ↦ of_line flawed ]
 
   module _ (table : IsTable u) (lacks : Goal) (its : IsWordable u lacks) where
     -- ---- the last line
 
-    past_by : (items : List Line) (l : Lines) (nothing : Bool) → IsLeft bytes (begun_why u lacks (length items) items ++ end_line ∷ []) l
+    past_by : (items : List Line) (l : Cursor) (nothing : Bool) → IsLeft bytes (begun_why u lacks (length items) items ++ end_line ∷ []) l
         → AreTold u lacks (length items) items → (length l.rest == 0) ≡ nothing
         → and_then {A = Unit {0}} (if nothing then Ok tt else Err (faults.Line (l.number + 1))) (λ _. Ok (why_parts lacks items)) ≡ Err f → HasWhyFault u bytes f
     past_by items l true left are is h = cc
@@ -59,7 +59,7 @@ module _ (u : Universe) (bytes : List ℕ) (f : TFault) where
           some : (n : ℕ) → (n == 0) ≡ false → 1 ≤ n
           some n h = grind (arith, nat_tests)
 
-    end_stops : (items : List Line) (l : Lines) → AreTold u lacks (length items) items → IsLeft bytes (begun_why u lacks (length items) items) l → why_end_from (why_parts lacks items) l ≡ Err f → HasWhyFault u bytes f
+    end_stops : (items : List Line) (l : Cursor) → AreTold u lacks (length items) items → IsLeft bytes (begun_why u lacks (length items) items) l → why_end_from (why_parts lacks items) l ≡ Err f → HasWhyFault u bytes f
     end_stops items l are left h =
         let begun = with_all lacks items are refl refl in
         let lines = begun_why u lacks (length items) items in
@@ -78,11 +78,11 @@ module _ (u : Universe) (bytes : List ℕ) (f : TFault) where
       longer items l = ap (λ ls. why_header ∷ lacks_line u lacks ∷ count_line count ∷ ls) (sym (map-append (line_text u) items (l ∷ [])))
 
       -- these pairs were read, and behind them these lines are left
-      record ItemsLeft (items : List Line) (l : Lines) : Type 0 where
+      record ItemsLeft (items : List Line) (l : Cursor) : Type 0 where
         are : All (IsTellable u) items
         left : IsLeft bytes (begun_why u lacks count items) l
 
-      next_left : (items : List Line) (l : Lines) (p : Line × Lines) → ItemsLeft items l → read_next (line_in u) l ≡ Ok p → ItemsLeft (items ++ p.0 ∷ []) p.1
+      next_left : (items : List Line) (l : Cursor) (p : Line × Cursor) → ItemsLeft items l → read_next (line_in u) l ≡ Ok p → ItemsLeft (items ++ p.0 ∷ []) p.1
       next_left items l p before h =
           let one = read_next_is (line_in u) l p h in
           let says = line_is u one.0 p.0 one.1 in
@@ -95,7 +95,7 @@ module _ (u : Universe) (bytes : List ℕ) (f : TFault) where
       told_with : (items : List Line) → All (IsTellable u) items → AreTold u lacks count items
       told_with items are = record { lacking = its; few = few; tellable = are }
 
-      items_stop : (n : ℕ) (items : List Line) (l : Lines) → ItemsLeft items l → length items + n ≡ count → lines_from u n items l ≡ Err f → HasWhyFault u bytes f
+      items_stop : (n : ℕ) (items : List Line) (l : Cursor) → ItemsLeft items l → length items + n ≡ count → lines_from u n items l ≡ Err f → HasWhyFault u bytes f
       items_stop zero items l before many h = cc
       items_stop (suc n) items l before many h = elim (and_then_wrong (read_next (line_in u) l) (λ p. lines_from u n (items ++ p.0 ∷ []) p.1) f h) [
         | inl wrong ↦
@@ -105,16 +105,16 @@ module _ (u : Universe) (bytes : List ℕ) (f : TFault) where
         | inr (p, right, later) ↦ items_stop n (items ++ p.0 ∷ []) p.1 (next_left items l p before right) (let long = length_push items p.0 in omega arith) later
       ]
 
-      items_left : (n : ℕ) (items : List Line) (l : Lines) (q : List Line × Lines) → ItemsLeft items l → length items + n ≡ count → lines_from u n items l ≡ Ok q → ItemsLeft q.0 q.1 × (length q.0 ≡ count)
+      items_left : (n : ℕ) (items : List Line) (l : Cursor) (q : List Line × Cursor) → ItemsLeft items l → length items + n ≡ count → lines_from u n items l ≡ Ok q → ItemsLeft q.0 q.1 × (length q.0 ≡ count)
       items_left zero items l q before many h =
           let is : (items, l) ≡ q = cc in
-          subst (λ (q : List Line × Lines). ItemsLeft q.0 q.1 × (length q.0 ≡ count)) is (before, omega arith)
+          subst (λ (q : List Line × Cursor). ItemsLeft q.0 q.1 × (length q.0 ≡ count)) is (before, omega arith)
       items_left (suc n) items l q before many h =
           let next = and_then_is (read_next (line_in u) l) (λ p. lines_from u n (items ++ p.0 ∷ []) p.1) q h in
           let long = length_push items next.0.0 in
           items_left n (items ++ next.0.0 ∷ []) next.0.1 q (next_left items l next.0 before next.1) (omega arith) next.2
 
-      all_stop : (l : Lines) → IsLeft bytes (begun_why u lacks count []) l → and_then (lines_from u count [] l) (λ lines. why_end_from (why_parts lacks lines.0) lines.1) ≡ Err f → HasWhyFault u bytes f
+      all_stop : (l : Cursor) → IsLeft bytes (begun_why u lacks count []) l → and_then (lines_from u count [] l) (λ lines. why_end_from (why_parts lacks lines.0) lines.1) ≡ Err f → HasWhyFault u bytes f
       all_stop l left h =
           let start : ItemsLeft [] l = record { are = All-nil (IsTellable u); left = left } in
           let none : length {A = Line} [] + count ≡ count = omega arith in
@@ -126,7 +126,7 @@ module _ (u : Universe) (bytes : List ℕ) (f : TFault) where
                 end_stops q.0 q.1 are (subst (λ n. IsLeft bytes (begun_why u lacks n q.0) q.1) (sym all.1) all.0.left) later
           ]
 
-    goal_stops : (l : Lines) → IsLeft bytes (why_header ∷ lacks_line u lacks ∷ []) l → why_counted_from u lacks l ≡ Err f → HasWhyFault u bytes f
+    goal_stops : (l : Cursor) → IsLeft bytes (why_header ∷ lacks_line u lacks ∷ []) l → why_counted_from u lacks l ≡ Err f → HasWhyFault u bytes f
     goal_stops l left h =
         let lines = why_header ∷ lacks_line u lacks ∷ [] in
         elim (and_then_wrong (read_next count_in l) (λ count. and_then (lines_from u count.0 [] count.1) (λ lines. why_end_from (why_parts lacks lines.0) lines.1)) f h) [

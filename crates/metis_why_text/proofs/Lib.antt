@@ -1,7 +1,6 @@
 pub mod CountTokens
 pub mod FirstFlaws
 pub mod GoalTokens
-pub mod ItemLines
 pub mod LineFlaws
 pub mod LineTokens
 pub mod LinesRead

@@ -5,7 +5,7 @@ use Rattle.std.specs.List.{AllByRecursion, flat_map}
 use Rattle.metis_tokens.proofs.LinesTaken.{read_next_is, read_next_read, line_and_rest}
 use Rattle.metis_tokens.proofs.Outcomes.{and_then_is}
 use Rattle.metis_tokens.specs.Flaws.{and_then}
-use Rattle.metis_tokens.specs.Cursor.{Lines, lines_of, read_next}
+use Rattle.metis_tokens.specs.Cursor.{Cursor, lines_of, read_next}
 use Rattle.metis_tokens.specs.declared.fault.TFault.{TFault}
 use Rattle.metis_universe.specs.Universe.{IsNamed, IsUniverse, Universe}
 use Rattle.metis_why.specs.Confirm.{IsTellable}
@@ -15,7 +15,7 @@ use Rattle.metis_why_text.proofs.Printed.{line_printed}
 use Rattle.metis_why_text.specs.WhyReading.{line_in, lines_from}
 use Rattle.metis_why_text.specs.WhyText.{line_text, line_tokens}
 
-pub record LinesRead (u : Universe) (left : ℕ) (lines : List Line) (l : Lines) (p : List Line × Lines) : Type 0 where
+pub record LinesRead (u : Universe) (left : ℕ) (lines : List Line) (l : Cursor) (p : List Line × Cursor) : Type 0 where
   pub added : List Line
   pub is : p.0 ≡ lines ++ added
   pub many : length added ≡ left
@@ -25,11 +25,11 @@ pub record LinesRead (u : Universe) (left : ℕ) (lines : List Line) (l : Lines)
 module _ (u : Universe) where
   -- ---- one line, where k of them are read
 
-  module _ (count k : ℕ) (lines : List Line) (l : Lines) (within : k < count) where
+  module _ (count k : ℕ) (lines : List Line) (l : Cursor) (within : k < count) where
     left : count - k ≡ suc (count - (k + 1))
     left = omega arith
 
-    pub line_more : (p : Line × Lines) → read_next (line_in u) l ≡ Ok p → lines_from u (count - k) lines l ≡ lines_from u (count - (k + 1)) (lines ++ p.0 ∷ []) p.1
+    pub line_more : (p : Line × Cursor) → read_next (line_in u) l ≡ Ok p → lines_from u (count - k) lines l ≡ lines_from u (count - (k + 1)) (lines ++ p.0 ∷ []) p.1
     line_more p is = ap (λ n. lines_from u n lines l) left ∙ ap (λ r. and_then r (λ p. lines_from u (count - (k + 1)) (lines ++ p.0 ∷ []) p.1)) is
 
     pub line_wrong : (f : TFault) → read_next (line_in u) l ≡ Err f → lines_from u (count - k) lines l ≡ Err f
@@ -37,7 +37,7 @@ module _ (u : Universe) where
 
   -- ---- all lines
 
-  pub lines_are : (left : ℕ) (lines : List Line) (l : Lines) (p : List Line × Lines) → lines_from u left lines l ≡ Ok p → LinesRead u left lines l p
+  pub lines_are : (left : ℕ) (lines : List Line) (l : Cursor) (p : List Line × Cursor) → lines_from u left lines l ≡ Ok p → LinesRead u left lines l p
   lines_are zero lines l p h =
       let e : (lines, l) ≡ p = cc in
       record { added = []; is = sym (ap (λ q. q.0) e) ∙ sym (append-nil lines); many = refl; are = tt; text = ap (λ q. q.1.rest) e }
@@ -61,7 +61,7 @@ module _ (u : Universe) where
   lines_read is names [] lines rest n are = (n, sym (λ i. Ok (append-nil lines i, lines_of rest n)))
   lines_read is names (line ∷ added) lines rest n are =
       let others = flat_map (line_text u) added in
-      let behind = λ (q : Line × Lines). lines_from u (length added) (lines ++ q.0 ∷ []) q.1 in
+      let behind = λ (q : Line × Cursor). lines_from u (length added) (lines ++ q.0 ∷ []) q.1 in
       let more = lines_read is names added (lines ++ line ∷ []) rest (n + 1) are.1 in (
         more.0,
         ap (λ bytes. and_then (read_next (line_in u) (lines_of bytes n)) behind) (append_assoc (line_text u line) others rest)

@@ -13,7 +13,7 @@ use Rattle.metis_tokens.proofs.Texts.{IsText, early_is_short, text_by, whole_mor
 use Rattle.metis_tokens.proofs.LinesTaken.{read_next_number}
 use Rattle.metis_tokens.specs.Flaws.{and_then}
 use Rattle.metis_tokens.specs.Line.{end_line}
-use Rattle.metis_tokens.specs.Cursor.{Lines, ended, exactly, fault_at, lines_of, read_next}
+use Rattle.metis_tokens.specs.Cursor.{Cursor, ended, exactly, fault_at, lines_of, read_next}
 use Rattle.metis_tokens.specs.declared.fault.TFault.{TFault}
 use Rattle.metis_tokens.specs.declared.fault.TFault.TheVariants as faults
 use Rattle.metis_universe.specs.Universe.{IsTable, Universe}
@@ -26,57 +26,57 @@ use Rattle.metis_why_text.specs.WhyText.{IsWhyText, line_text, why_bytes, why_li
 
 -- ---- its lines, and then their end
 
-abbrev pub last_from : WhyParts → Lines → Result (WhyParts × Lines) TFault
+abbrev pub last_from : WhyParts → Cursor → Result (WhyParts × Cursor) TFault
 last_from w l = and_then (read_next (exactly (codes "end")) l) (λ e. Ok (w, e.1))
 
 -- nothing stands behind the last line
-abbrev pub closed : WhyParts × Lines → Result WhyParts TFault
+abbrev pub closed : WhyParts × Cursor → Result WhyParts TFault
 closed w = and_then (ended w.1) (λ _. Ok w.0)
 
-closed_early : (w : WhyParts) (l : Lines) → 1 ≤ length l.rest → closed (w, l) ≡ Err (faults.Line (l.number + 1))
+closed_early : (w : WhyParts) (l : Cursor) → 1 ≤ length l.rest → closed (w, l) ≡ Err (faults.Line (l.number + 1))
 closed_early w l some = ap (λ b. and_then {A = Unit {0}} (if b then Ok tt else Err (faults.Line (l.number + 1))) (λ _. Ok w)) (nonzero (length l.rest) some)
 
-closed_by : (w : WhyParts × Lines) (nothing : Bool) → and_then {A = Unit {0}} (if nothing then Ok tt else Err (faults.Line (w.1.number + 1))) (λ _. Ok w.0) ≢ Err faults.Short
+closed_by : (w : WhyParts × Cursor) (nothing : Bool) → and_then {A = Unit {0}} (if nothing then Ok tt else Err (faults.Line (w.1.number + 1))) (λ _. Ok w.0) ≢ Err faults.Short
 closed_by w true = λ h. cc
 closed_by w false = λ h. cc
 
-closed_long : (w : WhyParts × Lines) → closed w ≢ Err faults.Short
+closed_long : (w : WhyParts × Cursor) → closed w ≢ Err faults.Short
 closed_long w = closed_by w (length w.1.rest == 0)
 
-end_whole : (w : WhyParts) (l : Lines) → why_end_from w l ≡ and_then (last_from w l) closed
+end_whole : (w : WhyParts) (l : Cursor) → why_end_from w l ≡ and_then (last_from w l) closed
 end_whole w l = and_then_behind (read_next (exactly (codes "end")) l) (λ e. Ok (w, e.1)) closed (λ e. and_then (ended e.1) (λ _. Ok w)) (λ e. refl)
 
 last_reads : (w : WhyParts) → IsReader (last_from w)
 last_reads w = then_reads (read_next (exactly (codes "end"))) (λ _ l. Ok (w, l)) (read_next_reads (exactly (codes "end"))) (λ _. done_reads w)
 
 module _ (u : Universe) where
-  abbrev pub lines_then : Goal → ℕ → Lines → Result (WhyParts × Lines) TFault
+  abbrev pub lines_then : Goal → ℕ → Cursor → Result (WhyParts × Cursor) TFault
   lines_then lacks count l = and_then (lines_from u count [] l) (λ lines. last_from (why_parts lacks lines.0) lines.1)
 
-  abbrev pub counted_then : Goal → Lines → Result (WhyParts × Lines) TFault
+  abbrev pub counted_then : Goal → Cursor → Result (WhyParts × Cursor) TFault
   counted_then lacks l = and_then (read_next count_in l) (λ count. lines_then lacks count.0 count.1)
 
-  abbrev pub lacks_then : Lines → Result (WhyParts × Lines) TFault
+  abbrev pub lacks_then : Cursor → Result (WhyParts × Cursor) TFault
   lacks_then l = and_then (read_next (lacks_in u) l) (λ lacks. counted_then lacks.0 lacks.1)
 
-  abbrev pub all_from : Lines → Result (WhyParts × Lines) TFault
+  abbrev pub all_from : Cursor → Result (WhyParts × Cursor) TFault
   all_from l = and_then (read_next (exactly (codes "metis why 1")) l) (λ header. lacks_then header.1)
 
-  lines_whole : (lacks : Goal) (count : ℕ) (l : Lines) → and_then (lines_from u count [] l) (λ lines. why_end_from (why_parts lacks lines.0) lines.1) ≡ and_then (lines_then lacks count l) closed
+  lines_whole : (lacks : Goal) (count : ℕ) (l : Cursor) → and_then (lines_from u count [] l) (λ lines. why_end_from (why_parts lacks lines.0) lines.1) ≡ and_then (lines_then lacks count l) closed
   lines_whole lacks count l =
       and_then_behind (lines_from u count [] l) (λ lines. last_from (why_parts lacks lines.0) lines.1) closed (λ lines. why_end_from (why_parts lacks lines.0) lines.1)
       (λ lines. end_whole (why_parts lacks lines.0) lines.1)
 
-  counted_whole : (lacks : Goal) (l : Lines) → why_counted_from u lacks l ≡ and_then (counted_then lacks l) closed
+  counted_whole : (lacks : Goal) (l : Cursor) → why_counted_from u lacks l ≡ and_then (counted_then lacks l) closed
   counted_whole lacks l =
       and_then_behind (read_next count_in l) (λ count. lines_then lacks count.0 count.1) closed
       (λ count. and_then (lines_from u count.0 [] count.1) (λ lines. why_end_from (why_parts lacks lines.0) lines.1))
       (λ count. lines_whole lacks count.0 count.1)
 
-  lacks_whole : (l : Lines) → and_then (read_next (lacks_in u) l) (λ lacks. why_counted_from u lacks.0 lacks.1) ≡ and_then (lacks_then l) closed
+  lacks_whole : (l : Cursor) → and_then (read_next (lacks_in u) l) (λ lacks. why_counted_from u lacks.0 lacks.1) ≡ and_then (lacks_then l) closed
   lacks_whole l = and_then_behind (read_next (lacks_in u) l) (λ lacks. counted_then lacks.0 lacks.1) closed (λ lacks. why_counted_from u lacks.0 lacks.1) (λ lacks. counted_whole lacks.0 lacks.1)
 
-  whole : (l : Lines) → why_from u l ≡ and_then (all_from l) closed
+  whole : (l : Cursor) → why_from u l ≡ and_then (all_from l) closed
   whole l =
       and_then_behind (read_next (exactly (codes "metis why 1")) l) (λ header. lacks_then header.1) closed
       (λ header. and_then (read_next (lacks_in u) header.1) (λ lacks. why_counted_from u lacks.0 lacks.1))
@@ -104,13 +104,13 @@ module _ (u : Universe) where
 
   -- ---- how many lines there are
 
-  lines_number : (left : ℕ) (lines : List Line) (l : Lines) (p : List Line × Lines) → lines_from u left lines l ≡ Ok p → p.1.number ≡ l.number + left
+  lines_number : (left : ℕ) (lines : List Line) (l : Cursor) (p : List Line × Cursor) → lines_from u left lines l ≡ Ok p → p.1.number ≡ l.number + left
   lines_number zero lines l p h = let e : (lines, l) ≡ p = cc in let n : l.number ≡ p.1.number = ap (λ q. q.1.number) e in omega arith
   lines_number (suc left) lines l p h =
       let next = and_then_is (read_next (line_in u) l) (λ p. lines_from u left (lines ++ p.0 ∷ []) p.1) p h in
       omega (arith, read_next_number (line_in u) l next.0 next.1, lines_number left (lines ++ next.0.0 ∷ []) next.0.1 p next.2)
 
-  lines_then_number : (lacks : Goal) (count : ℕ) (l : Lines) (w : WhyParts × Lines) → lines_then lacks count l ≡ Ok w → w.1.number ≡ l.number + (length w.0.lines + 1)
+  lines_then_number : (lacks : Goal) (count : ℕ) (l : Cursor) (w : WhyParts × Cursor) → lines_then lacks count l ≡ Ok w → w.1.number ≡ l.number + (length w.0.lines + 1)
   lines_then_number lacks count l w h =
       let lines = and_then_is (lines_from u count [] l) (λ lines. last_from (why_parts lacks lines.0) lines.1) w h in
       let last = and_then_is (read_next (exactly (codes "end")) lines.0.1) (λ e. Ok (why_parts lacks lines.0.0, e.1)) w lines.2 in
@@ -120,7 +120,7 @@ module _ (u : Universe) where
       let number : last.0.1.number ≡ w.1.number = ap (λ w. w.1.number) same in
       omega (arith, many, number, lines_number count [] l lines.0 lines.1, read_next_number (exactly (codes "end")) lines.0.1 last.0 last.1)
 
-  all_number : (l : Lines) (w : WhyParts × Lines) → all_from l ≡ Ok w → w.1.number ≡ l.number + (length w.0.lines + 4)
+  all_number : (l : Cursor) (w : WhyParts × Cursor) → all_from l ≡ Ok w → w.1.number ≡ l.number + (length w.0.lines + 4)
   all_number l w h =
       let header = and_then_is (read_next (exactly (codes "metis why 1")) l) (λ header. lacks_then header.1) w h in
       let lacks = and_then_is (read_next (lacks_in u) header.0.1) (λ lacks. counted_then lacks.0 lacks.1) w header.2 in
@@ -136,7 +136,7 @@ module _ (u : Universe) where
 
   -- ---- each fault that is told is one
 
-  unclosed_by : (w : WhyParts × Lines) (f : TFault) (nothing : Bool) → (length w.1.rest == 0) ≡ nothing → and_then {A = Unit {0}} (if nothing then Ok tt else Err (faults.Line (w.1.number + 1))) (λ _. Ok w.0) ≡ Err f
+  unclosed_by : (w : WhyParts × Cursor) (f : TFault) (nothing : Bool) → (length w.1.rest == 0) ≡ nothing → and_then {A = Unit {0}} (if nothing then Ok tt else Err (faults.Line (w.1.number + 1))) (λ _. Ok w.0) ≡ Err f
       → (1 ≤ length w.1.rest) × (f ≡ faults.Line (w.1.number + 1))
   unclosed_by w f true none h = cc
   unclosed_by w f false none h = (not_zero (length w.1.rest) none, cc) where
@@ -144,7 +144,7 @@ module _ (u : Universe) where
     not_zero n h = grind (arith, nat_tests)
 
   -- the lines alone are a text that is read
-  of_end : (bytes : List ℕ) (w : WhyParts × Lines) (f : TFault) → all_from (lines_of bytes 0) ≡ Ok w → Took all_from (lines_of bytes 0) w → (1 ≤ length w.1.rest) × (f ≡ faults.Line (w.1.number + 1)) → IsWhyFault u bytes f
+  of_end : (bytes : List ℕ) (w : WhyParts × Cursor) (f : TFault) → all_from (lines_of bytes 0) ≡ Ok w → Took all_from (lines_of bytes 0) w → (1 ≤ length w.1.rest) × (f ≡ faults.Line (w.1.number + 1)) → IsWhyFault u bytes f
   of_end bytes w f is took past =
       let alone : why_in u (bytes_of took.front ++ []) ≡ Ok w.0 = text_by all_from closed (why_from u) why_text (lines_of (bytes_of took.front ++ []) 0) (Ok (w.0, lines_of [] w.1.number)) (took.each []) in
       let text = why_is u (bytes_of took.front ++ []) w.0 alone in
@@ -174,7 +174,7 @@ module _ (u : Universe) where
         first = λ before rest at some. early_is_short all_from closed (why_from u) why_text bytes before rest f w at some;
       })
 
-  of_lines : (bytes : List ℕ) (f : TFault) → (all_from (lines_of bytes 0) ≡ Err f) ⊎ ((w : WhyParts × Lines) × (all_from (lines_of bytes 0) ≡ Ok w) × (closed w ≡ Err f)) → IsWhyFault u bytes f
+  of_lines : (bytes : List ℕ) (f : TFault) → (all_from (lines_of bytes 0) ≡ Err f) ⊎ ((w : WhyParts × Cursor) × (all_from (lines_of bytes 0) ≡ Ok w) × (closed w ≡ Err f)) → IsWhyFault u bytes f
   of_lines bytes f (inl h) = of_wrong bytes f (all_reads.wrong (lines_of bytes 0) f h)
   of_lines bytes f (inr (w, is, h)) = of_end bytes w f is (all_reads.took (lines_of bytes 0) w is) (unclosed_by w f (length w.1.rest == 0) refl h)
 

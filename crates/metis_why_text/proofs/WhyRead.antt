@@ -9,7 +9,7 @@ use Rattle.metis_tokens.proofs.Outcomes.{and_then_is}
 use Rattle.metis_tokens.proofs.KnownLines.{ended_is, exactly_is}
 use Rattle.metis_tokens.specs.Flaws.{and_then}
 use Rattle.metis_tokens.specs.Line.{line, words, end_line}
-use Rattle.metis_tokens.specs.Cursor.{Lines, ended, exactly, lines_of, read_next}
+use Rattle.metis_tokens.specs.Cursor.{Cursor, ended, exactly, lines_of, read_next}
 use Rattle.metis_tokens.specs.declared.fault.TFault.{TFault}
 use Rattle.metis_universe.specs.GoalWords.{IsWordable}
 use Rattle.metis_universe.specs.Universe.{IsTable, Universe}
@@ -26,7 +26,7 @@ use Rattle.metis_why_text.specs.WhyText.{IsWhyText, lacks_tokens, line_text, why
 
 -- ---- what was read was written
 
-end_is : (w q : WhyParts) (l : Lines) → why_end_from w l ≡ Ok q → (w ≡ q) × (l.rest ≡ end_line)
+end_is : (w q : WhyParts) (l : Cursor) → why_end_from w l ≡ Ok q → (w ≡ q) × (l.rest ≡ end_line)
 end_is w q l h =
     let last = and_then_is (read_next (exactly (codes "end")) l) (λ e. and_then (ended e.1) (λ _. Ok w)) q h in
     let one = read_next_is (exactly (codes "end")) l last.0 last.1 in
@@ -36,18 +36,18 @@ end_is w q l h =
     (cc, one.2 ∙ (λ i. bytes i ++ (10 ∷ none i)))
 
 -- a line that was read, and the text behind it
-line_behind : (l : Lines) (ts : List (List ℕ)) (bytes rest text : List ℕ) → l.rest ≡ bytes ++ (10 ∷ rest) → bytes ≡ words ts → rest ≡ text → l.rest ≡ line ts ++ text
+line_behind : (l : Cursor) (ts : List (List ℕ)) (bytes rest text : List ℕ) → l.rest ≡ bytes ++ (10 ∷ rest) → bytes ≡ words ts → rest ≡ text → l.rest ≡ line ts ++ text
 line_behind l ts bytes rest text is says behind = is ∙ (λ i. says i ++ (10 ∷ behind i)) ∙ sym (append_assoc (words ts) (10 ∷ []) text)
 
 module _ (u : Universe) where
   -- what was read behind the goal
-  record CountedRead (lacks : Goal) (l : Lines) (q : WhyParts) : Type 0 where
+  record CountedRead (lacks : Goal) (l : Cursor) (q : WhyParts) : Type 0 where
     lacking : lacks ≡ q.lacks
     are : AllByRecursion (IsTellable u) q.lines
     few : length q.lines < 2 ^ 32
     text : l.rest ≡ counted_bytes u q.lines
 
-  counted_is : (lacks : Goal) (l : Lines) (q : WhyParts) → why_counted_from u lacks l ≡ Ok q → CountedRead lacks l q
+  counted_is : (lacks : Goal) (l : Cursor) (q : WhyParts) → why_counted_from u lacks l ≡ Ok q → CountedRead lacks l q
   counted_is lacks l q h =
       let count = and_then_is (read_next count_in l) (λ count. and_then (lines_from u count.0 [] count.1) (λ lines. why_end_from (why_parts lacks lines.0) lines.1)) q h in
       let first = read_next_is count_in l count.0 count.1 in

@@ -20,7 +20,7 @@ use Rattle.metis_tokens.specs.declared.flaw.Flaw.TheVariants.{Form}
 use Rattle.metis_tokens.specs.Words.{pair_in, goal_in}
 use Rattle.metis_tokens.specs.Flaws.{and_then, both, made}
 use Rattle.metis_tokens.specs.Line.{words}
-use Rattle.metis_tokens.specs.Cursor.{Lines, ended, exactly, lines_of, read_next}
+use Rattle.metis_tokens.specs.Cursor.{Cursor, ended, exactly, lines_of, read_next}
 use Rattle.metis_tokens.specs.Tokens.{named, number_in, tokens}
 use Rattle.metis_universe.specs.Universe.{Universe, is_free, port_named}
 use Rattle.metis_why.specs.declared.reason.Explanation.{Explanation}
@@ -94,7 +94,7 @@ abbrev pub line_in : Universe → List ℕ → Result Line Flaw
 line_in u bytes = fitting (is_text_of u bytes) (line_of_tokens u (tokens bytes))
 
 -- so many more lines behind those that were read
-abbrev pub lines_from : Universe → ℕ → List Line → Lines → Result (List Line × Lines) TFault
+abbrev pub lines_from : Universe → ℕ → List Line → Cursor → Result (List Line × Cursor) TFault
 lines_from u zero lines l = Ok (lines, l)
 lines_from u (suc left) lines l = and_then (read_next (line_in u) l) (λ p. lines_from u left (lines ++ p.0 ∷ []) p.1)
 
@@ -108,17 +108,17 @@ abbrev pub why_parts : Goal → List Line → WhyParts
 why_parts lacks lines = record { lacks = lacks; lines = lines }
 
 -- the last line, and nothing behind it
-abbrev pub why_end_from : WhyParts → Lines → Result WhyParts TFault
+abbrev pub why_end_from : WhyParts → Cursor → Result WhyParts TFault
 why_end_from w l = and_then (read_next (exactly (codes "end")) l) (λ e. and_then (ended e.1) (λ _. Ok w))
 
 -- the lines, of which the first one says how many there are
-abbrev pub why_counted_from : Universe → Goal → Lines → Result WhyParts TFault
+abbrev pub why_counted_from : Universe → Goal → Cursor → Result WhyParts TFault
 why_counted_from u lacks l =
     and_then (read_next count_in l) (λ count.
     and_then (lines_from u count.0 [] count.1) (λ lines.
     why_end_from (why_parts lacks lines.0) lines.1))
 
-abbrev pub why_from : Universe → Lines → Result WhyParts TFault
+abbrev pub why_from : Universe → Cursor → Result WhyParts TFault
 why_from u l =
     and_then (read_next (exactly (codes "metis why 1")) l) (λ header.
     and_then (read_next (lacks_in u) header.1) (λ lacks.

@@ -11,7 +11,7 @@ ghost use Rattle.metis_why_text.specs.WhyText.{why_bytes};
 
 use crate::said::{count_of, lacks_in, line_in};
 use metis_ids::Goal;
-use metis_tokens::cursor::{Lines, read_exactly};
+use metis_tokens::cursor::{Cursor, read_exactly};
 use metis_tokens::{TFault, tokens_of};
 use metis_universe::Universe;
 use metis_why::{Explanation, Line};
@@ -38,7 +38,7 @@ fn read_text(alloc: Global, u: &Universe, bytes: &[u8]) -> Result<Explanation, T
     requires { length bytes.now < 2 ^ 32 - 1 }
     ensures { ReadsWhy result (why_in u.now bytes.now) }
 {
-    let mut lines = Lines::of(bytes);
+    let mut lines = Cursor::of(bytes);
     read_exactly("metis why 1", &mut lines)?;
     let lacks = read_lacks(alloc, u, &mut lines)?;
     let count = read_count(alloc, &mut lines)?;
@@ -48,7 +48,7 @@ fn read_text(alloc: Global, u: &Universe, bytes: &[u8]) -> Result<Explanation, T
     Ok(Explanation { lacks, lines: said })
 }
 
-fn read_lacks(alloc: Global, u: &Universe, lines: &mut Lines<'_>) -> Result<Goal, TFault>
+fn read_lacks(alloc: Global, u: &Universe, lines: &mut Cursor<'_>) -> Result<Goal, TFault>
     ensures { Reads (λ g. g) result lines.new (read_next (lacks_in u.now) lines.old) }
 {
     let line = lines.next_line()?;
@@ -58,7 +58,7 @@ fn read_lacks(alloc: Global, u: &Universe, lines: &mut Lines<'_>) -> Result<Goal
     }
 }
 
-fn read_count(alloc: Global, lines: &mut Lines<'_>) -> Result<u32, TFault>
+fn read_count(alloc: Global, lines: &mut Cursor<'_>) -> Result<u32, TFault>
     ensures { Reads (λ n. n) result lines.new (read_next count_in lines.old) }
 {
     let line = lines.next_line()?;
@@ -74,7 +74,7 @@ fn read_lines(
     alloc: Global,
     u: &Universe,
     count: u32,
-    lines: &mut Lines<'_>,
+    lines: &mut Cursor<'_>,
 ) -> Result<Vec<Line>, TFault>
     ensures { Reads (λ said. said.items) result lines.new (lines_from u.now count [] lines.old) }
 {
@@ -86,7 +86,7 @@ fn read_lines(
     Ok(said)
 }
 
-fn read_line(alloc: Global, u: &Universe, lines: &mut Lines<'_>) -> Result<Line, TFault>
+fn read_line(alloc: Global, u: &Universe, lines: &mut Cursor<'_>) -> Result<Line, TFault>
     ensures { Reads (λ l. l) result lines.new (read_next (line_in u.now) lines.old) }
 {
     let line = lines.next_line()?;
