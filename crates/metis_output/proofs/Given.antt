@@ -5,16 +5,11 @@ use Rattle.std.specs.declared.option.Option.{Option}
 use Rattle.metis_output.specs.Shown.{Shown}
 use Rattle.metis_output.specs.declared.status.Status.{Status}
 use Rattle.metis_output.proofs.Shown.{shown_weaker}
-use Rattle.metis_output.specs.Answers.{Gives}
+use Rattle.metis_output.specs.Answers.{Gives, Says, status_for}
 use Rattle.metis_output.specs.declared.answer.Answer.{Answer}
 
 pub given : {L E : Type 0} (P : List (List ℕ) → Status → Type 0) (rest : L → List (List ℕ)) (answer : Result (Answer L) E) (old new : Option (List (List ℕ))) (before now : ℕ) (status : Status)
-    → IfOk answer (λ a. P (rest a.lines) a.status) → Shown (Gives {E = E} rest answer) old new before now status → Shown P old new before now status
+    → IfOk answer (Says P rest) → Shown (Gives {E = E} rest answer) old new before now status → Shown P old new before now status
 given {E = E} P rest (Ok a) old new before now status says shown =
-    shown_weaker (Gives {E = E} rest (Ok a)) P old new before now status (λ lines told gives. subst (P lines) (sym gives.1) (subst (λ ls. P ls a.status) (sym gives.0) says)) shown
+    shown_weaker (Gives {E = E} rest (Ok a)) P old new before now status (λ lines told gives. subst (P lines) (sym gives.1) (subst (λ ls. P ls (status_for a.good)) (sym gives.0) says)) shown
 given {E = E} P rest (Err e) old new before now status says shown = shown_weaker (Gives {E = E} rest (Err e)) P old new before now status (λ lines told none. absurd none) shown
-
--- what is promised of an answer says more of it
-pub given_then : {L E : Type 0} (P Q : List (List ℕ) → Status → Type 0) (rest : L → List (List ℕ)) (answer : Result (Answer L) E) (old new : Option (List (List ℕ))) (before now : ℕ) (status : Status)
-    → ((lines : List (List ℕ)) (status : Status) → P lines status → Q lines status) → IfOk answer (λ a. P (rest a.lines) a.status) → Shown (Gives {E = E} rest answer) old new before now status → Shown Q old new before now status
-given_then P Q rest answer old new before now status more says shown = shown_weaker P Q old new before now status more (given P rest answer old new before now status says shown)

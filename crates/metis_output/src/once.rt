@@ -1,9 +1,9 @@
 //! One line.
-ghost use Rattle.std.specs.Prelude.{◌≡◌, ◌∷◌, [], string_bytes};
+ghost use Rattle.std.specs.Prelude.{◌≡◌, ◌∷◌, [], IfOk, string_bytes};
 ghost use Rattle.metis_outside.specs.Pieces.{IsLine};
 
 use crate::Lines;
-use std::alloc::AllocError;
+use std::alloc::{AllocError, Global};
 use std::marker::Model;
 
 /// One line, until it is given. Contracts see the lines that are left.
@@ -32,6 +32,14 @@ impl Once {
         ensures { result ≡ string_bytes line ∷ [] }
     {
         Once { line: Some(line) }
+    }
+
+    /// The line that is this text.
+    pub fn copy(alloc: Global, line: &str) -> Result<Once, AllocError>
+        requires { IsLine line.now }
+        ensures { IfOk result (λ l. l ≡ line.now ∷ []) }
+    {
+        Ok(Once::of(String::from_str(alloc, line)?))
     }
 }
 

@@ -1,0 +1,36 @@
+//! How an answer is put.
+ghost use Rattle.std.specs.Prelude.{◌≡◌, ◌≢◌};
+ghost use Rattle.metis_output.specs.Answers.{Gives, status_for};
+ghost use Rattle.metis_output.specs.PutLines.{PutsLines};
+ghost use Rattle.metis_output.specs.Shown.{Shown};
+
+use crate::{Answer, Lines, Status, put_all, said};
+use metis_outside::Sink;
+use std::alloc::Global;
+
+/// Puts the answer, each line by one put, and ends with its status. If there is none, memory ran out.
+pub fn finish<L: Lines + Drop, E: Drop, K: Sink>(
+    alloc: Global,
+    answer: Result<Answer<L>, E>,
+    out: &mut K,
+) -> Status
+    ensures answer { Shown (Gives L.rest answer) (K.written out.old) (K.written out.new) (K.faults out.old) (K.faults out.new) result }
+    ensures lines { PutsLines (K.written out.old) (K.written out.new) result }
+    ensures calm { result ≢ Status.ReadFault }
+{
+    match answer {
+        Ok(answer) => {
+            let Answer { lines, good } = answer;
+            let mut lines = lines;
+            said(put_all(alloc, &mut lines, out), status_for(good))
+        }
+        Err(_) => Status::NoMemory,
+    }
+}
+
+// The status of an answer.
+fn status_for(good: bool) -> Status
+    ensures { result ≡ status_for good }
+{
+    if good { Status::Done } else { Status::No }
+}
