@@ -1,11 +1,13 @@
 pub mod ActionNumbers
 pub mod Answered
+pub mod AskedLines
 pub mod CheckNumbers
 pub mod CheckWords
 pub mod Courses
 pub mod FaultFeeds
 pub mod FormFacts
 pub mod FormReplies
+pub mod KeptLines
 pub mod Numbers
 pub mod ReplyFeeds
 pub mod SessionEnds

@@ -58,6 +58,13 @@ impl Earlier {
         self.kept.pop()
     }
 
+    /// Keeps none any more.
+    pub fn forget(&mut self)
+        ensures { self.new ≡ [] }
+    {
+        self.kept.clear();
+    }
+
     /// How many are kept.
     pub fn len(&self) -> u64
         ensures { result ≡ length self.now }

@@ -2,6 +2,7 @@
 #![tactic(auto)]
 
 mod actions;
+mod asked;
 mod change;
 mod check;
 mod earlier;

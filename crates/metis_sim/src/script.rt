@@ -1,6 +1,8 @@
 //! What a session over a universe replies to the lines of a script.
-ghost use Rattle.std.specs.Prelude.{◌≡◌, ◌≢◌, ◌++◌, [], IfOk, IfNone, IfSome};
+ghost use Rattle.std.specs.Prelude.{◌≡◌, ◌≢◌, ◌++◌, [], IfOk, IfNone, IfSome, drop, false, map};
+ghost use Rattle.std.specs.List.{list_any};
 ghost use Rattle.metis_tokens.specs.Scripts.{script_lines};
+ghost use Rattle.metis_sim.specs.Asked.{is_undo};
 ghost use Rattle.metis_sim.specs.Session.{begin};
 ghost use Rattle.metis_sim.specs.SessionLines.{replies_to};
 
@@ -9,6 +11,7 @@ use crate::write::{ReplyLines, reply_lines};
 use crate::{Reply, Session};
 use metis_ids::NoMemory;
 use metis_output::{Either, Lines};
+use metis_tokens::bytes::is;
 use metis_tokens::script_lines;
 use metis_universe::Universe;
 use std::alloc::{AllocError, Global};
@@ -62,17 +65,21 @@ struct Replies<'a> {
     session: Session<'a>,
     script: Vec<&'a [u8]>,
     at: usize,
+    /// The place behind the last `undo` of the script. From there on nothing need be kept.
+    undone: usize,
 }
 
 impl<'a> Model for Replies<'a> {
-    ghost use Rattle.std.specs.Prelude.{◌≡◌, ℕ, List, drop, map};
+    ghost use Rattle.std.specs.Prelude.{◌≡◌, ℕ, List, drop, false, map};
+    ghost use Rattle.std.specs.List.{list_any};
+    ghost use Rattle.metis_sim.specs.Asked.{is_undo};
     ghost use Rattle.metis_sim.specs.SessionLines.{replies_to};
 
     ghost Value = { List (List ℕ) };
 
     ghost view = { λ r. replies_to r.universe.now r.session (map (λ line. line.now) (drop r.at r.script.items)) };
 
-    ghost invariant = { λ r. r.session.universe ≡ r.universe.now };
+    ghost invariant = { λ r. (r.session.universe ≡ r.universe.now) × (list_any is_undo (map (λ line. line.now) (drop r.undone r.script.items)) ≡ false) };
 }
 
 impl<'a> Replies<'a> {
@@ -80,12 +87,14 @@ impl<'a> Replies<'a> {
         ensures { IfOk result (λ r. r ≡ replies_to u.now (begin u.now) (script_lines script.now)) }
     {
         let script = script_lines(alloc, script)?;
+        let undone = past_last_undo(&script);
         Ok(Replies {
             alloc,
             universe: u,
             session: Session::new(alloc, u),
             script,
             at: 0,
+            undone,
         })
     }
 
@@ -102,7 +111,8 @@ impl<'a> Replies<'a> {
         if self.at >= self.script.len() {
             return Ok(None);
         }
-        let reply = self.session.line(self.script[self.at]);
+        let keeps = self.at < self.undone;
+        let reply = self.session.reply_to(self.script[self.at], keeps);
         self.at += 1;
         if let Reply::NoMemory = reply {
             return Err(AllocError);
@@ -112,4 +122,15 @@ impl<'a> Replies<'a> {
         };
         Ok(Some(lines))
     }
+}
+
+// The place behind the last of these lines that is `undo`.
+fn past_last_undo(lines: &[&[u8]]) -> usize
+    ensures { list_any is_undo (map (λ line. line.now) (drop result lines.now)) ≡ false }
+{
+    let mut past = lines.len();
+    while past > 0 && !is(lines[past - 1], "undo") {
+        past -= 1;
+    }
+    past
 }
