@@ -1,0 +1,9 @@
+pub mod Audit
+pub mod Confirm
+pub mod Crew
+pub mod GoalLine
+pub mod Place
+pub mod Refute
+pub mod Replay
+pub mod Waves
+pub mod Why

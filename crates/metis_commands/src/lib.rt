@@ -1,0 +1,12 @@
+//! The answers of the commands that need no planner, a file for each: lines that are made one at a time, and whether they are good.
+#![tactic(auto)]
+
+pub mod audit;
+pub mod confirm;
+pub mod crew;
+mod goal_line;
+pub mod place;
+pub mod refute;
+pub mod replay;
+pub mod waves;
+pub mod why;

@@ -1,0 +1,5 @@
+pub mod Load
+pub mod NeverLoose
+pub mod Plan
+pub mod Planned
+pub mod PrintedAudits
