@@ -1,9 +1,9 @@
-pub mod Audit
-pub mod Confirm
-pub mod Crew
+pub mod AuditLines
+pub mod ConfirmLines
+pub mod CrewLines
 pub mod GoalLine
-pub mod Place
-pub mod Refute
-pub mod Replay
-pub mod Waves
-pub mod Why
+pub mod PlaceLines
+pub mod RefuteLines
+pub mod ReplayLines
+pub mod WaveLines
+pub mod WhyLines

@@ -71,7 +71,7 @@ pub struct TurnLines<'a> {
 impl<'a> Lines for TurnLines<'a> {
     ghost rest = { λ c. lines_left c.crew.actions c.crew.counts c.turns.now c.ended };
 
-    #[tactic(auto, using(crate::proofs::Crew::is_turn_line, crate::proofs::Crew::is_progress_line))]
+    #[tactic(auto, using(crate::proofs::CrewLines::is_turn_line, crate::proofs::CrewLines::is_progress_line))]
     fn next_line(&mut self, line: &mut String) -> Result<bool, AllocError> {
         if let Some((instance, turns)) = self.turns.split_first() {
             let answer = self.crew.step(*instance);

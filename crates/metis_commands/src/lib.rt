@@ -5,8 +5,11 @@ pub mod audit;
 pub mod confirm;
 pub mod crew;
 mod goal_line;
+mod laws;
 pub mod place;
 pub mod refute;
 pub mod replay;
 pub mod waves;
 pub mod why;
+
+pub use laws::a_crew_has_a_line_for_each_turn;

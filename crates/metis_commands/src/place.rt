@@ -72,7 +72,7 @@ fn place_run<'a>(
     }
 }
 
-#[tactic(auto, using(crate::proofs::Place::is_no_room_line))]
+#[tactic(auto, using(crate::proofs::PlaceLines::is_no_room_line))]
 fn no_room_line(alloc: Global, number: u32, size: u32, free: u64) -> Result<Once, AllocError>
     ensures { IfOk result (λ l. l ≡ no_room_line number size free ∷ []) }
 {
@@ -146,7 +146,7 @@ pub struct SeatLines<'a> {
 impl<'a> Lines for SeatLines<'a> {
     ghost rest = { λ s. on_lines s.hosts.now (drop s.at s.made.items) (drop s.at s.places.items) };
 
-    #[tactic(auto, using(crate::proofs::Place::is_on_line))]
+    #[tactic(auto, using(crate::proofs::PlaceLines::is_on_line))]
     fn next_line(&mut self, line: &mut String) -> Result<bool, AllocError> {
         self.hosts.keeps_invariant();
         if self.at >= self.made.len() {
@@ -183,7 +183,7 @@ pub struct RestLines {
 impl Lines for RestLines {
     ghost rest = { λ r. rest_left (r.at + 1) (drop r.at r.holds.items) r.made r.hosts r.ended };
 
-    #[tactic(auto, using(crate::proofs::Place::is_hold_line, crate::proofs::Place::is_placed_line))]
+    #[tactic(auto, using(crate::proofs::PlaceLines::is_hold_line, crate::proofs::PlaceLines::is_placed_line))]
     fn next_line(&mut self, line: &mut String) -> Result<bool, AllocError> {
         if let Some(at) = next_hold(&self.holds, self.at) {
             let hold = &self.holds[at];

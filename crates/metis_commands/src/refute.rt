@@ -42,11 +42,7 @@ fn is_good(judgement: &Verdict2) -> bool
 }
 
 // The line of a verdict on a set of pairs.
-fn judgement_line(
-    alloc: Global,
-    u: &Universe,
-    judgement: &Verdict2,
-) -> Result<String, AllocError>
+fn judgement_line(alloc: Global, u: &Universe, judgement: &Verdict2) -> Result<String, AllocError>
     requires { NamesOf u.now judgement.now }
     ensures { IfOk result (λ line. string_bytes line ≡ judgement_line u.now judgement.now) }
 {

@@ -28,9 +28,13 @@ pub fn answer(
     ensures { IfOk result (Says (Replayed u.now goals.now actions.now) ⟦<Once as Lines>⟧.rest) }
 {
     u.keeps_invariant();
-    let (verdict, standing) = replayed(alloc, u, actions, goals)?;
-    let line = verdict_line(alloc, u, standing, actions.len(), &verdict)?;
-    Ok(line_answer(line, is_good(&verdict)))
+    match replayed(alloc, u, actions, goals) {
+        Ok((verdict, standing)) => {
+            let line = verdict_line(alloc, u, standing, actions.len(), &verdict)?;
+            Ok(line_answer(line, is_good(&verdict)))
+        }
+        Err(_) => Err(NoMemory),
+    }
 }
 
 fn is_good(verdict: &Verdict) -> bool

@@ -118,7 +118,7 @@ pub struct StartLines {
 impl Lines for StartLines {
     ghost rest = { λ s. numbered start_line (s.at + 1) (zip (drop s.at s.earliest.items) (drop s.at s.latest.items)) };
 
-    #[tactic(auto, using(crate::proofs::Waves::is_start_line))]
+    #[tactic(auto, using(crate::proofs::WaveLines::is_start_line))]
     fn next_line(&mut self, line: &mut String) -> Result<bool, AllocError> {
         if self.at >= self.earliest.len() {
             return Ok(false);
@@ -149,7 +149,7 @@ pub struct EndLines {
 impl Lines for EndLines {
     ghost rest = { λ e. ends_left e.finish e.chain.items e.finished e.ended };
 
-    #[tactic(auto, using(crate::proofs::Waves::is_finish_line, crate::proofs::Waves::is_chain_line))]
+    #[tactic(auto, using(crate::proofs::WaveLines::is_finish_line, crate::proofs::WaveLines::is_chain_line))]
     fn next_line(&mut self, line: &mut String) -> Result<bool, AllocError> {
         if self.ended {
             return Ok(false);

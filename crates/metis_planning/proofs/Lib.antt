@@ -1,5 +1,5 @@
-pub mod Load
+pub mod LoadLines
+pub mod MadePlans
 pub mod NeverLoose
-pub mod Plan
-pub mod Planned
+pub mod PlanAnswers
 pub mod PrintedAudits

@@ -1,22 +1,22 @@
 -- The lines that answer, and the status.
 use Rattle.std.specs.Prelude.{◌≡◌, ℕ, List, [], ◌∷◌}
 use Rattle.metis_ujson.specs.Canonical.{canonical}
-use Rattle.metis_check.specs.Audited.{Audited}
-use Rattle.metis_deploy.specs.Controlled.{Controlled}
-use Rattle.metis_check.specs.Confirmed.{Confirms}
-use Rattle.metis_deploy.specs.Crewed.{Crewed}
-use Rattle.metis_check.specs.Explained.{WhyAnswer}
-use Rattle.metis_check.specs.Judged.{Judged}
-use Rattle.metis_answer.specs.Loaded.{Loaded}
-use Rattle.metis_deploy.specs.Placed.{Placed}
-use Rattle.metis_answer.specs.Planned.{PlanAnswer}
-use Rattle.metis_check.specs.Replayed.{Replayed}
-use Rattle.metis_answer.specs.RolledOut.{RolledOut}
-use Rattle.metis_check.specs.Simulated.{Simulated}
-use Rattle.metis_deploy.specs.Waved.{Waved}
+use Rattle.metis_commands.specs.Audit.{Audited}
+use Rattle.metis_commands.specs.Control.{Controlled}
+use Rattle.metis_commands.specs.Confirm.{Confirms}
+use Rattle.metis_commands.specs.Crew.{Crewed}
+use Rattle.metis_commands.specs.Why.{WhyAnswer}
+use Rattle.metis_commands.specs.Refute.{Judged}
+use Rattle.metis_planning.specs.Load.{Loaded}
+use Rattle.metis_commands.specs.Place.{Placed}
+use Rattle.metis_planning.specs.Plan.{PlanAnswer}
+use Rattle.metis_commands.specs.Replay.{Replayed}
+use Rattle.metis_planning.specs.Rollout.{RolledOut}
+use Rattle.metis_commands.specs.Sim.{Simulated}
+use Rattle.metis_commands.specs.Waves.{Waved}
 use Rattle.metis_output.specs.declared.status.Status.{Status}
 use Rattle.metis_output.specs.declared.status.Status.TheVariants.{Done}
-use Rattle.metis_gather.specs.Answer.{Answer, Plan, Replay, Refute, Audit, Sim, Crew, Waves, Control, Rollout, Place, Print, Load, Why, Confirm}
+use Rattle.metis_inputs.specs.Answer.{Answer, Plan, Replay, Refute, Audit, Sim, Crew, Waves, Control, Rollout, Place, Print, Load, Why, Confirm}
 
 -- these are the lines of such an answer, and its status
 abbrev pub IsAnswer : Answer → List (List ℕ) → Status → Type 0

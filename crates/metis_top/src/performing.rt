@@ -98,15 +98,15 @@ fn over_a_text<H: Shelf, K: Sink>(
             Err(stop) => end(alloc, stop, out),
         },
         Verb::Refute => match refusal_of(alloc, command, shelf) {
-            Ok((asked, refusal)) => finish(alloc, refute::answer(alloc, &asked.universe, &refusal.pairs, &asked.goals), out),
+            Ok(read) => finish(alloc, refute::answer(alloc, &read.asked.universe, &read.refusal.pairs, &read.asked.goals), out),
             Err(stop) => end(alloc, stop, out),
         },
         Verb::Confirm => match explanation_of(alloc, command, shelf) {
-            Ok((asked, why)) => finish(alloc, confirm::answer(alloc, &asked.universe, &why.lines, &asked.goals), out),
+            Ok(read) => finish(alloc, confirm::answer(alloc, &read.asked.universe, &read.why.lines, &read.asked.goals), out),
             Err(stop) => end(alloc, stop, out),
         },
         Verb::Sim => match session_of(alloc, command, shelf) {
-            Ok((universe, script)) => finish(alloc, sim::answer(alloc, &universe, &script), out),
+            Ok(read) => finish(alloc, sim::answer(alloc, &read.universe, &read.script), out),
             Err(stop) => end(alloc, stop, out),
         },
         Verb::Waves => match plan_of(alloc, command, shelf) {
@@ -130,23 +130,26 @@ fn over_two_texts<H: Shelf, K: Sink>(
 {
     match command.verb {
         Verb::Crew => match turns_of(alloc, command, shelf) {
-            Ok((read, turns)) => {
-                let actions = &read.text.plan.actions;
-                let steady = steady_waits(alloc, &read.universe, actions);
-                finish(alloc, crew::answer(alloc, &read.universe, actions, &steady, &turns), out)
+            Ok(read) => {
+                let (u, actions) = (&read.planned.universe, &read.planned.text.plan.actions);
+                let steady = steady_waits(alloc, u, actions);
+                finish(alloc, crew::answer(alloc, u, actions, &steady, &read.turns), out)
             }
             Err(stop) => end(alloc, stop, out),
         },
         Verb::Control => match script_of(alloc, command, shelf) {
-            Ok((read, script)) => {
-                let actions = &read.text.plan.actions;
-                let steady = steady_waits(alloc, &read.universe, actions);
-                finish(alloc, control::answer(alloc, &read.universe, actions, &steady, &script), out)
+            Ok(read) => {
+                let (u, actions) = (&read.planned.universe, &read.planned.text.plan.actions);
+                let steady = steady_waits(alloc, u, actions);
+                finish(alloc, control::answer(alloc, u, actions, &steady, &read.script), out)
             }
             Err(stop) => end(alloc, stop, out),
         },
         Verb::Place => match hosts_of(alloc, command, shelf) {
-            Ok((read, hosts)) => finish(alloc, place::answer(alloc, &read.universe, &read.text.plan.actions, &hosts), out),
+            Ok(read) => {
+                let (u, actions) = (&read.planned.universe, &read.planned.text.plan.actions);
+                finish(alloc, place::answer(alloc, u, actions, &read.hosts), out)
+            }
             Err(stop) => end(alloc, stop, out),
         },
         _ => unreachable!(),

@@ -1,5 +1,5 @@
 use Rattle.std.proofs.Common.{◌∙◌, false, ap}
-use Rattle.metis_commands.proofs.Crew.{all_left}
+use Rattle.metis_commands.proofs.CrewLines.{all_left}
 use Rattle.metis_commands.specs.Crew.{lines_left}
 use Rattle.metis_crew.specs.Crew.{CrewState, start}
 use Rattle.metis_commands.proofs.crew.turn_lines.Goals as goal

@@ -1,7 +1,7 @@
 use Rattle.std.proofs.Common.{◌∙◌, ◌++◌, ap, sym}
 use Rattle.std.specs.Option.{option_to_list}
 use Rattle.metis_commands.specs.Place.{inst_made}
-use Rattle.metis_commands.proofs.Place.{made_next}
+use Rattle.metis_commands.proofs.PlaceLines.{made_next}
 use Rattle.metis_commands.proofs.place.made_of.Goals as goal
 
 pub loop-action-preserved : goal.loop-action-preserved

@@ -1,6 +1,6 @@
 use Rattle.std.proofs.Common.{sym, subst}
 use Rattle.metis_outside.specs.Pieces.{IsLine}
-use Rattle.metis_planning.proofs.Load.{IsLine-load_line}
+use Rattle.metis_planning.proofs.LoadLines.{IsLine-load_line}
 use Rattle.metis_planning.proofs.load.summary.Goals as goal
 
 pub line_answer-requires : goal.line_answer-requires

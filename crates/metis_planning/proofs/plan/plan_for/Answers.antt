@@ -1,4 +1,4 @@
-use Rattle.metis_planning.proofs.Plan.{IsKnown, answer_by_plan}
+use Rattle.metis_planning.proofs.PlanAnswers.{IsKnown, answer_by_plan}
 use Rattle.metis_planning.proofs.plan.plan_for.Goals as goal
 
 pub returns-in-Ok-clause-plans : goal.returns-in-Ok-clause-plans

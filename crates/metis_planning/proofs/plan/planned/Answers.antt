@@ -1,6 +1,6 @@
 use Rattle.std.proofs.Common.{arith}
-use Rattle.metis_planning.proofs.Plan.{answer_by_refusal, answer_for_goals}
-use Rattle.metis_planning.proofs.Planned.{planned_by}
+use Rattle.metis_planning.proofs.PlanAnswers.{answer_by_refusal, answer_for_goals}
+use Rattle.metis_planning.proofs.MadePlans.{planned_by}
 use Rattle.metis_planning.specs.Plan.{plan_text}
 use Rattle.metis_planning.proofs.plan.planned.Goals as goal
 

@@ -1,4 +1,4 @@
-use Rattle.metis_commands.proofs.Crew.{is_turn_line}
+use Rattle.metis_commands.proofs.CrewLines.{is_turn_line}
 use Rattle.metis_commands.proofs.crew.TurnLinesLines.next_line.Goals as goal
 
 pub returns-in-Some-clause-line : goal.returns-in-Some-clause-line
