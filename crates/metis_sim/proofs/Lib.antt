@@ -3,10 +3,12 @@ pub mod Answered
 pub mod CheckNumbers
 pub mod CheckWords
 pub mod Courses
+pub mod FaultFeeds
 pub mod FormFacts
 pub mod FormReplies
 pub mod Numbers
+pub mod ReplyFeeds
+pub mod SessionEnds
 pub mod ShownNumbers
 pub mod Undone
 pub mod WordLists
-pub mod WrittenItems

@@ -4,4 +4,5 @@ pub mod Forms
 pub mod Orders
 pub mod Replies
 pub mod Session
+pub mod SessionLines
 pub mod Words

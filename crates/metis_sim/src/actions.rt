@@ -1,16 +1,16 @@
 //! Reads an action from the tokens of a line.
-ghost use Rattle.std.specs.Prelude.{◌≡◌, IfOk, map};
+ghost use Rattle.std.specs.Prelude.{◌≡◌, ◌<◌, IfOk, IsTrue, Some, map};
 ghost use Rattle.metis_universe.specs.Config.{pair_of};
 ghost use Rattle.metis_universe.specs.Numbers.{IsOf};
-ghost use Rattle.metis_universe.specs.Universe.{port_named, type_named};
+ghost use Rattle.metis_universe.specs.Universe.{pair_count, port_named, state_named, type_named};
 ghost use Rattle.metis_config.specs.Over.{IsOver};
 ghost use Rattle.metis_sim.specs.Orders.{action_in, between, bind_args, delete_args, delete_in, ends_in, formed, known, move_args, move_in, move_states, named, new_args, new_in, present, tie_args, tie_ends, unbind_args};
 ghost use Rattle.metis_sim.specs.Words.{number_of};
 
-use crate::bytes::is;
 use crate::misread::Misread;
 use metis_config::Config;
 use metis_ids::{Action, InstNo, PairIx, PortIx, TypeIx};
+use metis_tokens::bytes::is;
 use metis_tokens::number_in;
 use metis_universe::{Universe, name_in};
 
@@ -92,9 +92,36 @@ fn between(u: &Universe, c: &Config, z: InstNo, from: &str, to: &str) -> Result<
 {
     let pair = present(c, z)?;
     let kind = u.type_of(pair);
-    let from = known(u.state_named(kind, from))?;
-    let to = known(u.state_named(kind, to))?;
+    let from = known(state_near(u, kind, pair, from))?;
+    let to = known(state_near(u, kind, beside(u, pair), to))?;
     Ok(Action::Move { inst: z, from, to })
+}
+
+// The pair of the type and its state of this name. The pair `near` is tried first. It may be any: if it is the one that is
+// meant, none is looked for.
+fn state_near(u: &Universe, kind: TypeIx, near: PairIx, name: &str) -> Option<PairIx>
+    ensures { result ≡ state_named u.now kind name.now }
+{
+    if is_state(u, kind, near, name) {
+        Some(near)
+    } else {
+        u.state_named(kind, name)
+    }
+}
+
+// Whether the pair is of the type, and has a state of this name.
+fn is_state(u: &Universe, kind: TypeIx, pair: PairIx, name: &str) -> bool
+    ensures { IsTrue result → state_named u.now kind name.now ≡ Some pair }
+{
+    u.keeps_invariant();
+    pair.0 < u.pairs() && u.type_of(pair) == kind && name == u.state_name(pair)
+}
+
+// A pair that may be moved to from this one, as a guess.
+fn beside(u: &Universe, pair: PairIx) -> PairIx
+    requires { pair < pair_count u.now }
+{
+    u.next(pair).first().copied().unwrap_or(pair)
 }
 
 fn move_in(u: &Universe, c: &Config, z: &[u8], from: &[u8], to: &[u8]) -> Result<Action, Misread>

@@ -1,5 +1,5 @@
 //! Laws over the definitions.
-ghost use Rattle.std.specs.Prelude.{◌≡◌, ◌≢◌, ◌↔◌, ℕ, List, ◌∷◌, IsFalse, IsTrue, Some, codes, map};
+ghost use Rattle.std.specs.Prelude.{◌≡◌, ◌≢◌, ◌↔◌, ℕ, List, [], ◌∷◌, IsFalse, IsTrue, Some, codes, map};
 ghost use Rattle.metis_ids.specs.declared.goals.Goal.{Goal};
 ghost use Rattle.metis_sim.specs.Checks.{goals_of};
 ghost use Rattle.metis_sim.specs.Forms.{HasForm, IsOfUnknown};
@@ -9,6 +9,7 @@ ghost use Rattle.std.specs.List.{AllByRecursion};
 ghost use Rattle.metis_universe.specs.Config.{Correct};
 ghost use Rattle.metis_universe.specs.Universe.{Universe, IsUniverse};
 ghost use Rattle.metis_sim.specs.Session.{Session, after_line, after_lines, answer, begin, changes, replies, reply};
+ghost use Rattle.metis_sim.specs.SessionLines.{replies_to};
 ghost use Rattle.metis_sim.specs.declared.reply.Reply.TheVariants.{BadLine, Bye, Did, Ended, Undone, Unknown};
 
 /// After an action that was done, `undo` gives the session before it again, and with it its configuration.
@@ -57,4 +58,9 @@ pub fn only_ended_sessions_say_so()
 pub fn only_quit_ends_a_session()
     ensures line { (s : Session) (line : List ℕ) → IsFalse s.ended → IsTrue (after_line s line).ended → line ≡ codes "quit" }
     ensures reply { (s : Session) (line : List ℕ) → IsFalse s.ended → reply s line ≢ Bye → IsFalse (after_line s line).ended }
+{}
+
+/// Behind the reply to `quit` nothing is put, whatever lines follow.
+pub fn nothing_is_put_behind_quit()
+    ensures { (u : Universe) (s : Session) (line : List ℕ) (lines : List (List ℕ)) → reply s line ≡ Bye → replies_to u s (line ∷ lines) ≡ codes "bye\n" ∷ [] }
 {}

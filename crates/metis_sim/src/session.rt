@@ -9,7 +9,6 @@ ghost use Rattle.metis_sim.specs.Session.{acted, answer, answer_to_words, begin,
 
 use crate::Reply;
 use crate::actions::action_in;
-use crate::bytes::is;
 use crate::change::Change;
 use crate::check::check_reply;
 use crate::earlier::Earlier;
@@ -17,6 +16,7 @@ use crate::misread::Misread;
 use metis_actions::{AFault, apply};
 use metis_config::Config;
 use metis_ids::{Action, NoMemory};
+use metis_tokens::bytes::is;
 use metis_tokens::tokens_of;
 use metis_universe::Universe;
 use std::alloc::Global;
@@ -67,6 +67,7 @@ impl<'a> Session<'a> {
         ensures memory { result ≡ Reply.NoMemory → IsFalse (takes_none self.old bytes.now) }
         ensures refused { (f : AFault) → result ≡ Reply.Refused f → f ≢ AFault.NoMemory }
         ensures numbers { result ≢ Reply.Ended → result ≢ Reply.NoMemory → IsReplyOf self.old.universe result }
+        ensures universe { self.new.universe ≡ self.old.universe }
     {
         self.universe.keeps_invariant();
         match self.answer(bytes) {
@@ -89,6 +90,13 @@ impl<'a> Session<'a> {
         ensures { result ≡ length self.now.earlier }
     {
         self.earlier.len()
+    }
+
+    /// Whether `quit` was read.
+    pub(crate) fn has_ended(&self) -> bool
+        ensures { result ≡ self.now.ended }
+    {
+        self.ended
     }
 
     fn answer(&mut self, bytes: &[u8]) -> Result<Reply, NoMemory>

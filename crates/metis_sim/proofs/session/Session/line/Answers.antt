@@ -2,6 +2,7 @@ use Rattle.std.proofs.Common.{◌∙◌, ap, sym, subst}
 use Rattle.metis_universe.specs.Universe.{IsUniverse}
 use Rattle.metis_config.specs.Over.{IsOver}
 use Rattle.metis_sim.proofs.Courses.{never_for_memory, numbered, unchanged}
+use Rattle.metis_sim.proofs.SessionEnds.{universe_after_line}
 use Rattle.metis_sim.specs.Replies.{IsReplyOf}
 use Rattle.metis_sim.specs.Session.{Answer, Session, changes}
 use Rattle.metis_sim.proofs.session.Session.line.Goals as goal
@@ -24,3 +25,6 @@ returns-in-Ok-clause-numbers c = λ other memory.
     let k = subst (λ (s : Session). IsUniverse s.universe) c.self.view_is c.keeps_invariant.ensures.universe in
     let over = subst (λ (s : Session). IsOver s.universe s.config) c.self.view_is c.self.invariant.config.over in
     subst (IsReplyOf c.args.self.now.universe) (sym e) (numbered c.args.self.now k over c.args.bytes.now (λ ended. other (e ∙ ended)))
+
+pub returns-in-Ok-clause-universe : goal.returns-in-Ok-clause-universe
+returns-in-Ok-clause-universe c = ap (λ (w : Answer). w.1.universe) c.in-Ok.ensures.ok ∙ universe_after_line c.args.self.now c.args.bytes.now
