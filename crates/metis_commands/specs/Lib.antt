@@ -5,5 +5,6 @@ pub mod GoalLine
 pub mod Place
 pub mod Refute
 pub mod Replay
+pub mod Sim
 pub mod Waves
 pub mod Why

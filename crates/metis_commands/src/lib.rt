@@ -9,6 +9,7 @@ mod laws;
 pub mod place;
 pub mod refute;
 pub mod replay;
+pub mod sim;
 pub mod waves;
 pub mod why;
 
