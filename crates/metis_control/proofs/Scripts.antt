@@ -48,6 +48,9 @@ module _ (A : List Action) (w : WorldState) where
   hear_few (event.Deliver n) = delivered_few n (packet_at w.packets n) _ same
   hear_few (event.Restart n) = either _ _ _ same same
 
+  pub heard_few : (e : Happening) → length (hear A w e).1.packets ≤ length w.packets + 1
+  heard_few e = hear_few e
+
   of_few : (o : Option Happening) → length (answer_of A w o).1.packets ≤ length w.packets + 1
   of_few None = same
   of_few (Some e) = hear_few e
@@ -62,23 +65,6 @@ pub next_line : {X : Type 0} (bytes : X → List ℕ) (xs : List X) (i : ℕ) (d
 next_line bytes xs i d low =
     let step : suc i ≡ i + 1 = omega arith in
     ap (map bytes) (drop-cons xs i d low) ∙ ap (λ n. bytes (get_or xs i d) ∷ map bytes (drop n xs)) step
-
-module _ (A : List Action) (w after : WorldState) (line : List ℕ) (lines left : List (List ℕ)) (next : left ≡ line ∷ lines) (is : after ≡ (answer_to A w line).1) where
-  pub rest_more : (put all : List (List ℕ)) → put ++ answers A w left ≡ all → (put ++ (answer_to A w line).0 ∷ []) ++ answers A after lines ≡ all
-  rest_more put all before =
-      append_assoc put ((answer_to A w line).0 ∷ []) (answers A after lines)
-      ∙ ap (λ v. put ++ (answer_to A w line).0 ∷ answers A v lines) is
-      ∙ ap (λ l. put ++ answers A w l) (sym next)
-      ∙ before
-
-  pub last_more : (last : WorldState) → after_lines A w left ≡ last → after_lines A after lines ≡ last
-  last_more last before = ap (λ v. after_lines A v lines) is ∙ ap (after_lines A w) (sym next) ∙ before
-
--- a script's answers, from a line on
-pub answers_from : (A : List Action) (w : WorldState) (line : List ℕ) (lines left put all end : List (List ℕ)) → left ≡ line ∷ lines → put ++ answers A w left ≡ all
-    → all ++ end ≡ put ++ ((answer_to A w line).0 ∷ answers A (answer_to A w line).1 lines ++ end)
-answers_from A w line lines left put all end next before =
-    ap (λ l. l ++ end) (sym before ∙ ap (λ l. put ++ answers A w l) next) ∙ append_assoc put ((answer_to A w line).0 ∷ answers A (answer_to A w line).1 lines) end
 
 -- ---- the events of the lines
 

@@ -1,11 +1,13 @@
 -- What is put for a script is lines.
-use Rattle.std.proofs.Common.{◌≡◌, ℕ, Bool, true, false, cond, not, List, [], ◌∷◌, ◌++◌, length, map, Option, Some, None, refl, nat_lt, decimal}
+use Rattle.std.proofs.Common.{◌≡◌, ℕ, Bool, true, false, cond, not, List, [], ◌∷◌, ◌++◌, length, map, Option, Some, None, refl, nat_lt, decimal, subst, sym}
 use Rattle.std.specs.Prelude.{codes}
 use Rattle.std.specs.List.{All}
 use Rattle.std.specs.Option.{option_map_or}
 use Rattle.std.proofs.lemmas.List.Elements.{All-append, All-cons, All-nil}
 use Rattle.metis_ids.specs.declared.actions.Action.{Action}
-use Rattle.metis_outside.proofs.Feeds.{IsLine-append, IsLine-from, no_feed, no_feed-append, no_feed-decimal, one_line}
+use Rattle.metis_outside.proofs.Feeds.{IsLine-from, no_feed-append, one_line}
+use Rattle.metis_output.proofs.LineWords.{by_number, by_three, by_two}
+use Rattle.metis_tokens.proofs.WordFeeds.{no_feed-added_numbers}
 use Rattle.metis_outside.specs.Pieces.{IsLine}
 use Rattle.metis_tokens.specs.Line.{added}
 use Rattle.metis_universe.specs.Universe.{has}
@@ -19,28 +21,6 @@ use Rattle.metis_control.specs.declared.happening.Packet.{Packet}
 use Rattle.metis_control.specs.declared.happening.Packet.TheVariants as packet
 use Rattle.metis_control.specs.declared.happening.Told.{Told}
 use Rattle.metis_control.specs.declared.happening.Told.TheVariants.{NoPacket}
-
--- ---- lines that end with a number
-
-feed : IsLine (codes "\n")
-feed = IsLine-from [] refl
-
-pub number_then : (start : List ℕ) (n : ℕ) (rest : List ℕ) → no_feed start ≡ true → IsLine rest → IsLine (start ++ (decimal n ++ rest))
-number_then start n rest h is = IsLine-append start (decimal n ++ rest) h (IsLine-append (decimal n) rest (no_feed-decimal n) is)
-
-pub by_number : (start : List ℕ) (n : ℕ) → no_feed start ≡ true → IsLine (start ++ (decimal n ++ codes "\n"))
-by_number start n h = number_then start n (codes "\n") h feed
-
-pub by_two : (start : List ℕ) (t : ℕ) (middle : List ℕ) (s : ℕ) → no_feed start ≡ true → no_feed middle ≡ true → IsLine (start ++ (decimal t ++ (middle ++ (decimal s ++ codes "\n"))))
-by_two start t middle s h m = number_then start t (middle ++ (decimal s ++ codes "\n")) h (by_number middle s m)
-
-pub by_three : (start : List ℕ) (t : ℕ) (middle : List ℕ) (s : ℕ) (last : List ℕ) (k : ℕ) → no_feed start ≡ true → no_feed middle ≡ true → no_feed last ≡ true
-    → IsLine (start ++ (decimal t ++ (middle ++ (decimal s ++ (last ++ (decimal k ++ codes "\n"))))))
-by_three start t middle s last k h m l = number_then start t (middle ++ (decimal s ++ (last ++ (decimal k ++ codes "\n")))) h (by_two middle s last k m l)
-
-pub no_feed-added_numbers : (ks : List ℕ) → no_feed (added (map decimal ks)) ≡ true
-no_feed-added_numbers [] = refl
-no_feed-added_numbers (k ∷ ks) = no_feed-append (codes " " ++ decimal k) (added (map decimal ks)) (no_feed-append (codes " ") (decimal k) refl (no_feed-decimal k)) (no_feed-added_numbers ks)
 
 -- ---- the answer to a line
 
@@ -83,16 +63,28 @@ answers_are_lines A w (line ∷ lines) =
     let next = answer_to A w line in
     All-cons IsLine next.0 (answers A next.1 lines) (of_line A w (happening_in line)) (answers_are_lines A next.1 lines)
 
-IsLine-ran_line : (ran : List ℕ) → IsLine (ran_line ran)
+pub IsLine-ran_line : (ran : List ℕ) → IsLine (ran_line ran)
 IsLine-ran_line ran = IsLine-from (codes "ran" ++ added (map decimal ran)) (no_feed-append (codes "ran") (added (map decimal ran)) refl (no_feed-added_numbers ran))
+
+IsLine-counts_line : (executed all acknowledged : ℕ) → IsLine (counts_line executed all acknowledged)
+IsLine-counts_line executed all acknowledged = by_three (codes "executed ") executed (codes " of ") all (codes " acknowledged ") acknowledged refl refl refl
 
 ends_are_lines : (A : List Action) (w : WorldState) → All IsLine (end_lines A w)
 ends_are_lines A w =
     let last = counts_line (length w.ran) (length A) (length w.acked) in
     All-cons IsLine (ran_line w.ran) (last ∷ []) (IsLine-ran_line w.ran)
-    (one_line last (by_three (codes "executed ") (length w.ran) (codes " of ") (length A) (codes " acknowledged ") (length w.acked) refl refl refl))
+    (one_line last (IsLine-counts_line (length w.ran) (length A) (length w.acked)))
 
 pub script_is_lines : (A : List Action) (lines : List (List ℕ)) → All IsLine (script_answers A lines)
 script_is_lines A lines =
     let last = after_lines A (at_first A) lines in
     All-append IsLine (answers A (at_first A) lines) (end_lines A last) (answers_are_lines A (at_first A) lines) (ends_are_lines A last)
+
+pub is_answer : (A : List Action) (w : WorldState) (given bytes : List ℕ) → bytes ≡ (answer_to A w given).0 → IsLine bytes
+is_answer A w given bytes same = subst IsLine (sym same) (of_line A w (happening_in given))
+
+pub is_ran_line : (ran bytes : List ℕ) → bytes ≡ ran_line ran → IsLine bytes
+is_ran_line ran bytes same = subst IsLine (sym same) (IsLine-ran_line ran)
+
+pub is_counts_line : (executed all acknowledged : ℕ) (bytes : List ℕ) → bytes ≡ counts_line executed all acknowledged → IsLine bytes
+is_counts_line executed all acknowledged bytes same = subst IsLine (sym same) (IsLine-counts_line executed all acknowledged)
