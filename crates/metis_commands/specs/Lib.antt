@@ -1,5 +1,6 @@
 pub mod Audit
 pub mod Confirm
+pub mod Control
 pub mod Crew
 pub mod GoalLine
 pub mod Place

@@ -3,6 +3,7 @@
 
 pub mod audit;
 pub mod confirm;
+pub mod control;
 pub mod crew;
 mod goal_line;
 mod laws;

@@ -1,5 +1,5 @@
 -- A script, a line further.
-use Rattle.std.proofs.Common.{◌≡◌, ℕ, zero, suc, take, slice_get, ◌+◌, ◌≤◌, ◌<◌, Bool, true, false, cond, not, List, [], ◌∷◌, ◌++◌, length, drop, get_or, map, Option, Some, None, refl, sym, ap, ◌∙◌, append_assoc, length-append, arith}
+use Rattle.std.proofs.Common.{◌≡◌, ◌≢◌, ℕ, zero, suc, take, slice_get, ◌+◌, ◌≤◌, ◌<◌, Bool, true, false, cond, not, List, [], ◌∷◌, ◌++◌, length, drop, get_or, map, Option, Some, None, refl, sym, ap, ◌∙◌, append_assoc, length-append, arith}
 use Rattle.std.proofs.Math.Seq.{drop-cons}
 use Rattle.std.specs.Option.{option_map_or}
 use Rattle.std.proofs.lemmas.Option.{same_Some}
@@ -7,13 +7,15 @@ use Rattle.metis_ids.specs.declared.actions.Action.{Action}
 use Rattle.metis_universe.specs.Universe.{has}
 use Rattle.metis_universe.specs.Waits.{numbers}
 use Rattle.metis_crew.specs.Crew.{is_done}
-use Rattle.metis_control.specs.Script.{after_lines, answer_of, answer_to, answers, events_of, happening_in}
+use Rattle.metis_control.specs.Script.{after_lines, answer_of, answer_to, answers, end_lines, events_of, happening_in, lines_left}
+use Rattle.metis_control.specs.Fields.{IsHeard}
 use Rattle.metis_control.specs.World.{WorldState, after_events, came, first_wait, hear, held_or_sent, packet_at}
 use Rattle.metis_control.specs.declared.happening.Happening.{Happening}
 use Rattle.metis_control.specs.declared.happening.Happening.TheVariants as event
 use Rattle.metis_control.specs.declared.happening.Packet.{Packet}
 use Rattle.metis_control.specs.declared.happening.Packet.TheVariants as packet
 use Rattle.metis_control.specs.declared.happening.Told.{Told}
+use Rattle.metis_control.specs.declared.happening.Told.TheVariants as told
 
 -- ---- at most one packet more
 
@@ -65,6 +67,26 @@ pub next_line : {X : Type 0} (bytes : X → List ℕ) (xs : List X) (i : ℕ) (d
 next_line bytes xs i d low =
     let step : suc i ≡ i + 1 = omega arith in
     ap (map bytes) (drop-cons xs i d low) ∙ ap (λ n. bytes (get_or xs i d) ∷ map bytes (drop n xs)) step
+
+-- all lines are those that are left at the start
+pub all_left : (A : List Action) (w : WorldState) (lines : List (List ℕ)) → lines_left A w lines false false ≡ answers A w lines ++ end_lines A (after_lines A w lines)
+all_left A w [] = refl
+all_left A w (line ∷ lines) = ap (λ l. (answer_to A w line).0 ∷ l) (all_left A (answer_to A w line).1 lines)
+
+-- what is told, unless memory ran out
+pub heard_is : (answer : Told) (old : WorldState) (heard : Told × WorldState) (new : WorldState) → answer ≢ told.NoMemory → IsHeard answer old heard new → (answer ≡ heard.0) × (new ≡ heard.1)
+heard_is told.NoMemory old heard new named is = absurd (named refl)
+heard_is (told.Sent p) old heard new named is = is
+heard_is (told.Held k m) old heard new named is = is
+heard_is (told.Acked k) old heard new named is = is
+heard_is (told.NoAction k) old heard new named is = is
+heard_is (told.Executed k p) old heard new named is = is
+heard_is (told.Again k p) old heard new named is = is
+heard_is (told.Noted k) old heard new named is = is
+heard_is (told.Known k) old heard new named is = is
+heard_is (told.NoPacket n) old heard new named is = is
+heard_is (told.Restarted n) old heard new named is = is
+heard_is (told.NoRestart n) old heard new named is = is
 
 -- ---- the events of the lines
 

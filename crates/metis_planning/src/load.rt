@@ -100,12 +100,14 @@ fn summary(
     ensures { IfOk result (Says (IsJust (load_line n u.now targets.now plan.now) Status.Done) ⟦<Once as Lines>⟧.rest) }
 {
     u.keeps_invariant();
-    match verdict_on(alloc, u, &plan.actions, targets)? {
-        Verdict::Good => {
-            let line = load_line(alloc, n, u, targets, plan)?;
-            Ok(line_answer(line, true))
-        }
-        Verdict::Bad(..) | Verdict::Missing(..) => unreachable!(),
+    match verdict_on(alloc, u, &plan.actions, targets) {
+        Ok(Verdict::Good) => match load_line(alloc, n, u, targets, plan) {
+            Ok(line) => Ok(line_answer(line, true)),
+            Err(_) => Err(NoMemory),
+        },
+        Ok(Verdict::Bad(..)) => unreachable!(),
+        Ok(Verdict::Missing(..)) => unreachable!(),
+        Err(_) => Err(NoMemory),
     }
 }
 

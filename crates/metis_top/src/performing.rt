@@ -6,15 +6,16 @@ ghost use Rattle.metis_top.specs.Course.{Ran};
 ghost use Rattle.metis_words.specs.Forms.{file_count};
 
 use crate::stop::end;
-use metis_commands::{audit, confirm, control, crew, place, print, refute, replay, sim, waves, why};
+use metis_commands::{audit, confirm, control, crew, place, refute, replay, sim, waves, why};
 use metis_inputs::{
     explanation_of, goals_and_plan_of, goals_of, hosts_of, plan_of, refusal_of, script_of,
     session_of, turns_of, universe_of,
 };
-use metis_output::{Status, finish};
+use metis_output::{Status, finish, said};
 use metis_outside::{Shelf, Sink};
 use metis_planning::{load, plan, rollout};
 use metis_shared::steady_waits;
+use metis_ujson::write_universe;
 use metis_words::{Command, Verb};
 use std::alloc::Global;
 
@@ -62,7 +63,7 @@ fn over_a_universe<H: Shelf, K: Sink>(
             Err(stop) => end(alloc, stop, out),
         },
         Verb::Print => match universe_of(alloc, command, shelf) {
-            Ok(universe) => finish(alloc, print::answer(alloc, &universe), out),
+            Ok(universe) => said(write_universe(alloc, &universe, out), Status::Done),
             Err(stop) => end(alloc, stop, out),
         },
         Verb::Load => finish(alloc, load::answer(alloc, command.size), out),

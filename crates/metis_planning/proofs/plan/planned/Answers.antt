@@ -14,15 +14,15 @@ plan_for-requires-clause-attained c =
     let aim = rw c.in-Pairs.is at c.in_ok-pairs.ensures in
     rw c.deref.ensures.value aim.attained
 
-pub returns-in-Pairs-clause-planned : goal.returns-in-Pairs-clause-planned
-returns-in-Pairs-clause-planned c =
+pub returns-in_ok-plan-in-Pairs-clause-planned : goal.returns-in_ok-plan-in-Pairs-clause-planned
+returns-in_ok-plan-in-Pairs-clause-planned c =
     let u = c.args.u.now in
     let goals = c.args.goals.now in
     let pairs = c.in-Pairs.pairs.items in
-    let plan = c.in_ok-plan.plan in
+    let plan = c.in_ok-plan-in-Pairs.plan in
     let aim = rw c.in-Pairs.is at c.in_ok-pairs.ensures in
     let attains = c.pairs_for_goals_hold_them.ensures.attains u goals pairs aim.resolved in
-    planned_by u goals plan c.with_waits.result (answer_for_goals u goals pairs aim.resolved attains (plan_text u plan) (rw c.deref.ensures.value at c.in_ok-plan.ensures.plans)) c.with_waits.ensures.plan
+    planned_by u goals plan c.with_waits.result (answer_for_goals u goals pairs aim.resolved attains (plan_text u plan) (rw c.deref.ensures.value at c.in_ok-plan-in-Pairs.ensures.plans)) c.with_waits.ensures.plan
 
 pub returns-in-Lacks-clause-planned : goal.returns-in-Lacks-clause-planned
 returns-in-Lacks-clause-planned c =
