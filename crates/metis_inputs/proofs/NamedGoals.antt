@@ -7,7 +7,7 @@ use Rattle.metis_tokens.specs.Flaws.{and_then}
 use Rattle.metis_universe.specs.Universe.{Universe}
 use Rattle.metis_words.specs.TargetName.{TargetName}
 use Rattle.metis_inputs.specs.Commands.{goals_after, goals_named, or_word}
-use Rattle.metis_inputs.specs.NamedGoals.{AreGoals, IsFirstNoGoal, IsNoGoal, goal_of}
+use Rattle.metis_inputs.specs.NamedGoals.{AreGoals, IsFirstNoGoal, goal_of}
 use Rattle.metis_inputs.specs.declared.stop.InputFault.{InputFault}
 use Rattle.metis_inputs.specs.declared.stop.InputFault.TheVariants.{Word}
 
@@ -17,7 +17,7 @@ good goals = Ok goals
 abbrev bad : InputFault → Result (List Goal) InputFault
 bad why = Err why
 
--- goes on behind the goals that were found, where the next target means this
+-- goes on behind the goals that were found, if the next target means this
 abbrev next : List Goal → ℕ → Universe → List TargetName → Option Goal → Result (List Goal) InputFault
 next found place u targets o = and_then (or_word place o) (λ g. goals_after (found ++ g ∷ []) (place + 1) u targets)
 

@@ -1,5 +1,5 @@
 -- One text behind a universe, goals or a plan.
-use Rattle.std.proofs.Common.{◌≡◌, ℕ, ◌+◌, List, [], ◌∷◌, Ok, Err, refl}
+use Rattle.std.proofs.Common.{ℕ, List, Ok, Err, refl}
 use Rattle.std.specs.declared.option.Option.{Option}
 use Rattle.metis_ids.specs.declared.goals.Goal.{Goal}
 use Rattle.metis_text.specs.Reading.{Parts}

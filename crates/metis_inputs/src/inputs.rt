@@ -141,8 +141,7 @@ pub fn hosts_of<H: Shelf>(
     Ok(PlannedHosts { planned, hosts })
 }
 
-// ---- a universe, goals or a plan, and one text behind it
-
+// The universe of a command, and one text behind it.
 fn universe_and_text<T: Text, H: Shelf>(
     alloc: Global,
     command: &Command,
@@ -157,6 +156,7 @@ fn universe_and_text<T: Text, H: Shelf>(
     Ok((universe, text))
 }
 
+// The universe of a command, the goals of its targets, and one text behind them.
 fn goals_and_text<T: Text, H: Shelf>(
     alloc: Global,
     command: &Command,
@@ -172,6 +172,7 @@ fn goals_and_text<T: Text, H: Shelf>(
     Ok((asked, text))
 }
 
+// The universe and the plan of a command, and one text behind them.
 fn plan_and_text<T: Text, H: Shelf>(
     alloc: Global,
     command: &Command,

@@ -44,7 +44,7 @@ pub fn read_turns(alloc: Global, bytes: &[u8]) -> Result<Vec<InstNo>, TurnsFault
     read_tokens(alloc, &tokens)
 }
 
-// The same where the tokens are known.
+// The same if the tokens are known.
 fn read_tokens(alloc: Global, tokens: &[&[u8]]) -> Result<Vec<InstNo>, TurnsFault>
     requires { length tokens.now < 2 ^ 32 }
     ensures { ReadsTurns (λ turns. turns.items) result (turns_of (map (λ token. token.now) tokens.now)) }
