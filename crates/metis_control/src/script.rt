@@ -123,7 +123,10 @@ impl<'a> Lines for AnswerLines<'a> {
             return Ok(false);
         }
         if self.ran {
-            let (executed, acknowledged) = (self.world.ran().len(), self.world.acknowledged().len());
+            let (executed, acknowledged) = (
+                self.world.ran().len(),
+                self.world.acknowledged().len(),
+            );
             set_counts_line(line, executed, self.all, acknowledged)?;
             self.ended = true;
             return Ok(true);
@@ -262,5 +265,8 @@ fn set_counts_line(
     ensures { OnOk result (string_bytes line.new ≡ counts_line executed all acknowledged) }
 {
     line.clear();
-    write!(line, "executed {executed} of {all} acknowledged {acknowledged}\n")
+    write!(
+        line,
+        "executed {executed} of {all} acknowledged {acknowledged}\n"
+    )
 }

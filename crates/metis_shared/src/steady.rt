@@ -155,7 +155,12 @@ pub fn unsteady_line(alloc: Global, u: &Universe, why: &Unsteady) -> Result<Once
 }
 
 /// The line of an action that cannot be done, with its number and why.
-pub fn bad_line(alloc: Global, u: &Universe, number: u32, fault: &AFault) -> Result<String, AllocError>
+pub fn bad_line(
+    alloc: Global,
+    u: &Universe,
+    number: u32,
+    fault: &AFault,
+) -> Result<String, AllocError>
     requires { IsFaultOf u.now fault.now }
     ensures { IfOk result (λ line. string_bytes line ≡ bad_line number (fault_text u.now fault.now)) }
 {

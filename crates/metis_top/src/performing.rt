@@ -30,7 +30,9 @@ pub fn perform<H: Shelf, K: Sink>(
     ensures lines { PutsLines (K.written out.old) (K.written out.new) result }
 {
     match command.verb {
-        Verb::Plan | Verb::Why | Verb::Print | Verb::Load => over_a_universe(alloc, command, shelf, out),
+        Verb::Plan | Verb::Why | Verb::Print | Verb::Load => over_a_universe(
+            alloc, command, shelf, out,
+        ),
         Verb::Crew | Verb::Control | Verb::Place => over_two_texts(alloc, command, shelf, out),
         _ => over_a_text(alloc, command, shelf, out),
     }
@@ -84,26 +86,66 @@ fn over_a_text<H: Shelf, K: Sink>(
 {
     match command.verb {
         Verb::Replay => match goals_and_plan_of(alloc, command, shelf) {
-            Ok(read) => finish(alloc, replay::answer(alloc, &read.asked.universe, &read.text.plan.actions, &read.asked.goals), out),
+            Ok(read) => finish(
+                alloc,
+                replay::answer(
+                    alloc,
+                    &read.asked.universe,
+                    &read.text.plan.actions,
+                    &read.asked.goals,
+                ),
+                out,
+            ),
             Err(stop) => end(alloc, stop, out),
         },
         Verb::Audit => match goals_and_plan_of(alloc, command, shelf) {
-            Ok(read) => finish(alloc, audit::answer(alloc, &read.asked.universe, &read.text, &read.asked.goals), out),
+            Ok(read) => finish(
+                alloc,
+                audit::answer(alloc, &read.asked.universe, &read.text, &read.asked.goals),
+                out,
+            ),
             Err(stop) => end(alloc, stop, out),
         },
         Verb::Rollout => match goals_and_plan_of(alloc, command, shelf) {
             Ok(read) => {
-                let rolled = rollout::rolled_out(alloc, &read.asked.universe, &read.asked.goals, &read.text.plan.actions);
-                finish(alloc, rollout::answer(alloc, &read.asked.universe, &rolled), out)
+                let rolled = rollout::rolled_out(
+                    alloc,
+                    &read.asked.universe,
+                    &read.asked.goals,
+                    &read.text.plan.actions,
+                );
+                finish(
+                    alloc,
+                    rollout::answer(alloc, &read.asked.universe, &rolled),
+                    out,
+                )
             }
             Err(stop) => end(alloc, stop, out),
         },
         Verb::Refute => match refusal_of(alloc, command, shelf) {
-            Ok(read) => finish(alloc, refute::answer(alloc, &read.asked.universe, &read.refusal.pairs, &read.asked.goals), out),
+            Ok(read) => finish(
+                alloc,
+                refute::answer(
+                    alloc,
+                    &read.asked.universe,
+                    &read.refusal.pairs,
+                    &read.asked.goals,
+                ),
+                out,
+            ),
             Err(stop) => end(alloc, stop, out),
         },
         Verb::Confirm => match explanation_of(alloc, command, shelf) {
-            Ok(read) => finish(alloc, confirm::answer(alloc, &read.asked.universe, &read.why.lines, &read.asked.goals), out),
+            Ok(read) => finish(
+                alloc,
+                confirm::answer(
+                    alloc,
+                    &read.asked.universe,
+                    &read.why.lines,
+                    &read.asked.goals,
+                ),
+                out,
+            ),
             Err(stop) => end(alloc, stop, out),
         },
         Verb::Sim => match session_of(alloc, command, shelf) {
@@ -111,7 +153,16 @@ fn over_a_text<H: Shelf, K: Sink>(
             Err(stop) => end(alloc, stop, out),
         },
         Verb::Waves => match plan_of(alloc, command, shelf) {
-            Ok(read) => finish(alloc, waves::answer(alloc, &read.universe, &read.text.plan.actions, command.numbers()), out),
+            Ok(read) => finish(
+                alloc,
+                waves::answer(
+                    alloc,
+                    &read.universe,
+                    &read.text.plan.actions,
+                    command.numbers(),
+                ),
+                out,
+            ),
             Err(stop) => end(alloc, stop, out),
         },
         _ => unreachable!(),
@@ -134,7 +185,11 @@ fn over_two_texts<H: Shelf, K: Sink>(
             Ok(read) => {
                 let (u, actions) = (&read.planned.universe, &read.planned.text.plan.actions);
                 let steady = steady_waits(alloc, u, actions);
-                finish(alloc, crew::answer(alloc, u, actions, &steady, &read.turns), out)
+                finish(
+                    alloc,
+                    crew::answer(alloc, u, actions, &steady, &read.turns),
+                    out,
+                )
             }
             Err(stop) => end(alloc, stop, out),
         },
@@ -142,7 +197,11 @@ fn over_two_texts<H: Shelf, K: Sink>(
             Ok(read) => {
                 let (u, actions) = (&read.planned.universe, &read.planned.text.plan.actions);
                 let steady = steady_waits(alloc, u, actions);
-                finish(alloc, control::answer(alloc, u, actions, &steady, &read.script), out)
+                finish(
+                    alloc,
+                    control::answer(alloc, u, actions, &steady, &read.script),
+                    out,
+                )
             }
             Err(stop) => end(alloc, stop, out),
         },
