@@ -3,9 +3,8 @@ ghost use Rattle.std.specs.Prelude.{◌≡◌, ◌<◌, ◌≤◌, ◌-◌, ◌^
 ghost use Rattle.std.specs.List.{All};
 ghost use Rattle.metis_gen.specs.Generated.{generated, generated_targets};
 ghost use Rattle.metis_output.specs.Answers.{Says};
-ghost use Rattle.metis_output.specs.Shown.{IsJust};
 ghost use Rattle.metis_planner.specs.Rounds.{IsByRounds};
-ghost use Rattle.metis_planning.specs.Load.{Loaded, counts_line, load_line};
+ghost use Rattle.metis_planning.specs.Load.{Loaded, Summed, counts_line, load_line};
 ghost use Rattle.metis_replay.specs.Exact.{Tells};
 ghost use Rattle.metis_universe.specs.Config.{empty};
 ghost use Rattle.metis_universe.specs.Goal.{Holds};
@@ -16,7 +15,7 @@ ghost use Rattle.metis_universe.specs.Universe.{pair_count};
 
 use metis_gen::{closed_sets_hold_all, targets_are_pairs, targets_of, universe_of};
 use metis_ids::{Action, Goal, NoMemory, PairIx, Plan};
-use metis_output::{Answer, Lines, Once, Status, line_answer};
+use metis_output::{Answer, Lines, Once};
 use metis_planner::{Outcome, plan, rounds_come_to_one_plan};
 use metis_replay::Verdict;
 use metis_shared::replayed;
@@ -45,7 +44,7 @@ fn generated_goal(alloc: Global, n: u32) -> Result<(Universe, Vec<PairIx>), NoMe
     Ok((universe, targets))
 }
 
-// The same if both are made.
+// The same if both are made. The plan is good, since it is a run that holds the targets.
 fn planned_load(
     alloc: Global,
     n: u32,
@@ -57,9 +56,17 @@ fn planned_load(
     requires targets { targets.now ≡ generated_targets n }
     ensures { IfOk result (Says (Loaded n) ⟦<Once as Lines>⟧.rest) }
 {
+    u.keeps_invariant();
     rounds_come_to_one_plan();
     let plan = plan_for(alloc, n, u, targets)?;
-    summary(alloc, n, u, &plan, targets)
+    match summary(alloc, n, u, &plan, targets) {
+        Ok(Some(line)) => Ok(Answer {
+            lines: line,
+            good: true,
+        }),
+        Ok(None) => unreachable!(),
+        Err(_) => Err(NoMemory),
+    }
 }
 
 // A plan for the targets. There is one, since each closed set of pairs has them all.
@@ -84,29 +91,26 @@ fn plan_for(alloc: Global, n: u32, u: &Universe, targets: &[PairIx]) -> Result<P
     }
 }
 
-// The counts of a plan, which is good as its replay says.
+// The counts of a plan, if its replay says that it is good.
 fn summary(
     alloc: Global,
     n: u32,
     u: &Universe,
     plan: &Plan,
     targets: &[PairIx],
-) -> Result<Answer<Once>, NoMemory>
+) -> Result<Option<Once>, NoMemory>
     requires numbers { All (IsOf u.now) plan.now.actions }
     requires few { length plan.now.actions < 2 ^ 32 - 1 }
     requires within { All (λ p. p < pair_count u.now) targets.now }
-    requires runs { IsRun u.now empty plan.now.actions }
-    requires holds { Holds (after_all u.now empty plan.now.actions) targets.now }
-    ensures { IfOk result (Says (IsJust (load_line n u.now targets.now plan.now) Status.Done) ⟦<Once as Lines>⟧.rest) }
+    ensures { IfOk result (Summed n u.now targets.now plan.now) }
 {
-    u.keeps_invariant();
     match verdict_on(alloc, u, &plan.actions, targets) {
         Ok(Verdict::Good) => match load_line(alloc, n, u, targets, plan) {
-            Ok(line) => Ok(line_answer(line, true)),
+            Ok(line) => Ok(Some(Once::of(line))),
             Err(_) => Err(NoMemory),
         },
-        Ok(Verdict::Bad(..)) => unreachable!(),
-        Ok(Verdict::Missing(..)) => unreachable!(),
+        Ok(Verdict::Bad(..)) => Ok(None),
+        Ok(Verdict::Missing(..)) => Ok(None),
         Err(_) => Err(NoMemory),
     }
 }
