@@ -7,7 +7,7 @@ use Rattle.std.specs.declared.process.ExitCode.{ExitCode}
 use Rattle.metis_outside.specs.Arguments.{AreGiven}
 use Rattle.metis_output.specs.declared.status.Status.{Status}
 use Rattle.metis_output.specs.PutLines.{PutsLines}
-use Rattle.metis_gather.specs.Commands.{script_of}
+use Rattle.metis_inputs.specs.Commands.{script_of}
 use Rattle.metis_top.specs.Course.{Ran}
 use Rattle.metis_output.specs.Statuses.{code_of}
 

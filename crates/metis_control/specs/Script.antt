@@ -6,7 +6,7 @@
 --     answers A w lines, after_lines A w lines      what is put for these lines, in order;  the state after them
 --     end_lines A w      which actions were executed, in their order, and then how many, of how many, and how many are acknowledged
 --     script_answers A lines      what is put for a whole script
-use Rattle.std.specs.Prelude.{ℕ, List, [], ◌∷◌, ◌++◌, length, map, codes, decimal, Option, Some, None, if◌then◌else◌}
+use Rattle.std.specs.Prelude.{◌≡◌, ◌≤◌, ◌<◌, ◌-◌, ◌^◌, ℕ, Bool, List, [], ◌∷◌, ◌++◌, length, map, codes, decimal, Option, Some, None, if◌then◌else◌}
 use Rattle.std.specs.Option.{option_and_then, option_map_or}
 use Rattle.std.specs.Result.{result_ok}
 use Rattle.std.specs.Str.{bytes_eq}
@@ -80,3 +80,19 @@ end_lines A w = ran_line w.ran ∷ counts_line (length w.ran) (length A) (length
 
 abbrev pub script_answers : List Action → List (List ℕ) → List (List ℕ)
 script_answers A lines = answers A (at_first A) lines ++ end_lines A (after_lines A (at_first A) lines)
+
+-- the lines of the end that are left, once what was executed is told or not
+abbrev pub ends_left : List Action → WorldState → Bool → Bool → List (List ℕ)
+ends_left A w ran ended = if ended then [] else (if ran then counts_line (length w.ran) (length A) (length w.acked) ∷ [] else end_lines A w)
+
+-- the lines that are left, where these lines of the script are
+abbrev pub lines_left : List Action → WorldState → List (List ℕ) → Bool → Bool → List (List ℕ)
+lines_left A w [] ran ended = ends_left A w ran ended
+lines_left A w (line ∷ lines) ran ended = (answer_to A w line).0 ∷ lines_left A (answer_to A w line).1 lines ran ended
+
+-- so many lines of the script were answered, each with at most one packet more
+pub record GoesOn {X : Type 0} (A : List Action) (w : WorldState) (all : ℕ) (script : List X) (at : ℕ) : Type 0 where
+  pub counted : all ≡ length A
+  pub few : length script < 2 ^ 32 - 2
+  pub packets : length w.packets ≤ at
+  pub within : at ≤ length script

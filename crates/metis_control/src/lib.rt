@@ -18,5 +18,5 @@ pub use laws::{
     agents_are_never_ahead, all_can_be_acknowledged, answers_are_lines, counts_are_what_has_run,
     crew_does_what_has_run, ran_is_kept, some_order_is_sent, what_arrives_counts,
 };
-pub use script::write_answers;
+pub use script::{AnswerLines, answer_lines, write_answers};
 pub use world::World;

@@ -1,27 +1,72 @@
 //! A script for the world machine: what may happen next, a line each, and the lines of the answers.
-ghost use Rattle.std.specs.Prelude.{◌≡◌, ◌≢◌, ◌<◌, ◌-◌, ◌^◌, [], ◌∷◌, ◌++◌, IfOk, OnOk, codes, decimal, length, map, string_bytes};
+ghost use Rattle.std.specs.Prelude.{◌≡◌, ◌≢◌, ◌<◌, ◌≤◌, ◌+◌, ◌-◌, ◌^◌, ◌++◌, IfOk, OnOk, codes, decimal, length, map, string_bytes};
+ghost use Rattle.metis_control.specs.Script.{answer_to, counts_line, happening_in, happening_of, happens, lines_left, ran_line, script_answers, told_line};
+ghost use Rattle.metis_control.specs.World.{hear};
 ghost use Rattle.metis_outside.specs.Faults.{CountsFault};
 ghost use Rattle.metis_outside.specs.Writes.{Writes};
+ghost use Rattle.metis_tokens.specs.Scripts.{script_lines};
 ghost use Rattle.metis_waits.specs.Waits.{AreWaits};
-ghost use Rattle.std.specs.Str.{bytes_eq};
-ghost use Rattle.metis_control.specs.World.{hear};
-ghost use Rattle.metis_control.specs.Script.{answer_to, counts_line, end_lines, happening_in, happening_of, happens, ran_line, script_answers, told_line};
 
 use crate::happening::{Happening, Told};
 use crate::world::World;
-use metis_ids::Action;
+use metis_ids::{Action, NoMemory};
+use metis_output::{Lines, put_all};
 use metis_outside::{Sink, Trouble};
-use metis_tokens::{number_in, push_numbers, put_line, tokens_of};
+use metis_tokens::bytes::is;
+use metis_tokens::{number_in, push_numbers, script_lines, tokens_of};
 use metis_waits::Waits;
 use std::alloc::{AllocError, Global};
+use std::marker::Model;
+
+/// The answers to the lines of a script that are still to come, and then which actions were executed, in their order, how many of
+/// all, and how many are acknowledged. They are made one at a time, and the world goes on meanwhile. Contracts see these lines.
+#[derive(Drop)]
+pub struct AnswerLines<'a> {
+    alloc: Global,
+    world: World<'a>,
+    /// How many actions there are.
+    all: usize,
+    script: Vec<&'a [u8]>,
+    at: usize,
+    /// Whether what was executed is told.
+    ran: bool,
+    ended: bool,
+}
+
+impl<'a> Model for AnswerLines<'a> {
+    ghost use Rattle.std.specs.Prelude.{ℕ, List, drop, map};
+    ghost use Rattle.metis_control.specs.Script.{GoesOn, lines_left};
+
+    ghost Value = { List (List ℕ) };
+
+    ghost view = { λ l. lines_left l.world.actions l.world.state (map (λ line. line.now) (drop l.at l.script.items)) l.ran l.ended };
+
+    ghost invariant = { λ l. GoesOn l.world.actions l.world.state l.all l.script.items l.at };
+}
+
+/// The answers to the lines of the script over a world in which nothing happened yet, and then what was executed.
+pub fn answer_lines<'a>(
+    alloc: Global,
+    actions: &'a [Action],
+    w: &'a Waits,
+    script: &'a [u8],
+) -> Result<AnswerLines<'a>, NoMemory>
+    requires waits { AreWaits actions.now w.now }
+    requires few { length script.now < 2 ^ 32 - 3 }
+    ensures { IfOk result (λ l. ⟦<AnswerLines<'a> as Lines>⟧.rest l ≡ script_answers actions.now (script_lines script.now)) }
+{
+    let script = script_lines(alloc, script)?;
+    AnswerLines::of(alloc, actions, w, script)
+}
 
 /// Puts the answers to the lines of a script, one a line, over a world in which nothing happened yet; and then which actions were
 /// executed, in their order, how many of all, and how many are acknowledged.
-pub fn write_answers<K: Sink>(
+#[tactic(auto, using(metis_outside::proofs::Writing::front_of_nothing))]
+pub fn write_answers<'a, K: Sink>(
     alloc: Global,
-    actions: &[Action],
-    w: &Waits,
-    lines: &[&[u8]],
+    actions: &'a [Action],
+    w: &'a Waits,
+    lines: &[&'a [u8]],
     out: &mut K,
 ) -> Result<(), Trouble>
     requires waits { AreWaits actions.now w.now }
@@ -29,51 +74,106 @@ pub fn write_answers<K: Sink>(
     ensures text { Writes (script_answers actions.now (map (λ line. line.now) lines.now)) (K.written out.old) (K.written out.new) result }
     ensures cause { CountsFault (K.faults out.old) (K.faults out.new) result }
 {
-    let Ok(mut world) = World::new(alloc, actions, w) else {
-        return Err(Trouble::NoMemory);
-    };
-    for line in lines {
-        write_answer(alloc, &mut world, line, out)?;
+    let script = lines.to_vec(alloc)?;
+    match AnswerLines::of(alloc, actions, w, script) {
+        Ok(answers) => {
+            let mut answers = answers;
+            put_all(alloc, &mut answers, out)
+        }
+        Err(_) => Err(Trouble::NoMemory),
     }
-    write_end(alloc, &world, actions.len(), out)
 }
 
-// Puts the answer to a line.
-#[tactic(auto, using(metis_outside::proofs::Writing::front_of_nothing))]
-fn write_answer<K: Sink>(
+impl<'a> AnswerLines<'a> {
+    // The answers to these lines.
+    fn of(
+        alloc: Global,
+        actions: &'a [Action],
+        w: &'a Waits,
+        script: Vec<&'a [u8]>,
+    ) -> Result<AnswerLines<'a>, NoMemory>
+        requires waits { AreWaits actions.now w.now }
+        requires few { length script.items < 2 ^ 32 - 2 }
+        ensures { IfOk result (λ l. l ≡ script_answers actions.now (map (λ line. line.now) script.entry.items)) }
+    {
+        let world = World::new(alloc, actions, w)?;
+        Ok(AnswerLines {
+            alloc,
+            world,
+            all: actions.len(),
+            script,
+            at: 0,
+            ran: false,
+            ended: false,
+        })
+    }
+}
+
+impl<'a> Lines for AnswerLines<'a> {
+    ghost rest = { λ l. l };
+
+    fn next_line(&mut self, line: &mut String) -> Result<bool, AllocError> {
+        if self.at < self.script.len() {
+            let given = self.script[self.at];
+            self.at += 1;
+            set_answer(self.alloc, &mut self.world, given, line)?;
+            return Ok(true);
+        }
+        if self.ended {
+            return Ok(false);
+        }
+        if self.ran {
+            let (executed, acknowledged) = (
+                self.world.ran().len(),
+                self.world.acknowledged().len(),
+            );
+            set_counts_line(line, executed, self.all, acknowledged)?;
+            self.ended = true;
+            return Ok(true);
+        }
+        set_ran_line(line, self.world.ran())?;
+        self.ran = true;
+        Ok(true)
+    }
+}
+
+// The line becomes the answer to the given one.
+fn set_answer(
     alloc: Global,
     world: &mut World<'_>,
-    line: &[u8],
-    out: &mut K,
-) -> Result<(), Trouble>
+    given: &[u8],
+    line: &mut String,
+) -> Result<(), AllocError>
     requires { length world.old.state.packets < 2 ^ 32 - 2 }
-    ensures text { Writes ((answer_to world.old.actions world.old.state line.now).0 ∷ []) (K.written out.old) (K.written out.new) result }
-    ensures cause { CountsFault (K.faults out.old) (K.faults out.new) result }
-    ensures actions { OnOk result (world.new.actions ≡ world.old.actions) }
-    ensures state { OnOk result (world.new.state ≡ (answer_to world.old.actions world.old.state line.now).1) }
+    ensures text { OnOk result (string_bytes line.new ≡ (answer_to world.old.actions world.old.state given.now).0) }
+    ensures state { OnOk result (world.new.state ≡ (answer_to world.old.actions world.old.state given.now).1) }
+    ensures actions { world.new.actions ≡ world.old.actions }
+    ensures few { length world.new.state.packets ≤ length world.old.state.packets + 1 }
 {
-    match happening_in(alloc, line)? {
-        Some(event) => write_event(alloc, world, event, out),
-        None => put_line(b"bad line\n", out),
+    match happening_in(alloc, given)? {
+        Some(event) => set_event_line(world, event, line),
+        None => {
+            line.clear();
+            line.push_str("bad line\n")
+        }
     }
 }
 
-#[tactic(auto, using(metis_outside::proofs::Writing::front_of_nothing))]
-fn write_event<K: Sink>(
-    alloc: Global,
+// The line becomes what is told of the event.
+fn set_event_line(
     world: &mut World<'_>,
     event: Happening,
-    out: &mut K,
-) -> Result<(), Trouble>
+    line: &mut String,
+) -> Result<(), AllocError>
     requires { length world.old.state.packets < 2 ^ 32 - 2 }
-    ensures text { Writes (told_line (hear world.old.actions world.old.state event).0 ∷ []) (K.written out.old) (K.written out.new) result }
-    ensures cause { CountsFault (K.faults out.old) (K.faults out.new) result }
-    ensures actions { OnOk result (world.new.actions ≡ world.old.actions) }
+    ensures text { OnOk result (string_bytes line.new ≡ told_line (hear world.old.actions world.old.state event).0) }
     ensures state { OnOk result (world.new.state ≡ (hear world.old.actions world.old.state event).1) }
+    ensures actions { world.new.actions ≡ world.old.actions }
+    ensures few { length world.new.state.packets ≤ length world.old.state.packets + 1 }
 {
     match world.event(event) {
-        Told::NoMemory => Err(Trouble::NoMemory),
-        told => write_told(alloc, told, out),
+        Told::NoMemory => Err(AllocError),
+        told => set_told_line(line, told),
     }
 }
 
@@ -111,123 +211,62 @@ fn happens(verb: &[u8], n: u32) -> Option<Happening>
     }
 }
 
-// Whether the token is this word.
-fn is(token: &[u8], word: &str) -> bool
-    ensures { result ≡ bytes_eq token.now word.now }
-{
-    token == word.as_bytes()
-}
-
-#[tactic(auto, using(metis_outside::proofs::Writing::front_of_nothing))]
-fn write_told<K: Sink>(alloc: Global, told: Told, out: &mut K) -> Result<(), Trouble>
+// The line becomes what is told.
+fn set_told_line(line: &mut String, told: Told) -> Result<(), AllocError>
     requires { told ≢ Told.NoMemory }
-    ensures text { Writes (told_line told ∷ []) (K.written out.old) (K.written out.new) result }
-    ensures cause { CountsFault (K.faults out.old) (K.faults out.new) result }
+    ensures { OnOk result (string_bytes line.new ≡ told_line told) }
 {
-    let line = told_line(alloc, told)?;
-    put_line(line.as_bytes(), out)
-}
-
-fn told_line(alloc: Global, told: Told) -> Result<String, AllocError>
-    ensures { IfOk result (λ line. string_bytes line ≡ told_line told) }
-{
+    line.clear();
     match told {
-        Told::Sent(p) => number_line(alloc, "sent", p),
-        Told::Held(k, m) => numbers_line(alloc, "held", k, "", m),
-        Told::Acked(k) => number_line(alloc, "acked", k),
-        Told::NoAction(k) => number_line(alloc, "no action", k),
-        Told::Executed(k, p) => numbers_line(alloc, "executed", k, " sent", p),
-        Told::Again(k, p) => numbers_line(alloc, "again", k, " sent", p),
-        Told::Noted(k) => number_line(alloc, "noted", k),
-        Told::Known(k) => number_line(alloc, "known", k),
-        Told::NoPacket(n) => number_line(alloc, "no packet", n),
-        Told::Restarted(n) => number_line(alloc, "restarted", n),
-        Told::NoRestart(n) => number_line(alloc, "no restart", n),
-        Told::NoMemory => Ok(String::new(alloc)),
+        Told::Sent(p) => push_number(line, "sent", p),
+        Told::Held(k, m) => push_two(line, "held", k, "", m),
+        Told::Acked(k) => push_number(line, "acked", k),
+        Told::NoAction(k) => push_number(line, "no action", k),
+        Told::Executed(k, p) => push_two(line, "executed", k, " sent", p),
+        Told::Again(k, p) => push_two(line, "again", k, " sent", p),
+        Told::Noted(k) => push_number(line, "noted", k),
+        Told::Known(k) => push_number(line, "known", k),
+        Told::NoPacket(n) => push_number(line, "no packet", n),
+        Told::Restarted(n) => push_number(line, "restarted", n),
+        Told::NoRestart(n) => push_number(line, "no restart", n),
+        Told::NoMemory => unreachable!(),
     }
 }
 
-fn number_line(alloc: Global, word: &str, n: u32) -> Result<String, AllocError>
-    ensures { IfOk result (λ line. string_bytes line ≡ word.now ++ (codes " " ++ (decimal n ++ codes "\n"))) }
+fn push_number(line: &mut String, word: &str, n: u32) -> Result<(), AllocError>
+    ensures { OnOk result (string_bytes line.new ≡ string_bytes line.old ++ (word.now ++ (codes " " ++ (decimal n ++ codes "\n")))) }
 {
-    format!(in alloc; "{word} {n}\n")
+    write!(line, "{word} {n}\n")
 }
 
-fn numbers_line(alloc: Global, word: &str, n: u32, then: &str, m: u32) -> Result<String, AllocError>
-    ensures { IfOk result (λ line. string_bytes line ≡ word.now ++ (codes " " ++ (decimal n ++ (then.now ++ (codes " " ++ (decimal m ++ codes "\n")))))) }
+fn push_two(line: &mut String, word: &str, n: u32, then: &str, m: u32) -> Result<(), AllocError>
+    ensures { OnOk result (string_bytes line.new ≡ string_bytes line.old
+        ++ (word.now ++ (codes " " ++ (decimal n ++ (then.now ++ (codes " " ++ (decimal m ++ codes "\n"))))))) }
 {
-    format!(in alloc; "{word} {n}{then} {m}\n")
+    write!(line, "{word} {n}{then} {m}\n")
 }
 
-// Puts what was executed, and the counts.
-fn write_end<K: Sink>(
-    alloc: Global,
-    world: &World<'_>,
-    all: usize,
-    out: &mut K,
-) -> Result<(), Trouble>
-    requires { all ≡ length world.now.actions }
-    ensures text { Writes (end_lines world.now.actions world.now.state) (K.written out.old) (K.written out.new) result }
-    ensures cause { CountsFault (K.faults out.old) (K.faults out.new) result }
+fn set_ran_line(line: &mut String, ran: &[u32]) -> Result<(), AllocError>
+    ensures { OnOk result (string_bytes line.new ≡ ran_line ran.now) }
 {
-    write_last(alloc, world.ran(), all, world.acknowledged(), out)
-}
-
-#[tactic(auto, using(metis_outside::proofs::Writing::front_of_line, metis_outside::proofs::Writing::writes_behind))]
-fn write_last<K: Sink>(
-    alloc: Global,
-    ran: &[u32],
-    all: usize,
-    acknowledged: &[u32],
-    out: &mut K,
-) -> Result<(), Trouble>
-    ensures text { Writes (ran_line ran.now ∷ counts_line (length ran.now) all (length acknowledged.now) ∷ []) (K.written out.old) (K.written out.new) result }
-    ensures cause { CountsFault (K.faults out.old) (K.faults out.new) result }
-{
-    write_ran(alloc, ran, out)?;
-    write_counts(alloc, ran.len(), all, acknowledged.len(), out)
-}
-
-#[tactic(auto, using(metis_outside::proofs::Writing::front_of_nothing))]
-fn write_ran<K: Sink>(alloc: Global, ran: &[u32], out: &mut K) -> Result<(), Trouble>
-    ensures text { Writes (ran_line ran.now ∷ []) (K.written out.old) (K.written out.new) result }
-    ensures cause { CountsFault (K.faults out.old) (K.faults out.new) result }
-{
-    let line = ran_line(alloc, ran)?;
-    put_line(line.as_bytes(), out)
-}
-
-fn ran_line(alloc: Global, ran: &[u32]) -> Result<String, AllocError>
-    ensures { IfOk result (λ line. string_bytes line ≡ ran_line ran.now) }
-{
-    let mut line = String::from_str(alloc, "ran")?;
-    push_numbers(&mut line, ran)?;
+    line.clear();
+    line.push_str("ran")?;
+    push_numbers(line, ran)?;
     line.push_str("\n")?;
-    Ok(line)
+    Ok(())
 }
 
-#[tactic(auto, using(metis_outside::proofs::Writing::front_of_nothing))]
-fn write_counts<K: Sink>(
-    alloc: Global,
+fn set_counts_line(
+    line: &mut String,
     executed: usize,
     all: usize,
     acknowledged: usize,
-    out: &mut K,
-) -> Result<(), Trouble>
-    ensures text { Writes (counts_line executed all acknowledged ∷ []) (K.written out.old) (K.written out.new) result }
-    ensures cause { CountsFault (K.faults out.old) (K.faults out.new) result }
+) -> Result<(), AllocError>
+    ensures { OnOk result (string_bytes line.new ≡ counts_line executed all acknowledged) }
 {
-    let line = counts_line(alloc, executed, all, acknowledged)?;
-    put_line(line.as_bytes(), out)
-}
-
-fn counts_line(
-    alloc: Global,
-    executed: usize,
-    all: usize,
-    acknowledged: usize,
-) -> Result<String, AllocError>
-    ensures { IfOk result (λ line. string_bytes line ≡ counts_line executed all acknowledged) }
-{
-    format!(in alloc; "executed {executed} of {all} acknowledged {acknowledged}\n")
+    line.clear();
+    write!(
+        line,
+        "executed {executed} of {all} acknowledged {acknowledged}\n"
+    )
 }

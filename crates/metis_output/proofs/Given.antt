@@ -13,3 +13,9 @@ pub given : {L E : Type 0} (P : List (List ℕ) → Status → Type 0) (rest : L
 given {E = E} P rest (Ok a) old new before now status says shown =
     shown_weaker (Gives {E = E} rest (Ok a)) P old new before now status (λ lines told gives. subst (P lines) (sym gives.1) (subst (λ ls. P ls (status_for a.good)) (sym gives.0) says)) shown
 given {E = E} P rest (Err e) old new before now status says shown = shown_weaker (Gives {E = E} rest (Err e)) P old new before now status (λ lines told none. absurd none) shown
+
+-- what is said of an answer says more of it
+pub says_more : {L E : Type 0} (P Q : List (List ℕ) → Status → Type 0) (rest : L → List (List ℕ)) (answer : Result (Answer L) E) → ((lines : List (List ℕ)) (status : Status) → P lines status → Q lines status)
+    → IfOk answer (Says P rest) → IfOk answer (Says Q rest)
+says_more P Q rest (Ok a) more says = more (rest a.lines) (status_for a.good) says
+says_more P Q rest (Err e) more says = tt

@@ -199,6 +199,13 @@ module _ (u : Universe) where
     pub one_more : with_line u n seen line ≡ Ok s → Say (front ++ line ∷ []) s
     one_more h = elim (line_is u n seen line s h) [ inl host ↦ one_host host | inr size ↦ one_size size ]
 
+  -- a name that comes with a host is one
+  pub entries_more : (n : ℕ) (seen : SeenLines) (line : List ℕ) (s : SeenLines) → with_line u n seen line ≡ Ok s → All IsEntry seen.hosts → All IsEntry s.hosts
+  entries_more n seen line s h are = elim (line_is u n seen line s h) [
+    | inl host ↦ subst (λ (t : SeenLines). All IsEntry t.hosts) (sym host.gives) (pushed IsEntry seen.hosts host.e are host.entry)
+    | inr size ↦ subst (λ (t : SeenLines). All IsEntry t.hosts) (sym size.gives) are
+  ]
+
   -- all lines from the second one on
   record AllSay (lines : List (List ℕ)) (rest : List ℕ) (h : HostLists) : Type 0 where
     seen : SeenLines

@@ -1,10 +1,11 @@
 //! Reads the text of hosts.
 ghost use Rattle.std.specs.Prelude.{◌≡◌, ◌≤◌, IfOk, length, map};
+ghost use Rattle.std.specs.List.{All};
 ghost use Rattle.metis_tokens.specs.Flaws.{made};
 ghost use Rattle.metis_universe.specs.Universe.{type_count};
 ghost use Rattle.metis_place.specs.Entries.{entries_of, number_of};
 ghost use Rattle.metis_place.specs.HostsFaults.{IfFault, IsHostsFault};
-ghost use Rattle.metis_place.specs.HostsWritten.{IsTextOf};
+ghost use Rattle.metis_place.specs.HostsWritten.{IsEntry, IsTextOf};
 ghost use Rattle.metis_place.specs.HostsText.{ReadsHosts, Takes, end_from, entry_in, hosts_in, hosts_of, is_last, lines_from, nothing, sizes_of, text_of, whole_lines, last_piece, with_entry, with_host, with_line, with_size, with_tokens, with_words};
 
 use crate::hosts::Hosts;
@@ -133,7 +134,7 @@ impl Seen {
         is(line, "end") && !self.rooms.is_empty()
     }
 
-    // The hosts, where nothing stands behind the last line. The line behind it has this number.
+    // The hosts, if nothing stands behind the last line. The line behind it has this number.
     fn end(
         self,
         alloc: Global,
@@ -142,6 +143,7 @@ impl Seen {
         lines: &[&[u8]],
         rest: &[u8],
     ) -> Result<Hosts, HFault>
+        requires { All IsEntry self.hosts }
         ensures { ReadsHosts result (end_from u.now self number (map (λ line. line.now) lines.now) rest.now) }
     {
         if !lines.is_empty() || !rest.is_empty() {
@@ -152,6 +154,7 @@ impl Seen {
 
     // The hosts, and the size of each type.
     fn hosts(self, alloc: Global, u: &Universe) -> Result<Hosts, AllocError>
+        requires { All IsEntry self.hosts }
         ensures { IfOk result (λ h. h ≡ hosts_of u.now self) }
     {
         let sizes = all_sizes(alloc, u, &self.sizes)?;

@@ -1,3 +1,4 @@
+pub mod Answered
 pub mod Deployments
 pub mod Gathered
 pub mod Openings

@@ -4,7 +4,7 @@ use Rattle.std.proofs.lemmas.List.{take_all}
 use Rattle.std.proofs.lemmas.Bool.Decides.{nat_tests}
 use Rattle.std.specs.declared.option.Option.{Option}
 use Rattle.metis_outside.specs.Faults.{Rose}
-use Rattle.metis_gather.specs.declared.refusal.Refusal.TheVariants.{TooLong}
+use Rattle.metis_inputs.specs.declared.stop.InputFault.TheVariants.{TooLong}
 use Rattle.metis_output.specs.declared.status.Status.{Status}
 use Rattle.metis_output.specs.declared.status.Status.TheVariants.{Done, No, NoMemory}
 use Rattle.metis_choice.specs.Resolutions.{ArePairsFor}
@@ -12,18 +12,19 @@ use Rattle.metis_ids.specs.Plans.{Plan}
 use Rattle.metis_ids.specs.declared.goals.Goal.{Goal}
 use Rattle.metis_outside.specs.Writes.{Appends}
 use Rattle.metis_universe.specs.Tidy.{IsTidy}
-use Rattle.metis_gather.specs.Answer.{Plan as PlanOf}
-use Rattle.metis_gather.specs.Commands.{command_script, goals_named, script_from, universe_in_then, targets_then}
+use Rattle.metis_inputs.specs.Answer.{Plan as PlanOf}
+use Rattle.metis_inputs.specs.Commands.{command_script, goals_named, script_from, universe_in_then, targets_then}
 use Rattle.metis_top.specs.Course.{Ran, Says, OnShelf}
 use Rattle.metis_output.specs.Shown.{Shown}
-use Rattle.metis_gather.specs.Gathers.{AreTaken, after}
+use Rattle.metis_inputs.specs.Gathers.{AreTaken, after}
 use Rattle.metis_ujson.specs.Document.{document_limit, universe_in}
 use Rattle.metis_top.proofs.Deployments.{OrderLaws, answer_deploys}
 use Rattle.metis_top.specs.Honest.{over, Tells, Headline, IsThePlan, PlansHave, Undisturbed}
 use Rattle.metis_top.specs.Deployment.{EndsTidy}
-use Rattle.metis_answer.specs.Planned.{PlanAnswer, PlansPairs, plan_text}
-use Rattle.metis_gather.specs.Script.{Script, Read, Refuse, Reply}
+use Rattle.metis_planning.specs.Plan.{PlanAnswer, PlansPairs, plan_text}
+use Rattle.metis_inputs.specs.Script.{Script, Read, Fault, Reply}
 use Rattle.metis_words.specs.TargetName.{TargetName}
+use Rattle.metis_words.specs.Form.{form_by}
 use Rattle.metis_words.specs.Words.{form_of}
 use Rattle.metis_words.specs.declared.words.Verb.TheVariants.{Plan as PlanVerb}
 use Rattle.metis_universe.specs.Universe.{Universe}
@@ -34,12 +35,12 @@ after-over : (file : List ℕ → List ℕ) (taken : List (List ℕ)) (script : 
     → (Rose faults faults' → ⊥) → status ≢ NoMemory → after taken script ≡ over file script
 after-over file [] (Read place name limit next) count faults faults' opens opens' old new status asked (inl failed) calm memory = absurd (calm failed.0)
 after-over file [] (Read place name limit next) count faults faults' opens opens' old new status asked (inr gave_up) calm memory = absurd (memory gave_up.0)
-after-over file [] (Refuse refusal) count faults faults' opens opens' old new status asked shelf calm memory = refl
+after-over file [] (Fault why) count faults faults' opens opens' old new status asked shelf calm memory = refl
 after-over file [] (Reply answer) count faults faults' opens opens' old new status asked shelf calm memory = refl
 after-over file (bytes ∷ taken) (Read place name limit next) count faults faults' opens opens' old new status asked shelf calm memory =
     after-over file taken (next bytes) count faults faults' opens opens' old new status asked.1 shelf calm memory
     ∙ ap (λ b. over file (next b)) asked.0.told
-after-over file (bytes ∷ taken) (Refuse refusal) count faults faults' opens opens' old new status asked shelf calm memory = absurd asked
+after-over file (bytes ∷ taken) (Fault why) count faults faults' opens opens' old new status asked shelf calm memory = absurd asked
 after-over file (bytes ∷ taken) (Reply answer) count faults faults' opens opens' old new status asked shelf calm memory = absurd asked
 
 told_by_shown : (file : List ℕ → List ℕ) (script end : Script) (old new : Option (List (List ℕ))) (before now : ℕ) (status : Status)
@@ -67,15 +68,15 @@ ran_tells files faults opens written sink_faults script shelf shelf' sink sink' 
 -- an accepted document is gone on with
 over-universe : (file : List ℕ → List ℕ) (bytes taken : List ℕ) (u : Universe) (next : Universe → Script)
     → taken ≡ bytes → length bytes ≤ document_limit → universe_in bytes ≡ Ok u
-    → over file (if nat_le (length taken) document_limit then universe_in_then taken next else Refuse (TooLong 2)) ≡ over file (next u)
+    → over file (if nat_le (length taken) document_limit then universe_in_then taken next else Fault (TooLong 2)) ≡ over file (next u)
 over-universe file bytes taken u next is fits means =
     let passes : nat_le (length bytes) document_limit ≡ true = grind (arith, nat_tests) in
-    ap (λ t. over file (if nat_le (length t) document_limit then universe_in_then t next else Refuse (TooLong 2))) is
+    ap (λ t. over file (if nat_le (length t) document_limit then universe_in_then t next else Fault (TooLong 2))) is
     ∙ rw (passes, means)
 
 -- accepted words and an accepted document come to what is to be said of the targets
 over-plan : (file : List ℕ → List ℕ) (name : List ℕ) (targets : List TargetName) (u : Universe) (g : List Goal) → length (file name) ≤ document_limit → universe_in (file name) ≡ Ok u
-    → goals_named 3 u targets ≡ Ok g → over file (command_script PlanVerb (name ∷ []) targets 0 []) ≡ Reply (PlanOf u g)
+    → goals_named 3 u targets ≡ Ok g → over file (command_script (form_by PlanVerb (name ∷ []) targets 0 [])) ≡ Reply (PlanOf u g)
 over-plan file name targets u g fits means found =
     over-universe file (file name) (take (document_limit + 1) (file name)) u (λ v. targets_then 3 v targets (λ goals. Reply (PlanOf v goals))) (take_all (document_limit + 1) (file name) (omega arith)) fits means
     ∙ rw found

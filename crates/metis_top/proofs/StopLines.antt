@@ -1,18 +1,18 @@
 -- The lines of a run that ends before its work are lines.
-use Rattle.std.proofs.Common.{◌≡◌, ◌≢◌, ℕ, true, refl, sym, ap, ◌∙◌}
+use Rattle.std.proofs.Common.{◌≡◌, ◌≢◌, ℕ, List, ◌++◌, true, refl, sym, ap, ◌∙◌, decimal}
 use Rattle.std.proofs.lemmas.Bool.{false≢true}
 use Rattle.std.specs.Prelude.{codes}
-use Rattle.metis_outside.proofs.Feeds.{IsLine-from}
+use Rattle.metis_outside.proofs.Feeds.{IsLine-from, no_feed}
 use Rattle.metis_outside.specs.Pieces.{IsLine}
-use Rattle.metis_control.proofs.AnswerLines.{by_number, by_three, by_two}
-use Rattle.metis_gather.specs.declared.refusal.Refusal.{Refusal}
-use Rattle.metis_gather.specs.declared.refusal.Refusal.TheVariants.{Word, TooLong}
-use Rattle.metis_gather.specs.declared.refusal.Refusal.TheVariants as refusal
+use Rattle.metis_output.proofs.LineWords.{by_number, by_three, by_two, word_then}
+use Rattle.metis_inputs.specs.declared.stop.InputFault.{InputFault}
+use Rattle.metis_inputs.specs.declared.stop.InputFault.TheVariants.{Word, TooLong}
+use Rattle.metis_inputs.specs.declared.stop.InputFault.TheVariants as input
 use Rattle.metis_place.specs.declared.hosts_fault.HFault.{HFault}
 use Rattle.metis_place.specs.declared.hosts_fault.HFault.TheVariants as hfault
 use Rattle.metis_tokens.specs.declared.fault.TFault.{TFault}
 use Rattle.metis_tokens.specs.declared.fault.TFault.TheVariants as tfault
-use Rattle.metis_top.specs.Lines.{hosts_fault_line, is_told, limit_line, plan_fault_line, read_fault_line, refusal_fault_line, refusal_line, universe_line, why_fault_line}
+use Rattle.metis_top.specs.Lines.{fault_line, hosts_fault_line, is_told, limit_line, read_fault_line, text_fault_line, universe_line}
 use Rattle.metis_ujson.specs.declared.faults.UFault.{UFault}
 use Rattle.metis_ujson.specs.declared.faults.UFault.TheVariants as ufault
 use Rattle.metis_universe.specs.declared.faults.LimitKind.{LimitKind}
@@ -40,26 +40,12 @@ IsLine-universe_line (ufault.Demand t s k) named = by_three (codes "bad universe
 IsLine-universe_line (ufault.Limit kind n) named = IsLine-limit_line kind n
 IsLine-universe_line ufault.NoMemory named = absurd (named refl)
 
-IsLine-plan_fault_line : (fault : TFault) → fault ≢ tfault.NoMemory → IsLine (plan_fault_line fault)
-IsLine-plan_fault_line (tfault.Line n) named = by_number (codes "bad plan line ") n refl
-IsLine-plan_fault_line tfault.Short named = IsLine-from (codes "bad plan short") refl
-IsLine-plan_fault_line (tfault.Name n) named = by_number (codes "bad plan name ") n refl
-IsLine-plan_fault_line (tfault.Number n) named = by_number (codes "bad plan number ") n refl
-IsLine-plan_fault_line tfault.NoMemory named = absurd (named refl)
-
-IsLine-refusal_fault_line : (fault : TFault) → fault ≢ tfault.NoMemory → IsLine (refusal_fault_line fault)
-IsLine-refusal_fault_line (tfault.Line n) named = by_number (codes "bad refusal line ") n refl
-IsLine-refusal_fault_line tfault.Short named = IsLine-from (codes "bad refusal short") refl
-IsLine-refusal_fault_line (tfault.Name n) named = by_number (codes "bad refusal name ") n refl
-IsLine-refusal_fault_line (tfault.Number n) named = by_number (codes "bad refusal number ") n refl
-IsLine-refusal_fault_line tfault.NoMemory named = absurd (named refl)
-
-IsLine-why_fault_line : (fault : TFault) → fault ≢ tfault.NoMemory → IsLine (why_fault_line fault)
-IsLine-why_fault_line (tfault.Line n) named = by_number (codes "bad why line ") n refl
-IsLine-why_fault_line tfault.Short named = IsLine-from (codes "bad why short") refl
-IsLine-why_fault_line (tfault.Name n) named = by_number (codes "bad why name ") n refl
-IsLine-why_fault_line (tfault.Number n) named = by_number (codes "bad why number ") n refl
-IsLine-why_fault_line tfault.NoMemory named = absurd (named refl)
+IsLine-text_fault_line : (text : List ℕ) (fault : TFault) → no_feed text ≡ true → fault ≢ tfault.NoMemory → IsLine (text_fault_line text fault)
+IsLine-text_fault_line text (tfault.Line n) calm named = word_then (codes "bad ") text (codes " line " ++ (decimal n ++ codes "\n")) refl calm (by_number (codes " line ") n refl)
+IsLine-text_fault_line text tfault.Short calm named = word_then (codes "bad ") text (codes " short\n") refl calm (IsLine-from (codes " short") refl)
+IsLine-text_fault_line text (tfault.Name n) calm named = word_then (codes "bad ") text (codes " name " ++ (decimal n ++ codes "\n")) refl calm (by_number (codes " name ") n refl)
+IsLine-text_fault_line text (tfault.Number n) calm named = word_then (codes "bad ") text (codes " number " ++ (decimal n ++ codes "\n")) refl calm (by_number (codes " number ") n refl)
+IsLine-text_fault_line text tfault.NoMemory calm named = absurd (named refl)
 
 IsLine-hosts_fault_line : (fault : HFault) → fault ≢ hfault.NoMemory → IsLine (hosts_fault_line fault)
 IsLine-hosts_fault_line (hfault.Line n) named = by_number (codes "bad hosts line ") n refl
@@ -72,13 +58,13 @@ IsLine-hosts_fault_line hfault.NoMemory named = absurd (named refl)
 pub IsLine-read_fault_line : (place : ℕ) → IsLine (read_fault_line place)
 IsLine-read_fault_line place = by_number (codes "read fault ") place refl
 
--- a refusal that has a line is told by a line
-pub IsLine-refusal_line : (refusal : Refusal) → is_told refusal ≡ true → IsLine (refusal_line refusal)
-IsLine-refusal_line (Word place) told = by_number (codes "bad word ") place refl
-IsLine-refusal_line (TooLong place) told = by_number (codes "too long ") place refl
-IsLine-refusal_line (refusal.Universe fault) told = IsLine-universe_line fault (λ e. false≢true (sym (ap (λ f. is_told (refusal.Universe f)) e) ∙ told))
-IsLine-refusal_line (refusal.PlanText fault) told = IsLine-plan_fault_line fault (λ e. false≢true (sym (ap (λ f. is_told (refusal.PlanText f)) e) ∙ told))
-IsLine-refusal_line (refusal.RefusalText fault) told = IsLine-refusal_fault_line fault (λ e. false≢true (sym (ap (λ f. is_told (refusal.RefusalText f)) e) ∙ told))
-IsLine-refusal_line (refusal.WhyText fault) told = IsLine-why_fault_line fault (λ e. false≢true (sym (ap (λ f. is_told (refusal.WhyText f)) e) ∙ told))
-IsLine-refusal_line (refusal.HostsText fault) told = IsLine-hosts_fault_line fault (λ e. false≢true (sym (ap (λ f. is_told (refusal.HostsText f)) e) ∙ told))
-IsLine-refusal_line (refusal.Turns place) told = by_number (codes "bad turns ") place refl
+-- a fault that has a line is told by a line
+pub IsLine-fault_line : (fault : InputFault) → is_told fault ≡ true → IsLine (fault_line fault)
+IsLine-fault_line (Word place) told = by_number (codes "bad word ") place refl
+IsLine-fault_line (TooLong place) told = by_number (codes "too long ") place refl
+IsLine-fault_line (input.Universe fault) told = IsLine-universe_line fault (λ e. false≢true (sym (ap (λ f. is_told (input.Universe f)) e) ∙ told))
+IsLine-fault_line (input.PlanText fault) told = IsLine-text_fault_line (codes "plan") fault refl (λ e. false≢true (sym (ap (λ f. is_told (input.PlanText f)) e) ∙ told))
+IsLine-fault_line (input.RefusalText fault) told = IsLine-text_fault_line (codes "refusal") fault refl (λ e. false≢true (sym (ap (λ f. is_told (input.RefusalText f)) e) ∙ told))
+IsLine-fault_line (input.WhyText fault) told = IsLine-text_fault_line (codes "why") fault refl (λ e. false≢true (sym (ap (λ f. is_told (input.WhyText f)) e) ∙ told))
+IsLine-fault_line (input.HostsText fault) told = IsLine-hosts_fault_line fault (λ e. false≢true (sym (ap (λ f. is_told (input.HostsText f)) e) ∙ told))
+IsLine-fault_line (input.Turns place) told = by_number (codes "bad turns ") place refl

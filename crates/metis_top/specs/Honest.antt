@@ -14,12 +14,12 @@ use Rattle.metis_top.specs.Course.{Says}
 use Rattle.metis_ujson.specs.Document.{document_limit, universe_in}
 use Rattle.metis_ids.specs.declared.goals.Goal.{Goal}
 use Rattle.metis_choice.specs.Resolutions.{ArePairsFor}
-use Rattle.metis_gather.specs.Commands.{goals_named}
+use Rattle.metis_inputs.specs.Commands.{goals_named}
 use Rattle.metis_top.specs.Deployment.{DeploysOrRefuses, EndsTidy}
-use Rattle.metis_answer.specs.Planned.{IsDoubledByNeed, plan_text}
+use Rattle.metis_planning.specs.Plan.{IsDoubledByNeed, plan_text}
 use Rattle.metis_planner.specs.Rounds.{IsByRounds}
 use Rattle.metis_universe.specs.Universe.{Universe}
-use Rattle.metis_gather.specs.Script.{Script, Read}
+use Rattle.metis_inputs.specs.Script.{Script, Read}
 use Rattle.metis_words.specs.TargetName.{TargetName}
 use Rattle.metis_words.specs.Words.{form_of}
 use Rattle.metis_output.specs.declared.status.Status.{Status}

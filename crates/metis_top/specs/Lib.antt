@@ -1,3 +1,4 @@
+pub mod Answers
 pub mod Course
 pub mod Deployment
 pub mod Honest

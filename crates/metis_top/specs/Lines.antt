@@ -9,9 +9,9 @@ use Rattle.metis_tokens.specs.declared.fault.TFault.{TFault}
 use Rattle.metis_tokens.specs.declared.fault.TFault.TheVariants as tfault
 use Rattle.metis_universe.specs.declared.faults.LimitKind.{LimitKind}
 use Rattle.metis_universe.specs.declared.faults.LimitKind.TheVariants.{States, Requires, Pairs, Ports}
-use Rattle.metis_gather.specs.declared.refusal.Refusal.{Refusal}
-use Rattle.metis_gather.specs.declared.refusal.Refusal.TheVariants.{Word, TooLong}
-use Rattle.metis_gather.specs.declared.refusal.Refusal.TheVariants as refusal
+use Rattle.metis_inputs.specs.declared.stop.InputFault.{InputFault}
+use Rattle.metis_inputs.specs.declared.stop.InputFault.TheVariants.{Word, TooLong}
+use Rattle.metis_inputs.specs.declared.stop.InputFault.TheVariants as input
 use Rattle.metis_output.specs.declared.status.Status.{Status}
 use Rattle.metis_output.specs.declared.status.Status.TheVariants.{BadWords, BadInput}
 
@@ -43,29 +43,13 @@ universe_line (Limit kind n) = limit_line kind n
 universe_line ufault.NoMemory = []
 universe_line fault = state_line fault
 
--- the first fault of a plan's text; want of memory is none
-abbrev pub plan_fault_line : TFault → List ℕ
-plan_fault_line (tfault.Line n) = codes "bad plan line " ++ (decimal n ++ codes "\n")
-plan_fault_line tfault.Short = codes "bad plan short\n"
-plan_fault_line (tfault.Name n) = codes "bad plan name " ++ (decimal n ++ codes "\n")
-plan_fault_line (tfault.Number n) = codes "bad plan number " ++ (decimal n ++ codes "\n")
-plan_fault_line tfault.NoMemory = []
-
--- the first fault of a refusal's text; want of memory is none
-abbrev pub refusal_fault_line : TFault → List ℕ
-refusal_fault_line (tfault.Line n) = codes "bad refusal line " ++ (decimal n ++ codes "\n")
-refusal_fault_line tfault.Short = codes "bad refusal short\n"
-refusal_fault_line (tfault.Name n) = codes "bad refusal name " ++ (decimal n ++ codes "\n")
-refusal_fault_line (tfault.Number n) = codes "bad refusal number " ++ (decimal n ++ codes "\n")
-refusal_fault_line tfault.NoMemory = []
-
--- the first fault of an explanation's text; want of memory is none
-abbrev pub why_fault_line : TFault → List ℕ
-why_fault_line (tfault.Line n) = codes "bad why line " ++ (decimal n ++ codes "\n")
-why_fault_line tfault.Short = codes "bad why short\n"
-why_fault_line (tfault.Name n) = codes "bad why name " ++ (decimal n ++ codes "\n")
-why_fault_line (tfault.Number n) = codes "bad why number " ++ (decimal n ++ codes "\n")
-why_fault_line tfault.NoMemory = []
+-- the first fault of a text of this name; want of memory is none
+abbrev pub text_fault_line : List ℕ → TFault → List ℕ
+text_fault_line text (tfault.Line n) = codes "bad " ++ (text ++ (codes " line " ++ (decimal n ++ codes "\n")))
+text_fault_line text tfault.Short = codes "bad " ++ (text ++ codes " short\n")
+text_fault_line text (tfault.Name n) = codes "bad " ++ (text ++ (codes " name " ++ (decimal n ++ codes "\n")))
+text_fault_line text (tfault.Number n) = codes "bad " ++ (text ++ (codes " number " ++ (decimal n ++ codes "\n")))
+text_fault_line text tfault.NoMemory = []
 
 -- the first fault of a text of hosts; want of memory is none
 abbrev pub hosts_fault_line : HFault → List ℕ
@@ -76,34 +60,35 @@ hosts_fault_line (hfault.Name n) = codes "bad hosts name " ++ (decimal n ++ code
 hosts_fault_line (hfault.Twice n) = codes "bad hosts twice " ++ (decimal n ++ codes "\n")
 hosts_fault_line hfault.NoMemory = []
 
-abbrev pub refusal_line : Refusal → List ℕ
-refusal_line (Word place) = codes "bad word " ++ (decimal place ++ codes "\n")
-refusal_line (TooLong place) = codes "too long " ++ (decimal place ++ codes "\n")
-refusal_line (refusal.Universe fault) = universe_line fault
-refusal_line (refusal.PlanText fault) = plan_fault_line fault
-refusal_line (refusal.RefusalText fault) = refusal_fault_line fault
-refusal_line (refusal.WhyText fault) = why_fault_line fault
-refusal_line (refusal.HostsText fault) = hosts_fault_line fault
-refusal_line (refusal.Turns place) = codes "bad turns " ++ (decimal place ++ codes "\n")
+-- what is wrong with a run's words or files
+abbrev pub fault_line : InputFault → List ℕ
+fault_line (Word place) = codes "bad word " ++ (decimal place ++ codes "\n")
+fault_line (TooLong place) = codes "too long " ++ (decimal place ++ codes "\n")
+fault_line (input.Universe fault) = universe_line fault
+fault_line (input.PlanText fault) = text_fault_line (codes "plan") fault
+fault_line (input.RefusalText fault) = text_fault_line (codes "refusal") fault
+fault_line (input.WhyText fault) = text_fault_line (codes "why") fault
+fault_line (input.HostsText fault) = hosts_fault_line fault
+fault_line (input.Turns place) = codes "bad turns " ++ (decimal place ++ codes "\n")
 
--- it has a line: want of memory has none, and is not told as a refusal
-abbrev pub is_told : Refusal → Bool
-is_told (refusal.Universe ufault.NoMemory) = false
-is_told (refusal.PlanText tfault.NoMemory) = false
-is_told (refusal.RefusalText tfault.NoMemory) = false
-is_told (refusal.WhyText tfault.NoMemory) = false
-is_told (refusal.HostsText hfault.NoMemory) = false
+-- it has a line: want of memory has none, and is not told as a fault of words or files
+abbrev pub is_told : InputFault → Bool
+is_told (input.Universe ufault.NoMemory) = false
+is_told (input.PlanText tfault.NoMemory) = false
+is_told (input.RefusalText tfault.NoMemory) = false
+is_told (input.WhyText tfault.NoMemory) = false
+is_told (input.HostsText hfault.NoMemory) = false
 is_told _ = true
 
-abbrev pub refusal_status : Refusal → Status
-refusal_status (Word place) = BadWords
-refusal_status (TooLong place) = BadInput
-refusal_status (refusal.Universe fault) = BadInput
-refusal_status (refusal.PlanText fault) = BadInput
-refusal_status (refusal.RefusalText fault) = BadInput
-refusal_status (refusal.WhyText fault) = BadInput
-refusal_status (refusal.HostsText fault) = BadInput
-refusal_status (refusal.Turns place) = BadInput
+abbrev pub fault_status : InputFault → Status
+fault_status (Word place) = BadWords
+fault_status (TooLong place) = BadInput
+fault_status (input.Universe fault) = BadInput
+fault_status (input.PlanText fault) = BadInput
+fault_status (input.RefusalText fault) = BadInput
+fault_status (input.WhyText fault) = BadInput
+fault_status (input.HostsText fault) = BadInput
+fault_status (input.Turns place) = BadInput
 
 abbrev pub read_fault_line : ℕ → List ℕ
 read_fault_line place = codes "read fault " ++ (decimal place ++ codes "\n")

@@ -1,10 +1,8 @@
 //! The whole run of the program, over files and an output that are passed in.
 #![tactic(auto)]
 
-mod checks;
-mod plans;
+mod performing;
 mod stop;
-mod targets;
 mod top;
 
 pub use metis_output::Status;

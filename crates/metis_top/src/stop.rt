@@ -1,12 +1,13 @@
 //! How a run ends before its work.
-ghost use Rattle.std.specs.Prelude.{◌≡◌, IfOk, string_bytes};
-ghost use Rattle.metis_gather.specs.declared.refusal.Stop.TheVariants.{Refused};
+ghost use Rattle.std.specs.Prelude.{◌≡◌, ◌∷◌, [], IfOk, string_bytes};
+ghost use Rattle.metis_outside.specs.Pieces.{IsLine};
 ghost use Rattle.metis_output.specs.PutLines.{PutsLines};
 ghost use Rattle.metis_output.specs.Shown.{Shown};
 ghost use Rattle.metis_top.specs.Course.{StopSays};
-ghost use Rattle.metis_top.specs.Lines.{hosts_fault_line, is_told, plan_fault_line, refusal_fault_line, refusal_line, why_fault_line, universe_line, state_line, limit_line, read_fault_line, refusal_status};
+ghost use Rattle.metis_top.specs.Lines.{fault_line, fault_status, hosts_fault_line, is_told, limit_line, read_fault_line, state_line, text_fault_line, universe_line};
 
-use metis_gather::{Refusal, Stop};
+use metis_ids::NoMemory;
+use metis_inputs::{InputFault, Stop};
 use metis_output::{Status, say};
 use metis_outside::Sink;
 use metis_place::HFault;
@@ -15,18 +16,18 @@ use metis_ujson::UFault;
 use metis_universe::LimitKind;
 use std::alloc::{AllocError, Global};
 
-fn refusal_line(alloc: Global, refusal: Refusal) -> Result<String, AllocError>
-    ensures { IfOk result (λ line. string_bytes line ≡ refusal_line refusal) }
+fn fault_line(alloc: Global, fault: InputFault) -> Result<String, AllocError>
+    ensures { IfOk result (λ line. string_bytes line ≡ fault_line fault) }
 {
-    match refusal {
-        Refusal::Word(place) => format!(in alloc; "bad word {place}\n"),
-        Refusal::TooLong(place) => format!(in alloc; "too long {place}\n"),
-        Refusal::Universe(fault) => universe_line(alloc, fault),
-        Refusal::PlanText(fault) => plan_fault_line(alloc, fault),
-        Refusal::RefusalText(fault) => refusal_fault_line(alloc, fault),
-        Refusal::WhyText(fault) => why_fault_line(alloc, fault),
-        Refusal::HostsText(fault) => hosts_fault_line(alloc, fault),
-        Refusal::Turns(place) => format!(in alloc; "bad turns {place}\n"),
+    match fault {
+        InputFault::Word(place) => format!(in alloc; "bad word {place}\n"),
+        InputFault::TooLong(place) => format!(in alloc; "too long {place}\n"),
+        InputFault::Universe(fault) => universe_line(alloc, fault),
+        InputFault::PlanText(fault) => text_fault_line(alloc, "plan", fault),
+        InputFault::RefusalText(fault) => text_fault_line(alloc, "refusal", fault),
+        InputFault::WhyText(fault) => text_fault_line(alloc, "why", fault),
+        InputFault::HostsText(fault) => hosts_fault_line(alloc, fault),
+        InputFault::Turns(place) => format!(in alloc; "bad turns {place}\n"),
     }
 }
 
@@ -79,38 +80,15 @@ fn limit_line(alloc: Global, kind: LimitKind, n: u64) -> Result<String, AllocErr
     }
 }
 
-fn plan_fault_line(alloc: Global, fault: TFault) -> Result<String, AllocError>
-    ensures { IfOk result (λ line. string_bytes line ≡ plan_fault_line fault) }
+// The line of the first fault of a text of this name.
+fn text_fault_line(alloc: Global, text: &str, fault: TFault) -> Result<String, AllocError>
+    ensures { IfOk result (λ line. string_bytes line ≡ text_fault_line text.now fault) }
 {
     match fault {
-        TFault::Line(n) => format!(in alloc; "bad plan line {n}\n"),
-        TFault::Short => String::from_str(alloc, "bad plan short\n"),
-        TFault::Name(n) => format!(in alloc; "bad plan name {n}\n"),
-        TFault::Number(n) => format!(in alloc; "bad plan number {n}\n"),
-        TFault::NoMemory => Ok(String::new(alloc)),
-    }
-}
-
-fn refusal_fault_line(alloc: Global, fault: TFault) -> Result<String, AllocError>
-    ensures { IfOk result (λ line. string_bytes line ≡ refusal_fault_line fault) }
-{
-    match fault {
-        TFault::Line(n) => format!(in alloc; "bad refusal line {n}\n"),
-        TFault::Short => String::from_str(alloc, "bad refusal short\n"),
-        TFault::Name(n) => format!(in alloc; "bad refusal name {n}\n"),
-        TFault::Number(n) => format!(in alloc; "bad refusal number {n}\n"),
-        TFault::NoMemory => Ok(String::new(alloc)),
-    }
-}
-
-fn why_fault_line(alloc: Global, fault: TFault) -> Result<String, AllocError>
-    ensures { IfOk result (λ line. string_bytes line ≡ why_fault_line fault) }
-{
-    match fault {
-        TFault::Line(n) => format!(in alloc; "bad why line {n}\n"),
-        TFault::Short => String::from_str(alloc, "bad why short\n"),
-        TFault::Name(n) => format!(in alloc; "bad why name {n}\n"),
-        TFault::Number(n) => format!(in alloc; "bad why number {n}\n"),
+        TFault::Line(n) => format!(in alloc; "bad {text} line {n}\n"),
+        TFault::Short => format!(in alloc; "bad {text} short\n"),
+        TFault::Name(n) => format!(in alloc; "bad {text} name {n}\n"),
+        TFault::Number(n) => format!(in alloc; "bad {text} number {n}\n"),
         TFault::NoMemory => Ok(String::new(alloc)),
     }
 }
@@ -134,54 +112,55 @@ fn read_fault_line(alloc: Global, place: u32) -> Result<String, AllocError>
     format!(in alloc; "read fault {place}\n")
 }
 
-fn refusal_status(refusal: Refusal) -> Status
-    ensures { result ≡ refusal_status refusal }
+fn fault_status(fault: InputFault) -> Status
+    ensures { result ≡ fault_status fault }
 {
-    match refusal {
-        Refusal::Word(_) => Status::BadWords,
+    match fault {
+        InputFault::Word(_) => Status::BadWords,
         _ => Status::BadInput,
     }
 }
 
-// Whether the refusal has a line. Want of memory has none.
-fn is_told(refusal: Refusal) -> bool
-    ensures { result ≡ is_told refusal }
+// Whether the fault has a line. Want of memory has none.
+fn is_told(fault: InputFault) -> bool
+    ensures { result ≡ is_told fault }
 {
-    match refusal {
-        Refusal::Universe(UFault::NoMemory)
-        | Refusal::PlanText(TFault::NoMemory)
-        | Refusal::RefusalText(TFault::NoMemory)
-        | Refusal::WhyText(TFault::NoMemory)
-        | Refusal::HostsText(HFault::NoMemory) => false,
+    match fault {
+        InputFault::Universe(UFault::NoMemory)
+        | InputFault::PlanText(TFault::NoMemory)
+        | InputFault::RefusalText(TFault::NoMemory)
+        | InputFault::WhyText(TFault::NoMemory)
+        | InputFault::HostsText(HFault::NoMemory) => false,
         _ => true,
     }
 }
 
+// The line of a run that ends before its work, and the status. Want of memory has none.
+fn stop_line(alloc: Global, stop: Stop) -> Result<(String, Status), NoMemory>
+    ensures says { IfOk result (λ told. StopSays stop (string_bytes told.0 ∷ []) told.1) }
+    ensures line { IfOk result (λ told. IsLine (string_bytes told.0)) }
+{
+    match stop {
+        Stop::Faulty(fault) if is_told(fault) => {
+            let line = fault_line(alloc, fault)?;
+            Ok((line, fault_status(fault)))
+        }
+        Stop::Failed(place) => {
+            let line = read_fault_line(alloc, place)?;
+            Ok((line, Status::ReadFault))
+        }
+        Stop::Faulty(_) | Stop::NoMemory => Err(NoMemory),
+    }
+}
+
 /// Puts the line of a run that ends before its work.
+#[tactic(auto, using(metis_output::proofs::PutLines::puts_nothing))]
 pub fn end<K: Sink>(alloc: Global, stop: Stop, out: &mut K) -> Status
     ensures course { Shown (StopSays stop) (K.written out.old) (K.written out.new) (K.faults out.old) (K.faults out.new) result }
     ensures lines { PutsLines (K.written out.old) (K.written out.new) result }
 {
-    match stop {
-        Stop::Refused(refusal) => end_refused(alloc, refusal, out),
-        Stop::Failed(place) => match read_fault_line(alloc, place) {
-            Ok(line) => say(line.as_str(), Status::ReadFault, out),
-            Err(_) => Status::NoMemory,
-        },
-        Stop::NoMemory => Status::NoMemory,
-    }
-}
-
-// The same of a refusal.
-fn end_refused<K: Sink>(alloc: Global, refusal: Refusal, out: &mut K) -> Status
-    ensures course { Shown (StopSays (Refused refusal)) (K.written out.old) (K.written out.new) (K.faults out.old) (K.faults out.new) result }
-    ensures lines { PutsLines (K.written out.old) (K.written out.new) result }
-{
-    if !is_told(refusal) {
-        return Status::NoMemory;
-    }
-    match refusal_line(alloc, refusal) {
-        Ok(line) => say(line.as_str(), refusal_status(refusal), out),
+    match stop_line(alloc, stop) {
+        Ok((line, status)) => say(line.as_str(), status, out),
         Err(_) => Status::NoMemory,
     }
 }

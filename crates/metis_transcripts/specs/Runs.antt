@@ -5,7 +5,7 @@ use Rattle.metis_outside.specs.Pieces.{bytes_of}
 use Rattle.metis_outside.specs.Writes.{Appends}
 use Rattle.metis_output.specs.declared.status.Status.{Status}
 use Rattle.metis_output.specs.declared.status.Status.TheVariants.{WriteFault, NoMemory}
-use Rattle.metis_gather.specs.Commands.{script_of}
+use Rattle.metis_inputs.specs.Commands.{script_of}
 use Rattle.metis_top.specs.Course.{Ran}
 use Rattle.metis_transcripts.specs.Cases.{words_in, case_head, single_foot, piped_foot}
 use Rattle.metis_transcripts.specs.Outside.{Outside}

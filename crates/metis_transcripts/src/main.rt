@@ -1,5 +1,5 @@
 //! Runs the commands of the file `cases.txt` in the folder that it runs in, and puts what a terminal would show: each
-//! line, and behind each command what it puts and its status. `docs/GATE.md` has the forms of lines.
+//! line, and behind each command what it puts and its status. `CONTRIBUTING.md` has the forms of lines.
 #![tactic(auto)]
 
 mod case;

@@ -1,18 +1,15 @@
 -- The chosen reasons, lines and pairs.
-use Rattle.std.proofs.Common.{◌≡◌, ℕ, ◌+◌, ◌<◌, ◌≤◌, zero, suc, Bool, true, false, cond, not, ◌||◌, List, [], ◌∷◌, ◌++◌, length, take, set, replicate, Option, Some, None, get_or, refl, sym, ap, ◌∙◌, subst, arith, inl, inr, nat_eq}
+use Rattle.std.proofs.Common.{◌≡◌, ℕ, ◌+◌, ◌<◌, ◌≤◌, Bool, true, false, cond, not, ◌||◌, List, [], ◌∷◌, ◌++◌, length, take, Option, Some, None, get_or, refl, sym, ap, ◌∙◌, subst, arith, inl, inr, nat_eq}
 use Rattle.std.specs.Prelude.{◌⊎◌, MatchOption, fold, nat_lt}
 use Rattle.std.specs.List.{All, list_all}
-use Rattle.std.proofs.lemmas.Bool.{both_ways, cases_eq, cases_lt, eq-eqb, eqb-true, false_from_ne_true, false≢true, le-ltb, lt-ltb, ne_eqb, not-false, not-true, or_cases, or_left, or_right, true_from_ne_false}
-use Rattle.std.proofs.lemmas.List.{get_or-set_other, get_or-set_same, length-replicate, length-set, length_push, map-append}
-use Rattle.std.proofs.Math.Bool.{or-false}
+use Rattle.std.proofs.lemmas.Bool.{both_ways, cases_lt, eq-eqb, eqb-true, false_from_ne_true, false≢true, le-ltb, lt-ltb, not-false, not-true, or_cases, or_left, or_right, true_from_ne_false}
+use Rattle.std.proofs.lemmas.List.{map-append}
 use Rattle.std.proofs.lemmas.List.Elements.{All-take}
 use Rattle.std.proofs.lemmas.List.Sums.{fold_more}
-use Rattle.metis_ids.proofs.Lists.{all_at, has-push}
+use Rattle.metis_ids.proofs.Lists.{all_at}
 use Rattle.metis_ids.specs.declared.goals.Goal.{Goal}
-use Rattle.metis_refusal.proofs.Searches.{unset}
 use Rattle.metis_refusal.specs.Supplies.{flag}
 use Rattle.metis_universe.proofs.Correctness.{all_from_has, all_has}
-use Rattle.metis_universe.proofs.Served.{count-cons}
 use Rattle.metis_universe.specs.Universe.{Universe, has, next_of, pair_count, provides, providers_of, required_of}
 use Rattle.metis_why.proofs.Farther.{cost_inside, distance_covers, distance_one, distance_step}
 use Rattle.metis_why.proofs.Followed.{followed_one, noted_more}
@@ -23,8 +20,6 @@ use Rattle.metis_why.specs.Barred.{IsReason, before_of, listed, named_by, wanted
 use Rattle.metis_why.specs.Choice.{IsByChoice, IsByDistance, IsNearest, IsStep, IsTold, fewer, fewest_port, line_in, lines_in, names_in, noted, reason_by, reason_in}
 use Rattle.metis_why.specs.Flags.{AreGiven, AreLed}
 use Rattle.metis_why.specs.Leaving.{IsEnough}
-use Rattle.metis_why.specs.Nearing.{AreSeen}
-use Rattle.metis_why.specs.Settling.{held}
 use Rattle.metis_why.specs.declared.reason.Line.{Line}
 use Rattle.metis_why.specs.declared.reason.Reason.{Reason}
 use Rattle.metis_why.specs.declared.reason.Reason.TheVariants.{Needs, Comes}
@@ -165,44 +160,6 @@ module _ (u : Universe) (given : List Bool) (ports : List ℕ) where
 
   pub missing_none : None ≡ fewest_port u (λ k. not (flag given k)) ports → (r : ℕ) → has ports r ≡ true → flag given r ≡ true
   missing_none is r there = not-false (flag given r) ((fewest_none u (λ k. not (flag given k)) None ports (sym is)).1 r there)
-
--- ---- flags of the pairs that were seen
-
-held_short : (flags : List Bool) → held flags ≤ length flags
-held_short [] = omega arith
-held_short (true ∷ flags) = omega (arith, held_short flags, count-cons (λ b. b) true flags)
-held_short (false ∷ flags) = omega (arith, held_short flags, count-cons (λ b. b) false flags)
-
-held_more : (flags : List Bool) (n : ℕ) → n < length flags → flag flags n ≡ false → held (set flags n true) ≡ held flags + 1
-held_more [] n low off = absurd (omega arith)
-held_more (b ∷ flags) zero low off = omega (arith, count-cons (λ c. c) b flags ∙ ap (λ c. cond c 1 0 + held flags) off, count-cons (λ c. c) true flags)
-held_more (b ∷ flags) (suc n) low off = omega (arith, held_more flags n (omega arith) off, count-cons (λ c. c) b flags, count-cons (λ c. c) b (set flags n true))
-
-held_none : (n : ℕ) → held (replicate n false) ≡ 0
-held_none zero = refl
-held_none (suc n) = omega (arith, held_none n, count-cons (λ b. b) false (replicate n false))
-
-pub seen_start : (n : ℕ) (list : List ℕ) → n ≡ 2000 → list ≡ [] → AreSeen (replicate n false) list
-seen_start n list long none = record {
-  places = length-replicate n false ∙ long;
-  same = λ p. unset n p ∙ ap (λ l. has l p) (sym none);
-  count = held_none n ∙ ap length (sym none);
-}
-
-pub seen_short : (flags : List Bool) (list : List ℕ) → AreSeen flags list → length list ≤ 2000
-seen_short flags list seen = omega (arith, seen.count, seen.places, held_short flags)
-
-pub seen_more : (flags : List Bool) (list new : List ℕ) (p : ℕ) → AreSeen flags list → p < 2000 → flag flags p ≡ false → new ≡ list ++ p ∷ [] → AreSeen (set flags p true) new
-seen_more flags list new p seen low off is = record {
-  places = length-set flags p true ∙ seen.places;
-  same = λ q. now q ∙ ap (λ l. has l q) (sym is);
-  count = held_more flags p (omega (arith, seen.places)) off ∙ ap (λ n. n + 1) seen.count ∙ sym (length_push list p) ∙ ap length (sym is);
-} where
-  now : (q : ℕ) → flag (set flags p true) q ≡ has (list ++ p ∷ []) q
-  now q = elim (cases_eq q p) [
-    | inl same ↦ ap (flag (set flags p true)) same ∙ get_or-set_same flags p true false (omega (arith, low, seen.places)) ∙ sym (has-push list p q ∙ or_right (has list q) (nat_eq p q) (eq-eqb p q (sym same)))
-    | inr other ↦ get_or-set_other flags p q true false other ∙ seen.same q ∙ sym (has-push list p q ∙ ap (λ b. has list q || b) (ne_eqb p q (λ e. other (sym e))) ∙ or-false (has list q))
-  ]
 
 -- ---- there is one choice
 

@@ -17,6 +17,7 @@ pub mod Listed
 pub mod ListedAll
 pub mod Lowered
 pub mod Nearest
+pub mod Open
 pub mod Ordered
 pub mod Reached
 pub mod Reasons

@@ -1,9 +1,9 @@
 -- Costs in a table are lowered, place by place.
-use Rattle.std.proofs.Common.{◌≡◌, ℕ, zero, suc, ◌+◌, ◌<◌, ◌≤◌, Bool, true, false, cond, not, ◌||◌, List, [], ◌∷◌, ◌++◌, length, take, set, replicate, get_or, refl, sym, ap, ◌∙◌, subst, arith, inl, inr, nat_eq}
+use Rattle.std.proofs.Common.{◌≡◌, ℕ, zero, suc, ◌+◌, ◌<◌, ◌≤◌, Bool, true, false, cond, not, ◌||◌, List, [], ◌∷◌, ◌++◌, length, take, replicate, get_or, refl, sym, ap, ◌∙◌, arith, inl, inr, nat_eq}
 use Rattle.std.specs.Prelude.{fold, nat_lt}
 use Rattle.std.specs.List.{list_all}
-use Rattle.std.proofs.lemmas.Bool.{cases_eq, eq-eqb, le-ltb, lt-ltb, ne_eqb}
-use Rattle.std.proofs.lemmas.List.{get_or-set_other, get_or-set_same, get_or_default, length-set, take_all, take_more}
+use Rattle.std.proofs.lemmas.Bool.{cases_lt}
+use Rattle.std.proofs.lemmas.List.{get_or_default, get_or_past, take_all, take_more}
 use Rattle.std.proofs.lemmas.List.Sums.{fold_more}
 use Rattle.metis_ids.proofs.Lists.{has-push}
 use Rattle.metis_refusal.specs.Supplies.{flag}
@@ -29,49 +29,13 @@ lower_push f pairs p c r = ap (λ b. cond b (cond (nat_lt c (f r)) c (f r)) (f r
   by false true d is = sym (ap (λ e. cond e c (f r)) is)
   by false false d is = refl
 
-module _ (costs : List ℕ) (f : ℕ → ℕ) (pairs : List ℕ) (i p c : ℕ) (low : i < length pairs) (at : p ≡ get_or pairs i p) (before : far_in costs ≡ lowered f (take i pairs) c) where
-  more : (r : ℕ) → lowered (far_in costs) (p ∷ []) c r ≡ lowered f (take (i + 1) pairs) c r
-  more r =
-      ap (λ e. lowered e (p ∷ []) c r) before ∙ sym (lower_push f (take i pairs) p c r)
-      ∙ ap (λ l. lowered f l c r) (ap (λ k. take i pairs ++ k ∷ []) at ∙ sym (take_more pairs i p low))
+pub bring_more : (f old new : ℕ → ℕ) (pairs : List ℕ) (i p c : ℕ) → i < length pairs → p ≡ get_or pairs i p → old ≡ lowered f (take i pairs) c → new ≡ lowered old (p ∷ []) c → new ≡ lowered f (take (i + 1) pairs) c
+bring_more f old new pairs i p c low at before is =
+    let one : take i pairs ++ p ∷ [] ≡ take (i + 1) pairs = ap (λ k. take i pairs ++ k ∷ []) at ∙ sym (take_more pairs i p low) in
+    is ∙ ap (λ e. lowered e (p ∷ []) c) before ∙ (λ j r. (sym (lower_push f (take i pairs) p c r) ∙ ap (λ l. lowered f l c r) one) j)
 
-  -- at the pair the lower one stands, and elsewhere what stood there
-  one_by : (new : List ℕ) → far_in new p ≡ cond (nat_lt c (far_in costs p)) c (far_in costs p) → ((r : ℕ) → (r ≡ p → ⊥) → far_in new r ≡ far_in costs r) → far_in new ≡ lowered f (take (i + 1) pairs) c
-  one_by new here other = λ j r. (now r ∙ more r) j where
-    now : (r : ℕ) → far_in new r ≡ lowered (far_in costs) (p ∷ []) c r
-    now r = elim (cases_eq r p) [
-      | inl same ↦ ap (far_in new) same ∙ here ∙ ap (λ k. cond (nat_lt c (far_in costs k)) c (far_in costs k)) (sym same) ∙ ap (λ b. cond (b || false) (cond (nat_lt c (far_in costs r)) c (far_in costs r)) (far_in costs r)) (sym (eq-eqb p r (sym same)))
-      | inr differ ↦ other r differ ∙ ap (λ b. cond (b || false) (cond (nat_lt c (far_in costs r)) c (far_in costs r)) (far_in costs r)) (sym (ne_eqb p r (λ e. differ (sym e))))
-    ]
-
-  pub bring_set : p < length costs → c < far_in costs p → far_in (set costs p c) ≡ lowered f (take (i + 1) pairs) c
-  bring_set there less =
-      one_by (set costs p c) (get_or-set_same costs p c never there ∙ sym (ap (λ b. cond b c (far_in costs p)) (lt-ltb c (far_in costs p) less))) (λ r differ. get_or-set_other costs p r c never differ)
-
-  pub bring_keep : far_in costs p ≤ c → far_in costs ≡ lowered f (take (i + 1) pairs) c
-  bring_keep least = one_by costs (sym (ap (λ b. cond b c (far_in costs p)) (le-ltb c (far_in costs p) least))) (λ r differ. refl)
-
--- ---- as the table is written
-
-module _ (costs new : List ℕ) (f : ℕ → ℕ) (pairs : List ℕ) (i p c n : ℕ) (low : i < length pairs) (at : p ≡ get_or pairs i p) (before : far_in costs ≡ lowered f (take i pairs) c)
-    (same : n ≡ p) (long : length new ≡ 2000) (most : (k d : ℕ) → k < length pairs → get_or pairs k d < 2000) where
-  below : p < 2000
-  below = subst (λ k. k < 2000) (sym at) (most i p low)
-
-  pub table_set : c < get_or costs n 0 → new ≡ set costs n c → far_in new ≡ lowered f (take (i + 1) pairs) c
-  table_set less is =
-      let there : p < length costs = omega (arith, below, long, ap length is, length-set costs n c) in
-      let stood : get_or costs n 0 ≡ far_in costs p = ap (λ k. get_or costs k 0) same ∙ get_or_default costs p 0 never there in
-      ap far_in (is ∙ ap (λ k. set costs k c) same) ∙ bring_set costs f pairs i p c low at before there (omega (arith, less, stood))
-
-  pub table_keep : get_or costs n 0 ≤ c → new ≡ costs → far_in new ≡ lowered f (take (i + 1) pairs) c
-  table_keep least is =
-      let there : p < length costs = omega (arith, below, long, ap length is) in
-      let stood : get_or costs n 0 ≡ far_in costs p = ap (λ k. get_or costs k 0) same ∙ get_or_default costs p 0 never there in
-      ap far_in is ∙ bring_keep costs f pairs i p c low at before (omega (arith, least, stood))
-
-pub bring_done : (costs : List ℕ) (f : ℕ → ℕ) (pairs : List ℕ) (i c : ℕ) → far_in costs ≡ lowered f (take i pairs) c → length pairs ≤ i → far_in costs ≡ lowered f pairs c
-bring_done costs f pairs i c before past = before ∙ ap (λ l. lowered f l c) (take_all i pairs past)
+pub bring_done : (f old : ℕ → ℕ) (pairs : List ℕ) (i c : ℕ) → old ≡ lowered f (take i pairs) c → length pairs ≤ i → old ≡ lowered f pairs c
+bring_done f old pairs i c before past = before ∙ ap (λ l. lowered f l c) (take_all i pairs past)
 
 -- ---- port by port
 
@@ -124,5 +88,8 @@ none_known (suc n) (suc p) = none_known n p
 pub first_known : (costs : List ℕ) (n : ℕ) (pairs wants : List ℕ) → far_in costs ≡ lowered (far_in (replicate n never)) pairs 0 → pairs ≡ wants → far_in costs ≡ lowered (λ _. never) wants 0
 first_known costs n pairs wants is same = is ∙ (λ i. lowered (λ p. none_known n p i) (same i) 0)
 
-pub entry_is : (costs : List ℕ) (n p : ℕ) → n ≡ p → length costs ≡ 2000 → p < 2000 → get_or costs n 0 ≡ far_in costs p
-entry_is costs n p same long low = ap (λ k. get_or costs k 0) same ∙ get_or_default costs p 0 never (omega (arith, long, low))
+pub known_low : (costs : List ℕ) (p : ℕ) → far_in costs p < never → p < length costs
+known_low costs p known = elim (cases_lt p (length costs)) [ inl low ↦ low | inr past ↦ let none = get_or_past costs p never past in absurd (omega (arith, none, known)) ]
+
+pub entry_is : (costs : List ℕ) (n p : ℕ) → n ≡ p → far_in costs p < never → get_or costs n 0 ≡ far_in costs p
+entry_is costs n p same known = ap (λ k. get_or costs k 0) same ∙ get_or_default costs p 0 never (known_low costs p known)

@@ -3,9 +3,10 @@ use Rattle.std.proofs.Common.{◌≡◌, ℕ, ◌+◌, List, [], drop, String, O
 use Rattle.std.proofs.lemmas.List.{drop-map}
 use Rattle.std.specs.Prelude.{string_bytes}
 use Rattle.std.specs.declared.alloc.Global.{Global}
+use Rattle.metis_words.specs.Form.{Form}
 use Rattle.metis_words.specs.Forms.{file_count, number_count, target_limit}
 use Rattle.metis_words.specs.TargetName.{TargetName}
-use Rattle.metis_words.specs.Words.{Form, ReadsWords, files_in, form_with_files, form_with_numbers, numbers_after, targets_in, with_files, with_files_and_numbers, with_numbers, with_targets}
+use Rattle.metis_words.specs.Words.{ReadsWords, files_in, form_with_files, form_with_numbers, numbers_after, targets_in, with_files, with_files_and_numbers, with_numbers, with_targets}
 use Rattle.metis_words.specs.declared.words.Verb.{Verb}
 use Rattle.metis_words.specs.declared.words.WordFault.{WordFault}
 use Rattle.metis_words.specs.declared.words.WordFault.TheVariants.{At, NoMemory}

@@ -2,7 +2,7 @@
 use Rattle.std.proofs.Common.{◌≡◌, ℕ, zero, suc, ◌+◌, ◌<◌, List, [], ◌∷◌, ◌++◌, length, map, Some, None, Result, Ok, Err, refl, sym, ap, ◌∙◌, subst, inl, inr, append-nil, append_assoc, arith}
 use Rattle.std.specs.Prelude.{◌↔◌, ◌⊎◌, IsSome, slice_get}
 use Rattle.std.specs.Option.{option_and_then}
-use Rattle.metis_words.specs.Numbers.{IsNoNumber}
+use Rattle.metis_words.specs.Numbers.{AreNumbers, IsFirstNoNumber}
 use Rattle.metis_words.specs.Words.{duration_of, number_then, numbers_after}
 
 abbrev good : List ℕ → Result (List ℕ) ℕ
@@ -63,10 +63,10 @@ all_read found place n (word ∷ words) (m ∷ ns) count each =
       rest_same : duration_of word ∷ map duration_of words ≡ Some m ∷ map Some ns → map duration_of words ≡ map Some ns
       rest_same e = cc
 
-pub all_are_read : (place n : ℕ) (words : List (List ℕ)) (ns : List ℕ) → numbers_after [] place n words ≡ Ok ns ↔ ((length words ≡ n) × (map duration_of words ≡ map Some ns))
+pub all_are_read : (place n : ℕ) (words : List (List ℕ)) (ns : List ℕ) → numbers_after [] place n words ≡ Ok ns ↔ AreNumbers n words ns
 all_are_read place n words ns = (
-  λ h. let read = read_all [] place n words ns h in (read.count, read.each ∙ ap (map Some) (sym read.behind)),
-  λ h. all_read [] place n words ns h.0 h.1,
+  λ h. let read = read_all [] place n words ns h in record { count = read.count; each = read.each ∙ ap (map Some) (sym read.behind) },
+  λ h. all_read [] place n words ns h.count h.each,
 )
 
 -- ---- the first that is none
@@ -77,21 +77,22 @@ err_same a b h = cc
 told_here : (place k : ℕ) → bad place ≡ bad k → k ≡ place + 0
 told_here place k h = let same = err_same place k h in omega (arith, same)
 
-first_after : (found : List ℕ) (place n k : ℕ) (words : List (List ℕ)) → numbers_after found place n words ≡ Err k → (i : ℕ) × (k ≡ place + i) × IsNoNumber n words i
+first_after : (found : List ℕ) (place n k : ℕ) (words : List (List ℕ)) → numbers_after found place n words ≡ Err k → IsFirstNoNumber place n words k
 first_after found place zero k [] h = absurd (ok_is_no_err h) where
   ok_is_no_err : good found ≡ bad k → ⊥
   ok_is_no_err e = cc
-first_after found place zero k (word ∷ words) h = (0, told_here place k h, record { low = omega arith; before = λ j low. absurd (omega (arith, low)); here = inl (refl, omega arith) })
-first_after found place (suc n) k [] h = (0, told_here place k h, record { low = omega arith; before = λ j low. absurd (omega (arith, low)); here = inr (omega arith, refl) })
+first_after found place zero k (word ∷ words) h = record { word = 0; at = told_here place k h; is = record { low = omega arith; before = λ j low. absurd (omega (arith, low)); here = inl (refl, omega arith) } }
+first_after found place (suc n) k [] h = record { word = 0; at = told_here place k h; is = record { low = omega arith; before = λ j low. absurd (omega (arith, low)); here = inr (omega arith, refl) } }
 first_after found place (suc n) k (word ∷ words) h =
-    elim (duration_of word) as (λ o. duration_of word ≡ o → number_then o place (λ d. numbers_after (found ++ d ∷ []) (place + 1) n words) ≡ Err k → (i : ℕ) × (k ≡ place + i) × IsNoNumber (suc n) (word ∷ words) i) [
-      | None ↦ λ is e. (0, told_here place k e, record { low = omega arith; before = λ j low. absurd (omega (arith, low)); here = inr (omega arith, is) })
+    elim (duration_of word) as (λ o. duration_of word ≡ o → number_then o place (λ d. numbers_after (found ++ d ∷ []) (place + 1) n words) ≡ Err k → IsFirstNoNumber place (suc n) (word ∷ words) k) [
+      | None ↦ λ is e. record { word = 0; at = told_here place k e; is = record { low = omega arith; before = λ j low. absurd (omega (arith, low)); here = inr (omega arith, is) } }
       | Some d ↦ λ is e.
-          let rest = first_after (found ++ d ∷ []) (place + 1) n k words e in (
-            suc rest.0,
-            (let at = rest.1 in omega (arith, at)),
-            record { low = (let low = rest.2.low in omega (arith, low)); before = earlier d is rest.0 rest.2.before; here = later rest.0 rest.2.here },
-          )
+          let rest = first_after (found ++ d ∷ []) (place + 1) n k words e in
+          record {
+            word = suc rest.word;
+            at = (let at = rest.at in omega (arith, at));
+            is = record { low = (let low = rest.is.low in omega (arith, low)); before = earlier d is rest.word rest.is.before; here = later rest.word rest.is.here };
+          }
     ] refl h where
       earlier : (d : ℕ) → duration_of word ≡ Some d → (i : ℕ) → ((j : ℕ) → j < i → IsSome (option_and_then duration_of (slice_get words j))) → (j : ℕ) → j < suc i → IsSome (option_and_then duration_of (slice_get (word ∷ words) j))
       earlier d is i before zero low = subst IsSome (sym is) refl
@@ -102,5 +103,5 @@ first_after found place (suc n) k (word ∷ words) h =
       later i (inl h) = inl (ap suc h.0, (let more = h.1 in omega (arith, more)))
       later i (inr h) = inr ((let less = h.0 in omega (arith, less)), h.1)
 
-pub first_is_told : (place n k : ℕ) (words : List (List ℕ)) → numbers_after [] place n words ≡ Err k → (i : ℕ) × (k ≡ place + i) × IsNoNumber n words i
+pub first_is_told : (place n k : ℕ) (words : List (List ℕ)) → numbers_after [] place n words ≡ Err k → IsFirstNoNumber place n words k
 first_is_told place n k words h = first_after [] place n k words h

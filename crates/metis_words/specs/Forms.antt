@@ -64,7 +64,7 @@ target_limit Load = 0
 target_limit Why = 256
 target_limit Confirm = 256
 
--- a size from this number on, where it has one; and else 0
+-- a size from this number on, if it has one; and else 0
 abbrev pub least_size : Verb → ℕ
 least_size Load = 1
 least_size _ = 0

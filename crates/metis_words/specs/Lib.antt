@@ -1,3 +1,4 @@
+pub mod Form
 pub mod Forms
 pub mod TargetName
 pub mod Words

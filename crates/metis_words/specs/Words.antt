@@ -1,8 +1,8 @@
 -- The words of a command, read from the left. Places start at 1.
 --     target_of word      the names of a type and of a state, with a colon between them
---     file_fits words k      word k of these is a file word, where those before it are file words too
---     size_of word      the number that the word is, where it is one from 1 to 128
---     duration_of word      the number that the word is, where it is at most 1,000,000
+--     file_fits words k      word k of these is a file word, if those before it are file words too
+--     size_of word      the number that the word is, if it is one from 1 to 128
+--     duration_of word      the number that the word is, if it is at most 1,000,000
 --     numbers_after found place n words      so many such numbers, and nothing behind them
 --     target_fits limit words k      word k of these is a target word, and not past the limit
 --     form_of words      the command that the words are, or the place of the first that does not fit
@@ -13,23 +13,14 @@ use Rattle.std.specs.Result.{result_ok}
 use Rattle.std.specs.Str.{bytes_eq}
 use Rattle.metis_tokens.specs.Tokens.{number_in}
 use Rattle.metis_universe.specs.PairWords.{pair_names}
-use Rattle.metis_universe.specs.Texts.{texts}
 use Rattle.metis_universe.specs.Universe.{is_empty}
+use Rattle.metis_words.specs.Form.{Form}
 use Rattle.metis_words.specs.Forms.{file_count, number_count, target_limit}
 use Rattle.metis_words.specs.TargetName.{TargetName}
-use Rattle.metis_words.specs.declared.words.Command.{Command}
 use Rattle.metis_words.specs.declared.words.Verb.{Verb}
 use Rattle.metis_words.specs.declared.words.Verb.TheVariants.{Plan, Replay, Refute, Audit, Sim, Crew, Waves, Control, Rollout, Place, Print, Load, Why, Confirm}
 use Rattle.metis_words.specs.declared.words.WordFault.{WordFault}
 use Rattle.metis_words.specs.declared.words.WordFault.TheVariants.{At, NoMemory}
-
--- the parts of a command; those that its verb does not have are empty, or 0
-pub record Form : Type 0 where
-  pub verb : Verb
-  pub files : List (List ℕ)
-  pub targets : List TargetName
-  pub size : ℕ
-  pub numbers : List ℕ
 
 abbrev pub target_name : List ℕ × List ℕ → TargetName
 target_name names = record { kind = names.0; state = names.1 }
@@ -159,9 +150,6 @@ with_verb (Some verb) words = form_with verb words
 abbrev pub form_of : List (List ℕ) → Result Form ℕ
 form_of [] = Err 1
 form_of (verb ∷ words) = with_verb (verb_named verb) words
-
-abbrev pub form : Command → Form
-form c = record { verb = c.verb; files = texts c.files.items; targets = c.targets.items; size = c.size; numbers = c.numbers.items }
 
 -- what was read, seen by view, is what the words mean, unless memory ran out
 abbrev pub ReadsWords : {X Y : Type 0} → (Y → X) → Result Y WordFault → Result X ℕ → Type 0

@@ -3,7 +3,7 @@ ghost use Rattle.std.specs.Prelude.{◌≡◌, ◌+◌, ◌≤◌, [], IfOk, IfS
 ghost use Rattle.std.specs.List.{All, list_any};
 ghost use Rattle.metis_universe.specs.Texts.{texts};
 ghost use Rattle.metis_words.specs.Forms.{least_size, number_count};
-ghost use Rattle.metis_words.specs.Words.{duration_of, files_in, fits_after, form, form_of, form_with, form_with_files, form_with_numbers, is_dash, numbers_after, size_of, sized_form, target_of, targets_in, verb_named, ReadsWords};
+ghost use Rattle.metis_words.specs.Words.{duration_of, files_in, fits_after, form_of, form_with, form_with_files, form_with_numbers, is_dash, numbers_after, size_of, sized_form, target_of, targets_in, verb_named, ReadsWords};
 
 use crate::words::{Command, TargetWord, Verb, WordFault};
 use metis_tokens::number_in;
@@ -13,7 +13,7 @@ use std::alloc::{AllocError, Global};
 /// The command that the words are, or the place of the first that does not fit. A word that is missing has the place
 /// after the last one.
 pub fn read_words(alloc: Global, words: &[String]) -> Result<Command, WordFault>
-    ensures { ReadsWords form result (form_of (texts words.now)) }
+    ensures { ReadsWords (λ c. c) result (form_of (texts words.now)) }
 {
     match words {
         [] => Err(WordFault::At(1)),
@@ -61,7 +61,7 @@ fn verb_named(word: &str) -> Option<Verb>
 }
 
 fn read_form(alloc: Global, verb: Verb, words: &[String]) -> Result<Command, WordFault>
-    ensures { ReadsWords form result (form_with verb (texts words.now)) }
+    ensures { ReadsWords (λ c. c) result (form_with verb (texts words.now)) }
 {
     match verb {
         Verb::Load => read_size(alloc, words),
@@ -72,7 +72,7 @@ fn read_form(alloc: Global, verb: Verb, words: &[String]) -> Result<Command, Wor
 
 // A size, and nothing behind it.
 fn read_size(alloc: Global, words: &[String]) -> Result<Command, WordFault>
-    ensures { ReadsWords form result (sized_form (texts words.now)) }
+    ensures { ReadsWords (λ c. c) result (sized_form (texts words.now)) }
 {
     match words {
         [] => Err(WordFault::At(2)),
@@ -90,7 +90,7 @@ fn read_size(alloc: Global, words: &[String]) -> Result<Command, WordFault>
     }
 }
 
-// The number that the word is, where it is one from 1 to 128.
+// The number that the word is, if it is one from 1 to 128.
 fn size_of(word: &str) -> Option<u32>
     ensures { result ≡ size_of word.now }
 {
@@ -104,7 +104,7 @@ fn size_of(word: &str) -> Option<u32>
 fn read_over_files(alloc: Global, verb: Verb, words: &[String]) -> Result<Command, WordFault>
     requires size { least_size verb ≡ 0 }
     requires numbers { number_count verb ≡ 0 }
-    ensures { ReadsWords form result (form_with_files verb (texts words.now)) }
+    ensures { ReadsWords (λ c. c) result (form_with_files verb (texts words.now)) }
 {
     let count = verb.file_count();
     let files = read_files(alloc, count, words)?;
@@ -124,7 +124,7 @@ fn read_over_files(alloc: Global, verb: Verb, words: &[String]) -> Result<Comman
 // The file words of the verb, and then its numbers.
 fn read_over_numbers(alloc: Global, verb: Verb, words: &[String]) -> Result<Command, WordFault>
     requires { least_size verb ≡ 0 }
-    ensures { ReadsWords form result (form_with_numbers verb (texts words.now)) }
+    ensures { ReadsWords (λ c. c) result (form_with_numbers verb (texts words.now)) }
 {
     let count = verb.file_count();
     let files = read_files(alloc, count, words)?;
@@ -170,7 +170,7 @@ fn read_numbers(
     Ok(numbers)
 }
 
-// The number that the word is, where it is at most 1,000,000.
+// The number that the word is, if it is at most 1,000,000.
 fn duration_of(word: &str) -> Option<u32>
     ensures value { result ≡ duration_of word.now }
     ensures small { IfSome result (λ n. n ≤ 1000000) }
@@ -204,7 +204,7 @@ fn read_files(alloc: Global, count: usize, words: &[String]) -> Result<Vec<Strin
     Ok(files)
 }
 
-// Whether the word names a file, where these words before it do. Standard input is named once.
+// Whether the word names a file, if these words before it do. Standard input is named once.
 fn fits_after(earlier: &[String], word: &str) -> bool
     ensures { result ≡ fits_after (texts earlier.now) word.now }
 {

@@ -1,7 +1,8 @@
 //! The parts of a command.
 ghost use Rattle.std.specs.Prelude.{◌≡◌, ◌<◌, ◌≤◌, length};
 ghost use Rattle.std.specs.List.{All};
-ghost use Rattle.metis_words.specs.Forms.{file_count, least_size, number_count, size_limit, target_limit};
+ghost use Rattle.metis_words.specs.Forms.{file_count, number_count, target_limit};
+ghost use Rattle.metis_words.specs.Words.{word_at};
 
 use std::alloc::{AllocError, AllocFailed};
 use std::marker::Model;
@@ -115,29 +116,31 @@ pub struct Command {
     pub targets: Vec<TargetWord>,
     pub size: u32,
     pub numbers: Vec<u32>,
-    ghost files_are_there: { file_count verb ≤ length files.items },
-    ghost targets_are_few: { length targets.items ≤ target_limit verb },
-    ghost size_is_enough: { least_size verb ≤ size },
-    ghost size_is_small: { size ≤ size_limit verb },
-    ghost numbers_are_there: { length numbers.items ≡ number_count verb },
-    ghost numbers_are_small: { All (λ n. n ≤ 1000000) numbers.items },
+}
+
+impl Model for Command {
+    ghost use Rattle.metis_universe.specs.Texts.{texts};
+    ghost use Rattle.metis_words.specs.Form.{FitsRow, Form, form_by};
+
+    ghost Value = { Form };
+
+    ghost view = { λ c. form_by c.verb (texts c.files.items) c.targets.items c.size c.numbers.items };
+
+    ghost invariant = { λ c. FitsRow (form_by c.verb (texts c.files.items) c.targets.items c.size c.numbers.items) };
 }
 
 impl Command {
-    ghost use Rattle.metis_universe.specs.Texts.{texts};
-    ghost use Rattle.metis_words.specs.Words.{word_at};
-
     /// The file word of this number.
     pub fn file(&self, k: usize) -> &str
         requires { k < file_count self.now.verb }
-        ensures { result.now ≡ word_at (texts self.now.files.items) k }
+        ensures { result.now ≡ word_at self.now.files k }
     {
         &self.files[k]
     }
 
     /// The target words.
     pub fn targets(&self) -> &[TargetWord]
-        ensures words { result.now ≡ self.now.targets.items }
+        ensures words { result.now ≡ self.now.targets }
         ensures few { length result.now ≤ target_limit self.now.verb }
     {
         self.targets.as_slice()
@@ -145,7 +148,7 @@ impl Command {
 
     /// The numbers, each at most 1,000,000.
     pub fn numbers(&self) -> &[u32]
-        ensures numbers { result.now ≡ self.now.numbers.items }
+        ensures numbers { result.now ≡ self.now.numbers }
         ensures count { length result.now ≡ number_count self.now.verb }
         ensures small { All (λ n. n ≤ 1000000) result.now }
     {

@@ -1,4 +1,4 @@
-use Rattle.metis_control.proofs.AnswerLines.{script_is_lines}
+use Rattle.metis_control.proofs.ToldLines.{script_is_lines}
 use Rattle.metis_control.proofs.laws.answers_are_lines.Goals as goal
 
 pub returns : goal.returns

@@ -1,6 +1,10 @@
 use Rattle.std.proofs.Common.{◌≡◌, take}
 use Rattle.metis_why.specs.Costs.{far_in, lowered}
+use Rattle.metis_why.specs.Open.{StayOpen}
 use Rattle.metis_why.proofs.far.bring_near.Given as goal
 
 abbrev pub invariant-loop-pair : goal.invariant-loop-pair
-invariant-loop-pair l = far_in l.far ≡ lowered (far_in l.initial.far) (take l.pair-index l.pairs) l.cost
+invariant-loop-pair l = record {
+  far : far_in l.ways.far ≡ lowered (far_in l.initial.ways.far) (take l.pair-index l.pairs) l.cost;
+  stay : StayOpen l.initial.ways l.ways;
+}

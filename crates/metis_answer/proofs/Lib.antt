@@ -1,5 +1,0 @@
-pub mod LoadLines
-pub mod Loads
-pub mod NeverLoose
-pub mod PrintedAudits
-pub mod Replies

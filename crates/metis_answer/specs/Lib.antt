@@ -1,4 +1,0 @@
-pub mod Answers
-pub mod Loaded
-pub mod Planned
-pub mod RolledOut

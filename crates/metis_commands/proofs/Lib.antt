@@ -1,0 +1,9 @@
+pub mod AuditLines
+pub mod ConfirmLines
+pub mod CrewLines
+pub mod GoalLine
+pub mod PlaceLines
+pub mod RefuteLines
+pub mod ReplayLines
+pub mod WaveLines
+pub mod WhyLines

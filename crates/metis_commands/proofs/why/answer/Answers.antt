@@ -1,0 +1,7 @@
+use Rattle.std.proofs.Common.{refl}
+use Rattle.std.specs.Prelude.{codes}
+use Rattle.metis_outside.proofs.Feeds.{IsLine-from}
+use Rattle.metis_commands.proofs.why.answer.Goals as goal
+
+pub copy-requires : goal.copy-requires
+copy-requires c = IsLine-from (codes "attained") refl

@@ -1,0 +1,11 @@
+pub mod Audit
+pub mod Confirm
+pub mod Control
+pub mod Crew
+pub mod GoalLine
+pub mod Place
+pub mod Refute
+pub mod Replay
+pub mod Sim
+pub mod Waves
+pub mod Why

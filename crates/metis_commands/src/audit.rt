@@ -1,0 +1,121 @@
+//! The command that audits the dups of a plan.
+ghost use Rattle.std.specs.Prelude.{◌≡◌, ◌<◌, ◌≤◌, ◌-◌, ◌^◌, IfOk, codes, length, string_bytes};
+ghost use Rattle.std.specs.List.{All};
+ghost use Rattle.metis_commands.specs.Audit.{Audited, AuditedFor, NamesPairOf, audit_line, audit_status, count_line, justified_line, number_line};
+ghost use Rattle.metis_commands.specs.GoalLine.{word_line};
+ghost use Rattle.metis_output.specs.Answers.{Says, status_for};
+ghost use Rattle.metis_text.specs.PlanText.{IsWellFormed};
+ghost use Rattle.metis_text.specs.Reads.{lists_of};
+ghost use Rattle.metis_universe.specs.GoalWords.{IsWordable, goal_word};
+ghost use Rattle.metis_universe.specs.Goals.{IsGoalOf};
+ghost use Rattle.metis_universe.specs.Universe.{pair_count};
+
+use crate::goal_line::goal_line;
+use metis_audit::{Answer as AuditAnswer, audit};
+use metis_choice::pairs_for_goals_hold_them;
+use metis_ids::{Goal, NoMemory, PairIx, Plan};
+use metis_output::{Answer, Lines, Once, line_answer};
+use metis_shared::{Aim, aim_of};
+use metis_text::PlanText;
+use metis_universe::Universe;
+use std::alloc::{AllocError, Global};
+
+/// Whether the plan's instances are the life lines for the goals and its dups, each of these forced by its cycle.
+pub fn answer(
+    alloc: Global,
+    u: &Universe,
+    text: &PlanText,
+    goals: &[Goal],
+) -> Result<Answer<Once>, NoMemory>
+    requires few { length goals.now ≤ 256 }
+    requires within { All (IsGoalOf u.now) goals.now }
+    requires wordable { All (IsWordable u.now) goals.now }
+    requires formed { IsWellFormed u.now text.now.plan (lists_of text.now) }
+    requires few_actions { length text.now.plan.actions < 2 ^ 32 - 1 }
+    ensures { IfOk result (Says (Audited u.now goals.now text.now.plan (lists_of text.now)) ⟦<Once as Lines>⟧.rest) }
+{
+    u.keeps_invariant();
+    pairs_for_goals_hold_them();
+    match aim_of(alloc, u, goals)? {
+        Aim::Pairs(pairs, _) => audit_for(alloc, u, text, &pairs),
+        Aim::Lacks(refusal) => {
+            let line = lacking_line(alloc, u, refusal.lacks)?;
+            Ok(line_answer(line, false))
+        }
+    }
+}
+
+// What an audit for these pairs comes to.
+fn audit_for(
+    alloc: Global,
+    u: &Universe,
+    text: &PlanText,
+    pairs: &[PairIx],
+) -> Result<Answer<Once>, NoMemory>
+    requires few { length pairs.now ≤ 256 }
+    requires within { All (λ p. p < pair_count u.now) pairs.now }
+    requires formed { IsWellFormed u.now text.now.plan (lists_of text.now) }
+    requires few_actions { length text.now.plan.actions < 2 ^ 32 - 1 }
+    ensures { IfOk result (Says (AuditedFor u.now pairs.now text.now.plan (lists_of text.now)) ⟦<Once as Lines>⟧.rest) }
+{
+    u.keeps_invariant();
+    let answer = audit(alloc, u, text, pairs)?;
+    let line = audit_line(alloc, u, &text.plan, &answer)?;
+    Ok(line_answer(line, is_good(&answer)))
+}
+
+fn is_good(answer: &AuditAnswer) -> bool
+    ensures { status_for result ≡ audit_status answer.now }
+{
+    match *answer {
+        AuditAnswer::Justified => true,
+        _ => false,
+    }
+}
+
+// The line of a goal that is not attained.
+fn lacking_line(alloc: Global, u: &Universe, goal: Goal) -> Result<String, AllocError>
+    requires { IsGoalOf u.now goal }
+    ensures { IfOk result (λ line. string_bytes line ≡ word_line (codes "notattained") (goal_word u.now goal)) }
+{
+    goal_line(alloc, u, "notattained", goal)
+}
+
+// The line of an answer on the plan.
+fn audit_line(
+    alloc: Global,
+    u: &Universe,
+    plan: &Plan,
+    answer: &AuditAnswer,
+) -> Result<String, AllocError>
+    requires { NamesPairOf u.now answer.now }
+    ensures { IfOk result (λ line. string_bytes line ≡ audit_line u.now plan.now answer.now) }
+{
+    match *answer {
+        AuditAnswer::Justified => justified_line(alloc, plan.instances, plan.dups.len()),
+        AuditAnswer::NotAttained(p) => goal_line(alloc, u, "notattained", Goal::Pair(p)),
+        AuditAnswer::NoCycle(number) => number_line(alloc, "nocycle", number),
+        AuditAnswer::Count(have, want) => count_line(alloc, have, want),
+        AuditAnswer::Path(line) => number_line(alloc, "path", line),
+        AuditAnswer::Loose(number) => number_line(alloc, "loose", number),
+        AuditAnswer::After(number) => number_line(alloc, "after", number),
+    }
+}
+
+fn justified_line(alloc: Global, instances: u32, dups: usize) -> Result<String, AllocError>
+    ensures { IfOk result (λ line. string_bytes line ≡ justified_line instances dups) }
+{
+    format!(in alloc; "justified instances {instances} dups {dups}\n")
+}
+
+fn count_line(alloc: Global, have: u32, want: u32) -> Result<String, AllocError>
+    ensures { IfOk result (λ line. string_bytes line ≡ count_line have want) }
+{
+    format!(in alloc; "count have {have} want {want}\n")
+}
+
+fn number_line(alloc: Global, start: &str, number: u32) -> Result<String, AllocError>
+    ensures { IfOk result (λ line. string_bytes line ≡ number_line start.now number) }
+{
+    format!(in alloc; "{start} {number}\n")
+}

@@ -1,0 +1,62 @@
+//! The command that checks an explanation.
+ghost use Rattle.std.specs.Prelude.{◌≡◌, ◌<◌, ◌^◌, IfOk, length, string_bytes};
+ghost use Rattle.std.specs.List.{All};
+ghost use Rattle.metis_commands.specs.Confirm.{Confirms, IsSayable, confirmation_line, confirmation_status, unfounded_line};
+ghost use Rattle.metis_output.specs.Answers.{Says, status_for};
+ghost use Rattle.metis_universe.specs.Goals.{IsGoalOf};
+ghost use Rattle.metis_why.specs.Confirm.{IsLineOf};
+
+use crate::goal_line::goal_line;
+use metis_ids::{Goal, NoMemory};
+use metis_output::{Answer, Lines, Once, line_answer};
+use metis_universe::Universe;
+use metis_why::{Confirmation, Line, confirm};
+use std::alloc::{AllocError, Global};
+
+/// What the lines come to as an explanation for the goals.
+pub fn answer(
+    alloc: Global,
+    u: &Universe,
+    lines: &[Line],
+    goals: &[Goal],
+) -> Result<Answer<Once>, NoMemory>
+    requires lines { All (IsLineOf u.now) lines.now }
+    requires few { length lines.now < 2 ^ 32 }
+    requires within { All (IsGoalOf u.now) goals.now }
+    ensures { IfOk result (Says (Confirms u.now goals.now lines.now) ⟦<Once as Lines>⟧.rest) }
+{
+    u.keeps_invariant();
+    let confirmation = confirm(u, lines, goals);
+    let line = confirmation_line(alloc, u, &confirmation)?;
+    Ok(line_answer(line, is_good(&confirmation)))
+}
+
+fn is_good(confirmation: &Confirmation) -> bool
+    ensures { status_for result ≡ confirmation_status confirmation.now }
+{
+    match *confirmation {
+        Confirmation::Confirmed(_) => true,
+        _ => false,
+    }
+}
+
+fn confirmation_line(
+    alloc: Global,
+    u: &Universe,
+    confirmation: &Confirmation,
+) -> Result<String, AllocError>
+    requires { IsSayable u.now confirmation.now }
+    ensures { IfOk result (λ line. string_bytes line ≡ confirmation_line u.now confirmation.now) }
+{
+    match *confirmation {
+        Confirmation::Confirmed(goal) => goal_line(alloc, u, "confirmed lacks", goal),
+        Confirmation::Unfounded(place) => unfounded_line(alloc, place + 4),
+        Confirmation::LacksNone => String::from_str(alloc, "lacksnone\n"),
+    }
+}
+
+fn unfounded_line(alloc: Global, number: usize) -> Result<String, AllocError>
+    ensures { IfOk result (λ line. string_bytes line ≡ unfounded_line number) }
+{
+    format!(in alloc; "unfounded line {number}\n")
+}

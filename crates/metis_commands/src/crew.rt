@@ -1,0 +1,110 @@
+//! The command that lets a crew take turns over a plan.
+ghost use Rattle.std.specs.Prelude.{◌≡◌, IfOk, OnOk, length, string_bytes};
+ghost use Rattle.metis_commands.specs.Crew.{Crewed, crew_lines, lines_left, progress_line, turn_line};
+ghost use Rattle.metis_output.specs.Answers.{Says};
+ghost use Rattle.metis_shared.specs.Steady.{IsSteady};
+ghost use Rattle.metis_waits.specs.Waits.{AreWaits};
+
+use metis_crew::{Crew, Turn};
+use metis_ids::{Action, InstNo, NoMemory};
+use metis_output::{Answer, Either, Lines, Once};
+use metis_shared::{Unsteady, unsteady_line};
+use metis_universe::Universe;
+use metis_waits::Waits;
+use std::alloc::{AllocError, Global};
+
+/// The line that says why actions are no steadfast run, or what a crew over them answers.
+pub type CrewLines<'a> = Either<Once, TurnLines<'a>>;
+
+/// The first action that cannot be done or is not steadfast, or else what a crew over the actions answers to the turns.
+pub fn answer<'a>(
+    alloc: Global,
+    u: &Universe,
+    actions: &'a [Action],
+    steady: &'a Result<Waits, Unsteady>,
+    turns: &'a [InstNo],
+) -> Result<Answer<CrewLines<'a>>, NoMemory>
+    requires { IsSteady u.now actions.now steady.now }
+    ensures { IfOk result (Says (Crewed u.now actions.now turns.now) ⟦<CrewLines<'a> as Lines>⟧.rest) }
+{
+    match steady {
+        Ok(waits) => Ok(Answer {
+            lines: Either::Second(turn_lines(alloc, actions, waits, turns)?),
+            good: true,
+        }),
+        Err(why) => Ok(Answer {
+            lines: Either::First(unsteady_line(alloc, u, why)?),
+            good: false,
+        }),
+    }
+}
+
+// The answers to the turns, one after the other, and then how many actions are done.
+fn turn_lines<'a>(
+    alloc: Global,
+    actions: &'a [Action],
+    waits: &'a Waits,
+    turns: &'a [InstNo],
+) -> Result<TurnLines<'a>, NoMemory>
+    requires { AreWaits actions.now waits.now }
+    ensures { IfOk result (λ l. ⟦<TurnLines<'a> as Lines>⟧.rest l ≡ crew_lines actions.now turns.now) }
+{
+    let crew = Crew::new(alloc, actions, waits)?;
+    Ok(TurnLines {
+        crew,
+        all: actions.len(),
+        turns,
+        ended: false,
+    })
+}
+
+/// A crew with the turns that are still to come, and then the line of how many actions are done.
+#[derive(Drop)]
+pub struct TurnLines<'a> {
+    crew: Crew<'a>,
+    all: usize,
+    turns: &'a [InstNo],
+    ended: bool,
+    ghost counted: { all ≡ length crew.actions },
+}
+
+impl<'a> Lines for TurnLines<'a> {
+    ghost rest = { λ c. lines_left c.crew.actions c.crew.counts c.turns.now c.ended };
+
+    #[tactic(auto, using(crate::proofs::CrewLines::is_turn_line, crate::proofs::CrewLines::is_progress_line))]
+    fn next_line(&mut self, line: &mut String) -> Result<bool, AllocError> {
+        if let Some((instance, turns)) = self.turns.split_first() {
+            let answer = self.crew.step(*instance);
+            self.turns = turns;
+            set_turn_line(line, answer)?;
+            return Ok(true);
+        }
+        if self.ended {
+            return Ok(false);
+        }
+        self.ended = true;
+        set_progress_line(line, self.crew.done_count(), self.all)?;
+        Ok(true)
+    }
+}
+
+// The line becomes that of the answer to a turn.
+fn set_turn_line(line: &mut String, answer: Turn) -> Result<(), AllocError>
+    ensures { OnOk result (string_bytes line.new ≡ turn_line answer) }
+{
+    line.clear();
+    match answer {
+        Turn::Did(k) => write!(line, "did {k}\n"),
+        Turn::WaitsFor(k, m) => write!(line, "waits {k} {m}\n"),
+        Turn::Done => line.push_str("done\n"),
+        Turn::Nobody => line.push_str("nobody\n"),
+    }
+}
+
+// The line becomes that of how many actions are done.
+fn set_progress_line(line: &mut String, done: u32, all: usize) -> Result<(), AllocError>
+    ensures { OnOk result (string_bytes line.new ≡ progress_line done all) }
+{
+    line.clear();
+    write!(line, "progress {done} of {all}\n")
+}

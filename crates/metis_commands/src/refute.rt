@@ -1,0 +1,77 @@
+//! The command that checks a refusal.
+ghost use Rattle.std.specs.Prelude.{◌≡◌, ◌<◌, ◌++◌, IfOk, codes, string_bytes};
+ghost use Rattle.std.specs.List.{All};
+ghost use Rattle.metis_commands.specs.Refute.{Judged, judgement_line, judgement_status, open_line};
+ghost use Rattle.metis_output.specs.Answers.{Says, status_for};
+ghost use Rattle.metis_refusal.specs.Claims.{NamesOf};
+ghost use Rattle.metis_universe.specs.Goals.{IsGoalOf};
+ghost use Rattle.metis_universe.specs.PairWords.{pair_word};
+ghost use Rattle.metis_universe.specs.Universe.{pair_count};
+
+use crate::goal_line::goal_line;
+use metis_ids::{Goal, NoMemory, PairIx, PairSet};
+use metis_output::{Answer, Lines, Once, line_answer};
+use metis_refusal::{Verdict2, check_closed};
+use metis_universe::Universe;
+use std::alloc::{AllocError, Global};
+
+/// What the set of pairs comes to as a refusal of the goals.
+pub fn answer(
+    alloc: Global,
+    u: &Universe,
+    set: &PairSet,
+    goals: &[Goal],
+) -> Result<Answer<Once>, NoMemory>
+    requires size { set.now.size ≡ pair_count u.now }
+    requires within { All (IsGoalOf u.now) goals.now }
+    ensures { IfOk result (Says (Judged u.now goals.now set.now.members) ⟦<Once as Lines>⟧.rest) }
+{
+    u.keeps_invariant();
+    let judgement = check_closed(u, set, goals);
+    let line = judgement_line(alloc, u, &judgement)?;
+    Ok(line_answer(line, is_good(&judgement)))
+}
+
+fn is_good(judgement: &Verdict2) -> bool
+    ensures { status_for result ≡ judgement_status judgement.now }
+{
+    match *judgement {
+        Verdict2::Closed(_) => true,
+        _ => false,
+    }
+}
+
+// The line of a verdict on a set of pairs.
+fn judgement_line(alloc: Global, u: &Universe, judgement: &Verdict2) -> Result<String, AllocError>
+    requires { NamesOf u.now judgement.now }
+    ensures { IfOk result (λ line. string_bytes line ≡ judgement_line u.now judgement.now) }
+{
+    match *judgement {
+        Verdict2::Closed(goal) => goal_line(alloc, u, "closed lacks", goal),
+        Verdict2::NotFree(p) => goal_line(alloc, u, "notfree", Goal::Pair(p)),
+        Verdict2::Open(p, q) => open_line(alloc, u, p, q),
+        Verdict2::LacksNone => String::from_str(alloc, "lacksnone\n"),
+    }
+}
+
+fn open_line(alloc: Global, u: &Universe, p: PairIx, q: PairIx) -> Result<String, AllocError>
+    requires from { p < pair_count u.now }
+    requires to { q < pair_count u.now }
+    ensures { IfOk result (λ line. string_bytes line ≡ open_line (pair_word u.now p) (pair_word u.now q)) }
+{
+    let (kind, state) = (u.type_name(u.type_of(p)), u.state_name(p));
+    let (next_kind, next_state) = (u.type_name(u.type_of(q)), u.state_name(q));
+    way_line(alloc, kind, state, next_kind, next_state)
+}
+
+fn way_line(
+    alloc: Global,
+    kind: &str,
+    state: &str,
+    next_kind: &str,
+    next_state: &str,
+) -> Result<String, AllocError>
+    ensures { IfOk result (λ line. string_bytes line ≡ open_line (kind.now ++ (codes ":" ++ state.now)) (next_kind.now ++ (codes ":" ++ next_state.now))) }
+{
+    format!(in alloc; "open {kind}:{state} {next_kind}:{next_state}\n")
+}

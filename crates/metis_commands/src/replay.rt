@@ -1,0 +1,72 @@
+//! The command that replays a plan.
+ghost use Rattle.std.specs.Prelude.{◌≡◌, ◌<◌, ◌-◌, ◌^◌, IfOk, length, string_bytes};
+ghost use Rattle.std.specs.List.{All};
+ghost use Rattle.metis_commands.specs.Replay.{Replayed, good_line, verdict_line, verdict_status};
+ghost use Rattle.metis_output.specs.Answers.{Says, status_for};
+ghost use Rattle.metis_replay.specs.Progress.{IsVerdictOf};
+ghost use Rattle.metis_universe.specs.Goals.{IsGoalOf};
+ghost use Rattle.metis_universe.specs.Numbers.{IsOf};
+
+use metis_ids::{Action, Goal, NoMemory};
+use metis_output::{Answer, Lines, Once, line_answer};
+use metis_replay::Verdict;
+use metis_shared::{bad_line, replayed};
+use metis_tokens::missing_line;
+use metis_universe::Universe;
+use std::alloc::{AllocError, Global};
+
+/// What the actions come to from the empty configuration.
+pub fn answer(
+    alloc: Global,
+    u: &Universe,
+    actions: &[Action],
+    goals: &[Goal],
+) -> Result<Answer<Once>, NoMemory>
+    requires numbers { All (IsOf u.now) actions.now }
+    requires few { length actions.now < 2 ^ 32 - 1 }
+    requires within { All (IsGoalOf u.now) goals.now }
+    ensures { IfOk result (Says (Replayed u.now goals.now actions.now) ⟦<Once as Lines>⟧.rest) }
+{
+    u.keeps_invariant();
+    match replayed(alloc, u, actions, goals) {
+        Ok((verdict, standing)) => {
+            let line = verdict_line(alloc, u, standing, actions.len(), &verdict)?;
+            Ok(line_answer(line, is_good(&verdict)))
+        }
+        Err(_) => Err(NoMemory),
+    }
+}
+
+fn is_good(verdict: &Verdict) -> bool
+    ensures { status_for result ≡ verdict_status verdict.now }
+{
+    match *verdict {
+        Verdict::Good => true,
+        Verdict::Bad(..) => false,
+        Verdict::Missing(..) => false,
+    }
+}
+
+// The line of the verdict on so many actions, after which so many instances stand.
+fn verdict_line(
+    alloc: Global,
+    u: &Universe,
+    standing: u64,
+    actions: usize,
+    verdict: &Verdict,
+) -> Result<String, AllocError>
+    requires { IsVerdictOf u.now verdict.now }
+    ensures { IfOk result (λ line. string_bytes line ≡ verdict_line u.now standing actions verdict.now) }
+{
+    match *verdict {
+        Verdict::Good => good_line(alloc, standing, actions),
+        Verdict::Bad(number, fault) => bad_line(alloc, u, number, &fault),
+        Verdict::Missing(goal, have, want) => missing_line(alloc, u, goal, have, want),
+    }
+}
+
+fn good_line(alloc: Global, standing: u64, actions: usize) -> Result<String, AllocError>
+    ensures { IfOk result (λ line. string_bytes line ≡ good_line standing actions) }
+{
+    format!(in alloc; "good standing {standing} actions {actions}\n")
+}

@@ -1,0 +1,50 @@
+//! The command that explains why goals are never attained.
+ghost use Rattle.std.specs.Prelude.{IfOk, List};
+ghost use Rattle.std.specs.List.{All};
+ghost use Rattle.metis_commands.specs.Why.{IsExplained, IsTold, WhyAnswer};
+ghost use Rattle.metis_ids.specs.declared.goals.Goal.{Goal as GoalOf};
+ghost use Rattle.metis_output.specs.Answers.{Says};
+ghost use Rattle.metis_universe.specs.GoalWords.{IsWordable};
+ghost use Rattle.metis_universe.specs.Goals.{IsGoalOf};
+
+use metis_ids::{Goal, NoMemory};
+use metis_output::{Answer, Either, Lines, Once};
+use metis_universe::Universe;
+use metis_why::{Explained, explain};
+use metis_why_text::{WhyLines, lines_of_why};
+use std::alloc::Global;
+
+/// The line that says that goals are attained, or the text of an explanation.
+pub type WhyAnswerLines<'a> = Either<Once, WhyLines<'a>>;
+
+/// Why the first of the goals is never attained that is not, if there is one.
+pub fn explained(alloc: Global, u: &Universe, goals: &[Goal]) -> Result<Explained, NoMemory>
+    requires within { All (IsGoalOf u.now) goals.now }
+    requires wordable { All (IsWordable u.now) goals.now }
+    ensures explained { IsExplained u.now goals.now result }
+    ensures told { IfOk result (IsTold u.now) }
+{
+    explain(alloc, u, goals)
+}
+
+/// The answer that says what was explained.
+pub fn answer<'a>(
+    alloc: Global,
+    u: &'a Universe,
+    explained: &'a Result<Explained, NoMemory>,
+) -> Result<Answer<WhyAnswerLines<'a>>, NoMemory>
+    requires { IfOk explained.now (IsTold u.now) }
+    ensures { IfOk result (λ a. (goals : List GoalOf) → IsExplained u.now goals explained.now → Says (WhyAnswer u.now goals) ⟦<WhyAnswerLines<'a> as Lines>⟧.rest a) }
+{
+    match explained {
+        Ok(Explained::Attained) => Ok(Answer {
+            lines: Either::First(Once::copy(alloc, "attained\n")?),
+            good: true,
+        }),
+        Ok(Explained::Lacks(why)) => Ok(Answer {
+            lines: Either::Second(lines_of_why(alloc, u, why)?),
+            good: false,
+        }),
+        Err(_) => Err(NoMemory),
+    }
+}

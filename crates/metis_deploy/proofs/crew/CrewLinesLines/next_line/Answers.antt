@@ -1,5 +1,0 @@
-use Rattle.metis_deploy.proofs.CrewLines.{is_turn_line}
-use Rattle.metis_deploy.proofs.crew.CrewLinesLines.next_line.Goals as goal
-
-pub returns-in-Some-clause-line : goal.returns-in-Some-clause-line
-returns-in-Some-clause-line c more = is_turn_line _ c.step-answer.result c.in_ok-set_turn_line.ensures

@@ -1,5 +1,0 @@
-pub mod Composed
-pub mod FileBytes
-pub mod NamedGoals
-pub mod Said
-pub mod TurnsRead

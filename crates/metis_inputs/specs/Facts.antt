@@ -1,0 +1,91 @@
+-- What is known of a text that was read over a universe.
+--     IsPlanFor u t      the text is well formed, and a plan has fewer actions than bytes are accepted
+--     IsWhyFor u why      each line's pair and port are the universe's
+--     AreHostsFor u h      there are as few hosts as lines, and each type has a size
+-- And that what the inputs of a command keep has one proof at most.
+use Rattle.std.specs.Prelude.{◌≡◌, ◌≤◌, ◌<◌, ◌^◌, ℕ, List, length}
+use Rattle.std.specs.Coded.{×_prop, Unit-prop, le_prop}
+use Rattle.std.specs.List.{All}
+use Rattle.std.proofs.Props.{props}
+use Rattle.metis_ids.specs.Plans.{Plan}
+use Rattle.metis_ids.specs.declared.actions.Action.{Action}
+use Rattle.metis_ids.specs.declared.actions.Action.TheVariants.{New, Delete, Bind, Unbind, Move}
+use Rattle.metis_ids.specs.declared.events.Event.{Event}
+use Rattle.metis_ids.specs.declared.events.Event.TheVariants.{At, End}
+use Rattle.metis_ids.specs.declared.goals.Goal.{Goal}
+use Rattle.metis_ids.specs.declared.goals.Goal.TheVariants.{Pair, Port}
+use Rattle.metis_place.specs.Placement.{HostLists}
+use Rattle.metis_text.specs.InRange.{IsEventInRange}
+use Rattle.metis_text.specs.PlanText.{IsWellFormed}
+use Rattle.metis_text.specs.Reads.{lists_of}
+use Rattle.metis_text.specs.declared.plan_text.PlanText.{PlanText}
+use Rattle.metis_universe.specs.GoalWords.{IsWordable}
+use Rattle.metis_universe.specs.Goals.{IsGoalOf}
+use Rattle.metis_universe.specs.Numbers.{IsOf, NamesBelow}
+use Rattle.metis_universe.specs.Universe.{Universe, type_count}
+use Rattle.metis_why.specs.Confirm.{IsLineOf}
+use Rattle.metis_why.specs.Barred.{IsNameable}
+use Rattle.metis_why.specs.declared.reason.Explanation.{Explanation}
+use Rattle.metis_why.specs.declared.reason.Line.{Line}
+use Rattle.metis_why.specs.declared.reason.Reason.{Reason}
+use Rattle.metis_why.specs.declared.reason.Reason.TheVariants.{Needs, Comes}
+use Rattle.metis_inputs.specs.Commands.{plan_limit}
+
+pub record IsPlanFor (u : Universe) (t : PlanText) : Type 0 where
+  pub formed : IsWellFormed u t.plan (lists_of t)
+  pub few : length t.plan.actions < plan_limit
+
+pub record IsWhyFor (u : Universe) (why : Explanation) : Type 0 where
+  pub lines : All (IsLineOf u) why.lines.items
+  pub few : length why.lines.items < 2 ^ 32
+
+pub record AreHostsFor (u : Universe) (h : HostLists) : Type 0 where
+  pub few : length h.hosts ≤ 65536
+  pub sizes : length h.sizes ≡ type_count u
+
+-- ---- one proof at most
+
+IsOf-prop : (u : Universe) (a : Action) → IsProp (IsOf u a)
+IsOf-prop u (New z t) = le_prop
+IsOf-prop u (Delete z) = Unit-prop
+IsOf-prop u (Bind r z y) = le_prop
+IsOf-prop u (Unbind r z y) = le_prop
+IsOf-prop u (Move z p q) = ×_prop le_prop le_prop
+
+pub AreOf-prop : (u : Universe) (actions : List Action) → IsProp (All (IsOf u) actions)
+AreOf-prop u actions = hlevel (IsOf-prop)
+
+NamesBelow-prop : (n : ℕ) (a : Action) → IsProp (NamesBelow n a)
+NamesBelow-prop n (New z t) = le_prop
+NamesBelow-prop n (Delete z) = le_prop
+NamesBelow-prop n (Bind r z y) = ×_prop le_prop le_prop
+NamesBelow-prop n (Unbind r z y) = ×_prop le_prop le_prop
+NamesBelow-prop n (Move z p q) = le_prop
+
+IsEventInRange-prop : (e : Event) → IsProp (IsEventInRange e)
+IsEventInRange-prop (At l s) = ×_prop le_prop le_prop
+IsEventInRange-prop End = Unit-prop
+
+pub IsWellFormed-prop : (u : Universe) (p : Plan) (after : List (List ℕ)) → IsProp (IsWellFormed u p after)
+IsWellFormed-prop u p after = hlevel (IsOf-prop, NamesBelow-prop, IsEventInRange-prop, props)
+
+IsGoalOf-prop : (u : Universe) (g : Goal) → IsProp (IsGoalOf u g)
+IsGoalOf-prop u (Pair p) = le_prop
+IsGoalOf-prop u (Port r) = le_prop
+
+pub AreGoalsOf-prop : (u : Universe) (goals : List Goal) → IsProp (All (IsGoalOf u) goals)
+AreGoalsOf-prop u goals = hlevel (IsGoalOf-prop)
+
+IsWordable-prop : (u : Universe) (g : Goal) → IsProp (IsWordable u g)
+IsWordable-prop u (Pair p) = le_prop
+IsWordable-prop u (Port r) = hlevel props
+
+pub AreWordable-prop : (u : Universe) (goals : List Goal) → IsProp (All (IsWordable u) goals)
+AreWordable-prop u goals = hlevel (IsWordable-prop)
+
+IsNameable-prop : (u : Universe) (reason : Reason) → IsProp (IsNameable u reason)
+IsNameable-prop u (Needs r) = le_prop
+IsNameable-prop u Comes = Unit-prop
+
+pub AreLinesOf-prop : (u : Universe) (lines : List Line) → IsProp (All (IsLineOf u) lines)
+AreLinesOf-prop u lines = hlevel (IsNameable-prop, le_prop)

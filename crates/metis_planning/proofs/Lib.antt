@@ -1,0 +1,5 @@
+pub mod LoadLines
+pub mod MadePlans
+pub mod NeverLoose
+pub mod PlanAnswers
+pub mod PrintedAudits

@@ -1,0 +1,31 @@
+use Rattle.std.proofs.Common.{arith}
+use Rattle.metis_planning.proofs.MadePlans.{planned_by}
+use Rattle.metis_planning.proofs.PlanAnswers.{answer_by_refusal, answer_for_goals}
+use Rattle.metis_planning.specs.Plan.{plan_text}
+use Rattle.metis_planning.proofs.plan.planned.Goals as goal
+
+pub plan_for-requires-clause-few : goal.plan_for-requires-clause-few
+plan_for-requires-clause-few c =
+    let aim = rw c.in-Pairs.is at c.in_ok-pairs.ensures in
+    rw c.deref.ensures.value (omega (arith, aim.few, c.requires.few))
+
+pub plan_for-requires-clause-attained : goal.plan_for-requires-clause-attained
+plan_for-requires-clause-attained c =
+    let aim = rw c.in-Pairs.is at c.in_ok-pairs.ensures in
+    rw c.deref.ensures.value aim.attained
+
+pub returns-in_ok-plan-in-Pairs-clause-planned : goal.returns-in_ok-plan-in-Pairs-clause-planned
+returns-in_ok-plan-in-Pairs-clause-planned c =
+    let u = c.args.u.now in
+    let goals = c.args.goals.now in
+    let pairs = c.in-Pairs.pairs.items in
+    let plan = c.in_ok-plan-in-Pairs.plan in
+    let aim = rw c.in-Pairs.is at c.in_ok-pairs.ensures in
+    let attains = c.pairs_for_goals_hold_them.ensures.attains u goals pairs aim.resolved in
+    planned_by u goals plan c.with_waits.result (answer_for_goals u goals pairs aim.resolved attains (plan_text u plan) (rw c.deref.ensures.value at c.in_ok-plan-in-Pairs.ensures.plans)) c.with_waits.ensures.plan
+
+pub returns-in-Lacks-clause-planned : goal.returns-in-Lacks-clause-planned
+returns-in-Lacks-clause-planned c =
+    let refusal = c.in-Lacks.refusal in
+    let aim = rw c.in-Lacks.is at c.in_ok-pairs.ensures in
+    answer_by_refusal c.args.u.now c.args.goals.now refusal.pairs.members refusal.lacks aim.all aim.refusal

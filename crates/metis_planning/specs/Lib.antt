@@ -1,0 +1,4 @@
+pub mod Load
+pub mod Plan
+pub mod Planned
+pub mod Rollout

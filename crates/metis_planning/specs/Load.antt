@@ -1,0 +1,48 @@
+-- What is said of a plan for a generated universe.
+--     counts_line n .., load_line n u g plan      the size, and so many pairs, targets, instances, actions and dups;  as many as the universe u, the targets g and the plan have
+--     Summed n u g plan line      the line has the counts of the plan, and there is one exactly if the plan is good
+--     Loads n u g lines status      the plan that rounds come to is good, and the one line has its counts
+--     Loaded n lines status      the same for the generated universe of size n and its targets
+use Rattle.std.specs.Prelude.{◌≡◌, ◌≢◌, ℕ, List, [], ◌∷◌, ◌++◌, length, codes, decimal, IfNone, IfSome}
+use Rattle.std.specs.declared.option.Option.{Option as Known}
+use Rattle.metis_ids.specs.Plans.{Plan}
+use Rattle.metis_universe.specs.Config.{empty}
+use Rattle.metis_universe.specs.Goal.{Holds}
+use Rattle.metis_universe.specs.Goals.{pair_goals}
+use Rattle.metis_universe.specs.Step.{IsRun, after_all}
+use Rattle.metis_universe.specs.Universe.{Universe, pair_count}
+use Rattle.metis_replay.specs.Exact.{Tells}
+use Rattle.metis_replay.specs.declared.verdict.Verdict.{Verdict}
+use Rattle.metis_replay.specs.declared.verdict.Verdict.TheVariants.{Good}
+use Rattle.metis_gen.specs.Generated.{generated, generated_targets}
+use Rattle.metis_planner.specs.Rounds.{IsByRounds}
+use Rattle.metis_output.specs.declared.status.Status.{Status}
+use Rattle.metis_output.specs.declared.status.Status.TheVariants.{Done}
+
+abbrev pub counts_line : ℕ → ℕ → ℕ → ℕ → ℕ → ℕ → List ℕ
+counts_line n pairs targets instances actions dups =
+    codes "load " ++ (decimal n ++ (codes " pairs " ++ (decimal pairs ++ (codes " targets " ++ (decimal targets
+    ++ (codes " instances " ++ (decimal instances ++ (codes " actions " ++ (decimal actions ++ (codes " dups " ++ (decimal dups ++ codes " good\n")))))))))))
+
+abbrev pub load_line : ℕ → Universe → List ℕ → Plan → List ℕ
+load_line n u g plan = counts_line n (pair_count u) (length g) plan.instances (length plan.actions) (length plan.dups)
+
+-- there is a line, this one, exactly where the verdict that is true of the plan's actions and the targets g is good
+pub record Summed (n : ℕ) (u : Universe) (g : List ℕ) (plan : Plan) (line : Known (List (List ℕ))) : Type 0 where
+  pub verdict : Verdict
+  pub tells : Tells u plan.actions (pair_goals g) verdict
+  pub good : IfSome line (λ lines. (verdict ≡ Good) × (lines ≡ load_line n u g plan ∷ []))
+  pub other : IfNone line (verdict ≢ Good)
+
+-- its actions are a run from the empty configuration that holds the targets, and there is no other such plan
+pub record Loads (n : ℕ) (u : Universe) (g : List ℕ) (lines : List (List ℕ)) (status : Status) : Type 0 where
+  pub plan : Plan
+  pub rounds : IsByRounds u g plan
+  pub alone : (other : Plan) → IsByRounds u g other → other ≡ plan
+  pub runs : IsRun u empty plan.actions
+  pub holds : Holds (after_all u empty plan.actions) g
+  pub told : lines ≡ load_line n u g plan ∷ []
+  pub is : status ≡ Done
+
+abbrev pub Loaded : ℕ → List (List ℕ) → Status → Type 0
+Loaded n lines status = Loads n (generated n) (generated_targets n) lines status

@@ -1,0 +1,247 @@
+//! The command that goes from a plan to other targets.
+ghost use Rattle.std.specs.Prelude.{◌≡◌, ◌+◌, ◌<◌, ◌≤◌, ◌-◌, ◌^◌, Err, IfErr, IfOk, List, length};
+ghost use Rattle.std.specs.List.{All, count_by};
+ghost use Rattle.metis_ids.specs.Action.{makes};
+ghost use Rattle.metis_ids.specs.declared.actions.Action.{Action as ActionOf};
+ghost use Rattle.metis_ids.specs.declared.goals.Goal.{Goal as GoalOf};
+ghost use Rattle.metis_layers.specs.Layers.{IsLayers};
+ghost use Rattle.metis_output.specs.Answers.{Says};
+ghost use Rattle.metis_planning.specs.Planned.{IsOfPlan, IsPrintable};
+ghost use Rattle.metis_planning.specs.Rollout.{IsOld, IsRolledOut, RolledOut, RollsOutGoals, RollsOutTo, rollout_plan};
+ghost use Rattle.metis_shared.specs.Steady.{IsSteady, IsUnsteadyIn};
+ghost use Rattle.metis_universe.specs.Config.{empty};
+ghost use Rattle.metis_universe.specs.Goal.{Attains};
+ghost use Rattle.metis_universe.specs.GoalWords.{IsWordable};
+ghost use Rattle.metis_universe.specs.Goals.{IsGoalOf};
+ghost use Rattle.metis_universe.specs.Numbers.{IsOf};
+ghost use Rattle.metis_universe.specs.Steadfast.{IsSteadfastRun};
+ghost use Rattle.metis_universe.specs.Step.{IsRun, after_all};
+ghost use Rattle.metis_universe.specs.Universe.{pair_count};
+
+use crate::plan::{PlannedLines, planned_answer, with_waits};
+use crate::planned::Planned;
+use metis_choice::pairs_for_goals_hold_them;
+use metis_config::Config;
+use metis_ids::{Action, Goal, NoMemory, PairIx, Plan};
+use metis_layers::table::Layers;
+use metis_output::{Answer, Either, Lines, Once};
+use metis_planner::{nothing_is_done_for_no_targets, plan_over};
+use metis_rollout::{
+    guarded_rollout_goes_on, guarded_rollout_never_lacks, rollout_from, rollout_replaces,
+    teardown_leaves_nothing,
+};
+use metis_shared::{Aim, Followed, Unsteady, aim_of, follow, unsteady_line};
+use metis_universe::Universe;
+use metis_waits::{Judged, WFault};
+use std::alloc::Global;
+
+/// The line that says why the old actions are no steadfast run, or the text of a rollout, or of a refusal.
+pub type RolloutLines<'a> = Either<Once, PlannedLines<'a>>;
+
+/// A plan that begins with the old actions, makes what the goals ask for beside what these leave, and then removes that; or a
+/// refusal if nothing attains the goals; or why the old actions are no steadfast run.
+pub fn rolled_out(
+    alloc: Global,
+    u: &Universe,
+    goals: &[Goal],
+    old: &[Action],
+) -> Result<Planned, Unsteady>
+    requires few { length goals.now ≤ 256 }
+    requires within { All (IsGoalOf u.now) goals.now }
+    requires wordable { All (IsWordable u.now) goals.now }
+    requires numbers { All (IsOf u.now) old.now }
+    requires short { length old.now < 2 ^ 28 }
+    ensures rolled_out { IsRolledOut u.now goals.now old.now result }
+    ensures printable { IfOk result (IsPrintable u.now) }
+    ensures unsteady { IfErr result (IsUnsteadyIn u.now) }
+{
+    let old = old_of(alloc, u, old)?;
+    match roll_out(alloc, u, goals, old) {
+        Ok(planned) => Ok(planned),
+        Err(_) => Err(Unsteady::NoMemory),
+    }
+}
+
+/// The old actions, with what they leave, and judged.
+#[derive(Drop)]
+struct Old<'a> {
+    actions: &'a [Action],
+    left: Config,
+    judged: Judged,
+}
+
+// The old actions, if they are a steadfast run.
+fn old_of<'a>(alloc: Global, u: &Universe, old: &'a [Action]) -> Result<Old<'a>, Unsteady>
+    requires numbers { All (IsOf u.now) old.now }
+    requires short { length old.now < 2 ^ 28 }
+    ensures old { IfOk result (λ o. IsOld u.now old.now o.left o.judged) }
+    ensures same { IfOk result (λ o. o.actions.now ≡ old.now) }
+    ensures steady { IfErr result (λ why. IsSteady u.now old.now (Err why)) }
+{
+    match follow(alloc, u, old) {
+        Ok(Followed::Left(left)) => judged(alloc, u, old, left),
+        Ok(Followed::Bad(number, fault)) => Err(Unsteady::Bad(number, fault)),
+        Err(_) => Err(Unsteady::NoMemory),
+    }
+}
+
+// The same of actions that can be done.
+fn judged<'a>(
+    alloc: Global,
+    u: &Universe,
+    old: &'a [Action],
+    left: Config,
+) -> Result<Old<'a>, Unsteady>
+    requires numbers { All (IsOf u.now) old.now }
+    requires short { length old.now < 2 ^ 28 }
+    requires runs { IsRun u.now empty old.now }
+    requires left { left ≡ after_all u.now empty old.now }
+    ensures old { IfOk result (λ o. IsOld u.now old.now o.left o.judged) }
+    ensures same { IfOk result (λ o. o.actions.now ≡ old.now) }
+    ensures steady { IfErr result (λ why. IsSteady u.now old.now (Err why)) }
+{
+    match Judged::new(alloc, u).go_on(alloc, u, old) {
+        Ok(judged) => Ok(Old {
+            actions: old,
+            left,
+            judged,
+        }),
+        Err(WFault::Loose(number)) => Err(Unsteady::Loose(number)),
+        Err(WFault::NoMemory) => Err(Unsteady::NoMemory),
+    }
+}
+
+// The rollout to the pairs for the goals, or a refusal.
+fn roll_out(alloc: Global, u: &Universe, goals: &[Goal], old: Old) -> Result<Planned, NoMemory>
+    requires few { length goals.now ≤ 256 }
+    requires within { All (IsGoalOf u.now) goals.now }
+    requires wordable { All (IsWordable u.now) goals.now }
+    requires old { IsOld u.now old.actions.now old.left old.judged }
+    ensures rolls { IfOk result (RollsOutGoals u.now goals.now old.entry.actions.now) }
+    ensures printable { IfOk result (IsPrintable u.now) }
+{
+    u.keeps_invariant();
+    pairs_for_goals_hold_them();
+    match aim_of(alloc, u, goals)? {
+        Aim::Pairs(pairs, layers) => roll_out_to(alloc, u, &layers, old, &pairs),
+        Aim::Lacks(refusal) => Ok(Planned::Refusal(refusal)),
+    }
+}
+
+// The rollout to the pairs. There is a plan for them, since some list of actions attains them.
+fn roll_out_to(
+    alloc: Global,
+    u: &Universe,
+    layers: &Layers,
+    old: Old,
+    pairs: &[PairIx],
+) -> Result<Planned, NoMemory>
+    requires few { length pairs.now ≤ 256 }
+    requires within { All (λ p. p < pair_count u.now) pairs.now }
+    requires layers { IsLayers u.now layers.now }
+    requires attained { Attains u.now pairs.now }
+    requires old { IsOld u.now old.actions.now old.left old.judged }
+    ensures rolls { IfOk result (RollsOutTo u.now old.entry.actions.now pairs.now) }
+    ensures printable { IfOk result (IsPrintable u.now) }
+{
+    u.keeps_invariant();
+    rollout_replaces();
+    guarded_rollout_never_lacks();
+    guarded_rollout_goes_on();
+    teardown_leaves_nothing();
+    nothing_is_done_for_no_targets();
+    match plan_over(alloc, u, layers, pairs) {
+        Ok(fresh) => roll_out_between(alloc, u, layers, old, &fresh.actions),
+        Err(_) => Err(NoMemory),
+    }
+}
+
+// The rollout from the old actions to the fresh ones, with what each action waits for.
+fn roll_out_between(
+    alloc: Global,
+    u: &Universe,
+    layers: &Layers,
+    old: Old,
+    fresh: &[Action],
+) -> Result<Planned, NoMemory>
+    requires layers { IsLayers u.now layers.now }
+    requires old { IsOld u.now old.actions.now old.left old.judged }
+    requires fresh { IsSteadfastRun u.now fresh.now }
+    requires fresh_ours { All (IsOf u.now) fresh.now }
+    requires few { length old.actions.now + length fresh.now < 2 ^ 29 }
+    ensures plan { IfOk result (IsOfPlan (rollout_plan u.now old.entry.actions.now fresh.now)) }
+    ensures printable { IfOk result (IsPrintable u.now) }
+{
+    let plan = rollout_between(alloc, u, layers, old.actions, fresh, old.left)?;
+    with_waits(alloc, u, plan, old.judged)
+}
+
+// The rollout, as a plan without dups.
+fn rollout_between(
+    alloc: Global,
+    u: &Universe,
+    layers: &Layers,
+    old: &[Action],
+    fresh: &[Action],
+    left: Config,
+) -> Result<Plan, NoMemory>
+    requires layers { IsLayers u.now layers.now }
+    requires old { IsSteadfastRun u.now old.now }
+    requires fresh { IsSteadfastRun u.now fresh.now }
+    requires old_ours { All (IsOf u.now) old.now }
+    requires fresh_ours { All (IsOf u.now) fresh.now }
+    requires few { length old.now + length fresh.now < 2 ^ 29 }
+    requires left { left ≡ after_all u.now empty old.now }
+    ensures plan { IfOk result (λ plan. plan ≡ rollout_plan u.now old.now fresh.now) }
+    ensures steady { IfOk result (λ plan. IsSteadfastRun u.now plan.actions) }
+    ensures ours { IfOk result (λ plan. All (IsOf u.now) plan.actions) }
+    ensures short { IfOk result (λ plan. length plan.actions < 2 ^ 32 - 1) }
+{
+    let actions = rollout_from(alloc, u, layers, old, fresh, left)?;
+    let instances = made_by(&actions);
+    Ok(Plan {
+        actions,
+        dups: Vec::new(alloc),
+        instances,
+    })
+}
+
+// How many instances the actions make.
+fn made_by(actions: &[Action]) -> u32
+    requires { length actions.now < 2 ^ 32 - 1 }
+    ensures { result ≡ count_by makes actions.now }
+{
+    actions
+        .iter()
+        .filter(|action| matches!(action, Action::New { .. }))
+        .count() as u32
+}
+
+/// The answer that says what was rolled out.
+pub fn answer<'a>(
+    alloc: Global,
+    u: &'a Universe,
+    rolled: &'a Result<Planned, Unsteady>,
+) -> Result<Answer<RolloutLines<'a>>, NoMemory>
+    requires printable { IfOk rolled.now (IsPrintable u.now) }
+    requires unsteady { IfErr rolled.now (IsUnsteadyIn u.now) }
+    ensures { IfOk result (λ a. (goals : List GoalOf) (old : List ActionOf) → IsRolledOut u.now goals old rolled.now
+        → Says (RolledOut u.now goals old) ⟦<RolloutLines<'a> as Lines>⟧.rest a) }
+{
+    match rolled {
+        Ok(planned) => {
+            let Answer { lines, good } = planned_answer(alloc, u, planned)?;
+            Ok(Answer {
+                lines: Either::Second(lines),
+                good,
+            })
+        }
+        Err(why) => {
+            let line = unsteady_line(alloc, u, why)?;
+            Ok(Answer {
+                lines: Either::First(line),
+                good: false,
+            })
+        }
+    }
+}

@@ -1,0 +1,176 @@
+//! Whether a plan's actions are a steadfast run.
+ghost use Rattle.std.specs.Prelude.{◌≡◌, ◌<◌, ◌-◌, ◌^◌, IfOk, IfSome, None, length, string_bytes};
+ghost use Rattle.std.specs.List.{All};
+ghost use Rattle.metis_actions.specs.Faults.{IsFaultOf, fault_text};
+ghost use Rattle.metis_shared.specs.Followed.{IsFollowed};
+ghost use Rattle.metis_shared.specs.Steady.{IsSteady, IsUnsteadyIn, TellsUnsteady, bad_line, loose_line, standing_after};
+ghost use Rattle.metis_replay.specs.Exact.{IsFirstBad, Tells};
+ghost use Rattle.metis_replay.specs.Progress.{IsVerdictOf, after_feeding};
+ghost use Rattle.metis_universe.specs.Config.{empty};
+ghost use Rattle.metis_universe.specs.Goals.{IsGoalOf};
+ghost use Rattle.metis_universe.specs.Numbers.{IsOf};
+ghost use Rattle.metis_universe.specs.Step.{IsRun};
+
+use metis_actions::{AFault, fault_text};
+use metis_config::Config;
+use metis_ids::{Action, Goal, NoMemory};
+use metis_output::Once;
+use metis_replay::{Replay, Verdict, replay_is_exact, replay_keeps_what_was_done};
+use metis_universe::Universe;
+use metis_waits::{WFault, Waits, waits};
+use std::alloc::{AllocError, Global};
+
+/// What the actions came to, and how many instances stood then.
+pub fn replayed(
+    alloc: Global,
+    u: &Universe,
+    actions: &[Action],
+    goals: &[Goal],
+) -> Result<(Verdict, u64), NoMemory>
+    requires numbers { All (IsOf u.now) actions.now }
+    requires few { length actions.now < 2 ^ 32 - 1 }
+    requires within { All (IsGoalOf u.now) goals.now }
+    ensures tells { IfOk result (λ r. Tells u.now actions.now goals.now r.0) }
+    ensures numbers { IfOk result (λ r. IsVerdictOf u.now r.0) }
+    ensures standing { IfOk result (λ r. r.0 ≡ Verdict.Good → r.1 ≡ standing_after u.now actions.now) }
+{
+    replay_is_exact();
+    replay_keeps_what_was_done();
+    u.keeps_invariant();
+    let replay = replay_of(alloc, u, actions)?;
+    Ok((replay.finish(goals), replay.config().count()))
+}
+
+/// The replay of the actions from the empty configuration.
+pub fn replay_of<'u>(
+    alloc: Global,
+    u: &'u Universe,
+    actions: &[Action],
+) -> Result<Replay<'u>, NoMemory>
+    requires numbers { All (IsOf u.now) actions.now }
+    requires few { length actions.now < 2 ^ 32 - 1 }
+    ensures { IfOk result (λ replay. replay ≡ after_feeding u.now actions.now) }
+{
+    replay_keeps_what_was_done();
+    let mut replay = Replay::new(alloc, u);
+    for action in actions {
+        replay.feed(action)?;
+    }
+    Ok(replay)
+}
+
+/// What actions left from the empty configuration on, or the first of them that cannot be done.
+#[derive(Drop)]
+pub enum Followed {
+    /// Each was done, and left this.
+    Left(Config),
+    /// The number of the first that cannot be done, counted from 1, and why.
+    Bad(u32, AFault),
+}
+
+/// Follows the actions from the empty configuration on.
+pub fn follow(alloc: Global, u: &Universe, actions: &[Action]) -> Result<Followed, NoMemory>
+    requires numbers { All (IsOf u.now) actions.now }
+    requires few { length actions.now < 2 ^ 32 - 1 }
+    ensures { IfOk result (IsFollowed u.now actions.now) }
+{
+    replay_is_exact();
+    replay_keeps_what_was_done();
+    u.keeps_invariant();
+    let replay = replay_of(alloc, u, actions)?;
+    match replay.finish(&[]) {
+        Verdict::Bad(number, fault) => Ok(Followed::Bad(number, fault)),
+        Verdict::Good | Verdict::Missing(..) => Ok(Followed::Left(replay.into_config())),
+    }
+}
+
+/// Why actions are no steadfast run, or that memory ran out.
+#[derive(Clone, Copy)]
+pub enum Unsteady {
+    /// The number of the first that cannot be done, counted from 1, and why.
+    Bad(u32, AFault),
+    /// They can be done, and this is the number of the first that is not steadfast, counted from 1.
+    Loose(u32),
+    /// Memory ran out.
+    NoMemory,
+}
+
+/// What each of the actions waits for, where they are a steadfast run from the empty configuration on.
+pub fn steady_waits(alloc: Global, u: &Universe, actions: &[Action]) -> Result<Waits, Unsteady>
+    requires numbers { All (IsOf u.now) actions.now }
+    requires few { length actions.now < 2 ^ 32 - 1 }
+    ensures { IsSteady u.now actions.now result }
+{
+    match first_bad(alloc, u, actions) {
+        Ok(None) => waits_of_run(alloc, u, actions),
+        Ok(Some((number, fault))) => Err(Unsteady::Bad(number, fault)),
+        Err(_) => Err(Unsteady::NoMemory),
+    }
+}
+
+// The number of the first action that cannot be done from the empty configuration on, and why.
+fn first_bad(
+    alloc: Global,
+    u: &Universe,
+    actions: &[Action],
+) -> Result<Option<(u32, AFault)>, NoMemory>
+    requires numbers { All (IsOf u.now) actions.now }
+    requires few { length actions.now < 2 ^ 32 - 1 }
+    ensures bad { IfOk result (λ bad. IfSome bad (λ b. IsFirstBad u.now actions.now b.0 b.1)) }
+    ensures numbers { IfOk result (λ bad. IfSome bad (λ b. IsFaultOf u.now b.1)) }
+    ensures runs { IfOk result (λ bad. bad ≡ None → IsRun u.now empty actions.now) }
+{
+    let followed = follow(alloc, u, actions)?;
+    match &followed {
+        Followed::Bad(number, fault) => Ok(Some((*number, *fault))),
+        Followed::Left(_) => Ok(None),
+    }
+}
+
+// The same of actions that can be done.
+fn waits_of_run(alloc: Global, u: &Universe, actions: &[Action]) -> Result<Waits, Unsteady>
+    requires numbers { All (IsOf u.now) actions.now }
+    requires few { length actions.now < 2 ^ 32 - 1 }
+    requires runs { IsRun u.now empty actions.now }
+    ensures { IsSteady u.now actions.now result }
+{
+    match waits(alloc, u, actions) {
+        Ok(waits) => Ok(waits),
+        Err(WFault::Loose(number)) => Err(Unsteady::Loose(number)),
+        Err(WFault::NoMemory) => Err(Unsteady::NoMemory),
+    }
+}
+
+/// The line that says which of the actions keeps them from being a steadfast run, and why.
+pub fn unsteady_line(alloc: Global, u: &Universe, why: &Unsteady) -> Result<Once, NoMemory>
+    requires { IsUnsteadyIn u.now why.now }
+    ensures { IfOk result (TellsUnsteady u.now why.now) }
+{
+    u.keeps_invariant();
+    match *why {
+        Unsteady::Bad(number, fault) => Ok(Once::of(bad_line(alloc, u, number, &fault)?)),
+        Unsteady::Loose(number) => Ok(Once::of(loose_line(alloc, number)?)),
+        Unsteady::NoMemory => Err(NoMemory),
+    }
+}
+
+/// The line of an action that cannot be done, with its number and why.
+pub fn bad_line(
+    alloc: Global,
+    u: &Universe,
+    number: u32,
+    fault: &AFault,
+) -> Result<String, AllocError>
+    requires { IsFaultOf u.now fault.now }
+    ensures { IfOk result (λ line. string_bytes line ≡ bad_line number (fault_text u.now fault.now)) }
+{
+    let text = fault_text(alloc, u, fault)?;
+    let text = text.as_str();
+    format!(in alloc; "bad {number} {text}\n")
+}
+
+fn loose_line(alloc: Global, number: u32) -> Result<String, AllocError>
+    ensures { IfOk result (λ line. string_bytes line ≡ loose_line number) }
+{
+    format!(in alloc; "loose {number}\n")
+}
