@@ -1,8 +1,10 @@
 //! The whole run of the program, over files and an output that are passed in.
 #![tactic(auto)]
 
-mod performing;
+mod checks;
+mod plans;
 mod stop;
+mod targets;
 mod top;
 
 pub use metis_output::Status;

@@ -141,7 +141,10 @@ fn stop_line(alloc: Global, stop: Stop) -> Result<(String, Status), NoMemory>
     ensures line { IfOk result (λ told. IsLine (string_bytes told.0)) }
 {
     match stop {
-        Stop::Faulty(fault) if is_told(fault) => {
+        Stop::Faulty(fault) => {
+            if !is_told(fault) {
+                return Err(NoMemory);
+            }
             let line = fault_line(alloc, fault)?;
             Ok((line, fault_status(fault)))
         }
@@ -149,7 +152,7 @@ fn stop_line(alloc: Global, stop: Stop) -> Result<(String, Status), NoMemory>
             let line = read_fault_line(alloc, place)?;
             Ok((line, Status::ReadFault))
         }
-        Stop::Faulty(_) | Stop::NoMemory => Err(NoMemory),
+        Stop::NoMemory => Err(NoMemory),
     }
 }
 

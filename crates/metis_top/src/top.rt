@@ -1,7 +1,7 @@
 //! The top call.
 ghost use Rattle.std.specs.Prelude.{◌≡◌};
 ghost use Rattle.metis_outside.specs.Faults.{Rose};
-ghost use Rattle.metis_inputs.specs.Commands.{script_of};
+ghost use Rattle.metis_inputs.specs.Commands.{command_script, script_of};
 ghost use Rattle.metis_top.specs.Course.{Ran};
 ghost use Rattle.metis_top.specs.Honest.{Headline, IsThePlan, PlansHave, Tells, Undisturbed};
 ghost use Rattle.metis_top.specs.Numbered.{TellsReadFault};
@@ -12,13 +12,15 @@ ghost use Rattle.metis_words.specs.Words.{form_of};
 ghost use Rattle.metis_top.specs.Stops.{word_stop};
 ghost use Rattle.metis_universe.specs.Texts.{texts};
 
-use crate::performing::perform;
+use crate::checks::{audit, confirm, refute, replay, simulate};
+use crate::plans::{control, crew, place, waves};
 use crate::stop::end;
+use crate::targets::{load, plan, print, rollout, why};
 use metis_inputs::{InputFault, Stop};
 use metis_output::Status;
 use metis_outside::{Shelf, Sink};
 use metis_waits::{complete_order_ends_alike, kept_order_is_a_run, own_order_is_kept};
-use metis_words::{WordFault, read_words};
+use metis_words::{Command, Verb, WordFault, read_words};
 use std::alloc::Global;
 
 /// Does all that the program does: reads the words and the files that they name, and puts the answer.
@@ -81,5 +83,33 @@ fn word_stop(fault: WordFault) -> Stop
     match fault {
         WordFault::At(place) => Stop::Faulty(InputFault::Word(place)),
         WordFault::NoMemory => Stop::NoMemory,
+    }
+}
+
+// Does what the command's verb says.
+fn perform<H: Shelf, K: Sink>(
+    alloc: Global,
+    command: &Command,
+    shelf: &mut H,
+    out: &mut K,
+) -> Status
+    ensures course { Ran H.files H.faults H.opens K.written K.faults (command_script command.now) shelf.old shelf.new out.old out.new result }
+    ensures lines { PutsLines (K.written out.old) (K.written out.new) result }
+{
+    match command.verb {
+        Verb::Plan => plan(alloc, command, shelf, out),
+        Verb::Replay => replay(alloc, command, shelf, out),
+        Verb::Refute => refute(alloc, command, shelf, out),
+        Verb::Audit => audit(alloc, command, shelf, out),
+        Verb::Sim => simulate(alloc, command, shelf, out),
+        Verb::Crew => crew(alloc, command, shelf, out),
+        Verb::Waves => waves(alloc, command, shelf, out),
+        Verb::Control => control(alloc, command, shelf, out),
+        Verb::Rollout => rollout(alloc, command, shelf, out),
+        Verb::Place => place(alloc, command, shelf, out),
+        Verb::Print => print(alloc, command, shelf, out),
+        Verb::Load => load(alloc, command, shelf, out),
+        Verb::Why => why(alloc, command, shelf, out),
+        Verb::Confirm => confirm(alloc, command, shelf, out),
     }
 }
