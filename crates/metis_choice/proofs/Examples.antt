@@ -12,6 +12,7 @@ use Rattle.metis_universe.specs.Step.{after_all}
 use Rattle.metis_universe.specs.Universe.{Universe, all_pairs}
 use Rattle.metis_layers.specs.LayerOrder.{attained_pairs}
 use Rattle.metis_choice.specs.Resolutions.{ArePairsFor}
+use Rattle.metis_layers.proofs.Examples.{alone}
 
 -- pairs Db:off 0, Db:on 1, Web:off 2, Web:run 3, port sql 0: the port is for the database that is on
 web_pairs : ArePairsFor web (Port 0 ∷ Pair 1 ∷ Pair 3 ∷ Port 0 ∷ []) (1 ∷ 1 ∷ 3 ∷ 1 ∷ [])
@@ -41,12 +42,6 @@ lower_layer : ArePairsFor two_providers (Port 0 ∷ Pair 2 ∷ []) (4 ∷ 2 ∷ 
 lower_layer = (refl, (refl, tt))
 
 -- Y: y0 > y1(+p -p), which needs another one to be there first: the first goal that is lacking is told, be it a pair or a port
-abbrev alone : Universe
-alone = record { version = 1; kinds = kind 0 ∷ []; pairs = pair 0 [] [] (1 ∷ []) ∷ pair 0 (0 ∷ []) (0 ∷ []) [] ∷ []; ports = (112 ∷ []) ∷ [] }
-
-alone_attained : attained_pairs alone ≡ 0 ∷ []
-alone_attained = refl
-
 port_lacking : find (lacks alone (attained_pairs alone)) (Pair 0 ∷ Port 0 ∷ Pair 1 ∷ []) ≡ Some (Port 0)
 port_lacking = refl
 

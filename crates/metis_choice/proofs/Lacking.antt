@@ -1,17 +1,23 @@
 -- The first target that has no layer, as a search by the layers finds it.
-use Rattle.std.proofs.Common.{◌≡◌, ℕ, zero, suc, ◌<◌, true, false, cond, not, List, [], ◌∷◌, take, Option, Some, None, refl, sym, ap, ◌∙◌}
+use Rattle.std.proofs.Common.{◌≡◌, ℕ, zero, suc, ◌<◌, true, false, cond, not, List, [], ◌∷◌, take, Option, Some, None, refl, sym, ap, ◌∙◌, subst}
 use Rattle.std.specs.Prelude.{IsSome, is_some}
 use Rattle.std.specs.List.{All, find}
 use Rattle.std.proofs.lemmas.Bool.{false≢true}
-use Rattle.std.proofs.lemmas.List.Elements.{All-cons, All-head, All-nil, All-tail}
+use Rattle.std.proofs.lemmas.List.Elements.{All-cons, All-head, All-nil, All-tail, All-get_or}
 use Rattle.metis_universe.specs.Layers.{layer_of}
 use Rattle.metis_universe.specs.Universe.{Universe, pair_count}
 use Rattle.metis_layers.specs.Layers.{IsLayers, Layers, layer_at}
 use Rattle.metis_choice.specs.Choices.{IsFirstWithout}
+use Rattle.std.proofs.lemmas.Option.{get_or_from_slice_get, slice_get_within}
 
 some_of : (o : Option ℕ) → not (is_some o) ≡ false → IsSome o
 some_of None h = absurd (false≢true (sym h))
 some_of (Some l) h = refl
+
+-- the first target without a layer is a pair of the universe
+pub lacking_low : (u : Universe) (g : List ℕ) (p : ℕ) → All (λ q. q < pair_count u) g → IsFirstWithout u g p → p < pair_count u
+lacking_low u g p within first =
+    subst (λ q. q < pair_count u) (get_or_from_slice_get g first.place p 0 first.there) (All-get_or (λ q. q < pair_count u) g first.place 0 (slice_get_within g first.place p first.there) within)
 
 none_of : (o : Option ℕ) → not (is_some o) ≡ true → o ≡ None
 none_of None h = refl

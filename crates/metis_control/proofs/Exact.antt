@@ -9,11 +9,11 @@ use Rattle.metis_crew.proofs.Fronts.{front_end, front_has, has_at}
 use Rattle.metis_crew.proofs.OwnActions.{own_has, own_listed, rising}
 use Rattle.metis_crew.specs.Crew.{is_own, own_numbers}
 use Rattle.metis_control.proofs.Orders.{heard_ahead, heard_before, heard_none, heard_now, rise, rises}
-use Rattle.metis_control.proofs.Reached.{has_taken}
 use Rattle.metis_control.specs.Agent.{heard}
 use Rattle.metis_control.specs.Owned.{IsRising}
 use Rattle.metis_control.specs.declared.happening.Heard.{Heard}
 use Rattle.metis_control.specs.declared.happening.Heard.TheVariants.{Executed, Again, Ahead, NotMine}
+use Rattle.metis_ids.proofs.Lists.{has_take}
 
 -- the four ways of an answer
 data IsHeardBy (own : List ℕ) (done k : ℕ) : Heard → Type 0 where
@@ -77,7 +77,7 @@ module _ (A : List Action) (z done k : ℕ) where
   )
 
   pub again_exact : heard (own_numbers A z) done k ≡ Again ↔ (has (take done (own_numbers A z)) k ≡ true)
-  again_exact = (said Again, λ e. heard_before (own_numbers A z) done k (has_taken (own_numbers A z) done k e) e)
+  again_exact = (said Again, λ e. heard_before (own_numbers A z) done k (has_take (own_numbers A z) done k e) e)
 
   pub ahead_exact : (n : ℕ) → heard (own_numbers A z) done k ≡ Ahead n ↔ ((is_own A z k ≡ true) × (slice_get (own_numbers A z) done ≡ Some n) × (n < k))
   ahead_exact n = (

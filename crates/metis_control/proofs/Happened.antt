@@ -4,7 +4,7 @@ use Rattle.std.specs.Prelude.{if◌then◌else◌}
 use Rattle.std.specs.List.{find}
 use Rattle.std.proofs.lemmas.Bool.{eqb-true, false≢true, or_cases, and_parts, and_from, cases_Bool, both_ways, le-leb, leb-true, false_from_ne_true}
 use Rattle.metis_ids.specs.declared.actions.Action.{Action}
-use Rattle.metis_ids.proofs.Lists.{has_range}
+use Rattle.metis_ids.proofs.Lists.{has_range, has_take}
 use Rattle.metis_universe.specs.Universe.{has}
 use Rattle.metis_universe.specs.Waits.{IsKeptFrom, numbers, waits}
 use Rattle.metis_universe.proofs.Ranges.{in_range}
@@ -21,7 +21,7 @@ use Rattle.metis_control.specs.declared.happening.Packet.{Packet}
 use Rattle.metis_control.specs.declared.happening.Packet.TheVariants as packet
 use Rattle.metis_control.specs.declared.happening.Told.{Told}
 use Rattle.metis_control.specs.declared.happening.Told.TheVariants.{Sent, Held, Acked, NoAction, Executed, Again, Noted, Known, NoPacket, Restarted, NoRestart, NoMemory}
-use Rattle.metis_control.proofs.Reached.{acked_changed, came_keeps, first_reached, has_taken, ordered_keeps}
+use Rattle.metis_control.proofs.Reached.{acked_changed, came_keeps, first_reached, ordered_keeps}
 
 -- ---- an order
 
@@ -92,7 +92,7 @@ module _ (A : List Action) (each : List (List ℕ)) (w : WorldState) (k : ℕ) (
 -- ---- a restart
 
 pub restart_reached : (A : List Action) (w : WorldState) (n : ℕ) (b : Bool) (acked : List ℕ) → IsReached A w → acked ≡ (if b then take n w.acked else w.acked) → IsReached A (with_acked w acked)
-restart_reached A w n true acked r is = acked_changed A w acked r (λ k h. r.acked k (has_taken w.acked n k (ap (λ xs. has xs k) (sym is) ∙ h)))
+restart_reached A w n true acked r is = acked_changed A w acked r (λ k h. r.acked k (has_take w.acked n k (ap (λ xs. has xs k) (sym is) ∙ h)))
 restart_reached A w n false acked r is = acked_changed A w acked r (λ k h. r.acked k (ap (λ xs. has xs k) (sym is) ∙ h))
 
 -- ---- a delivery

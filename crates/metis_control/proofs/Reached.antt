@@ -5,7 +5,7 @@ use Rattle.std.specs.List.{list_all}
 use Rattle.std.specs.Option.{option_map_or}
 use Rattle.std.proofs.lemmas.Bool.{false≢true, both_ways, not-false, not-true, or_left, or_right, or_cases, or_parts, or_from, eq-eqb, eqb-true, cases_Bool}
 use Rattle.metis_ids.specs.declared.actions.Action.{Action}
-use Rattle.metis_ids.proofs.Lists.{has_range}
+use Rattle.metis_ids.proofs.Lists.{has_range, has_take}
 use Rattle.metis_universe.specs.Universe.{has}
 use Rattle.metis_universe.specs.Waits.{numbers, waits, IsKeptFrom}
 use Rattle.metis_universe.proofs.Correctness.{all_has, all_from_has}
@@ -50,12 +50,6 @@ still xs k m h = has_pushed xs k m ∙ or_left _ _ h
 
 last_there : (xs : List ℕ) (k : ℕ) → has (xs ++ k ∷ []) k ≡ true
 last_there xs k = has_pushed xs k k ∙ or_right (has xs k) _ (eq-eqb k k refl)
-
-pub has_taken : (xs : List ℕ) (n m : ℕ) → has (take n xs) m ≡ true → has xs m ≡ true
-has_taken [] zero m h = absurd (false≢true h)
-has_taken [] (suc n) m h = absurd (false≢true h)
-has_taken (x ∷ xs) zero m h = absurd (false≢true h)
-has_taken (x ∷ xs) (suc n) m h = elim (or_cases (nat_eq x m) (has (take n xs) m) h) [ inl at ↦ or_left _ _ at | inr there ↦ or_right (nat_eq x m) _ (has_taken xs n m there) ]
 
 -- one more at the end of an order that keeps the waits
 kept_pushed : (A : List Action) (done ks : List ℕ) (k : ℕ) → IsKeptFrom A done ks → has (numbers A) k ≡ true → has done k ≡ false → has ks k ≡ false →
@@ -166,7 +160,7 @@ pub restarted_keeps : (A : List Action) (w : WorldState) (n : ℕ) → IsReached
 restarted_keeps A w n r = by_few (nat_lt (length w.acked) n) where
   by_few : (b : Bool) → IsReached A (by b (NoRestart n, w) (Restarted n, with_acked w (take n w.acked))).1
   by_few true = r
-  by_few false = acked_changed A w (take n w.acked) r (λ k h. r.acked k (has_taken w.acked n k h))
+  by_few false = acked_changed A w (take n w.acked) r (λ k h. r.acked k (has_take w.acked n k h))
 
 pub hear_keeps : (A : List Action) (w : WorldState) (e : Happening) → IsReached A w → IsReached A (hear A w e).1
 hear_keeps A w (event.Order k) r = ordered_keeps A w k r

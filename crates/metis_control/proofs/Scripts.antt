@@ -1,5 +1,5 @@
 -- A script, a line further.
-use Rattle.std.proofs.Common.{◌≡◌, ◌≢◌, ℕ, zero, suc, take, slice_get, ◌+◌, ◌≤◌, ◌<◌, Bool, true, false, cond, not, List, [], ◌∷◌, ◌++◌, length, drop, get_or, map, Option, Some, None, refl, sym, ap, ◌∙◌, append_assoc, length-append, arith}
+use Rattle.std.proofs.Common.{◌≡◌, ◌≢◌, ℕ, zero, suc, take, slice_get, ◌+◌, ◌≤◌, ◌<◌, Bool, true, false, cond, not, List, [], ◌∷◌, ◌++◌, length, drop, get_or, map, Option, Some, None, refl, sym, ap, ◌∙◌, length-append, arith}
 use Rattle.std.proofs.Math.Seq.{drop-cons}
 use Rattle.std.specs.Option.{option_map_or}
 use Rattle.std.proofs.lemmas.Option.{same_Some}
@@ -103,15 +103,12 @@ lines_are_events A w (line ∷ lines) = by_event (λ v. lines_are_events A v lin
 no_line : (a : List ℕ) → None ≡ Some a → ⊥
 no_line a h = cc
 
-line_answered : (A : List Action) (w : WorldState) (lines : List (List ℕ)) (i : ℕ) (line : List ℕ) → slice_get lines i ≡ Some line
-    → slice_get (answers A w lines) i ≡ Some (answer_to A (after_lines A w (take i lines)) line).0
-line_answered A w [] i line at = absurd (no_line line at)
-line_answered A w (l ∷ lines) zero line at = ap (λ l. Some (answer_to A w l).0) (same_Some l line at)
-line_answered A w (l ∷ lines) (suc i) line at = line_answered A (answer_to A w l).1 lines i line at
-
 pub line_is_answered : (A : List Action) (w : WorldState) (lines : List (List ℕ)) (i : ℕ) (line : List ℕ) → slice_get lines i ≡ Some line
     → slice_get (answers A w lines) i ≡ Some (answer_to A (after_events A w (events_of (take i lines))) line).0
-line_is_answered A w lines i line at = line_answered A w lines i line at ∙ ap (λ v. Some (answer_to A v line).0) (lines_are_events A w (take i lines))
+line_is_answered A w [] i line at = absurd (no_line line at)
+line_is_answered A w (l ∷ lines) zero line at = ap (λ l. Some (answer_to A w l).0) (same_Some l line at)
+line_is_answered A w (l ∷ lines) (suc i) line at =
+    line_is_answered A (answer_to A w l).1 lines i line at ∙ ap (λ v. Some (answer_to A v line).0) (sym (lines_are_events A (answer_to A w l).1 (take i lines)) ∙ lines_are_events A w (l ∷ take i lines))
 
 pub each_line_is_answered : (A : List Action) (w : WorldState) (lines : List (List ℕ)) → length (answers A w lines) ≡ length lines
 each_line_is_answered A w [] = refl

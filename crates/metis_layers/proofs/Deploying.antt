@@ -35,10 +35,6 @@ slice_get-before [] ys i h = absurd (omega arith)
 slice_get-before (x ∷ xs) ys zero h = refl
 slice_get-before (x ∷ xs) ys (suc i) h = slice_get-before xs ys i (omega arith)
 
-pub slice_get-last : (xs : List ℕ) (p : ℕ) → slice_get (xs ++ p ∷ []) (length xs) ≡ Some p
-slice_get-last [] p = refl
-slice_get-last (x ∷ xs) p = slice_get-last xs p
-
 -- the list with one more at its end: what is read at a place
 pub slice_get-push : (xs : List ℕ) (p i : ℕ) → slice_get (xs ++ p ∷ []) i ≡ cond (nat_eq i (length xs)) (Some p) (slice_get xs i)
 slice_get-push [] p zero = refl

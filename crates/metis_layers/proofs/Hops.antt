@@ -19,10 +19,11 @@ use Rattle.metis_universe.specs.Steadfast.{is_steadfast_after}
 use Rattle.metis_universe.specs.Universe.{Universe, demand_of, type_of, initial_of, next_of, provides, type_requires, type_provides, has}
 use Rattle.metis_universe.specs.Waits.{standing}
 use Rattle.metis_universe.proofs.Bindings.{unprovided}
-use Rattle.metis_layers.proofs.Deploying.{slice_get-before, slice_get-last, slice_get-push}
+use Rattle.metis_layers.proofs.Deploying.{slice_get-before, slice_get-push}
 use Rattle.metis_layers.proofs.Going.{at, at-next, GoesOn, no_news, type_provides-own}
 use Rattle.metis_layers.proofs.Slots.{IsFilled, AreServed, IsAt, Stand, wants, ends_want, bound_slots, adding, dropping, Fresh, Ready, with_all, without_all, has_slot, here, later}
 use Rattle.metis_layers.specs.SlotLines.{slot_binds, slot_unbinds}
+use Rattle.metis_ids.proofs.Lists.{get_at_end}
 
 -- ---- tests
 
@@ -189,7 +190,7 @@ module _ (u : Universe) (holder slot : ℕ → ℕ → ℕ) (back : (r y : ℕ) 
             ] refl
 
   own_pair : (p : ℕ) (t : ℕ → ℕ → Bool) (earlier : List Action) → IsAt u holder slot ends p t earlier → pair_of (at u earlier) (length ends) ≡ Some p
-  own_pair p t earlier s = s.pairs (length ends) ∙ slice_get-last ends p
+  own_pair p t earlier s = s.pairs (length ends) ∙ get_at_end ends p
 
   of_pair : (o : Option ℕ) (p : ℕ) (P : ℕ → Type 0) → o ≡ Some p → P p → IsSomeAnd o P
   of_pair o p P is h = subst (λ v. IsSomeAnd v P) (sym is) h

@@ -35,7 +35,7 @@ entry_printed word e w is = and_from _ _ w (and_from _ _ (printed_name e.0 is.0)
 no_entries : (es : Entries) → length es ≡ 0 → (length es == 0) ≡ true
 no_entries es none = grind (arith, nat_tests)
 
-some_entries : (es : Entries) → 1 ≤ length es → not (length es == 0) ≡ true
+pub some_entries : (es : Entries) → 1 ≤ length es → not (length es == 0) ≡ true
 some_entries es some = grind (arith, nat_tests)
 
 module _ (u : Universe) (n : ℕ) where

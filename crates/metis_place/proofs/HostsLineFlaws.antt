@@ -2,7 +2,7 @@
 --     with_value name value      the name, with the number that its digits are
 --     taken u hosts sizes kind r      what is seen with a line of this kind, and its name and number
 --     FormOr u hosts sizes r line      the line has a form that may stand there, or that it has none is told
-use Rattle.std.proofs.Common.{◌≡◌, ◌≢◌, ◌⊎◌, ℕ, ◌≤◌, ◌^◌, ◌&&◌, not, true, false, List, [], ◌∷◌, ◌++◌, length, Option, Some, None, Result, Ok, Err, refl, sym, ap, ◌∙◌, subst, inl, inr, arith}
+use Rattle.std.proofs.Common.{◌≡◌, ◌≢◌, ◌⊎◌, ℕ, ◌≤◌, ◌^◌, ◌&&◌, not, true, false, List, [], ◌∷◌, ◌++◌, length, Option, Some, None, Result, Ok, Err, refl, sym, ap, ◌∙◌, subst, inl, inr}
 use Rattle.std.specs.Prelude.{codes}
 use Rattle.std.specs.Bool.{◌==◌, if◌then◌else◌, nat_lt}
 use Rattle.std.specs.List.{Contains, list_all}
@@ -11,7 +11,6 @@ use Rattle.std.specs.Option.{is_some}
 use Rattle.std.specs.Str.{all_ascii_digits, bytes_eq}
 use Rattle.std.specs.Str.Parse.{digits_value}
 use Rattle.std.proofs.lemmas.Bool.{and_from, and_parts, le-ltb, lt-ltb, ltb-false, ltb-true}
-use Rattle.std.proofs.lemmas.Bool.Decides.{nat_tests}
 use Rattle.std.proofs.lemmas.Cmp.{nat_list_eq_equiv}
 use Rattle.std.proofs.lemmas.Map.Views.{Contains-keys_from_lookup, IsSome-lookup_from_Contains}
 use Rattle.std.proofs.lemmas.Slice.Eq.{bytes_eq-Decides}
@@ -31,9 +30,7 @@ use Rattle.metis_place.specs.HostsText.{SeenLines, entry_in, seen_lines, with_en
 use Rattle.metis_place.specs.declared.hosts_fault.HFault.{HFault}
 use Rattle.metis_place.specs.declared.hosts_fault.HFault.TheVariants.{Line, Short, Number, Name, Twice, NoMemory}
 use Rattle.metis_place.proofs.HostsRead.{none_is, some_is}
-
-some_entries : (es : Entries) → 1 ≤ length es → not (length es == 0) ≡ true
-some_entries es some = grind (arith, nat_tests)
+use Rattle.metis_place.proofs.HostsKnown.{some_entries}
 
 -- ---- names and numbers
 

@@ -3,7 +3,6 @@ use Rattle.std.proofs.Common.{◌≡◌, ℕ, ◌+◌, ◌-◌, ◌<◌, Bool, t
 use Rattle.std.specs.List.{All}
 use Rattle.std.specs.Prelude.{IsSome, is_some, take}
 use Rattle.std.proofs.lemmas.List.{get_or-take, length-take-le}
-use Rattle.std.proofs.lemmas.List.Elements.{All-get_or}
 use Rattle.std.proofs.lemmas.Option.{get_or_from_slice_get, slice_get_within}
 use Rattle.metis_universe.proofs.Attained.{Closed-layers}
 use Rattle.metis_universe.proofs.Rounds.{grows_to, layers_grow}
@@ -52,10 +51,6 @@ module _ (u : Universe) where
         let long : length (take first.place g) ≡ first.place = length-take-le first.place g (omega (arith, low)) in
         let layered = first.before i 0 (omega (arith, below, long)) in
         ap lacks (sym (get_or-take first.place g i 0 below)) ∙ ap not (sym (has_layer (get_or (take first.place g) i 0)) ∙ layered)
-
-pub lacking_low : (u : Universe) (g : List ℕ) (p : ℕ) → All (λ q. q < pair_count u) g → IsFirstWithout u g p → p < pair_count u
-lacking_low u g p within first =
-    subst (λ q. q < pair_count u) (get_or_from_slice_get g first.place p 0 first.there) (All-get_or (λ q. q < pair_count u) g first.place 0 (slice_get_within g first.place p first.there) within)
 
 -- targets that have a layer, one by one
 pub layered_each : (u : Universe) (g : List ℕ) → All (λ p. IsSome (layer_of u p)) g → (p : ℕ) → has g p ≡ true → IsSome (layer_of u p)

@@ -1,6 +1,6 @@
 -- What stands while a rollout is carried out in an order that keeps its waits.
 use Rattle.std.proofs.Common.{◌≡◌, ℕ, zero, suc, ◌+◌, ◌<◌, ◌≤◌, Bool, true, false, cond, not, ◌⊎◌, List, [], ◌∷◌, ◌++◌, Option, Some, None, refl, sym, ap, ◌∙◌, subst, arith, nat_eq, nat_lt, ◌||◌, length, inl, inr, length-append, append_assoc}
-use Rattle.std.specs.Prelude.{IsSome, slice_get}
+use Rattle.std.specs.Prelude.{slice_get}
 use Rattle.std.specs.List.{cons_option, filter, list_any}
 use Rattle.std.proofs.lemmas.Bool.{cases_lt, eq-eqb, eqb-true, false≢true, false_from_ne_true, le-leb, ltb-false, ltb-true, or_cases, or_left, or_right}
 use Rattle.std.proofs.lemmas.List.{length-map}
@@ -25,6 +25,7 @@ use Rattle.metis_rollout.proofs.Sides.{AllKeep, AreOpposite, Keeps, bound_on, on
 use Rattle.metis_rollout.proofs.Together.{fresh_goes, fresh_unused, split2, together, touches_made, touches_own}
 use Rattle.metis_rollout.proofs.Touching.{AllKeep-append, AllTouch, At, actor_at, bound_touched, off, other_side_kept, pair_touched, same_kept}
 use Rattle.metis_rollout.proofs.Whole.{removes}
+use Rattle.metis_ids.proofs.Options.{IsSome_at}
 
 -- ---- a side whose actions are all among the first
 
@@ -105,9 +106,6 @@ filter_all : (t : ℕ → Bool) (ks : List ℕ) → ((k : ℕ) → has ks k ≡ 
 filter_all t [] all = refl
 filter_all t (k ∷ ks) all = ap (λ b. cond b (k ∷ filter t ks) (filter t ks)) (all k (or_left (nat_eq k k) (has ks k) (eq-eqb k k refl))) ∙ ap (λ l. k ∷ l) (filter_all t ks (λ m there. all m (or_right (nat_eq k m) (has ks m) there)))
 
-some_of : (o : Option ℕ) (p : ℕ) → o ≡ Some p → IsSome o
-some_of o p is = subst IsSome (sym is) refl
-
 twice : (b : Bool) → b ≡ not (not b)
 twice true = refl
 twice false = refl
@@ -149,7 +147,7 @@ module _ (u : Universe) (k : IsUniverse u) (old fresh : List Action) (s : IsStea
       let picks : picked (rollout u old fresh) ks ≡ picked (old ++ new) ks = (λ i. picked (parts i) ks) ∙ ap (picked ((old ++ new) ++ rest)) (sym all) ∙ picked_low (old ++ new) rest ks ∙ ap (picked (old ++ new)) all in
       let in_front : IsKept (old ++ new) ks = subst (IsKept (old ++ new)) all (kept_low (old ++ new) rest [] ks kept_parts) in
       record {
-        pairs = λ z p is. ap (λ l. pair_of (at u l) z) picks ∙ pair_stands S T o old new kept others u s ks in_front each z (pair_touched (At S) u z old mine (some_of (pair_of (at u old) z) p is)) ∙ is;
+        pairs = λ z p is. ap (λ l. pair_of (at u l) z) picks ∙ pair_stands S T o old new kept others u s ks in_front each z (pair_touched (At S) u z old mine (IsSome_at (pair_of (at u old) z) p is)) ∙ is;
         bindings = λ r z y is. ap (λ l. is_bound (at u l) r z y) picks ∙ bound_stands S T o old new kept others u s ks in_front each r z y (bound_touched (At S) u r z y old mine is).0 ∙ is;
       }
 
@@ -169,7 +167,7 @@ module _ (u : Universe) (k : IsUniverse u) (old fresh : List Action) (s : IsStea
       let same : picked (rollout u old fresh) ks ≡ picked ((old ++ new) ++ rest) ks = λ i. picked (parts i) ks in
       record {
         pairs = λ z p is.
-            let here = pair_touched (At S) u z new mine (some_of (pair_of (at u new) z) p is) in
+            let here = pair_touched (At S) u z new mine (IsSome_at (pair_of (at u new) z) p is) in
             ap (λ l. pair_of (at u l) z) same ∙ pair_stands S T o (old ++ new) rest kept behind u side.0 ks kept_parts each_first z here ∙ side.1.new_pairs z (unused z here) ∙ is;
         bindings = λ r z y is.
             let here = (bound_touched (At S) u r z y new mine is).0 in

@@ -1,8 +1,6 @@
 -- What the goals of a command come to is the universe's.
 use Rattle.std.proofs.Common.{◌≡◌, ◌<◌, ℕ, Bool, true, false, cond, List, [], ◌∷◌, Some, subst}
-use Rattle.std.proofs.lemmas.List.Elements.{All-from_recursion, All-get_or, All-head, All-tail, recursion_from_All}
-use Rattle.std.proofs.lemmas.Option.{get_or_from_slice_get, slice_get_within}
-use Rattle.metis_choice.specs.Choices.{IsFirstWithout}
+use Rattle.std.proofs.lemmas.List.Elements.{All-from_recursion, All-head, All-tail, recursion_from_All}
 use Rattle.std.specs.List.{All, AllByRecursion, find}
 use Rattle.metis_ids.specs.declared.goals.Goal.{Goal}
 use Rattle.metis_ids.specs.declared.goals.Goal.TheVariants.{Pair, Port}
@@ -38,8 +36,3 @@ pairs_each u (p ∷ pairs) all = (all.0, pairs_each u pairs all.1)
 -- pairs of the universe are goals of it
 pub pairs_are_goals : (u : Universe) (pairs : List ℕ) → All (λ p. p < pair_count u) pairs → All (IsGoalOf u) (pair_goals pairs)
 pairs_are_goals u pairs all = All-from_recursion (IsGoalOf u) (pair_goals pairs) (pairs_each u pairs (recursion_from_All (λ p. p < pair_count u) pairs all))
-
--- the first pair that no actions attain is one of the universe
-pub lacking_low : (u : Universe) (g : List ℕ) (p : ℕ) → All (λ q. q < pair_count u) g → IsFirstWithout u g p → p < pair_count u
-lacking_low u g p within first =
-    subst (λ q. q < pair_count u) (get_or_from_slice_get g first.place p 0 first.there) (All-get_or (λ q. q < pair_count u) g first.place 0 (slice_get_within g first.place p first.there) within)

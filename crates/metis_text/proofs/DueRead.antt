@@ -1,16 +1,14 @@
 -- The fault of a text of which one line after another is due stands behind lines that begin one.
 --     IsLeft bytes lines l      these lines were read, and this is left
 --     Stopped bytes f      the bytes end too early, or the line that is due has a flaw
-use Rattle.std.proofs.Common.{◌≡◌, ◌≢◌, ◌⊎◌, ℕ, ◌+◌, not, true, List, [], ◌∷◌, ◌++◌, length, Result, Ok, Err, sym, ap, ◌∙◌, append_assoc, append-nil, arith, inl, inr}
+use Rattle.std.proofs.Common.{◌≡◌, ◌≢◌, ◌⊎◌, ℕ, ◌+◌, not, true, List, [], ◌∷◌, ◌++◌, length, Result, Ok, Err, sym, ap, ◌∙◌, append_assoc, append-nil, inl, inr}
 use Rattle.std.specs.Prelude.{codes}
 use Rattle.std.specs.Bool.{◌==◌}
-use Rattle.std.proofs.lemmas.Bool.{both_ways, eq-eqb}
-use Rattle.std.proofs.lemmas.Bool.Decides.{nat_tests}
 use Rattle.std.proofs.lemmas.List.{length_push}
 use Rattle.std.proofs.lemmas.List.Elements.{All-weaker}
 use Rattle.std.proofs.lemmas.List.Folds.{concat-append}
 use Rattle.std.proofs.lemmas.List.Sums.{AllPass-from_list_all}
-use Rattle.metis_outside.proofs.Feeds.{no_feed}
+use Rattle.metis_outside.proofs.Feeds.{no_feed, no_other}
 use Rattle.metis_outside.specs.Pieces.{bytes_of}
 use Rattle.metis_tokens.proofs.LinesTaken.{read_next_number}
 use Rattle.metis_tokens.proofs.Readers.{read_fails}
@@ -19,11 +17,8 @@ use Rattle.metis_tokens.specs.declared.fault.TFault.{TFault}
 use Rattle.metis_tokens.specs.declared.flaw.Flaw.{Flaw}
 use Rattle.metis_text.specs.DueLines.{HasEnded, IsOfDue, NoFeed}
 
-not_feed : (b : ℕ) → not (b == 10) ≡ true → b ≢ 10
-not_feed b h is = both_ways (b == 10) (grind (arith, nat_tests)) (eq-eqb b 10 is)
-
 none_fed : (bytes : List ℕ) → no_feed bytes ≡ true → NoFeed bytes
-none_fed bytes h = All-weaker (λ b. not (b == 10) ≡ true) (λ b. b ≢ 10) not_feed bytes (AllPass-from_list_all (λ b. not (b == 10)) bytes h)
+none_fed bytes h = All-weaker (λ b. not (b == 10) ≡ true) (λ b. b ≢ 10) no_other bytes (AllPass-from_list_all (λ b. not (b == 10)) bytes h)
 
 -- ---- lines, and what is left
 

@@ -32,7 +32,7 @@ end_is r q l h =
     (cc, one.2 ∙ (λ i. bytes i ++ (10 ∷ none i)))
 
 -- a line that was read, and the text behind it
-line_behind : (l : Cursor) (ts : List (List ℕ)) (bytes rest text : List ℕ) → l.rest ≡ bytes ++ (10 ∷ rest) → bytes ≡ words ts → rest ≡ text → l.rest ≡ line ts ++ text
+pub line_behind : (l : Cursor) (ts : List (List ℕ)) (bytes rest text : List ℕ) → l.rest ≡ bytes ++ (10 ∷ rest) → bytes ≡ words ts → rest ≡ text → l.rest ≡ line ts ++ text
 line_behind l ts bytes rest text is says behind = is ∙ (λ i. says i ++ (10 ∷ behind i)) ∙ sym (append_assoc (words ts) (10 ∷ []) text)
 
 module _ (u : Universe) where

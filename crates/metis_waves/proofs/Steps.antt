@@ -4,14 +4,14 @@ use Rattle.std.specs.List.{All, find, range_with_len}
 use Rattle.std.specs.Option.{option_map_or, option_or}
 use Rattle.std.proofs.lemmas.Bool.{eq-eqb, or_left, or_right, cases_lt, cases_eq}
 use Rattle.std.proofs.lemmas.List.{get_or-append_right, length-map, map-append, take_more}
-use Rattle.std.proofs.lemmas.List.Folds.{find-append, list_any_at}
+use Rattle.std.proofs.lemmas.List.Folds.{find-append}
 use Rattle.std.proofs.lemmas.List.FromFn.{length-range_with_len}
 use Rattle.std.proofs.Math.ListN.{get_or-append}
 use Rattle.metis_ids.specs.declared.actions.Action.{Action}
 use Rattle.metis_ids.specs.declared.actions.Action.TheVariants.{New, Delete, Bind, Unbind, Move}
 use Rattle.metis_ids.proofs.Counts.{greatest_push}
 use Rattle.metis_ids.proofs.Finding.{none_then_at}
-use Rattle.metis_ids.proofs.Lists.{range_push}
+use Rattle.metis_ids.proofs.Lists.{range_push, all_from}
 use Rattle.metis_universe.specs.Universe.{has}
 use Rattle.metis_universe.specs.Waits.{action_at, numbers, waits}
 use Rattle.metis_waits.specs.Waits.{AreWaits, WaitLists}
@@ -57,11 +57,8 @@ greatest_same f g (x ∷ xs) h =
 
 -- ---- the lists of waits
 
-pub all_from_each : (P : ℕ → Type 0) (xs : List ℕ) → ((m : ℕ) → has xs m ≡ true → P m) → All P xs
-all_from_each P xs h = λ k d less. h (get_or xs k d) (list_any_at (λ x. nat_eq x (get_or xs k d)) xs k d less (eq-eqb (get_or xs k d) (get_or xs k d) refl))
-
 pub listed_earlier : (A : List Action) (k : ℕ) (ms : List ℕ) → ms ≡ waits A k → All (λ m. (1 ≤ m) × (m < k)) ms
-listed_earlier A k ms is = all_from_each (λ m. (1 ≤ m) × (m < k)) ms (λ m there.
+listed_earlier A k ms is = all_from (λ m. (1 ≤ m) × (m < k)) ms (λ m there.
     let earlier = waits_earlier A k m (sym (ap (λ l. has l m) is) ∙ there) in
     (earlier.first, earlier.below))
 

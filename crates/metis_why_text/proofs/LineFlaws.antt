@@ -1,21 +1,18 @@
 -- What is wrong with a line of the text of an explanation that cannot be read.
 --     Begun behind, Opened ts      the tokens begin with a reason;  with two names and a reason
-use Rattle.std.proofs.Common.{◌≡◌, ◌≢◌, ◌⊎◌, ℕ, ◌≤◌, ◌^◌, ◌&&◌, ◌||◌, Bool, true, false, List, [], ◌∷◌, ◌++◌, Option, Some, None, Result, Ok, Err, refl, sym, ap, ◌∙◌, subst, arith, inl, inr}
+use Rattle.std.proofs.Common.{◌≡◌, ◌≢◌, ◌⊎◌, ℕ, ◌≤◌, ◌^◌, ◌&&◌, ◌||◌, Bool, true, false, List, [], ◌∷◌, ◌++◌, Option, Some, None, Result, Ok, Err, refl, sym, ap, ◌∙◌, subst, inl, inr}
 use Rattle.std.specs.Prelude.{codes}
 use Rattle.std.specs.Bool.{if◌then◌else◌, nat_lt}
-use Rattle.std.specs.List.{All, after_first, before_first, list_all}
+use Rattle.std.specs.List.{after_first, before_first, list_all}
 use Rattle.std.specs.Str.{all_ascii_digits, bytes_eq}
 use Rattle.std.specs.Str.Parse.{digits_value}
 use Rattle.std.proofs.lemmas.Bool.{and_from, and_parts, eqb-true, ltb-false}
-use Rattle.std.proofs.lemmas.List.Elements.{All-weaker}
 use Rattle.std.proofs.lemmas.List.Splits.{slice_split_at}
-use Rattle.std.proofs.lemmas.List.Sums.{AllPass-from_list_all}
-use Rattle.std.proofs.lemmas.Bool.Decides.{nat_tests}
 use Rattle.std.proofs.lemmas.Slice.Eq.{bytes_eq-Decides}
 use Rattle.metis_text.proofs.LineFlaws.{number_formed, two_found, two_printed}
 use Rattle.metis_text.specs.PlanFlaws.{IsPairThere}
 use Rattle.metis_text.specs.RefusalFlaws.{AreTwoNames}
-use Rattle.metis_tokens.proofs.Cuts.{tokens_of_words, words_of_tokens}
+use Rattle.metis_tokens.proofs.Cuts.{tokens_of_words, words_of_tokens, no_space}
 use Rattle.metis_tokens.proofs.GoalTokens.{goal_is, goal_read}
 use Rattle.metis_tokens.proofs.Printed.{printed, printed_digits, printed_name}
 use Rattle.metis_tokens.specs.Flaws.{both, found, made}
@@ -39,12 +36,6 @@ use Rattle.metis_why_text.specs.WhyFlaws.{BeginsWith, IsCountFlaw, IsFormedReaso
 use Rattle.metis_why_text.specs.WhyReading.{count_in, count_of_tokens, fitting, is_lacks_of, is_text_of, lacks_in, lacks_of_tokens, line_in, line_of_tokens, line_with, needs_of_tokens, reason_of_tokens}
 
 -- ---- lines that begin with known words
-
-not_space : (b : ℕ) → nat_lt 32 b ≡ true → is_space b ≡ false
-not_space b h = grind (arith, nat_tests)
-
-no_space : (t : List ℕ) → printed t ≡ true → All (λ b. is_space b ≡ false) t
-no_space t h = All-weaker (λ b. nat_lt 32 b ≡ true) (λ b. is_space b ≡ false) not_space t (AllPass-from_list_all (nat_lt 32) t h)
 
 -- the tokens of a line begin with the printed words with which the line does
 tokens_begin : (t : List ℕ) (ts : List (List ℕ)) (line : List ℕ) → list_all printed (t ∷ ts) ≡ true → BeginsWith (t ∷ ts) line → (rest : List (List ℕ)) × (tokens line ≡ t ∷ ts ++ rest)

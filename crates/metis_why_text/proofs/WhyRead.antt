@@ -1,5 +1,5 @@
 -- A whole text is read as an explanation just where it is the text of this explanation.
-use Rattle.std.proofs.Common.{◌≡◌, ℕ, ◌+◌, ◌<◌, ◌^◌, List, [], ◌∷◌, ◌++◌, length, Result, Ok, Err, refl, sym, ap, ◌∙◌, subst, append_assoc}
+use Rattle.std.proofs.Common.{◌≡◌, ℕ, ◌+◌, ◌<◌, ◌^◌, List, [], ◌∷◌, ◌++◌, length, Result, Ok, Err, refl, sym, ap, ◌∙◌, subst}
 use Rattle.std.specs.Prelude.{IfOk, codes}
 use Rattle.std.specs.List.{All, AllByRecursion, flat_map}
 use Rattle.std.proofs.lemmas.List.Elements.{All-from_recursion, recursion_from_All}
@@ -8,7 +8,7 @@ use Rattle.metis_tokens.proofs.LinesTaken.{read_next_is, read_next_read}
 use Rattle.metis_tokens.proofs.Outcomes.{and_then_is}
 use Rattle.metis_tokens.proofs.KnownLines.{ended_is, exactly_is}
 use Rattle.metis_tokens.specs.Flaws.{and_then}
-use Rattle.metis_tokens.specs.Line.{line, words, end_line}
+use Rattle.metis_tokens.specs.Line.{line, end_line}
 use Rattle.metis_tokens.specs.Cursor.{Cursor, ended, exactly, lines_of, read_next}
 use Rattle.metis_tokens.specs.declared.fault.TFault.{TFault}
 use Rattle.metis_universe.specs.GoalWords.{IsWordable}
@@ -23,6 +23,7 @@ use Rattle.metis_why_text.proofs.Printed.{lacks_printed}
 use Rattle.metis_why_text.proofs.WhyBytes.{body_bytes, counted_bytes, rest_bytes, why_bytes_by_parts}
 use Rattle.metis_why_text.specs.WhyReading.{ReadsWhy, WhyParts, count_in, lacks_in, lines_from, parts_of, why_counted_from, why_end_from, why_in, why_parts}
 use Rattle.metis_why_text.specs.WhyText.{IsWhyText, lacks_tokens, line_text, why_bytes}
+use Rattle.metis_text.proofs.RefusalRead.{line_behind}
 
 -- ---- what was read was written
 
@@ -34,10 +35,6 @@ end_is w q l h =
     let bytes = exactly_is (codes "end") one.0 last.0.0 one.1 in
     let none = ended_is last.0.1 nothing.0 nothing.1 in
     (cc, one.2 ∙ (λ i. bytes i ++ (10 ∷ none i)))
-
--- a line that was read, and the text behind it
-line_behind : (l : Cursor) (ts : List (List ℕ)) (bytes rest text : List ℕ) → l.rest ≡ bytes ++ (10 ∷ rest) → bytes ≡ words ts → rest ≡ text → l.rest ≡ line ts ++ text
-line_behind l ts bytes rest text is says behind = is ∙ (λ i. says i ++ (10 ∷ behind i)) ∙ sym (append_assoc (words ts) (10 ∷ []) text)
 
 module _ (u : Universe) where
   -- what was read behind the goal

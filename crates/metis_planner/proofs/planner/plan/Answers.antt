@@ -7,8 +7,9 @@ use Rattle.metis_universe.specs.Closed.{Refusal}
 use Rattle.metis_universe.specs.Goal.{IsAttainedSet}
 use Rattle.metis_layers.proofs.Order.{attained_set}
 use Rattle.metis_layers.specs.LayerOrder.{attained_pairs}
-use Rattle.metis_planner.proofs.Planning.{lacking_low, refuses}
+use Rattle.metis_planner.proofs.Planning.{refuses}
 use Rattle.metis_planner.proofs.planner.plan.Goals as goal
+use Rattle.metis_choice.proofs.Lacking.{lacking_low}
 
 pub returns-in-Lacks-clause-attains : goal.returns-in-Lacks-clause-attains
 returns-in-Lacks-clause-attains c =
