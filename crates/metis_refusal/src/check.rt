@@ -3,7 +3,7 @@ ghost use Rattle.std.specs.Prelude.{◌≡◌, ◌<◌, ◌↔◌, ◌&&◌, not
 ghost use Rattle.std.specs.List.{All};
 ghost use Rattle.metis_ids.specs.declared.goals.Goal.{Goal};
 ghost use Rattle.metis_universe.specs.Goals.{AttainsGoals, GoalRefusal, IsGoalOf, lacks};
-ghost use Rattle.metis_universe.specs.Universe.{has, is_free, pair_count};
+ghost use Rattle.metis_universe.specs.Universe.{has, pair_count};
 ghost use Rattle.metis_refusal.specs.Claims.{NamesOf, Tells, is_unfree, first_unfree, first_way_out, lacked, verdict, way_out};
 ghost use Rattle.metis_refusal.specs.Supplies.{AreProvided, AreSupplied, flag};
 
@@ -69,15 +69,7 @@ fn is_unfree(u: &Universe, set: &PairSet, pair: PairIx) -> bool
     requires { pair < pair_count u.now }
     ensures { result ≡ is_unfree u.now set.now.members pair }
 {
-    is_free(u, pair) && !set.has(pair)
-}
-
-// Whether the pair is its type's initial pair and requires nothing.
-fn is_free(u: &Universe, pair: PairIx) -> bool
-    requires { pair < pair_count u.now }
-    ensures { result ≡ is_free u.now pair }
-{
-    u.is_initial(pair) && u.requires_(pair).is_empty()
+    u.is_free(pair) && !set.has(pair)
 }
 
 // The least pair of the set from which a move leads out of it, and the least to which one leads.

@@ -22,7 +22,7 @@ initial_below u k p h =
     let at : initial_of u t ≡ p = is ∙ eqb-true found.1.initial p found.4 in
     subst (λ x. x < pair_count u) at (k.initials t found.2).0
 
-pair_in : (u : Universe) (p : ℕ) → p < pair_count u → has (all_pairs u) p ≡ true
+pub pair_in : (u : Universe) (p : ℕ) → p < pair_count u → has (all_pairs u) p ≡ true
 pair_in u p h = has_range 0 (pair_count u) p (omega arith) (omega arith)
 
 -- the pairs that have come in as many rounds as there are pairs are closed

@@ -1,11 +1,11 @@
 -- A universe of version 1 demands one provider of each port, and a configuration is correct there where each port has one.
 use Rattle.std.proofs.Common.{◌≡◌, ℕ, zero, suc, ◌+◌, ◌≤◌, true, cond, nat_eq, List, [], ◌∷◌, refl, sym, ap, ◌∙◌, subst, arith, inl, inr}
 use Rattle.std.specs.List.{AllByRecursion, position_or_len, slice_index_or}
-use Rattle.std.proofs.lemmas.Bool.{cases_lt, false≢true}
+use Rattle.std.proofs.lemmas.Bool.{cases_lt, false≢true, and_parts}
 use Rattle.std.proofs.lemmas.List.{get_or_past}
 use Rattle.std.proofs.lemmas.List.Elements.{recursion_from_All}
 use Rattle.std.specs.Prelude.{◌↔◌}
-use Rattle.metis_universe.specs.Universe.{IsUniverse, Pair, Universe, further_of, greatest_demand, has, no_pair, pair_count, required_of, requires}
+use Rattle.metis_universe.specs.Universe.{IsUniverse, Pair, Universe, further_of, greatest_demand, has, no_pair, pair_count, required_of, requires, is_empty, is_free, is_initial}
 use Rattle.metis_universe.specs.Config.{Config, Correct, IsMet}
 use Rattle.metis_universe.specs.Single.{HasProviders, IsSingle}
 use Rattle.metis_universe.proofs.Demands.{IsMet-one, demand_one, one_provider}
@@ -26,6 +26,13 @@ no_more_zeros (x ∷ xs) (suc k) all = no_more_zeros xs k all.1
 -- past the end nothing is required
 none_past : (u : Universe) (p r : ℕ) → pair_count u ≤ p → requires u p r ≡ true → ⊥
 none_past u p r past h = false≢true (sym (ap (λ (x : Pair). has x.required r) (get_or_past u.pairs p no_pair past)) ∙ h)
+
+-- a free pair requires nothing
+pub free_needs : (u : Universe) (p r : ℕ) → is_free u p ≡ true → requires u p r ≡ true → ⊥
+free_needs u p r free needs = none (required_of u p) (and_parts (is_initial u p) (is_empty (required_of u p)) free).1 needs where
+  none : (xs : List ℕ) → is_empty xs ≡ true → has xs r ≡ true → ⊥
+  none [] bare there = false≢true there
+  none (x ∷ xs) bare there = false≢true bare
 
 pub IsSingle-version : (u : Universe) → IsUniverse u → u.version ≡ 1 → IsSingle u
 IsSingle-version u k version p r needs =

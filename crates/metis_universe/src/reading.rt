@@ -65,7 +65,7 @@ impl Reading for Universe {
 
     fn free<L: Ledger>(&self, p: PairIx, steps: &mut Steps<L>) -> bool {
         steps.tick();
-        self.is_initial(p) && self.requires_(p).is_empty()
+        self.is_free(p)
     }
 
     fn needs<L: Ledger>(&self, p: PairIx, steps: &mut Steps<L>) -> u32 {

@@ -4,7 +4,7 @@ ghost use Rattle.std.specs.List.{All, filter, list_any, position_or_len, slice_i
 ghost use Rattle.metis_universe.specs.Kinds.{kinds_of};
 ghost use Rattle.std.specs.List.Sorted.{IsStrictlyIncreasing, IsNonDecreasingBy};
 ghost use Rattle.std.specs.Str.{bytes_eq};
-ghost use Rattle.metis_universe.specs.Universe.{has, kind_in, no_kind, pair_count, type_count, port_count, type_of, state_place_of, initial_of, is_initial, next_of, provided_of, required_of, demand_of, greatest_demand, provides, type_requires, type_provides, providers_of, requirers_of, type_named, port_named, state_named, pair_named, type_name_of, state_name_of, port_name_of, states_of_type, IsTable};
+ghost use Rattle.metis_universe.specs.Universe.{has, kind_in, no_kind, pair_count, type_count, port_count, type_of, state_place_of, initial_of, is_free, is_initial, next_of, provided_of, required_of, demand_of, greatest_demand, provides, type_requires, type_provides, providers_of, requirers_of, type_named, port_named, state_named, pair_named, type_name_of, state_name_of, port_name_of, states_of_type, IsTable};
 ghost use Rattle.metis_universe.specs.Numbers.{IsOf};
 ghost use Rattle.metis_universe.specs.Rows.{IsOfVersion, RowsFit, IsMade};
 
@@ -187,6 +187,14 @@ impl Universe {
     {
         let _tables = &self.kinds;
         self.initial(self.type_of(p)) == p
+    }
+
+    /// Whether the pair is its type's initial pair and requires nothing.
+    pub fn is_free(&self, p: PairIx) -> bool
+        requires { p < pair_count self.now }
+        ensures { result ≡ is_free self.now p }
+    {
+        self.is_initial(p) && self.requires_(p).is_empty()
     }
 
     /// The pairs that the pair may go to, ascending.

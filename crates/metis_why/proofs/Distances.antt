@@ -2,11 +2,9 @@
 use Rattle.std.proofs.Common.{◌≡◌, ℕ, ◌+◌, ◌<◌, ◌≤◌, Bool, true, false, ◌||◌, List, [], ◌∷◌, ◌++◌, length, min, take, drop, get_or, refl, sym, ap, ◌∙◌, subst, arith, nat_eq}
 use Rattle.std.specs.List.{All}
 use Rattle.std.proofs.lemmas.List.{take-append-drop, take_min, take_more}
-use Rattle.metis_ids.proofs.Lists.{all_at, has-push}
+use Rattle.metis_ids.proofs.Lists.{all_at, has-push, has_take, all_from}
 use Rattle.metis_ids.specs.declared.goals.Goal.{Goal}
 use Rattle.metis_universe.specs.Universe.{Universe, has, pair_count}
-use Rattle.metis_why.proofs.Going.{all_from}
-use Rattle.metis_why.proofs.Nearest.{has_take}
 use Rattle.metis_why.specs.Flags.{IsWithin}
 use Rattle.metis_why.specs.Leaving.{IsEnough}
 

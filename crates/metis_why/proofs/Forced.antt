@@ -6,13 +6,13 @@ use Rattle.std.specs.List.{All}
 use Rattle.metis_ids.specs.declared.goals.Goal.{Goal}
 use Rattle.metis_universe.proofs.Correctness.{all_has}
 use Rattle.metis_universe.specs.Universe.{Universe, has}
-use Rattle.metis_why.proofs.Going.{all_from}
 use Rattle.metis_why.proofs.Left.{missed_less}
 use Rattle.metis_why.proofs.Reasons.{all_inside}
 use Rattle.metis_why.specs.Barred.{IsReason, named_by, wanted_by}
 use Rattle.metis_why.specs.Flags.{IsInside, IsMissed}
 use Rattle.metis_why.specs.Leaving.{AreForced, AreMarked}
 use Rattle.metis_why.specs.declared.reason.Reason.{Reason}
+use Rattle.metis_ids.proofs.Lists.{all_from}
 
 reason_inside : (u : Universe) (x y : ℕ → Bool) (q : ℕ) (reason : Reason) → IsInside y x → IsReason u y q reason → IsReason u x q reason
 reason_inside u x y q reason inside why = record { own = why.own; waits = all_inside x y (named_by u q reason) inside why.waits }

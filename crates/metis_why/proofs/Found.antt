@@ -16,7 +16,6 @@ use Rattle.metis_why.proofs.Lacking.{lacking_barred}
 use Rattle.metis_why.proofs.Listed.{count_less}
 use Rattle.metis_why.proofs.Ordered.{order_there, short}
 use Rattle.metis_why.proofs.Reasons.{all_inside}
-use Rattle.metis_why.proofs.Soundness.{pair_in}
 use Rattle.metis_why.proofs.Told.{own_back}
 use Rattle.metis_why.proofs.Tried.{inside_without, tried_nearest}
 use Rattle.metis_why.specs.Answer.{IsLacking}
@@ -30,6 +29,7 @@ use Rattle.metis_why.specs.Trying.{AreTried, without}
 use Rattle.metis_why.specs.declared.reason.Line.{Line}
 use Rattle.metis_why.specs.declared.reason.Reason.{Reason}
 use Rattle.metis_why.specs.declared.reason.Reason.TheVariants.{Needs, Comes}
+use Rattle.metis_universe.proofs.Attained.{pair_in}
 
 -- ---- lists that are read come to an end
 

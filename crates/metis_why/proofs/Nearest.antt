@@ -1,9 +1,9 @@
 -- The barred set that covers the goal and does without the farthest pairs.
-use Rattle.std.proofs.Common.{◌≡◌, ℕ, zero, suc, ◌+◌, ◌<◌, ◌≤◌, Bool, true, false, cond, List, [], ◌∷◌, ◌++◌, length, take, drop, get_or, refl, sym, ap, ◌∙◌, subst, arith, inl, inr, nat_eq}
+use Rattle.std.proofs.Common.{◌≡◌, ℕ, zero, suc, ◌+◌, ◌<◌, ◌≤◌, Bool, true, false, cond, List, [], ◌∷◌, ◌++◌, length, take, get_or, refl, sym, ap, ◌∙◌, subst, arith, inl, inr, nat_eq}
 use Rattle.std.specs.List.{list_all}
 use Rattle.std.proofs.lemmas.Bool.{both_ways, cases_eq, eq-eqb, eqb-true, false≢true, ne_eqb, or_cases, or_left, or_parts}
-use Rattle.std.proofs.lemmas.List.{get_or_default, take-append-drop, take_all}
-use Rattle.metis_ids.proofs.Lists.{has-append, has_at}
+use Rattle.std.proofs.lemmas.List.{get_or_default, take_all}
+use Rattle.metis_ids.proofs.Lists.{has-append, has_at, has_take}
 use Rattle.metis_ids.specs.declared.goals.Goal.{Goal}
 use Rattle.metis_universe.specs.Universe.{Universe, has}
 use Rattle.metis_why.proofs.Reasons.{all_inside}
@@ -163,9 +163,6 @@ module _ (u : Universe) (g : Goal) (order : List ℕ) where
     same p = let both = same_from x z a b (length order) p (omega arith) in agree (x p) (z p) both.0 both.1
 
 -- ---- fronts in which a barred set covers the goal
-
-pub has_take : (order : List ℕ) (n p : ℕ) → has (take n order) p ≡ true → has order p ≡ true
-has_take order n p there = ap (λ l. has l p) (sym (take-append-drop n order)) ∙ has-append (take n order) (drop n order) p ∙ or_left (has (take n order) p) (has (drop n order) p) there
 
 module _ (u : Universe) (g : Goal) (order : List ℕ) (enough : IsEnough u g (has order)) where
   front_by : (n : ℕ) (x : ℕ → Bool) → IsGreatest u (has (take n order)) x → list_all x (wanted_by u g) ≡ true → IsFront u g (take n order) x

@@ -6,10 +6,9 @@ use Rattle.std.proofs.lemmas.Bool.{cases_lt, eq-eqb, false_from_ne_true, le-ltb,
 use Rattle.std.proofs.lemmas.List.{get_or_default}
 use Rattle.std.proofs.lemmas.List.Elements.{All-more, All-nil, All-weaker}
 use Rattle.std.proofs.lemmas.List.Sums.{get_or-le-sum_by}
-use Rattle.metis_ids.proofs.Lists.{all_at, has_at, place_of}
+use Rattle.metis_ids.proofs.Lists.{all_at, has_at, place_of, all_from}
 use Rattle.metis_universe.proofs.Served.{none_counted}
 use Rattle.metis_universe.specs.Universe.{has}
-use Rattle.metis_why.proofs.Going.{all_from}
 use Rattle.metis_why.proofs.Lowered.{known_low, none_known}
 use Rattle.metis_why.specs.Choice.{IsBefore}
 use Rattle.metis_why.specs.Costs.{IsFirst, far_in, never}

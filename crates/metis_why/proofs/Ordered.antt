@@ -6,14 +6,13 @@ use Rattle.std.proofs.lemmas.Bool.{cases_eq, cases_lt, false≢true, ltb-false, 
 use Rattle.std.proofs.lemmas.List.{length_push}
 use Rattle.std.proofs.lemmas.List.FromFn.{length-range_with_len}
 use Rattle.std.proofs.lemmas.List.Sums.{count_by-le-length, length-filter}
-use Rattle.metis_ids.proofs.Lists.{has_range}
+use Rattle.metis_ids.proofs.Lists.{has_range, all_from}
 use Rattle.metis_ids.specs.declared.goals.Goal.{Goal}
 use Rattle.metis_universe.proofs.Demands.{no_more}
 use Rattle.metis_universe.specs.Config.{AreDifferent}
 use Rattle.metis_universe.specs.Universe.{Universe, all_pairs, has, next_of, pair_count, provides}
 use Rattle.metis_why.proofs.Costs.{on_cases, on_most, on_there, reaching_done, reaching_more, reaching_start}
 use Rattle.metis_why.proofs.Farther.{ascends_apart, cost_inside}
-use Rattle.metis_why.proofs.Going.{all_from}
 use Rattle.metis_why.proofs.Soundness.{passes_of}
 use Rattle.metis_why.specs.Barred.{named_by, wanted_by}
 use Rattle.metis_why.specs.Choice.{IsByDistance, IsCost}

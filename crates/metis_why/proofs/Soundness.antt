@@ -1,10 +1,10 @@
 -- The pairs outside a barred set are closed.
-use Rattle.std.proofs.Common.{◌≡◌, ℕ, ◌<◌, ◌≤◌, Bool, true, false, not, List, [], ◌∷◌, sym, ap, ◌∙◌, subst, arith, nat_eq}
+use Rattle.std.proofs.Common.{◌≡◌, ℕ, ◌<◌, ◌≤◌, Bool, true, false, not, List, sym, ap, ◌∙◌, subst, arith, nat_eq}
 use Rattle.std.specs.List.{filter}
-use Rattle.std.proofs.lemmas.Bool.{and_from, and_parts, both_ways, eqb-true, false_from_ne_true, false≢true, not-true, true≢false}
+use Rattle.std.proofs.lemmas.Bool.{and_from, and_parts, both_ways, eqb-true, false_from_ne_true, not-true, true≢false}
 use Rattle.std.proofs.lemmas.List.{get_or_default}
 use Rattle.std.proofs.lemmas.List.Folds.{Any-from_list_any}
-use Rattle.metis_ids.proofs.Lists.{all_at, has_range, some_member}
+use Rattle.metis_ids.proofs.Lists.{all_at, some_member}
 use Rattle.metis_universe.specs.Layers.{is_provided}
 use Rattle.metis_ids.specs.declared.actions.Action.{Action}
 use Rattle.metis_ids.specs.declared.goals.Goal.{Goal}
@@ -17,13 +17,12 @@ use Rattle.metis_universe.specs.Closed.{Closed}
 use Rattle.metis_universe.specs.Config.{empty}
 use Rattle.metis_universe.specs.Goals.{AttainsGoals, lacks, places_of, serving}
 use Rattle.metis_universe.specs.Step.{IsRun, after_all}
-use Rattle.metis_universe.specs.Universe.{Universe, IsUniverse, all_pairs, has, is_empty, is_free, initial_of, is_initial, next_of, no_kind, pair_count, provides, providers_of, required_of, requires, type_of}
+use Rattle.metis_universe.specs.Universe.{Universe, IsUniverse, all_pairs, has, is_free, initial_of, is_initial, next_of, no_kind, pair_count, provides, providers_of, requires, type_of}
 use Rattle.metis_why.specs.Barred.{Covers, IsBarred, IsOwn, IsReason, before_of, outside}
 use Rattle.metis_why.specs.declared.reason.Reason.{Reason}
 use Rattle.metis_why.specs.declared.reason.Reason.TheVariants.{Needs, Comes}
-
-pub pair_in : (u : Universe) (p : ℕ) → p < pair_count u → has (all_pairs u) p ≡ true
-pair_in u p h = has_range 0 (pair_count u) p (omega arith) (omega arith)
+use Rattle.metis_universe.proofs.Attained.{pair_in}
+use Rattle.metis_universe.proofs.Once.{free_needs}
 
 pub pair_low : (u : Universe) (p : ℕ) → has (all_pairs u) p ≡ true → p < pair_count u
 pair_low u p h = omega (arith, (in_range 0 (pair_count u) p h).1)
@@ -35,16 +34,10 @@ kept_by u t p low passes = has-filter t p (all_pairs u) ∙ and_from (t p) (has 
 pub passes_of : (u : Universe) (t : ℕ → Bool) (p : ℕ) → has (filter t (all_pairs u)) p ≡ true → (t p ≡ true) × (p < pair_count u)
 passes_of u t p there = let parts = and_parts (t p) (has (all_pairs u) p) (sym (has-filter t p (all_pairs u)) ∙ there) in (parts.0, pair_low u p parts.1)
 
-free_needs_none : (u : Universe) (p r : ℕ) → is_free u p ≡ true → requires u p r ≡ true → ⊥
-free_needs_none u p r free needs = none (required_of u p) (and_parts (is_initial u p) (is_empty (required_of u p)) free).1 needs where
-  none : (xs : List ℕ) → is_empty xs ≡ true → has xs r ≡ true → ⊥
-  none [] bare there = false≢true there
-  none (x ∷ xs) bare there = false≢true bare
-
 pub free_not_held : (u : Universe) (x : ℕ → Bool) → IsBarred u x → (p : ℕ) → is_free u p ≡ true → x p ≡ true → ⊥
 free_not_held u x barred p free held = let why = barred p held in by why.0 why.1.own where
   by : (reason : Reason) → IsOwn u p reason → ⊥
-  by (Needs r) own = free_needs_none u p r free own
+  by (Needs r) own = free_needs u p r free own
   by Comes own = true≢false (sym free ∙ own)
 
 pub moved_not_held : (u : Universe) (x : ℕ → Bool) → IsBarred u x → (p q : ℕ) → p < pair_count u → x p ≡ false → has (next_of u p) q ≡ true →

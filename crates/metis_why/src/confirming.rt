@@ -10,7 +10,7 @@ ghost use Rattle.metis_refusal.specs.Supplies.{flag};
 
 use crate::because::flags_of;
 use crate::named::leads;
-use crate::outside::{PAIR_LIMIT, is_free, is_set};
+use crate::outside::{PAIR_LIMIT, is_set};
 use crate::reason::{Line, Reason};
 use crate::settling::{covers, first_covered};
 use metis_ids::{Goal, PairIx, PortIx};
@@ -75,7 +75,7 @@ fn line_holds(u: &Universe, held: &[bool; PAIR_LIMIT], lines: &[Line], line: &Li
     match line.reason {
         Reason::Needs(port) => u.requires_(line.pair).contains(&port)
             && provided_inside(u, held, port),
-        Reason::Comes => !is_free(u, line.pair) && led_inside(u, held, line.pair),
+        Reason::Comes => !u.is_free(line.pair) && led_inside(u, held, line.pair),
     }
 }
 

@@ -7,7 +7,7 @@ ghost use Rattle.metis_why.specs.Flags.{IsInside};
 ghost use Rattle.metis_refusal.specs.Supplies.{flag};
 ghost use Rattle.metis_why.specs.Settling.{AreReached, Falls, IsFrom, IsShrunk};
 
-use crate::outside::{PAIR_LIMIT, PORT_LIMIT, given_outside, is_free, is_set, led_outside};
+use crate::outside::{PAIR_LIMIT, PORT_LIMIT, given_outside, is_set, led_outside};
 use metis_ids::{NoMemory, PairIx, PortIx};
 use metis_universe::Universe;
 use std::alloc::Global;
@@ -173,7 +173,7 @@ fn waits_for_none(u: &Universe, falling: &mut Falling, pair: PairIx) -> bool
             falling.awaited[pair.0 as usize] = *port;
             false
         }
-        None => is_set(&falling.led, pair) || is_free(u, pair),
+        None => is_set(&falling.led, pair) || u.is_free(pair),
     }
 }
 

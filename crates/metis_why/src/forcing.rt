@@ -10,7 +10,7 @@ ghost use Rattle.metis_why.specs.Leaving.{AreForced, AreMarked, IsEnough};
 
 use crate::falling::are_given;
 use crate::named::{named, wanted};
-use crate::outside::{PAIR_LIMIT, PORT_LIMIT, given_outside, is_free, is_set, led_outside};
+use crate::outside::{PAIR_LIMIT, PORT_LIMIT, given_outside, is_set, led_outside};
 use crate::reason::Reason;
 use metis_ids::{Goal, NoMemory, PairIx, PortIx};
 use metis_universe::Universe;
@@ -77,7 +77,7 @@ fn only_reason(
     if pair.0 >= u.pairs() {
         return None;
     }
-    if is_set(led, pair) || is_free(u, pair) {
+    if is_set(led, pair) || u.is_free(pair) {
         return match only_missing(u, given, pair) {
             Some(port) => Some(Reason::Needs(port)),
             None => None,

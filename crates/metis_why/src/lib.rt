@@ -28,5 +28,4 @@ pub use laws::{
     what_is_told_is_confirmed, what_is_told_is_confirmed_of_all,
 };
 pub use named::named as named_by;
-pub use outside::is_free;
 pub use reason::{Explanation, Line, Reason};

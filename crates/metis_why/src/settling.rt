@@ -11,7 +11,7 @@ ghost use Rattle.metis_why.specs.Settling.{IsRound};
 ghost use Rattle.metis_why.specs.declared.reason.Reason.{Reason};
 
 use crate::falling::{are_given, drain};
-use crate::outside::{PAIR_LIMIT, PORT_LIMIT, given_outside, is_free, is_set, led_outside};
+use crate::outside::{PAIR_LIMIT, PORT_LIMIT, given_outside, is_set, led_outside};
 use metis_ids::{Goal, NoMemory, PairIx};
 use metis_universe::Universe;
 use std::alloc::Global;
@@ -62,7 +62,7 @@ fn waits(u: &Universe, given: &[bool; PORT_LIMIT], led: &[bool; PAIR_LIMIT], pai
     if !are_given(u, given, pair) {
         return true;
     }
-    if is_set(led, pair) || is_free(u, pair) {
+    if is_set(led, pair) || u.is_free(pair) {
         return false;
     }
     true

@@ -13,7 +13,7 @@ use metis_ids::{Goal, PairIx};
 use metis_tokens::bytes::is;
 use metis_tokens::{Flaw, both, goal_in, number_in, pair_in, port_in, tokens_of};
 use metis_universe::Universe;
-use metis_why::{Line, Reason, is_free};
+use metis_why::{Line, Reason};
 use std::alloc::{AllocError, Global};
 
 /// How many pairs there are with a reason, by the tokens of the line.
@@ -129,7 +129,7 @@ fn is_held_up(u: &Universe, pair: PairIx, reason: Reason) -> bool
 {
     match reason {
         Reason::Needs(_) => true,
-        Reason::Comes => !is_free(u, pair),
+        Reason::Comes => !u.is_free(pair),
     }
 }
 

@@ -3,9 +3,9 @@ use Rattle.std.specs.List.{All}
 use Rattle.std.proofs.lemmas.List.Elements.{All-get_or}
 use Rattle.metis_universe.specs.Universe.{pair_count, requirers_of, requires}
 use Rattle.metis_why.proofs.Fallen.{falls_then}
-use Rattle.metis_why.proofs.Going.{all_from}
 use Rattle.metis_why.proofs.Soundness.{passes_of}
 use Rattle.metis_why.proofs.falling.give.Goals as goal
+use Rattle.metis_ids.proofs.Lists.{all_from}
 
 pub tell-requires-clause-pair : goal.tell-requires-clause-pair
 tell-requires-clause-pair c =
