@@ -1,5 +1,5 @@
 //! Spells a universe as JSON, token by token.
-ghost use Rattle.std.specs.Prelude.{◌≡◌, ◌<◌, [], ◌∷◌, map, OnOk, IfOk};
+ghost use Rattle.std.specs.Prelude.{◌≡◌, ◌<◌, [], ◌∷◌, ◌++◌, codes, map, string_bytes, OnOk, IfOk};
 ghost use Rattle.std.specs.List.{All};
 ghost use Rattle.json.specs.Token.{key, string};
 ghost use Rattle.serde_json.specs.Data.{string as text};
@@ -13,14 +13,24 @@ use metis_universe::Universe;
 use std::alloc::{AllocError, Global};
 
 /// The document of the universe, with a line feed at its end.
-pub fn text_of(alloc: Global, u: &Universe) -> Result<Vec<u8>, AllocError>
-    ensures { IfOk result (λ text. text.items ≡ canonical u.now) }
+pub fn text_of(alloc: Global, u: &Universe) -> Result<String, AllocError>
+    ensures { IfOk result (λ text. string_bytes text ≡ canonical u.now) }
 {
     let mut out = Writer::new(Vec::new(alloc));
     put_document(&mut out, u)?;
-    let mut text = out.into_inner();
-    text.push(b'\n')?;
-    Ok(text)
+    match String::from_utf8(out.into_inner()) {
+        Ok(document) => with_feed(document),
+        Err(_) => unreachable!(),
+    }
+}
+
+// The text with a line feed behind it.
+fn with_feed(text: String) -> Result<String, AllocError>
+    ensures { IfOk result (λ line. string_bytes line ≡ string_bytes text ++ codes "\n") }
+{
+    let mut line = text;
+    line.push_str("\n")?;
+    Ok(line)
 }
 
 fn put_document(out: &mut Writer, u: &Universe) -> Result<(), AllocError>

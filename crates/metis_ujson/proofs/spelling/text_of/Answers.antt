@@ -1,4 +1,4 @@
-use Rattle.std.proofs.Common.{◌≡◌, ◌++◌, ◌∷◌, [], ap, ◌∙◌}
+use Rattle.std.proofs.Common.{◌≡◌, ◌++◌, [], IfOk, ap, codes, string_bytes, subst, ◌∙◌}
 use Rattle.json.specs.Print.{print}
 use Rattle.serde_json.proofs.Texts.{print-outline}
 use Rattle.metis_ujson.specs.Canonical.{document_of, rows_of_universe}
@@ -12,4 +12,5 @@ returns c =
     let added = c.in_ok-put_document.ensures in
     let before : c.put_document.new.out.before ≡ [] = added.before ∙ c.new-out.ensures.before ∙ c.new.ensures.items in
     let tokens : c.put_document.new.out.tokens ≡ tokens_of document = added.tokens ∙ ap (λ ts. ts ++ tokens_of document) c.new-out.ensures.tokens in
-    c.in_ok-push.ensures.items ∙ ap (λ text. text ++ 10 ∷ []) (c.into_inner-text.ensures.items ∙ (λ i. before i ++ print (tokens i)) ∙ print-outline document)
+    let text = ap (λ v. v.items) c.in-Ok.ensures.ok ∙ c.into_inner.ensures.items ∙ (λ i. before i ++ print (tokens i)) ∙ print-outline document in
+    subst (λ bytes. IfOk c.with_feed.result (λ line. string_bytes line ≡ bytes)) (ap (λ bytes. bytes ++ codes "\n") text) c.with_feed.ensures
