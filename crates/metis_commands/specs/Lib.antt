@@ -4,6 +4,7 @@ pub mod Control
 pub mod Crew
 pub mod GoalLine
 pub mod Place
+pub mod Print
 pub mod Refute
 pub mod Replay
 pub mod Sim

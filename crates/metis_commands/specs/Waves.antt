@@ -5,7 +5,7 @@
 --     IsSchedule u actions ns made      the schedules of a steadfast run, or what keeps the actions from being one
 --     IsScheduled u actions ns lines status      the actions are a steadfast run, and the lines are those of their schedules
 --     Waved u actions ns lines status      that, or the one line is that of the first action that cannot be done, or of the first that is not steadfast
-use Rattle.std.specs.Prelude.{◌≡◌, ◌⊎◌, ℕ, Bool, List, [], ◌∷◌, ◌++◌, map, codes, decimal, slice_index_or, if◌then◌else◌, Result, Ok, Err}
+use Rattle.std.specs.Prelude.{◌≡◌, ◌⊎◌, ℕ, List, [], ◌∷◌, ◌++◌, map, codes, decimal, slice_index_or, Result, Ok, Err}
 use Rattle.std.specs.List.{zip}
 use Rattle.metis_ids.specs.declared.actions.Action.{Action}
 use Rattle.metis_tokens.specs.Line.{added, numbered}
@@ -32,10 +32,6 @@ chain_line ks = (codes "chain" ++ added (map decimal ks)) ++ codes "\n"
 
 abbrev pub end_lines : ℕ → List ℕ → List (List ℕ)
 end_lines t ks = finish_line t ∷ chain_line ks ∷ []
-
--- those of these that are left
-abbrev pub ends_left : ℕ → List ℕ → Bool → Bool → List (List ℕ)
-ends_left t ks finished ended = if ended then [] else (if finished then chain_line ks ∷ [] else end_lines t ks)
 
 abbrev pub schedule_lines : WaveLists → List (List ℕ)
 schedule_lines w = start_lines w.earliest w.latest ++ end_lines w.finish w.chain

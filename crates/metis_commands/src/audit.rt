@@ -1,12 +1,11 @@
 //! The command that audits the dups of a plan.
-ghost use Rattle.std.specs.Prelude.{◌≡◌, ◌<◌, ◌≤◌, ◌-◌, ◌^◌, IfOk, codes, length, string_bytes};
+ghost use Rattle.std.specs.Prelude.{◌≡◌, ◌<◌, ◌≤◌, ◌-◌, ◌^◌, IfOk, length, string_bytes};
 ghost use Rattle.std.specs.List.{All};
-ghost use Rattle.metis_commands.specs.Audit.{Audited, AuditedFor, NamesPairOf, audit_line, audit_status, count_line, justified_line, number_line};
-ghost use Rattle.metis_commands.specs.GoalLine.{word_line};
+ghost use Rattle.metis_commands.specs.Audit.{Audited, AuditedFor, NamesPairOf, audit_line, audit_status, number_line};
 ghost use Rattle.metis_output.specs.Answers.{Says, status_for};
 ghost use Rattle.metis_text.specs.PlanText.{IsWellFormed};
 ghost use Rattle.metis_text.specs.Reads.{lists_of};
-ghost use Rattle.metis_universe.specs.GoalWords.{IsWordable, goal_word};
+ghost use Rattle.metis_universe.specs.GoalWords.{IsWordable};
 ghost use Rattle.metis_universe.specs.Goals.{IsGoalOf};
 ghost use Rattle.metis_universe.specs.Universe.{pair_count};
 
@@ -39,7 +38,7 @@ pub fn answer(
     match aim_of(alloc, u, goals)? {
         Aim::Pairs(pairs, _) => audit_for(alloc, u, text, &pairs),
         Aim::Lacks(refusal) => {
-            let line = lacking_line(alloc, u, refusal.lacks)?;
+            let line = goal_line(alloc, u, "notattained", refusal.lacks)?;
             Ok(line_answer(line, false))
         }
     }
@@ -67,18 +66,7 @@ fn audit_for(
 fn is_good(answer: &AuditAnswer) -> bool
     ensures { status_for result ≡ audit_status answer.now }
 {
-    match *answer {
-        AuditAnswer::Justified => true,
-        _ => false,
-    }
-}
-
-// The line of a goal that is not attained.
-fn lacking_line(alloc: Global, u: &Universe, goal: Goal) -> Result<String, AllocError>
-    requires { IsGoalOf u.now goal }
-    ensures { IfOk result (λ line. string_bytes line ≡ word_line (codes "notattained") (goal_word u.now goal)) }
-{
-    goal_line(alloc, u, "notattained", goal)
+    matches!(*answer, AuditAnswer::Justified)
 }
 
 // The line of an answer on the plan.
@@ -92,26 +80,17 @@ fn audit_line(
     ensures { IfOk result (λ line. string_bytes line ≡ audit_line u.now plan.now answer.now) }
 {
     match *answer {
-        AuditAnswer::Justified => justified_line(alloc, plan.instances, plan.dups.len()),
+        AuditAnswer::Justified => {
+            let (instances, dups) = (plan.instances, plan.dups.len());
+            format!(in alloc; "justified instances {instances} dups {dups}\n")
+        }
         AuditAnswer::NotAttained(p) => goal_line(alloc, u, "notattained", Goal::Pair(p)),
         AuditAnswer::NoCycle(number) => number_line(alloc, "nocycle", number),
-        AuditAnswer::Count(have, want) => count_line(alloc, have, want),
+        AuditAnswer::Count(have, want) => format!(in alloc; "count have {have} want {want}\n"),
         AuditAnswer::Path(line) => number_line(alloc, "path", line),
         AuditAnswer::Loose(number) => number_line(alloc, "loose", number),
         AuditAnswer::After(number) => number_line(alloc, "after", number),
     }
-}
-
-fn justified_line(alloc: Global, instances: u32, dups: usize) -> Result<String, AllocError>
-    ensures { IfOk result (λ line. string_bytes line ≡ justified_line instances dups) }
-{
-    format!(in alloc; "justified instances {instances} dups {dups}\n")
-}
-
-fn count_line(alloc: Global, have: u32, want: u32) -> Result<String, AllocError>
-    ensures { IfOk result (λ line. string_bytes line ≡ count_line have want) }
-{
-    format!(in alloc; "count have {have} want {want}\n")
 }
 
 fn number_line(alloc: Global, start: &str, number: u32) -> Result<String, AllocError>

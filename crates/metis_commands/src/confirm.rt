@@ -1,7 +1,7 @@
 //! The command that checks an explanation.
 ghost use Rattle.std.specs.Prelude.{◌≡◌, ◌<◌, ◌^◌, IfOk, length, string_bytes};
 ghost use Rattle.std.specs.List.{All};
-ghost use Rattle.metis_commands.specs.Confirm.{Confirms, IsSayable, confirmation_line, confirmation_status, unfounded_line};
+ghost use Rattle.metis_commands.specs.Confirm.{Confirms, IsSayable, confirmation_line, confirmation_status};
 ghost use Rattle.metis_output.specs.Answers.{Says, status_for};
 ghost use Rattle.metis_universe.specs.Goals.{IsGoalOf};
 ghost use Rattle.metis_why.specs.Confirm.{IsLineOf};
@@ -34,10 +34,7 @@ pub fn answer(
 fn is_good(confirmation: &Confirmation) -> bool
     ensures { status_for result ≡ confirmation_status confirmation.now }
 {
-    match *confirmation {
-        Confirmation::Confirmed(_) => true,
-        _ => false,
-    }
+    matches!(*confirmation, Confirmation::Confirmed(_))
 }
 
 fn confirmation_line(
@@ -50,13 +47,10 @@ fn confirmation_line(
 {
     match *confirmation {
         Confirmation::Confirmed(goal) => goal_line(alloc, u, "confirmed lacks", goal),
-        Confirmation::Unfounded(place) => unfounded_line(alloc, place + 4),
+        Confirmation::Unfounded(place) => {
+            let number = place + 4;
+            format!(in alloc; "unfounded line {number}\n")
+        }
         Confirmation::LacksNone => String::from_str(alloc, "lacksnone\n"),
     }
-}
-
-fn unfounded_line(alloc: Global, number: usize) -> Result<String, AllocError>
-    ensures { IfOk result (λ line. string_bytes line ≡ unfounded_line number) }
-{
-    format!(in alloc; "unfounded line {number}\n")
 }

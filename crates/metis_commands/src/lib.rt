@@ -8,6 +8,7 @@ pub mod crew;
 mod goal_line;
 mod laws;
 pub mod place;
+pub mod print;
 pub mod refute;
 pub mod replay;
 pub mod sim;

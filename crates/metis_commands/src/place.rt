@@ -2,7 +2,7 @@
 ghost use Rattle.std.specs.Prelude.{◌≡◌, ◌≤◌, ◌<◌, ◌-◌, ◌^◌, ◌++◌, ◌∷◌, [], ◌+◌, IfNone, IfOk, IfSome, IsTrue, OnOk, drop, get_or, length, string_bytes};
 ghost use Rattle.std.specs.List.{All};
 ghost use Rattle.std.specs.Option.{option_to_list};
-ghost use Rattle.metis_commands.specs.Place.{Placed, PlacedRun, hold_line, hold_lines, inst_made, made_of, no_room_line, on_line, on_lines, placed_line, placing_lines, rest_left};
+ghost use Rattle.metis_commands.specs.Place.{Placed, PlacedRun, hold_line, holds_behind, inst_made, made_of, no_room_line, on_line, on_lines, placed_line, placing_lines};
 ghost use Rattle.metis_output.specs.Answers.{Says};
 ghost use Rattle.metis_universe.specs.Config.{empty};
 ghost use Rattle.metis_universe.specs.Numbers.{IsOf};
@@ -18,7 +18,7 @@ use metis_universe::Universe;
 use std::alloc::{AllocError, Global};
 
 /// Where instances are, line by line: the host of each, and then the further waits and the counts.
-pub type PlacingLines<'a> = Chain<SeatLines<'a>, RestLines>;
+pub type PlacingLines<'a> = Chain<SeatLines<'a>, Chain<HoldLines, Once>>;
 
 /// One line that says why not, or where the instances are.
 pub type PlaceLines<'a> = Either<Once, PlacingLines<'a>>;
@@ -91,22 +91,20 @@ fn placing_lines<'a>(
     ensures { IfOk result (λ l. ⟦<PlacingLines<'a> as Lines>⟧.rest l ≡ placing_lines h.now actions.now placing) }
 {
     let made = made_of(alloc, actions)?;
+    let counts = placed_line(alloc, placing.hosts.len(), h.count())?;
     let Placing {
         hosts: places,
         holds,
     } = placing;
-    let second = RestLines {
-        holds,
-        at: 0,
-        made: places.len(),
-        hosts: h.count(),
-        ended: false,
-    };
     let first = SeatLines {
         hosts: h,
         made,
         places,
         at: 0,
+    };
+    let second = Chain {
+        first: HoldLines { holds, at: 0 },
+        second: counts,
     };
     Ok(Chain { first, second })
 }
@@ -170,32 +168,24 @@ fn set_on_line(line: &mut String, inst: InstNo, host: &str) -> Result<(), AllocE
     write!(line, "on {z} {host}\n")
 }
 
-/// The further waits of the actions from a place on, where they have some, and then the counts.
+/// The further waits of the actions from a place on, if they have some.
 #[derive(Drop)]
-pub struct RestLines {
+pub struct HoldLines {
     holds: Vec<Hold>,
     at: usize,
-    made: usize,
-    hosts: usize,
-    ended: bool,
 }
 
-impl Lines for RestLines {
-    ghost rest = { λ r. rest_left (r.at + 1) (drop r.at r.holds.items) r.made r.hosts r.ended };
+impl Lines for HoldLines {
+    ghost rest = { λ h. holds_behind h.holds.items h.at };
 
-    #[tactic(auto, using(crate::proofs::PlaceLines::is_hold_line, crate::proofs::PlaceLines::is_placed_line))]
+    #[tactic(auto, using(crate::proofs::PlaceLines::is_hold_line))]
     fn next_line(&mut self, line: &mut String) -> Result<bool, AllocError> {
-        if let Some(at) = next_hold(&self.holds, self.at) {
-            let hold = &self.holds[at];
-            set_hold_line(line, at + 1, &hold.numbers)?;
-            self.at = at + 1;
-            return Ok(true);
-        }
-        if self.ended {
+        let Some(at) = next_hold(&self.holds, self.at) else {
             return Ok(false);
-        }
-        set_placed_line(line, self.made, self.hosts)?;
-        self.ended = true;
+        };
+        let hold = &self.holds[at];
+        set_hold_line(line, at + 1, &hold.numbers)?;
+        self.at = at + 1;
         Ok(true)
     }
 }
@@ -203,8 +193,8 @@ impl Lines for RestLines {
 // The place of the next action that has further waits.
 fn next_hold(holds: &[Hold], from: usize) -> Option<usize>
     ensures within { IfSome result (λ i. i < length holds.now) }
-    ensures some { IfSome result (λ i. hold_lines (from + 1) (drop from holds.now) ≡ hold_line (i + 1) (get_or holds.now i []) ∷ hold_lines (i + 1 + 1) (drop (i + 1) holds.now)) }
-    ensures none { IfNone result (hold_lines (from + 1) (drop from holds.now) ≡ []) }
+    ensures some { IfSome result (λ i. holds_behind holds.now from ≡ hold_line (i + 1) (get_or holds.now i []) ∷ holds_behind holds.now (i + 1)) }
+    ensures none { IfNone result (holds_behind holds.now from ≡ []) }
 {
     let mut at = from;
     while at < holds.len() {
@@ -227,9 +217,10 @@ fn set_hold_line(line: &mut String, number: usize, waits: &[u32]) -> Result<(), 
     Ok(())
 }
 
-fn set_placed_line(line: &mut String, made: usize, hosts: usize) -> Result<(), AllocError>
-    ensures { OnOk result (string_bytes line.new ≡ placed_line made hosts) }
+#[tactic(auto, using(crate::proofs::PlaceLines::is_placed_line))]
+fn placed_line(alloc: Global, made: usize, hosts: usize) -> Result<Once, AllocError>
+    ensures { IfOk result (λ l. l ≡ placed_line made hosts ∷ []) }
 {
-    line.clear();
-    write!(line, "placed {made} hosts {hosts}\n")
+    let line = format!(in alloc; "placed {made} hosts {hosts}\n")?;
+    Ok(Once::of(line))
 }

@@ -35,10 +35,7 @@ pub fn answer(
 fn is_good(judgement: &Verdict2) -> bool
     ensures { status_for result ≡ judgement_status judgement.now }
 {
-    match *judgement {
-        Verdict2::Closed(_) => true,
-        _ => false,
-    }
+    matches!(*judgement, Verdict2::Closed(_))
 }
 
 // The line of a verdict on a set of pairs.
@@ -60,18 +57,18 @@ fn open_line(alloc: Global, u: &Universe, p: PairIx, q: PairIx) -> Result<String
     ensures { IfOk result (λ line. string_bytes line ≡ open_line (pair_word u.now p) (pair_word u.now q)) }
 {
     let (kind, state) = (u.type_name(u.type_of(p)), u.state_name(p));
-    let (next_kind, next_state) = (u.type_name(u.type_of(q)), u.state_name(q));
-    way_line(alloc, kind, state, next_kind, next_state)
+    let (to_kind, to_state) = (u.type_name(u.type_of(q)), u.state_name(q));
+    way_line(alloc, kind, state, to_kind, to_state)
 }
 
 fn way_line(
     alloc: Global,
     kind: &str,
     state: &str,
-    next_kind: &str,
-    next_state: &str,
+    to_kind: &str,
+    to_state: &str,
 ) -> Result<String, AllocError>
-    ensures { IfOk result (λ line. string_bytes line ≡ open_line (kind.now ++ (codes ":" ++ state.now)) (next_kind.now ++ (codes ":" ++ next_state.now))) }
+    ensures { IfOk result (λ line. string_bytes line ≡ open_line (kind.now ++ (codes ":" ++ state.now)) (to_kind.now ++ (codes ":" ++ to_state.now))) }
 {
-    format!(in alloc; "open {kind}:{state} {next_kind}:{next_state}\n")
+    format!(in alloc; "open {kind}:{state} {to_kind}:{to_state}\n")
 }

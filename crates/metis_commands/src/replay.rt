@@ -1,7 +1,7 @@
 //! The command that replays a plan.
 ghost use Rattle.std.specs.Prelude.{◌≡◌, ◌<◌, ◌-◌, ◌^◌, IfOk, length, string_bytes};
 ghost use Rattle.std.specs.List.{All};
-ghost use Rattle.metis_commands.specs.Replay.{Replayed, good_line, verdict_line, verdict_status};
+ghost use Rattle.metis_commands.specs.Replay.{Replayed, verdict_line, verdict_status};
 ghost use Rattle.metis_output.specs.Answers.{Says, status_for};
 ghost use Rattle.metis_replay.specs.Progress.{IsVerdictOf};
 ghost use Rattle.metis_universe.specs.Goals.{IsGoalOf};
@@ -40,11 +40,7 @@ pub fn answer(
 fn is_good(verdict: &Verdict) -> bool
     ensures { status_for result ≡ verdict_status verdict.now }
 {
-    match *verdict {
-        Verdict::Good => true,
-        Verdict::Bad(..) => false,
-        Verdict::Missing(..) => false,
-    }
+    matches!(*verdict, Verdict::Good)
 }
 
 // The line of the verdict on so many actions, after which so many instances stand.
@@ -59,14 +55,8 @@ fn verdict_line(
     ensures { IfOk result (λ line. string_bytes line ≡ verdict_line u.now standing actions verdict.now) }
 {
     match *verdict {
-        Verdict::Good => good_line(alloc, standing, actions),
+        Verdict::Good => format!(in alloc; "good standing {standing} actions {actions}\n"),
         Verdict::Bad(number, fault) => bad_line(alloc, u, number, &fault),
         Verdict::Missing(goal, have, want) => missing_line(alloc, u, goal, have, want),
     }
-}
-
-fn good_line(alloc: Global, standing: u64, actions: usize) -> Result<String, AllocError>
-    ensures { IfOk result (λ line. string_bytes line ≡ good_line standing actions) }
-{
-    format!(in alloc; "good standing {standing} actions {actions}\n")
 }

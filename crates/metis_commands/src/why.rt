@@ -1,9 +1,7 @@
 //! The command that explains why goals are never attained.
-ghost use Rattle.std.specs.Prelude.{IfOk, List};
+ghost use Rattle.std.specs.Prelude.{IfOk};
 ghost use Rattle.std.specs.List.{All};
-ghost use Rattle.metis_commands.specs.Why.{IsExplained, IsTold, WhyAnswer};
-ghost use Rattle.metis_ids.specs.declared.goals.Goal.{Goal as GoalOf};
-ghost use Rattle.metis_output.specs.Answers.{Says};
+ghost use Rattle.metis_commands.specs.Why.{IsExplained, IsTold, SaysExplained};
 ghost use Rattle.metis_universe.specs.GoalWords.{IsWordable};
 ghost use Rattle.metis_universe.specs.Goals.{IsGoalOf};
 
@@ -34,7 +32,7 @@ pub fn answer<'a>(
     explained: &'a Result<Explained, NoMemory>,
 ) -> Result<Answer<WhyAnswerLines<'a>>, NoMemory>
     requires { IfOk explained.now (IsTold u.now) }
-    ensures { IfOk result (λ a. (goals : List GoalOf) → IsExplained u.now goals explained.now → Says (WhyAnswer u.now goals) ⟦<WhyAnswerLines<'a> as Lines>⟧.rest a) }
+    ensures { IfOk result (SaysExplained u.now explained.now ⟦<WhyAnswerLines<'a> as Lines>⟧.rest) }
 {
     match explained {
         Ok(Explained::Attained) => Ok(Answer {

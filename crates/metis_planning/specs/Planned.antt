@@ -3,13 +3,17 @@
 --     IsPlanned u goals made      it is a plan for the goals, or a refusal of them
 --     IsOfPlan plan made      it is this plan
 --     IsPrintable u made      it has a text
-use Rattle.std.specs.Prelude.{◌≡◌, ◌<◌, ◌-◌, ◌^◌, ℕ, List, length}
+--     SaysPlanned u planned rest a      what an answer says of it
+use Rattle.std.specs.Prelude.{◌≡◌, ◌<◌, ◌-◌, ◌^◌, ℕ, IfOk, List, Result, length}
 use Rattle.std.specs.List.{All}
 use Rattle.metis_ids.specs.Plans as plans
 use Rattle.metis_ids.specs.declared.goals.Goal.{Goal}
+use Rattle.metis_ids.specs.declared.no_memory.NoMemory.{NoMemory}
+use Rattle.metis_output.specs.Answers.{Says}
+use Rattle.metis_output.specs.declared.answer.Answer.{Answer}
 use Rattle.metis_output.specs.declared.status.Status.{Status}
 use Rattle.metis_output.specs.declared.status.Status.TheVariants.{Done, No}
-use Rattle.metis_planning.specs.Plan.{Plans, Refuses, plan_text}
+use Rattle.metis_planning.specs.Plan.{PlanAnswer, Plans, Refuses, plan_text}
 use Rattle.metis_planning.specs.declared.planned.Planned.{Planned}
 use Rattle.metis_planning.specs.declared.planned.Planned.TheVariants.{Plan, Refusal}
 use Rattle.metis_text.specs.RefusalText.{refusal_lines}
@@ -40,3 +44,7 @@ pub record HasText (u : Universe) (p : plans.Plan) (w : WaitLists) : Type 0 wher
 abbrev pub IsPrintable : Universe → Planned → Type 0
 IsPrintable u (Plan p w) = HasText u p w
 IsPrintable u (Refusal r) = (r.pairs.size ≡ pair_count u) × IsWordable u r.lacks
+
+-- an answer says of whatever goals it is a plan for, or a refusal of, that it is one
+abbrev pub SaysPlanned : {L : Type 0} → Universe → Result Planned NoMemory → (L → List (List ℕ)) → Answer L → Type 0
+SaysPlanned u planned rest a = (goals : List Goal) → IfOk planned (IsPlanned u goals) → Says (PlanAnswer u goals) rest a

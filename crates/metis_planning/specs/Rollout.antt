@@ -34,6 +34,8 @@ use Rattle.metis_planning.specs.declared.planned.Planned.TheVariants.{Refusal}
 use Rattle.metis_waits.specs.Judged.{IsJudged}
 use Rattle.metis_waits.specs.declared.judged.Judged.{Judged}
 use Rattle.metis_planning.specs.Plan.{Refuses, plan_text}
+use Rattle.metis_output.specs.Answers.{Says}
+use Rattle.metis_output.specs.declared.answer.Answer.{Answer}
 use Rattle.metis_output.specs.declared.status.Status.{Status}
 use Rattle.metis_output.specs.declared.status.Status.TheVariants.{Done, No}
 
@@ -102,3 +104,7 @@ pub record PutsRollout (u : Universe) (goals : List Goal) (old : List Action) (l
 
 abbrev pub RolledOut : Universe → List Goal → List Action → List (List ℕ) → Status → Type 0
 RolledOut u goals old lines status = HasBadAction u old lines status ⊎ (HasLooseAction u old lines status ⊎ PutsRollout u goals old lines status)
+
+-- an answer says of whatever goals and old actions it was rolled out from, that it is their rollout, or what keeps them from having one
+abbrev pub SaysRolledOut : {L : Type 0} → Universe → Result Planned Unsteady → (L → List (List ℕ)) → Answer L → Type 0
+SaysRolledOut u rolled rest a = (goals : List Goal) (old : List Action) → IsRolledOut u goals old rolled → Says (RolledOut u goals old) rest a

@@ -28,20 +28,9 @@ pub fn answer(alloc: Global, n: u32) -> Result<Answer<Once>, NoMemory>
     requires at_most { n ≤ 128 }
     ensures { IfOk result (Says (Loaded n) ⟦<Once as Lines>⟧.rest) }
 {
-    let (universe, targets) = generated_goal(alloc, n)?;
-    planned_load(alloc, n, &universe, &targets)
-}
-
-// The universe, and its targets.
-fn generated_goal(alloc: Global, n: u32) -> Result<(Universe, Vec<PairIx>), NoMemory>
-    requires at_least { 1 ≤ n }
-    requires at_most { n ≤ 128 }
-    ensures universe { IfOk result (λ goal. goal.0 ≡ generated n) }
-    ensures targets { IfOk result (λ goal. goal.1.items ≡ generated_targets n) }
-{
     let universe = universe_of(alloc, n)?;
     let targets = targets_of(alloc, n)?;
-    Ok((universe, targets))
+    planned_load(alloc, n, &universe, &targets)
 }
 
 // The same if both are made. The plan is good, since it is a run that holds the targets.

@@ -1,11 +1,10 @@
 //! The command that plans for goals.
-ghost use Rattle.std.specs.Prelude.{◌≡◌, ◌<◌, ◌≤◌, ◌-◌, ◌^◌, IfOk, IsTrue, List, length};
+ghost use Rattle.std.specs.Prelude.{◌≡◌, ◌<◌, ◌≤◌, ◌-◌, ◌^◌, IfOk, IsTrue, length};
 ghost use Rattle.std.specs.List.{All};
-ghost use Rattle.metis_ids.specs.declared.goals.Goal.{Goal as GoalOf};
 ghost use Rattle.metis_layers.specs.Layers.{IsLayers};
 ghost use Rattle.metis_output.specs.Answers.{Says};
-ghost use Rattle.metis_planning.specs.Plan.{PlanAnswer, PlansPairs, plan_text};
-ghost use Rattle.metis_planning.specs.Planned.{IsOfPlan, IsPlanned, IsPrintable, TellsPlanned};
+ghost use Rattle.metis_planning.specs.Plan.{PlansPairs, plan_text};
+ghost use Rattle.metis_planning.specs.Planned.{IsOfPlan, IsPlanned, IsPrintable, SaysPlanned, TellsPlanned};
 ghost use Rattle.metis_universe.specs.Goal.{Attains};
 ghost use Rattle.metis_universe.specs.GoalWords.{IsWordable};
 ghost use Rattle.metis_universe.specs.Goals.{IsGoalOf};
@@ -100,7 +99,7 @@ pub fn answer<'a>(
     planned: &'a Result<Planned, NoMemory>,
 ) -> Result<Answer<PlannedLines<'a>>, NoMemory>
     requires { IfOk planned.now (IsPrintable u.now) }
-    ensures { IfOk result (λ a. (goals : List GoalOf) → IfOk planned.now (IsPlanned u.now goals) → Says (PlanAnswer u.now goals) ⟦<PlannedLines<'a> as Lines>⟧.rest a) }
+    ensures { IfOk result (SaysPlanned u.now planned.now ⟦<PlannedLines<'a> as Lines>⟧.rest) }
 {
     match planned {
         Ok(planned) => planned_answer(alloc, u, planned),

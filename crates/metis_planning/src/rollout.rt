@@ -1,13 +1,10 @@
 //! The command that goes from a plan to other targets.
-ghost use Rattle.std.specs.Prelude.{◌≡◌, ◌+◌, ◌<◌, ◌≤◌, ◌-◌, ◌^◌, Err, IfErr, IfOk, List, length};
+ghost use Rattle.std.specs.Prelude.{◌≡◌, ◌+◌, ◌<◌, ◌≤◌, ◌-◌, ◌^◌, Err, IfErr, IfOk, length};
 ghost use Rattle.std.specs.List.{All, count_by};
 ghost use Rattle.metis_ids.specs.Action.{makes};
-ghost use Rattle.metis_ids.specs.declared.actions.Action.{Action as ActionOf};
-ghost use Rattle.metis_ids.specs.declared.goals.Goal.{Goal as GoalOf};
 ghost use Rattle.metis_layers.specs.Layers.{IsLayers};
-ghost use Rattle.metis_output.specs.Answers.{Says};
 ghost use Rattle.metis_planning.specs.Planned.{IsOfPlan, IsPrintable};
-ghost use Rattle.metis_planning.specs.Rollout.{IsOld, IsRolledOut, RolledOut, RollsOutGoals, RollsOutTo, rollout_plan};
+ghost use Rattle.metis_planning.specs.Rollout.{IsOld, IsRolledOut, RollsOutGoals, RollsOutTo, SaysRolledOut, rollout_plan};
 ghost use Rattle.metis_shared.specs.Steady.{IsSteady, IsUnsteadyIn};
 ghost use Rattle.metis_universe.specs.Config.{empty};
 ghost use Rattle.metis_universe.specs.Goal.{Attains};
@@ -172,38 +169,14 @@ fn roll_out_between(
     ensures plan { IfOk result (IsOfPlan (rollout_plan u.now old.entry.actions.now fresh.now)) }
     ensures printable { IfOk result (IsPrintable u.now) }
 {
-    let plan = rollout_between(alloc, u, layers, old.actions, fresh, old.left)?;
-    with_waits(alloc, u, plan, old.judged)
-}
-
-// The rollout, as a plan without dups.
-fn rollout_between(
-    alloc: Global,
-    u: &Universe,
-    layers: &Layers,
-    old: &[Action],
-    fresh: &[Action],
-    left: Config,
-) -> Result<Plan, NoMemory>
-    requires layers { IsLayers u.now layers.now }
-    requires old { IsSteadfastRun u.now old.now }
-    requires fresh { IsSteadfastRun u.now fresh.now }
-    requires old_ours { All (IsOf u.now) old.now }
-    requires fresh_ours { All (IsOf u.now) fresh.now }
-    requires few { length old.now + length fresh.now < 2 ^ 29 }
-    requires left { left ≡ after_all u.now empty old.now }
-    ensures plan { IfOk result (λ plan. plan ≡ rollout_plan u.now old.now fresh.now) }
-    ensures steady { IfOk result (λ plan. IsSteadfastRun u.now plan.actions) }
-    ensures ours { IfOk result (λ plan. All (IsOf u.now) plan.actions) }
-    ensures short { IfOk result (λ plan. length plan.actions < 2 ^ 32 - 1) }
-{
-    let actions = rollout_from(alloc, u, layers, old, fresh, left)?;
+    let actions = rollout_from(alloc, u, layers, old.actions, fresh, old.left)?;
     let instances = made_by(&actions);
-    Ok(Plan {
+    let plan = Plan {
         actions,
         dups: Vec::new(alloc),
         instances,
-    })
+    };
+    with_waits(alloc, u, plan, old.judged)
 }
 
 // How many instances the actions make.
@@ -225,8 +198,7 @@ pub fn answer<'a>(
 ) -> Result<Answer<RolloutLines<'a>>, NoMemory>
     requires printable { IfOk rolled.now (IsPrintable u.now) }
     requires unsteady { IfErr rolled.now (IsUnsteadyIn u.now) }
-    ensures { IfOk result (λ a. (goals : List GoalOf) (old : List ActionOf) → IsRolledOut u.now goals old rolled.now
-        → Says (RolledOut u.now goals old) ⟦<RolloutLines<'a> as Lines>⟧.rest a) }
+    ensures { IfOk result (SaysRolledOut u.now rolled.now ⟦<RolloutLines<'a> as Lines>⟧.rest) }
 {
     match rolled {
         Ok(planned) => {

@@ -1,10 +1,10 @@
 //! Whether a plan's actions are a steadfast run.
-ghost use Rattle.std.specs.Prelude.{◌≡◌, ◌<◌, ◌-◌, ◌^◌, IfOk, IfSome, None, length, string_bytes};
+ghost use Rattle.std.specs.Prelude.{◌≡◌, ◌<◌, ◌-◌, ◌^◌, IfOk, length, string_bytes};
 ghost use Rattle.std.specs.List.{All};
 ghost use Rattle.metis_actions.specs.Faults.{IsFaultOf, fault_text};
 ghost use Rattle.metis_shared.specs.Followed.{IsFollowed};
 ghost use Rattle.metis_shared.specs.Steady.{IsSteady, IsUnsteadyIn, TellsUnsteady, bad_line, loose_line, standing_after};
-ghost use Rattle.metis_replay.specs.Exact.{IsFirstBad, Tells};
+ghost use Rattle.metis_replay.specs.Exact.{Tells};
 ghost use Rattle.metis_replay.specs.Progress.{IsVerdictOf, after_feeding};
 ghost use Rattle.metis_universe.specs.Config.{empty};
 ghost use Rattle.metis_universe.specs.Goals.{IsGoalOf};
@@ -101,29 +101,10 @@ pub fn steady_waits(alloc: Global, u: &Universe, actions: &[Action]) -> Result<W
     requires few { length actions.now < 2 ^ 32 - 1 }
     ensures { IsSteady u.now actions.now result }
 {
-    match first_bad(alloc, u, actions) {
-        Ok(None) => waits_of_run(alloc, u, actions),
-        Ok(Some((number, fault))) => Err(Unsteady::Bad(number, fault)),
+    match follow(alloc, u, actions) {
+        Ok(Followed::Left(_left)) => waits_of_run(alloc, u, actions),
+        Ok(Followed::Bad(number, fault)) => Err(Unsteady::Bad(number, fault)),
         Err(_) => Err(Unsteady::NoMemory),
-    }
-}
-
-// The number of the first action that cannot be done from the empty configuration on, and why.
-fn first_bad(
-    alloc: Global,
-    u: &Universe,
-    actions: &[Action],
-) -> Result<Option<(u32, AFault)>, NoMemory>
-    requires numbers { All (IsOf u.now) actions.now }
-    requires few { length actions.now < 2 ^ 32 - 1 }
-    ensures bad { IfOk result (λ bad. IfSome bad (λ b. IsFirstBad u.now actions.now b.0 b.1)) }
-    ensures numbers { IfOk result (λ bad. IfSome bad (λ b. IsFaultOf u.now b.1)) }
-    ensures runs { IfOk result (λ bad. bad ≡ None → IsRun u.now empty actions.now) }
-{
-    let followed = follow(alloc, u, actions)?;
-    match &followed {
-        Followed::Bad(number, fault) => Ok(Some((*number, *fault))),
-        Followed::Left(_) => Ok(None),
     }
 }
 

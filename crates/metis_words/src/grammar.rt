@@ -27,36 +27,22 @@ pub fn read_words(alloc: Global, words: &[String]) -> Result<Command, WordFault>
 fn verb_named(word: &str) -> Option<Verb>
     ensures { result ≡ verb_named word.now }
 {
-    if word == "plan" {
-        Some(Verb::Plan)
-    } else if word == "replay" {
-        Some(Verb::Replay)
-    } else if word == "refute" {
-        Some(Verb::Refute)
-    } else if word == "audit" {
-        Some(Verb::Audit)
-    } else if word == "sim" {
-        Some(Verb::Sim)
-    } else if word == "crew" {
-        Some(Verb::Crew)
-    } else if word == "waves" {
-        Some(Verb::Waves)
-    } else if word == "control" {
-        Some(Verb::Control)
-    } else if word == "rollout" {
-        Some(Verb::Rollout)
-    } else if word == "place" {
-        Some(Verb::Place)
-    } else if word == "print" {
-        Some(Verb::Print)
-    } else if word == "load" {
-        Some(Verb::Load)
-    } else if word == "why" {
-        Some(Verb::Why)
-    } else if word == "confirm" {
-        Some(Verb::Confirm)
-    } else {
-        None
+    match word {
+        "plan" => Some(Verb::Plan),
+        "replay" => Some(Verb::Replay),
+        "refute" => Some(Verb::Refute),
+        "audit" => Some(Verb::Audit),
+        "sim" => Some(Verb::Sim),
+        "crew" => Some(Verb::Crew),
+        "waves" => Some(Verb::Waves),
+        "control" => Some(Verb::Control),
+        "rollout" => Some(Verb::Rollout),
+        "place" => Some(Verb::Place),
+        "print" => Some(Verb::Print),
+        "load" => Some(Verb::Load),
+        "why" => Some(Verb::Why),
+        "confirm" => Some(Verb::Confirm),
+        _ => None,
     }
 }
 
