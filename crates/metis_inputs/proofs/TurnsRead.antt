@@ -1,5 +1,5 @@
 -- The tokens of the text of turns, one by one.
-use Rattle.std.proofs.Common.{◌≡◌, ℕ, ◌+◌, ◌<◌, ◌≤◌, Bool, true, false, cond, not, List, [], ◌∷◌, ◌++◌, length, map, take, get_or, Some, None, Result, Ok, Err, refl, sym, ap, ◌∙◌, nat_eq, nat_lt, arith}
+use Rattle.std.proofs.Common.{◌≡◌, ℕ, ◌+◌, ◌<◌, ◌≤◌, Bool, true, false, cond, not, List, [], ◌∷◌, ◌++◌, length, map, take, get_or, Some, None, Result, Ok, Err, refl, sym, ap, ◌∙◌, nat_lt, arith}
 use Rattle.std.proofs.lemmas.Bool.{cond-false, cond-true, lt-ltb}
 use Rattle.std.proofs.lemmas.Bool.Decides.{nat_tests}
 use Rattle.std.proofs.lemmas.List.{get_or-map, length-map, map_more, take_all}
@@ -10,14 +10,9 @@ use Rattle.std.specs.Prelude.{is_some, position}
 use Rattle.std.specs.Result.{result_ok}
 use borrow.Author.Count.{below_more}
 use Rattle.metis_inputs.specs.Turns.{is_no_turn, turn_of, turns_of}
-use Rattle.metis_universe.specs.Universe.{is_empty}
 use Rattle.metis_words.specs.Words.{unless_misfit}
 use Rattle.metis_tokens.specs.Tokens.{number_in}
 use Rattle.metis_tokens.specs.declared.flaw.Flaw.{Flaw}
-
-pub counted_empty : (xs : List ℕ) → nat_eq (length xs) 0 ≡ is_empty xs
-counted_empty [] = refl
-counted_empty (x ∷ xs) = grind (arith, nat_tests)
 
 -- ---- the first that passes a test
 

@@ -1,5 +1,6 @@
 -- What each command does with its files: it reads its inputs, as the row of its verb says, and answers over them.
 --     bytes_then, universe_then, goals_then, text_then, texts_then, inputs_then      read files, and go on with what they mean
+--     turns_then turns      goes on with these turns, or tells the token that is none
 --     meaning u kind bytes      what the bytes say as a text of this kind, or their fault
 --     Inputs reading      what is read comes to
 --     answer_of verb inputs size numbers      what is to be answered
@@ -80,6 +81,10 @@ dup_said row = record { pair = row.0; cycle = row.1 }
 
 abbrev pub plan_said : Parts → plans.Plan
 plan_said parts = record { actions = parts.rows.actions; dups = map dup_said parts.dups; instances = parts.instances }
+
+-- goes on with the turns of a text, or tells its first token that is none
+abbrev pub turns_then : Result (List ℕ) ℕ → (List ℕ → Script) → Script
+turns_then turns next = judged next (or_fault fault.Turns turns)
 
 -- ---- the texts behind the universe, by their kinds
 

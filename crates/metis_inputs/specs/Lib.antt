@@ -4,5 +4,6 @@ pub mod Facts
 pub mod Gathers
 pub mod NamedGoals
 pub mod Script
+pub mod Stops
 pub mod Turns
 pub mod Views

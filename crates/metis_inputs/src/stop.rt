@@ -4,7 +4,8 @@ ghost use Rattle.std.specs.Prelude.{◌≡◌};
 use metis_place::HFault;
 use metis_tokens::TFault;
 use metis_ujson::UFault;
-use std::alloc::AllocFailed;
+use metis_words::WordFault;
+use std::alloc::{AllocError, AllocFailed};
 
 /// What is wrong with a run's words or files.
 #[derive(Clone, Copy, PartialEq, Eq)]
@@ -44,5 +45,28 @@ impl<T: Drop> From<AllocFailed<T>> for Stop {
 
     fn from(_: AllocFailed<T>) -> Self {
         Stop::NoMemory
+    }
+}
+
+impl From<AllocError> for Stop {
+    ghost use Rattle.metis_inputs.specs.declared.stop.Stop.TheVariants.{NoMemory};
+
+    ghost from_gives = { λ _ e. e ≡ NoMemory };
+
+    fn from(_: AllocError) -> Self {
+        Stop::NoMemory
+    }
+}
+
+impl From<WordFault> for Stop {
+    ghost use Rattle.metis_inputs.specs.Stops.{word_stop};
+
+    ghost from_gives = { λ fault stop. stop ≡ word_stop fault };
+
+    fn from(fault: WordFault) -> Self {
+        match fault {
+            WordFault::At(place) => Stop::Faulty(InputFault::Word(place)),
+            WordFault::NoMemory => Stop::NoMemory,
+        }
     }
 }

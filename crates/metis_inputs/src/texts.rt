@@ -6,7 +6,7 @@ ghost use Rattle.metis_universe.specs.Universe.{Universe};
 ghost use Rattle.metis_words.specs.Forms.{TextKind};
 
 use crate::stop::{InputFault, Stop};
-use crate::turns::{TurnsFault, read_turns};
+use crate::turns::read_turns;
 use metis_ids::InstNo;
 use metis_place::{HFault, Hosts, read_hosts};
 use metis_text::{PlanText, Refusal, read_plan, read_refusal};
@@ -149,11 +149,7 @@ impl Text for Vec<InstNo> {
     }
 
     fn read(alloc: Global, _: &Universe, bytes: Vec<u8>) -> Result<Self, Stop> {
-        match read_turns(alloc, &bytes) {
-            Ok(turns) => Ok(turns),
-            Err(TurnsFault::At(place)) => Err(Stop::Faulty(InputFault::Turns(place))),
-            Err(TurnsFault::NoMemory) => Err(Stop::NoMemory),
-        }
+        read_turns(alloc, &bytes)
     }
 }
 

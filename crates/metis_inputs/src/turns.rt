@@ -1,59 +1,34 @@
 //! The text of a crew's turns.
 ghost use Rattle.std.specs.Prelude.{◌≡◌, ◌<◌, ◌≤◌, ◌+◌, ◌-◌, ◌^◌, IfOk, length, map};
-ghost use Rattle.metis_inputs.specs.Turns.{ReadsTurns, is_blank, turn_tokens, turns_in, turns_of};
+ghost use Rattle.metis_inputs.specs.Commands.{turns_then};
+ghost use Rattle.metis_inputs.specs.Gathers.{Judges};
+ghost use Rattle.metis_inputs.specs.Turns.{is_blank, turn_tokens, turns_in, turns_of};
 
+use crate::stop::{InputFault, Stop};
 use metis_ids::InstNo;
 use metis_tokens::number_in;
-use std::alloc::{AllocError, AllocFailed, Global};
+use std::alloc::{AllocError, Global};
 
-/// Why bytes are no turns.
-#[derive(Clone, Copy, PartialEq, Eq)]
-pub enum TurnsFault {
-    /// The place, from 1, of the first token that is no number in range.
-    At(u32),
-    NoMemory,
-}
-
-impl From<AllocError> for TurnsFault {
-    ghost use Rattle.metis_inputs.specs.declared.turns.TurnsFault.TheVariants.{NoMemory};
-
-    ghost from_gives = { λ _ e. e ≡ NoMemory };
-
-    fn from(_: AllocError) -> Self {
-        TurnsFault::NoMemory
-    }
-}
-
-impl<T: Drop> From<AllocFailed<T>> for TurnsFault {
-    ghost use Rattle.metis_inputs.specs.declared.turns.TurnsFault.TheVariants.{NoMemory};
-
-    ghost from_gives = { λ _ e. e ≡ NoMemory };
-
-    fn from(_: AllocFailed<T>) -> Self {
-        TurnsFault::NoMemory
-    }
-}
-
-/// The instances that the numbers among the bytes name, one for each turn, or the place of the first token that is no number in
-/// range.
-pub fn read_turns(alloc: Global, bytes: &[u8]) -> Result<Vec<InstNo>, TurnsFault>
+/// The instances that the numbers among the bytes name, one for each turn, or the place, from 1, of the first token that is no number
+/// in range.
+pub fn read_turns(alloc: Global, bytes: &[u8]) -> Result<Vec<InstNo>, Stop>
     requires { length bytes.now < 2 ^ 32 - 1 }
-    ensures { ReadsTurns (λ turns. turns.items) result (turns_in bytes.now) }
+    ensures { Judges (λ turns. turns.items) (turns_then (turns_in bytes.now)) result }
 {
     let tokens = tokens_of(alloc, bytes)?;
     read_tokens(alloc, &tokens)
 }
 
 // The same if the tokens are known.
-fn read_tokens(alloc: Global, tokens: &[&[u8]]) -> Result<Vec<InstNo>, TurnsFault>
+fn read_tokens(alloc: Global, tokens: &[&[u8]]) -> Result<Vec<InstNo>, Stop>
     requires { length tokens.now < 2 ^ 32 }
-    ensures { ReadsTurns (λ turns. turns.items) result (turns_of (map (λ token. token.now) tokens.now)) }
+    ensures { Judges (λ turns. turns.items) (turns_then (turns_of (map (λ token. token.now) tokens.now))) result }
 {
     let mut turns = Vec::new(alloc);
     for (k, token) in tokens.iter().enumerate() {
         match number_in(token) {
             Ok(number) => turns.push(InstNo(number))?,
-            Err(_) => return Err(TurnsFault::At(k as u32 + 1)),
+            Err(_) => return Err(Stop::Faulty(InputFault::Turns(k as u32 + 1))),
         }
     }
     Ok(turns)

@@ -4,5 +4,4 @@ pub mod Gathered
 pub mod Openings
 pub mod OverFiles
 pub mod ReadFaults
-pub mod Refused
 pub mod StopLines

@@ -1,6 +1,5 @@
 -- The lines that answer, and the status.
-use Rattle.std.specs.Prelude.{◌≡◌, ℕ, List, [], ◌∷◌}
-use Rattle.metis_ujson.specs.Canonical.{canonical}
+use Rattle.std.specs.Prelude.{ℕ, List}
 use Rattle.metis_commands.specs.Audit.{Audited}
 use Rattle.metis_commands.specs.Control.{Controlled}
 use Rattle.metis_commands.specs.Confirm.{Confirms}
@@ -10,12 +9,12 @@ use Rattle.metis_commands.specs.Refute.{Judged}
 use Rattle.metis_planning.specs.Load.{Loaded}
 use Rattle.metis_commands.specs.Place.{Placed}
 use Rattle.metis_planning.specs.Plan.{PlanAnswer}
+use Rattle.metis_commands.specs.Print.{Printed}
 use Rattle.metis_commands.specs.Replay.{Replayed}
 use Rattle.metis_planning.specs.Rollout.{RolledOut}
 use Rattle.metis_commands.specs.Sim.{Simulated}
 use Rattle.metis_commands.specs.Waves.{Waved}
 use Rattle.metis_output.specs.declared.status.Status.{Status}
-use Rattle.metis_output.specs.declared.status.Status.TheVariants.{Done}
 use Rattle.metis_inputs.specs.Answer.{Answer, Plan, Replay, Refute, Audit, Sim, Crew, Waves, Control, Rollout, Place, Print, Load, Why, Confirm}
 
 -- these are the lines of such an answer, and its status
@@ -30,7 +29,7 @@ IsAnswer (Waves u actions numbers) lines status = Waved u actions numbers lines 
 IsAnswer (Control u actions script) lines status = Controlled u actions script lines status
 IsAnswer (Rollout u goals actions) lines status = RolledOut u goals actions lines status
 IsAnswer (Place u actions h) lines status = Placed u actions h lines status
-IsAnswer (Print u) lines status = (lines ≡ canonical u ∷ []) × (status ≡ Done)
+IsAnswer (Print u) lines status = Printed u lines status
 IsAnswer (Load size) lines status = Loaded size lines status
 IsAnswer (Why u goals) lines status = WhyAnswer u goals lines status
 IsAnswer (Confirm u goals why) lines status = Confirms u goals why lines status

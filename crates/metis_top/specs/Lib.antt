@@ -5,4 +5,3 @@ pub mod Honest
 pub mod Lines
 pub mod Numbered
 pub mod Openings
-pub mod Stops

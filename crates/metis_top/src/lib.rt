@@ -1,11 +1,10 @@
 //! The whole run of the program, over files and an output that are passed in.
 #![tactic(auto)]
 
-mod checks;
-mod plans;
+mod goals;
 mod stop;
-mod targets;
 mod top;
+mod universes;
 
 pub use metis_output::Status;
 pub use top::run;

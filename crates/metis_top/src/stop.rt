@@ -4,7 +4,7 @@ ghost use Rattle.metis_outside.specs.Pieces.{IsLine};
 ghost use Rattle.metis_output.specs.PutLines.{PutsLines};
 ghost use Rattle.metis_output.specs.Shown.{Shown};
 ghost use Rattle.metis_top.specs.Course.{StopSays};
-ghost use Rattle.metis_top.specs.Lines.{fault_line, fault_status, hosts_fault_line, is_told, limit_line, read_fault_line, state_line, text_fault_line, universe_line};
+ghost use Rattle.metis_top.specs.Lines.{fault_line, fault_status, hosts_fault_line, is_told, limit_line, state_line, text_fault_line, universe_line};
 
 use metis_ids::NoMemory;
 use metis_inputs::{InputFault, Stop};
@@ -106,12 +106,6 @@ fn hosts_fault_line(alloc: Global, fault: HFault) -> Result<String, AllocError>
     }
 }
 
-fn read_fault_line(alloc: Global, place: u32) -> Result<String, AllocError>
-    ensures { IfOk result (λ line. string_bytes line ≡ read_fault_line place) }
-{
-    format!(in alloc; "read fault {place}\n")
-}
-
 fn fault_status(fault: InputFault) -> Status
     ensures { result ≡ fault_status fault }
 {
@@ -149,7 +143,7 @@ fn stop_line(alloc: Global, stop: Stop) -> Result<(String, Status), NoMemory>
             Ok((line, fault_status(fault)))
         }
         Stop::Failed(place) => {
-            let line = read_fault_line(alloc, place)?;
+            let line = format!(in alloc; "read fault {place}\n")?;
             Ok((line, Status::ReadFault))
         }
         Stop::NoMemory => Err(NoMemory),

@@ -2,9 +2,9 @@ use Rattle.std.proofs.Common.{◌≡◌, ◌∙◌, ℕ, List, ap, length, nat_e
 use Rattle.std.proofs.lemmas.Iterator.Consumers.{YieldsList-from_filter, map_from_collect}
 use Rattle.std.proofs.lemmas.Iterator.Splits.{YieldsList-from_slice_split}
 use Rattle.metis_universe.specs.Universe.{is_empty}
-use Rattle.metis_inputs.proofs.TurnsRead.{counted_empty}
 use Rattle.metis_inputs.specs.Turns.{is_blank}
 use Rattle.metis_inputs.proofs.turns.tokens_of.Goals as goal
+use Rattle.metis_tokens.proofs.ScriptEnds.{counted_empty}
 
 pub returns-clause-tokens : goal.returns-clause-tokens
 returns-clause-tokens c =

@@ -9,4 +9,4 @@ returns-in_ok-line-in-Faulty-clause-line c =
     subst IsLine (sym c.in_ok-line-in-Faulty.ensures) (IsLine-fault_line c.in-Faulty.fault told)
 
 pub returns-in_ok-line-in-Failed-clause-line : goal.returns-in_ok-line-in-Failed-clause-line
-returns-in_ok-line-in-Failed-clause-line c = subst IsLine (sym c.in_ok-line-in-Failed.ensures) (IsLine-read_fault_line c.in-Failed.place)
+returns-in_ok-line-in-Failed-clause-line c = subst IsLine (sym c.in_ok-line-in-Failed.ensures.ok) (IsLine-read_fault_line c.in-Failed.place)

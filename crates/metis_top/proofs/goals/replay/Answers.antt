@@ -1,0 +1,23 @@
+use Rattle.std.proofs.Common.{ap, refl}
+use Rattle.metis_inputs.specs.declared.asked.AskedPlan.{AskedPlan}
+use Rattle.metis_output.proofs.Given.{given}
+use Rattle.std.proofs.lemmas.Result.{err_from_is_err_and}
+use Rattle.metis_top.proofs.Gathered.{command_halts, ran_answered}
+use Rattle.metis_inputs.specs.Views.{asked_plan_said}
+use Rattle.metis_words.specs.declared.words.Verb.TheVariants.{Replay}
+use Rattle.metis_commands.specs.Replay.{Replayed}
+use Rattle.metis_top.proofs.goals.replay.Goals as goal
+
+pub returns-clause-course : goal.returns-clause-course
+returns-clause-course g c =
+    let read = c.in_ok-read.read in
+    let universe = ap (λ (read : AskedPlan). read.asked.universe) c.read.view_is in
+    let goals = ap (λ (read : AskedPlan). read.asked.goals.items) c.read.view_is in
+    let actions = ap (λ (read : AskedPlan). read.text.plan.actions) c.read.view_is in
+    ran_answered _ _ _ _ _ Replay c.args.command.now asked_plan_said _ _ _ _ read _ c.requires c.finish.ensures.calm c.in_ok-read.ensures
+    (given (Replayed read.asked.universe read.asked.goals.items read.text.plan.actions) _ c.answer-answer.result _ _ _ _ _ (rw (c.deref.ensures.value, c.deref-2.ensures.value, universe, goals, actions) at c.answer-answer.ensures) c.finish.ensures.answer)
+
+pub returns-in_err-read-clause-course : goal.returns-in_err-read-clause-course
+returns-in_err-read-clause-course g c =
+    let stops = err_from_is_err_and c.from_residual.result c.from_residual.ensures.1 in
+    rw stops.1 (rw stops.2 (command_halts _ _ _ Replay c.args.command.now asked_plan_said _ _ _ c.requires c.in_err-read.ensures, refl))
