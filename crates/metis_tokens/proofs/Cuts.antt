@@ -42,10 +42,10 @@ module _ (p : ℕ → Bool) (xs : List ℕ) (y : ℕ) (ys : List ℕ) where
 
 -- ---- the tokens of a line
 
-not_space : (b : ℕ) → nat_lt 32 b ≡ true → is_space b ≡ false
+pub not_space : (b : ℕ) → nat_lt 32 b ≡ true → is_space b ≡ false
 not_space b h = grind (arith, nat_tests)
 
-no_space : (t : List ℕ) → printed t ≡ true → All (λ b. is_space b ≡ false) t
+pub no_space : (t : List ℕ) → printed t ≡ true → All (λ b. is_space b ≡ false) t
 no_space t h = All-weaker (λ b. nat_lt 32 b ≡ true) (λ b. is_space b ≡ false) not_space t (AllPass-from_list_all (nat_lt 32) t h)
 
 -- printed tokens are those of the line of their words

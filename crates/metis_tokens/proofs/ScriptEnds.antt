@@ -7,7 +7,7 @@ use Rattle.std.specs.Prelude.{length}
 use Rattle.metis_universe.specs.Universe.{is_empty}
 use Rattle.metis_tokens.specs.Scripts.{without_empty_end}
 
-counted_empty : (xs : List ℕ) → nat_eq (length xs) 0 ≡ is_empty xs
+pub counted_empty : (xs : List ℕ) → nat_eq (length xs) 0 ≡ is_empty xs
 counted_empty [] = refl
 counted_empty (x ∷ xs) = grind (arith, nat_tests)
 
