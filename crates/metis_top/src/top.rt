@@ -1,7 +1,7 @@
 //! The top call.
 ghost use Rattle.std.specs.Prelude.{◌≡◌, IfOk};
 ghost use Rattle.metis_outside.specs.Faults.{Rose};
-ghost use Rattle.metis_inputs.specs.Commands.{script_of};
+ghost use Rattle.metis_inputs.specs.Commands.{command_script, script_of};
 ghost use Rattle.metis_top.specs.Course.{Performs, Ran};
 ghost use Rattle.metis_top.specs.Honest.{Headline, IsThePlan, PlansHave, Tells, Undisturbed};
 ghost use Rattle.metis_top.specs.Numbered.{TellsReadFault};
@@ -18,7 +18,7 @@ use metis_inputs::Stop;
 use metis_output::Status;
 use metis_outside::{Shelf, Sink};
 use metis_waits::{complete_order_ends_alike, kept_order_is_a_run, own_order_is_kept};
-use metis_words::{Verb, read_words};
+use metis_words::{Command, Verb, read_words};
 use std::alloc::Global;
 
 /// Does all that the program does: reads the words and the files that they name, and puts the answer.
@@ -68,14 +68,14 @@ fn follow<H: Shelf, K: Sink>(alloc: Global, words: &[String], shelf: &mut H, out
     ensures course { Ran H.files H.faults H.opens K.written K.faults (script_of (texts words.now)) shelf.old shelf.new out.old out.new result }
     ensures lines { PutsLines (K.written out.old) (K.written out.new) result }
 {
-    match perform(alloc, words, shelf, out) {
+    match attempt(alloc, words, shelf, out) {
         Ok(status) => status,
         Err(stop) => end(alloc, stop, out),
     }
 }
 
 // Does what the words say, or tells why it stops before its work.
-fn perform<H: Shelf, K: Sink>(
+fn attempt<H: Shelf, K: Sink>(
     alloc: Global,
     words: &[String],
     shelf: &mut H,
@@ -85,20 +85,33 @@ fn perform<H: Shelf, K: Sink>(
     ensures lines { IfOk result (PutsLines (K.written out.old) (K.written out.new)) }
 {
     let command = read_words(alloc, words)?;
+    perform(alloc, &command, shelf, out)
+}
+
+// Does what the command's verb says.
+fn perform<H: Shelf, K: Sink>(
+    alloc: Global,
+    command: &Command,
+    shelf: &mut H,
+    out: &mut K,
+) -> Result<Status, Stop>
+    ensures course { Performs H.files H.faults H.opens K.written K.faults (command_script command.now) shelf.old shelf.new out.old out.new result }
+    ensures lines { IfOk result (PutsLines (K.written out.old) (K.written out.new)) }
+{
     match command.verb {
-        Verb::Plan => plan(alloc, &command, shelf, out),
-        Verb::Replay => replay(alloc, &command, shelf, out),
-        Verb::Refute => refute(alloc, &command, shelf, out),
-        Verb::Audit => audit(alloc, &command, shelf, out),
-        Verb::Sim => simulate(alloc, &command, shelf, out),
-        Verb::Crew => crew(alloc, &command, shelf, out),
-        Verb::Waves => waves(alloc, &command, shelf, out),
-        Verb::Control => control(alloc, &command, shelf, out),
-        Verb::Rollout => rollout(alloc, &command, shelf, out),
-        Verb::Place => place(alloc, &command, shelf, out),
-        Verb::Print => print(alloc, &command, shelf, out),
-        Verb::Load => load(alloc, &command, shelf, out),
-        Verb::Why => why(alloc, &command, shelf, out),
-        Verb::Confirm => confirm(alloc, &command, shelf, out),
+        Verb::Plan => plan(alloc, command, shelf, out),
+        Verb::Replay => replay(alloc, command, shelf, out),
+        Verb::Refute => refute(alloc, command, shelf, out),
+        Verb::Audit => audit(alloc, command, shelf, out),
+        Verb::Sim => simulate(alloc, command, shelf, out),
+        Verb::Crew => crew(alloc, command, shelf, out),
+        Verb::Waves => waves(alloc, command, shelf, out),
+        Verb::Control => control(alloc, command, shelf, out),
+        Verb::Rollout => rollout(alloc, command, shelf, out),
+        Verb::Place => place(alloc, command, shelf, out),
+        Verb::Print => print(alloc, command, shelf, out),
+        Verb::Load => load(alloc, command, shelf, out),
+        Verb::Why => why(alloc, command, shelf, out),
+        Verb::Confirm => confirm(alloc, command, shelf, out),
     }
 }

@@ -2,7 +2,7 @@ use Rattle.std.proofs.Common.{refl}
 use Rattle.std.proofs.lemmas.Result.{err_from_is_err_and}
 use Rattle.metis_top.proofs.Gathered.{words_halt}
 use Rattle.metis_words.specs.Form.{Form}
-use Rattle.metis_top.proofs.top.perform.Goals as goal
+use Rattle.metis_top.proofs.top.attempt.Goals as goal
 
 pub returns-in_err-command-clause-course : goal.returns-in_err-command-clause-course
 returns-in_err-command-clause-course g c =
