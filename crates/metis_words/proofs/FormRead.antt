@@ -1,51 +1,43 @@
--- A command is its file words and then its target words.
-use Rattle.std.proofs.Common.{◌≡◌, ℕ, ◌+◌, List, [], drop, String, Ok, Err, ap, ◌∙◌}
-use Rattle.std.proofs.lemmas.List.{drop-map}
+-- A command is its file words and what stands behind them.
+use Rattle.std.proofs.Common.{◌≡◌, ℕ, ◌+◌, ◌-◌, ◌≤◌, List, [], ◌∷◌, drop, get_or, length, take, String, Result, Ok, Err, ap, refl, sym, subst, ◌∙◌, arith, rules, length-drop}
+use Rattle.std.proofs.lemmas.List.{drop-map, take_all}
 use Rattle.std.specs.Prelude.{string_bytes}
 use Rattle.std.specs.declared.alloc.Global.{Global}
-use Rattle.metis_words.specs.Form.{Form}
+use Rattle.metis_words.specs.Form.{form_by}
 use Rattle.metis_words.specs.Forms.{file_count, number_count, target_limit}
-use Rattle.metis_words.specs.TargetName.{TargetName}
-use Rattle.metis_words.specs.Words.{ReadsWords, files_in, form_with_files, form_with_numbers, numbers_after, targets_in, with_files, with_files_and_numbers, with_numbers, with_targets}
+use Rattle.metis_words.specs.Words.{ReadsWords, and_then, files_in, form_behind, form_of, form_with, numbers_after, size_in, targets_in, verb_named, with_verb}
 use Rattle.metis_words.specs.declared.words.Verb.{Verb}
+use Rattle.metis_words.specs.declared.words.Verb.TheVariants.{Load, Waves}
 use Rattle.metis_words.specs.declared.words.WordFault.{WordFault}
 use Rattle.metis_words.specs.declared.words.WordFault.TheVariants.{At, NoMemory}
 use Rattle.metis_universe.specs.Texts.{texts}
 
-pub form_read : (verb : Verb) (words files : List (String Global)) (targets : List TargetName) → files_in (file_count verb) (texts words) ≡ Ok (texts files)
-    → targets_in (file_count verb + 2) (target_limit verb) (texts (drop (file_count verb) words)) ≡ Ok targets
-    → form_with_files verb (texts words) ≡ Ok (record { verb = verb; files = texts files; targets = targets; size = 0; numbers = [] })
-form_read verb words files targets first rest =
-    let n = file_count verb in
-    ap (λ f. with_files verb f (drop n (texts words))) first
-    ∙ ap (λ l. with_targets verb (texts files) (targets_in (n + 2) (target_limit verb) l)) (drop-map (λ text. string_bytes text) n words)
-    ∙ ap (with_targets verb (texts files)) rest
+rest_of : (n : ℕ) (words : List (String Global)) → take (length words - n) (drop n words) ≡ drop n words
+rest_of n words = take_all (length words - n) (drop n words) (omega (arith, length-drop n words))
 
-pub form_misread : {Y Z : Type 0} (verb : Verb) (words files : List (String Global)) (fault : WordFault) (view : Y → List TargetName) (view' : Z → Form) → files_in (file_count verb) (texts words) ≡ Ok (texts files)
-    → ReadsWords view (Err fault) (targets_in (file_count verb + 2) (target_limit verb) (texts (drop (file_count verb) words)))
-    → ReadsWords view' (Err fault) (form_with_files verb (texts words))
-form_misread verb words files (At place) view view' first rest =
-    let n = file_count verb in
-    ap (λ f. with_files verb f (drop n (texts words))) first
-    ∙ ap (λ l. with_targets verb (texts files) (targets_in (n + 2) (target_limit verb) l)) (drop-map (λ text. string_bytes text) n words)
-    ∙ ap (with_targets verb (texts files)) rest
-form_misread verb words files NoMemory view view' first rest = tt
+pub first_word : (words : List (String Global)) (word : String Global) → 1 ≤ length words → word ≡ get_or words 0 word
+    → form_of (texts words) ≡ with_verb (verb_named (string_bytes word)) (texts (take (length words - 1) (drop 1 words)))
+first_word [] word low is = absurd (omega arith)
+first_word (w ∷ words) word low is = ap (λ w. with_verb (verb_named (string_bytes w)) (texts words)) (sym is) ∙ ap (λ l. with_verb (verb_named (string_bytes word)) (texts l)) (sym (rest_of 1 (w ∷ words)))
 
-pub form_numbered : (verb : Verb) (words files : List (String Global)) (numbers : List ℕ) → files_in (file_count verb) (texts words) ≡ Ok (texts files)
-    → numbers_after [] (file_count verb + 2) (number_count verb) (texts (drop (file_count verb) words)) ≡ Ok numbers
-    → form_with_numbers verb (texts words) ≡ Ok (record { verb = verb; files = texts files; targets = []; size = 0; numbers = numbers })
-form_numbered verb words files numbers first rest =
-    let n = file_count verb in
-    ap (λ f. with_files_and_numbers verb f (drop n (texts words))) first
-    ∙ ap (λ l. with_numbers verb (texts files) (numbers_after [] (n + 2) (number_count verb) l)) (drop-map (λ text. string_bytes text) n words)
-    ∙ ap (with_numbers verb (texts files)) rest
+-- a word that does not fit stops what goes on behind it
+pub stops : {A B X Y : Type 0} (fault : WordFault) (meaning : Result X ℕ) (next : X → Result Y ℕ) (view : A → X) (view' : B → Y) → ReadsWords view (Err fault) meaning → ReadsWords view' (Err fault) (and_then meaning next)
+stops (At place) meaning next view view' is = ap (λ r. and_then r next) is
+stops NoMemory meaning next view view' is = tt
 
-pub form_misnumbered : {Y Z : Type 0} (verb : Verb) (words files : List (String Global)) (fault : WordFault) (view : Y → List ℕ) (view' : Z → Form) → files_in (file_count verb) (texts words) ≡ Ok (texts files)
-    → ReadsWords view (Err fault) (numbers_after [] (file_count verb + 2) (number_count verb) (texts (drop (file_count verb) words)))
-    → ReadsWords view' (Err fault) (form_with_numbers verb (texts words))
-form_misnumbered verb words files (At place) view view' first rest =
+pub behind_files : (verb : Verb) (words files : List (String Global)) → files_in (file_count verb) (texts words) ≡ Ok (texts files)
+    → form_with verb (texts words) ≡ form_behind verb (texts files) (texts (take (length words - file_count verb) (drop (file_count verb) words)))
+behind_files verb words files read =
     let n = file_count verb in
-    ap (λ f. with_files_and_numbers verb f (drop n (texts words))) first
-    ∙ ap (λ l. with_numbers verb (texts files) (numbers_after [] (n + 2) (number_count verb) l)) (drop-map (λ text. string_bytes text) n words)
-    ∙ ap (with_numbers verb (texts files)) rest
-form_misnumbered verb words files NoMemory view view' first rest = tt
+    ap (λ f. and_then f (λ files. form_behind verb files (drop n (texts words)))) read
+    ∙ ap (form_behind verb (texts files)) (drop-map (λ text. string_bytes text) n words ∙ ap texts (sym (rest_of n words)))
+
+module _ (verb : Verb) (files rest : List (List ℕ)) where
+  pub sized : verb ≡ Load → form_behind verb files rest ≡ and_then (size_in rest) (λ size. Ok (form_by verb files [] size []))
+  sized is = subst (λ v. form_behind v files rest ≡ and_then (size_in rest) (λ size. Ok (form_by v files [] size []))) (sym is) refl
+
+  pub numbered : verb ≡ Waves → form_behind verb files rest ≡ and_then (numbers_after [] (file_count verb + 2) (number_count verb) rest) (λ numbers. Ok (form_by verb files [] 0 numbers))
+  numbered is = subst (λ v. form_behind v files rest ≡ and_then (numbers_after [] (file_count v + 2) (number_count v) rest) (λ numbers. Ok (form_by v files [] 0 numbers))) (sym is) refl
+
+  pub aimed : (verb ≡ Load → ⊥) → (verb ≡ Waves → ⊥) → form_behind verb files rest ≡ and_then (targets_in (file_count verb + 2) (target_limit verb) rest) (λ targets. Ok (form_by verb files targets 0 []))
+  aimed no_load no_waves = search rules

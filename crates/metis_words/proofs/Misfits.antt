@@ -1,15 +1,19 @@
 -- The first word that does not fit.
-use Rattle.std.proofs.Common.{◌≡◌, ℕ, zero, suc, ◌+◌, ◌<◌, ◌≤◌, Bool, true, false, not, ◌&&◌, List, [], ◌∷◌, ◌++◌, length, map, take, get_or, Some, None, Ok, Err, option_map, refl, sym, ap, ◌∙◌, arith, nat_eq}
-use Rattle.std.proofs.lemmas.Bool.{eq-eqb, false≢true, lt-ltb, ltb_from_iff}
+use Rattle.std.proofs.Common.{◌≡◌, ℕ, zero, suc, ◌+◌, ◌<◌, ◌≤◌, Bool, true, false, not, ◌&&◌, List, [], ◌∷◌, ◌++◌, length, map, take, get_or, Some, None, Ok, Err, Option, Result, option_map, refl, sym, subst, ap, ◌∙◌, arith, nat_eq}
+use Rattle.std.proofs.Math.Dec.{eqb-suc-zero}
+use Rattle.std.proofs.lemmas.Bool.{false≢true, lt-ltb, ltb_from_iff}
 use Rattle.std.proofs.lemmas.List.Elements.{filter_map-append}
 use Rattle.std.proofs.lemmas.List.{take-map}
 use Rattle.std.proofs.lemmas.Option.{slice_get-get_or, slice_get-map, slice_get_past, same_Some}
 use Rattle.std.specs.List.{filter_map, find, list_any, range_with_len, slice_get}
+use Rattle.std.proofs.lemmas.Result.{err_from_is_err_and}
 use Rattle.std.specs.Prelude.{is_some}
-use Rattle.std.specs.Option.{option_map_or}
+use Rattle.std.specs.Option.{ok_or, option_map_or}
+use Rattle.std.specs.Result.{IsErrAnd}
 use Rattle.metis_words.specs.TargetName.{TargetName}
-use Rattle.metis_words.specs.Words.{file_fits, fits_after, is_dash, target_fits, target_of, unless_misfit}
-use Rattle.metis_universe.specs.Universe.{is_empty}
+use Rattle.metis_words.specs.Words.{ReadsWords, file_fits, fits_after, is_dash, target_fits, target_of, unless_misfit}
+use Rattle.metis_words.specs.declared.words.WordFault.{WordFault}
+use Rattle.metis_words.specs.declared.words.WordFault.TheVariants.{At}
 use Rattle.metis_ids.proofs.Finding.{found_in_range}
 
 pub misfit_at : {X : Type 0} (t : ℕ → Bool) (first n k : ℕ) (x : X) → k < n → find t (range_with_len 0 k) ≡ None → t k ≡ true → unless_misfit first (find t (range_with_len 0 n)) x ≡ Err (first + k)
@@ -20,17 +24,24 @@ misfit_at t first n k x low none bad =
 pub all_fit : {X : Type 0} (t : ℕ → Bool) (first n : ℕ) (x : X) → find t (range_with_len 0 n) ≡ None → unless_misfit first (find t (range_with_len 0 n)) x ≡ Ok x
 all_fit t first n x none = ap (λ o. unless_misfit first o x) none
 
+-- a word for which there is nothing stops the reading, at its place
+pub stops_at : {X Y Z : Type 0} (r : Result Y WordFault) (o : Option X) (fault : WordFault) (place : ℕ) (view : Y → Z) (meaning : Result Z ℕ) → IsErrAnd r (λ e. e ≡ fault) → Err fault ≡ ok_or o (At place) → o ≡ None → meaning ≡ Err place
+    → ReadsWords view r meaning
+stops_at {X = X} r o fault place view meaning err told none is =
+    let stops = err_from_is_err_and r err in
+    let same : Err fault ≡ ok_or {T = X} None (At place) = told ∙ ap (λ o. ok_or o (At place)) none in
+    let at : stops.0 ≡ At place = cc in
+    subst (λ r. ReadsWords view r meaning) (sym (stops.1 ∙ ap Err at)) is
+
 -- ---- one word
 
-no_text : (word : List ℕ) → nat_eq (length word) 0 ≡ false → is_empty word ≡ false
-no_text [] h = absurd (false≢true (sym h ∙ eq-eqb 0 0 refl))
-no_text (b ∷ word) h = refl
+pub fits_dash : (earlier : List (List ℕ)) (word : List ℕ) → is_dash word ≡ true → not (list_any is_dash earlier) ≡ fits_after earlier word
+fits_dash earlier [] dash = absurd (false≢true dash)
+fits_dash earlier (b ∷ word) dash = ap (λ d. not (d && list_any is_dash earlier)) (sym dash)
 
-pub fits_dash : (earlier : List (List ℕ)) (word : List ℕ) → nat_eq (length word) 0 ≡ false → is_dash word ≡ true → not (list_any is_dash earlier) ≡ fits_after earlier word
-fits_dash earlier word text dash = ap (λ b. b && not (list_any is_dash earlier)) (ap not (sym (no_text word text))) ∙ ap (λ b. not (is_empty word) && not (b && list_any is_dash earlier)) (sym dash)
-
-pub fits_plain : (earlier : List (List ℕ)) (word : List ℕ) → nat_eq (length word) 0 ≡ false → is_dash word ≡ false → true ≡ fits_after earlier word
-fits_plain earlier word text plain = ap (λ b. b && true) (ap not (sym (no_text word text))) ∙ ap (λ b. not (is_empty word) && not (b && list_any is_dash earlier)) (sym plain)
+pub fits_plain : (earlier : List (List ℕ)) (word : List ℕ) → is_dash word ≡ false → not (nat_eq (length word) 0) ≡ fits_after earlier word
+fits_plain earlier [] plain = refl
+fits_plain earlier (b ∷ word) plain = ap not (eqb-suc-zero (length word)) ∙ ap (λ d. not (d && list_any is_dash earlier)) (sym plain)
 
 -- ---- words one by one
 

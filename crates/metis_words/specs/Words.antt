@@ -1,7 +1,8 @@
 -- The words of a command, read from the left. Places start at 1.
 --     target_of word      the names of a type and of a state, with a colon between them
 --     file_fits words k      word k of these is a file word, if those before it are file words too
---     size_of word      the number that the word is, if it is one from 1 to 128
+--     number_within least most word      the number that the word is, if it is one of these
+--     size_in words      a size from 1 to 128, and nothing behind it
 --     duration_of word      the number that the word is, if it is at most 1,000,000
 --     numbers_after found place n words      so many such numbers, and nothing behind them
 --     target_fits limit words k      word k of these is a target word, and not past the limit
@@ -14,7 +15,7 @@ use Rattle.std.specs.Str.{bytes_eq}
 use Rattle.metis_tokens.specs.Tokens.{number_in}
 use Rattle.metis_universe.specs.PairWords.{pair_names}
 use Rattle.metis_universe.specs.Universe.{is_empty}
-use Rattle.metis_words.specs.Form.{Form}
+use Rattle.metis_words.specs.Form.{Form, form_by}
 use Rattle.metis_words.specs.Forms.{file_count, number_count, target_limit}
 use Rattle.metis_words.specs.TargetName.{TargetName}
 use Rattle.metis_words.specs.declared.words.Verb.{Verb}
@@ -62,39 +63,24 @@ files_in count words = unless_misfit 2 (file_misfit count words) (take count wor
 abbrev pub targets_in : ℕ → ℕ → List (List ℕ) → Result (List TargetName) ℕ
 targets_in first limit words = unless_misfit first (target_misfit limit words) (filter_map target_of words)
 
-abbrev pub with_targets : Verb → List (List ℕ) → Result (List TargetName) ℕ → Result Form ℕ
-with_targets verb files (Err place) = Err place
-with_targets verb files (Ok targets) = Ok (record { verb = verb; files = files; targets = targets; size = 0; numbers = [] })
+abbrev pub if_within : ℕ → ℕ → ℕ → Option ℕ
+if_within least most n = if nat_le least n && nat_le n most then Some n else None
 
-abbrev pub with_files : Verb → Result (List (List ℕ)) ℕ → List (List ℕ) → Result Form ℕ
-with_files verb (Err place) rest = Err place
-with_files verb (Ok files) rest = with_targets verb files (targets_in (file_count verb + 2) (target_limit verb) rest)
+abbrev pub number_within : ℕ → ℕ → List ℕ → Option ℕ
+number_within least most word = option_and_then (if_within least most) (result_ok (number_in word))
 
--- the file words of the verb, and then target words
-abbrev pub form_with_files : Verb → List (List ℕ) → Result Form ℕ
-form_with_files verb words = with_files verb (files_in (file_count verb) words) (drop (file_count verb) words)
-
-abbrev pub size_if_fits : ℕ → Option ℕ
-size_if_fits n = if nat_le 1 n && nat_le n 128 then Some n else None
-
-abbrev pub size_of : List ℕ → Option ℕ
-size_of word = option_and_then size_if_fits (result_ok (number_in word))
-
-abbrev pub form_with_size : Option ℕ → List (List ℕ) → Result Form ℕ
-form_with_size None more = Err 2
-form_with_size (Some size) [] = Ok (record { verb = Load; files = []; targets = []; size = size; numbers = [] })
-form_with_size (Some size) (word ∷ more) = Err 3
+abbrev pub size_alone : Option ℕ → List (List ℕ) → Result ℕ ℕ
+size_alone None more = Err 2
+size_alone (Some size) [] = Ok size
+size_alone (Some size) (word ∷ more) = Err 3
 
 -- a size, and nothing behind it
-abbrev pub sized_form : List (List ℕ) → Result Form ℕ
-sized_form [] = Err 2
-sized_form (word ∷ more) = form_with_size (size_of word) more
-
-abbrev pub duration_if_fits : ℕ → Option ℕ
-duration_if_fits n = if nat_le n 1000000 then Some n else None
+abbrev pub size_in : List (List ℕ) → Result ℕ ℕ
+size_in [] = Err 2
+size_in (word ∷ more) = size_alone (number_within 1 128 word) more
 
 abbrev pub duration_of : List ℕ → Option ℕ
-duration_of word = option_and_then duration_if_fits (result_ok (number_in word))
+duration_of word = number_within 0 1000000 word
 
 -- goes on with a number, unless there is none
 abbrev pub number_then : Option ℕ → ℕ → (ℕ → Result (List ℕ) ℕ) → Result (List ℕ) ℕ
@@ -108,22 +94,19 @@ numbers_after found place zero (word ∷ words) = Err place
 numbers_after found place (suc n) [] = Err place
 numbers_after found place (suc n) (word ∷ words) = number_then (duration_of word) place (λ d. numbers_after (found ++ d ∷ []) (place + 1) n words)
 
-abbrev pub with_numbers : Verb → List (List ℕ) → Result (List ℕ) ℕ → Result Form ℕ
-with_numbers verb files (Err place) = Err place
-with_numbers verb files (Ok numbers) = Ok (record { verb = verb; files = files; targets = []; size = 0; numbers = numbers })
+-- goes on with what was read, unless a word did not fit
+abbrev pub and_then : {X Y : Type 0} → Result X ℕ → (X → Result Y ℕ) → Result Y ℕ
+and_then (Err place) next = Err place
+and_then (Ok x) next = next x
 
-abbrev pub with_files_and_numbers : Verb → Result (List (List ℕ)) ℕ → List (List ℕ) → Result Form ℕ
-with_files_and_numbers verb (Err place) rest = Err place
-with_files_and_numbers verb (Ok files) rest = with_numbers verb files (numbers_after [] (file_count verb + 2) (number_count verb) rest)
-
--- the file words of the verb, and then its numbers
-abbrev pub form_with_numbers : Verb → List (List ℕ) → Result Form ℕ
-form_with_numbers verb words = with_files_and_numbers verb (files_in (file_count verb) words) (drop (file_count verb) words)
+-- behind the file words of the verb what else it has
+abbrev pub form_behind : Verb → List (List ℕ) → List (List ℕ) → Result Form ℕ
+form_behind Load files rest = and_then (size_in rest) (λ size. Ok (form_by Load files [] size []))
+form_behind Waves files rest = and_then (numbers_after [] (file_count Waves + 2) (number_count Waves) rest) (λ numbers. Ok (form_by Waves files [] 0 numbers))
+form_behind verb files rest = and_then (targets_in (file_count verb + 2) (target_limit verb) rest) (λ targets. Ok (form_by verb files targets 0 []))
 
 abbrev pub form_with : Verb → List (List ℕ) → Result Form ℕ
-form_with Load words = sized_form words
-form_with Waves words = form_with_numbers Waves words
-form_with verb words = form_with_files verb words
+form_with verb words = and_then (files_in (file_count verb) words) (λ files. form_behind verb files (drop (file_count verb) words))
 
 abbrev pub verb_named : List ℕ → Option Verb
 verb_named word =

@@ -1,9 +1,8 @@
 //! From words to a command.
-ghost use Rattle.std.specs.Prelude.{◌≡◌, ◌+◌, ◌≤◌, [], IfOk, IfSome, length, string_bytes};
+ghost use Rattle.std.specs.Prelude.{◌≡◌, ◌<◌, ◌≤◌, [], IfOk, IfSome, IsTrue, length, string_bytes};
 ghost use Rattle.std.specs.List.{All, list_any};
 ghost use Rattle.metis_universe.specs.Texts.{texts};
-ghost use Rattle.metis_words.specs.Forms.{least_size, number_count};
-ghost use Rattle.metis_words.specs.Words.{duration_of, files_in, fits_after, form_of, form_with, form_with_files, form_with_numbers, is_dash, numbers_after, size_of, sized_form, target_of, targets_in, verb_named, ReadsWords};
+ghost use Rattle.metis_words.specs.Words.{file_fits, files_in, form_of, form_with, is_dash, number_within, numbers_after, size_in, target_of, targets_in, verb_named, ReadsWords};
 
 use crate::words::{Command, TargetWord, Verb, WordFault};
 use metis_tokens::number_in;
@@ -46,84 +45,55 @@ fn verb_named(word: &str) -> Option<Verb>
     }
 }
 
+// The file words of the verb, and behind them what else it has: a size, or numbers, or target words.
 fn read_form(alloc: Global, verb: Verb, words: &[String]) -> Result<Command, WordFault>
     ensures { ReadsWords (λ c. c) result (form_with verb (texts words.now)) }
 {
+    let count = verb.file_count();
+    let files = read_files(alloc, count, words)?;
+    let (first, rest) = (count as u32 + 2, &words[count..]);
+    let mut targets = Vec::new(alloc);
+    let mut size = 0;
+    let mut numbers = Vec::new(alloc);
     match verb {
-        Verb::Load => read_size(alloc, words),
-        Verb::Waves => read_over_numbers(alloc, verb, words),
-        _ => read_over_files(alloc, verb, words),
+        Verb::Load => size = read_size(rest)?,
+        Verb::Waves => numbers = read_numbers(alloc, first, verb.number_count(), rest)?,
+        _ => targets = read_targets(alloc, first, verb.target_limit(), rest)?,
     }
+    Ok(Command {
+        verb,
+        files,
+        targets,
+        size,
+        numbers,
+    })
 }
 
-// A size, and nothing behind it.
-fn read_size(alloc: Global, words: &[String]) -> Result<Command, WordFault>
-    ensures { ReadsWords (λ c. c) result (sized_form (texts words.now)) }
+// A size from 1 to 128, and nothing behind it.
+fn read_size(words: &[String]) -> Result<u32, WordFault>
+    ensures size { ReadsWords (λ n. n) result (size_in (texts words.now)) }
+    ensures least { IfOk result (λ n. 1 ≤ n) }
+    ensures most { IfOk result (λ n. n ≤ 128) }
 {
     match words {
         [] => Err(WordFault::At(2)),
-        [word, more @ ..] => match size_of(word.as_str()) {
-            Some(_) if !more.is_empty() => Err(WordFault::At(3)),
-            Some(size) => Ok(Command {
-                verb: Verb::Load,
-                files: Vec::new(alloc),
-                targets: Vec::new(alloc),
-                size,
-                numbers: Vec::new(alloc),
-            }),
+        [word, more @ ..] => match number_within(word.as_str(), 1, 128) {
+            Some(size) if more.is_empty() => Ok(size),
+            Some(_) => Err(WordFault::At(3)),
             None => Err(WordFault::At(2)),
         },
     }
 }
 
-// The number that the word is, if it is one from 1 to 128.
-fn size_of(word: &str) -> Option<u32>
-    ensures { result ≡ size_of word.now }
+// The number that the word is, if it is one of these.
+fn number_within(word: &str, least: u32, most: u32) -> Option<u32>
+    ensures value { result ≡ number_within least most word.now }
+    ensures least { IfSome result (λ n. least ≤ n) }
+    ensures most { IfSome result (λ n. n ≤ most) }
 {
     match number_in(word.as_bytes()) {
-        Ok(n) if 1 <= n && n <= 128 => Some(n),
+        Ok(n) if least <= n && n <= most => Some(n),
         _ => None,
-    }
-}
-
-// The file words of the verb, and then target words.
-fn read_over_files(alloc: Global, verb: Verb, words: &[String]) -> Result<Command, WordFault>
-    requires size { least_size verb ≡ 0 }
-    requires numbers { number_count verb ≡ 0 }
-    ensures { ReadsWords (λ c. c) result (form_with_files verb (texts words.now)) }
-{
-    let count = verb.file_count();
-    let files = read_files(alloc, count, words)?;
-    let rest = &words[count..];
-    match read_targets(alloc, count as u32 + 2, verb.target_limit(), rest) {
-        Ok(targets) => Ok(Command {
-            verb,
-            files,
-            targets,
-            size: 0,
-            numbers: Vec::new(alloc),
-        }),
-        Err(fault) => Err(fault),
-    }
-}
-
-// The file words of the verb, and then its numbers.
-fn read_over_numbers(alloc: Global, verb: Verb, words: &[String]) -> Result<Command, WordFault>
-    requires { least_size verb ≡ 0 }
-    ensures { ReadsWords (λ c. c) result (form_with_numbers verb (texts words.now)) }
-{
-    let count = verb.file_count();
-    let files = read_files(alloc, count, words)?;
-    let rest = &words[count..];
-    match read_numbers(alloc, count as u32 + 2, verb.number_count(), rest) {
-        Ok(numbers) => Ok(Command {
-            verb,
-            files,
-            targets: Vec::new(alloc),
-            size: 0,
-            numbers,
-        }),
-        Err(fault) => Err(fault),
     }
 }
 
@@ -141,30 +111,15 @@ fn read_numbers(
     ensures small { IfOk result (λ numbers. All (λ n. n ≤ 1000000) numbers.items) }
 {
     let mut numbers = Vec::new(alloc);
-    for (k, word) in words.iter().enumerate() {
-        if k >= count {
-            return Err(WordFault::At(first + k as u32));
-        }
-        match duration_of(word.as_str()) {
-            Some(number) => numbers.push(number)?,
-            None => return Err(WordFault::At(first + k as u32)),
-        }
+    for k in 0..count {
+        let fault = WordFault::At(first + k as u32);
+        let word = words.get(k).ok_or(fault)?;
+        numbers.push(number_within(word.as_str(), 0, 1_000_000).ok_or(fault)?)?;
     }
-    if numbers.len() < count {
-        return Err(WordFault::At(first + numbers.len() as u32));
+    if words.len() > count {
+        return Err(WordFault::At(first + count as u32));
     }
     Ok(numbers)
-}
-
-// The number that the word is, if it is at most 1,000,000.
-fn duration_of(word: &str) -> Option<u32>
-    ensures value { result ≡ duration_of word.now }
-    ensures small { IfSome result (λ n. n ≤ 1000000) }
-{
-    match number_in(word.as_bytes()) {
-        Ok(n) if n <= 1_000_000 => Some(n),
-        _ => None,
-    }
 }
 
 // So many file words.
@@ -175,39 +130,31 @@ fn read_files(alloc: Global, count: usize, words: &[String]) -> Result<Vec<Strin
     ensures there { IfOk result (λ _. count ≤ length words.now) }
 {
     let mut files = Vec::new(alloc);
-    for (k, word) in words.iter().enumerate() {
-        if k >= count {
-            return Ok(files);
-        }
-        if !fits_after(&words[..k], word.as_str()) {
+    for k in 0..count {
+        if !file_fits(words, k) {
             return Err(WordFault::At(k as u32 + 2));
         }
-        files.push(word.clone()?)?;
-    }
-    if files.len() < count {
-        return Err(WordFault::At(files.len() as u32 + 2));
+        files.push(words[k].clone()?)?;
     }
     Ok(files)
 }
 
-// Whether the word names a file, if these words before it do. Standard input is named once.
-fn fits_after(earlier: &[String], word: &str) -> bool
-    ensures { result ≡ fits_after (texts earlier.now) word.now }
+// Whether the word of this number names a file, if those before it do. Standard input is named once.
+fn file_fits(words: &[String], k: usize) -> bool
+    ensures fits { result ≡ file_fits (texts words.now) k }
+    ensures there { IsTrue result → k < length words.now }
 {
-    !word.is_empty() && !(is_dash(word) && has_dash(earlier))
+    match words.get(k) {
+        Some(word) if word.as_str() == "-" => !has_dash(&words[..k]),
+        Some(word) => !word.is_empty(),
+        None => false,
+    }
 }
 
 fn has_dash(words: &[String]) -> bool
     ensures { result ≡ list_any (λ word. is_dash (string_bytes word)) words.now }
 {
-    words.iter().any(|word| is_dash(word.as_str()))
-}
-
-// Standard input.
-fn is_dash(word: &str) -> bool
-    ensures { result ≡ is_dash word.now }
-{
-    word == "-"
+    words.iter().any(|word| word.as_str() == "-")
 }
 
 // Target words, at most so many. The first of them has this place.
@@ -224,13 +171,11 @@ fn read_targets(
 {
     let mut targets = Vec::new(alloc);
     for (k, word) in words.iter().enumerate() {
+        let fault = WordFault::At(first + k as u32);
         if k >= limit {
-            return Err(WordFault::At(first + k as u32));
+            return Err(fault);
         }
-        match read_target(alloc, word.as_str())? {
-            Some(target) => targets.push(target)?,
-            None => return Err(WordFault::At(first + k as u32)),
-        }
+        targets.push(read_target(alloc, word.as_str())?.ok_or(fault)?)?;
     }
     Ok(targets)
 }

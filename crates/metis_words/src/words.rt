@@ -3,6 +3,7 @@ ghost use Rattle.std.specs.Prelude.{◌≡◌, ◌<◌, ◌≤◌, length};
 ghost use Rattle.std.specs.List.{All};
 ghost use Rattle.metis_words.specs.Forms.{file_count, number_count, target_limit};
 ghost use Rattle.metis_words.specs.Words.{word_at};
+ghost use Rattle.metis_words.specs.declared.words.WordFault.TheVariants.{NoMemory};
 
 use std::alloc::{AllocError, AllocFailed};
 use std::marker::Model;
@@ -48,14 +49,8 @@ impl Verb {
         match self {
             Verb::Load => 0,
             Verb::Plan | Verb::Print | Verb::Why => 1,
-            Verb::Replay
-            | Verb::Refute
-            | Verb::Audit
-            | Verb::Sim
-            | Verb::Waves
-            | Verb::Rollout
-            | Verb::Confirm => 2,
             Verb::Crew | Verb::Control | Verb::Place => 3,
+            _ => 2,
         }
     }
 
@@ -64,13 +59,6 @@ impl Verb {
         ensures { result ≡ target_limit self }
     {
         match self {
-            Verb::Plan
-            | Verb::Replay
-            | Verb::Refute
-            | Verb::Audit
-            | Verb::Rollout
-            | Verb::Why
-            | Verb::Confirm => 256,
             Verb::Sim
             | Verb::Crew
             | Verb::Waves
@@ -78,6 +66,7 @@ impl Verb {
             | Verb::Place
             | Verb::Print
             | Verb::Load => 0,
+            _ => 256,
         }
     }
 
@@ -165,8 +154,6 @@ pub enum WordFault {
 }
 
 impl From<AllocError> for WordFault {
-    ghost use Rattle.metis_words.specs.declared.words.WordFault.TheVariants.{NoMemory};
-
     ghost from_gives = { λ _ e. e ≡ NoMemory };
 
     fn from(_: AllocError) -> Self {
@@ -175,8 +162,6 @@ impl From<AllocError> for WordFault {
 }
 
 impl<T: Drop> From<AllocFailed<T>> for WordFault {
-    ghost use Rattle.metis_words.specs.declared.words.WordFault.TheVariants.{NoMemory};
-
     ghost from_gives = { λ _ e. e ≡ NoMemory };
 
     fn from(_: AllocFailed<T>) -> Self {

@@ -8,6 +8,6 @@ abbrev pub invariant-loop-k : goal.invariant-loop-k
 invariant-loop-k l = record {
   files : texts l.files.items ≡ take l.k (texts l.words);
   all : length l.files.items ≡ l.k;
-  few : l.k ≤ l.count;
+  there : l.k ≤ length l.words;
   fit : find (λ j. not (file_fits (texts l.words) j)) (range_with_len 0 l.k) ≡ None;
 }

@@ -9,6 +9,5 @@ abbrev pub invariant-loop-k : goal.invariant-loop-k
 invariant-loop-k l = record {
   rest : numbers_after l.numbers.items (l.first + l.k) (l.count - l.k) (drop l.k (texts l.words)) ≡ numbers_after [] l.first l.count (texts l.words);
   all : length l.numbers.items ≡ l.k;
-  few : l.k ≤ l.count;
   small : All (λ n. n ≤ 1000000) l.numbers.items;
 }
