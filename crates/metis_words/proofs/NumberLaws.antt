@@ -11,6 +11,9 @@ good ns = Ok ns
 abbrev bad : ℕ → Result (List ℕ) ℕ
 bad place = Err place
 
+no_both : (place : ℕ) (ns : List ℕ) → bad place ≡ good ns → ⊥
+no_both place ns e = cc
+
 -- ---- all are numbers
 
 record AreRead (found : List ℕ) (n : ℕ) (words : List (List ℕ)) (ns : List ℕ) : Type 0 where
@@ -24,15 +27,11 @@ ok_same a b h = cc
 
 read_all : (found : List ℕ) (place n : ℕ) (words : List (List ℕ)) (ns : List ℕ) → numbers_after found place n words ≡ Ok ns → AreRead found n words ns
 read_all found place zero [] ns h = record { more = []; behind = sym (ok_same found ns h) ∙ sym (append-nil found); count = refl; each = refl }
-read_all found place zero (word ∷ words) ns h = absurd (err_is_no_ok h) where
-  err_is_no_ok : bad place ≡ good ns → ⊥
-  err_is_no_ok e = cc
-read_all found place (suc n) [] ns h = absurd (err_is_no_ok h) where
-  err_is_no_ok : bad place ≡ good ns → ⊥
-  err_is_no_ok e = cc
+read_all found place zero (word ∷ words) ns h = absurd (no_both place ns h)
+read_all found place (suc n) [] ns h = absurd (no_both place ns h)
 read_all found place (suc n) (word ∷ words) ns h =
     elim (duration_of word) as (λ o. duration_of word ≡ o → number_then o place (λ d. numbers_after (found ++ d ∷ []) (place + 1) n words) ≡ Ok ns → AreRead found (suc n) (word ∷ words) ns) [
-      | None ↦ λ _ e. absurd (err_is_no_ok e)
+      | None ↦ λ _ e. absurd (no_both place ns e)
       | Some d ↦ λ is e.
           let rest = read_all (found ++ d ∷ []) (place + 1) n words ns e in
           record {
@@ -41,9 +40,7 @@ read_all found place (suc n) (word ∷ words) ns h =
             count = ap suc rest.count;
             each = (λ i. is i ∷ rest.each i);
           }
-    ] refl h where
-      err_is_no_ok : bad place ≡ good ns → ⊥
-      err_is_no_ok e = cc
+    ] refl h
 
 all_read : (found : List ℕ) (place n : ℕ) (words : List (List ℕ)) (ns : List ℕ) → length words ≡ n → map duration_of words ≡ map Some ns → numbers_after found place n words ≡ Ok (found ++ ns)
 all_read found place n [] [] count each = subst (λ m. numbers_after found place m [] ≡ Ok (found ++ [])) count (ap Ok (sym (append-nil found)))
@@ -78,9 +75,7 @@ told_here : (place k : ℕ) → bad place ≡ bad k → k ≡ place + 0
 told_here place k h = let same = err_same place k h in omega (arith, same)
 
 first_after : (found : List ℕ) (place n k : ℕ) (words : List (List ℕ)) → numbers_after found place n words ≡ Err k → IsFirstNoNumber place n words k
-first_after found place zero k [] h = absurd (ok_is_no_err h) where
-  ok_is_no_err : good found ≡ bad k → ⊥
-  ok_is_no_err e = cc
+first_after found place zero k [] h = absurd (no_both k found (sym h))
 first_after found place zero k (word ∷ words) h = record { word = 0; at = told_here place k h; is = record { low = omega arith; before = λ j low. absurd (omega (arith, low)); here = inl (refl, omega arith) } }
 first_after found place (suc n) k [] h = record { word = 0; at = told_here place k h; is = record { low = omega arith; before = λ j low. absurd (omega (arith, low)); here = inr (omega arith, refl) } }
 first_after found place (suc n) k (word ∷ words) h =

@@ -16,8 +16,7 @@ returns-in_err-word-clause-numbers c =
     let k = c.loop-k.k in
     let none = c.in_err-word.ensures.ok_part in
     let past = (rw none at c.get.ensures.lookup).3 in
-    let long = length-map c.args.words.now (λ t. string_bytes t) in
-    let is : option_and_then duration_of (slice_get words k) ≡ None = ap (option_and_then duration_of) (slice_get_past words k (omega (arith, past, long))) in
+    let is : option_and_then duration_of (slice_get words k) ≡ None = ap (option_and_then duration_of) (slice_get_past words k (omega (arith, past, length-map c.args.words.now (λ t. string_bytes t)))) in
     stops_at c.from_residual.result c.get.result c.in_err-word.field-0.0 (c.args.first + k) _ _ c.from_residual.ensures.1 c.in_err-word.ensures.value none
     (sym c.loop-k.invariant.rest ∙ no_number words c.loop-k.numbers.items c.args.first c.args.count k c.loop-k-test.true is)
 
@@ -50,9 +49,5 @@ loop-k-preserved c =
 pub returns-then-words-count-clause-numbers : goal.returns-then-words-count-clause-numbers
 returns-then-words-count-clause-numbers c =
     let words = c.args.words.now in
-    let ended = c.loop-k-test.false in
-    let end = c.loop-k.auto.k-end in
-    let last : c.loop-k.k ≡ c.args.count = omega arith in
-    let long = length-map words (λ t. string_bytes t) in
-    let more = c.if-words-count.true in
-    sym (rw last at c.loop-k.invariant.rest) ∙ some_left (texts words) c.loop-k.numbers.items (c.args.first + c.args.count) c.args.count (omega arith)
+    let last : c.loop-k.k ≡ c.args.count = omega (arith, c.loop-k-test.false, c.loop-k.auto.k-end) in
+    sym (rw last at c.loop-k.invariant.rest) ∙ some_left (texts words) c.loop-k.numbers.items (c.args.first + c.args.count) c.args.count (omega (arith, c.if-words-count.true, length-map words (λ t. string_bytes t)))
