@@ -3,13 +3,11 @@ ghost use Rattle.std.specs.Prelude.{◌≡◌, ◌<◌, ◌-◌, ◌^◌, IfOk, 
 ghost use Rattle.std.specs.List.{All};
 ghost use Rattle.metis_actions.specs.Faults.{IsFaultOf, fault_text};
 ghost use Rattle.metis_shared.specs.Followed.{IsFollowed};
-ghost use Rattle.metis_shared.specs.Steady.{IsSteady, IsUnsteadyIn, TellsUnsteady, bad_line, loose_line, standing_after};
+ghost use Rattle.metis_shared.specs.Steady.{IsSteady, IsUnsteadyIn, TellsUnsteady, bad_line, standing_after};
 ghost use Rattle.metis_replay.specs.Exact.{Tells};
 ghost use Rattle.metis_replay.specs.Progress.{IsVerdictOf, after_feeding};
-ghost use Rattle.metis_universe.specs.Config.{empty};
 ghost use Rattle.metis_universe.specs.Goals.{IsGoalOf};
 ghost use Rattle.metis_universe.specs.Numbers.{IsOf};
-ghost use Rattle.metis_universe.specs.Step.{IsRun};
 
 use metis_actions::{AFault, fault_text};
 use metis_config::Config;
@@ -102,23 +100,13 @@ pub fn steady_waits(alloc: Global, u: &Universe, actions: &[Action]) -> Result<W
     ensures { IsSteady u.now actions.now result }
 {
     match follow(alloc, u, actions) {
-        Ok(Followed::Left(_left)) => waits_of_run(alloc, u, actions),
+        Ok(Followed::Left(_left)) => match waits(alloc, u, actions) {
+            Ok(waits) => Ok(waits),
+            Err(WFault::Loose(number)) => Err(Unsteady::Loose(number)),
+            Err(WFault::NoMemory) => Err(Unsteady::NoMemory),
+        },
         Ok(Followed::Bad(number, fault)) => Err(Unsteady::Bad(number, fault)),
         Err(_) => Err(Unsteady::NoMemory),
-    }
-}
-
-// The same of actions that can be done.
-fn waits_of_run(alloc: Global, u: &Universe, actions: &[Action]) -> Result<Waits, Unsteady>
-    requires numbers { All (IsOf u.now) actions.now }
-    requires few { length actions.now < 2 ^ 32 - 1 }
-    requires runs { IsRun u.now empty actions.now }
-    ensures { IsSteady u.now actions.now result }
-{
-    match waits(alloc, u, actions) {
-        Ok(waits) => Ok(waits),
-        Err(WFault::Loose(number)) => Err(Unsteady::Loose(number)),
-        Err(WFault::NoMemory) => Err(Unsteady::NoMemory),
     }
 }
 
@@ -130,7 +118,7 @@ pub fn unsteady_line(alloc: Global, u: &Universe, why: &Unsteady) -> Result<Once
     u.keeps_invariant();
     match *why {
         Unsteady::Bad(number, fault) => Ok(Once::of(bad_line(alloc, u, number, &fault)?)),
-        Unsteady::Loose(number) => Ok(Once::of(loose_line(alloc, number)?)),
+        Unsteady::Loose(number) => Ok(Once::of(format!(in alloc; "loose {number}\n")?)),
         Unsteady::NoMemory => Err(NoMemory),
     }
 }
@@ -146,12 +134,5 @@ pub fn bad_line(
     ensures { IfOk result (λ line. string_bytes line ≡ bad_line number (fault_text u.now fault.now)) }
 {
     let text = fault_text(alloc, u, fault)?;
-    let text = text.as_str();
     format!(in alloc; "bad {number} {text}\n")
-}
-
-fn loose_line(alloc: Global, number: u32) -> Result<String, AllocError>
-    ensures { IfOk result (λ line. string_bytes line ≡ loose_line number) }
-{
-    format!(in alloc; "loose {number}\n")
 }
