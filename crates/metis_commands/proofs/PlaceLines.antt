@@ -1,14 +1,12 @@
 -- Where a plan's instances are is told by lines.
-use Rattle.std.proofs.Common.{◌≡◌, ℕ, ◌+◌, ◌<◌, ◌==◌, suc, zero, Bool, true, false, not, List, [], ◌∷◌, ◌++◌, length, map, take, drop, get_or, refl, sym, ap, ◌∙◌, subst, decimal, arith, if◌then◌else◌}
-use Rattle.std.specs.Prelude.{None, Option, Some, codes}
-use Rattle.std.specs.List.{All, filter_map}
-use Rattle.std.specs.Option.{option_to_list}
+use Rattle.std.proofs.Common.{◌≡◌, ℕ, ◌+◌, ◌<◌, ◌==◌, suc, zero, true, false, not, List, [], ◌∷◌, ◌++◌, length, map, drop, get_or, refl, sym, ap, ◌∙◌, subst, decimal, arith, if◌then◌else◌}
+use Rattle.std.specs.Prelude.{codes}
+use Rattle.std.specs.List.{All}
 use Rattle.std.proofs.lemmas.Bool.{and_parts}
 use Rattle.std.proofs.lemmas.Bool.Decides.{nat_tests}
-use Rattle.std.proofs.lemmas.List.{drop_more, take_more}
-use Rattle.std.proofs.lemmas.List.Elements.{All-head, All-tail, All-weaker, filter_map-append}
-use Rattle.metis_commands.specs.Place.{hold_line, hold_lines, hold_of_action, inst_made, made_of, no_room_line, on_line, on_lines, placed_line}
-use Rattle.metis_ids.specs.declared.actions.Action.{Action}
+use Rattle.std.proofs.lemmas.List.{drop_more}
+use Rattle.std.proofs.lemmas.List.Elements.{All-head, All-tail, All-weaker}
+use Rattle.metis_commands.specs.Place.{hold_line, hold_lines, hold_of_action, no_room_line, on_line, on_lines, placed_line}
 use Rattle.metis_outside.proofs.Feeds.{IsLine-append, no_feed, no_feed-append, no_feed-decimal}
 use Rattle.metis_outside.specs.Pieces.{IsLine}
 use Rattle.metis_output.proofs.LineWords.{by_three, by_two, by_word, feed, number_then}
@@ -82,13 +80,3 @@ pub seats_end : (h : HostLists) (made places : List ℕ) → places ≡ [] → o
 seats_end h [] places none = refl
 seats_end h (z ∷ made) [] none = refl
 seats_end h (z ∷ made) (i ∷ places) none = cc
-
--- ---- the instances that are made
-
-pub made_next : (actions : List Action) (i : ℕ) (a d : Action) → i < length actions → a ≡ get_or actions i d → made_of (take (i + 1) actions) ≡ made_of (take i actions) ++ option_to_list (inst_made a)
-made_next actions i a d within is =
-    ap made_of (take_more actions i d within ∙ ap (λ x. take i actions ++ x ∷ []) (sym is))
-    ∙ filter_map-append inst_made (take i actions) (a ∷ []) ∙ ap (λ l. made_of (take i actions) ++ l) (one (inst_made a)) where
-      one : (o : Option ℕ) → filter_map (λ (x : Option ℕ). x) (o ∷ []) ≡ option_to_list o
-      one None = refl
-      one (Some z) = refl

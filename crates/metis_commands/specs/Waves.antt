@@ -2,10 +2,9 @@
 --     start_line k row, finish_line t, chain_line ks      the earliest and the latest start of action k;  when all is done;  the actions of the critical chain
 --     schedule_lines w      these lines
 --     durations_of ns      how long a new, a delete, a bind, an unbind and a move take
---     IsSchedule u actions ns made      the schedules of a steadfast run, or what keeps the actions from being one
 --     IsScheduled u actions ns lines status      the actions are a steadfast run, and the lines are those of their schedules
 --     Waved u actions ns lines status      that, or the one line is that of the first action that cannot be done, or of the first that is not steadfast
-use Rattle.std.specs.Prelude.{◌≡◌, ◌⊎◌, ℕ, List, [], ◌∷◌, ◌++◌, map, codes, decimal, slice_index_or, Result, Ok, Err}
+use Rattle.std.specs.Prelude.{◌≡◌, ◌⊎◌, ℕ, List, [], ◌∷◌, ◌++◌, map, codes, decimal, slice_index_or}
 use Rattle.std.specs.List.{zip}
 use Rattle.metis_ids.specs.declared.actions.Action.{Action}
 use Rattle.metis_tokens.specs.Line.{added, numbered}
@@ -13,8 +12,7 @@ use Rattle.metis_universe.specs.Steadfast.{IsSteadfastRun}
 use Rattle.metis_universe.specs.Universe.{Universe}
 use Rattle.metis_waves.specs.Waves.{AreWaves, WaveLists}
 use Rattle.metis_waves.specs.declared.durations.Durations.{Durations}
-use Rattle.metis_shared.specs.Steady.{HasBadAction, HasLooseAction, IsSteady}
-use Rattle.metis_shared.specs.declared.steady.Unsteady.{Unsteady}
+use Rattle.metis_shared.specs.Steady.{HasBadAction, HasLooseAction}
 use Rattle.metis_output.specs.declared.status.Status.{Status}
 use Rattle.metis_output.specs.declared.status.Status.TheVariants.{Done}
 
@@ -38,11 +36,6 @@ schedule_lines w = start_lines w.earliest w.latest ++ end_lines w.finish w.chain
 
 abbrev pub durations_of : List ℕ → Durations
 durations_of ns = record { new_inst = slice_index_or ns 0 0; delete = slice_index_or ns 1 0; bind = slice_index_or ns 2 0; unbind = slice_index_or ns 3 0; move_to = slice_index_or ns 4 0 }
-
--- what keeps the actions from being a steadfast run, or their schedules
-abbrev pub IsSchedule : Universe → List Action → List ℕ → Result WaveLists Unsteady → Type 0
-IsSchedule u actions ns (Ok schedules) = IsSteadfastRun u actions × AreWaves actions (durations_of ns) schedules
-IsSchedule u actions ns (Err why) = IsSteady u actions (Err why)
 
 pub record IsScheduled (u : Universe) (actions : List Action) (ns : List ℕ) (lines : List (List ℕ)) (status : Status) : Type 0 where
   pub run : IsSteadfastRun u actions

@@ -1,18 +1,17 @@
 //! The command that audits the dups of a plan.
 ghost use Rattle.std.specs.Prelude.{◌≡◌, ◌<◌, ◌≤◌, ◌-◌, ◌^◌, IfOk, length, string_bytes};
 ghost use Rattle.std.specs.List.{All};
-ghost use Rattle.metis_commands.specs.Audit.{Audited, AuditedFor, NamesPairOf, audit_line, audit_status, number_line};
-ghost use Rattle.metis_output.specs.Answers.{Says, status_for};
+ghost use Rattle.metis_commands.specs.Audit.{Audited, NamesPairOf, audit_line};
+ghost use Rattle.metis_output.specs.Answers.{Says};
 ghost use Rattle.metis_text.specs.PlanText.{IsWellFormed};
 ghost use Rattle.metis_text.specs.Reads.{lists_of};
 ghost use Rattle.metis_universe.specs.GoalWords.{IsWordable};
 ghost use Rattle.metis_universe.specs.Goals.{IsGoalOf};
-ghost use Rattle.metis_universe.specs.Universe.{pair_count};
 
 use crate::goal_line::goal_line;
 use metis_audit::{Answer as AuditAnswer, audit};
 use metis_choice::pairs_for_goals_hold_them;
-use metis_ids::{Goal, NoMemory, PairIx, Plan};
+use metis_ids::{Goal, NoMemory, Plan};
 use metis_output::{Answer, Lines, Once, line_answer};
 use metis_shared::{Aim, aim_of};
 use metis_text::PlanText;
@@ -36,37 +35,16 @@ pub fn answer(
     u.keeps_invariant();
     pairs_for_goals_hold_them();
     match aim_of(alloc, u, goals)? {
-        Aim::Pairs(pairs, _) => audit_for(alloc, u, text, &pairs),
+        Aim::Pairs(pairs, _) => {
+            let answer = audit(alloc, u, text, &pairs)?;
+            let line = audit_line(alloc, u, &text.plan, &answer)?;
+            Ok(line_answer(line, matches!(answer, AuditAnswer::Justified)))
+        }
         Aim::Lacks(refusal) => {
             let line = goal_line(alloc, u, "notattained", refusal.lacks)?;
             Ok(line_answer(line, false))
         }
     }
-}
-
-// What an audit for these pairs comes to.
-fn audit_for(
-    alloc: Global,
-    u: &Universe,
-    text: &PlanText,
-    pairs: &[PairIx],
-) -> Result<Answer<Once>, NoMemory>
-    requires few { length pairs.now ≤ 256 }
-    requires within { All (λ p. p < pair_count u.now) pairs.now }
-    requires formed { IsWellFormed u.now text.now.plan (lists_of text.now) }
-    requires few_actions { length text.now.plan.actions < 2 ^ 32 - 1 }
-    ensures { IfOk result (Says (AuditedFor u.now pairs.now text.now.plan (lists_of text.now)) ⟦<Once as Lines>⟧.rest) }
-{
-    u.keeps_invariant();
-    let answer = audit(alloc, u, text, pairs)?;
-    let line = audit_line(alloc, u, &text.plan, &answer)?;
-    Ok(line_answer(line, is_good(&answer)))
-}
-
-fn is_good(answer: &AuditAnswer) -> bool
-    ensures { status_for result ≡ audit_status answer.now }
-{
-    matches!(*answer, AuditAnswer::Justified)
 }
 
 // The line of an answer on the plan.
@@ -85,16 +63,10 @@ fn audit_line(
             format!(in alloc; "justified instances {instances} dups {dups}\n")
         }
         AuditAnswer::NotAttained(p) => goal_line(alloc, u, "notattained", Goal::Pair(p)),
-        AuditAnswer::NoCycle(number) => number_line(alloc, "nocycle", number),
+        AuditAnswer::NoCycle(number) => format!(in alloc; "nocycle {number}\n"),
         AuditAnswer::Count(have, want) => format!(in alloc; "count have {have} want {want}\n"),
-        AuditAnswer::Path(line) => number_line(alloc, "path", line),
-        AuditAnswer::Loose(number) => number_line(alloc, "loose", number),
-        AuditAnswer::After(number) => number_line(alloc, "after", number),
+        AuditAnswer::Path(line) => format!(in alloc; "path {line}\n"),
+        AuditAnswer::Loose(number) => format!(in alloc; "loose {number}\n"),
+        AuditAnswer::After(number) => format!(in alloc; "after {number}\n"),
     }
-}
-
-fn number_line(alloc: Global, start: &str, number: u32) -> Result<String, AllocError>
-    ensures { IfOk result (λ line. string_bytes line ≡ number_line start.now number) }
-{
-    format!(in alloc; "{start} {number}\n")
 }

@@ -1,8 +1,8 @@
 //! The command that checks an explanation.
 ghost use Rattle.std.specs.Prelude.{◌≡◌, ◌<◌, ◌^◌, IfOk, length, string_bytes};
 ghost use Rattle.std.specs.List.{All};
-ghost use Rattle.metis_commands.specs.Confirm.{Confirms, IsSayable, confirmation_line, confirmation_status};
-ghost use Rattle.metis_output.specs.Answers.{Says, status_for};
+ghost use Rattle.metis_commands.specs.Confirm.{Confirms, IsSayable, confirmation_line};
+ghost use Rattle.metis_output.specs.Answers.{Says};
 ghost use Rattle.metis_universe.specs.Goals.{IsGoalOf};
 ghost use Rattle.metis_why.specs.Confirm.{IsLineOf};
 
@@ -28,13 +28,7 @@ pub fn answer(
     u.keeps_invariant();
     let confirmation = confirm(u, lines, goals);
     let line = confirmation_line(alloc, u, &confirmation)?;
-    Ok(line_answer(line, is_good(&confirmation)))
-}
-
-fn is_good(confirmation: &Confirmation) -> bool
-    ensures { status_for result ≡ confirmation_status confirmation.now }
-{
-    matches!(*confirmation, Confirmation::Confirmed(_))
+    Ok(line_answer(line, matches!(confirmation, Confirmation::Confirmed(_))))
 }
 
 fn confirmation_line(
@@ -47,10 +41,7 @@ fn confirmation_line(
 {
     match *confirmation {
         Confirmation::Confirmed(goal) => goal_line(alloc, u, "confirmed lacks", goal),
-        Confirmation::Unfounded(place) => {
-            let number = place + 4;
-            format!(in alloc; "unfounded line {number}\n")
-        }
+        Confirmation::Unfounded(place) => format!(in alloc; "unfounded line {}\n", place + 4),
         Confirmation::LacksNone => String::from_str(alloc, "lacksnone\n"),
     }
 }

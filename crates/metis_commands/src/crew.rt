@@ -1,9 +1,8 @@
 //! The command that lets a crew take turns over a plan.
 ghost use Rattle.std.specs.Prelude.{◌≡◌, IfOk, OnOk, length, string_bytes};
-ghost use Rattle.metis_commands.specs.Crew.{Crewed, crew_lines, lines_left, progress_line, turn_line};
+ghost use Rattle.metis_commands.specs.Crew.{Crewed, lines_left, turn_line};
 ghost use Rattle.metis_output.specs.Answers.{Says};
 ghost use Rattle.metis_shared.specs.Steady.{IsSteady};
-ghost use Rattle.metis_waits.specs.Waits.{AreWaits};
 
 use metis_crew::{Crew, Turn};
 use metis_ids::{Action, InstNo, NoMemory};
@@ -29,7 +28,12 @@ pub fn answer<'a>(
 {
     match steady {
         Ok(waits) => Ok(Answer {
-            lines: Either::Second(turn_lines(alloc, actions, waits, turns)?),
+            lines: Either::Second(TurnLines {
+                crew: Crew::new(alloc, actions, waits)?,
+                all: actions.len(),
+                turns,
+                ended: false,
+            }),
             good: true,
         }),
         Err(why) => Ok(Answer {
@@ -37,25 +41,6 @@ pub fn answer<'a>(
             good: false,
         }),
     }
-}
-
-// The answers to the turns, one after the other, and then how many actions are done.
-fn turn_lines<'a>(
-    alloc: Global,
-    actions: &'a [Action],
-    waits: &'a Waits,
-    turns: &'a [InstNo],
-) -> Result<TurnLines<'a>, NoMemory>
-    requires { AreWaits actions.now waits.now }
-    ensures { IfOk result (λ l. ⟦<TurnLines<'a> as Lines>⟧.rest l ≡ crew_lines actions.now turns.now) }
-{
-    let crew = Crew::new(alloc, actions, waits)?;
-    Ok(TurnLines {
-        crew,
-        all: actions.len(),
-        turns,
-        ended: false,
-    })
 }
 
 /// A crew with the turns that are still to come, and then the line of how many actions are done.
@@ -83,7 +68,9 @@ impl<'a> Lines for TurnLines<'a> {
             return Ok(false);
         }
         self.ended = true;
-        set_progress_line(line, self.crew.done_count(), self.all)?;
+        let (done, all) = (self.crew.done_count(), self.all);
+        line.clear();
+        write!(line, "progress {done} of {all}\n")?;
         Ok(true)
     }
 }
@@ -99,12 +86,4 @@ fn set_turn_line(line: &mut String, answer: Turn) -> Result<(), AllocError>
         Turn::Done => line.push_str("done\n"),
         Turn::Nobody => line.push_str("nobody\n"),
     }
-}
-
-// The line becomes that of how many actions are done.
-fn set_progress_line(line: &mut String, done: u32, all: usize) -> Result<(), AllocError>
-    ensures { OnOk result (string_bytes line.new ≡ progress_line done all) }
-{
-    line.clear();
-    write!(line, "progress {done} of {all}\n")
 }

@@ -1,5 +1,5 @@
 //! A line that names a goal.
-ghost use Rattle.std.specs.Prelude.{◌≡◌, ◌++◌, IfOk, codes, string_bytes};
+ghost use Rattle.std.specs.Prelude.{◌≡◌, IfOk, string_bytes};
 ghost use Rattle.metis_commands.specs.GoalLine.{word_line};
 ghost use Rattle.metis_universe.specs.GoalWords.{goal_word};
 ghost use Rattle.metis_universe.specs.Goals.{IsGoalOf};
@@ -14,11 +14,5 @@ pub fn goal_line(alloc: Global, u: &Universe, start: &str, goal: Goal) -> Result
     ensures { IfOk result (λ line. string_bytes line ≡ word_line start.now (goal_word u.now goal)) }
 {
     let (kind, name) = u.goal_names(goal);
-    named_line(alloc, start, kind, name)
-}
-
-fn named_line(alloc: Global, start: &str, kind: &str, name: &str) -> Result<String, AllocError>
-    ensures { IfOk result (λ line. string_bytes line ≡ word_line start.now (kind.now ++ (codes ":" ++ name.now))) }
-{
     format!(in alloc; "{start} {kind}:{name}\n")
 }

@@ -1,15 +1,12 @@
 //! The command that puts a plan's instances on hosts.
-ghost use Rattle.std.specs.Prelude.{◌≡◌, ◌≤◌, ◌<◌, ◌-◌, ◌^◌, ◌++◌, ◌∷◌, [], ◌+◌, IfNone, IfOk, IfSome, IsTrue, OnOk, drop, get_or, length, string_bytes};
+ghost use Rattle.std.specs.Prelude.{◌≡◌, ◌≤◌, ◌<◌, ◌-◌, ◌^◌, IfOk, drop, length};
 ghost use Rattle.std.specs.List.{All};
-ghost use Rattle.std.specs.Option.{option_to_list};
-ghost use Rattle.metis_commands.specs.Place.{Placed, PlacedRun, hold_line, holds_behind, inst_made, made_of, no_room_line, on_line, on_lines, placed_line, placing_lines};
+ghost use Rattle.metis_commands.specs.Place.{Placed, holds_behind, made_of, on_lines, placing_lines};
 ghost use Rattle.metis_output.specs.Answers.{Says};
-ghost use Rattle.metis_universe.specs.Config.{empty};
 ghost use Rattle.metis_universe.specs.Numbers.{IsOf};
-ghost use Rattle.metis_universe.specs.Steadfast.{IsSteadfastRun};
 ghost use Rattle.metis_universe.specs.Universe.{type_count};
 
-use metis_ids::{Action, InstNo, NoMemory};
+use metis_ids::{Action, InstNo, Ix, NoMemory};
 use metis_output::{Answer, Chain, Either, Lines, Once};
 use metis_place::{Hold, Hosts, PFault, Placing, place};
 use metis_shared::{steady_waits, unsteady_line};
@@ -25,6 +22,7 @@ pub type PlaceLines<'a> = Either<Once, PlacingLines<'a>>;
 
 /// The first action that cannot be done or is not steadfast, or else the host of each instance that the actions make, and what
 /// they wait for besides.
+#[tactic(auto, using(crate::proofs::PlaceLines::is_no_room_line))]
 pub fn answer<'a>(
     alloc: Global,
     u: &Universe,
@@ -37,50 +35,30 @@ pub fn answer<'a>(
     requires sizes { length h.now.sizes ≡ type_count u.now }
     ensures { IfOk result (Says (Placed u.now actions.now h.now) ⟦<PlaceLines<'a> as Lines>⟧.rest) }
 {
-    match steady_waits(alloc, u, actions) {
-        Ok(_waits) => place_run(alloc, u, actions, h),
-        Err(why) => Ok(Answer {
+    if let Err(why) = steady_waits(alloc, u, actions) {
+        return Ok(Answer {
             lines: Either::First(unsteady_line(alloc, u, &why)?),
             good: false,
-        }),
+        });
     }
-}
-
-// The first New for which no host has room, or else where the instances are.
-fn place_run<'a>(
-    alloc: Global,
-    u: &Universe,
-    actions: &[Action],
-    h: &'a Hosts,
-) -> Result<Answer<PlaceLines<'a>>, NoMemory>
-    requires few { length actions.now < 2 ^ 32 - 1 }
-    requires steady { IsSteadfastRun u.now actions.now }
-    requires hosts { length h.now.hosts ≤ 65536 }
-    requires sizes { length h.now.sizes ≡ type_count u.now }
-    ensures { IfOk result (Says (PlacedRun u.now actions.now h.now) ⟦<PlaceLines<'a> as Lines>⟧.rest) }
-{
     match place(alloc, u, actions, h) {
         Ok(placing) => Ok(Answer {
             lines: Either::Second(placing_lines(alloc, h, actions, placing)?),
             good: true,
         }),
-        Err(PFault::NoRoom(number, size, free)) => Ok(Answer {
-            lines: Either::First(no_room_line(alloc, number, size, free)?),
-            good: false,
-        }),
+        Err(PFault::NoRoom(number, size, free)) => {
+            let line = format!(in alloc; "noroom {number} size {size} free {free}\n")?;
+            Ok(Answer {
+                lines: Either::First(Once::of(line)),
+                good: false,
+            })
+        }
         Err(PFault::NoMemory) => Err(NoMemory),
     }
 }
 
-#[tactic(auto, using(crate::proofs::PlaceLines::is_no_room_line))]
-fn no_room_line(alloc: Global, number: u32, size: u32, free: u64) -> Result<Once, AllocError>
-    ensures { IfOk result (λ l. l ≡ no_room_line number size free ∷ []) }
-{
-    let line = format!(in alloc; "noroom {number} size {size} free {free}\n")?;
-    Ok(Once::of(line))
-}
-
 // The host of each instance, the further waits, and the counts.
+#[tactic(auto, using(crate::proofs::PlaceLines::is_placed_line))]
 fn placing_lines<'a>(
     alloc: Global,
     h: &'a Hosts,
@@ -90,21 +68,18 @@ fn placing_lines<'a>(
     requires { All (λ i. i < length h.now.hosts) placing.hosts }
     ensures { IfOk result (λ l. ⟦<PlacingLines<'a> as Lines>⟧.rest l ≡ placing_lines h.now actions.now placing) }
 {
-    let made = made_of(alloc, actions)?;
-    let counts = placed_line(alloc, placing.hosts.len(), h.count())?;
-    let Placing {
-        hosts: places,
-        holds,
-    } = placing;
+    let (made, hosts) = (placing.hosts.len(), h.count());
+    let counts = format!(in alloc; "placed {made} hosts {hosts}\n")?;
     let first = SeatLines {
         hosts: h,
-        made,
-        places,
+        made: made_of(alloc, actions)?,
+        places: placing.hosts,
         at: 0,
     };
+    let holds = placing.holds;
     let second = Chain {
         first: HoldLines { holds, at: 0 },
-        second: counts,
+        second: Once::of(counts),
     };
     Ok(Chain { first, second })
 }
@@ -113,22 +88,13 @@ fn placing_lines<'a>(
 fn made_of(alloc: Global, actions: &[Action]) -> Result<Vec<InstNo>, AllocError>
     ensures { IfOk result (λ made. made.items ≡ made_of actions.now) }
 {
-    let mut made = Vec::new(alloc);
-    for action in actions {
-        add_made(&mut made, action)?;
-    }
-    Ok(made)
-}
-
-// Adds the instance that the action makes, if it makes one.
-fn add_made(made: &mut Vec<InstNo>, action: &Action) -> Result<(), AllocError>
-    ensures { OnOk result (made.new.items ≡ made.old.items ++ option_to_list (inst_made action.now)) }
-{
-    if let Action::New { inst, .. } = *action {
-        made.push(inst)?;
-        return Ok(());
-    }
-    Ok(())
+    actions
+        .iter()
+        .filter_map(|action| match *action {
+            Action::New { inst, .. } => Some(inst),
+            _ => None,
+        })
+        .collect(alloc)
 }
 
 /// The host of each instance from a place on.
@@ -147,25 +113,16 @@ impl<'a> Lines for SeatLines<'a> {
     #[tactic(auto, using(crate::proofs::PlaceLines::is_on_line))]
     fn next_line(&mut self, line: &mut String) -> Result<bool, AllocError> {
         self.hosts.keeps_invariant();
-        if self.at >= self.made.len() {
-            return Ok(false);
-        }
-        if self.at >= self.places.len() {
+        if self.at >= self.made.len() || self.at >= self.places.len() {
             return Ok(false);
         }
         let (inst, place) = (self.made[self.at], self.places[self.at]);
-        set_on_line(line, inst, self.hosts.name(place as usize))?;
+        let (z, host) = (inst.number(), self.hosts.name(place as usize));
+        line.clear();
+        write!(line, "on {z} {host}\n")?;
         self.at += 1;
         Ok(true)
     }
-}
-
-fn set_on_line(line: &mut String, inst: InstNo, host: &str) -> Result<(), AllocError>
-    ensures { OnOk result (string_bytes line.new ≡ on_line inst host.now) }
-{
-    line.clear();
-    let InstNo(z) = inst;
-    write!(line, "on {z} {host}\n")
 }
 
 /// The further waits of the actions from a place on, if they have some.
@@ -180,47 +137,18 @@ impl Lines for HoldLines {
 
     #[tactic(auto, using(crate::proofs::PlaceLines::is_hold_line))]
     fn next_line(&mut self, line: &mut String) -> Result<bool, AllocError> {
-        let Some(at) = next_hold(&self.holds, self.at) else {
-            return Ok(false);
-        };
-        let hold = &self.holds[at];
-        set_hold_line(line, at + 1, &hold.numbers)?;
-        self.at = at + 1;
-        Ok(true)
-    }
-}
-
-// The place of the next action that has further waits.
-fn next_hold(holds: &[Hold], from: usize) -> Option<usize>
-    ensures within { IfSome result (λ i. i < length holds.now) }
-    ensures some { IfSome result (λ i. holds_behind holds.now from ≡ hold_line (i + 1) (get_or holds.now i []) ∷ holds_behind holds.now (i + 1)) }
-    ensures none { IfNone result (holds_behind holds.now from ≡ []) }
-{
-    let mut at = from;
-    while at < holds.len() {
-        let hold = &holds[at];
-        if !hold.numbers.is_empty() {
-            return Some(at);
+        while self.at < self.holds.len() {
+            let hold = &self.holds[self.at];
+            self.at += 1;
+            if !hold.numbers.is_empty() {
+                let number = self.at;
+                line.clear();
+                write!(line, "hold {number} after")?;
+                push_numbers(line, &hold.numbers)?;
+                line.push_str("\n")?;
+                return Ok(true);
+            }
         }
-        at += 1;
+        Ok(false)
     }
-    None
-}
-
-fn set_hold_line(line: &mut String, number: usize, waits: &[u32]) -> Result<(), AllocError>
-    ensures { OnOk result (string_bytes line.new ≡ hold_line number waits.now) }
-{
-    line.clear();
-    write!(line, "hold {number} after")?;
-    push_numbers(line, waits)?;
-    line.push_str("\n")?;
-    Ok(())
-}
-
-#[tactic(auto, using(crate::proofs::PlaceLines::is_placed_line))]
-fn placed_line(alloc: Global, made: usize, hosts: usize) -> Result<Once, AllocError>
-    ensures { IfOk result (λ l. l ≡ placed_line made hosts ∷ []) }
-{
-    let line = format!(in alloc; "placed {made} hosts {hosts}\n")?;
-    Ok(Once::of(line))
 }

@@ -1,15 +1,14 @@
 //! The command that checks a refusal.
-ghost use Rattle.std.specs.Prelude.{◌≡◌, ◌<◌, ◌++◌, IfOk, codes, string_bytes};
+ghost use Rattle.std.specs.Prelude.{◌≡◌, IfOk, string_bytes};
 ghost use Rattle.std.specs.List.{All};
-ghost use Rattle.metis_commands.specs.Refute.{Judged, judgement_line, judgement_status, open_line};
-ghost use Rattle.metis_output.specs.Answers.{Says, status_for};
+ghost use Rattle.metis_commands.specs.Refute.{Judged, judgement_line};
+ghost use Rattle.metis_output.specs.Answers.{Says};
 ghost use Rattle.metis_refusal.specs.Claims.{NamesOf};
 ghost use Rattle.metis_universe.specs.Goals.{IsGoalOf};
-ghost use Rattle.metis_universe.specs.PairWords.{pair_word};
 ghost use Rattle.metis_universe.specs.Universe.{pair_count};
 
 use crate::goal_line::goal_line;
-use metis_ids::{Goal, NoMemory, PairIx, PairSet};
+use metis_ids::{Goal, NoMemory, PairSet};
 use metis_output::{Answer, Lines, Once, line_answer};
 use metis_refusal::{Verdict2, check_closed};
 use metis_universe::Universe;
@@ -29,13 +28,7 @@ pub fn answer(
     u.keeps_invariant();
     let judgement = check_closed(u, set, goals);
     let line = judgement_line(alloc, u, &judgement)?;
-    Ok(line_answer(line, is_good(&judgement)))
-}
-
-fn is_good(judgement: &Verdict2) -> bool
-    ensures { status_for result ≡ judgement_status judgement.now }
-{
-    matches!(*judgement, Verdict2::Closed(_))
+    Ok(line_answer(line, matches!(judgement, Verdict2::Closed(_))))
 }
 
 // The line of a verdict on a set of pairs.
@@ -46,29 +39,11 @@ fn judgement_line(alloc: Global, u: &Universe, judgement: &Verdict2) -> Result<S
     match *judgement {
         Verdict2::Closed(goal) => goal_line(alloc, u, "closed lacks", goal),
         Verdict2::NotFree(p) => goal_line(alloc, u, "notfree", Goal::Pair(p)),
-        Verdict2::Open(p, q) => open_line(alloc, u, p, q),
+        Verdict2::Open(p, q) => {
+            let (kind, state) = (u.type_name(u.type_of(p)), u.state_name(p));
+            let (to_kind, to_state) = (u.type_name(u.type_of(q)), u.state_name(q));
+            format!(in alloc; "open {kind}:{state} {to_kind}:{to_state}\n")
+        }
         Verdict2::LacksNone => String::from_str(alloc, "lacksnone\n"),
     }
-}
-
-fn open_line(alloc: Global, u: &Universe, p: PairIx, q: PairIx) -> Result<String, AllocError>
-    requires from { p < pair_count u.now }
-    requires to { q < pair_count u.now }
-    ensures { IfOk result (λ line. string_bytes line ≡ open_line (pair_word u.now p) (pair_word u.now q)) }
-{
-    let (kind, state) = (u.type_name(u.type_of(p)), u.state_name(p));
-    let (to_kind, to_state) = (u.type_name(u.type_of(q)), u.state_name(q));
-    way_line(alloc, kind, state, to_kind, to_state)
-}
-
-fn way_line(
-    alloc: Global,
-    kind: &str,
-    state: &str,
-    to_kind: &str,
-    to_state: &str,
-) -> Result<String, AllocError>
-    ensures { IfOk result (λ line. string_bytes line ≡ open_line (kind.now ++ (codes ":" ++ state.now)) (to_kind.now ++ (codes ":" ++ to_state.now))) }
-{
-    format!(in alloc; "open {kind}:{state} {to_kind}:{to_state}\n")
 }

@@ -1,8 +1,8 @@
 //! The command that replays a plan.
 ghost use Rattle.std.specs.Prelude.{◌≡◌, ◌<◌, ◌-◌, ◌^◌, IfOk, length, string_bytes};
 ghost use Rattle.std.specs.List.{All};
-ghost use Rattle.metis_commands.specs.Replay.{Replayed, verdict_line, verdict_status};
-ghost use Rattle.metis_output.specs.Answers.{Says, status_for};
+ghost use Rattle.metis_commands.specs.Replay.{Replayed, verdict_line};
+ghost use Rattle.metis_output.specs.Answers.{Says};
 ghost use Rattle.metis_replay.specs.Progress.{IsVerdictOf};
 ghost use Rattle.metis_universe.specs.Goals.{IsGoalOf};
 ghost use Rattle.metis_universe.specs.Numbers.{IsOf};
@@ -31,16 +31,10 @@ pub fn answer(
     match replayed(alloc, u, actions, goals) {
         Ok((verdict, standing)) => {
             let line = verdict_line(alloc, u, standing, actions.len(), &verdict)?;
-            Ok(line_answer(line, is_good(&verdict)))
+            Ok(line_answer(line, matches!(verdict, Verdict::Good)))
         }
         Err(_) => Err(NoMemory),
     }
-}
-
-fn is_good(verdict: &Verdict) -> bool
-    ensures { status_for result ≡ verdict_status verdict.now }
-{
-    matches!(*verdict, Verdict::Good)
 }
 
 // The line of the verdict on so many actions, after which so many instances stand.

@@ -1,26 +1,28 @@
-use Rattle.std.proofs.Common.{[], ◌∷◌, ◌∙◌, ap, codes, inl, inr, refl, sym, subst}
+use Rattle.std.proofs.Common.{[], ◌∷◌, ◌∙◌, ap, codes, inl, inr, refl, rules, sym, subst}
+use Rattle.metis_commands.proofs.AuditLines.{IsLine-audit_line}
 use Rattle.metis_commands.proofs.GoalLine.{IsLine-word_line}
-use Rattle.metis_commands.specs.Audit.{Audited, AuditedFor}
 use Rattle.metis_outside.specs.Pieces.{IsLine}
-use Rattle.metis_output.proofs.Given.{says_more}
 use Rattle.metis_output.specs.Answers.{status_for}
-use Rattle.metis_text.specs.Reads.{lists_of}
 use Rattle.metis_universe.proofs.Served.{goals_refused}
 use Rattle.metis_commands.proofs.audit.answer.Goals as goal
 
-pub returns-in-Pairs : goal.returns-in-Pairs
-returns-in-Pairs c =
-    let u = c.args.u.now in
-    let goals = c.args.goals.now in
-    let text = c.args.text.now in
-    let pairs = c.in-Pairs.pairs.items in
-    let aim = rw c.in-Pairs.is at c.in_ok-pairs.ensures in
-    let attains = c.pairs_for_goals_hold_them.ensures.attains u goals pairs aim.resolved aim.attained in
-    says_more (AuditedFor u pairs text.plan (lists_of text)) (Audited u goals text.plan (lists_of text)) _ c.audit_for.result
-    (λ lines status is. inl (record { attains = attains; pairs = pairs; resolved = aim.resolved; for_pairs = is })) (rw c.deref.ensures.value at c.audit_for.ensures)
-
 pub line_answer-requires : goal.line_answer-requires
 line_answer-requires c =
+    subst IsLine (sym c.in_ok-line-in-Pairs.ensures) (IsLine-audit_line c.args.u.now c.keeps_invariant.ensures.named c.args.text.now.plan c.in_ok-answer-in-Pairs.answer)
+
+pub returns-in-Pairs : goal.returns-in-Pairs
+returns-in-Pairs c =
+    let pairs = c.in-Pairs.pairs.items in
+    let aim = rw c.in-Pairs.is at c.in_ok-pairs.ensures in
+    inl (record {
+      attains = c.pairs_for_goals_hold_them.ensures.attains c.args.u.now c.args.goals.now pairs aim.resolved aim.attained;
+      pairs = pairs;
+      resolved = aim.resolved;
+      for_pairs = search rules;
+    })
+
+pub line_answer-requires-in-Lacks : goal.line_answer-requires-in-Lacks
+line_answer-requires-in-Lacks c =
     subst IsLine (sym c.in_ok-line-in-Lacks.ensures) (IsLine-word_line c.args.u.now c.keeps_invariant.ensures.named (codes "notattained") c.in-Lacks.refusal.lacks refl)
 
 pub returns : goal.returns
@@ -33,6 +35,6 @@ returns c =
       all = aim.all;
       lacking = refusal.lacks;
       refusal = aim.refusal;
-      told = c.line_answer.ensures.lines ∙ ap (λ line. line ∷ []) c.in_ok-line-in-Lacks.ensures;
-      is = ap status_for c.line_answer.ensures.good;
+      told = c.line_answer-in-Lacks.ensures.lines ∙ ap (λ line. line ∷ []) c.in_ok-line-in-Lacks.ensures;
+      is = ap status_for c.line_answer-in-Lacks.ensures.good;
     })
