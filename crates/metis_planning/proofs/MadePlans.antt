@@ -1,5 +1,5 @@
 -- What is known of a plan that was made.
-use Rattle.std.proofs.Common.{◌≡◌, ℕ, List, Result, Ok, Err, ap, refl, sym, subst, inl, inr}
+use Rattle.std.proofs.Common.{ℕ, List, Result, Ok, Err, sym, subst, inl, inr}
 use Rattle.std.specs.Prelude.{IfOk}
 use Rattle.metis_ids.specs.Plans as plans
 use Rattle.metis_ids.specs.declared.actions.Action.{Action}

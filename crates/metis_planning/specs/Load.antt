@@ -1,11 +1,11 @@
 -- What is said of a plan for a generated universe.
 --     counts_line n .., load_line n u g plan      the size, and so many pairs, targets, instances, actions and dups;  as many as the universe u, the targets g and the plan have
---     Summed n u g plan line      the line has the counts of the plan, and there is one exactly if the plan is good
+--     IsGood u g actions good      whether the verdict on the actions and the targets is good
 --     Loads n u g lines status      the plan that rounds come to is good, and the one line has its counts
 --     Loaded n lines status      the same for the generated universe of size n and its targets
-use Rattle.std.specs.Prelude.{◌≡◌, ◌≢◌, ℕ, List, [], ◌∷◌, ◌++◌, length, codes, decimal, IfNone, IfSome}
-use Rattle.std.specs.declared.option.Option.{Option as Known}
+use Rattle.std.specs.Prelude.{◌≡◌, ℕ, Bool, true, false, List, [], ◌∷◌, ◌++◌, length, codes, decimal}
 use Rattle.metis_ids.specs.Plans.{Plan}
+use Rattle.metis_ids.specs.declared.actions.Action.{Action}
 use Rattle.metis_universe.specs.Config.{empty}
 use Rattle.metis_universe.specs.Goal.{Holds}
 use Rattle.metis_universe.specs.Goals.{pair_goals}
@@ -13,7 +13,7 @@ use Rattle.metis_universe.specs.Step.{IsRun, after_all}
 use Rattle.metis_universe.specs.Universe.{Universe, pair_count}
 use Rattle.metis_replay.specs.Exact.{Tells}
 use Rattle.metis_replay.specs.declared.verdict.Verdict.{Verdict}
-use Rattle.metis_replay.specs.declared.verdict.Verdict.TheVariants.{Good}
+use Rattle.metis_replay.specs.declared.verdict.Verdict.TheVariants.{Good, Bad, Missing}
 use Rattle.metis_gen.specs.Generated.{generated, generated_targets}
 use Rattle.metis_planner.specs.Rounds.{IsByRounds}
 use Rattle.metis_output.specs.declared.status.Status.{Status}
@@ -27,12 +27,14 @@ counts_line n pairs targets instances actions dups =
 abbrev pub load_line : ℕ → Universe → List ℕ → Plan → List ℕ
 load_line n u g plan = counts_line n (pair_count u) (length g) plan.instances (length plan.actions) (length plan.dups)
 
--- there is a line, this one, exactly where the verdict that is true of the plan's actions and the targets g is good
-pub record Summed (n : ℕ) (u : Universe) (g : List ℕ) (plan : Plan) (line : Known (List (List ℕ))) : Type 0 where
-  pub verdict : Verdict
-  pub tells : Tells u plan.actions (pair_goals g) verdict
-  pub good : IfSome line (λ lines. (verdict ≡ Good) × (lines ≡ load_line n u g plan ∷ []))
-  pub other : IfNone line (verdict ≢ Good)
+abbrev pub is_good : Verdict → Bool
+is_good Good = true
+is_good (Bad k f) = false
+is_good (Missing g have want) = false
+
+-- whether the verdict that is true of the actions and the targets g is good
+abbrev pub IsGood : Universe → List ℕ → List Action → Bool → Type 0
+IsGood u g actions good = (verdict : Verdict) × Tells u actions (pair_goals g) verdict × (good ≡ is_good verdict)
 
 -- its actions are a run from the empty configuration that holds the targets, and there is no other such plan
 pub record Loads (n : ℕ) (u : Universe) (g : List ℕ) (lines : List (List ℕ)) (status : Status) : Type 0 where

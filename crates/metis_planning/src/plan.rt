@@ -1,29 +1,24 @@
 //! The command that plans for goals.
-ghost use Rattle.std.specs.Prelude.{◌≡◌, ◌<◌, ◌≤◌, ◌-◌, ◌^◌, IfOk, IsTrue, length};
+ghost use Rattle.std.specs.Prelude.{◌<◌, ◌≤◌, ◌-◌, ◌^◌, IfOk, IsTrue, length};
 ghost use Rattle.std.specs.List.{All};
-ghost use Rattle.metis_layers.specs.Layers.{IsLayers};
 ghost use Rattle.metis_output.specs.Answers.{Says};
-ghost use Rattle.metis_planning.specs.Plan.{PlansPairs, plan_text};
 ghost use Rattle.metis_planning.specs.Planned.{IsOfPlan, IsPlanned, IsPrintable, SaysPlanned, TellsPlanned};
-ghost use Rattle.metis_universe.specs.Goal.{Attains};
 ghost use Rattle.metis_universe.specs.GoalWords.{IsWordable};
 ghost use Rattle.metis_universe.specs.Goals.{IsGoalOf};
 ghost use Rattle.metis_universe.specs.Numbers.{IsOf};
 ghost use Rattle.metis_universe.specs.Steadfast.{is_steadfast};
 ghost use Rattle.metis_universe.specs.Universe.{pair_count};
 ghost use Rattle.metis_waits.specs.Judged.{IsBegun};
-ghost use Rattle.metis_waits.specs.Waits.{AreWaits};
 
 use crate::planned::Planned;
 use metis_choice::pairs_for_goals_hold_them;
-use metis_ids::{Action, Goal, NoMemory, PairIx, Plan};
-use metis_layers::table::Layers;
+use metis_ids::{Goal, NoMemory, Plan};
 use metis_output::{Answer, Either, Lines};
 use metis_planner::{nothing_is_doubled_without_a_cycle, plan_over};
 use metis_shared::{Aim, aim_of};
 use metis_text::{PlanLines, RefusalLines, lines_of_plan, lines_of_refusal};
 use metis_universe::Universe;
-use metis_waits::{Judged, WFault, Waits};
+use metis_waits::{Judged, WFault};
 use std::alloc::Global;
 
 /// The text of a plan, or of a refusal.
@@ -39,41 +34,18 @@ pub fn planned(alloc: Global, u: &Universe, goals: &[Goal]) -> Result<Planned, N
 {
     u.keeps_invariant();
     pairs_for_goals_hold_them();
+    nothing_is_doubled_without_a_cycle();
     match aim_of(alloc, u, goals)? {
         Aim::Pairs(pairs, layers) => {
-            let plan = plan_for(alloc, u, &layers, &pairs)?;
+            let plan = plan_over(alloc, u, &layers, &pairs)?;
             with_waits(alloc, u, plan, Judged::new(alloc, u))
         }
         Aim::Lacks(refusal) => Ok(Planned::Refusal(refusal)),
     }
 }
 
-// A plan for the pairs. There is one, since some list of actions attains them.
-fn plan_for(
-    alloc: Global,
-    u: &Universe,
-    layers: &Layers,
-    pairs: &[PairIx],
-) -> Result<Plan, NoMemory>
-    requires few { length pairs.now ≤ 256 }
-    requires within { All (λ p. p < pair_count u.now) pairs.now }
-    requires layers { IsLayers u.now layers.now }
-    requires attained { Attains u.now pairs.now }
-    ensures plans { IfOk result (λ plan. PlansPairs u.now pairs.now (plan_text u.now plan)) }
-    ensures numbers { IfOk result (λ plan. All (IsOf u.now) plan.actions) }
-    ensures steadfast { IfOk result (λ plan. IsTrue (is_steadfast u.now plan.actions)) }
-    ensures few { IfOk result (λ plan. length plan.actions < 2 ^ 32 - 1) }
-    ensures dups { IfOk result (λ plan. All (λ d. d.pair < pair_count u.now) plan.dups) }
-{
-    u.keeps_invariant();
-    nothing_is_doubled_without_a_cycle();
-    match plan_over(alloc, u, layers, pairs) {
-        Ok(plan) => Ok(plan),
-        Err(_) => Err(NoMemory),
-    }
-}
-
-/// The plan with what each of its actions waits for, if the first ones of them are judged.
+/// The plan with what each of its actions waits for, if the first ones of them are judged. No provider leaves its pair while a
+/// binding to it stands, so there is no loose action.
 pub fn with_waits(
     alloc: Global,
     u: &Universe,
@@ -88,8 +60,11 @@ pub fn with_waits(
     ensures plan { IfOk result (IsOfPlan plan) }
     ensures printable { IfOk result (IsPrintable u.now) }
 {
-    let waits = waits_in(alloc, u, judged, &plan.actions)?;
-    Ok(Planned::Plan(plan, waits))
+    match judged.go_on(alloc, u, &plan.actions) {
+        Ok(judged) => Ok(Planned::Plan(plan, judged.into_waits())),
+        Err(WFault::NoMemory) => Err(NoMemory),
+        Err(WFault::Loose(_)) => unreachable!(),
+    }
 }
 
 /// The answer that says what was planned.
@@ -125,25 +100,5 @@ pub fn planned_answer<'a>(
             lines: Either::Second(lines_of_refusal(alloc, u, refusal)?),
             good: false,
         }),
-    }
-}
-
-// What each action waits for. No provider leaves its pair while a binding to it stands, so there is no loose action.
-fn waits_in(
-    alloc: Global,
-    u: &Universe,
-    judged: Judged,
-    actions: &[Action],
-) -> Result<Waits, NoMemory>
-    requires numbers { All (IsOf u.now) actions.now }
-    requires steadfast { IsTrue (is_steadfast u.now actions.now) }
-    requires few { length actions.now < 2 ^ 32 - 1 }
-    requires begun { IsBegun u.now actions.now judged }
-    ensures { IfOk result (AreWaits actions.now) }
-{
-    match judged.go_on(alloc, u, actions) {
-        Ok(all) => Ok(all.into_waits()),
-        Err(WFault::NoMemory) => Err(NoMemory),
-        Err(WFault::Loose(_)) => unreachable!(),
     }
 }

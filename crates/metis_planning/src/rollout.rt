@@ -1,18 +1,15 @@
 //! The command that goes from a plan to other targets.
-ghost use Rattle.std.specs.Prelude.{◌≡◌, ◌+◌, ◌<◌, ◌≤◌, ◌-◌, ◌^◌, Err, IfErr, IfOk, length};
+ghost use Rattle.std.specs.Prelude.{◌≡◌, ◌<◌, ◌≤◌, ◌-◌, ◌^◌, Err, IfErr, IfOk, length};
 ghost use Rattle.std.specs.List.{All, count_by};
 ghost use Rattle.metis_ids.specs.Action.{makes};
 ghost use Rattle.metis_layers.specs.Layers.{IsLayers};
-ghost use Rattle.metis_planning.specs.Planned.{IsOfPlan, IsPrintable};
-ghost use Rattle.metis_planning.specs.Rollout.{IsOld, IsRolledOut, RollsOutGoals, RollsOutTo, SaysRolledOut, rollout_plan};
+ghost use Rattle.metis_planning.specs.Planned.{IsPrintable};
+ghost use Rattle.metis_planning.specs.Rollout.{IsOld, IsRolledOut, RollsOutGoals, RollsOutTo, SaysRolledOut};
 ghost use Rattle.metis_shared.specs.Steady.{IsSteady, IsUnsteadyIn};
-ghost use Rattle.metis_universe.specs.Config.{empty};
 ghost use Rattle.metis_universe.specs.Goal.{Attains};
 ghost use Rattle.metis_universe.specs.GoalWords.{IsWordable};
 ghost use Rattle.metis_universe.specs.Goals.{IsGoalOf};
 ghost use Rattle.metis_universe.specs.Numbers.{IsOf};
-ghost use Rattle.metis_universe.specs.Steadfast.{IsSteadfastRun};
-ghost use Rattle.metis_universe.specs.Step.{IsRun, after_all};
 ghost use Rattle.metis_universe.specs.Universe.{pair_count};
 
 use crate::plan::{PlannedLines, planned_answer, with_waits};
@@ -76,35 +73,17 @@ fn old_of<'a>(alloc: Global, u: &Universe, old: &'a [Action]) -> Result<Old<'a>,
     ensures steady { IfErr result (λ why. IsSteady u.now old.now (Err why)) }
 {
     match follow(alloc, u, old) {
-        Ok(Followed::Left(left)) => judged(alloc, u, old, left),
+        Ok(Followed::Left(left)) => match Judged::new(alloc, u).go_on(alloc, u, old) {
+            Ok(judged) => Ok(Old {
+                actions: old,
+                left,
+                judged,
+            }),
+            Err(WFault::Loose(number)) => Err(Unsteady::Loose(number)),
+            Err(WFault::NoMemory) => Err(Unsteady::NoMemory),
+        },
         Ok(Followed::Bad(number, fault)) => Err(Unsteady::Bad(number, fault)),
         Err(_) => Err(Unsteady::NoMemory),
-    }
-}
-
-// The same of actions that can be done.
-fn judged<'a>(
-    alloc: Global,
-    u: &Universe,
-    old: &'a [Action],
-    left: Config,
-) -> Result<Old<'a>, Unsteady>
-    requires numbers { All (IsOf u.now) old.now }
-    requires short { length old.now < 2 ^ 28 }
-    requires runs { IsRun u.now empty old.now }
-    requires left { left ≡ after_all u.now empty old.now }
-    ensures old { IfOk result (λ o. IsOld u.now old.now o.left o.judged) }
-    ensures same { IfOk result (λ o. o.actions.now ≡ old.now) }
-    ensures steady { IfErr result (λ why. IsSteady u.now old.now (Err why)) }
-{
-    match Judged::new(alloc, u).go_on(alloc, u, old) {
-        Ok(judged) => Ok(Old {
-            actions: old,
-            left,
-            judged,
-        }),
-        Err(WFault::Loose(number)) => Err(Unsteady::Loose(number)),
-        Err(WFault::NoMemory) => Err(Unsteady::NoMemory),
     }
 }
 
@@ -147,29 +126,8 @@ fn roll_out_to(
     guarded_rollout_goes_on();
     teardown_leaves_nothing();
     nothing_is_done_for_no_targets();
-    match plan_over(alloc, u, layers, pairs) {
-        Ok(fresh) => roll_out_between(alloc, u, layers, old, &fresh.actions),
-        Err(_) => Err(NoMemory),
-    }
-}
-
-// The rollout from the old actions to the fresh ones, with what each action waits for.
-fn roll_out_between(
-    alloc: Global,
-    u: &Universe,
-    layers: &Layers,
-    old: Old,
-    fresh: &[Action],
-) -> Result<Planned, NoMemory>
-    requires layers { IsLayers u.now layers.now }
-    requires old { IsOld u.now old.actions.now old.left old.judged }
-    requires fresh { IsSteadfastRun u.now fresh.now }
-    requires fresh_ours { All (IsOf u.now) fresh.now }
-    requires few { length old.actions.now + length fresh.now < 2 ^ 29 }
-    ensures plan { IfOk result (IsOfPlan (rollout_plan u.now old.entry.actions.now fresh.now)) }
-    ensures printable { IfOk result (IsPrintable u.now) }
-{
-    let actions = rollout_from(alloc, u, layers, old.actions, fresh, old.left)?;
+    let fresh = plan_over(alloc, u, layers, pairs)?;
+    let actions = rollout_from(alloc, u, layers, old.actions, &fresh.actions, old.left)?;
     let instances = made_by(&actions);
     let plan = Plan {
         actions,

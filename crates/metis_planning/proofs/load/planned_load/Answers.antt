@@ -1,23 +1,20 @@
-use Rattle.std.proofs.Common.{refl}
-use Rattle.metis_output.specs.declared.status.Status.TheVariants.{Done}
-use Rattle.metis_planning.proofs.LoadLines.{good_alone, loaded_by}
+use Rattle.std.proofs.Common.{◌≡◌, ◌∙◌, ◌∷◌, [], true, ap, sym, subst}
+use Rattle.metis_outside.specs.Pieces.{IsLine}
+use Rattle.metis_output.specs.Answers.{status_for}
+use Rattle.metis_planning.proofs.LoadLines.{IsLine-load_line, good_alone, loaded_by}
+use Rattle.metis_planning.specs.Load.{is_good}
 use Rattle.metis_planning.proofs.load.planned_load.Goals as goal
 
-pub returns-in-Ok-Some : goal.returns-in-Ok-Some
-returns-in-Ok-Some c =
-    let n = c.args.n in
-    let u = c.args.u.now in
-    let targets = c.args.targets.now in
-    let plan = c.in_ok-plan.plan in
-    let found = c.in_ok-plan.ensures in
-    let summed = rw c.in-Ok-Some.field-0-is at c.in-Ok-Some.ensures in
-    loaded_by n u targets plan c.requires.universe c.requires.targets found.plan (λ other by. c.rounds_come_to_one_plan.ensures u targets other plan by found.plan) found.runs found.holds c.in-Ok-Some.line Done (summed.good.1, refl)
+pub line_answer-requires : goal.line_answer-requires
+line_answer-requires c = subst IsLine (sym c.in_ok-load_line-in-Plan.ensures) (IsLine-load_line c.args.n c.args.u.now c.args.targets.now _)
 
-pub unreachable-requires : goal.unreachable-requires
-unreachable-requires c =
+pub returns : goal.returns
+returns c =
     let u = c.args.u.now in
     let targets = c.args.targets.now in
-    let plan = c.in_ok-plan.plan in
-    let found = c.in_ok-plan.ensures in
-    let summed = rw c.in-Ok-None.field-0-is at c.in-Ok-None.ensures in
-    summed.other (good_alone u plan.actions targets summed.verdict c.keeps_invariant.ensures.universe found.numbers found.runs found.holds summed.tells)
+    let plan = c.in-Plan.plan in
+    let found = rw c.in-Plan.is at c.in_ok-plan.ensures in
+    let judged = c.in_ok-good-in-Plan.ensures in
+    let good : c.in_ok-good-in-Plan.good ≡ true = judged.2 ∙ ap is_good (good_alone u plan.actions targets judged.0 c.keeps_invariant.ensures.universe found.numbers found.run found.holds judged.1) in
+    loaded_by c.args.n u targets plan c.requires.universe c.requires.targets found.rounds (λ other by. c.rounds_come_to_one_plan.ensures u targets other plan by found.rounds) found.run found.holds
+    c.line_answer.result.lines (status_for c.line_answer.result.good) (c.line_answer.ensures.lines ∙ ap (λ l. l ∷ []) c.in_ok-load_line-in-Plan.ensures, ap status_for (c.line_answer.ensures.good ∙ good))

@@ -1,16 +1,16 @@
 use Rattle.std.proofs.Common.{arith}
 use Rattle.metis_planning.proofs.MadePlans.{planned_by}
-use Rattle.metis_planning.proofs.PlanAnswers.{answer_by_refusal, answer_for_goals}
+use Rattle.metis_planning.proofs.PlanAnswers.{IsKnown, answer_by_plan, answer_by_refusal, answer_for_goals}
 use Rattle.metis_planning.specs.Plan.{plan_text}
 use Rattle.metis_planning.proofs.plan.planned.Goals as goal
 
-pub plan_for-requires-clause-few : goal.plan_for-requires-clause-few
-plan_for-requires-clause-few c =
+pub plan_over-requires-clause-few : goal.plan_over-requires-clause-few
+plan_over-requires-clause-few c =
     let aim = rw c.in-Pairs.is at c.in_ok-pairs.ensures in
     rw c.deref.ensures.value (omega (arith, aim.few, c.requires.few))
 
-pub plan_for-requires-clause-attained : goal.plan_for-requires-clause-attained
-plan_for-requires-clause-attained c =
+pub plan_over-requires-clause-attained : goal.plan_over-requires-clause-attained
+plan_over-requires-clause-attained c =
     let aim = rw c.in-Pairs.is at c.in_ok-pairs.ensures in
     rw c.deref.ensures.value aim.attained
 
@@ -22,7 +22,9 @@ returns-in_ok-plan-in-Pairs-clause-planned c =
     let plan = c.in_ok-plan-in-Pairs.plan in
     let aim = rw c.in-Pairs.is at c.in_ok-pairs.ensures in
     let attains = c.pairs_for_goals_hold_them.ensures.attains u goals pairs aim.resolved in
-    planned_by u goals plan c.with_waits.result (answer_for_goals u goals pairs aim.resolved attains (plan_text u plan) (rw c.deref.ensures.value at c.in_ok-plan-in-Pairs.ensures.plans)) c.with_waits.ensures.plan
+    let found = rw c.deref.ensures.value at c.in_ok-plan-in-Pairs.ensures in
+    let known : IsKnown u pairs plan = record { table = c.keeps_invariant.ensures; known = found; without_cycle = c.nothing_is_doubled_without_a_cycle.ensures u pairs plan found.rounds } in
+    planned_by u goals plan c.with_waits.result (answer_for_goals u goals pairs aim.resolved attains (plan_text u plan) (answer_by_plan u pairs plan known)) c.with_waits.ensures.plan
 
 pub returns-in-Lacks-clause-planned : goal.returns-in-Lacks-clause-planned
 returns-in-Lacks-clause-planned c =
