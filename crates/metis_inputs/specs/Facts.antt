@@ -1,8 +1,9 @@
 -- What is known of a text that was read over a universe.
 --     IsPlanFor u t      the text is well formed, and a plan has fewer actions than bytes are accepted
+--     IsRefusalFor u refusal      its set is one of the universe's pairs
 --     IsWhyFor u why      each line's pair and port are the universe's
 --     AreHostsFor u h      there are as few hosts as lines, and each type has a size
--- And that what the inputs of a command keep has one proof at most.
+-- And that there is one proof of each at most, and of what is known of goals.
 use Rattle.std.specs.Prelude.{◌≡◌, ◌≤◌, ◌<◌, ◌^◌, ℕ, List, length}
 use Rattle.std.specs.Coded.{×_prop, Unit-prop, le_prop}
 use Rattle.std.specs.List.{All}
@@ -19,10 +20,11 @@ use Rattle.metis_text.specs.InRange.{IsEventInRange}
 use Rattle.metis_text.specs.PlanText.{IsWellFormed}
 use Rattle.metis_text.specs.Reads.{lists_of}
 use Rattle.metis_text.specs.declared.plan_text.PlanText.{PlanText}
+use Rattle.metis_text.specs.declared.refusal_text.Refusal.{Refusal}
 use Rattle.metis_universe.specs.GoalWords.{IsWordable}
 use Rattle.metis_universe.specs.Goals.{IsGoalOf}
 use Rattle.metis_universe.specs.Numbers.{IsOf, NamesBelow}
-use Rattle.metis_universe.specs.Universe.{Universe, type_count}
+use Rattle.metis_universe.specs.Universe.{Universe, pair_count, type_count}
 use Rattle.metis_why.specs.Confirm.{IsLineOf}
 use Rattle.metis_why.specs.Barred.{IsNameable}
 use Rattle.metis_why.specs.declared.reason.Explanation.{Explanation}
@@ -34,6 +36,9 @@ use Rattle.metis_inputs.specs.Commands.{plan_limit}
 pub record IsPlanFor (u : Universe) (t : PlanText) : Type 0 where
   pub formed : IsWellFormed u t.plan (lists_of t)
   pub few : length t.plan.actions < plan_limit
+
+abbrev pub IsRefusalFor : Universe → Refusal → Type 0
+IsRefusalFor u refusal = refusal.pairs.size ≡ pair_count u
 
 pub record IsWhyFor (u : Universe) (why : Explanation) : Type 0 where
   pub lines : All (IsLineOf u) why.lines.items
@@ -52,9 +57,6 @@ IsOf-prop u (Bind r z y) = le_prop
 IsOf-prop u (Unbind r z y) = le_prop
 IsOf-prop u (Move z p q) = ×_prop le_prop le_prop
 
-pub AreOf-prop : (u : Universe) (actions : List Action) → IsProp (All (IsOf u) actions)
-AreOf-prop u actions = hlevel (IsOf-prop)
-
 NamesBelow-prop : (n : ℕ) (a : Action) → IsProp (NamesBelow n a)
 NamesBelow-prop n (New z t) = le_prop
 NamesBelow-prop n (Delete z) = le_prop
@@ -66,8 +68,14 @@ IsEventInRange-prop : (e : Event) → IsProp (IsEventInRange e)
 IsEventInRange-prop (At l s) = ×_prop le_prop le_prop
 IsEventInRange-prop End = Unit-prop
 
-pub IsWellFormed-prop : (u : Universe) (p : Plan) (after : List (List ℕ)) → IsProp (IsWellFormed u p after)
+IsWellFormed-prop : (u : Universe) (p : Plan) (after : List (List ℕ)) → IsProp (IsWellFormed u p after)
 IsWellFormed-prop u p after = hlevel (IsOf-prop, NamesBelow-prop, IsEventInRange-prop, props)
+
+pub IsPlanFor-prop : (u : Universe) (t : PlanText) → IsProp (IsPlanFor u t)
+IsPlanFor-prop u t = hlevel (IsWellFormed-prop, le_prop)
+
+pub IsRefusalFor-prop : (u : Universe) (refusal : Refusal) → IsProp (IsRefusalFor u refusal)
+IsRefusalFor-prop u refusal = hlevel props
 
 IsGoalOf-prop : (u : Universe) (g : Goal) → IsProp (IsGoalOf u g)
 IsGoalOf-prop u (Pair p) = le_prop
@@ -87,5 +95,8 @@ IsNameable-prop : (u : Universe) (reason : Reason) → IsProp (IsNameable u reas
 IsNameable-prop u (Needs r) = le_prop
 IsNameable-prop u Comes = Unit-prop
 
-pub AreLinesOf-prop : (u : Universe) (lines : List Line) → IsProp (All (IsLineOf u) lines)
-AreLinesOf-prop u lines = hlevel (IsNameable-prop, le_prop)
+pub IsWhyFor-prop : (u : Universe) (why : Explanation) → IsProp (IsWhyFor u why)
+IsWhyFor-prop u why = hlevel (IsNameable-prop, le_prop)
+
+pub AreHostsFor-prop : (u : Universe) (h : HostLists) → IsProp (AreHostsFor u h)
+AreHostsFor-prop u h = hlevel props

@@ -10,13 +10,8 @@ mod stop;
 mod texts;
 mod turns;
 
-pub use asked::{
-    Asked, AskedPlan, AskedRefusal, AskedWhy, Planned, PlannedHosts, PlannedScript, PlannedTurns,
-    Session,
-};
-pub use inputs::{
-    explanation_of, goals_and_plan_of, goals_of, hosts_of, plan_of, refusal_of, script_of,
-    session_of, turns_of, universe_of,
-};
+pub use asked::{Asked, GoalsAnd, PlanAnd, UniverseAnd};
+pub use inputs::{goals_and, goals_of, plan_and, universe_and, universe_of};
 pub use laws::goals_are_named_word_by_word;
 pub use stop::{InputFault, Stop};
+pub use texts::Text;

@@ -17,7 +17,7 @@ use metis_why_text::{accepted_why_is_written, read_why};
 use std::alloc::Global;
 
 /// What a text of one kind says.
-pub trait Text: Sized {
+pub trait Text: Sized + Drop {
     /// Which kind it is.
     ghost kind: { TextKind };
 
@@ -26,6 +26,9 @@ pub trait Text: Sized {
 
     /// What is known of it if it was read over a universe.
     ghost fits: { Universe → Self → Type 0 };
+
+    /// There is one proof of it at most.
+    ghost fits_prop: { (u : Universe) (text : Self) → IsProp (fits u text) };
 
     /// The most bytes of such a text.
     fn limit() -> u64
@@ -42,13 +45,15 @@ pub trait Text: Sized {
 impl Text for PlanText {
     ghost use Rattle.metis_text.specs.Reads.{parts_of};
     ghost use Rattle.metis_words.specs.Forms.{PlanText};
-    ghost use Rattle.metis_inputs.specs.Facts.{IsPlanFor};
+    ghost use Rattle.metis_inputs.specs.Facts.{IsPlanFor, IsPlanFor-prop};
 
     ghost kind = { PlanText };
 
     ghost said = { parts_of };
 
     ghost fits = { IsPlanFor };
+
+    ghost fits_prop = { IsPlanFor-prop };
 
     fn limit() -> u64 {
         268_435_456
@@ -66,14 +71,16 @@ impl Text for PlanText {
 /// A refusal.
 impl Text for Refusal {
     ghost use Rattle.metis_text.specs.RefusalReading.{refusal_of};
-    ghost use Rattle.metis_universe.specs.Universe.{pair_count};
     ghost use Rattle.metis_words.specs.Forms.{RefusalText};
+    ghost use Rattle.metis_inputs.specs.Facts.{IsRefusalFor, IsRefusalFor-prop};
 
     ghost kind = { RefusalText };
 
     ghost said = { refusal_of };
 
-    ghost fits = { λ u refusal. refusal.pairs.size ≡ pair_count u };
+    ghost fits = { IsRefusalFor };
+
+    ghost fits_prop = { IsRefusalFor-prop };
 
     fn limit() -> u64 {
         1_048_576
@@ -92,13 +99,15 @@ impl Text for Refusal {
 impl Text for Explanation {
     ghost use Rattle.metis_why_text.specs.WhyReading.{parts_of};
     ghost use Rattle.metis_words.specs.Forms.{WhyText};
-    ghost use Rattle.metis_inputs.specs.Facts.{IsWhyFor};
+    ghost use Rattle.metis_inputs.specs.Facts.{IsWhyFor, IsWhyFor-prop};
 
     ghost kind = { WhyText };
 
     ghost said = { parts_of };
 
     ghost fits = { IsWhyFor };
+
+    ghost fits_prop = { IsWhyFor-prop };
 
     fn limit() -> u64 {
         1_073_741_824
@@ -116,6 +125,7 @@ impl Text for Explanation {
 
 /// The script of a session, or of a controller.
 impl Text for Vec<u8> {
+    ghost use Rattle.std.specs.Coded.{le_prop};
     ghost use Rattle.metis_words.specs.Forms.{ScriptText};
 
     ghost kind = { ScriptText };
@@ -123,6 +133,8 @@ impl Text for Vec<u8> {
     ghost said = { λ script. script.items };
 
     ghost fits = { λ u script. length script.items ≤ 65536 };
+
+    ghost fits_prop = { λ u script. le_prop };
 
     fn limit() -> u64 {
         65_536
@@ -136,6 +148,7 @@ impl Text for Vec<u8> {
 /// The instances whose turns come one after the other.
 impl Text for Vec<InstNo> {
     ghost use Rattle.std.specs.Prelude.{⊤};
+    ghost use Rattle.std.specs.Coded.{Unit-prop};
     ghost use Rattle.metis_words.specs.Forms.{TurnsText};
 
     ghost kind = { TurnsText };
@@ -143,6 +156,8 @@ impl Text for Vec<InstNo> {
     ghost said = { λ turns. turns.items };
 
     ghost fits = { λ u turns. ⊤ };
+
+    ghost fits_prop = { λ u turns. Unit-prop };
 
     fn limit() -> u64 {
         4_194_304
@@ -156,13 +171,15 @@ impl Text for Vec<InstNo> {
 /// Hosts with room, and the sizes of types.
 impl Text for Hosts {
     ghost use Rattle.metis_words.specs.Forms.{HostsText};
-    ghost use Rattle.metis_inputs.specs.Facts.{AreHostsFor};
+    ghost use Rattle.metis_inputs.specs.Facts.{AreHostsFor, AreHostsFor-prop};
 
     ghost kind = { HostsText };
 
     ghost said = { λ hosts. hosts };
 
     ghost fits = { AreHostsFor };
+
+    ghost fits_prop = { AreHostsFor-prop };
 
     fn limit() -> u64 {
         65_536

@@ -11,14 +11,13 @@ ghost use Rattle.metis_output.specs.Statuses.{IsVerdict};
 ghost use Rattle.metis_words.specs.Words.{form_of};
 ghost use Rattle.metis_universe.specs.Texts.{texts};
 
-use crate::goals::{audit, confirm, plan, refute, replay, rollout, why};
+use crate::commands::{over_goals, over_goals_and_text, over_plan_and_text, over_universe};
 use crate::stop::end;
-use crate::universes::{control, crew, load, place, print, simulate, waves};
 use metis_inputs::Stop;
 use metis_output::Status;
 use metis_outside::{Shelf, Sink};
 use metis_waits::{complete_order_ends_alike, kept_order_is_a_run, own_order_is_kept};
-use metis_words::{Command, Verb, read_words};
+use metis_words::{Command, read_words};
 use std::alloc::Global;
 
 /// Does all that the program does: reads the words and the files that they name, and puts the answer.
@@ -68,27 +67,16 @@ fn follow<H: Shelf, K: Sink>(alloc: Global, words: &[String], shelf: &mut H, out
     ensures course { Ran H.files H.faults H.opens K.written K.faults (script_of (texts words.now)) shelf.old shelf.new out.old out.new result }
     ensures lines { PutsLines (K.written out.old) (K.written out.new) result }
 {
-    match attempt(alloc, words, shelf, out) {
-        Ok(status) => status,
-        Err(stop) => end(alloc, stop, out),
+    match read_words(alloc, words) {
+        Ok(command) => match perform(alloc, &command, shelf, out) {
+            Ok(status) => status,
+            Err(stop) => end(alloc, stop, out),
+        },
+        Err(fault) => end(alloc, Stop::from(fault), out),
     }
 }
 
-// Does what the words say, or tells why it stops before its work.
-fn attempt<H: Shelf, K: Sink>(
-    alloc: Global,
-    words: &[String],
-    shelf: &mut H,
-    out: &mut K,
-) -> Result<Status, Stop>
-    ensures course { Performs H.files H.faults H.opens K.written K.faults (script_of (texts words.now)) shelf.old shelf.new out.old out.new result }
-    ensures lines { IfOk result (PutsLines (K.written out.old) (K.written out.new)) }
-{
-    let command = read_words(alloc, words)?;
-    perform(alloc, &command, shelf, out)
-}
-
-// Does what the command's verb says.
+// Does what the command's verb says, by what such a command reads.
 fn perform<H: Shelf, K: Sink>(
     alloc: Global,
     command: &Command,
@@ -98,20 +86,14 @@ fn perform<H: Shelf, K: Sink>(
     ensures course { Performs H.files H.faults H.opens K.written K.faults (command_script command.now) shelf.old shelf.new out.old out.new result }
     ensures lines { IfOk result (PutsLines (K.written out.old) (K.written out.new)) }
 {
-    match command.verb {
-        Verb::Plan => plan(alloc, command, shelf, out),
-        Verb::Replay => replay(alloc, command, shelf, out),
-        Verb::Refute => refute(alloc, command, shelf, out),
-        Verb::Audit => audit(alloc, command, shelf, out),
-        Verb::Sim => simulate(alloc, command, shelf, out),
-        Verb::Crew => crew(alloc, command, shelf, out),
-        Verb::Waves => waves(alloc, command, shelf, out),
-        Verb::Control => control(alloc, command, shelf, out),
-        Verb::Rollout => rollout(alloc, command, shelf, out),
-        Verb::Place => place(alloc, command, shelf, out),
-        Verb::Print => print(alloc, command, shelf, out),
-        Verb::Load => load(alloc, command, shelf, out),
-        Verb::Why => why(alloc, command, shelf, out),
-        Verb::Confirm => confirm(alloc, command, shelf, out),
+    if command.verb.target_limit() > 0 {
+        if command.verb.file_count() == 1 {
+            return over_goals(alloc, command, shelf, out);
+        }
+        return over_goals_and_text(alloc, command, shelf, out);
     }
+    if command.verb.file_count() == 3 {
+        return over_plan_and_text(alloc, command, shelf, out);
+    }
+    over_universe(alloc, command, shelf, out)
 }
