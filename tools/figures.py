@@ -90,7 +90,7 @@ def of_the_gate() -> Iterator[str]:
     sums = tuple(round(column([row[place] for row in rows]) / 60) for place in (1, 2, 3, 4))
     yield from unequal(name, "minutes of the columns", found and tuple(map(int, found.groups())), sums)
     found = sought(name, r"stands, took (\d+)\.")
-    yield from unequal(name, "the dearest proof", found and int(found[1]), max(int(row[1]) for row in rows if row[1] != "-"))
+    yield from unequal(name, "the dearest proof", found and int(found[1]), max(int(row[1]) for row in rows))
     found = sought(name, r"That was for (\d+) edits, which is (\d+) seconds for each")
     average = round(column([row[3] for row in rows]) / int(found[1])) if found else None
     yield from unequal(name, "seconds of an edit", found and int(found[2]), average)
