@@ -12,6 +12,7 @@ use Rattle.std.specs.List.{filter_map, find, list_any, range_with_len}
 use Rattle.std.specs.Option.{option_and_then, option_map_or}
 use Rattle.std.specs.Result.{result_ok}
 use Rattle.std.specs.Str.{bytes_eq}
+use Rattle.metis_tokens.specs.Flaws.{and_then}
 use Rattle.metis_tokens.specs.Tokens.{number_in}
 use Rattle.metis_universe.specs.PairWords.{pair_names}
 use Rattle.metis_universe.specs.Universe.{is_empty}
@@ -93,11 +94,6 @@ numbers_after found place zero [] = Ok found
 numbers_after found place zero (word ∷ words) = Err place
 numbers_after found place (suc n) [] = Err place
 numbers_after found place (suc n) (word ∷ words) = number_then (duration_of word) place (λ d. numbers_after (found ++ d ∷ []) (place + 1) n words)
-
--- goes on with what was read, unless a word did not fit
-abbrev pub and_then : {X Y : Type 0} → Result X ℕ → (X → Result Y ℕ) → Result Y ℕ
-and_then (Err place) next = Err place
-and_then (Ok x) next = next x
 
 -- behind the file words of the verb what else it has
 abbrev pub form_behind : Verb → List (List ℕ) → List (List ℕ) → Result Form ℕ
