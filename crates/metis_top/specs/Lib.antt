@@ -5,3 +5,4 @@ pub mod Honest
 pub mod Lines
 pub mod Numbered
 pub mod Openings
+pub mod Over

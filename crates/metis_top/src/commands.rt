@@ -1,8 +1,23 @@
-//! What each command does: it reads its inputs, and puts its answer.
+//! What each command does: it reads its inputs, and puts its answer over them.
 ghost use Rattle.std.specs.Prelude.{◌≡◌, ◌≢◌, ◌≤◌, IfOk};
+ghost use Rattle.metis_commands.specs.Audit.{Audited};
+ghost use Rattle.metis_commands.specs.Confirm.{Confirms};
+ghost use Rattle.metis_commands.specs.Control.{Controlled};
+ghost use Rattle.metis_commands.specs.Crew.{Crewed};
+ghost use Rattle.metis_commands.specs.Place.{Placed};
+ghost use Rattle.metis_commands.specs.Print.{Printed};
+ghost use Rattle.metis_commands.specs.Refute.{Judged};
+ghost use Rattle.metis_commands.specs.Replay.{Replayed};
+ghost use Rattle.metis_commands.specs.Sim.{Simulated};
+ghost use Rattle.metis_commands.specs.Waves.{Waved};
+ghost use Rattle.metis_commands.specs.Why.{WhyAnswer};
 ghost use Rattle.metis_inputs.specs.Commands.{command_script};
 ghost use Rattle.metis_output.specs.PutLines.{PutsLines};
+ghost use Rattle.metis_planning.specs.Plan.{PlanAnswer};
+ghost use Rattle.metis_planning.specs.Rollout.{RolledOut};
+ghost use Rattle.metis_text.specs.Reads.{lists_of};
 ghost use Rattle.metis_top.specs.Course.{Performs};
+ghost use Rattle.metis_top.specs.Over.{Over, Puts};
 ghost use Rattle.metis_words.specs.Forms.{file_count, target_limit};
 
 use metis_commands::{
@@ -10,7 +25,8 @@ use metis_commands::{
 };
 use metis_ids::InstNo;
 use metis_inputs::{
-    GoalsAnd, PlanAnd, Stop, UniverseAnd, goals_and, goals_of, plan_and, universe_and, universe_of,
+    Asked, GoalsAnd, PlanAnd, Stop, UniverseAnd, goals_and, goals_of, plan_and, universe_and,
+    universe_of,
 };
 use metis_output::{Status, finish};
 use metis_outside::{Shelf, Sink};
@@ -18,9 +34,26 @@ use metis_place::Hosts;
 use metis_planning::{load, plan, rollout};
 use metis_shared::steady_waits;
 use metis_text::{PlanText, Refusal};
+use metis_universe::Universe;
 use metis_why::Explanation;
 use metis_words::{Command, Verb};
 use std::alloc::Global;
+
+// Answers over what was read, if it was.
+fn over<Y: Drop, O, F: FnOnce(Global, &Y, &mut O) -> Status>(
+    alloc: Global,
+    read: Result<Y, Stop>,
+    out: &mut O,
+    answer: F,
+) -> Result<Status, Stop>
+    requires { F.IsAlwaysCallable answer }
+    ensures { Over F.FnOnce answer alloc read out.old out.new result }
+{
+    match read {
+        Ok(inputs) => Ok(answer(alloc, &inputs, out)),
+        Err(stop) => Err(stop),
+    }
+}
 
 /// What a command does that reads a universe and goals.
 pub fn over_goals<H: Shelf, K: Sink>(
@@ -36,16 +69,22 @@ pub fn over_goals<H: Shelf, K: Sink>(
 {
     match command.verb {
         Verb::Plan => {
-            let asked = goals_of(alloc, command, shelf)?;
-            let planned = plan::planned(alloc, &asked.universe, &asked.goals);
-            let answer = plan::answer(alloc, &asked.universe, &planned);
-            Ok(finish(alloc, answer, out))
+            let put_plan = |alloc, asked: &Asked, out: &mut K|
+                ensures { Puts K.written K.faults (PlanAnswer asked.now.universe asked.now.goals.items) out.old out.new result }
+            {
+                let planned = plan::planned(alloc, &asked.universe, &asked.goals);
+                finish(alloc, plan::answer(alloc, &asked.universe, &planned), out)
+            };
+            over(alloc, goals_of(alloc, command, shelf), out, put_plan)
         }
         Verb::Why => {
-            let asked = goals_of(alloc, command, shelf)?;
-            let explained = why::explained(alloc, &asked.universe, &asked.goals);
-            let answer = why::answer(alloc, &asked.universe, &explained);
-            Ok(finish(alloc, answer, out))
+            let put_why = |alloc, asked: &Asked, out: &mut K|
+                ensures { Puts K.written K.faults (WhyAnswer asked.now.universe asked.now.goals.items) out.old out.new result }
+            {
+                let explained = why::explained(alloc, &asked.universe, &asked.goals);
+                finish(alloc, why::answer(alloc, &asked.universe, &explained), out)
+            };
+            over(alloc, goals_of(alloc, command, shelf), out, put_why)
         }
         _ => unreachable!(),
     }
@@ -65,35 +104,54 @@ pub fn over_goals_and_text<H: Shelf, K: Sink>(
 {
     match command.verb {
         Verb::Rollout => {
-            let read: GoalsAnd<PlanText> = goals_and(alloc, command, shelf)?;
-            let (u, goals) = (&read.asked.universe, &read.asked.goals);
-            let rolled = rollout::rolled_out(alloc, u, goals, &read.text.plan.actions);
-            let answer = rollout::answer(alloc, u, &rolled);
-            Ok(finish(alloc, answer, out))
+            let put_rollout = |alloc, read: &GoalsAnd<PlanText>, out: &mut K|
+                ensures { Puts K.written K.faults (RolledOut read.now.asked.universe read.now.asked.goals.items read.now.text.plan.actions) out.old out.new result }
+            {
+                let (u, goals) = (&read.asked.universe, &read.asked.goals);
+                let rolled = rollout::rolled_out(alloc, u, goals, &read.text.plan.actions);
+                finish(alloc, rollout::answer(alloc, u, &rolled), out)
+            };
+            over(alloc, goals_and(alloc, command, shelf), out, put_rollout)
         }
         Verb::Replay => {
-            let read: GoalsAnd<PlanText> = goals_and(alloc, command, shelf)?;
-            let (u, goals) = (&read.asked.universe, &read.asked.goals);
-            let answer = replay::answer(alloc, u, &read.text.plan.actions, goals);
-            Ok(finish(alloc, answer, out))
+            let put_replay = |alloc, read: &GoalsAnd<PlanText>, out: &mut K|
+                ensures { Puts K.written K.faults (Replayed read.now.asked.universe read.now.asked.goals.items read.now.text.plan.actions) out.old out.new result }
+            {
+                let (u, goals) = (&read.asked.universe, &read.asked.goals);
+                let answer = replay::answer(alloc, u, &read.text.plan.actions, goals);
+                finish(alloc, answer, out)
+            };
+            over(alloc, goals_and(alloc, command, shelf), out, put_replay)
         }
         Verb::Audit => {
-            let read: GoalsAnd<PlanText> = goals_and(alloc, command, shelf)?;
-            let (u, goals) = (&read.asked.universe, &read.asked.goals);
-            let answer = audit::answer(alloc, u, &read.text, goals);
-            Ok(finish(alloc, answer, out))
+            let put_audit = |alloc, read: &GoalsAnd<PlanText>, out: &mut K|
+                ensures { Puts K.written K.faults (Audited read.now.asked.universe read.now.asked.goals.items read.now.text.plan (lists_of read.now.text)) out.old out.new result }
+            {
+                let (u, goals) = (&read.asked.universe, &read.asked.goals);
+                let answer = audit::answer(alloc, u, &read.text, goals);
+                finish(alloc, answer, out)
+            };
+            over(alloc, goals_and(alloc, command, shelf), out, put_audit)
         }
         Verb::Refute => {
-            let read: GoalsAnd<Refusal> = goals_and(alloc, command, shelf)?;
-            let (u, goals) = (&read.asked.universe, &read.asked.goals);
-            let answer = refute::answer(alloc, u, &read.text.pairs, goals);
-            Ok(finish(alloc, answer, out))
+            let put_refute = |alloc, read: &GoalsAnd<Refusal>, out: &mut K|
+                ensures { Puts K.written K.faults (Judged read.now.asked.universe read.now.asked.goals.items read.now.text.pairs.members) out.old out.new result }
+            {
+                let (u, goals) = (&read.asked.universe, &read.asked.goals);
+                let answer = refute::answer(alloc, u, &read.text.pairs, goals);
+                finish(alloc, answer, out)
+            };
+            over(alloc, goals_and(alloc, command, shelf), out, put_refute)
         }
         Verb::Confirm => {
-            let read: GoalsAnd<Explanation> = goals_and(alloc, command, shelf)?;
-            let (u, goals) = (&read.asked.universe, &read.asked.goals);
-            let answer = confirm::answer(alloc, u, &read.text.lines, goals);
-            Ok(finish(alloc, answer, out))
+            let put_confirm = |alloc, read: &GoalsAnd<Explanation>, out: &mut K|
+                ensures { Puts K.written K.faults (Confirms read.now.asked.universe read.now.asked.goals.items read.now.text.lines.items) out.old out.new result }
+            {
+                let (u, goals) = (&read.asked.universe, &read.asked.goals);
+                let answer = confirm::answer(alloc, u, &read.text.lines, goals);
+                finish(alloc, answer, out)
+            };
+            over(alloc, goals_and(alloc, command, shelf), out, put_confirm)
         }
         _ => unreachable!(),
     }
@@ -113,19 +171,27 @@ pub fn over_universe<H: Shelf, K: Sink>(
 {
     match command.verb {
         Verb::Print => {
-            let universe = universe_of(alloc, command, shelf)?;
-            Ok(finish(alloc, print::answer(alloc, &universe), out))
+            let put_print = |alloc, universe: &Universe, out: &mut K|
+                ensures { Puts K.written K.faults (Printed universe.now) out.old out.new result }
+            { finish(alloc, print::answer(alloc, universe), out) };
+            over(alloc, universe_of(alloc, command, shelf), out, put_print)
         }
         Verb::Sim => {
-            let read: UniverseAnd<Vec<u8>> = universe_and(alloc, command, shelf)?;
-            let answer = sim::answer(alloc, &read.universe, &read.text);
-            Ok(finish(alloc, answer, out))
+            let put_sim = |alloc, read: &UniverseAnd<Vec<u8>>, out: &mut K|
+                ensures { Puts K.written K.faults (Simulated read.now.universe read.now.text.items) out.old out.new result }
+            { finish(alloc, sim::answer(alloc, &read.universe, &read.text), out) };
+            over(alloc, universe_and(alloc, command, shelf), out, put_sim)
         }
         Verb::Waves => {
-            let read: UniverseAnd<PlanText> = universe_and(alloc, command, shelf)?;
-            let (u, actions) = (&read.universe, &read.text.plan.actions);
-            let answer = waves::answer(alloc, u, actions, command.numbers());
-            Ok(finish(alloc, answer, out))
+            let put_waves = |alloc, read: &UniverseAnd<PlanText>, out: &mut K|
+                requires { command.now.verb ≡ Verb.Waves }
+                ensures { Puts K.written K.faults (Waved read.now.universe read.now.text.plan.actions command.entry.now.numbers) out.old out.new result }
+            {
+                let actions = &read.text.plan.actions;
+                let answer = waves::answer(alloc, &read.universe, actions, command.numbers());
+                finish(alloc, answer, out)
+            };
+            over(alloc, universe_and(alloc, command, shelf), out, put_waves)
         }
         Verb::Load => Ok(finish(alloc, load::answer(alloc, command.size), out)),
         _ => unreachable!(),
@@ -145,24 +211,35 @@ pub fn over_plan_and_text<H: Shelf, K: Sink>(
 {
     match command.verb {
         Verb::Place => {
-            let read: PlanAnd<Hosts> = plan_and(alloc, command, shelf)?;
-            let (u, actions) = (&read.planned.universe, &read.planned.text.plan.actions);
-            let answer = place::answer(alloc, u, actions, &read.text);
-            Ok(finish(alloc, answer, out))
+            let put_place = |alloc, read: &PlanAnd<Hosts>, out: &mut K|
+                ensures { Puts K.written K.faults (Placed read.now.planned.universe read.now.planned.text.plan.actions read.now.text) out.old out.new result }
+            {
+                let (u, actions) = (&read.planned.universe, &read.planned.text.plan.actions);
+                finish(alloc, place::answer(alloc, u, actions, &read.text), out)
+            };
+            over(alloc, plan_and(alloc, command, shelf), out, put_place)
         }
         Verb::Crew => {
-            let read: PlanAnd<Vec<InstNo>> = plan_and(alloc, command, shelf)?;
-            let (u, actions) = (&read.planned.universe, &read.planned.text.plan.actions);
-            let steady = steady_waits(alloc, u, actions);
-            let answer = crew::answer(alloc, u, actions, &steady, &read.text);
-            Ok(finish(alloc, answer, out))
+            let put_crew = |alloc, read: &PlanAnd<Vec<InstNo>>, out: &mut K|
+                ensures { Puts K.written K.faults (Crewed read.now.planned.universe read.now.planned.text.plan.actions read.now.text.items) out.old out.new result }
+            {
+                let (u, actions) = (&read.planned.universe, &read.planned.text.plan.actions);
+                let steady = steady_waits(alloc, u, actions);
+                let answer = crew::answer(alloc, u, actions, &steady, &read.text);
+                finish(alloc, answer, out)
+            };
+            over(alloc, plan_and(alloc, command, shelf), out, put_crew)
         }
         Verb::Control => {
-            let read: PlanAnd<Vec<u8>> = plan_and(alloc, command, shelf)?;
-            let (u, actions) = (&read.planned.universe, &read.planned.text.plan.actions);
-            let steady = steady_waits(alloc, u, actions);
-            let answer = control::answer(alloc, u, actions, &steady, &read.text);
-            Ok(finish(alloc, answer, out))
+            let put_control = |alloc, read: &PlanAnd<Vec<u8>>, out: &mut K|
+                ensures { Puts K.written K.faults (Controlled read.now.planned.universe read.now.planned.text.plan.actions read.now.text.items) out.old out.new result }
+            {
+                let (u, actions) = (&read.planned.universe, &read.planned.text.plan.actions);
+                let steady = steady_waits(alloc, u, actions);
+                let answer = control::answer(alloc, u, actions, &steady, &read.text);
+                finish(alloc, answer, out)
+            };
+            over(alloc, plan_and(alloc, command, shelf), out, put_control)
         }
         _ => unreachable!(),
     }

@@ -1,0 +1,14 @@
+use Rattle.std.proofs.Common.{ap}
+use Rattle.metis_commands.specs.Control.{Controlled}
+use Rattle.metis_inputs.specs.declared.asked.PlanAnd.{PlanAnd}
+use Rattle.metis_top.proofs.Answered.{puts}
+use Rattle.metis_top.proofs.commands.fn.over_plan_and_text.put_control.Goals as goal
+
+pub returns : goal.returns
+returns g c =
+    let read = c.args.read.now in
+    let universe = ap (λ (read : PlanAnd _ _). read.planned.universe) c.read.view_is in
+    let actions = ap (λ (read : PlanAnd _ _). read.planned.text.plan.actions) c.read.view_is in
+    let text = ap (λ (read : PlanAnd _ _). read.text.items) c.read.view_is in
+    puts _ _ (Controlled read.planned.universe read.planned.text.plan.actions read.text.items) _ c.answer-answer.result _ _ _
+    (rw (c.deref-2.ensures.value, c.deref-3.ensures.value, universe, actions, text) at c.answer-answer.ensures) c.finish.ensures.answer c.finish.ensures.lines c.finish.ensures.calm

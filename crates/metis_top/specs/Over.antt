@@ -1,0 +1,26 @@
+-- What is put over what a command reads.
+use Rattle.std.specs.Prelude.{◌≡◌, ◌≢◌, ℕ, List, Result, Ok, Err}
+use Rattle.std.specs.Borrow.{Bor, MutBor}
+use Rattle.std.specs.Fn.{Once}
+use Rattle.std.specs.declared.option.Option.{Option}
+use Rattle.metis_output.specs.PutLines.{PutsLines}
+use Rattle.metis_output.specs.Shown.{Shown}
+use Rattle.metis_output.specs.declared.status.Status.{Status}
+use Rattle.metis_output.specs.declared.status.Status.TheVariants.{ReadFault}
+
+-- Lines were put that answer so, one a put, and the status is theirs, unless a put failed or memory ran out.
+pub record Puts {K : Type 0} (written : K → Option (List (List ℕ))) (sink_faults : K → ℕ) (P : List (List ℕ) → Status → Type 0) (sink sink' : K) (status : Status) : Type 0 where
+  pub answer : Shown P (written sink) (written sink') (sink_faults sink) (sink_faults sink') status
+  pub lines : PutsLines (written sink) (written sink') status
+  pub calm : status ≢ ReadFault
+
+-- The call was made at what was read, and it gave the result and left the state; or nothing was read, and no call was made.
+abbrev pub CallsAt : {F A Y O R E : Type 0} → Once F (A × (Bor Y × (MutBor O × Unit {0}))) (R × (MutBor O × Unit {0})) → F → A → Result Y E → O → O → Result R E → Type 0
+CallsAt {Y = Y} {O = O} g f a (Ok y) old new (Ok r) =
+    (p : Bor Y) × (q : MutBor O) × (q' : MutBor O) × g.post f (a, (p, (q, tt))) (r, (q', tt)) × (p.now ≡ y) × (q.now ≡ old) × (q'.now ≡ new)
+CallsAt g f a (Ok y) old new (Err e) = ⊥
+CallsAt g f a (Err e) old new result = (result ≡ Err e) × (new ≡ old)
+
+-- the same
+pub record Over {F A Y O R E : Type 0} (g : Once F (A × (Bor Y × (MutBor O × Unit {0}))) (R × (MutBor O × Unit {0}))) (f : F) (a : A) (read : Result Y E) (old new : O) (result : Result R E) : Type 0 where
+  pub calls : CallsAt g f a read old new result
