@@ -70,7 +70,7 @@ pub fn over_goals<H: Shelf, K: Sink>(
     match command.verb {
         Verb::Plan => {
             let put_plan = |alloc, asked: &Asked, out: &mut K|
-                ensures { Puts K.written K.faults (PlanAnswer asked.now.universe asked.now.goals.items) out.old out.new result }
+                ensures { Puts K.Sink (PlanAnswer asked.now.universe asked.now.goals.items) out.old out.new result }
             {
                 let planned = plan::planned(alloc, &asked.universe, &asked.goals);
                 finish(alloc, plan::answer(alloc, &asked.universe, &planned), out)
@@ -79,7 +79,7 @@ pub fn over_goals<H: Shelf, K: Sink>(
         }
         Verb::Why => {
             let put_why = |alloc, asked: &Asked, out: &mut K|
-                ensures { Puts K.written K.faults (WhyAnswer asked.now.universe asked.now.goals.items) out.old out.new result }
+                ensures { Puts K.Sink (WhyAnswer asked.now.universe asked.now.goals.items) out.old out.new result }
             {
                 let explained = why::explained(alloc, &asked.universe, &asked.goals);
                 finish(alloc, why::answer(alloc, &asked.universe, &explained), out)
@@ -105,7 +105,7 @@ pub fn over_goals_and_text<H: Shelf, K: Sink>(
     match command.verb {
         Verb::Rollout => {
             let put_rollout = |alloc, read: &GoalsAnd<PlanText>, out: &mut K|
-                ensures { Puts K.written K.faults (RolledOut read.now.asked.universe read.now.asked.goals.items read.now.text.plan.actions) out.old out.new result }
+                ensures { Puts K.Sink (RolledOut read.now.asked.universe read.now.asked.goals.items read.now.text.plan.actions) out.old out.new result }
             {
                 let (u, goals) = (&read.asked.universe, &read.asked.goals);
                 let rolled = rollout::rolled_out(alloc, u, goals, &read.text.plan.actions);
@@ -115,7 +115,7 @@ pub fn over_goals_and_text<H: Shelf, K: Sink>(
         }
         Verb::Replay => {
             let put_replay = |alloc, read: &GoalsAnd<PlanText>, out: &mut K|
-                ensures { Puts K.written K.faults (Replayed read.now.asked.universe read.now.asked.goals.items read.now.text.plan.actions) out.old out.new result }
+                ensures { Puts K.Sink (Replayed read.now.asked.universe read.now.asked.goals.items read.now.text.plan.actions) out.old out.new result }
             {
                 let (u, goals) = (&read.asked.universe, &read.asked.goals);
                 let answer = replay::answer(alloc, u, &read.text.plan.actions, goals);
@@ -125,7 +125,7 @@ pub fn over_goals_and_text<H: Shelf, K: Sink>(
         }
         Verb::Audit => {
             let put_audit = |alloc, read: &GoalsAnd<PlanText>, out: &mut K|
-                ensures { Puts K.written K.faults (Audited read.now.asked.universe read.now.asked.goals.items read.now.text.plan (lists_of read.now.text)) out.old out.new result }
+                ensures { Puts K.Sink (Audited read.now.asked.universe read.now.asked.goals.items read.now.text.plan (lists_of read.now.text)) out.old out.new result }
             {
                 let (u, goals) = (&read.asked.universe, &read.asked.goals);
                 let answer = audit::answer(alloc, u, &read.text, goals);
@@ -135,7 +135,7 @@ pub fn over_goals_and_text<H: Shelf, K: Sink>(
         }
         Verb::Refute => {
             let put_refute = |alloc, read: &GoalsAnd<Refusal>, out: &mut K|
-                ensures { Puts K.written K.faults (Judged read.now.asked.universe read.now.asked.goals.items read.now.text.pairs.members) out.old out.new result }
+                ensures { Puts K.Sink (Judged read.now.asked.universe read.now.asked.goals.items read.now.text.pairs.members) out.old out.new result }
             {
                 let (u, goals) = (&read.asked.universe, &read.asked.goals);
                 let answer = refute::answer(alloc, u, &read.text.pairs, goals);
@@ -145,7 +145,7 @@ pub fn over_goals_and_text<H: Shelf, K: Sink>(
         }
         Verb::Confirm => {
             let put_confirm = |alloc, read: &GoalsAnd<Explanation>, out: &mut K|
-                ensures { Puts K.written K.faults (Confirms read.now.asked.universe read.now.asked.goals.items read.now.text.lines.items) out.old out.new result }
+                ensures { Puts K.Sink (Confirms read.now.asked.universe read.now.asked.goals.items read.now.text.lines.items) out.old out.new result }
             {
                 let (u, goals) = (&read.asked.universe, &read.asked.goals);
                 let answer = confirm::answer(alloc, u, &read.text.lines, goals);
@@ -172,20 +172,20 @@ pub fn over_universe<H: Shelf, K: Sink>(
     match command.verb {
         Verb::Print => {
             let put_print = |alloc, universe: &Universe, out: &mut K|
-                ensures { Puts K.written K.faults (Printed universe.now) out.old out.new result }
+                ensures { Puts K.Sink (Printed universe.now) out.old out.new result }
             { finish(alloc, print::answer(alloc, universe), out) };
             over(alloc, universe_of(alloc, command, shelf), out, put_print)
         }
         Verb::Sim => {
             let put_sim = |alloc, read: &UniverseAnd<Vec<u8>>, out: &mut K|
-                ensures { Puts K.written K.faults (Simulated read.now.universe read.now.text.items) out.old out.new result }
+                ensures { Puts K.Sink (Simulated read.now.universe read.now.text.items) out.old out.new result }
             { finish(alloc, sim::answer(alloc, &read.universe, &read.text), out) };
             over(alloc, universe_and(alloc, command, shelf), out, put_sim)
         }
         Verb::Waves => {
             let put_waves = |alloc, read: &UniverseAnd<PlanText>, out: &mut K|
                 requires { command.now.verb ≡ Verb.Waves }
-                ensures { Puts K.written K.faults (Waved read.now.universe read.now.text.plan.actions command.entry.now.numbers) out.old out.new result }
+                ensures { Puts K.Sink (Waved read.now.universe read.now.text.plan.actions command.entry.now.numbers) out.old out.new result }
             {
                 let actions = &read.text.plan.actions;
                 let answer = waves::answer(alloc, &read.universe, actions, command.numbers());
@@ -212,7 +212,7 @@ pub fn over_plan_and_text<H: Shelf, K: Sink>(
     match command.verb {
         Verb::Place => {
             let put_place = |alloc, read: &PlanAnd<Hosts>, out: &mut K|
-                ensures { Puts K.written K.faults (Placed read.now.planned.universe read.now.planned.text.plan.actions read.now.text) out.old out.new result }
+                ensures { Puts K.Sink (Placed read.now.planned.universe read.now.planned.text.plan.actions read.now.text) out.old out.new result }
             {
                 let (u, actions) = (&read.planned.universe, &read.planned.text.plan.actions);
                 finish(alloc, place::answer(alloc, u, actions, &read.text), out)
@@ -221,7 +221,7 @@ pub fn over_plan_and_text<H: Shelf, K: Sink>(
         }
         Verb::Crew => {
             let put_crew = |alloc, read: &PlanAnd<Vec<InstNo>>, out: &mut K|
-                ensures { Puts K.written K.faults (Crewed read.now.planned.universe read.now.planned.text.plan.actions read.now.text.items) out.old out.new result }
+                ensures { Puts K.Sink (Crewed read.now.planned.universe read.now.planned.text.plan.actions read.now.text.items) out.old out.new result }
             {
                 let (u, actions) = (&read.planned.universe, &read.planned.text.plan.actions);
                 let steady = steady_waits(alloc, u, actions);
@@ -232,7 +232,7 @@ pub fn over_plan_and_text<H: Shelf, K: Sink>(
         }
         Verb::Control => {
             let put_control = |alloc, read: &PlanAnd<Vec<u8>>, out: &mut K|
-                ensures { Puts K.written K.faults (Controlled read.now.planned.universe read.now.planned.text.plan.actions read.now.text.items) out.old out.new result }
+                ensures { Puts K.Sink (Controlled read.now.planned.universe read.now.planned.text.plan.actions read.now.text.items) out.old out.new result }
             {
                 let (u, actions) = (&read.planned.universe, &read.planned.text.plan.actions);
                 let steady = steady_waits(alloc, u, actions);

@@ -9,15 +9,15 @@ use Rattle.metis_top.proofs.commands.over_universe.Goals as goal
 
 pub returns-in-Print-clause-course : goal.returns-in-Print-clause-course
 returns-in-Print-clause-course g c =
-    performs_over verb.Print c.args.command.now universe_said _ _ (sym (ap (λ (form : Form). form.verb) c.command.view_is) ∙ c.in-Print.is) c.universe_of.ensures c.over.ensures (λ p q q' status met. met.1)
+    performs_over g.K.Sink verb.Print c.args.command.now universe_said _ _ (sym (ap (λ (form : Form). form.verb) c.command.view_is) ∙ c.in-Print.is) c.universe_of.ensures c.over.ensures (λ p q q' status met. met.1)
 
 pub returns-in-Sim-clause-course : goal.returns-in-Sim-clause-course
 returns-in-Sim-clause-course g c =
-    performs_over verb.Sim c.args.command.now universe_and_said _ _ (sym (ap (λ (form : Form). form.verb) c.command.view_is) ∙ c.in-Sim.is) c.universe_and.ensures c.over-in-Sim.ensures (λ p q q' status met. met.1)
+    performs_over g.K.Sink verb.Sim c.args.command.now universe_and_said _ _ (sym (ap (λ (form : Form). form.verb) c.command.view_is) ∙ c.in-Sim.is) c.universe_and.ensures c.over-in-Sim.ensures (λ p q q' status met. met.1)
 
 pub returns-in-Waves-clause-course : goal.returns-in-Waves-clause-course
 returns-in-Waves-clause-course g c =
-    performs_over verb.Waves c.args.command.now universe_and_said _ _ (sym (ap (λ (form : Form). form.verb) c.command.view_is) ∙ c.in-Waves.is) c.universe_and-in-Waves.ensures c.over-in-Waves.ensures (λ p q q' status met. met.1)
+    performs_over g.K.Sink verb.Waves c.args.command.now universe_and_said _ _ (sym (ap (λ (form : Form). form.verb) c.command.view_is) ∙ c.in-Waves.is) c.universe_and-in-Waves.ensures c.over-in-Waves.ensures (λ p q q' status met. met.1)
 
 pub returns-in-Load-clause-course : goal.returns-in-Load-clause-course
 returns-in-Load-clause-course g c =

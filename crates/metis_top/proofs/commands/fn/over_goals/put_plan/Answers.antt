@@ -9,6 +9,6 @@ pub returns : goal.returns
 returns g c =
     let asked = c.args.asked.now in
     let planned = c.planned-planned.result in
-    puts _ _ (PlanAnswer asked.universe asked.goals.items) _ c.answer.result _ _ _
+    puts _ (PlanAnswer asked.universe asked.goals.items) _ c.answer.result _ _ _
     (said_for (λ goals. IfOk planned (IsPlanned asked.universe goals)) (λ goals. Says (PlanAnswer asked.universe goals) _) c.answer.result asked.goals.items
     (rw c.deref.ensures.value at c.planned-planned.ensures.planned) c.answer.ensures) c.finish.ensures.answer c.finish.ensures.lines c.finish.ensures.calm

@@ -7,6 +7,6 @@ pub returns : goal.returns
 returns g c =
     let asked = c.args.asked.now in
     let found = c.explained-explained.result in
-    puts _ _ (WhyAnswer asked.universe asked.goals.items) _ c.answer.result _ _ _
+    puts _ (WhyAnswer asked.universe asked.goals.items) _ c.answer.result _ _ _
     (said_for (λ goals. IsExplained asked.universe goals found) (λ goals. Says (WhyAnswer asked.universe goals) _) c.answer.result asked.goals.items
     (rw c.deref.ensures.value at c.explained-explained.ensures.explained) c.answer.ensures) c.finish.ensures.answer c.finish.ensures.lines c.finish.ensures.calm

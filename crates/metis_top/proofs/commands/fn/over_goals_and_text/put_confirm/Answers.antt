@@ -4,4 +4,4 @@ use Rattle.metis_top.proofs.commands.fn.over_goals_and_text.put_confirm.Goals as
 
 pub returns : goal.returns
 returns g c =
-    puts _ _ (Confirms c.args.read.now.asked.universe c.args.read.now.asked.goals.items c.args.read.now.text.lines.items) _ c.answer-answer.result _ _ _ (rw (c.deref.ensures.value, c.deref-2.ensures.value) at c.answer-answer.ensures) c.finish.ensures.answer c.finish.ensures.lines c.finish.ensures.calm
+    puts _ (Confirms c.args.read.now.asked.universe c.args.read.now.asked.goals.items c.args.read.now.text.lines.items) _ c.answer-answer.result _ _ _ (rw (c.deref.ensures.value, c.deref-2.ensures.value) at c.answer-answer.ensures) c.finish.ensures.answer c.finish.ensures.lines c.finish.ensures.calm

@@ -10,5 +10,5 @@ returns g c =
     let universe = ap (λ (read : GoalsAnd _ _). read.asked.universe) c.read.view_is in
     let goals = ap (λ (read : GoalsAnd _ _). read.asked.goals.items) c.read.view_is in
     let actions = ap (λ (read : GoalsAnd _ _). read.text.plan.actions) c.read.view_is in
-    puts _ _ (Replayed read.asked.universe read.asked.goals.items read.text.plan.actions) _ c.answer-answer.result _ _ _
+    puts _ (Replayed read.asked.universe read.asked.goals.items read.text.plan.actions) _ c.answer-answer.result _ _ _
     (rw (c.deref.ensures.value, c.deref-2.ensures.value, universe, goals, actions) at c.answer-answer.ensures) c.finish.ensures.answer c.finish.ensures.lines c.finish.ensures.calm

@@ -13,7 +13,7 @@ returns g c =
     let actions = ap (λ (read : GoalsAnd _ _). read.text.plan.actions) c.read.view_is in
     let u = read.asked.universe in
     let rolled = c.rolled_out-rolled.result in
-    puts _ _ (RolledOut u read.asked.goals.items read.text.plan.actions) _ c.answer.result _ _ _
+    puts _ (RolledOut u read.asked.goals.items read.text.plan.actions) _ c.answer.result _ _ _
     (said_for_both (λ goals old. IsRolledOut u goals old rolled) (λ goals old. Says (RolledOut u goals old) _) c.answer.result read.asked.goals.items read.text.plan.actions
     (rw (c.deref.ensures.value, c.deref-2.ensures.value, universe, goals, actions) at c.rolled_out-rolled.ensures.rolled_out)
     (rw universe at c.answer.ensures)) c.finish.ensures.answer c.finish.ensures.lines c.finish.ensures.calm

@@ -10,5 +10,5 @@ returns g c =
     let universe = ap (λ (read : PlanAnd _ _). read.planned.universe) c.read.view_is in
     let actions = ap (λ (read : PlanAnd _ _). read.planned.text.plan.actions) c.read.view_is in
     let text = ap (λ (read : PlanAnd _ _). read.text.items) c.read.view_is in
-    puts _ _ (Controlled read.planned.universe read.planned.text.plan.actions read.text.items) _ c.answer-answer.result _ _ _
+    puts _ (Controlled read.planned.universe read.planned.text.plan.actions read.text.items) _ c.answer-answer.result _ _ _
     (rw (c.deref-2.ensures.value, c.deref-3.ensures.value, universe, actions, text) at c.answer-answer.ensures) c.finish.ensures.answer c.finish.ensures.lines c.finish.ensures.calm

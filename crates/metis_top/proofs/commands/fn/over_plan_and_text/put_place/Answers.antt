@@ -10,5 +10,5 @@ returns g c =
     let universe = ap (λ (read : PlanAnd _ _). read.planned.universe) c.read.view_is in
     let actions = ap (λ (read : PlanAnd _ _). read.planned.text.plan.actions) c.read.view_is in
     let text = ap (λ (read : PlanAnd _ _). read.text) c.read.view_is in
-    puts _ _ (Placed read.planned.universe read.planned.text.plan.actions read.text) _ c.answer.result _ _ _
+    puts _ (Placed read.planned.universe read.planned.text.plan.actions read.text) _ c.answer.result _ _ _
     (rw (c.deref.ensures.value, universe, actions, text) at c.answer.ensures) c.finish.ensures.answer c.finish.ensures.lines c.finish.ensures.calm
