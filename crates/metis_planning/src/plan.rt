@@ -19,10 +19,21 @@ use metis_shared::{Aim, aim_of};
 use metis_text::{PlanLines, RefusalLines, lines_of_plan, lines_of_refusal};
 use metis_universe::Universe;
 use metis_waits::{Judged, WFault};
-use std::alloc::Global;
+use std::alloc::{AllocError, Global};
 
 /// The text of a plan, or of a refusal.
-pub type PlannedLines<'a> = Either<PlanLines<'a>, RefusalLines<'a>>;
+#[derive(Drop)]
+pub struct PlannedLines<'a> {
+    pub text: Either<PlanLines<'a>, RefusalLines<'a>>,
+}
+
+impl<'a> Lines for PlannedLines<'a> {
+    ghost rest = { λ l. ⟦<Either<PlanLines<'a>, RefusalLines<'a>> as Lines>⟧.rest l.text };
+
+    fn next_line(&mut self, line: &mut String) -> Result<bool, AllocError> {
+        self.text.next_line(line)
+    }
+}
 
 /// A plan for the goals, or a refusal if nothing attains them.
 pub fn planned(alloc: Global, u: &Universe, goals: &[Goal]) -> Result<Planned, NoMemory>
@@ -92,13 +103,19 @@ pub fn planned_answer<'a>(
     ensures { IfOk result (Says (TellsPlanned u.now planned.now) ⟦<PlannedLines<'a> as Lines>⟧.rest) }
 {
     match planned {
-        Planned::Plan(plan, waits) => Ok(Answer {
-            lines: Either::First(lines_of_plan(alloc, u, plan, waits)?),
-            good: true,
-        }),
-        Planned::Refusal(refusal) => Ok(Answer {
-            lines: Either::Second(lines_of_refusal(alloc, u, refusal)?),
-            good: false,
-        }),
+        Planned::Plan(plan, waits) => {
+            let text = Either::First(lines_of_plan(alloc, u, plan, waits)?);
+            Ok(Answer {
+                lines: PlannedLines { text },
+                good: true,
+            })
+        }
+        Planned::Refusal(refusal) => {
+            let text = Either::Second(lines_of_refusal(alloc, u, refusal)?);
+            Ok(Answer {
+                lines: PlannedLines { text },
+                good: false,
+            })
+        }
     }
 }

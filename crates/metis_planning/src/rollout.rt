@@ -27,10 +27,21 @@ use metis_rollout::{
 use metis_shared::{Aim, Followed, Unsteady, aim_of, follow, unsteady_line};
 use metis_universe::Universe;
 use metis_waits::{Judged, WFault};
-use std::alloc::Global;
+use std::alloc::{AllocError, Global};
 
 /// The line that says why the old actions are no steadfast run, or the text of a rollout, or of a refusal.
-pub type RolloutLines<'a> = Either<Once, PlannedLines<'a>>;
+#[derive(Drop)]
+pub struct RolloutLines<'a> {
+    pub text: Either<Once, PlannedLines<'a>>,
+}
+
+impl<'a> Lines for RolloutLines<'a> {
+    ghost rest = { λ l. ⟦<Either<Once, PlannedLines<'a>> as Lines>⟧.rest l.text };
+
+    fn next_line(&mut self, line: &mut String) -> Result<bool, AllocError> {
+        self.text.next_line(line)
+    }
+}
 
 /// A plan that begins with the old actions, makes what the goals ask for beside what these leave, and then removes that; or a
 /// refusal if nothing attains the goals; or why the old actions are no steadfast run.
@@ -161,15 +172,16 @@ pub fn answer<'a>(
     match rolled {
         Ok(planned) => {
             let Answer { lines, good } = planned_answer(alloc, u, planned)?;
+            let text = Either::Second(lines);
             Ok(Answer {
-                lines: Either::Second(lines),
+                lines: RolloutLines { text },
                 good,
             })
         }
         Err(why) => {
-            let line = unsteady_line(alloc, u, why)?;
+            let text = Either::First(unsteady_line(alloc, u, why)?);
             Ok(Answer {
-                lines: Either::First(line),
+                lines: RolloutLines { text },
                 good: false,
             })
         }
