@@ -1,5 +1,5 @@
 //! One line.
-ghost use Rattle.std.specs.Prelude.{◌≡◌, ◌∷◌, [], IfOk, string_bytes};
+ghost use Rattle.std.specs.Prelude.{◌≡◌, ◌∷◌, [], string_bytes};
 ghost use Rattle.metis_outside.specs.Pieces.{IsLine};
 
 use crate::Lines;
@@ -32,14 +32,6 @@ impl Once {
         ensures { result ≡ string_bytes line ∷ [] }
     {
         Once { line: Some(line) }
-    }
-
-    /// The line that is this text.
-    pub fn copy(alloc: Global, line: &str) -> Result<Once, AllocError>
-        requires { IsLine line.now }
-        ensures { IfOk result (λ l. l ≡ line.now ∷ []) }
-    {
-        Ok(Once::of(String::from_str(alloc, line)?))
     }
 }
 

@@ -25,7 +25,7 @@ use Rattle.metis_tokens.specs.declared.fault.TFault.TheVariants.{Line, Short}
 use Rattle.metis_text.proofs.Accepted.{said_bytes}
 use Rattle.metis_text.proofs.DupsRead.{AreDups}
 use Rattle.metis_text.proofs.Formed.{formed, parts_of_formed}
-use Rattle.metis_text.proofs.PlanLines.{closed, lines_from, plan_text}
+use Rattle.metis_text.proofs.PlanWhole.{closed, lines_from, plan_text}
 use Rattle.metis_tokens.proofs.Texts.{early_is_short, text_by, whole_more}
 use Rattle.metis_text.proofs.PlanRead.{AreParts, numbers_of_parts, parts_bytes}
 use Rattle.metis_text.proofs.PlanParts.{AreCounts}

@@ -19,7 +19,7 @@ use Rattle.metis_universe.specs.GoalWords.{IsWordable}
 use Rattle.metis_universe.specs.Universe.{IsTable, Universe, pair_count}
 use Rattle.metis_text.proofs.LineFlaws.{exactly_fails, lacks_fails, pair_fails, size_fails}
 use Rattle.metis_text.proofs.PairsRead.{ArePairs}
-use Rattle.metis_text.proofs.RefusalLines.{lacks_is, lacks_tokens, next_pair_is, size_is, size_tokens}
+use Rattle.metis_text.proofs.RefusalWords.{lacks_is, lacks_tokens, next_pair_is, size_is, size_tokens}
 use Rattle.metis_text.proofs.RefusalSets.{pairs_ascend}
 use Rattle.metis_text.proofs.DueRead.{IsLeft, one_more, stops}
 use Rattle.metis_text.specs.DueLines.{IfFault}

@@ -20,12 +20,12 @@ pub mod LineFlaws
 pub mod NamedFaults
 pub mod NextRead
 pub mod PairsRead
-pub mod PlanLines
+pub mod PlanWhole
 pub mod PlanParts
 pub mod PlanRead
 pub mod PlanStops
 pub mod RefusalFaults
-pub mod RefusalLines
+pub mod RefusalWords
 pub mod RefusalPairs
 pub mod RefusalRead
 pub mod RefusalSets

@@ -11,7 +11,7 @@ use Rattle.metis_text.specs.RefusalReading.{above, next_pair_in, pairs_from}
 use Rattle.metis_text.specs.RefusalText.{pair_line}
 use Rattle.metis_tokens.proofs.LinesTaken.{read_next_is, read_next_read, line_and_rest}
 use Rattle.metis_tokens.proofs.Outcomes.{and_then_is}
-use Rattle.metis_text.proofs.RefusalLines.{next_pair_is, next_pair_read, pair_tokens, pair_tokens_printed}
+use Rattle.metis_text.proofs.RefusalWords.{next_pair_is, next_pair_read, pair_tokens, pair_tokens_printed}
 
 abbrev pub ArePairs : Universe → List ℕ → List ℕ → Type 0
 ArePairs u before [] = ⊤

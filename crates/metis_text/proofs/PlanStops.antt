@@ -20,7 +20,7 @@ use Rattle.metis_text.proofs.DupLine.{IsDupRow, dup_is, dup_row_tokens}
 use Rattle.metis_text.proofs.DupsRead.{AreDups, dup_row_line}
 use Rattle.metis_text.proofs.Faults.{closed_fails, dup_from, formed_of, plan_of}
 use Rattle.metis_text.proofs.LineFlaws.{exactly_fails}
-use Rattle.metis_text.proofs.PlanLines.{closed, counts_then, dups_then, last_from, lines_from, plan_text, rows_then}
+use Rattle.metis_text.proofs.PlanWhole.{closed, counts_then, dups_then, last_from, lines_from, plan_text, rows_then}
 use Rattle.metis_text.proofs.PlanParts.{AreCounts, counts_are, counts_tokens}
 use Rattle.metis_text.proofs.RowFlaws.{row_fails}
 use Rattle.metis_text.proofs.RowLine.{IsRow, row_is, row_tokens}

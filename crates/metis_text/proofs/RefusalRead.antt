@@ -16,7 +16,7 @@ use Rattle.metis_tokens.proofs.LinesTaken.{read_next_is, read_next_read}
 use Rattle.metis_tokens.proofs.Outcomes.{and_then_is}
 use Rattle.metis_text.proofs.PairsRead.{ArePairs, pairs_are, pairs_read}
 use Rattle.metis_tokens.proofs.KnownLines.{ended_is, exactly_is}
-use Rattle.metis_text.proofs.RefusalLines.{lacks_is, lacks_printed, lacks_read, lacks_tokens, size_is, size_printed, size_read, size_tokens}
+use Rattle.metis_text.proofs.RefusalWords.{lacks_is, lacks_printed, lacks_read, lacks_tokens, size_is, size_printed, size_read, size_tokens}
 use Rattle.metis_text.proofs.RefusalSets.{ascending_pairs, pairs_ascend, set_few}
 use Rattle.metis_text.proofs.TextBytes.{body_bytes, refusal_bytes_by_parts, rest_bytes, set_bytes}
 

@@ -13,7 +13,7 @@ use Rattle.metis_text.specs.PlanText.{action_line, counts_line}
 use Rattle.metis_tokens.specs.Cursor.{Cursor, exactly, lines_of, read_next}
 use Rattle.metis_text.specs.Reading.{Numbers, Parts, Rows, counts_in, dups_from, parts, rows_from, rows_of, with_row}
 use Rattle.metis_text.proofs.DupsRead.{AreDups, dup_row_line, dups_are, dups_read}
-use Rattle.metis_text.proofs.PlanLines.{counts_then, dups_then, last_from, lines_from, rows_then}
+use Rattle.metis_text.proofs.PlanWhole.{counts_then, dups_then, last_from, lines_from, rows_then}
 use Rattle.metis_tokens.proofs.LinesTaken.{read_next_is, read_next_read, read_next_number}
 use Rattle.metis_tokens.proofs.Outcomes.{and_then_is}
 use Rattle.metis_text.proofs.PlanParts.{AreCounts, counts_are, counts_printed, counts_read, counts_tokens}

@@ -77,6 +77,10 @@ pub record IsListed (u : Universe) (actions : List Action) (w : WaitLists) : Typ
 abbrev pub dup_lines : Universe → List Dup → List (List ℕ)
 dup_lines u dups = numbered (dup_line u) 1 dups
 
+-- the first lines, before those of the actions
+abbrev pub plan_front : Plan → List (List ℕ)
+plan_front p = plan_header ∷ counts_of p ∷ []
+
 -- the lines of the dups, and the last line
 abbrev pub plan_end : Universe → List Dup → List (List ℕ)
 plan_end u dups = dup_lines u dups ++ end_line ∷ []

@@ -25,6 +25,10 @@ pairs_line n = line (codes "pairs" ∷ decimal n ∷ [])
 abbrev pub pair_line : Universe → ℕ → List ℕ
 pair_line u p = line (pair_word u p ∷ [])
 
+-- the first lines, before those of the pairs
+abbrev pub refusal_front : Universe → List ℕ → Goal → List (List ℕ)
+refusal_front u set lacks = refusal_header ∷ lacks_line u lacks ∷ pairs_line (length set) ∷ []
+
 -- the lines of the pairs, and the last line
 abbrev pub refusal_rest : Universe → List ℕ → List (List ℕ)
 refusal_rest u set = map (pair_line u) set ++ end_line ∷ []

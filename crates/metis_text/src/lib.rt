@@ -30,5 +30,5 @@ pub use plan_text::PlanText;
 pub use read::read_plan;
 pub use refusal_read::read_refusal;
 pub use refusal_text::Refusal;
-pub use refusal_write::{PairLines, RefusalLines, lines_of_refusal, write_refusal};
-pub use write::{ActionLines, DupLines, PlanLines, lines_of_plan, write_plan};
+pub use refusal_write::{RefusalLines, lines_of_refusal, write_refusal};
+pub use write::{PlanLines, lines_of_plan, write_plan};

@@ -1,5 +1,5 @@
 //! The lines of the text.
-ghost use Rattle.std.specs.Prelude.{◌≡◌, ◌<◌, ◌++◌, ◌∷◌, [], IfOk, OnOk, codes, decimal, map, string_bytes};
+ghost use Rattle.std.specs.Prelude.{◌≡◌, ◌<◌, ◌++◌, ◌∷◌, [], OnOk, codes, decimal, map, string_bytes};
 ghost use Rattle.metis_universe.specs.Numbers.{IsOf};
 ghost use Rattle.metis_universe.specs.Universe.{pair_count};
 ghost use Rattle.metis_tokens.specs.Line.{added, words};
@@ -8,17 +8,19 @@ ghost use Rattle.metis_text.specs.PlanText.{action_line, action_tokens, after_to
 use metis_ids::{Action, Dup, Event, Ix, PairIx};
 use metis_tokens::push_numbers;
 use metis_universe::Universe;
-use std::alloc::{AllocError, Global};
+use std::alloc::AllocError;
 
-pub fn counts_line(
-    alloc: Global,
+/// The line becomes that of a plan's counts.
+pub fn set_counts(
+    line: &mut String,
     instances: u32,
     count: usize,
     dups: usize,
-) -> Result<String, AllocError>
-    ensures { IfOk result (λ text. string_bytes text ≡ counts_line instances count dups) }
+) -> Result<(), AllocError>
+    ensures { OnOk result (string_bytes line.new ≡ counts_line instances count dups) }
 {
-    format!(in alloc; "instances {instances} actions {count} dups {dups}\n")
+    line.clear();
+    write!(line, "instances {instances} actions {count} dups {dups}\n")
 }
 
 /// The line becomes that of the action that has this number and waits for those.

@@ -1,5 +1,5 @@
 //! The text of a refusal, line by line.
-ghost use Rattle.std.specs.Prelude.{◌≡◌, ◌<◌, ◌∷◌, ◌++◌, [], IfOk, OnOk, codes, length, map, string_bytes};
+ghost use Rattle.std.specs.Prelude.{◌≡◌, ◌<◌, ◌∷◌, ◌++◌, [], OnOk, codes, map, string_bytes};
 ghost use Rattle.std.specs.List.{All};
 ghost use Rattle.metis_outside.specs.Faults.{CountsFault};
 ghost use Rattle.metis_outside.specs.Writes.{Writes};
@@ -8,18 +8,15 @@ ghost use Rattle.metis_tokens.specs.Line.{line};
 ghost use Rattle.metis_universe.specs.GoalWords.{IsWordable};
 ghost use Rattle.metis_universe.specs.Goals.{IsGoalOf};
 ghost use Rattle.metis_universe.specs.Universe.{pair_count};
-ghost use Rattle.metis_text.specs.RefusalText.{lacks_line, pair_line, pairs_line, refusal_header, refusal_lines};
+ghost use Rattle.metis_text.specs.RefusalText.{lacks_line, pair_line, pairs_line, refusal_front, refusal_lines};
 
 use crate::refusal_text::Refusal;
-use crate::write::last_line;
-use metis_ids::{Goal, Members, PairIx, PairSet};
-use metis_output::{Chain, Lines, Once, put_all};
+use metis_ids::{Goal, Members, PairIx};
+use metis_output::{Chain, Each, Fixed, LineAt, Lines, put_all, set_text};
 use metis_outside::{Sink, Trouble};
 use metis_universe::Universe;
 use std::alloc::{AllocError, Global};
-
-/// The lines of a refusal's text.
-pub type RefusalLines<'a> = Chain<Once, Chain<Once, Chain<Once, Chain<PairLines<'a>, Once>>>>;
+use std::marker::Model;
 
 /// Puts the text of the refusal, each line as one piece. Where it lacks a port, no type of the universe is named `port`.
 #[tactic(auto, using(metis_output::proofs::PutLines::puts_none, metis_outside::proofs::Writing::front_of_nothing))]
@@ -35,90 +32,130 @@ pub fn write_refusal<K: Sink>(
     ensures lines { PutsByLine (K.written out.old) (K.written out.new) result }
     ensures cause { CountsFault (K.faults out.old) (K.faults out.new) result }
 {
-    let mut lines = lines_of_refusal(alloc, u, r)?;
+    let mut lines = lines_of_refusal(u, r);
     put_all(alloc, &mut lines, out)
 }
 
 /// The lines of the text of the refusal.
-pub fn lines_of_refusal<'a>(
-    alloc: Global,
-    u: &'a Universe,
-    r: &'a Refusal,
-) -> Result<RefusalLines<'a>, AllocError>
+pub fn lines_of_refusal<'a>(u: &'a Universe, r: &'a Refusal) -> RefusalLines<'a>
     requires size { r.now.pairs.size ≡ pair_count u.now }
     requires lacks { IsWordable u.now r.now.lacks }
-    ensures { IfOk result (λ l. ⟦<RefusalLines<'a> as Lines>⟧.rest l ≡ refusal_lines u.now r.now.pairs.members r.now.lacks) }
+    ensures { result ≡ refusal_lines u.now r.now.pairs.members r.now.lacks }
 {
-    let header = header_line(alloc)?;
-    let lacks = line_of_lacks(alloc, u, r.lacks)?;
-    let count = line_of_size(alloc, &r.pairs)?;
-    let end = last_line(alloc)?;
     let pairs = PairLines {
         universe: u,
         pairs: r.pairs.iter(),
     };
     let behind = Chain {
         first: pairs,
-        second: end,
+        second: Fixed::of("end\n"),
     };
-    Ok(Chain {
-        first: header,
-        second: Chain {
-            first: lacks,
-            second: Chain {
-                first: count,
-                second: behind,
-            },
+    RefusalLines {
+        text: Chain {
+            first: Each::of(RefusalFront::of(u, r)),
+            second: behind,
         },
-    })
+    }
 }
 
-fn header_line(alloc: Global) -> Result<Once, AllocError>
-    ensures { IfOk result (λ l. l ≡ refusal_header ∷ []) }
-{
-    Ok(Once::of(String::from_str(alloc, "metis refusal 1\n")?))
+/// The lines of a refusal's text that are still to come. Contracts see them.
+#[derive(Drop)]
+pub struct RefusalLines<'a> {
+    text: RefusalParts<'a>,
 }
 
-fn line_of_lacks(alloc: Global, u: &Universe, goal: Goal) -> Result<Once, AllocError>
+type RefusalParts<'a> = Chain<Each<RefusalFront<'a>>, Chain<PairLines<'a>, Fixed>>;
+
+impl<'a> Model for RefusalLines<'a> {
+    ghost use Rattle.std.specs.Prelude.{ℕ, List};
+
+    ghost Value = { List (List ℕ) };
+
+    ghost view = { λ l. ⟦<RefusalParts<'static> as Lines>⟧.rest l.text };
+}
+
+impl<'a> Lines for RefusalLines<'a> {
+    ghost rest = { λ l. l };
+
+    fn next_line(&mut self, line: &mut String) -> Result<bool, AllocError> {
+        self.text.next_line(line)
+    }
+}
+
+// The first three lines of a refusal's text. Contracts see them.
+#[derive(Drop)]
+struct RefusalFront<'a> {
+    universe: &'a Universe,
+    refusal: &'a Refusal,
+}
+
+impl<'a> Model for RefusalFront<'a> {
+    ghost use Rattle.std.specs.Prelude.{ℕ, List};
+    ghost use Rattle.metis_universe.specs.Goals.{IsGoalOf};
+    ghost use Rattle.metis_text.specs.RefusalText.{refusal_front};
+
+    ghost Value = { List (List ℕ) };
+
+    ghost view = { λ f. refusal_front f.universe.now f.refusal.now.pairs.members f.refusal.now.lacks };
+
+    ghost invariant = { λ f. IsGoalOf f.universe.now f.refusal.now.lacks };
+}
+
+impl<'a> RefusalFront<'a> {
+    // Those of this refusal.
+    fn of(universe: &'a Universe, refusal: &'a Refusal) -> RefusalFront<'a>
+        requires { IsGoalOf universe.now refusal.now.lacks }
+        ensures { result ≡ refusal_front universe.now refusal.now.pairs.members refusal.now.lacks }
+    {
+        RefusalFront { universe, refusal }
+    }
+}
+
+impl<'a> LineAt for RefusalFront<'a> {
+    ghost lines = { λ f. f };
+
+    fn count(&self) -> usize {
+        self.universe.keeps_invariant();
+        3
+    }
+
+    fn set_line(&self, place: usize, line: &mut String) -> Result<(), AllocError> {
+        self.universe.keeps_invariant();
+        match place {
+            0 => set_text(line, "metis refusal 1\n"),
+            1 => set_lacks(line, self.universe, self.refusal.lacks),
+            _ => set_size(line, self.refusal.pairs.count()),
+        }
+    }
+}
+
+// The line becomes that of the goal that the set lacks.
+fn set_lacks(line: &mut String, u: &Universe, goal: Goal) -> Result<(), AllocError>
     requires { IsGoalOf u.now goal }
-    ensures { IfOk result (λ l. l ≡ lacks_line u.now goal ∷ []) }
-{
-    u.keeps_invariant();
-    let line = lacks_line(alloc, u, goal)?;
-    Ok(Once::of(line))
-}
-
-fn lacks_line(alloc: Global, u: &Universe, goal: Goal) -> Result<String, AllocError>
-    requires { IsGoalOf u.now goal }
-    ensures { IfOk result (λ line. string_bytes line ≡ lacks_line u.now goal) }
+    ensures { OnOk result (string_bytes line.new ≡ lacks_line u.now goal) }
 {
     let (kind, name) = u.goal_names(goal);
-    named_line(alloc, kind, name)
+    set_named(line, kind, name)
 }
 
-fn named_line(alloc: Global, kind: &str, name: &str) -> Result<String, AllocError>
-    ensures { IfOk result (λ text. string_bytes text ≡ line (codes "lacks" ∷ (kind.now ++ (codes ":" ++ name.now)) ∷ [])) }
+fn set_named(text: &mut String, kind: &str, name: &str) -> Result<(), AllocError>
+    ensures { OnOk result (string_bytes text.new ≡ line (codes "lacks" ∷ (kind.now ++ (codes ":" ++ name.now)) ∷ [])) }
 {
-    format!(in alloc; "lacks {kind}:{name}\n")
+    text.clear();
+    write!(text, "lacks {kind}:{name}\n")
 }
 
-// The line that says how many pairs the set has.
-fn line_of_size(alloc: Global, set: &PairSet) -> Result<Once, AllocError>
-    ensures { IfOk result (λ l. l ≡ pairs_line (length set.now.members) ∷ []) }
+// The line becomes the one that says how many pairs the set has.
+fn set_size(line: &mut String, count: u32) -> Result<(), AllocError>
+    ensures { OnOk result (string_bytes line.new ≡ pairs_line count) }
 {
-    let line = pairs_line(alloc, set.count())?;
-    Ok(Once::of(line))
+    line.clear();
+    write!(line, "pairs {count}\n")
 }
 
-fn pairs_line(alloc: Global, count: u32) -> Result<String, AllocError>
-    ensures { IfOk result (λ line. string_bytes line ≡ pairs_line count) }
-{
-    format!(in alloc; "pairs {count}\n")
-}
-
-/// The lines of the pairs that are still to come.
+// The lines of the pairs that are still to come.
 #[derive(Drop)]
-pub struct PairLines<'a> {
+struct PairLines<'a> {
     universe: &'a Universe,
     pairs: Members<'a>,
     ghost within: { All (λ p. p < pair_count universe.now) pairs },

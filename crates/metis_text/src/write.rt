@@ -1,30 +1,24 @@
 //! The text of a plan, line by line.
-ghost use Rattle.std.specs.Prelude.{◌≡◌, ◌<◌, ◌≤◌, ◌+◌, ◌∷◌, [], ◌^◌, IfOk, drop, length, map};
+ghost use Rattle.std.specs.Prelude.{◌≡◌, ◌<◌, ◌≤◌, ◌+◌, ◌∷◌, [], ◌^◌, drop, length, map};
 ghost use Rattle.std.specs.List.{All};
 ghost use Rattle.metis_outside.specs.Faults.{CountsFault};
 ghost use Rattle.metis_outside.specs.Writes.{Writes};
 ghost use Rattle.metis_output.specs.PutLines.{PutsByLine};
-ghost use Rattle.metis_tokens.specs.Line.{end_line, numbered};
+ghost use Rattle.metis_tokens.specs.Line.{numbered};
 ghost use Rattle.metis_universe.specs.Numbers.{IsOf};
 ghost use Rattle.metis_universe.specs.Universe.{pair_count};
 ghost use Rattle.metis_universe.specs.Waits.{numbers};
 ghost use Rattle.metis_waits.specs.Waits.{AreWaits, list_of, waits_on_others};
-ghost use Rattle.metis_text.specs.PlanText.{IsListed, actions_left, counts_of, dup_line, plan_header, plan_lines};
+ghost use Rattle.metis_text.specs.PlanText.{IsListed, actions_left, counts_line, dup_line, plan_front, plan_header, plan_lines};
 
-use crate::lines::{counts_line, set_action_line, set_dup_line};
+use crate::lines::{set_action_line, set_counts, set_dup_line};
 use metis_ids::{Action, Dup, Plan};
-use metis_output::{Chain, Lines, Once, put_all};
+use metis_output::{Chain, Each, Fixed, LineAt, Lines, put_all, set_text};
 use metis_outside::{Sink, Trouble};
 use metis_universe::Universe;
 use metis_waits::Waits;
 use std::alloc::{AllocError, Global};
 use std::marker::Model;
-
-/// The lines of a plan's text.
-pub type PlanLines<'a> = Chain<
-    Once,
-    Chain<Once, Chain<ActionLines<'a>, Chain<DupLines<'a>, Once>>>,
->;
 
 /// Puts the text of the plan, each line as one piece. Behind each action stand the numbers of the other actions that it waits
 /// for, without its own instance's previous one.
@@ -44,71 +38,103 @@ pub fn write_plan<K: Sink>(
     ensures lines { PutsByLine (K.written out.old) (K.written out.new) result }
     ensures cause { CountsFault (K.faults out.old) (K.faults out.new) result }
 {
-    let mut lines = lines_of_plan(alloc, u, p, w)?;
+    let mut lines = lines_of_plan(u, p, w);
     put_all(alloc, &mut lines, out)
 }
 
 /// The lines of the text of the plan, in which each action waits for these.
-pub fn lines_of_plan<'a>(
-    alloc: Global,
-    u: &'a Universe,
-    p: &'a Plan,
-    w: &'a Waits,
-) -> Result<PlanLines<'a>, AllocError>
+pub fn lines_of_plan<'a>(u: &'a Universe, p: &'a Plan, w: &'a Waits) -> PlanLines<'a>
     requires actions { All (IsOf u.now) p.now.actions }
     requires dups { All (λ d. d.pair < pair_count u.now) p.now.dups }
     requires waits { AreWaits p.now.actions w.now }
     requires few { length p.now.actions < 2 ^ 32 }
-    ensures { IfOk result (λ l. ⟦<PlanLines<'a> as Lines>⟧.rest l ≡ plan_lines u.now p.now (map (waits_on_others p.now.actions) (numbers p.now.actions))) }
+    ensures { result ≡ plan_lines u.now p.now (map (waits_on_others p.now.actions) (numbers p.now.actions)) }
 {
-    let header = header_line(alloc)?;
-    let counts = line_of_counts(alloc, p)?;
-    let end = last_line(alloc)?;
-    let actions = ActionLines::of(u, &p.actions, w);
     let dups = DupLines {
         universe: u,
         dups: &p.dups,
         at: 0,
     };
     let behind = Chain {
-        first: actions,
-        second: Chain {
-            first: dups,
-            second: end,
-        },
+        first: dups,
+        second: Fixed::of("end\n"),
     };
-    Ok(Chain {
-        first: header,
-        second: Chain {
-            first: counts,
-            second: behind,
+    let actions = Chain {
+        first: ActionLines::of(u, &p.actions, w),
+        second: behind,
+    };
+    PlanLines {
+        text: Chain {
+            first: Each::of(PlanFront::of(p)),
+            second: actions,
         },
-    })
+    }
 }
 
-fn header_line(alloc: Global) -> Result<Once, AllocError>
-    ensures { IfOk result (λ l. l ≡ plan_header ∷ []) }
-{
-    Ok(Once::of(String::from_str(alloc, "metis plan 1\n")?))
-}
-
-fn line_of_counts(alloc: Global, p: &Plan) -> Result<Once, AllocError>
-    ensures { IfOk result (λ l. l ≡ counts_of p.now ∷ []) }
-{
-    let line = counts_line(alloc, p.instances, p.actions.len(), p.dups.len())?;
-    Ok(Once::of(line))
-}
-
-/// The last line of a text.
-pub fn last_line(alloc: Global) -> Result<Once, AllocError>
-    ensures { IfOk result (λ l. l ≡ end_line ∷ []) }
-{
-    Ok(Once::of(String::from_str(alloc, "end\n")?))
-}
-
-/// The lines of a plan's actions that are still to come. Contracts see the lines.
+/// The lines of a plan's text that are still to come. Contracts see them.
 #[derive(Drop)]
-pub struct ActionLines<'a> {
+pub struct PlanLines<'a> {
+    text: PlanParts<'a>,
+}
+
+type PlanParts<'a> = Chain<Each<PlanFront>, Chain<ActionLines<'a>, Chain<DupLines<'a>, Fixed>>>;
+
+impl<'a> Model for PlanLines<'a> {
+    ghost use Rattle.std.specs.Prelude.{ℕ, List};
+
+    ghost Value = { List (List ℕ) };
+
+    ghost view = { λ l. ⟦<PlanParts<'static> as Lines>⟧.rest l.text };
+}
+
+impl<'a> Lines for PlanLines<'a> {
+    ghost rest = { λ l. l };
+
+    fn next_line(&mut self, line: &mut String) -> Result<bool, AllocError> {
+        self.text.next_line(line)
+    }
+}
+
+// The first two lines of a plan's text.
+#[derive(Drop)]
+struct PlanFront {
+    instances: u32,
+    actions: usize,
+    dups: usize,
+}
+
+impl PlanFront {
+    // Those of this plan.
+    fn of(p: &Plan) -> PlanFront
+        ensures { ⟦<PlanFront as LineAt>⟧.lines result ≡ plan_front p.now }
+    {
+        PlanFront {
+            instances: p.instances,
+            actions: p.actions.len(),
+            dups: p.dups.len(),
+        }
+    }
+}
+
+impl LineAt for PlanFront {
+    ghost lines = { λ f. plan_header ∷ counts_line f.instances f.actions f.dups ∷ [] };
+
+    fn count(&self) -> usize {
+        2
+    }
+
+    fn set_line(&self, place: usize, line: &mut String) -> Result<(), AllocError> {
+        if place == 0 {
+            set_text(line, "metis plan 1\n")
+        } else {
+            set_counts(line, self.instances, self.actions, self.dups)
+        }
+    }
+}
+
+// The lines of a plan's actions that are still to come. Contracts see the lines.
+#[derive(Drop)]
+struct ActionLines<'a> {
     universe: &'a Universe,
     actions: &'a [Action],
     waits: &'a Waits,
@@ -167,9 +193,9 @@ fn listed(waits: &Waits, number: u32) -> &[u32]
     waits.after(number)
 }
 
-/// The lines of a plan's dups from a place on.
+// The lines of a plan's dups from a place on.
 #[derive(Drop)]
-pub struct DupLines<'a> {
+struct DupLines<'a> {
     universe: &'a Universe,
     dups: &'a [Dup],
     at: usize,

@@ -9,6 +9,6 @@ pub mod NamedFaults
 pub mod Printed
 pub mod WhyBytes
 pub mod WhyFaults
-pub mod WhyLines
+pub mod LineFeeds
 pub mod WhyRead
 pub mod WhyShort

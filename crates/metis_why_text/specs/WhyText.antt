@@ -58,6 +58,10 @@ count_line n = line (codes "lines" ∷ decimal n ∷ [])
 abbrev pub line_text : Universe → Line → List ℕ
 line_text u l = line (line_tokens u l)
 
+-- the first lines, before those of the pairs
+abbrev pub why_front : Universe → Goal → List Line → List (List ℕ)
+why_front u lacks lines = why_header ∷ lacks_line u lacks ∷ count_line (length lines) ∷ []
+
 -- the lines of the pairs, and the last line
 abbrev pub why_rest : Universe → List Line → List (List ℕ)
 why_rest u lines = map (line_text u) lines ++ end_line ∷ []

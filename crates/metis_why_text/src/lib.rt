@@ -15,4 +15,4 @@ pub use laws::{
     told_why_fault_is_one, why_front_is_short, why_has_lines, why_is_read, why_text_is_short,
 };
 pub use read::read_why;
-pub use write::{ReasonLines, WhyLines, lines_of_why, write_why};
+pub use write::{WhyLines, lines_of_why, write_why};

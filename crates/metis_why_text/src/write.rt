@@ -1,26 +1,22 @@
 //! The text of an explanation, line by line.
-ghost use Rattle.std.specs.Prelude.{◌≡◌, [], ◌∷◌, IfOk, map, string_bytes};
+ghost use Rattle.std.specs.Prelude.{◌≡◌, OnOk, map, string_bytes};
 ghost use Rattle.std.specs.List.{All};
 ghost use Rattle.metis_outside.specs.Faults.{CountsFault};
 ghost use Rattle.metis_outside.specs.Writes.{Writes};
 ghost use Rattle.metis_output.specs.PutLines.{PutsByLine};
-ghost use Rattle.metis_tokens.specs.Line.{end_line};
 ghost use Rattle.metis_universe.specs.GoalWords.{IsWordable};
 ghost use Rattle.metis_universe.specs.Goals.{IsGoalOf};
 ghost use Rattle.metis_why.specs.Confirm.{IsTellable};
-ghost use Rattle.metis_why_text.specs.WhyText.{count_line, lacks_line, line_text, why_header, why_lines};
+ghost use Rattle.metis_why_text.specs.WhyText.{count_line, lacks_line, line_text, why_front, why_lines};
 
 use crate::words::{lacks_words, line_words};
 use metis_ids::Goal;
-use metis_output::{Chain, Lines, Once, put_all};
+use metis_output::{Chain, Each, Fixed, LineAt, Lines, put_all, set_text};
 use metis_outside::{Sink, Trouble};
 use metis_universe::Universe;
 use metis_why::{Explanation, Line};
 use std::alloc::{AllocError, Global};
 use std::marker::Model;
-
-/// The lines of an explanation's text.
-pub type WhyLines<'a> = Chain<Once, Chain<Once, Chain<Once, Chain<ReasonLines<'a>, Once>>>>;
 
 /// Puts the text of the explanation, each line as one piece. Where it lacks a port, no type of the universe is named `port`. A line
 /// of moves is about a pair in which no instance is made.
@@ -37,88 +33,124 @@ pub fn write_why<K: Sink>(
     ensures lines { PutsByLine (K.written out.old) (K.written out.new) result }
     ensures cause { CountsFault (K.faults out.old) (K.faults out.new) result }
 {
-    let mut lines = lines_of_why(alloc, u, why)?;
+    let mut lines = lines_of_why(alloc, u, why);
     put_all(alloc, &mut lines, out)
 }
 
 /// The lines of the text of the explanation.
-pub fn lines_of_why<'a>(
-    alloc: Global,
-    u: &'a Universe,
-    why: &'a Explanation,
-) -> Result<WhyLines<'a>, AllocError>
+pub fn lines_of_why<'a>(alloc: Global, u: &'a Universe, why: &'a Explanation) -> WhyLines<'a>
     requires lacks { IsWordable u.now why.now.lacks }
     requires lines { All (IsTellable u.now) why.now.lines.items }
-    ensures { IfOk result (λ l. ⟦<WhyLines<'a> as Lines>⟧.rest l ≡ why_lines u.now why.now.lacks why.now.lines.items) }
+    ensures { result ≡ why_lines u.now why.now.lacks why.now.lines.items }
 {
-    let header = header_line(alloc)?;
-    let lacks = line_of_lacks(alloc, u, why.lacks)?;
-    let count = line_of_count(alloc, why.lines.len())?;
-    let end = last_line(alloc)?;
-    let reasons = ReasonLines::of(alloc, u, &why.lines);
     let behind = Chain {
-        first: reasons,
-        second: end,
+        first: ReasonLines::of(alloc, u, &why.lines),
+        second: Fixed::of("end\n"),
     };
-    Ok(Chain {
-        first: header,
-        second: Chain {
-            first: lacks,
-            second: Chain {
-                first: count,
-                second: behind,
-            },
+    WhyLines {
+        text: Chain {
+            first: Each::of(WhyFront::of(alloc, u, why)),
+            second: behind,
         },
-    })
+    }
 }
 
-fn header_line(alloc: Global) -> Result<Once, AllocError>
-    ensures { IfOk result (λ l. l ≡ why_header ∷ []) }
-{
-    Ok(Once::of(String::from_str(alloc, "metis why 1\n")?))
-}
-
-fn last_line(alloc: Global) -> Result<Once, AllocError>
-    ensures { IfOk result (λ l. l ≡ end_line ∷ []) }
-{
-    Ok(Once::of(String::from_str(alloc, "end\n")?))
-}
-
-fn line_of_lacks(alloc: Global, u: &Universe, goal: Goal) -> Result<Once, AllocError>
-    requires { IsGoalOf u.now goal }
-    ensures { IfOk result (λ l. l ≡ lacks_line u.now goal ∷ []) }
-{
-    u.keeps_invariant();
-    let line = lacks_line(alloc, u, goal)?;
-    Ok(Once::of(line))
-}
-
-fn lacks_line(alloc: Global, u: &Universe, goal: Goal) -> Result<String, AllocError>
-    requires { IsGoalOf u.now goal }
-    ensures { IfOk result (λ text. string_bytes text ≡ lacks_line u.now goal) }
-{
-    let mut text = lacks_words(alloc, u, goal)?;
-    text.push_str("\n")?;
-    Ok(text)
-}
-
-// The line that says how many lines there are.
-fn line_of_count(alloc: Global, count: usize) -> Result<Once, AllocError>
-    ensures { IfOk result (λ l. l ≡ count_line count ∷ []) }
-{
-    let line = count_line(alloc, count)?;
-    Ok(Once::of(line))
-}
-
-fn count_line(alloc: Global, count: usize) -> Result<String, AllocError>
-    ensures { IfOk result (λ text. string_bytes text ≡ count_line count) }
-{
-    format!(in alloc; "lines {count}\n")
-}
-
-/// The lines of the pairs with their reasons that are still to come. Contracts see the lines.
+/// The lines of an explanation's text that are still to come. Contracts see them.
 #[derive(Drop)]
-pub struct ReasonLines<'a> {
+pub struct WhyLines<'a> {
+    text: WhyParts<'a>,
+}
+
+type WhyParts<'a> = Chain<Each<WhyFront<'a>>, Chain<ReasonLines<'a>, Fixed>>;
+
+impl<'a> Model for WhyLines<'a> {
+    ghost use Rattle.std.specs.Prelude.{ℕ, List};
+
+    ghost Value = { List (List ℕ) };
+
+    ghost view = { λ l. ⟦<WhyParts<'static> as Lines>⟧.rest l.text };
+}
+
+impl<'a> Lines for WhyLines<'a> {
+    ghost rest = { λ l. l };
+
+    fn next_line(&mut self, line: &mut String) -> Result<bool, AllocError> {
+        self.text.next_line(line)
+    }
+}
+
+// The first three lines of an explanation's text. Contracts see them.
+#[derive(Drop)]
+struct WhyFront<'a> {
+    alloc: Global,
+    universe: &'a Universe,
+    why: &'a Explanation,
+}
+
+impl<'a> Model for WhyFront<'a> {
+    ghost use Rattle.std.specs.Prelude.{ℕ, List};
+    ghost use Rattle.metis_universe.specs.Goals.{IsGoalOf};
+    ghost use Rattle.metis_why_text.specs.WhyText.{why_front};
+
+    ghost Value = { List (List ℕ) };
+
+    ghost view = { λ f. why_front f.universe.now f.why.now.lacks f.why.now.lines.items };
+
+    ghost invariant = { λ f. IsGoalOf f.universe.now f.why.now.lacks };
+}
+
+impl<'a> WhyFront<'a> {
+    // Those of this explanation.
+    fn of(alloc: Global, universe: &'a Universe, why: &'a Explanation) -> WhyFront<'a>
+        requires { IsGoalOf universe.now why.now.lacks }
+        ensures { result ≡ why_front universe.now why.now.lacks why.now.lines.items }
+    {
+        WhyFront {
+            alloc,
+            universe,
+            why,
+        }
+    }
+}
+
+impl<'a> LineAt for WhyFront<'a> {
+    ghost lines = { λ f. f };
+
+    fn count(&self) -> usize {
+        self.universe.keeps_invariant();
+        3
+    }
+
+    fn set_line(&self, place: usize, line: &mut String) -> Result<(), AllocError> {
+        self.universe.keeps_invariant();
+        match place {
+            0 => set_text(line, "metis why 1\n"),
+            1 => set_lacks(line, self.alloc, self.universe, self.why.lacks),
+            _ => set_count(line, self.why.lines.len()),
+        }
+    }
+}
+
+// The line becomes that of the goal.
+fn set_lacks(line: &mut String, alloc: Global, u: &Universe, goal: Goal) -> Result<(), AllocError>
+    requires { IsGoalOf u.now goal }
+    ensures { OnOk result (string_bytes line.new ≡ lacks_line u.now goal) }
+{
+    *line = lacks_words(alloc, u, goal)?;
+    line.push_str("\n")
+}
+
+// The line becomes the one that says how many lines there are.
+fn set_count(line: &mut String, count: usize) -> Result<(), AllocError>
+    ensures { OnOk result (string_bytes line.new ≡ count_line count) }
+{
+    line.clear();
+    write!(line, "lines {count}\n")
+}
+
+// The lines of the pairs with their reasons that are still to come. Contracts see the lines.
+#[derive(Drop)]
+struct ReasonLines<'a> {
     alloc: Global,
     universe: &'a Universe,
     lines: &'a [Line],
@@ -162,17 +194,22 @@ impl<'a> Lines for ReasonLines<'a> {
             return Ok(false);
         }
         let lines = self.lines;
-        *line = reason_line(self.alloc, self.universe, &lines[self.at])?;
+        set_reason(line, self.alloc, self.universe, &lines[self.at])?;
         self.at += 1;
         Ok(true)
     }
 }
 
-fn reason_line(alloc: Global, u: &Universe, line: &Line) -> Result<String, AllocError>
-    requires { IsTellable u.now line.now }
-    ensures { IfOk result (λ text. string_bytes text ≡ line_text u.now line.now) }
+// The line becomes that of the pair with its reason.
+fn set_reason(
+    line: &mut String,
+    alloc: Global,
+    u: &Universe,
+    reason: &Line,
+) -> Result<(), AllocError>
+    requires { IsTellable u.now reason.now }
+    ensures { OnOk result (string_bytes line.new ≡ line_text u.now reason.now) }
 {
-    let mut text = line_words(alloc, u, line)?;
-    text.push_str("\n")?;
-    Ok(text)
+    *line = line_words(alloc, u, reason)?;
+    line.push_str("\n")
 }

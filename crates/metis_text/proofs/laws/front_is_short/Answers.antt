@@ -2,7 +2,7 @@ use Rattle.std.proofs.Common.{sym, ap, ◌∙◌}
 use Rattle.metis_text.specs.Reading.{plan_from, plan_in}
 use Rattle.metis_text.specs.Reads.{said}
 use Rattle.metis_text.proofs.Accepted.{well_formed_read}
-use Rattle.metis_text.proofs.PlanLines.{closed, lines_from, plan_text}
+use Rattle.metis_text.proofs.PlanWhole.{closed, lines_from, plan_text}
 use Rattle.metis_tokens.proofs.Texts.{front_of_accepted}
 use Rattle.metis_text.proofs.laws.front_is_short.Goals as goal
 

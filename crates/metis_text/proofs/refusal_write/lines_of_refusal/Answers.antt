@@ -1,0 +1,7 @@
+use Rattle.std.proofs.Common.{refl}
+use Rattle.std.specs.Prelude.{codes}
+use Rattle.metis_outside.proofs.Feeds.{IsLine-from}
+use Rattle.metis_text.proofs.refusal_write.lines_of_refusal.Goals as goal
+
+pub of-requires : goal.of-requires
+of-requires c = IsLine-from (codes "end") refl

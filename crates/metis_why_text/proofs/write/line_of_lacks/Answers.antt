@@ -1,7 +1,0 @@
-use Rattle.std.proofs.Common.{sym, subst}
-use Rattle.metis_outside.specs.Pieces.{IsLine}
-use Rattle.metis_why_text.proofs.WhyLines.{IsLine-lacks_line}
-use Rattle.metis_why_text.proofs.write.line_of_lacks.Goals as goal
-
-pub of-requires : goal.of-requires
-of-requires c = subst IsLine (sym c.in_ok-line.ensures) (IsLine-lacks_line c.args.u.now c.keeps_invariant.ensures.named c.args.goal)
