@@ -1,13 +1,13 @@
 //! The command that puts a plan's instances on hosts.
-ghost use Rattle.std.specs.Prelude.{◌≡◌, ◌≤◌, ◌<◌, ◌-◌, ◌^◌, IfOk, drop, length};
+ghost use Rattle.std.specs.Prelude.{◌≡◌, ◌≤◌, ◌<◌, ◌-◌, ◌^◌, ◌∷◌, [], IfOk, drop, length};
 ghost use Rattle.std.specs.List.{All};
-ghost use Rattle.metis_commands.specs.Place.{Placed, holds_behind, made_of, on_lines, placing_lines};
+ghost use Rattle.metis_commands.specs.Place.{Placed, holds_behind, made_of, on_lines, placed_line, placing_lines};
 ghost use Rattle.metis_output.specs.Answers.{Says};
 ghost use Rattle.metis_universe.specs.Numbers.{IsOf};
 ghost use Rattle.metis_universe.specs.Universe.{type_count};
 
 use metis_ids::{Action, InstNo, Ix, NoMemory};
-use metis_output::{Answer, Chain, Either, Lines, Once};
+use metis_output::{Answer, Chain, Each, Either, LineAt, Lines, Once};
 use metis_place::{Hold, Hosts, PFault, Placing, place};
 use metis_shared::{steady_waits, unsteady_line};
 use metis_tokens::push_numbers;
@@ -15,7 +15,7 @@ use metis_universe::Universe;
 use std::alloc::{AllocError, Global};
 
 /// Where instances are, line by line: the host of each, and then the further waits and the counts.
-pub type PlacingLines<'a> = Chain<SeatLines<'a>, Chain<HoldLines, Once>>;
+pub type PlacingLines<'a> = Chain<SeatLines<'a>, Chain<HoldLines, Each<PlacedCount>>>;
 
 /// One line that says why not, or where the instances are.
 pub type PlaceLines<'a> = Either<Once, PlacingLines<'a>>;
@@ -58,7 +58,6 @@ pub fn answer<'a>(
 }
 
 // The host of each instance, the further waits, and the counts.
-#[tactic(auto, using(crate::proofs::PlaceLines::is_placed_line))]
 fn placing_lines<'a>(
     alloc: Global,
     h: &'a Hosts,
@@ -69,7 +68,6 @@ fn placing_lines<'a>(
     ensures { IfOk result (λ l. ⟦<PlacingLines<'a> as Lines>⟧.rest l ≡ placing_lines h.now actions.now placing) }
 {
     let (made, hosts) = (placing.hosts.len(), h.count());
-    let counts = format!(in alloc; "placed {made} hosts {hosts}\n")?;
     let first = SeatLines {
         hosts: h,
         made: made_of(alloc, actions)?,
@@ -79,7 +77,7 @@ fn placing_lines<'a>(
     let holds = placing.holds;
     let second = Chain {
         first: HoldLines { holds, at: 0 },
-        second: Once::of(counts),
+        second: Each::of(PlacedCount { made, hosts }),
     };
     Ok(Chain { first, second })
 }
@@ -150,5 +148,27 @@ impl Lines for HoldLines {
             }
         }
         Ok(false)
+    }
+}
+
+/// The last line: how many instances are on how many hosts.
+#[derive(Drop)]
+pub struct PlacedCount {
+    made: usize,
+    hosts: usize,
+}
+
+impl LineAt for PlacedCount {
+    ghost lines = { λ c. placed_line c.made c.hosts ∷ [] };
+
+    fn count(&self) -> usize {
+        1
+    }
+
+    #[tactic(auto, using(crate::proofs::PlaceLines::is_placed_line))]
+    fn set_line(&self, _place: usize, line: &mut String) -> Result<(), AllocError> {
+        let (made, hosts) = (self.made, self.hosts);
+        line.clear();
+        write!(line, "placed {made} hosts {hosts}\n")
     }
 }

@@ -1,13 +1,13 @@
 //! The command that tells when a plan's actions may start.
-ghost use Rattle.std.specs.Prelude.{◌≡◌, ◌+◌, ◌<◌, ◌≤◌, ◌-◌, ◌^◌, ◌∷◌, [], IfOk, drop, length};
+ghost use Rattle.std.specs.Prelude.{◌≡◌, ◌+◌, ◌<◌, ◌≤◌, ◌-◌, ◌^◌, IfOk, OnOk, drop, length, string_bytes};
 ghost use Rattle.std.specs.List.{All, zip};
-ghost use Rattle.metis_commands.specs.Waves.{Waved, chain_line, durations_of, schedule_lines, start_line};
+ghost use Rattle.metis_commands.specs.Waves.{Waved, chain_line, durations_of, end_lines, finish_line, schedule_lines, start_line};
 ghost use Rattle.metis_output.specs.Answers.{Says};
 ghost use Rattle.metis_tokens.specs.Line.{numbered};
 ghost use Rattle.metis_universe.specs.Numbers.{IsOf};
 
 use metis_ids::{Action, NoMemory};
-use metis_output::{Answer, Chain, Either, Lines, Once};
+use metis_output::{Answer, Chain, Each, Either, LineAt, Lines, Once, set_text};
 use metis_shared::{steady_waits, unsteady_line};
 use metis_tokens::push_numbers;
 use metis_universe::Universe;
@@ -15,7 +15,7 @@ use metis_waves::{Durations, Waves, waves};
 use std::alloc::{AllocError, Global};
 
 /// When actions may start, line by line: each action's starts, and then when all is done, with the chain.
-pub type ScheduleLines = Chain<StartLines, Chain<Once, Once>>;
+pub type ScheduleLines = Chain<StartLines, Each<ScheduleEnd>>;
 
 /// The line that says why actions are no steadfast run, or when they may start.
 pub type WaveLines = Either<Once, ScheduleLines>;
@@ -38,7 +38,7 @@ pub fn answer(
         Ok(waits) => {
             let schedule = waves(alloc, actions, &waits, &durations_of(numbers))?;
             Ok(Answer {
-                lines: Either::Second(schedule_lines(alloc, schedule)?),
+                lines: Either::Second(schedule_lines(schedule)),
                 good: true,
             })
         }
@@ -64,22 +64,20 @@ fn durations_of(numbers: &[u32]) -> Durations
 }
 
 // The starts of each action, when all is done, and the chain.
-#[tactic(auto, using(crate::proofs::WaveLines::is_finish_line))]
-fn schedule_lines(alloc: Global, schedule: Waves) -> Result<ScheduleLines, AllocError>
+fn schedule_lines(schedule: Waves) -> ScheduleLines
     requires { length schedule.latest ≡ length schedule.earliest }
-    ensures { IfOk result (λ l. ⟦<ScheduleLines as Lines>⟧.rest l ≡ schedule_lines schedule) }
+    ensures { ⟦<ScheduleLines as Lines>⟧.rest result ≡ schedule_lines schedule }
 {
-    let finish = schedule.finish;
-    let second = Chain {
-        first: Once::of(format!(in alloc; "finish {finish}\n")?),
-        second: chain_line(alloc, &schedule.chain)?,
-    };
     let first = StartLines {
         earliest: schedule.earliest,
         latest: schedule.latest,
         at: 0,
     };
-    Ok(Chain { first, second })
+    let second = Each::of(ScheduleEnd {
+        finish: schedule.finish,
+        chain: schedule.chain,
+    });
+    Chain { first, second }
 }
 
 /// The earliest and the latest start of each action from a place on.
@@ -107,12 +105,43 @@ impl Lines for StartLines {
     }
 }
 
-#[tactic(auto, using(crate::proofs::WaveLines::is_chain_line))]
-fn chain_line(alloc: Global, chain: &[u32]) -> Result<Once, AllocError>
-    ensures { IfOk result (λ l. l ≡ chain_line chain.now ∷ []) }
+/// The last two lines: when all is done, and the chain.
+#[derive(Drop)]
+pub struct ScheduleEnd {
+    finish: u64,
+    chain: Vec<u32>,
+}
+
+impl LineAt for ScheduleEnd {
+    ghost lines = { λ e. end_lines e.finish e.chain.items };
+
+    fn count(&self) -> usize {
+        2
+    }
+
+    #[tactic(auto, using(crate::proofs::WaveLines::is_finish_line, crate::proofs::WaveLines::is_chain_line))]
+    fn set_line(&self, place: usize, line: &mut String) -> Result<(), AllocError> {
+        if place == 0 {
+            set_finish(line, self.finish)
+        } else {
+            set_chain(line, &self.chain)
+        }
+    }
+}
+
+// The line becomes the one that says when all is done.
+fn set_finish(line: &mut String, finish: u64) -> Result<(), AllocError>
+    ensures { OnOk result (string_bytes line.new ≡ finish_line finish) }
 {
-    let mut line = String::from_str(alloc, "chain")?;
-    push_numbers(&mut line, chain)?;
-    line.push_str("\n")?;
-    Ok(Once::of(line))
+    line.clear();
+    write!(line, "finish {finish}\n")
+}
+
+// The line becomes that of the chain.
+fn set_chain(line: &mut String, chain: &[u32]) -> Result<(), AllocError>
+    ensures { OnOk result (string_bytes line.new ≡ chain_line chain.now) }
+{
+    set_text(line, "chain")?;
+    push_numbers(line, chain)?;
+    line.push_str("\n")
 }

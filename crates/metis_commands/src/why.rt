@@ -6,14 +6,14 @@ ghost use Rattle.metis_universe.specs.GoalWords.{IsWordable};
 ghost use Rattle.metis_universe.specs.Goals.{IsGoalOf};
 
 use metis_ids::{Goal, NoMemory};
-use metis_output::{Answer, Either, Lines, Once};
+use metis_output::{Answer, Either, Fixed, Lines};
 use metis_universe::Universe;
 use metis_why::{Explained, explain};
 use metis_why_text::{WhyLines, lines_of_why};
 use std::alloc::Global;
 
 /// The line that says that goals are attained, or the text of an explanation.
-pub type WhyAnswerLines<'a> = Either<Once, WhyLines<'a>>;
+pub type WhyAnswerLines<'a> = Either<Fixed, WhyLines<'a>>;
 
 /// Why the first of the goals is never attained that is not, if there is one.
 pub fn explained(alloc: Global, u: &Universe, goals: &[Goal]) -> Result<Explained, NoMemory>
@@ -36,11 +36,11 @@ pub fn answer<'a>(
 {
     match explained {
         Ok(Explained::Attained) => Ok(Answer {
-            lines: Either::First(Once::copy(alloc, "attained\n")?),
+            lines: Either::First(Fixed::of("attained\n")),
             good: true,
         }),
         Ok(Explained::Lacks(why)) => Ok(Answer {
-            lines: Either::Second(lines_of_why(alloc, u, why)?),
+            lines: Either::Second(lines_of_why(alloc, u, why)),
             good: false,
         }),
         Err(_) => Err(NoMemory),

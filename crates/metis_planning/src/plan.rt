@@ -20,15 +20,26 @@ use metis_text::{PlanLines, RefusalLines, lines_of_plan, lines_of_refusal};
 use metis_universe::Universe;
 use metis_waits::{Judged, WFault};
 use std::alloc::{AllocError, Global};
+use std::marker::Model;
 
-/// The text of a plan, or of a refusal.
+/// The lines of a plan's text, or of a refusal's, that are still to come. Contracts see them.
 #[derive(Drop)]
 pub struct PlannedLines<'a> {
-    pub text: Either<PlanLines<'a>, RefusalLines<'a>>,
+    text: PlannedText<'a>,
+}
+
+type PlannedText<'a> = Either<PlanLines<'a>, RefusalLines<'a>>;
+
+impl<'a> Model for PlannedLines<'a> {
+    ghost use Rattle.std.specs.Prelude.{ℕ, List};
+
+    ghost Value = { List (List ℕ) };
+
+    ghost view = { λ l. ⟦<PlannedText<'static> as Lines>⟧.rest l.text };
 }
 
 impl<'a> Lines for PlannedLines<'a> {
-    ghost rest = { λ l. ⟦<Either<PlanLines<'a>, RefusalLines<'a>> as Lines>⟧.rest l.text };
+    ghost rest = { λ l. l };
 
     fn next_line(&mut self, line: &mut String) -> Result<bool, AllocError> {
         self.text.next_line(line)
@@ -80,7 +91,6 @@ pub fn with_waits(
 
 /// The answer that says what was planned.
 pub fn answer<'a>(
-    alloc: Global,
     u: &'a Universe,
     planned: &'a Result<Planned, NoMemory>,
 ) -> Result<Answer<PlannedLines<'a>>, NoMemory>
@@ -88,34 +98,30 @@ pub fn answer<'a>(
     ensures { IfOk result (SaysPlanned u.now planned.now ⟦<PlannedLines<'a> as Lines>⟧.rest) }
 {
     match planned {
-        Ok(planned) => planned_answer(alloc, u, planned),
+        Ok(planned) => Ok(planned_answer(u, planned)),
         Err(_) => Err(NoMemory),
     }
 }
 
 /// The text of what was planned: a plan, or a refusal.
-pub fn planned_answer<'a>(
-    alloc: Global,
-    u: &'a Universe,
-    planned: &'a Planned,
-) -> Result<Answer<PlannedLines<'a>>, NoMemory>
+pub fn planned_answer<'a>(u: &'a Universe, planned: &'a Planned) -> Answer<PlannedLines<'a>>
     requires { IsPrintable u.now planned.now }
-    ensures { IfOk result (Says (TellsPlanned u.now planned.now) ⟦<PlannedLines<'a> as Lines>⟧.rest) }
+    ensures { Says (TellsPlanned u.now planned.now) ⟦<PlannedLines<'a> as Lines>⟧.rest result }
 {
     match planned {
         Planned::Plan(plan, waits) => {
-            let text = Either::First(lines_of_plan(alloc, u, plan, waits)?);
-            Ok(Answer {
+            let text = Either::First(lines_of_plan(u, plan, waits));
+            Answer {
                 lines: PlannedLines { text },
                 good: true,
-            })
+            }
         }
         Planned::Refusal(refusal) => {
-            let text = Either::Second(lines_of_refusal(alloc, u, refusal)?);
-            Ok(Answer {
+            let text = Either::Second(lines_of_refusal(u, refusal));
+            Answer {
                 lines: PlannedLines { text },
                 good: false,
-            })
+            }
         }
     }
 }

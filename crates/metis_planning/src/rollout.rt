@@ -28,15 +28,27 @@ use metis_shared::{Aim, Followed, Unsteady, aim_of, follow, unsteady_line};
 use metis_universe::Universe;
 use metis_waits::{Judged, WFault};
 use std::alloc::{AllocError, Global};
+use std::marker::Model;
 
-/// The line that says why the old actions are no steadfast run, or the text of a rollout, or of a refusal.
+/// The line that says why the old actions are no steadfast run, or the lines of the text of a rollout, or of a refusal, that are
+/// still to come. Contracts see them.
 #[derive(Drop)]
 pub struct RolloutLines<'a> {
-    pub text: Either<Once, PlannedLines<'a>>,
+    text: RolloutText<'a>,
+}
+
+type RolloutText<'a> = Either<Once, PlannedLines<'a>>;
+
+impl<'a> Model for RolloutLines<'a> {
+    ghost use Rattle.std.specs.Prelude.{ℕ, List};
+
+    ghost Value = { List (List ℕ) };
+
+    ghost view = { λ l. ⟦<RolloutText<'static> as Lines>⟧.rest l.text };
 }
 
 impl<'a> Lines for RolloutLines<'a> {
-    ghost rest = { λ l. ⟦<Either<Once, PlannedLines<'a>> as Lines>⟧.rest l.text };
+    ghost rest = { λ l. l };
 
     fn next_line(&mut self, line: &mut String) -> Result<bool, AllocError> {
         self.text.next_line(line)
@@ -171,7 +183,7 @@ pub fn answer<'a>(
 {
     match rolled {
         Ok(planned) => {
-            let Answer { lines, good } = planned_answer(alloc, u, planned)?;
+            let Answer { lines, good } = planned_answer(u, planned);
             let text = Either::Second(lines);
             Ok(Answer {
                 lines: RolloutLines { text },

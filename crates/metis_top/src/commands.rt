@@ -73,7 +73,7 @@ pub fn over_goals<H: Shelf, K: Sink>(
                 ensures { Puts K.Sink (PlanAnswer asked.now.universe asked.now.goals.items) out.old out.new result }
             {
                 let planned = plan::planned(alloc, &asked.universe, &asked.goals);
-                finish(alloc, plan::answer(alloc, &asked.universe, &planned), out)
+                finish(alloc, plan::answer(&asked.universe, &planned), out)
             };
             over(alloc, goals_of(alloc, command, shelf), out, put_plan)
         }

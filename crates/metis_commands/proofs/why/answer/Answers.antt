@@ -3,5 +3,5 @@ use Rattle.std.specs.Prelude.{codes}
 use Rattle.metis_outside.proofs.Feeds.{IsLine-from}
 use Rattle.metis_commands.proofs.why.answer.Goals as goal
 
-pub copy-requires : goal.copy-requires
-copy-requires c = IsLine-from (codes "attained") refl
+pub of-requires : goal.of-requires
+of-requires c = IsLine-from (codes "attained") refl
