@@ -1,7 +1,7 @@
 //! The command that audits the dups of a plan.
 ghost use Rattle.std.specs.Prelude.{◌≡◌, ◌<◌, ◌≤◌, ◌-◌, ◌^◌, IfOk, length, string_bytes};
 ghost use Rattle.std.specs.List.{All};
-ghost use Rattle.metis_commands.specs.Audit.{Audited, NamesPairOf, audit_line};
+ghost use Rattle.metis_commands.specs.Audit.{Audited, NamesPairOf, audit_line, number_line};
 ghost use Rattle.metis_output.specs.Answers.{Says};
 ghost use Rattle.metis_text.specs.PlanText.{IsWellFormed};
 ghost use Rattle.metis_text.specs.Reads.{lists_of};
@@ -63,10 +63,17 @@ fn audit_line(
             format!(in alloc; "justified instances {instances} dups {dups}\n")
         }
         AuditAnswer::NotAttained(p) => goal_line(alloc, u, "notattained", Goal::Pair(p)),
-        AuditAnswer::NoCycle(number) => format!(in alloc; "nocycle {number}\n"),
+        AuditAnswer::NoCycle(number) => number_line(alloc, "nocycle", number),
         AuditAnswer::Count(have, want) => format!(in alloc; "count have {have} want {want}\n"),
-        AuditAnswer::Path(line) => format!(in alloc; "path {line}\n"),
-        AuditAnswer::Loose(number) => format!(in alloc; "loose {number}\n"),
-        AuditAnswer::After(number) => format!(in alloc; "after {number}\n"),
+        AuditAnswer::Path(line) => number_line(alloc, "path", line),
+        AuditAnswer::Loose(number) => number_line(alloc, "loose", number),
+        AuditAnswer::After(number) => number_line(alloc, "after", number),
     }
+}
+
+// A word, and then a number.
+fn number_line(alloc: Global, start: &str, number: u32) -> Result<String, AllocError>
+    ensures { IfOk result (λ line. string_bytes line ≡ number_line start.now number) }
+{
+    format!(in alloc; "{start} {number}\n")
 }

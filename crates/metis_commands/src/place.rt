@@ -1,7 +1,7 @@
 //! The command that puts a plan's instances on hosts.
 ghost use Rattle.std.specs.Prelude.{◌≡◌, ◌≤◌, ◌<◌, ◌-◌, ◌^◌, ◌∷◌, [], IfOk, drop, length};
 ghost use Rattle.std.specs.List.{All};
-ghost use Rattle.metis_commands.specs.Place.{Placed, holds_behind, made_of, on_lines, placed_line, placing_lines};
+ghost use Rattle.metis_commands.specs.Place.{Placed, holds_behind, made_of, no_room_line, on_lines, placed_line, placing_lines};
 ghost use Rattle.metis_output.specs.Answers.{Says};
 ghost use Rattle.metis_universe.specs.Numbers.{IsOf};
 ghost use Rattle.metis_universe.specs.Universe.{type_count};
@@ -22,7 +22,6 @@ pub type PlaceLines<'a> = Either<Once, PlacingLines<'a>>;
 
 /// The first action that cannot be done or is not steadfast, or else the host of each instance that the actions make, and what
 /// they wait for besides.
-#[tactic(auto, using(crate::proofs::PlaceLines::is_no_room_line))]
 pub fn answer<'a>(
     alloc: Global,
     u: &Universe,
@@ -46,15 +45,21 @@ pub fn answer<'a>(
             lines: Either::Second(placing_lines(alloc, h, actions, placing)?),
             good: true,
         }),
-        Err(PFault::NoRoom(number, size, free)) => {
-            let line = format!(in alloc; "noroom {number} size {size} free {free}\n")?;
-            Ok(Answer {
-                lines: Either::First(Once::of(line)),
-                good: false,
-            })
-        }
+        Err(PFault::NoRoom(number, size, free)) => Ok(Answer {
+            lines: Either::First(no_room_line(alloc, number, size, free)?),
+            good: false,
+        }),
         Err(PFault::NoMemory) => Err(NoMemory),
     }
+}
+
+// The line that says that at this action no host has room for so much, and how much room the freest one has.
+#[tactic(auto, using(crate::proofs::PlaceLines::is_no_room_line))]
+fn no_room_line(alloc: Global, number: u32, size: u32, free: u64) -> Result<Once, AllocError>
+    ensures { IfOk result (λ l. l ≡ no_room_line number size free ∷ []) }
+{
+    let line = format!(in alloc; "noroom {number} size {size} free {free}\n")?;
+    Ok(Once::of(line))
 }
 
 // The host of each instance, the further waits, and the counts.

@@ -15,6 +15,18 @@ use Rattle.metis_inputs.specs.declared.stop.InputFault.TheVariants as input
 use Rattle.metis_output.specs.declared.status.Status.{Status}
 use Rattle.metis_output.specs.declared.status.Status.TheVariants.{BadWords, BadInput}
 
+-- words, and then a number
+abbrev pub number_line : List ℕ → ℕ → List ℕ
+number_line words n = words ++ (codes " " ++ (decimal n ++ codes "\n"))
+
+-- words with a number, and then a word with one
+abbrev pub two_line : List ℕ → ℕ → List ℕ → ℕ → List ℕ
+two_line words n word m = words ++ (codes " " ++ (decimal n ++ (codes " " ++ number_line word m)))
+
+-- words with a state of a type, and then a word with a number
+abbrev pub part_line : List ℕ → ℕ → ℕ → List ℕ → ℕ → List ℕ
+part_line words t s word n = words ++ (codes " " ++ (decimal t ++ (codes " " ++ two_line (codes "state") s word n)))
+
 abbrev pub limit_line : LimitKind → ℕ → List ℕ
 limit_line States n = codes "bad universe U12 states " ++ (decimal n ++ codes "\n")
 limit_line Requires n = codes "bad universe U12 requires " ++ (decimal n ++ codes "\n")

@@ -1,10 +1,10 @@
 //! How a run ends before its work.
-ghost use Rattle.std.specs.Prelude.{◌≡◌, ◌∷◌, [], IfOk, string_bytes};
+ghost use Rattle.std.specs.Prelude.{◌≡◌, ◌∷◌, ◌++◌, [], IfOk, codes, string_bytes};
 ghost use Rattle.metis_outside.specs.Pieces.{IsLine};
 ghost use Rattle.metis_output.specs.PutLines.{PutsLines};
 ghost use Rattle.metis_output.specs.Shown.{Shown};
 ghost use Rattle.metis_top.specs.Course.{StopSays};
-ghost use Rattle.metis_top.specs.Lines.{fault_line, fault_status, hosts_fault_line, is_told, limit_line, state_line, text_fault_line, universe_line};
+ghost use Rattle.metis_top.specs.Lines.{fault_line, fault_status, hosts_fault_line, is_told, limit_line, number_line, part_line, state_line, text_fault_line, two_line, universe_line};
 
 use metis_ids::NoMemory;
 use metis_inputs::{InputFault, Stop};
@@ -20,14 +20,14 @@ fn fault_line(alloc: Global, fault: InputFault) -> Result<String, AllocError>
     ensures { IfOk result (λ line. string_bytes line ≡ fault_line fault) }
 {
     match fault {
-        InputFault::Word(place) => format!(in alloc; "bad word {place}\n"),
-        InputFault::TooLong(place) => format!(in alloc; "too long {place}\n"),
+        InputFault::Word(place) => number_line(alloc, "bad word", place),
+        InputFault::TooLong(place) => number_line(alloc, "too long", place),
         InputFault::Universe(fault) => universe_line(alloc, fault),
         InputFault::PlanText(fault) => text_fault_line(alloc, "plan", fault),
         InputFault::RefusalText(fault) => text_fault_line(alloc, "refusal", fault),
         InputFault::WhyText(fault) => text_fault_line(alloc, "why", fault),
         InputFault::HostsText(fault) => hosts_fault_line(alloc, fault),
-        InputFault::Turns(place) => format!(in alloc; "bad turns {place}\n"),
+        InputFault::Turns(place) => number_line(alloc, "bad turns", place),
     }
 }
 
@@ -37,10 +37,10 @@ fn universe_line(alloc: Global, fault: UFault) -> Result<String, AllocError>
     match fault {
         UFault::NotJson => String::from_str(alloc, "bad universe U1\n"),
         UFault::NotUniverse => String::from_str(alloc, "bad universe U2\n"),
-        UFault::TypeForm(t) => format!(in alloc; "bad universe U3 type {t}\n"),
-        UFault::TypeName(t) => format!(in alloc; "bad universe U4 type {t}\n"),
-        UFault::TypeTwice(t, f) => format!(in alloc; "bad universe U5 type {t} first {f}\n"),
-        UFault::NoInitial(t) => format!(in alloc; "bad universe U9 type {t}\n"),
+        UFault::TypeForm(t) => number_line(alloc, "bad universe U3 type", t),
+        UFault::TypeName(t) => number_line(alloc, "bad universe U4 type", t),
+        UFault::TypeTwice(t, f) => two_line(alloc, "bad universe U5 type", t, "first", f),
+        UFault::NoInitial(t) => number_line(alloc, "bad universe U9 type", t),
         UFault::Limit(kind, n) => limit_line(alloc, kind, n),
         UFault::NoMemory => Ok(String::new(alloc)),
         _ => state_line(alloc, fault),
@@ -51,20 +51,18 @@ fn state_line(alloc: Global, fault: UFault) -> Result<String, AllocError>
     ensures { IfOk result (λ line. string_bytes line ≡ state_line fault) }
 {
     match fault {
-        UFault::StateForm(t, s) => format!(in alloc; "bad universe U6 type {t} state {s}\n"),
-        UFault::StateName(t, s) => format!(in alloc; "bad universe U7 type {t} state {s}\n"),
-        UFault::StateTwice(t, s, f) => {
-            format!(in alloc; "bad universe U8 type {t} state {s} first {f}\n")
-        }
-        UFault::UnknownNext(t, s, k) => {
-            format!(in alloc; "bad universe U10 type {t} state {s} entry {k}\n")
-        }
-        UFault::PortName(t, s, k) => {
-            format!(in alloc; "bad universe U11 type {t} state {s} entry {k}\n")
-        }
-        UFault::Demand(t, s, k) => {
-            format!(in alloc; "bad universe U13 type {t} state {s} entry {k}\n")
-        }
+        UFault::StateForm(t, s) => two_line(alloc, "bad universe U6 type", t, "state", s),
+        UFault::StateName(t, s) => two_line(alloc, "bad universe U7 type", t, "state", s),
+        UFault::StateTwice(t, s, f) => part_line(alloc, "bad universe U8 type", (t, s), "first", f),
+        UFault::UnknownNext(t, s, k) => part_line(
+            alloc,
+            "bad universe U10 type",
+            (t, s),
+            "entry",
+            k,
+        ),
+        UFault::PortName(t, s, k) => part_line(alloc, "bad universe U11 type", (t, s), "entry", k),
+        UFault::Demand(t, s, k) => part_line(alloc, "bad universe U13 type", (t, s), "entry", k),
         _ => Ok(String::new(alloc)),
     }
 }
@@ -73,10 +71,10 @@ fn limit_line(alloc: Global, kind: LimitKind, n: u64) -> Result<String, AllocErr
     ensures { IfOk result (λ line. string_bytes line ≡ limit_line kind n) }
 {
     match kind {
-        LimitKind::States => format!(in alloc; "bad universe U12 states {n}\n"),
-        LimitKind::Requires => format!(in alloc; "bad universe U12 requires {n}\n"),
-        LimitKind::Pairs => format!(in alloc; "bad universe U12 pairs {n}\n"),
-        LimitKind::Ports => format!(in alloc; "bad universe U12 ports {n}\n"),
+        LimitKind::States => long_line(alloc, "bad universe U12 states", n),
+        LimitKind::Requires => long_line(alloc, "bad universe U12 requires", n),
+        LimitKind::Pairs => long_line(alloc, "bad universe U12 pairs", n),
+        LimitKind::Ports => long_line(alloc, "bad universe U12 ports", n),
     }
 }
 
@@ -85,10 +83,10 @@ fn text_fault_line(alloc: Global, text: &str, fault: TFault) -> Result<String, A
     ensures { IfOk result (λ line. string_bytes line ≡ text_fault_line text.now fault) }
 {
     match fault {
-        TFault::Line(n) => format!(in alloc; "bad {text} line {n}\n"),
+        TFault::Line(n) => text_line(alloc, text, "line", n),
         TFault::Short => format!(in alloc; "bad {text} short\n"),
-        TFault::Name(n) => format!(in alloc; "bad {text} name {n}\n"),
-        TFault::Number(n) => format!(in alloc; "bad {text} number {n}\n"),
+        TFault::Name(n) => text_line(alloc, text, "name", n),
+        TFault::Number(n) => text_line(alloc, text, "number", n),
         TFault::NoMemory => Ok(String::new(alloc)),
     }
 }
@@ -97,13 +95,61 @@ fn hosts_fault_line(alloc: Global, fault: HFault) -> Result<String, AllocError>
     ensures { IfOk result (λ line. string_bytes line ≡ hosts_fault_line fault) }
 {
     match fault {
-        HFault::Line(n) => format!(in alloc; "bad hosts line {n}\n"),
+        HFault::Line(n) => number_line(alloc, "bad hosts line", n),
         HFault::Short => String::from_str(alloc, "bad hosts short\n"),
-        HFault::Number(n) => format!(in alloc; "bad hosts number {n}\n"),
-        HFault::Name(n) => format!(in alloc; "bad hosts name {n}\n"),
-        HFault::Twice(n) => format!(in alloc; "bad hosts twice {n}\n"),
+        HFault::Number(n) => number_line(alloc, "bad hosts number", n),
+        HFault::Name(n) => number_line(alloc, "bad hosts name", n),
+        HFault::Twice(n) => number_line(alloc, "bad hosts twice", n),
         HFault::NoMemory => Ok(String::new(alloc)),
     }
+}
+
+// Words, and then a number.
+fn number_line(alloc: Global, words: &str, number: u32) -> Result<String, AllocError>
+    ensures { IfOk result (λ line. string_bytes line ≡ number_line words.now number) }
+{
+    format!(in alloc; "{words} {number}\n")
+}
+
+// Words with a number, and then a word with one.
+fn two_line(
+    alloc: Global,
+    words: &str,
+    number: u32,
+    word: &str,
+    second: u32,
+) -> Result<String, AllocError>
+    ensures { IfOk result (λ line. string_bytes line ≡ two_line words.now number word.now second) }
+{
+    format!(in alloc; "{words} {number} {word} {second}\n")
+}
+
+// Words with a state of a type, and then a word with a number.
+fn part_line(
+    alloc: Global,
+    words: &str,
+    state: (u32, u32),
+    word: &str,
+    number: u32,
+) -> Result<String, AllocError>
+    ensures { IfOk result (λ line. string_bytes line ≡ part_line words.now state.0 state.1 word.now number) }
+{
+    let (t, s) = state;
+    format!(in alloc; "{words} {t} state {s} {word} {number}\n")
+}
+
+// Words, and then a number of 64 bits.
+fn long_line(alloc: Global, words: &str, number: u64) -> Result<String, AllocError>
+    ensures { IfOk result (λ line. string_bytes line ≡ number_line words.now number) }
+{
+    format!(in alloc; "{words} {number}\n")
+}
+
+// The line of a text of this name that says what is wrong there.
+fn text_line(alloc: Global, text: &str, what: &str, number: u32) -> Result<String, AllocError>
+    ensures { IfOk result (λ line. string_bytes line ≡ codes "bad " ++ (text.now ++ (codes " " ++ number_line what.now number))) }
+{
+    format!(in alloc; "bad {text} {what} {number}\n")
 }
 
 fn fault_status(fault: InputFault) -> Status
