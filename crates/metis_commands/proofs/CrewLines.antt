@@ -1,5 +1,5 @@
 -- The lines of a crew.
-use Rattle.std.proofs.Common.{◌≡◌, ℕ, suc, ◌+◌, false, List, [], ◌∷◌, ◌++◌, length, map, refl, ap, ◌∙◌, length-append, sym, subst}
+use Rattle.std.proofs.Common.{◌≡◌, ℕ, suc, ◌+◌, Bool, true, false, List, [], ◌∷◌, ◌++◌, length, map, refl, ap, ◌∙◌, length-append, sym, subst}
 use Rattle.std.proofs.lemmas.List.{length-map}
 use Rattle.metis_crew.specs.Crew.{after_turns, counts_after, done_count, start, turn, turns}
 use Rattle.metis_ids.specs.declared.actions.Action.{Action}
@@ -27,6 +27,13 @@ module _ (A : List Action) where
       → lines_left A counts zs false ≡ map turn_line (turns A counts zs) ++ progress_line (done_count A (after_turns A counts zs)) (length A) ∷ []
   all_left counts [] = refl
   all_left counts (z ∷ zs) = ap (λ l. turn_line (turn A counts z) ∷ l) (all_left (counts_after counts z (turn A counts z)) zs)
+
+  -- where no turn is left, the last line is
+  pub last_left : (counts : List (ℕ × ℕ)) (zs : List ℕ) (ended : Bool) → length zs ≡ 0 → ended ≡ false
+      → lines_left A counts zs ended ≡ progress_line (done_count A counts) (length A) ∷ lines_left A counts zs true
+  last_left counts [] false none still = refl
+  last_left counts [] true none still = cc
+  last_left counts (z ∷ zs) ended none still = cc
 
 IsLine-turn_line : (answer : Turn) → IsLine (turn_line answer)
 IsLine-turn_line (turn.Did k) = by_number (codes "did ") k refl

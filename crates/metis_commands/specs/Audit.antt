@@ -19,15 +19,13 @@ use Rattle.metis_universe.specs.Universe.{Universe, pair_count}
 use Rattle.metis_commands.specs.GoalLine.{word_line}
 use Rattle.metis_output.specs.declared.status.Status.{Status}
 use Rattle.metis_output.specs.declared.status.Status.TheVariants.{Done, No}
+use Rattle.metis_shared.specs.NumberLine.{number_line}
 
 abbrev pub justified_line : ℕ → ℕ → List ℕ
 justified_line instances dups = codes "justified instances " ++ (decimal instances ++ (codes " dups " ++ (decimal dups ++ codes "\n")))
 
 abbrev pub count_line : ℕ → ℕ → List ℕ
 count_line have want = codes "count have " ++ (decimal have ++ (codes " want " ++ (decimal want ++ codes "\n")))
-
-abbrev pub number_line : List ℕ → ℕ → List ℕ
-number_line start k = start ++ (codes " " ++ (decimal k ++ codes "\n"))
 
 abbrev pub audit_line : Universe → Plan → Answer → List ℕ
 audit_line u plan Justified = justified_line plan.instances (length plan.dups)

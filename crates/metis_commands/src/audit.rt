@@ -1,7 +1,7 @@
 //! The command that audits the dups of a plan.
 ghost use Rattle.std.specs.Prelude.{◌≡◌, ◌<◌, ◌≤◌, ◌-◌, ◌^◌, IfOk, length, string_bytes};
 ghost use Rattle.std.specs.List.{All};
-ghost use Rattle.metis_commands.specs.Audit.{Audited, NamesPairOf, audit_line, number_line};
+ghost use Rattle.metis_commands.specs.Audit.{Audited, NamesPairOf, audit_line};
 ghost use Rattle.metis_output.specs.Answers.{Says};
 ghost use Rattle.metis_text.specs.PlanText.{IsWellFormed};
 ghost use Rattle.metis_text.specs.Reads.{lists_of};
@@ -13,7 +13,7 @@ use metis_audit::{Answer as AuditAnswer, audit};
 use metis_choice::pairs_for_goals_hold_them;
 use metis_ids::{Goal, NoMemory, Plan};
 use metis_output::{Answer, Lines, Once, line_answer};
-use metis_shared::{Aim, aim_of};
+use metis_shared::{Aim, aim_of, number_line};
 use metis_text::PlanText;
 use metis_universe::Universe;
 use std::alloc::{AllocError, Global};
@@ -69,11 +69,4 @@ fn audit_line(
         AuditAnswer::Loose(number) => number_line(alloc, "loose", number),
         AuditAnswer::After(number) => number_line(alloc, "after", number),
     }
-}
-
-// A word, and then a number.
-fn number_line(alloc: Global, start: &str, number: u32) -> Result<String, AllocError>
-    ensures { IfOk result (λ line. string_bytes line ≡ number_line start.now number) }
-{
-    format!(in alloc; "{start} {number}\n")
 }

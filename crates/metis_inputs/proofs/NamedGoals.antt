@@ -1,7 +1,8 @@
 -- The goals of target words, word by word.
-use Rattle.std.proofs.Common.{◌≡◌, ℕ, zero, suc, ◌+◌, ◌<◌, List, [], ◌∷◌, ◌++◌, map, Option, Some, None, Result, Ok, Err, refl, sym, ap, ◌∙◌, subst, append-nil, append_assoc, arith}
+use Rattle.std.proofs.Common.{◌≡◌, ℕ, zero, suc, ◌+◌, ◌<◌, List, [], ◌∷◌, ◌++◌, drop, get_or, length, map, Option, Some, None, Result, Ok, Err, refl, sym, ap, ◌∙◌, subst, append-nil, append_assoc, arith}
 use Rattle.std.specs.Prelude.{◌↔◌, IsSome, slice_get}
 use Rattle.std.specs.Option.{option_and_then}
+use Rattle.std.proofs.lemmas.List.{drop_more}
 use Rattle.metis_ids.specs.declared.goals.Goal.{Goal}
 use Rattle.metis_tokens.specs.Flaws.{and_then}
 use Rattle.metis_universe.specs.Universe.{Universe}
@@ -20,6 +21,12 @@ bad why = Err why
 -- goes on behind the goals that were found, if the next target means this
 abbrev next : List Goal → ℕ → Universe → List TargetName → Option Goal → Result (List Goal) InputFault
 next found place u targets o = and_then (or_word place o) (λ g. goals_after (found ++ g ∷ []) (place + 1) u targets)
+
+-- target k means none
+pub stops_at : (u : Universe) (found : List Goal) (place k : ℕ) (targets : List TargetName) (target : TargetName) → k < length targets → target ≡ get_or targets k target → goal_of u target ≡ None
+    → goals_after found (place + k) u (drop k targets) ≡ Err (Word (place + k))
+stops_at u found place k targets target low is none =
+    ap (goals_after found (place + k) u) (drop_more targets k target low ∙ ap (λ t. t ∷ drop (k + 1) targets) (sym is)) ∙ ap (next found (place + k) u (drop (k + 1) targets)) none
 
 -- ---- all mean a goal
 

@@ -1,3 +1,4 @@
 pub mod Aims
 pub mod Followed
+pub mod NumberLine
 pub mod Steady

@@ -9,6 +9,7 @@ ghost use Rattle.metis_replay.specs.Progress.{IsVerdictOf, after_feeding};
 ghost use Rattle.metis_universe.specs.Goals.{IsGoalOf};
 ghost use Rattle.metis_universe.specs.Numbers.{IsOf};
 
+use crate::line::number_line;
 use metis_actions::{AFault, fault_text};
 use metis_config::Config;
 use metis_ids::{Action, Goal, NoMemory};
@@ -118,7 +119,7 @@ pub fn unsteady_line(alloc: Global, u: &Universe, why: &Unsteady) -> Result<Once
     u.keeps_invariant();
     match *why {
         Unsteady::Bad(number, fault) => Ok(Once::of(bad_line(alloc, u, number, &fault)?)),
-        Unsteady::Loose(number) => Ok(Once::of(format!(in alloc; "loose {number}\n")?)),
+        Unsteady::Loose(number) => Ok(Once::of(number_line(alloc, "loose", number)?)),
         Unsteady::NoMemory => Err(NoMemory),
     }
 }

@@ -115,6 +115,7 @@ impl<'a> LineAt for RefusalFront<'a> {
     ghost lines = { λ f. f };
 
     fn count(&self) -> usize {
+        // A call on a part shows what `self` is made of, and so its lines.
         self.universe.keeps_invariant();
         3
     }

@@ -14,10 +14,7 @@ use Rattle.metis_inputs.specs.declared.stop.InputFault.TheVariants.{Word, TooLon
 use Rattle.metis_inputs.specs.declared.stop.InputFault.TheVariants as input
 use Rattle.metis_output.specs.declared.status.Status.{Status}
 use Rattle.metis_output.specs.declared.status.Status.TheVariants.{BadWords, BadInput}
-
--- words, and then a number
-abbrev pub number_line : List ℕ → ℕ → List ℕ
-number_line words n = words ++ (codes " " ++ (decimal n ++ codes "\n"))
+use Rattle.metis_shared.specs.NumberLine.{number_line}
 
 -- words with a number, and then a word with one
 abbrev pub two_line : List ℕ → ℕ → List ℕ → ℕ → List ℕ
@@ -28,60 +25,60 @@ abbrev pub part_line : List ℕ → ℕ → ℕ → List ℕ → ℕ → List �
 part_line words t s word n = words ++ (codes " " ++ (decimal t ++ (codes " " ++ two_line (codes "state") s word n)))
 
 abbrev pub limit_line : LimitKind → ℕ → List ℕ
-limit_line States n = codes "bad universe U12 states " ++ (decimal n ++ codes "\n")
-limit_line Requires n = codes "bad universe U12 requires " ++ (decimal n ++ codes "\n")
-limit_line Pairs n = codes "bad universe U12 pairs " ++ (decimal n ++ codes "\n")
-limit_line Ports n = codes "bad universe U12 ports " ++ (decimal n ++ codes "\n")
+limit_line States n = number_line (codes "bad universe U12 states") n
+limit_line Requires n = number_line (codes "bad universe U12 requires") n
+limit_line Pairs n = number_line (codes "bad universe U12 pairs") n
+limit_line Ports n = number_line (codes "bad universe U12 ports") n
 
 -- the faults of a state
 abbrev pub state_line : UFault → List ℕ
-state_line (StateForm t s) = codes "bad universe U6 type " ++ (decimal t ++ (codes " state " ++ (decimal s ++ codes "\n")))
-state_line (StateName t s) = codes "bad universe U7 type " ++ (decimal t ++ (codes " state " ++ (decimal s ++ codes "\n")))
-state_line (StateTwice t s f) = codes "bad universe U8 type " ++ (decimal t ++ (codes " state " ++ (decimal s ++ (codes " first " ++ (decimal f ++ codes "\n")))))
-state_line (UnknownNext t s k) = codes "bad universe U10 type " ++ (decimal t ++ (codes " state " ++ (decimal s ++ (codes " entry " ++ (decimal k ++ codes "\n")))))
-state_line (PortName t s k) = codes "bad universe U11 type " ++ (decimal t ++ (codes " state " ++ (decimal s ++ (codes " entry " ++ (decimal k ++ codes "\n")))))
-state_line (Demand t s k) = codes "bad universe U13 type " ++ (decimal t ++ (codes " state " ++ (decimal s ++ (codes " entry " ++ (decimal k ++ codes "\n")))))
+state_line (StateForm t s) = two_line (codes "bad universe U6 type") t (codes "state") s
+state_line (StateName t s) = two_line (codes "bad universe U7 type") t (codes "state") s
+state_line (StateTwice t s f) = part_line (codes "bad universe U8 type") t s (codes "first") f
+state_line (UnknownNext t s k) = part_line (codes "bad universe U10 type") t s (codes "entry") k
+state_line (PortName t s k) = part_line (codes "bad universe U11 type") t s (codes "entry") k
+state_line (Demand t s k) = part_line (codes "bad universe U13 type") t s (codes "entry") k
 state_line _ = []
 
 -- the first fault of a document; want of memory is none
 abbrev pub universe_line : UFault → List ℕ
 universe_line NotJson = codes "bad universe U1\n"
 universe_line NotUniverse = codes "bad universe U2\n"
-universe_line (TypeForm t) = codes "bad universe U3 type " ++ (decimal t ++ codes "\n")
-universe_line (TypeName t) = codes "bad universe U4 type " ++ (decimal t ++ codes "\n")
-universe_line (TypeTwice t f) = codes "bad universe U5 type " ++ (decimal t ++ (codes " first " ++ (decimal f ++ codes "\n")))
-universe_line (NoInitial t) = codes "bad universe U9 type " ++ (decimal t ++ codes "\n")
+universe_line (TypeForm t) = number_line (codes "bad universe U3 type") t
+universe_line (TypeName t) = number_line (codes "bad universe U4 type") t
+universe_line (TypeTwice t f) = two_line (codes "bad universe U5 type") t (codes "first") f
+universe_line (NoInitial t) = number_line (codes "bad universe U9 type") t
 universe_line (Limit kind n) = limit_line kind n
 universe_line ufault.NoMemory = []
 universe_line fault = state_line fault
 
 -- the first fault of a text of this name; want of memory is none
 abbrev pub text_fault_line : List ℕ → TFault → List ℕ
-text_fault_line text (tfault.Line n) = codes "bad " ++ (text ++ (codes " line " ++ (decimal n ++ codes "\n")))
+text_fault_line text (tfault.Line n) = codes "bad " ++ (text ++ (codes " " ++ number_line (codes "line") n))
 text_fault_line text tfault.Short = codes "bad " ++ (text ++ codes " short\n")
-text_fault_line text (tfault.Name n) = codes "bad " ++ (text ++ (codes " name " ++ (decimal n ++ codes "\n")))
-text_fault_line text (tfault.Number n) = codes "bad " ++ (text ++ (codes " number " ++ (decimal n ++ codes "\n")))
+text_fault_line text (tfault.Name n) = codes "bad " ++ (text ++ (codes " " ++ number_line (codes "name") n))
+text_fault_line text (tfault.Number n) = codes "bad " ++ (text ++ (codes " " ++ number_line (codes "number") n))
 text_fault_line text tfault.NoMemory = []
 
 -- the first fault of a text of hosts; want of memory is none
 abbrev pub hosts_fault_line : HFault → List ℕ
-hosts_fault_line (hfault.Line n) = codes "bad hosts line " ++ (decimal n ++ codes "\n")
+hosts_fault_line (hfault.Line n) = number_line (codes "bad hosts line") n
 hosts_fault_line hfault.Short = codes "bad hosts short\n"
-hosts_fault_line (hfault.Number n) = codes "bad hosts number " ++ (decimal n ++ codes "\n")
-hosts_fault_line (hfault.Name n) = codes "bad hosts name " ++ (decimal n ++ codes "\n")
-hosts_fault_line (hfault.Twice n) = codes "bad hosts twice " ++ (decimal n ++ codes "\n")
+hosts_fault_line (hfault.Number n) = number_line (codes "bad hosts number") n
+hosts_fault_line (hfault.Name n) = number_line (codes "bad hosts name") n
+hosts_fault_line (hfault.Twice n) = number_line (codes "bad hosts twice") n
 hosts_fault_line hfault.NoMemory = []
 
 -- what is wrong with a run's words or files
 abbrev pub fault_line : InputFault → List ℕ
-fault_line (Word place) = codes "bad word " ++ (decimal place ++ codes "\n")
-fault_line (TooLong place) = codes "too long " ++ (decimal place ++ codes "\n")
+fault_line (Word place) = number_line (codes "bad word") place
+fault_line (TooLong place) = number_line (codes "too long") place
 fault_line (input.Universe fault) = universe_line fault
 fault_line (input.PlanText fault) = text_fault_line (codes "plan") fault
 fault_line (input.RefusalText fault) = text_fault_line (codes "refusal") fault
 fault_line (input.WhyText fault) = text_fault_line (codes "why") fault
 fault_line (input.HostsText fault) = hosts_fault_line fault
-fault_line (input.Turns place) = codes "bad turns " ++ (decimal place ++ codes "\n")
+fault_line (input.Turns place) = number_line (codes "bad turns") place
 
 -- it has a line: want of memory has none, and is not told as a fault of words or files
 abbrev pub is_told : InputFault → Bool
@@ -103,4 +100,4 @@ fault_status (input.HostsText fault) = BadInput
 fault_status (input.Turns place) = BadInput
 
 abbrev pub read_fault_line : ℕ → List ℕ
-read_fault_line place = codes "read fault " ++ (decimal place ++ codes "\n")
+read_fault_line place = number_line (codes "read fault") place

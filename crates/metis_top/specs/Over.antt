@@ -21,6 +21,6 @@ CallsAt {Y = Y} {O = O} g f a (Ok y) old new (Ok r) =
 CallsAt g f a (Ok y) old new (Err e) = ⊥
 CallsAt g f a (Err e) old new result = (result ≡ Err e) × (new ≡ old)
 
--- the same
+-- what `over` gives is such a call
 pub record Over {F A Y O R E : Type 0} (g : Once F (A × (Bor Y × (MutBor O × Unit {0}))) (R × (MutBor O × Unit {0}))) (f : F) (a : A) (read : Result Y E) (old new : O) (result : Result R E) : Type 0 where
   pub calls : CallsAt g f a read old new result

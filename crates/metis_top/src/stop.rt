@@ -3,14 +3,16 @@ ghost use Rattle.std.specs.Prelude.{◌≡◌, ◌∷◌, ◌++◌, [], IfOk, co
 ghost use Rattle.metis_outside.specs.Pieces.{IsLine};
 ghost use Rattle.metis_output.specs.PutLines.{PutsLines};
 ghost use Rattle.metis_output.specs.Shown.{Shown};
+ghost use Rattle.metis_shared.specs.NumberLine.{number_line};
 ghost use Rattle.metis_top.specs.Course.{StopSays};
-ghost use Rattle.metis_top.specs.Lines.{fault_line, fault_status, hosts_fault_line, is_told, limit_line, number_line, part_line, state_line, text_fault_line, two_line, universe_line};
+ghost use Rattle.metis_top.specs.Lines.{fault_line, fault_status, hosts_fault_line, is_told, limit_line, part_line, state_line, text_fault_line, two_line, universe_line};
 
 use metis_ids::NoMemory;
 use metis_inputs::{InputFault, Stop};
 use metis_output::{Status, say};
 use metis_outside::Sink;
 use metis_place::HFault;
+use metis_shared::number_line;
 use metis_tokens::TFault;
 use metis_ujson::UFault;
 use metis_universe::LimitKind;
@@ -104,13 +106,6 @@ fn hosts_fault_line(alloc: Global, fault: HFault) -> Result<String, AllocError>
     }
 }
 
-// Words, and then a number.
-fn number_line(alloc: Global, words: &str, number: u32) -> Result<String, AllocError>
-    ensures { IfOk result (λ line. string_bytes line ≡ number_line words.now number) }
-{
-    format!(in alloc; "{words} {number}\n")
-}
-
 // Words with a number, and then a word with one.
 fn two_line(
     alloc: Global,
@@ -189,7 +184,7 @@ fn stop_line(alloc: Global, stop: Stop) -> Result<(String, Status), NoMemory>
             Ok((line, fault_status(fault)))
         }
         Stop::Failed(place) => {
-            let line = format!(in alloc; "read fault {place}\n")?;
+            let line = number_line(alloc, "read fault", place)?;
             Ok((line, Status::ReadFault))
         }
         Stop::NoMemory => Err(NoMemory),

@@ -1,6 +1,7 @@
 pub mod CountTokens
 pub mod FirstFlaws
 pub mod GoalTokens
+pub mod LineFeeds
 pub mod LineFlaws
 pub mod LineTokens
 pub mod LinesRead
@@ -9,6 +10,5 @@ pub mod NamedFaults
 pub mod Printed
 pub mod WhyBytes
 pub mod WhyFaults
-pub mod LineFeeds
 pub mod WhyRead
 pub mod WhyShort

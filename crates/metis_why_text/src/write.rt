@@ -117,6 +117,7 @@ impl<'a> LineAt for WhyFront<'a> {
     ghost lines = { λ f. f };
 
     fn count(&self) -> usize {
+        // A call on a part shows what `self` is made of, and so its lines.
         self.universe.keeps_invariant();
         3
     }

@@ -1,4 +1,4 @@
-use Rattle.std.proofs.Common.{Ok, refl, subst, sym}
+use Rattle.std.proofs.Common.{Ok, Err, refl, subst, sym}
 use Rattle.metis_top.specs.Over.{Over}
 use Rattle.metis_top.proofs.commands.over.Goals as goal
 
@@ -6,3 +6,8 @@ pub returns-in-Ok : goal.returns-in-Ok
 returns-in-Ok g c =
     subst (λ r. Over g.F.FnOnce c.args.answer c.args.alloc r c.args.out.now c.answer.new.arg4 (Ok c.answer.result)) (sym c.in-Ok.is)
     (record { calls = (_, _, _, c.answer.ensures, refl, refl, refl) })
+
+pub returns-in-Err : goal.returns-in-Err
+returns-in-Err g c =
+    subst (λ r. Over g.F.FnOnce c.args.answer c.args.alloc r c.args.out.now c.args.out.now (Err c.in-Err.stop)) (sym c.in-Err.is)
+    (record { calls = (refl, refl) })

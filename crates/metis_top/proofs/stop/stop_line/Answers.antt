@@ -1,6 +1,8 @@
-use Rattle.std.proofs.Common.{sym, ◌∙◌, subst}
+use Rattle.std.proofs.Common.{[], ◌∷◌, ◌∙◌, ap, refl, string_bytes, subst, sym}
 use Rattle.metis_outside.specs.Pieces.{IsLine}
+use Rattle.metis_output.specs.declared.status.Status.TheVariants.{ReadFault}
 use Rattle.metis_top.proofs.StopLines.{IsLine-fault_line, IsLine-read_fault_line}
+use Rattle.metis_top.specs.Course.{StopSays}
 use Rattle.metis_top.proofs.stop.stop_line.Goals as goal
 
 pub returns-in_ok-line-in-Faulty-clause-line : goal.returns-in_ok-line-in-Faulty-clause-line
@@ -9,4 +11,8 @@ returns-in_ok-line-in-Faulty-clause-line c =
     subst IsLine (sym c.in_ok-line-in-Faulty.ensures) (IsLine-fault_line c.in-Faulty.fault told)
 
 pub returns-in_ok-line-in-Failed-clause-line : goal.returns-in_ok-line-in-Failed-clause-line
-returns-in_ok-line-in-Failed-clause-line c = subst IsLine (sym c.in_ok-line-in-Failed.ensures.ok) (IsLine-read_fault_line c.in-Failed.place)
+returns-in_ok-line-in-Failed-clause-line c = subst IsLine (sym c.in_ok-line-in-Failed.ensures) (IsLine-read_fault_line c.in-Failed.place)
+
+pub returns-in_ok-line-in-Failed-clause-says : goal.returns-in_ok-line-in-Failed-clause-says
+returns-in_ok-line-in-Failed-clause-says c =
+    subst (λ stop. StopSays stop (string_bytes c.in_ok-line-in-Failed.line ∷ []) ReadFault) (sym c.in-Failed.is) (ap (λ line. line ∷ []) c.in_ok-line-in-Failed.ensures, refl)

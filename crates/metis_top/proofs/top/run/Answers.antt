@@ -5,32 +5,26 @@ use Rattle.metis_top.proofs.ReadFaults.{ran_read_fault}
 use Rattle.metis_top.specs.Honest.{IsThePlan}
 use Rattle.metis_words.specs.Words.{form_of}
 use Rattle.metis_universe.specs.Texts.{texts}
+use Rattle.metis_top.proofs.top.run.Given.{Over}
 use Rattle.metis_top.proofs.top.run.Goals as goal
+
+laws : (g : Over) (c : goal.After-follow g) → OrderLaws
+laws g c = record {
+  runs = c.kept_order_is_a_run.ensures;
+  alike = c.complete_order_ends_alike.ensures;
+  kept = c.own_order_is_kept.ensures.kept;
+  complete = c.own_order_is_kept.ensures.complete;
+  same = c.own_order_is_kept.ensures.same;
+}
 
 pub returns-clause-told : goal.returns-clause-told
 returns-clause-told g c = ran_tells _ _ _ _ _ _ _ _ _ _ _ c.follow.ensures.course
 
 pub returns-clause-headline : goal.returns-clause-headline
-returns-clause-headline g c =
-    let laws : OrderLaws = record {
-      runs = c.kept_order_is_a_run.ensures;
-      alike = c.complete_order_ends_alike.ensures;
-      kept = c.own_order_is_kept.ensures.kept;
-      complete = c.own_order_is_kept.ensures.complete;
-      same = c.own_order_is_kept.ensures.same;
-    } in
-    ran_headline _ _ _ _ _ (texts c.args.words.now) _ _ _ _ _ c.follow.ensures.course laws
+returns-clause-headline g c = ran_headline _ _ _ _ _ (texts c.args.words.now) _ _ _ _ _ c.follow.ensures.course (laws g c)
 
 pub returns-clause-plan : goal.returns-clause-plan
-returns-clause-plan g c =
-    let laws : OrderLaws = record {
-      runs = c.kept_order_is_a_run.ensures;
-      alike = c.complete_order_ends_alike.ensures;
-      kept = c.own_order_is_kept.ensures.kept;
-      complete = c.own_order_is_kept.ensures.complete;
-      same = c.own_order_is_kept.ensures.same;
-    } in
-    ran_plans _ _ _ _ _ (texts c.args.words.now) _ _ _ _ _ c.follow.ensures.course IsThePlan (the_plan laws)
+returns-clause-plan g c = ran_plans _ _ _ _ _ (texts c.args.words.now) _ _ _ _ _ c.follow.ensures.course IsThePlan (the_plan (laws g c))
 
 pub returns-clause-read_fault : goal.returns-clause-read_fault
 returns-clause-read_fault g c = ran_read_fault _ _ _ _ _ (form_of (texts c.args.words.now)) _ _ _ _ _ c.follow.ensures.course
