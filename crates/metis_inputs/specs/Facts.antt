@@ -28,7 +28,6 @@ use Rattle.metis_universe.specs.Universe.{Universe, pair_count, type_count}
 use Rattle.metis_why.specs.Confirm.{IsLineOf}
 use Rattle.metis_why.specs.Barred.{IsNameable}
 use Rattle.metis_why.specs.declared.reason.Explanation.{Explanation}
-use Rattle.metis_why.specs.declared.reason.Line.{Line}
 use Rattle.metis_why.specs.declared.reason.Reason.{Reason}
 use Rattle.metis_why.specs.declared.reason.Reason.TheVariants.{Needs, Comes}
 use Rattle.metis_inputs.specs.Commands.{plan_limit}

@@ -1,4 +1,5 @@
-//! From the words of a command to its inputs, as the row of its verb says them.
+//! From the words of a command to its inputs, as the row of its verb says them. What was read before a fault is dropped by a call,
+//! which is proved once for all ways out.
 ghost use Rattle.std.specs.Prelude.{◌≤◌, []};
 ghost use Rattle.metis_words.specs.Forms.{OfUniverse, OfGoals, file_count, target_limit};
 ghost use Rattle.metis_inputs.specs.Commands.{inputs_then};
@@ -45,8 +46,13 @@ pub fn universe_and<T: Text, H: Shelf>(
     ensures { Gathers H.files H.faults H.opens universe_and_said (inputs_then (universe_and T.kind) command.now) shelf.old shelf.new result }
 {
     let universe = universe_from(alloc, shelf, 2, command.file(0))?;
-    let text = text_from(alloc, shelf, 3, &universe, command.file(1))?;
-    Ok(UniverseAnd { universe, text })
+    match text_from(alloc, shelf, 3, &universe, command.file(1)) {
+        Ok(text) => Ok(UniverseAnd { universe, text }),
+        Err(stop) => {
+            drop(universe);
+            Err(stop)
+        }
+    }
 }
 
 /// The universe of a command, the goals of its targets, and the text behind them.
@@ -60,8 +66,13 @@ pub fn goals_and<T: Text, H: Shelf>(
     ensures { Gathers H.files H.faults H.opens goals_and_said (inputs_then (goals_and T.kind) command.now) shelf.old shelf.new result }
 {
     let asked = goals_from(alloc, shelf, command.file(0), 4, command.targets())?;
-    let text = text_from(alloc, shelf, 3, &asked.universe, command.file(1))?;
-    Ok(GoalsAnd { asked, text })
+    match text_from(alloc, shelf, 3, &asked.universe, command.file(1)) {
+        Ok(text) => Ok(GoalsAnd { asked, text }),
+        Err(stop) => {
+            drop(asked);
+            Err(stop)
+        }
+    }
 }
 
 /// The universe and the plan of a command, and the text behind them.
@@ -74,6 +85,11 @@ pub fn plan_and<T: Text, H: Shelf>(
     ensures { Gathers H.files H.faults H.opens plan_and_said (inputs_then (plan_and T.kind) command.now) shelf.old shelf.new result }
 {
     let planned = universe_and(alloc, command, shelf)?;
-    let text = text_from(alloc, shelf, 4, &planned.universe, command.file(2))?;
-    Ok(PlanAnd { planned, text })
+    match text_from(alloc, shelf, 4, &planned.universe, command.file(2)) {
+        Ok(text) => Ok(PlanAnd { planned, text }),
+        Err(stop) => {
+            drop(planned);
+            Err(stop)
+        }
+    }
 }

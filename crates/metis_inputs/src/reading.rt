@@ -120,6 +120,11 @@ pub fn goals_from<H: Shelf>(
     ensures { Gathers H.files H.faults H.opens goals_said (goals_then place file.now targets.now) shelf.old shelf.new result }
 {
     let universe = universe_from(alloc, shelf, 2, file)?;
-    let goals = goals_in(alloc, &universe, place, targets)?;
-    Ok(Asked { universe, goals })
+    match goals_in(alloc, &universe, place, targets) {
+        Ok(goals) => Ok(Asked { universe, goals }),
+        Err(stop) => {
+            drop(universe);
+            Err(stop)
+        }
+    }
 }

@@ -23,8 +23,8 @@ pub fn answer(alloc: Global, n: u32) -> Result<Answer<Once>, NoMemory>
     requires at_most { n ≤ 128 }
     ensures { IfOk result (Says (Loaded n) ⟦<Once as Lines>⟧.rest) }
 {
-    let universe = universe_of(alloc, n)?;
     let targets = targets_of(alloc, n)?;
+    let universe = universe_of(alloc, n)?;
     planned_load(alloc, n, &universe, &targets)
 }
 

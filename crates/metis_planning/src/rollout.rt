@@ -110,7 +110,8 @@ fn old_of<'a>(alloc: Global, u: &Universe, old: &'a [Action]) -> Result<Old<'a>,
     }
 }
 
-// The rollout to the pairs for the goals, or a refusal.
+// The rollout to the pairs for the goals, or a refusal. If there is none, `old` is dropped by a call, which is proved once for all
+// ways out.
 fn roll_out(alloc: Global, u: &Universe, goals: &[Goal], old: Old) -> Result<Planned, NoMemory>
     requires few { length goals.now ≤ 256 }
     requires within { All (IsGoalOf u.now) goals.now }
@@ -121,9 +122,16 @@ fn roll_out(alloc: Global, u: &Universe, goals: &[Goal], old: Old) -> Result<Pla
 {
     u.keeps_invariant();
     pairs_for_goals_hold_them();
-    match aim_of(alloc, u, goals)? {
+    let Ok(aim) = aim_of(alloc, u, goals) else {
+        drop(old);
+        return Err(NoMemory);
+    };
+    match aim {
         Aim::Pairs(pairs, layers) => roll_out_to(alloc, u, &layers, old, &pairs),
-        Aim::Lacks(refusal) => Ok(Planned::Refusal(refusal)),
+        Aim::Lacks(refusal) => {
+            drop(old);
+            Ok(Planned::Refusal(refusal))
+        }
     }
 }
 
@@ -149,7 +157,10 @@ fn roll_out_to(
     guarded_rollout_goes_on();
     teardown_leaves_nothing();
     nothing_is_done_for_no_targets();
-    let fresh = plan_over(alloc, u, layers, pairs)?;
+    let Ok(fresh) = plan_over(alloc, u, layers, pairs) else {
+        drop(old);
+        return Err(NoMemory);
+    };
     let actions = rollout_from(alloc, u, layers, old.actions, &fresh.actions, old.left)?;
     let instances = made_by(&actions);
     let plan = Plan {

@@ -39,12 +39,12 @@ made_for_goals u goals old pairs (Err e) more rolls = tt
 
 pub roll_out_to-requires-clause-few : goal.roll_out_to-requires-clause-few
 roll_out_to-requires-clause-few c =
-    let aim = rw c.in-Pairs.is at c.in_ok-pairs.ensures in
+    let aim = rw c.in-Pairs.is at c.in-Ok.ensures in
     rw c.deref.ensures.value (omega (arith, aim.few, c.requires.few))
 
 pub roll_out_to-requires-clause-attained : goal.roll_out_to-requires-clause-attained
 roll_out_to-requires-clause-attained c =
-    let aim = rw c.in-Pairs.is at c.in_ok-pairs.ensures in
+    let aim = rw c.in-Pairs.is at c.in-Ok.ensures in
     rw c.deref.ensures.value aim.attained
 
 pub returns-in-Pairs-clause-rolls : goal.returns-in-Pairs-clause-rolls
@@ -53,7 +53,7 @@ returns-in-Pairs-clause-rolls c =
     let goals = c.args.goals.now in
     let old = c.args.old.actions.now in
     let pairs = c.in-Pairs.pairs.items in
-    let aim = rw c.in-Pairs.is at c.in_ok-pairs.ensures in
+    let aim = rw c.in-Pairs.is at c.in-Ok.ensures in
     let attains = c.pairs_for_goals_hold_them.ensures.attains u goals pairs aim.resolved aim.attained in
     made_for_goals u goals old pairs c.roll_out_to.result
     (λ lines rolls. for_goals u goals old pairs lines aim.resolved attains (λ last. c.pairs_for_goals_hold_them.ensures.holds u last goals pairs aim.resolved) rolls) (rw c.deref.ensures.value at c.roll_out_to.ensures.rolls)
@@ -61,5 +61,5 @@ returns-in-Pairs-clause-rolls c =
 pub returns-in-Lacks-clause-rolls : goal.returns-in-Lacks-clause-rolls
 returns-in-Lacks-clause-rolls c =
     let refusal = c.in-Lacks.refusal in
-    let aim = rw c.in-Lacks.is at c.in_ok-pairs.ensures in
+    let aim = rw c.in-Lacks.is at c.in-Ok.ensures in
     answer_by_refusal c.args.u.now c.args.goals.now refusal.pairs.members refusal.lacks aim.all aim.refusal

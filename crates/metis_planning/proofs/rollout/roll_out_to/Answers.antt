@@ -18,8 +18,8 @@ pub returns-clause-rolls : goal.returns-clause-rolls
 returns-clause-rolls c =
     let u = c.args.u.now in
     let old = c.args.old.actions.now in
-    let fresh = c.in_ok-fresh.fresh in
-    let found = c.in_ok-fresh.ensures in
+    let fresh = c.in-Ok.fresh in
+    let found = c.in-Ok.ensures in
     let steady : IsSteadfastRun u fresh.actions = found.run in
     let none : c.args.pairs.now ≡ [] → after_all u empty (rollout u old fresh.actions) ≡ empty = λ is.
     subst (λ xs. after_all u empty (rollout u old xs) ≡ empty) (sym (c.nothing_is_done_for_no_targets.ensures u fresh (subst (λ g. IsByRounds u g fresh) is found.rounds)).0)
