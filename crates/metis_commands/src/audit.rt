@@ -1,17 +1,19 @@
 //! The command that audits the dups of a plan.
-ghost use Rattle.std.specs.Prelude.{◌≡◌, ◌<◌, ◌≤◌, ◌-◌, ◌^◌, IfOk, length, string_bytes};
+ghost use Rattle.std.specs.Prelude.{◌≡◌, ◌<◌, ◌≤◌, ◌-◌, ◌^◌, ◌∷◌, [], IfOk, codes, false, length, string_bytes};
 ghost use Rattle.std.specs.List.{All};
-ghost use Rattle.metis_commands.specs.Audit.{Audited, NamesPairOf, audit_line};
+ghost use Rattle.metis_commands.specs.Audit.{Audited, AuditedFor, NamesPairOf, audit_line};
+ghost use Rattle.metis_commands.specs.GoalLine.{word_line};
 ghost use Rattle.metis_output.specs.Answers.{Says};
 ghost use Rattle.metis_text.specs.PlanText.{IsWellFormed};
 ghost use Rattle.metis_text.specs.Reads.{lists_of};
-ghost use Rattle.metis_universe.specs.GoalWords.{IsWordable};
+ghost use Rattle.metis_universe.specs.GoalWords.{IsWordable, goal_word};
 ghost use Rattle.metis_universe.specs.Goals.{IsGoalOf};
+ghost use Rattle.metis_universe.specs.Universe.{pair_count};
 
 use crate::goal_line::goal_line;
 use metis_audit::{Answer as AuditAnswer, audit};
 use metis_choice::pairs_for_goals_hold_them;
-use metis_ids::{Goal, NoMemory, Plan};
+use metis_ids::{Goal, NoMemory, PairIx, Plan};
 use metis_output::{Answer, Lines, Once, line_answer};
 use metis_shared::{Aim, aim_of, number_line};
 use metis_text::PlanText;
@@ -35,16 +37,38 @@ pub fn answer(
     u.keeps_invariant();
     pairs_for_goals_hold_them();
     match aim_of(alloc, u, goals)? {
-        Aim::Pairs(pairs, _) => {
-            let answer = audit(alloc, u, text, &pairs)?;
-            let line = audit_line(alloc, u, &text.plan, &answer)?;
-            Ok(line_answer(line, matches!(answer, AuditAnswer::Justified)))
-        }
-        Aim::Lacks(refusal) => {
-            let line = goal_line(alloc, u, "notattained", refusal.lacks)?;
-            Ok(line_answer(line, false))
-        }
+        Aim::Pairs(pairs, _layers) => audited(alloc, u, text, &pairs),
+        Aim::Lacks(refusal) => not_attained(alloc, u, refusal.lacks),
     }
+}
+
+// The same for the pairs for the goals.
+fn audited(
+    alloc: Global,
+    u: &Universe,
+    text: &PlanText,
+    pairs: &[PairIx],
+) -> Result<Answer<Once>, NoMemory>
+    requires within { All (λ p. p < pair_count u.now) pairs.now }
+    requires few { length pairs.now ≤ 256 }
+    requires formed { IsWellFormed u.now text.now.plan (lists_of text.now) }
+    requires few_actions { length text.now.plan.actions < 2 ^ 32 - 1 }
+    ensures { IfOk result (Says (AuditedFor u.now pairs.now text.now.plan (lists_of text.now)) ⟦<Once as Lines>⟧.rest) }
+{
+    u.keeps_invariant();
+    let answer = audit(alloc, u, text, pairs)?;
+    let line = audit_line(alloc, u, &text.plan, &answer)?;
+    Ok(line_answer(line, matches!(answer, AuditAnswer::Justified)))
+}
+
+// The answer that nothing attains this goal.
+fn not_attained(alloc: Global, u: &Universe, lacks: Goal) -> Result<Answer<Once>, NoMemory>
+    requires { IsGoalOf u.now lacks }
+    ensures { IfOk result (λ a. (a.lines ≡ word_line (codes "notattained") (goal_word u.now lacks) ∷ []) × (a.good ≡ false)) }
+{
+    u.keeps_invariant();
+    let line = goal_line(alloc, u, "notattained", lacks)?;
+    Ok(line_answer(line, false))
 }
 
 // The line of an answer on the plan.
