@@ -8,7 +8,7 @@ use metis_words::WordFault;
 use std::alloc::{AllocError, AllocFailed};
 
 /// What is wrong with a run's words or files.
-#[derive(Clone, Copy, PartialEq, Eq)]
+#[derive(Clone, Copy)]
 pub enum InputFault {
     /// The word at this place does not fit.
     Word(u32),
@@ -29,7 +29,7 @@ pub enum InputFault {
 }
 
 /// Why a run ends before its work.
-#[derive(Clone, Copy, PartialEq, Eq)]
+#[derive(Clone, Copy)]
 pub enum Stop {
     /// Its words or files are faulty.
     Faulty(InputFault),

@@ -9,7 +9,7 @@ use std::alloc::{AllocError, AllocFailed};
 use std::marker::Model;
 
 /// What a command does.
-#[derive(Clone, Copy, Debug, PartialEq, Eq)]
+#[derive(Clone, Copy)]
 pub enum Verb {
     /// Plans for target words.
     Plan,
@@ -82,7 +82,7 @@ impl Verb {
 }
 
 /// A word that names a pair by its type and its state, or a port behind `port`.
-#[derive(Debug, Drop)]
+#[derive(Drop)]
 pub struct TargetWord {
     pub kind: String,
     pub state: String,
@@ -98,7 +98,7 @@ impl Model for TargetWord {
 }
 
 /// The words of a command. Lists that the form of its verb does not have are empty, and such a size is 0.
-#[derive(Debug, Drop)]
+#[derive(Drop)]
 pub struct Command {
     pub verb: Verb,
     pub files: Vec<String>,
@@ -146,7 +146,7 @@ impl Command {
 }
 
 /// Why words are no command.
-#[derive(Clone, Copy, Debug, PartialEq, Eq)]
+#[derive(Clone, Copy, PartialEq, Eq)]
 pub enum WordFault {
     /// The place, from 1, of the first word that does not fit.
     At(u32),
