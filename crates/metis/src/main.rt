@@ -1,10 +1,8 @@
 //! Plans the deployment of components: the words after the program's name say what is done with which files.
 #![tactic(auto)]
 
-mod program;
-
 use metis_outside::{DiskShelf, StdSink};
-use program::exit_code;
+use metis_top::exit_code;
 use std::process::ExitCode;
 
 fn main(rt: HostRuntime) -> ExitCode {

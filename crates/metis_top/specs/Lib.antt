@@ -6,3 +6,4 @@ pub mod Lines
 pub mod Numbered
 pub mod Openings
 pub mod Over
+pub mod Program

@@ -2,8 +2,10 @@
 #![tactic(auto)]
 
 mod commands;
+mod program;
 mod stop;
 mod top;
 
 pub use metis_output::Status;
+pub use program::exit_code;
 pub use top::run;

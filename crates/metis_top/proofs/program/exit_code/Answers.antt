@@ -1,6 +1,6 @@
 use Rattle.std.proofs.Common.{◌∙◌, inl}
 use Rattle.metis_universe.specs.Texts.{texts}
-use Rattle.metis.proofs.program.exit_code.Goals as goal
+use Rattle.metis_top.proofs.program.exit_code.Goals as goal
 
 pub returns-in-Ok : goal.returns-in-Ok
 returns-in-Ok g c =

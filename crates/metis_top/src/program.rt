@@ -2,10 +2,11 @@
 ghost use Rattle.std.specs.Prelude.{◌≡◌, ◌⊎◌};
 ghost use Rattle.std.specs.Process.{exit_status};
 ghost use Rattle.metis_output.specs.Statuses.{code_of};
-ghost use Rattle.metis.specs.Program.{IsRun};
+ghost use Rattle.metis_top.specs.Program.{IsRun};
 
+use crate::top::run;
+use metis_output::Status;
 use metis_outside::{Arguments, Shelf, Sink, words_given};
-use metis_top::{Status, run};
 use std::alloc::Global;
 use std::process::ExitCode;
 
