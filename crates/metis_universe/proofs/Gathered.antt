@@ -19,6 +19,7 @@ use Rattle.metis_universe.specs.RowShapes.{NeedRow, names_needed}
 use Rattle.metis_universe.specs.Rows.{demand_sum, further_from, greatest_count}
 use Rattle.metis_universe.specs.Sights.{first_sights, sights_after, with_name}
 use Rattle.metis_universe.proofs.FirstSights.{distinct_none, seen_now, seen_stays, sights_distinct}
+use Rattle.metis_universe.proofs.Named.{turned}
 
 -- ---- the greatest count of a port
 
@@ -97,12 +98,6 @@ counted g names = map (λ name. need_of name (g name)) names
 counted-same : (g h : List ℕ → ℕ) (names : List (List ℕ)) → AllByRecursion (λ name. g name ≡ h name) names → counted g names ≡ counted h names
 counted-same g h [] all = refl
 counted-same g h (x ∷ names) all = (λ i. need_of x (all.0 i) ∷ counted-same g h names all.1 i)
-
-turned : (a b : List ℕ) → bytes_eq a b ≡ false → bytes_eq b a ≡ false
-turned a b apart = elim (bytes_eq b a) as (λ t. bytes_eq b a ≡ t → t ≡ false) [
-  | true ↦ λ is. absurd (both_ways (bytes_eq a b) apart ((bytes_eq-Decides a b).1 (sym ((bytes_eq-Decides b a).0 is))))
-  | false ↦ λ _. refl
-] refl
 
 module _ (g : List ℕ → ℕ) (n : NeedRow) where
   abbrev raised : List ℕ → ℕ

@@ -1,43 +1,25 @@
 -- The tables, as far as they are made.
-use Rattle.std.proofs.Common.{◌≡◌, ℕ, ◌+◌, ◌<◌, true, false, cond, ◌||◌, List, [], ◌∷◌, ◌++◌, length, map, set, take, drop, get_or, String, string_bytes, string_eq, refl, ap, sym, ◌∙◌, None, arith, append_assoc}
-use Rattle.std.specs.declared.alloc.Global.{Global}
-use Rattle.std.specs.List.{list_any}
-use Rattle.std.specs.Str.{bytes_eq}
-use Rattle.std.proofs.lemmas.Bool.{true≢false}
+use Rattle.std.proofs.Common.{◌≡◌, ℕ, ◌+◌, ◌<◌, List, [], ◌∷◌, ◌++◌, length, map, set, take, drop, get_or, refl, ap, sym, ◌∙◌, arith, append_assoc}
 use Rattle.std.proofs.Math.Seq.{drop-append_seam, get_or-append_seam, set-append_seam, take-append_seam}
-use Rattle.std.proofs.lemmas.List.{append-nil, drop_more, length-drop, length-map, length_push, map-append, take-append-drop, take_more, length-take-le}
-use Rattle.indexmap.specs.IndexMap.{insert_entry}
+use Rattle.std.proofs.lemmas.List.{append-nil, drop_more, length-drop, length-map, length_push, map-append, map_push, take-append-drop, take_more, length-take-le}
 use Rattle.metis_universe.specs.Universe.{Kind, Pair, no_pair}
-use Rattle.metis_universe.specs.Kinds.{kind_of, kinds_of}
+use Rattle.metis_universe.specs.Kinds.{kinds_of}
 use Rattle.metis_universe.specs.RowShapes.{StateRow, TypeRow}
-use Rattle.metis_universe.specs.Rows.{earlier_type, state_total, pair_from, pairs_of_type, pairs_from, kind_from, kinds_from}
+use Rattle.metis_universe.specs.Rows.{initial_from, initials_from, names_of, state_total, pair_from, pairs_of_type, pairs_from, kind_from, kinds_from}
 use Rattle.metis_universe.specs.Unnamed.{unnamed, with_names}
-use Rattle.metis_universe.proofs.FirstFault.{list_any-from_position}
 use Rattle.metis_universe.proofs.Blocks.{kinds_from-push, pairs_from-push}
 
--- a type with a new name goes last
-pub kinds_of-insert : (es : List (String Global × ℕ)) (key : String Global) (initial : ℕ) → list_any (λ k. bytes_eq (string_bytes key) k.name) (kinds_of es) ≡ false →
-    kinds_of (insert_entry string_eq es key initial) ≡ kinds_of es ++ kind_of (string_bytes key) initial ∷ []
-kinds_of-insert [] key initial h = refl
-kinds_of-insert (e ∷ es) key initial h =
-    elim (string_eq key e.0) as (λ b. (b || list_any (λ k. bytes_eq (string_bytes key) k.name) (kinds_of es)) ≡ false →
-    kinds_of (cond b ((e.0, initial) ∷ es) (e ∷ insert_entry string_eq es key initial)) ≡ kinds_of (e ∷ es) ++ kind_of (string_bytes key) initial ∷ []) [
-      | true ↦ λ no'. absurd (true≢false no')
-      | false ↦ λ rest. ap (λ ks. kind_of (string_bytes e.0) e.1 ∷ ks) (kinds_of-insert es key initial rest)
-    ] h
-
-names_from : (name : List ℕ) (f : ℕ) (rows : List TypeRow) → list_any (λ (k : Kind). bytes_eq name k.name) (kinds_from f rows) ≡ list_any (λ (row : TypeRow). bytes_eq name row.name) rows
-names_from name f [] = refl
-names_from name f (row ∷ rows) = ap (λ b. bytes_eq name row.name || b) (names_from name (f + length row.states) rows)
+-- the types by their names and their initial pairs
+pub kinds_again : (first : ℕ) (rows : List TypeRow) → kinds_of (names_of rows) (initials_from first rows) ≡ kinds_from first rows
+kinds_again first [] = refl
+kinds_again first (row ∷ rows) = ap (λ ks. kind_from first row ∷ ks) (kinds_again (first + length row.states) rows)
 
 module _ (rows : List TypeRow) (t : ℕ) (d : TypeRow) (h : t < length rows) where
-  -- no type so far has the name
-  pub kind_new : (name : List ℕ) (kinds : List Kind) → kinds ≡ kinds_from 0 (take t rows) → earlier_type rows t name ≡ None → list_any (λ (k : Kind). bytes_eq name k.name) kinds ≡ false
-  kind_new name kinds are none = ap (list_any (λ (k : Kind). bytes_eq name k.name)) are ∙ names_from name 0 (take t rows) ∙ list_any-from_position (λ (row : TypeRow). bytes_eq name row.name) (take t rows) none
-
-  pub kinds_more : kinds_from 0 (take (t + 1) rows) ≡ kinds_from 0 (take t rows) ++ kind_from (state_total (take t rows)) (get_or rows t d) ∷ []
-  kinds_more = let z : 0 + state_total (take t rows) ≡ state_total (take t rows) = omega arith in
-      ap (kinds_from 0) (take_more rows t d h) ∙ kinds_from-push 0 (take t rows) (get_or rows t d) ∙ ap (λ n. kinds_from 0 (take t rows) ++ kind_from n (get_or rows t d) ∷ []) z
+  pub initials_more : initials_from 0 (take (t + 1) rows) ≡ initials_from 0 (take t rows) ++ initial_from (state_total (take t rows)) (get_or rows t d) ∷ []
+  initials_more = let z : 0 + state_total (take t rows) ≡ state_total (take t rows) = omega arith in
+      ap (initials_from 0) (take_more rows t d h) ∙ ap (map (λ (k : Kind). k.initial)) (kinds_from-push 0 (take t rows) (get_or rows t d))
+      ∙ map_push (λ (k : Kind). k.initial) (kinds_from 0 (take t rows)) (kind_from (0 + state_total (take t rows)) (get_or rows t d))
+      ∙ ap (λ n. initials_from 0 (take t rows) ++ initial_from n (get_or rows t d) ∷ []) z
 
   pub pairs_more : (ports : List (List ℕ)) → pairs_from ports 0 0 (take (t + 1) rows) ≡ pairs_from ports 0 0 (take t rows) ++ pairs_of_type ports t (state_total (take t rows)) (get_or rows t d)
   pairs_more ports =

@@ -36,6 +36,10 @@ pub record RowsFit (rows : List TypeRow) : Type 0 where
   pub types : length rows < 2 ^ 32
   pub each : All TypeFits rows
 
+-- the types' names
+abbrev pub names_of : List TypeRow → List (List ℕ)
+names_of rows = map (λ row. row.name) rows
+
 -- a state's ports: those that it provides, then those that it requires
 abbrev pub ports_of_state : StateRow → List (List ℕ)
 ports_of_state row = row.provide ++ names_needed row.require
@@ -173,12 +177,18 @@ abbrev pub pairs_from : List (List ℕ) → ℕ → ℕ → List TypeRow → Lis
 pairs_from ports t first [] = []
 pairs_from ports t first (row ∷ rows) = pairs_of_type ports t first row ++ pairs_from ports (t + 1) (first + length row.states) rows
 
+abbrev pub initial_from : ℕ → TypeRow → ℕ
+initial_from first row = first + state_number row row.initial
+
 abbrev pub kind_from : ℕ → TypeRow → Kind
-kind_from first row = record { name = row.name; initial = first + state_number row row.initial }
+kind_from first row = record { name = row.name; initial = initial_from first row }
 
 abbrev pub kinds_from : ℕ → List TypeRow → List Kind
 kinds_from first [] = []
 kinds_from first (row ∷ rows) = kind_from first row ∷ kinds_from (first + length row.states) rows
+
+abbrev pub initials_from : ℕ → List TypeRow → List ℕ
+initials_from first rows = map (λ kind. kind.initial) (kinds_from first rows)
 
 -- In version 1 each port is required of one provider.
 pub record IsOfVersion (v : ℕ) (rows : List TypeRow) : Type 0 where

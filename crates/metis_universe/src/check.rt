@@ -6,20 +6,18 @@ ghost use Rattle.std.specs.Str.{bytes_eq};
 ghost use Rattle.std.specs.String.{string_bytes};
 ghost use Rattle.metis_universe.specs.Names.{is_between, is_name};
 ghost use Rattle.metis_universe.specs.RowShapes.{names_needed};
-ghost use Rattle.metis_universe.specs.Rows.{first_from, unless, limit_fault, has_state, port_fault, demand_fault, state_twice, state_fault, next_fault, head_fault, link_fault, fault_after, type_fault, first_fault, StateFits, TypeFits, RowsFit, state_total, require_total, ports_of_state, ports_of_type, ports_of};
+ghost use Rattle.metis_universe.specs.Rows.{first_from, unless, limit_fault, has_state, port_fault, demand_fault, state_twice, state_fault, next_fault, head_fault, link_fault, fault_after, type_fault, first_fault, StateFits, TypeFits, RowsFit, state_total, require_total, names_of, ports_of_state, ports_of_type, ports_of};
 ghost use Rattle.metis_universe.specs.SeenPorts.{AreNamed};
 ghost use Rattle.metis_universe.specs.Texts.{texts};
 ghost use Rattle.metis_universe.specs.declared.faults.RowFault.TheVariants.{TypeTwice};
 ghost use Rattle.metis_universe.specs.declared.faults.LimitKind.TheVariants.{Requires};
-ghost use Rattle.indexmap.specs.IndexSet.{index_set_len};
 
 use crate::faults::{LimitKind, RowFault};
 use crate::limits::{MOST_DEMANDED, MOST_PAIRS, MOST_PORTS, MOST_REQUIRED, MOST_STATES};
 use crate::names::is_name;
 use crate::needs::{count_total, require_total};
+use crate::numbered::NumberedNames;
 use crate::rows::{NeedRow, StateRow, TypeRow};
-use crate::sights::place_seen;
-use indexmap::IndexSet;
 use std::alloc::{AllocError, Global};
 
 /// The fault, unless the test passed.
@@ -199,19 +197,19 @@ fn fault_of_links(row: &TypeRow, t: u32) -> Option<RowFault>
 }
 
 /// A type before this one has the type's name.
-fn fault_of_earlier_type(row: &TypeRow, t: u32, seen: &IndexSet<String>) -> Option<RowFault>
-    requires { index_set_len seen.now < 2 ^ 32 }
-    ensures { result ≡ option_map (λ first. TypeTwice t first) (position (bytes_eq row.now.name) (texts seen.now.keys)) }
+fn fault_of_earlier_type(row: &TypeRow, t: u32, seen: &NumberedNames) -> Option<RowFault>
+    requires { length seen.now < 2 ^ 32 }
+    ensures { result ≡ option_map (λ first. TypeTwice t first) (position (bytes_eq row.now.name) seen.now) }
 {
-    let first = seen.get_index_of(row.name.as_str())?;
+    let first = seen.number_of(row.name.as_str())?;
     Some(RowFault::TypeTwice(t, first as u32))
 }
 
 /// The type itself: its name, an earlier type of that name, and how many states it has.
-fn fault_of_head(row: &TypeRow, t: u32, seen: &IndexSet<String>) -> Option<RowFault>
+fn fault_of_head(row: &TypeRow, t: u32, seen: &NumberedNames) -> Option<RowFault>
     requires fits { TypeFits row.now }
-    requires earlier { index_set_len seen.now < 2 ^ 32 }
-    ensures { result ≡ head_fault (position (bytes_eq row.now.name) (texts seen.now.keys)) t row.now }
+    requires earlier { length seen.now < 2 ^ 32 }
+    ensures { result ≡ head_fault (position (bytes_eq row.now.name) seen.now) t row.now }
 {
     let name = unless(is_name(row.name.as_str()), RowFault::TypeName(t));
     let twice = fault_of_earlier_type(row, t, seen);
@@ -238,13 +236,13 @@ fn fault_of_type(
     alloc: Global,
     row: &TypeRow,
     t: u32,
-    seen: &IndexSet<String>,
+    seen: &NumberedNames,
     named: bool,
 ) -> Result<Option<RowFault>, AllocError>
     requires fits { TypeFits row.now }
-    requires earlier { index_set_len seen.now < 2 ^ 32 }
+    requires earlier { length seen.now < 2 ^ 32 }
     requires named { AreNamed named (ports_of_type row.now) }
-    ensures { IfOk result (λ found. found ≡ fault_after (position (bytes_eq row.now.name) (texts seen.now.keys)) t row.now) }
+    ensures { IfOk result (λ found. found ≡ fault_after (position (bytes_eq row.now.name) seen.now) t row.now) }
 {
     let head = fault_of_head(row, t, seen);
     if head.is_some() {
@@ -258,40 +256,27 @@ fn fault_of_type(
     Ok(required.or(fault_of_links(row, t)))
 }
 
-/// The first fault of any type, where no name is seen yet.
-fn fault_among(
+/// The first fault of any type, where no name is seen yet. Where there is none, all types' names are seen.
+fn fault_of_types(
     alloc: Global,
     rows: &[TypeRow],
-    seen: &mut IndexSet<String>,
+    seen: &mut NumberedNames,
     named: bool,
 ) -> Result<Option<RowFault>, AllocError>
-    requires none { texts seen.old.keys ≡ [] }
+    requires none { seen.old ≡ [] }
     requires fits { RowsFit rows.now }
     requires named { AreNamed named (flat_map ports_of_type rows.now) }
-    ensures { IfOk result (λ found. found ≡ first_from 0 (type_fault rows.now) rows.now) }
+    ensures fault { IfOk result (λ found. found ≡ first_from 0 (type_fault rows.now) rows.now) }
+    ensures names { IfOk result (λ found. found ≡ None → seen.new ≡ names_of rows.now) }
 {
     for (t, row) in rows.iter().enumerate() {
         let fault = fault_of_type(alloc, row, t as u32, seen, named)?;
         if fault.is_some() {
             return Ok(fault);
         }
-        let _place = place_seen(alloc, seen, row.name.as_str())?;
+        let _number = seen.see(alloc, row.name.as_str())?;
     }
     Ok(None)
-}
-
-/// The first fault of any type.
-fn fault_of_types(
-    alloc: Global,
-    rows: &[TypeRow],
-    named: bool,
-) -> Result<Option<RowFault>, AllocError>
-    requires fits { RowsFit rows.now }
-    requires named { AreNamed named (flat_map ports_of_type rows.now) }
-    ensures { IfOk result (λ found. found ≡ first_from 0 (type_fault rows.now) rows.now) }
-{
-    let mut seen = IndexSet::with_capacity(alloc, rows.len())?;
-    fault_among(alloc, rows, &mut seen, named)
 }
 
 /// How many states all types have.
@@ -302,19 +287,22 @@ fn state_total(rows: &[TypeRow]) -> u64
     rows.iter().map(|row| row.states.len() as u64).sum()
 }
 
-/// The first fault of the rows, whose ports are these.
+/// The first fault of the rows, whose ports are these, where no type's name is seen yet. Where there is none, all types' names are seen.
 pub fn first_fault(
     alloc: Global,
     rows: &[TypeRow],
-    ports: &IndexSet<String>,
+    ports: &NumberedNames,
+    kinds: &mut NumberedNames,
 ) -> Result<Option<RowFault>, AllocError>
     requires fits { RowsFit rows.now }
-    requires ports { texts ports.now.keys ≡ ports_of rows.now }
-    ensures { IfOk result (λ found. found ≡ first_fault rows.now) }
+    requires ports { ports.now ≡ ports_of rows.now }
+    requires none { kinds.old ≡ [] }
+    ensures fault { IfOk result (λ found. found ≡ first_fault rows.now) }
+    ensures names { IfOk result (λ found. found ≡ None → kinds.new ≡ names_of rows.now) }
 {
     let unnamed = place_of_no_name(ports.as_slice());
-    let types = fault_of_types(alloc, rows, unnamed.is_none())?;
+    let types = fault_of_types(alloc, rows, kinds, unnamed.is_none())?;
     let pairs = fault_of_count(LimitKind::Pairs, MOST_PAIRS, state_total(rows));
-    let ports = fault_of_count(LimitKind::Ports, MOST_PORTS, ports.len() as u64);
+    let ports = fault_of_count(LimitKind::Ports, MOST_PORTS, ports.count() as u64);
     Ok(types.or(pairs.or(ports)))
 }

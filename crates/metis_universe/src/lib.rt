@@ -9,6 +9,7 @@ mod laws;
 mod limits;
 mod names;
 mod needs;
+mod numbered;
 mod reading;
 mod rows;
 mod sights;

@@ -3,10 +3,10 @@ ghost use Rattle.std.specs.Prelude.{◌≡◌, ◌≤◌, ◌<◌, ◌-◌, ◌^
 ghost use Rattle.std.specs.List.{All, slice_index_or};
 ghost use Rattle.metis_universe.specs.Needs.{count_in, greatest_needs, needs_of, no_need, with_need};
 ghost use Rattle.metis_universe.specs.Rows.{TypeFits, demand_sum, further_from, require_total};
-ghost use Rattle.metis_universe.specs.Texts.{texts};
 
+use crate::numbered::NumberedNames;
 use crate::rows::{NeedRow, TypeRow};
-use indexmap::{IndexMap, IndexSet};
+use indexmap::IndexMap;
 use metis_ids::PortIx;
 use std::alloc::{AllocError, Global};
 
@@ -124,11 +124,11 @@ fn asks_for_one(needs: &[NeedRow]) -> bool
 /// For each of these ports, how many providers are demanded besides one.
 pub fn further_numbers(
     alloc: Global,
-    ports: &IndexSet<String>,
+    ports: &NumberedNames,
     needs: &[NeedRow],
     numbers: &[PortIx],
 ) -> Result<Vec<u64>, AllocError>
-    ensures { IfOk result (λ further. further.items ≡ further_from (texts ports.now.keys) needs.now numbers.now) }
+    ensures { IfOk result (λ further. further.items ≡ further_from ports.now needs.now numbers.now) }
 {
     if asks_for_one(needs) {
         return none_further(alloc, numbers);
@@ -141,10 +141,10 @@ pub fn further_numbers(
 fn further_among(
     alloc: Global,
     most: &IndexMap<String, u64>,
-    ports: &IndexSet<String>,
+    ports: &NumberedNames,
     numbers: &[PortIx],
 ) -> Result<Vec<u64>, AllocError>
-    ensures { IfOk result (λ further. further.items ≡ map (λ r. count_in (needs_of most.now.entries) (slice_index_or (texts ports.now.keys) r []) - 1) numbers.now) }
+    ensures { IfOk result (λ further. further.items ≡ map (λ r. count_in (needs_of most.now.entries) (slice_index_or ports.now r []) - 1) numbers.now) }
 {
     let mut further = Vec::with_capacity(alloc, numbers.len())?;
     for r in numbers {
@@ -165,10 +165,10 @@ fn none_further(alloc: Global, numbers: &[PortIx]) -> Result<Vec<u64>, AllocErro
 }
 
 /// How many providers of the port are demanded besides one.
-fn besides_one(most: &IndexMap<String, u64>, ports: &IndexSet<String>, r: PortIx) -> u64
-    ensures { result ≡ count_in (needs_of most.now.entries) (slice_index_or (texts ports.now.keys) r []) - 1 }
+fn besides_one(most: &IndexMap<String, u64>, ports: &NumberedNames, r: PortIx) -> u64
+    ensures { result ≡ count_in (needs_of most.now.entries) (slice_index_or ports.now r []) - 1 }
 {
-    match ports.get_index(r.0 as usize) {
+    match ports.as_slice().get(r.0 as usize) {
         Some(name) => count_in(most, name.as_str()).saturating_sub(1),
         None => count_in(most, "").saturating_sub(1),
     }

@@ -1,10 +1,9 @@
 //! A universe: its types, its pairs in document order, and its ports.
 ghost use Rattle.std.specs.Prelude.{◌≡◌, ◌≤◌, ◌<◌, ◌==◌, ◌+◌, ◌&&◌, [], length, fold, max, nat_lt, position, take, drop, IsTrue, ◌↔◌, if◌then◌else◌};
 ghost use Rattle.std.specs.List.{All, filter, list_any, position_or_len, slice_index_or};
-ghost use Rattle.metis_universe.specs.Kinds.{kinds_of};
 ghost use Rattle.std.specs.List.Sorted.{IsStrictlyIncreasing, IsNonDecreasingBy};
 ghost use Rattle.std.specs.Str.{bytes_eq};
-ghost use Rattle.metis_universe.specs.Universe.{has, kind_in, no_kind, pair_count, type_count, port_count, type_of, state_place_of, initial_of, is_free, is_initial, next_of, provided_of, required_of, demand_of, greatest_demand, provides, type_requires, type_provides, providers_of, requirers_of, type_named, port_named, state_named, pair_named, type_name_of, state_name_of, port_name_of, states_of_type, IsTable};
+ghost use Rattle.metis_universe.specs.Universe.{has, kind_in, pair_count, type_count, port_count, type_of, state_place_of, initial_of, is_free, is_initial, next_of, provided_of, required_of, demand_of, greatest_demand, provides, type_requires, type_provides, providers_of, requirers_of, type_named, port_named, state_named, pair_named, type_name_of, state_name_of, port_name_of, states_of_type, IsTable};
 ghost use Rattle.metis_universe.specs.Numbers.{IsOf};
 ghost use Rattle.metis_universe.specs.Rows.{IsOfVersion, RowsFit, IsMade};
 
@@ -12,9 +11,9 @@ mod build;
 
 use crate::check::first_fault;
 use crate::faults::RowFault;
+use crate::numbered::NumberedNames;
 use crate::rows::TypeRow;
 use crate::sights::ports_of;
-use indexmap::{IndexMap, IndexSet};
 use metis_ids::{Action, PairIx, PortIx, StateIx, TypeIx};
 use std::alloc::Global;
 use std::marker::Model;
@@ -58,10 +57,11 @@ impl Model for PortRow {
 #[derive(Drop)]
 pub struct Universe {
     version: u32,
-    /// The initial pair of each type, by the type's name.
-    kinds: IndexMap<String, PairIx>,
+    kinds: NumberedNames,
+    /// The initial pair of each type.
+    initials: Vec<PairIx>,
     pairs: Vec<PairRow>,
-    ports: IndexSet<String>,
+    ports: NumberedNames,
     /// Who provides each port.
     providers: Vec<PortRow>,
     /// Who requires each port.
@@ -69,15 +69,14 @@ pub struct Universe {
 }
 
 impl Model for Universe {
-    ghost use Rattle.metis_universe.specs.Texts.{texts};
     ghost use Rattle.metis_universe.specs.Kinds.{kinds_of};
     ghost use Rattle.metis_universe.specs.Universe as tables;
 
     ghost Value = { tables.Universe };
 
-    ghost view = { λ a. tables.universe_of a.version (kinds_of a.kinds.entries) a.pairs.items (texts a.ports.keys) };
+    ghost view = { λ a. tables.universe_of a.version (kinds_of a.kinds a.initials.items) a.pairs.items a.ports };
 
-    ghost invariant = { λ a. tables.IsIndexedTable (tables.universe_of a.version (kinds_of a.kinds.entries) a.pairs.items (texts a.ports.keys)) a.providers.items a.requirers.items };
+    ghost invariant = { λ a. tables.IsIndexedTable (tables.universe_of a.version (kinds_of a.kinds a.initials.items) a.pairs.items a.ports) a.providers.items a.requirers.items };
 }
 
 impl Universe {
@@ -91,10 +90,11 @@ impl Universe {
         ensures { IsMade result version rows.items }
     {
         let found = ports_of(alloc, &rows)?;
-        if let Some(fault) = first_fault(alloc, &rows, &found.ports)? {
+        let mut kinds = NumberedNames::with_capacity(alloc, rows.len())?;
+        if let Some(fault) = first_fault(alloc, &rows, &found.ports, &mut kinds)? {
             return Err(fault);
         }
-        Ok(build::tables(alloc, version, rows, found)?)
+        Ok(build::tables(alloc, version, rows, kinds, found)?)
     }
 
     /// It does nothing: what every universe keeps.
@@ -131,7 +131,7 @@ impl Universe {
     pub fn types(&self) -> u32
         ensures { result ≡ type_count self.now }
     {
-        self.kinds.len() as u32
+        self.kinds.count() as u32
     }
 
     /// The pair's type.
@@ -177,7 +177,7 @@ impl Universe {
         ensures within { result < pair_count self.now }
     {
         let _tables = &self.pairs;
-        initial_among(&self.kinds, t)
+        initial_among(&self.initials, t)
     }
 
     /// Whether the pair is a type's initial pair.
@@ -211,7 +211,7 @@ impl Universe {
     pub fn ports(&self) -> u32
         ensures { result ≡ port_count self.now }
     {
-        self.ports.len() as u32
+        self.ports.count() as u32
     }
 
     /// The ports that the pair provides, ascending.
@@ -314,7 +314,7 @@ impl Universe {
     pub fn type_named(&self, name: &str) -> Option<TypeIx>
         ensures { result ≡ type_named self.now name.now }
     {
-        let index = self.kinds.get_index_of(name)?;
+        let index = self.kinds.number_of(name)?;
         Some(TypeIx(index as u32))
     }
 
@@ -337,7 +337,7 @@ impl Universe {
     pub fn port_named(&self, name: &str) -> Option<PortIx>
         ensures { result ≡ port_named self.now name.now }
     {
-        let index = self.ports.get_index_of(name)?;
+        let index = self.ports.number_of(name)?;
         Some(PortIx(index as u32))
     }
 
@@ -346,8 +346,7 @@ impl Universe {
         requires { t < type_count self.now }
         ensures { result.now ≡ type_name_of self.now t }
     {
-        let (name, _) = self.kinds.get_index(t.0 as usize).unwrap();
-        name.as_str()
+        self.kinds.name(t.0 as usize)
     }
 
     /// The name of the pair's state.
@@ -364,17 +363,18 @@ impl Universe {
         requires { r < port_count self.now }
         ensures { result.now ≡ port_name_of self.now r }
     {
-        self.ports.get_index(r.0 as usize).unwrap().as_str()
+        self.ports.name(r.0 as usize)
     }
 }
 
-/// The initial pair of the type.
-fn initial_among(kinds: &IndexMap<String, PairIx>, t: TypeIx) -> PairIx
-    requires { t < length (kinds_of kinds.now.entries) }
-    ensures { result ≡ (slice_index_or (kinds_of kinds.now.entries) t no_kind).initial }
+/// The pair at the type's place, and the first where none stands there.
+fn initial_among(initials: &[PairIx], t: TypeIx) -> PairIx
+    ensures { result ≡ slice_index_or initials.now t 0 }
 {
-    let (_, initial) = kinds.get_index(t.0 as usize).unwrap();
-    *initial
+    match initials.get(t.0 as usize) {
+        Some(p) => *p,
+        None => PairIx(0),
+    }
 }
 
 /// How many pairs have a lower type. Behind them begin those of the type.

@@ -1,22 +1,20 @@
 //! The tables of rows that have no fault.
-ghost use Rattle.std.specs.Prelude.{◌≡◌, ◌+◌, ◌≤◌, ◌<◌, ◌^◌, ◌++◌, ◌∷◌, [], ℕ, List, false, length, map, flat_map, replicate, None, IfOk, OnOk};
-ghost use Rattle.std.specs.List.{list_any, All};
+ghost use Rattle.std.specs.Prelude.{◌≡◌, ◌+◌, ◌≤◌, ◌<◌, ◌^◌, ◌++◌, ◌∷◌, [], ℕ, List, length, map, flat_map, replicate, None, IfOk, OnOk};
+ghost use Rattle.std.specs.List.{All};
 ghost use Rattle.metis_universe.specs.PortRows.{with_pair, rows_from, port_rows};
-ghost use Rattle.std.specs.Str.{bytes_eq};
-ghost use Rattle.std.specs.String.{string_bytes};
-ghost use Rattle.metis_universe.specs.Kinds.{kind_of, kinds_of};
+ghost use Rattle.metis_universe.specs.Kinds.{kinds_of};
 ghost use Rattle.metis_universe.specs.Texts.{texts};
 ghost use Rattle.metis_universe.specs.SeenPorts.{number_within};
 ghost use Rattle.metis_universe.specs.Universe.{universe_of, IsTable};
 ghost use Rattle.metis_universe.specs.Unnamed.{unnamed, with_names};
-ghost use Rattle.metis_universe.specs.Rows.{IsOfVersion, number_of, state_number, ascending, kind_from, kinds_from, pair_from, pairs_from, pairs_of_type, universe_from, first_fault, ports_of_state, ports_of_type, ports_of};
+ghost use Rattle.metis_universe.specs.Rows.{IsOfVersion, number_of, state_number, ascending, initial_from, initials_from, names_of, pair_from, pairs_from, pairs_of_type, universe_from, first_fault, ports_of_state, ports_of_type, ports_of};
 
 use super::{PairRow, PortRow, Universe};
 use crate::check::place_of_state;
 use crate::needs::further_numbers;
+use crate::numbered::NumberedNames;
 use crate::rows::{StateRow, TypeRow};
 use crate::sights::Sights;
-use indexmap::{IndexMap, IndexSet};
 use metis_ids::{PairIx, PortIx, TypeIx};
 use std::alloc::{AllocError, Global};
 
@@ -82,14 +80,14 @@ struct Block<'a> {
 /// The pair of a type and one of its states, whose entries have the ports of these numbers. It has no name yet.
 fn pair_of(
     alloc: Global,
-    ports: &IndexSet<String>,
+    ports: &NumberedNames,
     block: &Block,
     state: &StateRow,
     entries: &[PortIx],
 ) -> Result<PairRow, AllocError>
     requires first { block.now.first + length block.now.row.now.states < 2 ^ 32 }
-    requires entries { entries.now ≡ map (number_of (texts ports.now.keys)) (ports_of_state state.now) }
-    ensures { IfOk result (λ pair. pair ≡ unnamed (pair_from (texts ports.now.keys) block.now.kind block.now.first block.now.row.now state.now)) }
+    requires entries { entries.now ≡ map (number_of ports.now) (ports_of_state state.now) }
+    ensures { IfOk result (λ pair. pair ≡ unnamed (pair_from ports.now block.now.kind block.now.first block.now.row.now state.now)) }
 {
     let (provided, required) = entries.split_at(state.provide.len());
     let required = port_numbers(alloc, required)?;
@@ -107,15 +105,15 @@ fn pair_of(
 fn add_pairs<'e>(
     alloc: Global,
     pairs: &mut Vec<PairRow>,
-    ports: &IndexSet<String>,
+    ports: &NumberedNames,
     t: TypeIx,
     row: &TypeRow,
     entries: &'e [PortIx],
 ) -> Result<&'e [PortIx], AllocError>
     requires first { length pairs.old.items + length row.now.states < 2 ^ 32 }
-    requires entries { (later : List (List ℕ)) × (entries.now ≡ map (number_of (texts ports.now.keys)) (ports_of_type row.now ++ later)) }
-    ensures pairs { OnOk result (pairs.new.items ≡ pairs.old.items ++ map (λ state. unnamed (pair_from (texts ports.now.keys) t (length pairs.old.items) row.now state)) row.now.states) }
-    ensures rest { IfOk result (λ rest. (later : List (List ℕ)) → entries.now ≡ map (number_of (texts ports.now.keys)) (ports_of_type row.now ++ later) → rest.now ≡ map (number_of (texts ports.now.keys)) later) }
+    requires entries { (later : List (List ℕ)) × (entries.now ≡ map (number_of ports.now) (ports_of_type row.now ++ later)) }
+    ensures pairs { OnOk result (pairs.new.items ≡ pairs.old.items ++ map (λ state. unnamed (pair_from ports.now t (length pairs.old.items) row.now state)) row.now.states) }
+    ensures rest { IfOk result (λ rest. (later : List (List ℕ)) → entries.now ≡ map (number_of ports.now) (ports_of_type row.now ++ later) → rest.now ≡ map (number_of ports.now) later) }
 {
     let block = Block {
         kind: t,
@@ -129,19 +127,6 @@ fn add_pairs<'e>(
         rest = later;
     }
     Ok(rest)
-}
-
-/// Adds a type.
-fn add_kind(
-    kinds: &mut IndexMap<String, PairIx>,
-    name: String,
-    initial: PairIx,
-) -> Result<(), AllocError>
-    requires { list_any (λ k. bytes_eq (string_bytes name) k.name) (kinds_of kinds.old.entries) ≡ false }
-    ensures { OnOk result (kinds_of kinds.new.entries ≡ kinds_of kinds.old.entries ++ kind_of (string_bytes name) initial ∷ []) }
-{
-    kinds.insert(name, initial)?;
-    Ok(())
 }
 
 /// Adds an empty row, with room for so many pairs.
@@ -252,88 +237,88 @@ fn name_pairs(pairs: &mut Vec<PairRow>, first: u32, states: Vec<StateRow>)
 /// Adds the type of a row and its pairs. Its entries come first of these, and it gives the entries behind them.
 fn add_type<'e>(
     alloc: Global,
-    kinds: &mut IndexMap<String, PairIx>,
+    initials: &mut Vec<PairIx>,
     pairs: &mut Vec<PairRow>,
-    ports: &IndexSet<String>,
+    ports: &NumberedNames,
     row: TypeRow,
     entries: &'e [PortIx],
 ) -> Result<&'e [PortIx], AllocError>
-    requires few { length (kinds_of kinds.old.entries) < 2 ^ 32 }
+    requires few { length initials.old.items < 2 ^ 32 }
     requires first { length pairs.old.items + length row.states < 2 ^ 32 }
-    requires new { list_any (λ k. bytes_eq row.name k.name) (kinds_of kinds.old.entries) ≡ false }
-    requires entries { (later : List (List ℕ)) × (entries.now ≡ map (number_of (texts ports.now.keys)) (ports_of_type row ++ later)) }
-    ensures kinds { OnOk result (kinds_of kinds.new.entries ≡ kinds_of kinds.old.entries ++ kind_from (length pairs.old.items) row ∷ []) }
-    ensures pairs { OnOk result (pairs.new.items ≡ pairs.old.items ++ pairs_of_type (texts ports.now.keys) (length (kinds_of kinds.old.entries)) (length pairs.old.items) row) }
-    ensures rest { IfOk result (λ rest. (later : List (List ℕ)) → entries.now ≡ map (number_of (texts ports.now.keys)) (ports_of_type row ++ later) → rest.now ≡ map (number_of (texts ports.now.keys)) later) }
+    requires entries { (later : List (List ℕ)) × (entries.now ≡ map (number_of ports.now) (ports_of_type row ++ later)) }
+    ensures initials { OnOk result (initials.new.items ≡ initials.old.items ++ initial_from (length pairs.old.items) row ∷ []) }
+    ensures pairs { OnOk result (pairs.new.items ≡ pairs.old.items ++ pairs_of_type ports.now (length initials.old.items) (length pairs.old.items) row) }
+    ensures rest { IfOk result (λ rest. (later : List (List ℕ)) → entries.now ≡ map (number_of ports.now) (ports_of_type row ++ later) → rest.now ≡ map (number_of ports.now) later) }
 {
     let first = pairs.len() as u32;
-    let kind = TypeIx(kinds.len() as u32);
+    let kind = TypeIx(initials.len() as u32);
     let initial = PairIx(first + state_number(&row, row.initial.as_str()));
     let rest = add_pairs(alloc, pairs, ports, kind, &row, entries)?;
-    let TypeRow { name, states, .. } = row;
-    name_pairs(pairs, first, states);
-    add_kind(kinds, name, initial)?;
+    name_pairs(pairs, first, row.states);
+    initials.push(initial)?;
     Ok(rest)
 }
 
 /// Adds the types of the rows and their pairs, where there are none yet. The entries have the ports of these numbers.
 fn add_types(
     alloc: Global,
-    kinds: &mut IndexMap<String, PairIx>,
+    initials: &mut Vec<PairIx>,
     pairs: &mut Vec<PairRow>,
-    ports: &IndexSet<String>,
+    ports: &NumberedNames,
     rows: Vec<TypeRow>,
     entries: &[PortIx],
 ) -> Result<(), AllocError>
-    requires no_kinds { kinds_of kinds.old.entries ≡ [] }
+    requires no_types { initials.old.items ≡ [] }
     requires no_pairs { pairs.old.items ≡ [] }
     requires sound { first_fault rows.items ≡ None }
-    requires ports { texts ports.now.keys ≡ ports_of rows.items }
-    requires entries { entries.now ≡ map (number_of (texts ports.now.keys)) (flat_map ports_of_type rows.items) }
-    ensures kinds { OnOk result (kinds_of kinds.new.entries ≡ kinds_from 0 rows.items) }
+    requires ports { ports.now ≡ ports_of rows.items }
+    requires entries { entries.now ≡ map (number_of ports.now) (flat_map ports_of_type rows.items) }
+    ensures initials { OnOk result (initials.new.items ≡ initials_from 0 rows.items) }
     ensures pairs { OnOk result (pairs.new.items ≡ pairs_from (ports_of rows.items) 0 0 rows.items) }
 {
     let mut rest = entries;
     for row in rows {
-        rest = add_type(alloc, kinds, pairs, ports, row, rest)?;
+        rest = add_type(alloc, initials, pairs, ports, row, rest)?;
     }
     Ok(())
 }
 
-/// The types of the rows, by their names, and the pairs of these. The entries have the ports of these numbers.
+/// The initial pair of the type of each row, and the pairs of these. The entries have the ports of these numbers.
 fn type_tables(
     alloc: Global,
     rows: Vec<TypeRow>,
-    ports: &IndexSet<String>,
+    ports: &NumberedNames,
     entries: &[PortIx],
-) -> Result<(IndexMap<String, PairIx>, Vec<PairRow>), AllocError>
+) -> Result<(Vec<PairIx>, Vec<PairRow>), AllocError>
     requires sound { first_fault rows.items ≡ None }
-    requires ports { texts ports.now.keys ≡ ports_of rows.items }
-    requires entries { entries.now ≡ map (number_of (texts ports.now.keys)) (flat_map ports_of_type rows.items) }
-    ensures kinds { IfOk result (λ made. kinds_of made.0.entries ≡ kinds_from 0 rows.items) }
+    requires ports { ports.now ≡ ports_of rows.items }
+    requires entries { entries.now ≡ map (number_of ports.now) (flat_map ports_of_type rows.items) }
+    ensures initials { IfOk result (λ made. made.0.items ≡ initials_from 0 rows.items) }
     ensures pairs { IfOk result (λ made. made.1.items ≡ pairs_from (ports_of rows.items) 0 0 rows.items) }
 {
-    let mut kinds = IndexMap::with_capacity(alloc, rows.len())?;
+    let mut initials = Vec::with_capacity(alloc, rows.len())?;
     let mut pairs = Vec::with_capacity(alloc, 2 * rows.len())?;
-    add_types(alloc, &mut kinds, &mut pairs, ports, rows, entries)?;
-    Ok((kinds, pairs))
+    add_types(alloc, &mut initials, &mut pairs, ports, rows, entries)?;
+    Ok((initials, pairs))
 }
 
 /// The universe of these types, pairs and ports.
 fn indexed(
     alloc: Global,
     version: u32,
-    kinds: IndexMap<String, PairIx>,
+    kinds: NumberedNames,
+    initials: Vec<PairIx>,
     pairs: Vec<PairRow>,
-    ports: IndexSet<String>,
+    ports: NumberedNames,
 ) -> Result<Universe, AllocError>
-    requires { IsTable (universe_of version (kinds_of kinds.entries) pairs.items (texts ports.keys)) }
-    ensures { IfOk result (λ u. u ≡ universe_of version (kinds_of kinds.entries) pairs.items (texts ports.keys)) }
+    requires { IsTable (universe_of version (kinds_of kinds initials.items) pairs.items ports) }
+    ensures { IfOk result (λ u. u ≡ universe_of version (kinds_of kinds initials.items) pairs.items ports) }
 {
-    let (providers, requirers) = index_rows(alloc, &pairs, ports.len())?;
+    let (providers, requirers) = index_rows(alloc, &pairs, ports.count())?;
     Ok(Universe {
         version,
         kinds,
+        initials,
         pairs,
         ports,
         providers,
@@ -341,20 +326,22 @@ fn indexed(
     })
 }
 
-/// The universe of rows that have no fault, with their ports.
+/// The universe of rows that have no fault, with the names of their types and with their ports.
 pub fn tables(
     alloc: Global,
     version: u32,
     rows: Vec<TypeRow>,
+    kinds: NumberedNames,
     found: Sights,
 ) -> Result<Universe, AllocError>
     requires version { IsOfVersion version rows.items }
     requires sound { first_fault rows.items ≡ None }
-    requires ports { texts found.ports.keys ≡ ports_of rows.items }
+    requires kinds { kinds ≡ names_of rows.items }
+    requires ports { found.ports ≡ ports_of rows.items }
     requires numbers { found.numbers.items ≡ map (number_within (ports_of rows.items)) (flat_map ports_of_type rows.items) }
     ensures { IfOk result (λ u. u ≡ universe_from version rows.items) }
 {
     let Sights { ports, numbers } = found;
-    let (kinds, pairs) = type_tables(alloc, rows, &ports, &numbers)?;
-    indexed(alloc, version, kinds, pairs, ports)
+    let (initials, pairs) = type_tables(alloc, rows, &ports, &numbers)?;
+    indexed(alloc, version, kinds, initials, pairs, ports)
 }

@@ -2,13 +2,12 @@ use Rattle.std.proofs.Common.{◌≡◌, ◌-◌, ◌∷◌, [], ◌++◌, get_o
 use Rattle.std.specs.List.{slice_index_or}
 use Rattle.std.proofs.lemmas.List.{map_more}
 use Rattle.metis_universe.specs.Needs.{count_in, needs_of}
-use Rattle.metis_universe.specs.Texts.{texts}
 use Rattle.metis_universe.proofs.needs.further_among.Goals as goal
 
 pub loop-r-preserved : goal.loop-r-preserved
 loop-r-preserved c =
     let needs = needs_of c.args.most.now.entries in
-    let ports = texts c.args.ports.now.keys in
+    let ports = c.args.ports.now in
     let numbers = c.args.numbers.now in
     let k = c.loop-r.r-index in
     let r = c.r-item.result in

@@ -4,4 +4,4 @@ use Rattle.metis_universe.specs.Texts.{texts}
 use Rattle.metis_universe.proofs.sights.add_names.Given as goal
 
 abbrev pub invariant-loop-name : goal.invariant-loop-name
-invariant-loop-name l = IsNumbered (texts l.initial.seen.keys) (texts l.seen.keys) l.initial.numbers.items l.numbers.items (texts (take l.name-index l.names))
+invariant-loop-name l = IsNumbered l.initial.seen l.seen l.initial.numbers.items l.numbers.items (texts (take l.name-index l.names))

@@ -1,8 +1,7 @@
 use Rattle.std.proofs.Common.{take, flat_map}
 use Rattle.metis_universe.specs.Rows.{ports_of_type}
 use Rattle.metis_universe.specs.SeenPorts.{IsNumbered}
-use Rattle.metis_universe.specs.Texts.{texts}
 use Rattle.metis_universe.proofs.sights.add_ports_of_types.Given as goal
 
 abbrev pub invariant-loop-row : goal.invariant-loop-row
-invariant-loop-row l = IsNumbered (texts l.initial.seen.keys) (texts l.seen.keys) l.initial.numbers.items l.numbers.items (flat_map ports_of_type (take l.row-index l.rows))
+invariant-loop-row l = IsNumbered l.initial.seen l.seen l.initial.numbers.items l.numbers.items (flat_map ports_of_type (take l.row-index l.rows))

@@ -1,15 +1,13 @@
-use Rattle.std.proofs.Common.{◌≡◌, [], map, flat_map, ap, ◌∙◌, subst}
+use Rattle.std.proofs.Common.{[], map, flat_map, ap, ◌∙◌, subst}
 use Rattle.metis_universe.specs.Rows.{ports_of_type}
 use Rattle.metis_universe.specs.SeenPorts.{IsNumbered, number_within}
-use Rattle.metis_universe.specs.Texts.{texts}
 use Rattle.metis_universe.proofs.sights.ports_of.Goals as goal
 
 pub returns-clause-numbers : goal.returns-clause-numbers
 returns-clause-numbers c =
     let names = flat_map ports_of_type c.args.rows.now in
-    let new = texts c.add_ports_of_types.new.seen.keys in
+    let new = c.add_ports_of_types.new.seen in
     let after = c.add_ports_of_types.new.numbers.items in
-    let none : texts c.in_ok-ports.ports.keys ≡ [] = ap texts c.in_ok-ports.ensures.empty in
     let numbered : IsNumbered [] new [] after names =
-    subst (λ numbers. IsNumbered [] new numbers after names) c.new-numbers.ensures.items (subst (λ seen. IsNumbered seen new c.new-numbers.result.items after names) none c.in_ok-add_ports_of_types.ensures) in
+    subst (λ numbers. IsNumbered [] new numbers after names) c.new-numbers.ensures.items (subst (λ seen. IsNumbered seen new c.new-numbers.result.items after names) c.in_ok-ports.ensures c.in_ok-add_ports_of_types.ensures) in
     numbered.numbers [] ∙ ap (λ ports. map (number_within ports) names) numbered.seen

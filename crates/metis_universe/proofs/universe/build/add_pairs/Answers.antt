@@ -2,7 +2,6 @@ use Rattle.std.proofs.Common.{◌≡◌, ◌+◌, length, string_bytes, ap, ◌�
 use Rattle.std.proofs.lemmas.List.{length-append, length-map}
 use Rattle.metis_universe.specs.RowShapes.{NeedRow, names_needed}
 use Rattle.metis_universe.specs.Rows.{number_of, pair_from, ports_of_state}
-use Rattle.metis_universe.specs.Texts.{texts}
 use Rattle.metis_universe.specs.Unnamed.{unnamed}
 use Rattle.metis_universe.proofs.SeenPorts.{items_next, entries_next}
 use Rattle.metis_universe.proofs.universe.build.add_pairs.Goals as goal
@@ -12,7 +11,7 @@ loop-state-preserved c =
     let x = c.state-item.result in
     let i = c.loop-state.state-index in
     let states = c.args.row.now.states in
-    let ports = texts c.args.ports.now.keys in
+    let ports = c.args.ports.now in
     let same : c.deref-state-items.result.now ≡ states = c.deref-state-items.ensures.value ∙ ap (λ r. r.states) c.row.view_is in
     let provide = ap (λ s. length s.provide) c.state.view_is in
     let require = ap (λ s. length s.require) c.state.view_is in

@@ -1,15 +1,13 @@
 use Rattle.std.proofs.Common.{◌≡◌, length, map, flat_map, take, drop}
 use Rattle.std.specs.Vec.Iter.{into_iter_items, into_iter_len}
-use Rattle.metis_universe.specs.Kinds.{kinds_of}
-use Rattle.metis_universe.specs.Texts.{texts}
-use Rattle.metis_universe.specs.Rows.{number_of, ports_of_type, kinds_from, pairs_from}
+use Rattle.metis_universe.specs.Rows.{number_of, ports_of_type, initials_from, pairs_from}
 use Rattle.metis_universe.proofs.universe.build.add_types.Given as goal
 
 abbrev pub invariant-loop-row : goal.invariant-loop-row
 invariant-loop-row l = record {
-  kinds : kinds_of l.kinds.entries ≡ kinds_from 0 (take (length (kinds_of l.kinds.entries)) l.fn.rows.items);
-  pairs : l.pairs.items ≡ pairs_from (texts l.ports.keys) 0 0 (take (length (kinds_of l.kinds.entries)) l.fn.rows.items);
-  rest : l.rest ≡ map (number_of (texts l.ports.keys)) (flat_map ports_of_type (drop (length (kinds_of l.kinds.entries)) l.fn.rows.items));
-  rows : drop (length (kinds_of l.kinds.entries)) l.fn.rows.items ≡ into_iter_items l.row-iterator;
+  initials : l.initials.items ≡ initials_from 0 (take (length l.initials.items) l.fn.rows.items);
+  pairs : l.pairs.items ≡ pairs_from l.ports 0 0 (take (length l.initials.items) l.fn.rows.items);
+  rest : l.rest ≡ map (number_of l.ports) (flat_map ports_of_type (drop (length l.initials.items) l.fn.rows.items));
+  rows : drop (length l.initials.items) l.fn.rows.items ≡ into_iter_items l.row-iterator;
   left : into_iter_len l.row-iterator ≡ length (into_iter_items l.row-iterator);
 }

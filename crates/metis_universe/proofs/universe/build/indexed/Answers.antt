@@ -1,24 +1,22 @@
-use Rattle.std.proofs.Common.{◌≤◌, ◌<◌, List, length, ◌≡◌, sym, ap, ◌∙◌, subst, string_bytes, ℕ, arith}
+use Rattle.std.proofs.Common.{◌≤◌, ◌<◌, List, length, ◌≡◌, sym, ap, ◌∙◌, subst, ℕ, arith}
 use Rattle.std.specs.List.{All}
-use Rattle.std.proofs.lemmas.List.{length-map}
 use Rattle.metis_universe.specs.Universe.{Pair, port_count, universe_of, IsIndexed}
 use Rattle.metis_universe.specs.PortRows.{port_rows}
 use Rattle.metis_universe.proofs.PortRows.{IsIndexed-port_rows, provided_within, required_within}
 use Rattle.metis_universe.specs.Kinds.{kinds_of}
-use Rattle.metis_universe.specs.Texts.{texts}
 use Rattle.metis_universe.proofs.universe.build.indexed.Goals as goal
 
 pub index_rows-requires-clause-provided : goal.index_rows-requires-clause-provided
 index_rows-requires-clause-provided c =
-    let u = universe_of c.args.version (kinds_of c.args.kinds.entries) c.args.pairs.items (texts c.args.ports.keys) in
-    let count : c.len.result ≡ port_count u = c.len.ensures.len ∙ sym (length-map c.args.ports.keys (λ t. string_bytes t)) in
+    let u = universe_of c.args.version (kinds_of c.args.kinds c.args.initials.items) c.args.pairs.items c.args.ports in
+    let count : c.count.result ≡ port_count u = c.count.ensures in
     subst (λ n. All (λ (x : Pair). All (λ r. r < n) x.provided) c.deref.result.now) (sym count)
     (subst (λ (ps : List Pair). All (λ (x : Pair). All (λ r. r < port_count u) x.provided) ps) (sym c.deref.ensures.value) (provided_within u c.requires.universe))
 
 pub index_rows-requires-clause-required : goal.index_rows-requires-clause-required
 index_rows-requires-clause-required c =
-    let u = universe_of c.args.version (kinds_of c.args.kinds.entries) c.args.pairs.items (texts c.args.ports.keys) in
-    let count : c.len.result ≡ port_count u = c.len.ensures.len ∙ sym (length-map c.args.ports.keys (λ t. string_bytes t)) in
+    let u = universe_of c.args.version (kinds_of c.args.kinds c.args.initials.items) c.args.pairs.items c.args.ports in
+    let count : c.count.result ≡ port_count u = c.count.ensures in
     subst (λ n. All (λ (x : Pair). All (λ r. r < n) x.required) c.deref.result.now) (sym count)
     (subst (λ (ps : List Pair). All (λ (x : Pair). All (λ r. r < port_count u) x.required) ps) (sym c.deref.ensures.value) (required_within u c.requires.universe))
 
@@ -30,8 +28,8 @@ index_rows-requires-clause-few c =
 
 pub invariant_of-result : goal.invariant_of-result
 invariant_of-result c =
-    let u = universe_of c.args.version (kinds_of c.args.kinds.entries) c.args.pairs.items (texts c.args.ports.keys) in
-    let count : c.len.result ≡ port_count u = c.len.ensures.len ∙ sym (length-map c.args.ports.keys (λ t. string_bytes t)) in
+    let u = universe_of c.args.version (kinds_of c.args.kinds c.args.initials.items) c.args.pairs.items c.args.ports in
+    let count : c.count.result ≡ port_count u = c.count.ensures in
     let providers = c.in_ok-providers.ensures.providers ∙ (λ j. port_rows (λ x. x.provided) (count j) (c.deref.ensures.value j)) in
     let requirers = c.in_ok-providers.ensures.requirers ∙ (λ j. port_rows (λ x. x.required) (count j) (c.deref.ensures.value j)) in
     record {

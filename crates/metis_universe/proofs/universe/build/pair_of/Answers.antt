@@ -8,7 +8,7 @@ use Rattle.metis_universe.proofs.universe.build.pair_of.Goals as goal
 
 pub returns : goal.returns
 returns c =
-    let ports = texts c.args.ports.now.keys in
+    let ports = c.args.ports.now in
     let block = c.args.block.now in
     let state = c.args.state.now in
     let count : c.len.result ≡ length state.provide = omega (arith, c.len.ensures, ap (λ (s : StateRow). length s.provide) c.state.view_is, length-map c.state.inside.provide.items (λ t. string_bytes t)) in

@@ -1,7 +1,9 @@
-use Rattle.std.proofs.Common.{map, flat_map, sym, ap, ◌∙◌, subst}
+use Rattle.std.proofs.Common.{◌≡◌, IfOk, map, flat_map, sym, ap, ◌∙◌, subst}
 use Rattle.metis_universe.specs.Universe.{universe_of, IsTable}
 use Rattle.metis_universe.proofs.FromRows.{IsTable-universe_from, ports_fit}
+use Rattle.metis_universe.proofs.RowTables.{kinds_again}
 use Rattle.metis_universe.proofs.SeenPorts.{numbers_fit}
+use Rattle.metis_universe.specs.Kinds.{kinds_of}
 use Rattle.metis_universe.specs.Rows.{number_of, ports_of_type, ports_of}
 use Rattle.metis_universe.proofs.universe.build.tables.Goals as goal
 
@@ -13,6 +15,14 @@ type_tables-requires-clause-entries c =
 
 pub indexed-requires : goal.indexed-requires
 indexed-requires c =
-    let kinds = c.in_ok-kinds.ensures.kinds in
-    let pairs = c.in_ok-kinds.ensures.pairs in
+    let rows = c.args.rows.items in
+    let kinds = (λ j. kinds_of (c.requires.kinds j) (c.in_ok-initials.ensures.initials j)) ∙ kinds_again 0 rows in
+    let pairs = c.in_ok-initials.ensures.pairs in
     subst IsTable (sym (λ j. universe_of c.args.version (kinds j) (pairs j) (c.requires.ports j))) (IsTable-universe_from c.args.version c.args.rows.items c.requires.version c.requires.sound)
+
+pub returns : goal.returns
+returns c =
+    let rows = c.args.rows.items in
+    let kinds = (λ j. kinds_of (c.requires.kinds j) (c.in_ok-initials.ensures.initials j)) ∙ kinds_again 0 rows in
+    let pairs = c.in_ok-initials.ensures.pairs in
+    subst (λ made. IfOk c.indexed.result (λ u. u ≡ made)) (λ j. universe_of c.args.version (kinds j) (pairs j) (c.requires.ports j)) c.indexed.ensures
