@@ -1,5 +1,5 @@
 -- Names, each with a number.
---     Entries, entries_of es      names with numbers, in their order;  those of a map
+--     Entries, entries_of es      names with numbers, in their order;  those that are kept as texts
 --     has_name es name, number_of es name      whether one of them has the name;  the number of that, or 1 where there is none
 use Rattle.std.specs.Prelude.{ℕ, Bool, List, map, String, string_bytes}
 use Rattle.std.specs.Map.{lookup}

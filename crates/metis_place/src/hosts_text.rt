@@ -159,7 +159,7 @@ impl Seen {
     {
         let sizes = all_sizes(alloc, u, &self.sizes)?;
         Ok(Hosts {
-            rooms: self.rooms,
+            rooms: rooms_of(alloc, self.rooms)?,
             sizes,
         })
     }
@@ -198,6 +198,13 @@ fn size_named(sizes: &IndexMap<String, u32>, name: &str) -> u32
     ensures { result ≡ number_of (entries_of sizes.now.entries) name.now }
 {
     sizes.get(name).copied().unwrap_or(1)
+}
+
+// The hosts and their rooms in order.
+fn rooms_of(alloc: Global, rooms: IndexMap<String, u32>) -> Result<Vec<(String, u32)>, AllocError>
+    ensures { IfOk result (λ listed. listed.items ≡ rooms.entries) }
+{
+    rooms.into_iter().collect(alloc)
 }
 
 // The size of each type.
