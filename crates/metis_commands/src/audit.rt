@@ -34,7 +34,6 @@ pub fn answer(
     requires few_actions { length text.now.plan.actions < 2 ^ 32 - 1 }
     ensures { IfOk result (Says (Audited u.now goals.now text.now.plan (lists_of text.now)) ⟦<Once as Lines>⟧.rest) }
 {
-    u.keeps_invariant();
     pairs_for_goals_hold_them();
     match aim_of(alloc, u, goals)? {
         Aim::Pairs(pairs, _layers) => audited(alloc, u, text, &pairs),
