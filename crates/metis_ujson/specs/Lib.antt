@@ -3,3 +3,4 @@ pub mod Document
 pub mod Reads
 pub mod Spelling
 pub mod FirstForm
+pub mod Members

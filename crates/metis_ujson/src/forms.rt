@@ -1,15 +1,15 @@
 //! The rows that a universe document spells.
 ghost use Rattle.std.specs.Prelude.{◌≡◌, ◌<◌, ◌^◌, ◌↔◌, codes, length, IsTrue, IfOk, option_and_then, option_map};
-ghost use Rattle.std.specs.String.{string_bytes};
-ghost use Rattle.metis_universe.specs.Texts.{texts};
 ghost use Rattle.serde_json.specs.Find.{get, as_array};
 ghost use Rattle.serde_json.specs.View.{view, items_view};
-ghost use Rattle.metis_ujson.specs.Document.{json_of, without_last_newline, texts_in, texts_or_none, text_at, number_at, list_at, need_in, need_object, needs_in, needs_or_none, state_in, states_from, type_in, types_from, version_in, rows_of, rows_in};
+ghost use Rattle.metis_ujson.specs.Members.{object_of};
+ghost use Rattle.metis_ujson.specs.Document.{without_last_newline, text_at, number_at, list_at, need_in, need_object, needs_in, needs_or_none, state_in, states_from, type_in, types_from, version_in, rows_of, rows_in};
 ghost use Rattle.metis_ujson.specs.Reads.{Reads, ReadsJson};
 
 use crate::faults::UFault;
+use crate::members::{array_in, take, take_items, take_text, take_texts};
 use metis_universe::{NeedRow, StateRow, TypeRow};
-use serde_json::{Category, Value};
+use serde_json::{Category, Map, Value};
 use std::alloc::{AllocError, Global};
 use std::marker::Model;
 
@@ -96,25 +96,6 @@ fn take_list(value: &mut Value, key: &str) -> Option<Vec<Value>>
     }
 }
 
-fn array_in(value: Value) -> Option<Vec<Value>>
-    ensures { option_map (λ list. items_view list.items) result ≡ as_array (view value) }
-{
-    match value {
-        Value::Array(items) => Some(items),
-        _ => None,
-    }
-}
-
-// A copy of the text at the key.
-fn read_text_at(alloc: Global, value: &Value, key: &str) -> Result<Option<String>, AllocError>
-    ensures { IfOk result (λ text. option_map (λ t. string_bytes t) text ≡ text_at key.now (view value.now)) }
-{
-    match text_at(value, key) {
-        Some(text) => Ok(Some(String::from_str(alloc, text)?)),
-        None => Ok(None),
-    }
-}
-
 fn read_types(alloc: Global, root: &mut Value) -> Result<Spelled, UFault>
     ensures { Reads (λ s. s) result (rows_of (view root.old)) }
 {
@@ -138,7 +119,7 @@ fn read_type_list(alloc: Global, version: u32, types: Vec<Value>) -> Result<Vec<
     if !can_count(&types) {
         return Err(UFault::NoMemory);
     }
-    let mut rows = Vec::new(alloc);
+    let mut rows = Vec::with_capacity(alloc, types.len())?;
     for value in types {
         let place = rows.len() as u32;
         let row = read_type(alloc, version, place, value)?;
@@ -147,13 +128,27 @@ fn read_type_list(alloc: Global, version: u32, types: Vec<Value>) -> Result<Vec<
     Ok(rows)
 }
 
-fn read_type(alloc: Global, version: u32, place: u32, mut value: Value) -> Result<TypeRow, UFault>
+fn read_type(alloc: Global, version: u32, place: u32, value: Value) -> Result<TypeRow, UFault>
     ensures { Reads (λ row. row) result (type_in version place (view value)) }
 {
+    match value {
+        Value::Object(members) => read_type_members(alloc, version, place, members),
+        _ => Err(UFault::TypeForm(place)),
+    }
+}
+
+fn read_type_members(
+    alloc: Global,
+    version: u32,
+    place: u32,
+    mut members: Map<String, Value>,
+) -> Result<TypeRow, UFault>
+    ensures { Reads (λ row. row) result (type_in version place (object_of members)) }
+{
     let (Some(name), Some(initial), Some(states)) = (
-        read_text_at(alloc, &value, "name")?,
-        read_text_at(alloc, &value, "initial")?,
-        take_list(&mut value, "states"),
+        take_text(&mut members, "name"),
+        take_text(&mut members, "initial"),
+        take_items(&mut members, "states"),
     ) else {
         return Err(UFault::TypeForm(place));
     };
@@ -175,7 +170,7 @@ fn read_state_list(
     if !can_count(&states) {
         return Err(UFault::NoMemory);
     }
-    let mut rows = Vec::new(alloc);
+    let mut rows = Vec::with_capacity(alloc, states.len())?;
     for value in states {
         let place = rows.len() as u32;
         match read_state(alloc, version, value)? {
@@ -186,14 +181,27 @@ fn read_state_list(
     Ok(rows)
 }
 
-fn read_state(alloc: Global, version: u32, mut value: Value) -> Result<Option<StateRow>, AllocError>
+fn read_state(alloc: Global, version: u32, value: Value) -> Result<Option<StateRow>, AllocError>
     ensures { IfOk result (λ row. row ≡ state_in version (view value)) }
 {
+    match value {
+        Value::Object(members) => read_state_members(alloc, version, members),
+        _ => Ok(None),
+    }
+}
+
+fn read_state_members(
+    alloc: Global,
+    version: u32,
+    mut members: Map<String, Value>,
+) -> Result<Option<StateRow>, AllocError>
+    ensures { IfOk result (λ row. row ≡ state_in version (object_of members)) }
+{
     let (Some(name), Some(provide), Some(next), Some(require)) = (
-        read_text_at(alloc, &value, "name")?,
-        read_texts_at(alloc, &value, "provide")?,
-        read_texts_at(alloc, &value, "next")?,
-        take_needs(alloc, version, &mut value)?,
+        take_text(&mut members, "name"),
+        take_texts(alloc, &mut members, "provide")?,
+        take_texts(alloc, &mut members, "next")?,
+        take_needs(alloc, version, &mut members)?,
     ) else {
         return Ok(None);
     };
@@ -205,42 +213,16 @@ fn read_state(alloc: Global, version: u32, mut value: Value) -> Result<Option<St
     }))
 }
 
-// The texts of the list at the key, none where there is no such key.
-fn read_texts_at(alloc: Global, value: &Value, key: &str) -> Result<Option<Vec<String>>, AllocError>
-    ensures { IfOk result (λ list. option_map (λ v. texts v.items) list ≡ texts_or_none (get key.now (view value.now))) }
-{
-    match value.get(key) {
-        Some(list) => match list.as_array() {
-            Some(items) => read_texts(alloc, items),
-            None => Ok(None),
-        },
-        None => Ok(Some(Vec::new(alloc))),
-    }
-}
-
-fn read_texts(alloc: Global, items: &[Value]) -> Result<Option<Vec<String>>, AllocError>
-    ensures { IfOk result (λ list. option_map (λ v. texts v.items) list ≡ texts_in (items_view items.now)) }
-{
-    let mut list = Vec::with_capacity(alloc, items.len())?;
-    for item in items {
-        match item.as_str() {
-            Some(text) => list.push(String::from_str(alloc, text)?)?,
-            None => return Ok(None),
-        }
-    }
-    Ok(Some(list))
-}
-
 // Takes the entries of the list `require` out of the state, none where there is no such key.
 fn take_needs(
     alloc: Global,
     version: u32,
-    value: &mut Value,
+    members: &mut Map<String, Value>,
 ) -> Result<Option<Vec<NeedRow>>, AllocError>
-    ensures { IfOk result (λ list. option_map (λ v. v.items) list ≡ needs_or_none version (get (codes "require") (view value.old))) }
+    ensures { IfOk result (λ list. option_map (λ v. v.items) list ≡ needs_or_none version (get (codes "require") (object_of members.old))) }
 {
-    match value.get_mut("require") {
-        Some(list) => read_needs_in(alloc, version, list.take()),
+    match take(members, "require") {
+        Some(list) => read_needs_in(alloc, version, list),
         None => Ok(Some(Vec::new(alloc))),
     }
 }

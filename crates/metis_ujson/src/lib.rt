@@ -4,6 +4,7 @@
 mod faults;
 mod forms;
 mod laws;
+mod members;
 mod read;
 mod spelling;
 mod write;
