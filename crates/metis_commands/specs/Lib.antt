@@ -8,5 +8,6 @@ pub mod Print
 pub mod Refute
 pub mod Replay
 pub mod Sim
+pub mod Waits
 pub mod Waves
 pub mod Why

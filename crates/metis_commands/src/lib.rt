@@ -12,6 +12,7 @@ pub mod print;
 pub mod refute;
 pub mod replay;
 pub mod sim;
+pub mod waits;
 pub mod waves;
 pub mod why;
 

@@ -12,4 +12,5 @@ mod supply;
 
 pub use bindings::Bindings;
 pub use config::Config;
+pub use ends::first_to;
 pub use lists::{Instances, Ties};

@@ -26,7 +26,6 @@ tables_are_a_table n most = record {
   universe = tables_universe n;
   named = tables_named n (omega arith);
   limits = tables_limits n most;
-  sights = tables_by_sight n;
 }
 
 -- ---- the rows of a place
@@ -139,13 +138,13 @@ rows_same n =
 pub rows_without_fault : (n : ℕ) → n ≤ 250 → first_fault (generated_rows n) ≡ None
 rows_without_fault n most =
     let t = tables_are_a_table n most in
-    ap first_fault (rows_same n) ∙ no_fault (tables n) t.universe t.named t.limits t.sights
+    ap first_fault (rows_same n) ∙ no_fault (tables n) t.universe t.named t.limits (tables_by_sight n)
 
 pub generated_tables : (n : ℕ) → n ≤ 250 → generated n ≡ tables n
 unfolding generated tables
 generated_tables n most =
     let t = tables_are_a_table n most in
-    ap (universe_from 1) (rows_same n) ∙ rebuilt (tables n) t.universe t.named t.sights
+    ap (universe_from 1) (rows_same n) ∙ rebuilt (tables n) t.universe t.named (tables_by_sight n)
 
 pub rows_mean : (n : ℕ) → n ≤ 250 → meaning_of 1 (generated_rows n) ≡ Ok (generated n)
 unfolding generated tables

@@ -2,6 +2,7 @@
 use Rattle.std.proofs.Common.{ℕ, List, Result, Ok, Err, refl}
 use Rattle.std.specs.declared.option.Option.{Option}
 use Rattle.metis_ids.specs.declared.goals.Goal.{Goal}
+use Rattle.metis_outside.specs.Openings.{Openings}
 use Rattle.metis_text.specs.Reading.{Parts}
 use Rattle.metis_universe.specs.Universe.{Universe}
 use Rattle.metis_words.specs.Form.{Form}
@@ -18,7 +19,7 @@ use Rattle.metis_inputs.specs.declared.stop.Stop.{Stop}
 use Rattle.metis_inputs.specs.declared.texts.Text.{Ghosts}
 use Rattle.metis_inputs.proofs.Composed.{gathers_no_text, gathers_stopped, gathers_text}
 
-module _ {S T : Type 0} (g : Ghosts T) (files : S → Option (List ℕ → List ℕ)) (faults opens : S → ℕ) (form : Form) (shelf mid shelf' : S) where
+module _ {S T : Type 0} (g : Ghosts T) (files : S → Option (List ℕ → List ℕ)) (faults : S → ℕ) (opens : S → Openings) (form : Form) (shelf mid shelf' : S) where
   abbrev Text : ℕ → Universe → ℕ → Result T Stop → Type 0
   Text place u k read = Gathers files faults opens g.said (text_then g.kind place u (word_at form.files k)) mid shelf' read
 
@@ -80,7 +81,7 @@ module _ {S T : Type 0} (g : Ghosts T) (files : S → Option (List ℕ → List 
       (λ (x : Universe × (Parts × Unit {0})). text_then g.kind 4 x.0 (word_at form.files 2)) with_plan shelf mid shelf' y halt first text
 
 -- a run that has no plan has no text behind it
-pub no_plan : {S T Y : Type 0} (g : Ghosts T) (files : S → Option (List ℕ → List ℕ)) (faults opens : S → ℕ) (form : Form) (shelf shelf' : S)
+pub no_plan : {S T Y : Type 0} (g : Ghosts T) (files : S → Option (List ℕ → List ℕ)) (faults : S → ℕ) (opens : S → Openings) (form : Form) (shelf shelf' : S)
     (view : Y → Inputs (universe_and PlanText)) (halt : Stop) → Gathers files faults opens view (inputs_then (universe_and PlanText) form) shelf shelf' (Err halt)
     → Gathers files faults opens (plan_and_said {g = g}) (inputs_then (plan_and g.kind) form) shelf shelf' (Err halt)
 no_plan g files faults opens form shelf shelf' view halt first =

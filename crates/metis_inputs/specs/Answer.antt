@@ -11,7 +11,8 @@ use Rattle.metis_why.specs.declared.reason.Line.{Line}
 -- the targets were asked for; or what a set of pairs comes to as a refusal of these targets; or what a plan with these numbers behind its
 -- actions comes to as one for these targets whose dups are forced; or what a session over the universe
 -- replies to the lines of this script; or what a crew over these actions answers to the turns of these instances, where the actions
--- are a steadfast run; or when each of these actions may start, by durations of these numbers, where they are a steadfast run;
+-- are a steadfast run; or when each of these actions may start, by durations of these numbers, where they are a steadfast run; or
+-- this plan with the waits that its actions need, where they are a steadfast run;
 -- or what a controller and its agents over these actions answer to the lines of this script, where they are a steadfast run; or
 -- the rollout from these actions to these targets, where they are a steadfast run, or a refusal of the targets; or on which of these
 -- hosts each instance that these actions make is, where they are a steadfast run; or the universe's own document; or the counts of
@@ -25,6 +26,7 @@ pub data Answer : Type 0 where
   Sim : (u : Universe) (script : List ℕ) → Answer
   Crew : (u : Universe) (actions : List Action) (zs : List ℕ) → Answer
   Waves : (u : Universe) (actions : List Action) (numbers : List ℕ) → Answer
+  Waits : (u : Universe) (plan : plans.Plan) → Answer
   Control : (u : Universe) (actions : List Action) (script : List ℕ) → Answer
   Rollout : (u : Universe) (goals : List Goal) (actions : List Action) → Answer
   Place : (u : Universe) (actions : List Action) (h : HostLists) → Answer

@@ -24,7 +24,7 @@ use Rattle.metis_words.specs.Forms.{Reading, NoFile, OfUniverse, OfGoals, TextKi
 use Rattle.metis_words.specs.TargetName.{TargetName}
 use Rattle.metis_words.specs.Words.{word_at, form_of}
 use Rattle.metis_words.specs.declared.words.Verb.{Verb}
-use Rattle.metis_words.specs.declared.words.Verb.TheVariants.{Plan, Replay, Refute, Audit, Sim, Crew, Waves, Control, Rollout, Place, Print, Load, Why, Confirm}
+use Rattle.metis_words.specs.declared.words.Verb.TheVariants.{Plan, Replay, Refute, Audit, Sim, Crew, Waves, Waits, Control, Rollout, Place, Print, Load, Why, Confirm}
 use Rattle.metis_inputs.specs.Answer as answer
 use Rattle.metis_inputs.specs.Script.{Script, Read, Fault, Reply}
 use Rattle.metis_inputs.specs.Turns.{turns_in}
@@ -163,6 +163,7 @@ answer_of Audit inputs size numbers = answer.Audit inputs.0.0 inputs.0.1 (plan_s
 answer_of Sim inputs size numbers = answer.Sim inputs.0 inputs.1.0
 answer_of Crew inputs size numbers = answer.Crew inputs.0 inputs.1.0.rows.actions inputs.1.1.0
 answer_of Waves inputs size numbers = answer.Waves inputs.0 inputs.1.0.rows.actions numbers
+answer_of Waits inputs size numbers = answer.Waits inputs.0 (plan_said inputs.1.0)
 answer_of Control inputs size numbers = answer.Control inputs.0 inputs.1.0.rows.actions inputs.1.1.0
 answer_of Rollout inputs size numbers = answer.Rollout inputs.0.0 inputs.0.1 inputs.1.0.rows.actions
 answer_of Place inputs size numbers = answer.Place inputs.0 inputs.1.0.rows.actions inputs.1.1.0

@@ -1,7 +1,8 @@
 -- What a part of a run reads, and what it comes to.
-use Rattle.std.specs.Prelude.{◌≡◌, ◌⊎◌, ℕ, zero, suc, ◌+◌, ◌-◌, ◌^◌, min, List, [], ◌∷◌, length, Result, Ok, Err}
+use Rattle.std.specs.Prelude.{◌≡◌, ◌⊎◌, ℕ, Bool, true, false, List, [], ◌∷◌, Some, None, Result, Ok, Err}
 use Rattle.std.specs.declared.option.Option.{Option}
 use Rattle.metis_outside.specs.Faults.{Rose}
+use Rattle.metis_outside.specs.Openings.{Openings, grown}
 use Rattle.metis_outside.specs.Whole.{IsTaken}
 use Rattle.metis_outside.specs.declared.whole.ReadAnswer.{ReadAnswer}
 use Rattle.metis_outside.specs.declared.whole.ReadAnswer.TheVariants as answer
@@ -23,10 +24,19 @@ AreTaken files (bytes ∷ taken) (Read place name limit next) = IsTaken files na
 AreTaken files (bytes ∷ taken) (Fault why) = ⊥
 AreTaken files (bytes ∷ taken) (Reply answer) = ⊥
 
--- so many more openings, up to the greatest `u64`
-abbrev pub opened : ℕ → ℕ → ℕ
-opened before zero = before
-opened before (suc count) = min (opened before count + 1) (2 ^ 64 - 1)
+-- the name of the file that the script is to read, where it was opened, with whether that or a taking failed
+abbrev pub next_named : Option Bool → Script → List (List ℕ × Bool)
+next_named None script = []
+next_named (Some failed) (Read place name limit next) = (name, failed) ∷ []
+next_named (Some failed) (Fault why) = []
+next_named (Some failed) (Reply answer) = []
+
+-- the names of the script's first files, of which these bytes were taken, and behind them that of the next one, where it was opened
+abbrev pub named : Option Bool → List (List ℕ) → Script → List (List ℕ × Bool)
+named more [] script = next_named more script
+named more (bytes ∷ taken) (Read place name limit next) = (name, false) ∷ named more taken (next bytes)
+named more (bytes ∷ taken) (Fault why) = []
+named more (bytes ∷ taken) (Reply answer) = []
 
 -- the script is to read the file of the word at this place
 abbrev pub IsReadAt : ℕ → Script → Type 0
@@ -39,20 +49,24 @@ IsRead (Read place name limit next) = Unit {0}
 IsRead (Fault why) = ⊥
 IsRead (Reply answer) = ⊥
 
+-- what a part of a run opened: the files of which these bytes were taken, and perhaps the next one
+abbrev pub Opened : {X : Type 0} → ((X → Script) → Script) → List (List ℕ) → Openings → Openings → Option Bool → Type 0
+Opened {X} part taken opens opens' more = (next : X → Script) → opens' ≡ grown opens (named more taken (part next))
+
 -- Where a part of a run came to that reads some files: it has what they mean, or it stops the run.
-abbrev pub Came : {X Y : Type 0} → (Y → X) → ((X → Script) → Script) → List (List ℕ) → ℕ → ℕ → ℕ → ℕ → Result Y Stop → Type 0
+abbrev pub Came : {X Y : Type 0} → (Y → X) → ((X → Script) → Script) → List (List ℕ) → ℕ → ℕ → Openings → Openings → Result Y Stop → Type 0
 Came {X} view part taken faults faults' opens opens' (Ok y) =
-    ((next : X → Script) → after taken (part next) ≡ next (view y)) × (faults' ≡ faults) × (opens' ≡ opened opens (length taken))
+    ((next : X → Script) → after taken (part next) ≡ next (view y)) × (faults' ≡ faults) × Opened part taken opens opens' None
 Came {X} view part taken faults faults' opens opens' (Err (stop.Faulty why)) =
-    ((next : X → Script) → after taken (part next) ≡ Fault why) × (faults' ≡ faults) × (opens' ≡ opened opens (length taken))
+    ((next : X → Script) → after taken (part next) ≡ Fault why) × (faults' ≡ faults) × Opened part taken opens opens' None
 Came {X} view part taken faults faults' opens opens' (Err (stop.Failed place)) =
-    ((next : X → Script) → IsReadAt place (after taken (part next))) × Rose faults faults' × (opens' ≡ opened opens (suc (length taken)))
+    ((next : X → Script) → IsReadAt place (after taken (part next))) × Rose faults faults' × Opened part taken opens opens' (Some true)
 Came {X} view part taken faults faults' opens opens' (Err stop.NoMemory) =
     (faults' ≡ faults)
-    × ((opens' ≡ opened opens (length taken)) ⊎ (((next : X → Script) → IsRead (after taken (part next))) × (opens' ≡ opened opens (suc (length taken)))))
+    × (Opened part taken opens opens' None ⊎ (((next : X → Script) → IsRead (after taken (part next))) × Opened part taken opens opens' (Some false)))
 
 -- A part of a run: from what its files mean, seen by view, the rest of the script goes on.
-pub record Gathers {S X Y : Type 0} (files_of : S → Option (List ℕ → List ℕ)) (shelf_faults opens : S → ℕ)
+pub record Gathers {S X Y : Type 0} (files_of : S → Option (List ℕ → List ℕ)) (shelf_faults : S → ℕ) (opens : S → Openings)
     (view : Y → X) (part : (X → Script) → Script) (shelf shelf' : S) (result : Result Y Stop) : Type 0 where
   pub taken : List (List ℕ)
   pub asked : (next : X → Script) → AreTaken (files_of shelf) taken (part next)

@@ -1,14 +1,14 @@
 -- What is promised of an answer is shown where it is put.
 use Rattle.std.proofs.Common.{ℕ, List, Result, Ok, Err, sym, subst}
 use Rattle.std.specs.Prelude.{IfOk}
-use Rattle.std.specs.declared.option.Option.{Option}
+use Rattle.metis_outside.specs.Writes.{Written}
 use Rattle.metis_output.specs.Shown.{Shown}
 use Rattle.metis_output.specs.declared.status.Status.{Status}
 use Rattle.metis_output.proofs.Shown.{shown_weaker}
 use Rattle.metis_output.specs.Answers.{Gives, Says, status_for}
 use Rattle.metis_output.specs.declared.answer.Answer.{Answer}
 
-pub given : {L E : Type 0} (P : List (List ℕ) → Status → Type 0) (rest : L → List (List ℕ)) (answer : Result (Answer L) E) (old new : Option (List (List ℕ))) (before now : ℕ) (status : Status)
+pub given : {L E : Type 0} (P : List (List ℕ) → Status → Type 0) (rest : L → List (List ℕ)) (answer : Result (Answer L) E) (old new : Written) (before now : ℕ) (status : Status)
     → IfOk answer (Says P rest) → Shown (Gives {E = E} rest answer) old new before now status → Shown P old new before now status
 given {E = E} P rest (Ok a) old new before now status says shown =
     shown_weaker (Gives {E = E} rest (Ok a)) P old new before now status (λ lines told gives. subst (P lines) (sym gives.1) (subst (λ ls. P ls (status_for a.good)) (sym gives.0) says)) shown

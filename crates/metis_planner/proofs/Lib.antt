@@ -3,6 +3,7 @@ pub mod Forced
 pub mod Lists
 pub mod Named
 pub mod NoTargets
+pub mod Once
 pub mod Planning
 pub mod Rounded
 pub mod UnderWay

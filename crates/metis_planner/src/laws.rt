@@ -2,9 +2,11 @@
 ghost use Rattle.std.specs.Prelude.{◌≡◌, ℕ, List, []};
 ghost use Rattle.metis_ids.specs.Cycle.{HasCycle};
 ghost use Rattle.metis_ids.specs.Plans.{Plan};
+ghost use Rattle.metis_universe.specs.Config.{AreDifferent};
 ghost use Rattle.metis_universe.specs.Goal.{Attains};
 ghost use Rattle.metis_universe.specs.Universe.{IsTable, Universe};
 ghost use Rattle.metis_lines.specs.Justified.{graph_for};
+ghost use Rattle.metis_emit.specs.Realized.{entered};
 ghost use Rattle.metis_planner.specs.Rounds.{IsByRounds, numbered};
 
 /// Rounds come to one plan alone, so it is a function of the universe and the targets.
@@ -25,4 +27,9 @@ pub fn nothing_is_doubled_without_a_cycle()
 /// For no targets rounds come to the plan that does nothing.
 pub fn nothing_is_done_for_no_targets()
     ensures { (u : Universe) (p : Plan) → IsByRounds u [] p → (p.actions ≡ []) × (p.dups ≡ []) × (p.instances ≡ 0) }
+{}
+
+/// No instance of a plan comes to a pair twice.
+pub fn planned_instances_come_to_each_pair_once()
+    ensures { (u : Universe) (g : List ℕ) (p : Plan) → IsTable u → Attains u g → IsByRounds u g p → (l : ℕ) → AreDifferent (entered u l p.actions) }
 {}

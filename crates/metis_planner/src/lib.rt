@@ -8,7 +8,8 @@ mod planner;
 
 pub use laws::{
     attained_targets_have_a_plan_by_rounds, nothing_is_done_for_no_targets,
-    nothing_is_doubled_without_a_cycle, rounds_come_to_one_plan,
+    nothing_is_doubled_without_a_cycle, planned_instances_come_to_each_pair_once,
+    rounds_come_to_one_plan,
 };
 pub use outcome::Outcome;
 pub use planner::{plan, plan_over};

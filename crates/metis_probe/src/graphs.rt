@@ -66,6 +66,7 @@ fn edge_of(word: &str) -> Result<(u32, u32), Stop> {
     Ok((number_of(from)?, number_of(to)?))
 }
 
-fn number_of(word: &str) -> Result<u32, Stop> {
+/// The number that the word says.
+pub fn number_of(word: &str) -> Result<u32, Stop> {
     word.parse().ok().ok_or(Stop::NoProbe)
 }

@@ -6,6 +6,7 @@ use crate::rounds::{write_counts, write_rounds};
 use crate::stop::Stop;
 use crate::tables::write_tables;
 use crate::waits::write_waits;
+use crate::writers::{Writer, write_call, writer_of};
 use metis_ujson::read_universe;
 use metis_universe::Universe;
 use std::fs;
@@ -65,6 +66,7 @@ enum Kind {
     ReasonCount,
     Rounds,
     Counts,
+    Call(Writer),
 }
 
 fn kind_of(verb: &str) -> Option<Kind> {
@@ -77,7 +79,7 @@ fn kind_of(verb: &str) -> Option<Kind> {
         "count-why" => Some(Kind::ReasonCount),
         "rounds" => Some(Kind::Rounds),
         "graph" => Some(Kind::Counts),
-        _ => None,
+        _ => writer_of(verb).map(Kind::Call),
     }
 }
 
@@ -98,6 +100,7 @@ fn write_kind<R: Files + AllocGlobal>(
         Kind::ReasonCount => write_reason_count(alloc, text, u, first_of(rest)?),
         Kind::Rounds => write_rounds(alloc, text, u, rest),
         Kind::Counts => write_counts(alloc, text, u, rest),
+        Kind::Call(writer) => write_call(rt, text, u, writer, rest),
     }
 }
 

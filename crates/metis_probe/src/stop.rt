@@ -11,8 +11,10 @@ pub enum Stop {
     NoProbe,
     /// Its document is no universe.
     NoUniverse,
-    /// Its text is no plan of the universe.
+    /// Its text is no plan of the universe, or not the kind of one that the call is for.
     NoPlan,
+    /// Its text is no other text that the call is for.
+    NoText,
     NoMemory,
 }
 

@@ -1,178 +1,119 @@
--- What stands while a rollout is carried out in an order that keeps its waits.
-use Rattle.std.proofs.Common.{◌≡◌, ℕ, zero, suc, ◌+◌, ◌<◌, ◌≤◌, Bool, true, false, cond, not, ◌⊎◌, List, [], ◌∷◌, ◌++◌, Option, Some, None, refl, sym, ap, ◌∙◌, subst, arith, nat_eq, nat_lt, ◌||◌, length, inl, inr, length-append, append_assoc}
-use Rattle.std.specs.Prelude.{slice_get}
-use Rattle.std.specs.List.{cons_option, filter, list_any}
-use Rattle.std.proofs.lemmas.Bool.{cases_lt, eq-eqb, eqb-true, false≢true, false_from_ne_true, le-leb, ltb-false, ltb-true, or_cases, or_left, or_right}
-use Rattle.std.proofs.lemmas.List.{length-map}
+-- What stands while new actions and a removal are carried out in an order that keeps their waits.
+use Rattle.std.proofs.Common.{◌≡◌, ℕ, ◌+◌, ◌≤◌, Bool, true, false, cond, not, ◌&&◌, ◌⊎◌, List, [], ◌∷◌, ◌++◌, Some, None, refl, sym, ap, ◌∙◌, subst, arith, nat_eq, nat_lt, ◌||◌, length, inl, inr, length-append, append_assoc, append-nil}
+use Rattle.std.specs.Prelude.{IsSome}
+use Rattle.std.specs.List.{AllByRecursion, filter, list_any}
+use Rattle.std.proofs.lemmas.Bool.{and_parts, both_ways, cases_lt, eq-eqb, eqb-true, false≢true, false_from_ne_true, le-leb, ltb-false, ltb-true, not-true, or_cases, or_left, or_right}
+use Rattle.std.proofs.lemmas.List.Elements.{recursion_from_All}
 use Rattle.std.proofs.lemmas.List.Folds.{list_any-append}
-use Rattle.metis_ids.specs.Action.{actor_of}
 use Rattle.metis_ids.specs.declared.actions.Action.{Action}
+use Rattle.metis_ids.proofs.Lists.{has_range, in_range}
+use Rattle.metis_ids.proofs.Options.{IsSome_at}
 use Rattle.metis_universe.specs.Universe.{Universe, IsUniverse, has}
-use Rattle.metis_universe.specs.Config.{is_bound, pair_of}
+use Rattle.metis_universe.specs.Config.{Config, IsConfig, empty, is_bound, pair_of}
 use Rattle.metis_universe.specs.Goal.{Holds}
 use Rattle.metis_universe.specs.Steadfast.{IsSteadfastRun}
-use Rattle.metis_universe.specs.Waits.{IsKept, IsKeptFrom, action_at, picked}
-use Rattle.metis_layers.proofs.Going.{GoesOn, at}
-use Rattle.metis_waits.proofs.KeptRuns.{complete_end}
-use Rattle.metis_rollout.specs.Guarded.{HasEach, IsGuarded, StandsIn, border}
-use Rattle.metis_rollout.specs.Rollout.{fresh_name, removal, renumber, renumbered, rollout, scaffold_name}
+use Rattle.metis_universe.specs.Step.{after_all}
+use Rattle.metis_universe.specs.Waits.{IsKept, IsKeptFrom, is_complete, picked}
+use Rattle.metis_layers.proofs.Going.{GoesOn, after_all-append, at}
+use Rattle.metis_waits.proofs.GoesOn as on
+use Rattle.metis_rollout.specs.Guarded.{HasEach, IsBeside, IsGuardedAt, KeepsStanding, Spares, StandsIn}
+use Rattle.metis_rollout.specs.Removal.{AreFree, CanTake, IsWithout, MayGo, Removing, taking}
+use Rattle.metis_rollout.specs.Rollout.{ends_first, removal}
 use Rattle.metis_rollout.specs.Standing.{is_made}
-use Rattle.metis_rollout.proofs.Fronts.{complete_low, is_low, kept_low, not_low, picked_low}
-use Rattle.metis_rollout.proofs.Going.{going_from_steady}
-use Rattle.metis_rollout.proofs.Holding.{renumbered_holds, standing_holds}
-use Rattle.metis_rollout.proofs.Removal.{left_config, stood}
-use Rattle.metis_rollout.proofs.Sides.{AllKeep, AreOpposite, Keeps, bound_on, on, pair_on}
-use Rattle.metis_rollout.proofs.Together.{fresh_goes, fresh_unused, split2, together, touches_made, touches_own}
-use Rattle.metis_rollout.proofs.Touching.{AllKeep-append, AllTouch, At, actor_at, bound_touched, off, other_side_kept, pair_touched, same_kept}
-use Rattle.metis_rollout.proofs.Whole.{removes}
-use Rattle.metis_ids.proofs.Options.{IsSome_at}
-
--- ---- a side whose actions are all among the first
-
-module _ (S T : ℕ → Bool) (o : AreOpposite S T) (P Q : List Action) (kept : AllKeep S (P ++ Q)) (away : AllTouch (At T) Q) where
-  keeps_at : (xs : List Action) (i : ℕ) (a : Action) → AllKeep S xs → slice_get xs i ≡ Some a → Keeps S a
-  keeps_at [] i a all there = absurd (none≢some a there) where
-    none≢some : (a : Action) → None ≡ Some a → ⊥
-    none≢some a h = cc
-  keeps_at (x ∷ xs) zero a all there = subst (Keeps S) (same x a there) all.0 where
-    same : (x a : Action) → Some x ≡ Some a → x ≡ a
-    same x a h = cc
-  keeps_at (x ∷ xs) (suc i) a all there = keeps_at xs i a all.1 there
-
-  keeps_action : (k : ℕ) (a : Action) → action_at (P ++ Q) k ≡ Some a → Keeps S a
-  keeps_action zero a there = absurd (none≢some a there) where
-    none≢some : (a : Action) → None ≡ Some a → ⊥
-    none≢some a h = cc
-  keeps_action (suc i) a there = keeps_at (P ++ Q) i a kept there
-
-  pub all_keep : (ks : List ℕ) → AllKeep S (picked (P ++ Q) ks)
-  all_keep [] = tt
-  all_keep (k ∷ ks) = by (action_at (P ++ Q) k) (keeps_action k) (all_keep ks) where
-    by : (found : Option Action) → ((a : Action) → found ≡ Some a → Keeps S a) → AllKeep S (picked (P ++ Q) ks) → AllKeep S (cons_option found (picked (P ++ Q) ks))
-    by None keeps rest = rest
-    by (Some a) keeps rest = (keeps a refl, rest)
-
-  away_at : (xs ys : List Action) (i : ℕ) (a : Action) → AllTouch (At T) ys → length xs ≤ i → slice_get (xs ++ ys) i ≡ Some a → S (actor_of a) ≡ false
-  away_at (x ∷ xs) ys zero a all high there = absurd (omega arith)
-  away_at (x ∷ xs) ys (suc i) a all high there = away_at xs ys i a all (omega arith) there
-  away_at [] [] i a all high there = absurd (none≢some a there) where
-    none≢some : (a : Action) → None ≡ Some a → ⊥
-    none≢some a h = cc
-  away_at [] (y ∷ ys) zero a all high there = off S T o (actor_of a) (subst (λ b. T (actor_of b) ≡ true) (same y a there) (actor_at S T o y (At T) all.0)) where
-    same : (y a : Action) → Some y ≡ Some a → y ≡ a
-    same y a h = cc
-  away_at [] (y ∷ ys) (suc i) a all high there = away_at [] ys i a all.1 (omega arith) there
-
-  away_action : (k : ℕ) (a : Action) → length P < k → action_at (P ++ Q) k ≡ Some a → S (actor_of a) ≡ false
-  away_action zero a high there = absurd (omega arith)
-  away_action (suc i) a high there = away_at P Q i a away (omega arith) there
-
-  -- what an order does of the side, its first actions do
-  on_low : (ks : List ℕ) → on S (picked (P ++ Q) ks) ≡ on S (picked (P ++ Q) (filter (is_low (length P)) ks))
-  on_low [] = refl
-  on_low (k ∷ ks) = elim (cases_lt (length P) k) [
-    | inr below ↦
-        let is : is_low (length P) k ≡ true = le-leb k (length P) below in
-        one_more (action_at (P ++ Q) k) (on_low ks) ∙ ap (λ b. on S (picked (P ++ Q) (cond b (k ∷ filter (is_low (length P)) ks) (filter (is_low (length P)) ks)))) (sym is)
-    | inl above ↦
-        let is : is_low (length P) k ≡ false = not_low P Q k above in
-        none_more (action_at (P ++ Q) k) (λ a. away_action k a above) (on_low ks) ∙ ap (λ b. on S (picked (P ++ Q) (cond b (k ∷ filter (is_low (length P)) ks) (filter (is_low (length P)) ks)))) (sym is)
-  ] where
-    one_more : (found : Option Action) → on S (picked (P ++ Q) ks) ≡ on S (picked (P ++ Q) (filter (is_low (length P)) ks)) → on S (cons_option found (picked (P ++ Q) ks)) ≡ on S (cons_option found (picked (P ++ Q) (filter (is_low (length P)) ks)))
-    one_more None rest = rest
-    one_more (Some a) rest = ap (λ l. cond (S (actor_of a)) (a ∷ l) l) rest
-
-    none_more : (found : Option Action) → ((a : Action) → found ≡ Some a → S (actor_of a) ≡ false) → on S (picked (P ++ Q) ks) ≡ on S (picked (P ++ Q) (filter (is_low (length P)) ks)) → on S (cons_option found (picked (P ++ Q) ks)) ≡ on S (picked (P ++ Q) (filter (is_low (length P)) ks))
-    none_more None out rest = rest
-    none_more (Some a) out rest = ap (λ b. cond b (a ∷ on S (picked (P ++ Q) ks)) (on S (picked (P ++ Q) ks))) (out a refl) ∙ rest
-
-  module _ (u : Universe) (s : IsSteadfastRun u P) (ks : List ℕ) (in_time : IsKept (P ++ Q) ks) (each : HasEach 0 (length P) ks) where
-    ends : at u (picked (P ++ Q) (filter (is_low (length P)) ks)) ≡ at u P
-    ends = ap (at u) (picked_low P Q ks) ∙ complete_end u P s.run s.steadfast (filter (is_low (length P)) ks) (kept_low P Q [] ks in_time) (complete_low P Q ks each)
-
-    pub pair_stands : (z : ℕ) → S z ≡ true → pair_of (at u (picked (P ++ Q) ks)) z ≡ pair_of (at u P) z
-    pair_stands z here =
-        pair_on S u z (picked (P ++ Q) ks) here ∙ ap (λ l. pair_of (at u l) z) (on_low ks)
-        ∙ sym (pair_on S u z (picked (P ++ Q) (filter (is_low (length P)) ks)) here) ∙ ap (λ c. pair_of c z) ends
-
-    pub bound_stands : (r z y : ℕ) → S z ≡ true → is_bound (at u (picked (P ++ Q) ks)) r z y ≡ is_bound (at u P) r z y
-    bound_stands r z y here =
-        bound_on S u r z y (picked (P ++ Q) ks) (all_keep ks) here ∙ ap (λ l. is_bound (at u l) r z y) (on_low ks)
-        ∙ sym (bound_on S u r z y (picked (P ++ Q) (filter (is_low (length P)) ks)) (all_keep (filter (is_low (length P)) ks)) here) ∙ ap (λ c. is_bound c r z y) ends
-
--- ---- the two ends of a rollout
+use Rattle.metis_rollout.proofs.Each.{each_append}
+use Rattle.metis_rollout.proofs.Fixed.{FixesBinding, FixesPair, bound_fixed, pair_fixed, pair_kept}
+use Rattle.metis_rollout.proofs.Fronts.{is_low, kept_low, kept_whole, picked_low}
+use Rattle.metis_rollout.proofs.Going.{going_from_steady, steady_from_going}
+use Rattle.metis_rollout.proofs.Holding.{standing_holds}
+use Rattle.metis_rollout.proofs.Quiet.{is_required}
+use Rattle.metis_rollout.proofs.Removal.{left_config}
+use Rattle.metis_rollout.proofs.Sparing.{FixesAll, IsLasting, all_fix, all_removing, removing_binding, removing_pair}
+use Rattle.metis_rollout.proofs.Together.{touches_own}
+use Rattle.metis_rollout.proofs.Touching.{At, pair_touched}
+use Rattle.metis_rollout.proofs.Whole.{removed}
 
 filter_all : (t : ℕ → Bool) (ks : List ℕ) → ((k : ℕ) → has ks k ≡ true → t k ≡ true) → filter t ks ≡ ks
 filter_all t [] all = refl
 filter_all t (k ∷ ks) all = ap (λ b. cond b (k ∷ filter t ks) (filter t ks)) (all k (or_left (nat_eq k k) (has ks k) (eq-eqb k k refl))) ∙ ap (λ l. k ∷ l) (filter_all t ks (λ m there. all m (or_right (nat_eq k m) (has ks m) there)))
 
-twice : (b : Bool) → b ≡ not (not b)
-twice true = refl
-twice false = refl
+going_parts : (u : Universe) (earlier xs ys : List Action) → GoesOn u earlier (xs ++ ys) → GoesOn u earlier xs × GoesOn u (earlier ++ xs) ys
+going_parts u earlier [] ys go = (tt, subst (λ e. GoesOn u e ys) (sym (append-nil earlier)) go)
+going_parts u earlier (a ∷ xs) ys go =
+    let rest = going_parts u (earlier ++ a ∷ []) xs ys go.3 in
+    ((go.0, go.1, go.2, rest.0), subst (λ e. GoesOn u e ys) (append_assoc earlier (a ∷ []) xs) rest.1)
 
-module _ (u : Universe) (k : IsUniverse u) (old fresh : List Action) (s : IsSteadfastRun u old) (t : IsSteadfastRun u fresh) (ks : List ℕ) (in_time : IsKept (rollout u old fresh) ks) where
-  abbrev new : List Action
-  new = renumbered old fresh
+each_into : (P Q : Action → Type 0) → ((a : Action) → P a → Q a) → (xs : List Action) → AllByRecursion P xs → AllByRecursion Q xs
+each_into P Q into [] all = tt
+each_into P Q into (a ∷ xs) all = (into a all.0, each_into P Q into xs all.1)
 
-  abbrev rest : List Action
-  rest = removal u (scaffold_name old fresh) (stood u old)
+-- ---- new actions beside what stands, and then the rest
 
-  goes : GoesOn u [] old
-  goes = going_from_steady u old s
+-- what the end has stands before the rest, which leaves it alone
+pub record LeavesEnd (u : Universe) (first rest : List Action) : Type 0 where
+  pub pair : (z p : ℕ) → pair_of (at u (first ++ rest)) z ≡ Some p → (pair_of (at u first) z ≡ Some p) × AllByRecursion (FixesPair u z) rest
+  pub binding : (r z y : ℕ) → is_bound (at u (first ++ rest)) r z y ≡ true → (is_bound (at u first) r z y ≡ true) × AllByRecursion (FixesBinding r z y) rest
 
-  new_goes : GoesOn u [] new
-  new_goes = fresh_goes u old fresh (going_from_steady u fresh t)
+module _ (u : Universe) (old new : List Action) (b : IsBeside u old new) where
+  split : GoesOn u [] old × GoesOn u old new
+  split = going_parts u [] old new (going_from_steady u (old ++ new) b.steady)
 
-  unused : (z : ℕ) → is_made new z ≡ true → is_made old z ≡ false
-  unused = fresh_unused u old fresh (going_from_steady u fresh t)
+  old_steady : IsSteadfastRun u old
+  old_steady = steady_from_going u old split.0
 
-  parts : rollout u old fresh ≡ (old ++ new) ++ rest
-  parts = sym (append_assoc old new rest)
+  -- ---- what the new actions leave alone
 
-  size : length (old ++ new) ≡ border old fresh
-  size = length-append old new ∙ ap (λ n. length old + n) (length-map fresh (renumber (fresh_name old fresh)))
+  new_fix : AllByRecursion (FixesAll u (at u old)) new
+  new_fix = all_fix u (at u old) (left_config u old split.0) old new split.1 (record { pairs = λ z p h. h; bindings = λ r z y h. h }) (recursion_from_All (Spares (at u old)) new b.spares)
 
-  kept_parts : IsKept ((old ++ new) ++ rest) ks
-  kept_parts = subst (λ A. IsKept A ks) parts in_time
+  new_pair : (z p : ℕ) → pair_of (at u old) z ≡ Some p → AllByRecursion (FixesPair u z) new
+  new_pair z p there = each_into (FixesAll u (at u old)) (FixesPair u z) (λ a f. f.pairs z p there) new new_fix
 
-  pub old_stands : HasEach 0 (length old) ks → ((m : ℕ) → has ks m ≡ true → m ≤ border old fresh) → StandsIn (at u old) (at u (picked (rollout u old fresh) ks))
-  old_stands each few =
-      let S = is_made old in
-      let T : ℕ → Bool = λ z. not (S z) in
-      let o : AreOpposite S T = λ z. refl in
-      let mine = touches_own u old goes in
-      let others = touches_made u (At T) new new_goes (λ z made. ap not (unused z made)) in
-      let kept = AllKeep-append S old new (same_kept S T o old mine) (other_side_kept S T o new others) in
-      let all : filter (is_low (length (old ++ new))) ks ≡ ks = filter_all (is_low (length (old ++ new))) ks (λ m there. let low = few m there in le-leb m (length (old ++ new)) (omega (arith, size))) in
-      let picks : picked (rollout u old fresh) ks ≡ picked (old ++ new) ks = (λ i. picked (parts i) ks) ∙ ap (picked ((old ++ new) ++ rest)) (sym all) ∙ picked_low (old ++ new) rest ks ∙ ap (picked (old ++ new)) all in
-      let in_front : IsKept (old ++ new) ks = subst (IsKept (old ++ new)) all (kept_low (old ++ new) rest [] ks kept_parts) in
-      record {
-        pairs = λ z p is. ap (λ l. pair_of (at u l) z) picks ∙ pair_stands S T o old new kept others u s ks in_front each z (pair_touched (At S) u z old mine (IsSome_at (pair_of (at u old) z) p is)) ∙ is;
-        bindings = λ r z y is. ap (λ l. is_bound (at u l) r z y) picks ∙ bound_stands S T o old new kept others u s ks in_front each r z y (bound_touched (At S) u r z y old mine is).0 ∙ is;
-      }
+  new_binding : (r z y : ℕ) → is_bound (at u old) r z y ≡ true → AllByRecursion (FixesBinding r z y) new
+  new_binding r z y bound = each_into (FixesAll u (at u old)) (FixesBinding r z y) (λ a f. f.bindings r z y bound) new new_fix
 
-  pub fresh_stands : HasEach 0 (border old fresh) ks → StandsIn (at u new) (at u (picked (rollout u old fresh) ks))
-  fresh_stands each =
-      let S = is_made new in
-      let T : ℕ → Bool = λ z. not (S z) in
-      let o : AreOpposite S T = λ z. refl in
-      let gone = removes u k old fresh s t in
-      let apart : (xs : List Action) → ((z : ℕ) → is_made new z ≡ true → is_made xs z ≡ false) → (z : ℕ) → is_made xs z ≡ true → T z ≡ true = λ xs far z made. ap not (false_from_ne_true (S z) (λ is. false≢true (sym (far z is) ∙ made))) in
-      let mine = touches_own u new new_goes in
-      let before = touches_made u (At T) old goes (apart old unused) in
-      let behind = split2 (At T) old rest (touches_made u (At T) (old ++ rest) gone.goes (apart (old ++ rest) gone.apart)) in
-      let kept = AllKeep-append S (old ++ new) rest (AllKeep-append S old new (other_side_kept S T o old before) (same_kept S T o new mine)) (other_side_kept S T o rest behind) in
-      let side = together u old fresh s t in
-      let each_first : HasEach 0 (length (old ++ new)) ks = λ m low high. each m low (omega (arith, size)) in
-      let same : picked (rollout u old fresh) ks ≡ picked ((old ++ new) ++ rest) ks = λ i. picked (parts i) ks in
-      record {
-        pairs = λ z p is.
-            let here = pair_touched (At S) u z new mine (IsSome_at (pair_of (at u new) z) p is) in
-            ap (λ l. pair_of (at u l) z) same ∙ pair_stands S T o (old ++ new) rest kept behind u side.0 ks kept_parts each_first z here ∙ side.1.new_pairs z (unused z here) ∙ is;
-        bindings = λ r z y is.
-            let here = (bound_touched (At S) u r z y new mine is).0 in
-            ap (λ l. is_bound (at u l) r z y) same ∙ bound_stands S T o (old ++ new) rest kept behind u side.0 ks kept_parts each_first r z y here ∙ side.1.new_bindings r z y (unused z here) ∙ is;
-      }
+  first_pair : (z p : ℕ) → pair_of (at u old) z ≡ Some p → pair_of (at u (old ++ new)) z ≡ Some p
+  first_pair z p there = ap (λ c. pair_of c z) (after_all-append u empty old new) ∙ pair_kept u (at u old) new z (new_pair z p there) ∙ there
+
+  -- ---- in an order that keeps the waits
+
+  module _ (rest : List Action) (e : LeavesEnd u (old ++ new) rest) where
+    abbrev first : List Action
+    first = old ++ new
+
+    abbrev whole : List Action
+    whole = old ++ (new ++ rest)
+
+    parts : whole ≡ first ++ rest
+    parts = sym (append_assoc old new rest)
+
+    module _ (ks : List ℕ) (in_time : IsKept whole ks) where
+      kept_parts : IsKept (first ++ rest) ks
+      kept_parts = subst (λ A. IsKept A ks) parts in_time
+
+      pub old_stands : HasEach 0 (length old) ks → ((m : ℕ) → has ks m ≡ true → m ≤ length old + length new) → StandsIn (at u old) (at u (picked whole ks))
+      old_stands each few =
+          let size = length-append old new in
+          let all : filter (is_low (length first)) ks ≡ ks = filter_all (is_low (length first)) ks (λ m there. let low = few m there in le-leb m (length first) (omega arith)) in
+          let picks : picked whole ks ≡ picked first ks = (λ i. picked (parts i) ks) ∙ ap (picked (first ++ rest)) (sym all) ∙ picked_low first rest ks ∙ ap (picked first) all in
+          let in_front : IsKept first ks = subst (IsKept first) all (kept_low first rest [] ks kept_parts) in
+          record {
+            pairs = λ z p is. ap (λ l. pair_of (at u l) z) picks ∙ pair_fixed u old new old_steady ks in_front each z (new_pair z p is) ∙ is;
+            bindings = λ r z y is. ap (λ l. is_bound (at u l) r z y) picks ∙ bound_fixed u old new old_steady ks in_front each r z y (new_binding r z y is) ∙ is;
+          }
+
+      pub end_stands : HasEach 0 (length old + length new) ks → StandsIn (at u whole) (at u (picked whole ks))
+      end_stands each =
+          let size = length-append old new in
+          let each_first : HasEach 0 (length first) ks = λ m low high. each m low (omega arith) in
+          let same : picked whole ks ≡ picked (first ++ rest) ks = λ i. picked (parts i) ks in
+          record {
+            pairs = λ z p is.
+                let kept = e.pair z p (ap (λ l. pair_of (at u l) z) (sym parts) ∙ is) in
+                ap (λ l. pair_of (at u l) z) same ∙ pair_fixed u first rest b.steady ks kept_parts each_first z kept.1 ∙ kept.0;
+            bindings = λ r z y is.
+                let kept = e.binding r z y (ap (λ l. is_bound (at u l) r z y) (sym parts) ∙ is) in
+                ap (λ l. is_bound (at u l) r z y) same ∙ bound_fixed u first rest b.steady ks kept_parts each_first r z y kept.1 ∙ kept.0;
+          }
 
 -- ---- guarded orders
 
@@ -207,36 +148,147 @@ none_passes test (x ∷ ks) none k there =
       neither true b h = absurd (false≢true (sym h))
       neither false b h = (refl, h)
 
-module _ (u : Universe) (k : IsUniverse u) (old fresh : List Action) (s : IsSteadfastRun u old) (t : IsSteadfastRun u fresh) (front later : List ℕ) (in_time : IsKept (rollout u old fresh) (front ++ later)) (guarded : IsGuarded old fresh (front ++ later)) (each : HasEach 0 (length old) front) where
-  done : IsKept (rollout u old fresh) front
-  done = kept_front (rollout u old fresh) [] front later in_time
+module _ (u : Universe) (old new rest : List Action) (b : IsBeside u old new) (e : LeavesEnd u (old ++ new) rest) (front later : List ℕ)
+    (in_time : IsKept (old ++ (new ++ rest)) (front ++ later)) (guarded : IsGuardedAt (length old) (length old + length new) (front ++ later)) (each : HasEach 0 (length old) front) where
+  abbrev list : List Action
+  list = old ++ (new ++ rest)
+
+  abbrev last : ℕ
+  last = length old + length new
+
+  done : IsKept list front
+  done = kept_front list [] front later in_time
 
   abbrev is_removal : ℕ → Bool
-  is_removal m = nat_lt (border old fresh) m
+  is_removal m = nat_lt last m
 
-  has_all : (p : IsParted is_removal front) → HasEach 0 (border old fresh) front
+  has_all : (p : IsParted is_removal front) → HasEach 0 last front
   has_all p m low high = elim (cases_lt (length old) m) [
     | inr early ↦ each m low early
     | inl late ↦
-        let whole : front ++ later ≡ p.before ++ p.number ∷ (p.after ++ later) = ap (λ l. l ++ later) p.parted ∙ append_assoc p.before (p.number ∷ p.after) later in
-        let there = guarded p.before (p.after ++ later) p.number whole (ltb-true (border old fresh) p.number p.passes) m late high in
+        let all : front ++ later ≡ p.before ++ p.number ∷ (p.after ++ later) = ap (λ l. l ++ later) p.parted ∙ append_assoc p.before (p.number ∷ p.after) later in
+        let there = guarded p.before (p.after ++ later) p.number all (ltb-true last p.number p.passes) m late high in
         ap (λ l. has l m) p.parted ∙ list_any-append (λ x. nat_eq x m) p.before (p.number ∷ p.after) ∙ or_left (has p.before m) (has (p.number ∷ p.after) m) there
   ]
 
-  pub never_lacks : StandsIn (at u old) (at u (picked (rollout u old fresh) front)) ⊎ StandsIn (at u (renumbered old fresh)) (at u (picked (rollout u old fresh) front))
-  never_lacks = elim (list_any is_removal front) as (λ b. list_any is_removal front ≡ b → StandsIn (at u old) (at u (picked (rollout u old fresh) front)) ⊎ StandsIn (at u (renumbered old fresh)) (at u (picked (rollout u old fresh) front))) [
-    | true ↦ λ some. inr (fresh_stands u k old fresh s t front done (has_all (parted_at is_removal front some)))
-    | false ↦ λ none. inl (old_stands u k old fresh s t front done each (λ m there. ltb-false (border old fresh) m (none_passes is_removal front none m there)))
+  pub never_lacks : StandsIn (at u old) (at u (picked list front)) ⊎ StandsIn (at u list) (at u (picked list front))
+  never_lacks = elim (list_any is_removal front) as (λ b. list_any is_removal front ≡ b → StandsIn (at u old) (at u (picked list front)) ⊎ StandsIn (at u list) (at u (picked list front))) [
+    | true ↦ λ some. inr (end_stands u old new b rest e front done (has_all (parted_at is_removal front some)))
+    | false ↦ λ none. inl (old_stands u old new b rest e front done each (λ m there. ltb-false last m (none_passes is_removal front none m there)))
   ] refl
 
-  pub never_lacks_goals : (g h : List ℕ) → Holds (at u old) g → Holds (at u fresh) h → Holds (at u (picked (rollout u old fresh) front)) g ⊎ Holds (at u (picked (rollout u old fresh) front)) h
-  never_lacks_goals g h held wanted =
-      let c = at u (picked (rollout u old fresh) front) in
-      let going = going_from_steady u fresh t in
+  pub never_lacks_goals : GoesOn u [] list → (g h : List ℕ) → Holds (at u old) g → Holds (at u list) h → Holds (at u (picked list front)) g ⊎ Holds (at u (picked list front)) h
+  never_lacks_goals go g h held wanted =
+      let c = at u (picked list front) in
       elim never_lacks [
-        | inl stands ↦ inl (λ p. let more = standing_holds (at u old) c (left_config u old (going_from_steady u old s)) stands p in omega (arith, held p))
-        | inr stands ↦ inr (λ p.
-            let renamed = renumbered_holds u old fresh going p in
-            let more = standing_holds (at u (renumbered old fresh)) c (left_config u (renumbered old fresh) (fresh_goes u old fresh going)) stands p in
-            omega (arith, wanted p))
+        | inl stands ↦ inl (λ p. let more = standing_holds (at u old) c (left_config u old (split u old new b).0) stands p in omega (arith, held p))
+        | inr stands ↦ inr (λ p. let more = standing_holds (at u list) c (left_config u list go) stands p in omega (arith, wanted p))
       ]
+
+-- ---- orders of the old actions
+
+-- an order of the old actions goes on to a guarded one of all
+pub goes_on : (old new rest : List Action) (ks : List ℕ) → IsKept old ks
+    → (more : List ℕ) × IsKept (old ++ (new ++ rest)) (ks ++ more) × (is_complete (old ++ (new ++ rest)) (ks ++ more) ≡ true) × IsGuardedAt 0 (length old + length new) (ks ++ more)
+goes_on old new rest ks kept =
+    let A : List Action = old ++ (new ++ rest) in
+    let size : length A ≡ length old + (length new + length rest) = omega (arith, length-append old (new ++ rest), length-append new rest) in (
+      on.left A ks,
+      on.kept_all A ks (kept_whole old (new ++ rest) [] ks kept),
+      on.complete_all A ks,
+      λ front later k e above m low high.
+          on.lesser_first A ks front later k m e
+          (false_from_ne_true _ (λ there. let within = in_range 1 (length old) k (on.kept_number old [] ks kept k there) in absurd (omega arith)))
+          (has_range 1 (length A) m (omega arith) (omega arith)) (omega arith),
+    )
+
+-- where none of the rest comes before each old and new action, it does not before each new one
+pub guarded_later : (from last : ℕ) (ks : List ℕ) → IsGuardedAt 0 last ks → IsGuardedAt from last ks
+guarded_later from last ks guarded = λ front rest k is above m low high. guarded front rest k is above m (omega arith) high
+
+-- ---- the removal of what goes
+
+module _ (u : Universe) (k : IsUniverse u) (goes : ℕ → Bool) (name : ℕ → ℕ) (xs : List Action) (s : IsSteadfastRun u xs) (may : MayGo u goes (after_all u empty xs)) (free : AreFree xs name) where
+  abbrev taken : List Action
+  taken = removal u goes name (after_all u empty xs)
+
+  going : GoesOn u [] xs
+  going = going_from_steady u xs s
+
+  good : IsConfig (at u xs)
+  good = left_config u xs going
+
+  without : IsWithout u goes (at u xs) (at u (xs ++ taken))
+  without = (removed u k goes name xs s may free).without
+
+  -- what stays and stands is not of the scaffold
+  lasting : (z : ℕ) → goes z ≡ false → IsSome (pair_of (at u xs) z) → IsLasting u goes name (at u xs) z
+  lasting z stay there = record {
+    stays = stay;
+    other = λ named. both_ways (is_made xs z) (ap (is_made xs) (sym named.1) ∙ free.free named.0) (pair_touched (At (is_made xs)) u z xs (touches_own u xs going) there);
+  }
+
+  pub staying_pair : (z p : ℕ) → goes z ≡ false → pair_of (at u xs) z ≡ Some p → AllByRecursion (FixesPair u z) taken
+  staying_pair z p stay there =
+      each_into (Removing u goes name (at u xs)) (FixesPair u z) (removing_pair u goes name (at u xs) z (lasting z stay (IsSome_at (pair_of (at u xs) z) p there))) taken (all_removing u goes name (at u xs))
+
+  end_pair : (z p : ℕ) → pair_of (at u (xs ++ taken)) z ≡ Some p → (pair_of (at u xs) z ≡ Some p) × AllByRecursion (FixesPair u z) taken
+  end_pair z p is = by (goes z) refl (sym (without.pairs z) ∙ is) where
+    none≢some : (p : ℕ) → None ≡ Some p → ⊥
+    none≢some p h = cc
+
+    by : (v : Bool) → goes z ≡ v → cond v None (pair_of (at u xs) z) ≡ Some p → (pair_of (at u xs) z ≡ Some p) × AllByRecursion (FixesPair u z) taken
+    by true go e = absurd (none≢some p e)
+    by false stay e = (e, staying_pair z p stay e)
+
+  pub end_binding : (r z y : ℕ) → is_bound (at u (xs ++ taken)) r z y ≡ true → (is_bound (at u xs) r z y ≡ true) × AllByRecursion (FixesBinding r z y) taken
+  end_binding r z y is =
+      let one = and_parts (not (goes z)) (not (goes y) && (is_required u (at u xs) r z && is_bound (at u xs) r z y)) (sym (without.bindings r z y) ∙ is) in
+      let two = and_parts (not (goes y)) (is_required u (at u xs) r z && is_bound (at u xs) r z y) one.1 in
+      let three = and_parts (is_required u (at u xs) r z) (is_bound (at u xs) r z y) two.1 in
+      let away = not-true (goes y) two.0 in
+      let kept : ends_first u goes (at u xs) (r, z, y) ≡ false = (λ i. (not (goes z) && away i) || not (three.0 i)) ∙ nothing (not (goes z)) in
+      let l = lasting z (not-true (goes z) one.0) (good.requirer r z y three.1) in
+      let m = lasting y away (good.provider r z y three.1) in
+      (three.1, each_into (Removing u goes name (at u xs)) (FixesBinding r z y) (removing_binding u goes name (at u xs) r z y l m kept) taken (all_removing u goes name (at u xs))) where
+        nothing : (v : Bool) → ((v && false) || false) ≡ false
+        nothing true = refl
+        nothing false = refl
+
+  pub leaves_end : LeavesEnd u xs taken
+  leaves_end = record { pair = end_pair; binding = end_binding }
+
+-- new actions, and then the removal of what goes
+module _ (u : Universe) (k : IsUniverse u) (goes : ℕ → Bool) (name : ℕ → ℕ) (old new : List Action) (b : IsBeside u old new) (can : CanTake u goes name (old ++ new)) where
+  abbrev rest : List Action
+  rest = taking u goes name (old ++ new)
+
+  abbrev every : List Action
+  every = old ++ (new ++ rest)
+
+  left : LeavesEnd u (old ++ new) rest
+  left = leaves_end u k goes name (old ++ new) b.steady can.may can.free
+
+  -- what stays stands once all old actions are done, in an order that is guarded or not
+  pub kept_stands : (ks : List ℕ) → IsKept every ks → HasEach 0 (length old) ks → KeepsStanding goes (after_all u empty old) (after_all u empty every) (after_all u empty (picked every ks))
+  kept_stands ks in_time each =
+      let steady = old_steady u old new b in record {
+        pairs = λ z p stay there.
+            pair_fixed u old (new ++ rest) steady ks in_time each z (each_append (FixesPair u z) new rest (new_pair u old new b z p there)
+            (staying_pair u k goes name (old ++ new) b.steady can.may can.free z p stay (first_pair u old new b z p there))) ∙ there;
+        bindings = λ r z y bound is.
+            let kept = left.binding r z y (ap (λ l. is_bound (at u l) r z y) (append_assoc old new rest) ∙ is) in
+            bound_fixed u old (new ++ rest) steady ks in_time each r z y (each_append (FixesBinding r z y) new rest (new_binding u old new b r z y bound) kept.1) ∙ bound;
+      }
+
+  module _ (front later : List ℕ) (in_time : IsKept every (front ++ later)) (guarded : IsGuardedAt (length old) (length old + length new) (front ++ later)) (each : HasEach 0 (length old) front) where
+    abbrev c : Config
+    c = after_all u empty (picked every front)
+
+    pub removal_never_lacks : StandsIn (after_all u empty old) c ⊎ StandsIn (after_all u empty every) c
+    removal_never_lacks = never_lacks u old new rest b left front later in_time guarded each
+
+    pub removal_never_lacks_goals : (g h : List ℕ) → Holds (after_all u empty old) g → Holds (after_all u empty every) h → Holds c g ⊎ Holds c h
+    removal_never_lacks_goals =
+        never_lacks_goals u old new rest b left front later in_time guarded each
+        (subst (GoesOn u []) (append_assoc old new rest) (removed u k goes name (old ++ new) b.steady can.may can.free).goes_on)

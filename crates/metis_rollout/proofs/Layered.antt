@@ -1,5 +1,5 @@
--- Each instance that the first two steps leave is in a pair that has a layer.
-use Rattle.std.proofs.Common.{◌≡◌, ℕ, zero, suc, ◌<◌, ◌≤◌, Bool, true, false, cond, List, [], ◌∷◌, ◌++◌, length, map, get_or, Some, refl, sym, subst, arith, nat_eq}
+-- Each instance that goes and that the first two steps leave is in a pair that has a layer.
+use Rattle.std.proofs.Common.{◌≡◌, ℕ, zero, suc, ◌<◌, ◌≤◌, Bool, true, false, cond, List, [], ◌∷◌, length, map, get_or, Some, refl, sym, subst, arith, nat_eq}
 use Rattle.std.specs.Prelude.{IsSome}
 use Rattle.std.specs.List.{All, count_by}
 use Rattle.std.specs.List.Sorted.{IsStrictlySortedBy}
@@ -11,12 +11,12 @@ use Rattle.metis_ids.specs.declared.actions.Action.{Action}
 use Rattle.metis_universe.specs.Universe.{Universe, IsUniverse}
 use Rattle.metis_universe.specs.Config.{empty}
 use Rattle.metis_universe.specs.Layers.{layer_of}
-use Rattle.metis_universe.specs.Step.{after_all}
+use Rattle.metis_universe.specs.Step.{IsRun, after_all}
 use Rattle.metis_universe.proofs.Sorted.{lookup_counted}
-use Rattle.metis_rollout.specs.Rollout.{cleared_by, pairs_in}
-use Rattle.metis_universe.specs.Steadfast.{IsSteadfastRun}
-use Rattle.metis_rollout.proofs.Going.{going_from_steady}
-use Rattle.metis_rollout.proofs.Removal.{cleared_leaves, left, left_good}
+use Rattle.metis_universe.proofs.Kept.{IsConfig-after_all, IsConfig-empty}
+use Rattle.metis_rollout.specs.Rollout.{among, pairs_in}
+use Rattle.metis_rollout.proofs.Among.{IsConfig-among, pair_from}
+use Rattle.metis_rollout.proofs.Removal.{left, left_config_of}
 use Rattle.metis_rollout.proofs.Whole.{layer}
 
 counted : (es : List (ℕ × ℕ)) (i d : ℕ) → i < length (map (λ e. e.1) es) → 1 ≤ count_by (λ e. nat_eq e.1 (get_or (map (λ e. e.1) es) i d)) es
@@ -37,7 +37,7 @@ each_pair Q es sorted all i d low =
     let at = lookup_counted p es sorted (counted es i d low) in
     all at.0 p at.1
 
-pub left_layered : (u : Universe) (old : List Action) → IsUniverse u → IsSteadfastRun u old → All (λ p. IsSome (layer_of u p)) (pairs_in (after_all u empty (old ++ cleared_by u old)))
-left_layered u old k s =
-    subst (λ c. All (λ p. IsSome (layer_of u p)) (pairs_in c)) (sym (cleared_leaves u old (going_from_steady u old s)))
-    (each_pair (λ p. IsSome (layer_of u p)) (left u old).instances (left_good u old (going_from_steady u old s)).0.ascending (λ z p there. subst IsSome (sym (layer u k old s z p there).is) refl))
+pub left_layered : (u : Universe) (goes : ℕ → Bool) (xs : List Action) → IsUniverse u → IsRun u empty xs → All (λ p. IsSome (layer_of u p)) (pairs_in (among goes (left u goes xs)))
+left_layered u goes xs k run =
+    let good = IsConfig-among goes (left u goes xs) (left_config_of u goes (after_all u empty xs) (IsConfig-after_all u empty xs IsConfig-empty run)) in
+    each_pair (λ p. IsSome (layer_of u p)) (among goes (left u goes xs)).instances good.ascending (λ z p there. subst IsSome (sym (layer u k goes xs run z p (pair_from goes (left u goes xs) z p there).1).is) refl)

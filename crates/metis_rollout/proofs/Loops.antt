@@ -48,26 +48,28 @@ config_next u c now new bs i b low is untied before =
 
 -- ---- deletes
 
-pub unreferenced_none : (n : ℕ) (c : Config) → next_unreferenced c ≡ None → unreferenced_deletes_within n c ≡ []
-unreferenced_none zero c none = refl
-unreferenced_none (suc n) c none = ap (λ o. option_map_or (λ z. Delete z ∷ unreferenced_deletes_within n (remove c z)) o []) none
+module _ (goes : ℕ → Bool) where
+  pub unreferenced_none : (n : ℕ) (c : Config) → next_unreferenced goes c ≡ None → unreferenced_deletes_within goes n c ≡ []
+  unreferenced_none zero c none = refl
+  unreferenced_none (suc n) c none = ap (λ o. option_map_or (λ z. Delete z ∷ unreferenced_deletes_within goes n (remove c z)) o []) none
 
-pub unreferenced_some : (n : ℕ) (c : Config) (z : ℕ) → next_unreferenced c ≡ Some z → unreferenced_deletes_within (suc n) c ≡ Delete z ∷ unreferenced_deletes_within n (remove c z)
-unreferenced_some n c z some = ap (λ o. option_map_or (λ z. Delete z ∷ unreferenced_deletes_within n (remove c z)) o []) some
+  pub unreferenced_some : (n : ℕ) (c : Config) (z : ℕ) → next_unreferenced goes c ≡ Some z → unreferenced_deletes_within goes (suc n) c ≡ Delete z ∷ unreferenced_deletes_within goes n (remove c z)
+  unreferenced_some n c z some = ap (λ o. option_map_or (λ z. Delete z ∷ unreferenced_deletes_within goes n (remove c z)) o []) some
 
--- what is left to do, as a record that a loop keeps
-pub record Left (left : ℕ) (start now : List Action) (all : List Action) (c d : Config) : Type 0 where
-  pub actions : start ++ all ≡ now ++ unreferenced_deletes_within left d
-  pub config : (u : Universe) → after_all u c all ≡ after_all u d (unreferenced_deletes_within left d)
+  -- what is left to do, as a record that a loop keeps
+  pub record Left (left : ℕ) (start now : List Action) (all : List Action) (c d : Config) : Type 0 where
+    pub actions : start ++ all ≡ now ++ unreferenced_deletes_within goes left d
+    pub config : (u : Universe) → after_all u c all ≡ after_all u d (unreferenced_deletes_within goes left d)
 
-pub left_next : (n : ℕ) (start now new all : List Action) (c d e : Config) (z : ℕ) → Left (suc n) start now all c d → next_unreferenced d ≡ Some z → new ≡ now ++ Delete z ∷ [] → e ≡ remove d z → Left n start new all c e
-left_next n start now new all c d e z l some pushed removed = record {
-  actions = l.actions ∙ ap (λ x. now ++ x) (unreferenced_some n d z some) ∙ sym (append_assoc now (Delete z ∷ []) (unreferenced_deletes_within n (remove d z))) ∙ (λ i. sym pushed i ++ unreferenced_deletes_within n (sym removed i));
-  config = λ u. l.config u ∙ ap (after_all u d) (unreferenced_some n d z some) ∙ ap (λ f. after_all u f (unreferenced_deletes_within n f)) (sym removed);
-}
+  pub left_next : (n : ℕ) (start now new all : List Action) (c d e : Config) (z : ℕ) → Left (suc n) start now all c d → next_unreferenced goes d ≡ Some z → new ≡ now ++ Delete z ∷ [] → e ≡ remove d z → Left n start new all c e
+  left_next n start now new all c d e z l some pushed removed = record {
+    actions = l.actions ∙ ap (λ x. now ++ x) (unreferenced_some n d z some) ∙ sym (append_assoc now (Delete z ∷ []) (unreferenced_deletes_within goes n (remove d z)))
+        ∙ (λ i. sym pushed i ++ unreferenced_deletes_within goes n (sym removed i));
+    config = λ u. l.config u ∙ ap (after_all u d) (unreferenced_some n d z some) ∙ ap (λ f. after_all u f (unreferenced_deletes_within goes n f)) (sym removed);
+  }
 
-pub left_done : (n : ℕ) (start now all : List Action) (c d : Config) → Left n start now all c d → unreferenced_deletes_within n d ≡ [] → (now ≡ start ++ all) × ((u : Universe) → d ≡ after_all u c all)
-left_done n start now all c d l none = (
-  sym (l.actions ∙ ap (λ x. now ++ x) none ∙ append-nil now),
-  λ u. sym (l.config u ∙ ap (after_all u d) none),
-)
+  pub left_done : (n : ℕ) (start now all : List Action) (c d : Config) → Left n start now all c d → unreferenced_deletes_within goes n d ≡ [] → (now ≡ start ++ all) × ((u : Universe) → d ≡ after_all u c all)
+  left_done n start now all c d l none = (
+    sym (l.actions ∙ ap (λ x. now ++ x) none ∙ append-nil now),
+    λ u. sym (l.config u ∙ ap (after_all u d) none),
+  )

@@ -11,7 +11,8 @@ use Rattle.metis_universe.specs.Config.{AreDifferent, Binding, Config, Correct, 
 use Rattle.metis_universe.specs.Universe.{Universe, IsUniverse, demand_of, has, required_of, requires}
 use Rattle.metis_layers.proofs.SlotLists.{required_differ}
 use Rattle.metis_layers.specs.SlotLines.{slots_above}
-use Rattle.metis_rollout.specs.Rollout.{scaffold_bindings, slots_required}
+use Rattle.metis_rollout.specs.Rollout.{among, scaffold_bindings, slots_required}
+use Rattle.metis_rollout.proofs.Among.{IsConfig-among, pair_from}
 use Rattle.metis_rollout.proofs.Each.{each_joined}
 use Rattle.metis_rollout.proofs.Rebinding.{AllUnlike, at_slots, each_entry, sorted_unlike}
 
@@ -158,15 +159,16 @@ module _ (u : Universe) where
         )
 
     -- each provider that is demanded is bound already
-    pub ties_few : (c : Config) → IsUniverse u → IsConfig c → Correct u c → length (scaffold_bindings u h c) ≤ length c.bindings
-    ties_few c k good correct =
-        let keys = sorted_unlike (keys_of c.instances) good.ascending in
+    pub ties_few : (goes : ℕ → Bool) (c : Config) → IsUniverse u → IsConfig c → Correct u c → length (scaffold_bindings u h (among goes c)) ≤ length c.bindings
+    ties_few goes c k good correct =
+        let es = (among goes c).instances in
+        let keys = sorted_unlike (keys_of es) (IsConfig-among goes c good).ascending in
         omega (
           arith,
-          ties_total c.instances,
-          matched (flat_map needs_of c.instances) c.bindings (all_apart k c.instances keys)
-              (each_joined (λ n. n.2 ≤ length (on_port n.0 n.1 c.bindings)) needs_of c.instances
-              (each_entry (λ e. AllByRecursion (λ n. n.2 ≤ length (on_port n.0 n.1 c.bindings)) (needs_of e)) c.instances keys (λ z p there. bound z p there (required_of u p) (λ r needs. needs)))),
+          ties_total es,
+          matched (flat_map needs_of es) c.bindings (all_apart k es keys)
+              (each_joined (λ n. n.2 ≤ length (on_port n.0 n.1 c.bindings)) needs_of es
+              (each_entry (λ e. AllByRecursion (λ n. n.2 ≤ length (on_port n.0 n.1 c.bindings)) (needs_of e)) es keys (λ z p there. bound z p (pair_from goes c z p there).1 (required_of u p) (λ r needs. needs)))),
         ) where
           -- what passes for a provider of any kind is of the port
           any_passes : (r z : ℕ) (bs : List Binding) → length (filter (passes (λ y. true) r z) bs) ≤ length (on_port r z bs)

@@ -1,5 +1,5 @@
 -- Lists that make no instance, from a configuration.
-use Rattle.std.proofs.Common.{◌≡◌, ℕ, zero, suc, ◌<◌, ◌≤◌, Bool, true, false, cond, not, ◌&&◌, ◌||◌, List, [], ◌∷◌, ◌++◌, Some, None, refl, sym, ap, ◌∙◌, subst, arith, nat_eq, map, length, inl, inr}
+use Rattle.std.proofs.Common.{◌≡◌, ℕ, zero, suc, ◌<◌, ◌≤◌, Bool, true, false, cond, not, ◌&&◌, ◌||◌, List, [], ◌∷◌, ◌++◌, Option, Some, None, refl, sym, ap, ◌∙◌, subst, arith, nat_eq, map, length, inl, inr}
 use Rattle.std.specs.Prelude.{IsSome}
 use Rattle.std.specs.List.{AllByRecursion, filter, find, list_any}
 use Rattle.std.specs.List.Sorted.{IsStrictlySortedBy}
@@ -22,8 +22,10 @@ use Rattle.metis_universe.proofs.Kept.{IsConfig-remove}
 use Rattle.metis_universe.proofs.Sorted.{keys_of-filter}
 use Rattle.metis_universe.proofs.Bindings.{own_tie}
 use Rattle.metis_layers.proofs.Going.{GoesOn, at, at-next}
-use Rattle.metis_rollout.specs.Rollout.{is_idle, is_referenced, idle_unbinds, unreferenced_deletes_within, members, next_unreferenced, unbind}
+use Rattle.metis_rollout.specs.Removal.{MayGo}
+use Rattle.metis_rollout.specs.Rollout.{all_go, among, ends_first, first_unbinds, is_referenced, idle_unbinds, unreferenced_deletes_within, members, next_unreferenced, unbind}
 use Rattle.metis_rollout.specs.Standing.{is_made}
+use Rattle.metis_rollout.proofs.Among.{bound_from, pair_among, pair_from}
 use Rattle.metis_rollout.proofs.FreeNumbers.{length-without}
 use Rattle.metis_rollout.proofs.Serving.{more_bound, served_still}
 use Rattle.metis_rollout.proofs.Going.{Unpointed, standing-Unpointed, unpointed}
@@ -156,28 +158,57 @@ all_bound c p = all_among c.bindings (filter p c.bindings) (λ t h. any_kept p t
 abbrev pub is_required : Universe → Config → ℕ → ℕ → Bool
 is_required u c r z = option_map_or (λ p. requires u p r) (pair_of c z) false
 
-in_idle : (u : Universe) (c : Config) (r z y : ℕ) → is_in (filter (is_idle u c) c.bindings) r z y ≡ (not (is_required u c r z) && is_bound c r z y)
-in_idle u c r z y = any-filter_same (is_tie r z y) (is_idle u c) (not (is_required u c r z)) (λ b h. ap (is_idle u c) (tie_is r z y b h)) c.bindings
+-- whether a binding from z to y is one of the first to end, whatever the port
+abbrev pub crosses : (ℕ → Bool) → ℕ → ℕ → Bool
+crosses goes z y = not (goes z) && goes y
+
+in_first : (u : Universe) (goes : ℕ → Bool) (c : Config) (r z y : ℕ) → is_in (filter (ends_first u goes c) c.bindings) r z y ≡ ((crosses goes z y || not (is_required u c r z)) && is_bound c r z y)
+in_first u goes c r z y = any-filter_same (is_tie r z y) (ends_first u goes c) (crosses goes z y || not (is_required u c r z)) (λ b h. ap (ends_first u goes c) (tie_is r z y b h)) c.bindings
+
+pub first_pair : (u : Universe) (goes : ℕ → Bool) (c : Config) (z : ℕ) → pair_of (after_all u c (first_unbinds u goes c)) z ≡ pair_of c z
+first_pair u goes c z = unbinds_pair u c (filter (ends_first u goes c) c.bindings) z
+
+-- the bindings that are required stay, but from a staying instance to one that goes, and no others
+pub first_bound : (u : Universe) (goes : ℕ → Bool) (c : Config) (r z y : ℕ) → is_bound (after_all u c (first_unbinds u goes c)) r z y ≡ ((not (crosses goes z y) && is_required u c r z) && is_bound c r z y)
+first_bound u goes c r z y = unbinds_bound u c (filter (ends_first u goes c) c.bindings) r z y ∙ ap (λ b. not b && is_bound c r z y) (in_first u goes c r z y) ∙ only (crosses goes z y) (is_required u c r z) (is_bound c r z y) where
+  only : (q p b : Bool) → (not ((q || not p) && b) && b) ≡ ((not q && p) && b)
+  only true true true = refl
+  only true true false = refl
+  only true false true = refl
+  only true false false = refl
+  only false true true = refl
+  only false true false = refl
+  only false false true = refl
+  only false false false = refl
 
 pub idle_pair : (u : Universe) (c : Config) (z : ℕ) → pair_of (after_all u c (idle_unbinds u c)) z ≡ pair_of c z
-idle_pair u c z = unbinds_pair u c (filter (is_idle u c) c.bindings) z
+idle_pair u c z = first_pair u all_go c z
 
--- the bindings that are required stay, and no others
+-- where all go, the bindings that are required stay, and no others
 pub idle_bound : (u : Universe) (c : Config) (r z y : ℕ) → is_bound (after_all u c (idle_unbinds u c)) r z y ≡ (is_required u c r z && is_bound c r z y)
-idle_bound u c r z y = unbinds_bound u c (filter (is_idle u c) c.bindings) r z y ∙ ap (λ b. not b && is_bound c r z y) (in_idle u c r z y) ∙ only (is_required u c r z) (is_bound c r z y) where
-  only : (p b : Bool) → (not (not p && b) && b) ≡ (p && b)
-  only true true = refl
-  only true false = refl
-  only false true = refl
-  only false false = refl
+idle_bound u c r z y = first_bound u all_go c r z y
 
-pub idle_quiet : (u : Universe) (c : Config) → IsConfig c → Correct u c → QuietFrom u c (idle_unbinds u c)
-idle_quiet u c k correct = unbinds_quiet u c (filter (is_idle u c) c.bindings) (IsStrictlySortedBy-filter binding_cmp (is_idle u c) c.bindings k.in_order) (all_bound c (is_idle u c)) left where
-  left : Correct u (after_all u c (idle_unbinds u c))
+pub first_quiet : (u : Universe) (goes : ℕ → Bool) (c : Config) → IsConfig c → Correct u c → MayGo u goes c → QuietFrom u c (first_unbinds u goes c)
+first_quiet u goes c k correct may = unbinds_quiet u c (filter (ends_first u goes c) c.bindings) (IsStrictlySortedBy-filter binding_cmp (ends_first u goes c) c.bindings k.in_order) (all_bound c (ends_first u goes c)) left where
+  left : Correct u (after_all u c (first_unbinds u goes c))
   left z p r there needs =
-      let was = sym (idle_pair u c z) ∙ there in
+      let d = after_all u c (first_unbinds u goes c) in
+      let was = sym (first_pair u goes c z) ∙ there in
       let needed : is_required u c r z ≡ true = ap (λ o. option_map_or (λ p. requires u p r) o false) was ∙ needs in
-      served_still u c (after_all u c (idle_unbinds u c)) r z (demand_of u p r) (correct z p r was needs) (λ y q h g. (idle_bound u c r z y ∙ and_from (is_required u c r z) (is_bound c r z y) needed h, idle_pair u c y ∙ g))
+      elim (goes z) as (λ b. goes z ≡ b → IsMet u d z r (demand_of u p r)) [
+        | true ↦ λ go. served_still u c d r z (demand_of u p r) (correct z p r was needs) (λ y q h g. (
+          first_bound u goes c r z y ∙ (λ i. (not (not (go i) && goes y) && needed i) && h i),
+          first_pair u goes c y ∙ g,
+        ))
+        | false ↦ λ stay. served_still u (among (λ x. not (goes x)) c) d r z (demand_of u p r) (may.served z p r (pair_among (λ x. not (goes x)) c z p (ap not stay) was) needs) (λ y q h g.
+            let was_bound = bound_from (λ x. not (goes x)) c r z y h in (
+              first_bound u goes c r z y ∙ (λ i. (not (not (goes z) && not-true (goes y) was_bound.1 i) && needed i) && was_bound.2 i) ∙ both (not (goes z)),
+              first_pair u goes c y ∙ (pair_from (λ x. not (goes x)) c y q g).1,
+            ))
+      ] refl where
+        both : (b : Bool) → ((not (b && false) && true) && true) ≡ true
+        both true = refl
+        both false = refl
 
 -- ---- removals of instances to which nothing is bound
 
@@ -224,47 +255,84 @@ find_some t (x ∷ xs) z h = elim (t x) as (λ b. t x ≡ b → cond b (Some x) 
   some_same : (a b : ℕ) → Some a ≡ Some b → a ≡ b
   some_same a b h = cc
 
-pub unreferenced_quiet : (u : Universe) (n : ℕ) (c : Config) → IsConfig c → Correct u c → QuietFrom u c (unreferenced_deletes_within n c)
-unreferenced_quiet u zero c k correct = tt
-unreferenced_quiet u (suc n) c k correct = elim (next_unreferenced c) as (λ o. next_unreferenced c ≡ o → QuietFrom u c (option_map_or (λ z. Delete z ∷ unreferenced_deletes_within n (remove c z)) o [])) [
-  | None ↦ λ _. tt
-  | Some z ↦ λ is.
-      let first = find_some (λ z. not (is_referenced c z)) (members c) z is in
-      let none = unpointed c z (not-true (is_referenced c z) first.1) in
-      let now = remove_correct u c z none correct in
-      (has-keys c.instances z first.0, now, none, unreferenced_quiet u n (remove c z) (IsConfig-remove c z k) now)
-] refl
+-- the one that goes next goes, is there, and no binding points to it
+pub next_one : (goes : ℕ → Bool) (c : Config) (x : ℕ) → next_unreferenced goes c ≡ Some x → (has (members c) x ≡ true) × (goes x ≡ true) × (is_referenced c x ≡ false)
+next_one goes c x is =
+    let first = find_some (λ z. goes z && not (is_referenced c z)) (members c) x is in
+    let parts = and_parts (goes x) (not (is_referenced c x)) first.1 in
+    (first.0, parts.0, not-true (is_referenced c x) parts.1)
 
--- each instance that is left has a binding to it
-pub unreferenced_ends : (u : Universe) (n : ℕ) (c : Config) → length (members c) ≤ n → (z : ℕ) → IsSome (pair_of (after_all u c (unreferenced_deletes_within n c)) z) → is_referenced (after_all u c (unreferenced_deletes_within n c)) z ≡ true
-unreferenced_ends u zero c low z there = absurd (no_more (members c) low (keys-has c.instances z there)) where
-  no_more : (xs : List ℕ) → length xs ≤ 0 → has xs z ≡ true → ⊥
-  no_more [] low h = false≢true h
-  no_more (x ∷ xs) low h = absurd (omega arith)
-unreferenced_ends u (suc n) c low z there = elim (next_unreferenced c) as (λ o. next_unreferenced c ≡ o → IsSome (pair_of (after_all u c (option_map_or (λ z. Delete z ∷ unreferenced_deletes_within n (remove c z)) o [])) z) → is_referenced (after_all u c (option_map_or (λ z. Delete z ∷ unreferenced_deletes_within n (remove c z)) o [])) z ≡ true) [
-  | None ↦ λ is h. not-false (is_referenced c z) (not_found (λ z. not (is_referenced c z)) (members c) is z (keys-has c.instances z h))
-  | Some x ↦ λ is h.
-      let first = find_some (λ z. not (is_referenced c z)) (members c) x is in
-      let fewer : length (members (remove c x)) < length (members c) = subst (λ l. length l < length (members c)) (sym (keys_of-filter (λ y. not (nat_eq y x)) c.instances)) (length-without x (members c) first.0) in
-      unreferenced_ends u n (remove c x) (omega arith) z h
-] refl there
+module _ (goes : ℕ → Bool) where
+  abbrev rest_of : ℕ → Config → Option ℕ → List Action
+  rest_of n c o = option_map_or (λ z. Delete z ∷ unreferenced_deletes_within goes n (remove c z)) o []
 
--- what stays is as it was
-pub unreferenced_pair : (u : Universe) (n : ℕ) (c : Config) (z p : ℕ) → pair_of (after_all u c (unreferenced_deletes_within n c)) z ≡ Some p → pair_of c z ≡ Some p
-unreferenced_pair u zero c z p h = h
-unreferenced_pair u (suc n) c z p h = elim (next_unreferenced c) as (λ o. pair_of (after_all u c (option_map_or (λ z. Delete z ∷ unreferenced_deletes_within n (remove c z)) o [])) z ≡ Some p → pair_of c z ≡ Some p) [
-  | None ↦ λ g. g
-  | Some x ↦ λ g. was (nat_eq z x) (sym (pair_of-remove c x z) ∙ unreferenced_pair u n (remove c x) z p g)
-] h where
-  was : (b : Bool) → cond (not b) (pair_of c z) None ≡ Some p → pair_of c z ≡ Some p
-  was true e = absurd (none≢some p e) where
-    none≢some : (p : ℕ) → None ≡ Some p → ⊥
-    none≢some p h = cc
-  was false e = e
+  pub unreferenced_quiet : (u : Universe) (n : ℕ) (c : Config) → IsConfig c → Correct u c → QuietFrom u c (unreferenced_deletes_within goes n c)
+  unreferenced_quiet u zero c k correct = tt
+  unreferenced_quiet u (suc n) c k correct = elim (next_unreferenced goes c) as (λ o. next_unreferenced goes c ≡ o → QuietFrom u c (rest_of n c o)) [
+    | None ↦ λ _. tt
+    | Some z ↦ λ is.
+        let first = next_one goes c z is in
+        let none = unpointed c z first.2 in
+        let now = remove_correct u c z none correct in
+        (has-keys c.instances z first.0, now, none, unreferenced_quiet u n (remove c z) (IsConfig-remove c z k) now)
+  ] refl
 
-pub unreferenced_bound : (u : Universe) (n : ℕ) (c : Config) (r z y : ℕ) → is_bound (after_all u c (unreferenced_deletes_within n c)) r z y ≡ true → is_bound c r z y ≡ true
-unreferenced_bound u zero c r z y h = h
-unreferenced_bound u (suc n) c r z y h = elim (next_unreferenced c) as (λ o. is_bound (after_all u c (option_map_or (λ z. Delete z ∷ unreferenced_deletes_within n (remove c z)) o [])) r z y ≡ true → is_bound c r z y ≡ true) [
-  | None ↦ λ g. g
-  | Some x ↦ λ g. (and_parts (not (names x (r, z, y))) (is_bound c r z y) (sym (is_bound-remove c x r z y) ∙ unreferenced_bound u n (remove c x) r z y g)).1
-] h
+  -- each instance that goes and is left has a binding to it
+  pub unreferenced_ends : (u : Universe) (n : ℕ) (c : Config) → length (members c) ≤ n → (z : ℕ) → goes z ≡ true → IsSome (pair_of (after_all u c (unreferenced_deletes_within goes n c)) z) → is_referenced (after_all u c (unreferenced_deletes_within goes n c)) z ≡ true
+  unreferenced_ends u zero c low z go there = absurd (no_more (members c) low (keys-has c.instances z there)) where
+    no_more : (xs : List ℕ) → length xs ≤ 0 → has xs z ≡ true → ⊥
+    no_more [] low h = false≢true h
+    no_more (x ∷ xs) low h = absurd (omega arith)
+  unreferenced_ends u (suc n) c low z go there = elim (next_unreferenced goes c) as (λ o. next_unreferenced goes c ≡ o → IsSome (pair_of (after_all u c (rest_of n c o)) z) → is_referenced (after_all u c (rest_of n c o)) z ≡ true) [
+    | None ↦ λ is h. not-false (is_referenced c z) (ap (λ b. b && not (is_referenced c z)) (sym go) ∙ not_found (λ z. goes z && not (is_referenced c z)) (members c) is z (keys-has c.instances z h))
+    | Some x ↦ λ is h.
+        let first = next_one goes c x is in
+        let fewer : length (members (remove c x)) < length (members c) = subst (λ l. length l < length (members c)) (sym (keys_of-filter (λ y. not (nat_eq y x)) c.instances)) (length-without x (members c) first.0) in
+        unreferenced_ends u n (remove c x) (omega arith) z go h
+  ] refl there
+
+  -- what is left is as it was
+  pub unreferenced_pair : (u : Universe) (n : ℕ) (c : Config) (z p : ℕ) → pair_of (after_all u c (unreferenced_deletes_within goes n c)) z ≡ Some p → pair_of c z ≡ Some p
+  unreferenced_pair u zero c z p h = h
+  unreferenced_pair u (suc n) c z p h = elim (next_unreferenced goes c) as (λ o. pair_of (after_all u c (rest_of n c o)) z ≡ Some p → pair_of c z ≡ Some p) [
+    | None ↦ λ g. g
+    | Some x ↦ λ g. was (nat_eq z x) (sym (pair_of-remove c x z) ∙ unreferenced_pair u n (remove c x) z p g)
+  ] h where
+    was : (b : Bool) → cond (not b) (pair_of c z) None ≡ Some p → pair_of c z ≡ Some p
+    was true e = absurd (none≢some p e) where
+      none≢some : (p : ℕ) → None ≡ Some p → ⊥
+      none≢some p h = cc
+    was false e = e
+
+  pub unreferenced_bound : (u : Universe) (n : ℕ) (c : Config) (r z y : ℕ) → is_bound (after_all u c (unreferenced_deletes_within goes n c)) r z y ≡ true → is_bound c r z y ≡ true
+  unreferenced_bound u zero c r z y h = h
+  unreferenced_bound u (suc n) c r z y h = elim (next_unreferenced goes c) as (λ o. is_bound (after_all u c (rest_of n c o)) r z y ≡ true → is_bound c r z y ≡ true) [
+    | None ↦ λ g. g
+    | Some x ↦ λ g. (and_parts (not (names x (r, z, y))) (is_bound c r z y) (sym (is_bound-remove c x r z y) ∙ unreferenced_bound u n (remove c x) r z y g)).1
+  ] h
+
+  -- what stays is left
+  other_stays : (z x : ℕ) → goes z ≡ false → goes x ≡ true → nat_eq z x ≡ false
+  other_stays z x stay go = elim (nat_eq z x) as (λ b. nat_eq z x ≡ b → b ≡ false) [
+    | true ↦ λ same. absurd (both_ways (goes z) stay (ap goes (eqb-true z x same) ∙ go))
+    | false ↦ λ _. refl
+  ] refl
+
+  pub staying_pair : (u : Universe) (n : ℕ) (c : Config) (z : ℕ) → goes z ≡ false → pair_of (after_all u c (unreferenced_deletes_within goes n c)) z ≡ pair_of c z
+  staying_pair u zero c z stay = refl
+  staying_pair u (suc n) c z stay = elim (next_unreferenced goes c) as (λ o. next_unreferenced goes c ≡ o → pair_of (after_all u c (rest_of n c o)) z ≡ pair_of c z) [
+    | None ↦ λ _. refl
+    | Some x ↦ λ is.
+        let first = next_one goes c x is in
+        staying_pair u n (remove c x) z stay ∙ pair_of-remove c x z ∙ ap (λ b. cond (not b) (pair_of c z) None) (other_stays z x stay first.1)
+  ] refl
+
+  pub staying_bound : (u : Universe) (n : ℕ) (c : Config) (r z y : ℕ) → goes z ≡ false → goes y ≡ false → is_bound (after_all u c (unreferenced_deletes_within goes n c)) r z y ≡ is_bound c r z y
+  staying_bound u zero c r z y stay stays = refl
+  staying_bound u (suc n) c r z y stay stays = elim (next_unreferenced goes c) as (λ o. next_unreferenced goes c ≡ o → is_bound (after_all u c (rest_of n c o)) r z y ≡ is_bound c r z y) [
+    | None ↦ λ _. refl
+    | Some x ↦ λ is.
+        let first = next_one goes c x is in
+        staying_bound u n (remove c x) r z y stay stays ∙ is_bound-remove c x r z y
+        ∙ (λ i. not (other_stays z x stay first.1 i || other_stays y x stays first.1 i) && is_bound c r z y)
+  ] refl

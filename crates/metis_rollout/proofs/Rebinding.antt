@@ -128,13 +128,26 @@ deletes_pair u c (x ∷ zs) z = deletes_pair u (remove c x) zs z ∙ ap (λ o. c
   both false true o = refl
   both false false o = refl
 
--- a binding that stays names none of them
+-- a binding stays where it names none of them
+pub deletes_bound_is : (u : Universe) (c : Config) (zs : List ℕ) (r z y : ℕ) → is_bound (after_all u c (deletes zs)) r z y ≡ (not (has zs z || has zs y) && is_bound c r z y)
+deletes_bound_is u c [] r z y = refl
+deletes_bound_is u c (x ∷ zs) r z y =
+    deletes_bound_is u (remove c x) zs r z y ∙ ap (λ b. not (has zs z || has zs y) && b) (is_bound-remove c x r z y ∙ (λ i. not (eq_comm z x i || eq_comm y x i) && is_bound c r z y))
+    ∙ turn (has zs z) (has zs y) (nat_eq x z) (nat_eq x y) (is_bound c r z y) where
+      turn : (a b d e v : Bool) → (not (a || b) && (not (d || e) && v)) ≡ (not ((d || a) || (e || b)) && v)
+      turn true b true e v = refl
+      turn true b false e v = refl
+      turn false true true e v = refl
+      turn false true false true v = refl
+      turn false true false false v = refl
+      turn false false true e v = refl
+      turn false false false true v = refl
+      turn false false false false v = refl
+
 pub deletes_bound : (u : Universe) (c : Config) (zs : List ℕ) (r z y : ℕ) → is_bound (after_all u c (deletes zs)) r z y ≡ true → (is_bound c r z y ≡ true) × (has zs z ≡ false)
-deletes_bound u c [] r z y h = (h, refl)
-deletes_bound u c (x ∷ zs) r z y h =
-    let rest = deletes_bound u (remove c x) zs r z y h in
-    let parts = and_parts (not (nat_eq z x || nat_eq y x)) (is_bound c r z y) (sym (is_bound-remove c x r z y) ∙ rest.0) in
-    (parts.1, ap (λ b. b || has zs z) (eq_comm x z ∙ off (nat_eq z x) (nat_eq y x) parts.0) ∙ rest.1) where
+deletes_bound u c zs r z y h =
+    let parts = and_parts (not (has zs z || has zs y)) (is_bound c r z y) (sym (deletes_bound_is u c zs r z y) ∙ h) in
+    (parts.1, off (has zs z) (has zs y) parts.0) where
       off : (a b : Bool) → not (a || b) ≡ true → a ≡ false
       off true b e = absurd (false≢true e)
       off false b e = refl

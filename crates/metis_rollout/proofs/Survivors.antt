@@ -2,19 +2,19 @@
 use Rattle.std.proofs.Common.{◌≡◌, ℕ, zero, suc, Bool, true, false, cond, not, ◌&&◌, ◌||◌, [], ◌∷◌, Option, Some, None, refl, sym, ap, ◌∙◌, subst, nat_eq}
 use Rattle.std.specs.Prelude.{IsSome}
 use Rattle.std.specs.Option.{option_map_or}
-use Rattle.std.proofs.lemmas.Bool.{both_ways, eqb-true, false≢true, not-true}
+use Rattle.std.proofs.lemmas.Bool.{both_ways, eqb-true, false≢true}
 use Rattle.metis_ids.specs.declared.actions.Action.TheVariants.{Delete}
 use Rattle.metis_universe.specs.Universe.{Universe}
 use Rattle.metis_universe.specs.Config.{Config, is_bound, pair_of, remove}
 use Rattle.metis_universe.specs.Step.{after_all}
 use Rattle.metis_universe.proofs.Edits.{is_bound-remove, pair_of-remove}
-use Rattle.metis_rollout.specs.Rollout.{is_referenced, members, next_unreferenced, unreferenced_deletes_within}
-use Rattle.metis_rollout.proofs.Quiet.{find_some, unreferenced_pair}
+use Rattle.metis_rollout.specs.Rollout.{is_referenced, next_unreferenced, unreferenced_deletes_within}
+use Rattle.metis_rollout.proofs.Quiet.{next_one, unreferenced_pair}
 use Rattle.metis_rollout.proofs.UnreferencedFacts.{bound_points}
 
 -- the one that goes next has no binding to it
-next_free : (c : Config) (x : ℕ) → next_unreferenced c ≡ Some x → is_referenced c x ≡ false
-next_free c x is = not-true (is_referenced c x) (find_some (λ z. not (is_referenced c z)) (members c) x is).1
+next_free : (goes : ℕ → Bool) (c : Config) (x : ℕ) → next_unreferenced goes c ≡ Some x → is_referenced c x ≡ false
+next_free goes c x is = (next_one goes c x is).2
 
 -- one that points or is pointed to is another
 other_than : (c : Config) (r z y x : ℕ) → is_bound c r z y ≡ true → is_referenced c x ≡ false → nat_eq y x ≡ false
@@ -48,11 +48,11 @@ module _ (held : ℕ → Bool) where
         (by.0, by.1, by.2, still_bound c x by.0 by.1 z (held_apart c x by.1 h free by.2) (held_apart c x z h free in_it) by.3);
   }
 
-  pub held_stay : (u : Universe) (n : ℕ) (c : Config) → IsHeld c → (z : ℕ) → held z ≡ true → IsSome (pair_of (after_all u c (unreferenced_deletes_within n c)) z)
-  held_stay u zero c h z in_it = h.there z in_it
-  held_stay u (suc n) c h z in_it = elim (next_unreferenced c) as (λ o. next_unreferenced c ≡ o → IsSome (pair_of (after_all u c (option_map_or (λ y. Delete y ∷ unreferenced_deletes_within n (remove c y)) o [])) z)) [
+  pub held_stay : (u : Universe) (goes : ℕ → Bool) (n : ℕ) (c : Config) → IsHeld c → (z : ℕ) → held z ≡ true → IsSome (pair_of (after_all u c (unreferenced_deletes_within goes n c)) z)
+  held_stay u goes zero c h z in_it = h.there z in_it
+  held_stay u goes (suc n) c h z in_it = elim (next_unreferenced goes c) as (λ o. next_unreferenced goes c ≡ o → IsSome (pair_of (after_all u c (option_map_or (λ y. Delete y ∷ unreferenced_deletes_within goes n (remove c y)) o [])) z)) [
     | None ↦ λ _. h.there z in_it
-    | Some x ↦ λ is. held_stay u n (remove c x) (held_still c x h (next_free c x is)) z in_it
+    | Some x ↦ λ is. held_stay u goes n (remove c x) (held_still c x h (next_free goes c x is)) z in_it
   ] refl
 
 -- ---- the bindings of those that stay
@@ -69,12 +69,12 @@ left_other c x z p at = by_value (nat_eq z x) (sym (pair_of-remove c x z) ∙ at
     none≢some p h = cc
   by_value false e = refl
 
-pub bound_stays : (u : Universe) (n : ℕ) (c : Config) (r z y : ℕ) → IsSome (pair_of (after_all u c (unreferenced_deletes_within n c)) z) → is_bound c r z y ≡ true → is_bound (after_all u c (unreferenced_deletes_within n c)) r z y ≡ true
-bound_stays u zero c r z y there bound = bound
-bound_stays u (suc n) c r z y there bound = elim (next_unreferenced c) as (λ o. next_unreferenced c ≡ o → IsSome (pair_of (after_all u c (option_map_or (λ q. Delete q ∷ unreferenced_deletes_within n (remove c q)) o [])) z) → is_bound (after_all u c (option_map_or (λ q. Delete q ∷ unreferenced_deletes_within n (remove c q)) o [])) r z y ≡ true) [
+pub bound_stays : (u : Universe) (goes : ℕ → Bool) (n : ℕ) (c : Config) (r z y : ℕ) → IsSome (pair_of (after_all u c (unreferenced_deletes_within goes n c)) z) → is_bound c r z y ≡ true → is_bound (after_all u c (unreferenced_deletes_within goes n c)) r z y ≡ true
+bound_stays u goes zero c r z y there bound = bound
+bound_stays u goes (suc n) c r z y there bound = elim (next_unreferenced goes c) as (λ o. next_unreferenced goes c ≡ o → IsSome (pair_of (after_all u c (option_map_or (λ q. Delete q ∷ unreferenced_deletes_within goes n (remove c q)) o [])) z) → is_bound (after_all u c (option_map_or (λ q. Delete q ∷ unreferenced_deletes_within goes n (remove c q)) o [])) r z y ≡ true) [
   | None ↦ λ _ _. bound
   | Some x ↦ λ is h.
-      let end = is_there (pair_of (after_all u (remove c x) (unreferenced_deletes_within n (remove c x))) z) h in
-      let off = left_other c x z end.0 (unreferenced_pair u n (remove c x) z end.0 end.1) in
-      bound_stays u n (remove c x) r z y h (still_bound c x r z y off (other_than c r z y x bound (next_free c x is)) bound)
+      let end = is_there (pair_of (after_all u (remove c x) (unreferenced_deletes_within goes n (remove c x))) z) h in
+      let off = left_other c x z end.0 (unreferenced_pair goes u n (remove c x) z end.0 end.1) in
+      bound_stays u goes n (remove c x) r z y h (still_bound c x r z y off (other_than c r z y x bound (next_free goes c x is)) bound)
 ] refl there

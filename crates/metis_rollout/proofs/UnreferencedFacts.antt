@@ -60,49 +60,54 @@ find_first t (x ∷ xs) z s h pass least = elim (t x) as (λ b. t x ≡ b → co
   ]
 ] refl
 
-pub next_is : (c : Config) (unreferenced rest : List ℕ) (z : ℕ) → IsConfig c → AreUnreferenced c unreferenced → unreferenced ≡ z ∷ rest → All (IsLtBy nat_cmp z) rest → next_unreferenced c ≡ Some z
-next_is c unreferenced rest z k same is above =
-    let there : is_unreferenced c z ≡ true = sym (same z) ∙ ap (λ l. has l z) is ∙ or_left (nat_eq z z) (has rest z) (eq-eqb z z refl) in
-    let parts = and_parts (has (members c) z) (not (is_referenced c z)) there in
-    find_first (λ z. not (is_referenced c z)) (members c) z k.ascending parts.0 parts.1
-    (λ w member free. low w (ap (λ l. has l w) (sym is) ∙ same w ∙ (λ i. member i && free i))) where
-      low : (w : ℕ) → (nat_eq z w || has rest w) ≡ true → z ≤ w
-      low w h = elim (or_cases (nat_eq z w) (has rest w) h) [
-        | inl now ↦ let e = eqb-true z w now in omega arith
-        | inr later ↦ above_rest z w rest (recursion_from_All (IsLtBy nat_cmp z) rest above) later
-      ]
+-- whether the instance goes, and no binding points to it
+abbrev pub is_free : (ℕ → Bool) → Config → ℕ → Bool
+is_free goes c z = goes z && not (is_referenced c z)
 
-pub none_is : (c : Config) (unreferenced : List ℕ) → AreUnreferenced c unreferenced → unreferenced ≡ [] → next_unreferenced c ≡ None
-none_is c unreferenced same is = elim (next_unreferenced c) as (λ o. next_unreferenced c ≡ o → o ≡ None) [
-  | None ↦ λ _. refl
-  | Some z ↦ λ found.
-      let first = find_some (λ z. not (is_referenced c z)) (members c) z found in
-      absurd (both_ways (has unreferenced z) (ap (λ l. has l z) is) (same z ∙ (λ i. first.0 i && first.1 i)))
-] refl
+module _ (goes : ℕ → Bool) where
+  pub next_is : (c : Config) (unreferenced rest : List ℕ) (z : ℕ) → IsConfig c → AreUnreferenced goes c unreferenced → unreferenced ≡ z ∷ rest → All (IsLtBy nat_cmp z) rest → next_unreferenced goes c ≡ Some z
+  next_is c unreferenced rest z k same is above =
+      let there : is_unreferenced goes c z ≡ true = sym (same z) ∙ ap (λ l. has l z) is ∙ or_left (nat_eq z z) (has rest z) (eq-eqb z z refl) in
+      let parts = and_parts (has (members c) z) (is_free goes c z) there in
+      find_first (is_free goes c) (members c) z k.ascending parts.0 parts.1
+      (λ w member free. low w (ap (λ l. has l w) (sym is) ∙ same w ∙ (λ i. member i && free i))) where
+        low : (w : ℕ) → (nat_eq z w || has rest w) ≡ true → z ≤ w
+        low w h = elim (or_cases (nat_eq z w) (has rest w) h) [
+          | inl now ↦ let e = eqb-true z w now in omega arith
+          | inr later ↦ above_rest z w rest (recursion_from_All (IsLtBy nat_cmp z) rest above) later
+        ]
 
--- what is left where the least is taken out
-pub but_first : (c : Config) (unreferenced rest : List ℕ) (z : ℕ) → AreUnreferenced c unreferenced → unreferenced ≡ z ∷ rest → All (IsLtBy nat_cmp z) rest → AreUnreferencedBut c z rest
-but_first c unreferenced rest z same is above = λ w. elim (cases_eq w z) [
-  | inl here ↦ subst (λ v. has rest v ≡ (not (nat_eq v z) && is_unreferenced c v)) (sym here) (false_from_ne_true (has rest z) not_there ∙ sym (ap (λ b. not b && is_unreferenced c z) (eq-eqb z z refl)))
-  | inr other ↦ ap (λ b. b || has rest w) (sym (ne_eqb z w (λ e. other (sym e)))) ∙ ap (λ l. has l w) (sym is) ∙ same w ∙ sym (ap (λ b. not b && is_unreferenced c w) (ne_eqb w z other))
-] where
-  below : (xs : List ℕ) → AllByRecursion (IsLtBy nat_cmp z) xs → has xs z ≡ true → ⊥
-  below [] all h = false≢true h
-  below (y ∷ xs) all h = elim (or_cases (nat_eq y z) (has xs z) h) [
-    | inl now ↦ let e = eqb-true y z now in let l = all.0 in grind (arith, nat_tests)
-    | inr later ↦ below xs all.1 later
-  ]
+  pub none_is : (c : Config) (unreferenced : List ℕ) → AreUnreferenced goes c unreferenced → unreferenced ≡ [] → next_unreferenced goes c ≡ None
+  none_is c unreferenced same is = elim (next_unreferenced goes c) as (λ o. next_unreferenced goes c ≡ o → o ≡ None) [
+    | None ↦ λ _. refl
+    | Some z ↦ λ found.
+        let first = find_some (is_free goes c) (members c) z found in
+        absurd (both_ways (has unreferenced z) (ap (λ l. has l z) is) (same z ∙ (λ i. first.0 i && first.1 i)))
+  ] refl
 
-  not_there : has rest z ≡ true → ⊥
-  not_there h = below rest (recursion_from_All (IsLtBy nat_cmp z) rest above) h
+  -- what is left where the least is taken out
+  pub but_first : (c : Config) (unreferenced rest : List ℕ) (z : ℕ) → AreUnreferenced goes c unreferenced → unreferenced ≡ z ∷ rest → All (IsLtBy nat_cmp z) rest → AreUnreferencedBut goes c z rest
+  but_first c unreferenced rest z same is above = λ w. elim (cases_eq w z) [
+    | inl here ↦ subst (λ v. has rest v ≡ (not (nat_eq v z) && is_unreferenced goes c v)) (sym here) (false_from_ne_true (has rest z) not_there ∙ sym (ap (λ b. not b && is_unreferenced goes c z) (eq-eqb z z refl)))
+    | inr other ↦ ap (λ b. b || has rest w) (sym (ne_eqb z w (λ e. other (sym e)))) ∙ ap (λ l. has l w) (sym is) ∙ same w ∙ sym (ap (λ b. not b && is_unreferenced goes c w) (ne_eqb w z other))
+  ] where
+    below : (xs : List ℕ) → AllByRecursion (IsLtBy nat_cmp z) xs → has xs z ≡ true → ⊥
+    below [] all h = false≢true h
+    below (y ∷ xs) all h = elim (or_cases (nat_eq y z) (has xs z) h) [
+      | inl now ↦ let e = eqb-true y z now in let l = all.0 in grind (arith, nat_tests)
+      | inr later ↦ below xs all.1 later
+    ]
 
-pub first_free : (c : Config) (unreferenced rest : List ℕ) (z : ℕ) → AreUnreferenced c unreferenced → unreferenced ≡ z ∷ rest → is_referenced c z ≡ false
-first_free c unreferenced rest z same is =
-    let there : is_unreferenced c z ≡ true = sym (same z) ∙ ap (λ l. has l z) is ∙ or_left (nat_eq z z) (has rest z) (eq-eqb z z refl) in
-    not_true (is_referenced c z) (and_parts (has (members c) z) (not (is_referenced c z)) there).1 where
-      not_true : (b : Bool) → not b ≡ true → b ≡ false
-      not_true true h = absurd (false≢true h)
-      not_true false h = refl
+    not_there : has rest z ≡ true → ⊥
+    not_there h = below rest (recursion_from_All (IsLtBy nat_cmp z) rest above) h
+
+  pub first_free : (c : Config) (unreferenced rest : List ℕ) (z : ℕ) → AreUnreferenced goes c unreferenced → unreferenced ≡ z ∷ rest → is_referenced c z ≡ false
+  first_free c unreferenced rest z same is =
+      let there : is_unreferenced goes c z ≡ true = sym (same z) ∙ ap (λ l. has l z) is ∙ or_left (nat_eq z z) (has rest z) (eq-eqb z z refl) in
+      not_true (is_referenced c z) (and_parts (goes z) (not (is_referenced c z)) (and_parts (has (members c) z) (is_free goes c z) there).1).1 where
+        not_true : (b : Bool) → not b ≡ true → b ≡ false
+        not_true true h = absurd (false≢true h)
+        not_true false h = refl
 
 -- ---- one binding is cut
 
@@ -111,97 +116,106 @@ is_referenced-untie c r z y w other = any-filter_same (λ b. nat_eq b.2 w) (λ b
   kept : (b : Binding) → nat_eq b.2 w ≡ true → not (is_tie r z y b) ≡ true
   kept b at = ap not (false_from_ne_true (is_tie r z y b) (λ h. both_ways (nat_eq w y) other (eq-eqb w y (sym (eqb-true b.2 w at) ∙ ap (λ (x : Binding). x.2) (tie_is r z y b h)))))
 
-pub but_cut : (c d : Config) (unreferenced unreferenced' : List ℕ) (r z y : ℕ) → IsConfig c → is_bound c r z y ≡ true → d ≡ untie c r z y → AreUnreferencedBut c z unreferenced
-    → ((w : ℕ) → has unreferenced' w ≡ (has unreferenced w || (nat_eq w y && not (is_referenced d y)))) → AreUnreferencedBut d z unreferenced'
-but_cut c d unreferenced unreferenced' r z y k bound is same now = subst (λ e. AreUnreferencedBut e z unreferenced') (sym is) (λ w. elim (cases_eq w y) [
-  | inl here ↦ subst (λ v. has unreferenced' v ≡ (not (nat_eq v z) && is_unreferenced (untie c r z y) v)) (sym here) at_provider
-  | inr other ↦ now w ∙ ap (λ b. has unreferenced w || (b && not (is_referenced d y))) (ne_eqb w y other) ∙ or_false (has unreferenced w) ∙ same w
-      ∙ ap (λ b. not (nat_eq w z) && (has (members c) w && not b)) (sym (is_referenced-untie c r z y w (ne_eqb w y other)))
-]) where
-  or_false : (b : Bool) → (b || false) ≡ b
-  or_false true = refl
-  or_false false = refl
+module _ (goes : ℕ → Bool) where
+  pub but_cut : (c d : Config) (unreferenced unreferenced' : List ℕ) (r z y : ℕ) → IsConfig c → is_bound c r z y ≡ true → d ≡ untie c r z y → AreUnreferencedBut goes c z unreferenced
+      → ((w : ℕ) → has unreferenced' w ≡ (has unreferenced w || (nat_eq w y && is_free goes d y))) → AreUnreferencedBut goes d z unreferenced'
+  but_cut c d unreferenced unreferenced' r z y k bound is same now = subst (λ e. AreUnreferencedBut goes e z unreferenced') (sym is) (λ w. elim (cases_eq w y) [
+    | inl here ↦ subst (λ v. has unreferenced' v ≡ (not (nat_eq v z) && is_unreferenced goes (untie c r z y) v)) (sym here) at_provider
+    | inr other ↦ now w ∙ ap (λ b. has unreferenced w || (b && is_free goes d y)) (ne_eqb w y other) ∙ or_false (has unreferenced w) ∙ same w
+        ∙ ap (λ b. not (nat_eq w z) && (has (members c) w && (goes w && not b))) (sym (is_referenced-untie c r z y w (ne_eqb w y other)))
+  ]) where
+    or_false : (b : Bool) → (b || false) ≡ b
+    or_false true = refl
+    or_false false = refl
 
-  and_false : (b : Bool) → (b && false) ≡ false
-  and_false true = refl
-  and_false false = refl
+    and_false : (b : Bool) → (b && false) ≡ false
+    and_false true = refl
+    and_false false = refl
 
-  member : has (members c) y ≡ true
-  member = keys-has c.instances y (k.provider r z y bound)
+    member : has (members c) y ≡ true
+    member = keys-has c.instances y (k.provider r z y bound)
 
-  apart : nat_eq y z ≡ false
-  apart = ne_eqb y z (λ e. k.apart r z y bound (sym e))
+    apart : nat_eq y z ≡ false
+    apart = ne_eqb y z (λ e. k.apart r z y bound (sym e))
 
-  was : has unreferenced y ≡ false
-  was = same y ∙ ap (λ b. not (nat_eq y z) && (has (members c) y && not b)) (bound_points c r z y bound) ∙ ap (λ b. not (nat_eq y z) && b) (and_false (has (members c) y)) ∙ and_false (not (nat_eq y z))
+    was : has unreferenced y ≡ false
+    was = same y ∙ ap (λ b. not (nat_eq y z) && (has (members c) y && (goes y && not b))) (bound_points c r z y bound) ∙ ap (λ b. not (nat_eq y z) && (has (members c) y && b)) (and_false (goes y))
+        ∙ ap (λ b. not (nat_eq y z) && b) (and_false (has (members c) y)) ∙ and_false (not (nat_eq y z))
 
-  at_provider : has unreferenced' y ≡ (not (nat_eq y z) && is_unreferenced (untie c r z y) y)
-  at_provider = now y ∙ (λ i. was i || (eq-eqb y y refl i && not (is_referenced d y))) ∙ ap (λ (e : Config). not (is_referenced e y)) is
-      ∙ sym (λ i. not (apart i) && (member i && not (is_referenced (untie c r z y) y)))
+    at_provider : has unreferenced' y ≡ (not (nat_eq y z) && is_unreferenced goes (untie c r z y) y)
+    at_provider = now y ∙ (λ i. was i || (eq-eqb y y refl i && is_free goes d y)) ∙ ap (λ (e : Config). is_free goes e y) is
+        ∙ sym (λ i. not (apart i) && (member i && is_free goes (untie c r z y) y))
 
--- ---- the instance goes
+  -- ---- the instance goes
 
-assoc : (a b c : Bool) → (a && (b && c)) ≡ ((a && b) && c)
-assoc true b c = refl
-assoc false b c = refl
+  assoc : (a b c : Bool) → (a && (b && c)) ≡ ((a && b) && c)
+  assoc true b c = refl
+  assoc false b c = refl
 
-pub gone : (c d e : Config) (unreferenced : List ℕ) (z : ℕ) → d.instances ≡ c.instances → others z d.bindings ≡ others z c.bindings → others z d.bindings ≡ d.bindings
-    → AreUnreferencedBut d z unreferenced → e ≡ remove d z → (e ≡ remove c z) × AreUnreferenced e unreferenced
-gone c d e unreferenced z instances bindings all same is = (
-  is ∙ (λ i. config_of (filter (λ e. not (nat_eq e.0 z)) (instances i)) (bindings i)),
-  subst (λ f. AreUnreferenced f unreferenced) (sym is) (λ w. same w ∙ assoc (not (nat_eq w z)) (has (members d) w) (not (is_referenced d w))
-      ∙ (λ i. sym (member w) i && not (sym (pointed w) i))),
-) where
-  member : (w : ℕ) → has (members (remove d z)) w ≡ (not (nat_eq w z) && has (members d) w)
-  member w = ap (λ l. has l w) (keys_of-filter (λ k. not (nat_eq k z)) d.instances) ∙ any-filter_same (λ x. nat_eq x w) (λ k. not (nat_eq k z)) (not (nat_eq w z)) (λ x at. ap (λ k. not (nat_eq k z)) (eqb-true x w at)) (members d)
+  pub gone : (c d e : Config) (unreferenced : List ℕ) (z : ℕ) → d.instances ≡ c.instances → others z d.bindings ≡ others z c.bindings → others z d.bindings ≡ d.bindings
+      → AreUnreferencedBut goes d z unreferenced → e ≡ remove d z → (e ≡ remove c z) × AreUnreferenced goes e unreferenced
+  gone c d e unreferenced z instances bindings all same is = (
+    is ∙ (λ i. config_of (filter (λ e. not (nat_eq e.0 z)) (instances i)) (bindings i)),
+    subst (λ f. AreUnreferenced goes f unreferenced) (sym is) (λ w. same w ∙ assoc (not (nat_eq w z)) (has (members d) w) (is_free goes d w)
+        ∙ (λ i. sym (member w) i && (goes w && not (sym (pointed w) i)))),
+  ) where
+    member : (w : ℕ) → has (members (remove d z)) w ≡ (not (nat_eq w z) && has (members d) w)
+    member w = ap (λ l. has l w) (keys_of-filter (λ k. not (nat_eq k z)) d.instances) ∙ any-filter_same (λ x. nat_eq x w) (λ k. not (nat_eq k z)) (not (nat_eq w z)) (λ x at. ap (λ k. not (nat_eq k z)) (eqb-true x w at)) (members d)
 
-  pointed : (w : ℕ) → is_referenced (remove d z) w ≡ is_referenced d w
-  pointed w = ap (list_any (λ b. nat_eq b.2 w)) all
+    pointed : (w : ℕ) → is_referenced (remove d z) w ≡ is_referenced d w
+    pointed w = ap (list_any (λ b. nat_eq b.2 w)) all
 
--- ---- the unreferenced instances one by one
+  -- ---- the unreferenced instances one by one
 
--- the unreferenced instances are those that were put in and those among the instances to come
-abbrev pub AreUnreferencedWith : Config → List ℕ → List (ℕ × ℕ) → Type 0
-AreUnreferencedWith c unreferenced rest = (z : ℕ) → is_unreferenced c z ≡ (has unreferenced z || (has (keys_of rest) z && not (is_referenced c z)))
+  -- the unreferenced instances are those that were put in and those among the instances to come
+  abbrev pub AreUnreferencedWith : Config → List ℕ → List (ℕ × ℕ) → Type 0
+  AreUnreferencedWith c unreferenced rest = (z : ℕ) → is_unreferenced goes c z ≡ (has unreferenced z || (has (keys_of rest) z && is_free goes c z))
 
-pub unreferenced_next : (c : Config) (unreferenced unreferenced' : List ℕ) (old rest : List (ℕ × ℕ)) (e : ℕ × ℕ) → AreUnreferencedWith c unreferenced old → old ≡ e ∷ rest
-    → ((w : ℕ) → has unreferenced' w ≡ (has unreferenced w || (nat_eq w e.0 && not (is_referenced c e.0)))) → AreUnreferencedWith c unreferenced' rest
-unreferenced_next c unreferenced unreferenced' old rest e same is now = λ w.
-    same w ∙ ap (λ l. has unreferenced w || (has (keys_of l) w && not (is_referenced c w))) is
-    ∙ split (has unreferenced w) (nat_eq e.0 w) (has (keys_of rest) w) (not (is_referenced c w))
-    ∙ ap (λ b. (has unreferenced w || b) || (has (keys_of rest) w && not (is_referenced c w))) (own w)
-    ∙ ap (λ b. b || (has (keys_of rest) w && not (is_referenced c w))) (sym (now w)) where
-      split : (a b d f : Bool) → (a || ((b || d) && f)) ≡ ((a || (b && f)) || (d && f))
-      split true b d f = refl
-      split false true true true = refl
-      split false true true false = refl
-      split false true false true = refl
-      split false true false false = refl
-      split false false d f = refl
+  pub unreferenced_next : (c : Config) (unreferenced unreferenced' : List ℕ) (old rest : List (ℕ × ℕ)) (e : ℕ × ℕ) → AreUnreferencedWith c unreferenced old → old ≡ e ∷ rest
+      → ((w : ℕ) → has unreferenced' w ≡ (has unreferenced w || (nat_eq w e.0 && is_free goes c e.0))) → AreUnreferencedWith c unreferenced' rest
+  unreferenced_next c unreferenced unreferenced' old rest e same is now = λ w.
+      same w ∙ ap (λ l. has unreferenced w || (has (keys_of l) w && is_free goes c w)) is
+      ∙ split (has unreferenced w) (nat_eq e.0 w) (has (keys_of rest) w) (is_free goes c w)
+      ∙ ap (λ b. (has unreferenced w || b) || (has (keys_of rest) w && is_free goes c w)) (own w)
+      ∙ ap (λ b. b || (has (keys_of rest) w && is_free goes c w)) (sym (now w)) where
+        split : (a b d f : Bool) → (a || ((b || d) && f)) ≡ ((a || (b && f)) || (d && f))
+        split true b d f = refl
+        split false true true true = refl
+        split false true true false = refl
+        split false true false true = refl
+        split false true false false = refl
+        split false false d f = refl
 
-      own : (w : ℕ) → (nat_eq e.0 w && not (is_referenced c w)) ≡ (nat_eq w e.0 && not (is_referenced c e.0))
-      own w = elim (cases_eq w e.0) [
-        | inl here ↦ λ i. eq_comm e.0 w i && not (is_referenced c (here i))
-        | inr other ↦ ap (λ b. b && not (is_referenced c w)) (ne_eqb e.0 w (λ x. other (sym x))) ∙ sym (ap (λ b. b && not (is_referenced c e.0)) (ne_eqb w e.0 other))
-      ]
+        own : (w : ℕ) → (nat_eq e.0 w && is_free goes c w) ≡ (nat_eq w e.0 && is_free goes c e.0)
+        own w = elim (cases_eq w e.0) [
+          | inl here ↦ λ i. eq_comm e.0 w i && is_free goes c (here i)
+          | inr other ↦ ap (λ b. b && is_free goes c w) (ne_eqb e.0 w (λ x. other (sym x))) ∙ sym (ap (λ b. b && is_free goes c e.0) (ne_eqb w e.0 other))
+        ]
 
-pub unreferenced_are : (c : Config) (unreferenced : List ℕ) (rest : List (ℕ × ℕ)) → AreUnreferencedWith c unreferenced rest → rest ≡ [] → AreUnreferenced c unreferenced
-unreferenced_are c unreferenced rest same is = λ z. sym (same z ∙ ap (λ l. has unreferenced z || (has (keys_of l) z && not (is_referenced c z))) is ∙ or_false (has unreferenced z)) where
-  or_false : (b : Bool) → (b || false) ≡ b
-  or_false true = refl
-  or_false false = refl
+  pub unreferenced_are : (c : Config) (unreferenced : List ℕ) (rest : List (ℕ × ℕ)) → AreUnreferencedWith c unreferenced rest → rest ≡ [] → AreUnreferenced goes c unreferenced
+  unreferenced_are c unreferenced rest same is = λ z. sym (same z ∙ ap (λ l. has unreferenced z || (has (keys_of l) z && is_free goes c z)) is ∙ or_false (has unreferenced z)) where
+    or_false : (b : Bool) → (b || false) ≡ b
+    or_false true = refl
+    or_false false = refl
+
+  pub inserted : (c : Config) (y : ℕ) (unreferenced unreferenced' : List ℕ) → is_free goes c y ≡ true → unreferenced' ≡ insert_key nat_cmp unreferenced y
+      → (z : ℕ) → has unreferenced' z ≡ (has unreferenced z || (nat_eq z y && is_free goes c y))
+  inserted c y unreferenced unreferenced' free is z =
+      ap (λ l. has l z) is ∙ has-insert_key z y unreferenced ∙ ap (λ b. b || has unreferenced z) (eq_comm y z) ∙ turn (nat_eq z y) (has unreferenced z)
+      ∙ sym (ap (λ b. has unreferenced z || (nat_eq z y && b)) free) where
+        turn : (a b : Bool) → (a || b) ≡ (b || (a && true))
+        turn true true = refl
+        turn true false = refl
+        turn false true = refl
+        turn false false = refl
+
+  pub not_inserted : (c : Config) (y : ℕ) (unreferenced : List ℕ) → is_free goes c y ≡ false → (z : ℕ) → has unreferenced z ≡ (has unreferenced z || (nat_eq z y && is_free goes c y))
+  not_inserted c y unreferenced free z = sym (ap (λ b. has unreferenced z || (nat_eq z y && b)) free ∙ none (has unreferenced z) (nat_eq z y)) where
+    none : (a b : Bool) → (a || (b && false)) ≡ a
+    none true b = refl
+    none false true = refl
+    none false false = refl
 
 pub no_keys : (ks : List ℕ) → (0 < length ks → false ≡ true) → ks ≡ []
 no_keys [] h = refl
 no_keys (k ∷ ks) h = absurd (false≢true (h (omega arith)))
-
-pub inserted : (c : Config) (y : ℕ) (unreferenced unreferenced' : List ℕ) → is_referenced c y ≡ false → unreferenced' ≡ insert_key nat_cmp unreferenced y
-    → (z : ℕ) → has unreferenced' z ≡ (has unreferenced z || (nat_eq z y && not (is_referenced c y)))
-inserted c y unreferenced unreferenced' none is z =
-    ap (λ l. has l z) is ∙ has-insert_key z y unreferenced ∙ ap (λ b. b || has unreferenced z) (eq_comm y z) ∙ turn (nat_eq z y) (has unreferenced z)
-    ∙ sym (ap (λ b. has unreferenced z || (nat_eq z y && not b)) none) where
-      turn : (a b : Bool) → (a || b) ≡ (b || (a && true))
-      turn true true = refl
-      turn true false = refl
-      turn false true = refl
-      turn false false = refl

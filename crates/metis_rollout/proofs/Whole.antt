@@ -1,36 +1,38 @@
--- The whole list: the old instances are removed, those bound in a cycle beside a scaffold, and the fresh ones stand alone.
+-- The whole removal: what goes is removed, that which is bound in a cycle beside a scaffold. So in a rollout the fresh instances stand alone.
 use Rattle.std.proofs.Common.{◌≡◌, ℕ, zero, suc, ◌+◌, ◌<◌, ◌≤◌, Bool, true, false, cond, ◌||◌, List, [], ◌∷◌, ◌++◌, Some, None, refl, sym, ap, ◌∙◌, subst, arith, nat_eq, map, length, append_assoc, append-nil, inl, inr}
 use Rattle.std.specs.Prelude.{IsSome, slice_get}
 use Rattle.std.specs.List.{count_by}
 use Rattle.std.specs.Map.{lookup}
-use Rattle.std.proofs.lemmas.Bool.{cases_lt, eq-eqb, false≢true, or_left, or_right, false_from_ne_true}
+use Rattle.std.proofs.lemmas.Bool.{cases_lt, eq-eqb, false≢true, or_cases, or_left, or_right, false_from_ne_true}
 use Rattle.std.proofs.lemmas.List.Folds.{list_any-append}
 use Rattle.metis_ids.specs.declared.actions.Action.{Action}
 use Rattle.metis_universe.specs.Universe.{Universe, IsUniverse, has, is_empty, pair_count}
 use Rattle.metis_universe.specs.Config.{Config, empty, is_bound, pair_of}
 use Rattle.metis_universe.specs.Goal.{Holds, holding}
 use Rattle.metis_universe.specs.Layers.{layer_set}
-use Rattle.metis_universe.specs.Step.{after_all}
+use Rattle.metis_universe.specs.Step.{IsRun, after_all}
 use Rattle.metis_universe.specs.Steadfast.{is_new, IsSteadfastRun}
 use Rattle.metis_universe.proofs.Attained.{Closed-layers}
 use Rattle.metis_universe.proofs.Inside.{IsInside-after_all, IsInside-empty}
 use Rattle.metis_universe.proofs.Kept.{IsConfig-empty}
-use Rattle.metis_layers.proofs.Going.{GoesOn, GoesOn-append, after_all-append, at, run_from_going}
+use Rattle.metis_layers.proofs.Going.{GoesOn, GoesOn-append, after_all-append, at}
 use Rattle.metis_layers.proofs.LayerFacts.{HasLayer, layer_by}
 use Rattle.metis_layers.proofs.Slots.{Stand}
 use Rattle.metis_layers.specs.LayerOrder.{place_of}
-use Rattle.metis_rollout.specs.Rollout.{cycle_removal, cleared_by, fresh_name, idle_unbinds, unreferenced_deletes, members, news_of, pairs_in, removal, renumber, renumbered, rollout, scaffold_ends, scaffold_holder, scaffold_list, scaffold_name}
+use Rattle.metis_rollout.specs.Removal.{AreFree, CanTake, IsNamed, IsWithout, MayGo, taking}
+use Rattle.metis_rollout.specs.Rollout.{all_go, among, cycle_removal, first_unbinds, fresh_name, unreferenced_deletes, members, news_of, pairs_in, removal, renumber, renumbered, rollout, scaffold_ends, scaffold_holder, scaffold_list, scaffold_name}
 use Rattle.metis_rollout.specs.Standing.{AreTogether, is_made}
-use Rattle.metis_rollout.proofs.Cycles.{Scene, taken_down, taken_down_goes, taken_down_gone}
+use Rattle.metis_rollout.proofs.Among.{may_all, pair_from}
+use Rattle.metis_rollout.proofs.Cycles.{Scene, taken_down, taken_down_bound, taken_down_goes, taken_down_pair}
 use Rattle.metis_rollout.proofs.FreeNumbers.{free_number-apart, free_number-free}
-use Rattle.metis_rollout.proofs.Going.{going_from_steady}
+use Rattle.metis_rollout.proofs.Going.{going_from_steady, steady_from_going}
 use Rattle.metis_rollout.proofs.Holding.{renumbered_holds}
-use Rattle.metis_rollout.proofs.Quiet.{quiet_goes, quiet_makes_none}
-use Rattle.metis_rollout.proofs.Removal.{Removes, cleared, cleared_goes, cleared_leaves, cleared_makes, cleared_removes, left, left_correct, left_good, replaces, short, short_rollout, stood, untied}
+use Rattle.metis_rollout.proofs.Quiet.{QuietFrom, quiet_goes, quiet_makes_none}
+use Rattle.metis_rollout.proofs.Removal.{Removed, cleared, cleared_goes, cleared_leaves, cleared_makes, cleared_quiet, left, left_closed, left_correct, left_good, left_pair, replaces, short, short_removed, stood, untied, without_from}
 use Rattle.metis_rollout.proofs.Renaming.{bound_ren, pair_ren, ren_goes, touches_ren}
 use Rattle.metis_rollout.proofs.Required.{needed_first}
 use Rattle.metis_rollout.proofs.Scaffold.{holders_differ, scaffold_down, scaffold_goes, scaffold_serves, slot, slot_back}
-use Rattle.metis_rollout.proofs.Together.{beside, fresh_images, fresh_unused, has-news, touches_own}
+use Rattle.metis_rollout.proofs.Together.{beside, fresh_images, has-news, touches_own}
 use Rattle.metis_rollout.proofs.Touching.{AllTouch, At, bound_touched, pair_touched, used_touched}
 
 some_of_pair : (es : List (ℕ × ℕ)) (z p : ℕ) → lookup (nat_eq z) es ≡ Some p → has (map (λ e. e.1) es) p ≡ true
@@ -56,25 +58,21 @@ inside [] k low = absurd (omega arith)
 inside (x ∷ xs) zero low = refl
 inside (x ∷ xs) (suc k) low = inside xs k (omega arith)
 
--- each pair that stands has a layer
-pub layer : (u : Universe) → IsUniverse u → (old : List Action) → IsSteadfastRun u old → (z p : ℕ) → pair_of (left u old) z ≡ Some p → HasLayer u p (pair_count u)
-layer u k old s z p there =
-    let going = going_from_steady u old s in
-    layer_by u p (pair_count u)
-    (IsInside-after_all u (layer_set u (pair_count u)) empty (old ++ cleared u old) (Closed-layers u k) IsConfig-empty (IsInside-empty (layer_set u (pair_count u))) (run_from_going u [] (old ++ cleared u old) (cleared_goes u old going)) z p (ap (λ d. pair_of d z) (cleared_leaves u old going) ∙ there))
+-- each pair that is left has a layer
+pub layer : (u : Universe) → IsUniverse u → (goes : ℕ → Bool) (xs : List Action) → IsRun u empty xs → (z p : ℕ) → pair_of (left u goes xs) z ≡ Some p → HasLayer u p (pair_count u)
+layer u k goes xs run z p there =
+    layer_by u p (pair_count u) (IsInside-after_all u (layer_set u (pair_count u)) empty xs (Closed-layers u k) IsConfig-empty (IsInside-empty (layer_set u (pair_count u))) run z p (left_pair u goes xs z p there))
 
-module _ (u : Universe) (k : IsUniverse u) (old fresh : List Action) (s : IsSteadfastRun u old) (t : IsSteadfastRun u fresh) where
-  going : GoesOn u [] old
-  going = going_from_steady u old s
+module _ (u : Universe) (k : IsUniverse u) (goes : ℕ → Bool) (f : ℕ → ℕ) (xs : List Action) (s : IsSteadfastRun u xs) (may : MayGo u goes (at u xs)) (free : AreFree xs f) where
+  going : GoesOn u [] xs
+  going = going_from_steady u xs s
 
-  fresh_going : GoesOn u [] fresh
-  fresh_going = going_from_steady u fresh t
-
-  abbrev f : ℕ → ℕ
-  f = scaffold_name old fresh
+  -- what the two first steps leave, and what of it goes
+  abbrev all : Config
+  all = left u goes xs
 
   abbrev what : Config
-  what = left u old
+  what = among goes all
 
   abbrev g : List ℕ
   g = pairs_in what
@@ -93,24 +91,7 @@ module _ (u : Universe) (k : IsUniverse u) (old fresh : List Action) (s : IsStea
   list = scaffold_list u g
 
   abbrev S : ℕ → Bool
-  S = is_made old
-
-  -- ---- names
-
-  names_free : (n : ℕ) → S (f n) ≡ false
-  names_free n = sym (has-news old (f n)) ∙ free_number-free (news_of old) (length (news_of fresh) + n)
-
-  names_apart : (n m : ℕ) → f n ≡ f m → n ≡ m
-  names_apart n m e = let h = free_number-apart (news_of old) (length (news_of fresh) + n) (length (news_of fresh) + m) e in omega arith
-
-  -- no fresh instance has the name of one of the scaffold
-  names_other : (x n : ℕ) → is_made fresh x ≡ true → fresh_name old fresh x ≡ f n → ⊥
-  names_other x n used e =
-      let h = free_number-apart (news_of old) (place_of (news_of fresh) x) (length (news_of fresh) + n) e in
-      let low = below_length (news_of fresh) x (has-news fresh x ∙ used) in
-      too_low (place_of (news_of fresh) x) (length (news_of fresh)) h low where
-        too_low : (p l : ℕ) → p ≡ l + n → p < l → ⊥
-        too_low p l e low = omega arith
+  S = is_made xs
 
   -- ---- the scaffold's list
 
@@ -133,7 +114,7 @@ module _ (u : Universe) (k : IsUniverse u) (old fresh : List Action) (s : IsStea
   ]
 
   apart : (z w : ℕ) → K z ≡ true → f z ≡ f w → z ≡ w
-  apart z w h e = names_apart z w e
+  apart z w h e = free.apart z w e
 
   abbrev scaffold : List Action
   scaffold = map (renumber f) list
@@ -153,16 +134,16 @@ module _ (u : Universe) (k : IsUniverse u) (old fresh : List Action) (s : IsStea
   -- ---- beside what is left
 
   abbrev cut : List Action
-  cut = old ++ cleared u old
+  cut = xs ++ cleared u goes xs
 
   cut_used : (z : ℕ) → is_made cut z ≡ S z
-  cut_used z = cleared_makes u old going z
+  cut_used z = cleared_makes u goes xs going may z
 
   beside_cut : GoesOn u [] (cut ++ scaffold) × AreTogether u cut scaffold (at u (cut ++ scaffold))
   beside_cut =
       let e = append-nil cut in
-      let two = beside u cut scaffold [] (subst (GoesOn u []) (sym e) (cleared_goes u old going)) scaffold_going
-      (λ z h. ap (λ l. is_made l z) e ∙ cut_used z ∙ (let of = used_touched Image z scaffold images h in ap S (sym of.2) ∙ names_free of.0)) in
+      let two = beside u cut scaffold [] (subst (GoesOn u []) (sym e) (cleared_goes u goes xs going may)) scaffold_going
+      (λ z h. ap (λ l. is_made l z) e ∙ cut_used z ∙ (let of = used_touched Image z scaffold images h in ap S (sym of.2) ∙ free.free of.0)) in
       let w = ap (λ l. cut ++ l) (append-nil scaffold) in (
         subst (GoesOn u []) w two.0,
         subst (λ l. AreTogether u cut scaffold (at u l)) w (subst (λ l. AreTogether u l scaffold (at u (cut ++ (scaffold ++ [])))) e two.1),
@@ -171,20 +152,21 @@ module _ (u : Universe) (k : IsUniverse u) (old fresh : List Action) (s : IsStea
   abbrev c : Config
   c = at u (cut ++ scaffold)
 
-  leaves : at u cut ≡ what
-  leaves = cleared_leaves u old going
+  leaves : at u cut ≡ all
+  leaves = cleared_leaves u goes xs going may
 
-  scene : Scene u what c S f holder slot_of ends
+  scene : Scene u goes all c S f holder slot_of ends
   scene = record {
     universe = k;
-    good = (left_good u old going).0;
+    good = (left_good u goes xs going may).0;
+    closed = left_closed u goes xs;
     correct = left_correct u (cut ++ scaffold) beside_cut.0;
-    olds = λ z h. sym (cut_used z) ∙ pair_touched (At (is_made cut)) u z cut (touches_own u cut (cleared_goes u old going)) (subst IsSome (sym (ap (λ d. pair_of d z) leaves)) h);
-    names = names_free;
-    injective = names_apart;
+    olds = λ z h. sym (cut_used z) ∙ pair_touched (At (is_made cut)) u z cut (touches_own u cut (cleared_goes u goes xs going may)) (subst IsSome (sym (ap (λ d. pair_of d z) leaves)) h);
+    names = free.free;
+    injective = free.apart;
     old_pairs = λ z h. beside_cut.1.old_pairs z (cut_used z ∙ h) ∙ ap (λ d. pair_of d z) leaves;
     old_bound = λ r z y h. beside_cut.1.old_bindings r z y (cut_used z ∙ h) ∙ ap (λ d. is_bound d r z y) leaves;
-    new_pairs = λ n low. beside_cut.1.new_pairs (f n) (cut_used (f n) ∙ names_free n) ∙ pair_ren u f K apart n list (made n low) ∙ stand.pairs n;
+    new_pairs = λ n low. beside_cut.1.new_pairs (f n) (cut_used (f n) ∙ free.free n) ∙ pair_ren u f K apart n list (made n low) ∙ stand.pairs n;
     new_only = λ z h is.
         let of = pair_touched Image u z scaffold images (subst IsSome (beside_cut.1.new_pairs z (cut_used z ∙ h)) is) in
         (of.0, made_low of.0 of.1, of.2);
@@ -196,57 +178,91 @@ module _ (u : Universe) (k : IsUniverse u) (old fresh : List Action) (s : IsStea
         let down = scaffold_down u k g of.0.0 r (slot_of r of.1.0) needs in
         let same = slot_back u k g r of.1.0 (needed_first u ends of.0.0 r (slot_of r of.1.0) needs) in
         (of.0.0, of.1.0, made_low of.0.0 of.0.1, subst (λ n. n < of.0.0) same down, of.0.2, of.1.2);
-    filled = λ z p r j there needs. let at_p = layer u k old s z p there in scaffold_serves u k g p at_p.layer r j (some_of_pair what.instances z p there) at_p.is needs;
+    filled = λ z p r j there needs.
+        let at_p = layer u k goes xs s.run z p (pair_from goes all z p there).1 in
+        scaffold_serves u k g p at_p.layer r j (some_of_pair what.instances z p there) at_p.is needs;
     slots_differ = holders_differ u k g;
   }
 
+  abbrev last : List Action
+  last = taken_down u goes all c S f holder slot_of ends scene
+
+  last_goes : QuietFrom u c last
+  last_goes = taken_down_goes u goes all c S f holder slot_of ends scene
+
   abbrev rest : List Action
-  rest = cleared u old ++ (scaffold ++ taken_down u what c S f holder slot_of ends scene)
+  rest = cleared u goes xs ++ (scaffold ++ last)
 
-  same_list : (cut ++ scaffold) ++ taken_down u what c S f holder slot_of ends scene ≡ old ++ rest
-  same_list = append_assoc cut scaffold (taken_down u what c S f holder slot_of ends scene) ∙ append_assoc old (cleared u old) (scaffold ++ taken_down u what c S f holder slot_of ends scene)
+  same_list : (cut ++ scaffold) ++ last ≡ xs ++ rest
+  same_list = append_assoc cut scaffold last ∙ append_assoc xs (cleared u goes xs) (scaffold ++ last)
 
-  rest_goes : GoesOn u [] (old ++ rest)
-  rest_goes = subst (GoesOn u []) same_list
-      (GoesOn-append u [] (cut ++ scaffold) (taken_down u what c S f holder slot_of ends scene) beside_cut.0 (quiet_goes u (cut ++ scaffold) (taken_down u what c S f holder slot_of ends scene) (taken_down_goes u what c S f holder slot_of ends scene)))
+  leaves_last : at u (xs ++ rest) ≡ after_all u c last
+  leaves_last = ap (at u) (sym same_list) ∙ after_all-append u empty (cut ++ scaffold) last
 
-  rest_gone : (z : ℕ) → pair_of (at u (old ++ rest)) z ≡ None
-  rest_gone z = ap (λ l. pair_of (at u l) z) (sym same_list) ∙ ap (λ d. pair_of d z) (after_all-append u empty (cut ++ scaffold) (taken_down u what c S f holder slot_of ends scene)) ∙ taken_down_gone u what c S f holder slot_of ends scene z
+  rest_makes : (z : ℕ) → is_made rest z ≡ true → IsNamed f z
+  rest_makes z h = elim (or_cases (is_made (cleared u goes xs) z) (is_made (scaffold ++ last) z) (sym (list_any-append (is_new z) (cleared u goes xs) (scaffold ++ last)) ∙ h)) [
+    | inl early ↦ absurd (false≢true (sym (quiet_makes_none u (at u xs) (cleared u goes xs) z (cleared_quiet u goes xs going may)) ∙ early))
+    | inr later ↦ elim (or_cases (is_made scaffold z) (is_made last z) (sym (list_any-append (is_new z) scaffold last) ∙ later)) [
+      | inl is ↦ let of = used_touched Image z scaffold images is in (of.0, of.2)
+      | inr late ↦ absurd (false≢true (sym (quiet_makes_none u c last z last_goes) ∙ late))
+    ]
+  ]
 
-  rest_apart : (z : ℕ) → is_made (renumbered old fresh) z ≡ true → is_made (old ++ rest) z ≡ false
-  rest_apart z h =
-      let of = used_touched _ z (renumbered old fresh) (fresh_images u old fresh fresh_going) h in
-      ap (λ l. is_made l z) (sym same_list)
-      ∙ list_any-append (is_new z) (cut ++ scaffold) (taken_down u what c S f holder slot_of ends scene)
-      ∙ ap (λ b. is_made (cut ++ scaffold) z || b) (quiet_makes_none u c (taken_down u what c S f holder slot_of ends scene) z (taken_down_goes u what c S f holder slot_of ends scene))
-      ∙ ap (λ b. b || false) (list_any-append (is_new z) cut scaffold ∙ ap (λ b. b || is_made scaffold z) (cut_used z ∙ fresh_unused u old fresh fresh_going z h))
-      ∙ ap (λ b. b || false) (false_from_ne_true (is_made scaffold z) (λ is. let by = used_touched Image z scaffold images is in names_other of.0 by.0 of.1 (of.2 ∙ sym by.2)))
+  long_removed : Removed u goes f xs rest
+  long_removed = record {
+    goes_on = subst (GoesOn u []) same_list (GoesOn-append u [] (cut ++ scaffold) last beside_cut.0 (quiet_goes u (cut ++ scaffold) last last_goes));
+    makes = rest_makes;
+    without = subst (IsWithout u goes (at u xs)) (sym leaves_last) (without_from u goes xs (after_all u c last)
+        (taken_down_pair u goes all c S f holder slot_of ends scene)
+        (taken_down_bound u goes all c S f holder slot_of ends scene));
+  }
 
-  with_scaffold : is_empty (members what) ≡ false → removal u f (stood u old) ≡ rest
+  with_scaffold : is_empty (members what) ≡ false → removal u goes f (stood u goes xs) ≡ rest
   with_scaffold some =
-      ap (λ b. idle_unbinds u (stood u old) ++ (unreferenced_deletes (untied u old) ++ cond b [] (cycle_removal u f what))) some
-      ∙ sym (append_assoc (idle_unbinds u (stood u old)) (unreferenced_deletes (untied u old)) (cycle_removal u f what))
+      ap (λ b. first_unbinds u goes (at u xs) ++ (unreferenced_deletes goes (untied u goes xs) ++ cond b [] (cycle_removal u f what))) some
+      ∙ sym (append_assoc (first_unbinds u goes (at u xs)) (unreferenced_deletes goes (untied u goes xs)) (cycle_removal u f what))
 
-  -- the removal makes nothing that the fresh list makes, and leaves nothing
-  pub removes : Removes u old (removal u f (stood u old)) (renumbered old fresh)
-  removes = elim (is_empty (members what)) as (λ b. is_empty (members what) ≡ b → Removes u old (removal u f (stood u old)) (renumbered old fresh)) [
-    | true ↦ λ none. subst (λ l. Removes u old l (renumbered old fresh)) (sym (short u old fresh none)) (cleared_removes u old fresh s t none)
-    | false ↦ λ some. subst (λ l. Removes u old l (renumbered old fresh)) (sym (with_scaffold some)) (record { goes = rest_goes; apart = rest_apart; gone = rest_gone })
+  pub removed : Removed u goes f xs (removal u goes f (after_all u empty xs))
+  removed = elim (is_empty (members what)) as (λ b. is_empty (members what) ≡ b → Removed u goes f xs (removal u goes f (at u xs))) [
+    | true ↦ λ none. subst (Removed u goes f xs) (sym (short u goes f xs none)) (short_removed u goes f xs none going may)
+    | false ↦ λ some. subst (Removed u goes f xs) (sym (with_scaffold some)) long_removed
   ] refl
 
-  -- with a scaffold
-  long : is_empty (members what) ≡ false → IsSteadfastRun u (rollout u old fresh) × (after_all u empty (rollout u old fresh) ≡ after_all u empty (renumbered old fresh))
-  long some =
-      let shape = with_scaffold some in
-      let e : rollout u old fresh ≡ old ++ (renumbered old fresh ++ rest) = ap (λ l. old ++ (renumbered old fresh ++ l)) shape in
-      let done = replaces u old fresh rest t (record { goes = rest_goes; apart = rest_apart; gone = rest_gone }) in
-      (subst (IsSteadfastRun u) (sym e) done.0, ap (after_all u empty) e ∙ done.1)
+-- what goes is removed by a run that goes on, and leaves what stays
+pub removes : (u : Universe) (goes : ℕ → Bool) (name : ℕ → ℕ) (xs : List Action) → IsUniverse u → CanTake u goes name xs
+    → IsSteadfastRun u (xs ++ taking u goes name xs) × IsWithout u goes (after_all u empty xs) (after_all u empty (xs ++ taking u goes name xs))
+removes u goes name xs k can =
+    let r = removed u k goes name xs can.steady can.may can.free in
+    (steady_from_going u (xs ++ taking u goes name xs) r.goes_on, r.without)
 
-  pub whole : IsSteadfastRun u (rollout u old fresh) × (after_all u empty (rollout u old fresh) ≡ after_all u empty (renumbered old fresh))
-  whole = elim (is_empty (members what)) as (λ b. is_empty (members what) ≡ b → IsSteadfastRun u (rollout u old fresh) × (after_all u empty (rollout u old fresh) ≡ after_all u empty (renumbered old fresh))) [
-    | true ↦ λ none. short_rollout u old fresh s t (subst (λ d. is_empty (members d) ≡ true) (sym leaves) none)
-    | false ↦ λ some. long some
-  ] refl
+-- ---- a rollout
+
+module _ (old fresh : List Action) where
+  pub scaffold_free : AreFree old (scaffold_name old fresh)
+  scaffold_free = record {
+    apart = λ n m e. let h = free_number-apart (news_of old) (length (news_of fresh) + n) (length (news_of fresh) + m) e in omega arith;
+    free = λ n. sym (has-news old (scaffold_name old fresh n)) ∙ free_number-free (news_of old) (length (news_of fresh) + n);
+  }
+
+  -- no fresh instance has the name of one of the scaffold
+  names_other : (x n : ℕ) → is_made fresh x ≡ true → fresh_name old fresh x ≡ scaffold_name old fresh n → ⊥
+  names_other x n used e =
+      let h = free_number-apart (news_of old) (place_of (news_of fresh) x) (length (news_of fresh) + n) e in
+      let low = below_length (news_of fresh) x (has-news fresh x ∙ used) in
+      too_low (place_of (news_of fresh) x) (length (news_of fresh)) h low where
+        too_low : (p l : ℕ) → p ≡ l + n → p < l → ⊥
+        too_low p l e low = omega arith
+
+  pub fresh_other : (u : Universe) → GoesOn u [] fresh → (z : ℕ) → is_made (renumbered old fresh) z ≡ true → IsNamed (scaffold_name old fresh) z → ⊥
+  fresh_other u go z h named =
+      let of = used_touched _ z (renumbered old fresh) (fresh_images u old fresh go) h in
+      names_other of.0 named.0 of.1 (of.2 ∙ sym named.1)
+
+pub whole : (u : Universe) → IsUniverse u → (old fresh : List Action) → IsSteadfastRun u old → IsSteadfastRun u fresh → IsSteadfastRun u (rollout u old fresh) × (after_all u empty (rollout u old fresh) ≡ after_all u empty (renumbered old fresh))
+whole u k old fresh s t =
+    let name = scaffold_name old fresh in
+    let r = removed u k all_go name old s (may_all u (at u old)) (scaffold_free old fresh) in
+    replaces u name old fresh (removal u all_go name (at u old)) t r (λ z h. false_from_ne_true _ (λ made. fresh_other old fresh u (going_from_steady u fresh t) z h (r.makes z made)))
 
 pub replaced : (u : Universe) (old fresh : List Action) → IsUniverse u → IsSteadfastRun u old → IsSteadfastRun u fresh
     → IsSteadfastRun u (rollout u old fresh) × (after_all u empty (rollout u old fresh) ≡ after_all u empty (renumbered old fresh)) × ((g : List ℕ) → Holds (after_all u empty fresh) g → Holds (after_all u empty (rollout u old fresh)) g)
@@ -256,11 +272,3 @@ replaced u old fresh k s t =
 
 pub taken_apart : (u : Universe) (old : List Action) → IsUniverse u → IsSteadfastRun u old → IsSteadfastRun u (rollout u old []) × (after_all u empty (rollout u old []) ≡ empty)
 taken_apart u old k s = whole u k old [] s (record { run = tt; steadfast = refl })
-
--- no scaffold is made where the two first steps leave nothing
-pub without_scaffold : (u : Universe) (old fresh : List Action) → IsSteadfastRun u old → IsSteadfastRun u fresh → is_empty (members (after_all u empty (old ++ cleared_by u old))) ≡ true
-    → (rollout u old fresh ≡ old ++ (renumbered old fresh ++ cleared_by u old)) × IsSteadfastRun u (rollout u old fresh) × (after_all u empty (rollout u old fresh) ≡ after_all u empty (renumbered old fresh))
-without_scaffold u old fresh s t none =
-    let nothing : is_empty (members (left u old)) ≡ true = subst (λ d. is_empty (members d) ≡ true) (cleared_leaves u old (going_from_steady u old s)) none in
-    let done = short_rollout u old fresh s t none in
-    (ap (λ l. old ++ (renumbered old fresh ++ l)) (short u old fresh nothing), done.0, done.1)

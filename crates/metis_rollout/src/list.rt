@@ -10,9 +10,8 @@ ghost use Rattle.metis_rollout.specs.Rolled.{IsRollout};
 ghost use Rattle.metis_rollout.specs.Rollout.{free_number, news_of, renumbered};
 ghost use Rattle.metis_universe.specs.Steadfast.{IsSteadfastRun};
 
-use crate::clearing::clear;
-use crate::cyclic::remove_cycles;
 use crate::names::{made_by, names_for, next_free, push_renumbered};
+use crate::removing::remove;
 use crate::standing::left_by;
 use metis_config::Config;
 use metis_ids::{Action, InstNo, NoMemory};
@@ -64,11 +63,8 @@ pub fn rollout_from(
     let used = made_by(alloc, old)?;
     let mut next = next_free(&used, 0);
     let mut actions = side_by_side(alloc, &used, &mut next, old, fresh)?;
-    let mut c = left;
-    clear(alloc, u, &mut c, &mut actions)?;
-    if c.count() > 0 {
-        remove_cycles(alloc, u, l, &used, &mut next, &c, &mut actions)?;
-    }
+    let stays = BTreeSet::new(alloc);
+    remove(alloc, u, l, left, &stays, &used, &mut next, &mut actions)?;
     Ok(actions)
 }
 

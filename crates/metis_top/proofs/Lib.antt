@@ -1,5 +1,8 @@
 pub mod Answered
+pub mod Codes
+pub mod InBytes
 pub mod Deployments
+pub mod FileWords
 pub mod Gathered
 pub mod Openings
 pub mod OverFiles

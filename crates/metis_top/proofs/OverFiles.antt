@@ -1,5 +1,5 @@
 -- Runs over files whose bytes are told, without faults.
-use Rattle.std.proofs.Common.{◌≡◌, ◌≢◌, sym, ℕ, ◌≤◌, List, [], ◌∷◌, length, ◌+◌, take, Ok, None, Some, IfSome, true, refl, ap, ◌∙◌, subst, inl, inr, arith, nat_le, if◌then◌else◌}
+use Rattle.std.proofs.Common.{◌≡◌, ◌≢◌, sym, ℕ, ◌≤◌, Bool, List, [], ◌∷◌, length, ◌+◌, take, Ok, None, Some, IfSome, true, refl, ap, ◌∙◌, subst, inl, inr, arith, nat_le, if◌then◌else◌}
 use Rattle.std.proofs.lemmas.List.{take_all}
 use Rattle.std.proofs.lemmas.Bool.Decides.{nat_tests}
 use Rattle.std.specs.declared.option.Option.{Option}
@@ -10,13 +10,14 @@ use Rattle.metis_output.specs.declared.status.Status.TheVariants.{Done, No, NoMe
 use Rattle.metis_choice.specs.Resolutions.{ArePairsFor}
 use Rattle.metis_ids.specs.Plans.{Plan}
 use Rattle.metis_ids.specs.declared.goals.Goal.{Goal}
-use Rattle.metis_outside.specs.Writes.{Appends}
+use Rattle.metis_outside.specs.Writes.{Appends, Written}
 use Rattle.metis_universe.specs.Tidy.{IsTidy}
 use Rattle.metis_inputs.specs.Answer.{Plan as PlanOf}
 use Rattle.metis_inputs.specs.Commands.{command_script, goals_named, script_from, universe_in_then, targets_then}
 use Rattle.metis_top.specs.Course.{Ran, Says, OnShelf}
 use Rattle.metis_output.specs.Shown.{Shown}
-use Rattle.metis_inputs.specs.Gathers.{AreTaken, after}
+use Rattle.metis_inputs.specs.Gathers.{AreTaken, after, named}
+use Rattle.metis_outside.specs.Openings.{Openings}
 use Rattle.metis_ujson.specs.Document.{document_limit, universe_in}
 use Rattle.metis_top.proofs.Deployments.{OrderLaws, answer_deploys}
 use Rattle.metis_top.specs.Honest.{over, Tells, Headline, IsThePlan, PlansHave, Undisturbed}
@@ -30,20 +31,20 @@ use Rattle.metis_words.specs.declared.words.Verb.TheVariants.{Plan as PlanVerb}
 use Rattle.metis_universe.specs.Universe.{Universe}
 
 -- no read failed, and memory did not run out, so the script has come to its end
-after-over : (file : List ℕ → List ℕ) (taken : List (List ℕ)) (script : Script) (count faults faults' opens opens' : ℕ) (old new : Option (List (List ℕ))) (status : Status)
-    → AreTaken (Some file) taken script → OnShelf (after taken script) count faults faults' opens opens' old new status
+after-over : (file : List ℕ → List ℕ) (taken : List (List ℕ)) (script : Script) (names : Option Bool → List (List ℕ × Bool)) (faults faults' : ℕ) (opens opens' : Openings) (old new : Written) (status : Status)
+    → AreTaken (Some file) taken script → OnShelf (after taken script) names faults faults' opens opens' old new status
     → (Rose faults faults' → ⊥) → status ≢ NoMemory → after taken script ≡ over file script
-after-over file [] (Read place name limit next) count faults faults' opens opens' old new status asked (inl failed) calm memory = absurd (calm failed.0)
-after-over file [] (Read place name limit next) count faults faults' opens opens' old new status asked (inr gave_up) calm memory = absurd (memory gave_up.0)
-after-over file [] (Fault why) count faults faults' opens opens' old new status asked shelf calm memory = refl
-after-over file [] (Reply answer) count faults faults' opens opens' old new status asked shelf calm memory = refl
-after-over file (bytes ∷ taken) (Read place name limit next) count faults faults' opens opens' old new status asked shelf calm memory =
-    after-over file taken (next bytes) count faults faults' opens opens' old new status asked.1 shelf calm memory
+after-over file [] (Read place name limit next) names faults faults' opens opens' old new status asked (inl failed) calm memory = absurd (calm failed.0)
+after-over file [] (Read place name limit next) names faults faults' opens opens' old new status asked (inr gave_up) calm memory = absurd (memory gave_up.0)
+after-over file [] (Fault why) names faults faults' opens opens' old new status asked shelf calm memory = refl
+after-over file [] (Reply answer) names faults faults' opens opens' old new status asked shelf calm memory = refl
+after-over file (bytes ∷ taken) (Read place name limit next) names faults faults' opens opens' old new status asked shelf calm memory =
+    after-over file taken (next bytes) names faults faults' opens opens' old new status asked.1 shelf calm memory
     ∙ ap (λ b. over file (next b)) asked.0.told
-after-over file (bytes ∷ taken) (Fault why) count faults faults' opens opens' old new status asked shelf calm memory = absurd asked
-after-over file (bytes ∷ taken) (Reply answer) count faults faults' opens opens' old new status asked shelf calm memory = absurd asked
+after-over file (bytes ∷ taken) (Fault why) names faults faults' opens opens' old new status asked shelf calm memory = absurd asked
+after-over file (bytes ∷ taken) (Reply answer) names faults faults' opens opens' old new status asked shelf calm memory = absurd asked
 
-told_by_shown : (file : List ℕ → List ℕ) (script end : Script) (old new : Option (List (List ℕ))) (before now : ℕ) (status : Status)
+told_by_shown : (file : List ℕ → List ℕ) (script end : Script) (old new : Written) (before now : ℕ) (status : Status)
     → end ≡ over file script → Shown (Says end) old new before now status → (Rose before now → ⊥) → status ≢ NoMemory → Tells file script old new status
 told_by_shown file script end old new before now status is (inl whole) calm memory =
     record { lines = whole.lines; says = subst (λ s. Says s whole.lines status) is whole.says; put = whole.put }
@@ -51,19 +52,19 @@ told_by_shown file script end old new before now status is (inr (inl (fault, fro
 told_by_shown file script end old new before now status is (inr (inr (gave_up, still, front))) calm memory = absurd (memory gave_up)
 
 -- what was put is what the script comes to over the files
-tells : (files : Option (List ℕ → List ℕ)) (taken : List (List ℕ)) (script : Script) (count faults faults' opens opens' : ℕ) (old new : Option (List (List ℕ))) (before now : ℕ) (status : Status)
-    → AreTaken files taken script → OnShelf (after taken script) count faults faults' opens opens' old new status → Shown (Says (after taken script)) old new before now status
+tells : (files : Option (List ℕ → List ℕ)) (taken : List (List ℕ)) (script : Script) (names : Option Bool → List (List ℕ × Bool)) (faults faults' : ℕ) (opens opens' : Openings) (old new : Written) (before now : ℕ) (status : Status)
+    → AreTaken files taken script → OnShelf (after taken script) names faults faults' opens opens' old new status → Shown (Says (after taken script)) old new before now status
     → IfSome files (λ file. (Rose faults faults' → ⊥) → (Rose before now → ⊥) → status ≢ NoMemory → Tells file script old new status)
-tells None taken script count faults faults' opens opens' old new before now status asked shelf puts = tt
-tells (Some file) taken script count faults faults' opens opens' old new before now status asked shelf puts = λ calm calm' memory.
-    told_by_shown file script (after taken script) old new before now status (after-over file taken script count faults faults' opens opens' old new status asked shelf calm memory) puts calm' memory
+tells None taken script names faults faults' opens opens' old new before now status asked shelf puts = tt
+tells (Some file) taken script names faults faults' opens opens' old new before now status asked shelf puts = λ calm calm' memory.
+    told_by_shown file script (after taken script) old new before now status (after-over file taken script names faults faults' opens opens' old new status asked shelf calm memory) puts calm' memory
 
-pub ran_tells : {S K : Type 0} (files : S → Option (List ℕ → List ℕ)) (faults opens : S → ℕ) (written : K → Option (List (List ℕ))) (sink_faults : K → ℕ)
+pub ran_tells : {S K : Type 0} (files : S → Option (List ℕ → List ℕ)) (faults : S → ℕ) (opens : S → Openings) (written : K → Written) (sink_faults : K → ℕ)
     (script : Script) (shelf shelf' : S) (sink sink' : K) (status : Status)
     → Ran files faults opens written sink_faults script shelf shelf' sink sink' status
     → Undisturbed (files shelf) (faults shelf) (faults shelf') (sink_faults sink) (sink_faults sink') status (λ file. Tells file script (written sink) (written sink') status)
 ran_tells files faults opens written sink_faults script shelf shelf' sink sink' status r =
-    tells (files shelf) r.taken script (length r.taken) _ _ _ _ _ _ _ _ status r.asked r.reads r.puts
+    tells (files shelf) r.taken script (λ more. named more r.taken script) _ _ _ _ _ _ _ _ status r.asked r.reads r.puts
 
 -- an accepted document is gone on with
 over-universe : (file : List ℕ → List ℕ) (bytes taken : List ℕ) (u : Universe) (next : Universe → Script)
@@ -81,14 +82,14 @@ over-plan file name targets u g fits means found =
     over-universe file (file name) (take (document_limit + 1) (file name)) u (λ v. targets_then 3 v targets (λ goals. Reply (PlanOf v goals))) (take_all (document_limit + 1) (file name) (omega arith)) fits means
     ∙ rw found
 
-tells_plans : OrderLaws → (words : List (List ℕ)) (file : List ℕ → List ℕ) (old new : Option (List (List ℕ))) (status : Status) → Tells file (script_from (form_of words)) old new status → Headline words file old new status
+tells_plans : OrderLaws → (words : List (List ℕ)) (file : List ℕ → List ℕ) (old new : Written) (status : Status) → Tells file (script_from (form_of words)) old new status → Headline words file old new status
 tells_plans laws words file old new status t = λ name targets u g is fits means found.
     let ends : over file (script_from (form_of words)) ≡ Reply (PlanOf u g) = ap (λ f. over file (script_from f)) is ∙ over-plan file name targets u g fits means found in
     (t.lines, answer_deploys laws u g t.lines status (subst (λ s. Says s t.lines status) ends t.says), t.put)
 
 -- what holds of each plan that is answered holds of the one that is put
 plans_have : (P : Universe → List ℕ → Plan → Type 0) → ((u : Universe) (g : List ℕ) (lines : List (List ℕ)) (p : PlansPairs u g lines) → P u g p.plan)
-    → (words : List (List ℕ)) (file : List ℕ → List ℕ) (old new : Option (List (List ℕ))) (status : Status) → Tells file (script_from (form_of words)) old new status → PlansHave P words file old new status
+    → (words : List (List ℕ)) (file : List ℕ → List ℕ) (old new : Written) (status : Status) → Tells file (script_from (form_of words)) old new status → PlansHave P words file old new status
 plans_have P each words file old new status t = λ name targets u g is fits means found done.
     let ends : over file (script_from (form_of words)) ≡ Reply (PlanOf u g) = ap (λ f. over file (script_from f)) is ∙ over-plan file name targets u g fits means found in
     by u g done (subst (λ s. Says s t.lines status) ends t.says) where
@@ -111,7 +112,7 @@ if_some : {F : Type 0} (files : Option F) (P Q R : Type 0) (S T : F → Type 0) 
 if_some None P Q R S T step t = tt
 if_some (Some f) P Q R S T step t = λ p q r. step f (t p q r)
 
-module _ {S K : Type 0} (files : S → Option (List ℕ → List ℕ)) (faults opens : S → ℕ) (written : K → Option (List (List ℕ))) (sink_faults : K → ℕ)
+module _ {S K : Type 0} (files : S → Option (List ℕ → List ℕ)) (faults : S → ℕ) (opens : S → Openings) (written : K → Written) (sink_faults : K → ℕ)
     (words : List (List ℕ)) (shelf shelf' : S) (sink sink' : K) (status : Status) (ran : Ran files faults opens written sink_faults (script_from (form_of words)) shelf shelf' sink sink' status) where
   -- without faults, and where memory did not run out
   abbrev Calmly : ((List ℕ → List ℕ) → Type 0) → Type 0

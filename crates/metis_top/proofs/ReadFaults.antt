@@ -1,23 +1,28 @@
 -- The line of a failed read tells how many files were opened.
-use Rattle.std.proofs.Common.{◌≡◌, ℕ, suc, ◌+◌, ◌-◌, List, [], ◌∷◌, length, Result, Ok, Err, Bool, true, false, refl, sym, ap, ◌∙◌, subst, inl, inr, arith, nat_le, if◌then◌else◌}
+use Rattle.std.proofs.Common.{◌≡◌, ℕ, suc, ◌+◌, ◌-◌, ◌≤◌, List, [], ◌∷◌, drop, length, take, Option, Some, Result, Ok, Err, Bool, true, false, refl, sym, ap, ◌∙◌, subst, inl, inr, arith, nat_le, if◌then◌else◌}
+use Rattle.std.proofs.lemmas.List.{take-take}
 use Rattle.std.specs.declared.option.Option.{Option as Known}
-use Rattle.metis_outside.specs.Writes.{Appends}
+use Rattle.metis_outside.specs.Writes.{Appends, Written}
 use Rattle.metis_inputs.specs.declared.stop.InputFault.{InputFault}
 use Rattle.metis_inputs.specs.declared.stop.InputFault.TheVariants.{Word, TooLong}
 use Rattle.metis_inputs.specs.declared.stop.InputFault.TheVariants as input
 use Rattle.metis_output.specs.declared.status.Status.{Status}
 use Rattle.metis_output.specs.declared.status.Status.TheVariants.{ReadFault}
-use Rattle.metis_inputs.specs.Commands.{Inputs, Meaning, Meanings, answer_of, goals_named, inputs_then, judged, meaning, or_fault, script_from, targets_then, text_limit, text_then, texts_then, universe_then}
+use Rattle.metis_inputs.specs.Commands.{Inputs, Meaning, Meanings, answer_of, goals_named, inputs_then, judged, meaning, or_fault, command_script, script_from, targets_then, text_limit, text_then, texts_then, universe_then}
 use Rattle.metis_top.specs.Course.{Ends, Ran, Says, OnShelf}
 use Rattle.metis_output.specs.Shown.{Shown}
-use Rattle.metis_inputs.specs.Gathers.{after}
+use Rattle.metis_inputs.specs.Gathers.{AreTaken, IsRead, after, named}
+use Rattle.metis_outside.specs.Faults.{Rose}
+use Rattle.metis_outside.specs.Openings.{Openings, broken, grown, sound}
+use Rattle.metis_top.proofs.FileWords.{are_words}
+use Rattle.metis_top.proofs.Openings.{names_failed, names_read, one_more, reads_command}
 use Rattle.metis_ujson.specs.Document.{document_limit, universe_in}
 use Rattle.metis_top.specs.Lines.{fault_status, read_fault_line}
 use Rattle.metis_top.specs.Numbered.{Numbered, TellsReadFault}
 use Rattle.metis_inputs.specs.Script.{Script, Read, Fault, Reply}
-use Rattle.metis_words.specs.Forms.{NoFile, OfGoals, OfUniverse, Reading, TextKind, reading}
+use Rattle.metis_words.specs.Forms.{NoFile, OfGoals, OfUniverse, Reading, TextKind, file_count, reading}
 use Rattle.metis_words.specs.Form.{Form}
-use Rattle.metis_words.specs.Words.{word_at}
+use Rattle.metis_words.specs.Words.{form_of, word_at}
 use Rattle.metis_universe.specs.Universe.{Universe}
 
 not_refused : (why : InputFault) → fault_status why ≡ ReadFault → ⊥
@@ -36,24 +41,6 @@ Numbered-after (bytes ∷ taken) (Read place name limit next) first n =
     subst (λ k. Numbered k (after taken (next bytes))) (omega arith) (Numbered-after taken (next bytes) (suc first) (n.1 bytes))
 Numbered-after (bytes ∷ taken) (Fault why) first n = tt
 Numbered-after (bytes ∷ taken) (Reply answer) first n = tt
-
-told_by_shelf : (script : Script) (lines : List (List ℕ)) (count faults faults' opens opens' : ℕ) (old new : Known (List (List ℕ))) (status : Status) → status ≡ ReadFault → Numbered (2 + count) script
-    → Ends script status → Says script lines status → Appends old new lines → OnShelf script count faults faults' opens opens' old new status → TellsReadFault faults faults' opens opens' old new
-told_by_shelf (Read place name limit next) lines count faults faults' opens opens' old new status fault n ends says put (inl failed) = record {
-  rose = failed.0;
-  count = suc count;
-  openings = failed.1;
-  line = subst (λ l. Appends old new l) (says.0 ∙ ap (λ k. read_fault_line k ∷ []) (n.0 ∙ omega arith)) put;
-}
-told_by_shelf (Read place name limit next) lines count faults faults' opens opens' old new status fault n ends says put (inr gave_up) = let other = gave_up.0 in absurd (cc)
-told_by_shelf (Fault why) lines count faults faults' opens opens' old new status fault n ends says put shelf = absurd (not_refused why (sym says.1 ∙ fault))
-told_by_shelf (Reply answer) lines count faults faults' opens opens' old new status fault n ends says put shelf = absurd (ends fault)
-
-told_by_shown : (script : Script) (count faults faults' opens opens' : ℕ) (old new : Known (List (List ℕ))) (before now : ℕ) (status : Status) → status ≡ ReadFault → Numbered (2 + count) script
-    → Ends script status → Shown (Says script) old new before now status → OnShelf script count faults faults' opens opens' old new status → TellsReadFault faults faults' opens opens' old new
-told_by_shown script count faults faults' opens opens' old new before now status fault n ends (inl whole) shelf = told_by_shelf script whole.lines count faults faults' opens opens' old new status fault n ends whole.says whole.put shelf
-told_by_shown script count faults faults' opens opens' old new before now status fault n ends (inr (inl (is, front, rose))) shelf = absurd (cc)
-told_by_shown script count faults faults' opens opens' old new before now status fault n ends (inr (inr (is, still, front))) shelf = absurd (cc)
 
 -- the parts of scripts
 numbered_if : (k : ℕ) (test : Bool) (script : Script) (why : InputFault) → Numbered k script → Numbered k (if test then script else Fault why)
@@ -90,12 +77,71 @@ numbered_inputs (OfGoals kinds) form next n =
     (λ u. numbered_judged 3 (λ goals. texts_then kinds 3 u form.files (λ said. next ((u, goals), said))) (goals_named (length kinds + 3) u form.targets)
     (λ goals. numbered_texts kinds 3 u form.files (λ said. next ((u, goals), said)) (λ said. n ((u, goals), said))))
 
-numbered_script : (form : Result Form ℕ) → Numbered 2 (script_from form)
-numbered_script (Ok form) = numbered_inputs (reading form.verb) form (λ inputs. Reply (answer_of form.verb inputs form.size form.numbers)) (λ inputs first. tt)
-numbered_script (Err place) = tt
+numbered_command : (form : Form) → Numbered 2 (command_script form)
+numbered_command form = numbered_inputs (reading form.verb) form (λ inputs. Reply (answer_of form.verb inputs form.size form.numbers)) (λ inputs first. tt)
 
-pub ran_read_fault : {S K : Type 0} (files : S → Known (List ℕ → List ℕ)) (faults opens : S → ℕ) (written : K → Known (List (List ℕ))) (sink_faults : K → ℕ)
-    (form : Result Form ℕ) (shelf shelf' : S) (sink sink' : K) (status : Status) → Ran files faults opens written sink_faults (script_from form) shelf shelf' sink sink' status
-    → status ≡ ReadFault → TellsReadFault (faults shelf) (faults shelf') (opens shelf) (opens shelf') (written sink) (written sink')
-ran_read_fault files faults opens written sink_faults form shelf shelf' sink sink' status r fault =
-    told_by_shown (after r.taken (script_from form)) (length r.taken) _ _ _ _ _ _ _ _ status fault (Numbered-after r.taken (script_from form) 2 (numbered_script form)) r.ends r.puts r.reads
+-- the place of the file that a script is to read
+read_at : (first : ℕ) (script : Script) (lines : List (List ℕ)) (old new : Written) → Numbered first script → IsRead script → Says script lines ReadFault → Appends old new lines → Appends old new (read_fault_line first ∷ [])
+read_at first (Read place name limit next) lines old new n read says put = subst (Appends old new) (says.0 ∙ ap (λ k. read_fault_line k ∷ []) n.0) put
+read_at first (Fault why) lines old new n read says put = absurd read
+read_at first (Reply answer) lines old new n read says put = absurd read
+
+-- a script that ends so was to read a file, and that failed
+was_read : (script : Script) (names : Option Bool → List (List ℕ × Bool)) (lines : List (List ℕ)) (faults faults' : ℕ) (opens opens' : Openings) (old new : Written) (status : Status) → status ≡ ReadFault
+    → Ends script status → Says script lines status → OnShelf script names faults faults' opens opens' old new status
+    → IsRead script × Rose faults faults' × (opens' ≡ grown opens (names (Some true)))
+was_read (Read place name limit next) names lines faults faults' opens opens' old new status fault ends says (inl failed) = (tt, failed.0, failed.1)
+was_read (Read place name limit next) names lines faults faults' opens opens' old new status fault ends says (inr gave_up) = let other = gave_up.0 in absurd (cc)
+was_read (Fault why) names lines faults faults' opens opens' old new status fault ends says shelf = absurd (not_refused why (sym says.1 ∙ fault))
+was_read (Reply answer) names lines faults faults' opens opens' old new status fault ends says shelf = absurd (ends fault)
+
+module _ (told : Known (List ℕ → List ℕ)) (words taken : List (List ℕ)) (form : Form) (is : form_of words ≡ Ok form) (asked : AreTaken told taken (command_script form))
+    (faults faults' : ℕ) (opens opens' : Openings) (old new : Written) (status : Status) (fault : status ≡ ReadFault) where
+  abbrev end : Script
+  end = after taken (command_script form)
+
+  told_by_shelf : (lines : List (List ℕ)) → Ends end status → Says end lines status → Appends old new lines
+      → OnShelf end (λ more. named more taken (command_script form)) faults faults' opens opens' old new status → TellsReadFault words faults faults' opens opens' old new
+  told_by_shelf lines ends says put shelf =
+      let script = command_script form in
+      let file_words = are_words words form is in
+      let reads = reads_command form file_words.count in
+      let (read, rose, openings) = was_read end (λ more. named more taken script) lines faults faults' opens opens' old new status fault ends says shelf in
+      let few : suc (length taken) ≤ file_count form.verb = subst (λ n. suc (length taken) ≤ n) file_words.count (one_more told form.files taken script reads asked read) in
+      let front : take (suc (length taken)) form.files ≡ take (suc (length taken)) (drop 1 words) =
+      ap (take (suc (length taken))) file_words.are ∙ take-take (suc (length taken)) (file_count form.verb) (drop 1 words) few in
+      let at : 2 + length taken ≡ suc (length taken) + 1 = omega arith in
+      record {
+        rose = rose;
+        count = suc (length taken);
+        some = omega arith;
+        there = let within = file_words.within in omega (arith, few, within);
+        openings = openings ∙ ap (grown opens) (names_failed told taken script asked read ∙ ap broken (names_read told form.files taken script reads asked read ∙ ap sound front));
+        line = subst (λ k. Appends old new (read_fault_line k ∷ [])) at
+            (read_at (2 + length taken) end lines old new (Numbered-after taken script 2 (numbered_command form)) read (subst (Says end lines) fault says) put);
+      }
+
+  told_by_shown : (before now : ℕ) → Ends end status → Shown (Says end) old new before now status
+      → OnShelf end (λ more. named more taken (command_script form)) faults faults' opens opens' old new status → TellsReadFault words faults faults' opens opens' old new
+  told_by_shown before now ends (inl whole) shelf = told_by_shelf whole.lines ends whole.says whole.put shelf
+  told_by_shown before now ends (inr (inl (other, front, rose))) shelf = absurd (cc)
+  told_by_shown before now ends (inr (inr (other, still, front))) shelf = absurd (cc)
+
+-- words that are no command end otherwise
+no_command : (place : ℕ) (taken : List (List ℕ)) (told : Known (List ℕ → List ℕ)) (old new : Written) (before now : ℕ) (status : Status) → AreTaken told taken (Fault (Word place))
+    → Shown (Says (after taken (Fault (Word place)))) old new before now status → status ≡ ReadFault → ⊥
+no_command place [] told old new before now status asked (inl whole) fault = let says = whole.says.1 in cc
+no_command place [] told old new before now status asked (inr (inl (other, front, rose))) fault = cc
+no_command place [] told old new before now status asked (inr (inr (other, still, front))) fault = cc
+no_command place (bytes ∷ taken) told old new before now status asked shown fault = absurd asked
+
+pub ran_read_fault : {S K : Type 0} (files : S → Known (List ℕ → List ℕ)) (faults : S → ℕ) (opens : S → Openings) (written : K → Written) (sink_faults : K → ℕ)
+    (words : List (List ℕ)) (shelf shelf' : S) (sink sink' : K) (status : Status) → Ran files faults opens written sink_faults (script_from (form_of words)) shelf shelf' sink sink' status
+    → status ≡ ReadFault → TellsReadFault words (faults shelf) (faults shelf') (opens shelf) (opens shelf') (written sink) (written sink')
+ran_read_fault files faults opens written sink_faults words shelf shelf' sink sink' status r fault = by (form_of words) refl r where
+  by : (form : Result Form ℕ) → form_of words ≡ form → Ran files faults opens written sink_faults (script_from form) shelf shelf' sink sink' status
+      → TellsReadFault words (faults shelf) (faults shelf') (opens shelf) (opens shelf') (written sink) (written sink')
+  by (Ok form) is r =
+      told_by_shown (files shelf) words r.taken form is r.asked (faults shelf) (faults shelf') (opens shelf) (opens shelf') (written sink) (written sink') status fault (sink_faults sink) (sink_faults sink')
+      r.ends r.puts r.reads
+  by (Err place) is r = absurd (no_command place r.taken (files shelf) _ _ _ _ status r.asked r.puts fault)

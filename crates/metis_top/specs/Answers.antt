@@ -13,9 +13,10 @@ use Rattle.metis_commands.specs.Print.{Printed}
 use Rattle.metis_commands.specs.Replay.{Replayed}
 use Rattle.metis_planning.specs.Rollout.{RolledOut}
 use Rattle.metis_commands.specs.Sim.{Simulated}
+use Rattle.metis_commands.specs.Waits.{Awaited}
 use Rattle.metis_commands.specs.Waves.{Waved}
 use Rattle.metis_output.specs.declared.status.Status.{Status}
-use Rattle.metis_inputs.specs.Answer.{Answer, Plan, Replay, Refute, Audit, Sim, Crew, Waves, Control, Rollout, Place, Print, Load, Why, Confirm}
+use Rattle.metis_inputs.specs.Answer.{Answer, Plan, Replay, Refute, Audit, Sim, Crew, Waves, Waits, Control, Rollout, Place, Print, Load, Why, Confirm}
 
 -- these are the lines of such an answer, and its status
 abbrev pub IsAnswer : Answer → List (List ℕ) → Status → Type 0
@@ -26,6 +27,7 @@ IsAnswer (Audit u goals plan after) lines status = Audited u goals plan after li
 IsAnswer (Sim u script) lines status = Simulated u script lines status
 IsAnswer (Crew u actions zs) lines status = Crewed u actions zs lines status
 IsAnswer (Waves u actions numbers) lines status = Waved u actions numbers lines status
+IsAnswer (Waits u plan) lines status = Awaited u plan lines status
 IsAnswer (Control u actions script) lines status = Controlled u actions script lines status
 IsAnswer (Rollout u goals actions) lines status = RolledOut u goals actions lines status
 IsAnswer (Place u actions h) lines status = Placed u actions h lines status

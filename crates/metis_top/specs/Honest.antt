@@ -9,7 +9,7 @@ use Rattle.std.specs.Prelude.{◌≡◌, ◌≢◌, ℕ, ◌+◌, ◌≤◌, Lis
 use Rattle.std.specs.declared.option.Option.{Option}
 use Rattle.metis_ids.specs.Plans.{Plan}
 use Rattle.metis_outside.specs.Faults.{Rose}
-use Rattle.metis_outside.specs.Writes.{Appends}
+use Rattle.metis_outside.specs.Writes.{Appends, Written}
 use Rattle.metis_top.specs.Course.{Says}
 use Rattle.metis_ujson.specs.Document.{document_limit, universe_in}
 use Rattle.metis_ids.specs.declared.goals.Goal.{Goal}
@@ -35,7 +35,7 @@ over file (Read place name limit next) = over file (next (take (limit + 1) (file
 over file script = script
 
 -- the lines that the script comes to over these files were put, one a put, and the status is their own
-pub record Tells (file : List ℕ → List ℕ) (script : Script) (old new : Option (List (List ℕ))) (status : Status) : Type 0 where
+pub record Tells (file : List ℕ → List ℕ) (script : Script) (old new : Written) (status : Status) : Type 0 where
   pub lines : List (List ℕ)
   pub says : Says (over file script) lines status
   pub put : Appends old new lines
@@ -44,7 +44,7 @@ pub record Tells (file : List ℕ → List ℕ) (script : Script) (old new : Opt
 -- put is the text of a plan, line by line, with status `Done`, exactly where some list of actions attains the targets, and else that of
 -- a refusal, with status `No`. In any order that keeps its waits the plan meets only correct configurations, and ends with every target,
 -- a pair or a port.
-abbrev pub Headline : List (List ℕ) → (List ℕ → List ℕ) → Option (List (List ℕ)) → Option (List (List ℕ)) → Status → Type 0
+abbrev pub Headline : List (List ℕ) → (List ℕ → List ℕ) → Written → Written → Status → Type 0
 Headline words file old new status = (name : List ℕ) (targets : List TargetName) (u : Universe) (goals : List Goal)
     → form_of words ≡ Ok (record { verb = PlanVerb; files = name ∷ []; targets = targets; size = 0; numbers = [] })
     → length (file name) ≤ document_limit → universe_in (file name) ≡ Ok u → goals_named 3 u targets ≡ Ok goals
@@ -52,7 +52,7 @@ Headline words file old new status = (name : List ℕ) (targets : List TargetNam
 
 -- For such words, universe and targets, where the status is `Done` what is put is the text of one plan, line by line, of which P holds,
 -- with the pairs that the targets are or that provide them.
-abbrev pub PlansHave : (Universe → List ℕ → Plan → Type 0) → List (List ℕ) → (List ℕ → List ℕ) → Option (List (List ℕ)) → Option (List (List ℕ)) → Status → Type 0
+abbrev pub PlansHave : (Universe → List ℕ → Plan → Type 0) → List (List ℕ) → (List ℕ → List ℕ) → Written → Written → Status → Type 0
 PlansHave P words file old new status = (name : List ℕ) (targets : List TargetName) (u : Universe) (goals : List Goal)
     → form_of words ≡ Ok (record { verb = PlanVerb; files = name ∷ []; targets = targets; size = 0; numbers = [] })
     → length (file name) ≤ document_limit → universe_in (file name) ≡ Ok u → goals_named 3 u targets ≡ Ok goals → status ≡ Done

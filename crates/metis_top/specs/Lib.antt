@@ -1,3 +1,4 @@
+pub mod Adapters
 pub mod Answers
 pub mod Course
 pub mod Deployment

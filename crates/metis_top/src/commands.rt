@@ -9,6 +9,7 @@ ghost use Rattle.metis_commands.specs.Print.{Printed};
 ghost use Rattle.metis_commands.specs.Refute.{Judged};
 ghost use Rattle.metis_commands.specs.Replay.{Replayed};
 ghost use Rattle.metis_commands.specs.Sim.{Simulated};
+ghost use Rattle.metis_commands.specs.Waits.{Awaited};
 ghost use Rattle.metis_commands.specs.Waves.{Waved};
 ghost use Rattle.metis_commands.specs.Why.{WhyAnswer};
 ghost use Rattle.metis_inputs.specs.Commands.{command_script};
@@ -21,7 +22,7 @@ ghost use Rattle.metis_top.specs.Over.{Over, Puts};
 ghost use Rattle.metis_words.specs.Forms.{file_count, target_limit};
 
 use metis_commands::{
-    audit, confirm, control, crew, place, print, refute, replay, sim, waves, why,
+    audit, confirm, control, crew, place, print, refute, replay, sim, waits, waves, why,
 };
 use metis_ids::InstNo;
 use metis_inputs::{
@@ -192,6 +193,16 @@ pub fn over_universe<H: Shelf, K: Sink>(
                 finish(alloc, answer, out)
             };
             over(alloc, universe_and(alloc, command, shelf), out, put_waves)
+        }
+        Verb::Waits => {
+            let put_waits = |alloc, read: &UniverseAnd<PlanText>, out: &mut K|
+                ensures { Puts K.Sink (Awaited read.now.universe read.now.text.plan) out.old out.new result }
+            {
+                let (u, plan) = (&read.universe, &read.text.plan);
+                let steady = steady_waits(alloc, u, &plan.actions);
+                finish(alloc, waits::answer(alloc, u, plan, &steady), out)
+            };
+            over(alloc, universe_and(alloc, command, shelf), out, put_waits)
         }
         Verb::Load => Ok(finish(alloc, load::answer(alloc, command.size), out)),
         _ => unreachable!(),

@@ -22,22 +22,22 @@ use std::alloc::Global;
 
 /// Does all that the program does: reads the words and the files that they name, and puts the answer.
 pub fn run<H: Shelf, K: Sink>(alloc: Global, words: &[String], shelf: &mut H, out: &mut K) -> Status
-    // What it takes of its files, how often it opens one, what it puts, and its status.
+    // What it takes of its files, which ones it opens, what it puts, and its status.
     ensures course { Ran H.files H.faults H.opens K.written K.faults (script_of (texts words.now)) shelf.old shelf.new out.old out.new result }
 
     // The files stay as they were.
     ensures files { H.files shelf.new ≡ H.files shelf.old }
 
-    // It opens at most the files of its words, each once, and at least one where there are any; and none where its words are
-    // no command.
+    // It opens the files of its words, in their order, each once, as far as it goes, and no other: at least one where there are
+    // any, all of them where it answers, and none where its words are no command.
     ensures opens { OpensFiles (form_of (texts words.now)) result (H.opens shelf.old) (H.opens shelf.new) }
 
     // It puts lines, one a put.
     ensures lines { PutsLines (K.written out.old) (K.written out.new) result }
 
-    // A fault is told only where there was one, and an answer only where there was none.
+    // A fault is told only where there was one, a failed read at the file of that word, and an answer only where there was none.
     ensures read_fault { result ≡ Status.ReadFault
-        → TellsReadFault (H.faults shelf.old) (H.faults shelf.new) (H.opens shelf.old) (H.opens shelf.new) (K.written out.old) (K.written out.new) }
+        → TellsReadFault (texts words.now) (H.faults shelf.old) (H.faults shelf.new) (H.opens shelf.old) (H.opens shelf.new) (K.written out.old) (K.written out.new) }
     ensures gave_up { result ≡ Status.NoMemory → K.faults out.new ≡ K.faults out.old }
     ensures write_fault { result ≡ Status.WriteFault → Rose (K.faults out.old) (K.faults out.new) }
     ensures shelf_calm { IsVerdict result → H.faults shelf.new ≡ H.faults shelf.old }

@@ -1,7 +1,7 @@
 -- What was run behind the line of a case.
 use Rattle.std.proofs.Common.{◌≡◌, ◌≢◌, ◌++◌, [], ◌∷◌, List, ℕ, OnOk, Result, Ok, Err, Some, codes, subst, inl, inr}
 use Rattle.metis_outside.specs.Pieces.{bytes_of}
-use Rattle.metis_outside.specs.Writes.{Appends}
+use Rattle.metis_outside.specs.Writes.{Appends, InPieces}
 use Rattle.metis_output.specs.declared.status.Status.{Status}
 use Rattle.metis_transcripts.specs.Cases.{case_head, piped_foot}
 use Rattle.metis_transcripts.specs.Outside.{Outside}
@@ -28,7 +28,7 @@ told_same a b is = cc
 -- what was run over what a first command had put
 pub piped_run : {S K T E : Type 0} (o : Outside S K) (first second : List ℕ) (setting : Setting) (shelf ready between handed shelf' : S) (sink told sink' : K) (lines : List (List ℕ)) (text : List ℕ)
     (first_status status : Status) (r : Result T E)
-    → IsPrepared o setting.input 0 shelf ready → IsAside o.files o.read_faults o.opens (Some lines) first ready between first_status
+    → IsPrepared o setting.input 0 shelf ready → IsAside o.files o.read_faults o.opens (InPieces lines) first ready between first_status
     → text ≡ bytes_of lines → IsPrepared o text setting.read between handed → IsShown o second setting.write handed shelf' sink told status
     → OnOk r (Appends (o.written told) (o.written sink') (piped_foot first_status status ∷ [])) → OnOk r (IsPiped o first second setting shelf shelf' sink sink')
 piped_run o first second setting shelf ready between handed shelf' sink told sink' lines text first_status status (Ok v) prepared aside is fed shown foot = record {

@@ -1,8 +1,9 @@
 -- What it is that the command of a case was run.
-use Rattle.std.specs.Prelude.{◌≡◌, ◌≢◌, ◌⊎◌, ℕ, List, [], ◌∷◌, ◌++◌, codes, Some}
+use Rattle.std.specs.Prelude.{◌≡◌, ◌≢◌, ◌⊎◌, ℕ, List, [], ◌∷◌, ◌++◌, codes}
 use Rattle.std.specs.declared.option.Option.{Option}
 use Rattle.metis_outside.specs.Pieces.{bytes_of}
-use Rattle.metis_outside.specs.Writes.{Appends}
+use Rattle.metis_outside.specs.Openings.{Openings}
+use Rattle.metis_outside.specs.Writes.{Appends, InPieces, Written}
 use Rattle.metis_output.specs.declared.status.Status.{Status}
 use Rattle.metis_output.specs.declared.status.Status.TheVariants.{WriteFault, NoMemory}
 use Rattle.metis_inputs.specs.Commands.{script_of}
@@ -36,11 +37,11 @@ pub record IsShown {S K : Type 0} (o : Outside S K) (line : List ℕ) (put : ℕ
   pub whole : IsWhole put status
 
 -- the command of the line was run over an output that tells its pieces, of which there were none before
-pub record IsAside {S : Type 0} (files : S → Option (List ℕ → List ℕ)) (faults opens : S → ℕ) (written : Option (List (List ℕ)))
+pub record IsAside {S : Type 0} (files : S → Option (List ℕ → List ℕ)) (faults : S → ℕ) (opens : S → Openings) (written : Written)
     (line : List ℕ) (shelf shelf' : S) (status : Status) : Type 0 where
   pub words : List (List ℕ)
   pub named : words_in line ≡ codes "metis" ∷ words
-  pub ran : Ran files faults opens (λ pieces. pieces) (λ _. 0) (script_of words) shelf shelf' (Some []) written status
+  pub ran : Ran files faults opens (λ pieces. pieces) (λ _. 0) (script_of words) shelf shelf' (InPieces []) written status
   pub whole : IsWhole 0 status
 
 -- one command was run as the setting says, and its status was put
@@ -59,7 +60,7 @@ pub record IsPiped {S K : Type 0} (o : Outside S K) (first second : List ℕ) (s
   pub between : S
   pub lines : List (List ℕ)
   pub first_status : Status
-  pub aside : IsAside o.files o.read_faults o.opens (Some lines) first ready between first_status
+  pub aside : IsAside o.files o.read_faults o.opens (InPieces lines) first ready between first_status
   pub handed : S
   pub fed : IsPrepared o (bytes_of lines) setting.read between handed
   pub told : K

@@ -2,6 +2,7 @@ ghost use Rattle.std.specs.Prelude.{◌≡◌, ◌+◌, ◌-◌, ◌^◌, ◌<�
 ghost use Rattle.std.specs.Io.{ReadsAtMost};
 ghost use Rattle.std.specs.Io.KnownBytes.{ReadConsumes};
 ghost use Rattle.metis_outside.specs.Faults.{CountsFault};
+ghost use Rattle.metis_outside.specs.Openings.{untold};
 
 use crate::case_shelf::CaseShelf;
 use crate::countdown::Countdown;
@@ -45,7 +46,7 @@ impl<H: Shelf + Drop> Shelf for StagedShelf<H> {
 
     ghost faults = { λ s. s.faults };
 
-    ghost opens = { λ s. s.opens };
+    ghost opens = { λ s. untold s.opens };
 
     fn open_file(&mut self, name: &str) -> Result<(), Trouble>
         ensures opens { self.new.opens ≡ min (self.old.opens + 1) (2 ^ 64 - 1) }

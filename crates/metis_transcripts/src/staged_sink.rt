@@ -1,6 +1,6 @@
-ghost use Rattle.std.specs.Prelude.{◌≡◌, ◌-◌, IsErrOf, is_some};
+ghost use Rattle.std.specs.Prelude.{◌≡◌, ◌-◌, IsErrOf, IsTrue};
 ghost use Rattle.metis_outside.specs.Faults.{CountsFault};
-ghost use Rattle.metis_outside.specs.Writes.{Puts};
+ghost use Rattle.metis_outside.specs.Writes.{Puts, is_told};
 
 use crate::case_sink::CaseSink;
 use crate::countdown::Countdown;
@@ -34,7 +34,7 @@ impl<K: Sink + Drop> Sink for StagedSink<K> {
 
     fn put(&mut self, piece: &[u8]) -> Result<(), Trouble>
         ensures bytes { Puts piece.now (K.written self.old.out) (K.written self.new.out) result }
-        ensures told { is_some (K.written self.new.out) ≡ is_some (K.written self.old.out) }
+        ensures told { IsTrue (is_told (K.written self.old.out)) → IsTrue (is_told (K.written self.new.out)) }
         ensures cause { CountsFault self.old.faults self.new.faults result }
         ensures failing { self.old.fails ≡ 1 → IsErrOf result Trouble.Failed }
         ensures counted { self.new.fails ≡ self.old.fails - 1 }

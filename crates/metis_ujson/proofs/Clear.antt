@@ -25,7 +25,8 @@ use Rattle.metis_universe.proofs.Blocks.{length-pairs_from}
 use Rattle.metis_universe.proofs.ClearRows.{IsClear, IsClearState, IsClearType}
 use Rattle.metis_universe.proofs.Gathered.{demand_sum-le}
 use Rattle.metis_ujson.specs.Canonical.{need_row, state_row, type_row, rows_of_universe}
-use Rattle.metis_ujson.proofs.Demanded.{demands_between, demands_in_all, names_are}
+use Rattle.metis_universe.proofs.Demanded.{demands_between, demands_in_all}
+use Rattle.metis_ujson.proofs.Demanded.{names_are}
 use Rattle.metis_ujson.proofs.Numbers.{position_never}
 use Rattle.metis_ujson.proofs.Rebuilt.{own, first, own_is, own_within, own_type, own_apart, spot_of, state_place, pairs_same, ports_same}
 

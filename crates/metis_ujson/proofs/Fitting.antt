@@ -7,7 +7,7 @@ use Rattle.metis_universe.specs.RowShapes.{NeedRow, StateRow, TypeRow}
 use Rattle.metis_universe.specs.Universe.{IsUniverse, Pair, Universe, demand_in, no_pair, pair_at, pair_count, type_count}
 use Rattle.metis_universe.proofs.Ascending.{each_map}
 use Rattle.metis_ujson.specs.Canonical.{need_row, rows_of_universe, state_row, type_row}
-use Rattle.metis_ujson.proofs.Demanded.{demands_between, demands_one}
+use Rattle.metis_universe.proofs.Demanded.{demands_between, demands_one}
 use Rattle.metis_ujson.proofs.Rebuilt.{first, own, own_is, own_within}
 
 -- in version 1 an entry asks for one provider

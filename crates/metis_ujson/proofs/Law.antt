@@ -6,7 +6,7 @@ use Rattle.std.proofs.lemmas.Str.{is_utf8-from_IsUtf8}
 use Rattle.serde_json.specs.Read.{read}
 use Rattle.serde_json.specs.Written.{compact_text}
 use Rattle.metis_universe.specs.Rows.{or_universe, universe_from}
-use Rattle.metis_universe.specs.Universe.{Universe, IsTable}
+use Rattle.metis_universe.specs.Universe.{Universe, IsTable, IsBySight}
 use Rattle.metis_ujson.specs.Canonical.{rows_of_universe, document_of, canonical}
 use Rattle.metis_ujson.specs.Document.{without_last_newline, json_of_text, json_of, rows_or_not_json, or_form_fault, or_row_fault, universe_in}
 use Rattle.metis_ujson.proofs.Clear.{no_fault}
@@ -36,10 +36,10 @@ module _ (u : Universe) (table : IsTable u) where
       ∙ ap (λ b. if b then read text else None) (is_utf8-from_IsUtf8 text (IsUtf8-compact_text u table.universe table.named))
       ∙ read-compact_text u.version (rows_of_universe u) (version_low u.version table.universe.version) fit
 
-  pub read_back : universe_in (canonical u) ≡ Ok u
-  read_back =
+  pub read_back : IsBySight u → universe_in (canonical u) ≡ Ok u
+  read_back sights =
       let rows = rows_of_universe u in
       ap (λ o. or_form_fault (rows_or_not_json o)) json_back
       ∙ ap or_form_fault (rows_back u.version table.universe.version rows fit)
-      ∙ ap (λ o. or_row_fault (or_universe o (universe_from u.version rows))) (no_fault u table.universe table.named table.limits table.sights)
-      ∙ ap Ok (rebuilt u table.universe table.named table.sights)
+      ∙ ap (λ o. or_row_fault (or_universe o (universe_from u.version rows))) (no_fault u table.universe table.named table.limits sights)
+      ∙ ap Ok (rebuilt u table.universe table.named sights)

@@ -3,11 +3,11 @@ use Rattle.std.proofs.Common.{◌≡◌, ℕ, ◌+◌, Bool, true, false, cond, 
 use Rattle.std.specs.Prelude.{codes}
 use Rattle.std.specs.Option.{option_or}
 use Rattle.serde_json.specs.Data.{Data, Items, no_items, item}
-use Rattle.metis_universe.proofs.FromRows.{IsTable-universe_from}
+use Rattle.metis_universe.proofs.FromRows.{IsTable-universe_from, is_by_sight}
 use Rattle.metis_universe.specs.Names.{is_between, is_name}
 use Rattle.metis_universe.specs.RowShapes.{StateRow, TypeRow, names_needed}
 use Rattle.metis_universe.specs.Rows.{IsOfVersion, first_fault, first_from, has_state, head_fault, limit_fault, link_fault, next_fault, or_universe, port_fault, demand_fault, ports_of, require_total, state_fault, state_total, state_twice, type_fault, universe_from, unless, earlier_type}
-use Rattle.metis_universe.specs.Universe.{IsTable, Universe}
+use Rattle.metis_universe.specs.Universe.{IsTable, Universe, IsBySight}
 use Rattle.metis_universe.specs.declared.faults.LimitKind.{LimitKind}
 use Rattle.metis_universe.specs.declared.faults.LimitKind.TheVariants.{Pairs, Ports, Requires, States}
 use Rattle.metis_universe.specs.declared.faults.RowFault.{RowFault}
@@ -156,3 +156,15 @@ meant_table (Ok s) u fits h = made_table s (fits s refl) (first_fault s.types) u
 -- a universe that is read has what IsTable says
 pub universe_in_table : (bytes : List ℕ) (u : Universe) → universe_in bytes ≡ Ok u → IsTable u
 universe_in_table bytes u h = meant_table (rows_in bytes) u (rows_in-of_version bytes) h
+
+made_by_sight : (s : Spelled) → (o : Option RowFault) (u : Universe) → first_fault s.types ≡ o → or_row_fault (or_universe o (universe_from s.version s.types)) ≡ Ok u → IsBySight u
+made_by_sight s None u is h = let same : universe_from s.version s.types ≡ u = cc in subst IsBySight same (is_by_sight s.version s.types is)
+made_by_sight s (Some fault) u is h = cc
+
+meant_by_sight : (r : Result Spelled UFault) (u : Universe) → or_form_fault r ≡ Ok u → IsBySight u
+meant_by_sight (Err fault) u h = cc
+meant_by_sight (Ok s) u h = made_by_sight s (first_fault s.types) u refl h
+
+-- and its ports stand in the order in which they are first seen
+pub universe_in_by_sight : (bytes : List ℕ) (u : Universe) → universe_in bytes ≡ Ok u → IsBySight u
+universe_in_by_sight bytes u h = meant_by_sight (rows_in bytes) u h

@@ -18,7 +18,7 @@ use Rattle.metis_universe.specs.Universe.{Universe, Pair, demand_in, no_pair, pa
 use Rattle.metis_universe.proofs.Ascending.{each_map}
 use Rattle.metis_ujson.specs.Canonical.{counted_value, list_of, need_row, need_value, state_value, type_value, document_of, state_row, type_row, rows_of_universe}
 use Rattle.metis_ujson.proofs.Clear.{names_of_ports}
-use Rattle.metis_ujson.proofs.Demanded.{demands_between}
+use Rattle.metis_universe.proofs.Demanded.{demands_between}
 use Rattle.metis_ujson.proofs.Rebuilt.{own, first, own_is, own_within}
 
 -- ---- names

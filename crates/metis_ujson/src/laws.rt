@@ -1,7 +1,7 @@
 //! Laws over the definitions.
 ghost use Rattle.std.specs.Prelude.{◌≡◌, ◌↔◌, ℕ, List, Err, Ok};
 ghost use Rattle.metis_outside.specs.Pieces.{IsLine};
-ghost use Rattle.metis_universe.specs.Universe.{Universe, IsTable};
+ghost use Rattle.metis_universe.specs.Universe.{Universe, IsBySight, IsTable};
 ghost use Rattle.metis_ujson.specs.Canonical.{canonical};
 ghost use Rattle.metis_ujson.specs.Document.{rows_in, universe_in};
 ghost use Rattle.metis_ujson.specs.FirstForm.{IsFirstFault};
@@ -13,9 +13,12 @@ pub fn first_form_fault_comes_first()
     ensures { (bytes : List ℕ) (f : UFault) → (rows_in bytes ≡ Err f) ↔ IsFirstFault bytes f }
 {}
 
-/// The document that is written for a universe means that universe.
+/// The document that is written for a universe means that universe, if its ports stand in the order in which they are first seen. So
+/// they stand in every universe that a document means.
 pub fn written_is_read()
-    ensures { (u : Universe) → IsTable u → universe_in (canonical u) ≡ Ok u }
+    ensures back { (u : Universe) → IsTable u → IsBySight u → universe_in (canonical u) ≡ Ok u }
+    ensures by_sight { (bytes : List ℕ) (u : Universe) → universe_in bytes ≡ Ok u → IsBySight u }
+    ensures again { (bytes : List ℕ) (u : Universe) → universe_in bytes ≡ Ok u → universe_in (canonical u) ≡ Ok u }
 {}
 
 /// It is one line: it ends with a line feed, and has no other.

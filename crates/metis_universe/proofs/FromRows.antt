@@ -15,8 +15,8 @@ use Rattle.metis_ids.proofs.Lists.{each_weaker}
 use Rattle.metis_ids.proofs.Tests.{bytes_same}
 use Rattle.metis_universe.specs.Names.{is_name}
 use Rattle.metis_universe.specs.RowShapes.{NeedRow, StateRow, TypeRow, names_needed}
-use Rattle.metis_universe.specs.Universe.{Kind, Pair, no_kind, no_pair, kind_at, pair_at, type_of, type_count, pair_count, port_count, initial_of, demand_total, states_of_type, IsUniverse, IsNamed, IsWithinLimits, IsTable}
-use Rattle.metis_universe.specs.Rows.{IsOfVersion, demand_sum, further_from, greatest_count, ports_of_state, ports_of_type, ports_of, state_total, has_state, first_fault, earlier_type, number_of, state_number, ascending, pair_from, pairs_of_type, pairs_from, kind_from, universe_from}
+use Rattle.metis_universe.specs.Universe.{Kind, Pair, no_kind, no_pair, kind_at, pair_at, type_of, type_count, pair_count, port_count, initial_of, demand_total, states_of_type, IsUniverse, IsNamed, IsWithinLimits, IsBySight, IsTable}
+use Rattle.metis_universe.specs.Rows.{IsOfVersion, demand_sum, further_from, greatest_count, ports_of_state, ports_of_type, ports_of, state_total, has_state, first_fault, number_of, state_number, ascending, pair_from, pairs_of_type, pairs_from, kind_from, universe_from}
 use Rattle.metis_universe.proofs.Ascending.{number_within, IsStrictlyIncreasing-ascending, All-ascending, each_ascending, each_map}
 use Rattle.metis_universe.proofs.DemandSums.{demands-le}
 use Rattle.metis_universe.proofs.Gathered.{greatest-le, greatest-some}
@@ -312,7 +312,10 @@ module _ (version : ℕ) where
   IsTable-universe_from rows fits none =
       let clear = IsClear-from_first_fault rows none in
       let named = IsNamed-universe_from rows clear in
-      record { universe = IsUniverse-universe_from rows fits clear; named = named; limits = IsWithinLimits-universe_from rows clear; sights = IsBySight-universe_from version rows named.ports_apart }
+      record { universe = IsUniverse-universe_from rows fits clear; named = named; limits = IsWithinLimits-universe_from rows clear }
+
+  pub is_by_sight : (rows : List TypeRow) → first_fault rows ≡ None → IsBySight (universe_from version rows)
+  is_by_sight rows none = IsBySight-universe_from version rows (IsNamed-universe_from rows (IsClear-from_first_fault rows none)).ports_apart
 
 -- ---- while the tables are made
 
@@ -335,6 +338,3 @@ has_room rows none t row l is ports pairs are =
 
 pub ports_fit : (rows : List TypeRow) → first_fault rows ≡ None → length (ports_of rows) ≤ 4000
 ports_fit rows none = (IsClear-from_first_fault rows none).ports
-
-pub no_earlier_type : (rows : List TypeRow) → first_fault rows ≡ None → (t : ℕ) (row : TypeRow) → t < length rows → row ≡ get_or rows t row → earlier_type rows t row.name ≡ None
-no_earlier_type rows none t row l is = ap (λ (row : TypeRow). earlier_type rows t row.name) is ∙ ((IsClear-from_first_fault rows none).types t row l).apart

@@ -6,6 +6,7 @@ pub mod Blocks
 pub mod BySight
 pub mod ClearRows
 pub mod Correctness
+pub mod Demanded
 pub mod Demands
 pub mod DemandSums
 pub mod Edits
@@ -31,6 +32,8 @@ pub mod PlanExamples
 pub mod PortRows
 pub mod Ranges
 pub mod Rounds
+pub mod ResidualRows
+pub mod ResidualTable
 pub mod RowTables
 pub mod Same
 pub mod SeenNumbers

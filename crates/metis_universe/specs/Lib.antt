@@ -10,6 +10,7 @@ pub mod Needs
 pub mod Numbers
 pub mod PairWords
 pub mod PortRows
+pub mod Residual
 pub mod RowFaults
 pub mod RowShapes
 pub mod Rows

@@ -17,7 +17,7 @@
 --     IsBySight u      the ports are numbered by first sight: they stand in the order in which they are first seen, pair after pair
 --     IsUniverse u      what holds of the numbers of every universe that a document gives
 --     IsGreatestMet u      some pair demands so many providers of a port that it requires as the greatest demand says
---     IsNamed u, IsWithinLimits u, IsTable u      what holds of its names;  of its counts;  all of these, and that its ports are by sight
+--     IsNamed u, IsWithinLimits u, IsTable u      what holds of its names;  of its counts;  all of these
 --     IsIndexed u providers requirers, IsIndexedTable u providers requirers      the rows are the providers and the requirers of each port;  that, and all that IsTable says
 use Rattle.std.specs.Prelude.{ℕ, ◌≡◌, ◌≤◌, ◌<◌, ◌==◌, ◌⊎◌, ◌+◌, Bool, true, false, ◌&&◌, Option, List, [], ◌∷◌, ◌++◌, length, map, flat_map, fold, max, take, position, sum, sum_by, IsTrue, if◌then◌else◌}
 use Rattle.std.specs.List.{list_any, filter, slice_index_or, position_or_len, range_with_len, All}
@@ -222,7 +222,6 @@ pub record IsTable (u : Universe) : Type 0 where
   pub universe : IsUniverse u
   pub named : IsNamed u
   pub limits : IsWithinLimits u
-  pub sights : IsBySight u
 
 -- the rows hold, port by port, the pairs that provide it, and those that require it
 pub record IsIndexed (u : Universe) (providers requirers : List (List ℕ)) : Type 0 where
@@ -236,5 +235,4 @@ pub record IsIndexedTable (u : Universe) (providers requirers : List (List ℕ))
   pub universe : IsUniverse u
   pub named : IsNamed u
   pub limits : IsWithinLimits u
-  pub sights : IsBySight u
   pub indexed : IsIndexed u providers requirers

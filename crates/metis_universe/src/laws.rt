@@ -1,5 +1,5 @@
 //! Laws over the definitions.
-ghost use Rattle.std.specs.Prelude.{◌≡◌, ◌↔◌, ◌<◌, ◌≤◌, ◌⊎◌, ℕ, suc, List, Contains, take, Some, None, IsTrue, IsFalse, IsSome, Option};
+ghost use Rattle.std.specs.Prelude.{◌≡◌, ◌↔◌, ◌<◌, ◌≤◌, ◌⊎◌, ◌-◌, ◌&&◌, not, if◌then◌else◌, ℕ, suc, List, Contains, take, Some, None, IsTrue, IsFalse, IsSome, Option};
 ghost use Rattle.std.specs.Bool.{Decides};
 ghost use Rattle.std.specs.List.{list_any};
 ghost use Rattle.metis_ids.specs.declared.actions.Action.{Action};
@@ -10,7 +10,8 @@ ghost use Rattle.metis_universe.specs.Step.{IsRun};
 ghost use Rattle.metis_universe.specs.Steadfast.{pair_after};
 ghost use Rattle.metis_universe.specs.Settled.{IsLast, NoneSettles, IsLower};
 ghost use Rattle.metis_universe.specs.Waits.{standing, IsStanding};
-ghost use Rattle.metis_universe.specs.Universe.{Universe, IsGreatestMet, IsUniverse, demand_of, greatest_demand, pair_count, has, next_of, initial_of, provides, requires};
+ghost use Rattle.metis_universe.specs.Universe.{Universe, IsGreatestMet, IsUniverse, demand_of, greatest_demand, pair_count, has, is_initial, next_of, initial_of, provides, requires};
+ghost use Rattle.metis_universe.specs.Residual.{residual};
 ghost use Rattle.metis_universe.specs.RowShapes.{StateRow, TypeRow};
 ghost use Rattle.metis_universe.specs.Rows.{IsOfVersion, first_fault, universe_from};
 ghost use Rattle.metis_universe.specs.Spelled.{Spells};
@@ -144,4 +145,13 @@ pub fn correctness_is_decided()
 /// Where each port is required of one provider, a configuration is correct exactly where each port that an instance's pair requires has a provider.
 pub fn one_provider_is_correct()
     ensures { (u : Universe) (c : Config) → IsSingle u → Correct u c ↔ HasProviders u c }
+{}
+
+/// In a residual universe a pair demands as many providers of a port fewer as are given, unless it is its type's initial pair; and an
+/// avoided pair provides nothing.
+pub fn what_is_given_is_not_demanded()
+    ensures demands { (u : Universe) (given : ℕ → ℕ) (avoided : List ℕ) (p r : ℕ) → p < pair_count u
+        → demand_of (residual u given avoided) p r ≡ (if is_initial u p then demand_of u p r else demand_of u p r - given r) }
+    ensures provides { (u : Universe) (given : ℕ → ℕ) (avoided : List ℕ) (p r : ℕ) → p < pair_count u
+        → provides (residual u given avoided) p r ≡ (not (has avoided p) && provides u p r) }
 {}

@@ -23,7 +23,7 @@ pub use laws::{
     one_provider_is_correct, origin_is_the_least_below, pair_is_of_the_last_action,
     provider_comes_first, refused_is_not_attained, rows_are_spelled, runs_stay_inside,
     selection_is_least, slots_are_demanded, standing_is_made_and_not_ended, version_1_demands_one,
-    version_1_is_single, what_is_required_is_demanded,
+    version_1_is_single, what_is_given_is_not_demanded, what_is_required_is_demanded,
 };
 pub use limits::{LONGEST_NAME, MOST_DEMANDED, MOST_PAIRS, MOST_PORTS, MOST_REQUIRED, MOST_STATES};
 pub use names::{is_name, name_in, pair_names};

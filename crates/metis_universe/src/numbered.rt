@@ -43,6 +43,16 @@ impl NumberedNames {
         })
     }
 
+    /// The same names.
+    pub fn copy(&self) -> Result<NumberedNames, AllocError>
+        ensures { IfOk result (λ names. names ≡ self.now) }
+    {
+        Ok(NumberedNames {
+            names: self.names.clone()?,
+            numbers: self.numbers.clone()?,
+        })
+    }
+
     /// How many names there are.
     pub fn count(&self) -> usize
         ensures { result ≡ length self.now }

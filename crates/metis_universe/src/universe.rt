@@ -1,13 +1,14 @@
 //! A universe: its types, its pairs in document order, and its ports.
-ghost use Rattle.std.specs.Prelude.{◌≡◌, ◌≤◌, ◌<◌, ◌==◌, ◌+◌, ◌&&◌, [], length, fold, max, nat_lt, position, take, drop, IsTrue, ◌↔◌, if◌then◌else◌};
+ghost use Rattle.std.specs.Prelude.{◌≡◌, ◌≤◌, ◌<◌, ◌==◌, ◌+◌, ◌&&◌, [], length, fold, max, nat_lt, position, take, drop, IfOk, IsTrue, ◌↔◌, if◌then◌else◌};
 ghost use Rattle.std.specs.List.{All, filter, list_any, position_or_len, slice_index_or};
 ghost use Rattle.std.specs.List.Sorted.{IsStrictlyIncreasing, IsNonDecreasingBy};
 ghost use Rattle.std.specs.Str.{bytes_eq};
-ghost use Rattle.metis_universe.specs.Universe.{has, kind_in, pair_count, type_count, port_count, type_of, state_place_of, initial_of, is_free, is_initial, next_of, provided_of, required_of, demand_of, greatest_demand, provides, type_requires, type_provides, providers_of, requirers_of, type_named, port_named, state_named, pair_named, type_name_of, state_name_of, port_name_of, states_of_type, IsTable};
+ghost use Rattle.metis_universe.specs.Universe.{has, kind_in, pair_count, type_count, port_count, type_of, state_place_of, initial_of, is_free, is_initial, next_of, provided_of, required_of, demand_of, greatest_demand, provides, type_requires, type_provides, providers_of, requirers_of, type_named, port_named, state_named, pair_named, type_name_of, state_name_of, port_name_of, states_of_type, IsBySight, IsTable};
 ghost use Rattle.metis_universe.specs.Numbers.{IsOf};
 ghost use Rattle.metis_universe.specs.Rows.{IsOfVersion, RowsFit, IsMade};
 
 mod build;
+mod residual;
 
 use crate::check::first_fault;
 use crate::faults::RowFault;
@@ -87,7 +88,8 @@ impl Universe {
     pub fn new(alloc: Global, version: u32, rows: Vec<TypeRow>) -> Result<Universe, RowFault>
         requires version { IsOfVersion version rows.items }
         requires fits { RowsFit rows.items }
-        ensures { IsMade result version rows.items }
+        ensures made { IsMade result version rows.items }
+        ensures by_sight { IfOk result IsBySight }
     {
         let found = ports_of(alloc, &rows)?;
         let mut kinds = NumberedNames::with_capacity(alloc, rows.len())?;

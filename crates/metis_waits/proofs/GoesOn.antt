@@ -36,7 +36,7 @@ module _ (A : List Action) where
     )
   ] refl
 
-  appended : (done ks more : List ℕ) → IsKeptFrom A done ks → ((front : List ℕ) → ((m : ℕ) → has front m ≡ (has ks m || has done m)) → IsKeptFrom A front more) → IsKeptFrom A done (ks ++ more)
+  pub appended : (done ks more : List ℕ) → IsKeptFrom A done ks → ((front : List ℕ) → ((m : ℕ) → has front m ≡ (has ks m || has done m)) → IsKeptFrom A front more) → IsKeptFrom A done (ks ++ more)
   appended done [] more kept next = next done (λ m. refl)
   appended done (k ∷ ks) more kept next = (kept.0, kept.1, kept.2, appended (k ∷ done) ks more kept.3 (λ front same. next front (λ m. same m ∙ swap (nat_eq k m) (has ks m) (has done m)))) where
     swap : (a b c : Bool) → (b || (a || c)) ≡ ((a || b) || c)

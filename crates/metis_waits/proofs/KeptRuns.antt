@@ -163,7 +163,7 @@ module _ (u : Universe) (A : List Action) (run : IsRun u empty A) (steady : is_s
     some_same a b h = cc
 
   -- no binding to an instance stands when its pair changes
-  no_tie_to : (r z y : ℕ) → settles y a ≡ true → is_bound d r z y ≡ false
+  pub no_tie_to : (r z y : ℕ) → settles y a ≡ true → is_bound d r z y ≡ false
   no_tie_to r z y change =
       elim (cases_Bool (is_bound d r z y)) [
         | inr none ↦ none
@@ -238,6 +238,19 @@ module _ (u : Universe) (A : List Action) (run : IsRun u empty A) (steady : is_s
       })
       (Correct-config_at u A place.0 run z p r (sym (agree_next.pairs z place.0 place.1) ∙ at_p) needs)
 
+  is_actor : (b : Action) → a ≡ b → actor_of b ≡ x
+  is_actor b e = ap actor_of (sym e)
+
+  -- the provider of a Bind is where the run has it
+  pub of_provider : (r z y : ℕ) → a ≡ Bind r z y → (z ≡ y → ⊥) → pair_of d y ≡ pair_of (config_at u A i) y
+  of_provider r z y e apart =
+      let who = is_actor (Bind r z y) e in
+      let place = place_of A done_next closed_next y in
+      let bound : is_bound (config_at u A (suc i)) r z y ≡ true = bound_next u A i r z y a at ∙ ap (λ b. bound_step r z y b (is_bound (config_at u A i) r z y)) e ∙ step_made r z y _ in
+      let same = same_provider u A run steady done_next closed_next r z y (suc i) place.0 bound (subst (λ w. IsAt A done_next w (suc i)) (sym who) at_x_next) place.1 in
+      agree.pairs y place.0 (at_other y place.0 (λ h. apart (who ∙ sym h)) place.1) ∙ same
+      ∙ pair_next u A i y (ap (λ o. option_map_or (settles y) o false) (at ∙ ap Some e))
+
   -- what the action needs is there
   pub allowed : Allows u d a
   allowed = by_action a refl (run_at u A i a run at).0 where
@@ -246,18 +259,6 @@ module _ (u : Universe) (A : List Action) (run : IsRun u empty A) (steady : is_s
 
     ties_of_actor : (r z y : ℕ) → z ≡ x → is_bound d r z y ≡ is_bound (config_at u A i) r z y
     ties_of_actor r z y e = agree.ties r z y i (subst (λ w. IsAt A done w i) (sym e) at_x)
-
-    is_actor : (b : Action) → a ≡ b → actor_of b ≡ x
-    is_actor b e = ap actor_of (sym e)
-
-    of_provider : (r z y : ℕ) → a ≡ Bind r z y → (z ≡ y → ⊥) → pair_of d y ≡ pair_of (config_at u A i) y
-    of_provider r z y e apart =
-        let who = is_actor (Bind r z y) e in
-        let place = place_of A done_next closed_next y in
-        let bound : is_bound (config_at u A (suc i)) r z y ≡ true = bound_next u A i r z y a at ∙ ap (λ b. bound_step r z y b (is_bound (config_at u A i) r z y)) e ∙ step_made r z y _ in
-        let same = same_provider u A run steady done_next closed_next r z y (suc i) place.0 bound (subst (λ w. IsAt A done_next w (suc i)) (sym who) at_x_next) place.1 in
-        agree.pairs y place.0 (at_other y place.0 (λ h. apart (who ∙ sym h)) place.1) ∙ same
-        ∙ pair_next u A i y (ap (λ o. option_map_or (settles y) o false) (at ∙ ap Some e))
 
     by_action : (b : Action) → a ≡ b → Allows u (config_at u A i) b → Allows u d b
     by_action (New z t) e h = (h.0, of_actor z (is_actor (New z t) e) ∙ h.1)
@@ -308,10 +309,10 @@ kept_from u A run steady done d (suc i ∷ ks) closed agree kept =
       now = λ n h. elim (or_cases (nat_eq (suc i) n) _ h) [ inl at ↦ rest.was n (or_left _ _ at) | inr later ↦ rest.now n later ];
     }
 
-closed_start : (A : List Action) → IsClosedUnderWaits A []
+pub closed_start : (A : List Action) → IsClosedUnderWaits A []
 closed_start A k m h w = absurd (false≢true h)
 
-agree_start : (u : Universe) (A : List Action) → IsRun u empty A → is_steadfast u A ≡ true → IsAgreeing u A [] empty
+pub agree_start : (u : Universe) (A : List Action) → IsRun u empty A → is_steadfast u A ≡ true → IsAgreeing u A [] empty
 agree_start u A run steady = record {
   pairs = λ z i at. ap (λ c. pair_of c z) (sym (config_at-start u A))
       ∙ sym (pair_between u A 0 i z (omega arith) (λ m low high. false_from_ne_true _ (λ c. false≢true (at.before m (own_place z A m c) high))));
@@ -326,17 +327,29 @@ take_all : (A : List Action) → take (length A) A ≡ A
 take_all [] = refl
 take_all (x ∷ A) = ap (λ xs. x ∷ xs) (take_all A)
 
+-- an instance all of whose actions stand in an order ends there as the run leaves it
+module _ (u : Universe) (A : List Action) (run : IsRun u empty A) (steady : is_steadfast u A ≡ true) (ks : List ℕ) (kept : IsKept A ks) (z : ℕ)
+    (mine : (m : ℕ) → passes_at (is_by z) A m ≡ true → has ks (suc m) ≡ true) where
+  abbrev end : IsKeptEnd u A [] empty ks
+  end = kept_end u A run steady ks kept
+
+  at_end : IsAt A end.all_done z (length A)
+  at_end = record {
+    before = λ m own less. end.now (suc m) (mine m own);
+    only = λ m own d. let here = passes_some (is_by z) A m own in place_below A m here.0 here.1;
+  }
+
+  pub pair_at_end : pair_of (after_all u empty (picked A ks)) z ≡ pair_of (after_all u empty A) z
+  pair_at_end = end.agree.pairs z (length A) at_end ∙ ap (λ xs. pair_of (after_all u empty xs) z) (take_all A)
+
+  pub ties_at_end : (r y : ℕ) → is_bound (after_all u empty (picked A ks)) r z y ≡ is_bound (after_all u empty A) r z y
+  ties_at_end r y = end.agree.ties r z y (length A) at_end ∙ ap (λ xs. is_bound (after_all u empty xs) r z y) (take_all A)
+
 -- an order that has every number ends where the run ends
 pub complete_end : (u : Universe) (A : List Action) → IsRun u empty A → is_steadfast u A ≡ true → (ks : List ℕ) → IsKept A ks → is_complete A ks ≡ true → after_all u empty (picked A ks) ≡ after_all u empty A
 complete_end u A run steady ks kept complete =
-    let end = kept_end u A run steady ks kept in
-    let n = length A in
-    let at = λ (z : ℕ). at_end end z in
-    same_config _ _ (IsConfig-after_all u empty (picked A ks) IsConfig-empty end.run) (IsConfig-after_all u empty A IsConfig-empty run)
-    (λ z. end.agree.pairs z n (at z) ∙ ap (λ xs. pair_of (after_all u empty xs) z) (take_all A))
-    (λ r z y. end.agree.ties r z y n (at z) ∙ ap (λ xs. is_bound (after_all u empty xs) r z y) (take_all A)) where
-      at_end : (end : IsKeptEnd u A [] empty ks) (z : ℕ) → IsAt A end.all_done z (length A)
-      at_end end z = record {
-        before = λ m mine less. end.now (suc m) (at_range (has ks) 1 (length A) (suc m) complete (omega arith) (omega arith));
-        only = λ m mine d. let here = passes_some (is_by z) A m mine in place_below A m here.0 here.1;
-      }
+    same_config _ _ (IsConfig-after_all u empty (picked A ks) IsConfig-empty (kept_end u A run steady ks kept).run) (IsConfig-after_all u empty A IsConfig-empty run)
+    (λ z. pair_at_end u A run steady ks kept z (all z))
+    (λ r z y. ties_at_end u A run steady ks kept z (all z) r y) where
+      all : (z m : ℕ) → passes_at (is_by z) A m ≡ true → has ks (suc m) ≡ true
+      all z m own = let here = passes_some (is_by z) A m own in let below = place_below A m here.0 here.1 in at_range (has ks) 1 (length A) (suc m) complete (omega arith) (omega arith)

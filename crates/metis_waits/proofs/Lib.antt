@@ -5,7 +5,9 @@ pub mod Counted
 pub mod Examples
 pub mod Gathered
 pub mod GoesOn
+pub mod HeldUp
 pub mod KeptRuns
+pub mod KeptSteadfast
 pub mod LastPlaces
 pub mod LetGo
 pub mod Listed

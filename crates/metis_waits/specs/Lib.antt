@@ -1,4 +1,5 @@
 pub mod Causes
+pub mod Failures
 pub mod Instances
 pub mod Judged
 pub mod Orders

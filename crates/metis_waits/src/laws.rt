@@ -1,13 +1,15 @@
 //! Laws of orders that keep the waits.
-ghost use Rattle.std.specs.Prelude.{◌≡◌, ◌↔◌, ◌++◌, ℕ, IsTrue, List};
+ghost use Rattle.std.specs.Prelude.{◌≡◌, ◌↔◌, ◌⊎◌, ◌++◌, ℕ, IsFalse, IsSomeAnd, IsTrue, List};
 ghost use Rattle.metis_ids.specs.declared.actions.Action.{Action};
 ghost use Rattle.metis_universe.specs.Config.{empty};
-ghost use Rattle.metis_universe.specs.Steadfast.{is_steadfast};
+ghost use Rattle.metis_universe.specs.Steadfast.{IsSteadfastRun, is_steadfast};
 ghost use Rattle.metis_universe.specs.Step.{IsRun, after_all};
 ghost use Rattle.metis_universe.specs.Universe.{Universe, has};
-ghost use Rattle.metis_universe.specs.Waits.{IsKept, is_complete, numbers, picked, waits};
+ghost use Rattle.metis_universe.specs.Waits.{IsKept, action_at, is_complete, numbers, picked, waits};
 ghost use Rattle.metis_waits.specs.Causes.{HasCause};
+ghost use Rattle.metis_waits.specs.Failures.{EndsAlike, HasAllOthers, NoneHeldUp, is_held_up};
 ghost use Rattle.metis_waits.specs.Orders.{KeepsWaits};
+ghost use Rattle.metis_waits.specs.Waits.{is_by};
 
 /// An action waits for the previous one of its instance; where it binds, for the one that put the provider into its pair; and where it
 /// moves or deletes an instance, for each that ended a binding to this one since it came into its pair. It waits for no other.
@@ -35,6 +37,25 @@ pub fn complete_order_ends_alike()
 /// Each order that keeps the waits, whether the actions are a run or not, goes on to one that has every action.
 pub fn kept_order_goes_on()
     ensures { (actions : List Action) (ks : List ℕ) → IsKept actions ks → (more : List ℕ) × IsKept actions (ks ++ more) × IsTrue (is_complete actions (ks ++ more)) }
+{}
+
+/// Each of these orders, complete or not, is itself a steadfast run of the actions that it has. So all that is promised of a
+/// steadfast run holds of what was done so far.
+pub fn a_kept_list_is_steadfast()
+    ensures { (u : Universe) (actions : List Action) (ks : List ℕ) → IsSteadfastRun u actions → IsKept actions ks → IsSteadfastRun u (picked actions ks) }
+{}
+
+/// Where some actions never happen, those that wait for one of them are held up, and those that wait for these. All others go on, in
+/// any order that keeps the waits: it meets only correct configurations, and goes on to one that has them all. There each instance
+/// none of whose actions is held up is in the pair, and has the bindings, that all actions would leave it.
+pub fn failure_isolates()
+    ensures held_up { (actions : List Action) (failed : List ℕ) (k : ℕ) → IsTrue (is_held_up actions failed k)
+        ↔ (IsTrue (has failed k) ⊎ ((m : ℕ) × IsTrue (has (waits actions k) m) × IsTrue (is_held_up actions failed m))) }
+    ensures correct { (u : Universe) (actions : List Action) (ks : List ℕ) → IsSteadfastRun u actions → IsKept actions ks → IsRun u empty (picked actions ks) }
+    ensures goes_on { (actions : List Action) (failed ks : List ℕ) → IsKept actions ks → NoneHeldUp actions failed ks
+        → (more : List ℕ) × IsKept actions (ks ++ more) × NoneHeldUp actions failed (ks ++ more) × HasAllOthers actions failed (ks ++ more) }
+    ensures ends { (u : Universe) (actions : List Action) (failed ks : List ℕ) (z : ℕ) → IsSteadfastRun u actions → IsKept actions ks → HasAllOthers actions failed ks
+        → ((k : ℕ) → IsSomeAnd (action_at actions k) (λ a. IsTrue (is_by z a)) → IsFalse (is_held_up actions failed k)) → EndsAlike u actions ks z }
 {}
 
 /// The order in which the actions stand keeps their waits, whether they are a run or not. It has every action, and its actions

@@ -11,6 +11,6 @@ mod least;
 mod wave_lists;
 
 pub use durations::Durations;
-pub use laws::{schedule_order_is_kept, waves_are_unique};
+pub use laws::{early_finish_is_never_late, schedule_order_is_kept, waves_are_unique};
 pub use least::waves;
 pub use wave_lists::{Starts, Waves};

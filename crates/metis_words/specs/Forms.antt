@@ -3,7 +3,7 @@
 --     reading verb, file_count verb      what the command reads, and so exactly so many file words
 use Rattle.std.specs.Prelude.{ℕ, ◌+◌, List, [], ◌∷◌, length}
 use Rattle.metis_words.specs.declared.words.Verb.{Verb}
-use Rattle.metis_words.specs.declared.words.Verb.TheVariants.{Plan, Replay, Refute, Audit, Sim, Crew, Waves, Control, Rollout, Place, Print, Load, Why, Confirm}
+use Rattle.metis_words.specs.declared.words.Verb.TheVariants.{Plan, Replay, Refute, Audit, Sim, Crew, Waves, Waits, Control, Rollout, Place, Print, Load, Why, Confirm}
 
 -- What a file behind the universe holds: a plan, a refusal, an explanation, the script of a session or for a controller, the turns of a
 -- crew, or hosts and sizes.
@@ -29,6 +29,7 @@ reading Audit = OfGoals (PlanText ∷ [])
 reading Sim = OfUniverse (ScriptText ∷ [])
 reading Crew = OfUniverse (PlanText ∷ TurnsText ∷ [])
 reading Waves = OfUniverse (PlanText ∷ [])
+reading Waits = OfUniverse (PlanText ∷ [])
 reading Control = OfUniverse (PlanText ∷ ScriptText ∷ [])
 reading Rollout = OfGoals (PlanText ∷ [])
 reading Place = OfUniverse (PlanText ∷ HostsText ∷ [])
@@ -56,6 +57,7 @@ target_limit Audit = 256
 target_limit Sim = 0
 target_limit Crew = 0
 target_limit Waves = 0
+target_limit Waits = 0
 target_limit Control = 0
 target_limit Rollout = 256
 target_limit Place = 0

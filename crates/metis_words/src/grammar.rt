@@ -34,6 +34,7 @@ fn verb_named(word: &str) -> Option<Verb>
         "sim" => Some(Verb::Sim),
         "crew" => Some(Verb::Crew),
         "waves" => Some(Verb::Waves),
+        "waits" => Some(Verb::Waits),
         "control" => Some(Verb::Control),
         "rollout" => Some(Verb::Rollout),
         "place" => Some(Verb::Place),

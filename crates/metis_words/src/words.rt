@@ -25,6 +25,8 @@ pub enum Verb {
     Crew,
     /// Tells when each action of a plan may start.
     Waves,
+    /// Gives a plan's actions the waits that they need.
+    Waits,
     /// Runs a controller and agents for a plan, over a net that loses and repeats.
     Control,
     /// Goes from a plan to other targets, and removes what the plan left.
@@ -62,6 +64,7 @@ impl Verb {
             Verb::Sim
             | Verb::Crew
             | Verb::Waves
+            | Verb::Waits
             | Verb::Control
             | Verb::Place
             | Verb::Print

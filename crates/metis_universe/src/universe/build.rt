@@ -5,7 +5,7 @@ ghost use Rattle.metis_universe.specs.PortRows.{with_pair, rows_from, port_rows}
 ghost use Rattle.metis_universe.specs.Kinds.{kinds_of};
 ghost use Rattle.metis_universe.specs.Texts.{texts};
 ghost use Rattle.metis_universe.specs.SeenPorts.{number_within};
-ghost use Rattle.metis_universe.specs.Universe.{universe_of, IsTable};
+ghost use Rattle.metis_universe.specs.Universe.{universe_of, IsTable, IsBySight};
 ghost use Rattle.metis_universe.specs.Unnamed.{unnamed, with_names};
 ghost use Rattle.metis_universe.specs.Rows.{IsOfVersion, number_of, state_number, ascending, initial_from, initials_from, names_of, pair_from, pairs_from, pairs_of_type, universe_from, first_fault, ports_of_state, ports_of_type, ports_of};
 
@@ -303,7 +303,7 @@ fn type_tables(
 }
 
 /// The universe of these types, pairs and ports.
-fn indexed(
+pub fn indexed(
     alloc: Global,
     version: u32,
     kinds: NumberedNames,
@@ -339,7 +339,8 @@ pub fn tables(
     requires kinds { kinds ≡ names_of rows.items }
     requires ports { found.ports ≡ ports_of rows.items }
     requires numbers { found.numbers.items ≡ map (number_within (ports_of rows.items)) (flat_map ports_of_type rows.items) }
-    ensures { IfOk result (λ u. u ≡ universe_from version rows.items) }
+    ensures made { IfOk result (λ u. u ≡ universe_from version rows.items) }
+    ensures by_sight { IfOk result IsBySight }
 {
     let Sights { ports, numbers } = found;
     let (initials, pairs) = type_tables(alloc, rows, &ports, &numbers)?;

@@ -11,12 +11,12 @@ new-requires-clause-fits c = subst RowsFit (sym c.in_ok-generated_rows.ensures) 
 
 pub unreachable-requires : goal.unreachable-requires
 unreachable-requires c =
-    let made = c.in-Err.ensures c.in_default.not-NoMemory in
+    let made = c.in-Err.ensures.made c.in_default.not-NoMemory in
     let is = ap (meaning_of 1) c.in_ok-generated_rows.ensures ∙ rows_mean c.args.n (omega arith) in
     cc
 
 pub returns-in-Ok : goal.returns-in-Ok
 returns-in-Ok c =
     let is = ap (meaning_of 1) c.in_ok-generated_rows.ensures ∙ rows_mean c.args.n (omega arith) in
-    let made = c.in-Ok.ensures in
+    let made = c.in-Ok.ensures.made in
     cc

@@ -3,7 +3,7 @@ use Rattle.std.proofs.lemmas.Bool.{eq-eqb, or_left}
 use Rattle.metis_config.proofs.Removed.{fewer, names_tie, others, others-all, others-untied, unbound-untie}
 use Rattle.metis_universe.specs.Config.{Config, is_bound, is_tie, untie}
 use Rattle.metis_universe.specs.Universe.{has}
-use Rattle.metis_rollout.specs.Rollout.{is_referenced}
+use Rattle.metis_rollout.specs.Rollout.{all_but, is_referenced}
 use Rattle.metis_rollout.proofs.Going.{unpointed}
 use Rattle.metis_rollout.proofs.UnreferencedFacts.{but_cut, gone}
 use Rattle.metis_rollout.proofs.unreferenced.let_go.Goals as goal
@@ -28,20 +28,20 @@ needed-preserved c =
     let z = c.args.z in
     let bound : is_bound c.needed.c r z y ≡ true = c.in-Some.ensures' in
     let is : c.untie.new.self ≡ untie c.needed.c r z y = search rules in
-    let added : (w : ℕ) → has c.add_unreferenced.new.unreferenced.keys w ≡ (has c.needed.unreferenced.keys w || (nat_eq w y && not (is_referenced c.untie.new.self y))) = search rules in
+    let added : (w : ℕ) → has c.add_unreferenced.new.unreferenced.keys w ≡ (has c.needed.unreferenced.keys w || (nat_eq w y && (all_but c.args.stays.now.keys y && not (is_referenced c.untie.new.self y)))) = search rules in
     record {
       instances = ap (λ (d : Config). d.instances) is ∙ c.needed.invariant.instances;
       others = ap (λ (d : Config). others z d.bindings) is ∙ others-untied z (is_tie r z y) (names_tie z r z y (or_left _ _ (eq-eqb z z refl))) c.needed.c.bindings ∙ c.needed.invariant.others;
-      unreferenced = but_cut c.needed.c c.untie.new.self c.needed.unreferenced.keys c.add_unreferenced.new.unreferenced.keys r z y c.keeps_invariant.ensures bound is c.needed.invariant.unreferenced added;
+      unreferenced = but_cut (all_but c.args.stays.now.keys) c.needed.c c.untie.new.self c.needed.unreferenced.keys c.add_unreferenced.new.unreferenced.keys r z y c.keeps_invariant.ensures bound is c.needed.invariant.unreferenced added;
       free = λ s x. ap (λ (d : Config). is_bound d s x z) is ∙ unbound-untie c.needed.c r z y s x z (c.needed.invariant.free s x);
     }
 
 pub returns-clause-config : goal.returns-clause-config
 returns-clause-config c =
-    (gone c.args.c.now c.needed.c c.remove.new.self c.needed.unreferenced.keys c.args.z c.needed.invariant.instances c.needed.invariant.others
+    (gone (all_but c.args.stays.now.keys) c.args.c.now c.needed.c c.remove.new.self c.needed.unreferenced.keys c.args.z c.needed.invariant.instances c.needed.invariant.others
     (others-all c.args.z c.needed.c.bindings c.needed.invariant.free c.in_default.ensures) c.needed.invariant.unreferenced c.remove.ensures).0
 
 pub returns-clause-unreferenced : goal.returns-clause-unreferenced
 returns-clause-unreferenced c =
-    (gone c.args.c.now c.needed.c c.remove.new.self c.needed.unreferenced.keys c.args.z c.needed.invariant.instances c.needed.invariant.others
+    (gone (all_but c.args.stays.now.keys) c.args.c.now c.needed.c c.remove.new.self c.needed.unreferenced.keys c.args.z c.needed.invariant.instances c.needed.invariant.others
     (others-all c.args.z c.needed.c.bindings c.needed.invariant.free c.in_default.ensures) c.needed.invariant.unreferenced c.remove.ensures).1

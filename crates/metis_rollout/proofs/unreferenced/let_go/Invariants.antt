@@ -1,5 +1,6 @@
 use Rattle.std.proofs.Common.{◌≡◌, length}
 use Rattle.metis_config.proofs.Removed.{others}
+use Rattle.metis_rollout.specs.Rollout.{all_but}
 use Rattle.metis_rollout.specs.Unreferenced.{AreUnreferencedBut}
 use Rattle.metis_rollout.proofs.Going.{Unpointed}
 use Rattle.metis_rollout.proofs.unreferenced.let_go.Given as goal
@@ -8,7 +9,7 @@ abbrev pub invariant-needed : goal.invariant-needed
 invariant-needed l = record {
   instances : l.c.instances ≡ l.initial.c.instances;
   others : others l.z l.c.bindings ≡ others l.z l.initial.c.bindings;
-  unreferenced : AreUnreferencedBut l.c l.z l.unreferenced.keys;
+  unreferenced : AreUnreferencedBut (all_but l.stays.keys) l.c l.z l.unreferenced.keys;
   free : Unpointed l.c l.z;
 }
 

@@ -3,7 +3,6 @@ use Rattle.metis_top.proofs.OverFiles.{ran_headline, ran_plans, ran_tells, the_p
 use Rattle.metis_top.proofs.Openings.{ran_opens}
 use Rattle.metis_top.proofs.ReadFaults.{ran_read_fault}
 use Rattle.metis_top.specs.Honest.{IsThePlan}
-use Rattle.metis_words.specs.Words.{form_of}
 use Rattle.metis_universe.specs.Texts.{texts}
 use Rattle.metis_top.proofs.top.run.Given.{Over}
 use Rattle.metis_top.proofs.top.run.Goals as goal
@@ -27,7 +26,7 @@ pub returns-clause-plan : goal.returns-clause-plan
 returns-clause-plan g c = ran_plans _ _ _ _ _ (texts c.args.words.now) _ _ _ _ _ c.follow.ensures.course IsThePlan (the_plan (laws g c))
 
 pub returns-clause-read_fault : goal.returns-clause-read_fault
-returns-clause-read_fault g c = ran_read_fault _ _ _ _ _ (form_of (texts c.args.words.now)) _ _ _ _ _ c.follow.ensures.course
+returns-clause-read_fault g c = ran_read_fault _ _ _ _ _ (texts c.args.words.now) _ _ _ _ _ c.follow.ensures.course
 
 pub returns-clause-opens : goal.returns-clause-opens
-returns-clause-opens g c = ran_opens _ _ _ _ _ (form_of (texts c.args.words.now)) _ _ _ _ _ c.follow.ensures.course
+returns-clause-opens g c = ran_opens _ _ _ _ _ (texts c.args.words.now) _ _ _ _ _ c.follow.ensures.course

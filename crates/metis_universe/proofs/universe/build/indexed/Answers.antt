@@ -36,6 +36,5 @@ invariant_of-result c =
       universe = c.requires.universe;
       named = c.requires.named;
       limits = c.requires.limits;
-      sights = c.requires.sights;
       indexed = subst {A = List (List ℕ) × List (List ℕ)} (λ rows. IsIndexed u rows.0 rows.1) (sym (λ j. (providers j, requirers j))) (IsIndexed-port_rows u c.requires.universe);
     }

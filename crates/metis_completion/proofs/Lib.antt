@@ -1,0 +1,14 @@
+pub mod Acting
+pub mod Attaining
+pub mod Avoiding
+pub mod Beside
+pub mod Binding
+pub mod Completion
+pub mod Examples
+pub mod Front
+pub mod GivenSlots
+pub mod Keeping
+pub mod Nothing
+pub mod ResidualRows
+pub mod Short
+pub mod Slots

@@ -1,0 +1,11 @@
+pub mod Answerable
+pub mod Kept
+pub mod Missing
+pub mod NewOnes
+pub mod Reached
+pub mod Rebinding
+pub mod Reconfiguration
+pub mod Settled
+pub mod Staying
+pub mod Targeted
+pub mod Tidied

@@ -1,0 +1,8 @@
+use Rattle.std.proofs.Common.{◌≡◌}
+use Rattle.metis_universe.specs.Step.{after_all}
+use Rattle.metis_universe.specs.Universe.{Universe}
+use Rattle.metis_rollout.specs.Rollout.{deletes}
+use Rattle.metis_rollout.proofs.staying.take_out.Given as goal
+
+abbrev pub invariant-loop-z : goal.invariant-loop-z
+invariant-loop-z l = (u : Universe) → after_all u l.initial.c (deletes l.stays.keys) ≡ after_all u l.c (deletes l.z-iterator)
