@@ -21,6 +21,7 @@ The status is 1 where an answer is not the one that has to come, or where a run 
 larger. docs/dev/BENCHMARKS.md says how to read the table.
 """
 
+import importlib.util
 import random
 import re
 import subprocess
@@ -29,9 +30,9 @@ from pathlib import Path
 
 from measure import Table, program_and_words, ratio, switch, temporary_folder, usage, write_universe
 
-sys.path.insert(0, str(Path(__file__).resolve().parent.parent / "tools"))
-
-import second_why as second
+SECOND = importlib.util.spec_from_file_location("second_why", Path(__file__).resolve().parent.parent / "tools" / "second_why.py")
+second = importlib.util.module_from_spec(SECOND)
+SECOND.loader.exec_module(second)
 
 SIZES = (250, 500, 1000, 2000)
 SMALL = 40

@@ -1,13 +1,77 @@
-# Completion of metis in bash: commands, files, and the targets of the universe that is named. Without Python no targets.
+# Completion of metis in bash: commands, names, options, files, and the targets of the universe that is named. Without Python
+# no targets. Made by `python3 -m metis_planner.completion bash`.
 #
 #     source completion/metis.bash
 
-# How many words of a command name files, and whether targets follow them.
+# How many words of a command name files; which have targets behind them; names and options that may follow.
 declare -A _metis_files=(
-    [plan]=1 [replay]=2 [audit]=2 [refute]=2 [why]=1 [confirm]=2 [crew]=3 [waves]=2 [rollout]=2 [control]=3 [place]=3 [sim]=2
-    [print]=1 [load]=0
+    [plan]=1
+    [why]=1
+    [replay]=2
+    [rollout]=2
+    [audit]=2
+    [refute]=2
+    [confirm]=2
+    [waits]=2
+    [waves]=2
+    [place]=3
+    [crew]=3
+    [control]=3
+    [sim]=2
+    [print]=1
+    [load]=0
+    [import]=99
+    [sketch]=99
+    [check]=99
+    [lint]=99
+    [show]=99
+    [graph]=99
+    [gantt]=99
+    [page]=99
+    [up]=99
+    [down]=99
+    [make]=99
+    [ninja]=99
+    [slurm]=99
+    [engine]=99
+    [status]=99
+    [log]=99
+    [retry]=99
+    [verify]=99
+    [inventory]=99
+    [done]=99
+    [split]=99
+    [help]=0
+    [version]=99
 )
-_metis_with_targets=' plan replay audit refute why confirm rollout '
+_metis_with_targets=' plan why replay rollout audit refute confirm '
+declare -A _metis_names=(
+    [import]='debian compose systemd kubernetes'
+    [lint]='debian compose systemd kubernetes'
+    [engine]='make ninja slurm'
+    [help]='plan why replay rollout audit refute confirm waits waves place crew control sim print load import sketch check lint show graph gantt page up down make ninja slurm engine status log retry verify inventory done split help version'
+)
+declare -A _metis_options=(
+    [sketch]='--from --help'
+    [check]='--help --json'
+    [show]='--color --help --hide --json --plan'
+    [graph]='--as --from --help --instances --most'
+    [gantt]='--help --most --unit'
+    [page]='--from --help --logs --most --placement --serve --title --unit --universe --waves --why'
+    [up]='--commands --engine --help --hosts --jobs --to --yes'
+    [down]='--commands --engine --help --jobs --universe --yes'
+    [make]='--commands --from --help --lax --placement --skeleton --to --universe --waits-alone'
+    [ninja]='--commands --from --help --lax --placement --skeleton --to --universe --waits-alone'
+    [slurm]='--commands --from --help --lax --placement --skeleton --to --universe --waits-alone'
+    [status]='--help --json --watch'
+    [log]='--follow --help'
+    [retry]='--help'
+    [verify]='--help --json --take-back'
+    [inventory]='--commands --help'
+    [done]='--help'
+    [split]='--help'
+    [version]='--help'
+)
 
 # The targets of a universe, one a line: its pairs, and the ports that some state provides.
 _metis_targets() {
@@ -34,6 +98,14 @@ _metis() {
     COMPREPLY=()
     if [ "$place" -eq 1 ]; then
         mapfile -t COMPREPLY < <(compgen -W "${!_metis_files[*]}" -- "$current")
+        return
+    fi
+    if [ "$place" -eq 2 ] && [ -n "${_metis_names[$command]-}" ]; then
+        mapfile -t COMPREPLY < <(compgen -W "${_metis_names[$command]}" -- "$current")
+        return
+    fi
+    if [[ $current == -* ]] && [ -n "${_metis_options[$command]-}" ]; then
+        mapfile -t COMPREPLY < <(compgen -W "${_metis_options[$command]}" -- "$current")
         return
     fi
     files=${_metis_files[$command]:-0}

@@ -46,7 +46,7 @@ def copy_sources(lines, crates, room):
     (room / "crates.txt").write_text("".join(f"{lines[it]}\n" for it in crates))
     shutil.copyfile(TOP / "HANDLES", room / "HANDLES")
     for it in crates:
-        left_out = shutil.ignore_patterns("out", "must-fail")
+        left_out = shutil.ignore_patterns("out", "must-fail", "edits")
         shutil.copytree(TOP / "crates" / it, room / "crates" / it, copy_function=shutil.copyfile, ignore=left_out)
 
 

@@ -1,4 +1,4 @@
-"""Tries the commands of the table 'What you see, what to do' of docs/FORMATS.md.
+"""Tries the commands of the table 'What you see, what to do' of docs/ERRORS.md.
 
 Each row of that table says by which command the place of a fault is found. Here each row has a case at least: files with the
 fault, the words with which the program prints the row's line, and what the row's command has to print then. A row without a
@@ -14,8 +14,8 @@ import tempfile
 from collections.abc import Iterator
 
 TOP = pathlib.Path(__file__).resolve().parent.parent
-PAGE = "docs/FORMATS.md"
-HEADING = "### What you see, what to do"
+PAGE = "docs/ERRORS.md"
+HEADING = "## What you see, what to do"
 CELL = re.compile(r"(?<!\\)\|")
 SPAN = re.compile(r"`([^`]+)`")
 # What a reader puts into a command: `Np` of sed is a number too.
@@ -80,7 +80,8 @@ def commands_of_rows() -> dict[str, str]:
     """How each row of the table begins, with the command in its second cell."""
     table = (TOP / PAGE).read_text().split(HEADING)[1].split("\n#")[0]
     rows = [CELL.split(line) for line in table.splitlines() if line.startswith("| ")][1:]
-    return {row[1].strip(): SPAN.search(row[2])[1].replace("\\|", "|") for row in rows}
+    commands = {row[1].strip(): SPAN.search(row[2]) for row in rows}
+    return {row: found[1].replace("\\|", "|") if found else "" for row, found in commands.items()}
 
 
 def lay_out(folder: pathlib.Path, program: pathlib.Path) -> None:
@@ -88,13 +89,15 @@ def lay_out(folder: pathlib.Path, program: pathlib.Path) -> None:
         (folder / name).write_text(text)
     for name in ("examples", "commands"):
         (folder / name).mkdir()
-    (folder / "commands" / "metis").symlink_to(program)
+    command = f"script={folder}/commands/metis top={TOP}\nfind_program() {{\n    program={program}\n}}\n. {TOP}/metis_planner/front.sh\n"
+    (folder / "commands" / "metis").write_text(f"#!/bin/sh\n{command}")
+    (folder / "commands" / "metis").chmod(0o755)
     (folder / "commands" / "rt").symlink_to("/bin/true")
 
 
 def printed(command: str, folder: pathlib.Path) -> str:
     path = f"{folder / 'commands'}:{os.environ['PATH']}"
-    environment = {**os.environ, "PATH": path, "PYTHONPATH": str(TOP), "LC_ALL": "C"}
+    environment = {**os.environ, "PATH": path, "LC_ALL": "C"}
     ran = subprocess.run(["bash", "-c", command], cwd=folder, env=environment, capture_output=True, text=True, check=False, timeout=60)
     return ran.stdout
 

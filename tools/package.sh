@@ -1,5 +1,5 @@
 #!/bin/bash
-# Makes a Debian package and an archive of the proved program, with what its pages show: importers and exporters, examples,
+# Makes a Debian package and an archive of the proved program, with the front and what else its pages show: examples,
 # documents, the man page, completion; and a file of their SHA-256 sums. Then unpacks both, and has each plan and show the plan.
 #
 #     tools/package.sh [FOLDER]      the folder is out/package at the top of the repository, where none is given
@@ -31,6 +31,7 @@ check_tree() {
 }
 
 check_program() {
+    "$top/tools/build.py" || fail "the program could not be proved"
     METIS_UNPROVED=no "$top/metis" print "$top/examples/web.json" >/dev/null || fail "there is no proved program"
     # What `rt try` builds has checks of its own in it.
     ! grep -aq __asan_init "$program" || fail "$program is a program that was built without a proof"
@@ -58,7 +59,7 @@ wanted_libc() {
 proved() {
     echo "commit $commit"
     echo "kit $kit"
-    echo "sha256 of bin/metis $(sha256sum <"$program" | cut -d' ' -f1)"
+    echo "sha256 of lib/$NAME/metis $(sha256sum <"$program" | cut -d' ' -f1)"
     echo "rt ci at that commit, with that kit, proves it and makes these bytes."
 }
 
@@ -72,26 +73,25 @@ changelog() {
     echo " -- $(maintainer)  $(LC_ALL=C date -u -R -d "@$SOURCE_DATE_EPOCH")"
 }
 
-# A command that runs a module of Python below the same folder, wherever that is unpacked. It leaves nothing there.
+# The command, which finds the proved program and the front beside it, wherever the package is unpacked.
 command_of() {
-    cat <<COMMAND
+    cat <<'COMMAND'
 #!/bin/sh
-# Python's modules lie beside this command, in ../lib.
-script=\$(readlink -f "\$0")
-python3 -c 'import sys; sys.exit(sys.version_info < (3, 11))' 2>/dev/null || {
-    echo "\${0##*/}: Python 3.11 or later has to be there" >&2
-    exit 1
-}
-PYTHONPATH=\${script%/bin/*}/lib/$NAME exec python3 -B -P -m $1 "\$@"
-COMMAND
+# The command `metis`: `metis help` says what it can do. The proved program is ../lib/metis-planner/metis.
+script=$0
+[ -L "$script" ] && script=$(readlink -f "$script")
+case $script in
+/*) ;;
+*) script=$PWD/$script ;;
+esac
+top=${script%/bin/*}/lib/metis-planner
+
+find_program() {
+    program=$top/metis
 }
 
-# Such a command, and a man page that is the planner's, which speaks of it.
-install_command() {
-    local root=$1 name=$2 module=$3
-    command_of "$module" >"$work/command"
-    install -D -m 755 "$work/command" "$root/bin/$name"
-    echo '.so man1/metis.1' | gzip -9n >"$root/share/man/man1/$name.1.gz"
+. "$top/metis_planner/front.sh"
+COMMAND
 }
 
 # The files of some folders that git tracks, below another folder, but for those that a pattern names.
@@ -106,18 +106,33 @@ lay_tracked() {
 # All of it below a folder such as /usr.
 lay_out() {
     local root=$1 documents=$1/share/doc/$NAME modules=$1/lib/$NAME
-    install -D -m 755 "$program" "$root/bin/metis"
-    lay_tracked "$modules" '/(tests|try_[a-z_]*\.py$)' importers exporters
+    install -D -m 755 "$program" "$modules/metis"
+    lay_tracked "$modules" '/README\.md$' metis_planner VERSION
+    command_of >"$work/command"
+    install -D -m 755 "$work/command" "$root/bin/metis"
     install -D -m 644 "$top/docs/metis.1" "$root/share/man/man1/metis.1"
     gzip -9n "$root/share/man/man1/metis.1"
-    install_command "$root" metis-import importers
-    install_command "$root" metis-show "importers show"
-    [ ! -d "$top/exporters" ] || install_command "$root" metis-export exporters
     install -D -m 644 "$top/completion/metis.bash" "$root/share/bash-completion/completions/metis"
     install -D -m 644 "$top/completion/_metis" "$root/share/zsh/vendor-completions/_metis"
-    lay_tracked "$documents" '^docs/metis\.1$' README.md CONTRIBUTING.md CHANGELOG.md docs examples importers/README.md exporters/README.md
+    lay_tracked "$documents" '^docs/metis\.1$' README.md CONTRIBUTING.md CHANGELOG.md docs examples metis_planner/importers/README.md metis_planner/carry/README.md
     proved >"$documents/PROVED"
     changelog | gzip -9n >"$documents/changelog.gz"
+}
+
+# What Python keeps of its modules is made when the package is installed, and goes with it.
+scripts_of_the_deb() {
+    install -d "$1"
+    cat >"$1/postinst" <<SCRIPT
+#!/bin/sh
+set -e
+[ "\$1" != configure ] || ! command -v python3 >/dev/null || python3 -m compileall -q /usr/lib/$NAME || :
+SCRIPT
+    cat >"$1/prerm" <<SCRIPT
+#!/bin/sh
+set -e
+find /usr/lib/$NAME -name __pycache__ -prune -exec rm -rf {} +
+SCRIPT
+    chmod 755 "$1/postinst" "$1/prerm"
 }
 
 make_archive() {
@@ -134,7 +149,7 @@ make_deb() {
     architecture=$(dpkg --print-architecture)
     lay_out "$root/usr"
     size=$(du -sk --apparent-size "$root/usr" | cut -f1)
-    mkdir -p "$root/DEBIAN"
+    scripts_of_the_deb "$root/DEBIAN"
     cat >"$root/DEBIAN/control" <<CONTROL
 Package: $NAME
 Version: $version
@@ -152,9 +167,9 @@ Description: planner for the deployment of components, proved
  those that they wait for, or a refusal that anyone can check. It also
  replays, audits, times, places, rolls out and carries out plans.
  .
- The planner needs libc6 $(wanted_libc) or later and nothing else. The commands beside
- it, which make universes of packages, Compose projects and systemd's targets,
- and show plans, need Python 3.11.
+ The planner needs libc6 $(wanted_libc) or later and nothing else. The other words of
+ the command, which make universes of packages, Compose projects, manifests and
+ units, and show, draw and carry out plans, need Python 3.11.
 CONTROL
     (cd "$root" && find usr -type f -exec md5sum {} + | LC_ALL=C sort -k 2 >DEBIAN/md5sums)
     dpkg-deb --root-owner-group --build "$root" "$made/${NAME}_${version}_$architecture.deb" >/dev/null
@@ -163,7 +178,7 @@ CONTROL
     echo "${NAME}_${version}_$architecture.deb"
 }
 
-# Has what was unpacked print the plan that README shows, and show it.
+# Has what was unpacked print the plan that the man page shows, and show it.
 try_out() {
     local examples=$1/share/doc/$NAME/examples
     local plan='metis plan 1
@@ -175,8 +190,9 @@ instances 2 actions 5 dups 0
 5 move 0 off run
 end'
     [ "$("$1/bin/metis" plan "$examples/web.json" Web:run)" = "$plan" ] || fail "the unpacked program prints another plan"
-    [ "$("$1/bin/metis" plan "$examples/web.json" Web:run | "$1/bin/metis-show" | tail -1)" = '   5  Web#0: off -> run' ] || fail "the unpacked metis-show shows another plan"
-    [ "$(echo 'a: off > on' | "$1/bin/metis-import" sketch | "$1/bin/metis" plan - a:on | sed -n 2p)" = 'instances 1 actions 2 dups 0' ] || fail "the unpacked metis-import makes another universe"
+    [ "$("$1/bin/metis" plan "$examples/web.json" Web:run | "$1/bin/metis" show | tail -1)" = '   5  Web#0: off -> run' ] || fail "the unpacked show shows another plan"
+    [ "$(echo 'a: off > on' | "$1/bin/metis" sketch | "$1/bin/metis" plan - a:on | sed -n 2p)" = 'instances 1 actions 2 dups 0' ] || fail "the unpacked sketch makes another universe"
+    "$1/bin/metis" --version | grep -qx "metis $version" || fail "the unpacked command has another version"
     [ -f "$examples/shop/shop.json" ] || fail "an example is not there"
 }
 

@@ -1,15 +1,15 @@
 #!/usr/bin/env python3
-"""Looks whether pages are in plain English, and names by line what is not.
+"""Looks at the English of pages: which words of ours have a reader's word, and which sentences are long.
 
     tools/plain.py [PAGE..]
 
-PAGE is a page in Markdown or a man page; those of PAGES if none is given. It names each sentence of more than 35 words, a page
-whose sentences have more than 18 words on average, and each phrase of a list. Then it prints a line for each page that says how
-long it is. There `where` is counted if it begins a sentence or follows a comma: mostly it means 'if'. The status is 1 if
-anything was named, and 2 if a page is not there.
+PAGE is a page in Markdown or a man page; all pages if none is given. On the pages for users it names each term for which
+PREFERRED has a better one, and each sentence that begins with a participle or with 'Of'. The exit status is 1 if it named any,
+and 2 if a page is not there. A sentence of more than 35 words is a note, on any page, because a count of words says little: the
+ten points of CONTRIBUTING are what to write by. The last line for a page says how many words and sentences it has, and how many
+sentences in a hundred join a fact to its reason (because, so, which, ..).
 
-Code is not read, and inline code is one word. A cell of a table is a paragraph of its own, and so is an item of a list. Words
-without a full stop, as most cells and all headings are, may be too long, but they do not count in the average.
+Code is not read, and inline code is one word. A cell of a table is a paragraph of its own, and so is an item of a list.
 """
 
 import dataclasses
@@ -19,63 +19,49 @@ import sys
 from collections.abc import Iterator
 
 TOP = pathlib.Path(__file__).resolve().parent.parent
-OF_OPERATORS = (
-    "README.md",
-    "CHANGELOG.md",
-    "docs/TUTORIAL.md",
-    "docs/MODELLING.md",
-    "docs/FORMATS.md",
-    "docs/IMPORTERS.md",
-    "docs/EXPORTERS.md",
-    "docs/metis.1",
-)
+# The change log is history, so it keeps the words of its time.
+OF_OPERATORS = tuple(sorted(str(it.relative_to(TOP)) for it in (TOP / "README.md", *TOP.glob("docs/*.md"), *TOP.glob("docs/*.1"))))
 OF_DEVELOPERS = (
+    "CHANGELOG.md",
     "CONTRIBUTING.md",
-    "docs/dev/MODEL.md",
-    "docs/dev/PROOFS.md",
-    "docs/dev/HEADLINE.md",
-    "docs/dev/MAP.md",
-    "docs/dev/DECISIONS.md",
-    "docs/dev/GATE.md",
-    "docs/dev/BENCHMARKS.md",
-    "importers/README.md",
-    "exporters/README.md",
+    *sorted(str(it.relative_to(TOP)) for it in TOP.glob("docs/dev/*.md")),
+    "metis_planner/importers/README.md",
+    "metis_planner/carry/README.md",
 )
 PAGES = (*OF_OPERATORS, *OF_DEVELOPERS)
 LONGEST = 35
-AVERAGE = 18
-# 'For' means because if a clause follows: by a word that begins one, or by a subject of two words and its verb.
-CLAUSE = "it|they|he|she|we|you|there|this|that|these|those|then|what|who|no|none|nobody|nothing|not|such|in|if|where|when|else"
-SUBJECT = r"(?:a|an|the|each|all|some|its|their) \w+"
-VERB = "(?:is|are|was|were|has|have|had|can|cannot|do|does|may|must)"
-# What is said of sentences, in their plain text with single blanks; `^` is the beginning of one.
-PHRASES = (
-    ("exactly where", r"\bexactly where\b"),
-    ("in lines of which none can be left out", r"\bof which none can be left out\b"),
-    ("where things stand", r"\bwhere things stand\b"),
-    ("a front of", r"\ba front of\b"),
-    ("is so in the code", r"\bis so in the code\b"),
-    ("no contract says it", r"\bno contract says\b"),
-    ("is told", r"\b(?:is|are|was|were) told\b"),
-    ("one put", r"\bone put\b"),
-    ("For, which means because", rf"^For (?:{CLAUSE}|{SUBJECT} {VERB})\b"),
-    ("Where, which means if", r"^Where\b(?!.*\?$)"),
-    ("if and only if", r"\bif and only if\b"),
-    ("save for", r"\bsave (?:for|that)\b"),
-    ("lest", r"\blest\b"),
-    ("just where", r"\bjust where\b"),
-    ("so many", r"\bso many\b"),
-    ("comes to", r"\bcomes? to (?!its end\b)"),
-    ("want of memory", r"\bwant of memory\b"),
-    ("stands besides", r"\bstands? besides\b"),
-    ("whereby and the like", r"\b(?:whereby|wherein|whence|thereof|therein|thereby|hence|thus|whilst|albeit)\b"),
+IS = "(?:is|are|was|were)"
+# A term, how it is found in the plain text of a sentence, and what to say in its place.
+PREFERRED = (
+    ("stands", r"\b(?:stands?(?! for\b)|stood|standing)\b", "exists, is running, is in place"),
+    ("behind", r"\bbehind\b", "after, below"),
+    ("told", r"\b(?:told|tells)\b", "says, reports"),
+    ("lacks", r"\black(?:s|ed|ing)?\b", "does not contain, is missing"),
+    ("attain", r"\battain\w*\b", "reach"),
+    ("anew", r"\banew\b", "again"),
+    ("besides", r"\bbesides\b", "also, in addition"),
+    ("else", r"^Else\b|[,;] (?:and |or )?else\b", "otherwise"),
+    ("mostly", r"\bmostly\b", "usually"),
+    ("whoever", r"\bwhoever\b", "you, or who it is"),
+    ("dear", r"\bdear(?:er|est)?\b", "expensive"),
+    ("kit", r"\bkits?\b", "toolchain"),
+    ("gate", r"\bgates?\b", "CI"),
+    ("edit", r"\bedits?\b", "mutant, change"),
+    ("law", r"\blaws?\b", "theorem"),
+    ("clause", r"\bclauses?\b", "postcondition"),
+    ("double", r"\bdoubles?\b", "extra instance"),
+    ("the fresh", r"\bthe fresh\b", "the new deployment"),
+    ("waits", r"\b(?:the|its|their|all|these|those|what|further|keeps?) waits\b", "ordering constraints, dependencies"),
+    ("net that loses", r"\bnet that loses\b", "lossy network"),
+    ("if and only if", r"\bif and only if\b", "exactly when"),
+    ("a participle first", rf"^(?:Not )?(?:\w+(?:ed|own|ten|ught)|Given|Such|Left|Said) {IS}\b", "the subject first"),
+    ("Of X the Y", r"^Of (?!course\b)", "the subject first"),
 )
+# What joins a fact to its reason, its contrast or its example.
+JOINS = re.compile(r"\b(?:because|so|which|although|unless|instead|for example)\b", re.IGNORECASE)
 # What a page may keep: some words of the sentence, and why.
-EXCEPTIONS: dict[str, tuple[tuple[str, str], ...]] = {
-    "docs/dev/HEADLINE.md": (("code, code, code, code, code, code", "tools/reading_list.py makes that list of names"),),
-}
+EXCEPTIONS: dict[str, tuple[tuple[str, str], ...]] = {}
 
-WHERE = re.compile(r"^Where\b|, where\b")
 FENCE = re.compile(r"^\s*(```|~~~)")
 ITEM = re.compile(r"^\s*(?:[-*+]|\d+\.)\s+")
 RULE = re.compile(r"^\s*\|(?:\s*:?-+:?\s*\|)+\s*$")
@@ -178,18 +164,12 @@ def read_page(path: pathlib.Path) -> list[Sentence]:
     return [it for piece in pieces if piece for it in sentences_of(piece)]
 
 
-def average_of(sentences: list[Sentence]) -> float:
-    whole = [it.length() for it in sentences if it.is_whole]
-    return sum(whole) / len(whole) if whole else 0.0
-
-
 def findings_of(sentences: list[Sentence]) -> Iterator[Finding]:
+    """The terms that have a better one."""
     for it in sentences:
-        if it.length() > LONGEST:
-            yield Finding(it.line, f"a sentence of {it.length()} words", it)
-        for phrase, pattern in PHRASES:
+        for term, pattern, better in PREFERRED:
             if re.search(pattern, it.words):
-                yield Finding(it.line, f"the phrase '{phrase}'", it)
+                yield Finding(it.line, f"'{term}': {better}", it)
 
 
 def faults_of(name: str, sentences: list[Sentence], kept: tuple[tuple[str, str], ...]) -> Iterator[str]:
@@ -200,29 +180,33 @@ def faults_of(name: str, sentences: list[Sentence], kept: tuple[tuple[str, str],
         unused.difference_update(excepted)
         if not excepted:
             yield f"{name}:{found.line}: {found.what}: {found.sentence.words[:60]}"
-    average = average_of(sentences)
-    if average > AVERAGE:
-        yield f"{name}:1: {average:.1f} words a sentence on average, more than {AVERAGE}"
     yield from (f"{name}:1: an exception that nothing needs: {part}" for part in sorted(unused))
 
 
+def notes_of(name: str, sentences: list[Sentence]) -> Iterator[str]:
+    """What a writer may want to look at, and need not change."""
+    for it in sentences:
+        if it.length() > LONGEST:
+            yield f"{name}:{it.line}: note: a sentence of {it.length()} words: {it.words[:60]}"
+
+
 def summary_of(name: str, sentences: list[Sentence], words: int) -> str:
-    wheres = sum(len(WHERE.findall(it.words)) for it in sentences)
-    longest = max((it.length() for it in sentences), default=0)
-    whole = sum(it.is_whole for it in sentences)
-    return f"{name}: {words} words, {whole} sentences, {average_of(sentences):.1f} words on average, {longest} at most, {wheres} times 'where' for 'if'"
+    whole = [it for it in sentences if it.is_whole]
+    joined = sum(bool(JOINS.search(it.words)) for it in whole)
+    return f"{name}: {words} words, {len(whole)} sentences, of which {100 * joined // max(len(whole), 1)} in a hundred join a fact to another"
 
 
-def look_at(name: str) -> tuple[list[str], str]:
-    """What is wrong with a page, and the line that says how long it is."""
+def look_at(name: str) -> tuple[list[str], list[str], str]:
+    """What is wrong with a page, notes on it, and the line that says how long it is."""
     path = TOP / name
     sentences = read_page(path)
-    return list(faults_of(name, sentences, EXCEPTIONS.get(name, ()))), summary_of(name, sentences, len(path.read_text().split()))
+    wrong = [] if name in OF_DEVELOPERS else list(faults_of(name, sentences, EXCEPTIONS.get(name, ())))
+    return wrong, list(notes_of(name, sentences)), summary_of(name, sentences, sum(bool(re.search(r"\w", it)) for it in path.read_text().split()))
 
 
 def faults() -> Iterator[str]:
-    """What is wrong with the pages that have to be plain."""
-    for name in PAGES:
+    """What is wrong with the pages for users."""
+    for name in OF_OPERATORS:
         yield from look_at(name)[0]
 
 
@@ -233,9 +217,9 @@ def main(names: list[str]) -> int:
         print(f"there is no page {missing[0]}", file=sys.stderr)
         return 2
     looked = [look_at(name) for name in names]
-    for faults, summary in looked:
-        print(*faults, summary, sep="\n")
-    return 1 if any(faults for faults, _ in looked) else 0
+    for faults, notes, summary in looked:
+        print(*faults, *notes, summary, sep="\n")
+    return 1 if any(faults for faults, _, _ in looked) else 0
 
 
 if __name__ == "__main__":

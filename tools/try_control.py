@@ -7,12 +7,14 @@ or more together. Each answer is worked out here, from the rules of docs/FORMATS
 text. What was executed is asked of `crew`: given the turns of the actors of the line `ran`, it has to answer that it did just these
 actions, in this order. The last line counts the scripts; the status is 1 where an answer is not the one that has to come.
 """
-import os, random, subprocess, sys, tempfile
+import importlib.util, os, random, subprocess, sys, tempfile
 
 HERE = os.path.dirname(os.path.abspath(__file__))
 sys.dont_write_bytecode = True
-sys.path.insert(0, os.path.join(HERE, '..', 'bench'))
-from measure import actors_and_waits, document, large_targets, large_types
+found = importlib.util.spec_from_file_location('measure', os.path.join(HERE, '..', 'bench', 'measure.py'))
+measure = sys.modules['measure'] = importlib.util.module_from_spec(found)
+found.loader.exec_module(measure)
+actors_and_waits, document, large_targets, large_types = measure.actors_and_waits, measure.document, measure.large_targets, measure.large_types
 
 LIMIT, LINES = 65536, 10000
 DATA = os.path.join(HERE, '..', 'crates', 'metis_transcripts', 'data')

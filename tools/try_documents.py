@@ -6,15 +6,14 @@
 PROGRAM is the built program, crates/metis/out/metis where none is given. Each page is tried that shows what to type: lines
 behind `$ ` are typed, one after the other in one shell; the lines up to the next one are what is printed, where a line
 `...` stands for any lines. The status is 0, or what a comment `# status N` behind the command says. A block behind the
-words "into `NAME`:" is written into that file. Commands that prove, install or show a manual are listed and not run, and so
+words "Save this as `NAME`:" is written into that file. Commands that prove, install or show a manual are listed and not run, and so
 are importers where their source is not there (Debian's index, PyYAML, units), and Graphviz. Plans are carried out by make,
 which has to be there. What a page has written stands in .gitignore.
 
-It also looks up the laws that pages cite, their links, their figures (tools/figures.py), the list of docs/dev/HEADLINE.md,
-and the lines that a page shows as a diff: those behind `+` stand in the file named above them, in this order. It looks
-whether pages are in plain English (tools/plain.py) and whether the words of the first pages are defined before they are
-used (tools/first_words.py), and it tries the commands that lead from an error line to its place (tools/error_lines.py). It
-ends with status 1 if something is not as a page says.
+It also looks up the laws that pages cite, their links, their figures (tools/figures.py), the lists of docs/dev/HEADLINE.md and
+THEOREMS.md, and the lines that a page shows as a diff: those behind `+` stand in the file named above them, in this order. It looks
+whether pages for users say the reader's words (tools/plain.py), and it tries the commands that lead from an error line to its
+place (tools/error_lines.py). It ends with status 1 if something is not as a page says.
 """
 
 import importlib.util
@@ -29,22 +28,21 @@ import tempfile
 
 import error_lines
 import figures
-import first_words
 import plain
+import theorems
 
 TOP = pathlib.Path(__file__).resolve().parent.parent
-# In it commands have the names that the package gives them, and their statuses are not shown.
+# In it the command has the name that the package gives it, and statuses are not shown.
 MANUAL = "docs/metis.1"
-OF_THE_PACKAGE = {"metis-import": "importers", "metis-show": "importers show", "metis-export": "exporters"}
 INDENT = "    "
-INTO_FILE = re.compile(r"into\s+`([^`]+)`:$")
+INTO_FILE = re.compile(r"\b[Ss]ave this as\s+`([^`]+)`:$")
 STATUS = re.compile(r"# status (\d+)$")
 # What a command needs beside this repository, by how it begins: whether it is there.
 NEEDS = (
     (re.compile(r"^(rt|apt|man|tools/build.py)\b"), lambda: False),
-    (re.compile(r"^(PYTHONPATH=\.\. )?python3 -m importers debian "), lambda: bool(shutil.which("apt-cache")) and bool(run_out("apt-cache", "dumpavail"))),
-    (re.compile(r"^(PYTHONPATH=\.\. )?python3 -m importers (compose|kubernetes) .*\.ya?ml"), lambda: importlib.util.find_spec("yaml") is not None),
-    (re.compile(r"^(PYTHONPATH=\.\. )?python3 -m importers systemd "), lambda: pathlib.Path("/lib/systemd/system").is_dir()),
+    (re.compile(r"^(\.\.?/)?metis (import|lint) debian "), lambda: bool(shutil.which("apt-cache")) and bool(run_out("apt-cache", "dumpavail"))),
+    (re.compile(r"^(\.\.?/)?metis (import|lint) (compose|kubernetes) .*\.ya?ml"), lambda: importlib.util.find_spec("yaml") is not None),
+    (re.compile(r"^(\.\.?/)?metis (import|lint) systemd "), lambda: pathlib.Path("/lib/systemd/system").is_dir()),
     (re.compile(r"^dot "), lambda: bool(shutil.which("dot"))),
 )
 # A command that a page shows without trying it.
@@ -101,7 +99,7 @@ def blocks_of(page):
 
 def pages():
     """All pages of the repository that a reader may follow."""
-    return sorted([*TOP.glob("*.md"), *TOP.glob("docs/**/*.md"), *TOP.glob("*porters/*.md")])
+    return sorted([*TOP.glob("*.md"), *TOP.glob("docs/**/*.md"), *TOP.glob("metis_planner/**/*.md")])
 
 
 def pages_with_commands():
@@ -148,19 +146,14 @@ def steps_of(name):
 
 
 def lay_out(folder, program):
-    """What a reader has in the top folder, with the program in place of the script that would build it."""
-    for name in ("examples", "exporters", "importers", "tools"):
+    """What a reader has in the top folder, with the program in place of the one that the command would build."""
+    for name in ("examples", "tools"):
         (folder / name).symlink_to(TOP / name)
-    write_command(folder / "metis", f'exec "{program}"')
-    for name, module in OF_THE_PACKAGE.items():
-        write_command(folder / "commands" / name, f'PYTHONPATH="{TOP}" exec python3 -m {module}')
+    command = f"script={folder}/metis top={TOP}\nfind_program() {{\n    program={program}\n}}\n. {TOP}/metis_planner/front.sh\n"
+    (folder / "metis").write_text(f"#!/bin/sh\n{command}")
+    (folder / "metis").chmod(0o755)
+    (folder / "commands").mkdir()
     (folder / "commands" / "metis").symlink_to(folder / "metis")
-
-
-def write_command(path, words):
-    path.parent.mkdir(exist_ok=True)
-    path.write_text(f'#!/bin/sh\n{words} "$@"\n')
-    path.chmod(0o755)
 
 
 def not_ignored(folder, before):
@@ -197,7 +190,7 @@ def faults_of(steps, kept):
             yield f"{step.place}: status {status or 'none'}: {step.command}\n{said}"
         elif not step.fits(printed):
             yield f"{step.place}: another text: {step.command}\n{printed}"
-        elif said:
+        elif said and status == "0" and "|" not in step.command:
             yield f"{step.place}: on standard error: {said}"
 
 
@@ -245,8 +238,10 @@ def names_in_sources():
 
 
 def lines_not_there(path):
-    """The lines that a page shows as added to a file, behind the line `+++ FILE`, and that do not stand in it, in their order."""
-    for block in re.findall(r"(?ms)^```diff\n(.*?)^```$", path.read_text()):
+    """The lines that a page quotes from a file and that are not in it, in their order: those after `+` below a line `+++ FILE` of a
+    diff, and all of a block that begins with three marks, a word and the file."""
+    page = path.read_text()
+    for block in re.findall(r"(?ms)^```diff\n(.*?)^```$", page):
         lines = iter(())
         for shown in block.splitlines():
             if shown.startswith("+++ "):
@@ -254,6 +249,11 @@ def lines_not_there(path):
                 lines = iter([it.strip() for it in text_of(TOP / name).splitlines()])
             elif shown.startswith("+") and shown[1:].strip() not in lines:
                 yield f"{path.relative_to(TOP)}: not a line of {name}: {shown[1:].strip()}"
+    for name, block in re.findall(r"(?ms)^```\w+ (\S+/\S+)\n(.*?)^```$", page):
+        lines = iter([it.strip() for it in text_of(TOP / name).splitlines()])
+        for shown in filter(None, map(str.strip, block.splitlines())):
+            if shown not in lines:
+                yield f"{path.relative_to(TOP)}: not a line of {name}: {shown}"
 
 
 def look_up():
@@ -275,7 +275,7 @@ def main(words):
     if not program.is_file():
         print(f"there is no program {program}", file=sys.stderr)
         return 2
-    wrong = list(itertools.chain(look_up(), figures.faults(program), error_lines.faults(program), plain.faults(), first_words.faults()))
+    wrong = list(itertools.chain(look_up(), figures.faults(program), error_lines.faults(program), plain.faults(), theorems.faults()))
     for name in (*pages_with_commands(), MANUAL):
         tried, faults = try_page(name, program)
         print(f"{name}: {tried} commands tried, {len(faults)} otherwise than the page says")

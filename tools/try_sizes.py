@@ -3,8 +3,9 @@
 
 No contract says that memory suffices, so a program that gives up past some size keeps all of them. Most cases run one command over
 the plan of the tower of 31 types, or over a script as long as one may be, and compare every line of the answer with what this file
-works out from the actions, by the rules of docs/dev/MODEL.md and docs/FORMATS.md. Two universes are as large as they may be: one whose
-plan has 1,922 dups, and one whose plan has 16,513 instances. The last line counts the cases.
+works out from the actions, by the rules of docs/dev/MODEL.md and docs/FORMATS.md. Some universes are as large as they may be: plans of
+1,922 and 1,966 dups, of 16,513 instances, and of a graph with more than five million edges; a document of 4.1 MB in one line; and an
+explanation of 1,968 lines. The last line counts the cases.
 """
 
 import collections
@@ -92,6 +93,48 @@ def tower(sizes: list[int]) -> dict:
         types.append({"name": f"t{k}", "initial": "s0", "states": [*states, {"name": f"s{size - 1}"}]})
         below = [f"p{k}.{j}" for j in range(size - 1)]
     return {"aeolus": 1, "types": types}
+
+
+def serving_tower(sizes: list[int]) -> dict:
+    """The same, but each last state provides a port too, and the next type requires that as well."""
+    types, below = [], []
+    for k, size in enumerate(sizes):
+        states = [{"name": f"s{j}", "provide": [f"p{k}.{j}"], "next": [f"s{j + 1}"][: size - 1 - j]} for j in range(size)]
+        states[1]["require"] = below
+        types.append({"name": f"t{k}", "initial": "s0", "states": states})
+        below = [f"p{k}.{j}" for j in range(size)]
+    return {"aeolus": 1, "types": types}
+
+
+def ring(sizes: list[int]) -> dict:
+    """Types of so many states each. The second state of each requires what the last state of the next type provides, and so around."""
+    types = []
+    for k, size in enumerate(sizes):
+        states: list[dict] = [{"name": f"s{j}", "next": [f"s{j + 1}"]} for j in range(size - 1)]
+        states.append({"name": f"s{size - 1}", "provide": [f"p{k}"]})
+        states[1]["require"] = [f"p{(k + 1) % len(sizes)}"]
+        types.append({"name": f"t{k}", "initial": "s0", "states": states})
+    return {"aeolus": 1, "types": types}
+
+
+def long_document() -> str:
+    """The canonical text of a universe, nearly as long as a document may be: 500 types of four states, of which each provides 28 ports,
+    some of them those of the state before it. All names have 54 bytes or more."""
+    long = "x" * 50
+    names = [[f"{long}_{kind:03}_{state}" for state in range(4)] for kind in range(500)]
+    firsts = iter(at * 198 // 100 for at in range(2_000))
+    types = [
+        {
+            "initial": own[0],
+            "name": f"{long}_{kind:03}",
+            "states": [
+                {"name": name, "next": own[at + 1 : at + 2], "provide": [f"{long}_{port:04}".ljust(64, "y") for port in range(first, first + 28)], "require": []}
+                for (at, name), first in zip(enumerate(own), firsts)
+            ],
+        }
+        for kind, own in enumerate(names)
+    ]
+    return json.dumps({"aeolus": 1, "types": types}, separators=(",", ":"))
 
 
 def slots(count: int, before: int, serving: int) -> dict:
@@ -274,6 +317,41 @@ def universe_cases(program: Program) -> Iterator[Case]:
     count, serving = 130, 8
     instances = (count - 1) * serving * 16 + 1
     yield from whole_case(program, "slots", slots(count, 7, serving), [f"t{k}:s7" for k in range(count)], instances, (count - 1) * 7)
+
+    # The same with more types of fewer states. The graph of its first round has 5,058,525 edges (`metis_probe`, `graph`).
+    count = 160
+    instances = (count - 1) * serving * 16 + 1
+    yield from whole_case(program, "edges", slots(count, 4, serving), [f"t{k}:s7" for k in range(count)], instances, (count - 1) * 7)
+
+    # A life line whose last pair is needed holds none of those that it goes on from: each of them is doubled.
+    sizes = [64] * 31 + [14, 2]
+    targets = [f"t{k}:s{size - 1}" for k, size in enumerate(sizes)]
+    dups = sum(size - 1 for size in sizes[:-1])
+    yield from whole_case(program, "serving tower", serving_tower(sizes), targets, len(sizes) + dups, dups)
+
+    # What is canonical is printed as it was read.
+    text = long_document()
+    assert 4_000_000 < len(text) < 4_194_304
+    printed = program.answer("print", program.file("long.json", text))
+    yield "a line of 4.1 MB", printed.lines, [text], printed.status
+    yield from why_cases(program)
+
+
+def why_cases(program: Program) -> Iterator[Case]:
+    """Each pair but the first of a type waits for the one before it, and the second of a type for the last of the next type."""
+    sizes = [64] * 31 + [16]
+    universe = program.file("ring.json", json.dumps(ring(sizes)))
+    lines = []
+    for k, size in enumerate(sizes):
+        below = (k + 1) % len(sizes)
+        lines += [f"t{k}:s{j} comes from t{k}:s{j - 1}" for j in range(size - 1, 1, -1)]
+        lines.append(f"t{k}:s1 needs p{below} from t{below}:s{sizes[below] - 1}")
+    told = program.answer("why", universe, "t0:s63")
+    due = ["status 1", "metis why 1", "lacks t0:s63", f"lines {len(lines)}", *lines, "end"]
+    yield "why", [f"status {told.status}", *told.lines], due, 0
+    text = program.file("why.txt", "\n".join(told.lines) + "\n")
+    confirm = program.answer("confirm", universe, text, "t0:s63")
+    yield "confirm", confirm.lines, ["confirmed lacks t0:s63"], confirm.status
 
 
 def whole_case(program: Program, name: str, universe: dict, targets: list[str], instances: int, dups: int) -> Iterator[Case]:

@@ -5,7 +5,7 @@ No proof says what a real file, a pipe or a full device gives, which words the s
 ends. Each case has the words, what stands on standard input, where standard output goes, and the status and the text that have to
 come. `{folder}` in a word is the absolute path of the folder that the program runs in. The last line counts the cases.
 """
-import json, os, shutil, subprocess, sys, tempfile
+import json, os, resource, shutil, subprocess, sys, tempfile
 
 WEB = b'''{"aeolus":1,"types":[{"name":"Db","initial":"off","states":[{"name":"off","next":["on"]},{"name":"on","provide":["sql"]}]},{"name":"Web","initial":"off","states":[{"name":"off","next":["run"]},{"name":"run","require":["sql"]}]}]}'''
 PRINTED = b'''{"aeolus":1,"types":[{"initial":"off","name":"Db","states":[{"name":"off","next":["on"],"provide":[],"require":[]},{"name":"on","next":[],"provide":["sql"],"require":[]}]},{"initial":"off","name":"Web","states":[{"name":"off","next":["run"],"provide":[],"require":[]},{"name":"run","next":[],"provide":[],"require":["sql"]}]}]}\n'''
@@ -33,6 +33,8 @@ def universe_of_a_megabyte():
     return json.dumps({'aeolus': 1, 'types': types}, separators=(',', ':')).encode() + b'\n'
 
 
+# The most bytes of memory, with those of the program and the C library, where it is to run out.
+SMALL = 6 << 20
 LARGE = universe_of_a_megabyte()
 assert len(LARGE) > 1_000_000
 
@@ -70,6 +72,8 @@ cases = [
     ('a full device', ['plan', 'web.json', 'Web:run'], b'', 'full', 5, b''),
     ('a pipe that nobody reads', ['plan', 'web.json', 'Web:run'], b'', 'closed', 5, b''),
     ('output that is closed', ['plan', 'web.json', 'Web:run'], b'', 'none', 5, b''),
+    ('memory that refuses: a document past 1 MB in 6 MB', ['print', '-'], LARGE, 'small', 6, b''),
+    ('as much memory for a short one', ['print', 'web.json'], b'', 'small', 0, PRINTED),
     ('no words', [], b'', 'pipe', 2, b'bad word 1\n'),
     ('an empty word', ['print', ''], b'', 'pipe', 2, b'bad word 2\n'),
     ('a word that is not UTF-8 in the middle', ['plan', b'\xff', 'Db:off'], b'', 'pipe', 2, b'bad word 2\n'),
@@ -101,7 +105,8 @@ def run(folder, words, given, where):
     if where == 'none':
         done = subprocess.run(['sh', '-c', 'exec "$0" "$@" >&-'] + command, input=given, cwd=folder, **user)
         return done.returncode, b''
-    done = subprocess.run(command, input=given, stdout=subprocess.PIPE, cwd=folder, **user)
+    limit = (lambda: resource.setrlimit(resource.RLIMIT_AS, (SMALL, SMALL))) if where == 'small' else None
+    done = subprocess.run(command, input=given, stdout=subprocess.PIPE, cwd=folder, preexec_fn=limit, **user)
     return done.returncode, done.stdout
 
 

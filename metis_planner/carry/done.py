@@ -1,0 +1,22 @@
+"""Prints what of the plan in a folder is done, as a plan: `metis replay` says what stands, `metis rollout` takes it
+away. It may be asked while the plan is carried out.
+"""
+
+import argparse
+
+from metis_planner.answers import Answer
+from metis_planner.carry.folder import Folder, part_of, written
+from metis_planner.text import plans
+
+
+def add_arguments(parser: argparse.ArgumentParser) -> None:
+    parser.add_argument("folder", metavar="FOLDER")
+
+
+def run(arguments: argparse.Namespace) -> Answer:
+    folder = Folder(arguments.folder)
+    steps = folder.steps()
+    done = folder.settled(steps)
+    begun = folder.begun(steps, done)
+    notes = [f"action {step.action.number} was begun and is not done: {plans.in_words(step.action)}" for step in begun]
+    return Answer(written(part_of(steps, done)), notes)

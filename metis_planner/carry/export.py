@@ -1,0 +1,215 @@
+"""What make and ninja share: a plan with its commands, as it is written into a folder."""
+
+import argparse
+import dataclasses
+import functools
+import hashlib
+import json
+from collections.abc import Callable, Iterable, Iterator, Mapping, Sequence
+
+from metis_planner.answers import Answer, Refused
+from metis_planner.carry import skeleton
+from metis_planner.carry.commands import Commands, Rule, read_commands
+from metis_planner.carry.folder import Folder, written
+from metis_planner.carry.origin import BasePlan, origin_of_new, origin_there
+from metis_planner.carry.patterns import subject
+from metis_planner.carry.placement import held, read_placement
+from metis_planner.carry.possible import PossibleActions
+from metis_planner.carry.rollouts import Rollout
+from metis_planner.carry.script import write_folder
+from metis_planner.carry.steps import Step, steps_of
+from metis_planner.look.sketch import document_of
+from metis_planner.text import plans
+from metis_planner.text.over_plans import Placement
+from metis_planner.text.documents import MOST_BYTES
+from metis_planner.text.reading import read_bytes
+from metis_planner.text.universes import types_in
+
+NOTHING = ":"  # stands for a host, or a state, that there is not
+WITHOUT_A_RULE = "0"
+DIGEST_LENGTH = 12
+MOST_KINDS = 12
+
+
+def add_arguments(parser: argparse.ArgumentParser) -> None:
+    parser.add_argument(
+        "plan", metavar="PLAN", help="what `metis plan` or `metis rollout` printed; - is standard input"
+    )
+    parser.add_argument("--commands", metavar="FILE", help="what each step means (TOML)")
+    parser.add_argument("--to", metavar="FOLDER", help="made where it is not there; what is done in it stays done")
+    help_text = "print a commands file for PLAN, with each step to fill in, and do nothing else"
+    parser.add_argument("--skeleton", action="store_true", help=help_text)
+    parser.add_argument(
+        "--from",
+        metavar="OLD",
+        dest="olds",
+        action="append",
+        default=[],
+        help="the plan of which PLAN is a rollout, where FOLDER has none",
+    )
+    parser.add_argument("--waits-alone", action="store_true", help="what goes on from another plan is no rollout")
+    parser.add_argument("--placement", metavar="FILE", help="what `metis place` printed for PLAN")
+    parser.add_argument(
+        "--universe", metavar="FILE", help="what may happen besides what the plan has: a step may be for any of it"
+    )
+    help_text = "take steps that fit nothing, and actions without a step, which are only marked as done"
+    parser.add_argument("--lax", action="store_true", help=help_text)
+
+
+@dataclasses.dataclass(frozen=True)
+class Job:
+    """A step with its rule, if that does something, and the words by which `run` is called."""
+
+    step: Step
+    rule: Rule | None
+    words: str = ""
+
+
+@dataclasses.dataclass(frozen=True)
+class Export:
+    """A plan that was read, with what its steps mean."""
+
+    plan: plans.Plan
+    steps: tuple[Step, ...]
+    commands: Commands
+    hosts: dict[int, str]
+    rules: tuple[Rule | None, ...]  # of the steps
+    rollouts: tuple[Rollout, ...] = ()
+    sources: Mapping[str, str] = dataclasses.field(default_factory=dict)  # of types: what they are called there
+
+    @functools.cached_property
+    def plan_text(self) -> str:
+        return written(self.plan)
+
+    @functools.cached_property
+    def leaves_nothing(self) -> bool:
+        """Whether nothing stands at the end, so that a delete takes a part of all away and does not make room for another."""
+        verbs = [step.action.verb for step in self.steps]
+        return verbs.count("new") == verbs.count("delete")
+
+    @functools.cached_property
+    def digest(self) -> str:
+        """What tells this export from another one into the same folder."""
+        parts = (self.plan_text, self.commands, sorted(self.hosts.items()), self.rollouts, sorted(self.sources.items()))
+        return hashlib.sha256("\n".join(map(str, parts)).encode()).hexdigest()[:DIGEST_LENGTH]
+
+    def host(self, instance: int) -> str:
+        return self.hosts.get(instance, NOTHING)
+
+    def jobs(self) -> Iterator[Job]:
+        """The steps in the order of the plan."""
+        for step, rule in zip(self.steps, self.rules):
+            job = Job(step, None if rule is None or rule.does_nothing else rule)
+            yield dataclasses.replace(job, words=self.words(job))
+
+    def words(self, job: Job) -> str:
+        step, action = job.step, job.step.action
+        number = str(job.rule.number) if job.rule else WITHOUT_A_RULE
+        given = [step.key, number, str(action.number), self.host(action.instance)]
+        given += [action.verb, str(action.instance), action.type]
+        if action.verb == "move":
+            given += action.words[1:]
+        if action.verb == "delete":
+            given.append(f"{NOTHING}{step.state}")
+        if action.verb in ("bind", "unbind"):
+            given += [action.words[0], action.words[2], action.provider_type, self.host(action.provider)]
+        return " ".join([*given, *step.bound])
+
+
+def run(arguments: argparse.Namespace, name: str, text_of: Callable[[Export], Iterable[str]]) -> Answer:
+    """Writes the plan into its folder, with the file of this name that an engine reads; or prints commands for it."""
+    if arguments.skeleton:
+        return Answer(skeleton.text_of(plans.plan_at(arguments.plan)))
+    if not arguments.commands or not arguments.to:
+        raise Refused("--commands FILE and --to FOLDER are wanted; --skeleton prints a commands file to begin with")
+    folder = Folder(arguments.to)
+    handed, notes = handed_in(arguments)
+    if folder.has_plan():
+        folder.make()
+        with folder.held():
+            origin = origin_there(folder, handed.plan, handed.steps, arguments)
+            folder.check_hosts(handed.steps, handed.hosts)
+            write_folder(folder, *whole(handed, origin, text_of), name)
+    else:
+        folder.check_empty()
+        origin = origin_of_new(handed.plan, handed.steps, arguments)
+        export, text = whole(handed, origin, text_of)
+        with folder.made():
+            write_folder(folder, export, text, name)
+    return Answer("", [*origin.notes, *notes])
+
+
+def whole(handed: Export, origin: BasePlan, text_of: Callable[[Export], Iterable[str]]) -> tuple[Export, str]:
+    """The export with its rollouts, and what an engine reads of it."""
+    export = dataclasses.replace(handed, rollouts=origin.rollouts)
+    return export, "".join(text_of(export))
+
+
+def handed_in(arguments: argparse.Namespace) -> tuple[Export, list[str]]:
+    """What the words name, before it is known what there is in the folder; and notes."""
+    plan = plans.plan_at(arguments.plan)
+    steps = steps_of(plan, arguments.plan)
+    commands = read_commands(arguments.commands)
+    placement = read_placement(arguments.placement, plan) if arguments.placement else Placement(plan, {}, {})
+    try:
+        commands.check_hosts(placement.host_of.values())
+        if not arguments.lax:
+            commands.patterns.check_fits(possible_of(steps, arguments.universe))
+    except Refused as refused:
+        raise Refused(f"{arguments.commands}: {refused}") from refused
+    rules, without = rules_of(steps, commands)
+    if without and not arguments.lax:
+        raise Refused(f"{arguments.commands}: no step fits {kinds_of(without)}; --lax only marks such actions as done")
+    notes = [f"nothing is done for {kinds_of(without)}: no step of the commands fits"] if without else []
+    sources = sources_in(arguments.universe) if arguments.universe else {}
+    return Export(plan, held(placement, steps), commands, placement.host_of, rules, sources=sources), notes
+
+
+def sources_in(path: str) -> dict[str, str]:
+    """What types are called where an importer read of them, for those of a universe that say it; of standard input none."""
+    if path == "-":
+        return {}
+    document = document_at(path)
+    types_in(document, path)  # refuses what is no universe
+    types = json.loads(document).get("types", ())
+    found = {kind["name"]: kind["source"] for kind in types if isinstance(kind.get("source"), str)}
+    for name, source in found.items():
+        if not source.isprintable() or "'" in source:
+            raise Refused(f"{path}: the source of {name} has characters that no step can be handed")
+    return found
+
+
+def possible_of(steps: Sequence[Step], universe: str | None) -> PossibleActions:
+    """What a step may be for: what happens in the plan, and all that may in the universe, if that is named."""
+    found = PossibleActions(types_in(document_at(universe), universe) if universe else None)
+    for step in steps:
+        found.add(step.action)
+    return found
+
+
+def document_at(universe: str) -> bytes:
+    """The document of a universe, which may be a sketch."""
+    return document_of(universe).encode() if universe.endswith(".sketch") else read_bytes(universe, MOST_BYTES)
+
+
+def rules_of(steps: Iterable[Step], commands: Commands) -> tuple[tuple[Rule | None, ...], dict[str, int]]:
+    """The rule of each step; and how often there is none, by what the steps are."""
+    rule_of: dict[str, Rule | None] = {}
+    without: dict[str, int] = {}
+    rules = []
+    for step in steps:
+        text = subject(step.action)
+        if text not in rule_of:
+            place = commands.patterns.first(text)
+            rule_of[text] = None if place is None else commands.rules[place]
+        rules.append(rule_of[text])
+        if rules[-1] is None:
+            without[text] = without.get(text, 0) + 1
+    return tuple(rules), without
+
+
+def kinds_of(counts: dict[str, int]) -> str:
+    """The first of some kinds of actions, each with how many there are."""
+    kinds = [text if count == 1 else f"{text} ({count} times)" for text, count in counts.items()]
+    more = f" and {len(kinds) - MOST_KINDS} more kinds" if len(kinds) > MOST_KINDS else ""
+    return f"{', '.join(kinds[:MOST_KINDS])}{more}"

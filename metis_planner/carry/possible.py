@@ -1,0 +1,39 @@
+"""Which actions may happen, in a plan or a universe: a step of the commands that fits none of them is misspelt."""
+
+from collections.abc import Iterable, Iterator
+
+from metis_planner.text.documents import ComponentType
+from metis_planner.text.plans import Action
+
+
+class PossibleActions:
+    """How each type moves, what it may require, and which types provide a port."""
+
+    def __init__(self, types: Iterable[ComponentType] | None = None) -> None:
+        self.has_universe = types is not None
+        self.moves: dict[str, set[tuple[str, str]]] = {}
+        self.required: dict[str, set[str]] = {}
+        self.providers: dict[str, set[str]] = {}
+        for kind in types or ():
+            self.moves[kind.name] = {(state.name, each) for state in kind.states for each in state.next}
+            self.required[kind.name] = {port for state in kind.states for port in state.require}
+            for state in kind.states:
+                for port in state.provide:
+                    self.providers.setdefault(port, set()).add(kind.name)
+
+    def add(self, action: Action) -> None:
+        """Notes an action of a plan as possible."""
+        moves, required = self.moves.setdefault(action.type, set()), self.required.setdefault(action.type, set())
+        if action.verb == "move":
+            moves.add((action.words[1], action.words[2]))
+        if action.verb in ("bind", "unbind"):
+            required.add(action.words[0])
+            self.providers.setdefault(action.words[0], set()).add(action.provider_type)
+
+    def subjects(self) -> Iterator[str]:
+        """The actions, as a commands file names them."""
+        for kind, moves in self.moves.items():
+            yield from (f"{kind}: new", f"{kind}: delete")
+            yield from (f"{kind}: {one} -> {other}" for one, other in sorted(moves))
+            for port in sorted(self.required[kind]):
+                yield from (f"{kind}: {verb} {port}" for verb in ("bind", "unbind"))

@@ -1,0 +1,30 @@
+"""Lets a step be done again: metis retry FOLDER mysql#1 takes away the mark of the instance's last step, and of all that waits
+for it. The next call of make does them again.
+"""
+
+import argparse
+
+from metis_planner.answers import Answer, Refused
+from metis_planner.carry.folder import Folder
+from metis_planner.carry.progress import step_named
+from metis_planner.carry.taking_back import take_back, with_followers
+from metis_planner.text import plans
+
+
+def add_arguments(parser: argparse.ArgumentParser) -> None:
+    parser.add_argument("folder", metavar="FOLDER")
+    parser.add_argument("name", metavar="INSTANCE", help="an instance, as mysql#1; or the number of an action")
+
+
+def run(arguments: argparse.Namespace) -> Answer:
+    folder = Folder(arguments.folder)
+    steps = folder.steps()
+    with folder.held():
+        done = folder.done(steps)
+        named = step_named(folder, arguments.name, steps)
+        own = [step for step in named if step.key in done]
+        if not own:
+            raise Refused(f"{folder.path}: nothing of {plans.shown(arguments.name)} is done, so make does it in any case")
+        back = with_followers(steps, done, {own[-1].action.number})
+        take_back(folder, back)
+    return Answer("", [f"will be done again: {plans.in_words(step.action)}" for step in back])

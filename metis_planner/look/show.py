@@ -1,0 +1,274 @@
+"""Shows what the program printed, with names in place of numbers, one line an action, or with --json as one JSON object.
+
+It reads every text that the program prints: plans and rollouts, refusals, explanations, schedules of `waves` and placements of
+`place` (where --plan names their plan), one-line verdicts, and what a crew, a controller or a session answered.
+"""
+
+import argparse
+import json
+import os
+import re
+import sys
+from collections.abc import Callable, Iterator
+from typing import TYPE_CHECKING, Any
+
+from metis_planner.answers import Answer, Refused
+from metis_planner.text import plans
+from metis_planner.text.reading import read_bytes
+
+if TYPE_CHECKING:
+    from metis_planner.text import over_plans, verdicts
+
+OTHER_BYTE = re.compile(rb"[^\x20-\x7e\n]")
+VERBS = ("new", "delete", "bind", "unbind", "move")
+# What is drawn dim, green, red and bold on a terminal.
+COLOURS = {"new": "32", "delete": "31", "bind": "2", "unbind": "2", "move": "1", "wait": "2"}
+# A text in words, for a set of hidden verbs and a way to colour; and the same as a value for JSON.
+Lines = Callable[[Any, "Look"], Iterator[str]]
+Value = Callable[[Any], dict[str, Any]]
+
+
+class Look:
+    """How lines are shown: which verbs are left out, and whether there are colours."""
+
+    def __init__(self, hidden: frozenset[str] = frozenset(), has_colours: bool = False) -> None:
+        self.hidden, self.has_colours = hidden, has_colours
+
+    def coloured(self, text: str, name: str) -> str:
+        return f"\x1b[{COLOURS[name]}m{text}\x1b[0m" if self.has_colours and text else text
+
+    def is_shown(self, action: plans.Action) -> bool:
+        return action.verb not in self.hidden
+
+
+def width_of(actions: list[plans.Action]) -> int:
+    return max((len(plans.in_words(action)) for action in actions), default=0)
+
+
+def plan_lines(plan: plans.Plan, look: Look) -> Iterator[str]:
+    actions = [action for action in plan.actions if look.is_shown(action)]
+    width = width_of(actions)
+    for action in actions:
+        words = plans.in_words(action)
+        after = f"after {', '.join(map(str, action.after))}" if action.after else ""
+        gap = " " * (width - len(words) + 2) if after else ""
+        yield f"{action.number:>4}  {look.coloured(words, action.verb)}{gap}{look.coloured(after, 'wait')}"
+    hidden = len(plan.actions) - len(actions)
+    if hidden:
+        yield f"      and {hidden} that are hidden: {', '.join(verb for verb in VERBS if verb in look.hidden)}"
+    for dup in plan.dups:
+        events = ", ".join(dup.cycle)
+        yield f"one more for {dup.pair}: without it each of {events} would wait for the next, and the last for the first"
+
+
+def refusal_lines(refusal: plans.Refusal, _: Look) -> Iterator[str]:
+    yield f"{refusal.lacks} is not attained; these {len(refusal.pairs)} pairs are:"
+    for pair in refusal.pairs:
+        yield f"  {pair}"
+
+
+def provided(names: tuple[str, ...]) -> str:
+    return f"provided by {' and '.join(names)} alone" if names else "which nothing provides"
+
+
+def reached_from(names: tuple[str, ...]) -> str:
+    return f"from {' or '.join(names)} alone" if names else "from nowhere"
+
+
+def reason_in_words(reason: plans.Reason) -> str:
+    if reason.is_start:
+        start = f"{reason.pair} is where its type starts, but needs {reason.needs}"
+        return f"{start}; else it is reached {reached_from(reason.names)}"
+    if reason.comes:
+        return f"{reason.pair} is reached {reached_from(reason.names)}"
+    return f"{reason.pair} needs {reason.needs}, {provided(reason.names)}"
+
+
+def explanation_lines(explanation: plans.Explanation, _: Look) -> Iterator[str]:
+    goal = explanation.lacks
+    if explanation.providers is not None:
+        goal += f", {provided(explanation.providers)},"
+    yield f"{goal} is not attained" + (", since" if explanation.reasons else "")
+    for reason in explanation.reasons:
+        yield f"  {reason_in_words(reason)}"
+
+
+def plan_value(plan: plans.Plan) -> dict[str, Any]:
+    return {
+        "kind": "plan",
+        "actions": [action_value(action) for action in plan.actions],
+        "dups": [{"pair": dup.pair, "cycle": list(dup.cycle)} for dup in plan.dups],
+    }
+
+
+def action_value(action: plans.Action) -> dict[str, Any]:
+    value: dict[str, Any] = {
+        "number": action.number,
+        "action": action.verb,
+        "instance": action.instance,
+        "type": action.type,
+    }
+    if action.verb == "move":
+        value |= {"from": action.words[1], "to": action.words[2]}
+    if action.verb in ("bind", "unbind"):
+        value |= {"port": action.words[0], "provider": action.provider, "provider_type": action.provider_type}
+    return {**value, "after": list(action.after)}
+
+
+def refusal_value(refusal: plans.Refusal) -> dict[str, Any]:
+    return {"kind": "refusal", "lacks": refusal.lacks, "pairs": list(refusal.pairs)}
+
+
+def explanation_value(explanation: plans.Explanation) -> dict[str, Any]:
+    return {
+        "kind": "explanation",
+        "lacks": explanation.lacks,
+        "providers": None if explanation.providers is None else list(explanation.providers),
+        "lines": [reason_value(reason) for reason in explanation.reasons],
+    }
+
+
+def reason_value(reason: plans.Reason) -> dict[str, Any]:
+    value: dict[str, Any] = {"pair": reason.pair, "starts": reason.is_start}
+    if reason.needs:
+        value["needs"] = reason.needs
+    value["comes_from" if reason.comes else "provided_by"] = list(reason.names)
+    return value
+
+
+def schedule_lines(schedule: "over_plans.Schedule", look: Look) -> Iterator[str]:
+    rows = [(action, start) for action, start in zip(schedule.plan.actions, schedule.starts) if look.is_shown(action)]
+    chain, width = set(schedule.chain), width_of([action for action, _ in rows])
+    starts = [f"at {early}" if early == late else f"at {early} to {late}" for _, (early, late) in rows]
+    breadth = max(map(len, starts), default=0)
+    for (action, _), start in zip(rows, starts):
+        words = plans.in_words(action)
+        mark = "chain" if action.number in chain else ""
+        gap = " " * (width - len(words) + 2)
+        yield f"{action.number:>4}  {look.coloured(words, action.verb)}{gap}{start:<{breadth}}  {mark}".rstrip()
+    yield f"all is done at {schedule.finish}, which the actions of the chain take one after the other"
+
+
+def schedule_value(schedule: "over_plans.Schedule") -> dict[str, Any]:
+    rows = zip(schedule.plan.actions, schedule.starts)
+    return {
+        "kind": "schedule",
+        "finish": schedule.finish,
+        "chain": list(schedule.chain),
+        "actions": [{**action_value(action), "earliest": early, "latest": late} for action, (early, late) in rows],
+    }
+
+
+def placement_lines(placement: "over_plans.Placement", _: Look) -> Iterator[str]:
+    made = [(action, f"{action.type}#{action.instance}") for action in placement.plan.actions if action.verb == "new"]
+    width = max((len(who) for _, who in made), default=0)
+    for action, who in made:
+        yield f"{who:<{width}}  on {placement.host_of[action.instance]}"
+    for number, others in placement.holds.items():
+        after = ", ".join(map(str, others))
+        yield f"{number:>4}  {plans.in_words(placement.plan.actions[number - 1])} waits for room, after {after}"
+
+
+def placement_value(placement: "over_plans.Placement") -> dict[str, Any]:
+    made = [action for action in placement.plan.actions if action.verb == "new"]
+    rows = [{"instance": each.instance, "type": each.type, "host": placement.host_of[each.instance]} for each in made]
+    holds = [{"action": number, "after": list(others)} for number, others in placement.holds.items()]
+    return {"kind": "placement", "instances": rows, "holds": holds}
+
+
+def no_room_lines(refused: "over_plans.NoRoom", _: Look) -> Iterator[str]:
+    who = f"{refused.action.type}#{refused.action.instance}"
+    which = f"of size {refused.size}, which action {refused.action.number} makes"
+    yield f"no host has room for {who}, {which}; the most that is free is {refused.free}"
+
+
+def no_room_value(refused: "over_plans.NoRoom") -> dict[str, Any]:
+    return {"kind": "noroom", "action": action_value(refused.action), "size": refused.size, "free": refused.free}
+
+
+def verdict_lines(verdict: "verdicts.Verdict", _: Look) -> Iterator[str]:
+    yield verdict.words
+
+
+def verdict_value(verdict: "verdicts.Verdict") -> dict[str, Any]:
+    return {"kind": verdict.kind, **verdict.fields}
+
+
+def transcript_lines(transcript: "verdicts.Transcript", _: Look) -> Iterator[str]:
+    for line in transcript.lines:
+        yield line.words
+
+
+def transcript_value(transcript: "verdicts.Transcript") -> dict[str, Any]:
+    return {"kind": transcript.kind, "answers": [verdict_value(line) for line in transcript.lines]}
+
+
+# By the name of the type, since readers of rarer texts are imported when one is there.
+SHOWN: dict[str, tuple[Lines, Value]] = {
+    "Plan": (plan_lines, plan_value),
+    "Refusal": (refusal_lines, refusal_value),
+    "Explanation": (explanation_lines, explanation_value),
+    "Schedule": (schedule_lines, schedule_value),
+    "Placement": (placement_lines, placement_value),
+    "NoRoom": (no_room_lines, no_room_value),
+    "Verdict": (verdict_lines, verdict_value),
+    "Transcript": (transcript_lines, transcript_value),
+}
+
+
+def text_of(path: str) -> str:
+    """A text of Metis, which has the printable bytes of ASCII and line feeds alone."""
+    found = read_bytes(path, plans.MOST_BYTES)
+    other = OTHER_BYTE.search(found)
+    if other:
+        line = found.count(b"\n", 0, other.start()) + 1
+        raise Refused(f"{path}: line {line}: a byte that no text of Metis has")
+    return found.decode("ascii")
+
+
+def read(text: str, plan_path: str | None) -> object:
+    """What a text is, with the plan that it speaks of, where its numbers are those of another text."""
+    if text.startswith("metis "):
+        return plans.read(text)
+    from metis_planner.text import over_plans, verdicts
+
+    if over_plans.is_over_a_plan(text):
+        if plan_path is None:
+            raise Refused("its numbers are those of a plan: name it, --plan PLAN")
+        return over_plans.read(text, plans.plan_of(text_of(plan_path), plan_path))
+    if not text.endswith("\n"):
+        return plans.read(text)
+    lines = text[:-1].split("\n")
+    found = verdicts.read(lines[0]) if len(lines) == 1 else None
+    return found or verdicts.read_transcript(lines) or plans.read(text)
+
+
+def colours_are_wanted(choice: str) -> bool:
+    """By --color, and if that leaves it open by NO_COLOR and whether standard output is a terminal."""
+    if choice != "auto":
+        return choice == "always"
+    return not os.environ.get("NO_COLOR") and os.environ.get("TERM") != "dumb" and bool(sys.stdout and sys.stdout.isatty())
+
+
+def add_arguments(parser: argparse.ArgumentParser) -> None:
+    parser.add_argument("file", metavar="FILE", nargs="?", default="-", help="what was printed; standard input if none is named")
+    parser.add_argument("--plan", metavar="PLAN", help="the plan that `waves` or `place` was asked about")
+    parser.add_argument("--json", action="store_true", help="one JSON object in place of lines")
+    help_text = "leave such actions out; may be given several times"
+    parser.add_argument("--hide", action="append", choices=VERBS, default=[], metavar="VERB", help=help_text)
+    help_text = "auto: on a terminal, unless NO_COLOR is set"
+    parser.add_argument("--color", choices=("auto", "always", "never"), default="auto", help=help_text)
+
+
+def run(arguments: argparse.Namespace) -> Answer:
+    if arguments.file == arguments.plan == "-":
+        raise Refused("standard input cannot be both texts")
+    try:
+        found = read(text_of(arguments.file), arguments.plan)
+    except plans.NoText as fault:
+        raise Refused(str(fault)) from None
+    lines, value = SHOWN[type(found).__name__]
+    if arguments.json:
+        return Answer(json.dumps(value(found)) + "\n")
+    look = Look(frozenset(arguments.hide), colours_are_wanted(arguments.color))
+    return Answer("".join(f"{line}\n" for line in lines(found, look)))

@@ -1,0 +1,74 @@
+"""The server by which a browser on this machine follows a folder: two addresses behind a token, and no file by its name."""
+
+import http.server
+import json
+import secrets
+from collections.abc import Callable, Mapping
+
+from metis_planner.answers import Refused
+from metis_planner.text.terminal import plain, say
+
+HEADERS = {
+    "Cache-Control": "no-store",
+    "X-Content-Type-Options": "nosniff",
+    "X-Frame-Options": "DENY",
+    "Referrer-Policy": "no-referrer",
+    "Cross-Origin-Resource-Policy": "same-origin",
+}
+Answers = Mapping[str, tuple[str, Callable[[], str]]]
+
+
+class Server(http.server.ThreadingHTTPServer):
+    """What it answers, by the path. Hosts are looked at too, so that no other site reaches it by a name of its own."""
+
+    daemon_threads = True
+    answers: Answers = {}
+    hosts: tuple[str, ...] = ()
+
+
+class Handler(http.server.BaseHTTPRequestHandler):
+    timeout = 10
+    server: Server
+
+    def do_GET(self) -> None:
+        is_ours = self.headers.get("Host") in self.server.hosts
+        found = self.server.answers.get(self.path) if is_ours else None
+        if found is None:
+            self.answer(404, "text/plain", "no such page")
+            return
+        kind, text = found
+        try:
+            self.answer(200, kind, text())
+        except (Refused, OSError, ValueError) as fault:
+            self.answer(503, "text/plain", plain(str(fault)))
+
+    def answer(self, status: int, kind: str, text: str) -> None:
+        data = text.encode()
+        self.send_response(status)
+        for name, value in HEADERS.items():
+            self.send_header(name, value)
+        self.send_header("Content-Type", f"{kind}; charset=utf-8")
+        self.send_header("Content-Length", str(len(data)))
+        self.end_headers()
+        self.wfile.write(data)
+
+    def log_message(self, *words: object) -> None:
+        """Nothing: the address has the token in it."""
+
+
+def serve(page: Callable[[], str], state: Callable[[], dict[str, object]]) -> None:
+    """Until Ctrl-C. The page is made once before, so that what is wrong with the folder is said at once."""
+    page()
+    token = secrets.token_urlsafe(18)
+    with Server(("127.0.0.1", 0), Handler) as server:
+        port = server.server_address[1]
+        server.hosts = (f"127.0.0.1:{port}", f"localhost:{port}")
+        server.answers = {
+            f"/{token}/": ("text/html", page),
+            f"/{token}/state": ("application/json", lambda: json.dumps(state())),
+        }
+        say(f"http://127.0.0.1:{port}/{token}/ until Ctrl-C")
+        try:
+            server.serve_forever()
+        except KeyboardInterrupt:
+            pass

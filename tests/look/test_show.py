@@ -1,0 +1,166 @@
+import json
+import pathlib
+import tempfile
+import unittest
+
+from tests.test_words import run
+from tests.text.test_plans import EXPLANATION, PLAN, REFUSAL
+
+TWO = "metis plan 1\ninstances 2 actions 3 dups 0\n1 new 0 Web\n2 new 1 Db\n3 move 1 off on\nend\n"
+TIMES = "1 at 0 to 7\n2 at 0 to 0\n3 at 5 to 5\nfinish 12\nchain 2 3\n"
+
+
+class ShowTest(unittest.TestCase):
+    def shown(self, text):
+        status, shown, fault = run("-m", "metis_planner", "show", text=text)
+        self.assertEqual((status, fault), (0, ""))
+        return [" ".join(line.split()) for line in shown.split("\n")[:-1]]
+
+    def test_a_plan(self):
+        expected = [
+            "1 make Web#0",
+            "2 make Db#1",
+            "3 Db#1: off -> on",
+            "4 Web#0 takes sql from Db#1 after 3",
+            "5 Web#0 lets sql of Db#1 go",
+            "6 delete Db#1 after 5",
+            "one more for Db:on: without it each of 0.2, 1.end would wait for the next, and the last for the first",
+        ]
+        self.assertEqual(self.shown(PLAN), expected)
+
+    def test_a_refusal(self):
+        expected = ["port:sql is not attained; these 2 pairs are:", "Db:off", "Web:off"]
+        self.assertEqual(self.shown(REFUSAL), expected)
+
+    def test_an_explanation(self):
+        expected = [
+            "port:http, provided by Web:run and Web:slow alone, is not attained, since",
+            "Web:run needs sql, which nothing provides",
+            "Web:slow is reached from Web:off or Web:on alone",
+            "Web:off is where its type starts, but needs disk; else it is reached from nowhere",
+            "Web:on needs from, provided by Db:from alone",
+        ]
+        self.assertEqual(self.shown(EXPLANATION), expected)
+
+    def test_json(self):
+        status, shown, _ = run("-m", "metis_planner", "show", "--json", text=PLAN)
+        value = json.loads(shown)
+        self.assertEqual((status, value["kind"], len(value["actions"])), (0, "plan", 6))
+        bind = {
+            "number": 4,
+            "action": "bind",
+            "instance": 0,
+            "type": "Web",
+            "port": "sql",
+            "provider": 1,
+            "provider_type": "Db",
+            "after": [3],
+        }
+        self.assertEqual(value["actions"][3], bind)
+        move = {"number": 3, "action": "move", "instance": 1, "type": "Db", "from": "off", "to": "on", "after": []}
+        self.assertEqual(value["actions"][2], move)
+        self.assertEqual(value["dups"], [{"pair": "Db:on", "cycle": ["0.2", "1.end"]}])
+        _, shown, _ = run("-m", "metis_planner", "show", "--json", text=REFUSAL)
+        self.assertEqual(json.loads(shown), {"kind": "refusal", "lacks": "port:sql", "pairs": ["Db:off", "Web:off"]})
+        _, shown, _ = run("-m", "metis_planner", "show", "--json", text=EXPLANATION)
+        expected = {
+            "kind": "explanation",
+            "lacks": "port:http",
+            "providers": ["Web:run", "Web:slow"],
+            "lines": [
+                {"pair": "Web:run", "starts": False, "needs": "sql", "provided_by": []},
+                {"pair": "Web:slow", "starts": False, "comes_from": ["Web:off", "Web:on"]},
+                {"pair": "Web:off", "starts": True, "needs": "disk", "comes_from": []},
+                {"pair": "Web:on", "starts": False, "needs": "from", "provided_by": ["Db:from"]},
+            ],
+        }
+        self.assertEqual(json.loads(shown), expected)
+
+    def test_bad_input_gets_one_line_and_status_1(self):
+        self.assertEqual(
+            run("-m", "metis_planner", "show", text="good standing 1\n"),
+            (1, "", "metis: line 1: no plan, refusal or explanation, but 'good standing 1'\n"),
+        )
+        status, shown, line = run("-m", "metis_planner", "show", "/nowhere/plan.txt")
+        self.assertEqual((status, shown, line.count("\n")), (1, "", 1))
+
+    def test_a_byte_that_no_text_has(self):
+        text = PLAN.replace("Web", "W\x1b[31m")
+        self.assertEqual(run("-m", "metis_planner", "show", text=text), (1, "", "metis: -: line 3: a byte that no text of Metis has\n"))
+
+
+class OverAPlanTest(unittest.TestCase):
+    def shown(self, text, *words, plan=TWO):
+        with tempfile.TemporaryDirectory() as folder:
+            path = pathlib.Path(folder) / "plan.txt"
+            path.write_text(plan)
+            return run("-m", "metis_planner", "show", "--plan", str(path), *words, text=text)
+
+    def lines(self, text, plan=TWO):
+        status, shown, fault = self.shown(text, plan=plan)
+        self.assertEqual((status, fault), (0, ""))
+        return [" ".join(line.split()) for line in shown.split("\n")[:-1]]
+
+    def refused(self, text, plan=TWO):
+        status, shown, line = self.shown(text, plan=plan)
+        self.assertEqual((status, shown), (1, ""))
+        return line
+
+    def test_times(self):
+        expected = [
+            "1 make Web#0 at 0 to 7",
+            "2 make Db#1 at 0 chain",
+            "3 Db#1: off -> on at 5 chain",
+            "all is done at 12, which the actions of the chain take one after the other",
+        ]
+        self.assertEqual(self.lines(TIMES), expected)
+
+    def test_times_as_json(self):
+        value = json.loads(self.shown(TIMES, "--json")[1])
+        self.assertEqual((value["kind"], value["finish"], value["chain"]), ("schedule", 12, [2, 3]))
+        expected = {"number": 1, "action": "new", "instance": 0, "type": "Web", "after": [], "earliest": 0, "latest": 7}
+        self.assertEqual(value["actions"][0], expected)
+
+    def test_no_action_takes_no_time(self):
+        empty = "metis plan 1\ninstances 0 actions 0 dups 0\nend\n"
+        self.assertEqual(len(self.lines("finish 0\nchain\n", plan=empty)), 1)
+
+    def test_hosts(self):
+        text = "on 0 left\non 1 right\nhold 3 after 1 2\nplaced 2 hosts 2\n"
+        self.assertEqual(self.lines(text), ["Web#0 on left", "Db#1 on right", "3 Db#1: off -> on waits for room, after 1, 2"])
+        value = json.loads(self.shown(text, "--json")[1])
+        self.assertEqual(value["instances"][1], {"instance": 1, "type": "Db", "host": "right"})
+        self.assertEqual(value["holds"], [{"action": 3, "after": [1, 2]}])
+
+    def test_no_room(self):
+        expected = "no host has room for Db#1, of size 4, which action 2 makes; the most that is free is 3"
+        self.assertEqual(self.lines("noroom 2 size 4 free 3\n"), [expected])
+
+    def test_the_plan_has_to_be_named(self):
+        for text in (TIMES, "on 0 left\n", "noroom 2 size 4 free 3\n"):
+            reason = "metis: its numbers are those of a plan: name it, --plan PLAN\n"
+            self.assertEqual(run("-m", "metis_planner", "show", text=text), (1, "", reason))
+        self.assertTrue(self.refused(TIMES, plan=REFUSAL).endswith("plan.txt: no plan, but a text that says that port:sql is not attained\n"))
+
+    def test_a_text_of_another_plan(self):
+        for text, reason in (
+            ("1 at 0 to 7\n", "line 1: 1 lines, where the plan has 3 actions, and two lines follow them"),
+            (TIMES.replace("2 at", "4 at"), "line 2: not '2 at E to L'"),
+            (TIMES.replace("finish", "ends"), "line 4: not 'finish T'"),
+            (TIMES.replace("chain 2", "chain 9"), "line 5: the plan has no action 9"),
+            (TIMES.replace("chain 2", "chain x"), "line 5: not 'chain' and the numbers of actions"),
+            (TIMES.replace("at 5", "at " + "5" * 5000), "line 3: not '3 at E to L'"),
+            (TIMES[:-1], "line 5: the text ends inside a line"),
+            ("on 1 left\n", "line 1: not 'on 0 HOST', as the plan makes its instances"),
+            ("on 0 left\non 1 left\nhold 4 after 1\nplaced 2 hosts 1\n", "line 3: the plan has no action 4"),
+            ("on 0 left\non 1 left\nhold\nplaced 2 hosts 1\n", "line 3: not 'hold K after' and the numbers of actions"),
+            ("on 0 left\non 1 left\nplaced 3 hosts 1\n", "line 3: not 'placed 2 hosts H'"),
+            ("on 0 left\n", "line 1: not 'placed 2 hosts H'"),
+            ("noroom 7 size 1 free 0\n", "line 1: the plan has no action 7"),
+            ("noroom 1 size 1\n", "line 1: not 'noroom K size S free F' alone"),
+        ):
+            self.assertEqual(self.refused(text), f"metis: {reason}\n", text)
+
+    def test_two_texts_cannot_both_be_standard_input(self):
+        line = "metis: standard input cannot be both texts\n"
+        self.assertEqual(run("-m", "metis_planner", "show", "--plan", "-", text=TIMES), (1, "", line))

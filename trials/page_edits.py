@@ -1,0 +1,116 @@
+#!/usr/bin/env python3
+"""Makes one wrong edit at a time in a copy of the page's sources, and says whether a test notices it:
+
+    python3 -m trials page_edits [PART OF AN EDIT]
+
+An edit names the test that has to notice it: one of the suite, or one of `trials/page.py`, which wants Chromium. The status is
+the number of edits that nothing noticed.
+"""
+
+import dataclasses
+import os
+import pathlib
+import shutil
+import subprocess
+import sys
+import tempfile
+
+from metis_planner import program
+from trials.trial import TOP
+
+COPIED = ("metis_planner", "tests", "trials", "examples")
+SUITE = "suite"
+
+
+@dataclasses.dataclass(frozen=True)
+class Edit:
+    """What stands in a file of the page once, what is put in its place, and the test that notices it."""
+
+    file: str
+    old: str
+    new: str
+    test: str = SUITE
+
+
+EDITS = (
+    Edit("order.js", " && this.waits.before[k].every(this.isDone);", ";"),
+    Edit("order.js", " && this.waits.before[k].every(this.isDone);", ";", "test_every_moment_of_small_plans"),
+    Edit("configuration.js", "taken !== port || from !== provider", "taken !== port && from !== provider"),
+    Edit("configuration.js", "taken !== port || from !== provider", "true", "test_every_moment_of_small_plans"),
+    Edit("plan.js", "...(keepsBarrier ? this.barrier[k] : [])", ""),
+    Edit("plan.js", "...(keepsBarrier ? this.barrier[k] : [])", "", "test_barrier"),
+    Edit("order.js", "if (!(left[next] -= 1)) open.push(next);", "open.push(next);"),
+    Edit("order.js", "slice(this.at).filter((k) => !chosen.has(k))", "slice(this.at)"),
+    Edit("elements.js", "element.append(...there(children));", "element.innerHTML = there(children).join('');", "test_mouse"),
+    Edit("sheet.py", "**{name: html.escape(text) for name, text in told.items()},", "**told,"),
+    Edit("sheet.py", "**{name: html.escape(text) for name, text in told.items()},", "**told,", "test_nothing_is_asked_of_anybody_and_nothing_hostile_runs"),
+    Edit("sheet.py", '.replace("<", "\\\\u003c")', ""),
+    Edit("server.py", 'is_ours = self.headers.get("Host") in self.server.hosts', "is_ours = True"),
+    Edit("progress.py", '"running" if row.stage is Stage.RUNNING else', '"running" if row.stage is not Stage.RUNNING else'),
+    Edit("picture.js", "[...waits.allBefore(k)]", "waits.before[k]", "test_mouse"),
+    # Ten more, and some.
+    Edit("layout.js", "(this.isDrawn(q) ? [q] : this.nearest(q))", "(this.isDrawn(q) ? [q] : [])"),
+    Edit("layout.js", "Math.max(most, this.stage[q] + 1)", "Math.max(most, this.stage[q])"),
+    Edit("order.js", "while (start > 0 && ", "while (start > 1 && "),
+    Edit("order.js", "return waits.areKeptBy(order) ? order : null;", "return order;"),
+    Edit("order.js", "this.set(order, count < 0 ? order.length : count);", "this.set(order, this.at);"),
+    Edit("plan.js", "...waits, ...holds, ...(keepsBarrier", "...waits, ...(keepsBarrier"),
+    Edit("page.js", 'const ready = ks.filter((k) => this.statusOf(k) === "ready");', "const ready = ks;", "test_every_moment_of_small_plans"),
+    Edit("page.js", 'return begun.status === "running" ? "running" : "failed";', 'return "running";', "test_a_folder_is_followed"),
+    Edit("changes.py", "if not standing(steps[:old]) & standing(steps):", "if True:"),
+    Edit("changes.py", "last = {step.action.instance: step.action.number for step in steps[each.old : each.fresh]}", "last = {}"),
+    Edit("times.py", "waits[place] = (*waits[place], *last.values())", "pass"),
+    Edit("cause.py", "part = finished(root, back, seen)", "part = finished(root, self.out, seen)"),
+    Edit("verdict.py", "said.status != program.Status.DONE or ", ""),
+    Edit("progress.py", "[-TAIL_LINES:] if with_log else []", "[-TAIL_LINES:]"),
+    Edit("progress.py", 'ENDS = ("failed", "stopped")', 'ENDS = ("stopped",)'),
+    Edit("progress.py", "all(steps[number - 1].key in found for number in step.waits)", "True"),
+    Edit("sheet.py", 'f"connect-src {network}; base-uri', "f\"connect-src 'self'; base-uri"),
+    Edit("page.css", "#scroll { display: flex; overflow: auto;", "#scroll { display: flex;", "test_no_page_is_wider_than_its_window"),
+    Edit("live.js", "put(byId(\"warn\"), this.isFollowing() ?", "put(byId(\"warn\"), !this.isFollowing() ?", "test_a_folder_is_followed"),
+    Edit("values.py", "sorted({action.provider for action in binds} - {action.instance for action in binds})", "[]", "test_folded_rows"),
+)  # fmt: skip
+
+
+def is_noticed(edit: Edit, top: pathlib.Path) -> bool:
+    """Whether the test fails over the copy with this edit in it."""
+    path = top / "metis_planner" / "page" / edit.file
+    text = path.read_text("utf-8")
+    if text.count(edit.old) != 1:
+        raise SystemExit(f"{edit.file}: {edit.old} stands {text.count(edit.old)} times in it")
+    path.write_text(text.replace(edit.old, edit.new), "utf-8")
+    words = (
+        ["-m", "unittest", "tests.page.test_pages"]
+        if edit.test == SUITE
+        else ["-m", "trials", "page", f"ChromiumTest.{edit.test}"]
+    )
+    environment = {**os.environ, program.COMMAND: program.command()}
+    try:
+        done = subprocess.run(
+            [sys.executable, *words], cwd=top, env=environment, capture_output=True, text=True, check=False
+        )
+    finally:
+        path.write_text(text, "utf-8")
+    if done.returncode and ("Ran " not in done.stderr or "_FailedTest" in done.stderr):
+        raise SystemExit(done.stderr[-2000:])
+    return done.returncode != 0
+
+
+def main() -> int:
+    part = sys.argv[1] if len(sys.argv) > 1 else ""
+    edits = [edit for edit in EDITS if part in f"{edit.file} {edit.old} {edit.test}"]
+    missed = 0
+    with tempfile.TemporaryDirectory(prefix="edits-") as name:
+        top = pathlib.Path(name)
+        for each in COPIED:
+            shutil.copytree(TOP / each, top / each, ignore=shutil.ignore_patterns("__pycache__"))
+        for edit in edits:
+            is_seen = is_noticed(edit, top)
+            missed += not is_seen
+            print("noticed" if is_seen else "MISSED ", edit.file, edit.old[:70], f"({edit.test})", flush=True)
+    print(f"{len(edits)} edits, {missed} missed")
+    return missed
+
+
+if __name__ == "__main__":
+    sys.exit(main())
