@@ -1,9 +1,9 @@
 """Input of a few megabytes that took minutes, or much memory, before what it says was bounded."""
 
 import json
-import time
 
-from tests.importers.test_hostile import MOST_SECONDS, HostileCase, ended
+from tests.effort import LATER, soon
+from tests.importers.test_hostile import HostileCase, ended
 
 
 class GrowthTest(HostileCase):
@@ -17,14 +17,15 @@ class GrowthTest(HostileCase):
         provides = [self.stanza(f"p{number}", Provides="x (= 9999)") for number in range(60_000)]
         index = self.file("".join([*bars, *provides, self.stanza("a", Depends="x")]))
         reason = "more than 500000 ways to meet the dependences and conflicts of these packages"
-        self.assertEqual(self.refused("import", "debian", "--index", index, "a"), reason)
+        self.assertEqual(self.refused("import", "debian", "--index", index, "a", most=LATER), reason)
         bars = [self.stanza(f"e{number}", Essential="yes", Conflicts="x") for number in range(500)]
         index = self.file("".join([*bars, *provides, self.stanza("a", Depends="x")]))
-        self.assertRegex(self.refused("import", "debian", "--index", index, "a"), "^e0 and p0 conflict")
+        self.assertRegex(self.refused("import", "debian", "--index", index, "a", most=LATER), "^e0 and p0 conflict")
 
     def test_records_and_names_without_end(self):
         index = self.file(b"".join(b"Package: p%d\n\n" % number for number in range(400_000)))
-        self.assertEqual(self.refused("import", "debian", "--index", index, "a"), "more than 300000 records in one index")
+        reason = "more than 300000 records in one index"
+        self.assertEqual(self.refused("import", "debian", "--index", index, "a", most=LATER), reason)
         named = ",".join(f"x{number}" for number in range(20_000))
         index = self.file("".join(self.stanza(f"p{number}", Provides=named) for number in range(20)))
         self.assertEqual(self.refused("import", "debian", "--index", index, "a"), "more than 300000 names that packages provide")
@@ -47,7 +48,7 @@ class GrowthTest(HostileCase):
         (folder / "big").write_text("[Unit]\n" + "X=\n" * 1_000_000)
         for number in range(20):
             (folder / f"t.target.d/{number}.conf").symlink_to("../big")
-        self.assertRegex(self.refused(*words), "[.]conf: with the unit files before it more than 8388608 bytes$")
+        self.assertRegex(self.refused(*words, most=LATER), "[.]conf: with the unit files before it more than 8388608 bytes$")
 
     def test_names_of_many_dashes(self):
         folder = self.folder / "etc/systemd/system"
@@ -56,9 +57,8 @@ class GrowthTest(HostileCase):
         (folder / "t.target").write_text(f"[Unit]\nDefaultDependencies=no\nWants={' '.join(names)}\n")
         for name in names:
             (folder / name.replace("@x", "@")).write_text("[Unit]\nDefaultDependencies=no\n")
-        started = time.process_time()
-        self.assertEqual(ended("import", "systemd", "--root", self.folder, "t.target")[0], 0)
-        self.assertLess(time.process_time() - started, MOST_SECONDS)
+        with soon():
+            self.assertEqual(ended("import", "systemd", "--root", self.folder, "t.target")[0], 0)
 
     def test_webhooks_and_commands(self):
         rule = {"apiGroups": ["*"], "operations": ["*"], "resources": ["*"]}

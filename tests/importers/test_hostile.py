@@ -8,7 +8,6 @@ import pathlib
 import subprocess
 import sys
 import tempfile
-import time
 import unittest
 import unittest.mock
 
@@ -17,6 +16,7 @@ from metis_planner.answers import Refused
 from metis_planner.importers import kubernetes
 from metis_planner.importers.kubernetes import input
 from metis_planner.text.terminal import plain
+from tests.effort import LATER, SOON, soon
 from tests.test_words import TOP
 
 try:
@@ -24,7 +24,6 @@ try:
 except ImportError:
     yaml = None
 
-MOST_SECONDS = 5
 ESCAPE = "\x1b[31mred\x07\u202e"
 
 
@@ -51,11 +50,10 @@ class HostileCase(unittest.TestCase):
         path.write_bytes(text if isinstance(text, bytes) else text.encode(errors="surrogatepass"))
         return path
 
-    def refused(self, *words):
-        """The one line with which a run ends."""
-        started = time.process_time()
-        status, printed, said = ended(*words)
-        self.assertLess(time.process_time() - started, MOST_SECONDS)
+    def refused(self, *words, most=SOON):
+        """The one line with which a run ends, and soon."""
+        with soon(most):
+            status, printed, said = ended(*words)
         self.assertEqual((status, printed, said.count("\n")), (1, "", 1), said)
         self.assertTrue(said.startswith("metis: ") and said[:-1].isprintable(), said)
         return said.removeprefix("metis: ")[:-1].replace(str(self.folder) + "/", "")
@@ -85,8 +83,8 @@ def bomb(levels=30):
 
 
 class ComposeTest(HostileCase):
-    def project(self, text):
-        return self.refused("import", "compose", self.file(text if isinstance(text, str) else json.dumps(text)))
+    def project(self, text, most=SOON):
+        return self.refused("import", "compose", self.file(text if isinstance(text, str) else json.dumps(text)), most=most)
 
     def service(self, **told):
         return self.project({"services": {"a": told, "b": {}}})
@@ -149,7 +147,8 @@ class ComposeTest(HostileCase):
         services = {
             f"s{number}": {"image": "i", "depends_on": [f"s{number - 1}"] if number else []} for number in range(20_000)
         }
-        self.assertRegex(self.project({"services": services}), "pairs of type and state, and Metis takes at most 2000$")
+        reason = "pairs of type and state, and Metis takes at most 2000$"
+        self.assertRegex(self.project({"services": services}, most=LATER), reason)
 
     def test_an_endless_file(self):
         self.assertEqual(self.fed("import", "compose"), "-: more than 16777216 bytes")
