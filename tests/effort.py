@@ -19,7 +19,7 @@ from contextlib import contextmanager
 SOON, LATER = 200, 600
 # Seconds, after which a test gives up. What must be cut off lasts longer than that.
 DEADLINE = 300
-FOREVER = 3_600
+FOREVER = 900
 WORDS = 35_000
 
 

@@ -12,6 +12,7 @@ from unittest import mock
 from metis_planner import cli
 from metis_planner.carry import steps
 from metis_planner.text import plans
+from tests.effort import DEADLINE
 
 # What `metis plan` prints for examples/crossed.json and A:a3 B:b3.
 CROSSED = """metis plan 1
@@ -64,6 +65,8 @@ LINE = (
 )
 NEEDED = ("make", "flock", "timeout")
 WHENS = ("*: new", "*: delete", "*: bind *", "*: unbind *", "*: * -> *")
+# Lasts as long as a test lets it: until the file is removed, and at last with all that the test wrote.
+HELD = 'while [ -e "$TOP/held" ]; do sleep 0.05; done\n'
 HEAD = """
 [env]
 TRACE = "{top}/trace"
@@ -132,8 +135,16 @@ class FolderCase(unittest.TestCase):
         return said
 
     def make(self, *words):
-        done = subprocess.run(["make", "-s", "-C", self.folder, *words], capture_output=True, text=True, check=False)
+        words = ("make", "-s", "-C", self.folder, *words)
+        done = subprocess.run(words, capture_output=True, text=True, check=False, timeout=DEADLINE)
         return done.returncode, done.stdout, done.stderr
+
+    def hold(self):
+        """What has HELD in it lasts until it is let go."""
+        (self.top / "held").touch()
+
+    def let_go(self):
+        (self.top / "held").unlink()
 
     def trace(self):
         path = self.top / "trace"

@@ -2,13 +2,15 @@ import fcntl
 import os
 import pathlib
 import shutil
+import signal
 import subprocess
 import sys
 import unittest
 from unittest import mock
 
 from metis_planner.answers import Refused
-from tests.carry.shapes import CROSSED, LINE, PLACED, ROLLED, TAKEN_DOWN, WEB, FolderCase, call, plan_text
+from tests.carry.shapes import CROSSED, HELD, LINE, PLACED, ROLLED, TAKEN_DOWN, WEB, FolderCase, call, plan_text
+from tests.effort import FOREVER, is_running, wait_until
 
 TOP = pathlib.Path(__file__).resolve().parents[2]
 FAILS = LINE + 'if [ "$METIS_ACTION" = 4 ]; then printf "this is \\033[2J\\302\\233why é\\n"; exit 7; fi\n'
@@ -102,14 +104,13 @@ class CarriedOutTest(FolderCase):
         self.assertEqual((self.make()[0], len(self.trace())), (0, 3))
 
     def test_a_limit_ends_all_that_a_step_started(self):
-        body = '(sleep 1.3; echo late >>"$TRACE") & sleep 3\n'
-        self.exported(plan_text("new 0 A"), commands=self.commands(body, timeout=1))
+        body = f'sleep {FOREVER} & echo $! >>"$TRACE"; sleep {FOREVER}\n'
+        self.exported(plan_text("new 0 A"), commands=self.commands(body, timeout=3))
         status, _, said = self.make()
         self.assertEqual((status, self.marks()), (2, []))
         self.assertIn("failed with status 124", said)
-        self.assertIn("it took more than its 1 s", said)
-        subprocess.run(["sleep", "0.4"], check=True)
-        self.assertEqual(self.trace(), [])
+        self.assertIn("it took more than its 3 s", said)
+        self.assertFalse(is_running(self.numbers()[0]))
 
     def test_steps_with_a_lock_are_done_one_at_a_time(self):
         body = '[ ! -e "$TOP/now" ]; touch "$TOP/now"; sleep 0.05; rm "$TOP/now"\n'
@@ -154,33 +155,39 @@ class CarriedOutTest(FolderCase):
 
 class FolderTest(FolderCase):
     def test_two_at_once_do_nothing_twice(self):
-        self.exported(plan_text("new 0 A"), commands=self.commands(LINE + "sleep 0.4\n"))
+        self.exported(plan_text("new 0 A"), commands=self.commands(LINE + HELD))
+        self.hold()
         words = ["make", "-s", "-C", self.folder]
         two = [subprocess.Popen(words, stderr=subprocess.PIPE, stdout=subprocess.DEVNULL, text=True) for _ in range(2)]
+        # Were it done twice, neither of them would end, and the trace would have both.
+        wait_until(lambda: len(self.trace()) > 1 or self.trace() and any(one.poll() is not None for one in two))
+        self.let_go()
         said = sorted(one.communicate()[1] for one in two)
         self.assertEqual((len(self.trace()), sorted(one.returncode for one in two)), (1, [0, 2]))
         self.assertIn("make A#0: somebody else is doing it\n", said[1])
 
     def test_a_server_that_a_step_starts_keeps_no_lock(self):
-        body = 'if [ -z "$METIS_AGAIN" ]; then sleep 3 & echo $! >"$TOP/server"; exit 1; fi\n'
+        # What is in the group of its step ends with a step that fails, and a server is in a group of its own.
+        body = (
+            f'if [ -z "$METIS_AGAIN" ]; then setsid sleep {FOREVER} >/dev/null 2>&1 & echo $! >>"$TRACE"\n'
+            "until [ \"$(cat /proc/$!/comm)\" = sleep ]; do sleep 0.05; done; exit 1; fi\n"
+        )
         self.exported(plan_text("new 0 A"), commands=self.commands(body, lock='"apt"'))
         self.assertEqual([self.make()[0], self.make()[0]], [2, 0])
         self.exported(plan_text("new 0 A"))
-        subprocess.run(["kill", (self.top / "server").read_text().strip()], check=False)
+        os.kill(self.numbers()[0], signal.SIGKILL)
 
     def test_a_step_whose_script_was_killed_is_not_begun_a_second_time_beside_it(self):
-        body = 'echo $PPID >"$TOP/pid"\n' + LINE + "sleep 2\n"
+        body = 'echo $PPID >"$TOP/pid"\n' + LINE + HELD
         self.exported(plan_text("new 0 A"), commands=self.commands(body))
         words = ["./run", "0.1", "1", "1", ":", "new", "0", "A"]
+        self.hold()
         with subprocess.Popen(words, cwd=self.folder, stdout=subprocess.DEVNULL) as first:
-            for _ in range(100):
-                if self.trace():
-                    break
-                subprocess.run(["sleep", "0.02"], check=True)
+            wait_until(self.trace)
             first.kill()
         said = self.make()[2]
         self.assertIn("somebody else is doing it", said)
-        subprocess.run(["kill", (self.top / "pid").read_text().strip()], check=True)
+        os.kill(int((self.top / "pid").read_text()), signal.SIGTERM)
 
     def test_a_folder_in_which_a_step_is_being_done_is_not_written(self):
         self.exported(WEB)

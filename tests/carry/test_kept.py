@@ -5,17 +5,17 @@ import re
 import shutil
 import signal
 import subprocess
-import time
 import unittest
 
 from metis_planner.answers import Refused
 from metis_planner.carry.rollouts import rollout_in
 from tests.carry.shapes import CROSSED, LINE, PLACED, ROLLED, WEB, call, plan_text, steps_of
 from tests.carry.test_life import DEAF, ONE, Waiting
+from tests.effort import DEADLINE, FOREVER, is_running, wait_until
 
 TWO_PLACED = "on 0 left\non 1 right\nplaced 2 hosts 2\n"
 # The shell of the step itself heeds no TERM.
-DEAF_SHELL = 'trap "" TERM\nn=0\nwhile [ $n -lt 400 ]; do sleep 0.1; n=$((n + 1)); done\n'
+DEAF_SHELL = f'trap "" TERM\nn=0\nwhile [ $n -lt {FOREVER}0 ]; do sleep 0.1; n=$((n + 1)); done\n'
 BY_ENV = '[hosts.left]\nvia = ["env"]\n[hosts.right]\nvia = ["env"]\n'
 
 
@@ -32,31 +32,27 @@ class Placed(Waiting):
 
 
 class LimitTest(Placed):
-    def ended(self):
-        """How many seconds make takes, which does not end well."""
-        started = time.monotonic()
-        self.assertEqual(self.make()[0], 2)
-        return time.monotonic() - started
+    """What would go on for ever is cut off: make has a deadline in these tests, which comes long before."""
 
     def test_a_shell_that_heeds_no_signal_is_killed_after_its_limit(self):
         self.one(DEAF_SHELL, timeout=1)
         self.rewritten("timeout -k 10", "timeout -k 1")
-        self.assertLess(self.ended(), 25)
+        self.assertEqual(self.make()[0], 2)
 
     def test_so_is_one_on_a_host_and_it_is_killed_there(self):
         self.placed(ONE, "on 0 left\nplaced 1 hosts 1\n", BY_ENV, DEAF_SHELL, timeout=1)
         self.rewritten('"timeout -k 10 $limit', '"timeout -k 1 $limit')
-        self.assertLess(self.ended(), 25)
+        self.assertEqual(self.make()[0], 2)
 
     def test_a_way_to_a_host_that_hangs_has_an_end(self):
-        hosts = '[hosts.left]\nvia = ["sh", "-c", "exec sleep 40"]\n'
+        hosts = f'[hosts.left]\nvia = ["sh", "-c", "exec sleep {FOREVER}"]\n'
         self.placed(ONE, "on 0 left\nplaced 1 hosts 1\n", hosts, timeout=1)
         self.rewritten("limit + 30", "limit + 1")
-        self.assertLess(self.ended(), 25)
+        self.assertEqual(self.make()[0], 2)
 
     def test_the_way_to_a_host_waits_until_the_step_has_ended_there(self):
-        body = "trap 'sleep 3; echo late >>\"$TRACE\"; exit 1' TERM\nsleep 60 &\nwait\n"
-        self.placed(ONE, "on 0 left\nplaced 1 hosts 1\n", BY_ENV, body, timeout=1)
+        body = f"trap 'sleep 2; echo late >>\"$TRACE\"; exit 1' TERM\nsleep {FOREVER} &\nwait\n"
+        self.placed(ONE, "on 0 left\nplaced 1 hosts 1\n", BY_ENV, body, timeout=3)
         self.assertEqual((self.make()[0], self.trace()), (2, ["late"]))
 
     def test_each_signal_ends_all_that_a_step_started(self):
@@ -64,19 +60,18 @@ class LimitTest(Placed):
         jobs = {}
         for sent in (signal.SIGINT, signal.SIGTERM, signal.SIGHUP):
             self.folder = self.top / sent.name
-            body = DEAF.replace("$TOP/lives", f"$TOP/{sent.name}.lives").replace("-lt 60 ", "-lt 600 ")
-            self.one(body, timeout=300)
+            body = DEAF.replace("$TOP/lives", f"$TOP/{sent.name}.lives").replace("-lt 60 ", f"-lt {FOREVER}0 ")
+            self.one(body, timeout=FOREVER)
             jobs[sent] = self.started()
         for sent, job in jobs.items():
-            self.wait_for((self.top / f"{sent.name}.lives").exists)
+            wait_until(lambda: self.lives(f"{sent.name}.lives"))
             os.killpg(job.pid, sent)
         for sent, job in jobs.items():
-            self.folder, lives = self.top / sent.name, self.top / f"{sent.name}.lives"
-            job.communicate(timeout=30)
-            self.wait_for(self.is_free, 25)
-            last = lives.read_text()
-            time.sleep(0.5)
-            self.assertEqual((lives.read_text(), self.marks()), (last, []), sent)
+            self.folder = self.top / sent.name
+            job.communicate(timeout=DEADLINE)
+            wait_until(self.is_free)
+            [(_, _, child)] = self.lives(f"{sent.name}.lives")
+            self.assertEqual((is_running(child), self.marks()), (False, []), sent)
 
 
 class LockTest(Placed):
@@ -84,21 +79,21 @@ class LockTest(Placed):
         """Two steps of one lock on two hosts wait for each other: neither would end if the lock were one for both."""
         body = (
             'if [ "$METIS_VERB" = new ]; then\n  touch "$TOP/at.$METIS_HOST"\n  n=0\n'
-            '  until [ -e "$TOP/at.left" ] && [ -e "$TOP/at.right" ]; do n=$((n + 1)); [ $n -lt 100 ]; sleep 0.1; done\nfi\n'
+            '  until [ -e "$TOP/at.left" ] && [ -e "$TOP/at.right" ]; do n=$((n + 1)); [ $n -lt 1200 ]; sleep 0.1; done\nfi\n'
         )
         self.placed(plan_text("new 0 A", "new 1 A"), TWO_PLACED, BY_ENV, body, lock='"apt"')
         self.assertEqual(self.make("-j2")[0], 0)
 
     @unittest.skipUnless(shutil.which("ninja"), "no ninja")
     def test_what_waits_for_a_lock_takes_no_place_of_ninja(self):
-        body = 'echo "in $METIS_NAME" >>"$TRACE"; sleep 2; echo "out $METIS_NAME" >>"$TRACE"\n'
-        free = f"[[step]]\nwhen = \"B: new\"\nrun = '''\n{body}'''\n"
+        # The first with the lock waits for one without it, which has no place if the second with the lock has one.
+        body = "n=0; until [ -e \"$TOP/B\" ]; do n=$((n + 1)); [ $n -lt 1200 ]; sleep 0.1; done\n"
+        free = "[[step]]\nwhen = \"B: new\"\nrun = 'touch \"$TOP/B\"'\n"
         head, *steps = self.commands(body, lock='"apt"').split("[[step]]")
         text = head + free + "".join(f"[[step]]{each}" for each in steps)
         self.exported(plan_text("new 0 A", "new 1 A", "new 2 B"), "ninja", commands=text)
-        subprocess.run(["ninja", "--quiet", "-j2", "-C", self.folder], check=True, capture_output=True)
-        lines = self.trace()
-        self.assertLess(lines.index("in B-2"), min(lines.index("out A-0"), lines.index("out A-1")), lines)
+        done = subprocess.run(["ninja", "--quiet", "-j2", "-C", self.folder], check=False, capture_output=True, text=True)
+        self.assertEqual(done.returncode, 0, done.stdout)
 
 
 class MarkTest(Waiting):

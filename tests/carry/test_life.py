@@ -1,6 +1,8 @@
 """What happens to a folder in real life: limits, signals, kills, two folders, other hosts; and who asks how far it is."""
 
 import argparse
+import contextlib
+import fcntl
 import json
 import os
 import pathlib
@@ -13,13 +15,14 @@ import unittest
 from unittest import mock
 
 from metis_planner.carry import split
-from tests.carry.shapes import CROSSED, LINE, PLACED, ROLLED, WEB, FolderCase, call, plan_text
+from tests.carry.shapes import CROSSED, HELD, LINE, PLACED, ROLLED, WEB, FolderCase, call, plan_text
+from tests.effort import DEADLINE, FOREVER, is_running, soon, wait_until
 from tests.test_words import TOP
 
 ONE = "metis plan 1\ninstances 1 actions 1 dups 0\n1 new 0 A\nend\n"
 # Says each tenth of a second that it lives, whatever TERM says, and ends by itself after some seconds.
 DEAF = """\
-sh -c 'trap "" TERM; n=0; while [ $n -lt 60 ]; do echo "$1 $(date +%s.%N)" >>"$TOP/lives"; sleep 0.1; n=$((n + 1)); done' - "$$" &
+sh -c 'trap "" TERM; n=0; while [ $n -lt 60 ]; do echo "$1 $(date +%s.%N) $$" >>"$TOP/lives"; sleep 0.1; n=$((n + 1)); done' - "$$" &
 wait
 """
 
@@ -31,20 +34,15 @@ class Waiting(FolderCase):
         for sent, handler in ((signal.SIGINT, signal.default_int_handler), (signal.SIGHUP, signal.SIG_DFL)):
             self.addCleanup(signal.signal, sent, signal.signal(sent, handler))
 
-    def wait_for(self, is_so, seconds=10.0):
-        until = time.time() + seconds
-        while not is_so():
-            self.assertLess(time.time(), until, "it took too long")
-            time.sleep(0.02)
-
-    def lives(self):
-        """Of each try the first and the last moment in which its child lived."""
-        path = self.top / "lives"
+    def lives(self, name="lives"):
+        """Of each try the first and the last moment in which its child lived, and its process."""
+        path = self.top / name
         found = {}
-        for line in path.read_text().splitlines() if path.exists() else ():
-            child, moment = line.split()
-            first, _ = found.get(child, (float(moment), 0))
-            found[child] = (first, float(moment))
+        # The last line may not be there as a whole.
+        for line in path.read_text().split("\n")[:-1] if path.exists() else ():
+            shell, moment, child = line.split()
+            first = found[shell][0] if shell in found else float(moment)
+            found[shell] = (first, float(moment), int(child))
         return sorted(found.values())
 
     def is_free(self):
@@ -54,8 +52,9 @@ class Waiting(FolderCase):
     def check_nothing_overlaps(self, count):
         spans = self.lives()
         self.assertEqual(len(spans), count)
-        for (_, end), (begin, _) in zip(spans, spans[1:]):
+        for (_, end, _), (begin, _, _) in zip(spans, spans[1:]):
             self.assertLess(end, begin)
+        self.assertEqual([child for _, _, child in spans if is_running(child)], [])
 
     def commands_on(self, hosts, body=LINE):
         """The commands with these hosts in place of those of the other tests."""
@@ -63,6 +62,14 @@ class Waiting(FolderCase):
 
     def one(self, body, **options):
         return self.exported(ONE, commands=self.commands(body, **options))
+
+    def commands_of(self, session):
+        """The words of each process that runs in a session."""
+        found = []
+        for path in pathlib.Path("/proc").glob("[0-9]*/cmdline"):
+            with contextlib.suppress(OSError):
+                found += [path.read_bytes()] if os.getsid(int(path.parent.name)) == session else []
+        return found
 
     def started(self, *words):
         job = subprocess.Popen(
@@ -76,32 +83,27 @@ class EndedTest(Waiting):
     """What is ended has ended, with all that it started, before its step may begin again."""
 
     def test_after_a_limit(self):
-        self.one(DEAF, timeout=1, retries=1, pause=0)
-        started = time.time()
+        self.one(DEAF, timeout=4, retries=1, pause=0)
         self.assertEqual(self.make()[0], 2)
         self.check_nothing_overlaps(2)
-        self.assertLess(self.lives()[-1][1], time.time())
-        self.assertLess(time.time() - started, 30)
 
     def test_after_the_shell_of_a_step_was_killed(self):
-        self.one(f'echo $$ >"$TOP/shell"\n{DEAF}', retries=1, pause=0, timeout=4)
+        self.one(f'echo $$ >"$TOP/shell"\n{DEAF}', retries=1, pause=0, timeout=DEADLINE)
         job = self.started()
-        self.wait_for(lambda: self.lives())
+        wait_until(self.lives)
         os.kill(int((self.top / "shell").read_text()), signal.SIGKILL)
-        job.communicate(timeout=60)
+        job.communicate(timeout=DEADLINE)
         self.check_nothing_overlaps(2)
 
     def test_after_a_signal(self):
-        self.one(DEAF, timeout=30)
+        self.one(DEAF, timeout=DEADLINE)
         job = self.started()
-        self.wait_for(lambda: self.lives())
+        wait_until(self.lives)
         os.killpg(job.pid, signal.SIGINT)
-        job.communicate(timeout=30)
+        job.communicate(timeout=DEADLINE)
         # The lock goes when all of it has ended, and not before.
-        self.wait_for(self.is_free, 20)
-        last = self.lives()[-1][1]
-        time.sleep(0.5)
-        self.assertEqual(self.lives()[-1][1], last)
+        wait_until(self.is_free)
+        self.check_nothing_overlaps(1)
         self.assertEqual(self.marks(), [])
 
 
@@ -118,15 +120,13 @@ class AgainTest(Waiting):
         name = next(path for path in locks.iterdir() if path.name.startswith("lock.apt:"))
         (self.folder / "done" / "0.1").unlink()
         (self.folder / "log" / "0.1").unlink()
-        holder = subprocess.Popen(["flock", name, "sleep", "60"])
-        self.addCleanup(holder.communicate)
-        self.addCleanup(holder.terminate)
-        time.sleep(0.3)
-        job = self.started()
-        time.sleep(0.7)
-        os.killpg(job.pid, signal.SIGTERM)
-        job.communicate(timeout=20)
-        self.wait_for(self.is_free)
+        with open(name, "ab") as held:
+            fcntl.flock(held, fcntl.LOCK_EX)
+            job = self.started()
+            wait_until(lambda: b"flock\x008\x00" in self.commands_of(job.pid), "that the step waits for its lock")
+            os.killpg(job.pid, signal.SIGTERM)
+            job.communicate(timeout=DEADLINE)
+        wait_until(self.is_free)
         self.assertEqual(call("done", self.folder)[2], "")
 
     def test_one_lock_for_two_folders(self):
@@ -137,7 +137,7 @@ class AgainTest(Waiting):
             self.one(body, lock='"db"')
             jobs.append(self.started())
         for job in jobs:
-            job.communicate(timeout=20)
+            job.communicate(timeout=DEADLINE)
         self.assertEqual([line.split()[0] for line in self.trace()], ["in", "out", "in", "out"])
 
     def test_a_delete_is_told_whether_all_goes(self):
@@ -216,17 +216,25 @@ class HostsTest(Waiting):
         # A connection that is lost at once: what was started over there goes on.
         far.write_text(
             f"#!/bin/sh\ncd {self.top}\ncat >far.$$\n"
-            "setsid sh -c 'touch \"begun.$0\"; exec \"$@\"' $$ \"$@\" <far.$$ >/dev/null 2>&1 &\n"
+            "setsid sh -c 'touch \"begun.$0\"; exec \"$@\"' $$ \"$@\" <far.$$ >>said 2>&1 &\n"
             "until [ -e begun.$$ ]; do sleep 0.02; done\nexit 255\n"
         )
         far.chmod(0o755)
         hosts = "".join(f'[hosts.{name}]\nvia = ["{far}"]\n' for name in ("left", "right"))
-        body = 'echo "in $METIS_KEY" >>"$TOP/trace"; sleep 2; echo out >>"$TOP/trace"\n'.replace("$METIS_KEY", "")
+        body = f'echo in >>"$TOP/trace"\n{HELD}echo out >>"$TOP/trace"\n'
         self.exported(CROSSED, commands=self.commands_on(hosts, body), more=["--placement", self.top / "placed"])
-        for _ in range(3):
+        self.hold()
+        self.make("done/0.1")
+        wait_until(self.trace)
+        for _ in range(2):
             self.make("done/0.1")
-        self.wait_for(lambda: "out" in self.trace())
-        self.assertEqual(self.trace(), ["in ", "out"])
+        wait_until(lambda: len(self.trace()) > 1 or self.said_far().count("an earlier try of this step still goes on here") == 2)
+        self.let_go()
+        wait_until(lambda: "out" in self.trace())
+        self.assertEqual(self.trace(), ["in", "out"])
+
+    def said_far(self):
+        return (self.top / "said").read_text()
 
     def test_ssh_is_told_to_notice_a_link_that_is_down(self):
         (self.top / "placed").write_text(PLACED)
@@ -240,11 +248,10 @@ class HostsTest(Waiting):
 class SaidTest(Waiting):
     def test_a_line_without_an_end_is_cut(self):
         self.one("head -c 50000000 /dev/zero | tr '\\0' x; exit 3\n")
-        started = time.process_time()
-        status, _, said = self.make()
+        with soon():
+            status, _, said = self.make()
         self.assertEqual(status, 2)
         self.assertLess(len(said), 50_000)
-        self.assertLess(time.process_time() - started, 5)
         self.assertIn("failed with status 3", said)
 
     def test_a_file_system_without_locks_is_said(self):
@@ -276,10 +283,13 @@ class SaidTest(Waiting):
         date.chmod(0o755)
         self.one("sleep 1\n")
         environment = {**os.environ, "PATH": f"{date.parent}:{os.environ['PATH']}"}
+        started = time.monotonic()
         done = subprocess.run(["make", "-s", "-C", self.folder], env=environment, capture_output=True, text=True, check=False)
-        self.assertRegex(done.stdout, r"make A#0: done in [12] s \(1 of 1\)\n")
+        whole = time.monotonic() - started
+        found = re.fullmatch(r"make A#0 [.]{2}\nmake A#0: done in (\d+) s \(1 of 1\)\n", done.stdout)
+        self.assertTrue(found and 1 <= int(found[1]) <= whole + 1, (done.stdout, whole))
         begun, ended = map(float, (self.folder / "done" / "0.1").read_text().split("\n")[1].split())
-        self.assertTrue(0.9 < ended - begun < 5)
+        self.assertTrue(0.9 < ended - begun < whole + 0.1, whole)
 
     def test_events_are_lines_of_json(self):
         self.exported(WEB, commands=self.commands('if [ "$METIS_VERB" = move ]; then exit 4; fi\n'))
@@ -312,14 +322,16 @@ check = 'test -e "$TOP/$METIS_NAME" || {{ echo "it is gone"; exit 1; }}'
 """
 
     def test_status_while_a_step_runs_and_after_it_failed(self):
-        self.exported(WEB, commands=self.commands('if [ "$METIS_ACTION" = 3 ]; then echo why; sleep 4; exit 5; fi\n'))
+        self.exported(WEB, commands=self.commands(f'if [ "$METIS_ACTION" = 3 ]; then echo why; {HELD}exit 5; fi\n'))
+        self.hold()
         job = self.started("-j2", "-k")
-        self.wait_for(lambda: "running  Db#1: off -> on" in call("status", self.folder)[1])
+        wait_until(lambda: "running  Db#1: off -> on" in call("status", self.folder)[1])
         status, text, _ = call("status", self.folder)
         self.assertEqual(status, 0)
         self.assertIn("2 of 5 done, 1 running, 2 waiting", text)
         self.assertIn("  running  Db#1: off -> on, for", text)
-        job.communicate(timeout=20)
+        self.let_go()
+        job.communicate(timeout=DEADLINE)
         status, text, _ = call("status", self.folder)
         self.assertEqual(status, 1)
         self.assertIn("  failed   Db#1: off -> on: failed with status 5; metis log FOLDER Db#1\n             | why\n", text)
@@ -328,21 +340,29 @@ check = 'test -e "$TOP/$METIS_NAME" || {{ echo "it is gone"; exit 1; }}'
         self.assertEqual(found["actions"][3]["waits_for"], [3])
 
     def test_done_can_be_asked_while_a_step_runs(self):
-        self.exported(WEB, commands=self.commands('if [ "$METIS_ACTION" = 3 ]; then sleep 4; fi\n'))
+        self.exported(WEB, commands=self.commands(f'if [ "$METIS_ACTION" = 3 ]; then {HELD}fi\n'))
+        self.hold()
         job = self.started("-j2")
-        self.wait_for(lambda: "running  Db#1: off -> on" in call("status", self.folder)[1])
+        wait_until(lambda: "running  Db#1: off -> on" in call("status", self.folder)[1])
         status, part, notes = call("done", self.folder)
         self.assertEqual((status, part.split("\n")[1]), (0, "instances 2 actions 2 dups 0"), notes)
-        job.communicate(timeout=20)
+        self.let_go()
+        job.communicate(timeout=DEADLINE)
 
     def test_time_that_is_left_is_the_longest_chain(self):
         self.exported(WEB, commands=self.commands('if [ "$METIS_VERB" = move ]; then sleep 1; fi\n'))
         self.make("done/1.2")
         found = json.loads(call("status", self.folder, "--json")[1])
-        # What is left is a bind, which took no time yet, and a move, which takes as long as moves have taken at the most.
-        self.assertTrue(0 < found["seconds_left"] < 3, found["seconds_left"])
+        # What is left is a new, a bind and a move of Web. None of its kind is done, so each takes the mean of what is.
+        took = [self.seconds_of(key) for key in ("1.1", "1.2")]
+        self.assertGreater(took[1], 0.9)
+        self.assertAlmostEqual(found["seconds_left"], 3 * sum(took) / 2, places=2)
         self.make()
         self.assertEqual(json.loads(call("status", self.folder, "--json")[1])["seconds_left"], 0)
+
+    def seconds_of(self, key):
+        begun, ended = map(float, (self.folder / "done" / key).read_text().split("\n")[1].split())
+        return ended - begun
 
     def test_logs_by_the_name_of_an_instance(self):
         self.exported(WEB, commands=self.commands('printf "of %s\\033[2J\\n" "$METIS_NAME"\n'))
@@ -380,7 +400,7 @@ check = 'test -e "$TOP/$METIS_NAME" || {{ echo "it is gone"; exit 1; }}'
 
     def test_a_check_that_hangs_has_an_end(self):
         head = self.commands("").split("[[step]]")[0]
-        text = self.CHECKED.format().replace("test -e", "sleep 60; test -e")
+        text = self.CHECKED.format().replace("test -e", f"sleep {FOREVER}; test -e")
         self.exported(WEB, commands=head + text)
         self.make()
         run = self.folder / "run"
@@ -398,10 +418,8 @@ class WrittenTest(Waiting):
         self.assertEqual((self.folder / "run").stat().st_mode & 0o777, 0o700)
 
     def test_the_limit_at_the_top_of_the_file_is_for_all_steps(self):
-        self.exported(ONE, commands="timeout = 1\n" + self.commands("sleep 20\n"))
-        started = time.time()
+        self.exported(ONE, commands="timeout = 1\n" + self.commands(f"sleep {FOREVER}\n"))
         self.assertIn("it took more than its 1 s", self.make()[2])
-        self.assertLess(time.time() - started, 15)
 
     def test_a_step_without_a_limit_has_one_of_an_hour(self):
         self.exported(ONE)
@@ -424,12 +442,10 @@ class WrittenTest(Waiting):
         # A hold is in the waits of the Makefile alone, and changes no step.
 
     def test_a_server_keeps_no_lock_of_its_step(self):
-        body = 'setsid sleep 30 >/dev/null 2>&1 & echo $! >>"$TOP/servers"\n'
+        body = f'setsid sleep {FOREVER} >/dev/null 2>&1 & echo $! >>"$TOP/servers"\n'
         self.exported(plan_text("new 0 A", "new 1 A"), commands=self.commands(body, lock='"db"'))
         self.addCleanup(lambda: [os.kill(int(pid), 9) for pid in (self.top / "servers").read_text().split()])
-        started = time.time()
         self.assertEqual(self.make("-j8")[0], 0)
-        self.assertLess(time.time() - started, 25)
 
     def test_an_instance_that_takes_from_the_old_is_not_parted_from_it(self):
         taking = WEB.replace("instances 2 actions 5", "instances 3 actions 9").replace(

@@ -1,7 +1,9 @@
 """Input of a few megabytes that took minutes, or much memory, before what it says was bounded."""
 
 import json
+import unittest.mock
 
+from metis_planner.importers.debian.barred import Barred
 from tests.effort import LATER, soon
 from tests.importers.test_hostile import HostileCase, ended
 
@@ -20,7 +22,17 @@ class GrowthTest(HostileCase):
         self.assertEqual(self.refused("import", "debian", "--index", index, "a", most=LATER), reason)
         bars = [self.stanza(f"e{number}", Essential="yes", Conflicts="x") for number in range(500)]
         index = self.file("".join([*bars, *provides, self.stanza("a", Depends="x")]))
-        self.assertRegex(self.refused("import", "debian", "--index", index, "a", most=LATER), "^e0 and p0 conflict")
+        gone_through = []
+
+        def bar(barred, names, really=Barred.bar):
+            names = list(names)
+            gone_through.extend(names)
+            really(barred, names)
+
+        with unittest.mock.patch.object(Barred, "bar", bar):
+            self.assertRegex(self.refused("import", "debian", "--index", index, "a", most=LATER), "^e0 and p0 conflict")
+        # All of them have one relation, and what it bars is gone through once.
+        self.assertLess(len(gone_through), 2 * len(provides))
 
     def test_records_and_names_without_end(self):
         index = self.file(b"".join(b"Package: p%d\n\n" % number for number in range(400_000)))

@@ -23,6 +23,7 @@ from metis_planner.carry.rollouts import Rollout
 from metis_planner.page import changes, cause, progress, server, sheet, times, verdict
 from metis_planner.text import plans
 from tests.carry.shapes import CROSSED, PLACED, ROLLED, WEB, FolderCase, call, plan_text, steps_of
+from tests.effort import DEADLINE
 
 HERE = pathlib.Path(__file__).resolve().parent
 PAGE = pathlib.Path(sheet.__file__).resolve().parent
@@ -392,12 +393,12 @@ class ServerTest(unittest.TestCase):
                 for path, host, status in (*own, *others, ("", "evil.example", 404)):
                     request = urllib.request.Request(url + path, headers={"Host": host} if host else {})
                     try:
-                        with urllib.request.urlopen(request, timeout=10) as answer:
+                        with urllib.request.urlopen(request, timeout=DEADLINE) as answer:
                             self.assertEqual((answer.status, answer.headers["Cache-Control"]), (status, "no-store"), path)
                     except urllib.error.HTTPError as fault:
                         self.assertEqual(fault.code, status, path)
                         fault.close()
-                thread.join(10)
+                thread.join(DEADLINE)
 
 
 if __name__ == "__main__":
