@@ -9,6 +9,7 @@ declare -A _metis_files=(
     [why]=1
     [replay]=2
     [rollout]=2
+    [reconfigure]=3
     [audit]=2
     [refute]=2
     [confirm]=2
@@ -44,12 +45,12 @@ declare -A _metis_files=(
     [help]=0
     [version]=99
 )
-_metis_with_targets=' plan why replay rollout audit refute confirm '
+_metis_with_targets=' plan why replay rollout reconfigure audit refute confirm '
 declare -A _metis_names=(
     [import]='debian compose systemd kubernetes'
     [lint]='debian compose systemd kubernetes'
     [engine]='make ninja slurm'
-    [help]='plan why replay rollout audit refute confirm waits waves place crew control sim print load import sketch check lint show graph gantt page up down make ninja slurm engine status log retry verify inventory done split help version'
+    [help]='plan why replay rollout reconfigure audit refute confirm waits waves place crew control sim print load import sketch check lint show graph gantt page up down make ninja slurm engine status log retry verify inventory done split help version'
 )
 declare -A _metis_options=(
     [sketch]='--from --help'

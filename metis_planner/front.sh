@@ -53,7 +53,7 @@ if [ "${METIS_PLAIN:-0}" != 0 ]; then
     exec "$program" "$@"
 fi
 case ${1-} in
-plan | why | replay | rollout | audit | refute | confirm | waits | waves | place | crew | control | sim | print | load)
+plan | why | replay | rollout | reconfigure | audit | refute | confirm | waits | waves | place | crew | control | sim | print | load)
     case ${2-} in
     *.sketch) run_front over-sketch "$@" ;;
     *) run_program "$@" ;;

@@ -50,6 +50,9 @@ WORDS: Mapping[str, Form] = {
     "why": Form((UNIVERSE,), "say why the first target that is lacking cannot be attained", True),
     "replay": Form((UNIVERSE, "PLAN"), "do a plan's actions one by one, and say whether each is allowed", True),
     "rollout": Form((UNIVERSE, "PLAN"), "go from what a plan leaves to other targets, and take the old away", True),
+    "reconfigure": Form(
+        (UNIVERSE, "PLAN", "WISHES"), "go from what a plan leaves to other targets, and keep what serves them", True
+    ),
     "audit": Form((UNIVERSE, "PLAN"), "check that a plan has the instances that the rules make, and no others", True),
     "refute": Form((UNIVERSE, "REFUSAL"), "check a refusal, without the planner", True),
     "confirm": Form((UNIVERSE, "EXPLANATION"), "check an explanation of `why`, without the planner", True),

@@ -7,7 +7,7 @@ from metis_planner.answers import Answer, Refused
 from metis_planner.program import WORDS as PROGRAM_WORDS
 from metis_planner.words import GROUPS, SOURCES, WORDS
 
-WIDTH = 11
+WIDTH = 13
 HEAD = """\
 Metis plans how components are deployed: in which order, and which steps may go on at the same time.
 
@@ -21,6 +21,24 @@ TAIL = """\
 metis help WORD says more of one. A file that ends in .sketch may stand wherever a universe does, and - is standard input.
 Statuses: 0 done, 1 no, 2 a wrong word, 3 a wrong file, 4 a file that cannot be read, 5 one that cannot be written, 6 no memory.
 """
+
+
+OF_WISHES = (
+    "PLAN is what stands, as `metis done FOLDER` prints it. TARGETs are all that is wanted: what none of them and no wish leads to",
+    "is deleted, a database too. WISHES is a text with a wish in a line, in any order:",
+    "",
+    "  metis wishes 1",
+    "  keep Z               instance Z stays, with all that it stands on",
+    "  keep all             all that does not have to go stays",
+    "  rebind Z             Z stays, and may be bound to others where its own go",
+    "  retire Z             nothing that is wanted stands on Z, and it goes once the new stands",
+    "  avoid TYPE:STATE     it serves nothing new, and what is in this state goes",
+    "  avoid TYPE           the same of each state of the type",
+    "  end",
+    "",
+    "Without a wish it is the first and the last line. `metis show PLAN --from OLD` says what is kept, new and going; `metis up",
+    "--wishes WISHES` carries it out.",
+)
 
 
 def line_of(name: str, text: str) -> str:
@@ -41,6 +59,8 @@ def of_the_program(name: str) -> str:
     lines = [f"usage: {form.usage(name)}", "", f"{form.help[0].upper()}{form.help[1:]}."]
     if form.has_targets:
         lines += ["", "A TARGET is TYPE:STATE, an instance of the type in that state, or port:PORT, one that provides the port."]
+    if name == "reconfigure":
+        lines += ["", *OF_WISHES]
     if name == "waves":
         lines += ["", "The numbers say how long an action of each kind takes, in any unit: 0 to 1000000."]
     return "\n".join([*lines, "", "docs/FORMATS.md has the texts that it reads and prints.", ""])

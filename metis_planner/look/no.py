@@ -1,16 +1,14 @@
 """What a 'no' of the program means, which is an answer and no fault: which action, which instance, and what to do."""
 
-from metis_planner.answers import Refused
+from metis_planner.look import wishes
 from metis_planner.look.show import reason_in_words
+from metis_planner.look.standing import MOST_BYTES, plan_of, types_at, who
 from metis_planner.look.wrong import Call, listed, rows_at, shown, targets_of
 from metis_planner.program import UNIVERSE
 from metis_planner.text import configurations, plans, verdicts
 from metis_planner.text.configurations import Configuration
-from metis_planner.text.documents import ComponentType
 from metis_planner.text.reading import read_text
-from metis_planner.text.universes import types_of
 
-MOST_BYTES = 268_435_456
 # Of a long explanation so many reasons are said here.
 MOST_REASONS = 2
 
@@ -46,6 +44,8 @@ def said(call: Call, answer: str | None) -> list[str]:
         return of_what_is_missing(found)
     if found.kind == "unfounded":
         return of_a_line(call, int(found.fields["line"]))
+    if found.kind in wishes.KINDS:
+        return wishes.said(call, found)
     return [found.words + ADVICE.get(found.kind, "")]
 
 
@@ -75,20 +75,6 @@ def of_an_explanation(answer: str) -> list[str]:
     return [f"{found.lacks} cannot be attained: {'; '.join(reasons)}{tail}"]
 
 
-def types_at(path: str) -> tuple[ComponentType, ...]:
-    rows = rows_at(path)
-    return types_of(rows) if rows else ()
-
-
-def plan_of(call: Call) -> plans.Plan | None:
-    """The plan of a call, as it was handed in."""
-    try:
-        found = plans.read(read_text(call.files["PLAN"], MOST_BYTES))
-    except (plans.NoText, Refused, KeyError):
-        return None
-    return found if isinstance(found, plans.Plan) else None
-
-
 def of_an_action(call: Call, found: verdicts.Verdict) -> list[str]:
     """What an action would do that it may not, with the names of instances and the providers that are left."""
     number, plan = int(found.fields["action"]), plan_of(call)
@@ -102,11 +88,6 @@ def of_an_action(call: Call, found: verdicts.Verdict) -> list[str]:
     if found.kind == "loose":
         return [f"{step}, {why_loose(action, before)}"]
     return [f"{step}, {why_refused(action, before, str(found.fields['reason']))}"]
-
-
-def who(instance: int, before: Configuration) -> str:
-    standing = before.instances.get(instance)
-    return f"{standing.type}#{instance}" if standing else f"instance {instance}"
 
 
 def why_refused(action: plans.Action, before: Configuration, reason: str) -> str:

@@ -9,14 +9,14 @@ from collections.abc import Collection, Iterable
 
 from metis_planner.answers import Refused
 from metis_planner.program import STANDARD_INPUT, UNIVERSE, WORDS
-from metis_planner.text import plans, universes, verdicts
+from metis_planner.text import plans, universes, verdicts, wishes
 from metis_planner.text.kinds import Kind, kind_of
 from metis_planner.text.reading import read_bytes
 from metis_planner.text.terminal import plain
 from metis_planner.text.universes import Rows
 
 # Which file a fault speaks of, by the word that the program has for it.
-FILE_OF_A_TEXT = {"plan": "PLAN", "refusal": "REFUSAL", "why": "EXPLANATION", "hosts": "HOSTS", "turns": "TURNS"}
+FILE_OF_A_TEXT = {"plan": "PLAN", "refusal": "REFUSAL", "why": "EXPLANATION", "hosts": "HOSTS", "wishes": "WISHES", "turns": "TURNS"}
 # More names than these nobody reads in a line.
 MOST_NAMES = 8
 # As much of a file as is looked at to say what is wrong with it; universes and plans are read whole.
@@ -29,9 +29,12 @@ EXPECTED = {
     "REFUSAL": (Kind.REFUSAL,),
     "EXPLANATION": (Kind.EXPLANATION,),
     "HOSTS": (Kind.HOSTS,),
+    "WISHES": (Kind.WISHES,),
     "TURNS": (Kind.TURNS,),
     "SCRIPT": (Kind.SESSION, Kind.CONTROL),
 }
+# Words for files of which one speaks as of many.
+PLURALS = ("HOSTS", "WISHES", "TURNS")
 # What to do with a file that is something else than a universe.
 INTO_A_UNIVERSE = {
     Kind.SKETCH: "metis sketch {path} >universe.json turns it into one, and so does a name that ends in .sketch",
@@ -236,7 +239,8 @@ def of_reading(call: Call, path: str) -> list[str]:
 def of_length(call: Call, path: str) -> list[str]:
     size = os.path.getsize(path) if pathlib.Path(path).is_file() else 0
     which = next((name for name, each in call.files.items() if each == path), "file")
-    return [f"{shown(path)} has {size} bytes, more than is read of a {which.lower()} (docs/FORMATS.md has the limits)"]
+    what = which.lower() if which in PLURALS else f"a {which.lower()}"
+    return [f"{shown(path)} has {size} bytes, more than is read of {what} (docs/FORMATS.md has the limits)"]
 
 
 def named_file(call: Call, name: str) -> str:
@@ -249,13 +253,15 @@ def other_kind(call: Call, name: str) -> list[str]:
     kind = kind_of(read_bytes(path, MOST_BYTES))
     if kind in EXPECTED[name] or kind is Kind.OTHER and name == "TURNS":
         return []
-    what = f"{shown(path)} is {kind.value}, and the {name.lower()} stands here"
+    what = f"{shown(path)} is {kind.value}, and the {name.lower()} {'stand' if name in PLURALS else 'stands'} here"
     for other, each in call.files.items():
         if kind in EXPECTED[other] and each != path and each != STANDARD_INPUT:
             if kind_of(read_bytes(each, MOST_BYTES)) in EXPECTED[name]:
                 return [f"{what}: {shown(each)} and it have changed places", f"usage: {WORDS[call.word].usage(call.word)}"]
     if name == UNIVERSE and kind in INTO_A_UNIVERSE:
         return [f"{shown(path)} is {kind.value}: {INTO_A_UNIVERSE[kind].format(path=shown(path))}"]
+    if name == "WISHES" and kind is Kind.EMPTY:
+        return [f"{what}: a text without a wish is the lines '{wishes.HEAD}' and 'end'"]
     return [what, f"usage: {WORDS[call.word].usage(call.word)}"]
 
 
@@ -275,7 +281,7 @@ def of_a_universe(call: Call) -> list[str]:
 
 
 def of_a_text(call: Call, found: verdicts.Verdict, line: str) -> list[str]:
-    """What is wrong with a plan, a refusal, an explanation, turns or hosts."""
+    """What is wrong with a plan, a refusal, an explanation, turns, hosts or wishes."""
     name = FILE_OF_A_TEXT.get(str(found.fields.get("text", "turns")), "TURNS")
     path = named_file(call, name)
     if other := other_kind(call, name):
@@ -286,7 +292,45 @@ def of_a_text(call: Call, found: verdicts.Verdict, line: str) -> list[str]:
         return [f"{shown(path)}: {shown(token)} is no number of an instance (token {found.fields['token']})"]
     if "line" not in found.fields:
         return [f"{shown(path)} was cut off: it ends before the line 'end'. Did the command that wrote it fail?"]
-    return of_a_line(path, data, int(found.fields["line"]), str(found.fields["what"]))
+    number, fault = int(found.fields["line"]), str(found.fields["what"])
+    return of_a_wish(call, data, number, fault) if name == "WISHES" else of_a_line(path, data, number, fault)
+
+
+def of_a_wish(call: Call, data: str, number: int, what: str) -> list[str]:
+    """What is wrong with a line of a text of wishes."""
+    path, lines, known = named_file(call, "WISHES"), data.split("\n"), wishes.wishes_in(data)
+    text = lines[number - 1] if number <= len(lines) else ""
+    own = next((wish for wish in known if wish.line == number), None)
+    reason = WHATS[what]
+    if what == "line" and number == 1:
+        reason = f"a text of wishes begins with '{wishes.HEAD}'"
+    elif what == "line":
+        reason = f"no wish, which is {wishes.FORMS}" if "end" not in lines[: number - 1] else "the text goes on behind 'end'"
+    elif what == "name" and own:
+        kind, _, state = own.word.partition(":")
+        rows, universe = rows_at(named_file(call, UNIVERSE)), named_file(call, UNIVERSE)
+        reason = unknown_pair(kind, state, rows, universe) if rows else reason
+    elif what == "twice" and own:
+        earlier = next((wish for wish in known if wish.line < number and is_of_the_same(wish, own)), None)
+        reason = f"line {earlier.line} says {earlier.text} already" if earlier else reason
+    return [f"{shown(path)}:{number}: {reason}: {shown(text)}"]
+
+
+def unknown_pair(kind: str, state: str, rows: Rows, path: str) -> str:
+    """Why a word is neither a type nor a pair of the universe."""
+    row = next((each for each in rows.types if each.name.name == kind), None)
+    if row is not None:
+        states = [each.name.name for each in row.states]
+        near = nearest(state, states)
+        return f"no state {state} of {kind}, which has {listed(states)}" + (f"; did you mean {kind}:{near}?" if near else "")
+    kinds = [each.name.name for each in rows.types]
+    near = nearest(kind, kinds)
+    return f"no type {kind} in {shown(path)}, " + (f"did you mean {near}?" if near else f"which has {listed(kinds) or 'none'}")
+
+
+def is_of_the_same(one: wishes.Wish, other: wishes.Wish) -> bool:
+    """Whether two lines speak of the same instance, or avoid the same."""
+    return one.text == other.text or one.instance is not None and one.instance == other.instance
 
 
 WHATS = {

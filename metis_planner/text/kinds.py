@@ -24,6 +24,7 @@ class Kind(enum.Enum):
     REFUSAL = "a refusal"
     EXPLANATION = "an explanation"
     HOSTS = "a text of hosts"
+    WISHES = "a text of wishes"
     TURNS = "turns"
     SESSION = "a script of a session"
     CONTROL = "a script for a controller"
@@ -43,8 +44,9 @@ HEADS = {
     "metis refusal 1": Kind.REFUSAL,
     "metis why 1": Kind.EXPLANATION,
     "metis hosts 1": Kind.HOSTS,
+    "metis wishes 1": Kind.WISHES,
 }
-FAULTS = ("bad word ", "bad universe ", "bad plan ", "bad refusal ", "bad why ", "read fault ", "too long ")
+FAULTS = ("bad word ", "bad universe ", "bad plan ", "bad refusal ", "bad why ", "bad hosts ", "bad wishes ", "read fault ", "too long ")
 
 
 def kind_of_json(text: str) -> Kind:

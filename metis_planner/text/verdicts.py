@@ -100,15 +100,21 @@ VERDICTS = (
         "load {size} pairs {pairs} targets {targets} instances {instances} actions {actions} dups {dups} good",
         "size {size}: {pairs} pairs, {targets} targets, a plan of {actions} actions for {instances} instances, replayed as good",
     ),
+    form("absent", "absent {instance}", "a wish names instance {instance}, which does not stand"),
+    form("kept", "kept {instance} on {root}", "instance {instance} is to stay, and instance {root}, on which that depends, goes"),
+    form("unavoidable", "unavoidable {target}", "{target} cannot be attained without what is to be avoided", target=PAIR),
+    form("unmet", "unmet {instance} {port}", "instance {instance} is to take {port} from another, and none can be had", port=NAME),
+    form("needs", "needs {count}", "{count} targets are missing, and at most 256 are planned for at a time"),
 )
+TEXTS = "plan|refusal|why|hosts|wishes"
 FAULTS = (
     form("badword", "bad word {word}", "word {word} of the command does not fit"),
     form("toolong", "too long {word}", "the file that word {word} names is too long"),
     form("readfault", "read fault {word}", "the file that word {word} names cannot be read"),
     form("baduniverse", "bad universe {fault}", "the universe is refused: {fault}", fault=r"U[0-9]+(?: [a-z]+ [0-9]+)*"),
-    form("badtext", "bad {text} {what} {line}", "{text}: line {line} has a wrong {what}", text="plan|refusal|why|hosts", what="line|number|name|twice"),
+    form("badtext", "bad {text} {what} {line}", "{text}: line {line} has a wrong {what}", text=TEXTS, what="line|number|name|twice"),
     form("badturns", "bad turns {token}", "token {token} of the turns is no number"),
-    form("badshort", "bad {text} short", "{text}: it ends before the line `end`", text="plan|refusal|why|hosts"),
+    form("badshort", "bad {text} short", "{text}: it ends before the line `end`", text=TEXTS),
 )
 # What a crew, a controller and a session answer, a line each.
 CREW = (
