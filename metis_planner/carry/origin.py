@@ -7,9 +7,10 @@ from collections.abc import Sequence
 
 from metis_planner.answers import Refused
 from metis_planner.carry.folder import Folder
-from metis_planner.carry.rollouts import Rollout, sign_of_a_rollout, rollout_in
+from metis_planner.carry.rollouts import Rollout, change_in, sign_of_a_rollout
 from metis_planner.carry.steps import Step, who
 from metis_planner.text import plans
+from metis_planner.text.roles import count_of
 
 
 @dataclasses.dataclass(frozen=True)
@@ -65,18 +66,12 @@ def origin_there(folder: Folder, plan: plans.Plan, steps: Sequence[Step], argume
 
 def counts_of(plan: plans.Plan, path: str, olds: Sequence[str]) -> list[int]:
     """How many actions the plans have that are named as those from which this one goes on, the longest last."""
-    counts = []
-    for name in olds:
-        old = plans.plan_at(name)
-        counts.append(len(old.actions))
-        if plan.actions[: counts[-1]] != old.actions:
-            raise Refused(f"{path}: it does not begin with the {counts[-1]} actions of {name}")
-    return sorted(counts)
+    return sorted(count_of(name, plan, path) for name in olds)
 
 
 def rollouts_at(steps: Sequence[Step], counts: Sequence[int], path: str) -> tuple[Rollout, ...]:
     """The rollouts that go on from so many actions each, one after the other."""
     try:
-        return tuple(rollout_in(steps[:end], old) for old, end in itertools.pairwise([*counts, len(steps)]))
+        return tuple(change_in(steps[:end], old) for old, end in itertools.pairwise([*counts, len(steps)]))
     except Refused as refused:
         raise Refused(f"{path}: {refused}") from refused

@@ -2,7 +2,8 @@
 
 A rollout is the old plan's actions, the fresh ones, and the removal of what the old ones leave. The waits alone would
 let the removal come before the fresh ones. Where no action of the removal comes before the last fresh one, what stood
-or what is to stand is whole at each moment: the law `guarded_rollout_never_lacks`.
+or what is to stand is whole at each moment: the law `guarded_rollout_never_lacks`. A reconfiguration is the same, but for
+what it keeps: the fresh ones are bound to that, and it may be bound to them.
 """
 
 import dataclasses
@@ -10,6 +11,7 @@ from collections.abc import Iterable, Sequence
 
 from metis_planner.answers import Refused
 from metis_planner.carry.steps import Step, lanes, who
+from metis_planner.text.roles import KEPT, roles_of
 
 
 @dataclasses.dataclass(frozen=True)
@@ -22,6 +24,37 @@ class Rollout:
 
     def has_fresh(self) -> bool:
         return self.old < self.fresh
+
+
+def change_in(steps: Sequence[Step], old: int) -> Rollout:
+    """The change that goes on from so many first actions: a rollout, or a reconfiguration that keeps something.
+
+    The removal of a reconfiguration begins with the first unbinding or deletion of what the old plan makes: before that the
+    new is made, and what is kept is bound to it. A scaffold, which the removal may begin with, is only made before that.
+    """
+    if KEPT not in roles_of([step.action for step in steps], old).values():
+        return rollout_in(steps, old)
+    made = {step.action.instance for step in steps[:old]}
+    border = next((place for place, step in enumerate(steps) if place >= old and is_removal(step, made)), len(steps))
+    removed = made | {step.action.instance for step in steps[border:] if step.action.verb == "delete"}
+    for step in steps[border:]:
+        if step.action.instance not in removed:
+            raise Refused(
+                f"by action {border + 1} something of the {old} first actions goes, and action {step.action.number} is of "
+                f"{who(step.action)}, which is new and stays: no change of these keeps both"
+            )
+    return Rollout(old, border, len(steps))
+
+
+def is_removal(step: Step, made: set[int]) -> bool:
+    return step.action.verb in ("unbind", "delete") and step.action.instance in made
+
+
+def roles_in(steps: Sequence[Step], rollouts: Sequence[Rollout]) -> dict[int, str]:
+    """What becomes of each instance in the last change."""
+    if not rollouts:
+        return {}
+    return roles_of([step.action for step in steps[: rollouts[-1].end]], rollouts[-1].old)
 
 
 def rollout_in(steps: Sequence[Step], old: int) -> Rollout:

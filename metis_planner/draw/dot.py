@@ -11,6 +11,7 @@ from metis_planner.carry.rollouts import ends_of
 from metis_planner.carry.steps import Step, lanes, who
 from metis_planner.draw import picture
 from metis_planner.text.documents import ComponentType
+from metis_planner.text.roles import GOING, KEPT, NEW
 
 FONT = 'fontname="DejaVu Sans"'
 HEAD = f"""\
@@ -20,6 +21,9 @@ digraph metis {{
   edge [{FONT} fontsize=9 color="#444444" arrowsize=0.6]
 """
 FILLS = {"new": "#eeeeee", "delete": "#f4c7b8", "bind": "#d7e8f7", "unbind": "#e9dff2", "move": "#d9efd5"}
+# Of an instance in a change: the border of its lane, and how it looks as one box.
+BORDERS = {KEPT: "#3c8d2f", NEW: "#1f5fa8", GOING: "#b8431f"}
+ROLE_FILLS = {KEPT: FILLS["move"], NEW: FILLS["bind"], GOING: FILLS["delete"]}
 INITIAL, PROVIDED, UNPROVIDED, LINK = "#eeeeee", "#d7e8f7", "#f4c7b8", "#1f5fa8"
 
 
@@ -28,8 +32,9 @@ def quoted(text: str) -> str:
     return f'"{escaped}"'
 
 
-def cluster(name: str, label: str) -> str:
-    return f'  subgraph cluster_{name} {{\n    label={quoted(label)} labeljust=l style=rounded color="#bbbbbb"\n'
+def cluster(name: str, label: str, role: str = "") -> str:
+    look = f'color="{BORDERS[role]}" penwidth=2' if role else 'color="#bbbbbb"'
+    return f"  subgraph cluster_{name} {{\n    label={quoted(label)} labeljust=l style=rounded {look}\n"
 
 
 def fill_of(step: Step, scene: picture.Scene) -> str:
@@ -59,7 +64,7 @@ def plan_lines(scene: picture.Scene) -> Iterator[str]:
     steps = scene.steps
     yield HEAD
     for instance, lane in lanes(steps).items():
-        yield cluster(str(instance), who(lane[0].action))
+        yield cluster(str(instance), scene.name_of(lane[0].action), scene.roles.get(instance, ""))
         for step in lane:
             label = quoted(f"{step.action.number} {picture.short(step.action)}")
             yield f"    a{step.action.number} [label={label} {fill_of(step, scene)}]\n"
@@ -83,7 +88,10 @@ def instance_lines(scene: picture.Scene) -> Iterator[str]:
         state = next((step.action.words[2] for step in reversed(lane) if step.action.verb == "move"), "")
         if state:
             label += f": {state}"
-        if lane[-1].action.verb == "delete":
+        role = scene.roles.get(instance)
+        if role:
+            label, fill = f"{label}, {role}", ROLE_FILLS[role]
+        elif lane[-1].action.verb == "delete":
             label, fill = f"{label}, deleted", FILLS["delete"]
         yield f'  i{instance} [label={quoted(label)} fillcolor="{fill}"]\n'
     for (instance, provider), ports in picture.ties(steps).items():

@@ -3,7 +3,7 @@
 from collections.abc import Iterator, Sequence
 
 from metis_planner.carry.rollouts import ends_of
-from metis_planner.carry.steps import lanes, who
+from metis_planner.carry.steps import lanes
 from metis_planner.draw import picture
 from metis_planner.text.documents import ComponentType
 
@@ -18,7 +18,7 @@ def plan_lines(scene: picture.Scene) -> Iterator[str]:
     steps = scene.steps
     yield HEAD
     for instance, lane in lanes(steps).items():
-        yield subgraph(f"i{instance}", who(lane[0].action))
+        yield subgraph(f"i{instance}", scene.name_of(lane[0].action))
         for step in lane:
             yield f'    a{step.action.number}["{step.action.number} {picture.short(step.action)}"]\n'
         if len(lane) > 1:
@@ -45,7 +45,7 @@ def instance_lines(scene: picture.Scene) -> Iterator[str]:
     steps = scene.steps
     yield HEAD
     for instance, lane in lanes(steps).items():
-        yield f'  i{instance}["{who(lane[0].action)}"]\n'
+        yield f'  i{instance}["{scene.name_of(lane[0].action)}"]\n'
     for (instance, provider), ports in picture.ties(steps).items():
         yield f'  i{instance} -->|"{", ".join(ports)}"| i{provider}\n'
 

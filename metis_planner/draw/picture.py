@@ -2,14 +2,15 @@
 
 import argparse
 import dataclasses
+import functools
 import os
 from collections.abc import Callable, Iterable, Sequence
 
 from metis_planner.answers import Refused
 from metis_planner.carry.folder import Folder
 from metis_planner.carry.origin import counts_of, rollouts_at
-from metis_planner.carry.rollouts import Rollout
-from metis_planner.carry.steps import Step, steps_of
+from metis_planner.carry.rollouts import Rollout, roles_in
+from metis_planner.carry.steps import Step, steps_of, who
 from metis_planner.text import plans
 from metis_planner.text.documents import ComponentType
 from metis_planner.text.reading import decoded, read_bytes
@@ -28,7 +29,7 @@ class Port:
 
 def add_arguments(parser: argparse.ArgumentParser) -> None:
     parser.add_argument("file", metavar="FILE", help="a plan, a universe, or a folder; - is standard input")
-    help_text = "the plan of which FILE is a rollout: its barrier is drawn, too"
+    help_text = "the plan from which FILE goes on: the barrier is drawn, too, and what is kept, new and going"
     parser.add_argument("--from", metavar="OLD", dest="olds", action="append", default=[], help=help_text)
     parser.add_argument(
         "--instances", action="store_true", help="of a plan draw one box an instance, and who takes what from whom"
@@ -45,6 +46,16 @@ class Scene:
     rollouts: Sequence[Rollout] = ()
     done: frozenset[str] | None = None
     begun: frozenset[str] = frozenset()
+
+    @functools.cached_property
+    def roles(self) -> dict[int, str]:
+        """What becomes of each instance in the last change."""
+        return roles_in(self.steps, self.rollouts)
+
+    def name_of(self, action: plans.Action) -> str:
+        """An instance, with what becomes of it."""
+        role = self.roles.get(action.instance)
+        return f"{who(action)}, {role}" if role else who(action)
 
 
 def scene_of_folder(folder: Folder) -> Scene:

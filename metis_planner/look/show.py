@@ -1,10 +1,12 @@
 """Shows what the program printed, with names in place of numbers, one line an action, or with --json as one JSON object.
 
 It reads every text that the program prints: plans and rollouts, refusals, explanations, schedules of `waves` and placements of
-`place` (where --plan names their plan), one-line verdicts, and what a crew, a controller or a session answered.
+`place` (where --plan names their plan), one-line verdicts, and what a crew, a controller or a session answered. Of a plan that
+goes on from another one, with --from OLD, it says what is kept, new and going, and shows what there is left to do.
 """
 
 import argparse
+import functools
 import json
 import os
 import re
@@ -13,8 +15,9 @@ from collections.abc import Callable, Iterator
 from typing import TYPE_CHECKING, Any
 
 from metis_planner.answers import Answer, Refused
-from metis_planner.text import plans
+from metis_planner.text import configurations, plans
 from metis_planner.text.reading import read_bytes
+from metis_planner.text.roles import GOING, KEPT, NEW, count_of, roles_of
 
 if TYPE_CHECKING:
     from metis_planner.text import over_plans, verdicts
@@ -23,16 +26,18 @@ OTHER_BYTE = re.compile(rb"[^\x20-\x7e\n]")
 VERBS = ("new", "delete", "bind", "unbind", "move")
 # What is drawn dim, green, red and bold on a terminal.
 COLOURS = {"new": "32", "delete": "31", "bind": "2", "unbind": "2", "move": "1", "wait": "2"}
+COLOUR_OF_A_ROLE = {KEPT: "move", NEW: "new", GOING: "delete"}
+WIDTH_OF_A_ROLE = 7
 # A text in words, for a set of hidden verbs and a way to colour; and the same as a value for JSON.
 Lines = Callable[[Any, "Look"], Iterator[str]]
 Value = Callable[[Any], dict[str, Any]]
 
 
 class Look:
-    """How lines are shown: which verbs are left out, and whether there are colours."""
+    """How lines are shown: which verbs are left out, whether there are colours, and how many first actions stand already."""
 
-    def __init__(self, hidden: frozenset[str] = frozenset(), has_colours: bool = False) -> None:
-        self.hidden, self.has_colours = hidden, has_colours
+    def __init__(self, hidden: frozenset[str] = frozenset(), has_colours: bool = False, old: int | None = None) -> None:
+        self.hidden, self.has_colours, self.old = hidden, has_colours, old
 
     def coloured(self, text: str, name: str) -> str:
         return f"\x1b[{COLOURS[name]}m{text}\x1b[0m" if self.has_colours and text else text
@@ -46,19 +51,43 @@ def width_of(actions: list[plans.Action]) -> int:
 
 
 def plan_lines(plan: plans.Plan, look: Look) -> Iterator[str]:
-    actions = [action for action in plan.actions if look.is_shown(action)]
+    left = plan.actions[look.old or 0 :]
+    roles = {} if look.old is None else roles_of(plan.actions, look.old)
+    if look.old is not None:
+        yield from role_lines(plan, roles, look)
+    actions = [action for action in left if look.is_shown(action)]
     width = width_of(actions)
     for action in actions:
         words = plans.in_words(action)
         after = f"after {', '.join(map(str, action.after))}" if action.after else ""
         gap = " " * (width - len(words) + 2) if after else ""
-        yield f"{action.number:>4}  {look.coloured(words, action.verb)}{gap}{look.coloured(after, 'wait')}"
-    hidden = len(plan.actions) - len(actions)
+        role = "" if look.old is None else f"{roles.get(action.instance, ''):<{WIDTH_OF_A_ROLE}}"
+        yield f"{action.number:>4}  {role}{look.coloured(words, action.verb)}{gap}{look.coloured(after, 'wait')}"
+    hidden = len(left) - len(actions)
     if hidden:
         yield f"      and {hidden} that are hidden: {', '.join(verb for verb in VERBS if verb in look.hidden)}"
     for dup in plan.dups:
         events = ", ".join(dup.cycle)
         yield f"one more for {dup.pair}: without it each of {events} would wait for the next, and the last for the first"
+
+
+def role_lines(plan: plans.Plan, roles: dict[int, str], look: Look) -> Iterator[str]:
+    """Which instances are kept, new and going, a line each kind, with the states in which they are before or after it."""
+    before = configurations.after(plan.actions[: look.old])
+    end = configurations.after(plan.actions)
+    for role in (KEPT, NEW, GOING):
+        there = before if role == GOING else end
+        names = [named(there, instance) for instance, each in roles.items() if each == role]
+        if names:
+            yield look.coloured(f"{role:<{WIDTH_OF_A_ROLE}}{', '.join(names)}", COLOUR_OF_A_ROLE[role])
+    count = len(plan.actions) - (look.old or 0)
+    yield f"the first {look.old} actions are done, and {count} are left" if count else "nothing is left to do"
+
+
+def named(there: configurations.Configuration, instance: int) -> str:
+    """An instance with the state in which it is, if a move has named one."""
+    found = there.instances[instance]
+    return f"{found.type}#{instance}" + (f" ({found.state})" if found.state else "")
 
 
 def refusal_lines(refusal: plans.Refusal, _: Look) -> Iterator[str]:
@@ -91,6 +120,13 @@ def explanation_lines(explanation: plans.Explanation, _: Look) -> Iterator[str]:
     yield f"{goal} is not attained" + (", since" if explanation.reasons else "")
     for reason in explanation.reasons:
         yield f"  {reason_in_words(reason)}"
+
+
+def change_value(plan: plans.Plan, old: int) -> dict[str, Any]:
+    """A plan that goes on from another one: how many actions are done, and the instances by what becomes of them."""
+    roles, type_of = roles_of(plan.actions, old), {each.instance: each.type for each in plan.actions if each.verb == "new"}
+    rows = [{"instance": instance, "type": type_of[instance], "role": role} for instance, role in roles.items()]
+    return {**plan_value(plan), "done": old, "instances": sorted(rows, key=lambda row: row["instance"])}
 
 
 def plan_value(plan: plans.Plan) -> dict[str, Any]:
@@ -253,6 +289,8 @@ def colours_are_wanted(choice: str) -> bool:
 def add_arguments(parser: argparse.ArgumentParser) -> None:
     parser.add_argument("file", metavar="FILE", nargs="?", default="-", help="what was printed; standard input if none is named")
     parser.add_argument("--plan", metavar="PLAN", help="the plan that `waves` or `place` was asked about")
+    help_text = "the plan from which this one goes on: says what is kept, new and going"
+    parser.add_argument("--from", metavar="OLD", dest="old", help=help_text)
     parser.add_argument("--json", action="store_true", help="one JSON object in place of lines")
     help_text = "leave such actions out; may be given several times"
     parser.add_argument("--hide", action="append", choices=VERBS, default=[], metavar="VERB", help=help_text)
@@ -261,14 +299,20 @@ def add_arguments(parser: argparse.ArgumentParser) -> None:
 
 
 def run(arguments: argparse.Namespace) -> Answer:
-    if arguments.file == arguments.plan == "-":
+    if [arguments.file, arguments.plan, arguments.old].count("-") > 1:
         raise Refused("standard input cannot be both texts")
     try:
         found = read(text_of(arguments.file), arguments.plan)
     except plans.NoText as fault:
         raise Refused(str(fault)) from None
     lines, value = SHOWN[type(found).__name__]
+    old = None
+    if arguments.old is not None:
+        if not isinstance(found, plans.Plan):
+            raise Refused("--from OLD is for a plan, and this is none")
+        old = count_of(arguments.old, found, arguments.file)
+        value = functools.partial(change_value, old=old)
     if arguments.json:
         return Answer(json.dumps(value(found)) + "\n")
-    look = Look(frozenset(arguments.hide), colours_are_wanted(arguments.color))
+    look = Look(frozenset(arguments.hide), colours_are_wanted(arguments.color), old)
     return Answer("".join(f"{line}\n" for line in lines(found, look)))

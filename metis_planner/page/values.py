@@ -4,7 +4,7 @@ import argparse
 from collections.abc import Sequence
 
 from metis_planner.answers import Refused
-from metis_planner.carry.rollouts import Rollout
+from metis_planner.carry.rollouts import Rollout, roles_in
 from metis_planner.carry.steps import Step
 from metis_planner.draw import picture
 from metis_planner.page import changes
@@ -31,7 +31,7 @@ def value_of(plan: plans.Plan, steps: Sequence[Step], rollouts: Sequence[Rollout
         "holds": [[number, list(others)] for number, others in placement.holds.items()],
         "hosts": list(placement.host_of.items()),
         "phases": changes.phases_of(steps, rollouts),
-        "roles": changes.roles_of(steps, rollouts),
+        "roles": list(roles_in(steps, rollouts).items()),
         "first": first_states(steps, types),
         "leaves": leaves_of(steps),
         "universe": None if types is None else universe_of(types),

@@ -58,6 +58,21 @@ ROLLED = WEB.replace("instances 2 actions 5", "instances 4 actions 12").replace(
 end
 """,
 )
+# What `metis reconfigure` prints for the two and a second Web:run; and for a Web that is to take from another Db, of which the
+# first one goes: it is bound to the new one before it lets the old one go.
+WIDENED = WEB.replace("instances 2 actions 5", "instances 3 actions 8").replace(
+    "end\n", "6 new 2 Web\n7 bind sql 2 1 after 3\n8 move 2 off run\nend\n"
+)
+REBOUND = WEB.replace("instances 2 actions 5", "instances 3 actions 10").replace(
+    "end\n",
+    """6 new 2 Db
+7 move 2 off on
+8 bind sql 0 2 after 7
+9 unbind sql 0 1
+10 delete 1 after 9
+end
+""",
+)
 TAKEN_DOWN = WEB.replace("actions 5", "actions 7").replace("end\n", "6 delete 0\n7 delete 1 after 6\nend\n")
 LINE = (
     'echo "$METIS_ACTION $METIS_NAME $METIS_VERB ${METIS_PROVIDER_NAME-} [$METIS_BOUND] '

@@ -1,8 +1,8 @@
 import unittest
 
 from metis_planner.answers import Refused
-from metis_planner.carry.rollouts import Rollout, barrier_of, sign_of_a_rollout, longest_chain, rollout_in
-from tests.carry.shapes import CROSSED, ROLLED, TAKEN_DOWN, WEB, plan_text, steps_of
+from metis_planner.carry.rollouts import Rollout, barrier_of, change_in, longest_chain, roles_in, rollout_in, sign_of_a_rollout
+from tests.carry.shapes import CROSSED, REBOUND, ROLLED, TAKEN_DOWN, WEB, WIDENED, plan_text, steps_of
 
 # Two that are bound to each other, a new one beside them, and the removal, which begins with a scaffold: 3 holds both.
 CYCLE = (
@@ -57,6 +57,17 @@ class RolloutTest(unittest.TestCase):
             self.assertIsNone(sign_of_a_rollout(steps_of(text)))
         self.assertEqual(sign_of_a_rollout(steps_of(ROLLED)).action.number, 11)
         self.assertEqual(sign_of_a_rollout(steps_of(plan_text(*CYCLE))).action.number, 11)
+
+    def test_a_reconfiguration_removes_from_the_first_that_what_was_there_lets_go(self):
+        self.assertEqual(change_in(steps_of(WIDENED), 5), Rollout(5, 8, 8))
+        self.assertEqual(change_in(steps_of(REBOUND), 5), Rollout(5, 8, 10))
+        self.assertEqual(change_in(steps_of(ROLLED), 5), Rollout(5, 10, 12))
+        self.assertEqual(roles_in(steps_of(REBOUND), [Rollout(5, 8, 10)]), {0: "kept", 2: "new", 1: "going"})
+        waiting = [step.action.number for step in steps_of(REBOUND) if barrier_of(step, [Rollout(5, 8, 10)]) == 0]
+        self.assertEqual(waiting, [9, 10])
+        lines = ("new 0 A", "new 1 A", "new 2 A", "delete 0", "new 3 A")
+        with self.assertRaisesRegex(Refused, "action 5 is of A#3, which is new and stays"):
+            change_in(steps_of(plan_text(*lines)), 2)
 
     def test_the_longest_chain_goes_over_the_barrier(self):
         self.assertEqual(longest_chain(steps_of(WEB), ()), 4)

@@ -6,7 +6,7 @@ import unittest
 import xml.dom.minidom
 
 from metis_planner.draw.chart import CRITICAL, Chart
-from tests.carry.shapes import CROSSED, ROLLED, WEB, FolderCase, call, plan_text
+from tests.carry.shapes import CROSSED, REBOUND, ROLLED, WEB, FolderCase, call, plan_text
 from tests.carry.test_commands import UNIVERSE
 
 TOP = pathlib.Path(__file__).resolve().parents[2]
@@ -47,6 +47,24 @@ class PictureTest(FolderCase):
         self.assertIn('i2 [label="A#2: a1, deleted" fillcolor="#f4c7b8"]', picture)
         self.assertIn('i1 -> i2 [label="x"]', picture)
         self.assertIn('  i1 -->|"x"| i2\n', self.drawn(CROSSED, "graph", "--as", "mermaid", "-", "--instances")[1])
+
+    def test_what_a_change_keeps_and_makes_and_takes_away(self):
+        (self.top / "old").write_text(WEB)
+        more = ["--from", self.top / "old"]
+        picture = self.drawn(REBOUND, "graph", "-", *more)[1]
+        for name, colour in (("Web#0, kept", "#3c8d2f"), ("Db#1, going", "#b8431f"), ("Db#2, new", "#1f5fa8")):
+            self.assertIn(f'label="{name}" labeljust=l style=rounded color="{colour}"', picture)
+        # What is new stands, and what is kept is bound to it, before the old is let go.
+        for line in ("a7 -> b0 ", "a8 -> b0 ", "b0 -> a9 "):
+            self.assertEqual(picture.count(line), 1, line)
+        self.assertNotIn("b0 -> a10 ", picture)
+        boxes = self.drawn(REBOUND, "graph", "-", "--instances", *more)[1]
+        self.assertIn('i0 [label="Web#0: run, kept" fillcolor="#d9efd5"]', boxes)
+        self.assertIn('i1 [label="Db#1: on, going" fillcolor="#f4c7b8"]', boxes)
+        self.assertIn('i2 [label="Db#2: on, new" fillcolor="#d7e8f7"]', boxes)
+        for shape in ([], ["--instances"]):
+            self.assertIn('["Db#2, new"]', self.drawn(REBOUND, "graph", "--as", "mermaid", "-", *shape, *more)[1])
+        self.assertIn("it does not begin with the 5 actions of", self.drawn(CROSSED, "graph", "-", *more)[2])
 
     def test_what_is_too_much_is_refused(self):
         for words, reason in (

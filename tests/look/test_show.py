@@ -3,6 +3,7 @@ import pathlib
 import tempfile
 import unittest
 
+from tests.carry.shapes import REBOUND, WEB
 from tests.test_words import run
 from tests.text.test_plans import EXPLANATION, PLAN, REFUSAL
 
@@ -87,6 +88,42 @@ class ShowTest(unittest.TestCase):
     def test_a_byte_that_no_text_has(self):
         text = PLAN.replace("Web", "W\x1b[31m")
         self.assertEqual(run("-m", "metis_planner", "show", text=text), (1, "", "metis: -: line 3: a byte that no text of Metis has\n"))
+
+
+class ChangeTest(unittest.TestCase):
+    """A plan that goes on from another one."""
+
+    def shown(self, text, *words):
+        with tempfile.TemporaryDirectory() as folder:
+            path = pathlib.Path(folder) / "old.txt"
+            path.write_text(WEB)
+            return run("-m", "metis_planner", "show", "--from", str(path), *words, text=text)
+
+    def test_what_is_kept_new_and_going(self):
+        expected = [
+            "kept   Web#0 (run)",
+            "new    Db#2 (on)",
+            "going  Db#1 (on)",
+            "the first 5 actions are done, and 5 are left",
+            "   6  new    make Db#2",
+            "   7  new    Db#2: off -> on",
+            "   8  kept   Web#0 takes sql from Db#2  after 7",
+            "   9  kept   Web#0 lets sql of Db#1 go",
+            "  10  going  delete Db#1                after 9",
+        ]
+        self.assertEqual(self.shown(REBOUND), (0, "".join(f"{line}\n" for line in expected), ""))
+
+    def test_nothing_that_is_left(self):
+        self.assertEqual(self.shown(WEB)[1], "kept   Web#0 (run), Db#1 (on)\nnothing is left to do\n")
+
+    def test_json(self):
+        value = json.loads(self.shown(REBOUND, "--json")[1])
+        self.assertEqual((value["done"], len(value["actions"])), (5, 10))
+        self.assertEqual([row["role"] for row in value["instances"]], ["kept", "going", "new"])
+
+    def test_what_does_not_go_on_from_it(self):
+        self.assertIn("it does not begin with the 5 actions of", self.shown(PLAN)[2])
+        self.assertEqual(self.shown(REFUSAL)[2], "metis: --from OLD is for a plan, and this is none\n")
 
 
 class OverAPlanTest(unittest.TestCase):
