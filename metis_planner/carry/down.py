@@ -9,6 +9,7 @@ import tempfile
 from collections.abc import Sequence
 
 from metis_planner.answers import Answer, Refused
+from metis_planner.carry.ahead import REQUEST, UNIVERSE, answered
 from metis_planner.carry.folder import NO_HOST, Folder, part_of, written
 from metis_planner.carry.steps import Step
 from metis_planner.carry.up import (
@@ -16,10 +17,7 @@ from metis_planner.carry.up import (
     ENGINES,
     PLACED,
     PLAN,
-    REQUEST,
-    UNIVERSE,
     Request,
-    answered,
     asked,
     carried_out,
     document,

@@ -1,38 +1,38 @@
 """Plans, shows what will be done, asks, and carries it out: metis up UNIVERSE TARGET .. --commands FILE --to FOLDER.
 
 The universe, the plan and what was asked for stay in the folder. If the same was begun there before, it goes on where that
-stopped. metis.toml in this folder may hold the words: universe, targets, commands, to, hosts, engine, jobs.
+stopped. If something else stands there, what serves the targets is kept, what is missing is made and bound to it, and then the
+rest is taken away; --wishes FILE says what is to stay or to go besides (metis help reconfigure). What is kept, new and going is
+shown before anything is done. metis.toml in this folder may hold the words: universe, targets, commands, to, hosts, wishes,
+engine, jobs.
 """
 
 import argparse
-import json
 import os
 import pathlib
 import subprocess
 import sys
 import tempfile
 import tomllib
-from collections.abc import Sequence
 from typing import Any, NamedTuple
 
 from metis_planner.answers import Answer, Refused
 from metis_planner.carry import export
+from metis_planner.carry.ahead import UNIVERSE, REQUEST, Ahead, Wanted, answered, plan_ahead, request_text
 from metis_planner.carry.engines import make, ninja, slurm
 from metis_planner.carry.folder import Folder
 from metis_planner.carry.progress import progress_of
 from metis_planner.carry.status import lines_of
 from metis_planner.carry.writing import write_whole
-from metis_planner.look.no import said
 from metis_planner.look.show import Look, colours_are_wanted, plan_lines
 from metis_planner.look.sketch import document_of
-from metis_planner.look.wrong import Call
-from metis_planner.program import Status, ask
 from metis_planner.text import documents, plans
 from metis_planner.text.reading import read_bytes, read_text
+from metis_planner.text.roles import GOING, roles_of
 from metis_planner.text.terminal import say
 
 CONFIGURATION = "metis.toml"
-UNIVERSE, REQUEST, PLACED, PLAN = "universe.json", "request.json", "placement", "plan.txt"
+PLACED, PLAN = "placement", "plan.txt"
 ENGINES = {
     "make": (make.NAME, make.makefile),
     "ninja": (ninja.NAME, ninja.ninja_file),
@@ -40,7 +40,11 @@ ENGINES = {
 }
 MOST_SHOWN = 60
 DEFAULT_JOBS = 8
-KEYS: dict[str, type] = {"universe": str, "targets": list, "commands": str, "to": str, "hosts": str, "engine": str, "jobs": int}
+KEYS: dict[str, type] = {
+    **dict.fromkeys(("universe", "commands", "to", "hosts", "wishes", "engine"), str),
+    "targets": list,
+    "jobs": int,
+}
 
 
 class Request(NamedTuple):
@@ -53,6 +57,11 @@ class Request(NamedTuple):
     hosts: str | None
     engine: str
     jobs: int
+    wishes: str | None = None
+
+    @property
+    def wanted(self) -> Wanted:
+        return Wanted(self.universe, self.targets, self.wishes)
 
 
 def configured() -> dict[str, Any]:
@@ -85,7 +94,8 @@ def request_of(arguments: argparse.Namespace) -> Request:
     if engine not in ENGINES:
         raise Refused(f"no engine {plans.shown(engine)}; there are {', '.join(ENGINES)}")
     jobs = arguments.jobs or found.get("jobs", DEFAULT_JOBS)
-    return Request(str(universe), targets, str(commands), str(to), arguments.hosts or found.get("hosts"), engine, jobs)
+    hosts, wishes = arguments.hosts or found.get("hosts"), arguments.wishes or found.get("wishes")
+    return Request(str(universe), targets, str(commands), str(to), hosts, engine, jobs, wishes)
 
 
 def document(path: str) -> str:
@@ -93,17 +103,6 @@ def document(path: str) -> str:
     if path.endswith(".sketch"):
         return document_of(path)
     return read_bytes(path, documents.MOST_BYTES).decode("utf-8", "surrogateescape")
-
-
-def answered(words: Sequence[str], paths: Sequence[str]) -> str:
-    """What the program prints; if it says no, that is refused in words."""
-    found = ask([words[0], *paths, *words[1:]])
-    if found.status == Status.NO:
-        lines = said(Call(words[0], (*paths, *words[1:])), found.text)
-        raise Refused("; ".join(lines) or found.text.split("\n", 1)[0])
-    if found.status != Status.DONE:
-        raise Refused(found.text.strip() or f"metis {words[0]} ended with status {found.status}")
-    return found.text
 
 
 def asked(question: str, is_agreed: bool) -> bool:
@@ -117,12 +116,21 @@ def asked(question: str, is_agreed: bool) -> bool:
     return sys.stdin.readline().strip().lower() in ("y", "yes")
 
 
-def shown(plan: plans.Plan) -> None:
-    """What will be done, without bindings if it is much."""
-    hidden = frozenset({"bind", "unbind"}) if len(plan.actions) > MOST_SHOWN else frozenset()
-    for line in plan_lines(plan, Look(hidden, colours_are_wanted("auto"))):
+def shown(plan: plans.Plan, old: int | None = None) -> None:
+    """What will be done, without bindings if it is much; if it goes on from so many actions, what is kept, new and going."""
+    hidden = frozenset({"bind", "unbind"}) if len(plan.actions) - (old or 0) > MOST_SHOWN else frozenset()
+    for line in plan_lines(plan, Look(hidden, colours_are_wanted("auto"), old)):
         print(line)
     sys.stdout.flush()
+
+
+def question_for(found: Ahead, place: str) -> str:
+    """What a person is asked: how much is done, and how much is lost."""
+    question = f"Carry these {len(found.plan.actions) - (found.old or 0)} actions out in {place}"
+    going = 0 if found.old is None else list(roles_of(found.plan.actions, found.old).values()).count(GOING)
+    if going:
+        question += f", and take {going} {'instance' if going == 1 else 'instances'} away with {'its' if going == 1 else 'their'} data"
+    return f"{question}?"
 
 
 def export_words(request: Request, plan: pathlib.Path, universe: pathlib.Path, placement: pathlib.Path | None) -> argparse.Namespace:
@@ -152,27 +160,13 @@ def carried_out(request: Request, folder: Folder) -> int:
     return status
 
 
-def kept_request(request: Request) -> str:
-    return json.dumps({"targets": list(request.targets), "commands": os.path.abspath(request.commands)}) + "\n"
-
-
-def check_base(folder: Folder, plan: plans.Plan, request: Request) -> None:
-    """Refuses another plan over what stands: from there to other targets leads no plan from nothing."""
-    if not folder.has_plan():
-        return
-    if folder.plan().actions != plan.actions and folder.done(folder.steps()):
-        raise Refused(
-            f"{request.to}: something else stands there. `metis down {request.to}` takes it away; or go on from it: "
-            "metis done, metis rollout, and metis make into the same folder"
-        )
-
-
 def add_arguments(parser: argparse.ArgumentParser) -> None:
     parser.add_argument("universe", metavar="UNIVERSE", nargs="?", help="a universe or a sketch")
     parser.add_argument("targets", metavar="TARGET", nargs="*", help="TYPE:STATE or port:PORT")
     parser.add_argument("--commands", metavar="FILE", help="what each step means (TOML)")
     parser.add_argument("--to", metavar="FOLDER", help="where it is carried out, and goes on")
     parser.add_argument("--hosts", metavar="FILE", help="hosts with their rooms: `metis place` puts the instances on them")
+    parser.add_argument("--wishes", metavar="FILE", help="what of that which stands is to stay, to go or may be bound anew")
     parser.add_argument("--engine", choices=ENGINES, help="make, if nothing is said")
     parser.add_argument("-j", "--jobs", type=int, metavar="N", help=f"how many steps at the same time ({DEFAULT_JOBS})")
     parser.add_argument("--yes", action="store_true", help="do not ask")
@@ -193,15 +187,14 @@ def run(arguments: argparse.Namespace) -> Answer:
     with tempfile.TemporaryDirectory(prefix="metis-up-") as name:
         texts = pathlib.Path(name)
         (texts / UNIVERSE).write_text(document(request.universe), errors="surrogateescape")
-        text = answered(["plan", *request.targets], [str(texts / UNIVERSE)])
-        plan = plans.plan_of(text, "the plan")
-        check_base(folder, plan, request)
-        (texts / PLAN).write_text(text)
+        found = plan_ahead(request.wanted, folder, texts)
+        (texts / PLAN).write_text(found.text)
         placement = placed(request, texts)
-        shown(plan)
-        if not asked(f"Carry these {len(plan.actions)} actions out in {request.to}?", arguments.yes):
+        shown(found.plan, found.old)
+        is_all_done = found.old == len(found.plan.actions)
+        if not is_all_done and not asked(question_for(found, request.to), arguments.yes):
             return Answer("", ("nothing was done",), 1)
         exported(request, export_words(request, texts / PLAN, texts / UNIVERSE, placement))
         write_whole(folder.path / UNIVERSE, (texts / UNIVERSE).read_text(errors="surrogateescape"))
-    write_whole(folder.path / REQUEST, kept_request(request))
+    write_whole(folder.path / REQUEST, request_text(request.wanted, request.commands, folder))
     return Answer(status=1 if carried_out(request, folder) else 0)
