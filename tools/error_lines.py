@@ -98,7 +98,7 @@ def lay_out(folder: pathlib.Path, program: pathlib.Path) -> None:
 def printed(command: str, folder: pathlib.Path) -> str:
     path = f"{folder / 'commands'}:{os.environ['PATH']}"
     environment = {**os.environ, "PATH": path, "LC_ALL": "C"}
-    ran = subprocess.run(["bash", "-c", command], cwd=folder, env=environment, capture_output=True, text=True, check=False, timeout=60)
+    ran = subprocess.run(["bash", "-c", command], cwd=folder, env=environment, capture_output=True, text=True, check=False, timeout=600)
     return ran.stdout
 
 

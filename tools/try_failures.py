@@ -195,7 +195,7 @@ class Tried:
         """The status, what was put, and how many calls of the kind were made."""
         count = os.path.join(self.folder, 'count')
         given = {'LD_PRELOAD': self.library, 'TRY_KIND': kind, 'TRY_CALL': str(call), 'TRY_COUNT': count}
-        done = subprocess.run([self.program] + words, cwd=self.folder, stdin=subprocess.DEVNULL, capture_output=True, timeout=60, env={**given, **({'TRY_SHORT': '1'} if is_short else {})})
+        done = subprocess.run([self.program] + words, cwd=self.folder, stdin=subprocess.DEVNULL, capture_output=True, timeout=600, env={**given, **({'TRY_SHORT': '1'} if is_short else {})})
         with open(count) as file:
             return done.returncode, done.stdout.decode(), int(file.read())
 

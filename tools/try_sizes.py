@@ -26,6 +26,8 @@ DURATIONS = {"new": 5, "delete": 3, "bind": 2, "unbind": 1, "move": 7}
 SCRIPT_BYTES = 65_536
 TURNS = 500_000
 SEED = 20261129
+# Longer than any machine needs: it only ends what would never end.
+DEADLINE = 3_600
 
 
 @dataclass(frozen=True)
@@ -59,11 +61,11 @@ class Program:
         """The file that the answer goes into, which is too large to be held, and the status."""
         path = self.folder / name
         with open(path, "wb") as file:
-            done = subprocess.run([self.path, *words], stdin=subprocess.DEVNULL, stdout=file, timeout=300)
+            done = subprocess.run([self.path, *words], stdin=subprocess.DEVNULL, stdout=file, timeout=DEADLINE)
         return str(path), done.returncode
 
     def answer(self, *words: str) -> Answer:
-        done = subprocess.run([self.path, *words], stdin=subprocess.DEVNULL, stdout=subprocess.PIPE, timeout=300)
+        done = subprocess.run([self.path, *words], stdin=subprocess.DEVNULL, stdout=subprocess.PIPE, timeout=DEADLINE)
         return Answer(done.returncode, done.stdout.decode().splitlines())
 
 
