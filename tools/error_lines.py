@@ -26,6 +26,7 @@ WAITING = (TOP / "examples" / "waiting.json").read_text()
 HEAD = "metis plan 1\ninstances 1 actions 2 dups 0\n"
 PLAN = HEAD + "1 new 0 Db\n2 move 0 off on\nend\n"
 REPLAY = "replay web.json text.txt"
+RECONFIGURE = "reconfigure web.json plan.txt text.txt Db:on"
 OF_TEXT = {"FILE": "text.txt", "UNIVERSE": "web.json"}
 
 
@@ -67,6 +68,10 @@ CASES = (
     Case("an explanation without", "", "why waiting.json Shop:up", "metis why 1", {"UNIVERSE": "waiting.json", "TARGETS": "Shop:up"}, "Shop:up needs mail, provided by Mail:up alone"),
     Case("`bad turns K`", " 0 1\n0 x 1\n", "crew web.json plan.txt text.txt", "bad turns 4", {"FILE": "text.txt", "K": "4"}, "^x$"),
     of_a_line("`bad hosts line N`", "metis hosts 1\nhost left  3\nend\n", "place web.json plan.txt text.txt", "bad hosts line 2", 2, r"^host left  3\$$"),
+    of_a_line("`bad wishes line N`", "metis wishes 1\nkeep 00\nend\n", RECONFIGURE, "bad wishes line 2", 2, r"^keep 00\$$"),
+    of_a_line("`bad wishes line N`", "metis wishes 1\nkeep 0\nretire 0\nend\n", RECONFIGURE, "bad wishes twice 3", 3, r"^retire 0\$$"),
+    Case("`bad plan short`", "", RECONFIGURE, "bad wishes short", OF_TEXT, "^$"),
+    Case("`absent Z`", "metis wishes 1\nkeep 7\nend\n", RECONFIGURE, "absent 7", {"FILE": "plan.txt"}, "^ +1 +make Db#0$"),
     Case("`bad K` and", PLAN.replace("off on", "on off"), REPLAY, "bad 2 A3 0 Db:off", OF_TEXT | {"K": "2"}, "^4:2 move 0 on off$"),
     Case("`read fault K`", "", "print examples", "read fault 2", {"FILE": "examples"}, "^d.* examples$"),
     Case("nothing more, status 5", "", "print web.json >/dev/full", "", {}, "Avail"),

@@ -121,6 +121,18 @@ class ChangeTest(unittest.TestCase):
         self.assertEqual((value["done"], len(value["actions"])), (5, 10))
         self.assertEqual([row["role"] for row in value["instances"]], ["kept", "going", "new"])
 
+    def test_answers_to_wishes(self):
+        for line, words in (
+            ("absent 7", "a wish names instance 7, which does not stand"),
+            ("kept 0 on 1", "instance 0 is to stay, and instance 1, on which that depends, goes"),
+            ("unavoidable Web:run", "Web:run cannot be attained without what is to be avoided"),
+            ("unmet 0 sql", "instance 0 is to take sql from another, and none can be had"),
+            ("needs 300", "300 targets are missing, and at most 256 are planned for at a time"),
+            ("bad wishes twice 3", "wishes: line 3 has a wrong twice"),
+            ("bad wishes short", "wishes: it ends before the line `end`"),
+        ):
+            self.assertEqual(run("-m", "metis_planner", "show", text=f"{line}\n"), (0, f"{words}\n", ""))
+
     def test_what_does_not_go_on_from_it(self):
         self.assertIn("it does not begin with the 5 actions of", self.shown(PLAN)[2])
         self.assertEqual(self.shown(REFUSAL)[2], "metis: --from OLD is for a plan, and this is none\n")
