@@ -31,10 +31,11 @@ class Wanted(NamedTuple):
 
 
 class Ahead(NamedTuple):
-    """The plan, and how many of its first actions stand already, if it goes on from another one."""
+    """The plan, how many of its actions are not done, and how many first ones are those of the plan that it goes on from."""
 
     text: str
     plan: plans.Plan
+    left: int
     old: int | None = None
 
 
@@ -97,11 +98,12 @@ def plan_ahead(wanted: Wanted, folder: Folder, texts: pathlib.Path) -> Ahead:
     universe = str(texts / UNIVERSE)
     done = what_is_done(folder)
     if done.actions and is_asked_again(folder, wanted, (texts / UNIVERSE).read_text(errors="surrogateescape")):
-        return ahead(folder.text(), None)
+        rollouts = folder.rollouts(len(folder.plan().actions))
+        return ahead(folder.text(), done, rollouts[-1].old if rollouts else None)
     if not wanted.wishes:
         text = answered(["plan", *wanted.targets], [universe], {universe: wanted.universe})
         if not done.actions or plans.plan_of(text, "the plan").actions == folder.plan().actions:
-            return ahead(text, None)
+            return ahead(text, done)
         if kept_request(folder).get("wishes"):
             say("it was planned by wishes before, and these are not said again: --wishes FILE")
     return reconfigured(wanted, done, texts, str(folder.path))
@@ -114,11 +116,12 @@ def reconfigured(wanted: Wanted, done: plans.Plan, texts: pathlib.Path, place: s
     (texts / WISHES).write_text(wishes.NO_WISHES)
     names = {universe: wanted.universe, standing: f"the plan of what stands in {place}", none: "no wishes"}
     text = answered(["reconfigure", *wanted.targets], [universe, standing, wanted.wishes or none], names)
-    found = ahead(text, len(done.actions) or None)
+    found = ahead(text, done, len(done.actions) or None)
     if found.plan.actions[: len(done.actions)] != done.actions:
         raise Refused(f"{place}: what was planned does not go on from what is done there")
     return found
 
 
-def ahead(text: str, old: int | None) -> Ahead:
-    return Ahead(text, plans.plan_of(text, "the plan"), old)
+def ahead(text: str, done: plans.Plan, old: int | None = None) -> Ahead:
+    plan = plans.plan_of(text, "the plan")
+    return Ahead(text, plan, len(plan.actions) - len(done.actions), old)

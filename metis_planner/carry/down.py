@@ -77,7 +77,9 @@ def run(arguments: argparse.Namespace) -> Answer:
         texts = pathlib.Path(name)
         (texts / PLAN).write_text(written(part_of(steps, done)))
         (texts / UNIVERSE).write_text(document(request.universe), errors="surrogateescape")
-        text = answered(["rollout"], [str(texts / UNIVERSE), str(texts / PLAN)])
+        universe, done_there = str(texts / UNIVERSE), str(texts / PLAN)
+        names = {universe: request.universe, done_there: f"the plan of what stands in {arguments.folder}"}
+        text = answered(["rollout"], [universe, done_there], names)
         plan = plans.plan_of(text, "the way back")
         (texts / PLAN).write_text(text)
         placement = placement_in(folder, plan, steps)

@@ -126,7 +126,7 @@ def shown(plan: plans.Plan, old: int | None = None) -> None:
 
 def question_for(found: Ahead, place: str) -> str:
     """What a person is asked: how much is done, and how much is lost."""
-    question = f"Carry these {len(found.plan.actions) - (found.old or 0)} actions out in {place}"
+    question = f"Carry {found.left} actions out in {place}"
     going = 0 if found.old is None else list(roles_of(found.plan.actions, found.old).values()).count(GOING)
     if going:
         question += f", and take {going} {'instance' if going == 1 else 'instances'} away with {'its' if going == 1 else 'their'} data"
@@ -177,7 +177,8 @@ def placed(request: Request, texts: pathlib.Path) -> pathlib.Path | None:
     if not request.hosts:
         return None
     path = texts / PLACED
-    path.write_text(answered(["place"], [str(texts / UNIVERSE), str(texts / PLAN), request.hosts]))
+    universe, plan = str(texts / UNIVERSE), str(texts / PLAN)
+    path.write_text(answered(["place"], [universe, plan, request.hosts], {universe: request.universe, plan: "the plan"}))
     return path
 
 
@@ -191,8 +192,7 @@ def run(arguments: argparse.Namespace) -> Answer:
         (texts / PLAN).write_text(found.text)
         placement = placed(request, texts)
         shown(found.plan, found.old)
-        is_all_done = found.old == len(found.plan.actions)
-        if not is_all_done and not asked(question_for(found, request.to), arguments.yes):
+        if found.left and not asked(question_for(found, request.to), arguments.yes):
             return Answer("", ("nothing was done",), 1)
         exported(request, export_words(request, texts / PLAN, texts / UNIVERSE, placement))
         write_whole(folder.path / UNIVERSE, (texts / UNIVERSE).read_text(errors="surrogateescape"))

@@ -111,6 +111,8 @@ class UpTest(FolderCase):
         # It stopped where what was there still stands, and is bound.
         self.assertEqual(self.numbers(), [1, 2, 3, 4, 5, 6, 7])
         count = len(asked(self.top))
+        said = self.up("Web:run", more=more[1:])[2]
+        self.assertIn(f"Carry 4 actions out in {self.folder}, and take 1 instance away with its data? [y/N]", said)
         self.assertEqual(self.up("Web:run", more=more)[0], 0)
         self.assertEqual((len(asked(self.top)), self.numbers()), (count, [1, 2, 3, 4, 5, 6, 7, 7, 8, 9, 10]))
 
@@ -134,7 +136,7 @@ class UpTest(FolderCase):
         self.stands("Web:run")
         before = (self.folder / "plan.txt").read_text()
         status, shown, said = self.up("Web:run", more=["--wishes", self.top / "wishes"])
-        question = f"Carry these 5 actions out in {self.folder}, and take 1 instance away with its data? [y/N] "
+        question = f"Carry 5 actions out in {self.folder}, and take 1 instance away with its data? [y/N] "
         self.assertEqual((status, said), (1, f"{question}metis: nothing was done\n"))
         self.assertIn("going  Db#1 (on)", shown)
         self.assertEqual(((self.folder / "plan.txt").read_text(), self.numbers()), (before, [1, 2, 3, 4, 5]))
