@@ -5,8 +5,9 @@ A case is a universe, a plan that leaves something, other targets, and wishes, a
 is outside of `reconfigure`: from the empty plan and without wishes its actions are those of `plan`; where each instance is retired, they
 are those of `rollout`; where `plan` refuses the targets, it refuses them in the same words. Each list is a run by `replay`, with the
 targets at its end. And its actions are read here: they begin with those of the plan; what stood makes no move, and stays where a wish
-says so; what has to leave is gone; until the first unbinding or deletion of what stood, that does nothing but be bound anew; and what is
-there at the end serves a target or a wish, or something that does. From there the same targets make nothing anew.
+says so; what has to leave is gone; until the first unbinding or deletion of what stood, that does nothing but be bound anew, and after
+it nothing that stays is made, moved or bound; and what is there at the end serves a target or a wish, or something that does. From
+there the same targets make nothing anew.
 
 The last line counts the cases. The status is 1 if one is otherwise than it has to be, or if too few of some kind were drawn.
 """
@@ -310,6 +311,9 @@ def check_what_stood(wishes: Wishes, case: Case, more: list[Action], end: Config
             expect(action.verb not in ("new", "move"), f"{action} of what stood")
             fits = place >= border or action.verb == "bind" and action.instance in wishes.rebind
             expect(fits or is_held_up(more, border, action), f"{action} before the removal, of what nobody lets be bound anew")
+    for action in more[border:]:
+        is_of_the_removal = action.verb in ("unbind", "delete") or action.instance not in end.pair_of
+        expect(is_of_the_removal, f"{action} of what stays, after something has gone")
     stay = {*wishes.stay, *(set(there) - wishes.leaving if wishes.keeps_all else ())}
     for instance in stay:
         expect(end.pair_of.get(instance) == there[instance], f"{instance} was to stay in {there[instance]}")
