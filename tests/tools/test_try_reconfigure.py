@@ -1,5 +1,6 @@
 """What tools/try_reconfigure.py reads in a list of actions: a right one passes, and each planted fault is noticed."""
 
+import importlib.util
 import sys
 import unittest
 from unittest import mock
@@ -7,9 +8,9 @@ from unittest import mock
 from tests.carry.shapes import REBOUND, WEB
 from tests.test_words import TOP
 
-sys.path.insert(0, str(TOP / "tools"))
-import try_reconfigure as tried  # noqa: E402
-
+FOUND = importlib.util.spec_from_file_location("try_reconfigure", TOP / "tools" / "try_reconfigure.py")
+tried = sys.modules["try_reconfigure"] = importlib.util.module_from_spec(FOUND)
+FOUND.loader.exec_module(tried)
 UNIVERSE = {
     "types": [
         {"name": "Db", "initial": "off", "states": [{"name": "off", "provide": [], "require": []}, {"name": "on", "provide": ["sql"], "require": []}]},
