@@ -89,7 +89,8 @@ def what_is_done(folder: Folder) -> plans.Plan:
     with folder.held():
         done = folder.done(steps)
         for step in folder.begun(steps, done):
-            say(f"action {step.action.number} was begun and is not done: {plans.in_words(step.action)}")
+            words = plans.in_words(step.action)
+            say(f"action {step.action.number} was begun and is not done: {words}; what it has done so far counts as nothing")
     return part_of(steps, done)
 
 

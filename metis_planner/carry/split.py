@@ -51,7 +51,8 @@ def check_parts(folder: Folder, steps: Sequence[Step], old: int, fresh_end: int,
     for step in steps[old:fresh_end]:
         if any(number <= old for number in step.waits):
             raise Refused(
-                f"{folder.path}: action {step.action.number} takes from what is old, so the two cannot be parted"
+                f"{folder.path}: action {step.action.number} takes from what is old, so the two cannot be parted; "
+                "`metis up` with the targets of before goes back"
             )
 
 
