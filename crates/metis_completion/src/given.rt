@@ -1,5 +1,5 @@
 //! The standing instances that are given to fresh ones.
-ghost use Rattle.std.specs.Prelude.{◌≡◌, ◌++◌, ◌∷◌, [], OnErr, OnOk};
+ghost use Rattle.std.specs.Prelude.{◌≡◌, ◌<◌, ◌++◌, ◌∷◌, [], IfOk, OnErr, OnOk, length, replicate, slice_set};
 ghost use Rattle.metis_completion.specs.Given.{given_in};
 
 use metis_ids::{InstNo, NoMemory, PortIx};
@@ -35,21 +35,26 @@ impl Model for Given {
 }
 
 impl Given {
-    /// None, of no port.
-    pub fn new(alloc: Global) -> Given
-        ensures { result ≡ [] }
+    /// None, of so many ports. The error is that memory ran out.
+    pub fn with_ports(alloc: Global, ports: u32) -> Result<Given, NoMemory>
+        ensures { IfOk result (λ given. given ≡ replicate ports []) }
     {
-        Given {
-            rows: Vec::new(alloc),
+        let mut rows = Vec::new(alloc);
+        for _ in 0..ports {
+            rows.push(GivenRow {
+                instances: Vec::new(alloc),
+            })?;
         }
+        Ok(Given { rows })
     }
 
-    /// Adds the instances of the next port. Where memory runs out the table stays as it was.
-    pub fn push(&mut self, instances: Vec<InstNo>) -> Result<(), NoMemory>
-        ensures rows { OnOk result (self.new ≡ self.old ++ instances.items ∷ []) }
+    /// Gives one more of the port, behind the others. Where memory runs out nothing changes.
+    pub fn add(&mut self, port: PortIx, z: InstNo) -> Result<(), NoMemory>
+        requires { port < length self.old }
+        ensures ok { OnOk result (self.new ≡ slice_set self.old port (given_in self.old port ++ z ∷ [])) }
         ensures err { OnErr result (self.new ≡ self.old) }
     {
-        self.rows.push(GivenRow { instances })?;
+        self.rows[port.0 as usize].instances.push(z)?;
         Ok(())
     }
 

@@ -33,12 +33,17 @@ item_at [] i d low = absurd (omega arith)
 item_at (x ∷ xs) zero d low = refl
 item_at (x ∷ xs) (suc i) d low = item_at xs i d (omega arith)
 
-pub allowed_next : (u : Universe) (xs : List Action) (i : ℕ) (a : Action) (c : Config) → IsRun u empty xs → i < length xs → a ≡ get_or xs i a → c ≡ after_all u empty (take i xs) → Allows u c a
-allowed_next u xs i a c run low is before = subst (λ d. Allows u d a) (sym before) (run_at u xs i a run (item_at xs i a low ∙ ap Some (sym is))).0
+allowed_at : (u : Universe) (from : Config) (xs : List Action) (i : ℕ) (d : Action) → IsRun u from xs → i < length xs → Allows u (after_all u from (take i xs)) (get_or xs i d)
+allowed_at u from [] i d run low = absurd (omega arith)
+allowed_at u from (x ∷ xs) zero d run low = run.0
+allowed_at u from (x ∷ xs) (suc i) d run low = allowed_at u (after u from x) xs i d run.2 (omega arith)
 
-pub config_next : (u : Universe) (xs : List Action) (i : ℕ) (a : Action) (c d : Config) → i < length xs → a ≡ get_or xs i a → c ≡ after_all u empty (take i xs) → d ≡ after u c a → d ≡ after_all u empty (take (i + 1) xs)
-config_next u xs i a c d low is before now =
-    now ∙ ap (λ e. after u e a) before ∙ sym (after_all-append u empty (take i xs) (a ∷ [])) ∙ ap (λ b. after_all u empty (take i xs ++ b ∷ [])) is ∙ ap (after_all u empty) (sym (take_more xs i a low))
+pub allowed_next : (u : Universe) (from : Config) (xs : List Action) (i : ℕ) (a : Action) (c : Config) → IsRun u from xs → i < length xs → a ≡ get_or xs i a → c ≡ after_all u from (take i xs) → Allows u c a
+allowed_next u from xs i a c run low is before = subst (λ d. Allows u d a) (sym before) (subst (Allows u (after_all u from (take i xs))) (sym is) (allowed_at u from xs i a run low))
+
+pub config_next : (u : Universe) (from : Config) (xs : List Action) (i : ℕ) (a : Action) (c d : Config) → i < length xs → a ≡ get_or xs i a → c ≡ after_all u from (take i xs) → d ≡ after u c a → d ≡ after_all u from (take (i + 1) xs)
+config_next u from xs i a c d low is before now =
+    now ∙ ap (λ e. after u e a) before ∙ sym (after_all-append u from (take i xs) (a ∷ [])) ∙ ap (λ b. after_all u from (take i xs ++ b ∷ [])) is ∙ ap (after_all u from) (sym (take_more xs i a low))
 
 -- ---- a search through numbers
 
