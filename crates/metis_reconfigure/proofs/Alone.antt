@@ -28,7 +28,7 @@ use Rattle.metis_reconfigure.proofs.Keeping.{all_closed, before_alone, kept_made
 use Rattle.metis_reconfigure.proofs.Lawful.{steady_whole}
 use Rattle.metis_reconfigure.proofs.Rebound.{in_rebinds}
 
-run_rest : (u : Universe) (c : Config) (xs ys : List Action) → IsRun u c (xs ++ ys) → IsRun u (after_all u c xs) ys
+pub run_rest : (u : Universe) (c : Config) (xs ys : List Action) → IsRun u c (xs ++ ys) → IsRun u (after_all u c xs) ys
 run_rest u c [] ys run = run
 run_rest u c (x ∷ xs) ys run = run_rest u (after u c x) xs ys run.2
 

@@ -26,7 +26,7 @@ use Rattle.metis_reconfigure.specs.Reconfiguration.{Reconfiguration, before_remo
 use Rattle.metis_reconfigure.specs.Settled.{settled}
 use Rattle.metis_reconfigure.specs.Staying.{StayBegun, fresh_in, next_serving, wished}
 use Rattle.metis_reconfigure.proofs.Lists.{by_case, filter_differs, has_named, length-places, members_differ, named_differ, at_places, places, places_differ, serving_more}
-use Rattle.metis_reconfigure.proofs.Staying.{Within, count, counted, enough_stay, in_members, serves_by, serves_in, those, those_are, those_differ, length-those}
+use Rattle.metis_reconfigure.proofs.Stays.{Within, count, counted, enough_stay, in_members, serves_by, serves_in, those, those_are, those_differ, length-those}
 use Rattle.metis_reconfigure.proofs.Wanted.{targets_enough}
 
 -- the instances of the targets, beside what stood

@@ -24,7 +24,7 @@ use Rattle.metis_reconfigure.proofs.AtEnd.{AreTargets, Joins, goals_held}
 use Rattle.metis_reconfigure.proofs.Joined.{are_targets, c_config, d_config, d_pair, place_at, same_pair}
 use Rattle.metis_reconfigure.proofs.Lawful.{ends_in, is_a_run}
 use Rattle.metis_reconfigure.proofs.NothingMissing.{nothing_joined}
-use Rattle.metis_reconfigure.proofs.Staying.{in_members}
+use Rattle.metis_reconfigure.proofs.Stays.{in_members}
 use Rattle.metis_wishes.specs.Wishes.{rebound}
 
 -- ---- the goals

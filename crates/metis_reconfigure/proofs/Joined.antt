@@ -124,7 +124,7 @@ module _ (u : Universe) (k : IsUniverse u) (wishes : List Wish) (old : List Acti
   pub target_stands : (n : ℕ) → n < length ts → pair_of (at v plan.actions) n ≡ Some (slice_index_or ts n 0)
   target_stands n low = planned.tidy.targets n (slice_index_or ts n 0) (at_place ts n low)
 
-  target_made : (n : ℕ) → n < length ts → is_made plan.actions n ≡ true
+  pub target_made : (n : ℕ) → n < length ts → is_made plan.actions n ≡ true
   target_made n low = pair_touched (At (is_made plan.actions)) v n plan.actions (touches_own v plan.actions plan_goes) (IsSome_at _ _ (target_stands n low))
 
   pub name_unused : (n : ℕ) → is_made old (name n) ≡ false

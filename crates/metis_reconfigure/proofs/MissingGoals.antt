@@ -7,6 +7,7 @@ use Rattle.std.specs.Map.{keys_of, lookup}
 use Rattle.std.specs.Option.{option_map_or}
 use Rattle.metis_config.proofs.Leasts.{each_there}
 use Rattle.metis_ids.specs.declared.goals.Goal.{Goal}
+use Rattle.metis_rollout.specs.Rollout.{members}
 use Rattle.metis_universe.proofs.Served.{count-cons}
 use Rattle.metis_universe.specs.Config.{Config, IsConfig}
 use Rattle.metis_universe.specs.Goals.{places_of, serves}
@@ -14,30 +15,33 @@ use Rattle.metis_universe.specs.Universe.{Universe, has}
 use Rattle.metis_reconfigure.specs.Missing.{missing_behind, serving_among}
 use Rattle.metis_reconfigure.specs.Settled.{settled}
 
--- ---- how many settled instances serve a goal
+-- ---- how many of the instances serve a goal
 
-module _ (u : Universe) (leaving : List ℕ) (g : Goal) (all : List (ℕ × ℕ)) where
+module _ (u : Universe) (those : ℕ → Bool) (g : Goal) (all : List (ℕ × ℕ)) where
   serves_here : ℕ × ℕ → Bool
-  serves_here e = not (has leaving e.0) && serves u e.1 g
+  serves_here e = those e.0 && serves u e.1 g
 
   serves_there : ℕ → Bool
   serves_there z = option_map_or (λ p. serves u p g) (lookup (nat_eq z) all) false
 
-  counted : (es : List (ℕ × ℕ)) → AllByRecursion (λ e. lookup (nat_eq e.0) all ≡ Some e.1) es → count_by serves_here es ≡ count_by serves_there (filter (λ z. not (has leaving z)) (keys_of es))
+  counted : (es : List (ℕ × ℕ)) → AllByRecursion (λ e. lookup (nat_eq e.0) all ≡ Some e.1) es → count_by serves_here es ≡ count_by serves_there (filter those (keys_of es))
   unfolding serves_here serves_there
   counted [] there = refl
-  counted (e ∷ es) there = by (not (has leaving e.0)) (count-cons serves_here e es) (ap (λ o. option_map_or (λ p. serves u p g) o false) there.0) (counted es there.1) where
+  counted (e ∷ es) there = by (those e.0) (count-cons serves_here e es) (ap (λ o. option_map_or (λ p. serves u p g) o false) there.0) (counted es there.1) where
     by : (b : Bool) → count_by serves_here (e ∷ es) ≡ cond (b && serves u e.1 g) 1 0 + count_by serves_here es → serves_there e.0 ≡ serves u e.1 g
-        → count_by serves_here es ≡ count_by serves_there (filter (λ z. not (has leaving z)) (keys_of es))
-        → count_by serves_here (e ∷ es) ≡ count_by serves_there (cond b (e.0 ∷ filter (λ z. not (has leaving z)) (keys_of es)) (filter (λ z. not (has leaving z)) (keys_of es)))
+        → count_by serves_here es ≡ count_by serves_there (filter those (keys_of es))
+        → count_by serves_here (e ∷ es) ≡ count_by serves_there (cond b (e.0 ∷ filter those (keys_of es)) (filter those (keys_of es)))
     by true steps is rest =
-        steps ∙ ap (λ n. cond (serves u e.1 g) 1 0 + n) rest ∙ sym (count-cons serves_there e.0 (filter (λ z. not (has leaving z)) (keys_of es)) ∙ ap (λ b. cond b 1 0 + count_by serves_there (filter (λ z. not (has leaving z)) (keys_of es))) is)
+        steps ∙ ap (λ n. cond (serves u e.1 g) 1 0 + n) rest ∙ sym (count-cons serves_there e.0 (filter those (keys_of es)) ∙ ap (λ b. cond b 1 0 + count_by serves_there (filter those (keys_of es))) is)
     by false steps is rest = let zero : count_by serves_here (e ∷ es) ≡ 0 + count_by serves_here es = steps in omega (arith, zero, rest)
+
+pub serving_counted : (u : Universe) (c : Config) (those : ℕ → Bool) (g : Goal) → IsConfig c → count_by (λ e. those e.0 && serves u e.1 g) c.instances ≡ serving_among u c (filter those (members c)) g
+unfolding serves_here serves_there
+serving_counted u c those g k = counted u those g c.instances c.instances (each_there c.instances k.ascending)
 
 pub settled_counted : (u : Universe) (c : Config) (leaving : List ℕ) (g : Goal) → IsConfig c
     → count_by (λ e. not (has leaving e.0) && serves u e.1 g) c.instances ≡ serving_among u c (settled c leaving) g
-unfolding serves_here serves_there
-settled_counted u c leaving g k = counted u leaving g c.instances c.instances (each_there c.instances k.ascending)
+settled_counted u c leaving g k = serving_counted u c (λ z. not (has leaving z)) g k
 
 -- ---- goal by goal
 

@@ -22,7 +22,7 @@ use Rattle.metis_reconfigure.proofs.InTheEnd.{goals_held_in_the_end}
 use Rattle.metis_reconfigure.proofs.Lawful.{is_a_run}
 use Rattle.metis_reconfigure.proofs.Lists.{filter_differs, members_differ, serving_more}
 use Rattle.metis_reconfigure.proofs.NothingMissing.{serving_members}
-use Rattle.metis_reconfigure.proofs.Staying.{serves_by, serves_in}
+use Rattle.metis_reconfigure.proofs.Stays.{serves_by, serves_in}
 use Rattle.metis_reconfigure.proofs.Throughout.{never_lacks_any}
 
 -- where all of a configuration stands, the goals that it holds are held

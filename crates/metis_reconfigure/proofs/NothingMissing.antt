@@ -27,7 +27,7 @@ use Rattle.metis_reconfigure.specs.Rebinding.{candidates, rebinds, rebinds_at, r
 use Rattle.metis_reconfigure.specs.Reconfiguration.{Reconfiguration, before_removal, fresh_actions, left_by, rebound_actions}
 use Rattle.metis_reconfigure.specs.Settled.{given, gives, left_to_plan, settled}
 use Rattle.metis_reconfigure.proofs.Lists.{by_case, count-append, count-push, passing_more}
-use Rattle.metis_reconfigure.proofs.Staying.{in_members, serves_in}
+use Rattle.metis_reconfigure.proofs.Stays.{in_members, serves_in}
 
 -- ---- lists
 

@@ -12,7 +12,7 @@ use Rattle.std.proofs.lemmas.Option.{none-some}
 use Rattle.metis_config.proofs.Firsts.{head, short}
 use Rattle.metis_ids.specs.Lists.{has}
 use Rattle.metis_universe.specs.Config.{binding_cmp}
-use Rattle.metis_reconfigure.specs.Reached.{AreReached, Edge, IsFollowed, IsReached, has_edge, next, start}
+use Rattle.metis_reconfigure.specs.Reached.{AreReached, Edge, IsClosed, IsFollowed, IsReached, IsUnderWay, has_edge, next, start}
 
 -- ---- the edges from one instance
 
@@ -242,14 +242,6 @@ following-end z left left' seen seen' waiting waiting' none k = record {
 
 -- ---- all instances
 
-pub record IsUnderWay (starts : List ℕ) (edges left : List Edge) (seen waiting : List ℕ) : Type 0 where
-  pub begun : (z : ℕ) → has starts z ≡ true → has seen z ≡ true
-  pub sound : (z : ℕ) → has seen z ≡ true → IsReached starts edges z
-  pub among : (x y : ℕ) → has_edge left x y ≡ true → has_edge edges x y ≡ true
-  pub taken : (x y : ℕ) → has_edge edges x y ≡ true → has_edge left x y ≡ false → has seen y ≡ true
-  pub done : (x y : ℕ) → has seen x ≡ true → has waiting x ≡ false → has_edge left x y ≡ false
-  pub queued : (x : ℕ) → has waiting x ≡ true → has seen x ≡ true
-
 not_both : (b : Bool) → b ≡ true → b ≡ false → ⊥
 not_both b t f = false≢true (sym f ∙ t)
 
@@ -319,6 +311,32 @@ under_way-end starts edges left seen waiting e k = λ z. (k.sound z, closed z) w
   closed : (z : ℕ) → IsReached starts edges z → has seen z ≡ true
   closed z (start _ h) = k.begun z h
   closed y (next z _ r h) = k.taken z y h (k.done z y (closed z r) (ap (λ zs. has zs z) e))
+
+-- and then the edges that are left lead from others
+pub under_way-closed : (starts : List ℕ) (edges left : List Edge) (seen waiting : List ℕ) → waiting ≡ [] → IsUnderWay starts edges left seen waiting → IsClosed edges left seen
+under_way-closed starts edges left seen waiting e k = record {
+  among = k.among;
+  taken = k.taken;
+  done = λ x y there. k.done x y there (ap (λ zs. has zs x) e);
+}
+
+-- one more instance is seen, and waits
+pub under_way-again : (z : ℕ) (edges left : List Edge) (zs seen waiting : List ℕ) → ((w : ℕ) → has seen w ≡ (nat_eq z w || has zs w)) → waiting ≡ z ∷ []
+    → IsClosed edges left zs → IsUnderWay (z ∷ zs) edges left seen waiting
+under_way-again z edges left zs seen waiting added e k = record {
+  begun = λ w h. added w ∙ h;
+  sound = λ w h. start w (sym (added w) ∙ h);
+  among = k.among;
+  taken = λ x y h off. added y ∙ or_right (nat_eq z y) _ (k.taken x y h off);
+  done = λ x y there off. elim (or_cases (nat_eq z x) (has zs x) (sym (added x) ∙ there)) [
+    | inl is ↦ absurd (not_both _ (ap (λ xs. has xs x) e ∙ or_left (nat_eq z x) false is) off)
+    | inr old ↦ k.done x y old
+  ];
+  queued = λ x h. added x ∙ or_left (nat_eq z x) _ (only (nat_eq z x) (ap (λ xs. has xs x) (sym e) ∙ h));
+} where
+  only : (b : Bool) → (b || false) ≡ true → b ≡ true
+  only true h = refl
+  only false h = h
 
 -- an instance that is there already is put in again
 pub there_again : (y : ℕ) (zs : List ℕ) → has zs y ≡ true → (w : ℕ) → has zs w ≡ (nat_eq y w || has zs w)

@@ -49,7 +49,7 @@ use Rattle.metis_reconfigure.proofs.Given.{edge_from}
 use Rattle.metis_reconfigure.proofs.InTheEnd.{no_root, none_leaves, nothing_for_nothing}
 use Rattle.metis_reconfigure.proofs.Lists.{by_case}
 use Rattle.metis_reconfigure.proofs.NothingMissing.{no_actions}
-use Rattle.metis_reconfigure.proofs.Staying.{in_members}
+use Rattle.metis_reconfigure.proofs.Stays.{in_members}
 use Rattle.metis_reconfigure.proofs.Unavoided.{attained_provider}
 
 filter_here : (t : ℕ → Bool) (xs : List ℕ) → ((x : ℕ) → has xs x ≡ true → t x ≡ false) → filter t xs ≡ []

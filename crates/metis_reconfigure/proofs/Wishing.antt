@@ -34,3 +34,23 @@ module _ {A : Type 0} (f : A → Option ℕ) (ws : List A) (i : ℕ) (d : A) (lo
     nothing : (b : Bool) → b ≡ (b || false)
     nothing true = refl
     nothing false = refl
+
+-- the same, where some were in the set before
+module _ {A : Type 0} (f : A → Option ℕ) (ws : List A) (i : ℕ) (d : A) (low : i < length ws) (set old : List ℕ) (k : (z : ℕ) → has set z ≡ (has old z || has (filter_map f (take i ws)) z)) where
+  pub added_one : (x : ℕ) (set' : List ℕ) → f (get_or ws i d) ≡ Some x → set' ≡ insert_key nat_cmp set x → (z : ℕ) → has set' z ≡ (has old z || has (filter_map f (take (i + 1) ws)) z)
+  added_one x set' is added z =
+      ap (λ l. has l z) added ∙ has-insert_key z x set ∙ ap (λ b. nat_eq x z || b) (k z) ∙ turned (nat_eq x z) (has old z) (has (filter_map f (take i ws)) z)
+      ∙ ap (λ b. has old z || b) (sym (named_more f ws i d z low ∙ ap (λ o. has (filter_map f (take i ws)) z || has (cons_option o []) z) is)) where
+        turned : (a b e : Bool) → (a || (b || e)) ≡ (b || (e || (a || false)))
+        turned true true e = refl
+        turned true false true = refl
+        turned true false false = refl
+        turned false true e = refl
+        turned false false true = refl
+        turned false false false = refl
+
+  pub added_none : f (get_or ws i d) ≡ None → (z : ℕ) → has set z ≡ (has old z || has (filter_map f (take (i + 1) ws)) z)
+  added_none is z = k z ∙ ap (λ b. has old z || b) (nothing (has (filter_map f (take i ws)) z) ∙ sym (named_more f ws i d z low ∙ ap (λ o. has (filter_map f (take i ws)) z || has (cons_option o []) z) is)) where
+    nothing : (b : Bool) → b ≡ (b || false)
+    nothing true = refl
+    nothing false = refl

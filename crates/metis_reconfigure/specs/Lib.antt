@@ -1,4 +1,6 @@
+pub mod Aims
 pub mod Answerable
+pub mod Answers
 pub mod Kept
 pub mod Missing
 pub mod NewOnes

@@ -1,4 +1,5 @@
 -- Instances that are bound to other providers.
+--     named_targets name ts      the targets with the names of their instances
 --     candidates u c leaving ts name z r      to which the instance may be bound at the port: the given instances, and then those of the targets that provide it, but itself and those to which it is bound
 --     rebinds_of u c leaving ts name z      binds of the instance, for each port as many as it lacks
 --     rebinds u wishes c leaving ts name      these of each instance that may be bound anew
@@ -16,6 +17,10 @@ use Rattle.metis_reconfigure.specs.Settled.{given}
 -- the instances of the targets that provide the port: target number n is made as instance n, and named anew
 abbrev pub fresh_givers : Universe → List ℕ → (ℕ → ℕ) → ℕ → List ℕ
 fresh_givers u ts name r = map name (filter (λ n. provides u (slice_index_or ts n 0) r) (range_with_len 0 (length ts)))
+
+-- these, each with its pair
+abbrev pub named_targets : (ℕ → ℕ) → List ℕ → List (ℕ × ℕ)
+named_targets name ts = map (λ n. (name n, slice_index_or ts n 0)) (range_with_len 0 (length ts))
 
 abbrev pub candidates : Universe → Config → List ℕ → List ℕ → (ℕ → ℕ) → ℕ → ℕ → List ℕ
 candidates u c leaving ts name z r = filter (λ y. not (y == z) && not (is_bound c r z y)) (given u c leaving r ++ fresh_givers u ts name r)

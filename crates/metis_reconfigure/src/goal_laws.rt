@@ -99,6 +99,13 @@ pub fn where_all_leaves_it_is_a_rollout()
         → let g = filter_map (pair_for u) goals in ArePairsFor u goals g × IsPlanFor u g r.plan }
 {}
 
+/// Where nothing stands and nothing is wished, it is the plan for the goals' pairs, action for action.
+pub fn where_nothing_stands_it_is_the_plan()
+    ensures plan { (u : Universe) (goals : List Goal) (r : Reconfiguration u [] [] goals) → IsTable u → AttainsGoals u goals
+        → let g = filter_map (pair_for u) goals in ArePairsFor u goals g × IsPlanFor u g r.plan }
+    ensures same { (u : Universe) (goals : List Goal) (r : Reconfiguration u [] [] goals) → IsTable u → reconfigured r ≡ r.plan.actions }
+{}
+
 /// Before the removal as many instances are made as the plan has: at most the pairs attained over what is left to plan, times the greatest
 /// demand, and the targets.
 pub fn few_instances_are_made()

@@ -1,21 +1,30 @@
 //! From what stands to what is wished and wanted: what leaves, what is settled, and what stays.
 #![tactic(auto)]
 
+mod aims;
+mod answer;
 mod avoiding;
 mod edges;
+mod giving;
 mod goal_laws;
 mod laws;
+mod leaving;
 mod missing;
 mod reach;
+mod rebinding;
+mod reconfiguring;
+mod staying;
 mod targets;
 mod wished;
 
+pub use answer::{Obstacle, Reconfigured};
 pub use avoiding::{avoided_of, unavoidable};
 pub use edges::{dependents_of, holds_up_of, leads_up_of};
 pub use goal_laws::{
     attained_goals_are_answered_where_nothing_is_avoided, few_instances_are_made,
     new_instances_stay_within_what_is_left_to_plan, nothing_is_done_for_nothing,
     the_goals_are_held_in_the_end, where_all_leaves_it_is_a_rollout,
+    where_nothing_stands_it_is_the_plan,
 };
 pub use laws::{
     a_reconfiguration_ends_in_what_stays, a_reconfiguration_is_a_steadfast_run,
@@ -27,5 +36,6 @@ pub use laws::{
 };
 pub use missing::missing_of;
 pub use reach::{Edge, reached};
+pub use reconfiguring::reconfigure;
 pub use targets::{Targets, lack_of, targets_of};
 pub use wished::{kept_set, rebound_set, retired_set};

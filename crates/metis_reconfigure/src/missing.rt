@@ -42,8 +42,8 @@ fn serving_settled(u: &Universe, c: &Config, leaving: &BTreeSet<InstNo>, goal: G
         .count()
 }
 
-// How many places the goal has among these.
-fn places_of(earlier: &[Goal], goal: Goal) -> usize
+/// How many places the goal has among these.
+pub fn places_of(earlier: &[Goal], goal: Goal) -> usize
     ensures { result ≡ places_of earlier.now goal }
 {
     earlier

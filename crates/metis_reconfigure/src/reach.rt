@@ -1,7 +1,7 @@
 //! What is reached along edges.
-ghost use Rattle.std.specs.Prelude.{◌≡◌, ◌++◌, ◌∷◌, [], IfOk, MatchOption, OnOk};
+ghost use Rattle.std.specs.Prelude.{◌≡◌, ◌++◌, ◌∷◌, ℕ, List, [], IfOk, MatchOption, OnOk};
 ghost use Rattle.metis_ids.specs.Lists.{has};
-ghost use Rattle.metis_reconfigure.specs.Reached.{AreReached, IsFollowed};
+ghost use Rattle.metis_reconfigure.specs.Reached.{AreReached, Edge, IsClosed, IsFollowed, IsUnderWay};
 
 use metis_config::first_to;
 use metis_ids::{InstNo, NoMemory, PortIx};
@@ -12,21 +12,51 @@ use std::collections::BTreeSet;
 pub type Edge = (InstNo, InstNo, PortIx);
 
 /// The least set of instances that has the starts and, with each instance, those to which an edge leads from it. Each edge is taken
-/// once.
+/// once, and those that are left lead from other instances.
 pub fn reached(
     alloc: Global,
     starts: BTreeSet<InstNo>,
-    edges: BTreeSet<Edge>,
+    edges: &mut BTreeSet<Edge>,
 ) -> Result<BTreeSet<InstNo>, NoMemory>
-    ensures { IfOk result (λ zs. AreReached starts.keys edges.keys zs.keys) }
+    ensures reached { IfOk result (λ zs. AreReached starts.keys edges.old.keys zs.keys) }
+    ensures left { IfOk result (λ zs. IsClosed edges.old.keys edges.new.keys zs.keys) }
 {
-    let mut left = edges;
     let mut seen = starts;
-    let mut waiting = all_of(alloc, &seen)?;
-    'instances: while let Some(z) = next_of(&mut waiting) {
-        follow_from(z, &mut left, &mut seen, &mut waiting)?;
-    }
+    let waiting = all_of(alloc, &seen)?;
+    follow_all(edges, &mut seen, waiting)?;
     Ok(seen)
+}
+
+/// Puts one more instance into such a set, with all that is reached from it along the edges that were left.
+pub fn reach_too(
+    alloc: Global,
+    z: InstNo,
+    left: &mut BTreeSet<Edge>,
+    seen: &mut BTreeSet<InstNo>,
+) -> Result<(), NoMemory>
+    ensures { OnOk result ((edges : List Edge) → IsClosed edges left.old.keys seen.old.keys
+        → AreReached (z ∷ seen.old.keys) edges seen.new.keys × IsClosed edges left.new.keys seen.new.keys) }
+{
+    let mut waiting = Vec::new(alloc);
+    seen.insert(z)?;
+    waiting.push(z)?;
+    follow_all(left, seen, waiting)
+}
+
+// Takes the edges from each instance that waits, and from those to which they lead.
+fn follow_all(
+    left: &mut BTreeSet<Edge>,
+    seen: &mut BTreeSet<InstNo>,
+    waiting: Vec<InstNo>,
+) -> Result<(), NoMemory>
+    ensures { OnOk result ((starts : List ℕ) (edges : List Edge) → IsUnderWay starts edges left.old.keys seen.old.keys waiting.items
+        → AreReached starts edges seen.new.keys × IsClosed edges left.new.keys seen.new.keys) }
+{
+    let mut waiting = waiting;
+    'instances: while let Some(z) = next_of(&mut waiting) {
+        follow_from(z, left, seen, &mut waiting)?;
+    }
+    Ok(())
 }
 
 // The members of the set.

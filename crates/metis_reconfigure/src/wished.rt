@@ -1,5 +1,5 @@
 //! The instances that wishes name, as sets.
-ghost use Rattle.std.specs.Prelude.{◌≡◌, ℕ, IfOk};
+ghost use Rattle.std.specs.Prelude.{◌≡◌, ◌||◌, ℕ, IfOk, OnOk};
 ghost use Rattle.metis_universe.specs.Universe.{has};
 ghost use Rattle.metis_wishes.specs.Wishes.{kept, kept_of, rebound, rebound_of, retired, retired_of};
 
@@ -26,12 +26,20 @@ pub fn rebound_set(alloc: Global, wishes: &[Wish]) -> Result<BTreeSet<InstNo>, N
     ensures { IfOk result (λ set. (z : ℕ) → has set.keys z ≡ has (rebound wishes.now) z) }
 {
     let mut set = BTreeSet::new(alloc);
+    add_rebound(wishes, &mut set)?;
+    Ok(set)
+}
+
+/// Adds the instances of the lines `rebind N`. The error is that memory ran out.
+pub fn add_rebound(wishes: &[Wish], set: &mut BTreeSet<InstNo>) -> Result<(), NoMemory>
+    ensures { OnOk result ((z : ℕ) → has set.new.keys z ≡ (has set.old.keys z || has (rebound wishes.now) z)) }
+{
     for wish in wishes {
         if let Some(z) = rebound_of(*wish) {
             set.insert(z)?;
         }
     }
-    Ok(set)
+    Ok(())
 }
 
 /// The instances of the lines `retire N`. The error is that memory ran out.
