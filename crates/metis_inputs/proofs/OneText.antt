@@ -10,9 +10,10 @@ use Rattle.metis_words.specs.Forms.{PlanText}
 use Rattle.metis_words.specs.Words.{word_at}
 use Rattle.metis_inputs.specs.Commands.{Inputs, Meaning, goals_then, inputs_then, text_then, universe_then}
 use Rattle.metis_inputs.specs.Gathers.{Gathers}
-use Rattle.metis_inputs.specs.Views.{goals_and, goals_and_said, goals_said, plan_and, plan_and_said, universe_and, universe_and_said}
+use Rattle.metis_inputs.specs.Views.{goals_and, goals_and_said, goals_and_then, goals_plan_and, goals_plan_and_said, goals_said, plan_and, plan_and_said, universe_and, universe_and_said}
 use Rattle.metis_inputs.specs.declared.asked.Asked.{Asked}
 use Rattle.metis_inputs.specs.declared.asked.GoalsAnd.{GoalsAnd}
+use Rattle.metis_inputs.specs.declared.asked.GoalsPlanAnd.{GoalsPlanAnd}
 use Rattle.metis_inputs.specs.declared.asked.PlanAnd.{PlanAnd}
 use Rattle.metis_inputs.specs.declared.asked.UniverseAnd.{UniverseAnd}
 use Rattle.metis_inputs.specs.declared.stop.Stop.{Stop}
@@ -41,25 +42,44 @@ module _ {S T : Type 0} (g : Ghosts T) (files : S → Option (List ℕ → List 
       gathers_no_text files faults opens (λ u. u) g.said universe_and_said (universe_then 2 (word_at form.files 0)) (λ u. text_then g.kind 3 u (word_at form.files 1)) with_universe
       shelf mid shelf' u halt first text
 
-  -- behind the goals of the targets
+  -- behind the goals of the targets, whose words begin at this place
 
-  abbrev Goals : Asked → Type 0
-  Goals asked = Gathers files faults opens goals_said (goals_then 4 (word_at form.files 0) form.targets) shelf mid (Ok asked)
+  abbrev Goals : ℕ → Asked → Type 0
+  Goals place asked = Gathers files faults opens goals_said (goals_then place (word_at form.files 0) form.targets) shelf mid (Ok asked)
 
   abbrev with_goals : Universe × List Goal → Meaning g.kind → Inputs (goals_and g.kind)
   with_goals asked m = (asked, (m, tt))
 
-  pub goals_text : (w : GoalsAnd T g) → Goals w.asked → Text 3 w.asked.universe 1 (Ok w.text)
-      → Gathers files faults opens goals_and_said (inputs_then (goals_and g.kind) form) shelf shelf' (Ok w)
-  goals_text w first text =
-      gathers_text files faults opens goals_said g.said goals_and_said (goals_then 4 (word_at form.files 0) form.targets)
+  pub goals_text : (place : ℕ) (w : GoalsAnd T g) → Goals place w.asked → Text 3 w.asked.universe 1 (Ok w.text)
+      → Gathers files faults opens goals_and_said (goals_and_then g.kind place form) shelf shelf' (Ok w)
+  goals_text place w first text =
+      gathers_text files faults opens goals_said g.said goals_and_said (goals_then place (word_at form.files 0) form.targets)
       (λ (x : Universe × List Goal). text_then g.kind 3 x.0 (word_at form.files 1)) with_goals shelf mid shelf' w.asked w.text w refl first text
 
-  pub goals_no_text : (asked : Asked) (halt : Stop) → Goals asked → Text 3 asked.universe 1 (Err halt)
-      → Gathers files faults opens (goals_and_said {g = g}) (inputs_then (goals_and g.kind) form) shelf shelf' (Err halt)
-  goals_no_text asked halt first text =
-      gathers_no_text files faults opens goals_said g.said goals_and_said (goals_then 4 (word_at form.files 0) form.targets)
+  pub goals_no_text : (place : ℕ) (asked : Asked) (halt : Stop) → Goals place asked → Text 3 asked.universe 1 (Err halt)
+      → Gathers files faults opens (goals_and_said {g = g}) (goals_and_then g.kind place form) shelf shelf' (Err halt)
+  goals_no_text place asked halt first text =
+      gathers_no_text files faults opens goals_said g.said goals_and_said (goals_then place (word_at form.files 0) form.targets)
       (λ (x : Universe × List Goal). text_then g.kind 3 x.0 (word_at form.files 1)) with_goals shelf mid shelf' asked halt first text
+
+  -- behind goals and a plan
+
+  abbrev with_goals_and_plan : Inputs (goals_and PlanText) → Meaning g.kind → Inputs (goals_plan_and g.kind)
+  with_goals_and_plan x m = (x.0, (x.1.0, (m, tt)))
+
+  pub goals_plan_text : (w : GoalsPlanAnd T g) → Gathers files faults opens goals_and_said (goals_and_then PlanText 5 form) shelf mid (Ok w.planned)
+      → Text 4 w.planned.asked.universe 2 (Ok w.text)
+      → Gathers files faults opens goals_plan_and_said (inputs_then (goals_plan_and g.kind) form) shelf shelf' (Ok w)
+  goals_plan_text w first text =
+      gathers_text files faults opens goals_and_said g.said goals_plan_and_said (goals_and_then PlanText 5 form)
+      (λ (x : Inputs (goals_and PlanText)). text_then g.kind 4 x.0.0 (word_at form.files 2)) with_goals_and_plan shelf mid shelf' w.planned w.text w refl first text
+
+  pub goals_plan_no_text : {Y : Type 0} (view : Y → Inputs (goals_and PlanText)) (y : Y) (halt : Stop)
+      → Gathers files faults opens view (goals_and_then PlanText 5 form) shelf mid (Ok y) → Text 4 (view y).0.0 2 (Err halt)
+      → Gathers files faults opens (goals_plan_and_said {g = g}) (inputs_then (goals_plan_and g.kind) form) shelf shelf' (Err halt)
+  goals_plan_no_text view y halt first text =
+      gathers_no_text files faults opens view g.said goals_plan_and_said (goals_and_then PlanText 5 form)
+      (λ (x : Inputs (goals_and PlanText)). text_then g.kind 4 x.0.0 (word_at form.files 2)) with_goals_and_plan shelf mid shelf' y halt first text
 
   -- behind a plan
 
@@ -87,3 +107,11 @@ pub no_plan : {S T Y : Type 0} (g : Ghosts T) (files : S → Option (List ℕ �
 no_plan g files faults opens form shelf shelf' view halt first =
     gathers_stopped files faults opens view plan_and_said (inputs_then (universe_and PlanText) form)
     (λ (x : Universe × (Parts × Unit {0})) next. text_then g.kind 4 x.0 (word_at form.files 2) (λ m. next (x.0, (x.1.0, (m, tt))))) shelf shelf' halt first
+
+-- the same of goals and a plan
+pub no_goals_and_plan : {S T Y : Type 0} (g : Ghosts T) (files : S → Option (List ℕ → List ℕ)) (faults : S → ℕ) (opens : S → Openings) (form : Form) (shelf shelf' : S)
+    (view : Y → Inputs (goals_and PlanText)) (halt : Stop) → Gathers files faults opens view (goals_and_then PlanText 5 form) shelf shelf' (Err halt)
+    → Gathers files faults opens (goals_plan_and_said {g = g}) (inputs_then (goals_plan_and g.kind) form) shelf shelf' (Err halt)
+no_goals_and_plan g files faults opens form shelf shelf' view halt first =
+    gathers_stopped files faults opens view goals_plan_and_said (goals_and_then PlanText 5 form)
+    (λ (x : Inputs (goals_and PlanText)) next. text_then g.kind 4 x.0.0 (word_at form.files 2) (λ m. next (x.0, (x.1.0, (m, tt))))) shelf shelf' halt first

@@ -19,12 +19,14 @@ use Rattle.metis_ujson.specs.Document.{document_limit, universe_in}
 use Rattle.metis_universe.specs.GoalWords.{goal_named}
 use Rattle.metis_universe.specs.Universe.{Universe}
 use Rattle.metis_why_text.specs.WhyReading.{WhyParts, why_in}
+use Rattle.metis_wishes.specs.Reading.{wishes_in}
+use Rattle.metis_wishes.specs.declared.wish.Wish.{Wish}
 use Rattle.metis_words.specs.Form.{Form}
-use Rattle.metis_words.specs.Forms.{Reading, NoFile, OfUniverse, OfGoals, TextKind, PlanText, RefusalText, WhyText, ScriptText, TurnsText, HostsText, reading}
+use Rattle.metis_words.specs.Forms.{Reading, NoFile, OfUniverse, OfGoals, TextKind, PlanText, RefusalText, WhyText, ScriptText, TurnsText, HostsText, WishesText, reading}
 use Rattle.metis_words.specs.TargetName.{TargetName}
 use Rattle.metis_words.specs.Words.{word_at, form_of}
 use Rattle.metis_words.specs.declared.words.Verb.{Verb}
-use Rattle.metis_words.specs.declared.words.Verb.TheVariants.{Plan, Replay, Refute, Audit, Sim, Crew, Waves, Waits, Control, Rollout, Place, Print, Load, Why, Confirm}
+use Rattle.metis_words.specs.declared.words.Verb.TheVariants.{Plan, Replay, Refute, Audit, Sim, Crew, Waves, Waits, Control, Rollout, Reconfigure, Place, Print, Load, Why, Confirm}
 use Rattle.metis_inputs.specs.Answer as answer
 use Rattle.metis_inputs.specs.Script.{Script, Read, Fault, Reply}
 use Rattle.metis_inputs.specs.Turns.{turns_in}
@@ -96,6 +98,7 @@ Meaning WhyText = WhyParts
 Meaning ScriptText = List ℕ
 Meaning TurnsText = List ℕ
 Meaning HostsText = HostLists
+Meaning WishesText = List Wish
 
 -- the most bytes of a plan's text
 abbrev pub plan_limit : ℕ
@@ -109,6 +112,7 @@ text_limit WhyText = 1073741824
 text_limit ScriptText = 65536
 text_limit TurnsText = 4194304
 text_limit HostsText = 65536
+text_limit WishesText = 65536
 
 -- what these bytes say as such a text, or their fault
 abbrev pub meaning : Universe → (kind : TextKind) → List ℕ → Result (Meaning kind) InputFault
@@ -118,6 +122,7 @@ meaning u WhyText bytes = or_fault fault.WhyText (why_in u bytes)
 meaning u ScriptText bytes = Ok bytes
 meaning u TurnsText bytes = or_fault fault.Turns (turns_in bytes)
 meaning u HostsText bytes = or_fault fault.HostsText (hosts_in u bytes)
+meaning u WishesText bytes = or_fault fault.WishesText (wishes_in u bytes)
 
 -- goes on with what the bytes say as such a text
 abbrev pub text_in_then : (kind : TextKind) → Universe → List ℕ → (Meaning kind → Script) → Script
@@ -166,6 +171,7 @@ answer_of Waves inputs size numbers = answer.Waves inputs.0 inputs.1.0.rows.acti
 answer_of Waits inputs size numbers = answer.Waits inputs.0 (plan_said inputs.1.0)
 answer_of Control inputs size numbers = answer.Control inputs.0 inputs.1.0.rows.actions inputs.1.1.0
 answer_of Rollout inputs size numbers = answer.Rollout inputs.0.0 inputs.0.1 inputs.1.0.rows.actions
+answer_of Reconfigure inputs size numbers = answer.Reconfigure inputs.0.0 inputs.0.1 inputs.1.0.rows.actions inputs.1.1.0
 answer_of Place inputs size numbers = answer.Place inputs.0 inputs.1.0.rows.actions inputs.1.1.0
 answer_of Print inputs size numbers = answer.Print inputs.0
 answer_of Load inputs size numbers = answer.Load size

@@ -43,3 +43,11 @@ pub struct PlanAnd<T: Text> {
     pub text: T,
     pub ghost fits: { T.fits planned.universe text } by { T.fits_prop planned.universe text },
 }
+
+/// A universe, goals in it, a plan over it, and a further text over it.
+#[derive(Drop)]
+pub struct GoalsPlanAnd<T: Text> {
+    pub planned: GoalsAnd<PlanText>,
+    pub text: T,
+    pub ghost fits: { T.fits planned.asked.universe text } by { T.fits_prop planned.asked.universe text },
+}

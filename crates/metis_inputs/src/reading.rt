@@ -91,7 +91,7 @@ fn goals_in(
     targets: &[TargetWord],
 ) -> Result<Vec<Goal>, Stop>
     requires few { length targets.now ≤ 256 }
-    requires place { place ≤ 4 }
+    requires place { place ≤ 5 }
     ensures judges { Judges (λ goals. goals.items) (targets_then place u.now targets.now) result }
     ensures few { IfOk result (λ goals. length goals.items ≤ 256) }
     ensures within { IfOk result (λ goals. All (IsGoalOf u.now) goals.items) }
@@ -116,7 +116,7 @@ pub fn goals_from<H: Shelf>(
     targets: &[TargetWord],
 ) -> Result<Asked, Stop>
     requires few { length targets.now ≤ 256 }
-    requires place { place ≤ 4 }
+    requires place { place ≤ 5 }
     ensures { Gathers H.files H.faults H.opens goals_said (goals_then place file.now targets.now) shelf.old shelf.new result }
 {
     let universe = universe_from(alloc, shelf, 2, file)?;

@@ -4,6 +4,7 @@ ghost use Rattle.std.specs.Prelude.{◌≡◌};
 use metis_place::HFault;
 use metis_tokens::TFault;
 use metis_ujson::UFault;
+use metis_wishes::WishFault;
 use metis_words::WordFault;
 use std::alloc::{AllocError, AllocFailed};
 
@@ -24,6 +25,8 @@ pub enum InputFault {
     WhyText(TFault),
     /// The bytes are no text of hosts.
     HostsText(HFault),
+    /// The bytes are no text of wishes.
+    WishesText(WishFault),
     /// The token at this place, from 1, of the text of turns is no number in range.
     Turns(u32),
 }

@@ -14,6 +14,7 @@ use metis_tokens::TFault;
 use metis_universe::Universe;
 use metis_why::Explanation;
 use metis_why_text::{accepted_why_is_written, read_why};
+use metis_wishes::{Wish, WishFault, read_wishes};
 use std::alloc::Global;
 
 /// What a text of one kind says.
@@ -190,6 +191,32 @@ impl Text for Hosts {
             Ok(hosts) => Ok(hosts),
             Err(HFault::NoMemory) => Err(Stop::NoMemory),
             Err(fault) => Err(Stop::Faulty(InputFault::HostsText(fault))),
+        }
+    }
+}
+
+/// What is wished of what stands.
+impl Text for Vec<Wish> {
+    ghost use Rattle.std.specs.Coded.{le_prop};
+    ghost use Rattle.metis_words.specs.Forms.{WishesText};
+
+    ghost kind = { WishesText };
+
+    ghost said = { λ wishes. wishes.items };
+
+    ghost fits = { λ u wishes. length wishes.items ≤ 65536 };
+
+    ghost fits_prop = { λ u wishes. le_prop };
+
+    fn limit() -> u64 {
+        65_536
+    }
+
+    fn read(alloc: Global, u: &Universe, bytes: Vec<u8>) -> Result<Self, Stop> {
+        match read_wishes(alloc, u, &bytes) {
+            Ok(wishes) => Ok(wishes),
+            Err(WishFault::NoMemory) => Err(Stop::NoMemory),
+            Err(fault) => Err(Stop::Faulty(InputFault::WishesText(fault))),
         }
     }
 }

@@ -1,5 +1,7 @@
+pub mod Attempts
 pub mod LoadLines
 pub mod MadePlans
 pub mod NeverLoose
+pub mod ObstacleLines
 pub mod PlanAnswers
 pub mod PrintedAudits

@@ -8,10 +8,13 @@ use Rattle.metis_ids.specs.declared.no_memory.NoMemory.{NoMemory}
 use Rattle.metis_output.specs.declared.status.Status.{Status}
 use Rattle.metis_planning.specs.Plan.{PlanAnswer, Plans, Refuses, plan_text}
 use Rattle.metis_planning.specs.Planned.{IsOfPlan, IsPlanned, TellsPlanned}
+use Rattle.metis_planning.specs.Reconfigure.{HasAttempted, Reconfigures}
 use Rattle.metis_planning.specs.Rollout.{RollsOut, RolloutAnswer, RollsOutGoals, RollsOutPairs, RollsOutTo}
 use Rattle.metis_planning.specs.declared.planned.Planned.{Planned}
 use Rattle.metis_planning.specs.declared.planned.Planned.TheVariants.{Plan, Refusal}
+use Rattle.metis_planning.specs.declared.reconfigure.Attempt.TheVariants as attempt
 use Rattle.metis_universe.specs.Universe.{Universe}
+use Rattle.metis_wishes.specs.declared.wish.Wish.{Wish}
 
 -- what its text is, a plan is
 pub planned_by : (u : Universe) (goals : List Goal) (plan : plans.Plan) (made : Result Planned NoMemory) → Plans u goals (plan_text u plan) → IfOk made (IsOfPlan plan) → IfOk made (IsPlanned u goals)
@@ -23,6 +26,11 @@ pub rolled_by : (u : Universe) (old : List Action) (g : List ℕ) (plan : plans.
 rolled_by u old g plan (Ok (Plan p w)) rolls of = subst (λ q. RollsOutPairs u old g (plan_text u q)) (sym of) rolls
 rolled_by u old g plan (Ok (Refusal r)) rolls of = absurd of
 rolled_by u old g plan (Err e) rolls of = tt
+
+pub attempted_by : (u : Universe) (goals : List Goal) (old : List Action) (wishes : List Wish) (plan : plans.Plan) (made : Planned) → Reconfigures u goals old wishes (plan_text u plan) → IsOfPlan plan made
+    → HasAttempted u goals old wishes (attempt.Planned made)
+attempted_by u goals old wishes plan (Plan p w) is of = subst (λ q. Reconfigures u goals old wishes (plan_text u q)) (sym of) is
+attempted_by u goals old wishes plan (Refusal r) is of = absurd of
 
 -- what is told of it answers
 pub told_planned : (u : Universe) (goals : List Goal) (made : Planned) (lines : List (List ℕ)) (status : Status) → IsPlanned u goals made → TellsPlanned u made lines status → PlanAnswer u goals lines status

@@ -2,6 +2,7 @@
 --     IsPlan u g actions      run from the empty configuration, the actions meet only correct configurations and end with every target, and no provider leaves its pair while a binding to it stands
 --     IsDoubledByNeed u g plan      its instances are the life lines for the targets and the pairs of its dups, and each dup is forced by its cycle
 --     plan_text u p      the lines of the text of a plan in which each action names the actions of other instances that it waits for
+--     plan_of actions      the actions as a plan without dups
 --     IsRefusal u goals s g      s is the set of all attainable pairs, it is closed, and g is the first goal that it lacks
 --     PlansPairs u g lines, Plans u goals lines      the lines are those of such a plan for pairs, which some actions attain;  for the pairs for these goals
 --     PlanAnswer u goals lines status      the lines are those of such a plan where some actions attain the goals, and else of such a refusal
@@ -58,6 +59,9 @@ others actions = map (waits_on_others actions) (numbers actions)
 
 abbrev pub plan_text : Universe → Plan → List (List ℕ)
 plan_text u p = plan_lines u p (others p.actions)
+
+abbrev pub plan_of : List Action → Plan
+plan_of actions = record { actions = actions; dups = []; instances = count_by makes actions }
 
 -- It is the plan that rounds come to, it counts its instances, and with what its actions wait for it is well formed, so that its
 -- text is read again.

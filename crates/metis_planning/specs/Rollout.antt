@@ -1,17 +1,14 @@
 -- What is said of a rollout from a plan's actions to goals.
 --     rollout_plan u old fresh      the rollout, as a plan without dups
 --     rollout_text u old fresh      the lines of its text, in which each action names the actions of other instances that it waits for
---     IsOld u old left judged      what is known of the old actions when the rollout is made
 --     RollsOutPairs u old g lines      the lines are those of the rollout from the actions to the plan that rounds come to for the pairs
 --     RollsOut u goals old lines      the same of the pairs for goals, which some actions attain
 --     RollsOutTo u old g made, RollsOutGoals u goals old made      what is made for pairs is such a rollout;  for goals, or it is a refusal
 --     IsRolledOut u goals old made      the same from a steadfast run, or what keeps the actions from being one
 --     PutsRollout u goals old lines status      the actions are a steadfast run, and the lines are those of such a rollout where some actions attain the goals, and else of a refusal
 --     RolledOut u goals old lines status      that, or the one line is that of the first action that cannot be done, or of the first that is not steadfast
-use Rattle.std.specs.Prelude.{◌≡◌, ◌⊎◌, ◌<◌, ◌^◌, ℕ, List, [], length, Result, Ok, Err}
-use Rattle.std.specs.List.{All, count_by}
+use Rattle.std.specs.Prelude.{◌≡◌, ◌⊎◌, ℕ, List, [], Result, Ok, Err}
 use Rattle.metis_choice.specs.Resolutions.{ArePairsFor}
-use Rattle.metis_ids.specs.Action.{makes}
 use Rattle.metis_ids.specs.Plans.{Plan}
 use Rattle.metis_ids.specs.declared.actions.Action.{Action}
 use Rattle.metis_ids.specs.declared.goals.Goal.{Goal}
@@ -19,8 +16,7 @@ use Rattle.metis_planner.specs.Rounds.{IsByRounds}
 use Rattle.metis_rollout.specs.Guarded.{GoesOnGuarded, NeverLacks}
 use Rattle.metis_rollout.specs.Rollout.{renumbered, rollout}
 use Rattle.metis_universe.specs.Steadfast.{IsSteadfastRun}
-use Rattle.metis_universe.specs.Config.{Config, empty}
-use Rattle.metis_universe.specs.Numbers.{IsOf}
+use Rattle.metis_universe.specs.Config.{empty}
 use Rattle.metis_universe.specs.Goal.{Attains, Holds}
 use Rattle.metis_universe.specs.Goals.{AttainsGoals, HoldsGoals}
 use Rattle.metis_universe.specs.Step.{after_all}
@@ -31,24 +27,11 @@ use Rattle.metis_text.specs.RefusalText.{refusal_lines}
 use Rattle.metis_planning.specs.declared.planned.Planned.{Planned}
 use Rattle.metis_planning.specs.declared.planned.Planned.TheVariants as planned
 use Rattle.metis_planning.specs.declared.planned.Planned.TheVariants.{Refusal}
-use Rattle.metis_waits.specs.Judged.{IsJudged}
-use Rattle.metis_waits.specs.declared.judged.Judged.{Judged}
-use Rattle.metis_planning.specs.Plan.{Refuses, plan_text}
+use Rattle.metis_planning.specs.Plan.{Refuses, plan_of, plan_text}
 use Rattle.metis_output.specs.Answers.{Says}
 use Rattle.metis_output.specs.declared.answer.Answer.{Answer}
 use Rattle.metis_output.specs.declared.status.Status.{Status}
 use Rattle.metis_output.specs.declared.status.Status.TheVariants.{Done, No}
-
--- a steadfast run of few actions with its numbers, what it leaves, and the run judged
-pub record IsOld (u : Universe) (old : List Action) (left : Config) (judged : Judged) : Type 0 where
-  pub steady : IsSteadfastRun u old
-  pub numbers : All (IsOf u) old
-  pub short : length old < 2 ^ 28
-  pub leaves : left ≡ after_all u empty old
-  pub waits : IsJudged u old judged
-
-abbrev pub plan_of : List Action → Plan
-plan_of actions = record { actions = actions; dups = []; instances = count_by makes actions }
 
 abbrev pub rollout_plan : Universe → List Action → List Action → Plan
 rollout_plan u old fresh = plan_of (rollout u old fresh)

@@ -1,7 +1,9 @@
 //! The command that plans for goals.
-ghost use Rattle.std.specs.Prelude.{◌<◌, ◌≤◌, ◌-◌, ◌^◌, IfOk, IsTrue, length};
-ghost use Rattle.std.specs.List.{All};
+ghost use Rattle.std.specs.Prelude.{◌≡◌, ◌<◌, ◌≤◌, ◌-◌, ◌^◌, IfOk, IsTrue, length};
+ghost use Rattle.std.specs.List.{All, count_by};
+ghost use Rattle.metis_ids.specs.Action.{makes};
 ghost use Rattle.metis_output.specs.Answers.{Says};
+ghost use Rattle.metis_planning.specs.Plan.{plan_of};
 ghost use Rattle.metis_planning.specs.Planned.{IsOfPlan, IsPlanned, IsPrintable, SaysPlanned, TellsPlanned};
 ghost use Rattle.metis_universe.specs.GoalWords.{IsWordable};
 ghost use Rattle.metis_universe.specs.Goals.{IsGoalOf};
@@ -12,7 +14,7 @@ ghost use Rattle.metis_waits.specs.Judged.{IsBegun};
 
 use crate::planned::Planned;
 use metis_choice::pairs_for_goals_hold_them;
-use metis_ids::{Goal, NoMemory, Plan};
+use metis_ids::{Action, Goal, NoMemory, Plan};
 use metis_output::{Answer, Either, Lines};
 use metis_planner::{nothing_is_doubled_without_a_cycle, plan_over};
 use metis_shared::{Aim, aim_of};
@@ -87,6 +89,40 @@ pub fn with_waits(
         Err(WFault::NoMemory) => Err(NoMemory),
         Err(WFault::Loose(_)) => unreachable!(),
     }
+}
+
+/// The plan of the actions, without dups and with what each of them waits for, if the first ones of them are judged.
+pub fn with_no_dups(
+    alloc: Global,
+    u: &Universe,
+    actions: Vec<Action>,
+    judged: Judged,
+) -> Result<Planned, NoMemory>
+    requires numbers { All (IsOf u.now) actions.items }
+    requires steadfast { IsTrue (is_steadfast u.now actions.items) }
+    requires few { length actions.items < 2 ^ 32 - 1 }
+    requires begun { IsBegun u.now actions.items judged }
+    ensures plan { IfOk result (IsOfPlan (plan_of actions.items)) }
+    ensures printable { IfOk result (IsPrintable u.now) }
+{
+    let instances = made_by(&actions);
+    let plan = Plan {
+        actions,
+        dups: Vec::new(alloc),
+        instances,
+    };
+    with_waits(alloc, u, plan, judged)
+}
+
+// How many instances the actions make.
+fn made_by(actions: &[Action]) -> u32
+    requires { length actions.now < 2 ^ 32 - 1 }
+    ensures { result ≡ count_by makes actions.now }
+{
+    actions
+        .iter()
+        .filter(|action| matches!(action, Action::New { .. }))
+        .count() as u32
 }
 
 /// The answer that says what was planned.

@@ -1,22 +1,22 @@
 //! The command that goes from a plan to other targets.
-ghost use Rattle.std.specs.Prelude.{◌≡◌, ◌<◌, ◌≤◌, ◌-◌, ◌^◌, Err, IfErr, IfOk, length};
-ghost use Rattle.std.specs.List.{All, count_by};
-ghost use Rattle.metis_ids.specs.Action.{makes};
+ghost use Rattle.std.specs.Prelude.{◌<◌, ◌≤◌, ◌^◌, IfErr, IfOk, length};
+ghost use Rattle.std.specs.List.{All};
 ghost use Rattle.metis_layers.specs.Layers.{IsLayers};
 ghost use Rattle.metis_planning.specs.Planned.{IsPrintable};
-ghost use Rattle.metis_planning.specs.Rollout.{IsOld, IsRolledOut, RollsOutGoals, RollsOutTo, SaysRolledOut};
-ghost use Rattle.metis_shared.specs.Steady.{IsSteady, IsUnsteadyIn};
+ghost use Rattle.metis_planning.specs.Old.{IsOld};
+ghost use Rattle.metis_planning.specs.Rollout.{IsRolledOut, RollsOutGoals, RollsOutTo, SaysRolledOut};
+ghost use Rattle.metis_shared.specs.Steady.{IsUnsteadyIn};
 ghost use Rattle.metis_universe.specs.Goal.{Attains};
 ghost use Rattle.metis_universe.specs.GoalWords.{IsWordable};
 ghost use Rattle.metis_universe.specs.Goals.{IsGoalOf};
 ghost use Rattle.metis_universe.specs.Numbers.{IsOf};
 ghost use Rattle.metis_universe.specs.Universe.{pair_count};
 
-use crate::plan::{PlannedLines, planned_answer, with_waits};
+use crate::old::{Old, old_of};
+use crate::plan::{PlannedLines, planned_answer, with_no_dups};
 use crate::planned::Planned;
 use metis_choice::pairs_for_goals_hold_them;
-use metis_config::Config;
-use metis_ids::{Action, Goal, NoMemory, PairIx, Plan};
+use metis_ids::{Action, Goal, NoMemory, PairIx};
 use metis_layers::table::Layers;
 use metis_output::{Answer, Either, Lines, Once};
 use metis_planner::{nothing_is_done_for_no_targets, plan_over};
@@ -24,9 +24,8 @@ use metis_rollout::{
     guarded_rollout_goes_on, guarded_rollout_never_lacks, rollout_from, rollout_replaces,
     teardown_leaves_nothing,
 };
-use metis_shared::{Aim, Followed, Unsteady, aim_of, follow, unsteady_line};
+use metis_shared::{Aim, Unsteady, aim_of, unsteady_line};
 use metis_universe::Universe;
-use metis_waits::{Judged, WFault};
 use std::alloc::{AllocError, Global};
 use std::marker::Model;
 
@@ -75,37 +74,6 @@ pub fn rolled_out(
     let old = old_of(alloc, u, old)?;
     match roll_out(alloc, u, goals, old) {
         Ok(planned) => Ok(planned),
-        Err(_) => Err(Unsteady::NoMemory),
-    }
-}
-
-/// The old actions, with what they leave, and judged.
-#[derive(Drop)]
-struct Old<'a> {
-    actions: &'a [Action],
-    left: Config,
-    judged: Judged,
-}
-
-// The old actions, if they are a steadfast run.
-fn old_of<'a>(alloc: Global, u: &Universe, old: &'a [Action]) -> Result<Old<'a>, Unsteady>
-    requires numbers { All (IsOf u.now) old.now }
-    requires short { length old.now < 2 ^ 28 }
-    ensures old { IfOk result (λ o. IsOld u.now old.now o.left o.judged) }
-    ensures same { IfOk result (λ o. o.actions.now ≡ old.now) }
-    ensures steady { IfErr result (λ why. IsSteady u.now old.now (Err why)) }
-{
-    match follow(alloc, u, old) {
-        Ok(Followed::Left(left)) => match Judged::new(alloc, u).go_on(alloc, u, old) {
-            Ok(judged) => Ok(Old {
-                actions: old,
-                left,
-                judged,
-            }),
-            Err(WFault::Loose(number)) => Err(Unsteady::Loose(number)),
-            Err(WFault::NoMemory) => Err(Unsteady::NoMemory),
-        },
-        Ok(Followed::Bad(number, fault)) => Err(Unsteady::Bad(number, fault)),
         Err(_) => Err(Unsteady::NoMemory),
     }
 }
@@ -162,24 +130,7 @@ fn roll_out_to(
         return Err(NoMemory);
     };
     let actions = rollout_from(alloc, u, layers, old.actions, &fresh.actions, old.left)?;
-    let instances = made_by(&actions);
-    let plan = Plan {
-        actions,
-        dups: Vec::new(alloc),
-        instances,
-    };
-    with_waits(alloc, u, plan, old.judged)
-}
-
-// How many instances the actions make.
-fn made_by(actions: &[Action]) -> u32
-    requires { length actions.now < 2 ^ 32 - 1 }
-    ensures { result ≡ count_by makes actions.now }
-{
-    actions
-        .iter()
-        .filter(|action| matches!(action, Action::New { .. }))
-        .count() as u32
+    with_no_dups(alloc, u, actions, old.judged)
 }
 
 /// The answer that says what was rolled out.

@@ -20,6 +20,11 @@ pub said_for_both : {A E G H : Type 0} (P : G → H → Type 0) (Q : G → H →
 said_for_both P Q (Ok a) g h right says = says g h right
 said_for_both P Q (Err e) g h right says = tt
 
+pub said_for_three : {A E G H I : Type 0} (P : G → H → I → Type 0) (Q : G → H → I → A → Type 0) (answer : Result A E) (g : G) (h : H) (i : I) → P g h i
+    → IfOk answer (λ a. (g : G) (h : H) (i : I) → P g h i → Q g h i a) → IfOk answer (Q g h i)
+said_for_three P Q (Ok a) g h i right says = says g h i right
+said_for_three P Q (Err e) g h i right says = tt
+
 -- an answer that says so is put
 pub puts : {K L E : Type 0} (g : Ghosts K) (P : List (List ℕ) → Status → Type 0) (rest : L → List (List ℕ)) (answer : Result (Answer L) E) (sink sink' : K) (status : Status)
     → IfOk answer (Says P rest) → Shown (Gives {E = E} rest answer) (g.written sink) (g.written sink') (g.faults sink) (g.faults sink') status

@@ -1,5 +1,5 @@
 -- The headline over a writer that tells its bytes, and runs without faults.
-use Rattle.std.proofs.Common.{◌≡◌, ℕ, ◌+◌, List, ◌++◌, None, Some, IfSome, ap, arith}
+use Rattle.std.proofs.Common.{◌≡◌, ℕ, List, ◌++◌, None, Some, IfSome, ap, arith}
 use Rattle.std.specs.declared.option.Option.{Option}
 use Rattle.metis_outside.specs.Faults.{Rose}
 use Rattle.metis_outside.specs.Pieces.{bytes_of}

@@ -10,7 +10,6 @@ use Rattle.metis_output.specs.Shown.{Shown}
 use Rattle.metis_output.specs.declared.status.Status.{Status}
 use Rattle.metis_outside.specs.Openings.{Openings, broken, grown, sound}
 use Rattle.metis_outside.specs.Writes.{Written}
-use Rattle.metis_inputs.specs.Answer as answer
 use Rattle.metis_inputs.specs.Commands.{Inputs, Meaning, Meanings, answer_of, command_script, goals_named, inputs_then, judged, meaning, or_fault, script_from, targets_then, text_limit, text_then, texts_then, universe_then}
 use Rattle.metis_top.specs.Course.{OnShelf, Ran, Says}
 use Rattle.metis_top.specs.Lines.{fault_status}
@@ -207,6 +206,7 @@ fault_is_no_answer (input.PlanText fault) is = elim is [ inl e ↦ cc | inr e �
 fault_is_no_answer (input.RefusalText fault) is = elim is [ inl e ↦ cc | inr e ↦ cc ]
 fault_is_no_answer (input.WhyText fault) is = elim is [ inl e ↦ cc | inr e ↦ cc ]
 fault_is_no_answer (input.HostsText fault) is = elim is [ inl e ↦ cc | inr e ↦ cc ]
+fault_is_no_answer (input.WishesText fault) is = elim is [ inl e ↦ cc | inr e ↦ cc ]
 fault_is_no_answer (input.Turns place) is = elim is [ inl e ↦ cc | inr e ↦ cc ]
 
 said_by_reply : (script : Script) (lines : List (List ℕ)) (status : Status) → IsAnswered status → Says script lines status → IsReply script

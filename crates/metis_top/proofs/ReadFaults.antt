@@ -33,6 +33,7 @@ not_refused (input.PlanText fault) is = cc
 not_refused (input.RefusalText fault) is = cc
 not_refused (input.WhyText fault) is = cc
 not_refused (input.HostsText fault) is = cc
+not_refused (input.WishesText fault) is = cc
 not_refused (input.Turns place) is = cc
 
 Numbered-after : (taken : List (List ℕ)) (script : Script) (first : ℕ) → Numbered first script → Numbered (first + length taken) (after taken script)

@@ -12,11 +12,13 @@ use Rattle.metis_place.specs.declared.hosts_fault.HFault.{HFault}
 use Rattle.metis_place.specs.declared.hosts_fault.HFault.TheVariants as hfault
 use Rattle.metis_tokens.specs.declared.fault.TFault.{TFault}
 use Rattle.metis_tokens.specs.declared.fault.TFault.TheVariants as tfault
-use Rattle.metis_top.specs.Lines.{fault_line, hosts_fault_line, is_told, limit_line, read_fault_line, text_fault_line, universe_line}
+use Rattle.metis_top.specs.Lines.{fault_line, hosts_fault_line, is_told, limit_line, read_fault_line, text_fault_line, universe_line, wishes_fault_line}
 use Rattle.metis_ujson.specs.declared.faults.UFault.{UFault}
 use Rattle.metis_ujson.specs.declared.faults.UFault.TheVariants as ufault
 use Rattle.metis_universe.specs.declared.faults.LimitKind.{LimitKind}
 use Rattle.metis_universe.specs.declared.faults.LimitKind.TheVariants.{Pairs, Ports, Requires, States}
+use Rattle.metis_wishes.specs.declared.fault.WishFault.{WishFault}
+use Rattle.metis_wishes.specs.declared.fault.WishFault.TheVariants as wfault
 
 IsLine-limit_line : (kind : LimitKind) (n : ℕ) → IsLine (limit_line kind n)
 IsLine-limit_line States n = by_number (codes "bad universe U12 states ") n refl
@@ -55,6 +57,14 @@ IsLine-hosts_fault_line (hfault.Name n) named = by_number (codes "bad hosts name
 IsLine-hosts_fault_line (hfault.Twice n) named = by_number (codes "bad hosts twice ") n refl
 IsLine-hosts_fault_line hfault.NoMemory named = absurd (named refl)
 
+IsLine-wishes_fault_line : (fault : WishFault) → fault ≢ wfault.NoMemory → IsLine (wishes_fault_line fault)
+IsLine-wishes_fault_line (wfault.Line n) named = by_number (codes "bad wishes line ") n refl
+IsLine-wishes_fault_line wfault.Short named = IsLine-from (codes "bad wishes short") refl
+IsLine-wishes_fault_line (wfault.Number n) named = by_number (codes "bad wishes number ") n refl
+IsLine-wishes_fault_line (wfault.Name n) named = by_number (codes "bad wishes name ") n refl
+IsLine-wishes_fault_line (wfault.Twice n) named = by_number (codes "bad wishes twice ") n refl
+IsLine-wishes_fault_line wfault.NoMemory named = absurd (named refl)
+
 pub IsLine-read_fault_line : (place : ℕ) → IsLine (read_fault_line place)
 IsLine-read_fault_line place = by_number (codes "read fault ") place refl
 
@@ -67,4 +77,5 @@ IsLine-fault_line (input.PlanText fault) told = IsLine-text_fault_line (codes "p
 IsLine-fault_line (input.RefusalText fault) told = IsLine-text_fault_line (codes "refusal") fault refl (λ e. false≢true (sym (ap (λ f. is_told (input.RefusalText f)) e) ∙ told))
 IsLine-fault_line (input.WhyText fault) told = IsLine-text_fault_line (codes "why") fault refl (λ e. false≢true (sym (ap (λ f. is_told (input.WhyText f)) e) ∙ told))
 IsLine-fault_line (input.HostsText fault) told = IsLine-hosts_fault_line fault (λ e. false≢true (sym (ap (λ f. is_told (input.HostsText f)) e) ∙ told))
+IsLine-fault_line (input.WishesText fault) told = IsLine-wishes_fault_line fault (λ e. false≢true (sym (ap (λ f. is_told (input.WishesText f)) e) ∙ told))
 IsLine-fault_line (input.Turns place) told = by_number (codes "bad turns ") place refl

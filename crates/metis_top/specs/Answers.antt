@@ -11,12 +11,13 @@ use Rattle.metis_commands.specs.Place.{Placed}
 use Rattle.metis_planning.specs.Plan.{PlanAnswer}
 use Rattle.metis_commands.specs.Print.{Printed}
 use Rattle.metis_commands.specs.Replay.{Replayed}
+use Rattle.metis_planning.specs.Reconfigure.{Reconfigured}
 use Rattle.metis_planning.specs.Rollout.{RolledOut}
 use Rattle.metis_commands.specs.Sim.{Simulated}
 use Rattle.metis_commands.specs.Waits.{Awaited}
 use Rattle.metis_commands.specs.Waves.{Waved}
 use Rattle.metis_output.specs.declared.status.Status.{Status}
-use Rattle.metis_inputs.specs.Answer.{Answer, Plan, Replay, Refute, Audit, Sim, Crew, Waves, Waits, Control, Rollout, Place, Print, Load, Why, Confirm}
+use Rattle.metis_inputs.specs.Answer.{Answer, Plan, Replay, Refute, Audit, Sim, Crew, Waves, Waits, Control, Rollout, Reconfigure, Place, Print, Load, Why, Confirm}
 
 -- these are the lines of such an answer, and its status
 abbrev pub IsAnswer : Answer → List (List ℕ) → Status → Type 0
@@ -30,6 +31,7 @@ IsAnswer (Waves u actions numbers) lines status = Waved u actions numbers lines 
 IsAnswer (Waits u plan) lines status = Awaited u plan lines status
 IsAnswer (Control u actions script) lines status = Controlled u actions script lines status
 IsAnswer (Rollout u goals actions) lines status = RolledOut u goals actions lines status
+IsAnswer (Reconfigure u goals actions wishes) lines status = Reconfigured u goals actions wishes lines status
 IsAnswer (Place u actions h) lines status = Placed u actions h lines status
 IsAnswer (Print u) lines status = Printed u lines status
 IsAnswer (Load size) lines status = Loaded size lines status

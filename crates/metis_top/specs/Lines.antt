@@ -15,6 +15,8 @@ use Rattle.metis_inputs.specs.declared.stop.InputFault.TheVariants as input
 use Rattle.metis_output.specs.declared.status.Status.{Status}
 use Rattle.metis_output.specs.declared.status.Status.TheVariants.{BadWords, BadInput}
 use Rattle.metis_shared.specs.NumberLine.{number_line}
+use Rattle.metis_wishes.specs.declared.fault.WishFault.{WishFault}
+use Rattle.metis_wishes.specs.declared.fault.WishFault.TheVariants as wfault
 
 -- words with a number, and then a word with one
 abbrev pub two_line : List ℕ → ℕ → List ℕ → ℕ → List ℕ
@@ -69,6 +71,15 @@ hosts_fault_line (hfault.Name n) = number_line (codes "bad hosts name") n
 hosts_fault_line (hfault.Twice n) = number_line (codes "bad hosts twice") n
 hosts_fault_line hfault.NoMemory = []
 
+-- the first fault of a text of wishes; want of memory is none
+abbrev pub wishes_fault_line : WishFault → List ℕ
+wishes_fault_line (wfault.Line n) = number_line (codes "bad wishes line") n
+wishes_fault_line wfault.Short = codes "bad wishes short\n"
+wishes_fault_line (wfault.Number n) = number_line (codes "bad wishes number") n
+wishes_fault_line (wfault.Name n) = number_line (codes "bad wishes name") n
+wishes_fault_line (wfault.Twice n) = number_line (codes "bad wishes twice") n
+wishes_fault_line wfault.NoMemory = []
+
 -- what is wrong with a run's words or files
 abbrev pub fault_line : InputFault → List ℕ
 fault_line (Word place) = number_line (codes "bad word") place
@@ -78,6 +89,7 @@ fault_line (input.PlanText fault) = text_fault_line (codes "plan") fault
 fault_line (input.RefusalText fault) = text_fault_line (codes "refusal") fault
 fault_line (input.WhyText fault) = text_fault_line (codes "why") fault
 fault_line (input.HostsText fault) = hosts_fault_line fault
+fault_line (input.WishesText fault) = wishes_fault_line fault
 fault_line (input.Turns place) = number_line (codes "bad turns") place
 
 -- it has a line: want of memory has none, and is not told as a fault of words or files
@@ -87,6 +99,7 @@ is_told (input.PlanText tfault.NoMemory) = false
 is_told (input.RefusalText tfault.NoMemory) = false
 is_told (input.WhyText tfault.NoMemory) = false
 is_told (input.HostsText hfault.NoMemory) = false
+is_told (input.WishesText wfault.NoMemory) = false
 is_told _ = true
 
 abbrev pub fault_status : InputFault → Status
@@ -97,6 +110,7 @@ fault_status (input.PlanText fault) = BadInput
 fault_status (input.RefusalText fault) = BadInput
 fault_status (input.WhyText fault) = BadInput
 fault_status (input.HostsText fault) = BadInput
+fault_status (input.WishesText fault) = BadInput
 fault_status (input.Turns place) = BadInput
 
 abbrev pub read_fault_line : ℕ → List ℕ

@@ -15,6 +15,7 @@ ghost use Rattle.metis_commands.specs.Why.{WhyAnswer};
 ghost use Rattle.metis_inputs.specs.Commands.{command_script};
 ghost use Rattle.metis_output.specs.PutLines.{PutsLines};
 ghost use Rattle.metis_planning.specs.Plan.{PlanAnswer};
+ghost use Rattle.metis_planning.specs.Reconfigure.{Reconfigured};
 ghost use Rattle.metis_planning.specs.Rollout.{RolledOut};
 ghost use Rattle.metis_text.specs.Reads.{lists_of};
 ghost use Rattle.metis_top.specs.Course.{Performs};
@@ -26,17 +27,18 @@ use metis_commands::{
 };
 use metis_ids::InstNo;
 use metis_inputs::{
-    Asked, GoalsAnd, PlanAnd, Stop, UniverseAnd, goals_and, goals_of, plan_and, universe_and,
-    universe_of,
+    Asked, GoalsAnd, GoalsPlanAnd, PlanAnd, Stop, UniverseAnd, goals_and, goals_of, goals_plan_and,
+    plan_and, universe_and, universe_of,
 };
 use metis_output::{Status, finish};
 use metis_outside::{Shelf, Sink};
 use metis_place::Hosts;
-use metis_planning::{load, plan, rollout};
+use metis_planning::{load, plan, reconfigure, rollout};
 use metis_shared::steady_waits;
 use metis_text::{PlanText, Refusal};
 use metis_universe::Universe;
 use metis_why::Explanation;
+use metis_wishes::Wish;
 use metis_words::{Command, Verb};
 use std::alloc::Global;
 
@@ -100,6 +102,7 @@ pub fn over_goals_and_text<H: Shelf, K: Sink>(
 ) -> Result<Status, Stop>
     requires targets { 1 ≤ target_limit command.now.verb }
     requires files { file_count command.now.verb ≢ 1 }
+    requires one { file_count command.now.verb ≢ 3 }
     ensures course { Performs H.files H.faults H.opens K.written K.faults (command_script command.now) shelf.old shelf.new out.old out.new result }
     ensures lines { IfOk result (PutsLines (K.written out.old) (K.written out.new)) }
 {
@@ -153,6 +156,40 @@ pub fn over_goals_and_text<H: Shelf, K: Sink>(
                 finish(alloc, answer, out)
             };
             over(alloc, goals_and(alloc, command, shelf), out, put_confirm)
+        }
+        _ => unreachable!(),
+    }
+}
+
+/// What a command does that reads a universe, goals, a plan and a further text.
+pub fn over_goals_plan_and_text<H: Shelf, K: Sink>(
+    alloc: Global,
+    command: &Command,
+    shelf: &mut H,
+    out: &mut K,
+) -> Result<Status, Stop>
+    requires targets { 1 ≤ target_limit command.now.verb }
+    requires files { file_count command.now.verb ≡ 3 }
+    ensures course { Performs H.files H.faults H.opens K.written K.faults (command_script command.now) shelf.old shelf.new out.old out.new result }
+    ensures lines { IfOk result (PutsLines (K.written out.old) (K.written out.new)) }
+{
+    match command.verb {
+        Verb::Reconfigure => {
+            let put_reconfigured = |alloc, read: &GoalsPlanAnd<Vec<Wish>>, out: &mut K|
+                ensures { let planned = read.now.planned in
+                    Puts K.Sink (Reconfigured planned.asked.universe planned.asked.goals.items planned.text.plan.actions read.now.text.items) out.old out.new result }
+            {
+                let (u, goals) = (&read.planned.asked.universe, &read.planned.asked.goals);
+                let old = &read.planned.text.plan.actions;
+                let made = reconfigure::reconfigured(alloc, u, goals, old, &read.text);
+                finish(alloc, reconfigure::answer(alloc, u, &made), out)
+            };
+            over(
+                alloc,
+                goals_plan_and(alloc, command, shelf),
+                out,
+                put_reconfigured,
+            )
         }
         _ => unreachable!(),
     }
@@ -216,6 +253,7 @@ pub fn over_plan_and_text<H: Shelf, K: Sink>(
     shelf: &mut H,
     out: &mut K,
 ) -> Result<Status, Stop>
+    requires targets { target_limit command.now.verb ≡ 0 }
     requires files { file_count command.now.verb ≡ 3 }
     ensures course { Performs H.files H.faults H.opens K.written K.faults (command_script command.now) shelf.old shelf.new out.old out.new result }
     ensures lines { IfOk result (PutsLines (K.written out.old) (K.written out.new)) }

@@ -5,7 +5,7 @@ ghost use Rattle.metis_output.specs.PutLines.{PutsLines};
 ghost use Rattle.metis_output.specs.Shown.{Shown};
 ghost use Rattle.metis_shared.specs.NumberLine.{number_line};
 ghost use Rattle.metis_top.specs.Course.{StopSays};
-ghost use Rattle.metis_top.specs.Lines.{fault_line, fault_status, hosts_fault_line, is_told, limit_line, part_line, state_line, text_fault_line, two_line, universe_line};
+ghost use Rattle.metis_top.specs.Lines.{fault_line, fault_status, hosts_fault_line, is_told, limit_line, part_line, state_line, text_fault_line, two_line, universe_line, wishes_fault_line};
 
 use metis_ids::NoMemory;
 use metis_inputs::{InputFault, Stop};
@@ -16,6 +16,7 @@ use metis_shared::number_line;
 use metis_tokens::TFault;
 use metis_ujson::UFault;
 use metis_universe::LimitKind;
+use metis_wishes::WishFault;
 use std::alloc::{AllocError, Global};
 
 fn fault_line(alloc: Global, fault: InputFault) -> Result<String, AllocError>
@@ -29,6 +30,7 @@ fn fault_line(alloc: Global, fault: InputFault) -> Result<String, AllocError>
         InputFault::RefusalText(fault) => text_fault_line(alloc, "refusal", fault),
         InputFault::WhyText(fault) => text_fault_line(alloc, "why", fault),
         InputFault::HostsText(fault) => hosts_fault_line(alloc, fault),
+        InputFault::WishesText(fault) => wishes_fault_line(alloc, fault),
         InputFault::Turns(place) => number_line(alloc, "bad turns", place),
     }
 }
@@ -106,6 +108,19 @@ fn hosts_fault_line(alloc: Global, fault: HFault) -> Result<String, AllocError>
     }
 }
 
+fn wishes_fault_line(alloc: Global, fault: WishFault) -> Result<String, AllocError>
+    ensures { IfOk result (λ line. string_bytes line ≡ wishes_fault_line fault) }
+{
+    match fault {
+        WishFault::Line(n) => number_line(alloc, "bad wishes line", n),
+        WishFault::Short => String::from_str(alloc, "bad wishes short\n"),
+        WishFault::Number(n) => number_line(alloc, "bad wishes number", n),
+        WishFault::Name(n) => number_line(alloc, "bad wishes name", n),
+        WishFault::Twice(n) => number_line(alloc, "bad wishes twice", n),
+        WishFault::NoMemory => Ok(String::new(alloc)),
+    }
+}
+
 // Words with a number, and then a word with one.
 fn two_line(
     alloc: Global,
@@ -165,7 +180,8 @@ fn is_told(fault: InputFault) -> bool
         | InputFault::PlanText(TFault::NoMemory)
         | InputFault::RefusalText(TFault::NoMemory)
         | InputFault::WhyText(TFault::NoMemory)
-        | InputFault::HostsText(HFault::NoMemory) => false,
+        | InputFault::HostsText(HFault::NoMemory)
+        | InputFault::WishesText(WishFault::NoMemory) => false,
         _ => true,
     }
 }

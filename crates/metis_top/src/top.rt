@@ -11,7 +11,9 @@ ghost use Rattle.metis_output.specs.Statuses.{IsVerdict};
 ghost use Rattle.metis_words.specs.Words.{form_of};
 ghost use Rattle.metis_universe.specs.Texts.{texts};
 
-use crate::commands::{over_goals, over_goals_and_text, over_plan_and_text, over_universe};
+use crate::commands::{
+    over_goals, over_goals_and_text, over_goals_plan_and_text, over_plan_and_text, over_universe,
+};
 use crate::stop::end;
 use metis_inputs::Stop;
 use metis_output::Status;
@@ -89,6 +91,9 @@ fn perform<H: Shelf, K: Sink>(
     if command.verb.target_limit() > 0 {
         if command.verb.file_count() == 1 {
             return over_goals(alloc, command, shelf, out);
+        }
+        if command.verb.file_count() == 3 {
+            return over_goals_plan_and_text(alloc, command, shelf, out);
         }
         return over_goals_and_text(alloc, command, shelf, out);
     }

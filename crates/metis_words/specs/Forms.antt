@@ -3,10 +3,10 @@
 --     reading verb, file_count verb      what the command reads, and so exactly so many file words
 use Rattle.std.specs.Prelude.{ℕ, ◌+◌, List, [], ◌∷◌, length}
 use Rattle.metis_words.specs.declared.words.Verb.{Verb}
-use Rattle.metis_words.specs.declared.words.Verb.TheVariants.{Plan, Replay, Refute, Audit, Sim, Crew, Waves, Waits, Control, Rollout, Place, Print, Load, Why, Confirm}
+use Rattle.metis_words.specs.declared.words.Verb.TheVariants.{Plan, Replay, Refute, Audit, Sim, Crew, Waves, Waits, Control, Rollout, Reconfigure, Place, Print, Load, Why, Confirm}
 
 -- What a file behind the universe holds: a plan, a refusal, an explanation, the script of a session or for a controller, the turns of a
--- crew, or hosts and sizes.
+-- crew, hosts and sizes, or wishes.
 pub data TextKind : Type 0 where
   PlanText : TextKind
   RefusalText : TextKind
@@ -14,6 +14,7 @@ pub data TextKind : Type 0 where
   ScriptText : TextKind
   TurnsText : TextKind
   HostsText : TextKind
+  WishesText : TextKind
 
 -- No file; or a universe, and then a text of each of these kinds; or a universe in which the targets are goals, and then such texts.
 pub data Reading : Type 0 where
@@ -32,6 +33,7 @@ reading Waves = OfUniverse (PlanText ∷ [])
 reading Waits = OfUniverse (PlanText ∷ [])
 reading Control = OfUniverse (PlanText ∷ ScriptText ∷ [])
 reading Rollout = OfGoals (PlanText ∷ [])
+reading Reconfigure = OfGoals (PlanText ∷ WishesText ∷ [])
 reading Place = OfUniverse (PlanText ∷ HostsText ∷ [])
 reading Print = OfUniverse []
 reading Load = NoFile
@@ -60,6 +62,7 @@ target_limit Waves = 0
 target_limit Waits = 0
 target_limit Control = 0
 target_limit Rollout = 256
+target_limit Reconfigure = 256
 target_limit Place = 0
 target_limit Print = 0
 target_limit Load = 0

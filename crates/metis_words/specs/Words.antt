@@ -20,7 +20,7 @@ use Rattle.metis_words.specs.Form.{Form, form_by}
 use Rattle.metis_words.specs.Forms.{file_count, number_count, target_limit}
 use Rattle.metis_words.specs.TargetName.{TargetName}
 use Rattle.metis_words.specs.declared.words.Verb.{Verb}
-use Rattle.metis_words.specs.declared.words.Verb.TheVariants.{Plan, Replay, Refute, Audit, Sim, Crew, Waves, Waits, Control, Rollout, Place, Print, Load, Why, Confirm}
+use Rattle.metis_words.specs.declared.words.Verb.TheVariants.{Plan, Replay, Refute, Audit, Sim, Crew, Waves, Waits, Control, Rollout, Reconfigure, Place, Print, Load, Why, Confirm}
 use Rattle.metis_words.specs.declared.words.WordFault.{WordFault}
 use Rattle.metis_words.specs.declared.words.WordFault.TheVariants.{At, NoMemory}
 
@@ -116,6 +116,7 @@ verb_named word =
     else if bytes_eq word (codes "waits") then Some Waits
     else if bytes_eq word (codes "control") then Some Control
     else if bytes_eq word (codes "rollout") then Some Rollout
+    else if bytes_eq word (codes "reconfigure") then Some Reconfigure
     else if bytes_eq word (codes "place") then Some Place
     else if bytes_eq word (codes "print") then Some Print
     else if bytes_eq word (codes "load") then Some Load

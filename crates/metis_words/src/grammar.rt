@@ -37,6 +37,7 @@ fn verb_named(word: &str) -> Option<Verb>
         "waits" => Some(Verb::Waits),
         "control" => Some(Verb::Control),
         "rollout" => Some(Verb::Rollout),
+        "reconfigure" => Some(Verb::Reconfigure),
         "place" => Some(Verb::Place),
         "print" => Some(Verb::Print),
         "load" => Some(Verb::Load),

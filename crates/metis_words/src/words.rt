@@ -31,6 +31,8 @@ pub enum Verb {
     Control,
     /// Goes from a plan to other targets, and removes what the plan left.
     Rollout,
+    /// Goes from a plan to other targets by wishes, and keeps what serves them.
+    Reconfigure,
     /// Puts a plan's instances on hosts with room.
     Place,
     /// Prints the universe.
@@ -51,7 +53,7 @@ impl Verb {
         match self {
             Verb::Load => 0,
             Verb::Plan | Verb::Print | Verb::Why => 1,
-            Verb::Crew | Verb::Control | Verb::Place => 3,
+            Verb::Crew | Verb::Control | Verb::Place | Verb::Reconfigure => 3,
             _ => 2,
         }
     }

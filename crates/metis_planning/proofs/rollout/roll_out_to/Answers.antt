@@ -1,12 +1,10 @@
 use Rattle.std.proofs.Common.{◌≡◌, ◌∙◌, [], ap, refl, subst, sym}
-use Rattle.std.specs.List.{count_by}
 use Rattle.std.specs.Prelude.{IfOk}
-use Rattle.metis_ids.specs.Action.{makes}
 use Rattle.metis_ids.specs.Plans.{Plan}
 use Rattle.metis_planning.specs.Planned.{IsOfPlan}
 use Rattle.metis_planner.specs.Rounds.{IsByRounds}
 use Rattle.metis_planning.proofs.MadePlans.{rolled_by}
-use Rattle.metis_planning.specs.Plan.{plan_text}
+use Rattle.metis_planning.specs.Plan.{plan_of, plan_text}
 use Rattle.metis_planning.specs.Rollout.{RollsOutPairs, rollout_plan}
 use Rattle.metis_rollout.specs.Rollout.{rollout}
 use Rattle.metis_universe.specs.Config.{empty}
@@ -29,6 +27,5 @@ returns-clause-rolls c =
     let rolls : RollsOutPairs u old c.args.pairs.now (plan_text u (rollout_plan u old fresh.actions)) = record { attains = c.requires.attained; fresh = fresh; rounds = found.rounds; steady = done.0; ends = done.1; holds = done.2 c.args.pairs.now found.holds; none = none; never_lacks = never_lacks; goes_on = c.guarded_rollout_goes_on.ensures u old fresh.actions; told = refl } in
     let shown : c.deref.result.now ≡ fresh.actions = c.deref.ensures.value ∙ ap (λ (p : Plan). p.actions) c.fresh.view_is in
     let actions = c.in_ok-actions.ensures.list ∙ ap (rollout u old) shown in
-    let plan : Plan = record { actions = c.in_ok-actions.actions.items; dups = c.new.result.items; instances = c.made_by-instances.result } in
-    let same : plan ≡ rollout_plan u old fresh.actions = (λ i. record { actions = actions i; dups = c.new.ensures.items i; instances = (c.made_by-instances.ensures ∙ ap (count_by makes) (c.deref-2.ensures.value ∙ actions)) i }) in
-    rolled_by u old c.args.pairs.now (rollout_plan u old fresh.actions) c.with_waits.result rolls (subst (λ p. IfOk c.with_waits.result (IsOfPlan p)) same c.with_waits.ensures.plan)
+    rolled_by u old c.args.pairs.now (rollout_plan u old fresh.actions) c.with_no_dups.result rolls
+    (subst (λ xs. IfOk c.with_no_dups.result (IsOfPlan (plan_of xs))) actions c.with_no_dups.ensures.plan)

@@ -1,0 +1,19 @@
+-- What is known of the actions of a plan that was carried out.
+--     IsOld u old left judged      they are a steadfast run of few actions with the universe's numbers; this is what they leave, and they are judged
+use Rattle.std.specs.Prelude.{◌≡◌, ◌<◌, ◌^◌, List, length}
+use Rattle.std.specs.List.{All}
+use Rattle.metis_ids.specs.declared.actions.Action.{Action}
+use Rattle.metis_universe.specs.Config.{Config, empty}
+use Rattle.metis_universe.specs.Numbers.{IsOf}
+use Rattle.metis_universe.specs.Steadfast.{IsSteadfastRun}
+use Rattle.metis_universe.specs.Step.{after_all}
+use Rattle.metis_universe.specs.Universe.{Universe}
+use Rattle.metis_waits.specs.Judged.{IsJudged}
+use Rattle.metis_waits.specs.declared.judged.Judged.{Judged}
+
+pub record IsOld (u : Universe) (old : List Action) (left : Config) (judged : Judged) : Type 0 where
+  pub steady : IsSteadfastRun u old
+  pub numbers : All (IsOf u) old
+  pub short : length old < 2 ^ 28
+  pub leaves : left ≡ after_all u empty old
+  pub waits : IsJudged u old judged
