@@ -66,6 +66,13 @@ def kept_request(folder: Folder) -> dict[str, object]:
     return found if isinstance(found, dict) else {}
 
 
+def kept_wishes(folder: Folder) -> str:
+    """The wishes by which the plan in the folder was made, if `up` made it, and by some."""
+    kept = kept_request(folder)
+    found = kept.get("wishes") if kept.get("plan") == sum_of(folder.text().encode()) else None
+    return found if isinstance(found, str) else ""
+
+
 def request_text(wanted: Wanted, commands: str, folder: Folder) -> str:
     """What was asked for, and for which plan: that in the folder, unless somebody else writes another one."""
     value = {"targets": list(wanted.targets), "commands": os.path.abspath(commands), "wishes": text_of_wishes(wanted)}

@@ -1,8 +1,8 @@
 """A page in which a plan is stepped through, by hand or by any order that its waits allow: one HTML file with all in it.
 
-Of a rollout, with --from OLD, it shows the phases and the barrier; of a refusal and of an explanation the reasons; of a folder
-what is done, running and failed in it. With --serve a browser on this machine follows the folder. With --universe the proved
-program replays the plan, and the page says what it answered.
+Of a rollout or a reconfiguration, with --from OLD, it shows the phases and the barrier, and with --wishes FILE what was wished of
+each instance; of a refusal and of an explanation the reasons; of a folder what is done, running and failed in it. With --serve a
+browser on this machine follows the folder. With --universe the proved program replays the plan, and the page says what it answered.
 """
 
 import argparse
@@ -15,7 +15,7 @@ from metis_planner.answers import Answer, Refused
 from metis_planner.carry.folder import Folder
 from metis_planner.carry.steps import steps_of
 from metis_planner.look.sketch import document_of
-from metis_planner.page import changes, progress, reasons, server, sheet, times, values, verdict
+from metis_planner.page import changes, progress, reasons, server, sheet, times, values, verdict, wished
 from metis_planner.text import plans
 from metis_planner.text.reading import read_text
 from metis_planner.text.terminal import plain
@@ -36,6 +36,7 @@ def add_arguments(parser: argparse.ArgumentParser) -> None:
     parser.add_argument(
         "--from", metavar="OLD", dest="olds", action="append", default=[], help="the plan from which PLAN goes on"
     )
+    parser.add_argument("--wishes", metavar="FILE", help="the wishes by which it goes on from OLD")
     parser.add_argument("--placement", metavar="FILE", help="what `metis place` printed for the plan")
     parser.add_argument("--why", metavar="EXPLANATION", help="what `metis why` printed, beside a refusal")
     parser.add_argument("--title", default="", help="what is written on top, as what the plan is for")
@@ -79,17 +80,18 @@ def of_plan(arguments: argparse.Namespace, text: str) -> Answer:
     plan = plans.plan_of(text, arguments.plan)
     steps = values.checked_size(steps_of(plan, arguments.plan), arguments.most)
     rollouts, notes = changes.found(plan, steps, arguments)
-    value = values.value_of(plan, steps, rollouts, arguments)
+    wishes = wished.of_plan(arguments, steps, rollouts)
+    value: values.Value = {**values.value_of(plan, steps, rollouts, arguments), "wishes": wishes.rows}
     if arguments.waves:
         value["times"] = times.of_waves(plan, steps, rollouts, arguments)
     found = replayed(arguments, text)
     if found.kind == "bad":
         notes = [*notes, found.text]
-    return Answer(sheet.of_plan(title_of(arguments), found, plan, value), notes)
+    return Answer(sheet.of_plan(title_of(arguments), found, plan, value, wishes=wishes.text), notes)
 
 
 def of_folder(arguments: argparse.Namespace) -> Answer:
-    for name in ("waves", "olds", "placement", "why"):
+    for name in ("waves", "olds", "wishes", "placement", "why"):
         if getattr(arguments, name):
             raise Refused(f"{arguments.plan}: of a folder, which has its own plan and rollouts, nothing else is read")
     known: dict[str, verdict.Verdict] = {}
@@ -107,12 +109,14 @@ def folder_page(arguments: argparse.Namespace, known: dict[str, verdict.Verdict]
     folder = Folder(arguments.plan)
     plan, text = folder.plan(), folder.text()
     steps = values.checked_size(steps_of(plan, arguments.plan), arguments.most)
-    value = values.value_of(plan, steps, folder.rollouts(len(steps)), arguments)
+    rollouts = folder.rollouts(len(steps))
+    wishes = wished.of_folder(folder, steps, rollouts)
+    value: values.Value = {**values.value_of(plan, steps, rollouts, arguments), "wishes": wishes.rows}
     value["live"] = {**progress.state_of(folder, arguments.logs), "serves": arguments.serve}
     if text not in known:
         known.clear()
         known[text] = replayed(arguments, text)
-    return sheet.of_plan(title_of(arguments), known[text], plan, value, network)
+    return sheet.of_plan(title_of(arguments), known[text], plan, value, network, wishes.text)
 
 
 def replayed(arguments: argparse.Namespace, text: str) -> verdict.Verdict:

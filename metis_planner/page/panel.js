@@ -175,11 +175,12 @@ class Panel {
     const lacks = next === undefined ? [] : lacking(plan, all, instance, plan.actions[next].to);
     const offers = [...(plan.stateOf(instance, state)?.provide ?? [])];
     const offered = offers.length ? ` · offers ${offers.slice(0, 4).join(", ")}${offers.length > 4 ? " .." : ""}` : "";
-    const host = plan.hosts.has(instance) ? ` · on ${plan.hosts.get(instance)}` : "";
+    const said = (word, all) => (all.has(instance) ? ` · ${word} ${all.get(instance)}` : "");
+    const [host, wish] = [said("on", plan.hosts), said("wished:", plan.wishes)];
     return h(
       "li",
       { class: isFresh ? "row fresh" : "row" },
-      [h("b", {}, plan.who(instance)), ` ${state}`, h("em", {}, host, offered), [...required].map(met)],
+      [h("b", {}, plan.who(instance)), ` ${state}`, h("em", {}, host, wish, offered), [...required].map(met)],
       others.map(([port, from]) => h("span", { class: "no" }, `bound: ${port} from ${plan.who(from)}`)),
       lacks.length ? soft(`○ ${plan.actions[next].to} will need ${listed(lacks)}`) : "",
     );

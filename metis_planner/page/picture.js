@@ -115,11 +115,13 @@ class Picture {
   }
 
   name(row) {
-    const role = row.instances.length === 1 ? this.page.plan.roles.get(row.instances[0]) : "";
-    const title = role ? `${row.label}: ${role}` : row.label;
-    const sign = role ? h("small", { class: role }, ROLES[role], " ") : "";
+    const { roles, wishes } = this.page.plan;
+    const [role, wish] = row.instances.length === 1 ? [roles, wishes].map((all) => all.get(row.instances[0])) : [];
+    const title = role ? `${row.label}: ${role}${wish ? `, as is wished: ${wish}` : ""}` : row.label;
+    const name = h("b", {}, role && h("small", { class: role }, ROLES[role], " "), row.label);
+    const own = { title, class: row.host ? "host" : "" };
     row.state = h("i");
-    row.name = h("div", { title, class: row.host ? "host" : "" }, h("b", {}, sign, row.label), row.state);
+    row.name = h("div", own, name, wish && h("small", { class: "wide" }, wish), row.state);
     row.name.style.height = `${row.height}px`;
     return row.name;
   }

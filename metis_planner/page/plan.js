@@ -35,9 +35,8 @@ class Plan {
     this.size = this.actions.length;
     this.lanes = grouped(this.actions.keys(), (k) => this.actions[k].instance);
     this.universe = data.universe && universeOf(data.universe);
-    for (const name of ["types", "first", "roles", "hosts"]) this[name] = new Map(data[name]);
-    this.leaves = new Set(data.leaves);
-    this.phases = data.phases;
+    for (const name of ["types", "first", "roles", "wishes", "hosts"]) this[name] = new Map(data[name]);
+    Object.assign(this, { leaves: new Set(data.leaves), phases: data.phases });
     this.barrier = this.actions.map(() => []); // for each action of a removal the last ones of all that is new
     for (const { from, to, last } of this.phases) this.barrier.fill(last.map((n) => n - 1), from, to);
   }

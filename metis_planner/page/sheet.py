@@ -7,6 +7,7 @@ import json
 import pathlib
 from collections.abc import Iterable, Sequence
 
+from metis_planner.page import wished
 from metis_planner.page.doubles import told_doubles
 from metis_planner.page.verdict import Verdict
 from metis_planner.text import plans
@@ -20,14 +21,16 @@ PRESENT = '<button id="present" aria-label="full screen (f)">full screen</button
 OF_REASONS = ("elements", "reasons", "start")
 
 
-def of_plan(title: str, verdict: Verdict, plan: plans.Plan, value: dict[str, object], network: str = NO_NETWORK) -> str:
+def of_plan(
+    title: str, verdict: Verdict, plan: plans.Plan, value: dict[str, object], network: str = NO_NETWORK, wishes: str = ""
+) -> str:
     made = sum(action.verb == "new" for action in plan.actions)
     counts = [(made, "instance"), (len(plan.actions), "action"), (len(plan.dups), "double")]
     summary = ", ".join(counted(count, what) for count, what in counts if count or what != "double")
     times = value["times"]
     if isinstance(times, dict) and times["note"]:
         summary += f"; {times['note']}"
-    body = filled("plan.html", {"DOUBLES": doubles_of(plan, value)})
+    body = filled("plan.html", {"WISHES": wished.section(wishes), "DOUBLES": doubles_of(plan, value)})
     return page({"TITLE": title, "SUM": summary}, verdict, body, {"kind": "plan", **value}, OF_A_PLAN, network)
 
 

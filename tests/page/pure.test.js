@@ -71,6 +71,12 @@ test("what an action waits for is there both ways", () => {
   assert.deepEqual(waits.depths(), [0, 0, 1, 2, 3]);
 });
 
+test("what becomes of an instance, and what is wished of it", () => {
+  const plan = new Plan({ ...WEB, roles: [[0, "kept"], [1, "going"]], wishes: [[1, "retire 1"]] });
+  assert.deepEqual([0, 1].map((one) => [plan.roles.get(one), plan.wishes.get(one)]), [["kept", undefined], ["going", "retire 1"]]);
+  assert.equal(new Plan(WEB).wishes.size, 0);
+});
+
 test("actions in words", () => {
   const plan = new Plan(WEB);
   assert.deepEqual([0, 2, 3].map((k) => plan.inWords(k)), ["make Web#0", "Db#1: off → on", "Web#0 takes sql from Db#1"]);

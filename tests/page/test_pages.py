@@ -162,7 +162,7 @@ class SheetTest(PageCase):
             self.assertEqual(found, [(PAGE / f"{each}.js").read_text("utf-8") for each in scripts], f"{name}: {AGAIN}")
             self.assertIn((PAGE / "page.css").read_text("utf-8"), text, f"{name}: {AGAIN}")
             self.assertIn("by the proved program; metis ", text)
-        body = sheet.filled("plan.html", {"DOUBLES": ""})
+        body = sheet.filled("plan.html", {"WISHES": "", "DOUBLES": ""})
         self.assertIn(body, (DOCS / "wordpress.html").read_text("utf-8"), AGAIN)
 
     def test_the_same_words_make_the_same_page(self):
@@ -237,6 +237,69 @@ class ChangeTest(PageCase):
         phases = [(each["kind"], each["from"], each["to"]) for each in data["phases"]]
         self.assertEqual(phases, [("old", 0, 5), ("new", 5, 8), ("removal", 8, 9)])
         self.assertEqual(data["roles"], [[1, "kept"], [2, "new"], [0, "going"]])
+
+    def test_the_wishes_and_the_lines_of_them_about_each_instance(self):
+        words = (self.path("changed", CHANGED), "--from", self.path("web", WEB))
+        for lines, about in (
+            (("retire 0", "keep 1"), [[0, "retire 0"], [1, "keep 1"]]),
+            (("retire 0", "keep all"), [[0, "retire 0"], [1, "keep all"]]),
+            (("avoid Web:run", "avoid Web", "rebind 1"), [[0, "avoid Web, avoid Web:run"], [1, "rebind 1"]]),
+            (("avoid Web:off", "avoid Mail"), []),
+            ((), []),
+        ):
+            wishes = "\n".join(["metis wishes 1", *lines, "end", ""])
+            text = self.page(*words, "--wishes", self.path("wishes", wishes))
+            self.assertEqual(Parts(text).data["wishes"], about, lines)
+            self.assertIn(f"<pre>{wishes}</pre>", text)
+        text = self.page(*words)
+        self.assertEqual((Parts(text).data["wishes"], 'id="wishes"' in text), ([], False))
+
+    def test_an_instance_that_no_action_has_moved_is_in_its_initial_state(self):
+        lines = ["new 0 Db", "new 1 Db", "move 1 off on", "delete 0"]
+        path, wishes = self.path("more", plan_text(*lines)), self.path("wishes", "metis wishes 1\navoid Db:off\nend\n")
+        data = Parts(self.page(path, "--from", self.path("old", plan_text(lines[0])), "--wishes", wishes)).data
+        self.assertEqual(data["wishes"], [[0, "avoid Db:off"]])
+
+    def test_wishes_that_are_not_those_of_the_plan(self):
+        changed, web, wishes = self.path("changed", CHANGED), self.path("web", WEB), self.top / "wishes"
+        for text, more, reason in (
+            ("metis wishes 1\nkeep 0\nend\n", ("--from", web), f"{wishes}:2: keep 0: instance 0 is going in {changed}"),
+            ("metis wishes 1\nretire 1\nend\n", ("--from", web), f"{wishes}:2: retire 1: instance 1 is kept"),
+            ("metis wishes 1\navoid Db\nend\n", ("--from", web), f"{wishes}:2: avoid Db: instance 1 is kept"),
+            ("metis wishes 1\nkeep 2\nend\n", ("--from", web), "no instance 2 stands before the change"),
+            ("metis wishes 1\nkeep  1\nend\n", ("--from", web), f"{wishes}:2: no wish, which is keep Z"),
+            ("metis wishes 1\nkeep 1\n", ("--from", web), "no text of wishes"),
+            (WEB, ("--from", web), "no text of wishes"),
+            ("metis wishes 1\nend\n", (), "say by --from OLD from which plan"),
+        ):
+            wishes.write_text(text)
+            status, page, notes = call("page", changed, *more, "--wishes", wishes)
+            self.assertEqual((status, page, notes.count("\n")), (1, "", 1), text)
+            self.assertIn(reason, notes)
+
+    def test_of_a_folder_the_wishes_by_which_it_was_planned(self):
+        self.exported(WEB)
+        self.make()
+        self.exported(CHANGED)
+        wishes, plan = "metis wishes 1\nretire 0\nkeep 1\nend\n", (self.folder / "plan.txt").read_bytes()
+        for value, about in (
+            ({"wishes": wishes, "plan": hashlib.sha256(plan).hexdigest()}, [[0, "retire 0"], [1, "keep 1"]]),
+            ({"wishes": None, "plan": hashlib.sha256(plan).hexdigest()}, []),
+            ({"wishes": wishes, "plan": hashlib.sha256(b"another").hexdigest()}, []),  # somebody has written it anew
+        ):
+            (self.folder / "request.json").write_text(json.dumps(value))
+            text = self.page(self.folder)
+            self.assertEqual((Parts(text).data["wishes"], f"<pre>{wishes}</pre>" in text), (about, bool(about)))
+        status, _, notes = call("page", self.folder, "--wishes", self.path("wishes", wishes))
+        self.assertEqual((status, notes.count("\n")), (1, 1))
+
+    def test_hostile_wishes_are_shown_as_they_are(self):
+        self.exported(WEB)
+        value = {"wishes": HOSTILE, "plan": hashlib.sha256((self.folder / "plan.txt").read_bytes()).hexdigest()}
+        (self.folder / "request.json").write_text(json.dumps(value))
+        text = self.page(self.folder)
+        self.assertIn(f"<pre>{html.escape(HOSTILE)}</pre>", text)
+        self.assertEqual(text.count("<script"), len(Parts(text).found["script"]))
 
     def test_what_is_kept_and_bound_anew_is_bound_before_anything_goes(self):
         lines = ["new 0 Lb", "new 1 Web", "bind http 0 1 after 2", "new 2 Web"]
