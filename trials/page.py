@@ -21,7 +21,7 @@ from collections.abc import Iterator
 from urllib.parse import urlsplit
 
 from trials.browsers import Chromium, Firefox
-from trials.page_cases import CASES, EXAMPLES, Case, Changed, Tried, doubles_universe, metis, placed_case, said
+from trials.page_cases import CASES, EXAMPLES, WISHES, Case, Changed, Tried, doubles_universe, metis, placed_case, said
 from trials.page_browsing import CLICK, BrowserCase
 from trials.trial import TOP
 
@@ -361,6 +361,29 @@ class ChromiumTest(Moments):
             )
             self.js("new Promise((done) => setTimeout(done, 50))")
             self.assertEqual(self.browser.faults(), [], page.name)
+
+    def test_each_instance_says_what_is_wished_of_it(self) -> None:
+        tried = Changed(self.top)
+        self.open(tried)
+        rows = "[...document.querySelectorAll('#names div')].map((e) => [e.querySelector('b').textContent, e.title])"
+        self.assertEqual(
+            self.js(rows),
+            [
+                ["= Lb#0", "Lb#0: kept, as is wished: rebind 0"],
+                ["− Web1#1", "Web1#1: going, as is wished: avoid Web1"],
+                ["= Db#2", "Db#2: kept"],
+                ["+ Web2#3", "Web2#3: new"],
+            ],
+        )
+        lines = "[...document.querySelectorAll('#names div')].map((e) => e.querySelector('small.wide')?.textContent ?? '')"
+        self.assertEqual(self.js(lines), ["rebind 0", "avoid Web1", "", ""])
+        stand = "[...document.querySelectorAll('#stand .row')].map((e) => e.querySelector('em').textContent.match(/wished: [^·]*/)?.[0].trim() ?? '')"
+        self.assertEqual(self.js(stand), ["wished: rebind 0", "wished: avoid Web1", ""])
+        self.js(f"explorer.step({tried.size})")
+        self.js("new Promise((done) => setTimeout(done, 0))")
+        self.assertEqual(self.js(stand), ["wished: rebind 0", "", ""])
+        self.assertEqual(self.js("document.querySelector('#wishes pre').textContent"), WISHES)
+        self.assertTrue(self.js("document.querySelector('#wishes pre').checkVisibility()"))
 
     def test_hosts_are_groups_of_lanes(self) -> None:
         tried = Tried(placed_case(), self.top)

@@ -45,6 +45,8 @@ BEFORE = (
     "move 0 off up",
 )
 CHANGE = ("new 3 Web2", "bind sql 3 2", "move 3 off run", "bind http 0 3", "unbind http 0 1", "delete 1")
+# The wishes by which the program plans it.
+WISHES = "metis wishes 1\navoid Web1\nrebind 0\nend\n"
 WAITS = {5: "4", 7: "6", 10: "4", 12: "11", 14: "13"}
 # Room for five where six are made, so that the second double has to wait until the first one is deleted.
 HOSTS = "metis hosts 1\nhost left 3\nhost right 2\nend\n"
@@ -205,7 +207,7 @@ class Tried:
 
 
 class Changed(Tried):
-    """A change of what stands that keeps some of it, written by hand, and replayed by the program."""
+    """A change of what stands that keeps some of it, written by hand, replayed by the program, and with wishes."""
 
     def __init__(self, top: pathlib.Path) -> None:
         self.case, self.top, self.universe = Case("changed", CHANGED, ()), top, top / "changed.json"
@@ -214,4 +216,6 @@ class Changed(Tried):
         before.write_text(plan_text(BEFORE, WAITS))
         text = plan_text((*BEFORE, *CHANGE), WAITS)
         expect(metis("replay", self.universe, "-", text=text).startswith("good"), "the change is no run")
-        self.write("changed", text, ["--from", before], len(BEFORE))
+        wishes = top / "changed.wishes"
+        wishes.write_text(WISHES)
+        self.write("changed", text, ["--from", before, "--wishes", wishes], len(BEFORE))

@@ -57,7 +57,7 @@ EDITS = (
     Edit("plan.js", "...waits, ...holds, ...(keepsBarrier", "...waits, ...(keepsBarrier"),
     Edit("page.js", 'const ready = ks.filter((k) => this.statusOf(k) === "ready");', "const ready = ks;", "test_every_moment_of_small_plans"),
     Edit("page.js", 'return begun.status === "running" ? "running" : "failed";', 'return "running";', "test_a_folder_is_followed"),
-    Edit("changes.py", "if not standing(steps[:old]) & standing(steps):", "if True:"),
+    Edit("../carry/rollouts.py", "if KEPT not in roles_of([step.action for step in steps], old).values():", "if True:"),
     Edit("changes.py", "last = {step.action.instance: step.action.number for step in steps[each.old : each.fresh]}", "last = {}"),
     Edit("times.py", "waits[place] = (*waits[place], *last.values())", "pass"),
     Edit("cause.py", "part = finished(root, back, seen)", "part = finished(root, self.out, seen)"),
@@ -69,6 +69,12 @@ EDITS = (
     Edit("page.css", "#scroll { display: flex; overflow: auto;", "#scroll { display: flex;", "test_no_page_is_wider_than_its_window"),
     Edit("live.js", "put(byId(\"warn\"), this.isFollowing() ?", "put(byId(\"warn\"), !this.isFollowing() ?", "test_a_folder_is_followed"),
     Edit("values.py", "sorted({action.provider for action in binds} - {action.instance for action in binds})", "[]", "test_folded_rows"),
+    Edit("wished.py", "if roles.get(instance) == KEPT and not any(key in lines for key in keys):", "if roles.get(instance) == KEPT:"),
+    Edit("wished.py", "if roles.get(instance) != ROLES[wish.verb]:", "if False:"),
+    Edit("wished.py", "<pre>{html.escape(text)}</pre>", "<pre>{text}</pre>"),
+    Edit("../carry/ahead.py", 'if kept.get("plan") == sum_of(folder.text().encode()) else None', "if kept else None"),
+    Edit("picture.js", 'name, wish && h("small", { class: "wide" }, wish), row.state', "name, row.state", "test_each_instance_says_what_is_wished_of_it"),
+    Edit("panel.js", "host, wish, offered)", "host, offered)", "test_each_instance_says_what_is_wished_of_it"),
 )  # fmt: skip
 
 
