@@ -6,9 +6,10 @@ said, and nothing is done. All is in a temporary folder, and on ports of 127.0.0
 
 PostgreSQL with a standby, pgbouncer, nginx and version 1 come up, while the shell of a step is killed, and make gets SIGINT and
 SIGTERM. Then all processes are killed, once midway and once at the end, and pid files get the number of a stranger: `verify` has
-to name what is lost, and --take-back and make have to heal it. Version 2 comes while the one address is asked ten times a
-second: each request has to be answered and counted, by the same database. At last all is taken down: no process and no file of it
-may be left, and the stranger has to live. The last line says that all is as it has to be. `--commands FILE` takes other commands.
+to name what is lost, and --take-back and make have to heal it. Version 2 comes by `metis up .. --wishes`, which keeps the rest,
+while the one address is asked ten times a second: each request has to be answered and counted, by the same database. A first try
+fails, and version 1 has to go on. At last all is taken down: no process and no file of it may be left, and the stranger has to
+live. The last line says that all is as it has to be. `--commands FILE` takes other commands.
 """
 
 import argparse
@@ -29,16 +30,24 @@ import time
 import urllib.error
 import urllib.request
 from collections import Counter
-from collections.abc import Callable, Iterator, Sequence
+from collections.abc import Callable, Iterator
 
 from trials.trial import TOP, Failed, expect
 
 EXAMPLE = TOP / "examples" / "store"
-TARGETS = ("route:v2", "app@1:retired", "standby:streaming")
+TARGETS = ("route:serving", "standby:streaming")
+WISHES = EXAMPLE / "version-2.wishes"
 BINARIES = "/usr/lib/postgresql/15/bin"
 NEEDED = ("make", "nginx", "pgbouncer", "curl", "ps", "psql", "setpriv", f"{BINARIES}/initdb", f"{BINARIES}/pg_controldata")
 # What stands at version 1, and so is lost when all processes are gone.
-SERVING = {"route#0", "app@1#1", "standby#2", "database#3", "pool#4", "edge#5", "migration@1#6"}
+SERVING = {"route#0", "standby#1", "database#2", "pool#3", "edge#4", "migration@1#5", "app@1#6"}
+# What `up` shows of the change to version 2.
+CHANGE = """\
+kept   route#0 (serving), standby#1 (streaming), database#2 (primary), pool#3 (serving), edge#4 (serving), migration@1#5 (done)
+new    app@2#7 (running), migration@2#8 (done)
+going  app@1#6 (running)
+the first 24 actions are done, and 12 are left
+"""
 # What a step starts and does not leave behind.
 PASSING = {"initdb", "pg_basebackup", "pg_ctl", "psql", "setpriv", "sh", "timeout", "run"}
 EACH = 0.1
@@ -150,7 +159,6 @@ class Store:
         self.plan.write_text(metis("plan", self.universe, *TARGETS))
         metis("make", self.plan, "--universe", self.universe, "--commands", self.commands, "--to", self.folder)
         self.rows = {row["what"]: row for row in self.status()}
-        self.version_1 = [self.goal("route#0: absent -> v1"), self.goal("standby#2: copied -> streaming")]
 
     def status(self) -> list[dict[str, str]]:
         done = subprocess.run([str(TOP / "metis"), "status", "--json", str(self.folder)], capture_output=True, text=True, check=False)
@@ -160,13 +168,18 @@ class Store:
     def goal(self, what: str) -> str:
         return f"done/{self.rows[what]['key']}"
 
-    def words(self, goals: Sequence[str]) -> list[str]:
-        return ["make", "-s", "-j8", "-C", str(self.folder), *goals]
+    def words(self) -> list[str]:
+        return ["make", "-s", "-j8", "-C", str(self.folder)]
 
-    def make(self, *goals: str, status: int = 0) -> str:
-        done = subprocess.run(self.words(goals), stdout=subprocess.PIPE, stderr=subprocess.STDOUT, text=True, check=False)
-        expect(done.returncode == status, f"make ended with {done.returncode}:\n{done.stdout}")
+    def make(self) -> str:
+        done = subprocess.run(self.words(), stdout=subprocess.PIPE, stderr=subprocess.STDOUT, text=True, check=False)
+        expect(done.returncode == 0, f"make ended with {done.returncode}:\n{done.stdout}")
         return done.stdout
+
+    def up(self, commands: pathlib.Path, status: int = 0) -> str:
+        """What `metis up` says on the way to version 2."""
+        words = ("--commands", commands, "--to", self.folder, "--wishes", WISHES, "--yes")
+        return metis("up", EXAMPLE / "store.sketch", *TARGETS, *words, status=status)
 
     def shell_of(self, what: str) -> int | None:
         """The shell that does a step, while it does."""
@@ -176,7 +189,7 @@ class Store:
     def stopped(self, what: str, stop: Callable[[int, int], None]) -> None:
         """make works until a step goes on, and is stopped then: when the folder is free, nothing of any step may be left."""
         begun = subprocess.Popen(
-            self.words(self.version_1), stdout=subprocess.DEVNULL, stderr=subprocess.DEVNULL, start_new_session=True
+            self.words(), stdout=subprocess.DEVNULL, stderr=subprocess.DEVNULL, start_new_session=True
         )
         try:
             wait_for(f"{what} is done", lambda: self.shell_of(what))
@@ -220,10 +233,15 @@ class Store:
         words = ["psql", "-X", "-qtA", "-h", "127.0.0.1", "-U", "postgres", "-p", str(port), "-c", command, "store"]
         return subprocess.run(words, stdout=subprocess.PIPE, text=True, check=True).stdout.strip()
 
-    def count(self, instance: int = 3) -> int:
+    def count(self, instance: int = 2) -> int:
         return int(self.sql(self.ports + instance, "SELECT count(*) FROM hits"))
 
-    def identifier(self, name: str = "database-3") -> str:
+    def first(self, rows: int) -> str:
+        """So many first rows, as a sum of all that version 1 knows of them."""
+        found = f"SELECT id, at FROM hits ORDER BY id LIMIT {rows}"
+        return self.sql(self.ports + 2, f"SELECT md5(string_agg(id || ' ' || at, ',' ORDER BY id)) FROM ({found}) AS found")
+
+    def identifier(self, name: str = "database-2") -> str:
         words = [f"{BINARIES}/pg_controldata", str(self.state / name / "data")]
         lines = subprocess.run(words, stdout=subprocess.PIPE, text=True, check=True).stdout.splitlines()
         return next(line.split(":")[1].strip() for line in lines if line.startswith("Database system identifier"))
@@ -254,13 +272,13 @@ def free_ports(count: int) -> int:
 
 def comes_up(store: Store) -> None:
     """Version 1, with a step's shell killed on the way, and make stopped twice."""
-    store.stopped("database#3: absent -> installed", lambda make, _: os.killpg(make, signal.SIGINT))
+    store.stopped("database#2: absent -> installed", lambda make, _: os.killpg(make, signal.SIGINT))
     say("SIGINT while the database is made: nothing of it goes on, and nothing is marked")
-    store.stopped("database#3: installed -> primary", lambda make, _: os.kill(make, signal.SIGTERM))
+    store.stopped("database#2: installed -> primary", lambda make, _: os.kill(make, signal.SIGTERM))
     say("SIGTERM to make while it starts: as before")
-    store.stopped("standby#2: absent -> copied", lambda _, shell: os.kill(shell, signal.SIGKILL))
+    store.stopped("standby#1: absent -> copied", lambda _, shell: os.kill(shell, signal.SIGKILL))
     say("SIGKILL to the shell of the step that copies: nothing of it goes on, and nothing is marked")
-    store.make(*store.version_1)
+    store.make()
     expect(not store.lost(status=0), "something is lost")
     say("resumed: version 1 serves, and the standby streams")
 
@@ -270,12 +288,12 @@ def is_healed(store: Store, stranger: int) -> None:
     before, rows = store.identifier(), store.count()
     store.kill_all()
     store.lie(stranger)
-    expect(store.make(*store.version_1) == "", "make does something, though nothing has told it")
+    expect(store.make() == "", "make does something, though nothing has told it")
     lost = store.lost()
     expect(set(lost) == SERVING and all(lost.values()), f"lost: {lost}")
     say(f"kill -9 of all: make says nothing, and verify names {', '.join(sorted(lost))}")
     store.lost("--take-back")
-    store.make(*store.version_1)
+    store.make()
     expect(not store.lost(status=0), "something is lost still")
     expect(store.identifier() == before and store.count() == rows, "another database, or other rows")
     say(f"verify --take-back and make heal it: the same database, {rows} rows")
@@ -288,28 +306,37 @@ def is_healed_midway(store: Store, stranger: int) -> None:
         os.killpg(make, signal.SIGKILL)
         store.kill_all()
 
-    store.stopped("standby#2: absent -> copied", stop)
+    store.stopped("standby#1: absent -> copied", stop)
     store.lie(stranger)
     lost = store.lost("--take-back")
-    expect({"database#3"} <= set(lost) < SERVING, f"lost midway: {lost}")
-    store.make(*store.version_1)
+    expect({"database#2"} <= set(lost) < SERVING, f"lost midway: {lost}")
+    store.make()
     expect(not store.lost(status=0), "something is lost still")
     say(f"kill -9 of all midway: {', '.join(sorted(lost))} lost, and healed")
 
 
 def changes_version(store: Store) -> None:
-    """Version 2 in place of version 1, while the one address is asked."""
+    """Version 2 in place of version 1, while the one address is asked. Where it cannot be installed at first, version 1 goes on."""
     identifier, rows, load = store.identifier(), store.count(), store.load()
+    before, broken = store.first(rows), store.top / "broken.toml"
+    broken.write_text(store.commands.read_text().replace(str(EXAMPLE / "app.py"), "/nonexistent/app.py"))
     with load.going():
+        expect(CHANGE in store.up(broken, status=1), "it shows another change")
         time.sleep(1)
-        store.make()
+        expect(set(load.answers) == {"version 1"} and not store.lost(status=0), f"version 1 does not go on: {load.answers}")
+        say(f"a first try fails where version 2 is installed: version 1 goes on, {sum(load.answers.values())} requests so far")
+        store.up(store.commands)
         time.sleep(1)
     expect(set(load.answers) == {"version 1", "version 2"}, f"answers: {load.answers}")
-    expect(store.identifier() == identifier == store.identifier("standby-2"), "another database")
+    expect(store.identifier() == identifier == store.identifier("standby-1"), "another database")
     answered = sum(load.answers.values())
     expect(store.count() - rows == answered, f"{store.count() - rows} rows of {answered} requests")
-    wait_for("the standby has all rows", lambda: store.count(2) == rows + answered)
+    expect(store.first(rows) == before, "the rows of before are others")
+    by_2 = int(store.sql(store.ports + 2, "SELECT count(*) FROM hits WHERE who IS NOT NULL"))
+    expect(by_2 == load.answers["version 2"], f"{by_2} rows of version 2, which answered {load.answers['version 2']}")
+    wait_for("the standby has all rows", lambda: store.count(1) == rows + answered)
     expect(not [each for each in store.own() if "app_1" in each.words], "version 1 still runs")
+    expect(not store.lost(status=0), "something is lost")
     told = ", ".join(f"{count} by {name}" for name, count in sorted(load.answers.items()))
     say(f"version 2: {answered} requests, {told}, none lost, the slowest after {load.slowest * 1000:.0f} ms; {answered} rows more")
 
