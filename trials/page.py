@@ -262,7 +262,8 @@ class Moments(BrowserCase):
         refusal.write_text(metis("plan", waiting, "Shop:up"))
         why.write_text(metis("why", waiting, "Shop:up"))
         pages = [self.made(refusal, "--why", why, "--universe", waiting, name="refusal")]
-        pages += [Tried(BY_NAME[name], self.top).page for name in MANY] + [Tried(placed_case(), self.top).page]
+        pages += [Tried(BY_NAME[name], self.top).page for name in MANY]
+        pages += [Tried(placed_case(), self.top).page, Changed(self.top).page]
         for width in WIDTHS:
             self.browser.size(width, 800)
             for page in pages:
