@@ -8,7 +8,7 @@ PostgreSQL with a standby, pgbouncer, nginx and version 1 come up, while the she
 SIGTERM. Then all processes are killed, once midway and once at the end, and pid files get the number of a stranger: `verify` has
 to name what is lost, and --take-back and make have to heal it. Version 2 comes by `metis up .. --wishes`, which keeps the rest,
 while the one address is asked ten times a second: each request has to be answered and counted, by the same database. A first try
-fails, and version 1 has to go on. At last all is taken down: no process and no file of it may be left, and the stranger has to
+fails, and version 1 has to go on. Then version 2 is killed and healed. At last all is taken down: no process and no file of it may be left, and the stranger has to
 live. The last line says that all is as it has to be. `--commands FILE` takes other commands.
 """
 
@@ -41,6 +41,7 @@ BINARIES = "/usr/lib/postgresql/15/bin"
 NEEDED = ("make", "nginx", "pgbouncer", "curl", "ps", "psql", "setpriv", f"{BINARIES}/initdb", f"{BINARIES}/pg_controldata")
 # What stands at version 1, and so is lost when all processes are gone.
 SERVING = {"route#0", "standby#1", "database#2", "pool#3", "edge#4", "migration@1#5", "app@1#6"}
+SERVING_2 = SERVING - {"app@1#6"} | {"app@2#7", "migration@2#8"}
 # What `up` shows of the change to version 2.
 CHANGE = """\
 kept   route#0 (serving), standby#1 (streaming), database#2 (primary), pool#3 (serving), edge#4 (serving), migration@1#5 (done)
@@ -283,14 +284,14 @@ def comes_up(store: Store) -> None:
     say("resumed: version 1 serves, and the standby streams")
 
 
-def is_healed(store: Store, stranger: int) -> None:
+def is_healed(store: Store, stranger: int, serving: set[str]) -> None:
     """All processes are killed, and the pid files name a stranger."""
     before, rows = store.identifier(), store.count()
     store.kill_all()
     store.lie(stranger)
     expect(store.make() == "", "make does something, though nothing has told it")
     lost = store.lost()
-    expect(set(lost) == SERVING and all(lost.values()), f"lost: {lost}")
+    expect(set(lost) == serving and all(lost.values()), f"lost: {lost}")
     say(f"kill -9 of all: make says nothing, and verify names {', '.join(sorted(lost))}")
     store.lost("--take-back")
     store.make()
@@ -357,8 +358,10 @@ def tried(top: pathlib.Path, commands: pathlib.Path) -> None:
             comes_up(store)
             for _ in range(20):
                 store.load().ask()
-            is_healed(store, stranger.pid)
+            is_healed(store, stranger.pid, SERVING)
             changes_version(store)
+            is_healed(store, stranger.pid, SERVING_2)
+            expect(not [each for each in store.own() if "app_1" in each.words], "version 1 runs again")
             goes(store)
             with Store(top / "two", commands) as other:
                 is_healed_midway(other, stranger.pid)

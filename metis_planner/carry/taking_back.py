@@ -8,12 +8,32 @@ from metis_planner.carry.writing import sync_folder
 
 
 def with_followers(steps: Sequence[Step], done: set[str], numbers: set[int]) -> list[Step]:
-    """The steps of these numbers, and all that is done and waited for one of them, in the order of the plan."""
-    found = set(numbers)
-    for step in steps:
-        if step.key in done and found.intersection(step.waits):
-            found.add(step.action.number)
-    return [step for step in steps if step.action.number in found and step.key in done]
+    """The steps of these numbers, and all that is done and waited for one of them, in the order of the plan.
+
+    If one of these needs an instance that was deleted since, nothing of that is there: all of its steps are among them too.
+    """
+    own = [step for step in steps if step.key in done]
+    gone = {step.action.instance for step in own if step.action.verb == "delete"}
+    found: set[int] = set()
+    more = set(numbers)
+    while not more <= found:
+        found |= more
+        for step in own:
+            if found.intersection(step.waits):
+                found.add(step.action.number)
+        needed = {instance for step in own if step.action.number in found for instance in needed_by(step)}
+        more = {step.action.number for step in own if step.action.instance in gone & needed}
+    return [step for step in own if step.action.number in found]
+
+
+def needed_by(step: Step) -> set[int]:
+    """The instances that have to be there for a step. To let one go or to delete it again, it need not be."""
+    action = step.action
+    if action.verb in ("unbind", "delete"):
+        return set()
+    if action.verb == "bind":
+        return {action.instance, action.provider}
+    return {action.instance, *(int(name.rsplit("-", 1)[1]) for name in step.bound)}
 
 
 def take_back(folder: Folder, steps: Sequence[Step]) -> None:
