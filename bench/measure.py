@@ -124,6 +124,17 @@ def best(runs: int, command: Sequence[str | Path], out: Path, folder: Path | Non
     return Run(made[0].status, seconds, clock, megabytes)
 
 
+# --- counted runs
+
+
+def counted(command: Iterable[str | Path], given: bytes | None = None) -> tuple[int, str, int]:
+    """The instructions of one run by valgrind's callgrind, which has to be there, and the run's text and status."""
+    words = ["valgrind", "--tool=callgrind", "--callgrind-out-file=/dev/null", *map(str, command)]
+    done = subprocess.run(words, input=given, stdout=subprocess.PIPE, stderr=subprocess.PIPE, check=False)
+    found = re.search(rb"Collected : (\d+)", done.stderr)
+    return int(found[1]) if found else 0, done.stdout.decode("latin-1"), done.returncode
+
+
 # --- tables
 
 

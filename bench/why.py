@@ -23,12 +23,10 @@ larger. docs/dev/BENCHMARKS.md says how to read the table.
 
 import importlib.util
 import random
-import re
-import subprocess
 import sys
 from pathlib import Path
 
-from measure import Table, program_and_words, ratio, switch, temporary_folder, usage, write_universe
+from measure import Table, counted, program_and_words, ratio, switch, temporary_folder, usage, write_universe
 
 SECOND = importlib.util.spec_from_file_location("second_why", Path(__file__).resolve().parent.parent / "tools" / "second_why.py")
 second = importlib.util.module_from_spec(SECOND)
@@ -141,14 +139,6 @@ def is_as_found(kind):
     types, word, needed = KINDS[kind](small)
     document = {"aeolus": 1, "types": types}
     return explanation(document, word, needed) == explanation(document, word, None)
-
-
-def counted(command, given=None):
-    """The instructions of one run, its text and its status."""
-    words = ["valgrind", "--tool=callgrind", "--callgrind-out-file=/dev/null", *map(str, command)]
-    done = subprocess.run(words, input=given, stdout=subprocess.PIPE, stderr=subprocess.PIPE, check=False)
-    found = re.search(rb"Collected : (\d+)", done.stderr)
-    return int(found[1]) if found else 0, done.stdout.decode("latin-1"), done.returncode
 
 
 def measured(program, file, document, word, needed):
