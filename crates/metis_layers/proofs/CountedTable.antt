@@ -17,6 +17,7 @@ use Rattle.metis_universe.proofs.PortRows.{Rises}
 use Rattle.metis_layers.specs.LayerOrder.{attained_pairs}
 use Rattle.metis_layers.specs.Layers.{IsLayers, found_before, is_round, of_round, order_by}
 use Rattle.metis_layers.specs.Work.{IsAt, come_before, new_at}
+use Rattle.metis_layers.specs.declared.work.Work.{Work}
 use Rattle.metis_layers.proofs.Layered.{is_layers}
 use Rattle.metis_layers.proofs.RoundFacts.{kept_rises, rises_same}
 use Rattle.metis_layers.proofs.Tables.{kept_alike}
@@ -142,8 +143,9 @@ module _ (u : Universe) (rounds : List (Option ℕ)) (known : rounds ≡ map (fo
       and_from _ _ (ap is_some (at q low) ∙ found_some q low ∙ h) (has_below (pair_count u) q ∙ lt-ltb q (pair_count u) low)))
 
 -- what is known after as many rounds as there are pairs is the table
-pub counted_layers : (u : Universe) (rounds : List (Option ℕ)) (led : List Bool) (unmet : List ℕ) (first : List (Option ℕ)) (order : List ℕ) (attained : PairSet) → IsAt u (pair_count u) rounds led unmet first order →
-    attained.size ≡ length rounds → attained.members ≡ filter (λ p. is_some (get_or rounds p None)) (range_with_len 0 (length rounds)) → IsLayers u (record { rounds = rounds; attained = attained; order = order; first = first })
-counted_layers u rounds led unmet first order attained now size members =
-    is_layers u rounds now.known attained order first (size ∙ count u rounds now.known) (members ∙ attained_is u rounds now.known) (now.come ∙ order_is u rounds now.known)
-    (fill_by_all (λ r. find (λ p. provides u p r) order) first (port_count u) None now.read.first_size (λ r low. now.read.first_by r))
+pub counted_layers : (u : Universe) (w : Work) (rounds : List (Option ℕ)) (attained : PairSet) → IsAt u (pair_count u) w → rounds ≡ w.counters.rounds →
+    attained.size ≡ length rounds → attained.members ≡ filter (λ p. is_some (get_or rounds p None)) (range_with_len 0 (length rounds)) → IsLayers u (record { rounds = rounds; attained = attained; order = w.order.items; first = w.first.items })
+counted_layers u w rounds attained now is size members =
+    let known = is ∙ now.known in
+    is_layers u rounds known attained w.order.items w.first.items (size ∙ count u rounds known) (members ∙ attained_is u rounds known) (now.come ∙ order_is u rounds known)
+    (fill_by_all (λ r. find (λ p. provides u p r) w.order.items) w.first.items (port_count u) None now.read.first_size (λ r low. now.read.first_by r))

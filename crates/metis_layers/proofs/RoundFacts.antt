@@ -13,13 +13,12 @@ use Rattle.std.specs.Cmp.{both_ways as same_bool}
 use Rattle.metis_ids.proofs.Finding.{find_none, not_found}
 use Rattle.metis_ids.proofs.Lists.{any_at, has-append, has-filter, has_at, has_below, has_here, has_range, some_member, range_next}
 use Rattle.metis_ids.proofs.Options.{none_from_is_none}
-use Rattle.metis_layers.specs.Counters.{IsSettled, comes}
 use Rattle.metis_universe.specs.Layers.{is_enabled, layer_set}
 use Rattle.metis_universe.specs.Universe.{Universe, IsUniverse, all_pairs, has, is_free, next_of, pair_count, provides, required_of}
 use Rattle.metis_layers.specs.Layers.{found_before}
 use Rattle.metis_layers.specs.Work.{IsRead, come_before, new_at}
 use Rattle.metis_universe.proofs.PortRows.{Rises, rises}
-use Rattle.metis_layers.proofs.CounterFacts.{next_within}
+use Rattle.metis_layers.proofs.CounterFacts.{comes_by, next_within}
 
 -- ---- lists that rise
 
@@ -190,7 +189,7 @@ module _ (u : Universe) where
   -- ---- a round begins
 
   module _ (ok : IsUniverse u) (k : ℕ) (rounds : List (Option ℕ)) (known : rounds ≡ map (found_before u (suc k)) (all_pairs u)) where
-    comes_is : (led : List Bool) (unmet : List ℕ) (first : List (Option ℕ)) (done : List ℕ) → IsRead u led unmet first done → ((p : ℕ) → has done p ≡ true → p < pair_count u) → (q : ℕ) → comes rounds led unmet q ≡ (not (has (layer_set u k) q) && is_enabled u done q)
+    comes_is : (led : List Bool) (unmet : List ℕ) (first : List (Option ℕ)) (done : List ℕ) → IsRead u led unmet first done → ((p : ℕ) → has done p ≡ true → p < pair_count u) → (q : ℕ) → comes_by rounds led unmet q ≡ (not (has (layer_set u k) q) && is_enabled u done q)
     comes_is led unmet first done read low q =
         ap (λ b. is_none (get_or rounds q None) && b) (read_enabled led unmet first done read q)
         ∙ elim (cases_Bool (is_enabled u done q)) [
@@ -199,8 +198,8 @@ module _ (u : Universe) where
         ]
 
     -- none comes before a pair of the round was read
-    pub settled_first : (led : List Bool) (unmet : List ℕ) (first : List (Option ℕ)) → IsRead u led unmet first (come_before u k) → IsSettled rounds led unmet []
-    settled_first led unmet first read q = sym (comes_is led unmet first (come_before u k) read (come_low k) q ∙ by k) where
+    pub none_comes : (led : List Bool) (unmet : List ℕ) (first : List (Option ℕ)) → IsRead u led unmet first (come_before u k) → (q : ℕ) → comes_by rounds led unmet q ≡ false
+    none_comes led unmet first read q = comes_is led unmet first (come_before u k) read (come_low k) q ∙ by k where
       by : (m : ℕ) → (not (has (layer_set u m) q) && is_enabled u (come_before u m) q) ≡ false
       by zero = and_false _
       by (suc j) = ap (λ b. not (has (layer_set u (suc j)) q) && b) (enabled_alike (come_before u (suc j)) (layer_set u j) q (come_has j))
@@ -211,7 +210,7 @@ module _ (u : Universe) where
           both_ways _ (not-true _ both.0) (set_more j q ∙ and_from _ _ (or_right _ _ both.1) (has_below (pair_count u) q ∙ lt-ltb q (pair_count u) low)))
 
     -- and when all were read, those that come are the next round
-    pub next_is : (led : List Bool) (unmet : List ℕ) (first : List (Option ℕ)) (next : List ℕ) → IsRead u led unmet first (come_before u (suc k)) → IsSettled rounds led unmet next → Rises next → next ≡ new_at u (suc k)
+    pub next_is : (led : List Bool) (unmet : List ℕ) (first : List (Option ℕ)) (next : List ℕ) → IsRead u led unmet first (come_before u (suc k)) → ((q : ℕ) → has next q ≡ comes_by rounds led unmet q) → Rises next → next ≡ new_at u (suc k)
     next_is led unmet first next read settled up =
         rises_same next (new_at u (suc k)) up (kept_rises (λ p. has (layer_set u (suc k)) p && is_none (found_before u (suc k) p)) (pair_count u) 0) (λ q.
         settled q ∙ comes_is led unmet first (come_before u (suc k)) read (come_low (suc k)) q

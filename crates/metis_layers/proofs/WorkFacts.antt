@@ -1,9 +1,9 @@
 -- What is known after one more pair was read.
-use Rattle.std.proofs.Common.{◌≡◌, ℕ, zero, suc, ◌+◌, ◌*◌, ◌<◌, ◌≤◌, Bool, true, false, cond, ◌||◌, List, [], ◌∷◌, ◌++◌, Option, Some, None, length, get_or, set, take, drop, map, replicate, refl, sym, ap, ◌∙◌, arith, nat_eq, inl, inr}
+use Rattle.std.proofs.Common.{◌≡◌, ℕ, zero, suc, ◌+◌, ◌*◌, ◌<◌, ◌≤◌, Bool, true, false, cond, ◌||◌, List, [], ◌∷◌, ◌++◌, Option, Some, None, length, get_or, set, take, map, replicate, refl, sym, ap, ◌∙◌, arith, nat_eq, inl, inr}
 use Rattle.std.specs.List.{AllByRecursion, filter, list_any, range_with_len}
 use Rattle.std.specs.Option.{is_none, option_or}
 use Rattle.std.proofs.lemmas.Bool.{false≢true, cases_eq, cases_lt, eqb-true, eq-eqb, ne_eqb, or_right}
-use Rattle.std.proofs.lemmas.List.{get_or-set_same, get_or-set_other, get_or_past, length-replicate, take_at, take_more}
+use Rattle.std.proofs.lemmas.List.{get_or-set_same, get_or-set_other, get_or_past, length-replicate, take_more}
 use Rattle.std.proofs.lemmas.List.FromFn.{get_or-map-range_with_len, length-map-range_with_len}
 use Rattle.std.proofs.lemmas.List.Elements.{recursion_from_All}
 use Rattle.std.proofs.lemmas.List.Folds.{find-append, list_any-append}
@@ -16,17 +16,12 @@ use Rattle.metis_layers.specs.Reading.{counted_bound, offer_cost, require_entrie
 use Rattle.metis_layers.specs.Layers.{found_before}
 use Rattle.metis_layers.specs.Work.{IsRead}
 
-pub written : {X : Type 0} (n : ℕ) (w v : List X) → length w ≡ length v → n ≡ length v → take n (w ++ drop (length w) v) ≡ w
-written n w v same is = take_at w (drop (length w) v) n (same ∙ sym is)
-
 pub read_more : (u : Universe) (led led' : List Bool) (unmet unmet' : List ℕ) (first first' : List (Option ℕ)) (done : List ℕ) (p : ℕ) → IsRead u led unmet first done →
-    length led' ≡ length led → length unmet' ≡ length unmet → length first' ≡ length first →
+    length first' ≡ port_count u →
     ((q : ℕ) → get_or led' q false ≡ (get_or led q false || has (next_of u p) q)) → ((s : ℕ) → get_or first' s None ≡ option_or (get_or first s None) (cond (has (provided_of u p) s) (Some p) None)) → IsTallied u first' unmet' →
     IsRead u led' unmet' first' (done ++ p ∷ [])
-read_more u led led' unmet unmet' first first' done p old l m f leads gives tallied = record {
-  led_size = l ∙ old.led_size;
-  unmet_size = m ∙ old.unmet_size;
-  first_size = f ∙ old.first_size;
+read_more u led led' unmet unmet' first first' done p old ports leads gives tallied = record {
+  first_size = ports;
   led_by = λ q. leads q ∙ ap (λ b. b || has (next_of u p) q) (old.led_by q) ∙ ap (λ b. list_any (λ x. has (next_of u x) q) done || b) (sym (or-false (has (next_of u p) q))) ∙ sym (list_any-append (λ x. has (next_of u x) q) done (p ∷ []));
   first_by = λ s. gives s ∙ ap (λ o. option_or o (cond (has (provided_of u p) s) (Some p) None)) (old.first_by s) ∙ sym (find-append (λ x. provides u x s) done (p ∷ []));
   tallied = tallied;
@@ -82,8 +77,6 @@ pub read_first : (u : Universe) (led : List Bool) (unmet : List ℕ) (first : Li
 read_first u led unmet first l m f =
     let none : (s : ℕ) → get_or first s None ≡ None = λ s. ap (λ v. get_or v s None) f ∙ replicate_reads (port_count u) s None in
     record {
-      led_size = ap length l ∙ length-replicate (pair_count u) false;
-      unmet_size = ap length m ∙ length-map-range_with_len (λ q. length (required_of u q)) 0 (pair_count u);
       first_size = ap length f ∙ length-replicate (port_count u) None;
       led_by = λ q. ap (λ v. get_or v q false) l ∙ replicate_reads (pair_count u) q false;
       first_by = none;

@@ -9,7 +9,7 @@
 --     attained_pairs u      the pairs that have a layer
 --     instances_of actions      how many instances the actions make
 --     Deploys u g actions      a steadfast run from the empty configuration that holds the targets, with few instances
-use Rattle.std.specs.Prelude.{ℕ, ◌+◌, ◌-◌, ◌*◌, ◌==◌, ◌≤◌, Bool, false, List, ◌++◌, length, map, flat_map, filter, replicate, IsTrue}
+use Rattle.std.specs.Prelude.{ℕ, ◌+◌, ◌-◌, ◌*◌, ◌==◌, ◌≤◌, Bool, false, List, ◌++◌, length, map, flat_map, filter, replicate}
 use Rattle.std.specs.List.{All, list_any, position_or_len, range_with_len}
 use Rattle.std.specs.Option.{option_map_or}
 use Rattle.metis_ids.specs.Action.{makes}

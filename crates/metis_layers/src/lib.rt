@@ -1,7 +1,7 @@
 //! In how many rounds each pair is attained, and from which pair each port is taken first.
 #![tactic(auto)]
 
-mod counted;
+mod counters;
 mod laws;
 mod rounds;
 pub mod table;
