@@ -72,8 +72,8 @@ fn lacking(layers: &Layers, targets: &[PairIx]) -> Option<PairIx>
         .find(|target| layers.of(*target).is_none())
 }
 
-// The support of the targets' selection.
-fn support(
+/// What a plan for the targets stands on, for a caller who knows that each of them has a layer.
+pub fn support(
     alloc: Global,
     u: &Universe,
     layers: &Layers,

@@ -9,7 +9,7 @@ mod selection;
 mod tables;
 mod work_list;
 
-pub use choice::{Choice, choose};
+pub use choice::{Choice, choose, support};
 pub use laws::{
     goals_are_attained_where_none_is_lacking, pairs_for_goals_are_unique, pairs_for_goals_hold_them,
 };

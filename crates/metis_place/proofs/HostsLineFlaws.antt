@@ -97,7 +97,7 @@ module _ (u : Universe) (hosts sizes : Entries) where
         | false ↦ λ _. inl refl
       ] refl
 
-  words_or_form : (word name digits : List ℕ) → FormOr (with_words u n seen word name digits) (words (word ∷ name ∷ digits ∷ []))
+  words_or_form : (word name digits : List ℕ) → FormOr (with_words u n seen word (entry_in name digits)) (words (word ∷ name ∷ digits ∷ []))
   words_or_form word name digits =
       let test = bytes_eq word (codes "host") && (length sizes == 0) in
       let other = if bytes_eq word (codes "size") && not (length hosts == 0) then with_size u n seen (entry_in name digits) else Err (Line n) in

@@ -49,7 +49,7 @@ module _ (u : Universe) (n : ℕ) (seen : SeenLines) where
   size_named (Ok e) = if_named (is_some (type_named u e.0)) _ _ (made_named _ (with_entry n seen.sizes e) (with_entry_named n seen.sizes e)) (λ h. cc)
   size_named (Err f) = fault_at_named n f
 
-  words_named : (word name number : List ℕ) → IsNamed (with_words u n seen word name number)
+  words_named : (word name number : List ℕ) → IsNamed (with_words u n seen word (entry_in name number))
   words_named word name number =
       if_named (bytes_eq word (codes "host") && (length seen.sizes == 0)) _ _ (host_named (entry_in name number))
       (if_named (bytes_eq word (codes "size") && not (length seen.hosts == 0)) _ _ (size_named (entry_in name number)) (line_named n))

@@ -109,7 +109,7 @@ module _ (u : Universe) (n : ℕ) (seen : SeenLines) where
       (e, refl, there.0, one.0, sym all.2 ∙ ap (λ sizes. seen_lines seen.hosts sizes) one.1)
   size_is (Err f) s h = cc
 
-  words_are : (word name number : List ℕ) (s : SeenLines) → with_words u n seen word name number ≡ Ok s → OneHost (words (word ∷ name ∷ number ∷ [])) s ⊎ OneSize (words (word ∷ name ∷ number ∷ [])) s
+  words_are : (word name number : List ℕ) (s : SeenLines) → with_words u n seen word (entry_in name number) ≡ Ok s → OneHost (words (word ∷ name ∷ number ∷ [])) s ⊎ OneSize (words (word ∷ name ∷ number ∷ [])) s
   words_are word name number s h = elim (either_is (bytes_eq word (codes "host") && (length seen.sizes == 0)) (with_host n seen (entry_in name number)) _ s h) [
     | inl (form, host) ↦
         let both = and_parts (bytes_eq word (codes "host")) (length seen.sizes == 0) form in

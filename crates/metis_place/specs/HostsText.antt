@@ -56,13 +56,13 @@ with_size u n seen (Ok e) = if is_some (type_named u e.0) then made (λ sizes. s
 with_size u n seen (Err f) = Err (line_fault n f)
 
 -- a host stands before all sizes, and a size behind a host
-abbrev pub with_words : Universe → ℕ → SeenLines → List ℕ → List ℕ → List ℕ → Result SeenLines HFault
-with_words u n seen word name number =
-    if bytes_eq word (codes "host") && (length seen.sizes == 0) then with_host n seen (entry_in name number)
-    else (if bytes_eq word (codes "size") && not (length seen.hosts == 0) then with_size u n seen (entry_in name number) else Err (Line n))
+abbrev pub with_words : Universe → ℕ → SeenLines → List ℕ → Result (List ℕ × ℕ) Flaw → Result SeenLines HFault
+with_words u n seen word entry =
+    if bytes_eq word (codes "host") && (length seen.sizes == 0) then with_host n seen entry
+    else (if bytes_eq word (codes "size") && not (length seen.hosts == 0) then with_size u n seen entry else Err (Line n))
 
 abbrev pub with_tokens : Universe → ℕ → SeenLines → List (List ℕ) → Result SeenLines HFault
-with_tokens u n seen (word ∷ name ∷ number ∷ []) = with_words u n seen word name number
+with_tokens u n seen (word ∷ name ∷ number ∷ []) = with_words u n seen word (entry_in name number)
 with_tokens u n seen _ = Err (Line n)
 
 abbrev pub with_line : Universe → ℕ → SeenLines → List ℕ → Result SeenLines HFault

@@ -3,6 +3,7 @@ ghost use Rattle.std.specs.Prelude.{◌≡◌, ◌≤◌, ◌<◌, ◌+◌, ◌-
 ghost use Rattle.metis_universe.specs.Config.{empty};
 ghost use Rattle.metis_universe.specs.Steadfast.{is_steadfast};
 ghost use Rattle.metis_universe.specs.Step.{IsRun};
+ghost use Rattle.metis_universe.specs.Universe.{Universe};
 ghost use Rattle.metis_universe.specs.Waits.{numbers};
 ghost use Rattle.metis_place.specs.Placement.{further};
 ghost use Rattle.metis_place.specs.Shortest.{freed_sum, shortest_deletes};
@@ -119,14 +120,12 @@ fn hold_new(alloc: Global, tally: &mut Tally, room: u32, size: u32) -> Result<Ve
 fn take_in(
     alloc: Global,
     holding: &mut Holding,
-    u: &Universe,
     actions: &[Action],
     h: &Hosts,
     at: &BTreeMap<InstNo, (u32, u32)>,
     index: usize,
 ) -> Result<(), NoMemory>
-    requires run { IsRun u.now empty actions.now }
-    requires steadfast { IsTrue (is_steadfast u.now actions.now) }
+    requires run { (u : Universe) × IsRun u empty actions.now × IsTrue (is_steadfast u actions.now) }
     requires few { length actions.now < 2 ^ 32 - 1 }
     requires within { index < length actions.now }
     requires at { AreAt h.now actions.now at.now.entries }
@@ -184,7 +183,7 @@ pub fn holds(
         })?;
     }
     for index in 0..actions.len() {
-        take_in(alloc, &mut holding, u, actions, h, at, index)?;
+        take_in(alloc, &mut holding, actions, h, at, index)?;
     }
     Ok(holding.holds)
 }

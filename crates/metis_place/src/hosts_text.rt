@@ -64,7 +64,7 @@ impl Seen {
         ensures { Takes result self.new (with_tokens u.now number self.old (map (λ t. t.now) tokens.now)) }
     {
         match tokens {
-            [word, name, value] => self.take_words(alloc, u, number, word, name, value),
+            [word, name, value] => self.take_words(alloc, u, number, word, entry_in(name, value)),
             _ => Err(HFault::Line(number)),
         }
     }
@@ -76,15 +76,14 @@ impl Seen {
         u: &Universe,
         number: u32,
         word: &[u8],
-        name: &[u8],
-        value: &[u8],
+        said: Result<(&str, u32), Flaw>,
     ) -> Result<(), HFault>
-        ensures { Takes result self.new (with_words u.now number self.old word.now name.now value.now) }
+        ensures { Takes result self.new (with_words u.now number self.old word.now (made (λ e. (e.0.now, e.1)) said.entry)) }
     {
         if is(word, "host") && self.sizes.is_empty() {
-            self.take_host(alloc, number, name, value)
+            self.take_host(alloc, number, said)
         } else if is(word, "size") && !self.rooms.is_empty() {
-            self.take_size(alloc, u, number, name, value)
+            self.take_size(alloc, u, number, said)
         } else {
             Err(HFault::Line(number))
         }
@@ -94,12 +93,11 @@ impl Seen {
         &mut self,
         alloc: Global,
         number: u32,
-        name: &[u8],
-        room: &[u8],
+        said: Result<(&str, u32), Flaw>,
     ) -> Result<(), HFault>
-        ensures { Takes result self.new (with_host number self.old (entry_in name.now room.now)) }
+        ensures { Takes result self.new (with_host number self.old (made (λ e. (e.0.now, e.1)) said.entry)) }
     {
-        match entry_in(name, room) {
+        match said {
             Ok((name, room)) => add_entry(alloc, &mut self.rooms, number, name, room),
             Err(flaw) => Err(fault_at(number, flaw)),
         }
@@ -111,12 +109,11 @@ impl Seen {
         alloc: Global,
         u: &Universe,
         number: u32,
-        name: &[u8],
-        size: &[u8],
+        said: Result<(&str, u32), Flaw>,
     ) -> Result<(), HFault>
-        ensures { Takes result self.new (with_size u.now number self.old (entry_in name.now size.now)) }
+        ensures { Takes result self.new (with_size u.now number self.old (made (λ e. (e.0.now, e.1)) said.entry)) }
     {
-        match entry_in(name, size) {
+        match said {
             Ok((name, size)) => {
                 if u.type_named(name).is_none() {
                     return Err(HFault::Name(number));

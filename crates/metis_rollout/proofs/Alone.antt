@@ -10,6 +10,7 @@ use Rattle.metis_universe.specs.Config.{Binding, Config, config_of, is_bound, is
 use Rattle.metis_universe.specs.Step.{after_all}
 use Rattle.metis_universe.proofs.Edits.{is_bound-remove}
 use Rattle.metis_universe.proofs.Sorted.{keys_of-filter}
+use Rattle.metis_support.proofs.Lists.{filter_alike}
 use Rattle.metis_rollout.specs.Removal.{GoesApart}
 use Rattle.metis_rollout.specs.Rollout.{all_go, among, cycle_removal, ends_first, first_unbinds, is_idle, is_referenced, left_of, members, next_unreferenced, removal, unbind, unreferenced_deletes, unreferenced_deletes_within, untied_of}
 use Rattle.metis_rollout.proofs.Among.{among_all, filter_twice, pair_of-among}
@@ -17,10 +18,6 @@ use Rattle.metis_rollout.proofs.FreeNumbers.{length-without}
 use Rattle.metis_rollout.proofs.Quiet.{all_among, is_in, next_one, unbinds_bound}
 
 -- ---- lists
-
-filter_same : {X : Type 0} (p q : X → Bool) (xs : List X) → AllByRecursion (λ x. p x ≡ q x) xs → filter p xs ≡ filter q xs
-filter_same p q [] same = refl
-filter_same p q (x ∷ xs) same = λ i. cond (same.0 i) (x ∷ filter_same p q xs same.1 i) (filter_same p q xs same.1 i)
 
 filter_swap : {X : Type 0} (p q : X → Bool) (xs : List X) → filter p (filter q xs) ≡ filter q (filter p xs)
 filter_swap p q xs = filter_twice p q (λ x. q x && p x) (λ x. refl) xs ∙ sym (filter_twice q p (λ x. q x && p x) (λ x. turn (q x) (p x)) xs) where
@@ -152,7 +149,7 @@ module _ (u : Universe) (goes : ℕ → Bool) (name : ℕ → ℕ) (c : Config) 
 
   first_alone : first_unbinds u goes c ≡ first_unbinds u all_go alone
   first_alone = ap (map unbind) (
-      filter_same (ends_first u goes c) (λ b. (goes b.1 && goes b.2) && is_idle u alone b) c.bindings
+      filter_alike (ends_first u goes c) (λ b. (goes b.1 && goes b.2) && is_idle u alone b) c.bindings
       (each_of_bound (λ b. is_bound c b.0 b.1 b.2 ≡ true) (λ b. ends_first u goes c b ≡ ((goes b.1 && goes b.2) && is_idle u alone b)) ends_alone c.bindings (bound_all goes c))
       ∙ sym (filter_twice (is_idle u alone) (λ b. goes b.1 && goes b.2) (λ b. (goes b.1 && goes b.2) && is_idle u alone b) (λ b. refl) c.bindings)
       )

@@ -32,7 +32,7 @@ use Rattle.metis_rollout.proofs.Together.{touches_own}
 use Rattle.metis_rollout.proofs.Touching.{At, pair_touched}
 use Rattle.metis_rollout.proofs.Whole.{removed}
 
-filter_all : (t : ℕ → Bool) (ks : List ℕ) → ((k : ℕ) → has ks k ≡ true → t k ≡ true) → filter t ks ≡ ks
+pub filter_all : (t : ℕ → Bool) (ks : List ℕ) → ((k : ℕ) → has ks k ≡ true → t k ≡ true) → filter t ks ≡ ks
 filter_all t [] all = refl
 filter_all t (k ∷ ks) all = ap (λ b. cond b (k ∷ filter t ks) (filter t ks)) (all k (or_left (nat_eq k k) (has ks k) (eq-eqb k k refl))) ∙ ap (λ l. k ∷ l) (filter_all t ks (λ m there. all m (or_right (nat_eq k m) (has ks m) there)))
 

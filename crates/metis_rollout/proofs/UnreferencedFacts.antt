@@ -34,7 +34,7 @@ bound_points c r z y h = elim (is_referenced c y) as (λ b. is_referenced c y �
 
 -- ---- the least unreferenced instance
 
-above_head : (x n : ℕ) (xs : List ℕ) → AllByRecursion (λ y. nat_cmp x y ≡ Less) xs → has xs n ≡ true → x < n
+pub above_head : (x n : ℕ) (xs : List ℕ) → AllByRecursion (λ y. nat_cmp x y ≡ Less) xs → has xs n ≡ true → x < n
 above_head x n [] all h = absurd (false≢true h)
 above_head x n (y ∷ xs) all h = elim (or_cases (nat_eq y n) (has xs n) h) [
   | inl now ↦ less y (eqb-true y n now) all.0

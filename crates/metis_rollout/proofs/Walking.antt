@@ -17,7 +17,7 @@ use Rattle.std.proofs.lemmas.List.{take_all, take_more}
 use Rattle.metis_ids.specs.declared.actions.Action.{Action}
 use Rattle.metis_ids.proofs.Lists.{take_short}
 use Rattle.metis_universe.specs.Universe.{Universe, has}
-use Rattle.metis_universe.specs.Config.{Config, config_of, empty}
+use Rattle.metis_universe.specs.Config.{Config, config_of}
 use Rattle.metis_universe.specs.Step.{Allows, IsRun, after, after_all}
 use Rattle.metis_layers.proofs.Going.{after_all-append}
 use Rattle.std.specs.BTreeMap.{insert_entry}
@@ -26,7 +26,7 @@ use Rattle.metis_universe.proofs.Edits.{pair_of-put}
 use Rattle.metis_rollout.specs.Standing.{is_made}
 use Rattle.metis_rollout.proofs.FreeNumbers.{free_number-low}
 use Rattle.metis_rollout.proofs.Together.{has-news}
-use Rattle.metis_universe.proofs.Places.{run_at, steadfast_at}
+use Rattle.metis_universe.proofs.Places.{steadfast_at}
 
 item_at : (xs : List Action) (i : ℕ) (d : Action) → i < length xs → slice_get xs i ≡ Some (get_or xs i d)
 item_at [] i d low = absurd (omega arith)

@@ -1,42 +1,43 @@
 //! The removal of instances that are bound in cycles.
-ghost use Rattle.std.specs.Prelude.{◌≡◌, ◌+◌, ◌<◌, ◌^◌, ◌++◌, ℕ, IfOk, IsSome, OnOk, length, map};
+ghost use Rattle.std.specs.Prelude.{◌≡◌, ◌+◌, ◌<◌, ◌≤◌, ◌^◌, ◌++◌, ℕ, IfOk, IsSome, OnOk, length, map};
 ghost use Rattle.std.specs.List.{All};
 ghost use Rattle.metis_universe.specs.Layers.{layer_of};
 ghost use Rattle.metis_universe.specs.Universe.{pair_count};
 ghost use Rattle.metis_layers.specs.Layers.{IsLayers};
 ghost use Rattle.metis_rollout.specs.Holders.{AreFew, holder_at};
-ghost use Rattle.metis_rollout.specs.Rollout.{bind, cycle_removal, deletes, downward, free_number, members, named, pairs_in, scaffold_bindings, slots_required, unbind};
+ghost use Rattle.metis_rollout.specs.Rollout.{bind, cycle_removal, deletes, downward, free_number, members, named, pairs_in, scaffold_bindings, unbind};
 
 use crate::lines::{holder_in, slots_needed_by};
-use crate::names::{name_of, names_for, push_renumbered};
+use crate::names::{Numbers, name_of, names_for, push_renumbered};
 use crate::scaffolding::scaffold_for;
 use metis_config::Config;
 use metis_ids::{Action, InstNo, IxVec, NoMemory, PairIx, PortIx};
 use metis_layers::table::Layers;
 use metis_universe::Universe;
 use std::alloc::Global;
-use std::collections::{BTreeMap, BTreeSet};
+use std::collections::BTreeMap;
 
-/// Removes all instances: a scaffold under the free numbers from `next` on is made, they are bound to it, unbound from one
+/// Removes all instances: a scaffold under the free numbers is made, they are bound to it, unbound from one
 /// another and deleted, and then the scaffold is.
 pub fn remove_cycles(
     alloc: Global,
     u: &Universe,
     l: &Layers,
-    used: &BTreeSet<InstNo>,
-    next: &mut u32,
+    numbers: &Numbers,
     c: &Config,
     actions: &mut Vec<Action>,
 ) -> Result<(), NoMemory>
     requires layers { IsLayers u.now l.now }
     requires layered { All (λ p. IsSome (layer_of u.now p)) (pairs_in c.now) }
-    requires next { (n : ℕ) × (next.old ≡ free_number used.now.keys n) × (length used.now.keys + length used.now.keys + n < 2 ^ 31) }
-    ensures { OnOk result ((n : ℕ) → next.old ≡ free_number used.now.keys n → actions.new.items ≡ actions.old.items ++ cycle_removal u.now (λ k. free_number used.now.keys (n + k)) c.now) }
+    requires next { let used = numbers.now.used.keys in (n : ℕ) × (numbers.now.next ≡ free_number used n) × (length used + length used + n < 2 ^ 31) }
+    ensures { let used = numbers.now.used.keys in OnOk result ((n : ℕ) → numbers.now.next ≡ free_number used n
+        → actions.new.items ≡ actions.old.items ++ cycle_removal u.now (λ k. free_number used (n + k)) c.now) }
 {
     u.keeps_invariant();
     let pairs = pairs_of(alloc, c)?;
     let scaffold = scaffold_for(alloc, u, l, &pairs)?;
-    let names = names_for(alloc, used, next, &scaffold.actions)?;
+    let mut next = numbers.next;
+    let names = names_for(alloc, &numbers.used, &mut next, &scaffold.actions)?;
     push_renumbered(&names, &scaffold.actions, actions)?;
     bind_all(alloc, u, c, &scaffold.firsts, &names, actions)?;
     unbind_all(c, actions)?;
@@ -69,27 +70,25 @@ fn bind_all(
     ensures { OnOk result (actions.new.items ≡ actions.old.items ++ map bind (scaffold_bindings u.now (λ r k. named names.now.entries (holder_at firsts.now r k)) c.now)) }
 {
     for (z, p) in c.instances() {
-        bind_slots(alloc, u, firsts, names, z, p, actions)?;
+        let slots = slots_needed_by(alloc, u, p)?;
+        bind_slots(z, &slots, firsts, names, actions)?;
     }
     Ok(())
 }
 
-// Binds the instance at each slot that it needs in its pair.
+// Binds the instance at each of these slots.
 fn bind_slots(
-    alloc: Global,
-    u: &Universe,
+    z: InstNo,
+    slots: &[(PortIx, u32)],
     firsts: &IxVec<PortIx, u32>,
     names: &BTreeMap<InstNo, InstNo>,
-    z: InstNo,
-    p: PairIx,
     actions: &mut Vec<Action>,
 ) -> Result<(), NoMemory>
-    requires within { p < pair_count u.now }
     requires firsts { AreFew firsts.now }
-    ensures { OnOk result (actions.new.items ≡ actions.old.items ++ map bind (map (λ s. (s.0, z, named names.now.entries (holder_at firsts.now s.0 s.1))) (slots_required u.now p))) }
+    requires low { All (λ s. s.1 ≤ 16) slots.now }
+    ensures { OnOk result (actions.new.items ≡ actions.old.items ++ map bind (map (λ s. (s.0, z, named names.now.entries (holder_at firsts.now s.0 s.1))) slots.now)) }
 {
-    let slots = slots_needed_by(alloc, u, p)?;
-    for slot in &slots {
+    for slot in slots {
         actions.push(Action::Bind {
             port: slot.0,
             inst: z,

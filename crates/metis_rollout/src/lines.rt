@@ -33,9 +33,20 @@ pub fn lines_to(
     let mut actions = Vec::new(alloc);
     for number in 0..ends.len() {
         let inst = InstNo(number as u32);
-        add_line(alloc, u, s, firsts, inst, ends[number], &mut actions)?;
+        let line = Line {
+            inst,
+            end: ends[number],
+        };
+        add_line(alloc, u, s, firsts, line, &mut actions)?;
     }
     Ok(actions)
+}
+
+// An instance, and the pair to which it is brought.
+#[derive(Clone, Copy)]
+struct Line {
+    inst: InstNo,
+    end: PairIx,
 }
 
 // Makes the instance and brings it to the pair along origins.
@@ -44,46 +55,49 @@ fn add_line(
     u: &Universe,
     s: &Support,
     firsts: &IxVec<PortIx, u32>,
-    inst: InstNo,
-    p: PairIx,
+    line: Line,
     actions: &mut Vec<Action>,
 ) -> Result<(), NoMemory>
     requires support { IsSupport u.now s.now }
     requires truth { TellsTruly u.now s.now }
     requires firsts { AreFew firsts.now }
-    requires selected { IsTrue (is_selected s.now p) }
-    ensures { OnOk result (actions.new.items ≡ actions.old.items ++ slot_line u.now (holder_at firsts.now) inst (path_to u.now p)) }
+    requires selected { IsTrue (is_selected s.now line.end) }
+    ensures { OnOk result (actions.new.items ≡ actions.old.items ++ slot_line u.now (holder_at firsts.now) line.inst (path_to u.now line.end)) }
 {
-    match s.origin(p) {
+    match s.origin(line.end) {
         Some(origin) => {
-            add_line(alloc, u, s, firsts, inst, origin, actions)?;
-            add_move(alloc, u, firsts, inst, origin, p, actions)
+            let front = Line {
+                inst: line.inst,
+                end: origin,
+            };
+            add_line(alloc, u, s, firsts, front, actions)?;
+            add_move(alloc, u, firsts, line, origin, actions)
         }
         None => {
             actions.push(Action::New {
-                inst,
-                kind: u.type_of(p),
+                inst: line.inst,
+                kind: u.type_of(line.end),
             })?;
             Ok(())
         }
     }
 }
 
-// From one pair to another: the slots needed besides are bound before the move, and those no longer needed are unbound after it.
+// From a pair to the end of the line: the slots needed besides are bound before the move, and those no longer needed are unbound after it.
 fn add_move(
     alloc: Global,
     u: &Universe,
     firsts: &IxVec<PortIx, u32>,
-    inst: InstNo,
+    line: Line,
     from: PairIx,
-    to: PairIx,
     actions: &mut Vec<Action>,
 ) -> Result<(), NoMemory>
     requires firsts { AreFew firsts.now }
     requires from { from < pair_count u.now }
-    requires to { to < pair_count u.now }
-    ensures { OnOk result (actions.new.items ≡ actions.old.items ++ slot_move u.now (holder_at firsts.now) inst from to) }
+    requires to { line.end < pair_count u.now }
+    ensures { OnOk result (actions.new.items ≡ actions.old.items ++ slot_move u.now (holder_at firsts.now) line.inst from line.end) }
 {
+    let Line { inst, end: to } = line;
     let gained = slots_gained_by(alloc, u, from, to)?;
     let lost = slots_gained_by(alloc, u, to, from)?;
     add_binds(firsts, inst, &gained, actions)?;

@@ -6,13 +6,13 @@ ghost use Rattle.metis_universe.specs.Layers.{layer_of};
 ghost use Rattle.metis_universe.specs.Universe.{has, pair_count, port_count};
 ghost use Rattle.metis_layers.specs.LayerOrder.{place_of};
 ghost use Rattle.metis_layers.specs.Layers.{IsLayers};
-ghost use Rattle.metis_support.specs.Support.{IsSupport, is_selected, provider_pairs, support_of};
+ghost use Rattle.metis_support.specs.Support.{IsSupport, is_selected, provider_pairs};
 ghost use Rattle.metis_rollout.specs.Holders.{AreFew, IsScaffoldIn, TellsTruly, ends_among, first_among};
 ghost use Rattle.metis_rollout.specs.Rollout.{scaffold_ends, scaffold_list};
 
 use crate::lines::lines_to;
 use crate::slots::repeated;
-use metis_choice::{Choice, choose};
+use metis_choice::support;
 use metis_ids::{Action, IxVec, NoMemory, PairIx, PairSet, PortIx};
 use metis_layers::table::Layers;
 use metis_support::{Support, filled, slot_counts};
@@ -44,7 +44,7 @@ pub fn scaffold_for(
     ensures few { IfOk result (λ s. AreFew s.firsts) }
 {
     u.keeps_invariant();
-    let support = selection_for(alloc, u, l, targets)?;
+    let support = support(alloc, u, l, targets)?;
     let ends = ends_among(alloc, u, l, &support)?;
     scaffold_in(alloc, u, l, &support, &ends)
 }
@@ -82,24 +82,6 @@ fn ends_among(alloc: Global, u: &Universe, l: &Layers, s: &Support) -> Result<Ve
     let pairs = pairs_provided_from(alloc, u, l, s)?;
     let counts = slot_counts(alloc, u, s)?;
     repeated(alloc, &counts, &pairs)
-}
-
-// The selection of pairs that have a layer.
-fn selection_for(
-    alloc: Global,
-    u: &Universe,
-    l: &Layers,
-    targets: &[PairIx],
-) -> Result<Support, NoMemory>
-    requires layers { IsLayers u.now l.now }
-    requires within { All (λ p. p < pair_count u.now) targets.now }
-    requires layered { All (λ p. IsSome (layer_of u.now p)) targets.now }
-    ensures { IfOk result (λ s. s ≡ support_of u.now targets.now) }
-{
-    match choose(alloc, u, l, targets)? {
-        Choice::Support(support) => Ok(support),
-        Choice::Lacks(_) => unreachable!(),
-    }
 }
 
 // The pairs from which some port is taken, by layer and then by number.
