@@ -1,11 +1,11 @@
 -- Where nothing is given and nothing avoided, what is left of a universe is the universe, and a list is completed by nothing.
 use Rattle.std.proofs.Common.{◌≡◌, ℕ, ◌+◌, ◌-◌, ◌<◌, Bool, true, false, cond, List, [], ◌∷◌, ◌++◌, length, get_or, map, min, refl, sym, ap, ◌∙◌, subst, arith, nat_eq, zero-add}
-use Rattle.std.specs.List.{filter, flat_map, position_or_len}
+use Rattle.std.specs.List.{flat_map, position_or_len}
 use Rattle.std.specs.List.Sorted.{IsStrictlyIncreasing}
-use Rattle.std.proofs.lemmas.Bool.{lt-ltb, or_right}
+use Rattle.std.proofs.lemmas.Bool.{lt-ltb}
 use Rattle.std.proofs.lemmas.List.{get_or-map, get_or_default, length-map, same_lists}
 use Rattle.std.proofs.lemmas.List.FromFn.{get_or-map-range_with_len, length-map-range_with_len}
-use Rattle.metis_ids.proofs.Lists.{has_at, has_here}
+use Rattle.metis_ids.proofs.Lists.{has_at}
 use Rattle.metis_ids.specs.declared.actions.Action.{Action}
 use Rattle.metis_ids.specs.declared.actions.Action.TheVariants.{New, Delete, Bind, Unbind, Move}
 use Rattle.metis_layers.specs.SlotLines.{slot_binds, slot_unbinds, slots_above}
@@ -13,17 +13,13 @@ use Rattle.metis_universe.proofs.Sought.{own_place}
 use Rattle.metis_universe.specs.Universe.{IsUniverse, Pair, Universe, all_pairs, demand_in, demand_of, has, is_initial, no_pair, pair_at, pair_count, required_of}
 use Rattle.metis_completion.specs.Completed.{completed, completed_action, given_demand, given_gained, given_holder}
 use Rattle.metis_completion.proofs.ResidualRows.{demand_left}
+use Rattle.metis_rollout.proofs.Guarding.{filter_all}
 use Rattle.metis_universe.specs.Residual.{further_left, is_left, required_left, residual, residual_row}
 
 abbrev none_given : ℕ → ℕ
 none_given r = 0
 
 -- ---- a row
-
-filter_all : (t : ℕ → Bool) (xs : List ℕ) → ((x : ℕ) → has xs x ≡ true → t x ≡ true) → filter t xs ≡ xs
-filter_all t [] each = refl
-filter_all t (x ∷ xs) each =
-    ap (λ b. cond b (x ∷ filter t xs) (filter t xs)) (each x (has_here x xs)) ∙ ap (λ l. x ∷ l) (filter_all t xs (λ y h. each y (or_right (nat_eq x y) (has xs y) h)))
 
 module _ (row : Pair) (up : IsStrictlyIncreasing row.required) (same : length row.further ≡ length row.required) where
   some_demanded : (r : ℕ) → has row.required r ≡ true → is_left none_given row r ≡ true

@@ -1,3 +1,4 @@
 pub mod Completed
 pub mod Fresh
 pub mod Given
+pub mod Ties

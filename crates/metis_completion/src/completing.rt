@@ -3,12 +3,14 @@ ghost use Rattle.std.specs.Prelude.{◌≡◌, ◌≤◌, ◌<◌, ◌++◌, OnO
 ghost use Rattle.std.specs.List.{All};
 ghost use Rattle.metis_universe.specs.Numbers.{IsOf};
 ghost use Rattle.metis_universe.specs.Universe.{pair_count};
-ghost use Rattle.metis_layers.specs.SlotLines.{slot_binds, slot_unbinds, slots_above};
+ghost use Rattle.metis_layers.specs.SlotLines.{slots_above};
 ghost use Rattle.metis_completion.specs.Completed.{completed, completed_action, given_demand, given_gained, given_holder};
 ghost use Rattle.metis_completion.specs.Given.{given_in};
+ghost use Rattle.metis_completion.specs.Ties.{slot_ties};
 
 use crate::given::Given;
-use metis_ids::{Action, InstNo, NoMemory, PairIx, PortIx};
+use crate::tie::Tie;
+use metis_ids::{Action, NoMemory, PairIx, PortIx};
 use metis_universe::Universe;
 
 /// Appends the fresh actions, where around each move the instance is bound to the given instances that its new pair demands, and
@@ -39,19 +41,19 @@ fn complete_one(
     ensures { OnOk result (actions.new.items ≡ actions.old.items ++ completed_action u.now (given_in given.now) action) }
 {
     if let Action::Move { inst, from, to } = action {
-        add_binds(u, given, inst, from, to, actions)?;
+        add_ties(&Tie::Bound(inst), u, given, from, to, actions)?;
         actions.push(Action::Move { inst, from, to })?;
-        return add_unbinds(u, given, inst, to, from, actions);
+        return add_ties(&Tie::Unbound(inst), u, given, to, from, actions);
     }
     actions.push(action)?;
     Ok(())
 }
 
-// Binds the instance to the given instances that `to` takes and `from` does not, by port and then in order.
-fn add_binds(
+// Binds the instance to the given instances that `to` takes and `from` does not, by port and then in order, or unbinds it.
+fn add_ties(
+    tie: &Tie,
     u: &Universe,
     given: &Given,
-    inst: InstNo,
     from: PairIx,
     to: PairIx,
     actions: &mut Vec<Action>,
@@ -59,34 +61,12 @@ fn add_binds(
     requires from { from < pair_count u.now }
     requires to { to < pair_count u.now }
     ensures { let standing = given_in given.now in OnOk result
-        (actions.new.items ≡ actions.old.items ++ slot_binds (given_holder standing) inst (given_gained u.now standing from to)) }
+        (actions.new.items ≡ actions.old.items ++ slot_ties tie.now (given_holder standing) (given_gained u.now standing from to)) }
 {
     for port in u.requires_(to) {
         let held = taken(u, given, from, *port);
         let needed = taken(u, given, to, *port);
-        bind_above(given, inst, *port, held, needed, actions)?;
-    }
-    Ok(())
-}
-
-// Unbinds it from those that `to` takes and `from` does not.
-fn add_unbinds(
-    u: &Universe,
-    given: &Given,
-    inst: InstNo,
-    from: PairIx,
-    to: PairIx,
-    actions: &mut Vec<Action>,
-) -> Result<(), NoMemory>
-    requires from { from < pair_count u.now }
-    requires to { to < pair_count u.now }
-    ensures { let standing = given_in given.now in OnOk result
-        (actions.new.items ≡ actions.old.items ++ slot_unbinds (given_holder standing) inst (given_gained u.now standing from to)) }
-{
-    for port in u.requires_(to) {
-        let held = taken(u, given, from, *port);
-        let needed = taken(u, given, to, *port);
-        unbind_above(given, inst, *port, held, needed, actions)?;
+        tie_above(tie, given, *port, held, needed, actions)?;
     }
     Ok(())
 }
@@ -108,10 +88,10 @@ fn taken(u: &Universe, given: &Given, pair: PairIx, port: PortIx) -> u32
     }
 }
 
-// Binds the instance to the port's given instances above number `held` up to `needed`, counted from 1.
-fn bind_above(
+// Binds the instance to the port's given instances above number `held` up to `needed`, counted from 1, or unbinds it.
+fn tie_above(
+    tie: &Tie,
     given: &Given,
-    inst: InstNo,
     port: PortIx,
     held: u32,
     needed: u32,
@@ -119,33 +99,11 @@ fn bind_above(
 ) -> Result<(), NoMemory>
     requires { needed ≤ length (given_in given.now port) }
     ensures { let standing = given_in given.now in OnOk result
-        (actions.new.items ≡ actions.old.items ++ slot_binds (given_holder standing) inst (map (λ k. (port, k)) (slots_above held needed))) }
+        (actions.new.items ≡ actions.old.items ++ slot_ties tie.now (given_holder standing) (map (λ k. (port, k)) (slots_above held needed))) }
 {
     let standing = given.of(port);
     for below in held..needed {
-        let to = standing[below as usize];
-        actions.push(Action::Bind { port, inst, to })?;
-    }
-    Ok(())
-}
-
-// Unbinds it from these.
-fn unbind_above(
-    given: &Given,
-    inst: InstNo,
-    port: PortIx,
-    held: u32,
-    needed: u32,
-    actions: &mut Vec<Action>,
-) -> Result<(), NoMemory>
-    requires { needed ≤ length (given_in given.now port) }
-    ensures { let standing = given_in given.now in OnOk result
-        (actions.new.items ≡ actions.old.items ++ slot_unbinds (given_holder standing) inst (map (λ k. (port, k)) (slots_above held needed))) }
-{
-    let standing = given.of(port);
-    for below in held..needed {
-        let to = standing[below as usize];
-        actions.push(Action::Unbind { port, inst, to })?;
+        actions.push(tie.action(port, standing[below as usize]))?;
     }
     Ok(())
 }

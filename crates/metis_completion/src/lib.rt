@@ -4,6 +4,7 @@
 mod completing;
 mod given;
 mod laws;
+mod tie;
 
 pub use completing::complete;
 pub use given::Given;
