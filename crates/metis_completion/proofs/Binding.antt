@@ -10,7 +10,6 @@ use Rattle.metis_ids.proofs.Lists.{each_weaker}
 use Rattle.metis_layers.specs.SlotLines.{slot_binds, slot_unbinds}
 use Rattle.metis_rollout.specs.Rollout.{bind, unbind}
 use Rattle.metis_rollout.proofs.Going.{Unpointed}
-use Rattle.metis_rollout.proofs.Rebinding.{binds_pair}
 use Rattle.metis_rollout.proofs.Quiet.{AllBound, QuietFrom, QuietFrom-append, all_among, is_in, not_below_itself, unbinds_bound, unbinds_pair, unbinds_quiet}
 use Rattle.metis_rollout.proofs.Serving.{more_bound}
 use Rattle.metis_universe.specs.Universe.{Universe, has, next_of, provides}
@@ -53,6 +52,10 @@ fits_still u c b (d ∷ bs) below all = (
   },
   fits_still u c b bs below.1 all.1,
 )
+
+pub binds_pair : (u : Universe) (c : Config) (bs : List Binding) (z : ℕ) → pair_of (after_all u c (map bind bs)) z ≡ pair_of c z
+binds_pair u c [] z = refl
+binds_pair u c (b ∷ bs) z = binds_pair u (tie c b.0 b.1 b.2) bs z
 
 pub binds_bound : (u : Universe) (c : Config) (bs : List Binding) (r z y : ℕ) → is_bound (after_all u c (map bind bs)) r z y ≡ (is_in bs r z y || is_bound c r z y)
 binds_bound u c [] r z y = refl

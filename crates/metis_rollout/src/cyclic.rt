@@ -8,36 +8,35 @@ ghost use Rattle.metis_rollout.specs.Holders.{AreFew, holder_at};
 ghost use Rattle.metis_rollout.specs.Rollout.{bind, cycle_removal, deletes, downward, free_number, members, named, pairs_in, scaffold_bindings, unbind};
 
 use crate::lines::{holder_in, slots_needed_by};
-use crate::names::{Numbers, name_of, names_for, push_renumbered};
+use crate::names::{name_of, names_for, push_renumbered};
 use crate::scaffolding::scaffold_for;
 use metis_config::Config;
 use metis_ids::{Action, InstNo, IxVec, NoMemory, PairIx, PortIx};
 use metis_layers::table::Layers;
 use metis_universe::Universe;
 use std::alloc::Global;
-use std::collections::BTreeMap;
+use std::collections::{BTreeMap, BTreeSet};
 
-/// Removes all instances: a scaffold under the free numbers is made, they are bound to it, unbound from one
+/// Removes all instances: a scaffold under the free numbers from `next` on is made, they are bound to it, unbound from one
 /// another and deleted, and then the scaffold is.
 pub fn remove_cycles(
     alloc: Global,
     u: &Universe,
     l: &Layers,
-    numbers: &Numbers,
+    used: &BTreeSet<InstNo>,
+    next: &mut u32,
     c: &Config,
     actions: &mut Vec<Action>,
 ) -> Result<(), NoMemory>
     requires layers { IsLayers u.now l.now }
     requires layered { All (λ p. IsSome (layer_of u.now p)) (pairs_in c.now) }
-    requires next { let used = numbers.now.used.keys in (n : ℕ) × (numbers.now.next ≡ free_number used n) × (length used + length used + n < 2 ^ 31) }
-    ensures { let used = numbers.now.used.keys in OnOk result ((n : ℕ) → numbers.now.next ≡ free_number used n
-        → actions.new.items ≡ actions.old.items ++ cycle_removal u.now (λ k. free_number used (n + k)) c.now) }
+    requires next { (n : ℕ) × (next.old ≡ free_number used.now.keys n) × (length used.now.keys + length used.now.keys + n < 2 ^ 31) }
+    ensures { OnOk result ((n : ℕ) → next.old ≡ free_number used.now.keys n → actions.new.items ≡ actions.old.items ++ cycle_removal u.now (λ k. free_number used.now.keys (n + k)) c.now) }
 {
     u.keeps_invariant();
     let pairs = pairs_of(alloc, c)?;
     let scaffold = scaffold_for(alloc, u, l, &pairs)?;
-    let mut next = numbers.next;
-    let names = names_for(alloc, &numbers.used, &mut next, &scaffold.actions)?;
+    let names = names_for(alloc, used, next, &scaffold.actions)?;
     push_renumbered(&names, &scaffold.actions, actions)?;
     bind_all(alloc, u, c, &scaffold.firsts, &names, actions)?;
     unbind_all(c, actions)?;

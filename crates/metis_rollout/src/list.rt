@@ -10,7 +10,7 @@ ghost use Rattle.metis_rollout.specs.Rolled.{IsRollout};
 ghost use Rattle.metis_rollout.specs.Rollout.{free_number, news_of, renumbered};
 ghost use Rattle.metis_universe.specs.Steadfast.{IsSteadfastRun};
 
-use crate::names::{Numbers, made_by, names_for, next_free, push_renumbered};
+use crate::names::{made_by, names_for, next_free, push_renumbered};
 use crate::removing::remove;
 use crate::standing::left_by;
 use metis_config::Config;
@@ -64,8 +64,7 @@ pub fn rollout_from(
     let mut next = next_free(&used, 0);
     let mut actions = side_by_side(alloc, &used, &mut next, old, fresh)?;
     let stays = BTreeSet::new(alloc);
-    let numbers = Numbers { stays, used, next };
-    remove(alloc, u, l, left, &numbers, &mut actions)?;
+    remove(alloc, u, l, left, &stays, &used, &mut next, &mut actions)?;
     Ok(actions)
 }
 

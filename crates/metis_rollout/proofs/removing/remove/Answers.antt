@@ -18,15 +18,15 @@ clear-requires c = subst (IsOver c.args.u.now) (sym c.requires.stands.3) (over_l
 pub remove_cycles-requires-clause-layered : goal.remove_cycles-requires-clause-layered
 remove_cycles-requires-clause-layered c =
     let u = c.args.u.now in
-    let goes = all_but c.args.numbers.now.stays.keys in
+    let goes = all_but c.args.stays.now.keys in
     let is = c.take_out.ensures ∙ ap (among goes) (c.in_ok-clear.ensures.config ∙ ap (left_of u goes) c.requires.stands.3) in
     subst (λ (d : Config). All (λ p. IsSome (layer_of u p)) (pairs_in d)) (sym is) (left_layered u goes c.requires.stands.0 c.keeps_invariant.ensures.universe c.requires.stands.1)
 
 pub returns : goal.returns
 returns c n first =
     let u = c.args.u.now in
-    let goes = all_but c.args.numbers.now.stays.keys in
-    let name : ℕ → ℕ = λ k. free_number c.args.numbers.now.used.keys (n + k) in
+    let goes = all_but c.args.stays.now.keys in
+    let name : ℕ → ℕ = λ k. free_number c.args.used.now.keys (n + k) in
     let old = c.args.actions.now.items in
     let now = c.clear.new.actions.items in
     let what = c.take_out.new.c in
