@@ -1,0 +1,17 @@
+mod Alike
+mod Attained
+mod Explained
+mod Firsts
+mod Leaving
+mod Obstacles
+mod Placements
+mod Plain
+mod Planned
+mod Reconfigured
+mod Reconfiguring
+mod Refuted
+mod Replayed
+mod Runs
+mod Scripts
+mod Staying
+mod Unsteady
