@@ -1,5 +1,7 @@
 mod Alike
+mod AnswersThere
 mod Attained
+mod AuditsThere
 mod Explained
 mod Firsts
 mod Leaving
@@ -7,6 +9,7 @@ mod Obstacles
 mod Placements
 mod Plain
 mod Planned
+mod PlansThere
 mod Reconfigured
 mod Reconfiguring
 mod Refuted
@@ -15,3 +18,4 @@ mod Runs
 mod Scripts
 mod Staying
 mod Unsteady
+mod WavesThere
