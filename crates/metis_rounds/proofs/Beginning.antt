@@ -11,7 +11,7 @@ use Rattle.metis_lines.specs.LifeLines.{LifeLines, plan_of}
 use Rattle.metis_events.specs.Gathered.{without_supplies}
 use Rattle.metis_rounds.specs.Going.{IsGoing}
 use Rattle.metis_rounds.specs.Reach.{is_taken, taken_of}
-use Rattle.metis_rounds.specs.Tables.{has_row, row_at}
+use Rattle.metis_rounds.specs.Tables.{Rows, has_row, row_at}
 use Rattle.metis_rounds.specs.declared.going.Going.{Going}
 
 -- ---- one line more
@@ -43,7 +43,7 @@ one_more ks k below l = has_push ks k l ∙ ap (λ b. b || nat_eq k l) (below l)
 ]
 
 -- the table has a list for each event of one line more
-pub more_rows : (x : LifeLines) (t v : List (List (List Event))) (n : ℕ) → length t ≡ n → ((k j : ℕ) → k < n → j < step_count (without_supplies x) k → has_row t (At k j) ≡ true) → ((k j : ℕ) → has_row v (At k j) ≡ (has_row t (At k j) || (nat_eq k (length t) && nat_lt j (step_count (without_supplies x) n)))) → (k j : ℕ) → k < n + 1 → j < step_count (without_supplies x) k → has_row v (At k j) ≡ true
+pub more_rows : (x : LifeLines) (t v : Rows) (n : ℕ) → length t ≡ n → ((k j : ℕ) → k < n → j < step_count (without_supplies x) k → has_row t (At k j) ≡ true) → ((k j : ℕ) → has_row v (At k j) ≡ (has_row t (At k j) || (nat_eq k (length t) && nat_lt j (step_count (without_supplies x) n)))) → (k j : ℕ) → k < n + 1 → j < step_count (without_supplies x) k → has_row v (At k j) ≡ true
 more_rows x t v n size rows more k j low steps = more k j ∙ elim (cases_eq k n) [
   | inl same ↦
       let count = ap (step_count (without_supplies x)) same in
@@ -69,7 +69,7 @@ none_is_taken : (ns : List ℕ) → ((l : ℕ) → taken_of ns l ≡ 0) → (e :
 none_is_taken ns none (At l j) = let zero_taken = none l in le-ltb j (taken_of ns l) (omega arith)
 none_is_taken ns none End = refl
 
-pub begins : (u : Universe) (s : Support) (x : LifeLines) (t : List (List (List Event))) (g : Going) → IsBeginning x (length x.lines) g → IsGoing u s x t g []
+pub begins : (u : Universe) (s : Support) (x : LifeLines) (t : Rows) (g : Going) → IsBeginning x (length x.lines) g → IsGoing u s x t g []
 begins u s x t g b = record {
   taken = b.taken;
   met = b.met;

@@ -12,10 +12,7 @@ use Rattle.metis_lines.specs.Events.{is_among, is_end, leaving, same_event, step
 use Rattle.metis_lines.proofs.SameEvents.{same_events, same_itself}
 use Rattle.metis_events.proofs.Adding.{joined_more}
 use Rattle.metis_rounds.specs.Returns.{Brings}
-use Rattle.metis_rounds.specs.Tables.{HasRows, has_row, row_at}
-
-abbrev Rows : Type 0
-Rows = List (List (List Event))
+use Rattle.metis_rounds.specs.Tables.{HasRows, Rows, has_row, row_at}
 
 both_ors : (n t v x : Bool) → ((n && v) || ((n && t) || x)) ≡ ((n && (t || v)) || x)
 both_ors false t v x = refl

@@ -20,7 +20,7 @@ use Rattle.metis_rounds.proofs.Reaches.{next_safe}
 use Rattle.metis_rounds.proofs.Steps.{among_push}
 use Rattle.metis_rounds.specs.Going.{HasSeen, IsGoing, IsWaiting, all_taken, event_count, is_on, next_uses, use_at, use_event, uses_at}
 use Rattle.metis_rounds.specs.Reach.{HasAllBefore, WaitsFor, is_taken, next_of, taken_of, with_next}
-use Rattle.metis_rounds.specs.Tables.{HasRows, has_row, row_at}
+use Rattle.metis_rounds.specs.Tables.{HasRows, Rows, has_row, row_at}
 use Rattle.metis_rounds.specs.Walks.{step_at}
 use Rattle.metis_rounds.specs.declared.going.Going.{Going}
 
@@ -77,12 +77,12 @@ line_there (At m j ∷ es) l h = elim (or_cases (nat_eq m l) (list_any (is_on l)
 line_there (End ∷ es) l h = let rest = line_there es l h in (rest.0, rest.1)
 
 -- an event but the end has a list
-pub row_of_event : (w : AbstractPlan) (t : List (List (List Event))) → HasRows w t → (e : Event) → is_event w e ≡ true → is_end e ≡ false → has_row t e ≡ true
+pub row_of_event : (w : AbstractPlan) (t : Rows) → HasRows w t → (e : Event) → is_event w e ≡ true → is_end e ≡ false → has_row t e ≡ true
 row_of_event w t rows (At l j) there open_end = rows.rows l j there
 row_of_event w t rows End there open_end = absurd (true≢false open_end)
 
 -- a list has one event more
-pub listed : (t v : List (List (List Event))) (event next : Event) → row_at v event ≡ row_at t event ++ next ∷ [] → ((f : Event) → same_event f event ≡ false → row_at v f ≡ row_at t f) → (e f : Event) → is_among (row_at v e) f ≡ (is_among (row_at t e) f || (same_event e event && same_event next f))
+pub listed : (t v : Rows) (event next : Event) → row_at v event ≡ row_at t event ++ next ∷ [] → ((f : Event) → same_event f event ≡ false → row_at v f ≡ row_at t f) → (e f : Event) → is_among (row_at v e) f ≡ (is_among (row_at t e) f || (same_event e event && same_event next f))
 listed t v event next there others e f = elim (cases_Bool (same_event e event)) [
   | inl same ↦
       let is = same_events e event same in
@@ -90,7 +90,7 @@ listed t v event next there others e f = elim (cases_Bool (same_event e event)) 
   | inr other ↦ ap (λ es. is_among es f) (others e other) ∙ sym (or-false (is_among (row_at t e) f)) ∙ ap (λ b. is_among (row_at t e) f || (b && same_event next f)) (sym other)
 ]
 
-module _ (u : Universe) (s : Support) (x : LifeLines) (t : List (List (List Event))) (line : ℕ) (rest : List ℕ) (g v : Going) where
+module _ (u : Universe) (s : Support) (x : LifeLines) (t : Rows) (line : ℕ) (rest : List ℕ) (g v : Going) where
   abbrev w : AbstractPlan
   w = plan_of u s x
 
@@ -254,7 +254,7 @@ fewer_left b t v old new few some more =
       | inr taken ↦ let after : cond {A = ℕ} (nat_eq (length new) 0) 0 1 ≤ 1 = cond_both (nat_eq (length new) 0) 0 1 (λ n. n ≤ 1) (λ _. omega arith) (λ _. omega arith) in omega (arith, before, after, taken, few)
     ]
 
-pub taken_few : (u : Universe) (s : Support) (x : LifeLines) (t : List (List (List Event))) (g : Going) (pending : List ℕ) → IsGoing u s x t g pending → all_taken g.taken.items ≤ event_count (plan_of u s x)
+pub taken_few : (u : Universe) (s : Support) (x : LifeLines) (t : Rows) (g : Going) (pending : List ℕ) → IsGoing u s x t g pending → all_taken g.taken.items ≤ event_count (plan_of u s x)
 taken_few u s x t g pending going =
     subst (λ n. all_taken g.taken.items ≤ all_taken (map (step_count (plan_of u s x)) (range_with_len 0 n))) going.taken
     (sums_below (step_count (plan_of u s x)) g.taken.items 0 (λ k low. subst (λ b. get_or g.taken.items k 0 ≤ step_count (plan_of u s x) b) (let same : k ≡ 0 + k = omega arith in same) (going.steps k (omega (arith, low, going.taken)))))
@@ -267,7 +267,7 @@ drop_at [] k n low is = absurd (omega arith)
 drop_at (m ∷ ks) zero n low is = ap (λ a. a ∷ ks) (sym is)
 drop_at (m ∷ ks) (suc k) n low is = let next : suc k + 1 ≡ suc (k + 1) = omega arith in drop_at ks k n (omega arith) is ∙ ap (λ a. n ∷ drop a (m ∷ ks)) (sym next)
 
-module _ (u : Universe) (s : Support) (x : LifeLines) (t : List (List (List Event))) (work : List ℕ) (place line : ℕ) (g : Going) (low : place < length work) (is : line ≡ get_or work place line) (going : IsGoing u s x t g (drop place work)) where
+module _ (u : Universe) (s : Support) (x : LifeLines) (t : Rows) (work : List ℕ) (place line : ℕ) (g : Going) (low : place < length work) (is : line ≡ get_or work place line) (going : IsGoing u s x t g (drop place work)) where
   pub next_line : IsGoing u s x t g (line ∷ drop (place + 1) work)
   next_line = subst (IsGoing u s x t g) (drop_at work place line low is) going
 

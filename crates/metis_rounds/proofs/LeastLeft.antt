@@ -24,7 +24,7 @@ use Rattle.metis_rounds.proofs.Seen.{starts_at}
 use Rattle.metis_rounds.specs.Going.{use_event, uses_at}
 use Rattle.metis_rounds.specs.Least.{IsFirstLeft, least_left, lesser_of, on_line_before, with_left}
 use Rattle.metis_rounds.specs.Reach.{HasAllBefore, HasEnded, IsLeastLeft, is_taken, taken_of}
-use Rattle.metis_rounds.specs.Tables.{HasReturns, row_at}
+use Rattle.metis_rounds.specs.Tables.{HasReturns, Rows, row_at}
 
 -- ---- the least of what has a property
 
@@ -139,7 +139,7 @@ module _ (ns : List ℕ) where
 
 -- ---- the least of those that have to come before an event of a line
 
-module _ (u : Universe) (s : Support) (x : LifeLines) (universe : IsUniverse u) (k : IsSupport u s) (are : AreLines u s x) (t : List (List (List Event))) (has : HasReturns (plan_of u s x) t) (ns : List ℕ) (l j : ℕ) (event : is_event (plan_of u s x) (At l j) ≡ true) where
+module _ (u : Universe) (s : Support) (x : LifeLines) (universe : IsUniverse u) (k : IsSupport u s) (are : AreLines u s x) (t : Rows) (has : HasReturns (plan_of u s x) t) (ns : List ℕ) (l j : ℕ) (event : is_event (plan_of u s x) (At l j) ≡ true) where
   abbrev w : AbstractPlan
   w = plan_of u s x
 

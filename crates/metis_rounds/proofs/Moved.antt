@@ -22,7 +22,7 @@ use Rattle.metis_rounds.proofs.Twins as twins
 use Rattle.metis_rounds.proofs.Twins.{there_low}
 use Rattle.metis_rounds.specs.OwnLine.{HasMoved, IsWithOwnLine, is_from, moved_supply, twin_line, twin_supply}
 use Rattle.metis_rounds.specs.Returns.{Brings}
-use Rattle.metis_rounds.specs.Tables.{HasGrown, HasReturns, HasRows, has_row, row_at}
+use Rattle.metis_rounds.specs.Tables.{HasGrown, HasReturns, HasRows, Rows, has_row, row_at}
 
 -- ---- return edges
 
@@ -57,7 +57,7 @@ step_of : (l j m k : ℕ) → At l j ≡ At m k → j ≡ k
 step_of l j m k h = cc
 
 -- how a table has come from another: one list has been moved
-pub record AreMoved (n y i : ℕ) (old new : List (List (List Event))) : Type 0 where
+pub record AreMoved (n y i : ℕ) (old new : Rows) : Type 0 where
   pub at_new : row_at new (At n (i + 1)) ≡ row_at old (At y (i + 1))
   pub at_old : row_at new (At y (i + 1)) ≡ []
   pub others : (f : Event) → same_event f (At y (i + 1)) ≡ false → same_event f (At n (i + 1)) ≡ false → row_at new f ≡ row_at old f
@@ -80,7 +80,7 @@ module _ (u : Universe) (s : Support) (k : IsSupport u s) (x : LifeLines) (are :
   -- ---- the lists
 
   -- with lists for the new line
-  pub rows_added : (t a : List (List (List Event))) → HasRows w t → length a ≡ length t + 1 → ((l j : ℕ) → has_row a (At l j) ≡ (has_row t (At l j) || (nat_eq l (length t) && nat_lt j (step_count v n)))) → HasRows v a
+  pub rows_added : (t a : Rows) → HasRows w t → length a ≡ length t + 1 → ((l j : ℕ) → has_row a (At l j) ≡ (has_row t (At l j) || (nat_eq l (length t) && nat_lt j (step_count v n)))) → HasRows v a
   rows_added t a rows count has = record {
     count = let more = twins.one_more w v y i h in let size = rows.count in omega arith;
     rows = λ l j there.
@@ -115,7 +115,7 @@ module _ (u : Universe) (s : Support) (k : IsSupport u s) (x : LifeLines) (are :
   is_kept : (t : Supply) → is_from y i t ≡ false → (moved_supply w y i t).holder ≡ t.holder
   is_kept t other = cond-false (is_from y i t) n t.holder other
 
-  module _ (old new : List (List (List Event))) (has : HasReturns w old) (are_moved : AreMoved n y i old new) where
+  module _ (old new : Rows) (has : HasReturns w old) (are_moved : AreMoved n y i old new) where
     line_leaves : (t : Supply) → Contains w.supplies t → leaving v t.line t.station ≡ leaving w t.line t.station
     line_leaves t there = twins.old_leaving w v y i h t.line t.station (there_low w t.line t.station (m.within t there).needed)
 
@@ -193,7 +193,7 @@ module _ (u : Universe) (s : Support) (k : IsSupport u s) (x : LifeLines) (are :
         ]
 
     -- with what the new line's stations bring, these are all
-    module _ (all : List (List (List Event))) (brings : Brings (λ e f. list_any (is_return_of v e f) (line_supplies u s x n)) new all) where
+    module _ (all : Rows) (brings : Brings (λ e f. list_any (is_return_of v e f) (line_supplies u s x n)) new all) where
       of_new : (e f : Event) → not (is_end f) && list_any (is_return_of v e f) (line_supplies u s x n) ≡ true → is_return v e f ≡ true
       of_new e f both =
           let parts = and_parts (not (is_end f)) (list_any (is_return_of v e f) (line_supplies u s x n)) both in

@@ -6,10 +6,10 @@ use Rattle.metis_ids.specs.declared.events.Event.{Event}
 use Rattle.metis_ids.specs.declared.events.Event.TheVariants.{At, End}
 use Rattle.metis_lines.specs.AbstractPlan.{AbstractPlan, station_at, stations}
 use Rattle.metis_lines.specs.Events.{is_among, is_move, is_return, is_return_into_move}
-use Rattle.metis_rounds.specs.Tables.{HasReturns, row_at}
+use Rattle.metis_rounds.specs.Tables.{HasReturns, Rows, row_at}
 use Rattle.metis_rounds.specs.Forced.{left_by}
 
-module _ (w : AbstractPlan) (t : List (List (List Event))) (has : HasReturns w t) where
+module _ (w : AbstractPlan) (t : Rows) (has : HasReturns w t) where
   pub left : (e f : Event) (l j p : ℕ) → f ≡ At l j → (nat_le 1 j && nat_lt j (length (stations w l))) ≡ true → is_among (row_at t f) e ≡ true → p ≡ station_at w l (j - 1) → Some p ≡ cond (is_return_into_move w e f) (left_by w f) None
   left e f l zero p at moves returns pair = absurd (false≢true moves)
   left e f l (suc i) p at moves returns pair =

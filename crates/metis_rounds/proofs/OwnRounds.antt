@@ -41,7 +41,7 @@ module _ (u : Universe) (s : Support) (a b : Course) (p : ℕ) (held : ℕ × �
   moved : HasMoved w v held.0 held.1
   moved = moved_plan u s a.lines b.lines p held table k own
 
-  pub rounds_go_on : IsCourse u s a → IsWalk w a.walk → AreLines u s b.lines → b.uses ≡ a.uses → HasReturns v b.returns → IsGoing u s b.lines b.returns b.going [] → ((l : ℕ) → l < length a.going.taken.items → taken_of b.going.taken.items l ≡ taken_of a.going.taken.items l) → b.walk ≡ kept_steps (At held.0 held.1) (At held.0 (held.1 + 1)) a.walk → b.first ≡ a.first → b.done ≡ a.done → IsCourse u s b
+  pub rounds_go_on : IsCourse u s a → IsWalk w a.walk → AreLines u s b.lines → b.tables.uses ≡ a.tables.uses → HasReturns v b.tables.returns → IsGoing u s b.lines b.tables.returns b.going [] → ((l : ℕ) → l < length a.going.taken.items → taken_of b.going.taken.items l ≡ taken_of a.going.taken.items l) → b.walk ≡ kept_steps (At held.0 held.1) (At held.0 (held.1 + 1)) a.walk → b.first ≡ a.first → b.done ≡ a.done → IsCourse u s b
   rounds_go_on rounds walk are uses returns going kept steps first done =
       let more = (is_held u s a.lines b.lines p held table k own).more in
       let size = rounds.going.taken in

@@ -30,7 +30,7 @@ use Rattle.metis_rounds.proofs.Twins.{kept_event, line_event, new_steps, old_or_
 use Rattle.metis_rounds.specs.Going.{HasOwnLine, HasSeen, IsGoing, IsWaiting, is_on, next_uses, use_at, use_event}
 use Rattle.metis_rounds.specs.OwnLine.{HasMoved, IsWithOwnLine}
 use Rattle.metis_rounds.specs.Reach.{IsSafe, is_taken, next_of, taken_of}
-use Rattle.metis_rounds.specs.Tables.{HasGrown, HasRows, has_row, row_at, uses_of}
+use Rattle.metis_rounds.specs.Tables.{HasGrown, HasRows, Rows, has_row, row_at, uses_of}
 use Rattle.metis_rounds.specs.Walks.{step_at}
 use Rattle.metis_rounds.specs.declared.going.Going.{Going}
 
@@ -108,7 +108,7 @@ module _ (u : Universe) (s : Support) (g d : List ℕ) (p : ℕ) (universe : IsU
   pub held_event : is_event w (At y i) ≡ true
   held_event = let on = with_own.goes_on in line_event w v y i with_own i (omega arith)
 
-  module _ (t r : List (List (List Event))) (a b : Going) (going : IsGoing u s x t a []) (grown : HasGrown t r (At y (i + 1))) (now : IsOwned n y i a b) where
+  module _ (t r : Rows) (a b : Going) (going : IsGoing u s x t a []) (grown : HasGrown t r (At y (i + 1))) (now : IsOwned n y i a b) where
     abbrev ns : List ℕ
     ns = a.taken.items
 
@@ -450,7 +450,7 @@ module _ (u : Universe) (s : Support) (x z : LifeLines) (p : ℕ) (held : ℕ ×
       let after : HasMoved (plan_of u s given) (plan_of u s z) held.0 held.1 = subst (λ a. HasMoved (plan_of u s given) (plan_of u s a) held.0 held.1) (sym has_own.after) here in
       subst (λ a. HasMoved (plan_of u s a) (plan_of u s z) held.0 held.1) (sym has_own.before.are) after
 
-  pub goes_on_with : (t r : List (List (List Event))) (a b : Going) → IsGoing u s x t a [] → HasGrown t r (At held.0 (held.1 + 1)) → IsOwned (length x.lines) held.0 held.1 a b → IsGoing u s z r b []
+  pub goes_on_with : (t r : Rows) (a b : Going) → IsGoing u s x t a [] → HasGrown t r (At held.0 (held.1 + 1)) → IsOwned (length x.lines) held.0 held.1 a b → IsGoing u s z r b []
   goes_on_with t r a b going grown now =
       let going_given : IsGoing u s given t a [] = subst (λ q. IsGoing u s q t a []) has_own.before.are going in
       let grown_given : HasGrown t r (At (holding given p).0 ((holding given p).1 + 1)) = subst (λ (h : ℕ × ℕ). HasGrown t r (At h.0 (h.1 + 1))) (sym from) grown in

@@ -5,7 +5,7 @@ use Rattle.std.proofs.lemmas.Bool.{cases_eq, cases_lt, eq-eqb, le-ltb, lt-ltb, n
 use Rattle.std.proofs.lemmas.List.{get_or-append_right, get_or-replicate, get_or_append_left, get_or_past, length-replicate, length_push}
 use Rattle.metis_ids.specs.declared.events.Event.{Event}
 use Rattle.metis_ids.specs.declared.events.Event.TheVariants.{At, End}
-use Rattle.metis_rounds.specs.Tables.{has_row, row_at}
+use Rattle.metis_rounds.specs.Tables.{Rows, has_row, row_at}
 
 empty_row : {X : Type 0} (n j : ℕ) → get_or (replicate {A = List X} n []) j [] ≡ []
 empty_row {X = X} n j = elim (cases_lt j n) [
@@ -14,7 +14,7 @@ empty_row {X = X} n j = elim (cases_lt j n) [
 ]
 
 -- an added line has empty rows
-pub added_rows : (t : List (List (List Event))) (n : ℕ) (e : Event) → row_at (t ++ replicate n [] ∷ []) e ≡ row_at t e
+pub added_rows : (t : Rows) (n : ℕ) (e : Event) → row_at (t ++ replicate n [] ∷ []) e ≡ row_at t e
 added_rows t n (At l j) = elim (cases_lt l (length t)) [
   | inl low ↦ ap (λ (rows : List (List Event)). get_or rows j []) (get_or_append_left t (replicate n [] ∷ []) [] l low)
   | inr past ↦
@@ -32,7 +32,7 @@ added_rows t n (At l j) = elim (cases_lt l (length t)) [
 added_rows t n End = refl
 
 -- it has as many
-pub added_has : (t : List (List (List Event))) (n l j : ℕ) → has_row (t ++ replicate n [] ∷ []) (At l j) ≡ (has_row t (At l j) || (nat_eq l (length t) && nat_lt j n))
+pub added_has : (t : Rows) (n l j : ℕ) → has_row (t ++ replicate n [] ∷ []) (At l j) ≡ (has_row t (At l j) || (nat_eq l (length t) && nat_lt j n))
 added_has t n l j = ap (λ m. nat_lt l m && within (t ++ replicate n [] ∷ [])) (length_push t (replicate n [])) ∙ elim (cases_lt l (length t)) [
   | inl low ↦
       (λ i. lt-ltb l (length t + 1) (omega arith) i && nat_lt j (length (get_or_append_left t (replicate n [] ∷ []) [] l low i)))
@@ -48,7 +48,7 @@ added_has t n l j = ap (λ m. nat_lt l m && within (t ++ replicate n [] ∷ []))
         ∙ sym (λ i. (le-ltb l (length t) past i && within t) || (ne_eqb l (length t) other i && nat_lt j n))
   ]
 ] where
-  within : List (List (List Event)) → Bool
+  within : Rows → Bool
   within rows = nat_lt j (length (get_or rows l []))
 
   alone : (b : Bool) → (b || false) ≡ b

@@ -3,6 +3,7 @@
 --     use_event x c      the event by which the slot that is used comes to its pair
 --     IsWaiting w ns waiting l      what comes next on line l waits for an event that is not taken, and is listed there, unless that is the end
 --     HasSeen u s x t ns met left      what was found taken before what comes next on each line is taken
+--     HasPlaces u s x t g      each list has a place for each line, and what was seen is taken;  HasLine g l, for this line
 --     IsGoing u s x t g pending      no stuck event is taken, what was seen is taken, and each line waits, or is to be looked at again
 --     HasNoLines g      it has no line yet
 --     HasOwnLine u s x z p held      z has one more own pair than x
@@ -19,7 +20,7 @@ use Rattle.metis_lines.specs.AbstractPlan.{AbstractPlan}
 use Rattle.metis_lines.specs.Events.{is_among, is_end, is_event, precedes, step_count}
 use Rattle.metis_lines.specs.LifeLines.{AreLines, LifeLines, holding, is_loose, line_at, lines_of, plan_of, slot_holding}
 use Rattle.metis_rounds.specs.Reach.{IsSafe, is_taken, next_of, taken_of}
-use Rattle.metis_rounds.specs.Tables.{HasRows, row_at, uses_of}
+use Rattle.metis_rounds.specs.Tables.{HasRows, Rows, row_at, uses_of}
 use Rattle.metis_rounds.specs.Walks.{step_at}
 use Rattle.metis_rounds.specs.declared.going.Going.{Going}
 
@@ -35,19 +36,32 @@ use_event x c = At (slot_holding x c.0 c.1).0 (slot_holding x c.0 c.1).1
 abbrev pub use_at : List (ℕ × ℕ) → ℕ → ℕ × ℕ
 use_at cs k = slice_index_or cs k (0, 0)
 
-pub record IsWaiting (w : AbstractPlan) (ns : List ℕ) (waiting : List (List (List Event))) (l : ℕ) : Type 0 where
+pub record IsWaiting (w : AbstractPlan) (ns : List ℕ) (waiting : Rows) (l : ℕ) : Type 0 where
   pub event : Event
   pub before : IsTrue (precedes w event (next_of ns l))
   pub untaken : IsFalse (is_taken ns event)
   pub listed : IsFalse (is_end event) → IsTrue (is_among (row_at waiting event) (next_of ns l))
 
-pub record HasSeen (u : Universe) (s : Support) (x : LifeLines) (t : List (List (List Event))) (ns met left : List ℕ) : Type 0 where
+pub record HasSeen (u : Universe) (s : Support) (x : LifeLines) (t : Rows) (ns met left : List ℕ) : Type 0 where
   pub few_slots : (l : ℕ) → l < length x.lines → taken_of met l ≤ length (next_uses u s x ns l)
   pub slots : (l k : ℕ) → l < length x.lines → k < taken_of met l → IsTrue (is_taken ns (use_event x (use_at (next_uses u s x ns l) k)))
   pub few_returns : (l : ℕ) → l < length x.lines → taken_of left l ≤ length (row_at t (next_of ns l))
   pub returns : (l k : ℕ) → l < length x.lines → k < taken_of left l → IsTrue (is_taken ns (step_at (row_at t (next_of ns l)) k))
 
-pub record IsGoing (u : Universe) (s : Support) (x : LifeLines) (t : List (List (List Event))) (g : Going) (pending : List ℕ) : Type 0 where
+-- each list has a place for each line, and what was seen is taken
+pub record HasPlaces (u : Universe) (s : Support) (x : LifeLines) (t : Rows) (g : Going) : Type 0 where
+  pub taken : length g.taken.items ≡ length x.lines
+  pub met : length g.met.items ≡ length x.lines
+  pub left : length g.left.items ≡ length x.lines
+  pub seen : HasSeen u s x t g.taken.items g.met.items g.left.items
+
+-- each list has a place for this line
+pub record HasLine (g : Going) (l : ℕ) : Type 0 where
+  pub taken : l < length g.taken.items
+  pub met : l < length g.met.items
+  pub left : l < length g.left.items
+
+pub record IsGoing (u : Universe) (s : Support) (x : LifeLines) (t : Rows) (g : Going) (pending : List ℕ) : Type 0 where
   pub taken : length g.taken.items ≡ length x.lines
   pub met : length g.met.items ≡ length x.lines
   pub left : length g.left.items ≡ length x.lines

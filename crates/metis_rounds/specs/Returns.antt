@@ -7,7 +7,7 @@ use Rattle.metis_ids.specs.declared.events.Event.{Event}
 use Rattle.metis_lines.specs.Events.{is_among, is_end, leaving, same_event}
 use Rattle.metis_lines.specs.LifeLines.{LifeLines, slot_holding}
 use Rattle.metis_events.specs.Gathered.{IsSlotThere, without_supplies}
-use Rattle.metis_rounds.specs.Tables.{has_row, row_at}
+use Rattle.metis_rounds.specs.Tables.{Rows, has_row, row_at}
 
 pub record IsUse (x : LifeLines) (c : ℕ × ℕ) : Type 0 where
   pub low : 1 ≤ c.1
@@ -16,7 +16,7 @@ pub record IsUse (x : LifeLines) (c : ℕ × ℕ) : Type 0 where
 abbrev pub is_brought : LifeLines → Event → Event → Event → ℕ × ℕ → Bool
 is_brought x from e f c = same_event from e && same_event (leaving (without_supplies x) (slot_holding x c.0 c.1).0 (slot_holding x c.0 c.1).1) f
 
-pub record Brings (t : Event → Event → Bool) (old new : List (List (List Event))) : Type 0 where
+pub record Brings (t : Event → Event → Bool) (old new : Rows) : Type 0 where
   pub count : length new ≡ length old
   pub has : (f : Event) → has_row new f ≡ has_row old f
   pub each : (e f : Event) → is_among (row_at new f) e ≡ ((not (is_end f) && t e f) || is_among (row_at old f) e)

@@ -19,6 +19,7 @@ use crate::event_table::EventTable;
 use crate::going::Going;
 use crate::least::first_unfinished;
 use crate::returns::{move_returns, returns_of};
+use crate::tables::Tables;
 use crate::uses::Uses;
 use crate::walk::Walk;
 use crate::walking::{begin_walk, drop_taken, walk_on};
@@ -32,10 +33,8 @@ use std::alloc::Global;
 #[derive(Drop)]
 pub struct Course {
     pub lines: Lines,
-    /// The slots that each pair takes.
-    pub uses: Uses,
-    /// For each event those from which return edges lead into it.
-    pub returns: EventTable,
+    /// What the stations of the lines take, and what returns into their events.
+    pub tables: Tables,
     /// What is taken, and what each line waits for.
     pub going: Going,
     /// The walk back over the stuck events, as far as it stands.
@@ -75,8 +74,10 @@ impl Course {
     {
         Course {
             lines,
-            uses: Uses::new(alloc),
-            returns: EventTable::new(alloc),
+            tables: Tables {
+                uses: Uses::new(alloc),
+                returns: EventTable::new(alloc),
+            },
             going: Going::empty(alloc),
             walk: Walk::new(alloc),
             first: 0,
@@ -100,8 +101,8 @@ impl Course {
         ensures lines { self.new.lines ≡ self.old.lines }
     {
         let over = OverLines::over(universe, support, &self.lines);
-        self.uses = Uses::of(alloc, &over)?;
-        self.returns = returns_of(alloc, &over, &self.uses)?;
+        self.tables.uses = Uses::of(alloc, &over)?;
+        self.tables.returns = returns_of(alloc, &over, &self.tables.uses)?;
         self.going.begin(alloc, &over)
     }
 
@@ -125,7 +126,7 @@ impl Course {
         ensures more { IfMore result (HasStopped (plan_of universe.now support.now self.new.lines) self.new.going.taken.items) (HasEnded (plan_of universe.now support.now self.new.lines) self.new.going.taken.items) }
     {
         let over = OverLines::over(universe, support, &self.lines);
-        self.going.go_on(alloc, &over, &self.uses, &self.returns)?;
+        self.going.go_on(alloc, &over, &self.tables)?;
         match first_unfinished(&over, &self.going.taken, self.first) {
             Some(line) => {
                 self.first = line.0;
@@ -172,7 +173,7 @@ impl Course {
         universe.keeps_invariant();
         let cycle = self.cycle(alloc, universe, support)?;
         let over = OverLines::over(universe, support, &self.lines);
-        let pair = doubled_by(&over, &self.returns, &cycle);
+        let pair = doubled_by(&over, &self.tables.returns, &cycle);
         Ok(Dup { pair, cycle })
     }
 
@@ -187,7 +188,7 @@ impl Course {
         requires stopped { HasStopped (plan_of universe.now support.now self.old.lines) self.old.going.taken.items }
         ensures course { OnOk result (IsCourse universe.now support.now self.new) }
         ensures lines { self.new.lines ≡ self.old.lines }
-        ensures returns { self.new.returns ≡ self.old.returns }
+        ensures tables { self.new.tables ≡ self.old.tables }
         ensures walk { OnOk result (IsWalk (plan_of universe.now support.now self.new.lines) self.new.walk) }
         ensures cycle { IfOk result (λ es. es.items ≡ map (nth_event (plan_of universe.now support.now self.old.lines)) (cycle_of (dag_of (graph_of (plan_of universe.now support.now self.old.lines))))) }
     {
@@ -198,8 +199,7 @@ impl Course {
         walk_on(
             alloc,
             &over,
-            &self.uses,
-            &self.returns,
+            &self.tables,
             &self.going.taken,
             self.first,
             &mut self.walk,
@@ -233,9 +233,9 @@ impl Course {
         follow_line(
             alloc,
             &over,
-            &self.uses,
+            &self.tables.uses,
             (line, station),
-            &mut self.returns,
+            &mut self.tables.returns,
             &mut self.going,
         )
     }

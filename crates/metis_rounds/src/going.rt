@@ -7,13 +7,14 @@ ghost use Rattle.metis_ids.specs.declared.events.Event.TheVariants.{At, End};
 ghost use Rattle.metis_lines.specs.Events.{is_among, is_end, same_event, step_count};
 ghost use Rattle.metis_lines.specs.LifeLines.{LifeLines};
 ghost use Rattle.metis_lines.specs.Over.{graph_over};
-ghost use Rattle.metis_rounds.specs.Going.{HasNoLines, HasOwnLine, HasSeen, IsGoing, IsMissing, all_taken, is_on, use_at, use_event, uses_at};
+ghost use Rattle.metis_rounds.specs.Going.{HasLine, HasNoLines, HasOwnLine, HasPlaces, IsGoing, IsMissing, all_taken, is_on, use_at, use_event, uses_at};
 ghost use Rattle.metis_rounds.specs.Reach.{HasAllBefore, WaitsFor, is_taken, next_of, taken_of, with_next};
 ghost use Rattle.metis_rounds.specs.Returns.{IsUse};
-ghost use Rattle.metis_rounds.specs.Tables.{HasGrown, HasReturns, HasUses, has_row, row_at};
+ghost use Rattle.metis_rounds.specs.Tables.{Empties, HasGrown, HasReturns, HasTables, HasUses, Rows, has_row, row_at};
 
 use crate::event_table::EventTable;
 use crate::returns::holder_event;
+use crate::tables::Tables;
 use crate::uses::Uses;
 use metis_events::step_count;
 use metis_ids::{Event, LineIx, NoMemory, PairIx, StepIx};
@@ -166,7 +167,7 @@ impl Going {
     /// Adds the lines where there are none. Nothing is taken, and each line is to be looked at.
     pub fn begin(&mut self, alloc: Global, over: &OverLines<'_>) -> Result<(), NoMemory>
         requires { HasNoLines self.old }
-        ensures { OnOk result ((t : List (List (List Event))) → IsGoing over.now.universe over.now.support over.now.lines t self.new []) }
+        ensures { OnOk result ((t : Rows) → IsGoing over.now.universe over.now.support over.now.lines t self.new []) }
     {
         for number in 0..over.count() {
             let line = LineIx(number);
@@ -184,19 +185,17 @@ impl Going {
         &mut self,
         alloc: Global,
         over: &OverLines<'_>,
-        uses: &Uses,
-        returns: &EventTable,
+        tables: &Tables,
     ) -> Result<(), NoMemory>
-        requires uses { HasUses over.now.universe over.now.support uses.now }
-        requires returns { HasReturns (graph_over over.now) returns.now }
-        requires going { IsGoing over.now.universe over.now.support over.now.lines returns.now self.old [] }
-        ensures going { OnOk result (IsGoing over.now.universe over.now.support over.now.lines returns.now self.new []) }
+        requires tables { HasTables over.now tables.now }
+        requires going { IsGoing over.now.universe over.now.support over.now.lines tables.now.returns self.old [] }
+        ensures going { OnOk result (IsGoing over.now.universe over.now.support over.now.lines tables.now.returns self.new []) }
         ensures still { OnOk result (self.new.work.items ≡ []) }
         ensures kept { OnOk result ((l : ℕ) → taken_of self.old.taken.items l ≤ taken_of self.new.taken.items l) }
     {
         while !self.work.is_empty() {
             let work = mem::replace(&mut self.work, Vec::new(alloc));
-            self.try_lines(alloc, over, uses, returns, &work)?;
+            self.try_lines(alloc, over, tables, &work)?;
         }
         Ok(())
     }
@@ -210,7 +209,7 @@ impl Going {
         returns: &EventTable,
         held: (LineIx, StepIx),
     ) -> Result<(), NoMemory>
-        requires going { (x : LifeLines) × (p : ℕ) × (t : List (List (List Event))) × HasOwnLine over.now.universe over.now.support x over.now.lines p held × HasGrown t returns.now (At held.0 (held.1 + 1)) × IsGoing over.now.universe over.now.support x t self.old [] }
+        requires going { (x : LifeLines) × (p : ℕ) × (t : Rows) × HasOwnLine over.now.universe over.now.support x over.now.lines p held × HasGrown t returns.now (At held.0 (held.1 + 1)) × IsGoing over.now.universe over.now.support x t self.old [] }
         ensures going { OnOk result (IsGoing over.now.universe over.now.support over.now.lines returns.now self.new []) }
         ensures kept { OnOk result ((l : ℕ) → l < length self.old.taken.items → taken_of self.new.taken.items l ≡ taken_of self.old.taken.items l) }
     {
@@ -235,20 +234,18 @@ impl Going {
         &mut self,
         alloc: Global,
         over: &OverLines<'_>,
-        uses: &Uses,
-        returns: &EventTable,
+        tables: &Tables,
         work: &[LineIx],
     ) -> Result<(), NoMemory>
-        requires uses { HasUses over.now.universe over.now.support uses.now }
-        requires returns { HasReturns (graph_over over.now) returns.now }
-        requires going { IsGoing over.now.universe over.now.support over.now.lines returns.now self.old work.now }
+        requires tables { HasTables over.now tables.now }
+        requires going { IsGoing over.now.universe over.now.support over.now.lines tables.now.returns self.old work.now }
         requires empty { self.old.work.items ≡ [] }
-        ensures going { OnOk result (IsGoing over.now.universe over.now.support over.now.lines returns.now self.new []) }
+        ensures going { OnOk result (IsGoing over.now.universe over.now.support over.now.lines tables.now.returns self.new []) }
         ensures more { OnOk result (((self.new.work.items ≡ []) × (self.new.taken.items ≡ self.old.taken.items)) ⊎ (all_taken self.old.taken.items < all_taken self.new.taken.items)) }
         ensures kept { OnOk result ((l : ℕ) → taken_of self.old.taken.items l ≤ taken_of self.new.taken.items l) }
     {
         for place in 0..work.len() {
-            self.try_line(alloc, over, uses, returns, work, place)?;
+            self.try_line(alloc, over, tables, work, place)?;
         }
         Ok(())
     }
@@ -258,16 +255,14 @@ impl Going {
         &mut self,
         alloc: Global,
         over: &OverLines<'_>,
-        uses: &Uses,
-        returns: &EventTable,
+        tables: &Tables,
         work: &[LineIx],
         place: usize,
     ) -> Result<(), NoMemory>
-        requires uses { HasUses over.now.universe over.now.support uses.now }
-        requires returns { HasReturns (graph_over over.now) returns.now }
+        requires tables { HasTables over.now tables.now }
         requires place { place < length work.now }
-        requires going { IsGoing over.now.universe over.now.support over.now.lines returns.now self.old (drop place work.now) }
-        ensures going { OnOk result (IsGoing over.now.universe over.now.support over.now.lines returns.now self.new (drop (place + 1) work.now)) }
+        requires going { IsGoing over.now.universe over.now.support over.now.lines tables.now.returns self.old (drop place work.now) }
+        ensures going { OnOk result (IsGoing over.now.universe over.now.support over.now.lines tables.now.returns self.new (drop (place + 1) work.now)) }
         ensures more { OnOk result ((self.new.work.items ≡ self.old.work.items) × (self.new.taken.items ≡ self.old.taken.items) ⊎ (all_taken self.old.taken.items < all_taken self.new.taken.items)) }
         ensures kept { OnOk result ((l : ℕ) → taken_of self.old.taken.items l ≤ taken_of self.new.taken.items l) }
     {
@@ -276,43 +271,31 @@ impl Going {
         if count_of(&self.taken, line) == step_count(over, line) {
             return Ok(());
         }
-        match self.waited_for(over, uses, returns, line) {
+        match self.waited_for(over, tables, line) {
             Some(event) => self.wait(line, event),
             None => self.take(alloc, line),
         }
     }
 
     // What the next event of the line waits for, if anything.
-    fn waited_for(
-        &mut self,
-        over: &OverLines<'_>,
-        uses: &Uses,
-        returns: &EventTable,
-        line: LineIx,
-    ) -> Option<Event>
-        requires uses { HasUses over.now.universe over.now.support uses.now }
-        requires returns { HasReturns (graph_over over.now) returns.now }
+    fn waited_for(&mut self, over: &OverLines<'_>, tables: &Tables, line: LineIx) -> Option<Event>
+        requires tables { HasTables over.now tables.now }
         requires line { line < length over.now.lines.lines }
         requires next { taken_of self.old.taken.items line < step_count (graph_over over.now) line }
-        requires taken { length self.old.taken.items ≡ length over.now.lines.lines }
-        requires met { length self.old.met.items ≡ length over.now.lines.lines }
-        requires left { length self.old.left.items ≡ length over.now.lines.lines }
-        requires seen { HasSeen over.now.universe over.now.support over.now.lines returns.now self.old.taken.items self.old.met.items self.old.left.items }
+        requires places { HasPlaces over.now.universe over.now.support over.now.lines tables.now.returns self.old }
+        ensures places { HasPlaces over.now.universe over.now.support over.now.lines tables.now.returns self.new }
         ensures same_taken { self.new.taken.items ≡ self.old.taken.items }
         ensures same_waiting { self.new.waiting ≡ self.old.waiting }
         ensures same_work { self.new.work.items ≡ self.old.work.items }
-        ensures met { length self.new.met.items ≡ length over.now.lines.lines }
-        ensures left { length self.new.left.items ≡ length over.now.lines.lines }
-        ensures seen { HasSeen over.now.universe over.now.support over.now.lines returns.now self.old.taken.items self.new.met.items self.new.left.items }
         ensures some { IfSome result (WaitsFor (graph_over over.now) self.old.taken.items (next_of self.old.taken.items line)) }
         ensures none { IfNone result (HasAllBefore (graph_over over.now) self.old.taken.items (next_of self.old.taken.items line)) }
     {
         over.keeps_invariant();
         let step = StepIx(count_of(&self.taken, line));
-        let slots = slots_at(over, uses, line, step);
+        let slots = slots_at(over, &tables.uses, line, step);
         let met = first_missing(over, slots, &self.taken, place_of(&self.met, line));
         self.met[line.0 as usize] = met;
-        let row = returns.row(Event::At(line, step));
+        let row = tables.returns.row(Event::At(line, step));
         let left = first_left(row, &self.taken, place_of(&self.left, line));
         self.left[line.0 as usize] = left;
         missing(over, slots, met, row, left)
@@ -341,18 +324,13 @@ impl Going {
 
     // Takes the next event of the line, and looks again at what waited for it.
     fn take(&mut self, alloc: Global, line: LineIx) -> Result<(), NoMemory>
-        requires line { line < length self.old.taken.items }
-        requires met { line < length self.old.met.items }
-        requires left { line < length self.old.left.items }
+        requires line { HasLine self.old line }
         requires few { taken_of self.old.taken.items line < 65 }
         requires row { IsTrue (has_row self.old.waiting (next_of self.old.taken.items line)) }
         ensures taken { OnOk result (self.new.taken.items ≡ with_next self.old.taken.items line) }
         ensures met { OnOk result (self.new.met.items ≡ slice_set self.old.met.items line 0) }
         ensures left { OnOk result (self.new.left.items ≡ slice_set self.old.left.items line 0) }
-        ensures count { OnOk result (length self.new.waiting ≡ length self.old.waiting) }
-        ensures has { OnOk result ((f : Event) → has_row self.new.waiting f ≡ has_row self.old.waiting f) }
-        ensures woken { OnOk result (row_at self.new.waiting (next_of self.old.taken.items line) ≡ []) }
-        ensures others { OnOk result ((f : Event) → IsFalse (same_event f (next_of self.old.taken.items line)) → row_at self.new.waiting f ≡ row_at self.old.waiting f) }
+        ensures waiting { OnOk result (Empties (next_of self.old.taken.items line) self.old.waiting self.new.waiting) }
         ensures work { OnOk result ((l : ℕ) → has self.new.work.items l ≡ (has self.old.work.items l || (line == l) || list_any (is_on l) (row_at self.old.waiting (next_of self.old.taken.items line)))) }
     {
         let at = line.0 as usize;

@@ -7,12 +7,11 @@ ghost use Rattle.metis_events.specs.Gathered.{IsSlotThere, without_supplies};
 ghost use Rattle.metis_rounds.specs.Going.{use_at, use_event};
 ghost use Rattle.metis_rounds.specs.Least.{IsFirstLeft, least_left, on_line_before, with_left};
 ghost use Rattle.metis_rounds.specs.Reach.{HasAllBefore, HasEnded, IsLeastLeft, taken_of};
-ghost use Rattle.metis_rounds.specs.Tables.{HasReturns, HasUses};
+ghost use Rattle.metis_rounds.specs.Tables.{HasTables};
 
-use crate::event_table::EventTable;
 use crate::going::{is_taken, slots_at};
 use crate::returns::holder_event;
-use crate::uses::Uses;
+use crate::tables::Tables;
 use metis_events::events_are_ordered;
 use metis_ids::{Event, LineIx, PairIx, StepIx};
 use metis_lines::OverLines;
@@ -20,14 +19,12 @@ use metis_lines::OverLines;
 /// The least of the events that have to come before this one and are not taken. All lines before `first` are in their last stations.
 pub fn least_before(
     over: &OverLines<'_>,
-    uses: &Uses,
-    returns: &EventTable,
+    tables: &Tables,
     taken: &[u32],
     first: u32,
     event: Event,
 ) -> Option<Event>
-    requires uses { HasUses over.now.universe over.now.support uses.now }
-    requires returns { HasReturns (graph_over over.now) returns.now }
+    requires tables { HasTables over.now tables.now }
     requires taken { length taken.now ≡ length over.now.lines.lines }
     requires first { (l : ℕ) → l < first → last (graph_over over.now) l < taken_of taken.now l }
     requires event { IsTrue (is_event (graph_over over.now) event) }
@@ -38,9 +35,9 @@ pub fn least_before(
     match event {
         Event::At(line, step) => {
             let on_line = left_on_line(taken, line, step);
-            let slots = slots_at(over, uses, line, step);
+            let slots = slots_at(over, &tables.uses, line, step);
             let least = least_holder(over, slots, taken, on_line);
-            least_return(returns.row(Event::At(line, step)), taken, least)
+            least_return(tables.returns.row(Event::At(line, step)), taken, least)
         }
         Event::End => {
             let line = first_unfinished(over, taken, first)?;

@@ -9,6 +9,7 @@ mod laws;
 mod least;
 mod returns;
 mod rounds;
+mod tables;
 mod uses;
 mod walk;
 mod walk_laws;

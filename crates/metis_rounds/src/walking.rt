@@ -11,13 +11,12 @@ ghost use Rattle.metis_events.specs.Numbered.{dag_of, nth_event};
 ghost use Rattle.metis_rounds.specs.More.{HasNoneLeft, IsBegun, IsFirstMore};
 ghost use Rattle.metis_rounds.specs.Reach.{is_taken, taken_of};
 ghost use Rattle.metis_rounds.specs.Stuck.{is_stuck};
-ghost use Rattle.metis_rounds.specs.Tables.{HasReturns, HasUses};
+ghost use Rattle.metis_rounds.specs.Tables.{HasTables};
 ghost use Rattle.metis_rounds.specs.Walks.{IsLeastBefore, IsWalk, step_at};
 
-use crate::event_table::EventTable;
 use crate::going::is_taken;
 use crate::least::least_before;
-use crate::uses::Uses;
+use crate::tables::Tables;
 use crate::walk::Walk;
 use metis_events::step_count;
 use metis_ids::{Event, LineIx, NoMemory, StepIx};
@@ -89,14 +88,12 @@ fn first_with_more(over: &OverLines<'_>, taken: &[u32], done: u32) -> Option<Lin
 pub fn walk_on(
     alloc: Global,
     over: &OverLines<'_>,
-    uses: &Uses,
-    returns: &EventTable,
+    tables: &Tables,
     taken: &[u32],
     first: u32,
     walk: &mut Walk,
 ) -> Result<Vec<Event>, NoMemory>
-    requires uses { HasUses over.now.universe over.now.support uses.now }
-    requires returns { HasReturns (graph_over over.now) returns.now }
+    requires tables { HasTables over.now tables.now }
     requires taken { length taken.now ≡ length over.now.lines.lines }
     requires first { (l : ℕ) → l < first → last (graph_over over.now) l < taken_of taken.now l }
     requires stuck { (e : Event) → IsTrue (is_event (graph_over over.now) e) → is_stuck (graph_over over.now) e ≡ not (is_taken taken.now e) }
@@ -107,7 +104,7 @@ pub fn walk_on(
 {
     over.keeps_invariant();
     loop {
-        let event = next_step(over, uses, returns, taken, first, walk);
+        let event = next_step(over, tables, taken, first, walk);
         let step = &event;
         if walk.has(*step) {
             return walk.cycle_from(alloc, *step);
@@ -117,16 +114,8 @@ pub fn walk_on(
 }
 
 // The least event that the last step waits for.
-fn next_step(
-    over: &OverLines<'_>,
-    uses: &Uses,
-    returns: &EventTable,
-    taken: &[u32],
-    first: u32,
-    walk: &Walk,
-) -> Event
-    requires uses { HasUses over.now.universe over.now.support uses.now }
-    requires returns { HasReturns (graph_over over.now) returns.now }
+fn next_step(over: &OverLines<'_>, tables: &Tables, taken: &[u32], first: u32, walk: &Walk) -> Event
+    requires tables { HasTables over.now tables.now }
     requires taken { length taken.now ≡ length over.now.lines.lines }
     requires first { (l : ℕ) → l < first → last (graph_over over.now) l < taken_of taken.now l }
     requires stuck { (e : Event) → IsTrue (is_event (graph_over over.now) e) → is_stuck (graph_over over.now) e ≡ not (is_taken taken.now e) }
@@ -136,5 +125,5 @@ fn next_step(
 {
     over.keeps_invariant();
     let event = walk.last().unwrap();
-    least_before(over, uses, returns, taken, first, event).unwrap()
+    least_before(over, tables, taken, first, event).unwrap()
 }

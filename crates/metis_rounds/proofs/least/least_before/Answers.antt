@@ -17,13 +17,13 @@ returns-in_err-line-in-End-clause-none c =
     let ns = c.args.taken.now in
     subst (λ o. IfNone o (HasAllBefore w ns c.args.event)) (sym c.from_residual.ensures) (subst (HasAllBefore w ns) (sym c.in-End.is) (ended_has_all w ns c.in_err-line-in-End.ensures.none))
 
-three : (c : goal.After-least_return) → c.least_return.result ≡ least_left c.args.taken.now (least_left c.args.taken.now (least_left c.args.taken.now None (on_line_before c.in-At.line c.in-At.step)) (map (use_event c.args.over.now.lines) (uses_at c.args.over.now.universe c.args.over.now.support c.args.over.now.lines c.in-At.line c.in-At.step))) (row_at c.args.returns.now (At c.in-At.line c.in-At.step))
+three : (c : goal.After-least_return) → c.least_return.result ≡ least_left c.args.taken.now (least_left c.args.taken.now (least_left c.args.taken.now None (on_line_before c.in-At.line c.in-At.step)) (map (use_event c.args.over.now.lines) (uses_at c.args.over.now.universe c.args.over.now.support c.args.over.now.lines c.in-At.line c.in-At.step))) (row_at c.args.tables.now.returns (At c.in-At.line c.in-At.step))
 three c =
     let ns = c.args.taken.now in
     let x = c.args.over.now.lines in
     c.least_return.ensures
     ∙ ap (least_left ns c.least_holder-least.result) c.row.ensures
-    ∙ ap (λ o. least_left ns o (row_at c.args.returns.now (At c.in-At.line c.in-At.step))) (c.least_holder-least.ensures ∙ ap (λ o. least_left ns o (map (use_event x) c.slots_at-slots.result.now)) c.left_on_line-on_line.ensures ∙ ap (λ us. least_left ns (least_left ns None (on_line_before c.in-At.line c.in-At.step)) (map (use_event x) us)) c.slots_at-slots.ensures.uses)
+    ∙ ap (λ o. least_left ns o (row_at c.args.tables.now.returns (At c.in-At.line c.in-At.step))) (c.least_holder-least.ensures ∙ ap (λ o. least_left ns o (map (use_event x) c.slots_at-slots.result.now)) c.left_on_line-on_line.ensures ∙ ap (λ us. least_left ns (least_left ns None (on_line_before c.in-At.line c.in-At.step)) (map (use_event x) us)) c.slots_at-slots.ensures.uses)
 
 pub returns-in-At-clause-some : goal.returns-in-At-clause-some
 returns-in-At-clause-some c =
@@ -33,7 +33,7 @@ returns-in-At-clause-some c =
     let w = plan_of u s x in
     let ns = c.args.taken.now in
     let event = sym (ap (is_event w) c.in-At.is) ∙ c.requires.event in
-    let at = least_before_some u s x c.keeps_invariant.ensures.table.universe c.keeps_invariant.ensures.over.support c.keeps_invariant.ensures.over.lines c.args.returns.now c.requires.returns ns c.in-At.line c.in-At.step event in
+    let at = least_before_some u s x c.keeps_invariant.ensures.table.universe c.keeps_invariant.ensures.over.support c.keeps_invariant.ensures.over.lines c.args.tables.now.returns c.requires.tables.returns ns c.in-At.line c.in-At.step event in
     subst (λ e. IfSome c.least_return.result (IsLeastLeft w ns e)) (sym c.in-At.is) (subst (λ o. IfSome o (IsLeastLeft w ns (At c.in-At.line c.in-At.step))) (sym (three c)) at)
 
 pub returns-in-At-clause-none : goal.returns-in-At-clause-none
@@ -44,7 +44,7 @@ returns-in-At-clause-none c =
     let w = plan_of u s x in
     let ns = c.args.taken.now in
     let event = sym (ap (is_event w) c.in-At.is) ∙ c.requires.event in
-    let at = least_before_none u s x c.keeps_invariant.ensures.table.universe c.keeps_invariant.ensures.over.support c.keeps_invariant.ensures.over.lines c.args.returns.now c.requires.returns ns c.in-At.line c.in-At.step event in
+    let at = least_before_none u s x c.keeps_invariant.ensures.table.universe c.keeps_invariant.ensures.over.support c.keeps_invariant.ensures.over.lines c.args.tables.now.returns c.requires.tables.returns ns c.in-At.line c.in-At.step event in
     subst (λ e. IfNone c.least_return.result (HasAllBefore w ns e)) (sym c.in-At.is) (subst (λ o. IfNone o (HasAllBefore w ns (At c.in-At.line c.in-At.step))) (sym (three c)) at)
 
 pub returns-in_ok-line-in-End-clause-some : goal.returns-in_ok-line-in-End-clause-some

@@ -18,7 +18,7 @@ use Rattle.metis_rounds.proofs.WalkOn.{begun_same, begun_walk, dropped_walk, unf
 use Rattle.metis_rounds.specs.More.{IsBegun}
 use Rattle.metis_rounds.specs.Reach.{is_taken, taken_of}
 use Rattle.metis_rounds.specs.Stuck.{is_stuck}
-use Rattle.metis_rounds.specs.Tables.{HasUses}
+use Rattle.metis_rounds.specs.Tables.{HasTables}
 use Rattle.metis_rounds.specs.Walks.{IsWalk, step_at}
 use Rattle.metis_rounds.proofs.course.Course.cycle.Goals.{After-deref}
 use Rattle.metis_rounds.proofs.course.Course.cycle.Goals as goal
@@ -80,8 +80,8 @@ returns-clause-course c =
       few = (before.few.0, omega (arith, c.in_ok-self.ensures.few, ap (λ (o : Over). length o.lines.lines) c.over-over.ensures));
     }) (subst (λ (o : Over). OnOk c.walk_on.result (IsWalk (graph_over o) c.walk_on.new.walk)) c.over-over.ensures c.walk_on.ensures.walk)
 
-pub walk_on-requires-clause-uses : goal.walk_on-requires-clause-uses
-walk_on-requires-clause-uses c = subst (λ (o : Over). HasUses o.universe o.support c.args.self.now.uses) (sym c.over-over.ensures) c.requires.course.uses
+pub walk_on-requires-clause-tables : goal.walk_on-requires-clause-tables
+walk_on-requires-clause-tables c = subst (λ (o : Over). HasTables o c.args.self.now.tables) (sym c.over-over.ensures) (record { uses = c.requires.course.uses; returns = c.requires.course.returns })
 
 pub walk_on-requires-clause-first : goal.walk_on-requires-clause-first
 walk_on-requires-clause-first c = λ l low.

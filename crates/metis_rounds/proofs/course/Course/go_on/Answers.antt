@@ -5,12 +5,16 @@ use Rattle.metis_events.specs.Gathered.{without_supplies}
 use Rattle.metis_rounds.specs.Going.{IsGoing}
 use Rattle.metis_rounds.specs.Least.{IsFirstLeft}
 use Rattle.metis_rounds.specs.Reach.{taken_of}
+use Rattle.metis_rounds.specs.Tables.{HasTables}
 use Rattle.metis_rounds.proofs.course.Course.go_on.Goals as goal
 
 pub first_unfinished-requires-clause-first : goal.first_unfinished-requires-clause-first
 first_unfinished-requires-clause-first c = λ l low.
     subst (λ (o : Over). last (without_supplies o.lines) l < taken_of c.deref.result.now l) (sym c.over-over.ensures)
     (omega (arith, c.requires.course.first l low, c.in_ok-go_on.ensures.kept l, ap (λ ms. taken_of ms l) c.deref.ensures.value))
+
+pub go_on-requires-clause-tables : goal.go_on-requires-clause-tables
+go_on-requires-clause-tables c = subst (λ (o : Over). HasTables o c.args.self.now.tables) (sym c.over-over.ensures) (record { uses = c.requires.course.uses; returns = c.requires.course.returns })
 
 pub returns-in-Some-clause-course : goal.returns-in-Some-clause-course
 returns-in-Some-clause-course c =
@@ -21,7 +25,7 @@ returns-in-Some-clause-course c =
       lines = c.requires.course.lines;
       uses = c.requires.course.uses;
       returns = c.requires.course.returns;
-      going = subst (λ (o : Over). IsGoing o.universe o.support o.lines c.args.self.now.returns c.go_on.new.self []) c.over-over.ensures c.in_ok-go_on.ensures.going;
+      going = subst (λ (o : Over). IsGoing o.universe o.support o.lines c.args.self.now.tables.returns c.go_on.new.self []) c.over-over.ensures c.in_ok-go_on.ensures.going;
       walk = c.requires.course.walk;
       first = λ l low. omega (arith, some.before l (omega (arith, view, low)), ap (λ ms. taken_of ms l) c.deref.ensures.value);
       done = λ l low. omega (arith, c.requires.course.done l low, c.in_ok-go_on.ensures.kept l);
@@ -34,7 +38,7 @@ returns-in-None-clause-course c = record {
   lines = c.requires.course.lines;
   uses = c.requires.course.uses;
   returns = c.requires.course.returns;
-  going = subst (λ (o : Over). IsGoing o.universe o.support o.lines c.args.self.now.returns c.go_on.new.self []) c.over-over.ensures c.in_ok-go_on.ensures.going;
+  going = subst (λ (o : Over). IsGoing o.universe o.support o.lines c.args.self.now.tables.returns c.go_on.new.self []) c.over-over.ensures c.in_ok-go_on.ensures.going;
   walk = c.requires.course.walk;
   first = λ l low. omega (arith, c.requires.course.first l low, c.in_ok-go_on.ensures.kept l);
   done = λ l low. omega (arith, c.requires.course.done l low, c.in_ok-go_on.ensures.kept l);

@@ -48,13 +48,13 @@ pub over-over-requires-clause-lines : goal.over-over-requires-clause-lines
 over-over-requires-clause-lines c = c.in_ok-own_line.ensures.lines c.args.universe.now c.requires.course.lines
 
 pub follow_line-requires-clause-uses : goal.follow_line-requires-clause-uses
-follow_line-requires-clause-uses c = subst (λ (o : Over). HasUses o.universe o.support c.args.self.now.uses) (sym c.over-over.ensures) c.requires.course.uses
+follow_line-requires-clause-uses c = subst (λ (o : Over). HasUses o.universe o.support c.args.self.now.tables.uses) (sym c.over-over.ensures) c.requires.course.uses
 
 pub follow_line-requires-clause-before : goal.follow_line-requires-clause-before
 follow_line-requires-clause-before c =
     let x = c.args.self.now.lines in
     let held : ℕ × ℕ = c.unwrap-line.result in
-    subst (λ (o : Over). (y : LifeLines) × (p : ℕ) × HasOwnLine o.universe o.support y o.lines p held × HasReturns (plan_of o.universe o.support y) c.args.self.now.returns × IsGoing o.universe o.support y c.args.self.now.returns c.args.self.now.going []) (sym c.over-over.ensures)
+    subst (λ (o : Over). (y : LifeLines) × (p : ℕ) × HasOwnLine o.universe o.support y o.lines p held × HasReturns (plan_of o.universe o.support y) c.args.self.now.tables.returns × IsGoing o.universe o.support y c.args.self.now.tables.returns c.args.self.now.going []) (sym c.over-over.ensures)
     (x, c.args.p, own (goal.at.follow_line-requires-clause-before c).After-own_line (c.in_ok-own_line.ensures.own c.args.universe.now c.requires.course.lines), c.requires.course.returns, c.requires.course.going)
 
 pub returns-clause-course : goal.returns-clause-course
@@ -70,7 +70,7 @@ returns-clause-course c =
     let table = c.follow_line.new.returns in
     let station : c.station.inside.0 ≡ c.unwrap-line.result.1 = c.station.view_is in
     let steps : c.keep_for_own_line.new.self ≡ kept_steps (At held.0 held.1) (At held.0 (held.1 + 1)) c.args.self.now.walk = c.keep_for_own_line.ensures ∙ ap (λ j. kept_steps (At held.0 held.1) (At held.0 (j + 1)) c.args.self.now.walk) station in
-    let r : Course = record { lines = z; uses = c.args.self.now.uses; returns = table; going = new; walk = c.keep_for_own_line.new.self; first = c.args.self.now.first; done = c.args.self.now.done } in
+    let r : Course = record { lines = z; tables = record { uses = c.args.self.now.tables.uses; returns = table }; going = new; walk = c.keep_for_own_line.new.self; first = c.args.self.now.first; done = c.args.self.now.done } in
     on_all c.follow_line.result
     (subst (λ (o : Over). OnOk c.follow_line.result (HasReturns (graph_over o) table)) c.over-over.ensures c.follow_line.ensures.returns)
     (subst (λ (o : Over). OnOk c.follow_line.result (IsGoing o.universe o.support o.lines table new [])) c.over-over.ensures c.follow_line.ensures.going)
