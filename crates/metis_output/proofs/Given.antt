@@ -2,6 +2,8 @@
 use Rattle.std.proofs.Common.{ℕ, List, Result, Ok, Err, sym, subst}
 use Rattle.std.specs.Prelude.{IfOk}
 use Rattle.metis_outside.specs.Writes.{Written}
+use Rattle.metis_outside.specs.declared.sink.Sink.{Ghosts}
+use Rattle.metis_output.specs.Puts.{Puts}
 use Rattle.metis_output.specs.Shown.{Shown}
 use Rattle.metis_output.specs.declared.status.Status.{Status}
 use Rattle.metis_output.proofs.Shown.{shown_weaker}
@@ -19,3 +21,9 @@ pub says_more : {L E : Type 0} (P Q : List (List ℕ) → Status → Type 0) (re
     → IfOk answer (Says P rest) → IfOk answer (Says Q rest)
 says_more P Q rest (Ok a) more says = more (rest a.lines) (status_for a.good) says
 says_more P Q rest (Err e) more says = tt
+
+-- and so it is what was put
+pub puts : {K L E : Type 0} (g : Ghosts K) (P : List (List ℕ) → Status → Type 0) (rest : L → List (List ℕ)) (answer : Result (Answer L) E) (sink sink' : K) (status : Status)
+    → IfOk answer (Says P rest) → Puts g (Gives {E = E} rest answer) sink sink' status → Puts g P sink sink' status
+puts g P rest answer sink sink' status says put =
+    record { answer = given P rest answer (g.written sink) (g.written sink') (g.faults sink) (g.faults sink') status says put.answer; lines = put.lines; calm = put.calm }

@@ -1,8 +1,7 @@
 //! How an answer is put.
-ghost use Rattle.std.specs.Prelude.{◌≡◌, ◌≢◌};
+ghost use Rattle.std.specs.Prelude.{◌≡◌};
 ghost use Rattle.metis_output.specs.Answers.{Gives, status_for};
-ghost use Rattle.metis_output.specs.PutLines.{PutsLines};
-ghost use Rattle.metis_output.specs.Shown.{Shown};
+ghost use Rattle.metis_output.specs.Puts.{Puts};
 
 use crate::{Answer, Lines, Status, put_all, said};
 use metis_outside::Sink;
@@ -14,9 +13,7 @@ pub fn finish<L: Lines + Drop, E: Drop, K: Sink>(
     answer: Result<Answer<L>, E>,
     out: &mut K,
 ) -> Status
-    ensures answer { Shown (Gives L.rest answer) (K.written out.old) (K.written out.new) (K.faults out.old) (K.faults out.new) result }
-    ensures lines { PutsLines (K.written out.old) (K.written out.new) result }
-    ensures calm { result ≢ Status.ReadFault }
+    ensures { Puts K.Sink (Gives L.rest answer) out.old out.new result }
 {
     match answer {
         Ok(answer) => {
