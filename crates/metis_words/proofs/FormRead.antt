@@ -7,8 +7,8 @@ use Rattle.std.specs.Result.{IsErrAnd}
 use Rattle.std.specs.declared.alloc.Global.{Global}
 use Rattle.metis_tokens.specs.Flaws.{and_then}
 use Rattle.metis_words.specs.Form.{form_by}
-use Rattle.metis_words.specs.Forms.{file_count, number_count, target_limit}
-use Rattle.metis_words.specs.Words.{ReadsWords, files_in, form_behind, form_of, form_with, numbers_after, size_in, targets_in, verb_named, with_verb}
+use Rattle.metis_words.specs.Forms.{file_count, number_count, target_limit, verb_named}
+use Rattle.metis_words.specs.Words.{ReadsWords, files_in, form_behind, form_of, form_with, numbers_after, size_in, targets_in, with_verb}
 use Rattle.metis_words.specs.declared.words.Verb.{Verb}
 use Rattle.metis_words.specs.declared.words.Verb.TheVariants.{Load, Waves}
 use Rattle.metis_words.specs.declared.words.WordFault.{WordFault}

@@ -1,7 +1,9 @@
--- The row of a command: what it reads, and how many words of each kind it has.
+-- The row of a command: its name, what it reads, and how many words of each kind it has.
+--     verb_named word      the verb of this name
 --     Reading      what a command reads of its file words
---     reading verb, file_count verb      what the command reads, and so exactly so many file words
-use Rattle.std.specs.Prelude.{ℕ, ◌+◌, List, [], ◌∷◌, length}
+--     reading verb, file_count verb, target_limit verb      what the command reads, and so exactly so many file words and at most so many target words
+use Rattle.std.specs.Prelude.{ℕ, ◌+◌, List, [], ◌∷◌, length, Option, Some, None, if◌then◌else◌, codes}
+use Rattle.std.specs.Str.{bytes_eq}
 use Rattle.metis_words.specs.declared.words.Verb.{Verb}
 use Rattle.metis_words.specs.declared.words.Verb.TheVariants.{Plan, Replay, Refute, Audit, Sim, Crew, Waves, Waits, Control, Rollout, Reconfigure, Place, Print, Load, Why, Confirm}
 
@@ -21,6 +23,26 @@ pub data Reading : Type 0 where
   NoFile : Reading
   OfUniverse : (texts : List TextKind) → Reading
   OfGoals : (texts : List TextKind) → Reading
+
+abbrev pub verb_named : List ℕ → Option Verb
+verb_named word =
+    if bytes_eq word (codes "plan") then Some Plan
+    else if bytes_eq word (codes "replay") then Some Replay
+    else if bytes_eq word (codes "refute") then Some Refute
+    else if bytes_eq word (codes "audit") then Some Audit
+    else if bytes_eq word (codes "sim") then Some Sim
+    else if bytes_eq word (codes "crew") then Some Crew
+    else if bytes_eq word (codes "waves") then Some Waves
+    else if bytes_eq word (codes "waits") then Some Waits
+    else if bytes_eq word (codes "control") then Some Control
+    else if bytes_eq word (codes "rollout") then Some Rollout
+    else if bytes_eq word (codes "reconfigure") then Some Reconfigure
+    else if bytes_eq word (codes "place") then Some Place
+    else if bytes_eq word (codes "print") then Some Print
+    else if bytes_eq word (codes "load") then Some Load
+    else if bytes_eq word (codes "why") then Some Why
+    else if bytes_eq word (codes "confirm") then Some Confirm
+    else None
 
 abbrev pub reading : Verb → Reading
 reading Plan = OfGoals []
@@ -50,24 +72,15 @@ files_of (OfGoals texts) = length texts + 1
 abbrev pub file_count : Verb → ℕ
 file_count verb = files_of (reading verb)
 
+-- at most 256 targets, where they are goals
+abbrev pub targets_of : Reading → ℕ
+targets_of NoFile = 0
+targets_of (OfUniverse texts) = 0
+targets_of (OfGoals texts) = 256
+
 -- at most so many target words
 abbrev pub target_limit : Verb → ℕ
-target_limit Plan = 256
-target_limit Replay = 256
-target_limit Refute = 256
-target_limit Audit = 256
-target_limit Sim = 0
-target_limit Crew = 0
-target_limit Waves = 0
-target_limit Waits = 0
-target_limit Control = 0
-target_limit Rollout = 256
-target_limit Reconfigure = 256
-target_limit Place = 0
-target_limit Print = 0
-target_limit Load = 0
-target_limit Why = 256
-target_limit Confirm = 256
+target_limit verb = targets_of (reading verb)
 
 -- a size from this number on, if it has one; and else 0
 abbrev pub least_size : Verb → ℕ

@@ -3,3 +3,4 @@ pub mod Forms
 pub mod TargetName
 pub mod Words
 pub mod Numbers
+pub mod Rows

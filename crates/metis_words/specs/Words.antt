@@ -17,10 +17,10 @@ use Rattle.metis_tokens.specs.Tokens.{number_in}
 use Rattle.metis_universe.specs.PairWords.{pair_names}
 use Rattle.metis_universe.specs.Universe.{is_empty}
 use Rattle.metis_words.specs.Form.{Form, form_by}
-use Rattle.metis_words.specs.Forms.{file_count, number_count, target_limit}
+use Rattle.metis_words.specs.Forms.{file_count, number_count, target_limit, verb_named}
 use Rattle.metis_words.specs.TargetName.{TargetName}
 use Rattle.metis_words.specs.declared.words.Verb.{Verb}
-use Rattle.metis_words.specs.declared.words.Verb.TheVariants.{Plan, Replay, Refute, Audit, Sim, Crew, Waves, Waits, Control, Rollout, Reconfigure, Place, Print, Load, Why, Confirm}
+use Rattle.metis_words.specs.declared.words.Verb.TheVariants.{Waves, Load}
 use Rattle.metis_words.specs.declared.words.WordFault.{WordFault}
 use Rattle.metis_words.specs.declared.words.WordFault.TheVariants.{At, NoMemory}
 
@@ -103,26 +103,6 @@ form_behind verb files rest = and_then (targets_in (file_count verb + 2) (target
 
 abbrev pub form_with : Verb → List (List ℕ) → Result Form ℕ
 form_with verb words = and_then (files_in (file_count verb) words) (λ files. form_behind verb files (drop (file_count verb) words))
-
-abbrev pub verb_named : List ℕ → Option Verb
-verb_named word =
-    if bytes_eq word (codes "plan") then Some Plan
-    else if bytes_eq word (codes "replay") then Some Replay
-    else if bytes_eq word (codes "refute") then Some Refute
-    else if bytes_eq word (codes "audit") then Some Audit
-    else if bytes_eq word (codes "sim") then Some Sim
-    else if bytes_eq word (codes "crew") then Some Crew
-    else if bytes_eq word (codes "waves") then Some Waves
-    else if bytes_eq word (codes "waits") then Some Waits
-    else if bytes_eq word (codes "control") then Some Control
-    else if bytes_eq word (codes "rollout") then Some Rollout
-    else if bytes_eq word (codes "reconfigure") then Some Reconfigure
-    else if bytes_eq word (codes "place") then Some Place
-    else if bytes_eq word (codes "print") then Some Print
-    else if bytes_eq word (codes "load") then Some Load
-    else if bytes_eq word (codes "why") then Some Why
-    else if bytes_eq word (codes "confirm") then Some Confirm
-    else None
 
 abbrev pub with_verb : Option Verb → List (List ℕ) → Result Form ℕ
 with_verb None words = Err 1

@@ -2,9 +2,9 @@
 ghost use Rattle.std.specs.Prelude.{◌≡◌, ◌<◌, ◌≤◌, [], IfOk, IfSome, IsTrue, length, string_bytes};
 ghost use Rattle.std.specs.List.{All, list_any};
 ghost use Rattle.metis_universe.specs.Texts.{texts};
-ghost use Rattle.metis_words.specs.Words.{file_fits, files_in, form_of, form_with, is_dash, number_within, numbers_after, size_in, target_of, targets_in, verb_named, ReadsWords};
+ghost use Rattle.metis_words.specs.Words.{file_fits, files_in, form_of, form_with, is_dash, number_within, numbers_after, size_in, target_of, targets_in, ReadsWords};
 
-use crate::words::{Command, TargetWord, Verb, WordFault};
+use crate::words::{Command, TargetWord, Verb, WordFault, verb_named};
 use metis_tokens::number_in;
 use metis_universe::pair_names;
 use std::alloc::{AllocError, Global};
@@ -20,30 +20,6 @@ pub fn read_words(alloc: Global, words: &[String]) -> Result<Command, WordFault>
             Some(verb) => read_form(alloc, verb, words),
             None => Err(WordFault::At(1)),
         },
-    }
-}
-
-fn verb_named(word: &str) -> Option<Verb>
-    ensures { result ≡ verb_named word.now }
-{
-    match word {
-        "plan" => Some(Verb::Plan),
-        "replay" => Some(Verb::Replay),
-        "refute" => Some(Verb::Refute),
-        "audit" => Some(Verb::Audit),
-        "sim" => Some(Verb::Sim),
-        "crew" => Some(Verb::Crew),
-        "waves" => Some(Verb::Waves),
-        "waits" => Some(Verb::Waits),
-        "control" => Some(Verb::Control),
-        "rollout" => Some(Verb::Rollout),
-        "reconfigure" => Some(Verb::Reconfigure),
-        "place" => Some(Verb::Place),
-        "print" => Some(Verb::Print),
-        "load" => Some(Verb::Load),
-        "why" => Some(Verb::Why),
-        "confirm" => Some(Verb::Confirm),
-        _ => None,
     }
 }
 

@@ -1,7 +1,8 @@
 //! The parts of a command.
 ghost use Rattle.std.specs.Prelude.{◌≡◌, ◌<◌, ◌≤◌, length};
 ghost use Rattle.std.specs.List.{All};
-ghost use Rattle.metis_words.specs.Forms.{file_count, number_count, target_limit};
+ghost use Rattle.metis_words.specs.Forms.{file_count, number_count, target_limit, verb_named};
+ghost use Rattle.metis_words.specs.Rows.{reads};
 ghost use Rattle.metis_words.specs.Words.{word_at};
 ghost use Rattle.metis_words.specs.declared.words.WordFault.TheVariants.{NoMemory};
 
@@ -45,16 +46,65 @@ pub enum Verb {
     Confirm,
 }
 
+/// The verb of this name.
+pub fn verb_named(word: &str) -> Option<Verb>
+    ensures { result ≡ verb_named word.now }
+{
+    match word {
+        "plan" => Some(Verb::Plan),
+        "replay" => Some(Verb::Replay),
+        "refute" => Some(Verb::Refute),
+        "audit" => Some(Verb::Audit),
+        "sim" => Some(Verb::Sim),
+        "crew" => Some(Verb::Crew),
+        "waves" => Some(Verb::Waves),
+        "waits" => Some(Verb::Waits),
+        "control" => Some(Verb::Control),
+        "rollout" => Some(Verb::Rollout),
+        "reconfigure" => Some(Verb::Reconfigure),
+        "place" => Some(Verb::Place),
+        "print" => Some(Verb::Print),
+        "load" => Some(Verb::Load),
+        "why" => Some(Verb::Why),
+        "confirm" => Some(Verb::Confirm),
+        _ => None,
+    }
+}
+
+/// What a command reads of its file words.
+#[derive(Clone, Copy)]
+enum Reads {
+    Nothing,
+    /// A universe, and so many texts behind it.
+    Universe(usize),
+    /// A universe in which the target words are goals, and so many texts behind it.
+    Goals(usize),
+}
+
 impl Verb {
+    // The row of the command.
+    fn reads(self) -> Reads
+        ensures { result ≡ reads self }
+    {
+        match self {
+            Verb::Load => Reads::Nothing,
+            Verb::Print => Reads::Universe(0),
+            Verb::Sim | Verb::Waves | Verb::Waits => Reads::Universe(1),
+            Verb::Crew | Verb::Control | Verb::Place => Reads::Universe(2),
+            Verb::Plan | Verb::Why => Reads::Goals(0),
+            Verb::Replay | Verb::Refute | Verb::Audit | Verb::Rollout | Verb::Confirm =>
+                Reads::Goals(1),
+            Verb::Reconfigure => Reads::Goals(2),
+        }
+    }
+
     /// How many file words the command has.
     pub fn file_count(self) -> usize
         ensures { result ≡ file_count self }
     {
-        match self {
-            Verb::Load => 0,
-            Verb::Plan | Verb::Print | Verb::Why => 1,
-            Verb::Crew | Verb::Control | Verb::Place | Verb::Reconfigure => 3,
-            _ => 2,
+        match self.reads() {
+            Reads::Nothing => 0,
+            Reads::Universe(texts) | Reads::Goals(texts) => texts + 1,
         }
     }
 
@@ -62,16 +112,9 @@ impl Verb {
     pub fn target_limit(self) -> usize
         ensures { result ≡ target_limit self }
     {
-        match self {
-            Verb::Sim
-            | Verb::Crew
-            | Verb::Waves
-            | Verb::Waits
-            | Verb::Control
-            | Verb::Place
-            | Verb::Print
-            | Verb::Load => 0,
-            _ => 256,
+        match self.reads() {
+            Reads::Nothing | Reads::Universe(_) => 0,
+            Reads::Goals(_) => 256,
         }
     }
 
