@@ -4,13 +4,18 @@
 --     IfPairs result P      P holds of the pairs, where there is one for each goal
 --     IfLacksGoal result P      P holds of the goal, where one is lacking
 --     pair_by l g      the pair for the goal, by the layers: none where it has no layer
-use Rattle.std.specs.Prelude.{◌≡◌, ℕ, List, Option, Some, Result, Ok, Err, option_map, ⊤}
-use Rattle.std.specs.List.{AllZip}
+--     ArePairs u goals pairs      the pairs for the goals, which some actions attain
+--     IsResolved u goals resolved      such pairs, or the first goal that the attainable pairs lack
+use Rattle.std.specs.Prelude.{◌≡◌, ◌<◌, ℕ, List, length, Option, Some, Result, Ok, Err, option_map, ⊤}
+use Rattle.std.specs.List.{All, AllZip}
 use Rattle.metis_ids.specs.declared.goals.Goal.{Goal}
 use Rattle.metis_ids.specs.declared.goals.Goal.TheVariants.{Pair, Port}
 use Rattle.metis_ids.specs.declared.no_memory.NoMemory.{NoMemory}
+use Rattle.metis_universe.specs.Goal.{Attains}
+use Rattle.metis_universe.specs.Goals.{GoalRefusal}
 use Rattle.metis_universe.specs.Selection.{provider_of}
-use Rattle.metis_universe.specs.Universe.{Universe}
+use Rattle.metis_universe.specs.Universe.{Universe, pair_count}
+use Rattle.metis_layers.specs.LayerOrder.{attained_pairs}
 use Rattle.metis_layers.specs.Layers.{Layers, first_at, layer_at}
 use Rattle.metis_choice.specs.declared.resolution.Resolved.{Resolved}
 use Rattle.metis_choice.specs.declared.resolution.Resolved.TheVariants as resolved
@@ -35,3 +40,13 @@ IfLacksGoal (Err NoMemory) P = ⊤
 abbrev pub pair_by : Layers → Goal → Option ℕ
 pair_by l (Pair p) = option_map (λ _. p) (layer_at l p)
 pair_by l (Port r) = first_at l r
+
+pub record ArePairs (u : Universe) (goals : List Goal) (pairs : List ℕ) : Type 0 where
+  pub resolved : ArePairsFor u goals pairs
+  pub within : All (λ p. p < pair_count u) pairs
+  pub attained : Attains u pairs
+  pub few : length pairs ≡ length goals
+
+abbrev pub IsResolved : Universe → List Goal → Resolved → Type 0
+IsResolved u goals (resolved.Pairs pairs) = ArePairs u goals pairs.items
+IsResolved u goals (resolved.Lacks g) = GoalRefusal u goals (attained_pairs u) g

@@ -13,4 +13,4 @@ pub use choice::{Choice, choose, support};
 pub use laws::{
     goals_are_attained_where_none_is_lacking, pairs_for_goals_are_unique, pairs_for_goals_hold_them,
 };
-pub use resolution::{Resolved, resolve};
+pub use resolution::{Resolved, resolve, resolve_goals};

@@ -1,5 +1,5 @@
 //! From a list of goals to a list of pairs.
-ghost use Rattle.std.specs.Prelude.{◌≡◌, ◌<◌, IsFalse, IsSome};
+ghost use Rattle.std.specs.Prelude.{◌≡◌, ◌<◌, IfOk, IsFalse, IsSome};
 ghost use Rattle.std.specs.List.{All};
 ghost use Rattle.metis_universe.specs.Goal.{Attains};
 ghost use Rattle.metis_universe.specs.Goals.{AttainsGoals, GoalRefusal, IsGoalOf, lacks};
@@ -7,9 +7,11 @@ ghost use Rattle.metis_universe.specs.Layers.{layer_of};
 ghost use Rattle.metis_universe.specs.Universe.{pair_count};
 ghost use Rattle.metis_layers.specs.LayerOrder.{attained_pairs};
 ghost use Rattle.metis_layers.specs.Layers.{IsLayers};
-ghost use Rattle.metis_choice.specs.Resolutions.{ArePairsFor, IfLacksGoal, IfPairs, pair_by};
+ghost use Rattle.metis_choice.specs.Resolutions.{ArePairsFor, IfLacksGoal, IfPairs, IsResolved, pair_by};
 
+use crate::laws::pairs_for_goals_are_unique;
 use metis_ids::{Goal, NoMemory, PairIx};
+use metis_layers::layers;
 use metis_layers::table::Layers;
 use metis_universe::Universe;
 use std::alloc::Global;
@@ -56,6 +58,24 @@ pub fn resolve(
         }
     }
     Ok(Resolved::Pairs(pairs))
+}
+
+/// What goals come to, with the layers of the universe, which are counted for it: the pairs for the goals, which some list of actions
+/// attains; or the first goal that the attainable pairs lack.
+pub fn resolve_goals(
+    alloc: Global,
+    u: &Universe,
+    goals: &[Goal],
+) -> Result<(Resolved, Layers), NoMemory>
+    requires { All (IsGoalOf u.now) goals.now }
+    ensures resolved { IfOk result (λ r. IsResolved u.now goals.now r.0) }
+    ensures layers { IfOk result (λ r. IsLayers u.now r.1) }
+{
+    u.keeps_invariant();
+    pairs_for_goals_are_unique();
+    let layers = layers(alloc, u)?;
+    let resolved = resolve(alloc, u, &layers, goals)?;
+    Ok((resolved, layers))
 }
 
 // The pair for the goal, where it has a layer.
