@@ -24,7 +24,7 @@ ghost use Rattle.metis_planner.specs.UnderWay.{IsUnderWay};
 
 use crate::order::ordered_actions;
 use crate::outcome::Outcome;
-use metis_choice::{Choice, choose};
+use metis_choice::{Choice, choose, support};
 use metis_ids::{Dup, NoMemory, PairIx, Plan};
 use metis_layers::layers;
 use metis_layers::table::Layers;
@@ -104,10 +104,8 @@ pub fn plan_over(
     ensures { IfOk result (IsPlanFor u.now targets.now) }
 {
     u.keeps_invariant();
-    match choose(alloc, u, layers, targets)? {
-        Choice::Lacks(_) => unreachable!(),
-        Choice::Support(support) => plan_on(alloc, u, &support, targets),
-    }
+    let support = support(alloc, u, layers, targets)?;
+    plan_on(alloc, u, &support, targets)
 }
 
 // The plan that rounds come to.

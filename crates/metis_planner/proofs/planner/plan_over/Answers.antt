@@ -1,13 +1,11 @@
-use Rattle.std.proofs.Common.{Ok, subst}
-use Rattle.metis_choice.specs.Choices.{IfLacks, IsFirstWithout}
-use Rattle.metis_choice.specs.declared.choice.Choice.{Choice}
-use Rattle.metis_universe.proofs.Inside.{refused}
-use Rattle.metis_layers.specs.LayerOrder.{attained_pairs}
-use Rattle.metis_planner.proofs.Planning.{refuses}
+use Rattle.std.specs.Prelude.{IsSome}
+use Rattle.metis_ids.proofs.Lists.{all_from}
+use Rattle.metis_universe.specs.Layers.{layer_of}
+use Rattle.metis_planner.proofs.Ending.{attained_layered}
 use Rattle.metis_planner.proofs.planner.plan_over.Goals as goal
 
-pub unreachable-requires : goal.unreachable-requires
-unreachable-requires c =
-    let u = c.args.u.now in
-    let g = c.args.targets.now in
-    refused u g (attained_pairs u) c.in-Lacks.field-0 (refuses u c.keeps_invariant.ensures.universe g c.in-Lacks.field-0 (subst (λ (x : Choice). IfLacks (Ok x) (IsFirstWithout u g)) c.in-Lacks.is c.in_ok-choose.ensures.lacks)) c.requires.attained
+pub support-requires-clause-layered : goal.support-requires-clause-layered
+support-requires-clause-layered c = all_from (λ p. IsSome (layer_of c.args.u.now p)) c.args.targets.now (attained_layered c.args.u.now c.keeps_invariant.ensures.universe c.args.targets.now c.requires.attained)
+
+pub plan_on-requires-clause-layered : goal.plan_on-requires-clause-layered
+plan_on-requires-clause-layered c = all_from (λ p. IsSome (layer_of c.args.u.now p)) c.args.targets.now (attained_layered c.args.u.now c.keeps_invariant.ensures.universe c.args.targets.now c.requires.attained)
