@@ -1,2 +1,1 @@
-pub mod Aims
 pub mod SteadyLines

@@ -7,8 +7,8 @@ use Rattle.metis_replay.specs.Exact.{IsFirstBad}
 use Rattle.metis_universe.specs.Config.{empty}
 use Rattle.metis_universe.specs.Step.{IsRun, after_all}
 use Rattle.metis_universe.specs.Universe.{Universe}
-use Rattle.metis_shared.specs.declared.steady.Followed.{Followed}
-use Rattle.metis_shared.specs.declared.steady.Followed.TheVariants.{Left, Bad}
+use Rattle.metis_steady.specs.declared.steady.Followed.{Followed}
+use Rattle.metis_steady.specs.declared.steady.Followed.TheVariants.{Left, Bad}
 
 abbrev pub IsFollowed : Universe → List Action → Followed → Type 0
 IsFollowed u actions (Left c) = IsRun u empty actions × (c ≡ after_all u empty actions)

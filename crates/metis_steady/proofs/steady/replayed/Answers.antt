@@ -5,7 +5,7 @@ use Rattle.metis_universe.specs.Goals.{IsGoalOf}
 use Rattle.metis_replay.proofs.Feeding.{fed_universe}
 use Rattle.metis_replay.specs.Progress.{IsVerdictOf, start, verdict}
 use Rattle.metis_replay.specs.declared.verdict.Verdict.TheVariants.{Good}
-use Rattle.metis_shared.proofs.steady.replayed.Goals as goal
+use Rattle.metis_steady.proofs.steady.replayed.Goals as goal
 
 pub returns-clause-numbers : goal.returns-clause-numbers
 returns-clause-numbers c =

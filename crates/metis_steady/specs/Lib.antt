@@ -1,4 +1,2 @@
-pub mod Aims
 pub mod Followed
-pub mod NumberLine
 pub mod Steady

@@ -15,9 +15,9 @@ use Rattle.metis_universe.specs.Universe.{IsNamed, Universe}
 use Rattle.metis_ids.specs.declared.actions.Action.{Action}
 use Rattle.metis_output.specs.declared.status.Status.{Status}
 use Rattle.metis_output.specs.declared.status.Status.TheVariants.{No}
-use Rattle.metis_shared.specs.Steady.{HasBadAction, HasLooseAction, IsSteady, IsUnsteadyIn, TellsUnsteady, bad_line, loose_line}
-use Rattle.metis_shared.specs.declared.steady.Unsteady.{Unsteady}
-use Rattle.metis_shared.specs.declared.steady.Unsteady.TheVariants as unsteady
+use Rattle.metis_steady.specs.Steady.{HasBadAction, HasLooseAction, IsSteady, IsUnsteadyIn, TellsUnsteady, bad_line, loose_line}
+use Rattle.metis_steady.specs.declared.steady.Unsteady.{Unsteady}
+use Rattle.metis_steady.specs.declared.steady.Unsteady.TheVariants as unsteady
 
 module _ (u : Universe) (named : IsNamed u) where
   no_feed-fault_tokens : (f : AFault) → list_all no_feed (fault_tokens u f) ≡ true

@@ -6,7 +6,7 @@ use Rattle.metis_replay.specs.declared.verdict.Verdict.{Verdict}
 use Rattle.metis_replay.specs.declared.verdict.Verdict.TheVariants.{Bad, Good, Missing}
 use Rattle.metis_universe.specs.Config.{empty}
 use Rattle.metis_universe.specs.Step.{IsRun}
-use Rattle.metis_shared.proofs.steady.follow.Goals as goal
+use Rattle.metis_steady.proofs.steady.follow.Goals as goal
 
 pub returns-in-Bad : goal.returns-in-Bad
 returns-in-Bad c =

@@ -1,6 +1,6 @@
 use Rattle.std.proofs.Common.{◌≡◌, take}
 use Rattle.metis_replay.specs.Progress.{after_feeding}
-use Rattle.metis_shared.proofs.steady.replay_of.Given as goal
+use Rattle.metis_steady.proofs.steady.replay_of.Given as goal
 
 abbrev pub invariant-loop-action : goal.invariant-loop-action
 invariant-loop-action l = record {

@@ -3,7 +3,7 @@ use Rattle.std.proofs.lemmas.List.{take_all}
 use Rattle.metis_universe.specs.Numbers.{IsOf}
 use Rattle.metis_replay.proofs.Feeding.{fed_next, fed_universe}
 use Rattle.metis_replay.specs.Progress.{after_feeding, fed, start}
-use Rattle.metis_shared.proofs.steady.replay_of.Goals as goal
+use Rattle.metis_steady.proofs.steady.replay_of.Goals as goal
 
 pub feed-requires-clause-action : goal.feed-requires-clause-action
 feed-requires-clause-action c =

@@ -17,9 +17,9 @@ use Rattle.metis_universe.specs.Steadfast.{IsSteadfastRun}
 use Rattle.metis_universe.specs.Step.{IsRun, after_all}
 use Rattle.metis_universe.specs.Universe.{Universe}
 use Rattle.metis_waits.specs.Waits.{AreWaits, IsFirstLoose, WaitLists}
-use Rattle.metis_shared.specs.declared.steady.Unsteady.{Unsteady}
-use Rattle.metis_shared.specs.declared.steady.Unsteady.TheVariants.{Bad, Loose}
-use Rattle.metis_shared.specs.declared.steady.Unsteady.TheVariants as unsteady
+use Rattle.metis_steady.specs.declared.steady.Unsteady.{Unsteady}
+use Rattle.metis_steady.specs.declared.steady.Unsteady.TheVariants.{Bad, Loose}
+use Rattle.metis_steady.specs.declared.steady.Unsteady.TheVariants as unsteady
 
 abbrev pub bad_line : ℕ → List ℕ → List ℕ
 bad_line k fault = codes "bad " ++ (decimal k ++ (codes " " ++ (fault ++ codes "\n")))

@@ -1,19 +1,18 @@
 //! Whether a plan's actions are a steadfast run.
-ghost use Rattle.std.specs.Prelude.{◌≡◌, ◌<◌, ◌-◌, ◌^◌, IfOk, length, string_bytes};
+ghost use Rattle.std.specs.Prelude.{◌≡◌, ◌<◌, ◌-◌, ◌^◌, IfOk, false, length, string_bytes};
 ghost use Rattle.std.specs.List.{All};
 ghost use Rattle.metis_actions.specs.Faults.{IsFaultOf, fault_text};
-ghost use Rattle.metis_shared.specs.Followed.{IsFollowed};
-ghost use Rattle.metis_shared.specs.Steady.{IsSteady, IsUnsteadyIn, TellsUnsteady, bad_line, standing_after};
+ghost use Rattle.metis_steady.specs.Followed.{IsFollowed};
+ghost use Rattle.metis_steady.specs.Steady.{IsSteady, IsUnsteadyIn, TellsUnsteady, bad_line, standing_after};
 ghost use Rattle.metis_replay.specs.Exact.{Tells};
 ghost use Rattle.metis_replay.specs.Progress.{IsVerdictOf, after_feeding};
 ghost use Rattle.metis_universe.specs.Goals.{IsGoalOf};
 ghost use Rattle.metis_universe.specs.Numbers.{IsOf};
 
-use crate::line::number_line;
 use metis_actions::{AFault, fault_text};
 use metis_config::Config;
 use metis_ids::{Action, Goal, NoMemory};
-use metis_output::Once;
+use metis_output::{Answer, Either, Lines, Once, number_line};
 use metis_replay::{Replay, Verdict, replay_is_exact, replay_keeps_what_was_done};
 use metis_universe::Universe;
 use metis_waits::{WFault, Waits, waits};
@@ -111,8 +110,24 @@ pub fn steady_waits(alloc: Global, u: &Universe, actions: &[Action]) -> Result<W
     }
 }
 
-/// The line that says which of the actions keeps them from being a steadfast run, and why.
-pub fn unsteady_line(alloc: Global, u: &Universe, why: &Unsteady) -> Result<Once, NoMemory>
+/// The answer that says which of the actions keeps them from being a steadfast run, and why.
+pub fn unsteady_answer<L: Lines + Drop>(
+    alloc: Global,
+    u: &Universe,
+    why: &Unsteady,
+) -> Result<Answer<Either<Once, L>>, NoMemory>
+    requires { IsUnsteadyIn u.now why.now }
+    ensures lines { IfOk result (λ a. TellsUnsteady u.now why.now (⟦<Either<Once, L> as Lines>⟧.rest a.lines)) }
+    ensures good { IfOk result (λ a. a.good ≡ false) }
+{
+    Ok(Answer {
+        lines: Either::First(unsteady_line(alloc, u, why)?),
+        good: false,
+    })
+}
+
+// The line that says so.
+fn unsteady_line(alloc: Global, u: &Universe, why: &Unsteady) -> Result<Once, NoMemory>
     requires { IsUnsteadyIn u.now why.now }
     ensures { IfOk result (TellsUnsteady u.now why.now) }
 {
