@@ -7,9 +7,11 @@ use Rattle.metis_inputs.specs.declared.stop.Stop.TheVariants as stop
 use Rattle.metis_outside.specs.Faults.{Rose}
 use Rattle.metis_outside.specs.Openings.{Openings, grown}
 use Rattle.metis_outside.proofs.Opened.{grown-grown}
-use Rattle.metis_inputs.specs.Answer.{Answer}
+use Rattle.metis_inputs.specs.Inputs.{Inputs}
 use Rattle.metis_inputs.specs.Gathers.{Gathers, Judges, Came, AreTaken, Opened, after, named, IsRead, IsReadAt}
 use Rattle.metis_inputs.specs.Script.{Script, Read, Fault, Reply}
+use Rattle.metis_words.specs.Forms.{reading}
+use Rattle.metis_words.specs.declared.words.Verb.{Verb}
 
 -- what was judged of what was read
 pub gathers_judged : {S X Y Z W : Type 0} (files : S → Option (List ℕ → List ℕ)) (faults : S → ℕ) (opens : S → Openings) (view : Y → X) (view' : W → Z)
@@ -70,37 +72,37 @@ after_fault : (taken : List (List ℕ)) (why : InputFault) → after taken (Faul
 after_fault [] why = refl
 after_fault (bytes ∷ taken) why = refl
 
-after_reply : (taken : List (List ℕ)) (answer : Answer) → after taken (Reply answer) ≡ Reply answer
-after_reply [] answer = refl
-after_reply (bytes ∷ taken) answer = refl
+after_reply : (taken : List (List ℕ)) (verb : Verb) (inputs : Inputs (reading verb)) (size : ℕ) (numbers : List ℕ) → after taken (Reply verb inputs size numbers) ≡ Reply verb inputs size numbers
+after_reply [] verb inputs size numbers = refl
+after_reply (bytes ∷ taken) verb inputs size numbers = refl
 
 pub after-append : (first second : List (List ℕ)) (script : Script) → after (first ++ second) script ≡ after second (after first script)
 after-append [] second script = refl
 after-append (bytes ∷ first) second (Read place name limit next) = after-append first second (next bytes)
 after-append (bytes ∷ first) second (Fault why) = sym (after_fault second why)
-after-append (bytes ∷ first) second (Reply answer) = sym (after_reply second answer)
+after-append (bytes ∷ first) second (Reply verb inputs size numbers) = sym (after_reply second verb inputs size numbers)
 
 pub AreTaken-append : (files : Option (List ℕ → List ℕ)) (first second : List (List ℕ)) (script : Script) → AreTaken files first script → AreTaken files second (after first script) → AreTaken files (first ++ second) script
 AreTaken-append files [] second script one two = two
 AreTaken-append files (bytes ∷ first) second (Read place name limit next) one two = (one.0, AreTaken-append files first second (next bytes) one.1 two)
 AreTaken-append files (bytes ∷ first) second (Fault why) one two = absurd one
-AreTaken-append files (bytes ∷ first) second (Reply answer) one two = absurd one
+AreTaken-append files (bytes ∷ first) second (Reply verb inputs size numbers) one two = absurd one
 
 named_fault : (more : Option Bool) (taken : List (List ℕ)) (why : InputFault) → named more taken (Fault why) ≡ []
 named_fault None [] why = refl
 named_fault (Some failed) [] why = refl
 named_fault more (bytes ∷ taken) why = refl
 
-named_reply : (more : Option Bool) (taken : List (List ℕ)) (answer : Answer) → named more taken (Reply answer) ≡ []
-named_reply None [] answer = refl
-named_reply (Some failed) [] answer = refl
-named_reply more (bytes ∷ taken) answer = refl
+named_reply : (more : Option Bool) (taken : List (List ℕ)) (verb : Verb) (inputs : Inputs (reading verb)) (size : ℕ) (numbers : List ℕ) → named more taken (Reply verb inputs size numbers) ≡ []
+named_reply None [] verb inputs size numbers = refl
+named_reply (Some failed) [] verb inputs size numbers = refl
+named_reply more (bytes ∷ taken) verb inputs size numbers = refl
 
 named-append : (more : Option Bool) (first second : List (List ℕ)) (script : Script) → named more (first ++ second) script ≡ named None first script ++ named more second (after first script)
 named-append more [] second script = refl
 named-append more (bytes ∷ first) second (Read place name limit next) = ap (λ l. (name, false) ∷ l) (named-append more first second (next bytes))
 named-append more (bytes ∷ first) second (Fault why) = sym (named_fault more second why)
-named-append more (bytes ∷ first) second (Reply answer) = sym (named_reply more second answer)
+named-append more (bytes ∷ first) second (Reply verb inputs size numbers) = sym (named_reply more second verb inputs size numbers)
 
 module _ {Z : Type 0} (start rest : (Z → Script) → Script) (first second : List (List ℕ)) (behind : (next : Z → Script) → after first (start next) ≡ rest next) where
   goes_on : (next : Z → Script) → after (first ++ second) (start next) ≡ after second (rest next)

@@ -8,7 +8,8 @@ use Rattle.metis_universe.specs.Universe.{Universe}
 use Rattle.metis_words.specs.Form.{Form}
 use Rattle.metis_words.specs.Forms.{PlanText}
 use Rattle.metis_words.specs.Words.{word_at}
-use Rattle.metis_inputs.specs.Commands.{Inputs, Meaning, goals_then, inputs_then, text_then, universe_then}
+use Rattle.metis_inputs.specs.Commands.{goals_then, inputs_then, text_then, universe_then}
+use Rattle.metis_inputs.specs.Inputs.{Inputs, Meaning}
 use Rattle.metis_inputs.specs.Gathers.{Gathers}
 use Rattle.metis_inputs.specs.Views.{goals_and, goals_and_said, goals_and_then, goals_plan_and, goals_plan_and_said, goals_said, plan_and, plan_and_said, universe_and, universe_and_said}
 use Rattle.metis_inputs.specs.declared.asked.Asked.{Asked}

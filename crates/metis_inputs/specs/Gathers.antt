@@ -22,32 +22,32 @@ abbrev pub AreTaken : Option (List ℕ → List ℕ) → List (List ℕ) → Scr
 AreTaken files [] script = Unit {0}
 AreTaken files (bytes ∷ taken) (Read place name limit next) = IsTaken files name limit bytes × AreTaken files taken (next bytes)
 AreTaken files (bytes ∷ taken) (Fault why) = ⊥
-AreTaken files (bytes ∷ taken) (Reply answer) = ⊥
+AreTaken files (bytes ∷ taken) (Reply verb inputs size numbers) = ⊥
 
 -- the name of the file that the script is to read, where it was opened, with whether that or a taking failed
 abbrev pub next_named : Option Bool → Script → List (List ℕ × Bool)
 next_named None script = []
 next_named (Some failed) (Read place name limit next) = (name, failed) ∷ []
 next_named (Some failed) (Fault why) = []
-next_named (Some failed) (Reply answer) = []
+next_named (Some failed) (Reply verb inputs size numbers) = []
 
 -- the names of the script's first files, of which these bytes were taken, and behind them that of the next one, where it was opened
 abbrev pub named : Option Bool → List (List ℕ) → Script → List (List ℕ × Bool)
 named more [] script = next_named more script
 named more (bytes ∷ taken) (Read place name limit next) = (name, false) ∷ named more taken (next bytes)
 named more (bytes ∷ taken) (Fault why) = []
-named more (bytes ∷ taken) (Reply answer) = []
+named more (bytes ∷ taken) (Reply verb inputs size numbers) = []
 
 -- the script is to read the file of the word at this place
 abbrev pub IsReadAt : ℕ → Script → Type 0
 IsReadAt place (Read at name limit next) = at ≡ place
 IsReadAt place (Fault why) = ⊥
-IsReadAt place (Reply answer) = ⊥
+IsReadAt place (Reply verb inputs size numbers) = ⊥
 
 abbrev pub IsRead : Script → Type 0
 IsRead (Read place name limit next) = Unit {0}
 IsRead (Fault why) = ⊥
-IsRead (Reply answer) = ⊥
+IsRead (Reply verb inputs size numbers) = ⊥
 
 -- what a part of a run opened: the files of which these bytes were taken, and perhaps the next one
 abbrev pub Opened : {X : Type 0} → ((X → Script) → Script) → List (List ℕ) → Openings → Openings → Option Bool → Type 0

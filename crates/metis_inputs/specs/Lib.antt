@@ -1,7 +1,7 @@
-pub mod Answer
 pub mod Commands
 pub mod Facts
 pub mod Gathers
+pub mod Inputs
 pub mod NamedGoals
 pub mod Script
 pub mod Stops

@@ -10,7 +10,8 @@ use Rattle.metis_universe.specs.Universe.{Universe}
 use Rattle.metis_words.specs.Form.{Form}
 use Rattle.metis_words.specs.Forms.{Reading, OfUniverse, OfGoals, TextKind, PlanText}
 use Rattle.metis_words.specs.Words.{word_at}
-use Rattle.metis_inputs.specs.Commands.{Inputs, goals_then, text_then}
+use Rattle.metis_inputs.specs.Commands.{goals_then, text_then}
+use Rattle.metis_inputs.specs.Inputs.{Inputs}
 use Rattle.metis_inputs.specs.Script.{Script}
 use Rattle.metis_inputs.specs.declared.asked.Asked.{Asked}
 use Rattle.metis_inputs.specs.declared.asked.GoalsAnd.{GoalsAnd}

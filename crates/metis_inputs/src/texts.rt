@@ -1,6 +1,7 @@
 //! The texts that a command reads behind its universe, one type for each kind.
 ghost use Rattle.std.specs.Prelude.{◌≡◌, ◌≤◌, IfOk, length};
-ghost use Rattle.metis_inputs.specs.Commands.{Meaning, text_in_then, text_limit};
+ghost use Rattle.metis_inputs.specs.Commands.{text_in_then, text_limit};
+ghost use Rattle.metis_inputs.specs.Inputs.{Meaning};
 ghost use Rattle.metis_inputs.specs.Gathers.{Judges};
 ghost use Rattle.metis_universe.specs.Universe.{Universe};
 ghost use Rattle.metis_words.specs.Forms.{TextKind};
