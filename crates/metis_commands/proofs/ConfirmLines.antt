@@ -8,7 +8,7 @@ use Rattle.metis_universe.specs.Universe.{IsNamed, Universe}
 use Rattle.metis_why.specs.declared.confirming.Confirmation.{Confirmation}
 use Rattle.metis_why.specs.declared.confirming.Confirmation.TheVariants as confirmation
 use Rattle.metis_commands.proofs.GoalLine.{IsLine-word_line}
-use Rattle.metis_shared.proofs.Aims.{found_among}
+use Rattle.metis_choice.proofs.GoalLists.{found_among}
 use Rattle.metis_commands.specs.Confirm.{confirmation_line, IsSayable}
 use Rattle.std.specs.List.{All, list_all}
 use Rattle.metis_ids.specs.declared.goals.Goal.{Goal}

@@ -1,6 +1,6 @@
 -- The line of a verdict.
 use Rattle.std.proofs.Common.{◌≡◌, ℕ, List, [], ◌∷◌, length, refl, ap}
-use Rattle.metis_shared.specs.Steady.{standing_after}
+use Rattle.metis_steady.specs.Steady.{standing_after}
 use Rattle.metis_ids.specs.declared.actions.Action.{Action}
 use Rattle.metis_ids.specs.declared.goals.Goal.{Goal}
 use Rattle.metis_replay.specs.Exact.{Tells}
@@ -10,7 +10,7 @@ use Rattle.metis_universe.specs.Universe.{Universe, IsNamed}
 use Rattle.metis_commands.specs.Replay.{Replayed, good_line, verdict_line, verdict_status}
 use Rattle.std.specs.Prelude.{codes}
 use Rattle.metis_output.proofs.LineWords.{by_two}
-use Rattle.metis_shared.proofs.SteadyLines.{IsLine-bad_line}
+use Rattle.metis_steady.proofs.SteadyLines.{IsLine-bad_line}
 use Rattle.metis_outside.specs.Pieces.{IsLine}
 use Rattle.metis_tokens.proofs.WordFeeds.{IsLine-missing_line}
 

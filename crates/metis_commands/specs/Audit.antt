@@ -19,7 +19,7 @@ use Rattle.metis_universe.specs.Universe.{Universe, pair_count}
 use Rattle.metis_commands.specs.GoalLine.{word_line}
 use Rattle.metis_output.specs.declared.status.Status.{Status}
 use Rattle.metis_output.specs.declared.status.Status.TheVariants.{Done, No}
-use Rattle.metis_shared.specs.NumberLine.{number_line}
+use Rattle.metis_output.specs.NumberLine.{number_line}
 
 abbrev pub justified_line : ℕ → ℕ → List ℕ
 justified_line instances dups = codes "justified instances " ++ (decimal instances ++ (codes " dups " ++ (decimal dups ++ codes "\n")))

@@ -6,7 +6,7 @@ use Rattle.metis_control.specs.Script.{script_answers}
 use Rattle.metis_ids.specs.declared.actions.Action.{Action}
 use Rattle.metis_universe.specs.Steadfast.{IsSteadfastRun}
 use Rattle.metis_universe.specs.Universe.{Universe}
-use Rattle.metis_shared.specs.Steady.{HasBadAction, HasLooseAction}
+use Rattle.metis_steady.specs.Steady.{HasBadAction, HasLooseAction}
 use Rattle.metis_tokens.specs.Scripts.{script_lines}
 use Rattle.metis_output.specs.declared.status.Status.{Status}
 use Rattle.metis_output.specs.declared.status.Status.TheVariants.{Done}

@@ -10,7 +10,7 @@ use Rattle.metis_universe.specs.Universe.{Universe}
 use Rattle.metis_crew.specs.Crew.{after_turns, counts_after, done_count, start, turn as answer_to, turns}
 use Rattle.metis_crew.specs.declared.turn.Turn.{Turn}
 use Rattle.metis_crew.specs.declared.turn.Turn.TheVariants as turn
-use Rattle.metis_shared.specs.Steady.{HasBadAction, HasLooseAction}
+use Rattle.metis_steady.specs.Steady.{HasBadAction, HasLooseAction}
 use Rattle.metis_output.specs.declared.status.Status.{Status}
 use Rattle.metis_output.specs.declared.status.Status.TheVariants.{Done}
 

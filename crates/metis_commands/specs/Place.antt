@@ -15,7 +15,7 @@ use Rattle.metis_place.specs.Placement.{HostLists, IsNoRoom, IsPlacing, PlacingL
 use Rattle.metis_tokens.specs.Line.{added}
 use Rattle.metis_universe.specs.Steadfast.{IsSteadfastRun}
 use Rattle.metis_universe.specs.Universe.{Universe}
-use Rattle.metis_shared.specs.Steady.{HasBadAction, HasLooseAction}
+use Rattle.metis_steady.specs.Steady.{HasBadAction, HasLooseAction}
 use Rattle.metis_output.specs.declared.status.Status.{Status}
 use Rattle.metis_output.specs.declared.status.Status.TheVariants.{Done, No}
 

@@ -10,7 +10,7 @@ use Rattle.metis_replay.specs.declared.verdict.Verdict.TheVariants.{Good, Bad, M
 use Rattle.metis_tokens.specs.MissingLine.{missing_line}
 use Rattle.metis_ids.specs.declared.goals.Goal.{Goal}
 use Rattle.metis_universe.specs.GoalWords.{goal_word}
-use Rattle.metis_shared.specs.Steady.{bad_line, standing_after}
+use Rattle.metis_steady.specs.Steady.{bad_line, standing_after}
 use Rattle.metis_output.specs.declared.status.Status.{Status}
 use Rattle.metis_output.specs.declared.status.Status.TheVariants.{Done, No}
 use Rattle.metis_universe.specs.Universe.{Universe}

@@ -7,7 +7,7 @@ use Rattle.metis_ids.specs.declared.actions.Action.{Action}
 use Rattle.metis_ids.specs.Plans.{Plan}
 use Rattle.metis_output.specs.declared.status.Status.{Status}
 use Rattle.metis_output.specs.declared.status.Status.TheVariants.{Done}
-use Rattle.metis_shared.specs.Steady.{HasBadAction, HasLooseAction}
+use Rattle.metis_steady.specs.Steady.{HasBadAction, HasLooseAction}
 use Rattle.metis_text.specs.PlanText.{IsWellFormed, plan_lines}
 use Rattle.metis_universe.specs.Steadfast.{IsSteadfastRun}
 use Rattle.metis_universe.specs.Universe.{Universe}

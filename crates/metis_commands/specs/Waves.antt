@@ -12,7 +12,7 @@ use Rattle.metis_universe.specs.Steadfast.{IsSteadfastRun}
 use Rattle.metis_universe.specs.Universe.{Universe}
 use Rattle.metis_waves.specs.Waves.{AreWaves, WaveLists}
 use Rattle.metis_waves.specs.declared.durations.Durations.{Durations}
-use Rattle.metis_shared.specs.Steady.{HasBadAction, HasLooseAction}
+use Rattle.metis_steady.specs.Steady.{HasBadAction, HasLooseAction}
 use Rattle.metis_output.specs.declared.status.Status.{Status}
 use Rattle.metis_output.specs.declared.status.Status.TheVariants.{Done}
 

@@ -17,8 +17,6 @@ use Rattle.metis_why.specs.declared.explaining.Explained.{Explained}
 use Rattle.metis_why.specs.declared.explaining.Explained.TheVariants.{Attained, Lacks}
 use Rattle.metis_why.specs.declared.reason.Line.{Line}
 use Rattle.metis_why_text.specs.WhyText.{why_lines}
-use Rattle.metis_output.specs.Answers.{Says}
-use Rattle.metis_output.specs.declared.answer.Answer.{Answer}
 use Rattle.metis_output.specs.declared.status.Status.{Status}
 use Rattle.metis_output.specs.declared.status.Status.TheVariants.{Done, No}
 
@@ -44,7 +42,3 @@ IsExplained u goals (Err e) = Unit {0}
 abbrev pub IsTold : Universe → Explained → Type 0
 IsTold u Attained = Unit {0}
 IsTold u (Lacks why) = IsWordable u why.lacks × All (IsTellable u) why.lines.items
-
--- an answer says of whatever goals it was explained for, that it explains them
-abbrev pub SaysExplained : {L : Type 0} → Universe → Result Explained NoMemory → (L → List (List ℕ)) → Answer L → Type 0
-SaysExplained u explained rest a = (goals : List Goal) → IsExplained u goals explained → Says (WhyAnswer u goals) rest a

@@ -4,6 +4,7 @@ ghost use Rattle.std.specs.List.{All};
 ghost use Rattle.metis_commands.specs.Audit.{Audited, AuditedFor, NamesPairOf, audit_line};
 ghost use Rattle.metis_commands.specs.GoalLine.{word_line};
 ghost use Rattle.metis_output.specs.Answers.{Says};
+ghost use Rattle.metis_output.specs.Puts.{Puts};
 ghost use Rattle.metis_text.specs.PlanText.{IsWellFormed};
 ghost use Rattle.metis_text.specs.Reads.{lists_of};
 ghost use Rattle.metis_universe.specs.GoalWords.{IsWordable, goal_word};
@@ -12,16 +13,26 @@ ghost use Rattle.metis_universe.specs.Universe.{pair_count};
 
 use crate::goal_line::goal_line;
 use metis_audit::{Answer as AuditAnswer, audit};
-use metis_choice::pairs_for_goals_hold_them;
+use metis_choice::{Resolved, pairs_for_goals_hold_them, resolve_goals};
 use metis_ids::{Goal, NoMemory, PairIx, Plan};
-use metis_output::{Answer, Lines, Once, line_answer};
-use metis_shared::{Aim, aim_of, number_line};
+use metis_inputs::GoalsAnd;
+use metis_output::{Answer, Lines, Once, Status, finish, line_answer, number_line};
+use metis_outside::Sink;
 use metis_text::PlanText;
 use metis_universe::Universe;
 use std::alloc::{AllocError, Global};
 
-/// Whether the plan's instances are the life lines for the goals and its dups, each of these forced by its cycle.
-pub fn answer(
+/// Puts whether the plan's instances are the life lines for the goals and its dups, each of these forced by its cycle.
+#[tactic(auto, using(metis_output::proofs::Given::puts))]
+pub fn put<K: Sink>(alloc: Global, read: &GoalsAnd<PlanText>, out: &mut K) -> Status
+    ensures { let text = read.now.text in
+        Puts K.Sink (Audited read.now.asked.universe read.now.asked.goals.items text.plan (lists_of text)) out.old out.new result }
+{
+    let (u, goals) = (&read.asked.universe, &read.asked.goals);
+    finish(alloc, answer(alloc, u, &read.text, goals), out)
+}
+
+fn answer(
     alloc: Global,
     u: &Universe,
     text: &PlanText,
@@ -34,10 +45,12 @@ pub fn answer(
     requires few_actions { length text.now.plan.actions < 2 ^ 32 - 1 }
     ensures { IfOk result (Says (Audited u.now goals.now text.now.plan (lists_of text.now)) ⟦<Once as Lines>⟧.rest) }
 {
+    u.keeps_invariant();
     pairs_for_goals_hold_them();
-    match aim_of(alloc, u, goals)? {
-        Aim::Pairs(pairs, _layers) => audited(alloc, u, text, &pairs),
-        Aim::Lacks(refusal) => not_attained(alloc, u, refusal.lacks),
+    let (resolved, _layers) = resolve_goals(alloc, u, goals)?;
+    match resolved {
+        Resolved::Pairs(pairs) => audited(alloc, u, text, &pairs),
+        Resolved::Lacks(lacks) => not_attained(alloc, u, lacks),
     }
 }
 

@@ -3,18 +3,29 @@ ghost use Rattle.std.specs.Prelude.{◌≡◌, ◌<◌, ◌^◌, IfOk, length, s
 ghost use Rattle.std.specs.List.{All};
 ghost use Rattle.metis_commands.specs.Confirm.{Confirms, IsSayable, confirmation_line};
 ghost use Rattle.metis_output.specs.Answers.{Says};
+ghost use Rattle.metis_output.specs.Puts.{Puts};
 ghost use Rattle.metis_universe.specs.Goals.{IsGoalOf};
 ghost use Rattle.metis_why.specs.Confirm.{IsLineOf};
 
 use crate::goal_line::goal_line;
 use metis_ids::{Goal, NoMemory};
-use metis_output::{Answer, Lines, Once, line_answer};
+use metis_inputs::GoalsAnd;
+use metis_output::{Answer, Lines, Once, Status, finish, line_answer};
+use metis_outside::Sink;
 use metis_universe::Universe;
-use metis_why::{Confirmation, Line, confirm};
+use metis_why::{Confirmation, Explanation, Line, confirm};
 use std::alloc::{AllocError, Global};
 
-/// What the lines come to as an explanation for the goals.
-pub fn answer(
+/// Puts what the lines come to as an explanation for the goals.
+#[tactic(auto, using(metis_output::proofs::Given::puts))]
+pub fn put<K: Sink>(alloc: Global, read: &GoalsAnd<Explanation>, out: &mut K) -> Status
+    ensures { Puts K.Sink (Confirms read.now.asked.universe read.now.asked.goals.items read.now.text.lines.items) out.old out.new result }
+{
+    let (u, goals) = (&read.asked.universe, &read.asked.goals);
+    finish(alloc, answer(alloc, u, &read.text.lines, goals), out)
+}
+
+fn answer(
     alloc: Global,
     u: &Universe,
     lines: &[Line],

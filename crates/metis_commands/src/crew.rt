@@ -2,21 +2,33 @@
 ghost use Rattle.std.specs.Prelude.{◌≡◌, IfOk, OnOk, length, string_bytes};
 ghost use Rattle.metis_commands.specs.Crew.{Crewed, lines_left, turn_line};
 ghost use Rattle.metis_output.specs.Answers.{Says};
-ghost use Rattle.metis_shared.specs.Steady.{IsSteady};
+ghost use Rattle.metis_output.specs.Puts.{Puts};
+ghost use Rattle.metis_steady.specs.Steady.{IsSteady};
 
 use metis_crew::{Crew, Turn};
 use metis_ids::{Action, InstNo, NoMemory};
-use metis_output::{Answer, Either, Lines, Once};
-use metis_shared::{Unsteady, unsteady_line};
+use metis_inputs::PlanAnd;
+use metis_output::{Answer, Either, Lines, Once, Status, finish};
+use metis_outside::Sink;
+use metis_steady::{Unsteady, steady_waits, unsteady_answer};
 use metis_universe::Universe;
 use metis_waits::Waits;
 use std::alloc::{AllocError, Global};
 
-/// The line that says why actions are no steadfast run, or what a crew over them answers.
-pub type CrewLines<'a> = Either<Once, TurnLines<'a>>;
+// The line that says why actions are no steadfast run, or what a crew over them answers.
+type CrewLines<'a> = Either<Once, TurnLines<'a>>;
 
-/// The first action that cannot be done or is not steadfast, or else what a crew over the actions answers to the turns.
-pub fn answer<'a>(
+/// Puts the first action that cannot be done or is not steadfast, or else what a crew over the plan's actions answers to the turns.
+#[tactic(auto, using(metis_output::proofs::Given::puts))]
+pub fn put<K: Sink>(alloc: Global, read: &PlanAnd<Vec<InstNo>>, out: &mut K) -> Status
+    ensures { Puts K.Sink (Crewed read.now.planned.universe read.now.planned.text.plan.actions read.now.text.items) out.old out.new result }
+{
+    let (u, actions) = (&read.planned.universe, &read.planned.text.plan.actions);
+    let steady = steady_waits(alloc, u, actions);
+    finish(alloc, answer(alloc, u, actions, &steady, &read.text), out)
+}
+
+fn answer<'a>(
     alloc: Global,
     u: &Universe,
     actions: &'a [Action],
@@ -36,10 +48,7 @@ pub fn answer<'a>(
             }),
             good: true,
         }),
-        Err(why) => Ok(Answer {
-            lines: Either::First(unsteady_line(alloc, u, why)?),
-            good: false,
-        }),
+        Err(why) => unsteady_answer(alloc, u, why),
     }
 }
 

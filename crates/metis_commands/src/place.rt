@@ -3,26 +3,37 @@ ghost use Rattle.std.specs.Prelude.{◌≡◌, ◌≤◌, ◌<◌, ◌-◌, ◌^
 ghost use Rattle.std.specs.List.{All};
 ghost use Rattle.metis_commands.specs.Place.{Placed, holds_behind, made_of, no_room_line, on_lines, placed_line, placing_lines};
 ghost use Rattle.metis_output.specs.Answers.{Says};
+ghost use Rattle.metis_output.specs.Puts.{Puts};
 ghost use Rattle.metis_universe.specs.Numbers.{IsOf};
 ghost use Rattle.metis_universe.specs.Universe.{type_count};
 
 use metis_ids::{Action, InstNo, Ix, NoMemory};
-use metis_output::{Answer, Chain, Each, Either, LineAt, Lines, Once};
+use metis_inputs::PlanAnd;
+use metis_output::{Answer, Chain, Each, Either, LineAt, Lines, Once, Status, finish};
+use metis_outside::Sink;
 use metis_place::{Hold, Hosts, PFault, Placing, place};
-use metis_shared::{steady_waits, unsteady_line};
+use metis_steady::{steady_waits, unsteady_answer};
 use metis_tokens::push_numbers;
 use metis_universe::Universe;
 use std::alloc::{AllocError, Global};
 
-/// Where instances are, line by line: the host of each, and then the further waits and the counts.
-pub type PlacingLines<'a> = Chain<SeatLines<'a>, Chain<HoldLines, Each<PlacedCount>>>;
+// Where instances are, line by line: the host of each, and then the further waits and the counts.
+type PlacingLines<'a> = Chain<SeatLines<'a>, Chain<HoldLines, Each<PlacedCount>>>;
 
-/// One line that says why not, or where the instances are.
-pub type PlaceLines<'a> = Either<Once, PlacingLines<'a>>;
+// One line that says why not, or where the instances are.
+type PlaceLines<'a> = Either<Once, PlacingLines<'a>>;
 
-/// The first action that cannot be done or is not steadfast, or else the host of each instance that the actions make, and what
+/// Puts the first action that cannot be done or is not steadfast, or else the host of each instance that the actions make, and what
 /// they wait for besides.
-pub fn answer<'a>(
+#[tactic(auto, using(metis_output::proofs::Given::puts))]
+pub fn put<K: Sink>(alloc: Global, read: &PlanAnd<Hosts>, out: &mut K) -> Status
+    ensures { Puts K.Sink (Placed read.now.planned.universe read.now.planned.text.plan.actions read.now.text) out.old out.new result }
+{
+    let (u, actions) = (&read.planned.universe, &read.planned.text.plan.actions);
+    finish(alloc, answer(alloc, u, actions, &read.text), out)
+}
+
+fn answer<'a>(
     alloc: Global,
     u: &Universe,
     actions: &[Action],
@@ -35,10 +46,7 @@ pub fn answer<'a>(
     ensures { IfOk result (Says (Placed u.now actions.now h.now) ⟦<PlaceLines<'a> as Lines>⟧.rest) }
 {
     if let Err(why) = steady_waits(alloc, u, actions) {
-        return Ok(Answer {
-            lines: Either::First(unsteady_line(alloc, u, &why)?),
-            good: false,
-        });
+        return unsteady_answer(alloc, u, &why);
     }
     match place(alloc, u, actions, h) {
         Ok(placing) => Ok(Answer {

@@ -3,19 +3,31 @@ ghost use Rattle.std.specs.Prelude.{◌≡◌, IfOk, string_bytes};
 ghost use Rattle.std.specs.List.{All};
 ghost use Rattle.metis_commands.specs.Refute.{Judged, judgement_line};
 ghost use Rattle.metis_output.specs.Answers.{Says};
+ghost use Rattle.metis_output.specs.Puts.{Puts};
 ghost use Rattle.metis_refusal.specs.Claims.{NamesOf};
 ghost use Rattle.metis_universe.specs.Goals.{IsGoalOf};
 ghost use Rattle.metis_universe.specs.Universe.{pair_count};
 
 use crate::goal_line::goal_line;
 use metis_ids::{Goal, NoMemory, PairSet};
-use metis_output::{Answer, Lines, Once, line_answer};
+use metis_inputs::GoalsAnd;
+use metis_output::{Answer, Lines, Once, Status, finish, line_answer};
+use metis_outside::Sink;
 use metis_refusal::{Verdict2, check_closed};
+use metis_text::Refusal;
 use metis_universe::Universe;
 use std::alloc::{AllocError, Global};
 
-/// What the set of pairs comes to as a refusal of the goals.
-pub fn answer(
+/// Puts what the set of pairs comes to as a refusal of the goals.
+#[tactic(auto, using(metis_output::proofs::Given::puts))]
+pub fn put<K: Sink>(alloc: Global, read: &GoalsAnd<Refusal>, out: &mut K) -> Status
+    ensures { Puts K.Sink (Judged read.now.asked.universe read.now.asked.goals.items read.now.text.pairs.members) out.old out.new result }
+{
+    let (u, goals) = (&read.asked.universe, &read.asked.goals);
+    finish(alloc, answer(alloc, u, &read.text.pairs, goals), out)
+}
+
+fn answer(
     alloc: Global,
     u: &Universe,
     set: &PairSet,

@@ -2,23 +2,35 @@
 ghost use Rattle.std.specs.Prelude.{◌<◌, ◌-◌, ◌^◌, IfOk, List, length, ℕ};
 ghost use Rattle.metis_commands.specs.Waits.{Awaited};
 ghost use Rattle.metis_output.specs.Answers.{Says};
-ghost use Rattle.metis_shared.specs.Steady.{IsSteady};
+ghost use Rattle.metis_output.specs.Puts.{Puts};
+ghost use Rattle.metis_steady.specs.Steady.{IsSteady};
 ghost use Rattle.metis_text.specs.PlanText.{IsWellFormed};
 
 use metis_ids::{NoMemory, Plan};
-use metis_output::{Answer, Either, Lines, Once};
-use metis_shared::{Unsteady, unsteady_line};
-use metis_text::{PlanLines, lines_of_plan, written_run_is_well_formed};
+use metis_inputs::UniverseAnd;
+use metis_output::{Answer, Either, Lines, Once, Status, finish};
+use metis_outside::Sink;
+use metis_steady::{Unsteady, steady_waits, unsteady_answer};
+use metis_text::{PlanLines, PlanText, lines_of_plan, written_run_is_well_formed};
 use metis_universe::Universe;
 use metis_waits::Waits;
 use std::alloc::Global;
 
-/// The line that says why actions are no steadfast run, or the text of the plan.
-pub type AwaitedLines<'a> = Either<Once, PlanLines<'a>>;
+// The line that says why actions are no steadfast run, or the text of the plan.
+type AwaitedLines<'a> = Either<Once, PlanLines<'a>>;
 
-/// The first action that cannot be done or is not steadfast, or else the text of the plan in which each action names what it waits
+/// Puts the first action that cannot be done or is not steadfast, or else the text of the plan in which each action names what it waits
 /// for of the other instances, in place of what its own text said. Actions and dups stay.
-pub fn answer<'a>(
+#[tactic(auto, using(metis_output::proofs::Given::puts))]
+pub fn put<K: Sink>(alloc: Global, read: &UniverseAnd<PlanText>, out: &mut K) -> Status
+    ensures { Puts K.Sink (Awaited read.now.universe read.now.text.plan) out.old out.new result }
+{
+    let (u, plan) = (&read.universe, &read.text.plan);
+    let steady = steady_waits(alloc, u, &plan.actions);
+    finish(alloc, answer(alloc, u, plan, &steady), out)
+}
+
+fn answer<'a>(
     alloc: Global,
     u: &'a Universe,
     plan: &'a Plan,
@@ -36,9 +48,6 @@ pub fn answer<'a>(
             lines: Either::Second(lines_of_plan(u, plan, waits)),
             good: true,
         }),
-        Err(why) => Ok(Answer {
-            lines: Either::First(unsteady_line(alloc, u, why)?),
-            good: false,
-        }),
+        Err(why) => unsteady_answer(alloc, u, why),
     }
 }

@@ -3,26 +3,45 @@ ghost use Rattle.std.specs.Prelude.{◌≡◌, ◌+◌, ◌<◌, ◌≤◌, ◌-
 ghost use Rattle.std.specs.List.{All, zip};
 ghost use Rattle.metis_commands.specs.Waves.{Waved, chain_line, durations_of, end_lines, finish_line, schedule_lines, start_line};
 ghost use Rattle.metis_output.specs.Answers.{Says};
+ghost use Rattle.metis_output.specs.Puts.{Puts};
 ghost use Rattle.metis_tokens.specs.Line.{numbered};
 ghost use Rattle.metis_universe.specs.Numbers.{IsOf};
 
 use metis_ids::{Action, NoMemory};
-use metis_output::{Answer, Chain, Each, Either, LineAt, Lines, Once, set_text};
-use metis_shared::{steady_waits, unsteady_line};
+use metis_inputs::UniverseAnd;
+use metis_output::{Answer, Chain, Each, Either, LineAt, Lines, Once, Status, finish, set_text};
+use metis_outside::Sink;
+use metis_steady::{steady_waits, unsteady_answer};
+use metis_text::PlanText;
 use metis_tokens::push_numbers;
 use metis_universe::Universe;
 use metis_waves::{Durations, Waves, waves};
 use std::alloc::{AllocError, Global};
 
-/// When actions may start, line by line: each action's starts, and then when all is done, with the chain.
-pub type ScheduleLines = Chain<StartLines, Each<ScheduleEnd>>;
+// When actions may start, line by line: each action's starts, and then when all is done, with the chain.
+type ScheduleLines = Chain<StartLines, Each<ScheduleEnd>>;
 
-/// The line that says why actions are no steadfast run, or when they may start.
-pub type WaveLines = Either<Once, ScheduleLines>;
+// The line that says why actions are no steadfast run, or when they may start.
+type WaveLines = Either<Once, ScheduleLines>;
 
-/// The first action that cannot be done or is not steadfast, or else for each action its earliest and its latest start, by
+/// Puts the first action that cannot be done or is not steadfast, or else for each action its earliest and its latest start, by
 /// durations of these numbers, and when all is done, with the chain of actions that takes as long.
-pub fn answer(
+#[tactic(auto, using(metis_output::proofs::Given::puts))]
+pub fn put<K: Sink>(
+    alloc: Global,
+    read: &UniverseAnd<PlanText>,
+    numbers: &[u32],
+    out: &mut K,
+) -> Status
+    requires five { length numbers.now ≡ 5 }
+    requires small { All (λ n. n ≤ 1000000) numbers.now }
+    ensures { Puts K.Sink (Waved read.now.universe read.now.text.plan.actions numbers.now) out.old out.new result }
+{
+    let answer = answer(alloc, &read.universe, &read.text.plan.actions, numbers);
+    finish(alloc, answer, out)
+}
+
+fn answer(
     alloc: Global,
     u: &Universe,
     actions: &[Action],
@@ -42,10 +61,7 @@ pub fn answer(
                 good: true,
             })
         }
-        Err(why) => Ok(Answer {
-            lines: Either::First(unsteady_line(alloc, u, &why)?),
-            good: false,
-        }),
+        Err(why) => unsteady_answer(alloc, u, &why),
     }
 }
 

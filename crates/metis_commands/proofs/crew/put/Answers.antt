@@ -1,0 +1,13 @@
+use Rattle.std.proofs.Common.{ap}
+use Rattle.metis_commands.specs.Crew.{Crewed}
+use Rattle.metis_inputs.specs.declared.asked.PlanAnd.{PlanAnd}
+use Rattle.metis_output.proofs.Given.{puts}
+use Rattle.metis_commands.proofs.crew.put.Goals as goal
+
+pub returns : goal.returns
+returns g c =
+    let read = c.args.read.now in
+    let universe = ap (λ (read : PlanAnd _ _). read.planned.universe) c.read.view_is in
+    let actions = ap (λ (read : PlanAnd _ _). read.planned.text.plan.actions) c.read.view_is in
+    let text = ap (λ (read : PlanAnd _ _). read.text.items) c.read.view_is in
+    puts g.K.Sink (Crewed read.planned.universe read.planned.text.plan.actions read.text.items) _ c.answer.result _ _ _ (rw (c.deref-2.ensures.value, c.deref-3.ensures.value, universe, actions, text) at c.answer.ensures) c.finish.ensures
