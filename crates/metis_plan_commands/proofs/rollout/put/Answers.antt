@@ -1,0 +1,17 @@
+use Rattle.std.proofs.Common.{ap}
+use Rattle.metis_inputs.specs.declared.asked.GoalsAnd.{GoalsAnd}
+use Rattle.metis_output.proofs.Given.{puts}
+use Rattle.metis_plan_commands.specs.Rollout.{RolledOut}
+use Rattle.metis_plan_commands.proofs.rollout.put.Goals as goal
+
+pub answer-requires-clause-rolled : goal.answer-requires-clause-rolled
+answer-requires-clause-rolled g c =
+    let universe = ap (λ (read : GoalsAnd _ _). read.asked.universe) c.read.view_is in
+    let goals = ap (λ (read : GoalsAnd _ _). read.asked.goals.items) c.read.view_is in
+    let actions = ap (λ (read : GoalsAnd _ _). read.text.plan.actions) c.read.view_is in
+    rw (c.deref.ensures.value, c.deref-2.ensures.value, universe, goals, actions) at c.rolled_out-rolled.ensures.rolled_out
+
+pub returns : goal.returns
+returns g c =
+    let read = c.args.read.now in
+    puts g.K.Sink (RolledOut read.asked.universe read.asked.goals.items read.text.plan.actions) _ c.answer.result _ _ _ c.answer.ensures c.finish.ensures

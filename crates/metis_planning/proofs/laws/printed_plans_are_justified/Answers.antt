@@ -1,5 +1,0 @@
-use Rattle.metis_planning.proofs.PrintedAudits.{printed_is_justified}
-use Rattle.metis_planning.proofs.laws.printed_plans_are_justified.Goals as goal
-
-pub returns : goal.returns
-returns c = printed_is_justified
