@@ -13,7 +13,7 @@ use Rattle.metis_universe.specs.Step.{IsRun, after_all}
 use Rattle.metis_universe.specs.Universe.{Universe, greatest_demand}
 use Rattle.metis_universe.specs.Waits.{IsKept, is_complete, numbers, picked}
 use Rattle.metis_top.specs.Deployment.{Deploys, DeploysOrRefuses, InAnyOrder}
-use Rattle.metis_planning.specs.Plan.{IsPlan, PlanAnswer, Plans}
+use Rattle.metis_plan_commands.specs.Plan.{IsPlan, PlanAnswer, Plans}
 use Rattle.metis_output.specs.declared.status.Status.{Status}
 
 -- what is known of the orders of a list of actions that keep its waits

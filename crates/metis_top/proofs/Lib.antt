@@ -1,4 +1,3 @@
-pub mod Answered
 pub mod Codes
 pub mod InBytes
 pub mod Deployments
@@ -8,3 +7,4 @@ pub mod Openings
 pub mod OverFiles
 pub mod ReadFaults
 pub mod StopLines
+pub mod Verdicts

@@ -10,7 +10,8 @@ use Rattle.metis_output.specs.Shown.{Shown}
 use Rattle.metis_output.specs.declared.status.Status.{Status}
 use Rattle.metis_outside.specs.Openings.{Openings, broken, grown, sound}
 use Rattle.metis_outside.specs.Writes.{Written}
-use Rattle.metis_inputs.specs.Commands.{Inputs, Meaning, Meanings, answer_of, command_script, goals_named, inputs_then, judged, meaning, or_fault, script_from, targets_then, text_limit, text_then, texts_then, universe_then}
+use Rattle.metis_inputs.specs.Commands.{command_script, goals_named, inputs_then, judged, meaning, or_fault, script_from, targets_then, text_limit, text_then, texts_then, universe_then}
+use Rattle.metis_inputs.specs.Inputs.{Inputs, Meaning, Meanings}
 use Rattle.metis_top.specs.Course.{OnShelf, Ran, Says}
 use Rattle.metis_top.specs.Lines.{fault_status}
 use Rattle.metis_inputs.specs.Gathers.{AreTaken, IsRead, after, named}
@@ -29,8 +30,8 @@ abbrev pub ReadsFiles : List (List ℕ) → Script → Type 0
 ReadsFiles [] (Read place name limit next) = ⊥
 ReadsFiles (file ∷ files) (Read place name limit next) = (name ≡ file) × ((bytes : List ℕ) → ReadsFiles files (next bytes))
 ReadsFiles files (Fault why) = Unit {0}
-ReadsFiles [] (Reply said) = Unit {0}
-ReadsFiles (file ∷ files) (Reply said) = ⊥
+ReadsFiles [] (Reply verb inputs size numbers) = Unit {0}
+ReadsFiles (file ∷ files) (Reply verb inputs size numbers) = ⊥
 
 faulty : (files : List (List ℕ)) (why : InputFault) → ReadsFiles files (Fault why)
 faulty [] why = tt
@@ -103,19 +104,19 @@ drop_none (name ∷ names) = refl
 pub reads_command : (form : Form) → length form.files ≡ file_count form.verb → ReadsFiles form.files (command_script form)
 reads_command form count =
     subst (λ files. ReadsFiles files (command_script form)) (names_all form.files (file_count form.verb) 0 (omega (arith, count)) ∙ drop_none form.files)
-    (reads_inputs (reading form.verb) form (λ inputs. Reply (answer_of form.verb inputs form.size form.numbers)) (λ inputs. tt))
+    (reads_inputs (reading form.verb) form (λ inputs. Reply form.verb inputs form.size form.numbers) (λ inputs. tt))
 
 -- ---- the names of a script's files
 
 abbrev IsReply : Script → Type 0
 IsReply (Read place name limit next) = ⊥
 IsReply (Fault why) = ⊥
-IsReply (Reply said) = Unit {0}
+IsReply (Reply verb inputs size numbers) = Unit {0}
 
 no_further : (script : Script) → IsRead script → ReadsFiles [] script → ⊥
 no_further (Read place name limit next) read reads = reads
 no_further (Fault why) read reads = read
-no_further (Reply said) read reads = read
+no_further (Reply verb inputs size numbers) read reads = read
 
 -- what is opened of a script that reads these files
 module _ (told : Known (List ℕ → List ℕ)) where
@@ -124,43 +125,43 @@ module _ (told : Known (List ℕ → List ℕ)) where
   few_taken [] (bytes ∷ taken) (Read place name limit next) reads asked = absurd reads
   few_taken (file ∷ files) (bytes ∷ taken) (Read place name limit next) reads asked = let rest = few_taken files taken (next bytes) (reads.1 bytes) asked.1 in omega (arith, rest)
   few_taken files (bytes ∷ taken) (Fault why) reads asked = absurd asked
-  few_taken files (bytes ∷ taken) (Reply said) reads asked = absurd asked
+  few_taken files (bytes ∷ taken) (Reply verb inputs size numbers) reads asked = absurd asked
 
   pub names_taken : (files taken : List (List ℕ)) (script : Script) → ReadsFiles files script → AreTaken told taken script → named None taken script ≡ sound (take (length taken) files)
   names_taken files [] script reads asked = refl
   names_taken [] (bytes ∷ taken) (Read place name limit next) reads asked = absurd reads
   names_taken (file ∷ files) (bytes ∷ taken) (Read place name limit next) reads asked = λ i. (reads.0 i, false) ∷ names_taken files taken (next bytes) (reads.1 bytes) asked.1 i
   names_taken files (bytes ∷ taken) (Fault why) reads asked = absurd asked
-  names_taken files (bytes ∷ taken) (Reply said) reads asked = absurd asked
+  names_taken files (bytes ∷ taken) (Reply verb inputs size numbers) reads asked = absurd asked
 
   -- with the next one
   pub names_read : (files taken : List (List ℕ)) (script : Script) → ReadsFiles files script → AreTaken told taken script → IsRead (after taken script) → named (Some false) taken script ≡ sound (take (suc (length taken)) files)
   names_read [] [] script reads asked read = absurd (no_further script read reads)
   names_read (file ∷ files) [] (Read place name limit next) reads asked read = λ i. (reads.0 i, false) ∷ []
   names_read (file ∷ files) [] (Fault why) reads asked read = absurd read
-  names_read (file ∷ files) [] (Reply said) reads asked read = absurd read
+  names_read (file ∷ files) [] (Reply verb inputs size numbers) reads asked read = absurd read
   names_read [] (bytes ∷ taken) (Read place name limit next) reads asked read = absurd reads
   names_read (file ∷ files) (bytes ∷ taken) (Read place name limit next) reads asked read = λ i. (reads.0 i, false) ∷ names_read files taken (next bytes) (reads.1 bytes) asked.1 read i
   names_read files (bytes ∷ taken) (Fault why) reads asked read = absurd asked
-  names_read files (bytes ∷ taken) (Reply said) reads asked read = absurd asked
+  names_read files (bytes ∷ taken) (Reply verb inputs size numbers) reads asked read = absurd asked
 
   -- at which a call failed
   pub names_failed : (taken : List (List ℕ)) (script : Script) → AreTaken told taken script → IsRead (after taken script) → named (Some true) taken script ≡ broken (named (Some false) taken script)
   names_failed [] (Read place name limit next) asked read = refl
   names_failed [] (Fault why) asked read = absurd read
-  names_failed [] (Reply said) asked read = absurd read
+  names_failed [] (Reply verb inputs size numbers) asked read = absurd read
   names_failed (bytes ∷ taken) (Read place name limit next) asked read =
       ap (λ l. (name, false) ∷ l) (names_failed taken (next bytes) asked.1 read) ∙ sym (behind taken (next bytes) asked.1 read) where
         behind : (taken : List (List ℕ)) (script : Script) → AreTaken told taken script → IsRead (after taken script)
             → broken ((name, false) ∷ named (Some false) taken script) ≡ (name, false) ∷ broken (named (Some false) taken script)
         behind [] (Read place name limit next) asked read = refl
         behind [] (Fault why) asked read = absurd read
-        behind [] (Reply said) asked read = absurd read
+        behind [] (Reply verb inputs size numbers) asked read = absurd read
         behind (bytes ∷ taken) (Read place name limit next) asked read = refl
         behind (bytes ∷ taken) (Fault why) asked read = absurd asked
-        behind (bytes ∷ taken) (Reply said) asked read = absurd asked
+        behind (bytes ∷ taken) (Reply verb inputs size numbers) asked read = absurd asked
   names_failed (bytes ∷ taken) (Fault why) asked read = absurd asked
-  names_failed (bytes ∷ taken) (Reply said) asked read = absurd asked
+  names_failed (bytes ∷ taken) (Reply verb inputs size numbers) asked read = absurd asked
 
   -- a further file can be read
   pub one_more : (files taken : List (List ℕ)) (script : Script) → ReadsFiles files script → AreTaken told taken script → IsRead (after taken script) → suc (length taken) ≤ length files
@@ -169,18 +170,18 @@ module _ (told : Known (List ℕ → List ℕ)) where
   one_more [] (bytes ∷ taken) (Read place name limit next) reads asked read = absurd reads
   one_more (file ∷ files) (bytes ∷ taken) (Read place name limit next) reads asked read = let rest = one_more files taken (next bytes) (reads.1 bytes) asked.1 read in omega (arith, rest)
   one_more files (bytes ∷ taken) (Fault why) reads asked read = absurd asked
-  one_more files (bytes ∷ taken) (Reply said) reads asked read = absurd asked
+  one_more files (bytes ∷ taken) (Reply verb inputs size numbers) reads asked read = absurd asked
 
   -- all of them are behind it where it answers
   all_taken : (files taken : List (List ℕ)) (script : Script) → ReadsFiles files script → AreTaken told taken script → IsReply (after taken script) → length taken ≡ length files
   all_taken [] [] script reads asked reply = refl
   all_taken (file ∷ files) [] (Read place name limit next) reads asked reply = absurd reply
   all_taken (file ∷ files) [] (Fault why) reads asked reply = absurd reply
-  all_taken (file ∷ files) [] (Reply said) reads asked reply = absurd reads
+  all_taken (file ∷ files) [] (Reply verb inputs size numbers) reads asked reply = absurd reads
   all_taken [] (bytes ∷ taken) (Read place name limit next) reads asked reply = absurd reads
   all_taken (file ∷ files) (bytes ∷ taken) (Read place name limit next) reads asked reply = ap suc (all_taken files taken (next bytes) (reads.1 bytes) asked.1 reply)
   all_taken files (bytes ∷ taken) (Fault why) reads asked reply = absurd asked
-  all_taken files (bytes ∷ taken) (Reply said) reads asked reply = absurd asked
+  all_taken files (bytes ∷ taken) (Reply verb inputs size numbers) reads asked reply = absurd asked
 
   -- one is opened at least, where there is one and the script came to its end
   some_taken : (files taken : List (List ℕ)) (script : Script) → (1 ≤ length files → IsRead script) → (IsRead (after taken script) → ⊥) → min 1 (length files) ≤ length taken
@@ -194,7 +195,7 @@ reads_first (OfUniverse kinds) form next some = tt
 reads_first (OfGoals kinds) form next some = tt
 
 first_read : (form : Form) → 1 ≤ file_count form.verb → IsRead (command_script form)
-first_read form some = reads_first (reading form.verb) form (λ inputs. Reply (answer_of form.verb inputs form.size form.numbers)) some
+first_read form some = reads_first (reading form.verb) form (λ inputs. Reply form.verb inputs form.size form.numbers) some
 
 -- ---- the status of an answer
 
@@ -212,7 +213,7 @@ fault_is_no_answer (input.Turns place) is = elim is [ inl e ↦ cc | inr e ↦ c
 said_by_reply : (script : Script) (lines : List (List ℕ)) (status : Status) → IsAnswered status → Says script lines status → IsReply script
 said_by_reply (Read place name limit next) lines status is says = let other = says.1 in elim is [ inl e ↦ absurd (cc) | inr e ↦ absurd (cc) ]
 said_by_reply (Fault why) lines status is says = absurd (fault_is_no_answer why (subst IsAnswered says.1 is))
-said_by_reply (Reply said) lines status is says = tt
+said_by_reply (Reply verb inputs size numbers) lines status is says = tt
 
 answered_by_reply : (script : Script) (old new : Written) (before now : ℕ) (status : Status) → IsAnswered status → Shown (Says script) old new before now status → IsReply script
 answered_by_reply script old new before now status is (inl whole) = said_by_reply script whole.lines status is whole.says
@@ -224,7 +225,7 @@ answered_by_reply script old new before now status is (inr (inr (other, still, f
 replied_is_not_read : (script : Script) → IsReply script → IsRead script → ⊥
 replied_is_not_read (Read place name limit next) reply read = reply
 replied_is_not_read (Fault why) reply read = reply
-replied_is_not_read (Reply said) reply read = read
+replied_is_not_read (Reply verb inputs size numbers) reply read = read
 
 module _ (told : Known (List ℕ → List ℕ)) (all : ℕ) (files taken : List (List ℕ)) (script : Script) (reads : ReadsFiles files script) (asked : AreTaken told taken script) (count : length files ≡ all)
     (begins : 1 ≤ all → IsRead script) (faults faults' : ℕ) (opens opens' : Openings) (old new : Written) (status : Status) (answered : IsAnswered status → IsReply (after taken script)) where
@@ -273,7 +274,7 @@ module _ (told : Known (List ℕ → List ℕ)) (all : ℕ) (files taken : List 
         }
       ]
   by_end (Fault why) is shelf = ended (λ read. subst IsRead (sym is) read) shelf.1
-  by_end (Reply said) is shelf = ended (λ read. subst IsRead (sym is) read) shelf.1
+  by_end (Reply verb inputs size numbers) is shelf = ended (λ read. subst IsRead (sym is) read) shelf.1
 
 none_taken : (files : Known (List ℕ → List ℕ)) (place : ℕ) (taken : List (List ℕ)) (faults faults' : ℕ) (opens opens' : Openings) (old new : Written) (status : Status)
     → AreTaken files taken (Fault (Word place)) → OnShelf (after taken (Fault (Word place))) (λ more. named more taken (Fault (Word place))) faults faults' opens opens' old new status → opens' ≡ opens

@@ -12,7 +12,6 @@ use Rattle.metis_ids.specs.Plans.{Plan}
 use Rattle.metis_ids.specs.declared.goals.Goal.{Goal}
 use Rattle.metis_outside.specs.Writes.{Appends, Written}
 use Rattle.metis_universe.specs.Tidy.{IsTidy}
-use Rattle.metis_inputs.specs.Answer.{Plan as PlanOf}
 use Rattle.metis_inputs.specs.Commands.{command_script, goals_named, script_from, universe_in_then, targets_then}
 use Rattle.metis_top.specs.Course.{Ran, Says, OnShelf}
 use Rattle.metis_output.specs.Shown.{Shown}
@@ -22,7 +21,7 @@ use Rattle.metis_ujson.specs.Document.{document_limit, universe_in}
 use Rattle.metis_top.proofs.Deployments.{OrderLaws, answer_deploys}
 use Rattle.metis_top.specs.Honest.{over, Tells, Headline, IsThePlan, PlansHave, Undisturbed}
 use Rattle.metis_top.specs.Deployment.{EndsTidy}
-use Rattle.metis_planning.specs.Plan.{PlanAnswer, PlansPairs, plan_text}
+use Rattle.metis_plan_commands.specs.Plan.{PlanAnswer, PlansPairs, plan_text}
 use Rattle.metis_inputs.specs.Script.{Script, Read, Fault, Reply}
 use Rattle.metis_words.specs.TargetName.{TargetName}
 use Rattle.metis_words.specs.Form.{form_by}
@@ -37,12 +36,12 @@ after-over : (file : List ℕ → List ℕ) (taken : List (List ℕ)) (script : 
 after-over file [] (Read place name limit next) names faults faults' opens opens' old new status asked (inl failed) calm memory = absurd (calm failed.0)
 after-over file [] (Read place name limit next) names faults faults' opens opens' old new status asked (inr gave_up) calm memory = absurd (memory gave_up.0)
 after-over file [] (Fault why) names faults faults' opens opens' old new status asked shelf calm memory = refl
-after-over file [] (Reply answer) names faults faults' opens opens' old new status asked shelf calm memory = refl
+after-over file [] (Reply verb inputs size numbers) names faults faults' opens opens' old new status asked shelf calm memory = refl
 after-over file (bytes ∷ taken) (Read place name limit next) names faults faults' opens opens' old new status asked shelf calm memory =
     after-over file taken (next bytes) names faults faults' opens opens' old new status asked.1 shelf calm memory
     ∙ ap (λ b. over file (next b)) asked.0.told
 after-over file (bytes ∷ taken) (Fault why) names faults faults' opens opens' old new status asked shelf calm memory = absurd asked
-after-over file (bytes ∷ taken) (Reply answer) names faults faults' opens opens' old new status asked shelf calm memory = absurd asked
+after-over file (bytes ∷ taken) (Reply verb inputs size numbers) names faults faults' opens opens' old new status asked shelf calm memory = absurd asked
 
 told_by_shown : (file : List ℕ → List ℕ) (script end : Script) (old new : Written) (before now : ℕ) (status : Status)
     → end ≡ over file script → Shown (Says end) old new before now status → (Rose before now → ⊥) → status ≢ NoMemory → Tells file script old new status
@@ -77,21 +76,21 @@ over-universe file bytes taken u next is fits means =
 
 -- accepted words and an accepted document come to what is to be said of the targets
 over-plan : (file : List ℕ → List ℕ) (name : List ℕ) (targets : List TargetName) (u : Universe) (g : List Goal) → length (file name) ≤ document_limit → universe_in (file name) ≡ Ok u
-    → goals_named 3 u targets ≡ Ok g → over file (command_script (form_by PlanVerb (name ∷ []) targets 0 [])) ≡ Reply (PlanOf u g)
+    → goals_named 3 u targets ≡ Ok g → over file (command_script (form_by PlanVerb (name ∷ []) targets 0 [])) ≡ Reply PlanVerb ((u, g), tt) 0 []
 over-plan file name targets u g fits means found =
-    over-universe file (file name) (take (document_limit + 1) (file name)) u (λ v. targets_then 3 v targets (λ goals. Reply (PlanOf v goals))) (take_all (document_limit + 1) (file name) (omega arith)) fits means
+    over-universe file (file name) (take (document_limit + 1) (file name)) u (λ v. targets_then 3 v targets (λ goals. Reply PlanVerb ((v, goals), tt) 0 [])) (take_all (document_limit + 1) (file name) (omega arith)) fits means
     ∙ rw found
 
 tells_plans : OrderLaws → (words : List (List ℕ)) (file : List ℕ → List ℕ) (old new : Written) (status : Status) → Tells file (script_from (form_of words)) old new status → Headline words file old new status
 tells_plans laws words file old new status t = λ name targets u g is fits means found.
-    let ends : over file (script_from (form_of words)) ≡ Reply (PlanOf u g) = ap (λ f. over file (script_from f)) is ∙ over-plan file name targets u g fits means found in
+    let ends : over file (script_from (form_of words)) ≡ Reply PlanVerb ((u, g), tt) 0 [] = ap (λ f. over file (script_from f)) is ∙ over-plan file name targets u g fits means found in
     (t.lines, answer_deploys laws u g t.lines status (subst (λ s. Says s t.lines status) ends t.says), t.put)
 
 -- what holds of each plan that is answered holds of the one that is put
 plans_have : (P : Universe → List ℕ → Plan → Type 0) → ((u : Universe) (g : List ℕ) (lines : List (List ℕ)) (p : PlansPairs u g lines) → P u g p.plan)
     → (words : List (List ℕ)) (file : List ℕ → List ℕ) (old new : Written) (status : Status) → Tells file (script_from (form_of words)) old new status → PlansHave P words file old new status
 plans_have P each words file old new status t = λ name targets u g is fits means found done.
-    let ends : over file (script_from (form_of words)) ≡ Reply (PlanOf u g) = ap (λ f. over file (script_from f)) is ∙ over-plan file name targets u g fits means found in
+    let ends : over file (script_from (form_of words)) ≡ Reply PlanVerb ((u, g), tt) 0 [] = ap (λ f. over file (script_from f)) is ∙ over-plan file name targets u g fits means found in
     by u g done (subst (λ s. Says s t.lines status) ends t.says) where
       done_no : Done ≡ No → ⊥
       done_no e = cc

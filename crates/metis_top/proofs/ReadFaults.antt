@@ -8,7 +8,8 @@ use Rattle.metis_inputs.specs.declared.stop.InputFault.TheVariants.{Word, TooLon
 use Rattle.metis_inputs.specs.declared.stop.InputFault.TheVariants as input
 use Rattle.metis_output.specs.declared.status.Status.{Status}
 use Rattle.metis_output.specs.declared.status.Status.TheVariants.{ReadFault}
-use Rattle.metis_inputs.specs.Commands.{Inputs, Meaning, Meanings, answer_of, goals_named, inputs_then, judged, meaning, or_fault, command_script, script_from, targets_then, text_limit, text_then, texts_then, universe_then}
+use Rattle.metis_inputs.specs.Commands.{goals_named, inputs_then, judged, meaning, or_fault, command_script, script_from, targets_then, text_limit, text_then, texts_then, universe_then}
+use Rattle.metis_inputs.specs.Inputs.{Inputs, Meaning, Meanings}
 use Rattle.metis_top.specs.Course.{Ends, Ran, Says, OnShelf}
 use Rattle.metis_output.specs.Shown.{Shown}
 use Rattle.metis_inputs.specs.Gathers.{AreTaken, IsRead, after, named}
@@ -41,7 +42,7 @@ Numbered-after [] script first n = subst (λ k. Numbered k script) (omega arith)
 Numbered-after (bytes ∷ taken) (Read place name limit next) first n =
     subst (λ k. Numbered k (after taken (next bytes))) (omega arith) (Numbered-after taken (next bytes) (suc first) (n.1 bytes))
 Numbered-after (bytes ∷ taken) (Fault why) first n = tt
-Numbered-after (bytes ∷ taken) (Reply answer) first n = tt
+Numbered-after (bytes ∷ taken) (Reply verb inputs size numbers) first n = tt
 
 -- the parts of scripts
 numbered_if : (k : ℕ) (test : Bool) (script : Script) (why : InputFault) → Numbered k script → Numbered k (if test then script else Fault why)
@@ -79,13 +80,13 @@ numbered_inputs (OfGoals kinds) form next n =
     (λ goals. numbered_texts kinds 3 u form.files (λ said. next ((u, goals), said)) (λ said. n ((u, goals), said))))
 
 numbered_command : (form : Form) → Numbered 2 (command_script form)
-numbered_command form = numbered_inputs (reading form.verb) form (λ inputs. Reply (answer_of form.verb inputs form.size form.numbers)) (λ inputs first. tt)
+numbered_command form = numbered_inputs (reading form.verb) form (λ inputs. Reply form.verb inputs form.size form.numbers) (λ inputs first. tt)
 
 -- the place of the file that a script is to read
 read_at : (first : ℕ) (script : Script) (lines : List (List ℕ)) (old new : Written) → Numbered first script → IsRead script → Says script lines ReadFault → Appends old new lines → Appends old new (read_fault_line first ∷ [])
 read_at first (Read place name limit next) lines old new n read says put = subst (Appends old new) (says.0 ∙ ap (λ k. read_fault_line k ∷ []) n.0) put
 read_at first (Fault why) lines old new n read says put = absurd read
-read_at first (Reply answer) lines old new n read says put = absurd read
+read_at first (Reply verb inputs size numbers) lines old new n read says put = absurd read
 
 -- a script that ends so was to read a file, and that failed
 was_read : (script : Script) (names : Option Bool → List (List ℕ × Bool)) (lines : List (List ℕ)) (faults faults' : ℕ) (opens opens' : Openings) (old new : Written) (status : Status) → status ≡ ReadFault
@@ -94,7 +95,7 @@ was_read : (script : Script) (names : Option Bool → List (List ℕ × Bool)) (
 was_read (Read place name limit next) names lines faults faults' opens opens' old new status fault ends says (inl failed) = (tt, failed.0, failed.1)
 was_read (Read place name limit next) names lines faults faults' opens opens' old new status fault ends says (inr gave_up) = let other = gave_up.0 in absurd (cc)
 was_read (Fault why) names lines faults faults' opens opens' old new status fault ends says shelf = absurd (not_refused why (sym says.1 ∙ fault))
-was_read (Reply answer) names lines faults faults' opens opens' old new status fault ends says shelf = absurd (ends fault)
+was_read (Reply verb inputs size numbers) names lines faults faults' opens opens' old new status fault ends says shelf = absurd (ends fault)
 
 module _ (told : Known (List ℕ → List ℕ)) (words taken : List (List ℕ)) (form : Form) (is : form_of words ≡ Ok form) (asked : AreTaken told taken (command_script form))
     (faults faults' : ℕ) (opens opens' : Openings) (old new : Written) (status : Status) (fault : status ≡ ReadFault) where

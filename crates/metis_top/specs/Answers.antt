@@ -1,4 +1,5 @@
--- The lines that answer, and the status.
+-- The lines that answer, and the status: the table of commands.
+--     IsAnswer verb inputs size numbers lines status      these are the lines of such a command over what was read for it, and its status
 use Rattle.std.specs.Prelude.{ℕ, List}
 use Rattle.metis_commands.specs.Audit.{Audited}
 use Rattle.metis_commands.specs.Control.{Controlled}
@@ -6,34 +7,37 @@ use Rattle.metis_commands.specs.Confirm.{Confirms}
 use Rattle.metis_commands.specs.Crew.{Crewed}
 use Rattle.metis_commands.specs.Why.{WhyAnswer}
 use Rattle.metis_commands.specs.Refute.{Judged}
-use Rattle.metis_planning.specs.Load.{Loaded}
+use Rattle.metis_plan_commands.specs.Load.{Loaded}
 use Rattle.metis_commands.specs.Place.{Placed}
-use Rattle.metis_planning.specs.Plan.{PlanAnswer}
+use Rattle.metis_plan_commands.specs.Plan.{PlanAnswer}
 use Rattle.metis_commands.specs.Print.{Printed}
 use Rattle.metis_commands.specs.Replay.{Replayed}
-use Rattle.metis_planning.specs.Reconfigure.{Reconfigured}
-use Rattle.metis_planning.specs.Rollout.{RolledOut}
+use Rattle.metis_plan_commands.specs.Reconfigure.{Reconfigured}
+use Rattle.metis_plan_commands.specs.Rollout.{RolledOut}
 use Rattle.metis_commands.specs.Sim.{Simulated}
 use Rattle.metis_commands.specs.Waits.{Awaited}
 use Rattle.metis_commands.specs.Waves.{Waved}
+use Rattle.metis_inputs.specs.Inputs.{Inputs, plan_said}
 use Rattle.metis_output.specs.declared.status.Status.{Status}
-use Rattle.metis_inputs.specs.Answer.{Answer, Plan, Replay, Refute, Audit, Sim, Crew, Waves, Waits, Control, Rollout, Reconfigure, Place, Print, Load, Why, Confirm}
+use Rattle.metis_words.specs.Forms.{reading}
+use Rattle.metis_words.specs.declared.words.Verb.{Verb}
+use Rattle.metis_words.specs.declared.words.Verb.TheVariants.{Plan, Replay, Refute, Audit, Sim, Crew, Waves, Waits, Control, Rollout, Reconfigure, Place, Print, Load, Why, Confirm}
 
--- these are the lines of such an answer, and its status
-abbrev pub IsAnswer : Answer → List (List ℕ) → Status → Type 0
-IsAnswer (Plan u goals) lines status = PlanAnswer u goals lines status
-IsAnswer (Replay u goals actions) lines status = Replayed u goals actions lines status
-IsAnswer (Refute u goals set) lines status = Judged u goals set lines status
-IsAnswer (Audit u goals plan after) lines status = Audited u goals plan after lines status
-IsAnswer (Sim u script) lines status = Simulated u script lines status
-IsAnswer (Crew u actions zs) lines status = Crewed u actions zs lines status
-IsAnswer (Waves u actions numbers) lines status = Waved u actions numbers lines status
-IsAnswer (Waits u plan) lines status = Awaited u plan lines status
-IsAnswer (Control u actions script) lines status = Controlled u actions script lines status
-IsAnswer (Rollout u goals actions) lines status = RolledOut u goals actions lines status
-IsAnswer (Reconfigure u goals actions wishes) lines status = Reconfigured u goals actions wishes lines status
-IsAnswer (Place u actions h) lines status = Placed u actions h lines status
-IsAnswer (Print u) lines status = Printed u lines status
-IsAnswer (Load size) lines status = Loaded size lines status
-IsAnswer (Why u goals) lines status = WhyAnswer u goals lines status
-IsAnswer (Confirm u goals why) lines status = Confirms u goals why lines status
+-- The goal that the text of a refusal or of an explanation names is not used. Whether actions are a steadfast run is told in the answer.
+abbrev pub IsAnswer : (verb : Verb) → Inputs (reading verb) → ℕ → List ℕ → List (List ℕ) → Status → Type 0
+IsAnswer Plan inputs size numbers = PlanAnswer inputs.0.0 inputs.0.1
+IsAnswer Replay inputs size numbers = Replayed inputs.0.0 inputs.0.1 inputs.1.0.rows.actions
+IsAnswer Refute inputs size numbers = Judged inputs.0.0 inputs.0.1 inputs.1.0.pairs
+IsAnswer Audit inputs size numbers = Audited inputs.0.0 inputs.0.1 (plan_said inputs.1.0) inputs.1.0.rows.after
+IsAnswer Sim inputs size numbers = Simulated inputs.0 inputs.1.0
+IsAnswer Crew inputs size numbers = Crewed inputs.0 inputs.1.0.rows.actions inputs.1.1.0
+IsAnswer Waves inputs size numbers = Waved inputs.0 inputs.1.0.rows.actions numbers
+IsAnswer Waits inputs size numbers = Awaited inputs.0 (plan_said inputs.1.0)
+IsAnswer Control inputs size numbers = Controlled inputs.0 inputs.1.0.rows.actions inputs.1.1.0
+IsAnswer Rollout inputs size numbers = RolledOut inputs.0.0 inputs.0.1 inputs.1.0.rows.actions
+IsAnswer Reconfigure inputs size numbers = Reconfigured inputs.0.0 inputs.0.1 inputs.1.0.rows.actions inputs.1.1.0
+IsAnswer Place inputs size numbers = Placed inputs.0 inputs.1.0.rows.actions inputs.1.1.0
+IsAnswer Print inputs size numbers = Printed inputs.0
+IsAnswer Load inputs size numbers = Loaded size
+IsAnswer Why inputs size numbers = WhyAnswer inputs.0.0 inputs.0.1
+IsAnswer Confirm inputs size numbers = Confirms inputs.0.0 inputs.0.1 inputs.1.0.lines

@@ -16,7 +16,7 @@ use Rattle.metis_universe.specs.Step.{IsRun, after_all}
 use Rattle.metis_universe.specs.Tidy.{IsTidy}
 use Rattle.metis_universe.specs.Universe.{Universe, greatest_demand}
 use Rattle.metis_universe.specs.Waits.{IsKept, is_complete, numbers, picked}
-use Rattle.metis_planning.specs.Plan.{Refuses, plan_text}
+use Rattle.metis_plan_commands.specs.Plan.{Refuses, plan_text}
 use Rattle.metis_output.specs.declared.status.Status.{Status}
 use Rattle.metis_output.specs.declared.status.Status.TheVariants.{Done, No}
 

@@ -16,7 +16,7 @@ use Rattle.metis_ids.specs.declared.goals.Goal.{Goal}
 use Rattle.metis_choice.specs.Resolutions.{ArePairsFor}
 use Rattle.metis_inputs.specs.Commands.{goals_named}
 use Rattle.metis_top.specs.Deployment.{DeploysOrRefuses, EndsTidy}
-use Rattle.metis_planning.specs.Plan.{IsDoubledByNeed, plan_text}
+use Rattle.metis_plan_commands.specs.Plan.{IsDoubledByNeed, plan_text}
 use Rattle.metis_planner.specs.Rounds.{IsByRounds}
 use Rattle.metis_universe.specs.Universe.{Universe}
 use Rattle.metis_inputs.specs.Script.{Script, Read}

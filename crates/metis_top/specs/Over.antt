@@ -1,18 +1,7 @@
--- What is put over what a command reads.
-use Rattle.std.specs.Prelude.{◌≡◌, ◌≢◌, ℕ, List, Result, Ok, Err}
+-- What is done over what a command reads.
+use Rattle.std.specs.Prelude.{◌≡◌, Result, Ok, Err}
 use Rattle.std.specs.Borrow.{Bor, MutBor}
 use Rattle.std.specs.Fn.{Once}
-use Rattle.metis_outside.specs.declared.sink.Sink.{Ghosts}
-use Rattle.metis_output.specs.PutLines.{PutsLines}
-use Rattle.metis_output.specs.Shown.{Shown}
-use Rattle.metis_output.specs.declared.status.Status.{Status}
-use Rattle.metis_output.specs.declared.status.Status.TheVariants.{ReadFault}
-
--- Lines were put that answer so, one a put, and the status is theirs, unless a put failed or memory ran out.
-pub record Puts {K : Type 0} (g : Ghosts K) (P : List (List ℕ) → Status → Type 0) (sink sink' : K) (status : Status) : Type 0 where
-  pub answer : Shown P (g.written sink) (g.written sink') (g.faults sink) (g.faults sink') status
-  pub lines : PutsLines (g.written sink) (g.written sink') status
-  pub calm : status ≢ ReadFault
 
 -- The call was made at what was read, and it gave the result and left the state; or nothing was read, and no call was made.
 abbrev pub CallsAt : {F A Y O R E : Type 0} → Once F (A × (Bor Y × (MutBor O × Unit {0}))) (R × (MutBor O × Unit {0})) → F → A → Result Y E → O → O → Result R E → Type 0

@@ -3,16 +3,15 @@ ghost use Rattle.std.specs.Prelude.{◌≡◌, ◌∷◌, ◌++◌, [], IfOk, co
 ghost use Rattle.metis_outside.specs.Pieces.{IsLine};
 ghost use Rattle.metis_output.specs.PutLines.{PutsLines};
 ghost use Rattle.metis_output.specs.Shown.{Shown};
-ghost use Rattle.metis_shared.specs.NumberLine.{number_line};
+ghost use Rattle.metis_output.specs.NumberLine.{number_line};
 ghost use Rattle.metis_top.specs.Course.{StopSays};
 ghost use Rattle.metis_top.specs.Lines.{fault_line, fault_status, hosts_fault_line, is_told, limit_line, part_line, state_line, text_fault_line, two_line, universe_line, wishes_fault_line};
 
 use metis_ids::NoMemory;
 use metis_inputs::{InputFault, Stop};
-use metis_output::{Status, say};
+use metis_output::{Status, number_line, say};
 use metis_outside::Sink;
 use metis_place::HFault;
-use metis_shared::number_line;
 use metis_tokens::TFault;
 use metis_ujson::UFault;
 use metis_universe::LimitKind;

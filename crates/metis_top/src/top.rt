@@ -1,8 +1,8 @@
 //! The top call.
-ghost use Rattle.std.specs.Prelude.{◌≡◌, IfOk};
+ghost use Rattle.std.specs.Prelude.{◌≡◌};
 ghost use Rattle.metis_outside.specs.Faults.{Rose};
-ghost use Rattle.metis_inputs.specs.Commands.{command_script, script_of};
-ghost use Rattle.metis_top.specs.Course.{Performs, Ran};
+ghost use Rattle.metis_inputs.specs.Commands.{script_of};
+ghost use Rattle.metis_top.specs.Course.{Ran};
 ghost use Rattle.metis_top.specs.Honest.{Headline, IsThePlan, PlansHave, Tells, Undisturbed};
 ghost use Rattle.metis_top.specs.Numbered.{TellsReadFault};
 ghost use Rattle.metis_top.specs.Openings.{OpensFiles};
@@ -11,15 +11,13 @@ ghost use Rattle.metis_output.specs.Statuses.{IsVerdict};
 ghost use Rattle.metis_words.specs.Words.{form_of};
 ghost use Rattle.metis_universe.specs.Texts.{texts};
 
-use crate::commands::{
-    over_goals, over_goals_and_text, over_goals_plan_and_text, over_plan_and_text, over_universe,
-};
+use crate::commands::perform;
 use crate::stop::end;
 use metis_inputs::Stop;
 use metis_output::Status;
 use metis_outside::{Shelf, Sink};
 use metis_waits::{complete_order_ends_alike, kept_order_is_a_run, own_order_is_kept};
-use metis_words::{Command, read_words};
+use metis_words::read_words;
 use std::alloc::Global;
 
 /// Does all that the program does: reads the words and the files that they name, and puts the answer.
@@ -66,8 +64,7 @@ pub fn run<H: Shelf, K: Sink>(alloc: Global, words: &[String], shelf: &mut H, ou
 
 // Reads the words, and does what they say.
 fn follow<H: Shelf, K: Sink>(alloc: Global, words: &[String], shelf: &mut H, out: &mut K) -> Status
-    ensures course { Ran H.files H.faults H.opens K.written K.faults (script_of (texts words.now)) shelf.old shelf.new out.old out.new result }
-    ensures lines { PutsLines (K.written out.old) (K.written out.new) result }
+    ensures { Ran H.files H.faults H.opens K.written K.faults (script_of (texts words.now)) shelf.old shelf.new out.old out.new result }
 {
     match read_words(alloc, words) {
         Ok(command) => match perform(alloc, &command, shelf, out) {
@@ -76,29 +73,4 @@ fn follow<H: Shelf, K: Sink>(alloc: Global, words: &[String], shelf: &mut H, out
         },
         Err(fault) => end(alloc, Stop::from(fault), out),
     }
-}
-
-// Does what the command's verb says, by what such a command reads.
-fn perform<H: Shelf, K: Sink>(
-    alloc: Global,
-    command: &Command,
-    shelf: &mut H,
-    out: &mut K,
-) -> Result<Status, Stop>
-    ensures course { Performs H.files H.faults H.opens K.written K.faults (command_script command.now) shelf.old shelf.new out.old out.new result }
-    ensures lines { IfOk result (PutsLines (K.written out.old) (K.written out.new)) }
-{
-    if command.verb.target_limit() > 0 {
-        if command.verb.file_count() == 1 {
-            return over_goals(alloc, command, shelf, out);
-        }
-        if command.verb.file_count() == 3 {
-            return over_goals_plan_and_text(alloc, command, shelf, out);
-        }
-        return over_goals_and_text(alloc, command, shelf, out);
-    }
-    if command.verb.file_count() == 3 {
-        return over_plan_and_text(alloc, command, shelf, out);
-    }
-    over_universe(alloc, command, shelf, out)
 }
