@@ -33,7 +33,7 @@ use Rattle.metis_replay.specs.Exact.{IsFirstMissing, Tells}
 use Rattle.metis_replay.specs.Progress.{after_feeding, verdict}
 use Rattle.metis_replay.specs.declared.verdict.Verdict.{Verdict}
 use Rattle.metis_replay.specs.declared.verdict.Verdict.TheVariants.{Good, Bad, Missing}
-use Rattle.metis_shared.specs.Steady.{bad_line, loose_line, standing_after}
+use Rattle.metis_steady.specs.Steady.{bad_line, loose_line, standing_after}
 use Rattle.metis_sim.specs.Session.{begin}
 use Rattle.metis_sim.specs.SessionLines.{replies_to}
 use Rattle.metis_text.proofs.WrittenRun.{run_formed}

@@ -26,7 +26,7 @@ use Rattle.metis_lines.specs.LifeLines.{line_at}
 use Rattle.metis_output.specs.declared.status.Status.TheVariants.{Done, No}
 use Rattle.metis_planner.proofs.Ending.{come_to_a_plan}
 use Rattle.metis_planner.proofs.Unique.{one_plan}
-use Rattle.metis_planning.specs.Load.{Loaded, load_line}
+use Rattle.metis_plan_commands.specs.Load.{Loaded, load_line}
 use Rattle.metis_text.specs.PlanText.{after_of}
 use Rattle.metis_universe.specs.Goal.{Attains}
 use Rattle.metis_universe.specs.GoalWords.{goal_word}

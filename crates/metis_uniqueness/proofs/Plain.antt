@@ -9,9 +9,9 @@ use Rattle.metis_commands.specs.Print.{Printed}
 use Rattle.metis_commands.specs.Refute.{Judged, judgement_line, judgement_status}
 use Rattle.metis_commands.specs.Replay.{Replayed, verdict_line, verdict_status}
 use Rattle.metis_commands.specs.Sim.{Simulated}
-use Rattle.metis_planning.specs.Load.{Loaded, load_line}
+use Rattle.metis_plan_commands.specs.Load.{Loaded, load_line}
 use Rattle.metis_gen.specs.Generated.{generated, generated_targets}
-use Rattle.metis_shared.specs.Steady.{standing_after}
+use Rattle.metis_steady.specs.Steady.{standing_after}
 use Rattle.metis_uniqueness.proofs.Refuted.{judgement_is_one}
 use Rattle.metis_uniqueness.proofs.Replayed.{verdict_is_one}
 use Rattle.metis_uniqueness.specs.Answers.{HasAtMostOneAnswer}

@@ -16,8 +16,8 @@ use Rattle.metis_universe.specs.GoalWords.{goal_word}
 use Rattle.metis_universe.specs.Universe.{Universe}
 use Rattle.metis_commands.specs.Audit.{Audited, AuditedFor, audit_line, audit_status}
 use Rattle.metis_commands.specs.GoalLine.{word_line}
-use Rattle.metis_planning.specs.Plan.{PlanAnswer, Plans, Refuses, plan_text}
-use Rattle.metis_planning.specs.Rollout.{PutsRollout, RolledOut, RollsOut, rollout_text}
+use Rattle.metis_plan_commands.specs.Plan.{PlanAnswer, Plans, Refuses, plan_text}
+use Rattle.metis_plan_commands.specs.Rollout.{PutsRollout, RolledOut, RollsOut, rollout_text}
 use Rattle.metis_uniqueness.proofs.Attained.{attained_set_is_one}
 use Rattle.metis_uniqueness.proofs.Runs.{steady_or_one}
 use Rattle.metis_uniqueness.specs.Answers.{HasAtMostOneAnswer}

@@ -24,9 +24,9 @@ use Rattle.metis_planner.proofs.Rounded.{bounded, dups_at_most, holds, instances
 use Rattle.metis_planner.proofs.Unique.{none_doubled}
 use Rattle.metis_planner.specs.PlanFor.{IsPlanFor}
 use Rattle.metis_planner.specs.Rounds.{IsByRounds}
-use Rattle.metis_planning.proofs.PlanAnswers.{answer_by_plan, answer_by_refusal, answer_for_goals}
-use Rattle.metis_planning.specs.Plan.{PlanAnswer, PlansPairs, Refuses, plan_text}
-use Rattle.metis_planning.specs.Rollout.{PutsRollout, RolledOut, RollsOutPairs, rollout_text}
+use Rattle.metis_plan_commands.proofs.PlanAnswers.{answer_by_plan, answer_by_refusal, answer_for_goals}
+use Rattle.metis_plan_commands.specs.Plan.{PlanAnswer, PlansPairs, Refuses, plan_text}
+use Rattle.metis_plan_commands.specs.Rollout.{PutsRollout, RolledOut, RollsOutPairs, rollout_text}
 use Rattle.metis_rollout.proofs.Guarding.{goes_on}
 use Rattle.metis_rollout.proofs.Rolling.{never_lack}
 use Rattle.metis_rollout.proofs.Whole.{replaced, taken_apart}

@@ -5,8 +5,8 @@ use Rattle.metis_ids.specs.declared.goals.Goal.{Goal}
 use Rattle.metis_reconfigure.specs.Reconfiguration.{left_by}
 use Rattle.metis_universe.specs.Universe.{Universe}
 use Rattle.metis_wishes.specs.declared.wish.Wish.{Wish}
-use Rattle.metis_planning.specs.Plan.{plan_of, plan_text}
-use Rattle.metis_planning.specs.Reconfigure.{IsBarred, PutsReconfiguration, ReconfigurationAnswer, Reconfigured, Reconfigures, obstacle_line}
+use Rattle.metis_plan_commands.specs.Plan.{plan_of, plan_text}
+use Rattle.metis_plan_commands.specs.Reconfigure.{IsBarred, PutsReconfiguration, ReconfigurationAnswer, Reconfigured, Reconfigures, obstacle_line}
 use Rattle.metis_uniqueness.proofs.Obstacles.{answerable_has_none, obstacle_is_one}
 use Rattle.metis_uniqueness.proofs.Planned.{refusal_is_one}
 use Rattle.metis_uniqueness.proofs.Reconfiguring.{reconfigured_same}

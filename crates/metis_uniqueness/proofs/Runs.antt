@@ -14,7 +14,7 @@ use Rattle.metis_commands.specs.Crew.{Crewed, TakesTurns}
 use Rattle.metis_commands.specs.Place.{Placed, PlacedRun, no_room_line, placing_lines}
 use Rattle.metis_commands.specs.Waits.{Awaited, HasItsWaits}
 use Rattle.metis_commands.specs.Waves.{IsScheduled, Waved, durations_of, schedule_lines}
-use Rattle.metis_shared.specs.Steady.{HasBadAction, HasLooseAction, bad_line, loose_line}
+use Rattle.metis_steady.specs.Steady.{HasBadAction, HasLooseAction, bad_line, loose_line}
 use Rattle.metis_uniqueness.proofs.Placements.{no_room_is_one, placing_is_one, placing_has_room}
 use Rattle.metis_uniqueness.proofs.Unsteady.{first_bad_is_one, first_loose_is_one, run_is_not_bad, steadfast_is_not_loose}
 use Rattle.metis_uniqueness.specs.Answers.{HasAtMostOneAnswer}
