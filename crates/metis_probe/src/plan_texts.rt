@@ -12,7 +12,7 @@ use metis_ids::{Action, NoMemory, Plan};
 use metis_layers::layers;
 use metis_outside::MemSink;
 use metis_rollout::rollout;
-use metis_shared::{Followed, follow, steady_waits};
+use metis_steady::{Followed, follow, steady_waits};
 use metis_text::{read_plan, write_plan};
 use metis_universe::Universe;
 use metis_waits::{WFault, waits};
