@@ -156,7 +156,7 @@ class WordsTest(unittest.TestCase):
     """The words of the front are none of the program's, and each list of them is the same."""
 
     def grammar(self) -> list[str]:
-        text = (TOP / "crates" / "metis_words" / "src" / "grammar.rt").read_text()
+        text = (TOP / "crates" / "metis_words" / "src" / "words.rt").read_text()
         return re.findall(r'"([a-z]+)" => Some\(Verb::', text)
 
     def words_in_front(self, ends: str) -> list[str]:
