@@ -6,7 +6,7 @@ use Rattle.metis_ids.specs.declared.events.Event.{Event}
 use Rattle.metis_ids.specs.declared.events.Event.TheVariants.{End}
 use Rattle.metis_lines.specs.AbstractPlan.{AbstractPlan}
 use Rattle.metis_lines.specs.Events.{events}
-use Rattle.metis_sort.specs.Dag.{ascending, edges_to, graph_into}
+use Rattle.metis_sort.specs.Dag.{ascending, edges_of_row, graph_into}
 use Rattle.metis_sort.proofs.DagFacts.{pieces_ascend}
 use Rattle.metis_events.proofs.Befores.{number_of_event}
 use Rattle.metis_events.specs.declared.edges.Edge.{Edge}
@@ -20,7 +20,7 @@ use Rattle.metis_events.specs.Numbered.{dag_of, joins_into, nth_event, number_of
 abbrev pub rows_of : EventGraph → List (List ℕ)
 rows_of g = map (map (λ (e : Edge). number_of g e.from)) g.edges
 
-pairs_of : (g : EventGraph) (b : ℕ) (es : List Edge) → edges_to (map (λ (e : Edge). number_of g e.from) es) b ≡ map (λ (e : Edge). (number_of g e.from, b)) es
+pairs_of : (g : EventGraph) (b : ℕ) (es : List Edge) → edges_of_row (map (λ (e : Edge). number_of g e.from) es) b ≡ map (λ (e : Edge). (number_of g e.from, b)) es
 pairs_of g b [] = refl
 pairs_of g b (e ∷ es) = ap (λ ys. (number_of g e.from, b) ∷ ys) (pairs_of g b es)
 
@@ -35,10 +35,10 @@ pub graph_is : (g : EventGraph) → length g.edges ≡ length g.events → graph
 graph_is g each =
     let rows = rows_of g in
     let size : length rows ≡ length g.events = length-map g.edges (map (λ (e : Edge). number_of g e.from)) ∙ each in
-    let edges : flat_map (λ b. edges_to (get_or rows b []) b) (range_with_len 0 (length rows)) ≡ flat_map (joins_into g) (range_with_len 0 (length g.events)) =
-    ap (λ m. flat_map (λ b. edges_to (get_or rows b []) b) (range_with_len 0 m)) size
-    ∙ pieces_alike (λ b. edges_to (get_or rows b []) b) (joins_into g) (length g.events) 0 (λ b _ high.
-    ap (λ r. edges_to r b) (get_or-map (map (λ (e : Edge). number_of g e.from)) g.edges b [] [] (omega arith)) ∙ pairs_of g b (get_or g.edges b [])) in
+    let edges : flat_map (λ b. edges_of_row (get_or rows b []) b) (range_with_len 0 (length rows)) ≡ flat_map (joins_into g) (range_with_len 0 (length g.events)) =
+    ap (λ m. flat_map (λ b. edges_of_row (get_or rows b []) b) (range_with_len 0 m)) size
+    ∙ pieces_alike (λ b. edges_of_row (get_or rows b []) b) (joins_into g) (length g.events) 0 (λ b _ high.
+    ap (λ r. edges_of_row r b) (get_or-map (map (λ (e : Edge). number_of g e.from)) g.edges b [] [] (omega arith)) ∙ pairs_of g b (get_or g.edges b [])) in
     λ i. record { nodes = size i; edges = edges i; last = length g.events - 1 }
 
 -- ---- the rows of a plan ascend

@@ -14,7 +14,7 @@ use Rattle.std.proofs.lemmas.Slice.Eq.{bytes_eq-Decides}
 use Rattle.metis_ids.proofs.Lists.{each_weaker}
 use Rattle.metis_ids.proofs.Tests.{bytes_same}
 use Rattle.indexmap.specs.IndexMap.{insert_entry}
-use Rattle.metis_universe.specs.Needs.{count_in, greatest_needs, need_of, needs_of, with_need}
+use Rattle.metis_universe.specs.Needs.{count_in, greatest_needs, need_of, need_rows_of, with_need}
 use Rattle.metis_universe.specs.RowShapes.{NeedRow, names_needed}
 use Rattle.metis_universe.specs.Rows.{demand_sum, further_from, greatest_count}
 use Rattle.metis_universe.specs.Sights.{first_sights, sights_after, with_name}
@@ -171,23 +171,23 @@ greatest_needs-more needs k d h = with_need-greatest (take k needs) (get_or need
 
 -- ---- entries by texts
 
-pub needs_of-insert : (es : List (String Global × ℕ)) (key : String Global) (count : ℕ) →
-    needs_of (insert_entry string_eq es key (max (count_in (needs_of es) (string_bytes key)) count)) ≡ with_need (needs_of es) (need_of (string_bytes key) count)
-needs_of-insert [] key count = ap (λ c. need_of (string_bytes key) c ∷ []) (zero-max count)
-needs_of-insert (e ∷ es) key count =
+pub need_rows_of-insert : (es : List (String Global × ℕ)) (key : String Global) (count : ℕ) →
+    need_rows_of (insert_entry string_eq es key (max (count_in (need_rows_of es) (string_bytes key)) count)) ≡ with_need (need_rows_of es) (need_of (string_bytes key) count)
+need_rows_of-insert [] key count = ap (λ c. need_of (string_bytes key) c ∷ []) (zero-max count)
+need_rows_of-insert (e ∷ es) key count =
     elim (string_eq key e.0) as (λ b.
-    needs_of (cond b ((e.0, max (cond b e.1 (count_in (needs_of es) (string_bytes key))) count) ∷ es) (e ∷ insert_entry string_eq es key (max (cond b e.1 (count_in (needs_of es) (string_bytes key))) count)))
-    ≡ cond b (need_of (string_bytes e.0) (max e.1 count) ∷ needs_of es) (need_of (string_bytes e.0) e.1 ∷ with_need (needs_of es) (need_of (string_bytes key) count))) [
+    need_rows_of (cond b ((e.0, max (cond b e.1 (count_in (need_rows_of es) (string_bytes key))) count) ∷ es) (e ∷ insert_entry string_eq es key (max (cond b e.1 (count_in (need_rows_of es) (string_bytes key))) count)))
+    ≡ cond b (need_of (string_bytes e.0) (max e.1 count) ∷ need_rows_of es) (need_of (string_bytes e.0) e.1 ∷ with_need (need_rows_of es) (need_of (string_bytes key) count))) [
       | true ↦ refl
-      | false ↦ ap (λ ms. need_of (string_bytes e.0) e.1 ∷ ms) (needs_of-insert es key count)
+      | false ↦ ap (λ ms. need_of (string_bytes e.0) e.1 ∷ ms) (need_rows_of-insert es key count)
     ]
 
 -- ---- the count at a name
 
-pub count_in-lookup : (es : List (String Global × ℕ)) (name : List ℕ) → count_in (needs_of es) name ≡ unwrap_or (lookup (λ k. bytes_eq name (string_bytes k)) es) 0
+pub count_in-lookup : (es : List (String Global × ℕ)) (name : List ℕ) → count_in (need_rows_of es) name ≡ unwrap_or (lookup (λ k. bytes_eq name (string_bytes k)) es) 0
 count_in-lookup [] name = refl
 count_in-lookup (e ∷ es) name =
-    elim (bytes_eq name (string_bytes e.0)) as (λ b. cond b e.1 (count_in (needs_of es) name) ≡ unwrap_or (cond b (Some e.1) (lookup (λ k. bytes_eq name (string_bytes k)) es)) 0) [
+    elim (bytes_eq name (string_bytes e.0)) as (λ b. cond b e.1 (count_in (need_rows_of es) name) ≡ unwrap_or (cond b (Some e.1) (lookup (λ k. bytes_eq name (string_bytes k)) es)) 0) [
       | true ↦ refl
       | false ↦ count_in-lookup es name
     ]

@@ -1,5 +1,5 @@
 -- What entries of required ports demand, as it is gathered.
---     needs_of entries      an entry for each port with its count
+--     need_rows_of entries      an entry for each port with its count
 --     with_need needs n      the greatest counts so far, with an entry more
 --     greatest_needs needs      an entry for each port with the greatest of its counts, in the order in which the ports are first seen
 --     count_in needs name      the count that stands at the name, 0 where none does
@@ -16,8 +16,8 @@ need_of port count = record { port = port; count = count }
 abbrev pub no_need : NeedRow
 no_need = need_of [] 0
 
-abbrev pub needs_of : List (String Global × ℕ) → List NeedRow
-needs_of entries = map (λ e. need_of (string_bytes e.0) e.1) entries
+abbrev pub need_rows_of : List (String Global × ℕ) → List NeedRow
+need_rows_of entries = map (λ e. need_of (string_bytes e.0) e.1) entries
 
 abbrev pub with_need : List NeedRow → NeedRow → List NeedRow
 with_need [] n = n ∷ []

@@ -1,7 +1,7 @@
 //! What the entries of a state's required ports demand, port by port.
 ghost use Rattle.std.specs.Prelude.{◌≡◌, ◌≤◌, ◌<◌, ◌-◌, ◌^◌, ◌↔◌, [], length, map, sum_by, IsTrue, IfOk, OnOk};
 ghost use Rattle.std.specs.List.{All, slice_index_or};
-ghost use Rattle.metis_universe.specs.Needs.{count_in, greatest_needs, needs_of, no_need, with_need};
+ghost use Rattle.metis_universe.specs.Needs.{count_in, greatest_needs, need_rows_of, no_need, with_need};
 ghost use Rattle.metis_universe.specs.Rows.{TypeFits, demand_sum, further_from, require_total};
 
 use crate::numbered::NumberedNames;
@@ -12,7 +12,7 @@ use std::alloc::{AllocError, Global};
 
 /// The count that stands at the name, and 0 where none does.
 fn count_in(most: &IndexMap<String, u64>, name: &str) -> u64
-    ensures { result ≡ count_in (needs_of most.now.entries) name.now }
+    ensures { result ≡ count_in (need_rows_of most.now.entries) name.now }
 {
     match most.get(name) {
         Some(count) => *count,
@@ -22,7 +22,7 @@ fn count_in(most: &IndexMap<String, u64>, name: &str) -> u64
 
 /// Takes an entry more: its port's greatest count so far.
 fn add_need(most: &mut IndexMap<String, u64>, need: &NeedRow) -> Result<(), AllocError>
-    ensures { OnOk result (needs_of most.new.entries ≡ with_need (needs_of most.old.entries) need.now) }
+    ensures { OnOk result (need_rows_of most.new.entries ≡ with_need (need_rows_of most.old.entries) need.now) }
 {
     let count = count_in(most, need.port.as_str()).max(need.count);
     most.insert(need.port.clone()?, count)?;
@@ -31,7 +31,7 @@ fn add_need(most: &mut IndexMap<String, u64>, need: &NeedRow) -> Result<(), Allo
 
 /// The greatest count of each port of these entries, in the order in which the ports are first seen.
 fn greatest_needs(alloc: Global, needs: &[NeedRow]) -> Result<IndexMap<String, u64>, AllocError>
-    ensures { IfOk result (λ most. needs_of most.entries ≡ greatest_needs needs.now) }
+    ensures { IfOk result (λ most. need_rows_of most.entries ≡ greatest_needs needs.now) }
 {
     let mut most = IndexMap::new(alloc);
     for need in needs {
@@ -70,8 +70,8 @@ pub fn count_total(row: &TypeRow) -> u64
 
 /// The count of entry k of the map.
 fn count_at(most: &IndexMap<String, u64>, k: usize) -> u64
-    requires { k < length (needs_of most.now.entries) }
-    ensures { result ≡ (slice_index_or (needs_of most.now.entries) k no_need).count }
+    requires { k < length (need_rows_of most.now.entries) }
+    ensures { result ≡ (slice_index_or (need_rows_of most.now.entries) k no_need).count }
 {
     let (_, count) = most.get_index(k).unwrap();
     *count
@@ -79,8 +79,8 @@ fn count_at(most: &IndexMap<String, u64>, k: usize) -> u64
 
 /// The counts of the map together.
 fn value_sum(most: &IndexMap<String, u64>) -> u64
-    requires { sum_by (λ n. n.count) (needs_of most.now.entries) < 2 ^ 64 }
-    ensures { result ≡ sum_by (λ n. n.count) (needs_of most.now.entries) }
+    requires { sum_by (λ n. n.count) (need_rows_of most.now.entries) < 2 ^ 64 }
+    ensures { result ≡ sum_by (λ n. n.count) (need_rows_of most.now.entries) }
 {
     let mut sum = 0;
     for k in 0..most.len() {
@@ -144,7 +144,7 @@ fn further_among(
     ports: &NumberedNames,
     numbers: &[PortIx],
 ) -> Result<Vec<u64>, AllocError>
-    ensures { IfOk result (λ further. further.items ≡ map (λ r. count_in (needs_of most.now.entries) (slice_index_or ports.now r []) - 1) numbers.now) }
+    ensures { IfOk result (λ further. further.items ≡ map (λ r. count_in (need_rows_of most.now.entries) (slice_index_or ports.now r []) - 1) numbers.now) }
 {
     let mut further = Vec::with_capacity(alloc, numbers.len())?;
     for r in numbers {
@@ -166,7 +166,7 @@ fn none_further(alloc: Global, numbers: &[PortIx]) -> Result<Vec<u64>, AllocErro
 
 /// How many providers of the port are demanded besides one.
 fn besides_one(most: &IndexMap<String, u64>, ports: &NumberedNames, r: PortIx) -> u64
-    ensures { result ≡ count_in (needs_of most.now.entries) (slice_index_or ports.now r []) - 1 }
+    ensures { result ≡ count_in (need_rows_of most.now.entries) (slice_index_or ports.now r []) - 1 }
 {
     match ports.as_slice().get(r.0 as usize) {
         Some(name) => count_in(most, name.as_str()).saturating_sub(1),

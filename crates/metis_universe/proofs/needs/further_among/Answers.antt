@@ -1,12 +1,12 @@
 use Rattle.std.proofs.Common.{◌≡◌, ◌-◌, ◌∷◌, [], ◌++◌, get_or, ap, sym, ◌∙◌}
 use Rattle.std.specs.List.{slice_index_or}
 use Rattle.std.proofs.lemmas.List.{map_more}
-use Rattle.metis_universe.specs.Needs.{count_in, needs_of}
+use Rattle.metis_universe.specs.Needs.{count_in, need_rows_of}
 use Rattle.metis_universe.proofs.needs.further_among.Goals as goal
 
 pub loop-r-preserved : goal.loop-r-preserved
 loop-r-preserved c =
-    let needs = needs_of c.args.most.now.entries in
+    let needs = need_rows_of c.args.most.now.entries in
     let ports = c.args.ports.now in
     let numbers = c.args.numbers.now in
     let k = c.loop-r.r-index in
