@@ -6,18 +6,15 @@ use Rattle.std.proofs.lemmas.Bool.{false≢true, true≢false, both_ways, and_pa
 use Rattle.metis_ids.specs.declared.actions.Action.{Action}
 use Rattle.metis_ids.specs.declared.actions.Action.TheVariants.{New, Delete, Bind, Unbind, Move}
 use Rattle.metis_ids.proofs.Options.{both_none, none_from_is_some}
-use Rattle.metis_universe.specs.Universe.{Universe, IsUniverse, demand_of, type_of, type_requires, type_provides, initial_of, pair_count, port_count}
-use Rattle.metis_universe.specs.Config.{Config, Binding, pair_of, is_bound, is_tie, names, put, remove, tie, untie, IsConfig, Correct}
-use Rattle.metis_universe.specs.Step.{Allows, CanBind, Step, after}
+use Rattle.metis_universe.specs.Terms.{Allows, Binding, CanBind, Config, Correct, IsConfig, IsOf, IsUniverse, Step, Universe, after, demand_of, initial_of, is_bound, is_tie, names, pair_count, pair_of, port_count, put, remove, tie, type_of, type_provides, type_requires, untie}
 use Rattle.metis_universe.proofs.Demands.{IsMet-map}
 use Rattle.metis_universe.proofs.Edits.{pair_of-put, pair_of-remove, is_bound-tie, is_bound-untie, is_bound-remove, tie_is}
 use Rattle.metis_universe.proofs.Kept.{IsConfig-after}
-use Rattle.metis_config.specs.Over.{IsOver}
+use Rattle.metis_config.specs.Terms.{IsOver}
 use Rattle.metis_config.proofs.Leasts.{correct-unmet, unmet-correct}
 use Rattle.metis_actions.specs.declared.faults.AFault.{AFault}
 use Rattle.metis_actions.specs.declared.faults.AFault.TheVariants.{InUse, NoInstance, NoState, NoTransition, SameInstance, NoSuchPort, Bound, NotBound, Unmet, NoMemory}
-use Rattle.metis_universe.specs.Numbers.{IsOf}
-use Rattle.metis_actions.specs.Faults.{when, elsewhere, unmet_after, fault_of, IsCause, Answers}
+use Rattle.metis_actions.specs.Terms.{Answers, IsCause, elsewhere, fault_of, unmet_after, when}
 
 -- ---- the first of two
 

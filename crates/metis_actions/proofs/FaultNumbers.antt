@@ -8,14 +8,11 @@ use Rattle.std.proofs.lemmas.List.{get_or_past}
 use Rattle.std.proofs.lemmas.List.Elements.{All-tail}
 use Rattle.metis_ids.specs.declared.actions.Action.{Action}
 use Rattle.metis_ids.specs.declared.actions.Action.TheVariants.{New, Delete, Bind, Unbind, Move}
-use Rattle.metis_universe.specs.Universe.{Universe, demand_of, Pair, IsUniverse, has, next_of, no_pair, pair_count, port_count, required_of}
-use Rattle.metis_universe.specs.Config.{Config, is_bound, is_met, pair_of}
-use Rattle.metis_universe.specs.Step.{after}
-use Rattle.metis_config.specs.Over.{IsOver}
-use Rattle.metis_config.specs.Unmet.{unmet, unmet_among, unmet_port}
+use Rattle.metis_universe.specs.Terms.{Config, IsUniverse, Pair, Universe, after, demand_of, has, is_bound, is_met, next_of, no_pair, pair_count, pair_of, port_count, required_of}
+use Rattle.metis_config.specs.Terms.{IsOver, unmet, unmet_among, unmet_port}
 use Rattle.metis_actions.specs.declared.faults.AFault.{AFault}
 use Rattle.metis_actions.specs.declared.faults.AFault.TheVariants.{InUse, NoInstance, NoState, NoTransition, SameInstance, NoSuchPort, Bound, NotBound, Unmet, NoMemory}
-use Rattle.metis_actions.specs.Faults.{Answers, IsFaultOf, absent, elsewhere, fault_of, is_port_between, unmet_after, when}
+use Rattle.metis_actions.specs.Terms.{Answers, IsFaultOf, absent, elsewhere, fault_of, is_port_between, unmet_after, when}
 
 -- what is found in a list has what all of its numbers have
 if_found : (P : ℕ → Type 0) (test : ℕ → Bool) (xs : List ℕ) → All P xs → IfSome (find test xs) P

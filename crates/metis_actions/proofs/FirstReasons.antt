@@ -6,18 +6,14 @@ use Rattle.std.proofs.lemmas.Bool.{false≢true, true≢false, both_ways, and_pa
 use Rattle.metis_ids.specs.declared.actions.Action.{Action}
 use Rattle.metis_ids.specs.declared.actions.Action.TheVariants.{New, Delete, Bind, Unbind, Move}
 use Rattle.metis_ids.proofs.Options.{IsSome_at, none_from_is_some}
-use Rattle.metis_universe.specs.Universe.{Universe, IsUniverse, demand_of, has, initial_of, next_of, requires, type_of, type_requires, type_provides}
-use Rattle.metis_universe.specs.Config.{Config, pair_of, is_bound, is_met, IsConfig, Correct}
-use Rattle.metis_universe.specs.Numbers.{IsOf}
-use Rattle.metis_universe.specs.Step.{Allows, after}
+use Rattle.metis_universe.specs.Terms.{Allows, Config, Correct, IsConfig, IsOf, IsUniverse, Universe, after, demand_of, has, initial_of, is_bound, is_met, next_of, pair_of, requires, type_of, type_provides, type_requires}
 use Rattle.metis_universe.proofs.Demands.{is_met-true, met, some_provides}
 use Rattle.metis_universe.proofs.Kept.{IsConfig-put, IsConfig-remove, IsConfig-untie}
-use Rattle.metis_config.specs.Unmet.{is_required, is_unmet, unmet, IsLeast}
+use Rattle.metis_config.specs.Terms.{IsLeast, is_required, is_unmet, unmet}
 use Rattle.metis_config.proofs.Leasts.{unmet_least, unmet_is}
 use Rattle.metis_actions.specs.declared.faults.AFault.{AFault}
 use Rattle.metis_actions.specs.declared.faults.AFault.TheVariants.{InUse, NoInstance, NoState, NoTransition, SameInstance, NoSuchPort, Bound, NotBound, Unmet}
-use Rattle.metis_actions.specs.Faults.{absent, elsewhere, fault_of, is_port_between, unmet_after, when}
-use Rattle.metis_actions.specs.Reasons.{Lacks, IsFirstLack, IsFirstReason, in_use, new_leaves_unmet, none_to_delete, delete_leaves_unmet, no_requirer, no_provider, same_instance, no_such_port, already_bound, not_bound, unbind_leaves_unmet, none_to_move, in_another_pair, no_transition, move_leaves_unmet}
+use Rattle.metis_actions.specs.Terms.{IsFirstLack, IsFirstReason, Lacks, absent, already_bound, delete_leaves_unmet, elsewhere, fault_of, in_another_pair, in_use, is_port_between, move_leaves_unmet, new_leaves_unmet, no_provider, no_requirer, no_such_port, no_transition, none_to_delete, none_to_move, not_bound, same_instance, unbind_leaves_unmet, unmet_after, when}
 use Rattle.metis_actions.proofs.Causes.{not_when, when_not, there_of, some_there, step-no_fault, no_fault-step}
 
 -- ---- the first of two

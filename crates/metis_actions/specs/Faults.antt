@@ -8,11 +8,8 @@ use Rattle.std.specs.List.{join_with_byte}
 use Rattle.std.specs.Option.{option_map_or, option_or, option_and_then}
 use Rattle.metis_ids.specs.declared.actions.Action.{Action}
 use Rattle.metis_ids.specs.declared.actions.Action.TheVariants.{New, Delete, Bind, Unbind, Move}
-use Rattle.metis_universe.specs.Universe.{Universe, has, type_of, next_of, type_requires, type_provides, pair_count, port_count, port_name_of}
-use Rattle.metis_universe.specs.PairWords.{pair_word}
-use Rattle.metis_universe.specs.Config.{Config, pair_of, is_bound}
-use Rattle.metis_universe.specs.Step.{after}
-use Rattle.metis_config.specs.Unmet.{unmet}
+use Rattle.metis_universe.specs.Terms.{Config, Universe, after, has, is_bound, next_of, pair_count, pair_of, pair_word, port_count, port_name_of, type_of, type_provides, type_requires}
+use Rattle.metis_config.specs.Terms.{unmet}
 use Rattle.metis_actions.specs.declared.faults.AFault.{AFault}
 use Rattle.metis_actions.specs.declared.faults.AFault.TheVariants.{InUse, NoInstance, NoState, NoTransition, SameInstance, NoSuchPort, Bound, NotBound, Unmet, NoMemory}
 

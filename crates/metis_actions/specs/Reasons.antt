@@ -5,10 +5,8 @@
 use Rattle.std.specs.Prelude.{◌≡◌, ◌≢◌, ◌⊎◌, ℕ, Some, None, IsSome, IsTrue, IsFalse}
 use Rattle.metis_ids.specs.declared.actions.Action.{Action}
 use Rattle.metis_ids.specs.declared.actions.Action.TheVariants.{New, Delete, Bind, Unbind, Move}
-use Rattle.metis_universe.specs.Universe.{Universe, demand_of, has, type_of, next_of, requires, type_requires, type_provides}
-use Rattle.metis_universe.specs.Config.{Config, pair_of, is_bound, IsMet}
-use Rattle.metis_universe.specs.Step.{after}
-use Rattle.metis_config.specs.Unmet.{IsAtMost}
+use Rattle.metis_universe.specs.Terms.{Config, IsMet, Universe, after, demand_of, has, is_bound, next_of, pair_of, requires, type_of, type_provides, type_requires}
+use Rattle.metis_config.specs.Terms.{IsAtMost}
 use Rattle.metis_actions.specs.declared.faults.AFault.{AFault}
 use Rattle.metis_actions.specs.declared.faults.AFault.TheVariants.{InUse, NoInstance, NoState, NoTransition, SameInstance, NoSuchPort, Bound, NotBound, Unmet}
 

@@ -1,13 +1,9 @@
 //! Laws over the definitions.
 ghost use Rattle.std.specs.Prelude.{◌≡◌, ◌↔◌, Some, None};
 ghost use Rattle.metis_ids.specs.declared.actions.Action.{Action};
-ghost use Rattle.metis_universe.specs.Universe.{Universe, IsUniverse};
-ghost use Rattle.metis_universe.specs.Config.{Config, IsConfig, Correct};
-ghost use Rattle.metis_universe.specs.Numbers.{IsOf};
-ghost use Rattle.metis_universe.specs.Step.{Allows, after};
+ghost use Rattle.metis_universe.specs.Terms.{Allows, Config, Correct, IsConfig, IsOf, IsUniverse, Universe, after};
 ghost use Rattle.metis_actions.specs.declared.faults.AFault.{AFault};
-ghost use Rattle.metis_actions.specs.Faults.{fault_of};
-ghost use Rattle.metis_actions.specs.Reasons.{IsFirstReason};
+ghost use Rattle.metis_actions.specs.Terms.{IsFirstReason, fault_of};
 
 /// An action is refused for a reason exactly where the reason's condition holds and none of those before it does. What would
 /// be unmet is so in the configuration after the action, and it is the first instance and then its first port.

@@ -1,12 +1,9 @@
 //! Does an action, or says why not.
 ghost use Rattle.std.specs.Prelude.{◌≡◌, ◌≢◌, ◌<◌, ◌&&◌, OnOk, IfErr};
 ghost use Rattle.metis_ids.specs.declared.actions.Action.TheVariants.{New, Delete, Bind, Unbind, Move};
-ghost use Rattle.metis_universe.specs.Universe.{type_count, type_of, pair_count, port_count, type_requires, type_provides};
-ghost use Rattle.metis_universe.specs.Config.{Correct};
-ghost use Rattle.metis_universe.specs.Step.{Allows, Step, after};
-ghost use Rattle.metis_config.specs.Over.{IsOver};
-ghost use Rattle.metis_universe.specs.Numbers.{IsOf};
-ghost use Rattle.metis_actions.specs.Faults.{Answers, IsFaultOf};
+ghost use Rattle.metis_universe.specs.Terms.{Allows, Correct, IsOf, Step, after, pair_count, port_count, type_count, type_of, type_provides, type_requires};
+ghost use Rattle.metis_config.specs.Terms.{IsOver};
+ghost use Rattle.metis_actions.specs.Terms.{Answers, IsFaultOf};
 
 use crate::AFault;
 use metis_config::Config;

@@ -1,10 +1,9 @@
 //! Writes why an action is refused.
 ghost use Rattle.std.specs.Prelude.{◌≡◌, ◌<◌, [], ◌∷◌, ◌++◌, IfOk, codes, decimal, string_bytes};
 ghost use Rattle.std.specs.List.{join_with_byte};
-ghost use Rattle.metis_outside.specs.Faults.{CountsFault};
-ghost use Rattle.metis_outside.specs.Writes.{Writes};
-ghost use Rattle.metis_universe.specs.Universe.{pair_count, port_count};
-ghost use Rattle.metis_actions.specs.Faults.{IsFaultOf, fault_text};
+ghost use Rattle.metis_outside.specs.Terms.{CountsFault, Writes};
+ghost use Rattle.metis_universe.specs.Terms.{pair_count, port_count};
+ghost use Rattle.metis_actions.specs.Terms.{IsFaultOf, fault_text};
 
 use crate::AFault;
 use metis_ids::{InstNo, Ix, PairIx};

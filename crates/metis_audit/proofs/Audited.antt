@@ -3,17 +3,14 @@ use Rattle.std.proofs.Common.{◌≡◌, ℕ, ◌<◌, true, List, [], length, s
 use Rattle.std.specs.Prelude.{IsSome}
 use Rattle.std.proofs.lemmas.Bool.{eqb-true}
 use Rattle.std.proofs.lemmas.List.Elements.{All-contains}
-use Rattle.metis_ids.specs.Plans.{Dup, Plan}
+use Rattle.metis_ids.specs.Terms.{Dup, Plan}
 use Rattle.metis_ids.proofs.Lists.{all_in_range}
-use Rattle.metis_universe.specs.Layers.{layer_of}
-use Rattle.metis_universe.specs.Universe.{Universe, IsUniverse, has}
-use Rattle.metis_lines.specs.Justified.{own_pairs}
-use Rattle.metis_lines.specs.LifeLines.{LifeLines, lines_of}
+use Rattle.metis_universe.specs.Terms.{IsUniverse, Universe, has, layer_of}
+use Rattle.metis_lines.specs.Terms.{LifeLines, lines_of, own_pairs}
 use Rattle.metis_support.proofs.Lists.{member}
 use Rattle.metis_support.proofs.Selections.{targets_selected}
-use Rattle.metis_support.specs.Support.{Support, is_selected, support_of}
-use Rattle.metis_audit.specs.Audits.{IsAttained, IsFirstUnjustified, IsForced, audited_lines}
-use Rattle.metis_audit.specs.Forced.{IsFirstUnforced, is_forced_at}
+use Rattle.metis_support.specs.Terms.{Support, is_selected, support_of}
+use Rattle.metis_audit.specs.Terms.{IsAttained, IsFirstUnforced, IsFirstUnjustified, IsForced, audited_lines, is_forced_at}
 
 pub each_layered : (u : Universe) (g : List ℕ) → IsAttained u g → (q : ℕ) → has g q ≡ true → IsSome (layer_of u q)
 each_layered u g attained q there =

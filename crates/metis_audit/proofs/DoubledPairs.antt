@@ -7,27 +7,23 @@ use Rattle.std.proofs.lemmas.Cmp.{nat_eq_equiv}
 use Rattle.std.proofs.lemmas.List.{get_or_default, length-append, length-map, take_all}
 use Rattle.std.proofs.lemmas.Map.Keys.{IsDistinct-from_apart, IsDistinct-push}
 use Rattle.std.proofs.lemmas.Option.{slice_get-get_or}
-use Rattle.metis_ids.specs.Plans.{Dup, Plan}
+use Rattle.metis_ids.specs.Terms.{Dup, Plan}
 use Rattle.metis_ids.proofs.Lists.{at_range, has_one, is_member-has}
 use Rattle.metis_universe.proofs.Rounds.{has-filter}
-use Rattle.metis_universe.specs.Layers.{layer_of}
-use Rattle.metis_universe.specs.Selection.{provider_pairs as provider_pairs_in}
-use Rattle.metis_universe.specs.Universe.{Universe, IsTable, IsUniverse, has}
+use Rattle.metis_universe.specs.Terms.{IsTable, IsUniverse, Universe, has, layer_of, provider_pairs as provider_pairs_in}
 use Rattle.metis_support.proofs.Kept.{kept}
 use Rattle.metis_support.proofs.Lists.{has-append_cases}
 use Rattle.metis_support.proofs.Selections.{is_support, same_provider_pairs, targets_selected}
-use Rattle.metis_support.specs.Support.{Support, IsKept, IsSupport, is_number, is_selected, provider_pairs, support_of}
+use Rattle.metis_support.specs.Terms.{IsKept, IsSupport, Support, is_number, is_selected, provider_pairs, support_of}
 use Rattle.metis_lines.proofs.Few.{apart_first, few, still_apart}
 use Rattle.metis_lines.proofs.Holders.{count}
 use Rattle.metis_lines.proofs.Instances.{graph_sound}
 use Rattle.metis_lines.proofs.OwnLines.{less_loose, not_own}
-use Rattle.metis_lines.specs.Justified.{is_justified, is_justified_at, own_pairs}
-use Rattle.metis_lines.specs.LifeLines.{AreApart, AreLines, later_ends, lines_of, loose, other_ends}
+use Rattle.metis_lines.specs.Terms.{AreApart, AreLines, is_justified, is_justified_at, later_ends, lines_of, loose, other_ends, own_pairs}
 use Rattle.metis_audit.proofs.Audited.{each_layered}
 use Rattle.metis_audit.proofs.DupLines.{forced_here, own_more}
 use Rattle.metis_audit.proofs.Loose.{goes_on}
-use Rattle.metis_audit.specs.Audits.{IsAudited}
-use Rattle.metis_audit.specs.Doubled.{IsDoubled}
+use Rattle.metis_audit.specs.Terms.{IsAudited, IsDoubled}
 
 module _ (u : Universe) (g : List ℕ) (table : IsTable u) (layered : (q : ℕ) → has g q ≡ true → IsSome (layer_of u q)) where
   universe : IsUniverse u

@@ -7,17 +7,14 @@ use Rattle.std.proofs.lemmas.Bool.{both_ways, cases_eq, cases_lt, false≢true}
 use Rattle.std.proofs.lemmas.List.{get_or-take, length-take}
 use Rattle.std.proofs.lemmas.Option.{slice_get_past}
 use Rattle.metis_ids.specs.declared.actions.Action.{Action}
-use Rattle.metis_ids.specs.Plans.{Plan}
+use Rattle.metis_ids.specs.Terms.{Plan}
 use Rattle.metis_ids.proofs.Lists.{at_range}
-use Rattle.metis_universe.specs.Layers.{layer_of}
-use Rattle.metis_universe.specs.Steadfast.{is_steadfast_after, is_steadfast_at}
-use Rattle.metis_universe.specs.Universe.{Universe}
-use Rattle.metis_universe.specs.Waits.{before}
-use Rattle.metis_choice.specs.Choices.{IsFirstWithout}
-use Rattle.metis_lines.specs.Justified.{is_justified_at}
-use Rattle.metis_text.specs.PlanText.{after_of}
-use Rattle.metis_waits.specs.Waits.{IsFirstLoose, waits_on_others}
-use Rattle.metis_audit.specs.Audits.{IsAnswer, IsAttained, IsAudited, IsCounted, IsFirstOff, IsFirstOther, IsFirstUnjustified, IsFollowed, IsForced, IsMiscount, IsSteady, follows}
+use Rattle.metis_universe.specs.Terms.{Universe, before, is_steadfast_after, is_steadfast_at, layer_of}
+use Rattle.metis_choice.specs.Terms.{IsFirstWithout}
+use Rattle.metis_lines.specs.Terms.{is_justified_at}
+use Rattle.metis_text.specs.Terms.{after_of}
+use Rattle.metis_waits.specs.Terms.{IsFirstLoose, waits_on_others}
+use Rattle.metis_audit.specs.Terms.{IsAnswer, IsAttained, IsAudited, IsCounted, IsFirstOff, IsFirstOther, IsFirstUnjustified, IsFollowed, IsForced, IsMiscount, IsSteady, follows}
 use Rattle.metis_audit.specs.declared.answers.Answer.{Answer}
 use Rattle.metis_audit.specs.declared.answers.Answer.TheVariants.{Justified, NotAttained, NoCycle, Count, Path, Loose, After}
 

@@ -5,10 +5,8 @@ use Rattle.std.proofs.lemmas.Bool.{and_from, and_left, and_right, cases_eq}
 use Rattle.metis_ids.specs.declared.events.Event.{Event}
 use Rattle.metis_ids.specs.declared.events.Event.TheVariants.{End}
 use Rattle.metis_ids.proofs.Lists.{any_counted}
-use Rattle.metis_lines.specs.AbstractPlan.{AbstractPlan, last}
-use Rattle.metis_lines.specs.Events.{around, is_cycle, precedes, with_next}
-use Rattle.metis_lines.specs.Justified.{leads_on}
-use Rattle.metis_audit.specs.Forced.{is_exit, next_around, turn}
+use Rattle.metis_lines.specs.Terms.{AbstractPlan, around, is_cycle, last, leads_on, precedes, with_next}
+use Rattle.metis_audit.specs.Terms.{is_exit, next_around, turn}
 
 -- ---- tests of what comes of numbers in a row
 

@@ -7,10 +7,10 @@ use Rattle.std.proofs.lemmas.Bool.{cases_eq, eq-eqb, ne_eqb, cond-true, cond-fal
 use Rattle.std.proofs.lemmas.List.{get_or-append-add, get_or-set_same, get_or-set_other, length-append, length-take-le, length-set, take_all, take_more}
 use Rattle.metis_ids.specs.declared.actions.Action.{Action}
 use Rattle.metis_ids.specs.declared.actions.Action.TheVariants.{New, Delete, Bind, Unbind, Move}
-use Rattle.metis_universe.specs.Universe.{Universe}
-use Rattle.metis_emit.specs.Realized.{entered, entered_by}
-use Rattle.metis_lines.specs.LifeLines.{LifeLines, line_at}
-use Rattle.metis_audit.specs.Walks.{AreWalks, IsWalk, entry_of}
+use Rattle.metis_universe.specs.Terms.{Universe}
+use Rattle.metis_emit.specs.Terms.{entered, entered_by}
+use Rattle.metis_lines.specs.Terms.{LifeLines, line_at}
+use Rattle.metis_audit.specs.Terms.{AreWalks, IsWalk, entry_of}
 
 -- ---- one line
 

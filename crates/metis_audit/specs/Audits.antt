@@ -9,18 +9,14 @@
 --     IsAnswer u g p after answer      the answer is the first test that fails, with the first place where it does, or that none fails
 use Rattle.std.specs.Prelude.{ℕ, ◌≡◌, ◌≢◌, ◌<◌, ◌≤◌, ◌+◌, ◌-◌, List, length, IsSome, IsTrue, IsFalse}
 use Rattle.std.specs.List.{All, count_by}
-use Rattle.metis_ids.specs.Action.{makes}
+use Rattle.metis_ids.specs.Terms.{Dup, Plan, makes}
 use Rattle.metis_ids.specs.declared.actions.Action.{Action}
-use Rattle.metis_ids.specs.Plans.{Dup, Plan}
-use Rattle.metis_universe.specs.Layers.{layer_of}
-use Rattle.metis_universe.specs.Steadfast.{is_steadfast}
-use Rattle.metis_universe.specs.Universe.{Universe}
-use Rattle.metis_choice.specs.Choices.{IsFirstWithout}
-use Rattle.metis_emit.specs.Realized.{entered}
-use Rattle.metis_lines.specs.Justified.{is_justified, is_justified_at, lines_for, own_pairs}
-use Rattle.metis_lines.specs.LifeLines.{LifeLines, line_at}
-use Rattle.metis_text.specs.PlanText.{after_of}
-use Rattle.metis_waits.specs.Waits.{IsFirstLoose, waits_on_others}
+use Rattle.metis_universe.specs.Terms.{Universe, is_steadfast, layer_of}
+use Rattle.metis_choice.specs.Terms.{IsFirstWithout}
+use Rattle.metis_emit.specs.Terms.{entered}
+use Rattle.metis_lines.specs.Terms.{LifeLines, is_justified, is_justified_at, line_at, lines_for, own_pairs}
+use Rattle.metis_text.specs.Terms.{after_of}
+use Rattle.metis_waits.specs.Terms.{IsFirstLoose, waits_on_others}
 use Rattle.metis_audit.specs.declared.answers.Answer.{Answer}
 use Rattle.metis_audit.specs.declared.answers.Answer.TheVariants.{Justified, NotAttained, NoCycle, Count, Path, Loose, After}
 

@@ -2,16 +2,11 @@
 --     IsDoubled u g p      its instances are life lines of a sound plan, as few as its dups allow, and each dup is of use
 use Rattle.std.specs.Prelude.{ℕ, nat_eq, ◌≡◌, ◌<◌, ◌≤◌, ◌+◌, ◌*◌, List, [], length, IsTrue}
 use Rattle.std.specs.List.{IsDistinct, count_by}
-use Rattle.metis_ids.specs.Action.{makes}
-use Rattle.metis_ids.specs.Plans.{Plan}
-use Rattle.metis_universe.specs.Selection.{provider_pairs, selected}
-use Rattle.metis_universe.specs.Universe.{Universe, greatest_demand, has}
-use Rattle.metis_emit.specs.Realized.{entered}
-use Rattle.metis_lines.specs.AbstractPlan.{stations}
-use Rattle.metis_lines.specs.Justified.{graph_for, lines_for, own_pairs}
-use Rattle.metis_lines.specs.LifeLines.{loose}
-use Rattle.metis_lines.specs.Soundness.{IsSound}
-use Rattle.metis_support.specs.Support.{layer_number}
+use Rattle.metis_ids.specs.Terms.{Plan, makes}
+use Rattle.metis_universe.specs.Terms.{Universe, greatest_demand, has, provider_pairs, selected}
+use Rattle.metis_emit.specs.Terms.{entered}
+use Rattle.metis_lines.specs.Terms.{IsSound, graph_for, lines_for, loose, own_pairs, stations}
+use Rattle.metis_support.specs.Terms.{layer_number}
 
 -- Each doubled pair is one from which a selected pair takes a port, and none is doubled twice. With the lines for them the plan without
 -- an order is sound, and instance l goes through the stations of line l. Each dup adds one instance, and leaves one pair less whose

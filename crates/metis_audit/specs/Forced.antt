@@ -9,13 +9,10 @@ use Rattle.std.specs.List.{list_all}
 use Rattle.std.specs.Option.{option_map_or}
 use Rattle.metis_ids.specs.declared.events.Event.{Event}
 use Rattle.metis_ids.specs.declared.events.Event.TheVariants.{At, End}
-use Rattle.metis_ids.specs.Plans.{Dup}
-use Rattle.metis_universe.specs.Universe.{Universe}
-use Rattle.metis_lines.specs.AbstractPlan.{AbstractPlan}
-use Rattle.metis_lines.specs.Events.{is_cycle, is_event, is_return, same_event}
-use Rattle.metis_lines.specs.Justified.{leads_on, own_pairs}
-use Rattle.metis_lines.specs.LifeLines.{LifeLines, holder_of, lines_of, plan_of}
-use Rattle.metis_support.specs.Support.{Support}
+use Rattle.metis_ids.specs.Terms.{Dup}
+use Rattle.metis_universe.specs.Terms.{Universe}
+use Rattle.metis_lines.specs.Terms.{AbstractPlan, LifeLines, holder_of, is_cycle, is_event, is_return, leads_on, lines_of, own_pairs, plan_of, same_event}
+use Rattle.metis_support.specs.Terms.{Support}
 
 abbrev pub next_around : List Event → ℕ → Event
 next_around es i = slice_index_or es (i + 1) (slice_index_or es 0 End)

@@ -5,12 +5,10 @@
 --     IsTakenByNoTarget u s x h k      none does
 use Rattle.std.specs.Prelude.{ℕ, ◌≡◌, ◌<◌, length, IsTrue, IsFalse}
 use Rattle.metis_ids.specs.declared.events.Event.{Event}
-use Rattle.metis_universe.specs.Universe.{Universe}
-use Rattle.metis_events.specs.Gathered.{without_supplies}
-use Rattle.metis_lines.specs.AbstractPlan.{is_target, last}
-use Rattle.metis_lines.specs.Events.{is_end, leaving}
-use Rattle.metis_lines.specs.LifeLines.{LifeLines, line_at}
-use Rattle.metis_support.specs.Support.{Support}
+use Rattle.metis_universe.specs.Terms.{Universe}
+use Rattle.metis_events.specs.Terms.{without_supplies}
+use Rattle.metis_lines.specs.Terms.{LifeLines, is_end, is_target, last, leaving, line_at}
+use Rattle.metis_support.specs.Terms.{Support}
 use Rattle.metis_audit.specs.Takes.{takes}
 
 pub record IsLeft (x : LifeLines) (e : Event) (at : ℕ × ℕ) : Type 0 where

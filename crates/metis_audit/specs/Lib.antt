@@ -4,3 +4,4 @@ pub mod Forced
 pub mod Leaving
 pub mod Takes
 pub mod Walks
+pub mod Terms

@@ -7,12 +7,10 @@
 use Rattle.std.specs.Prelude.{ℕ, ◌==◌, Bool, false, ◌&&◌, map, Option, slice_index_or}
 use Rattle.std.specs.List.{list_any, range_with_len}
 use Rattle.std.specs.Option.{option_map_or}
-use Rattle.metis_universe.specs.Universe.{Universe, demand_of, required_of}
+use Rattle.metis_universe.specs.Terms.{Universe, demand_of, required_of}
 use Rattle.metis_ids.specs.declared.events.Event.{Event}
-use Rattle.metis_lines.specs.AbstractPlan.{AbstractPlan, Supply}
-use Rattle.metis_lines.specs.Events.{leaving, same_event}
-use Rattle.metis_lines.specs.LifeLines.{LifeLines, holder_of, line_at, plan_of, supplies_of}
-use Rattle.metis_support.specs.Support.{Support, provider_at}
+use Rattle.metis_lines.specs.Terms.{AbstractPlan, LifeLines, Supply, holder_of, leaving, line_at, plan_of, same_event, supplies_of}
+use Rattle.metis_support.specs.Terms.{Support, provider_at}
 
 abbrev pub is_at : ℕ → ℕ → Option (ℕ × ℕ) → Bool
 is_at h k o = option_map_or (λ held. (held.0 == h) && (held.1 == k)) o false

@@ -6,9 +6,9 @@
 use Rattle.std.specs.Prelude.{ℕ, ◌≡◌, ◌≢◌, ◌≤◌, ◌<◌, List, ◌++◌, length, take, slice_index_or, Option, Some, None, MatchOption}
 use Rattle.metis_ids.specs.declared.actions.Action.{Action}
 use Rattle.metis_ids.specs.declared.actions.Action.TheVariants.{New, Delete, Bind, Unbind, Move}
-use Rattle.metis_universe.specs.Universe.{Universe, initial_of}
-use Rattle.metis_emit.specs.Realized.{entered}
-use Rattle.metis_lines.specs.LifeLines.{LifeLines, line_at}
+use Rattle.metis_universe.specs.Terms.{Universe, initial_of}
+use Rattle.metis_emit.specs.Terms.{entered}
+use Rattle.metis_lines.specs.Terms.{LifeLines, line_at}
 
 abbrev pub IsWalk : List ℕ → List ℕ → Option ℕ → Type 0
 IsWalk line pairs so_far = MatchOption so_far ((more : List ℕ) → pairs ++ more ≢ line) (λ n. (n ≤ length line) × (pairs ≡ take n line))

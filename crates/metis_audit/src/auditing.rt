@@ -1,12 +1,11 @@
 //! The audit of a plan's text.
 ghost use Rattle.std.specs.Prelude.{◌≡◌, ◌<◌, ◌≤◌, ◌-◌, ◌^◌, ℕ, List, IfOk, length};
 ghost use Rattle.std.specs.List.{All};
-ghost use Rattle.metis_universe.specs.Universe.{pair_count};
-ghost use Rattle.metis_support.specs.Support.{IsSupport, support_of};
-ghost use Rattle.metis_lines.specs.LifeLines.{AreLines};
-ghost use Rattle.metis_text.specs.PlanText.{IsWellFormed};
-ghost use Rattle.metis_text.specs.Reads.{lists_of};
-ghost use Rattle.metis_audit.specs.Audits.{IsAnswer, IsAttained, IsFollowed, IsForced, audited_lines};
+ghost use Rattle.metis_universe.specs.Terms.{pair_count};
+ghost use Rattle.metis_support.specs.Terms.{IsSupport, support_of};
+ghost use Rattle.metis_lines.specs.Terms.{AreLines};
+ghost use Rattle.metis_text.specs.Terms.{IsWellFormed, lists_of};
+ghost use Rattle.metis_audit.specs.Terms.{IsAnswer, IsAttained, IsFollowed, IsForced, audited_lines};
 
 use crate::answers::Answer;
 use crate::dups::first_unforced;

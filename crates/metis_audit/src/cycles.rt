@@ -2,11 +2,9 @@
 ghost use Rattle.std.specs.Prelude.{◌≡◌, ◌<◌, ◌+◌, length};
 ghost use Rattle.std.specs.List.{list_all};
 ghost use Rattle.metis_ids.specs.declared.events.Event.TheVariants.{At};
-ghost use Rattle.metis_lines.specs.Events.{is_cycle, is_event, same_event};
-ghost use Rattle.metis_lines.specs.Justified.{leads_on};
-ghost use Rattle.metis_lines.specs.Over.{graph_over};
-ghost use Rattle.metis_events.specs.Gathered.{without_supplies};
-ghost use Rattle.metis_audit.specs.Forced.{is_exit, is_forced, next_around};
+ghost use Rattle.metis_lines.specs.Terms.{graph_over, is_cycle, is_event, leads_on, same_event};
+ghost use Rattle.metis_events.specs.Terms.{without_supplies};
+ghost use Rattle.metis_audit.specs.Terms.{is_exit, is_forced, next_around};
 
 use crate::edges::{is_event, is_next, is_return, precedes};
 use metis_ids::{Event, LineIx, PairIx, StepIx};

@@ -1,9 +1,8 @@
 //! The dups of a plan, each over the lines for those before it.
 ghost use Rattle.std.specs.Prelude.{◌≡◌, ◌<◌, ◌^◌, ℕ, IfOk, IsTrue, MatchOption, [], length, ⊤};
-ghost use Rattle.metis_support.specs.Support.{IsSupport};
-ghost use Rattle.metis_lines.specs.Justified.{own_pairs};
-ghost use Rattle.metis_lines.specs.LifeLines.{AreLines, lines_of};
-ghost use Rattle.metis_audit.specs.Forced.{IsFirstUnforced, is_forced, is_forced_at};
+ghost use Rattle.metis_support.specs.Terms.{IsSupport};
+ghost use Rattle.metis_lines.specs.Terms.{AreLines, lines_of, own_pairs};
+ghost use Rattle.metis_audit.specs.Terms.{IsFirstUnforced, is_forced, is_forced_at};
 
 use crate::cycles::is_forced;
 use metis_ids::{Dup, Event, NoMemory, PairIx};

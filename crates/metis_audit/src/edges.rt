@@ -1,14 +1,11 @@
 //! The edges between two events of life lines, told from the lines alone.
 ghost use Rattle.std.specs.Prelude.{◌≡◌, ◌<◌, ◌≤◌, ◌+◌, length, nat_eq, IsTrue, MatchBool, MatchOption};
-ghost use Rattle.metis_universe.specs.Universe.{demand_of, pair_count, requires};
+ghost use Rattle.metis_universe.specs.Terms.{demand_of, pair_count, requires};
 ghost use Rattle.metis_ids.specs.declared.events.Event.TheVariants.{At};
-ghost use Rattle.metis_support.specs.Support.{is_selected};
-ghost use Rattle.metis_lines.specs.Events.{is_event, is_go, is_return, is_start, precedes};
-ghost use Rattle.metis_lines.specs.LifeLines.{holder_of, line_at};
-ghost use Rattle.metis_lines.specs.Over.{graph_over};
-ghost use Rattle.metis_events.specs.Gathered.{without_supplies};
-ghost use Rattle.metis_audit.specs.Leaving.{IsLeft, IsNoLeaving, IsTakenByNoTarget, IsTakenByTarget};
-ghost use Rattle.metis_audit.specs.Takes.{has_slot_at, is_at, is_taken, takes, takes_port};
+ghost use Rattle.metis_support.specs.Terms.{is_selected};
+ghost use Rattle.metis_lines.specs.Terms.{graph_over, holder_of, is_event, is_go, is_return, is_start, line_at, precedes};
+ghost use Rattle.metis_events.specs.Terms.{without_supplies};
+ghost use Rattle.metis_audit.specs.Terms.{IsLeft, IsNoLeaving, IsTakenByNoTarget, IsTakenByTarget, has_slot_at, is_at, is_taken, takes, takes_port};
 
 use metis_events::step_count;
 use metis_ids::{Event, LineIx, PairIx, PortIx, StepIx};

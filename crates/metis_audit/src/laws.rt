@@ -1,9 +1,8 @@
 //! Laws of audits.
 ghost use Rattle.std.specs.Prelude.{◌≡◌, ℕ, List};
-ghost use Rattle.metis_ids.specs.Plans.{Plan};
-ghost use Rattle.metis_universe.specs.Universe.{Universe, IsTable};
-ghost use Rattle.metis_audit.specs.Audits.{IsAnswer};
-ghost use Rattle.metis_audit.specs.Doubled.{IsDoubled};
+ghost use Rattle.metis_ids.specs.Terms.{Plan};
+ghost use Rattle.metis_universe.specs.Terms.{IsTable, Universe};
+ghost use Rattle.metis_audit.specs.Terms.{IsAnswer, IsDoubled};
 ghost use Rattle.metis_audit.specs.declared.answers.Answer.{Answer};
 ghost use Rattle.metis_audit.specs.declared.answers.Answer.TheVariants.{Justified};
 

@@ -1,9 +1,9 @@
 //! Whether a text says what each action waits for.
 ghost use Rattle.std.specs.Prelude.{◌≡◌, ◌≢◌, ◌≤◌, ℕ, List, MatchBool, MatchOption, length, map};
 ghost use Rattle.metis_ids.specs.declared.actions.Action.{Action};
-ghost use Rattle.metis_text.specs.PlanText.{after_of};
-ghost use Rattle.metis_waits.specs.Waits.{AreWaits, waits_on_others};
-ghost use Rattle.metis_audit.specs.Audits.{IsFirstOther};
+ghost use Rattle.metis_text.specs.Terms.{after_of};
+ghost use Rattle.metis_waits.specs.Terms.{AreWaits, waits_on_others};
+ghost use Rattle.metis_audit.specs.Terms.{IsFirstOther};
 
 use metis_waits::Waits;
 

@@ -2,10 +2,10 @@
 ghost use Rattle.std.specs.Prelude.{◌≡◌, ◌≢◌, ◌<◌, ℕ, List, ◌++◌, ◌∷◌, [], IfOk, MatchBool, MatchOption, length};
 ghost use Rattle.std.specs.List.{All};
 ghost use Rattle.metis_ids.specs.declared.actions.Action.{Action};
-ghost use Rattle.metis_universe.specs.Numbers.{IsOf};
-ghost use Rattle.metis_emit.specs.Realized.{entered};
-ghost use Rattle.metis_lines.specs.LifeLines.{line_at};
-ghost use Rattle.metis_audit.specs.Walks.{AreWalks, IsFirstAstray, IsWalk, entry_of};
+ghost use Rattle.metis_universe.specs.Terms.{IsOf};
+ghost use Rattle.metis_emit.specs.Terms.{entered};
+ghost use Rattle.metis_lines.specs.Terms.{line_at};
+ghost use Rattle.metis_audit.specs.Terms.{AreWalks, IsFirstAstray, IsWalk, entry_of};
 
 use metis_ids::{Action, InstNo, Ix, LineIx, NoMemory, PairIx, StepIx};
 use metis_lines::Lines;

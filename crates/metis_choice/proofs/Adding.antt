@@ -8,8 +8,8 @@ use Rattle.std.specs.BTreeSet.{insert_key}
 use Rattle.std.specs.List.{filter_map, cons_option}
 use Rattle.std.specs.Option.{option_to_list}
 use Rattle.metis_ids.proofs.Inserted.{has-insert_key, length-insert_key}
-use Rattle.metis_universe.specs.Universe.{has}
-use Rattle.metis_choice.specs.WorkList.{WorkList, Adds}
+use Rattle.metis_universe.specs.Terms.{has}
+use Rattle.metis_choice.specs.Terms.{Adds, WorkList}
 
 or_again : (p q s : Bool) → (q || (p || s)) ≡ ((p || q) || s)
 or_again true true s = refl

@@ -9,13 +9,11 @@ use Rattle.std.proofs.lemmas.List.FromFn.{fill_by_all}
 use Rattle.metis_ids.proofs.Lists.{has_here, has_one}
 use Rattle.metis_universe.proofs.FirstPairs.{origin-above, origin-leads, origin-least, provider-provides}
 use Rattle.metis_universe.proofs.Ranges.{in_range}
-use Rattle.metis_universe.specs.Layers.{layer_of}
-use Rattle.metis_universe.specs.Selection.{origin_of, provider_of}
-use Rattle.metis_universe.specs.Universe.{Universe, all_pairs, has, next_of, pair_count}
+use Rattle.metis_universe.specs.Terms.{Universe, all_pairs, has, layer_of, next_of, origin_of, pair_count, provider_of}
 use Rattle.metis_layers.proofs.LayerFacts.{layer_pair}
 use Rattle.metis_support.proofs.Lists.{has-append_cases}
 use Rattle.metis_support.proofs.Selections.{some_is}
-use Rattle.metis_choice.specs.Origins.{LeadsUp, IsLeastBelow, IsFirstBelow, AreFirstBelow}
+use Rattle.metis_choice.specs.Terms.{AreFirstBelow, IsFirstBelow, IsLeastBelow, LeadsUp}
 
 module _ (u : Universe) where
   -- ---- origins and providers are pairs of the universe

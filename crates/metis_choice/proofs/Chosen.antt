@@ -2,17 +2,14 @@
 use Rattle.std.proofs.Common.{◌≡◌, ℕ, true, List, Option, Some, map, sym, ap, ◌∙◌, subst}
 use Rattle.std.specs.Prelude.{IsSome, IsSomeAnd, MatchOption}
 use Rattle.std.specs.List.{All, range_with_len}
-use Rattle.metis_ids.specs.PairSet.{PairSet}
+use Rattle.metis_ids.specs.Terms.{PairSet}
 use Rattle.metis_universe.proofs.FirstPairs.{provider-first, provider-provides}
-use Rattle.metis_universe.specs.Layers.{layer_of}
-use Rattle.metis_universe.specs.Selection.{origin_of, provider_of, selected}
-use Rattle.metis_universe.specs.Universe.{Universe, IsUniverse, all_pairs, has, pair_count, port_count, requires}
+use Rattle.metis_universe.specs.Terms.{IsUniverse, Universe, all_pairs, has, layer_of, origin_of, pair_count, port_count, provider_of, requires, selected}
 use Rattle.metis_layers.proofs.Ways.{all_has}
 use Rattle.metis_support.proofs.Selections.{is_support, layer_is, origin_is, provider_is, some_is}
-use Rattle.metis_support.specs.Support.{IsSupport, is_selected, layer_at, of_needed, of_selected, origin_at, provider_at, support_of, tables}
+use Rattle.metis_support.specs.Terms.{IsSupport, is_selected, layer_at, of_needed, of_selected, origin_at, provider_at, support_of, tables}
 use Rattle.metis_choice.proofs.Below.{least_below}
-use Rattle.metis_choice.specs.Choices.{IsFirstProvider}
-use Rattle.metis_choice.specs.Origins.{IsLeastBelow}
+use Rattle.metis_choice.specs.Terms.{IsFirstProvider, IsLeastBelow}
 
 -- tables that have the entries of the selection make its support
 pub built : (u : Universe) (g : List ℕ) (set : PairSet) (origins layers providers : List (Option ℕ)) → set.size ≡ pair_count u → set.members ≡ selected u g → origins ≡ map (of_selected set.members (origin_of u)) (all_pairs u) → layers ≡ map (of_selected set.members (layer_of u)) (all_pairs u)

@@ -4,14 +4,9 @@ use Rattle.std.specs.List.{find}
 use Rattle.metis_ids.specs.declared.actions.Action.TheVariants.{New, Move}
 use Rattle.metis_ids.specs.declared.goals.Goal.TheVariants.{Pair, Port}
 use Rattle.metis_universe.proofs.PlanExamples.{kind, pair, web}
-use Rattle.metis_universe.specs.Config.{empty}
-use Rattle.metis_universe.specs.Goal.{Holds}
-use Rattle.metis_universe.specs.Goals.{lacks}
-use Rattle.metis_universe.specs.Layers.{layer_of}
-use Rattle.metis_universe.specs.Step.{after_all}
-use Rattle.metis_universe.specs.Universe.{Universe, all_pairs}
-use Rattle.metis_layers.specs.LayerOrder.{attained_pairs}
-use Rattle.metis_choice.specs.Resolutions.{ArePairsFor}
+use Rattle.metis_universe.specs.Terms.{Holds, Universe, after_all, all_pairs, empty, lacks, layer_of}
+use Rattle.metis_layers.specs.Terms.{attained_pairs}
+use Rattle.metis_choice.specs.Terms.{ArePairsFor}
 use Rattle.metis_layers.proofs.Examples.{alone}
 
 -- pairs Db:off 0, Db:on 1, Web:off 2, Web:run 3, port sql 0: the port is for the database that is on

@@ -4,9 +4,7 @@ use Rattle.std.proofs.lemmas.List.Elements.{All-from_recursion, All-head, All-ta
 use Rattle.std.specs.List.{All, AllByRecursion, find}
 use Rattle.metis_ids.specs.declared.goals.Goal.{Goal}
 use Rattle.metis_ids.specs.declared.goals.Goal.TheVariants.{Pair, Port}
-use Rattle.metis_universe.specs.GoalWords.{IsWordable}
-use Rattle.metis_universe.specs.Goals.{IsGoalOf, pair_goals}
-use Rattle.metis_universe.specs.Universe.{Universe, pair_count}
+use Rattle.metis_universe.specs.Terms.{IsGoalOf, IsWordable, Universe, pair_count, pair_goals}
 
 -- what all have, the one that is found has
 pub found_among : {X : Type 0} (P : X → Type 0) (t : X → Bool) (xs : List X) (x : X) → All P xs → find t xs ≡ Some x → P x

@@ -4,10 +4,9 @@ use Rattle.std.specs.Prelude.{IsSome, is_some}
 use Rattle.std.specs.List.{All, find}
 use Rattle.std.proofs.lemmas.Bool.{false≢true}
 use Rattle.std.proofs.lemmas.List.Elements.{All-cons, All-head, All-nil, All-tail, All-get_or}
-use Rattle.metis_universe.specs.Layers.{layer_of}
-use Rattle.metis_universe.specs.Universe.{Universe, pair_count}
-use Rattle.metis_layers.specs.Layers.{IsLayers, Layers, layer_at}
-use Rattle.metis_choice.specs.Choices.{IsFirstWithout}
+use Rattle.metis_universe.specs.Terms.{Universe, layer_of, pair_count}
+use Rattle.metis_layers.specs.Terms.{IsLayers, Layers, layer_at}
+use Rattle.metis_choice.specs.Terms.{IsFirstWithout}
 use Rattle.std.proofs.lemmas.Option.{get_or_from_slice_get, slice_get_within}
 
 some_of : (o : Option ℕ) → not (is_some o) ≡ false → IsSome o

@@ -13,21 +13,14 @@ use Rattle.metis_universe.proofs.Attained.{Closed-layers}
 use Rattle.metis_universe.proofs.FirstPairs.{provider-none, provider-provides}
 use Rattle.metis_universe.proofs.Rounds.{grows_to, layers_grow}
 use Rattle.metis_universe.proofs.Served.{count-cons, count_wider, goals_refused, none_counted, same_is}
-use Rattle.metis_universe.specs.Config.{Config, empty}
-use Rattle.metis_universe.specs.Goal.{Attains, Holds}
-use Rattle.metis_universe.specs.Goals.{AttainsGoals, GoalRefusal, HoldsGoals, IsGoalOf, lacks, pair_goals, places_of, same_goal, serving}
-use Rattle.metis_universe.specs.Layers.{is_provided, layer_of, layer_set}
-use Rattle.metis_universe.specs.Selection.{provider_of}
-use Rattle.metis_universe.specs.Step.{after_all}
-use Rattle.metis_universe.specs.Universe.{Universe, IsUniverse, has, pair_count, provides}
+use Rattle.metis_universe.specs.Terms.{Attains, AttainsGoals, Config, GoalRefusal, Holds, HoldsGoals, IsGoalOf, IsUniverse, Universe, after_all, empty, has, is_provided, lacks, layer_of, layer_set, pair_count, pair_goals, places_of, provider_of, provides, same_goal, serving}
 use Rattle.metis_layers.proofs.LayerFacts.{layer_below, layer_by, layer_has, provider_by, some_of}
 use Rattle.metis_layers.proofs.Order.{deploys}
 use Rattle.metis_layers.proofs.Ways.{all_has}
-use Rattle.metis_layers.specs.LayerOrder.{attained_pairs, layer_order}
-use Rattle.metis_layers.specs.Layers.{IsLayers, Layers, first_at, layer_at}
+use Rattle.metis_layers.specs.Terms.{IsLayers, Layers, attained_pairs, first_at, layer_at, layer_order}
 use Rattle.metis_support.proofs.Selections.{some_is}
 use Rattle.metis_choice.proofs.Below.{pair_low}
-use Rattle.metis_choice.specs.Resolutions.{ArePairsFor, IsPairFor, pair_by}
+use Rattle.metis_choice.specs.Terms.{ArePairsFor, IsPairFor, pair_by}
 
 any_none : (xs : List ℕ) → list_any (λ x. false) xs ≡ false
 any_none [] = refl

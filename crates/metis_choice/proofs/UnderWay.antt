@@ -11,13 +11,12 @@ use Rattle.std.specs.Cmp.{both_ways as same_bool}
 use Rattle.metis_ids.proofs.Lists.{has_here, has_one, has_range}
 use Rattle.metis_universe.proofs.InOrder.{same_members}
 use Rattle.metis_universe.proofs.Selected.{selected-least}
-use Rattle.metis_universe.specs.Selection.{needs_of, origin_of, provider_of, providers_needed, selected, IsLeastSelection}
-use Rattle.metis_universe.specs.Universe.{Universe, all_pairs, has, pair_count, required_of}
+use Rattle.metis_universe.specs.Terms.{IsLeastSelection, Universe, all_pairs, has, needs_of, origin_of, pair_count, provider_of, providers_needed, required_of, selected}
 use Rattle.metis_layers.proofs.Ways.{all_has}
 use Rattle.metis_support.proofs.Lists.{has-append_cases}
 use Rattle.metis_support.proofs.Selections.{ascending, has_option, mapped_from}
 use Rattle.metis_choice.proofs.Below.{origin_low, provider_low}
-use Rattle.metis_choice.specs.WorkList.{WorkList, Adds}
+use Rattle.metis_choice.specs.Terms.{Adds, WorkList}
 
 -- ---- what a pair needs are pairs of the universe
 

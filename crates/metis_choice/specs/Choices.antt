@@ -6,9 +6,8 @@
 use Rattle.std.specs.Prelude.{◌≡◌, ◌<◌, ◌≤◌, ◌⊎◌, ℕ, List, take, Some, None, Result, Ok, Err, slice_get, IsTrue, IsSome, ⊤}
 use Rattle.std.specs.List.{All}
 use Rattle.metis_ids.specs.declared.no_memory.NoMemory.{NoMemory}
-use Rattle.metis_universe.specs.Universe.{Universe, provides}
-use Rattle.metis_universe.specs.Layers.{layer_of}
-use Rattle.metis_support.specs.Support.{Support}
+use Rattle.metis_universe.specs.Terms.{Universe, layer_of, provides}
+use Rattle.metis_support.specs.Terms.{Support}
 use Rattle.metis_choice.specs.declared.choice.Choice.{Choice}
 use Rattle.metis_choice.specs.declared.choice.Choice.TheVariants as choice
 

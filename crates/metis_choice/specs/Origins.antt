@@ -4,8 +4,7 @@
 --     IsFirstBelow u n p o      o is that pair where it is below n, and none where no pair below n leads up to p
 --     AreFirstBelow u n origins      the table has this for each pair
 use Rattle.std.specs.Prelude.{◌≡◌, ◌<◌, ◌≤◌, ℕ, List, length, Option, Some, None, slice_index_or, IsTrue}
-use Rattle.metis_universe.specs.Settled.{IsLower}
-use Rattle.metis_universe.specs.Universe.{Universe, has, next_of, pair_count}
+use Rattle.metis_universe.specs.Terms.{IsLower, Universe, has, next_of, pair_count}
 
 pub record LeadsUp (u : Universe) (o p : ℕ) : Type 0 where
   pub lower : IsLower u o p

@@ -11,12 +11,8 @@ use Rattle.std.specs.List.{All, AllZip}
 use Rattle.metis_ids.specs.declared.goals.Goal.{Goal}
 use Rattle.metis_ids.specs.declared.goals.Goal.TheVariants.{Pair, Port}
 use Rattle.metis_ids.specs.declared.no_memory.NoMemory.{NoMemory}
-use Rattle.metis_universe.specs.Goal.{Attains}
-use Rattle.metis_universe.specs.Goals.{GoalRefusal}
-use Rattle.metis_universe.specs.Selection.{provider_of}
-use Rattle.metis_universe.specs.Universe.{Universe, pair_count}
-use Rattle.metis_layers.specs.LayerOrder.{attained_pairs}
-use Rattle.metis_layers.specs.Layers.{Layers, first_at, layer_at}
+use Rattle.metis_universe.specs.Terms.{Attains, GoalRefusal, Universe, pair_count, provider_of}
+use Rattle.metis_layers.specs.Terms.{Layers, attained_pairs, first_at, layer_at}
 use Rattle.metis_choice.specs.declared.resolution.Resolved.{Resolved}
 use Rattle.metis_choice.specs.declared.resolution.Resolved.TheVariants as resolved
 

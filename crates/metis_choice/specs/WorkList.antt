@@ -3,8 +3,8 @@
 --     work_left w      how many pairs may still be taken from the list, at most
 --     Adds ps old new      the pairs are selected as well, and those that were not before wait
 use Rattle.std.specs.Prelude.{◌≡◌, ◌≤◌, ℕ, ◌+◌, ◌-◌, ◌&&◌, ◌||◌, not, List, length}
-use Rattle.metis_ids.specs.PairSet.{PairSet}
-use Rattle.metis_universe.specs.Universe.{has}
+use Rattle.metis_ids.specs.Terms.{PairSet}
+use Rattle.metis_universe.specs.Terms.{has}
 
 pub record WorkList : Type 0 where
   pub selected : PairSet

@@ -1,13 +1,10 @@
 //! From a list of targets to what a plan for them stands on.
 ghost use Rattle.std.specs.Prelude.{◌≡◌, ◌<◌, ℕ, IfOk, IsSome, IsSomeAnd, IsTrue, MatchOption, is_some, not};
 ghost use Rattle.std.specs.List.{All, find};
-ghost use Rattle.metis_universe.specs.Layers.{layer_of};
-ghost use Rattle.metis_universe.specs.Selection.{IsLeastSelection};
-ghost use Rattle.metis_universe.specs.Universe.{pair_count, requires};
-ghost use Rattle.metis_layers.specs.Layers.{IsLayers, layer_at};
-ghost use Rattle.metis_support.specs.Support.{IsSupport, is_selected, layer_at as layer_in, origin_at, provider_at, support_of};
-ghost use Rattle.metis_choice.specs.Choices.{IfLacks, IfSupport, IsFirstProvider, IsFirstWithout};
-ghost use Rattle.metis_choice.specs.Origins.{IsLeastBelow};
+ghost use Rattle.metis_universe.specs.Terms.{IsLeastSelection, layer_of, pair_count, requires};
+ghost use Rattle.metis_layers.specs.Terms.{IsLayers, layer_at};
+ghost use Rattle.metis_support.specs.Terms.{IsSupport, is_selected, layer_at as layer_in, origin_at, provider_at, support_of};
+ghost use Rattle.metis_choice.specs.Terms.{IfLacks, IfSupport, IsFirstProvider, IsFirstWithout, IsLeastBelow};
 
 use crate::origins::all_origins;
 use crate::selection::selected_pairs;

@@ -2,12 +2,9 @@
 ghost use Rattle.std.specs.Prelude.{◌≡◌, ◌↔◌, ℕ, List, length, IsFalse};
 ghost use Rattle.std.specs.List.{All};
 ghost use Rattle.metis_ids.specs.declared.goals.Goal.{Goal};
-ghost use Rattle.metis_universe.specs.Config.{Config};
-ghost use Rattle.metis_universe.specs.Goal.{Attains, Holds};
-ghost use Rattle.metis_universe.specs.Goals.{AttainsGoals, HoldsGoals, lacks, pair_goals};
-ghost use Rattle.metis_universe.specs.Universe.{Universe, IsUniverse};
-ghost use Rattle.metis_layers.specs.LayerOrder.{attained_pairs};
-ghost use Rattle.metis_choice.specs.Resolutions.{ArePairsFor};
+ghost use Rattle.metis_universe.specs.Terms.{Attains, AttainsGoals, Config, Holds, HoldsGoals, IsUniverse, Universe, lacks, pair_goals};
+ghost use Rattle.metis_layers.specs.Terms.{attained_pairs};
+ghost use Rattle.metis_choice.specs.Terms.{ArePairsFor};
 
 /// A configuration that holds the pairs for goals holds the goals: as many places as a goal has in the one list, its pair has in
 /// the other, and each instance in that pair serves it. So what attains the pairs attains the goals.

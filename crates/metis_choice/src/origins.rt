@@ -1,11 +1,9 @@
 //! The origins of a universe's pairs.
 ghost use Rattle.std.specs.Prelude.{◌≡◌, ◌<◌, ◌+◌, ◌↔◌, IfOk, IsSomeAnd, IsTrue, map};
 ghost use Rattle.std.specs.List.{slice_index_or};
-ghost use Rattle.metis_universe.specs.Layers.{layer_of};
-ghost use Rattle.metis_universe.specs.Selection.{origin_of};
-ghost use Rattle.metis_universe.specs.Universe.{all_pairs, pair_count};
-ghost use Rattle.metis_layers.specs.Layers.{IsLayers};
-ghost use Rattle.metis_choice.specs.Origins.{AreFirstBelow};
+ghost use Rattle.metis_universe.specs.Terms.{all_pairs, layer_of, origin_of, pair_count};
+ghost use Rattle.metis_layers.specs.Terms.{IsLayers};
+ghost use Rattle.metis_choice.specs.Terms.{AreFirstBelow};
 
 use crate::tables::unset;
 use metis_ids::{IxVec, NoMemory, PairIx};

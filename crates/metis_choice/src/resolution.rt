@@ -1,13 +1,9 @@
 //! From a list of goals to a list of pairs.
 ghost use Rattle.std.specs.Prelude.{◌≡◌, ◌<◌, IfOk, IsFalse, IsSome};
 ghost use Rattle.std.specs.List.{All};
-ghost use Rattle.metis_universe.specs.Goal.{Attains};
-ghost use Rattle.metis_universe.specs.Goals.{AttainsGoals, GoalRefusal, IsGoalOf, lacks};
-ghost use Rattle.metis_universe.specs.Layers.{layer_of};
-ghost use Rattle.metis_universe.specs.Universe.{pair_count};
-ghost use Rattle.metis_layers.specs.LayerOrder.{attained_pairs};
-ghost use Rattle.metis_layers.specs.Layers.{IsLayers};
-ghost use Rattle.metis_choice.specs.Resolutions.{ArePairsFor, IfLacksGoal, IfPairs, IsResolved, pair_by};
+ghost use Rattle.metis_universe.specs.Terms.{Attains, AttainsGoals, GoalRefusal, IsGoalOf, lacks, layer_of, pair_count};
+ghost use Rattle.metis_layers.specs.Terms.{IsLayers, attained_pairs};
+ghost use Rattle.metis_choice.specs.Terms.{ArePairsFor, IfLacksGoal, IfPairs, IsResolved, pair_by};
 
 use crate::laws::pairs_for_goals_are_unique;
 use metis_ids::{Goal, NoMemory, PairIx};

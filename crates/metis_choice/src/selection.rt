@@ -1,10 +1,9 @@
 //! The pairs that a plan uses.
 ghost use Rattle.std.specs.Prelude.{◌≡◌, ◌<◌, IfOk, OnOk, map};
 ghost use Rattle.std.specs.List.{All};
-ghost use Rattle.metis_universe.specs.Selection.{needs_of, origin_of, providers_needed, selected};
-ghost use Rattle.metis_universe.specs.Universe.{all_pairs, pair_count};
-ghost use Rattle.metis_layers.specs.Layers.{IsLayers};
-ghost use Rattle.metis_choice.specs.WorkList.{Adds};
+ghost use Rattle.metis_universe.specs.Terms.{all_pairs, needs_of, origin_of, pair_count, providers_needed, selected};
+ghost use Rattle.metis_layers.specs.Terms.{IsLayers};
+ghost use Rattle.metis_choice.specs.Terms.{Adds};
 
 use crate::origins::origin_in;
 use crate::work_list::WorkList;

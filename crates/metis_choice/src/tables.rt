@@ -1,11 +1,9 @@
 //! What is kept of the pairs that are selected and of the ports that they require.
 ghost use Rattle.std.specs.Prelude.{◌≡◌, ◌<◌, ℕ, IfOk, length, map, replicate, if◌then◌else◌};
 ghost use Rattle.std.specs.List.{range_with_len, slice_index_or};
-ghost use Rattle.metis_universe.specs.Layers.{layer_of};
-ghost use Rattle.metis_universe.specs.Selection.{origin_of, provider_of};
-ghost use Rattle.metis_universe.specs.Universe.{all_pairs, pair_count, port_count, requires};
-ghost use Rattle.metis_layers.specs.Layers.{IsLayers, layer_at};
-ghost use Rattle.metis_support.specs.Support.{of_needed, of_selected};
+ghost use Rattle.metis_universe.specs.Terms.{all_pairs, layer_of, origin_of, pair_count, port_count, provider_of, requires};
+ghost use Rattle.metis_layers.specs.Terms.{IsLayers, layer_at};
+ghost use Rattle.metis_support.specs.Terms.{of_needed, of_selected};
 
 use crate::origins::origin_in;
 use metis_ids::{Ix, IxVec, NoMemory, PairIx, PairSet, PortIx};

@@ -2,7 +2,7 @@
 ghost use Rattle.std.specs.Prelude.{◌≡◌, ◌<◌, [], ◌∷◌, ◌++◌, IfOk, MatchOption, OnOk};
 ghost use Rattle.std.specs.List.{All};
 ghost use Rattle.std.specs.Option.{ForSome, option_to_list};
-ghost use Rattle.metis_choice.specs.WorkList.{Adds};
+ghost use Rattle.metis_choice.specs.Terms.{Adds};
 
 use metis_ids::{NoMemory, PairIx, PairSet};
 use std::alloc::Global;

@@ -4,12 +4,12 @@ use Rattle.std.specs.Prelude.{codes}
 use Rattle.metis_audit.specs.declared.answers.Answer.{Answer as AuditAnswer}
 use Rattle.metis_audit.specs.declared.answers.Answer.TheVariants as audit
 use Rattle.metis_output.proofs.LineWords.{by_number, by_two}
-use Rattle.metis_ids.specs.Plans.{Plan}
+use Rattle.metis_ids.specs.Terms.{Plan}
 use Rattle.metis_ids.specs.declared.goals.Goal.TheVariants.{Pair}
-use Rattle.metis_outside.specs.Pieces.{IsLine}
-use Rattle.metis_universe.specs.Universe.{IsNamed, Universe}
+use Rattle.metis_outside.specs.Terms.{IsLine}
+use Rattle.metis_universe.specs.Terms.{IsNamed, Universe}
 use Rattle.metis_commands.proofs.GoalLine.{IsLine-word_line}
-use Rattle.metis_commands.specs.Audit.{audit_line}
+use Rattle.metis_commands.specs.Terms.{audit_line}
 
 module _ (u : Universe) (named : IsNamed u) where
   pub IsLine-audit_line : (plan : Plan) (a : AuditAnswer) → IsLine (audit_line u plan a)

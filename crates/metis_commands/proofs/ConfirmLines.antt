@@ -3,18 +3,16 @@ use Rattle.std.proofs.Common.{◌+◌, refl, ◌≡◌, ℕ, ◌<◌, ◌^◌, n
 use Rattle.std.specs.Prelude.{codes}
 use Rattle.metis_output.proofs.LineWords.{by_number}
 use Rattle.metis_outside.proofs.Feeds.{IsLine-from}
-use Rattle.metis_outside.specs.Pieces.{IsLine}
-use Rattle.metis_universe.specs.Universe.{IsNamed, Universe}
+use Rattle.metis_outside.specs.Terms.{IsLine}
+use Rattle.metis_universe.specs.Terms.{IsGoalOf, IsNamed, Universe}
 use Rattle.metis_why.specs.declared.confirming.Confirmation.{Confirmation}
 use Rattle.metis_why.specs.declared.confirming.Confirmation.TheVariants as confirmation
 use Rattle.metis_commands.proofs.GoalLine.{IsLine-word_line}
 use Rattle.metis_choice.proofs.GoalLists.{found_among}
-use Rattle.metis_commands.specs.Confirm.{confirmation_line, IsSayable}
+use Rattle.metis_commands.specs.Terms.{IsSayable, confirmation_line}
 use Rattle.std.specs.List.{All, list_all}
 use Rattle.metis_ids.specs.declared.goals.Goal.{Goal}
-use Rattle.metis_universe.specs.Goals.{IsGoalOf}
-use Rattle.metis_why.specs.Barred.{listed, wanted_by}
-use Rattle.metis_why.specs.Confirm.{covered, first_bad, line_holds, verdict, verdict_by}
+use Rattle.metis_why.specs.Terms.{covered, first_bad, line_holds, listed, verdict, verdict_by, wanted_by}
 use Rattle.metis_why.specs.declared.reason.Line.{Line}
 use Rattle.metis_universe.proofs.Named.{position_within}
 

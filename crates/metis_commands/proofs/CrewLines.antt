@@ -1,15 +1,15 @@
 -- The lines of a crew.
 use Rattle.std.proofs.Common.{◌≡◌, ℕ, suc, ◌+◌, Bool, true, false, List, [], ◌∷◌, ◌++◌, length, map, refl, ap, ◌∙◌, length-append, sym, subst}
 use Rattle.std.proofs.lemmas.List.{length-map}
-use Rattle.metis_crew.specs.Crew.{after_turns, counts_after, done_count, start, turn, turns}
+use Rattle.metis_crew.specs.Terms.{after_turns, counts_after, done_count, start, turn, turns}
 use Rattle.metis_ids.specs.declared.actions.Action.{Action}
-use Rattle.metis_commands.specs.Crew.{crew_lines, last_line, lines_left, progress_line, turn_line}
+use Rattle.metis_commands.specs.Terms.{crew_lines, last_line, lines_left, progress_line, turn_line}
 use Rattle.std.specs.Prelude.{codes}
 use Rattle.metis_output.proofs.LineWords.{by_number, by_two}
 use Rattle.metis_crew.specs.declared.turn.Turn.{Turn}
 use Rattle.metis_crew.specs.declared.turn.Turn.TheVariants as turn
 use Rattle.metis_outside.proofs.Feeds.{IsLine-from}
-use Rattle.metis_outside.specs.Pieces.{IsLine}
+use Rattle.metis_outside.specs.Terms.{IsLine}
 
 module _ (A : List Action) where
   length-turns : (counts : List (ℕ × ℕ)) (zs : List ℕ) → length (turns A counts zs) ≡ length zs

@@ -6,16 +6,15 @@ use Rattle.std.proofs.lemmas.Bool.{and_parts}
 use Rattle.std.proofs.lemmas.Bool.Decides.{nat_tests}
 use Rattle.std.proofs.lemmas.List.{drop_more}
 use Rattle.std.proofs.lemmas.List.Elements.{All-head, All-tail, All-weaker}
-use Rattle.metis_commands.specs.Place.{hold_line, hold_lines, hold_of_action, no_room_line, on_line, on_lines, placed_line}
+use Rattle.metis_commands.specs.Terms.{hold_line, hold_lines, hold_of_action, no_room_line, on_line, on_lines, placed_line}
 use Rattle.metis_outside.proofs.Feeds.{IsLine-append, no_feed, no_feed-append, no_feed-decimal}
-use Rattle.metis_outside.specs.Pieces.{IsLine}
+use Rattle.metis_outside.specs.Terms.{IsLine}
 use Rattle.metis_output.proofs.LineWords.{by_three, by_two, by_word, feed, number_then}
-use Rattle.metis_place.specs.HostsWritten.{IsEntry}
-use Rattle.metis_place.specs.Placement.{HostLists, name_of}
+use Rattle.metis_place.specs.Terms.{HostLists, IsEntry, name_of}
 use Rattle.metis_tokens.proofs.Printed.{all_weaker}
 use Rattle.metis_tokens.proofs.WordFeeds.{no_feed-added_numbers}
-use Rattle.metis_tokens.specs.Line.{added}
-use Rattle.metis_universe.specs.Names.{is_name_byte}
+use Rattle.metis_tokens.specs.Terms.{added}
+use Rattle.metis_universe.specs.Terms.{is_name_byte}
 
 module _ (holds : List (List ℕ)) (i : ℕ) (low : i < length holds) where
   abbrev this : List ℕ

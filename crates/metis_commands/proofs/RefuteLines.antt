@@ -2,16 +2,15 @@
 use Rattle.std.proofs.Common.{◌++◌, refl}
 use Rattle.std.specs.Prelude.{codes}
 use Rattle.metis_commands.proofs.GoalLine.{IsLine-word_line}
-use Rattle.metis_commands.specs.Refute.{judgement_line}
+use Rattle.metis_commands.specs.Terms.{judgement_line}
 use Rattle.metis_ids.specs.declared.goals.Goal.TheVariants.{Pair}
 use Rattle.metis_outside.proofs.Feeds.{IsLine-from}
-use Rattle.metis_outside.specs.Pieces.{IsLine}
+use Rattle.metis_outside.specs.Terms.{IsLine}
 use Rattle.metis_output.proofs.LineWords.{by_word, word_then}
 use Rattle.metis_refusal.specs.declared.verdict.Verdict2.{Verdict2}
 use Rattle.metis_refusal.specs.declared.verdict.Verdict2.TheVariants.{Closed, NotFree, Open, LacksNone}
 use Rattle.metis_tokens.proofs.WordFeeds.{no_feed-pair_word}
-use Rattle.metis_universe.specs.PairWords.{pair_word}
-use Rattle.metis_universe.specs.Universe.{IsNamed, Universe}
+use Rattle.metis_universe.specs.Terms.{IsNamed, Universe, pair_word}
 
 module _ (u : Universe) (named : IsNamed u) where
   pub IsLine-judgement_line : (v : Verdict2) → IsLine (judgement_line u v)

@@ -1,17 +1,17 @@
 -- The line of a verdict.
 use Rattle.std.proofs.Common.{◌≡◌, ℕ, List, [], ◌∷◌, length, refl, ap}
-use Rattle.metis_steady.specs.Steady.{standing_after}
+use Rattle.metis_steady.specs.Terms.{standing_after}
 use Rattle.metis_ids.specs.declared.actions.Action.{Action}
 use Rattle.metis_ids.specs.declared.goals.Goal.{Goal}
-use Rattle.metis_replay.specs.Exact.{Tells}
+use Rattle.metis_replay.specs.Terms.{Tells}
 use Rattle.metis_replay.specs.declared.verdict.Verdict.{Verdict}
 use Rattle.metis_replay.specs.declared.verdict.Verdict.TheVariants.{Good, Bad, Missing}
-use Rattle.metis_universe.specs.Universe.{Universe, IsNamed}
-use Rattle.metis_commands.specs.Replay.{Replayed, good_line, verdict_line, verdict_status}
+use Rattle.metis_universe.specs.Terms.{IsNamed, Universe}
+use Rattle.metis_commands.specs.Terms.{Replayed, good_line, verdict_line, verdict_status}
 use Rattle.std.specs.Prelude.{codes}
 use Rattle.metis_output.proofs.LineWords.{by_two}
 use Rattle.metis_steady.proofs.SteadyLines.{IsLine-bad_line}
-use Rattle.metis_outside.specs.Pieces.{IsLine}
+use Rattle.metis_outside.specs.Terms.{IsLine}
 use Rattle.metis_tokens.proofs.WordFeeds.{IsLine-missing_line}
 
 -- the line of a verdict answers

@@ -3,10 +3,10 @@ use Rattle.std.proofs.Common.{◌≡◌, ℕ, List, ◌++◌, map, refl, sym, su
 use Rattle.std.specs.Prelude.{codes}
 use Rattle.metis_output.proofs.LineWords.{by_number, by_two}
 use Rattle.metis_outside.proofs.Feeds.{IsLine-append, IsLine-from, no_feed-append, no_feed-decimal}
-use Rattle.metis_outside.specs.Pieces.{IsLine}
+use Rattle.metis_outside.specs.Terms.{IsLine}
 use Rattle.metis_tokens.proofs.WordFeeds.{no_feed-added_numbers}
-use Rattle.metis_tokens.specs.Line.{added}
-use Rattle.metis_commands.specs.Waves.{chain_line, finish_line, start_line}
+use Rattle.metis_tokens.specs.Terms.{added}
+use Rattle.metis_commands.specs.Terms.{chain_line, finish_line, start_line}
 
 pub is_start_line : (bytes : List ℕ) (k early late : ℕ) → bytes ≡ start_line k (early, late) → IsLine bytes
 is_start_line bytes k early late same =

@@ -3,9 +3,8 @@ use Rattle.std.proofs.Common.{[], ◌∷◌, ◌++◌, List, subst}
 use Rattle.std.specs.List.{All}
 use Rattle.std.proofs.lemmas.List.Elements.{All-head, All-tail}
 use Rattle.metis_ids.specs.declared.goals.Goal.{Goal}
-use Rattle.metis_universe.specs.GoalWords.{IsWordable}
-use Rattle.metis_universe.specs.Universe.{Universe}
-use Rattle.metis_why.specs.Answer.{IsFirstUnattained}
+use Rattle.metis_universe.specs.Terms.{IsWordable, Universe}
+use Rattle.metis_why.specs.Terms.{IsFirstUnattained}
 
 all_at_end : {X : Type 0} (P : X → Type 0) (before after : List X) (x : X) → All P (before ++ x ∷ after) → P x
 all_at_end P [] after x all = All-head P x after all

@@ -5,21 +5,17 @@
 --     TellsLacking u goals lines status      the one line is that of the first goal that the attainable pairs lack
 --     Audited u goals plan after lines status      the first for the pairs for the goals, where some actions attain these, and else the second
 use Rattle.std.specs.Prelude.{◌≡◌, ◌⊎◌, ◌<◌, ℕ, List, [], ◌∷◌, ◌++◌, length, codes, decimal, ⊤}
-use Rattle.metis_audit.specs.Audits.{IsAnswer}
+use Rattle.metis_audit.specs.Terms.{IsAnswer}
 use Rattle.metis_audit.specs.declared.answers.Answer.{Answer}
 use Rattle.metis_audit.specs.declared.answers.Answer.TheVariants.{Justified, NotAttained, NoCycle, Count, Path, Loose, After}
-use Rattle.metis_ids.specs.Plans.{Plan}
-use Rattle.metis_choice.specs.Resolutions.{ArePairsFor}
+use Rattle.metis_ids.specs.Terms.{Plan}
+use Rattle.metis_choice.specs.Terms.{ArePairsFor}
 use Rattle.metis_ids.specs.declared.goals.Goal.{Goal}
-use Rattle.metis_universe.specs.Goal.{IsAttainedSet}
-use Rattle.metis_universe.specs.Goals.{AttainsGoals, GoalRefusal}
-use Rattle.metis_universe.specs.GoalWords.{goal_word}
-use Rattle.metis_universe.specs.PairWords.{pair_word}
-use Rattle.metis_universe.specs.Universe.{Universe, pair_count}
+use Rattle.metis_universe.specs.Terms.{AttainsGoals, GoalRefusal, IsAttainedSet, Universe, goal_word, pair_count, pair_word}
 use Rattle.metis_commands.specs.GoalLine.{word_line}
 use Rattle.metis_output.specs.declared.status.Status.{Status}
 use Rattle.metis_output.specs.declared.status.Status.TheVariants.{Done, No}
-use Rattle.metis_output.specs.NumberLine.{number_line}
+use Rattle.metis_output.specs.Terms.{number_line}
 
 abbrev pub justified_line : ℕ → ℕ → List ℕ
 justified_line instances dups = codes "justified instances " ++ (decimal instances ++ (codes " dups " ++ (decimal dups ++ codes "\n")))

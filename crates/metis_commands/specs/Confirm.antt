@@ -4,10 +4,8 @@
 --     Confirms u goals why lines status      the one line is that of the verdict on these lines as an explanation for the goals
 use Rattle.std.specs.Prelude.{◌≡◌, ℕ, ◌+◌, ◌<◌, ◌^◌, List, [], ◌∷◌, ◌++◌, codes, decimal}
 use Rattle.metis_ids.specs.declared.goals.Goal.{Goal}
-use Rattle.metis_universe.specs.GoalWords.{goal_word}
-use Rattle.metis_universe.specs.Goals.{AttainsGoals, IsGoalOf}
-use Rattle.metis_universe.specs.Universe.{Universe}
-use Rattle.metis_why.specs.Confirm.{verdict}
+use Rattle.metis_universe.specs.Terms.{AttainsGoals, IsGoalOf, Universe, goal_word}
+use Rattle.metis_why.specs.Terms.{verdict}
 use Rattle.metis_why.specs.declared.confirming.Confirmation.{Confirmation}
 use Rattle.metis_why.specs.declared.confirming.Confirmation.TheVariants as confirmation
 use Rattle.metis_why.specs.declared.reason.Line.{Line}

@@ -2,12 +2,11 @@
 --     AnswersScript u actions script lines status      the actions are a steadfast run, and the lines are the world machine's answers to the lines of the script
 --     Controlled u actions script lines status      that, or the one line is that of the first action that cannot be done, or of the first that is not steadfast
 use Rattle.std.specs.Prelude.{◌≡◌, ◌⊎◌, ℕ, List}
-use Rattle.metis_control.specs.Script.{script_answers}
+use Rattle.metis_control.specs.Terms.{script_answers}
 use Rattle.metis_ids.specs.declared.actions.Action.{Action}
-use Rattle.metis_universe.specs.Steadfast.{IsSteadfastRun}
-use Rattle.metis_universe.specs.Universe.{Universe}
-use Rattle.metis_steady.specs.Steady.{HasBadAction, HasLooseAction}
-use Rattle.metis_tokens.specs.Scripts.{script_lines}
+use Rattle.metis_universe.specs.Terms.{IsSteadfastRun, Universe}
+use Rattle.metis_steady.specs.Terms.{HasBadAction, HasLooseAction}
+use Rattle.metis_tokens.specs.Terms.{script_lines}
 use Rattle.metis_output.specs.declared.status.Status.{Status}
 use Rattle.metis_output.specs.declared.status.Status.TheVariants.{Done}
 

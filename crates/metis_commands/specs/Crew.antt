@@ -5,12 +5,11 @@
 --     Crewed u actions zs lines status      that, or the one line is that of the first action that cannot be done, or of the first that is not steadfast
 use Rattle.std.specs.Prelude.{◌≡◌, ◌⊎◌, ℕ, Bool, List, [], ◌∷◌, ◌++◌, length, map, codes, decimal, if◌then◌else◌}
 use Rattle.metis_ids.specs.declared.actions.Action.{Action}
-use Rattle.metis_universe.specs.Steadfast.{IsSteadfastRun}
-use Rattle.metis_universe.specs.Universe.{Universe}
-use Rattle.metis_crew.specs.Crew.{after_turns, counts_after, done_count, start, turn as answer_to, turns}
+use Rattle.metis_universe.specs.Terms.{IsSteadfastRun, Universe}
+use Rattle.metis_crew.specs.Terms.{after_turns, counts_after, done_count, start, turn as answer_to, turns}
 use Rattle.metis_crew.specs.declared.turn.Turn.{Turn}
 use Rattle.metis_crew.specs.declared.turn.Turn.TheVariants as turn
-use Rattle.metis_steady.specs.Steady.{HasBadAction, HasLooseAction}
+use Rattle.metis_steady.specs.Terms.{HasBadAction, HasLooseAction}
 use Rattle.metis_output.specs.declared.status.Status.{Status}
 use Rattle.metis_output.specs.declared.status.Status.TheVariants.{Done}
 

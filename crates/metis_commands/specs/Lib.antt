@@ -11,3 +11,4 @@ pub mod Sim
 pub mod Waits
 pub mod Waves
 pub mod Why
+pub mod Terms

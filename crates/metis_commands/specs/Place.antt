@@ -11,11 +11,10 @@ use Rattle.std.specs.Prelude.{◌≡◌, ◌⊎◌, ℕ, ◌+◌, List, [], ◌�
 use Rattle.std.specs.List.{filter_map, zip}
 use Rattle.metis_ids.specs.declared.actions.Action.{Action}
 use Rattle.metis_ids.specs.declared.actions.Action.TheVariants.{New}
-use Rattle.metis_place.specs.Placement.{HostLists, IsNoRoom, IsPlacing, PlacingLists, name_of}
-use Rattle.metis_tokens.specs.Line.{added}
-use Rattle.metis_universe.specs.Steadfast.{IsSteadfastRun}
-use Rattle.metis_universe.specs.Universe.{Universe}
-use Rattle.metis_steady.specs.Steady.{HasBadAction, HasLooseAction}
+use Rattle.metis_place.specs.Terms.{HostLists, IsNoRoom, IsPlacing, PlacingLists, name_of}
+use Rattle.metis_tokens.specs.Terms.{added}
+use Rattle.metis_universe.specs.Terms.{IsSteadfastRun, Universe}
+use Rattle.metis_steady.specs.Terms.{HasBadAction, HasLooseAction}
 use Rattle.metis_output.specs.declared.status.Status.{Status}
 use Rattle.metis_output.specs.declared.status.Status.TheVariants.{Done, No}
 

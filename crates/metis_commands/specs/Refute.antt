@@ -2,15 +2,13 @@
 --     judgement_line u v, judgement_status v      the line of a verdict on a set of pairs, and its status
 --     Judged u goals set lines status      the one line is that of the verdict that is true of the set as a refusal of the goals
 use Rattle.std.specs.Prelude.{◌≡◌, ℕ, List, [], ◌∷◌, ◌++◌, codes}
-use Rattle.metis_refusal.specs.Claims.{Tells}
+use Rattle.metis_refusal.specs.Terms.{Tells}
 use Rattle.metis_refusal.specs.declared.verdict.Verdict2.{Verdict2}
 use Rattle.metis_refusal.specs.declared.verdict.Verdict2.TheVariants.{Closed, NotFree, Open, LacksNone}
 use Rattle.metis_ids.specs.declared.goals.Goal.{Goal}
-use Rattle.metis_universe.specs.GoalWords.{goal_word}
-use Rattle.metis_universe.specs.PairWords.{pair_word}
+use Rattle.metis_universe.specs.Terms.{Universe, goal_word, pair_word}
 use Rattle.metis_output.specs.declared.status.Status.{Status}
 use Rattle.metis_output.specs.declared.status.Status.TheVariants.{Done, No}
-use Rattle.metis_universe.specs.Universe.{Universe}
 use Rattle.metis_commands.specs.GoalLine.{word_line}
 
 abbrev pub open_line : List ℕ → List ℕ → List ℕ

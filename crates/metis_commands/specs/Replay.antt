@@ -2,18 +2,17 @@
 --     verdict_line u actions v, verdict_status v      the line of a verdict on these actions, and its status
 --     Replayed u goals actions lines status      the one line is that of the verdict that is true of the actions and the goals
 use Rattle.std.specs.Prelude.{◌≡◌, ℕ, List, [], ◌∷◌, ◌++◌, length, codes, decimal}
-use Rattle.metis_actions.specs.Faults.{fault_text}
+use Rattle.metis_actions.specs.Terms.{fault_text}
 use Rattle.metis_ids.specs.declared.actions.Action.{Action}
-use Rattle.metis_replay.specs.Exact.{Tells}
+use Rattle.metis_replay.specs.Terms.{Tells}
 use Rattle.metis_replay.specs.declared.verdict.Verdict.{Verdict}
 use Rattle.metis_replay.specs.declared.verdict.Verdict.TheVariants.{Good, Bad, Missing}
-use Rattle.metis_tokens.specs.MissingLine.{missing_line}
+use Rattle.metis_tokens.specs.Terms.{missing_line}
 use Rattle.metis_ids.specs.declared.goals.Goal.{Goal}
-use Rattle.metis_universe.specs.GoalWords.{goal_word}
-use Rattle.metis_steady.specs.Steady.{bad_line, standing_after}
+use Rattle.metis_universe.specs.Terms.{Universe, goal_word}
+use Rattle.metis_steady.specs.Terms.{bad_line, standing_after}
 use Rattle.metis_output.specs.declared.status.Status.{Status}
 use Rattle.metis_output.specs.declared.status.Status.TheVariants.{Done, No}
-use Rattle.metis_universe.specs.Universe.{Universe}
 
 -- so many instances stand at the end of so many actions
 abbrev pub good_line : ℕ → ℕ → List ℕ

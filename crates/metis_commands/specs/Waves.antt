@@ -7,12 +7,11 @@
 use Rattle.std.specs.Prelude.{◌≡◌, ◌⊎◌, ℕ, List, [], ◌∷◌, ◌++◌, map, codes, decimal, slice_index_or}
 use Rattle.std.specs.List.{zip}
 use Rattle.metis_ids.specs.declared.actions.Action.{Action}
-use Rattle.metis_tokens.specs.Line.{added, numbered}
-use Rattle.metis_universe.specs.Steadfast.{IsSteadfastRun}
-use Rattle.metis_universe.specs.Universe.{Universe}
-use Rattle.metis_waves.specs.Waves.{AreWaves, WaveLists}
+use Rattle.metis_tokens.specs.Terms.{added, numbered}
+use Rattle.metis_universe.specs.Terms.{IsSteadfastRun, Universe}
+use Rattle.metis_waves.specs.Terms.{AreWaves, WaveLists}
 use Rattle.metis_waves.specs.declared.durations.Durations.{Durations}
-use Rattle.metis_steady.specs.Steady.{HasBadAction, HasLooseAction}
+use Rattle.metis_steady.specs.Terms.{HasBadAction, HasLooseAction}
 use Rattle.metis_output.specs.declared.status.Status.{Status}
 use Rattle.metis_output.specs.declared.status.Status.TheVariants.{Done}
 

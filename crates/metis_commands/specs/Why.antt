@@ -6,17 +6,12 @@ use Rattle.std.specs.Prelude.{◌≡◌, ◌⊎◌, ℕ, List, [], ◌∷◌, co
 use Rattle.std.specs.List.{All}
 use Rattle.metis_ids.specs.declared.goals.Goal.{Goal}
 use Rattle.metis_ids.specs.declared.no_memory.NoMemory.{NoMemory}
-use Rattle.metis_universe.specs.GoalWords.{IsWordable}
-use Rattle.metis_universe.specs.Goals.{AttainsGoals}
-use Rattle.metis_universe.specs.Universe.{Universe}
-use Rattle.metis_why.specs.Barred.{IsWhy}
-use Rattle.metis_why.specs.Choice.{IsByChoice}
-use Rattle.metis_why.specs.Answer.{IsFirstUnattained}
-use Rattle.metis_why.specs.Confirm.{IsTellable}
+use Rattle.metis_universe.specs.Terms.{AttainsGoals, IsWordable, Universe}
+use Rattle.metis_why.specs.Terms.{IsByChoice, IsFirstUnattained, IsTellable, IsWhy}
 use Rattle.metis_why.specs.declared.explaining.Explained.{Explained}
 use Rattle.metis_why.specs.declared.explaining.Explained.TheVariants.{Attained, Lacks}
 use Rattle.metis_why.specs.declared.reason.Line.{Line}
-use Rattle.metis_why_text.specs.WhyText.{why_lines}
+use Rattle.metis_why_text.specs.Terms.{why_lines}
 use Rattle.metis_output.specs.declared.status.Status.{Status}
 use Rattle.metis_output.specs.declared.status.Status.TheVariants.{Done, No}
 

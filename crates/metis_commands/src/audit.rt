@@ -1,15 +1,10 @@
 //! The command that audits the dups of a plan.
 ghost use Rattle.std.specs.Prelude.{◌≡◌, ◌<◌, ◌≤◌, ◌-◌, ◌^◌, ◌∷◌, [], IfOk, codes, false, length, string_bytes};
 ghost use Rattle.std.specs.List.{All};
-ghost use Rattle.metis_commands.specs.Audit.{Audited, AuditedFor, NamesPairOf, audit_line};
-ghost use Rattle.metis_commands.specs.GoalLine.{word_line};
-ghost use Rattle.metis_output.specs.Answers.{Says};
-ghost use Rattle.metis_output.specs.Puts.{Puts};
-ghost use Rattle.metis_text.specs.PlanText.{IsWellFormed};
-ghost use Rattle.metis_text.specs.Reads.{lists_of};
-ghost use Rattle.metis_universe.specs.GoalWords.{IsWordable, goal_word};
-ghost use Rattle.metis_universe.specs.Goals.{IsGoalOf};
-ghost use Rattle.metis_universe.specs.Universe.{pair_count};
+ghost use Rattle.metis_commands.specs.Terms.{Audited, AuditedFor, NamesPairOf, audit_line, word_line};
+ghost use Rattle.metis_output.specs.Terms.{Puts, Says};
+ghost use Rattle.metis_text.specs.Terms.{IsWellFormed, lists_of};
+ghost use Rattle.metis_universe.specs.Terms.{IsGoalOf, IsWordable, goal_word, pair_count};
 
 use crate::goal_line::goal_line;
 use metis_audit::{Answer as AuditAnswer, audit};

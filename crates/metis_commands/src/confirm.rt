@@ -1,11 +1,10 @@
 //! The command that checks an explanation.
 ghost use Rattle.std.specs.Prelude.{◌≡◌, ◌<◌, ◌^◌, IfOk, length, string_bytes};
 ghost use Rattle.std.specs.List.{All};
-ghost use Rattle.metis_commands.specs.Confirm.{Confirms, IsSayable, confirmation_line};
-ghost use Rattle.metis_output.specs.Answers.{Says};
-ghost use Rattle.metis_output.specs.Puts.{Puts};
-ghost use Rattle.metis_universe.specs.Goals.{IsGoalOf};
-ghost use Rattle.metis_why.specs.Confirm.{IsLineOf};
+ghost use Rattle.metis_commands.specs.Terms.{Confirms, IsSayable, confirmation_line};
+ghost use Rattle.metis_output.specs.Terms.{Puts, Says};
+ghost use Rattle.metis_universe.specs.Terms.{IsGoalOf};
+ghost use Rattle.metis_why.specs.Terms.{IsLineOf};
 
 use crate::goal_line::goal_line;
 use metis_ids::{Goal, NoMemory};

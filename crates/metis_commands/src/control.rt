@@ -1,9 +1,8 @@
 //! The command that runs a controller and agents over a net that its script decides.
 ghost use Rattle.std.specs.Prelude.{◌≤◌, IfOk, length};
-ghost use Rattle.metis_commands.specs.Control.{Controlled};
-ghost use Rattle.metis_output.specs.Answers.{Says};
-ghost use Rattle.metis_output.specs.Puts.{Puts};
-ghost use Rattle.metis_steady.specs.Steady.{IsSteady};
+ghost use Rattle.metis_commands.specs.Terms.{Controlled};
+ghost use Rattle.metis_output.specs.Terms.{Puts, Says};
+ghost use Rattle.metis_steady.specs.Terms.{IsSteady};
 
 use metis_control::{AnswerLines, answer_lines};
 use metis_ids::{Action, NoMemory};

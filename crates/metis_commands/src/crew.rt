@@ -1,9 +1,8 @@
 //! The command that lets a crew take turns over a plan.
 ghost use Rattle.std.specs.Prelude.{◌≡◌, IfOk, OnOk, length, string_bytes};
 ghost use Rattle.metis_commands.specs.Crew.{Crewed, lines_left, turn_line};
-ghost use Rattle.metis_output.specs.Answers.{Says};
-ghost use Rattle.metis_output.specs.Puts.{Puts};
-ghost use Rattle.metis_steady.specs.Steady.{IsSteady};
+ghost use Rattle.metis_output.specs.Terms.{Puts, Says};
+ghost use Rattle.metis_steady.specs.Terms.{IsSteady};
 
 use metis_crew::{Crew, Turn};
 use metis_ids::{Action, InstNo, NoMemory};

@@ -1,8 +1,7 @@
 //! A line that names a goal.
 ghost use Rattle.std.specs.Prelude.{◌≡◌, IfOk, string_bytes};
-ghost use Rattle.metis_commands.specs.GoalLine.{word_line};
-ghost use Rattle.metis_universe.specs.GoalWords.{goal_word};
-ghost use Rattle.metis_universe.specs.Goals.{IsGoalOf};
+ghost use Rattle.metis_commands.specs.Terms.{word_line};
+ghost use Rattle.metis_universe.specs.Terms.{IsGoalOf, goal_word};
 
 use metis_ids::Goal;
 use metis_universe::Universe;

@@ -1,6 +1,6 @@
 //! Laws over the definitions.
 ghost use Rattle.std.specs.Prelude.{◌≡◌, ℕ, ◌+◌, List, length};
-ghost use Rattle.metis_commands.specs.Crew.{crew_lines};
+ghost use Rattle.metis_commands.specs.Terms.{crew_lines};
 ghost use Rattle.metis_ids.specs.declared.actions.Action.{Action};
 
 /// What a crew answers has a line for each turn, and one more.

@@ -2,10 +2,8 @@
 ghost use Rattle.std.specs.Prelude.{◌≡◌, ◌≤◌, ◌<◌, ◌-◌, ◌^◌, ◌∷◌, [], IfOk, drop, length};
 ghost use Rattle.std.specs.List.{All};
 ghost use Rattle.metis_commands.specs.Place.{Placed, holds_behind, made_of, no_room_line, on_lines, placed_line, placing_lines};
-ghost use Rattle.metis_output.specs.Answers.{Says};
-ghost use Rattle.metis_output.specs.Puts.{Puts};
-ghost use Rattle.metis_universe.specs.Numbers.{IsOf};
-ghost use Rattle.metis_universe.specs.Universe.{type_count};
+ghost use Rattle.metis_output.specs.Terms.{Puts, Says};
+ghost use Rattle.metis_universe.specs.Terms.{IsOf, type_count};
 
 use metis_ids::{Action, InstNo, Ix, NoMemory};
 use metis_inputs::PlanAnd;

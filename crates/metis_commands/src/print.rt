@@ -1,8 +1,7 @@
 //! The command that prints a universe.
 ghost use Rattle.std.specs.Prelude.{IfOk};
-ghost use Rattle.metis_commands.specs.Print.{Printed};
-ghost use Rattle.metis_output.specs.Answers.{Says};
-ghost use Rattle.metis_output.specs.Puts.{Puts};
+ghost use Rattle.metis_commands.specs.Terms.{Printed};
+ghost use Rattle.metis_output.specs.Terms.{Puts, Says};
 
 use metis_ids::NoMemory;
 use metis_output::{Answer, Lines, Once, Status, finish};

@@ -1,12 +1,10 @@
 //! The command that checks a refusal.
 ghost use Rattle.std.specs.Prelude.{◌≡◌, IfOk, string_bytes};
 ghost use Rattle.std.specs.List.{All};
-ghost use Rattle.metis_commands.specs.Refute.{Judged, judgement_line};
-ghost use Rattle.metis_output.specs.Answers.{Says};
-ghost use Rattle.metis_output.specs.Puts.{Puts};
-ghost use Rattle.metis_refusal.specs.Claims.{NamesOf};
-ghost use Rattle.metis_universe.specs.Goals.{IsGoalOf};
-ghost use Rattle.metis_universe.specs.Universe.{pair_count};
+ghost use Rattle.metis_commands.specs.Terms.{Judged, judgement_line};
+ghost use Rattle.metis_output.specs.Terms.{Puts, Says};
+ghost use Rattle.metis_refusal.specs.Terms.{NamesOf};
+ghost use Rattle.metis_universe.specs.Terms.{IsGoalOf, pair_count};
 
 use crate::goal_line::goal_line;
 use metis_ids::{Goal, NoMemory, PairSet};

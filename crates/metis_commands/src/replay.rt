@@ -1,12 +1,10 @@
 //! The command that replays a plan.
 ghost use Rattle.std.specs.Prelude.{◌≡◌, ◌<◌, ◌-◌, ◌^◌, IfOk, length, string_bytes};
 ghost use Rattle.std.specs.List.{All};
-ghost use Rattle.metis_commands.specs.Replay.{Replayed, verdict_line};
-ghost use Rattle.metis_output.specs.Answers.{Says};
-ghost use Rattle.metis_output.specs.Puts.{Puts};
-ghost use Rattle.metis_replay.specs.Progress.{IsVerdictOf};
-ghost use Rattle.metis_universe.specs.Goals.{IsGoalOf};
-ghost use Rattle.metis_universe.specs.Numbers.{IsOf};
+ghost use Rattle.metis_commands.specs.Terms.{Replayed, verdict_line};
+ghost use Rattle.metis_output.specs.Terms.{Puts, Says};
+ghost use Rattle.metis_replay.specs.Terms.{IsVerdictOf};
+ghost use Rattle.metis_universe.specs.Terms.{IsGoalOf, IsOf};
 
 use metis_ids::{Action, Goal, NoMemory};
 use metis_inputs::GoalsAnd;

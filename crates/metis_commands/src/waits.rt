@@ -1,10 +1,9 @@
 //! The command that gives a plan's actions the waits that they need.
 ghost use Rattle.std.specs.Prelude.{◌<◌, ◌-◌, ◌^◌, IfOk, List, length, ℕ};
-ghost use Rattle.metis_commands.specs.Waits.{Awaited};
-ghost use Rattle.metis_output.specs.Answers.{Says};
-ghost use Rattle.metis_output.specs.Puts.{Puts};
-ghost use Rattle.metis_steady.specs.Steady.{IsSteady};
-ghost use Rattle.metis_text.specs.PlanText.{IsWellFormed};
+ghost use Rattle.metis_commands.specs.Terms.{Awaited};
+ghost use Rattle.metis_output.specs.Terms.{Puts, Says};
+ghost use Rattle.metis_steady.specs.Terms.{IsSteady};
+ghost use Rattle.metis_text.specs.Terms.{IsWellFormed};
 
 use metis_ids::{NoMemory, Plan};
 use metis_inputs::UniverseAnd;

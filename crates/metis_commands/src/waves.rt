@@ -2,10 +2,9 @@
 ghost use Rattle.std.specs.Prelude.{◌≡◌, ◌+◌, ◌<◌, ◌≤◌, ◌-◌, ◌^◌, IfOk, OnOk, drop, length, string_bytes};
 ghost use Rattle.std.specs.List.{All, zip};
 ghost use Rattle.metis_commands.specs.Waves.{Waved, chain_line, durations_of, end_lines, finish_line, schedule_lines, start_line};
-ghost use Rattle.metis_output.specs.Answers.{Says};
-ghost use Rattle.metis_output.specs.Puts.{Puts};
-ghost use Rattle.metis_tokens.specs.Line.{numbered};
-ghost use Rattle.metis_universe.specs.Numbers.{IsOf};
+ghost use Rattle.metis_output.specs.Terms.{Puts, Says};
+ghost use Rattle.metis_tokens.specs.Terms.{numbered};
+ghost use Rattle.metis_universe.specs.Terms.{IsOf};
 
 use metis_ids::{Action, NoMemory};
 use metis_inputs::UniverseAnd;

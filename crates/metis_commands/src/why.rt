@@ -1,11 +1,9 @@
 //! The command that explains why goals are never attained.
 ghost use Rattle.std.specs.Prelude.{IfOk};
 ghost use Rattle.std.specs.List.{All};
-ghost use Rattle.metis_commands.specs.Why.{IsExplained, IsTold, WhyAnswer};
-ghost use Rattle.metis_output.specs.Answers.{Says};
-ghost use Rattle.metis_output.specs.Puts.{Puts};
-ghost use Rattle.metis_universe.specs.GoalWords.{IsWordable};
-ghost use Rattle.metis_universe.specs.Goals.{IsGoalOf};
+ghost use Rattle.metis_commands.specs.Terms.{IsExplained, IsTold, WhyAnswer};
+ghost use Rattle.metis_output.specs.Terms.{Puts, Says};
+ghost use Rattle.metis_universe.specs.Terms.{IsGoalOf, IsWordable};
 
 use metis_ids::{Goal, NoMemory};
 use metis_inputs::Asked;

@@ -10,10 +10,8 @@ use Rattle.metis_layers.proofs.Going.{type_provides-own, type_requires-own}
 use Rattle.metis_rollout.proofs.Going.{Unpointed}
 use Rattle.metis_rollout.proofs.Quiet.{all_among, is_in}
 use Rattle.metis_universe.proofs.Edits.{is_bound-remove, is_bound-tie, is_bound-untie, pair_of-put, pair_of-remove}
-use Rattle.metis_universe.specs.Config.{Binding, Config, Correct, is_bound, is_tie, names, pair_of, put, remove, tie, untie}
-use Rattle.metis_universe.specs.Universe.{IsUniverse, Universe, has, initial_of, is_initial, next_of, no_kind, no_pair, pair_count, provides, type_count, type_of, type_provides, type_requires}
-use Rattle.metis_completion.specs.Completed.{given_demand, takes_given}
-use Rattle.metis_universe.specs.Residual.{residual}
+use Rattle.metis_universe.specs.Terms.{Binding, Config, Correct, IsUniverse, Universe, has, initial_of, is_bound, is_initial, is_tie, names, next_of, no_kind, no_pair, pair_count, pair_of, provides, put, remove, residual, tie, type_count, type_of, type_provides, type_requires, untie}
+use Rattle.metis_completion.specs.Terms.{given_demand, takes_given}
 use Rattle.metis_completion.proofs.Beside.{AreBeside, IsNewSide, IsOldSide, beside_correct, given_old, new_unbound, none_given, old_unbound, takes_none, unpointed_beside}
 use Rattle.metis_completion.proofs.Binding.{Fits, IsReady, hop_bound, hop_end, hop_pair}
 use Rattle.metis_completion.proofs.Front.{empty_front}

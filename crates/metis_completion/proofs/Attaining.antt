@@ -10,18 +10,11 @@ use Rattle.metis_ids.specs.declared.goals.Goal.TheVariants.{Pair, Port}
 use Rattle.metis_layers.proofs.LayerFacts.{found, provider_by}
 use Rattle.metis_layers.proofs.Order.{attained_set, deploys}
 use Rattle.metis_layers.proofs.Standing.{layer_in}
-use Rattle.metis_layers.specs.LayerOrder.{attained_pairs, layer_order}
+use Rattle.metis_layers.specs.Terms.{attained_pairs, layer_order}
 use Rattle.metis_universe.proofs.Correctness.{all_from_has}
 use Rattle.metis_universe.proofs.Rounds.{layer_of-least}
 use Rattle.metis_universe.proofs.Served.{count-cons}
-use Rattle.metis_universe.specs.Config.{empty}
-use Rattle.metis_universe.specs.Goal.{Attains, Holds, holding}
-use Rattle.metis_universe.specs.Goals.{lacks}
-use Rattle.metis_universe.specs.Layers.{IsLeastRound, is_enabled, is_provided, is_supplied, layer_of, layer_set, layered}
-use Rattle.metis_universe.specs.Selection.{provider_of}
-use Rattle.metis_universe.specs.Step.{after_all}
-use Rattle.metis_universe.specs.Universe.{IsUniverse, Universe, all_pairs, has, is_empty, is_free, is_initial, next_of, no_pair, pair_at, pair_count, provides, required_of}
-use Rattle.metis_universe.specs.Residual.{required_left, residual}
+use Rattle.metis_universe.specs.Terms.{Attains, Holds, IsLeastRound, IsUniverse, Universe, after_all, all_pairs, empty, has, holding, is_empty, is_enabled, is_free, is_initial, is_provided, is_supplied, lacks, layer_of, layer_set, layered, next_of, no_pair, pair_at, pair_count, provider_of, provides, required_left, required_of, residual}
 use Rattle.metis_completion.proofs.ResidualRows.{no_row_left, required_before, residual_is_universe, residual_next, residual_pairs, residual_provides, row_left}
 
 some_counted : (t : ℕ → Bool) (xs : List ℕ) → list_any t xs ≡ true → 1 ≤ count_by t xs

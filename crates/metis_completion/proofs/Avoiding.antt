@@ -7,11 +7,7 @@ use Rattle.metis_ids.specs.declared.actions.Action.TheVariants.{Bind}
 use Rattle.metis_layers.proofs.Going.{GoesOn, at}
 use Rattle.metis_rollout.proofs.Going.{going_from_steady}
 use Rattle.metis_universe.proofs.Demands.{some_provides}
-use Rattle.metis_universe.specs.Config.{empty, pair_of}
-use Rattle.metis_universe.specs.Residual.{residual}
-use Rattle.metis_universe.specs.Steadfast.{IsSteadfastRun, is_steadfast_after}
-use Rattle.metis_universe.specs.Step.{after_all}
-use Rattle.metis_universe.specs.Universe.{Universe, has, provides}
+use Rattle.metis_universe.specs.Terms.{IsSteadfastRun, Universe, after_all, empty, has, is_steadfast_after, pair_of, provides, residual}
 use Rattle.metis_completion.proofs.ResidualRows.{provided_before, provided_unavoided, residual_after_all}
 
 steady_there : (u : Universe) (done xs : List Action) (a : Action) (rest : List Action) → GoesOn u done (xs ++ a ∷ rest) → is_steadfast_after u (done ++ xs) a ≡ true

@@ -9,10 +9,8 @@ use Rattle.metis_rollout.proofs.Going.{Unpointed}
 use Rattle.metis_rollout.proofs.Serving.{served_still}
 use Rattle.metis_ids.proofs.Options.{IsSome_at}
 use Rattle.metis_universe.proofs.Demands.{demand_none}
-use Rattle.metis_universe.specs.Config.{Config, Correct, IsConfig, IsMet, is_bound, pair_of}
-use Rattle.metis_universe.specs.Universe.{Universe, demand_of, has, is_initial, requires}
-use Rattle.metis_completion.specs.Completed.{AreGiven, given_demand, takes_given}
-use Rattle.metis_universe.specs.Residual.{residual}
+use Rattle.metis_universe.specs.Terms.{Config, Correct, IsConfig, IsMet, Universe, demand_of, has, is_bound, is_initial, pair_of, requires, residual}
+use Rattle.metis_completion.specs.Terms.{AreGiven, given_demand, takes_given}
 use Rattle.metis_completion.proofs.Front.{append_differs, front_differs, rising_differ}
 use Rattle.metis_completion.proofs.GivenSlots.{given_demand-few}
 use Rattle.metis_completion.proofs.ResidualRows.{provided_before, residual_demand}

@@ -8,22 +8,17 @@ use Rattle.std.proofs.lemmas.List.Folds.{list_any-append}
 use Rattle.metis_ids.specs.declared.actions.Action.{Action}
 use Rattle.metis_ids.specs.declared.actions.Action.TheVariants.{New, Delete, Bind, Unbind, Move}
 use Rattle.metis_layers.proofs.Going.{GoesOn, GoesOn-append, after_all-append, at, at-next}
-use Rattle.metis_layers.specs.SlotLines.{slot_binds, slot_unbinds}
+use Rattle.metis_layers.specs.Terms.{slot_binds, slot_unbinds}
 use Rattle.metis_rollout.proofs.Going.{Unpointed, Unpointed-standing, going_from_steady, steady_from_going}
 use Rattle.metis_rollout.proofs.Quiet.{QuietFrom, quiet_goes}
 use Rattle.metis_rollout.proofs.Together.{fresh_goes, fresh_renamed, fresh_unused, touches_made, touches_own}
 use Rattle.metis_rollout.proofs.Touching.{AllTouch, AllTouch-append, At, Touches, pair_touched}
-use Rattle.metis_rollout.specs.Rollout.{bind, fresh_name, renumbered, unbind}
-use Rattle.metis_rollout.specs.Standing.{IsRenamed, is_made}
+use Rattle.metis_rollout.specs.Terms.{IsRenamed, bind, fresh_name, is_made, renumbered, unbind}
 use Rattle.metis_universe.proofs.Demands.{some_provides}
 use Rattle.metis_universe.proofs.Kept.{IsConfig-after, IsConfig-after_all, IsConfig-empty}
 use Rattle.metis_universe.proofs.Places.{Correct-empty}
-use Rattle.metis_universe.specs.Config.{Config, Correct, IsConfig, empty, is_bound, pair_of}
-use Rattle.metis_universe.specs.Steadfast.{IsSteadfastRun, is_new, is_steadfast_after}
-use Rattle.metis_universe.specs.Step.{Allows, IsRun, after, after_all}
-use Rattle.metis_universe.specs.Universe.{IsUniverse, Universe, has, next_of, provides, type_of, type_provides, type_requires}
-use Rattle.metis_completion.specs.Completed.{AreGiven, IsBeside, completed, completed_action, given_gained, given_holder, takes_given}
-use Rattle.metis_universe.specs.Residual.{residual}
+use Rattle.metis_universe.specs.Terms.{Allows, Config, Correct, IsConfig, IsRun, IsSteadfastRun, IsUniverse, Universe, after, after_all, empty, has, is_bound, is_new, is_steadfast_after, next_of, pair_of, provides, residual, type_of, type_provides, type_requires}
+use Rattle.metis_completion.specs.Terms.{AreGiven, IsBeside, completed, completed_action, given_gained, given_holder, takes_given}
 use Rattle.metis_completion.proofs.Acting.{beside_bind, beside_delete, beside_move, beside_new, beside_unbind, move_ready}
 use Rattle.metis_completion.proofs.Beside.{AreBeside, IsNewSide, IsOldSide, beside_correct, bound_new, unpointed_beside}
 use Rattle.metis_completion.proofs.Binding.{binds_are, hop_quiet, unbinds_are}

@@ -5,8 +5,7 @@ use Rattle.std.specs.Ordering.{nat_cmp}
 use Rattle.std.proofs.lemmas.Bool.{and_from, and_parts, cases_lt, both_ways, eqb-true, false_from_ne_true, false≢true, not-true, or_cases, or_from, or_right}
 use Rattle.std.proofs.lemmas.Map.Keys.{below_from_sorted, sorted_from_strictly_increasing}
 use Rattle.metis_ids.proofs.Lists.{has-append, has_here, has_take, none_above}
-use Rattle.metis_universe.specs.Config.{AreDifferent}
-use Rattle.metis_universe.specs.Universe.{has}
+use Rattle.metis_universe.specs.Terms.{AreDifferent, has}
 
 -- what is in the front stands at a place there
 pub in_front : (n : ℕ) (xs : List ℕ) (y : ℕ) → has (take n xs) y ≡ true → (j : ℕ) × (j < n) × (j < length xs) × (get_or xs j 0 ≡ y)

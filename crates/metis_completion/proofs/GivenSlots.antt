@@ -10,12 +10,11 @@ use Rattle.std.proofs.lemmas.Bool.Decides.{nat_tests}
 use Rattle.std.proofs.lemmas.List.{map-append}
 use Rattle.std.proofs.lemmas.Map.Keys.{sorted_from_strictly_increasing}
 use Rattle.metis_ids.proofs.Lists.{any_alike, any_at, has_range, in_range, list_any-flat_map, list_any-map, some_member}
-use Rattle.metis_layers.specs.SlotLines.{slots_above}
+use Rattle.metis_layers.specs.Terms.{slots_above}
 use Rattle.metis_rollout.proofs.Quiet.{is_in}
 use Rattle.metis_universe.proofs.Demands.{demand_none}
-use Rattle.metis_universe.specs.Config.{Binding, binding_cmp, is_tie}
-use Rattle.metis_universe.specs.Universe.{Universe, demand_of, has, is_initial, required_of, requires}
-use Rattle.metis_completion.specs.Completed.{given_demand, given_gained, given_holder}
+use Rattle.metis_universe.specs.Terms.{Binding, Universe, binding_cmp, demand_of, has, is_initial, is_tie, required_of, requires}
+use Rattle.metis_completion.specs.Terms.{given_demand, given_gained, given_holder}
 use Rattle.metis_completion.proofs.Binding.{ties}
 use Rattle.metis_completion.proofs.Front.{passed_slot, rises, slot_passed}
 

@@ -8,21 +8,14 @@ use Rattle.std.proofs.lemmas.List.Elements.{All-from_recursion, filter-append, r
 use Rattle.metis_ids.proofs.Lists.{all_at, has_at, has_here, has_take}
 use Rattle.metis_ids.specs.declared.actions.Action.{Action}
 use Rattle.metis_ids.specs.declared.actions.Action.TheVariants.{New, Delete, Bind, Unbind, Move}
-use Rattle.metis_layers.specs.SlotLines.{slot_binds, slot_unbinds, slots_above}
+use Rattle.metis_layers.specs.Terms.{slot_binds, slot_unbinds, slots_above}
 use Rattle.metis_rollout.proofs.Each.{each_append}
 use Rattle.metis_rollout.proofs.Going.{going_from_steady}
 use Rattle.metis_rollout.proofs.Together.{touches_own}
 use Rattle.metis_rollout.proofs.Touching.{AllTouch, At, Touches, bound_touched}
-use Rattle.metis_rollout.specs.Rollout.{news_of}
-use Rattle.metis_rollout.specs.Standing.{is_made}
-use Rattle.metis_universe.specs.Config.{Config, empty, is_bound, pair_of}
-use Rattle.metis_universe.specs.Numbers.{IsOf}
-use Rattle.metis_universe.specs.Steadfast.{IsSteadfastRun}
-use Rattle.metis_universe.specs.Step.{after_all}
-use Rattle.metis_universe.specs.Universe.{IsUniverse, Universe, has, no_pair, pair_count, port_count, required_of, requires}
-use Rattle.metis_completion.specs.Completed.{IsBeside, completed, completed_action, given_demand, given_gained, given_holder, takes_given}
-use Rattle.metis_completion.specs.Fresh.{IsNewOrGiven, KeepsTo, besides_ties, is_tie_action}
-use Rattle.metis_universe.specs.Residual.{residual}
+use Rattle.metis_rollout.specs.Terms.{is_made, news_of}
+use Rattle.metis_universe.specs.Terms.{Config, IsOf, IsSteadfastRun, IsUniverse, Universe, after_all, empty, has, is_bound, no_pair, pair_count, pair_of, port_count, required_of, requires, residual}
+use Rattle.metis_completion.specs.Terms.{IsBeside, IsNewOrGiven, KeepsTo, besides_ties, completed, completed_action, given_demand, given_gained, given_holder, is_tie_action, takes_given}
 use Rattle.metis_completion.proofs.Front.{empty_front}
 use Rattle.metis_completion.proofs.GivenSlots.{given_demand-few, given_demand-none}
 use Rattle.metis_completion.proofs.ResidualRows.{residual_after_all}

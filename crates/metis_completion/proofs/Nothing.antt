@@ -8,13 +8,12 @@ use Rattle.std.proofs.lemmas.List.FromFn.{get_or-map-range_with_len, length-map-
 use Rattle.metis_ids.proofs.Lists.{has_at}
 use Rattle.metis_ids.specs.declared.actions.Action.{Action}
 use Rattle.metis_ids.specs.declared.actions.Action.TheVariants.{New, Delete, Bind, Unbind, Move}
-use Rattle.metis_layers.specs.SlotLines.{slot_binds, slot_unbinds, slots_above}
+use Rattle.metis_layers.specs.Terms.{slot_binds, slot_unbinds, slots_above}
 use Rattle.metis_universe.proofs.Sought.{own_place}
-use Rattle.metis_universe.specs.Universe.{IsUniverse, Pair, Universe, all_pairs, demand_in, demand_of, has, is_initial, no_pair, pair_at, pair_count, required_of}
-use Rattle.metis_completion.specs.Completed.{completed, completed_action, given_demand, given_gained, given_holder}
+use Rattle.metis_universe.specs.Terms.{IsUniverse, Pair, Universe, all_pairs, demand_in, demand_of, further_left, has, is_initial, is_left, no_pair, pair_at, pair_count, required_left, required_of, residual, residual_row}
+use Rattle.metis_completion.specs.Terms.{completed, completed_action, given_demand, given_gained, given_holder}
 use Rattle.metis_completion.proofs.ResidualRows.{demand_left}
 use Rattle.metis_rollout.proofs.Guarding.{filter_all}
-use Rattle.metis_universe.specs.Residual.{further_left, is_left, required_left, residual, residual_row}
 
 abbrev none_given : ℕ → ℕ
 none_given r = 0

@@ -13,10 +13,7 @@ use Rattle.metis_ids.proofs.Lists.{has-filter, in_range, list_any-map, some_memb
 use Rattle.metis_ids.specs.declared.actions.Action.{Action}
 use Rattle.metis_ids.specs.declared.actions.Action.TheVariants.{New, Delete, Bind, Unbind, Move}
 use Rattle.metis_universe.proofs.Demands.{demand_none, demand_one}
-use Rattle.metis_universe.specs.Config.{Config}
-use Rattle.metis_universe.specs.Step.{after, after_all}
-use Rattle.metis_universe.specs.Universe.{IsUniverse, Pair, Universe, all_pairs, demand_in, demand_of, further_of, has, initial_of, is_initial, next_of, no_pair, pair_at, pair_count, port_count, provided_of, provides, required_of, requires, state_name_of, type_count, type_of, type_provides, type_requires}
-use Rattle.metis_universe.specs.Residual.{further_left, is_left, required_left, residual, residual_row}
+use Rattle.metis_universe.specs.Terms.{Config, IsUniverse, Pair, Universe, after, after_all, all_pairs, demand_in, demand_of, further_left, further_of, has, initial_of, is_initial, is_left, next_of, no_pair, pair_at, pair_count, port_count, provided_of, provides, required_left, required_of, requires, residual, residual_row, state_name_of, type_count, type_of, type_provides, type_requires}
 
 -- how many providers of the port are left to be demanded
 abbrev pub demand_left : (ℕ → ℕ) → Pair → ℕ → ℕ

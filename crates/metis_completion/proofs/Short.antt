@@ -8,29 +8,22 @@ use Rattle.std.proofs.lemmas.Option.{none-some, same_Some}
 use Rattle.std.proofs.lemmas.List.{get_or-map, get_or_past, length-map, same_lists}
 use Rattle.std.proofs.lemmas.List.FromFn.{length-range_with_len}
 use Rattle.std.proofs.lemmas.List.Sums.{sum_by-cons}
-use Rattle.metis_ids.specs.Action.{actor_of}
+use Rattle.metis_ids.specs.Terms.{actor_of}
 use Rattle.metis_ids.proofs.Lists.{all_at, each_has, each_weaker, has_here}
 use Rattle.metis_ids.proofs.Tests.{eq_comm}
 use Rattle.metis_ids.specs.declared.actions.Action.{Action}
 use Rattle.metis_ids.specs.declared.actions.Action.TheVariants.{New, Delete, Bind, Unbind, Move}
 use Rattle.metis_layers.proofs.Going.{GoesOn, at, at-next}
 use Rattle.metis_layers.proofs.TypeWeights.{is_of, kept_besides, kept_more, type_weight, weight}
-use Rattle.metis_layers.specs.LayerOrder.{instances_of}
-use Rattle.metis_layers.specs.SlotLines.{slot_binds, slot_unbinds, slots_above}
+use Rattle.metis_layers.specs.Terms.{instances_of, slot_binds, slot_unbinds, slots_above}
 use Rattle.metis_rollout.proofs.Going.{going_from_steady}
 use Rattle.metis_rollout.proofs.Together.{has-news, touches_own}
 use Rattle.metis_rollout.proofs.Touching.{AllTouch, At, Touches}
-use Rattle.metis_rollout.specs.Rollout.{news_of, renumber}
-use Rattle.metis_rollout.specs.Standing.{is_made}
+use Rattle.metis_rollout.specs.Terms.{is_made, news_of, renumber}
 use Rattle.metis_universe.proofs.Attained.{pair_in}
 use Rattle.metis_universe.proofs.Frames.{pair_of-after, pair_step}
-use Rattle.metis_universe.specs.Config.{AreDifferent, Config, empty, pair_of}
-use Rattle.metis_universe.specs.Steadfast.{IsSteadfastRun, is_new, is_steadfast_after}
-use Rattle.metis_universe.specs.Step.{Allows, IsRun, after}
-use Rattle.metis_universe.specs.Universe.{IsUniverse, IsWithinLimits, Universe, all_pairs, demand_of, demand_total, further_of, has, initial_of, is_initial, next_of, no_pair, pair_at, pair_count, required_of, type_of}
-use Rattle.metis_completion.specs.Completed.{completed, completed_action, given_demand, given_gained, given_holder}
-use Rattle.metis_completion.specs.Fresh.{EntersOnce, entered}
-use Rattle.metis_universe.specs.Residual.{residual}
+use Rattle.metis_universe.specs.Terms.{Allows, AreDifferent, Config, IsRun, IsSteadfastRun, IsUniverse, IsWithinLimits, Universe, after, all_pairs, demand_of, demand_total, empty, further_of, has, initial_of, is_initial, is_new, is_steadfast_after, next_of, no_pair, pair_at, pair_count, pair_of, required_of, residual, type_of}
+use Rattle.metis_completion.specs.Terms.{EntersOnce, completed, completed_action, entered, given_demand, given_gained, given_holder}
 use Rattle.metis_completion.proofs.Nothing.{demand_there}
 use Rattle.metis_completion.proofs.ResidualRows.{residual_next}
 

@@ -5,11 +5,10 @@ use Rattle.std.proofs.lemmas.List.{get_or_read, map-append}
 use Rattle.std.proofs.lemmas.List.FromFn.{map-range_with_len_more}
 use Rattle.metis_ids.specs.declared.actions.Action.{Action}
 use Rattle.metis_layers.proofs.SlotLists.{slots_of}
-use Rattle.metis_layers.specs.SlotLines.{slots_above}
+use Rattle.metis_layers.specs.Terms.{slots_above}
 use Rattle.metis_rollout.proofs.Required.{slots_more}
-use Rattle.metis_universe.specs.Universe.{Universe}
-use Rattle.metis_completion.specs.Completed.{given_demand, given_holder}
-use Rattle.metis_completion.specs.Ties.{slot_ties, tie_action}
+use Rattle.metis_universe.specs.Terms.{Universe}
+use Rattle.metis_completion.specs.Terms.{given_demand, given_holder, slot_ties, tie_action}
 use Rattle.metis_completion.specs.declared.tie.Tie.{Tie}
 
 -- the slots of these ports that q takes and p does not

@@ -13,11 +13,9 @@ use Rattle.std.specs.List.Sorted.{IsStrictlyIncreasing}
 use Rattle.std.specs.Option.{option_map_or}
 use Rattle.metis_ids.specs.declared.actions.Action.{Action}
 use Rattle.metis_ids.specs.declared.actions.Action.TheVariants.{New, Delete, Bind, Unbind, Move}
-use Rattle.metis_universe.specs.Universe.{Universe, demand_of, has, is_initial, provides, required_of}
-use Rattle.metis_universe.specs.Config.{Config, empty, is_bound, pair_of}
-use Rattle.metis_universe.specs.Step.{after_all}
-use Rattle.metis_layers.specs.SlotLines.{slot_binds, slot_unbinds, slots_above}
-use Rattle.metis_rollout.specs.Standing.{is_made}
+use Rattle.metis_universe.specs.Terms.{Config, Universe, after_all, demand_of, empty, has, is_bound, is_initial, pair_of, provides, required_of}
+use Rattle.metis_layers.specs.Terms.{slot_binds, slot_unbinds, slots_above}
+use Rattle.metis_rollout.specs.Terms.{is_made}
 
 -- an initial pair takes none: there an instance is made before it is bound
 abbrev pub given_demand : Universe → (ℕ → List ℕ) → ℕ → ℕ → ℕ

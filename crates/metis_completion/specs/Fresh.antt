@@ -9,9 +9,8 @@ use Rattle.std.specs.Prelude.{ℕ, ◌==◌, ◌⊎◌, Bool, true, false, not, 
 use Rattle.std.specs.List.{filter_map}
 use Rattle.metis_ids.specs.declared.actions.Action.{Action}
 use Rattle.metis_ids.specs.declared.actions.Action.TheVariants.{New, Delete, Bind, Unbind, Move}
-use Rattle.metis_universe.specs.Config.{AreDifferent}
-use Rattle.metis_universe.specs.Universe.{Universe, has, initial_of}
-use Rattle.metis_rollout.specs.Standing.{is_made}
+use Rattle.metis_universe.specs.Terms.{AreDifferent, Universe, has, initial_of}
+use Rattle.metis_rollout.specs.Terms.{is_made}
 
 abbrev pub IsNewOrGiven : (ℕ → List ℕ) → List Action → ℕ → ℕ → Type 0
 IsNewOrGiven given new r y = IsTrue (is_made new y) ⊎ IsTrue (has (given r) y)

@@ -1,12 +1,9 @@
 //! Fresh actions with the bindings of their instances to given ones.
 ghost use Rattle.std.specs.Prelude.{◌≡◌, ◌≤◌, ◌<◌, ◌++◌, OnOk, length, map};
 ghost use Rattle.std.specs.List.{All};
-ghost use Rattle.metis_universe.specs.Numbers.{IsOf};
-ghost use Rattle.metis_universe.specs.Universe.{pair_count};
-ghost use Rattle.metis_layers.specs.SlotLines.{slots_above};
-ghost use Rattle.metis_completion.specs.Completed.{completed, completed_action, given_demand, given_gained, given_holder};
-ghost use Rattle.metis_completion.specs.Given.{given_in};
-ghost use Rattle.metis_completion.specs.Ties.{slot_ties};
+ghost use Rattle.metis_universe.specs.Terms.{IsOf, pair_count};
+ghost use Rattle.metis_layers.specs.Terms.{slots_above};
+ghost use Rattle.metis_completion.specs.Terms.{completed, completed_action, given_demand, given_gained, given_holder, given_in, slot_ties};
 
 use crate::given::Given;
 use crate::tie::Tie;

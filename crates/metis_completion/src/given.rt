@@ -1,6 +1,6 @@
 //! The standing instances that are given to fresh ones.
 ghost use Rattle.std.specs.Prelude.{◌≡◌, ◌<◌, ◌++◌, ◌∷◌, [], IfOk, OnErr, OnOk, length, replicate, slice_set};
-ghost use Rattle.metis_completion.specs.Given.{given_in};
+ghost use Rattle.metis_completion.specs.Terms.{given_in};
 
 use metis_ids::{InstNo, NoMemory, PortIx};
 use std::alloc::Global;

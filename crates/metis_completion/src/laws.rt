@@ -4,21 +4,10 @@ ghost use Rattle.std.specs.List.{All};
 ghost use Rattle.metis_ids.specs.declared.actions.Action.{Action};
 ghost use Rattle.metis_ids.specs.declared.actions.Action.TheVariants.{Bind};
 ghost use Rattle.metis_ids.specs.declared.goals.Goal.{Goal};
-ghost use Rattle.metis_universe.specs.Config.{Config, empty, is_bound, pair_of};
-ghost use Rattle.metis_universe.specs.Goal.{Attains};
-ghost use Rattle.metis_universe.specs.Goals.{lacks};
-ghost use Rattle.metis_universe.specs.Layers.{layer_set};
-ghost use Rattle.metis_universe.specs.Numbers.{IsOf};
-ghost use Rattle.metis_universe.specs.Selection.{provider_of};
-ghost use Rattle.metis_universe.specs.Steadfast.{IsSteadfastRun};
-ghost use Rattle.metis_universe.specs.Step.{after_all};
-ghost use Rattle.metis_universe.specs.Universe.{Universe, IsUniverse, IsWithinLimits, has, provides, requires};
-ghost use Rattle.metis_layers.specs.LayerOrder.{attained_pairs, instances_of};
-ghost use Rattle.metis_rollout.specs.Rollout.{fresh_name, news_of, renumber, renumbered};
-ghost use Rattle.metis_rollout.specs.Standing.{IsRenamed, is_made};
-ghost use Rattle.metis_completion.specs.Completed.{AreGiven, IsBeside, completed, takes_given};
-ghost use Rattle.metis_completion.specs.Fresh.{EntersOnce, IsNewOrGiven, KeepsTo, besides_ties};
-ghost use Rattle.metis_universe.specs.Residual.{residual};
+ghost use Rattle.metis_universe.specs.Terms.{Attains, Config, IsOf, IsSteadfastRun, IsUniverse, IsWithinLimits, Universe, after_all, empty, has, is_bound, lacks, layer_set, pair_of, provider_of, provides, requires, residual};
+ghost use Rattle.metis_layers.specs.Terms.{attained_pairs, instances_of};
+ghost use Rattle.metis_rollout.specs.Terms.{IsRenamed, fresh_name, is_made, news_of, renumber, renumbered};
+ghost use Rattle.metis_completion.specs.Terms.{AreGiven, EntersOnce, IsBeside, IsNewOrGiven, KeepsTo, besides_ties, completed, takes_given};
 
 /// What is left of a universe's demands is a universe.
 pub fn residual_is_a_universe()

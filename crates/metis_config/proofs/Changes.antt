@@ -4,11 +4,10 @@ use Rattle.std.specs.Prelude.{◌==◌}
 use Rattle.std.specs.Option.{option_map_or}
 use Rattle.std.proofs.lemmas.Bool.{false≢true, both_ways, and_parts, and_from, eqb-true, ne_eqb, cases_lt, false_from_ne_true, le-leb, lt-ltb, le-ltb}
 use Rattle.std.proofs.lemmas.Bool.Decides.{nat_tests}
-use Rattle.metis_universe.specs.Universe.{Universe, demand_of, requires}
-use Rattle.metis_universe.specs.Config.{Config, pair_of, is_bound, is_met, names, put, remove, IsConfig, IsMet, IsProvider, Correct}
+use Rattle.metis_universe.specs.Terms.{Config, Correct, IsConfig, IsMet, IsProvider, Universe, demand_of, is_bound, is_met, names, pair_of, put, remove, requires}
 use Rattle.metis_universe.proofs.Demands.{demand_none, gives, many_bound, provider_gives}
 use Rattle.metis_universe.proofs.Edits.{pair_of-put, pair_of-remove}
-use Rattle.metis_config.specs.Unmet.{demanded, pair_if, is_met_if, is_required, is_unmet, is_lost, IsLeast, IsAtMost, changed, earlier_of}
+use Rattle.metis_config.specs.Terms.{IsAtMost, IsLeast, changed, demanded, earlier_of, is_lost, is_met_if, is_required, is_unmet, pair_if}
 use Rattle.metis_config.proofs.Unmets.{filter-filter, same_count}
 
 -- ---- who meets

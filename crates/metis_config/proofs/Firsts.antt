@@ -5,10 +5,10 @@ use Rattle.std.specs.List.{find, list_any, list_all, AllByRecursion}
 use Rattle.std.specs.Map.{lookup}
 use Rattle.std.proofs.lemmas.Bool.{false≢true, false_from_ne_true, eq-eqb, and_parts, and_from, or_cases, or_left, or_right, lt-ltb, ltb-true}
 use Rattle.std.proofs.lemmas.Option.{none-some}
-use Rattle.metis_universe.specs.Config.{Config, Binding, pair_of, is_bound, is_tie, IsConfig}
+use Rattle.metis_universe.specs.Terms.{Binding, Config, IsConfig, is_bound, is_tie, pair_of}
 use Rattle.metis_universe.proofs.Bindings.{unprovided}
 use Rattle.metis_universe.proofs.Edits.{tie_is}
-use Rattle.metis_config.specs.Clients.{IsIndexed}
+use Rattle.metis_config.specs.Terms.{IsIndexed}
 use Rattle.metis_config.proofs.Indexed.{own_tie}
 use Rattle.metis_config.proofs.Leasts.{each_there}
 use Rattle.metis_config.proofs.Unmets.{found_none}

@@ -2,10 +2,9 @@
 use Rattle.std.proofs.Common.{◌≡◌, ℕ, ◌≤◌, Bool, true, false, cond, not, ◌&&◌, List, [], ◌∷◌, Option, Some, refl, ap, sym, ◌∙◌, nat_eq, nat_lt, arith}
 use Rattle.std.specs.List.{AllByRecursion, filter, find, list_any}
 use Rattle.std.proofs.lemmas.Bool.{and_from, and_parts, both_ways, eqb-true, false≢true, false_from_ne_true, ltb-false, ne_eqb, or_left, or_right}
-use Rattle.metis_universe.specs.Universe.{Universe, demand_of}
-use Rattle.metis_universe.specs.Config.{Config, Binding, Correct, IsConfig, is_tie, pair_of}
+use Rattle.metis_universe.specs.Terms.{Binding, Config, Correct, IsConfig, Universe, demand_of, is_tie, pair_of}
 use Rattle.metis_universe.proofs.Demands.{gives, provider_gives}
-use Rattle.metis_config.specs.Unmet.{demanded, is_met_if, is_required, pair_if}
+use Rattle.metis_config.specs.Terms.{demanded, is_met_if, is_required, pair_if}
 use Rattle.metis_config.proofs.Changes.{other_gives, still_met}
 use Rattle.metis_config.proofs.Indexed.{own_tie}
 use Rattle.metis_config.proofs.Prefixes.{is_from}

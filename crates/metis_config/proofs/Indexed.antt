@@ -8,11 +8,11 @@ use Rattle.std.proofs.lemmas.Bool.{eq-eqb, true≢false}
 use Rattle.std.specs.Ordering.{match_ordering}
 use Rattle.std.specs.declared.cmp.Ordering.TheVariants.{Less, Equal, Greater}
 use Rattle.std.proofs.lemmas.List.Kept.{IsStrictlySortedBy-filter}
-use Rattle.metis_universe.specs.Config.{Config, Binding, config_of, binding_cmp, is_tie, names, put, tie, untie, pair_of, IsConfig}
+use Rattle.metis_universe.specs.Terms.{Binding, Config, IsConfig, binding_cmp, config_of, is_tie, names, pair_of, put, tie, untie}
 use Rattle.metis_universe.proofs.Edits.{is_bound-tie, is_bound-untie, tie_is, binding_cmp_total}
 use Rattle.metis_universe.proofs.Kept.{IsConfig-put, IsConfig-remove, IsConfig-tie, IsConfig-untie}
 use Rattle.metis_universe.proofs.Sorted.{IsStrictlySortedBy-insert_key}
-use Rattle.metis_config.specs.Clients.{IsIndexed, has_client}
+use Rattle.metis_config.specs.Terms.{IsIndexed, has_client}
 
 turned : (a b c : Bool) → (a && b && c) ≡ (c && b && a)
 turned true true true = refl

@@ -10,8 +10,8 @@ use Rattle.std.specs.declared.cmp.Ordering.TheVariants.{Less}
 use Rattle.std.proofs.lemmas.Bool.{and_from, and_parts, both_ways, eq-eqb, eqb-true, false≢true, or_cases, or_left, or_right}
 use Rattle.std.proofs.lemmas.Bool.Decides.{nat_tests}
 use Rattle.std.proofs.lemmas.Option.{none-some}
-use Rattle.metis_universe.specs.Config.{Binding, Config, binding_cmp, IsConfig, is_bound, is_tie, pair_of}
-use Rattle.metis_config.specs.Supply.{IsTallied, key_cmp, weight_at}
+use Rattle.metis_universe.specs.Terms.{Binding, Config, IsConfig, binding_cmp, is_bound, is_tie, pair_of}
+use Rattle.metis_config.specs.Terms.{IsTallied, key_cmp, weight_at}
 use Rattle.metis_config.specs.declared.supply.Supply.{Supply}
 use Rattle.metis_config.proofs.Prefixes.{IsRest, each_after, is_from}
 use Rattle.metis_config.proofs.Providers.{bound-counted}

@@ -12,14 +12,13 @@ use Rattle.std.proofs.lemmas.Bool.Decides.{nat_tests}
 use Rattle.std.proofs.lemmas.List.{get_or_past}
 use Rattle.std.proofs.lemmas.Option.{none-some}
 use Rattle.metis_ids.proofs.Finding.{not_found}
-use Rattle.metis_universe.specs.Universe.{Universe, IsUniverse, demand_of, has, provides, requires, required_of, pair_count, no_pair}
-use Rattle.metis_universe.specs.Config.{Config, pair_of, is_tie, is_met, put, remove, untie, IsConfig, IsMet, Correct}
+use Rattle.metis_universe.specs.Terms.{Config, Correct, IsConfig, IsMet, IsUniverse, Universe, demand_of, has, is_met, is_tie, no_pair, pair_count, pair_of, provides, put, remove, required_of, requires, untie}
 use Rattle.metis_universe.proofs.Edits.{pair_of-put, pair_of-remove, is_bound-untie}
 use Rattle.metis_universe.proofs.Kept.{IsConfig-put, IsConfig-remove, IsConfig-untie}
 use Rattle.metis_universe.proofs.Sorted.{apart_below}
 use Rattle.metis_universe.proofs.Demands.{IsMet-map, is_met-true, met, some_provides}
 use Rattle.metis_universe.proofs.PortRows.{Rises, rises}
-use Rattle.metis_config.specs.Unmet.{demanded, pair_if, is_met_if, is_required, is_unmet, is_lost, unmet, unmet_among, unmet_port, IsLeast, IsAtMost, changed, earlier_of, own_unmet}
+use Rattle.metis_config.specs.Terms.{IsAtMost, IsLeast, changed, demanded, earlier_of, is_lost, is_met_if, is_required, is_unmet, own_unmet, pair_if, unmet, unmet_among, unmet_port}
 use Rattle.metis_config.proofs.Unmets.{filter-filter, same_count, least_is_one}
 use Rattle.metis_config.proofs.Changes.{is_met-put, unmet_changed}
 

@@ -7,7 +7,7 @@ use Rattle.std.specs.declared.cmp.Ordering.TheVariants.{Less}
 use Rattle.std.proofs.lemmas.Bool.{both_ways}
 use Rattle.std.proofs.lemmas.Bool.Decides.{nat_tests}
 use Rattle.std.proofs.lemmas.List.Kept.{IsStrictlySortedBy-filter}
-use Rattle.metis_universe.specs.Config.{Binding, binding_cmp}
+use Rattle.metis_universe.specs.Terms.{Binding, binding_cmp}
 
 -- whether the binding stands at the start or later
 abbrev pub is_from : Binding → Binding → Bool

@@ -10,12 +10,10 @@ use Rattle.std.specs.declared.cmp.Ordering.TheVariants.{Less, Equal, Greater}
 use Rattle.std.proofs.lemmas.Bool.{both_ways, cases_lt, eq-eqb, false≢true, false_from_ne_true, le-leb, le-ltb, lt-leb, lt-ltb, ne_eqb}
 use Rattle.std.proofs.lemmas.Bool.Decides.{nat_tests}
 use Rattle.std.proofs.lemmas.List.Sums.{length-filter, sum_by-cons}
-use Rattle.metis_universe.specs.Universe.{Universe, demand_of, provides, requires}
-use Rattle.metis_universe.specs.Config.{Binding, Config, IsConfig, binding_cmp, config_of, is_bound, is_met, is_tie, pair_of, put, tie, untie}
+use Rattle.metis_universe.specs.Terms.{Binding, Config, IsConfig, Universe, binding_cmp, config_of, demand_of, is_bound, is_met, is_tie, pair_of, provides, put, requires, tie, untie}
 use Rattle.metis_universe.proofs.Demands.{demand_none, demand_one, gives}
 use Rattle.metis_universe.proofs.Edits.{binding_cmp-exact, pair_of-put, pair_of-remove, tie_is}
-use Rattle.metis_config.specs.Supply.{providers_in}
-use Rattle.metis_config.specs.Unmet.{demanded, is_met_if, is_required, pair_if, providers_if}
+use Rattle.metis_config.specs.Terms.{demanded, is_met_if, is_required, pair_if, providers_if, providers_in}
 use Rattle.metis_config.proofs.GivenUp.{each_in, is_in}
 use Rattle.metis_config.proofs.Indexed.{neither, none_tied, own_tie}
 use Rattle.metis_config.proofs.Tallies.{split}

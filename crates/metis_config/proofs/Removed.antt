@@ -2,7 +2,7 @@
 use Rattle.std.proofs.Common.{◌≡◌, ℕ, ◌+◌, ◌<◌, Bool, true, false, cond, not, ◌&&◌, ◌||◌, List, [], ◌∷◌, length, refl, ap, sym, ◌∙◌, nat_eq, inl, inr, arith}
 use Rattle.std.specs.List.{filter, list_any}
 use Rattle.std.proofs.lemmas.Bool.{both_ways, eqb-true, false_from_ne_true, or_cases, or_left, or_right, false≢true}
-use Rattle.metis_universe.specs.Config.{Config, Binding, is_bound, is_tie, names, untie}
+use Rattle.metis_universe.specs.Terms.{Binding, Config, is_bound, is_tie, names, untie}
 use Rattle.metis_universe.proofs.Edits.{tie_is, is_bound-untie}
 use Rattle.metis_config.proofs.Indexed.{none_tied, own_tie}
 

@@ -2,9 +2,9 @@
 use Rattle.std.proofs.Common.{◌≡◌, ℕ, ◌+◌, Bool, true, false, cond, not, ◌&&◌, ◌||◌, List, ◌∷◌, refl, ap, sym, ◌∙◌, subst, nat_eq, arith}
 use Rattle.std.specs.List.Sorted.{IsStrictlySortedBy}
 use Rattle.std.proofs.lemmas.Bool.{and_from, and_parts, both_ways, eq-eqb, eqb-true, false_from_ne_true, false≢true}
-use Rattle.metis_universe.specs.Config.{Binding, is_tie}
+use Rattle.metis_universe.specs.Terms.{Binding, is_tie}
 use Rattle.metis_universe.proofs.Edits.{tie_is}
-use Rattle.metis_config.specs.Clients.{has_client}
+use Rattle.metis_config.specs.Terms.{has_client}
 use Rattle.metis_config.proofs.GivenUp.{is_in}
 use Rattle.metis_config.proofs.Prefixes.{IsRest}
 use Rattle.metis_config.proofs.Providers.{none_like}

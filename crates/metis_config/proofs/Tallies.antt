@@ -8,8 +8,7 @@ use Rattle.std.proofs.lemmas.Map.Made.{lookup-map_values}
 use Rattle.std.specs.Prelude.{option_map, IsSomeAnd, MatchOption, OnErr, OnOk, Result, Ok, Err}
 use Rattle.std.specs.Option.{option_map_or}
 use Rattle.std.specs.Ordering.{is_eq, nat_cmp, ordering_then}
-use Rattle.metis_config.specs.Crowd.{weight}
-use Rattle.metis_config.specs.Supply.{key_cmp, shares_in, shares_of, weight_at, weight_in}
+use Rattle.metis_config.specs.Terms.{key_cmp, shares_in, shares_of, weight, weight_at, weight_in}
 use Rattle.metis_config.specs.declared.supply.Supply.{Supply}
 
 abbrev pub weighed : (ℕ → Bool) → Option Supply → ℕ

@@ -8,12 +8,10 @@ use Rattle.std.specs.declared.cmp.Ordering.TheVariants.{Less}
 use Rattle.std.proofs.lemmas.Bool.{false≢true, both_ways, and_parts, and_from, or_cases, or_left, or_right, eq-eqb, eqb-true, cases_lt, false_from_ne_true}
 use Rattle.std.proofs.lemmas.Bool.Decides.{nat_tests}
 use Rattle.std.proofs.lemmas.List.Elements.{filter_agree}
-use Rattle.metis_universe.specs.Universe.{Universe}
-use Rattle.metis_universe.specs.Config.{Config, Binding, is_bound, is_tie, binding_cmp}
+use Rattle.metis_universe.specs.Terms.{Binding, Config, Universe, binding_cmp, is_bound, is_tie}
 use Rattle.metis_universe.proofs.Edits.{tie_is}
 use Rattle.metis_universe.proofs.Bindings.{own_tie}
-use Rattle.metis_config.specs.Unmet.{demanded, is_met_if, is_required, is_lost, IsLeast, IsAtMost}
-use Rattle.metis_config.specs.Clients.{IsIndexed, has_client}
+use Rattle.metis_config.specs.Terms.{IsAtMost, IsIndexed, IsLeast, demanded, has_client, is_lost, is_met_if, is_required}
 
 -- two tests that agree count alike
 pub same_count : (t t' : Binding → Bool) (bs : List Binding) → ((b : Binding) → t b ≡ t' b) → length (filter t bs) ≡ length (filter t' bs)

@@ -6,9 +6,9 @@ use Rattle.std.proofs.lemmas.Bool.{eqb-true}
 use Rattle.std.proofs.lemmas.List.Sums.{sum_by-cons, sum_by_push}
 use Rattle.std.proofs.lemmas.List.Quantifiers.{position-Some}
 use Rattle.std.proofs.lemmas.List.{get_or_past}
-use Rattle.metis_universe.specs.Universe.{Universe, Pair, has, no_pair, pair_count, provides}
+use Rattle.metis_universe.specs.Terms.{Pair, Universe, has, no_pair, pair_count, provides}
 use Rattle.metis_universe.proofs.TypePlaces.{position-cons}
-use Rattle.metis_config.specs.Crowd.{IsCrowd, total_of, weight}
+use Rattle.metis_config.specs.Terms.{IsCrowd, total_of, weight}
 
 -- each share counts at least one
 pub length-le-total : (ss : List (ℕ × ℕ)) → All (λ s. 0 < s.1) ss → length ss ≤ total_of ss

@@ -1,7 +1,7 @@
 -- The bindings by their providers.
 use Rattle.std.specs.Prelude.{◌≡◌, ℕ, Bool, List, []}
 use Rattle.std.specs.List.Sorted.{IsStrictlySortedBy}
-use Rattle.metis_universe.specs.Config.{Config, Binding, config_of, is_bound, binding_cmp, IsConfig}
+use Rattle.metis_universe.specs.Terms.{Binding, Config, IsConfig, binding_cmp, config_of, is_bound}
 
 -- whether the list has provider, requirer, port
 abbrev pub has_client : List Binding → ℕ → ℕ → ℕ → Bool

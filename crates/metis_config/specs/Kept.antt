@@ -1,7 +1,7 @@
 -- What a configuration keeps beside its instances and bindings, and what a copy of its bindings keeps.
 use Rattle.std.specs.Prelude.{◌≡◌, ℕ, Bool, List}
 use Rattle.std.specs.BTreeMap.{BTreeMap}
-use Rattle.metis_universe.specs.Config.{Binding, Config, config_of}
+use Rattle.metis_universe.specs.Terms.{Binding, Config, config_of}
 use Rattle.metis_config.specs.Clients.{IsIndexed}
 use Rattle.metis_config.specs.Supply.{IsTallied, providers_in, weight_in}
 use Rattle.metis_config.specs.declared.supply.Supply.{Supply}

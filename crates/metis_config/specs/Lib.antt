@@ -4,3 +4,4 @@ pub mod Clients
 pub mod Kept
 pub mod Over
 pub mod Unmet
+pub mod Terms

@@ -9,7 +9,7 @@ use Rattle.std.specs.Map.{lookup}
 use Rattle.std.specs.Option.{option_map_or}
 use Rattle.std.specs.Ordering.{nat_cmp, ordering_then}
 use Rattle.std.specs.declared.cmp.Ordering.{Ordering}
-use Rattle.metis_universe.specs.Config.{Config, pair_of}
+use Rattle.metis_universe.specs.Terms.{Config, pair_of}
 use Rattle.metis_config.specs.Crowd.{weight}
 use Rattle.metis_config.specs.declared.supply.Supply.{Supply}
 use Rattle.metis_config.specs.declared.supply.Supply.TheVariants.{One, Many}

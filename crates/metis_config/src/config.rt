@@ -1,13 +1,8 @@
 //! A configuration, its reads and its edits.
 ghost use Rattle.std.specs.Prelude.{◌≡◌, ◌≢◌, ◌<◌, ◌↔◌, ◌==◌, ℕ, Some, IsTrue, IsFalse, IsSome, IsNone, IfOk, MatchOption, OnOk, OnErr, length, nat_lt, None, []};
 ghost use Rattle.std.specs.List.{list_all, list_any};
-ghost use Rattle.metis_universe.specs.Config.{IsConfig, config_of, empty, Correct, pair_of, is_bound, put, remove, tie, untie};
-ghost use Rattle.metis_universe.specs.Goal.{holding};
-ghost use Rattle.metis_universe.specs.Goals.{serving};
-ghost use Rattle.metis_universe.specs.Universe.{pair_count};
-ghost use Rattle.metis_config.specs.Kept.{AreOver};
-ghost use Rattle.metis_config.specs.Over.{IsOver};
-ghost use Rattle.metis_config.specs.Unmet.{unmet, is_unmet, IsLeast, changed};
+ghost use Rattle.metis_universe.specs.Terms.{Correct, IsConfig, config_of, empty, holding, is_bound, pair_count, pair_of, put, remove, serving, tie, untie};
+ghost use Rattle.metis_config.specs.Terms.{AreOver, IsLeast, IsOver, changed, is_unmet, unmet};
 
 use crate::bindings::Bindings;
 use crate::crowds::Crowds;

@@ -1,8 +1,8 @@
 //! In which pairs some instances are.
 ghost use Rattle.std.specs.Prelude.{◌≡◌, ◌<◌, ◌+◌, ◌==◌, ◌↔◌, ℕ, Bool, [], IsTrue, OnOk, position, length, vec_capacity, ◌^◌, ◌≤◌, ◌++◌, ◌∷◌, if◌then◌else◌};
 ghost use Rattle.std.specs.List.{All, slice_index_or};
-ghost use Rattle.metis_universe.specs.Universe.{provides};
-ghost use Rattle.metis_config.specs.Crowd.{weight, total_of};
+ghost use Rattle.metis_universe.specs.Terms.{provides};
+ghost use Rattle.metis_config.specs.Terms.{total_of, weight};
 
 use metis_ids::{NoMemory, PairIx, PortIx};
 use metis_universe::Universe;

@@ -1,8 +1,7 @@
 //! In which pairs the providers of each port of each requirer are.
 ghost use Rattle.std.specs.Prelude.{◌≡◌, ◌<◌, ◌+◌, ◌==◌, ◌&&◌, ℕ, Bool, IfOk, IsTrue, OnErr, OnOk, if◌then◌else◌};
-ghost use Rattle.metis_universe.specs.Universe.{provides};
-ghost use Rattle.metis_config.specs.Clients.{has_client};
-ghost use Rattle.metis_config.specs.Supply.{weight_at};
+ghost use Rattle.metis_universe.specs.Terms.{provides};
+ghost use Rattle.metis_config.specs.Terms.{has_client, weight_at};
 
 use crate::supply::Supply;
 use metis_ids::{InstNo, NoMemory, PairIx, PortIx};

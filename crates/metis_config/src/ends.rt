@@ -2,8 +2,8 @@
 ghost use Rattle.std.specs.Prelude.{◌≡◌, ◌==◌, ◌&&◌, ℕ, IsFalse, IsSome, IsTrue, MatchOption, [], option_map};
 ghost use Rattle.std.specs.List.{find};
 ghost use Rattle.std.specs.BTreeMap.{get};
-ghost use Rattle.metis_universe.specs.Config.{config_of, is_bound};
-ghost use Rattle.metis_config.specs.Supply.{key_cmp};
+ghost use Rattle.metis_universe.specs.Terms.{config_of, is_bound};
+ghost use Rattle.metis_config.specs.Terms.{key_cmp};
 
 use crate::supply::Supply;
 use metis_ids::{InstNo, PortIx};

@@ -3,12 +3,8 @@
 ghost use Rattle.std.specs.Prelude.{◌≡◌, ◌<◌, ℕ, ◌&&◌, not, if◌then◌else◌, nat_lt, false, Some, None, IsFalse, IsTrue};
 ghost use Rattle.std.specs.List.{find};
 ghost use Rattle.std.specs.Option.{option_map_or};
-ghost use Rattle.metis_universe.specs.Universe.{demand_of, pair_count, provides, required_of};
-ghost use Rattle.metis_universe.specs.Config.{Correct, IsConfig, is_bound, is_met, pair_of};
-ghost use Rattle.metis_config.specs.Over.{IsOver};
-ghost use Rattle.metis_config.specs.Clients.{IsIndexed};
-ghost use Rattle.metis_config.specs.Supply.{providers_in};
-ghost use Rattle.metis_config.specs.Unmet.{demanded, is_met_if, is_required, is_lost, IsLeast, unmet_port, unmet, own_unmet, earlier_of};
+ghost use Rattle.metis_universe.specs.Terms.{Correct, IsConfig, demand_of, is_bound, is_met, pair_count, pair_of, provides, required_of};
+ghost use Rattle.metis_config.specs.Terms.{IsIndexed, IsLeast, IsOver, demanded, earlier_of, is_lost, is_met_if, is_required, own_unmet, providers_in, unmet, unmet_port};
 
 use crate::config::Config;
 use metis_ids::{InstNo, PairIx, PortIx};

@@ -1,8 +1,7 @@
 //! In which pairs the providers of a port are.
 ghost use Rattle.std.specs.Prelude.{◌≡◌, ◌<◌, ◌+◌, ◌==◌, ℕ, Bool, IfOk, IsFalse, IsTrue, OnErr, OnOk, if◌then◌else◌};
-ghost use Rattle.metis_universe.specs.Universe.{provides};
-ghost use Rattle.metis_config.specs.Crowd.{weight};
-ghost use Rattle.metis_config.specs.Supply.{shares_of};
+ghost use Rattle.metis_universe.specs.Terms.{provides};
+ghost use Rattle.metis_config.specs.Terms.{shares_of, weight};
 
 use crate::crowd::{Crowd, counted};
 use metis_ids::{NoMemory, PairIx, PortIx};

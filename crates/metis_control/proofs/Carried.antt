@@ -9,28 +9,24 @@ use Rattle.std.specs.Ordering.{match_ordering}
 use Rattle.std.specs.declared.cmp.Ordering.TheVariants.{Less, Equal, Greater}
 use Rattle.std.proofs.lemmas.Bool.{cases_eq, ne_eqb, false≢true, and_parts, both_ways, cases_Bool, eq-eqb, eqb-true}
 use Rattle.std.proofs.lemmas.Map.Steps.{set_value_same}
-use Rattle.metis_ids.specs.Action.{actor_of}
+use Rattle.metis_ids.specs.Terms.{actor_of}
 use Rattle.metis_ids.specs.declared.actions.Action.{Action}
 use Rattle.metis_ids.proofs.Lists.{filter_short, has_range, range_push}
-use Rattle.metis_universe.specs.Universe.{has, is_empty}
-use Rattle.metis_universe.specs.Waits.{numbers}
+use Rattle.metis_universe.specs.Terms.{has, is_empty, numbers}
 use Rattle.std.specs.List.{filter, range_with_len}
 use Rattle.std.specs.Option.{option_map_or}
 use Rattle.std.proofs.lemmas.Option.{slice_get-get_or}
 use Rattle.std.proofs.lemmas.List.Elements.{filter-append}
-use Rattle.metis_waits.specs.Waits.{is_by}
-use Rattle.metis_crew.specs.Crew.{actor_at, count_of, is_done, is_own, next_of, none_done, one_more, own_numbers, start}
+use Rattle.metis_waits.specs.Terms.{is_by}
+use Rattle.metis_crew.specs.Terms.{actor_at, count_of, is_done, is_own, next_of, none_done, one_more, own_numbers, start}
 use Rattle.metis_crew.proofs.Looked.{by_cmp, known_start, set_is_put}
 use Rattle.metis_crew.proofs.Made.{at_key}
 use Rattle.metis_crew.proofs.Turns.{not_empty}
 use Rattle.metis_crew.proofs.Fronts.{rising_filter}
 use Rattle.std.proofs.lemmas.Bool.Decides.{nat_tests}
 use Rattle.std.proofs.lemmas.List.FromFn.{length-range_with_len}
-use Rattle.metis_control.specs.Owned.{IsRising}
+use Rattle.metis_control.specs.Terms.{AgentState, AreOwned, IsAdded, IsAnswered, IsDoneOrNext, IsOrdered, IsRising, WorldState, after_order, agent_at, came, counts_of, idle, next_number, state_of, with_number, with_packet, with_run}
 use Rattle.metis_crew.proofs.OwnActions.{own_has, own_listed, own_self, rising}
-use Rattle.metis_control.specs.Agent.{AgentState, idle, with_number}
-use Rattle.metis_control.specs.Fields.{AreOwned, IsAdded, agent_at, IsAnswered, IsDoneOrNext, IsOrdered, after_order, counts_of, state_of}
-use Rattle.metis_control.specs.World.{WorldState, came, next_number, with_packet, with_run}
 use Rattle.metis_control.specs.declared.happening.Packet.{Packet}
 use Rattle.metis_control.specs.declared.happening.Packet.TheVariants as packet
 use Rattle.metis_control.specs.declared.happening.Told.{Told}

@@ -3,14 +3,12 @@ use Rattle.std.proofs.Common.{◌≡◌, ℕ, ◌<◌, Bool, true, false, List, 
 use Rattle.std.specs.Prelude.{◌↔◌, slice_get}
 use Rattle.std.proofs.lemmas.Bool.{and_from, and_parts, both_ways, cases_order, false_from_ne_true, lt-ltb}
 use Rattle.metis_ids.specs.declared.actions.Action.{Action}
-use Rattle.metis_universe.specs.Universe.{has}
-use Rattle.metis_universe.specs.Waits.{numbers}
+use Rattle.metis_universe.specs.Terms.{has, numbers}
 use Rattle.metis_crew.proofs.Fronts.{front_end, front_has, has_at}
 use Rattle.metis_crew.proofs.OwnActions.{own_has, own_listed, rising}
-use Rattle.metis_crew.specs.Crew.{is_own, own_numbers}
+use Rattle.metis_crew.specs.Terms.{is_own, own_numbers}
 use Rattle.metis_control.proofs.Orders.{heard_ahead, heard_before, heard_none, heard_now, rise, rises}
-use Rattle.metis_control.specs.Agent.{heard}
-use Rattle.metis_control.specs.Owned.{IsRising}
+use Rattle.metis_control.specs.Terms.{IsRising, heard}
 use Rattle.metis_control.specs.declared.happening.Heard.{Heard}
 use Rattle.metis_control.specs.declared.happening.Heard.TheVariants.{Executed, Again, Ahead, NotMine}
 use Rattle.metis_ids.proofs.Lists.{has_take}

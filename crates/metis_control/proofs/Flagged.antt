@@ -3,8 +3,8 @@ use Rattle.std.proofs.Common.{◌≡◌, ℕ, zero, suc, ◌+◌, ◌-◌, ◌<�
 use Rattle.std.proofs.lemmas.Bool.{and_parts, both_ways, cases_eq, cases_lt, eq-eqb, eqb-true, false≢true, false_from_ne_true, le-leb, leb-true, ne_eqb, or_cases, or_from, or_parts, or_right}
 use Rattle.std.proofs.lemmas.List.{get_or-set_same, get_or-set_other, get_or_past, length-drop, take-append-drop, take-append-le, take_all}
 use Rattle.std.proofs.lemmas.List.Folds.{list_any-append}
-use Rattle.metis_universe.specs.Universe.{has}
-use Rattle.metis_control.specs.Acknowledged.{AreFlagged, IsOnce, flag_at}
+use Rattle.metis_universe.specs.Terms.{has}
+use Rattle.metis_control.specs.Terms.{AreFlagged, IsOnce, flag_at}
 
 pub has_pushed : (xs : List ℕ) (k m : ℕ) → has (xs ++ k ∷ []) m ≡ (has xs m || nat_eq k m)
 has_pushed xs k m = list_any-append (λ x. nat_eq x m) xs (k ∷ []) ∙ right (has xs m) (nat_eq k m) where

@@ -5,16 +5,12 @@ use Rattle.std.specs.List.{find}
 use Rattle.std.proofs.lemmas.Bool.{eqb-true, false≢true, or_cases, and_parts, and_from, cases_Bool, both_ways, le-leb, leb-true, false_from_ne_true}
 use Rattle.metis_ids.specs.declared.actions.Action.{Action}
 use Rattle.metis_ids.proofs.Lists.{has_range, has_take}
-use Rattle.metis_universe.specs.Universe.{has}
-use Rattle.metis_universe.specs.Waits.{IsKeptFrom, numbers, waits}
+use Rattle.metis_universe.specs.Terms.{IsKeptFrom, has, numbers, waits}
 use Rattle.metis_universe.proofs.Ranges.{in_range}
-use Rattle.metis_waits.specs.Waits.{AreWaits, WaitLists, list_of, waits_on_others}
-use Rattle.metis_crew.specs.Crew.{start}
+use Rattle.metis_waits.specs.Terms.{AreWaits, WaitLists, list_of, waits_on_others}
+use Rattle.metis_crew.specs.Terms.{start}
 use Rattle.metis_waits.proofs.Listed.{length-each, list_of-each}
-use Rattle.metis_control.specs.Agent.{AgentState}
-use Rattle.metis_control.specs.Controller.{held, leave}
-use Rattle.metis_control.specs.Fields.{AreOwned, IsAnswered, IsHeard, IsWorld, counts_of, state_of}
-use Rattle.metis_control.specs.World.{IsReached, WorldState, came, first_wait, held_or_sent, next_number, ordered, packet_at, with_acked, with_packet}
+use Rattle.metis_control.specs.Terms.{AgentState, AreOwned, IsAnswered, IsHeard, IsReached, IsWorld, WorldState, came, counts_of, first_wait, held, held_or_sent, leave, next_number, ordered, packet_at, state_of, with_acked, with_packet}
 use Rattle.metis_control.specs.declared.happening.Leave.{Leave}
 use Rattle.metis_control.specs.declared.happening.Leave.TheVariants as left
 use Rattle.metis_control.specs.declared.happening.Packet.{Packet}

@@ -6,11 +6,10 @@ use Rattle.std.specs.List.Sorted.{IsBinarySearchResult}
 use Rattle.std.proofs.lemmas.List.Sorted.{searched}
 use Rattle.std.proofs.lemmas.Option.{slice_get-get_or, none-some, same_Some}
 use Rattle.std.specs.Result.{result_ok}
-use Rattle.metis_universe.specs.Universe.{has}
+use Rattle.metis_universe.specs.Terms.{has}
 use Rattle.metis_crew.proofs.Fronts.{front_has, has_at, low_of}
 use Rattle.metis_crew.proofs.Fronts as fronts
-use Rattle.metis_control.specs.Owned.{IsPlaceOf, IsRising}
-use Rattle.metis_control.specs.Agent.{by_next, heard}
+use Rattle.metis_control.specs.Terms.{IsPlaceOf, IsRising, by_next, heard}
 use Rattle.metis_control.specs.declared.happening.Heard.{Heard}
 use Rattle.metis_control.specs.declared.happening.Heard.TheVariants.{Executed, Again, Ahead, NotMine}
 

@@ -6,14 +6,13 @@ use Rattle.std.specs.Option.{option_map_or}
 use Rattle.std.proofs.lemmas.Bool.{cases_Bool, cases_eq}
 use Rattle.metis_ids.specs.declared.actions.Action.{Action}
 use Rattle.metis_ids.proofs.Lists.{has_range}
-use Rattle.metis_universe.specs.Universe.{has}
-use Rattle.metis_universe.specs.Waits.{numbers, waits}
+use Rattle.metis_universe.specs.Terms.{has, numbers, waits}
 use Rattle.metis_universe.proofs.Correctness.{all_from_has}
 use Rattle.metis_universe.proofs.Ranges.{in_range}
 use Rattle.metis_waits.proofs.LastPlaces.{waits_earlier}
-use Rattle.metis_crew.specs.Crew.{is_done}
+use Rattle.metis_crew.specs.Terms.{is_done}
 use Rattle.metis_crew.proofs.Turns.{find_none}
-use Rattle.metis_control.specs.World.{IsReached, WorldState, after_events, at_first, came, first_wait, hear, held_or_sent, next_number, packet_at, with_acked, with_packet, with_run}
+use Rattle.metis_control.specs.Terms.{IsReached, WorldState, after_events, at_first, came, first_wait, hear, held_or_sent, next_number, packet_at, with_acked, with_packet, with_run}
 use Rattle.metis_control.specs.declared.happening.Happening.{Happening}
 use Rattle.metis_control.specs.declared.happening.Happening.TheVariants as event
 use Rattle.metis_control.specs.declared.happening.Packet.{Packet}

@@ -6,17 +6,16 @@ use Rattle.std.specs.Option.{option_map_or}
 use Rattle.std.proofs.lemmas.Bool.{false≢true, both_ways, not-false, not-true, or_left, or_right, or_cases, or_parts, or_from, eq-eqb, eqb-true, cases_Bool}
 use Rattle.metis_ids.specs.declared.actions.Action.{Action}
 use Rattle.metis_ids.proofs.Lists.{has_range, has_take}
-use Rattle.metis_universe.specs.Universe.{has}
-use Rattle.metis_universe.specs.Waits.{numbers, waits, IsKeptFrom}
+use Rattle.metis_universe.specs.Terms.{IsKeptFrom, has, numbers, waits}
 use Rattle.metis_universe.proofs.Correctness.{all_has, all_from_has}
 use Rattle.metis_universe.proofs.Places.{least_place}
 use Rattle.metis_universe.proofs.Ranges.{in_range}
 use Rattle.metis_waits.proofs.LastPlaces.{waits_earlier}
-use Rattle.metis_crew.specs.Crew.{actor_at, is_done, next_of}
+use Rattle.metis_crew.specs.Terms.{actor_at, is_done, next_of}
 use Rattle.metis_crew.proofs.Counts.{none_are_done, one_more_done}
 use Rattle.metis_crew.proofs.Turns.{find_no, find_none, is_next}
 use Rattle.metis_control.proofs.Flagged.{has_pushed}
-use Rattle.metis_control.specs.World.{IsReached, WorldState, at_first, packet_at, next_number, with_packet, with_acked, with_run, first_wait, held_or_sent, ordered, came, delivered, restarted, hear, after_events}
+use Rattle.metis_control.specs.Terms.{IsReached, WorldState, after_events, at_first, came, delivered, first_wait, hear, held_or_sent, next_number, ordered, packet_at, restarted, with_acked, with_packet, with_run}
 use Rattle.metis_control.specs.declared.happening.Happening.{Happening}
 use Rattle.metis_control.specs.declared.happening.Happening.TheVariants as event
 use Rattle.metis_control.specs.declared.happening.Packet.{Packet}

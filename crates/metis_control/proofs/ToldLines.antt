@@ -8,13 +8,11 @@ use Rattle.metis_ids.specs.declared.actions.Action.{Action}
 use Rattle.metis_outside.proofs.Feeds.{IsLine-from, no_feed-append, one_line}
 use Rattle.metis_output.proofs.LineWords.{by_number, by_three, by_two}
 use Rattle.metis_tokens.proofs.WordFeeds.{no_feed-added_numbers}
-use Rattle.metis_outside.specs.Pieces.{IsLine}
-use Rattle.metis_tokens.specs.Line.{added}
-use Rattle.metis_universe.specs.Universe.{has}
-use Rattle.metis_universe.specs.Waits.{numbers}
-use Rattle.metis_crew.specs.Crew.{is_done}
-use Rattle.metis_control.specs.Script.{after_lines, answer_of, answer_to, answers, counts_line, end_lines, happening_in, ran_line, script_answers, told_line}
-use Rattle.metis_control.specs.World.{WorldState, at_first, came, first_wait, hear, held_or_sent, next_number, packet_at}
+use Rattle.metis_outside.specs.Terms.{IsLine}
+use Rattle.metis_tokens.specs.Terms.{added}
+use Rattle.metis_universe.specs.Terms.{has, numbers}
+use Rattle.metis_crew.specs.Terms.{is_done}
+use Rattle.metis_control.specs.Terms.{WorldState, after_lines, answer_of, answer_to, answers, at_first, came, counts_line, end_lines, first_wait, happening_in, hear, held_or_sent, next_number, packet_at, ran_line, script_answers, told_line}
 use Rattle.metis_control.specs.declared.happening.Happening.{Happening}
 use Rattle.metis_control.specs.declared.happening.Happening.TheVariants as event
 use Rattle.metis_control.specs.declared.happening.Packet.{Packet}

@@ -3,7 +3,7 @@
 --     IsPlaceOf own k found      the place of number k, and none where it is not there
 --     IsAgent own      they rise and are few
 use Rattle.std.specs.Prelude.{◌≡◌, ◌<◌, ◌≤◌, ◌^◌, ℕ, suc, List, [], ◌∷◌, Option, None, Some, IsFalse, length, slice_get, ⊤}
-use Rattle.metis_universe.specs.Universe.{has}
+use Rattle.metis_universe.specs.Terms.{has}
 
 abbrev pub IsRising : ℕ → List ℕ → Type 0
 IsRising b [] = ⊤

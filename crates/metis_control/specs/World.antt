@@ -9,9 +9,8 @@ use Rattle.std.specs.Prelude.{◌≡◌, ℕ, zero, suc, not, if◌then◌else�
 use Rattle.std.specs.List.{find}
 use Rattle.std.specs.Option.{option_map_or}
 use Rattle.metis_ids.specs.declared.actions.Action.{Action}
-use Rattle.metis_universe.specs.Universe.{has}
-use Rattle.metis_universe.specs.Waits.{IsKept, numbers, waits}
-use Rattle.metis_crew.specs.Crew.{actor_at, is_done, one_more, start}
+use Rattle.metis_universe.specs.Terms.{IsKept, has, numbers, waits}
+use Rattle.metis_crew.specs.Terms.{actor_at, is_done, one_more, start}
 use Rattle.metis_control.specs.declared.happening.Happening.{Happening}
 use Rattle.metis_control.specs.declared.happening.Happening.TheVariants as event
 use Rattle.metis_control.specs.declared.happening.Packet.{Packet}

@@ -1,7 +1,7 @@
 //! The acknowledgements that a controller has.
 ghost use Rattle.std.specs.Prelude.{◌≡◌, ◌<◌, ◌≤◌, ◌++◌, ◌∷◌, [], ℕ, ◌-◌, ◌&&◌, IsFalse, IsTrue, IfOk, OnErr, OnOk, false, length, not, slice_set, take, true};
-ghost use Rattle.metis_universe.specs.Universe.{has};
-ghost use Rattle.metis_control.specs.Acknowledged.{flag_at};
+ghost use Rattle.metis_universe.specs.Terms.{has};
+ghost use Rattle.metis_control.specs.Terms.{flag_at};
 
 use metis_ids::NoMemory;
 use std::alloc::Global;

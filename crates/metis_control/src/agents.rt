@@ -3,10 +3,8 @@ ghost use Rattle.std.specs.Prelude.{◌≡◌, ◌<◌, ◌-◌, ◌≤◌, ◌^
 ghost use Rattle.std.specs.List.Sorted.{IsStrictlySortedBy};
 ghost use Rattle.std.specs.Map.{keys_of, lookup};
 ghost use Rattle.std.specs.Ordering.{nat_cmp};
-ghost use Rattle.metis_crew.specs.Crew.{actor_at, start};
-ghost use Rattle.metis_control.specs.Fields.{AreOwned, IsAdded, IsDoneOrNext, IsHeard, IsOrdered, agent_at, counts_of, state_of};
-ghost use Rattle.metis_control.specs.Owned.{IsRising};
-ghost use Rattle.metis_control.specs.World.{came};
+ghost use Rattle.metis_crew.specs.Terms.{actor_at, start};
+ghost use Rattle.metis_control.specs.Terms.{AreOwned, IsAdded, IsDoneOrNext, IsHeard, IsOrdered, IsRising, agent_at, came, counts_of, state_of};
 ghost use Rattle.metis_control.specs.declared.happening.Packet.TheVariants as packet;
 
 use crate::agent::Agent;

@@ -1,9 +1,9 @@
 //! What orders actions and notes their acknowledgements.
 ghost use Rattle.std.specs.Prelude.{◌≡◌, ◌<◌, ◌≤◌, ◌^◌, ◌++◌, ◌∷◌, [], Bool, IfOk, IsFalse, OnErr, if◌then◌else◌, length, nat_lt, not, take};
 ghost use Rattle.std.specs.List.{find};
-ghost use Rattle.metis_universe.specs.Universe.{has};
-ghost use Rattle.metis_waits.specs.Waits.{AreWaits, list_of};
-ghost use Rattle.metis_control.specs.Controller.{leave};
+ghost use Rattle.metis_universe.specs.Terms.{has};
+ghost use Rattle.metis_waits.specs.Terms.{AreWaits, list_of};
+ghost use Rattle.metis_control.specs.Terms.{leave};
 
 use crate::acknowledged::Acknowledged;
 use crate::happening::Leave;

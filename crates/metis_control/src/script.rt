@@ -1,11 +1,9 @@
 //! A script for the world machine: what may happen next, a line each, and the lines of the answers.
 ghost use Rattle.std.specs.Prelude.{◌≡◌, ◌≢◌, ◌<◌, ◌≤◌, ◌+◌, ◌-◌, ◌^◌, ◌++◌, IfOk, OnOk, codes, decimal, length, map, string_bytes};
-ghost use Rattle.metis_control.specs.Script.{answer_to, counts_line, happening_in, happening_of, happens, lines_left, ran_line, script_answers, told_line};
-ghost use Rattle.metis_control.specs.World.{hear};
-ghost use Rattle.metis_outside.specs.Faults.{CountsFault};
-ghost use Rattle.metis_outside.specs.Writes.{Writes};
-ghost use Rattle.metis_tokens.specs.Scripts.{script_lines};
-ghost use Rattle.metis_waits.specs.Waits.{AreWaits};
+ghost use Rattle.metis_control.specs.Terms.{answer_to, counts_line, happening_in, happening_of, happens, hear, lines_left, ran_line, script_answers, told_line};
+ghost use Rattle.metis_outside.specs.Terms.{CountsFault, Writes};
+ghost use Rattle.metis_tokens.specs.Terms.{script_lines};
+ghost use Rattle.metis_waits.specs.Terms.{AreWaits};
 
 use crate::happening::{Happening, Told};
 use crate::world::World;

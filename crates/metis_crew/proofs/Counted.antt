@@ -6,16 +6,12 @@ use Rattle.std.proofs.lemmas.List.FromFn.{length-range_with_len}
 use Rattle.metis_ids.specs.declared.actions.Action.{Action}
 use Rattle.metis_ids.proofs.Lists.{filter_short}
 use Rattle.metis_universe.proofs.Ranges.{in_range}
-use Rattle.metis_universe.specs.Config.{empty}
-use Rattle.metis_universe.specs.Steadfast.{is_steadfast}
-use Rattle.metis_universe.specs.Step.{IsRun, after_all}
-use Rattle.metis_universe.specs.Universe.{Universe}
-use Rattle.metis_universe.specs.Waits.{is_complete, numbers, picked}
+use Rattle.metis_universe.specs.Terms.{IsRun, Universe, after_all, empty, is_complete, is_steadfast, numbers, picked}
 use Rattle.metis_waits.proofs.KeptRuns.{complete_end, kept_end}
 use Rattle.metis_crew.proofs.Counts.{count-insert, done_next, next_left, none_are_done, start_count}
 use Rattle.metis_crew.proofs.OwnActions.{own_actor, own_next}
 use Rattle.metis_crew.proofs.Turns.{IsKept-did, all_did, turn_did}
-use Rattle.metis_crew.specs.Crew.{after_turns, count_of, counts_after, did, done_count, is_done, is_own, next_of, number_done, one_more, start, turn, turns}
+use Rattle.metis_crew.specs.Terms.{after_turns, count_of, counts_after, did, done_count, is_done, is_own, next_of, number_done, one_more, start, turn, turns}
 use Rattle.metis_crew.specs.declared.turn.Turn.{Turn}
 use Rattle.metis_crew.specs.declared.turn.Turn.TheVariants.{Did, WaitsFor, Done, Nobody}
 

@@ -5,14 +5,13 @@ use Rattle.std.specs.Map.{lookup}
 use Rattle.std.specs.Prelude.{unwrap_or}
 use Rattle.std.proofs.lemmas.Bool.{eq-eqb, eqb-true, cases_eq, cases_Bool, false_from_ne_true}
 use Rattle.std.proofs.lemmas.Option.{none-some}
-use Rattle.metis_ids.specs.Action.{actor_of}
+use Rattle.metis_ids.specs.Terms.{actor_of}
 use Rattle.metis_ids.specs.declared.actions.Action.{Action}
-use Rattle.metis_universe.specs.Universe.{has}
+use Rattle.metis_universe.specs.Terms.{config_of, has}
 use Rattle.metis_universe.proofs.Edits.{pair_of-put}
-use Rattle.metis_universe.specs.Config.{config_of}
 use Rattle.metis_crew.proofs.Fronts.{front_end, front_has, front_low, front_next, none_taken}
 use Rattle.metis_crew.proofs.OwnActions.{own_actor, own_listed, own_next, rising}
-use Rattle.metis_crew.specs.Crew.{actor_at, count_of, is_done, is_own, next_of, none_done, one_more, own_done, own_numbers, start}
+use Rattle.metis_crew.specs.Terms.{actor_at, count_of, is_done, is_own, next_of, none_done, one_more, own_done, own_numbers, start}
 
 -- the counts and the list have the same actions done
 abbrev pub AreDone : List Action → List (ℕ × ℕ) → List ℕ → Type 0

@@ -7,14 +7,12 @@ use Rattle.std.proofs.lemmas.Bool.{false≢true, both_ways, cases_order, eq-eqb,
 use Rattle.std.proofs.lemmas.Option.{none-some, same_Some}
 use Rattle.metis_ids.specs.declared.actions.Action.{Action}
 use Rattle.metis_universe.proofs.Correctness.{all_from_has, all_has}
-use Rattle.metis_universe.specs.Universe.{has, is_empty}
-use Rattle.metis_universe.specs.Waits.{action_at, before, is_wait, numbers, waits}
+use Rattle.metis_universe.specs.Terms.{action_at, before, has, is_empty, is_wait, numbers, waits}
 use Rattle.metis_crew.proofs.Counts.{done_all, done_before, done_next, next_left}
 use Rattle.metis_crew.proofs.Fronts.{IsRising, low_of, next_is, rising_filter}
 use Rattle.metis_crew.proofs.OwnActions.{own_actor, own_listed, own_next, rising}
 use Rattle.metis_crew.proofs.Turns.{IsTurn, by_did, by_done, by_nobody, by_wait, find_no, find_none, not_empty, turn_did, turn_done, turn_is, turn_next, turn_nobody}
-use Rattle.metis_crew.specs.Crew.{count_of, is_done, is_own, next_of, one_more, own_done, own_numbers, turn}
-use Rattle.metis_crew.specs.Turn.{HasDoneAll, HasNone, HasWaited, IsLeastLeft, IsNext}
+use Rattle.metis_crew.specs.Terms.{HasDoneAll, HasNone, HasWaited, IsLeastLeft, IsNext, count_of, is_done, is_own, next_of, one_more, own_done, own_numbers, turn}
 use Rattle.metis_crew.specs.declared.turn.Turn.{Turn}
 use Rattle.metis_crew.specs.declared.turn.Turn.TheVariants.{Did, WaitsFor, Done, Nobody}
 

@@ -12,23 +12,20 @@ use Rattle.std.specs.declared.cmp.Ordering.TheVariants.{Less, Equal, Greater}
 use Rattle.std.proofs.lemmas.Bool.{cases_eq, false≢true, eq-eqb, eqb-true, ne_eqb}
 use Rattle.std.proofs.lemmas.List.{at_drop_all, at_drop_more, get_or-set_same, get_or-set_other, length-replicate}
 use Rattle.std.proofs.lemmas.Option.{slice_get_within}
-use Rattle.metis_ids.specs.Action.{actor_of}
+use Rattle.metis_ids.specs.Terms.{actor_of}
 use Rattle.metis_ids.specs.declared.actions.Action.{Action}
 use Rattle.metis_ids.proofs.Lists.{has_at}
 use Rattle.metis_universe.proofs.Edits.{pair_of-put}
 use Rattle.metis_universe.proofs.Ranges.{in_range}
 use Rattle.metis_universe.proofs.Sorted.{below_all}
-use Rattle.metis_universe.specs.Config.{config_of}
-use Rattle.metis_universe.specs.Universe.{has}
-use Rattle.metis_universe.specs.Waits.{waits}
+use Rattle.metis_universe.specs.Terms.{config_of, has, waits}
 use Rattle.metis_waits.proofs.LastPlaces.{waits_earlier}
-use Rattle.metis_waits.specs.Waits.{AreWaits, WaitLists}
+use Rattle.metis_waits.specs.Terms.{AreWaits, WaitLists}
 use Rattle.metis_crew.proofs.Counted.{done_count-next, done_count-start}
 use Rattle.metis_crew.proofs.Counts.{done_next, none_are_done}
 use Rattle.metis_crew.proofs.Made.{at_key}
 use Rattle.metis_crew.proofs.OwnActions.{own_next, own_short}
-use Rattle.metis_crew.specs.Crew.{count_of, done_count, is_done, is_own, next_of, none_done, one_more, own_numbers, start}
-use Rattle.metis_crew.specs.Tables.{AreTables, row_at}
+use Rattle.metis_crew.specs.Terms.{AreTables, count_of, done_count, is_done, is_own, next_of, none_done, one_more, own_numbers, row_at, start}
 
 pub wait_within : (A : List Action) (k m : ℕ) → k ≤ length A → has (waits A k) m ≡ true → (1 ≤ m) × (m ≤ length A)
 wait_within A k m high w = let low = waits_earlier A k m w in (low.0, omega (arith, low.1))

@@ -10,12 +10,11 @@ use Rattle.std.specs.Map.{lookup}
 use Rattle.std.specs.Option.{unwrap_or}
 use Rattle.std.specs.Ordering.{nat_cmp}
 use Rattle.std.proofs.lemmas.List.Elements.{filter-append}
-use Rattle.metis_ids.specs.Action.{actor_of}
+use Rattle.metis_ids.specs.Terms.{actor_of}
 use Rattle.metis_ids.specs.declared.actions.Action.{Action}
 use Rattle.metis_ids.proofs.Lists.{range_push}
-use Rattle.metis_waits.specs.Waits.{is_by}
-use Rattle.metis_crew.specs.Crew.{is_own}
-use Rattle.metis_crew.specs.Tables.{row_at}
+use Rattle.metis_waits.specs.Terms.{is_by}
+use Rattle.metis_crew.specs.Terms.{is_own, row_at}
 
 pub own_more : (A : List Action) (i : ℕ) (a : Action) (rows rows' : List (ℕ × List ℕ)) → slice_get A i ≡ Some a →
     ((z : ℕ) → row_at rows z ≡ filter (is_own A z) (range_with_len 1 i)) →

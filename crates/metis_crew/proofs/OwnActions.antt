@@ -4,17 +4,16 @@ use Rattle.std.specs.Prelude.{slice_get}
 use Rattle.std.specs.Option.{option_map_or}
 use Rattle.std.proofs.lemmas.Bool.{false≢true, and_parts, and_from, eq-eqb, eqb-true}
 use Rattle.std.proofs.lemmas.List.FromFn.{length-range_with_len}
-use Rattle.metis_ids.specs.Action.{actor_of}
+use Rattle.metis_ids.specs.Terms.{actor_of}
 use Rattle.metis_ids.specs.declared.actions.Action.{Action}
 use Rattle.metis_ids.proofs.Lists.{filter_short, has_range}
 use Rattle.metis_universe.proofs.Places.{action_below, place_below}
 use Rattle.metis_universe.proofs.Ranges.{in_range}
 use Rattle.metis_universe.proofs.Rounds.{has-filter}
-use Rattle.metis_universe.specs.Universe.{has}
-use Rattle.metis_universe.specs.Waits.{action_at, numbers}
-use Rattle.metis_waits.specs.Waits.{is_by}
+use Rattle.metis_universe.specs.Terms.{action_at, has, numbers}
+use Rattle.metis_waits.specs.Terms.{is_by}
 use Rattle.metis_crew.proofs.Fronts.{IsRising, has_at, rising_filter}
-use Rattle.metis_crew.specs.Crew.{actor_at, is_own, own_numbers}
+use Rattle.metis_crew.specs.Terms.{actor_at, is_own, own_numbers}
 
 pub own_has : (A : List Action) (z k : ℕ) → has (own_numbers A z) k ≡ (is_own A z k && has (numbers A) k)
 own_has A z k = has-filter (is_own A z) k (numbers A)

@@ -6,20 +6,19 @@ use Rattle.std.specs.Option.{option_map_or}
 use Rattle.std.proofs.lemmas.Bool.{false≢true, and_parts, eqb-true, both_ways, not-true, not-false}
 use Rattle.std.proofs.Math.Bool.{or-false}
 use Rattle.std.proofs.lemmas.Option.{none-some}
-use Rattle.metis_ids.specs.Action.{actor_of}
+use Rattle.metis_ids.specs.Terms.{actor_of}
 use Rattle.metis_ids.specs.declared.actions.Action.{Action}
 use Rattle.metis_ids.proofs.Lists.{has_range}
 use Rattle.metis_universe.proofs.Correctness.{all_has, all_from_has}
 use Rattle.metis_universe.proofs.Places.{action_below, wait_has, passes_at, least_place}
 use Rattle.metis_universe.proofs.Ranges.{in_range}
-use Rattle.metis_universe.specs.Universe.{has, is_empty}
-use Rattle.metis_universe.specs.Waits.{IsKeptFrom, is_complete, last_number, numbers, waits}
+use Rattle.metis_universe.specs.Terms.{IsKeptFrom, has, is_complete, is_empty, last_number, numbers, waits}
 use Rattle.metis_waits.proofs.LastPlaces.{IsLast, last_place, own_is_wait, waits_earlier}
-use Rattle.metis_waits.specs.Waits.{is_by}
+use Rattle.metis_waits.specs.Terms.{is_by}
 use Rattle.metis_crew.proofs.Counts.{AreDone, next_left, none_are_done, one_more_done}
 use Rattle.metis_crew.proofs.Fronts.{front_low, next_is}
 use Rattle.metis_crew.proofs.OwnActions.{own_actor, own_listed, own_next, own_self, place_in, rising}
-use Rattle.metis_crew.specs.Crew.{actor_at, is_own, own_numbers, count_of, start, own_done, is_done, next_of, turn_at, turn, one_more, counts_after, turns, after_turns, number_done, did}
+use Rattle.metis_crew.specs.Terms.{actor_at, after_turns, count_of, counts_after, did, is_done, is_own, next_of, number_done, one_more, own_done, own_numbers, start, turn, turn_at, turns}
 use Rattle.metis_crew.specs.declared.turn.Turn.{Turn}
 use Rattle.metis_crew.specs.declared.turn.Turn.TheVariants.{Did, WaitsFor, Done, Nobody}
 

@@ -15,11 +15,10 @@ use Rattle.std.specs.List.{filter, filter_map, find}
 use Rattle.std.specs.Map.{lookup}
 use Rattle.std.specs.Option.{option_map_or, unwrap_or}
 use Rattle.std.specs.Ordering.{nat_cmp}
-use Rattle.metis_ids.specs.Action.{actor_of}
+use Rattle.metis_ids.specs.Terms.{actor_of}
 use Rattle.metis_ids.specs.declared.actions.Action.{Action}
-use Rattle.metis_universe.specs.Universe.{has, is_empty}
-use Rattle.metis_universe.specs.Waits.{action_at, numbers, waits}
-use Rattle.metis_waits.specs.Waits.{is_by}
+use Rattle.metis_universe.specs.Terms.{action_at, has, is_empty, numbers, waits}
+use Rattle.metis_waits.specs.Terms.{is_by}
 use Rattle.metis_crew.specs.declared.turn.Turn.{Turn}
 use Rattle.metis_crew.specs.declared.turn.Turn.TheVariants.{Did, WaitsFor, Done, Nobody}
 

@@ -1,3 +1,4 @@
 pub mod Crew
 pub mod Tables
 pub mod Turn
+pub mod Terms

@@ -5,7 +5,7 @@ use Rattle.std.specs.Prelude.{◌≡◌, ◌<◌, ◌^◌, ℕ, suc, nat_eq, Boo
 use Rattle.std.specs.Map.{lookup}
 use Rattle.std.specs.Option.{unwrap_or}
 use Rattle.metis_ids.specs.declared.actions.Action.{Action}
-use Rattle.metis_waits.specs.Waits.{AreWaits, WaitLists}
+use Rattle.metis_waits.specs.Terms.{AreWaits, WaitLists}
 use Rattle.metis_crew.specs.Crew.{done_count, is_done, is_own, own_numbers}
 
 abbrev pub row_at : List (ℕ × List ℕ) → ℕ → List ℕ

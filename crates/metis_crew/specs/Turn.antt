@@ -6,8 +6,7 @@
 --     UnlessDid answer P      P, unless an action was done
 use Rattle.std.specs.Prelude.{ℕ, ◌<◌, List, IsTrue, IsFalse, ⊤}
 use Rattle.metis_ids.specs.declared.actions.Action.{Action}
-use Rattle.metis_universe.specs.Universe.{has}
-use Rattle.metis_universe.specs.Waits.{waits}
+use Rattle.metis_universe.specs.Terms.{has, waits}
 use Rattle.metis_crew.specs.Crew.{is_done, is_own}
 use Rattle.metis_crew.specs.declared.turn.Turn.{Turn}
 use Rattle.metis_crew.specs.declared.turn.Turn.TheVariants.{Did, WaitsFor, Done, Nobody}

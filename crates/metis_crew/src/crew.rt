@@ -2,10 +2,9 @@
 ghost use Rattle.std.specs.Prelude.{◌≡◌, ◌<◌, ◌≤◌, ◌-◌, ◌^◌, ◌==◌, IfOk, IsSome, Some, length, not};
 ghost use Rattle.std.specs.List.{find};
 ghost use Rattle.std.specs.Map.{lookup};
-ghost use Rattle.metis_universe.specs.Waits.{waits};
-ghost use Rattle.metis_waits.specs.Waits.{AreWaits};
-ghost use Rattle.metis_crew.specs.Crew.{at_start, count_of, counts_after, done_count, is_done, next_of, one_more, own_numbers, progress, start, turn};
-ghost use Rattle.metis_crew.specs.Turn.{UnlessDid};
+ghost use Rattle.metis_universe.specs.Terms.{waits};
+ghost use Rattle.metis_waits.specs.Terms.{AreWaits};
+ghost use Rattle.metis_crew.specs.Terms.{UnlessDid, at_start, count_of, counts_after, done_count, is_done, next_of, one_more, own_numbers, progress, start, turn};
 
 use crate::own_numbers::own_of;
 use crate::row::Row;

@@ -2,13 +2,8 @@
 ghost use Rattle.std.specs.Prelude.{◌≡◌, ◌↔◌, ◌==◌, ◌||◌, ℕ, IsFalse, IsTrue, List, length, map};
 ghost use Rattle.std.specs.List.{filter};
 ghost use Rattle.metis_ids.specs.declared.actions.Action.{Action};
-ghost use Rattle.metis_universe.specs.Config.{empty};
-ghost use Rattle.metis_universe.specs.Steadfast.{is_steadfast};
-ghost use Rattle.metis_universe.specs.Step.{IsRun, after_all};
-ghost use Rattle.metis_universe.specs.Universe.{Universe, has};
-ghost use Rattle.metis_universe.specs.Waits.{IsKept, is_complete, picked};
-ghost use Rattle.metis_crew.specs.Crew.{actor_at, after_turns, count_of, did, done_count, is_done, is_own, one_more, start, turn, turns};
-ghost use Rattle.metis_crew.specs.Turn.{HasDoneAll, HasNone, HasWaited, IsLeastLeft, IsNext};
+ghost use Rattle.metis_universe.specs.Terms.{IsKept, IsRun, Universe, after_all, empty, has, is_complete, is_steadfast, picked};
+ghost use Rattle.metis_crew.specs.Terms.{HasDoneAll, HasNone, HasWaited, IsLeastLeft, IsNext, actor_at, after_turns, count_of, did, done_count, is_done, is_own, one_more, start, turn, turns};
 ghost use Rattle.metis_crew.specs.declared.turn.Turn.TheVariants.{Did, Done, Nobody, WaitsFor};
 
 /// Each answer to an instance's turn comes exactly where it is true, whatever is done.

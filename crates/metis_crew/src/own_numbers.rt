@@ -1,7 +1,6 @@
 //! The numbers of each instance's actions.
 ghost use Rattle.std.specs.Prelude.{◌≡◌, ℕ, ◌<◌, ◌^◌, ◌==◌, ◌++◌, ◌∷◌, [], if◌then◌else◌, IfOk, OnOk, length};
-ghost use Rattle.metis_crew.specs.Crew.{own_numbers};
-ghost use Rattle.metis_crew.specs.Tables.{row_at};
+ghost use Rattle.metis_crew.specs.Terms.{own_numbers, row_at};
 
 use crate::row::Row;
 use metis_ids::{Action, InstNo, NoMemory};

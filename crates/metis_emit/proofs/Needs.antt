@@ -6,8 +6,8 @@ use Rattle.std.proofs.lemmas.List.{get_or_past}
 use Rattle.std.proofs.lemmas.List.Sums.{count_by-le-length, length-filter, sum_by-cons}
 use Rattle.std.specs.List.{filter, position_or_len, slice_index_or}
 use Rattle.std.specs.Prelude.{sum}
-use Rattle.metis_universe.specs.Universe.{Universe, demand_of, demand_total, further_of, has, pair_at, required_of, requires}
-use Rattle.metis_lines.specs.AbstractPlan.{Supply}
+use Rattle.metis_universe.specs.Terms.{Universe, demand_of, demand_total, further_of, has, pair_at, required_of, requires}
+use Rattle.metis_lines.specs.Terms.{Supply}
 use Rattle.metis_emit.proofs.Members.{In, filter_in}
 
 -- ---- needs

@@ -1,6 +1,6 @@
 //! What binds an instance to slots, or unbinds it.
 ghost use Rattle.std.specs.Prelude.{◌≡◌};
-ghost use Rattle.metis_emit.specs.PortActions.{tie_action};
+ghost use Rattle.metis_emit.specs.Terms.{tie_action};
 
 use metis_ids::{Action, InstNo, PortIx};
 

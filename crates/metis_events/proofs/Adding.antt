@@ -6,10 +6,10 @@ use Rattle.std.proofs.lemmas.List.Concat.{flat_map-append}
 use Rattle.metis_ids.specs.declared.events.Event.{Event}
 use Rattle.metis_ids.proofs.Lists.{range_next, range_more}
 use Rattle.metis_layers.proofs.Tables.{map_more}
-use Rattle.metis_lines.specs.AbstractPlan.{Supply}
+use Rattle.metis_lines.specs.Terms.{Supply}
 use Rattle.metis_events.proofs.Targets.{adds_both}
 use Rattle.metis_events.specs.declared.edges.Edge.{Edge}
-use Rattle.metis_events.specs.Gathered.{Adds}
+use Rattle.metis_events.specs.Terms.{Adds}
 
 abbrev Targets : Type 0
 Targets = List (Event × Edge)

@@ -12,11 +12,9 @@ use Rattle.std.specs.Cmp.{both_ways as same_bool}
 use Rattle.metis_ids.specs.declared.events.Event.{Event}
 use Rattle.metis_ids.specs.declared.events.Event.TheVariants.{At, End}
 use Rattle.metis_ids.proofs.Lists.{each_weaker}
-use Rattle.metis_universe.specs.Universe.{Universe}
+use Rattle.metis_universe.specs.Terms.{Universe}
 use Rattle.metis_support.proofs.Lists.{IsPiece, any-append_left, any-append_right, any_in_row, each_in_row, member, sorted_append, sorted_row}
-use Rattle.metis_lines.specs.AbstractPlan.{AbstractPlan, last, line_count, stations, is_target, is_there}
-use Rattle.metis_lines.specs.Events.{event_cmp, events, events_of, is_among, is_end, is_event, is_go, is_return, is_return_of, is_start, is_start_of, leaving, precedes, same_event, step_count}
-use Rattle.metis_lines.specs.Soundness.{IsFormed}
+use Rattle.metis_lines.specs.Terms.{AbstractPlan, IsFormed, event_cmp, events, events_of, is_among, is_end, is_event, is_go, is_return, is_return_of, is_start, is_start_of, is_target, is_there, last, leaving, line_count, precedes, same_event, stations, step_count}
 use Rattle.metis_lines.proofs.SameEvents.{same_events}
 
 -- ---- what stands in a row

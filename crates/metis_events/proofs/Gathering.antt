@@ -6,11 +6,9 @@ use Rattle.std.specs.Cmp.{both_ways as same_bool}
 use Rattle.metis_ids.specs.declared.events.Event.{Event}
 use Rattle.metis_ids.specs.declared.events.Event.TheVariants.{At, End}
 use Rattle.metis_ids.proofs.Lists.{any_alike, list_any-flat_map}
-use Rattle.metis_universe.specs.Universe.{Universe}
+use Rattle.metis_universe.specs.Terms.{Universe}
 use Rattle.metis_support.proofs.Lists.{any-append_left, any-append_right, any_in_row}
-use Rattle.metis_lines.specs.AbstractPlan.{AbstractPlan, Supply, last, line_count}
-use Rattle.metis_lines.specs.Events.{events, is_end, is_event, is_go, is_return, is_return_of, is_start, is_start_of, leaving, same_event, step_count}
-use Rattle.metis_lines.specs.Soundness.{IsFormed}
+use Rattle.metis_lines.specs.Terms.{AbstractPlan, IsFormed, Supply, events, is_end, is_event, is_go, is_return, is_return_of, is_start, is_start_of, last, leaving, line_count, same_event, step_count}
 use Rattle.metis_lines.proofs.SameEvents.{same_events, same_itself}
 use Rattle.metis_events.proofs.AllEvents.{any-append_cases, in_row, mapped_row}
 use Rattle.metis_events.proofs.Befores.{before_ascends, before_has, same_kinds}
@@ -18,8 +16,7 @@ use Rattle.metis_events.proofs.Targets.{edge_itself, edge_total, in_order_has, i
 use Rattle.metis_events.specs.declared.edges.Edge.{Edge}
 use Rattle.metis_events.specs.declared.edges.EdgeKind.{EdgeKind}
 use Rattle.metis_events.specs.declared.edges.EdgeKind.TheVariants.{Go, Start, Return}
-use Rattle.metis_events.specs.Edges.{before, edge_cmp, edge_of, has_edge, is_edge, kind_number}
-use Rattle.metis_events.specs.Gathered.{Adds, edges_to, go_edges, has_target, in_order, next_edge, return_edges, same_edge, same_target, supply_edges}
+use Rattle.metis_events.specs.Terms.{Adds, before, edge_cmp, edge_of, edges_to, go_edges, has_edge, has_target, in_order, is_edge, kind_number, next_edge, return_edges, same_edge, same_target, supply_edges}
 
 -- ---- tests
 

@@ -15,11 +15,11 @@ use Rattle.std.proofs.lemmas.List.Sums.{position_or_len_is}
 use Rattle.std.proofs.lemmas.Map.Keys.{Less-from_sorted}
 use Rattle.metis_ids.specs.declared.events.Event.{Event}
 use Rattle.metis_ids.specs.declared.events.Event.TheVariants.{End}
-use Rattle.metis_lines.specs.Events.{event_cmp, same_event}
+use Rattle.metis_lines.specs.Terms.{event_cmp, same_event}
 use Rattle.metis_lines.proofs.SameEvents.{same_events, same_itself}
 use Rattle.metis_events.proofs.Targets.{equal_events, event_total, same_event_equal}
 use Rattle.metis_events.specs.declared.edges.Edge.{Edge}
-use Rattle.metis_events.specs.Gathered.{edges_to}
+use Rattle.metis_events.specs.Terms.{edges_to}
 
 -- ---- one more edge
 

@@ -4,16 +4,14 @@ use Rattle.std.specs.List.{All, filter, flat_map, range_with_len}
 use Rattle.std.proofs.lemmas.List.{get_or-map, get_or_default, length-map, map-append}
 use Rattle.metis_ids.specs.declared.events.Event.{Event}
 use Rattle.metis_ids.specs.declared.events.Event.TheVariants.{End}
-use Rattle.metis_lines.specs.AbstractPlan.{AbstractPlan}
-use Rattle.metis_lines.specs.Events.{events}
-use Rattle.metis_sort.specs.Dag.{ascending, edges_of_row, graph_into}
+use Rattle.metis_lines.specs.Terms.{AbstractPlan, events}
+use Rattle.metis_sort.specs.Terms.{ascending, edges_of_row, graph_into}
 use Rattle.metis_sort.proofs.DagFacts.{pieces_ascend}
 use Rattle.metis_events.proofs.Befores.{number_of_event}
 use Rattle.metis_events.specs.declared.edges.Edge.{Edge}
 use Rattle.metis_events.specs.declared.edges.EdgeKind.{EdgeKind}
 use Rattle.metis_events.specs.declared.edges.EdgeKind.TheVariants.{Go, Start, Return}
-use Rattle.metis_events.specs.Edges.{EventGraph, before, edge_of, edges_from, graph_of, is_edge}
-use Rattle.metis_events.specs.Numbered.{dag_of, joins_into, nth_event, number_of, numbers_into}
+use Rattle.metis_events.specs.Terms.{EventGraph, before, dag_of, edge_of, edges_from, graph_of, is_edge, joins_into, nth_event, number_of, numbers_into}
 
 -- ---- the rows as a graph
 

@@ -7,21 +7,18 @@ use Rattle.std.proofs.lemmas.List.Elements.{All-contains, All-from_recursion}
 use Rattle.std.specs.Cmp.{both_ways as same_bool}
 use Rattle.metis_ids.specs.declared.events.Event.{Event}
 use Rattle.metis_ids.specs.declared.events.Event.TheVariants.{End}
-use Rattle.metis_ids.specs.Graph.{is_edge as is_joined, joins}
+use Rattle.metis_ids.specs.Terms.{is_edge as is_joined, joins}
 use Rattle.metis_ids.proofs.Lists.{list_any-map}
-use Rattle.metis_universe.specs.Universe.{Universe}
+use Rattle.metis_universe.specs.Terms.{Universe}
 use Rattle.metis_support.proofs.Lists.{any_in_row, each_in_row, member}
-use Rattle.metis_lines.specs.AbstractPlan.{AbstractPlan, line_count}
-use Rattle.metis_lines.specs.Events.{events, events_of, is_go, is_return, is_start, precedes, same_event}
-use Rattle.metis_lines.specs.Soundness.{IsFormed}
+use Rattle.metis_lines.specs.Terms.{AbstractPlan, IsFormed, events, events_of, is_go, is_return, is_start, line_count, precedes, same_event}
 use Rattle.metis_lines.proofs.SameEvents.{same_events}
 use Rattle.metis_events.proofs.AllEvents.{edges_join_events, in_row}
 use Rattle.metis_events.proofs.Befores.{all_pass, before_has, edge_precedes, found, number_of_event}
 use Rattle.metis_events.specs.declared.edges.Edge.{Edge}
 use Rattle.metis_events.specs.declared.edges.EdgeKind.{EdgeKind}
 use Rattle.metis_events.specs.declared.edges.EdgeKind.TheVariants.{Go, Start, Return}
-use Rattle.metis_events.specs.Edges.{before, graph_of, has_edge, is_edge, kind_number}
-use Rattle.metis_events.specs.Numbered.{IsGraphOf, IsJoined, dag_of, joins_into, nth_event, number_of}
+use Rattle.metis_events.specs.Terms.{IsGraphOf, IsJoined, before, dag_of, graph_of, has_edge, is_edge, joins_into, kind_number, nth_event, number_of}
 
 -- what is made of each element has what the element brings
 each_made : {X Y : Type 0} (P : X → Type 0) (Q : Y → Type 0) (f : X → Y) (xs : List X) → ((x : X) → P x → Q (f x)) → AllByRecursion P xs → AllByRecursion Q (map f xs)

@@ -19,12 +19,11 @@ use Rattle.metis_ids.specs.declared.events.Event.{Event}
 use Rattle.metis_ids.specs.declared.events.Event.TheVariants.{At, End}
 use Rattle.metis_ids.proofs.Tests.{cmp_equal}
 use Rattle.metis_universe.proofs.Sorted.{IsStrictlySortedBy-insert_key}
-use Rattle.metis_lines.specs.Events.{event_cmp, same_event}
+use Rattle.metis_lines.specs.Terms.{event_cmp, same_event}
 use Rattle.metis_lines.proofs.SameEvents.{same_events, same_itself}
 use Rattle.metis_events.proofs.Befores.{same_kinds}
 use Rattle.metis_events.specs.declared.edges.Edge.{Edge}
-use Rattle.metis_events.specs.Edges.{edge_cmp, edge_of, kind_cmp, kind_number}
-use Rattle.metis_events.specs.Gathered.{Adds, has_target, in_order, same_edge, same_target}
+use Rattle.metis_events.specs.Terms.{Adds, edge_cmp, edge_of, has_target, in_order, kind_cmp, kind_number, same_edge, same_target}
 
 -- ---- the order
 

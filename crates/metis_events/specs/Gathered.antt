@@ -16,9 +16,7 @@ use Rattle.metis_ids.specs.declared.events.Event.TheVariants.{At, End}
 use Rattle.metis_events.specs.declared.edges.Edge.{Edge}
 use Rattle.metis_events.specs.declared.edges.EdgeKind.TheVariants.{Go, Start, Return}
 use Rattle.metis_events.specs.Edges.{edge_cmp, edge_of, kind_number}
-use Rattle.metis_lines.specs.AbstractPlan.{AbstractPlan, Supply, last}
-use Rattle.metis_lines.specs.Events.{is_end, leaving, same_event, step_count}
-use Rattle.metis_lines.specs.LifeLines.{LifeLines, line_at, slot_holding, slots}
+use Rattle.metis_lines.specs.Terms.{AbstractPlan, LifeLines, Supply, is_end, last, leaving, line_at, same_event, slot_holding, slots, step_count}
 
 abbrev pub same_edge : Edge → Edge → Bool
 same_edge a b = same_event a.from b.from && (kind_number a.kind == kind_number b.kind)

@@ -2,3 +2,4 @@ pub mod Edges
 pub mod Gathered
 pub mod Numbered
 pub mod Returns
+pub mod Terms

@@ -13,9 +13,8 @@ use Rattle.std.specs.List.{All, flat_map, position_or_len, range_with_len}
 use Rattle.std.specs.List.Sorted.{IsStrictlySortedBy}
 use Rattle.metis_ids.specs.declared.events.Event.{Event}
 use Rattle.metis_ids.specs.declared.events.Event.TheVariants.{End}
-use Rattle.metis_ids.specs.Graph.{Graph, IsGraph, is_edge}
-use Rattle.metis_lines.specs.AbstractPlan.{AbstractPlan}
-use Rattle.metis_lines.specs.Events.{event_cmp, events, precedes, same_event}
+use Rattle.metis_ids.specs.Terms.{Graph, IsGraph, is_edge}
+use Rattle.metis_lines.specs.Terms.{AbstractPlan, event_cmp, events, precedes, same_event}
 use Rattle.metis_events.specs.declared.edges.Edge.{Edge}
 use Rattle.metis_events.specs.Edges.{EventGraph}
 

@@ -1,9 +1,8 @@
 //! Edges of the graph of events.
 ghost use Rattle.std.specs.Prelude.{◌≡◌, ◌∷◌, [], OnOk};
 ghost use Rattle.metis_ids.specs.declared.events.Event.{Event};
-ghost use Rattle.metis_lines.specs.Events.{event_cmp};
-ghost use Rattle.metis_events.specs.Edges.{edge_cmp, edge_of};
-ghost use Rattle.metis_events.specs.Gathered.{Adds, same_edge};
+ghost use Rattle.metis_lines.specs.Terms.{event_cmp};
+ghost use Rattle.metis_events.specs.Terms.{Adds, edge_cmp, edge_of, same_edge};
 ghost use Rattle.metis_events.specs.declared.edges.Edge.{Edge};
 
 use metis_ids::{Event, NoMemory};

@@ -1,9 +1,8 @@
 //! All edges of the graph of life lines.
 ghost use Rattle.std.specs.Prelude.{◌≡◌, ◌<◌, ◌≤◌, ℕ, OnOk, length, map};
 ghost use Rattle.std.specs.List.{flat_map, range_with_len};
-ghost use Rattle.metis_lines.specs.Events.{leaving, step_count};
-ghost use Rattle.metis_lines.specs.LifeLines.{line_at, line_supplies, slot_holding, station_supplies, supplies_of, supply_from};
-ghost use Rattle.metis_events.specs.Gathered.{Adds, IsSlotThere, go_edges, return_edges, supply_edges, without_supplies};
+ghost use Rattle.metis_lines.specs.Terms.{leaving, line_at, line_supplies, slot_holding, station_supplies, step_count, supplies_of, supply_from};
+ghost use Rattle.metis_events.specs.Terms.{Adds, IsSlotThere, go_edges, return_edges, supply_edges, without_supplies};
 
 use crate::edges::{EdgeKind, EdgeList};
 use metis_ids::{Event, LineIx, NoMemory, PairIx, StepIx};

@@ -1,10 +1,7 @@
 //! The graph of events.
 ghost use Rattle.std.specs.Prelude.{◌≡◌, ◌<◌, ◌≤◌, ◌+◌, ◌^◌, ◌++◌, length, map, IfOk, OnOk};
-ghost use Rattle.metis_lines.specs.Events.{events, events_of};
-ghost use Rattle.metis_lines.specs.Over.{graph_over};
-ghost use Rattle.metis_events.specs.Edges.{before, edges_into, event_at, graph_of, node_of};
-ghost use Rattle.metis_events.specs.Gathered.{without_supplies};
-ghost use Rattle.metis_events.specs.Numbered.{dag_of};
+ghost use Rattle.metis_lines.specs.Terms.{events, events_of, graph_over};
+ghost use Rattle.metis_events.specs.Terms.{before, dag_of, edges_into, event_at, graph_of, node_of, without_supplies};
 
 use crate::edges::{Edge, EdgeList};
 use crate::gather::{add_go_edges, add_supplies, step_count};

@@ -2,8 +2,8 @@
 ghost use Rattle.std.specs.Prelude.{◌≡◌, ◌<◌, ◌^◌, length, map, IfOk, OnOk};
 ghost use Rattle.std.specs.List.{All, position_or_len};
 ghost use Rattle.std.specs.List.Sorted.{IsStrictlySortedBy};
-ghost use Rattle.metis_lines.specs.Events.{event_cmp, same_event};
-ghost use Rattle.metis_events.specs.Numbered.{IsJoined, graph_by, number_of};
+ghost use Rattle.metis_lines.specs.Terms.{event_cmp, same_event};
+ghost use Rattle.metis_events.specs.Terms.{IsJoined, graph_by, number_of};
 
 use crate::edges::Edge;
 use crate::rows::{EdgeRow, place_of};

@@ -1,9 +1,8 @@
 //! The edges into each event.
 ghost use Rattle.std.specs.Prelude.{◌≡◌, ◌<◌, ◌+◌, ◌^◌, ◌++◌, ◌∷◌, [], List, length, map, position, slice_get, IfOk, IfSome, OnOk};
 ghost use Rattle.std.specs.List.Sorted.{IsStrictlySortedBy};
-ghost use Rattle.metis_lines.specs.Events.{event_cmp, same_event};
-ghost use Rattle.metis_events.specs.Edges.{edge_of};
-ghost use Rattle.metis_events.specs.Gathered.{edges_to, in_order};
+ghost use Rattle.metis_lines.specs.Terms.{event_cmp, same_event};
+ghost use Rattle.metis_events.specs.Terms.{edge_of, edges_to, in_order};
 ghost use Rattle.metis_events.specs.declared.edges.Edge.{Edge};
 ghost use Rattle.metis_ids.specs.declared.events.Event.{Event};
 

@@ -2,15 +2,12 @@
 use Rattle.std.proofs.Common.{ℕ, IsTrue, IsSome, Some, None, refl, sym, ◌∙◌}
 use Rattle.std.proofs.lemmas.Bool.{false≢true}
 use Rattle.metis_ids.proofs.Lists.{each_has}
-use Rattle.metis_universe.specs.Goal.{Attains}
-use Rattle.metis_universe.specs.Layers.{layer_set, layer_of, IsLeastRound}
-use Rattle.metis_universe.specs.Universe.{Universe, pair_count, has}
+use Rattle.metis_universe.specs.Terms.{Attains, IsLeastRound, Universe, has, layer_of, layer_set, pair_count}
 use Rattle.metis_universe.proofs.Attained.{Closed-layers}
 use Rattle.metis_universe.proofs.Rounds.{layer_of-least}
-use Rattle.metis_layers.specs.LayerOrder.{layer_order}
+use Rattle.metis_layers.specs.Terms.{layer_order}
 use Rattle.metis_layers.proofs.Order.{deploys}
-use Rattle.metis_gen.specs.Generated.{generated_targets}
-use Rattle.metis_gen.specs.Tables.{tables}
+use Rattle.metis_gen.specs.Terms.{generated_targets, tables}
 use Rattle.metis_gen.proofs.Numbers.{tables_universe}
 use Rattle.metis_gen.proofs.Whole.{targets_in}
 

@@ -7,10 +7,9 @@ use Rattle.std.proofs.lemmas.Bool.{eq-eqb}
 use Rattle.std.proofs.lemmas.List.{take_all}
 use Rattle.std.proofs.lemmas.List.Concat.{flat_map-append}
 use Rattle.std.proofs.lemmas.List.Sums.{fold-append}
-use Rattle.metis_universe.specs.Sights.{with_name, sights_after}
-use Rattle.metis_universe.specs.Universe.{port_name_of, port_names_of_pair, IsBySight}
+use Rattle.metis_universe.specs.Terms.{IsBySight, port_name_of, port_names_of_pair, sights_after, with_name}
 use Rattle.metis_universe.proofs.SeenNumbers.{Apart, seeing_numbers}
-use Rattle.metis_gen.specs.Tables.{pairs_at, tables}
+use Rattle.metis_gen.specs.Terms.{pairs_at, tables}
 use Rattle.metis_gen.proofs.Named.{ports_apart}
 use Rattle.metis_gen.proofs.Places.{ports_counted}
 

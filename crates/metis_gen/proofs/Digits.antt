@@ -1,8 +1,8 @@
 -- Three digits tell the number, and are bytes of names.
 use Rattle.std.proofs.Common.{◌≡◌, ℕ, suc, zero, ◌+◌, ◌/◌, ◌%◌, ◌<◌, true, ◌&&◌, [], ◌∷◌, get_or, refl, ap, ◌∙◌, arith}
 use Rattle.std.specs.List.{list_all}
-use Rattle.metis_universe.specs.Names.{is_name_byte}
-use Rattle.metis_gen.specs.Generated.{three_digits}
+use Rattle.metis_universe.specs.Terms.{is_name_byte}
+use Rattle.metis_gen.specs.Terms.{three_digits}
 
 pub same_digits : (i j : ℕ) → three_digits i ≡ three_digits j → i ≡ j
 same_digits i j e =

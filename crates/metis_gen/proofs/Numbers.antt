@@ -4,8 +4,8 @@ use Rattle.std.specs.List.{All}
 use Rattle.std.specs.List.Sorted.{IsNonDecreasingBy, IsStrictlyIncreasing}
 use Rattle.std.proofs.lemmas.List.{get_or_default}
 use Rattle.std.proofs.lemmas.List.Elements.{All-from_recursion}
-use Rattle.metis_universe.specs.Universe.{Pair, no_kind, no_pair, pair_at, type_of, pair_count, initial_of, provided_of, required_of, next_of, IsUniverse}
-use Rattle.metis_gen.specs.Tables.{kinds_at, pairs_at, earlier_z_number, tables}
+use Rattle.metis_universe.specs.Terms.{IsUniverse, Pair, initial_of, next_of, no_kind, no_pair, pair_at, pair_count, provided_of, required_of, type_of}
+use Rattle.metis_gen.specs.Terms.{earlier_z_number, kinds_at, pairs_at, tables}
 use Rattle.metis_gen.proofs.Places.{types_counted, pairs_counted, ports_counted, each_of_two, each_of_eight, each_kind, each_pair}
 
 -- ---- lists of at most one number

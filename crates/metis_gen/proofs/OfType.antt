@@ -4,8 +4,8 @@ use Rattle.std.specs.List.{flat_map, filter, range_with_len, AllByRecursion}
 use Rattle.std.proofs.lemmas.Bool.{cases_lt, eq-eqb}
 use Rattle.std.proofs.lemmas.Bool.Decides.{nat_tests}
 use Rattle.std.proofs.lemmas.List.Elements.{filter-append}
-use Rattle.metis_universe.specs.Universe.{Pair, demand_total, states_of_type, IsWithinLimits}
-use Rattle.metis_gen.specs.Tables.{left_pairs, right_pairs, pairs_at, tables}
+use Rattle.metis_universe.specs.Terms.{IsWithinLimits, Pair, demand_total, states_of_type}
+use Rattle.metis_gen.specs.Terms.{left_pairs, pairs_at, right_pairs, tables}
 use Rattle.metis_gen.proofs.Places.{types_counted, pairs_counted, ports_counted}
 
 abbrev of : ℕ → List Pair → List Pair

@@ -1,7 +1,7 @@
 -- The tables of a generated universe, by place: types, pairs and ports, each with what holds of all of them.
 use Rattle.std.proofs.Common.{◌≡◌, ℕ, suc, zero, ◌+◌, ◌*◌, ◌/◌, ◌%◌, ◌<◌, List, [], get_or, refl, ap, sym, ◌∙◌, subst, zero-add, arith}
-use Rattle.metis_universe.specs.Universe.{Kind, Pair, no_kind, no_pair, kind_at, pair_at, type_count, pair_count, port_count, port_name_of}
-use Rattle.metis_gen.specs.Tables.{kinds_at, pairs_at, ports_at, tables}
+use Rattle.metis_universe.specs.Terms.{Kind, Pair, kind_at, no_kind, no_pair, pair_at, pair_count, port_count, port_name_of, type_count}
+use Rattle.metis_gen.specs.Terms.{kinds_at, pairs_at, ports_at, tables}
 use Rattle.metis_gen.proofs.Pieces.{length_pieces, piece_at}
 
 -- ---- how many there are

@@ -5,15 +5,12 @@ use Rattle.std.specs.List.{All, AllByRecursion, range_with_len, slice_index_or}
 use Rattle.std.proofs.lemmas.Bool.{eq-eqb}
 use Rattle.std.proofs.lemmas.List.Elements.{All-from_recursion}
 use Rattle.std.proofs.lemmas.List.FromFn.{fill_by_all}
-use Rattle.metis_universe.specs.RowShapes.{NeedRow, StateRow, TypeRow}
-use Rattle.metis_universe.specs.Rows.{IsOfVersion, first_fault, universe_from, or_universe, meaning_of, RowsFit, TypeFits, StateFits}
-use Rattle.metis_universe.specs.Universe.{Kind, Pair, demand_in, no_pair, type_count, initial_of, state_name_of, port_name_of, states_of_type, IsTable}
+use Rattle.metis_universe.specs.Terms.{IsOfVersion, IsTable, Kind, NeedRow, Pair, RowsFit, StateFits, StateRow, TypeFits, TypeRow, demand_in, first_fault, initial_of, meaning_of, no_pair, or_universe, port_name_of, state_name_of, states_of_type, type_count, universe_from}
 use Rattle.metis_universe.proofs.FirstSights.{flat_map_each}
-use Rattle.metis_ujson.specs.Canonical.{need_row, state_row, type_row, rows_of_universe}
+use Rattle.metis_ujson.specs.Terms.{need_row, rows_of_universe, state_row, type_row}
 use Rattle.metis_ujson.proofs.Clear.{no_fault}
 use Rattle.metis_ujson.proofs.Rebuilt.{rebuilt}
-use Rattle.metis_gen.specs.Generated.{earlier_z, one_of, x_port, y_port, z_port, left_row, right_row, rows_at, generated_rows, generated}
-use Rattle.metis_gen.specs.Tables.{pair_row, pairs_at, left_pairs, right_pairs, earlier_z_number, tables}
+use Rattle.metis_gen.specs.Terms.{earlier_z, earlier_z_number, generated, generated_rows, left_pairs, left_row, one_of, pair_row, pairs_at, right_pairs, right_row, rows_at, tables, x_port, y_port, z_port}
 use Rattle.metis_gen.proofs.BySight.{tables_by_sight}
 use Rattle.metis_gen.proofs.Named.{tables_named}
 use Rattle.metis_gen.proofs.Numbers.{tables_universe}

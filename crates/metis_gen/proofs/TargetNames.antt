@@ -6,9 +6,8 @@ use Rattle.std.specs.Str.{bytes_eq}
 use Rattle.std.proofs.lemmas.Bool.{eq-eqb, eqb-true}
 use Rattle.metis_ids.proofs.Finding.{position_here}
 use Rattle.metis_ids.proofs.Tests.{bytes_apart, bytes_same}
-use Rattle.metis_universe.specs.Universe.{Kind, Pair, no_kind, no_pair, type_of, type_name_of, state_name_of, type_named, state_named, pair_named}
-use Rattle.metis_gen.specs.Generated.{left_row, right_row}
-use Rattle.metis_gen.specs.Tables.{tables}
+use Rattle.metis_universe.specs.Terms.{Kind, Pair, no_kind, no_pair, pair_named, state_name_of, state_named, type_name_of, type_named, type_of}
+use Rattle.metis_gen.specs.Terms.{left_row, right_row, tables}
 use Rattle.metis_gen.proofs.Named.{tables_named}
 use Rattle.metis_gen.proofs.Numbers.{type_is}
 use Rattle.metis_gen.proofs.Places.{types_counted, pairs_counted, kind_in, pair_in}

@@ -3,7 +3,7 @@ use Rattle.std.proofs.Common.{◌≡◌, ℕ, ◌*◌, ◌<◌, length, get_or, 
 use Rattle.std.specs.List.{AllByRecursion, range_with_len}
 use Rattle.std.proofs.lemmas.List.FromFn.{length-range_with_len, get_or-range_with_len}
 use Rattle.metis_universe.proofs.FirstSights.{flat_map_each}
-use Rattle.metis_gen.specs.Generated.{generated_targets, targets_at}
+use Rattle.metis_gen.specs.Terms.{generated_targets, targets_at}
 use Rattle.metis_gen.proofs.Pieces.{length_pieces}
 
 pub targets_counted : (n : ℕ) → length (generated_targets n) ≡ 2 * n

@@ -6,11 +6,9 @@ use Rattle.std.proofs.lemmas.Bool.{eq-eqb, false≢true}
 use Rattle.std.proofs.lemmas.List.Folds.{list_any_at}
 use Rattle.std.proofs.lemmas.List.FromFn.{length-range_with_len, get_or-range_with_len}
 use Rattle.metis_ids.proofs.Lists.{has_one}
-use Rattle.metis_universe.specs.Closed.{Closed, Refusal}
-use Rattle.metis_universe.specs.Universe.{Universe, Kind, Pair, no_kind, no_pair, kind_at, has, is_empty, is_initial, provided_of, required_of, next_of}
+use Rattle.metis_universe.specs.Terms.{Closed, Kind, Pair, Refusal, Universe, has, is_empty, is_initial, kind_at, next_of, no_kind, no_pair, provided_of, required_of}
 use Rattle.metis_universe.proofs.FirstSights.{flat_map_each}
-use Rattle.metis_gen.specs.Generated.{targets_at, generated_targets}
-use Rattle.metis_gen.specs.Tables.{pairs_at, tables}
+use Rattle.metis_gen.specs.Terms.{generated_targets, pairs_at, tables, targets_at}
 use Rattle.metis_gen.proofs.Numbers.{initial_is}
 use Rattle.metis_gen.proofs.Places.{types_counted, pair_in, each_of_eight}
 

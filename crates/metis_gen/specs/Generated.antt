@@ -8,9 +8,7 @@
 --     generated_targets n      the last pairs of all types: of place i they are the pairs 8 i + 3 and 8 i + 7
 use Rattle.std.specs.Prelude.{ℕ, suc, zero, ◌+◌, ◌*◌, ◌/◌, ◌%◌, List, [], ◌∷◌, ◌++◌, map, codes}
 use Rattle.std.specs.List.{flat_map, range_with_len}
-use Rattle.metis_universe.specs.RowShapes.{NeedRow, StateRow, TypeRow}
-use Rattle.metis_universe.specs.Rows.{universe_from}
-use Rattle.metis_universe.specs.Universe.{Universe}
+use Rattle.metis_universe.specs.Terms.{NeedRow, StateRow, TypeRow, Universe, universe_from}
 
 -- a number below 1000 as three digits
 abbrev pub three_digits : ℕ → List ℕ

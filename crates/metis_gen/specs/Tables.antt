@@ -4,7 +4,7 @@
 --     tables n      the universe of all places below n
 use Rattle.std.specs.Prelude.{ℕ, suc, zero, ◌+◌, ◌*◌, List, [], ◌∷◌, ◌++◌, map, codes}
 use Rattle.std.specs.List.{flat_map, range_with_len}
-use Rattle.metis_universe.specs.Universe.{Universe, Kind, Pair, universe_of}
+use Rattle.metis_universe.specs.Terms.{Kind, Pair, Universe, universe_of}
 use Rattle.metis_gen.specs.Generated.{three_digits, x_port, y_port, z_port}
 
 abbrev pub ports_at : ℕ → List (List ℕ)

@@ -1,6 +1,6 @@
 //! The generated universes and their targets.
 ghost use Rattle.std.specs.Prelude.{◌≡◌, ◌≤◌, IfOk};
-ghost use Rattle.metis_gen.specs.Generated.{generated, generated_targets};
+ghost use Rattle.metis_gen.specs.Terms.{generated, generated_targets};
 
 use crate::rows::generated_rows;
 use metis_ids::{NoMemory, PairIx};

@@ -1,11 +1,8 @@
 //! Laws over the generated universes.
 ghost use Rattle.std.specs.Prelude.{◌≡◌, ◌≤◌, ◌<◌, ◌+◌, ◌*◌, ℕ, List, IsTrue, Some, codes, length};
 ghost use Rattle.std.specs.List.{All};
-ghost use Rattle.metis_universe.specs.Universe.{has, pair_count, pair_named};
-ghost use Rattle.metis_universe.specs.Closed.{Closed, Refusal};
-ghost use Rattle.metis_universe.specs.Goal.{Attains};
-ghost use Rattle.metis_gen.specs.Generated.{left_row, right_row, generated, generated_targets};
-ghost use Rattle.metis_gen.specs.Tables.{tables};
+ghost use Rattle.metis_universe.specs.Terms.{Attains, Closed, Refusal, has, pair_count, pair_named};
+ghost use Rattle.metis_gen.specs.Terms.{generated, generated_targets, left_row, right_row, tables};
 
 /// A generated universe of a size up to 128 has these types, pairs and ports, by their numbers.
 pub fn generated_has_tables()

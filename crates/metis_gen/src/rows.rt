@@ -1,7 +1,7 @@
 //! The rows of the types of a place.
 ghost use Rattle.std.specs.Prelude.{◌≡◌, ◌<◌, [], ◌∷◌, ◌++◌, map, IfOk, codes};
-ghost use Rattle.metis_universe.specs.Texts.{texts};
-ghost use Rattle.metis_gen.specs.Generated.{three_digits, earlier_z, one_of, state_row, left_row, right_row, generated_rows};
+ghost use Rattle.metis_universe.specs.Terms.{texts};
+ghost use Rattle.metis_gen.specs.Terms.{earlier_z, generated_rows, left_row, one_of, right_row, state_row, three_digits};
 
 use crate::names::numbered;
 use metis_universe::{NeedRow, StateRow, TypeRow};

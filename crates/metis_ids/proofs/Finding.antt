@@ -8,7 +8,7 @@ use Rattle.std.proofs.lemmas.List.Elements.{All-cons, All-nil}
 use Rattle.std.proofs.lemmas.List.Folds.{find-append}
 use Rattle.std.proofs.lemmas.List.Sums.{position_or_len_is}
 use Rattle.std.proofs.lemmas.Option.{none-some}
-use Rattle.metis_ids.specs.Lists.{has}
+use Rattle.metis_ids.specs.Terms.{has}
 use Rattle.metis_ids.proofs.Lists.{has_here, in_range, range_push}
 
 pub found : (t : ℕ → Bool) (xs : List ℕ) (x : ℕ) → find t xs ≡ Some x → (t x ≡ true) × (has xs x ≡ true)

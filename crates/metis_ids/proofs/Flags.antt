@@ -9,7 +9,7 @@ use Rattle.std.specs.List.Sorted.{IsStrictlySortedBy, IsStrictlyIncreasing}
 use Rattle.std.specs.Ordering.{nat_cmp}
 use Rattle.std.specs.declared.cmp.Ordering.TheVariants.{Less, Equal, Greater}
 use Rattle.std.specs.BTreeSet.{insert_key}
-use Rattle.metis_ids.specs.PairSet.{members_from, members_of}
+use Rattle.metis_ids.specs.Terms.{members_from, members_of}
 
 -- numbers from k on are not below it
 none_below : (k n : ℕ) (flags : List Bool) → n < k → list_any (λ q. eqb q n) (members_from k flags) ≡ false

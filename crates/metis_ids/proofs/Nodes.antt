@@ -3,7 +3,7 @@ use Rattle.std.proofs.Common.{◌≡◌, ℕ, zero, suc, ◌+◌, ◌<◌, ◌�
 use Rattle.std.specs.List.{filter, range_with_len}
 use Rattle.std.proofs.lemmas.Bool.{eq-eqb, ne_eqb, cases_eq, or_right, not_from_false}
 use Rattle.std.proofs.Math.Bool.{or-false}
-use Rattle.metis_ids.specs.Lists.{has}
+use Rattle.metis_ids.specs.Terms.{has}
 use Rattle.metis_ids.proofs.Lists.{has-push}
 
 filter_alike : (s t : ℕ → Bool) (n a : ℕ) → ((p : ℕ) → a ≤ p → p < a + n → s p ≡ t p) → filter s (range_with_len a n) ≡ filter t (range_with_len a n)

@@ -6,10 +6,7 @@ use Rattle.std.specs.Option.{option_to_list}
 use Rattle.std.proofs.lemmas.Bool.{false≢true, both_ways, and_from, cases_lt, lt-ltb, true_from_ne_false, not_from_false}
 use Rattle.std.proofs.lemmas.List.{take_all, length_push}
 use Rattle.std.proofs.lemmas.Option.{slice_get_within, slice_get-get_or}
-use Rattle.metis_ids.specs.Graph.{Graph, IsGraph, all_nodes, is_edge}
-use Rattle.metis_ids.specs.Lists.{has}
-use Rattle.metis_ids.specs.Order.{pick, taken, with_pick, order_of, IsOrder, IsSorting}
-use Rattle.metis_ids.specs.Cycle.{stuck, cycle_of, HasCycle, IsCycle}
+use Rattle.metis_ids.specs.Terms.{Graph, HasCycle, IsCycle, IsGraph, IsOrder, IsSorting, all_nodes, cycle_of, has, is_edge, order_of, pick, stuck, taken, with_pick}
 use Rattle.metis_ids.proofs.Nodes.{left}
 use Rattle.metis_ids.proofs.Taken.{edge_to, picked_ready, ready_before, ready_new, taken_within, taken_count, whole_order, picked_within}
 use Rattle.metis_ids.proofs.Stuck.{stuck_is_left}

@@ -5,10 +5,7 @@ use Rattle.std.specs.List.{filter, range_with_len}
 use Rattle.std.proofs.lemmas.Bool.{false≢true, both_ways, eqb-true, or_cases, and_parts, and_from, cases_lt, ltb-true, lt-ltb, false_from_ne_true, not-true, not_from_false}
 use Rattle.std.proofs.lemmas.List.FromFn.{length-range_with_len}
 use Rattle.std.specs.Cmp.{both_ways as same_bool}
-use Rattle.metis_ids.specs.Graph.{Graph, IsGraph, all_nodes, is_edge}
-use Rattle.metis_ids.specs.Lists.{has}
-use Rattle.metis_ids.specs.Order.{pick, taken}
-use Rattle.metis_ids.specs.Cycle.{has_before, with_before, stuck_within, stuck, IsStuck}
+use Rattle.metis_ids.specs.Terms.{Graph, IsGraph, IsStuck, all_nodes, has, has_before, is_edge, pick, stuck, stuck_within, taken, with_before}
 use Rattle.metis_ids.proofs.Taken.{edge_from, taken_by, picked_ready, ready_before, none_ready, not_ready}
 use Rattle.metis_ids.proofs.Lists.{any_at, has-filter, has-push, has_below, some_member}
 

@@ -5,9 +5,7 @@ use Rattle.std.specs.Option.{option_to_list}
 use Rattle.std.proofs.lemmas.Bool.{false≢true, both_ways, eqb-true, eq-eqb, ne_eqb, cases_lt, cases_eq, cases_Bool, or_cases, or_left, or_right, and_parts, and_from, and_cases, ltb-true, lt-ltb, not-true, not_from_false}
 use Rattle.std.proofs.lemmas.List.{take_at, take-append-le, length_push}
 use Rattle.std.proofs.lemmas.List.Elements.{recursion_from_All}
-use Rattle.metis_ids.specs.Graph.{Graph, IsGraph, all_nodes, is_edge, joins}
-use Rattle.metis_ids.specs.Lists.{has}
-use Rattle.metis_ids.specs.Order.{is_ready, pick, preferred, taken, with_pick, order_of, IsOrder}
+use Rattle.metis_ids.specs.Terms.{Graph, IsGraph, IsOrder, all_nodes, has, is_edge, is_ready, joins, order_of, pick, preferred, taken, with_pick}
 use Rattle.metis_ids.proofs.Nodes.{left, left-push, left-none}
 use Rattle.metis_ids.proofs.Finding.{found, not_found}
 use Rattle.metis_ids.proofs.Lists.{has-filter, has-push, has_below}

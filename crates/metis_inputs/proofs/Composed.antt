@@ -4,13 +4,10 @@ use Rattle.std.specs.declared.option.Option.{Option}
 use Rattle.metis_inputs.specs.declared.stop.InputFault.{InputFault}
 use Rattle.metis_inputs.specs.declared.stop.Stop.{Stop}
 use Rattle.metis_inputs.specs.declared.stop.Stop.TheVariants as stop
-use Rattle.metis_outside.specs.Faults.{Rose}
-use Rattle.metis_outside.specs.Openings.{Openings, grown}
+use Rattle.metis_outside.specs.Terms.{Openings, Rose, grown}
 use Rattle.metis_outside.proofs.Opened.{grown-grown}
-use Rattle.metis_inputs.specs.Inputs.{Inputs}
-use Rattle.metis_inputs.specs.Gathers.{Gathers, Judges, Came, AreTaken, Opened, after, named, IsRead, IsReadAt}
-use Rattle.metis_inputs.specs.Script.{Script, Read, Fault, Reply}
-use Rattle.metis_words.specs.Forms.{reading}
+use Rattle.metis_inputs.specs.Terms.{AreTaken, Came, Fault, Gathers, Inputs, IsRead, IsReadAt, Judges, Opened, Read, Reply, Script, after, named}
+use Rattle.metis_words.specs.Terms.{reading}
 use Rattle.metis_words.specs.declared.words.Verb.{Verb}
 
 -- what was judged of what was read

@@ -4,15 +4,12 @@ use Rattle.std.specs.Prelude.{IfOk}
 use Rattle.std.proofs.lemmas.Bool.Decides.{nat_tests}
 use Rattle.std.specs.declared.option.Option.{Option}
 use Rattle.std.specs.declared.alloc.Global.{Global}
-use Rattle.metis_outside.specs.Openings.{Openings, grown}
+use Rattle.metis_outside.specs.Terms.{CountsFailure, Openings, OpensOne, ReadsWhole, grown}
 use Rattle.metis_outside.proofs.Opened.{grown-none}
-use Rattle.metis_outside.specs.Whole.{ReadsWhole, CountsFailure, OpensOne}
 use Rattle.metis_outside.specs.declared.whole.ReadAnswer.{ReadAnswer}
 use Rattle.metis_outside.specs.declared.whole.ReadAnswer.TheVariants as answer
 use Rattle.metis_inputs.specs.declared.stop.InputFault.TheVariants.{TooLong}
-use Rattle.metis_inputs.specs.Commands.{bytes_then}
-use Rattle.metis_inputs.specs.Gathers.{Gathers, after, named, or_stop}
-use Rattle.metis_inputs.specs.Script.{Script, Fault}
+use Rattle.metis_inputs.specs.Terms.{Fault, Gathers, Script, after, bytes_then, named, or_stop}
 
 after_accepted : (place limit : ℕ) (name bytes : List ℕ) → length bytes ≤ limit → (next : List ℕ → Script) → after (bytes ∷ []) (bytes_then place name limit next) ≡ next bytes
 after_accepted place limit name bytes fits next = let passes : nat_le (length bytes) limit ≡ true = grind (arith, nat_tests) in rw passes

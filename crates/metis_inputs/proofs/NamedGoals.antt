@@ -4,11 +4,10 @@ use Rattle.std.specs.Prelude.{◌↔◌, IsSome, slice_get}
 use Rattle.std.specs.Option.{option_and_then}
 use Rattle.std.proofs.lemmas.List.{drop_more}
 use Rattle.metis_ids.specs.declared.goals.Goal.{Goal}
-use Rattle.metis_tokens.specs.Flaws.{and_then}
-use Rattle.metis_universe.specs.Universe.{Universe}
-use Rattle.metis_words.specs.TargetName.{TargetName}
-use Rattle.metis_inputs.specs.Commands.{goals_after, goals_named, or_word}
-use Rattle.metis_inputs.specs.NamedGoals.{AreGoals, IsFirstNoGoal, goal_of}
+use Rattle.metis_tokens.specs.Terms.{and_then}
+use Rattle.metis_universe.specs.Terms.{Universe}
+use Rattle.metis_words.specs.Terms.{TargetName}
+use Rattle.metis_inputs.specs.Terms.{AreGoals, IsFirstNoGoal, goal_of, goals_after, goals_named, or_word}
 use Rattle.metis_inputs.specs.declared.stop.InputFault.{InputFault}
 use Rattle.metis_inputs.specs.declared.stop.InputFault.TheVariants.{Word}
 

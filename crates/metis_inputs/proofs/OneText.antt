@@ -2,16 +2,11 @@
 use Rattle.std.proofs.Common.{ℕ, List, Result, Ok, Err, refl}
 use Rattle.std.specs.declared.option.Option.{Option}
 use Rattle.metis_ids.specs.declared.goals.Goal.{Goal}
-use Rattle.metis_outside.specs.Openings.{Openings}
-use Rattle.metis_text.specs.Reading.{Parts}
-use Rattle.metis_universe.specs.Universe.{Universe}
-use Rattle.metis_words.specs.Form.{Form}
-use Rattle.metis_words.specs.Forms.{PlanText}
-use Rattle.metis_words.specs.Words.{word_at}
-use Rattle.metis_inputs.specs.Commands.{goals_then, inputs_then, text_then, universe_then}
-use Rattle.metis_inputs.specs.Inputs.{Inputs, Meaning}
-use Rattle.metis_inputs.specs.Gathers.{Gathers}
-use Rattle.metis_inputs.specs.Views.{goals_and, goals_and_said, goals_and_then, goals_plan_and, goals_plan_and_said, goals_said, plan_and, plan_and_said, universe_and, universe_and_said}
+use Rattle.metis_outside.specs.Terms.{Openings}
+use Rattle.metis_text.specs.Terms.{Parts}
+use Rattle.metis_universe.specs.Terms.{Universe}
+use Rattle.metis_words.specs.Terms.{Form, PlanText, word_at}
+use Rattle.metis_inputs.specs.Terms.{Gathers, Inputs, Meaning, goals_and, goals_and_said, goals_and_then, goals_plan_and, goals_plan_and_said, goals_said, goals_then, inputs_then, plan_and, plan_and_said, text_then, universe_and, universe_and_said, universe_then}
 use Rattle.metis_inputs.specs.declared.asked.Asked.{Asked}
 use Rattle.metis_inputs.specs.declared.asked.GoalsAnd.{GoalsAnd}
 use Rattle.metis_inputs.specs.declared.asked.GoalsPlanAnd.{GoalsPlanAnd}

@@ -1,9 +1,9 @@
 -- A plan is what its text says.
 use Rattle.std.proofs.Common.{◌≡◌, List, [], ◌∷◌, map, refl, ap}
-use Rattle.metis_ids.specs.Plans.{Dup}
-use Rattle.metis_text.specs.Reads.{dup_row, parts_of}
+use Rattle.metis_ids.specs.Terms.{Dup}
+use Rattle.metis_text.specs.Terms.{dup_row, parts_of}
 use Rattle.metis_text.specs.declared.plan_text.PlanText.{PlanText}
-use Rattle.metis_inputs.specs.Inputs.{dup_said, plan_said}
+use Rattle.metis_inputs.specs.Terms.{dup_said, plan_said}
 
 pub dups_said : (ds : List Dup) → map dup_said (map dup_row ds) ≡ ds
 dups_said [] = refl

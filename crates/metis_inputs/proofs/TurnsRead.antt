@@ -9,9 +9,9 @@ use Rattle.std.specs.List.{filter_map, position_or_len}
 use Rattle.std.specs.Prelude.{is_some, position}
 use Rattle.std.specs.Result.{result_ok}
 use borrow.Author.Count.{below_more}
-use Rattle.metis_inputs.specs.Turns.{is_no_turn, turn_of, turns_of}
-use Rattle.metis_words.specs.Words.{unless_misfit}
-use Rattle.metis_tokens.specs.Tokens.{number_in}
+use Rattle.metis_inputs.specs.Terms.{is_no_turn, turn_of, turns_of}
+use Rattle.metis_words.specs.Terms.{unless_misfit}
+use Rattle.metis_tokens.specs.Terms.{number_in}
 use Rattle.metis_tokens.specs.declared.flaw.Flaw.{Flaw}
 
 -- ---- the first that passes a test

@@ -5,19 +5,14 @@
 --     command_script form, script_of words      the script of a command;  of the run of these words
 use Rattle.std.specs.Prelude.{ℕ, ◌+◌, ◌-◌, List, [], ◌∷◌, ◌++◌, length, nat_le, Option, Some, None, Result, Ok, Err, if◌then◌else◌}
 use Rattle.metis_ids.specs.declared.goals.Goal.{Goal}
-use Rattle.metis_place.specs.HostsText.{hosts_in}
-use Rattle.metis_text.specs.Reading.{plan_in}
-use Rattle.metis_text.specs.RefusalReading.{refusal_in}
-use Rattle.metis_tokens.specs.Flaws.{and_then}
-use Rattle.metis_ujson.specs.Document.{document_limit, universe_in}
-use Rattle.metis_universe.specs.GoalWords.{goal_named}
-use Rattle.metis_universe.specs.Universe.{Universe}
-use Rattle.metis_why_text.specs.WhyReading.{why_in}
-use Rattle.metis_wishes.specs.Reading.{wishes_in}
-use Rattle.metis_words.specs.Form.{Form}
-use Rattle.metis_words.specs.Forms.{Reading, NoFile, OfUniverse, OfGoals, TextKind, PlanText, RefusalText, WhyText, ScriptText, TurnsText, HostsText, WishesText, reading}
-use Rattle.metis_words.specs.TargetName.{TargetName}
-use Rattle.metis_words.specs.Words.{word_at, form_of}
+use Rattle.metis_place.specs.Terms.{hosts_in}
+use Rattle.metis_text.specs.Terms.{plan_in, refusal_in}
+use Rattle.metis_tokens.specs.Terms.{and_then}
+use Rattle.metis_ujson.specs.Terms.{document_limit, universe_in}
+use Rattle.metis_universe.specs.Terms.{Universe, goal_named}
+use Rattle.metis_why_text.specs.Terms.{why_in}
+use Rattle.metis_wishes.specs.Terms.{wishes_in}
+use Rattle.metis_words.specs.Terms.{Form, HostsText, NoFile, OfGoals, OfUniverse, PlanText, Reading, RefusalText, ScriptText, TargetName, TextKind, TurnsText, WhyText, WishesText, form_of, reading, word_at}
 use Rattle.metis_inputs.specs.Inputs.{Inputs, Meaning, Meanings}
 use Rattle.metis_inputs.specs.Script.{Script, Read, Fault, Reply}
 use Rattle.metis_inputs.specs.Turns.{turns_in}

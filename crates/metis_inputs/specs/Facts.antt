@@ -8,25 +8,19 @@ use Rattle.std.specs.Prelude.{◌≡◌, ◌≤◌, ◌<◌, ◌^◌, ℕ, List,
 use Rattle.std.specs.Coded.{×_prop, Unit-prop, le_prop}
 use Rattle.std.specs.List.{All}
 use Rattle.std.proofs.Props.{props}
-use Rattle.metis_ids.specs.Plans.{Plan}
+use Rattle.metis_ids.specs.Terms.{Plan}
 use Rattle.metis_ids.specs.declared.actions.Action.{Action}
 use Rattle.metis_ids.specs.declared.actions.Action.TheVariants.{New, Delete, Bind, Unbind, Move}
 use Rattle.metis_ids.specs.declared.events.Event.{Event}
 use Rattle.metis_ids.specs.declared.events.Event.TheVariants.{At, End}
 use Rattle.metis_ids.specs.declared.goals.Goal.{Goal}
 use Rattle.metis_ids.specs.declared.goals.Goal.TheVariants.{Pair, Port}
-use Rattle.metis_place.specs.Placement.{HostLists}
-use Rattle.metis_text.specs.InRange.{IsEventInRange}
-use Rattle.metis_text.specs.PlanText.{IsWellFormed}
-use Rattle.metis_text.specs.Reads.{lists_of}
+use Rattle.metis_place.specs.Terms.{HostLists}
+use Rattle.metis_text.specs.Terms.{IsEventInRange, IsWellFormed, lists_of}
 use Rattle.metis_text.specs.declared.plan_text.PlanText.{PlanText}
 use Rattle.metis_text.specs.declared.refusal_text.Refusal.{Refusal}
-use Rattle.metis_universe.specs.GoalWords.{IsWordable}
-use Rattle.metis_universe.specs.Goals.{IsGoalOf}
-use Rattle.metis_universe.specs.Numbers.{IsOf, NamesBelow}
-use Rattle.metis_universe.specs.Universe.{Universe, pair_count, type_count}
-use Rattle.metis_why.specs.Confirm.{IsLineOf}
-use Rattle.metis_why.specs.Barred.{IsNameable}
+use Rattle.metis_universe.specs.Terms.{IsGoalOf, IsOf, IsWordable, NamesBelow, Universe, pair_count, type_count}
+use Rattle.metis_why.specs.Terms.{IsLineOf, IsNameable}
 use Rattle.metis_why.specs.declared.reason.Explanation.{Explanation}
 use Rattle.metis_why.specs.declared.reason.Reason.{Reason}
 use Rattle.metis_why.specs.declared.reason.Reason.TheVariants.{Needs, Comes}

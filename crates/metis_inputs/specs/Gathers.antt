@@ -1,9 +1,7 @@
 -- What a part of a run reads, and what it comes to.
 use Rattle.std.specs.Prelude.{◌≡◌, ◌⊎◌, ℕ, Bool, true, false, List, [], ◌∷◌, Some, None, Result, Ok, Err}
 use Rattle.std.specs.declared.option.Option.{Option}
-use Rattle.metis_outside.specs.Faults.{Rose}
-use Rattle.metis_outside.specs.Openings.{Openings, grown}
-use Rattle.metis_outside.specs.Whole.{IsTaken}
+use Rattle.metis_outside.specs.Terms.{IsTaken, Openings, Rose, grown}
 use Rattle.metis_outside.specs.declared.whole.ReadAnswer.{ReadAnswer}
 use Rattle.metis_outside.specs.declared.whole.ReadAnswer.TheVariants as answer
 use Rattle.metis_inputs.specs.declared.stop.InputFault.TheVariants.{TooLong}

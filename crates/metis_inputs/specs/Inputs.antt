@@ -4,16 +4,14 @@
 --     plan_said parts      a plan, as its text says it
 use Rattle.std.specs.Prelude.{ℕ, List, [], ◌∷◌, map}
 use Rattle.metis_ids.specs.Plans as plans
-use Rattle.metis_ids.specs.Plans.{Dup}
+use Rattle.metis_ids.specs.Terms.{Dup}
 use Rattle.metis_ids.specs.declared.goals.Goal.{Goal}
-use Rattle.metis_place.specs.Placement.{HostLists}
-use Rattle.metis_text.specs.DupLine.{DupRow}
-use Rattle.metis_text.specs.Reading.{Parts}
-use Rattle.metis_text.specs.RefusalReading.{RefusalParts}
-use Rattle.metis_universe.specs.Universe.{Universe}
-use Rattle.metis_why_text.specs.WhyReading.{WhyParts}
+use Rattle.metis_place.specs.Terms.{HostLists}
+use Rattle.metis_text.specs.Terms.{DupRow, Parts, RefusalParts}
+use Rattle.metis_universe.specs.Terms.{Universe}
+use Rattle.metis_why_text.specs.Terms.{WhyParts}
 use Rattle.metis_wishes.specs.declared.wish.Wish.{Wish}
-use Rattle.metis_words.specs.Forms.{Reading, NoFile, OfUniverse, OfGoals, TextKind, PlanText, RefusalText, WhyText, ScriptText, TurnsText, HostsText, WishesText}
+use Rattle.metis_words.specs.Terms.{HostsText, NoFile, OfGoals, OfUniverse, PlanText, Reading, RefusalText, ScriptText, TextKind, TurnsText, WhyText, WishesText}
 
 -- what such a text says
 abbrev pub Meaning : TextKind → Type 0

@@ -7,3 +7,4 @@ pub mod Script
 pub mod Stops
 pub mod Turns
 pub mod Views
+pub mod Terms

@@ -6,9 +6,8 @@
 use Rattle.std.specs.Prelude.{◌≡◌, ℕ, ◌+◌, ◌<◌, List, Option, None, Some, IsSome, length, map, slice_get}
 use Rattle.std.specs.Option.{option_and_then}
 use Rattle.metis_ids.specs.declared.goals.Goal.{Goal}
-use Rattle.metis_universe.specs.GoalWords.{goal_named}
-use Rattle.metis_universe.specs.Universe.{Universe}
-use Rattle.metis_words.specs.TargetName.{TargetName}
+use Rattle.metis_universe.specs.Terms.{Universe, goal_named}
+use Rattle.metis_words.specs.Terms.{TargetName}
 use Rattle.metis_inputs.specs.declared.stop.InputFault.{InputFault}
 use Rattle.metis_inputs.specs.declared.stop.InputFault.TheVariants.{Word}
 

@@ -2,7 +2,7 @@
 use Rattle.std.specs.Prelude.{ℕ, List}
 use Rattle.metis_inputs.specs.Inputs.{Inputs}
 use Rattle.metis_inputs.specs.declared.stop.InputFault.{InputFault}
-use Rattle.metis_words.specs.Forms.{reading}
+use Rattle.metis_words.specs.Terms.{reading}
 use Rattle.metis_words.specs.declared.words.Verb.{Verb}
 
 -- A run reads the file of the word at a place, up to a limit, and goes on with the bytes that it took;

@@ -4,9 +4,9 @@
 use Rattle.std.specs.Prelude.{ℕ, Bool, not, ◌==◌, ◌||◌, List, Option, Result, is_some, position}
 use Rattle.std.specs.List.{filter, filter_map, slice_split}
 use Rattle.std.specs.Result.{result_ok}
-use Rattle.metis_tokens.specs.Tokens.{number_in}
-use Rattle.metis_universe.specs.Universe.{is_empty}
-use Rattle.metis_words.specs.Words.{unless_misfit}
+use Rattle.metis_tokens.specs.Terms.{number_in}
+use Rattle.metis_universe.specs.Terms.{is_empty}
+use Rattle.metis_words.specs.Terms.{unless_misfit}
 
 abbrev pub is_blank : ℕ → Bool
 is_blank byte = (byte == 32) || ((byte == 9) || ((byte == 13) || (byte == 10)))

@@ -6,10 +6,8 @@
 use Rattle.std.specs.Prelude.{ℕ, List, [], ◌∷◌}
 use Rattle.metis_ids.specs.declared.goals.Goal.{Goal}
 use Rattle.metis_text.specs.Reads as plan
-use Rattle.metis_universe.specs.Universe.{Universe}
-use Rattle.metis_words.specs.Form.{Form}
-use Rattle.metis_words.specs.Forms.{Reading, OfUniverse, OfGoals, TextKind, PlanText}
-use Rattle.metis_words.specs.Words.{word_at}
+use Rattle.metis_universe.specs.Terms.{Universe}
+use Rattle.metis_words.specs.Terms.{Form, OfGoals, OfUniverse, PlanText, Reading, TextKind, word_at}
 use Rattle.metis_inputs.specs.Commands.{goals_then, text_then}
 use Rattle.metis_inputs.specs.Inputs.{Inputs}
 use Rattle.metis_inputs.specs.Script.{Script}

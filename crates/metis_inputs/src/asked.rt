@@ -1,8 +1,7 @@
 //! What commands read.
 ghost use Rattle.std.specs.Prelude.{◌≤◌, length};
 ghost use Rattle.std.specs.List.{All};
-ghost use Rattle.metis_universe.specs.GoalWords.{IsWordable};
-ghost use Rattle.metis_universe.specs.Goals.{IsGoalOf};
+ghost use Rattle.metis_universe.specs.Terms.{IsGoalOf, IsWordable};
 ghost use Rattle.metis_inputs.specs.Facts.{AreGoalsOf-prop, AreWordable-prop};
 
 use crate::texts::Text;

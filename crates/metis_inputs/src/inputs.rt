@@ -1,10 +1,8 @@
 //! From the words of a command to its inputs, as the row of its verb says them. What was read before a fault is dropped by a call,
 //! which is proved once for all ways out.
 ghost use Rattle.std.specs.Prelude.{◌≤◌, []};
-ghost use Rattle.metis_words.specs.Forms.{OfUniverse, OfGoals, file_count, target_limit};
-ghost use Rattle.metis_inputs.specs.Commands.{inputs_then};
-ghost use Rattle.metis_inputs.specs.Gathers.{Gathers};
-ghost use Rattle.metis_inputs.specs.Views.{asked_said, goals_and, goals_and_said, goals_and_then, goals_plan_and, goals_plan_and_said, plan_and, plan_and_said, universe_and, universe_and_said, universe_said};
+ghost use Rattle.metis_words.specs.Terms.{OfGoals, OfUniverse, file_count, target_limit};
+ghost use Rattle.metis_inputs.specs.Terms.{Gathers, asked_said, goals_and, goals_and_said, goals_and_then, goals_plan_and, goals_plan_and_said, inputs_then, plan_and, plan_and_said, universe_and, universe_and_said, universe_said};
 
 use crate::asked::{Asked, GoalsAnd, GoalsPlanAnd, PlanAnd, UniverseAnd};
 use crate::reading::{goals_from, text_from, universe_from};

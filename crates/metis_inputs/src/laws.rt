@@ -1,11 +1,10 @@
 //! Laws of what target words mean.
 ghost use Rattle.std.specs.Prelude.{◌≡◌, ◌↔◌, ℕ, List, Ok, Err};
-ghost use Rattle.metis_inputs.specs.Commands.{goals_named};
-ghost use Rattle.metis_inputs.specs.NamedGoals.{AreGoals, IsFirstNoGoal};
+ghost use Rattle.metis_inputs.specs.Terms.{AreGoals, IsFirstNoGoal, goals_named};
 ghost use Rattle.metis_inputs.specs.declared.stop.InputFault.{InputFault};
 ghost use Rattle.metis_ids.specs.declared.goals.Goal.{Goal};
-ghost use Rattle.metis_universe.specs.Universe.{Universe};
-ghost use Rattle.metis_words.specs.TargetName.{TargetName};
+ghost use Rattle.metis_universe.specs.Terms.{Universe};
+ghost use Rattle.metis_words.specs.Terms.{TargetName};
 
 /// Targets come to the goals that they mean, one each; else the first word is told that means none.
 pub fn goals_are_named_word_by_word()

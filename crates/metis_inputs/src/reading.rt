@@ -1,11 +1,8 @@
 //! From files to what they mean.
 ghost use Rattle.std.specs.Prelude.{◌≡◌, ◌<◌, ◌≤◌, ◌^◌, length, IfOk};
 ghost use Rattle.std.specs.List.{All};
-ghost use Rattle.metis_universe.specs.GoalWords.{IsWordable};
-ghost use Rattle.metis_universe.specs.Goals.{IsGoalOf};
-ghost use Rattle.metis_inputs.specs.Commands.{bytes_then, goals_then, targets_then, text_then, universe_in_then, universe_then};
-ghost use Rattle.metis_inputs.specs.Gathers.{Gathers, Judges, or_stop};
-ghost use Rattle.metis_inputs.specs.Views.{goals_said};
+ghost use Rattle.metis_universe.specs.Terms.{IsGoalOf, IsWordable};
+ghost use Rattle.metis_inputs.specs.Terms.{Gathers, Judges, bytes_then, goals_said, goals_then, or_stop, targets_then, text_then, universe_in_then, universe_then};
 
 use crate::asked::Asked;
 use crate::stop::{InputFault, Stop};

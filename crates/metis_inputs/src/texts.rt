@@ -3,8 +3,8 @@ ghost use Rattle.std.specs.Prelude.{◌≡◌, ◌≤◌, IfOk, length};
 ghost use Rattle.metis_inputs.specs.Commands.{text_in_then, text_limit};
 ghost use Rattle.metis_inputs.specs.Inputs.{Meaning};
 ghost use Rattle.metis_inputs.specs.Gathers.{Judges};
-ghost use Rattle.metis_universe.specs.Universe.{Universe};
-ghost use Rattle.metis_words.specs.Forms.{TextKind};
+ghost use Rattle.metis_universe.specs.Terms.{Universe};
+ghost use Rattle.metis_words.specs.Terms.{TextKind};
 
 use crate::stop::{InputFault, Stop};
 use crate::turns::read_turns;

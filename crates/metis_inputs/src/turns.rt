@@ -1,8 +1,6 @@
 //! The text of a crew's turns.
 ghost use Rattle.std.specs.Prelude.{◌≡◌, ◌<◌, ◌≤◌, ◌+◌, ◌-◌, ◌^◌, IfOk, length, map};
-ghost use Rattle.metis_inputs.specs.Commands.{turns_then};
-ghost use Rattle.metis_inputs.specs.Gathers.{Judges};
-ghost use Rattle.metis_inputs.specs.Turns.{is_blank, turn_tokens, turns_in, turns_of};
+ghost use Rattle.metis_inputs.specs.Terms.{Judges, is_blank, turn_tokens, turns_in, turns_of, turns_then};
 
 use crate::stop::{InputFault, Stop};
 use metis_ids::InstNo;

@@ -8,9 +8,7 @@ use Rattle.std.specs.Option.{option_map_or}
 use Rattle.std.specs.Prelude.{nat_le, replicate}
 use Rattle.metis_ids.proofs.Lists.{has-replicate}
 use Rattle.metis_universe.proofs.Greatest.{demand_least}
-use Rattle.metis_universe.specs.Layers.{layer_of}
-use Rattle.metis_universe.specs.Selection.{provider_of}
-use Rattle.metis_universe.specs.Universe.{Universe, IsUniverse, demand_of, greatest_demand, has, pair_count, port_count, provides, required_of, requires}
+use Rattle.metis_universe.specs.Terms.{IsUniverse, Universe, demand_of, greatest_demand, has, layer_of, pair_count, port_count, provider_of, provides, required_of, requires}
 use Rattle.metis_layers.proofs.Copies.{block_back, block_own, block_slot, copies, copies-push, length-copies, slice_get-copies}
 use Rattle.metis_layers.proofs.LayerFacts.{HasLayer, layer_below, layer_free, provider_at}
 use Rattle.metis_layers.proofs.SlotLines.{AreWays, free_needs}
@@ -18,7 +16,7 @@ use Rattle.metis_layers.proofs.SlotLists.{wants_required}
 use Rattle.metis_layers.proofs.Slots.{IsFilled}
 use Rattle.metis_layers.proofs.Standing.{AllLayered, HasSomeLayer, Rising, has-append, place_in, provider_stands, rising-suffix, standing_layer, standing_rises}
 use Rattle.metis_layers.proofs.Ways.{FilledUpTo, HaveOrigins, all_has, layered_pair, ways_on}
-use Rattle.metis_layers.specs.LayerOrder.{line_ends, path_to, place_of, slot_holder, standing_pairs}
+use Rattle.metis_layers.specs.Terms.{line_ends, path_to, place_of, slot_holder, standing_pairs}
 
 -- ---- which instance is which slot
 

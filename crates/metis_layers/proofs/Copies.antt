@@ -10,7 +10,7 @@ use Rattle.std.specs.List.{flat_map, slice_get}
 use Rattle.std.specs.Prelude.{nat_le, replicate}
 use Rattle.metis_layers.proofs.Repeated.{in_copies, past_copies}
 use Rattle.metis_ids.proofs.Lists.{has-replicate}
-use Rattle.metis_universe.specs.Universe.{has}
+use Rattle.metis_universe.specs.Terms.{has}
 
 abbrev pub copies : ℕ → List ℕ → List ℕ
 copies g xs = flat_map (replicate g) xs

@@ -6,17 +6,14 @@ use Rattle.std.proofs.lemmas.Bool.{both_ways, cases_Bool, eq-eqb, ne_eqb, and_pa
 use Rattle.std.proofs.lemmas.List.Folds.{find-append}
 use Rattle.std.proofs.lemmas.List.FromFn.{fill_by_all, get_or-map-range_with_len, length-map-range_with_len, length-range_with_len}
 use Rattle.std.specs.Cmp.{both_ways as same_bool}
-use Rattle.metis_ids.specs.PairSet.{PairSet}
+use Rattle.metis_ids.specs.Terms.{PairSet}
 use Rattle.metis_ids.proofs.Finding.{found, not_found}
 use Rattle.metis_ids.proofs.Lists.{has-filter, has_below, has_range, in_range}
 use Rattle.metis_ids.proofs.Options.{none_from_is_none}
-use Rattle.metis_universe.specs.Layers.{layer_set}
-use Rattle.metis_universe.specs.Universe.{Universe, all_pairs, has, is_free, pair_count, port_count, provides}
+use Rattle.metis_universe.specs.Terms.{Universe, all_pairs, has, is_free, layer_set, pair_count, port_count, provides}
 use Rattle.metis_universe.proofs.Rounds.{among_all, comes_early, grows_to, layers_grow}
 use Rattle.metis_universe.proofs.PortRows.{Rises}
-use Rattle.metis_layers.specs.LayerOrder.{attained_pairs}
-use Rattle.metis_layers.specs.Layers.{IsLayers, found_before, is_round, of_round, order_by}
-use Rattle.metis_layers.specs.Work.{IsAt, come_before, new_at}
+use Rattle.metis_layers.specs.Terms.{IsAt, IsLayers, attained_pairs, come_before, found_before, is_round, new_at, of_round, order_by}
 use Rattle.metis_layers.specs.declared.work.Work.{Work}
 use Rattle.metis_layers.proofs.Layered.{is_layers}
 use Rattle.metis_layers.proofs.RoundFacts.{kept_rises, rises_same}

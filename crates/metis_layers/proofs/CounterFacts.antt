@@ -13,11 +13,10 @@ use Rattle.std.proofs.lemmas.List.{get_or_default, get_or-set_same, get_or-set_o
 use Rattle.std.proofs.lemmas.List.Elements.{recursion_from_All}
 use Rattle.std.proofs.Math.Bool.{or-false}
 use Rattle.std.proofs.lemmas.Option.{slice_get_within}
-use Rattle.metis_universe.specs.Universe.{Universe, IsUniverse, all_pairs, has, next_of, no_pair, pair_count, port_count, provided_of, required_of, requires, type_of, requirers_of}
+use Rattle.metis_universe.specs.Terms.{IsUniverse, Universe, all_pairs, has, next_of, no_pair, pair_count, port_count, provided_of, required_of, requirers_of, requires, type_of}
 use Rattle.metis_universe.proofs.PortRows.{Rises, rises, rising_few}
-use Rattle.metis_layers.specs.Counters.{Counters, IsSettled, IsTallied, comes, unmet_of}
-use Rattle.metis_ids.specs.Counts.{occurrences}
-use Rattle.metis_layers.specs.Reading.{offer_cost, total, unoffered}
+use Rattle.metis_layers.specs.Terms.{Counters, IsSettled, IsTallied, comes, offer_cost, total, unmet_of, unoffered}
+use Rattle.metis_ids.specs.Terms.{occurrences}
 
 -- ---- who comes
 

@@ -10,14 +10,11 @@ use Rattle.std.specs.Option.{option_map_or}
 use Rattle.metis_ids.specs.declared.actions.Action.{Action}
 use Rattle.metis_ids.specs.declared.actions.Action.TheVariants.{Move}
 use Rattle.metis_universe.proofs.Rounds.{has-filter, layers_grow, grows_to}
-use Rattle.metis_universe.specs.Layers.{is_in_layer, layer_set, layered}
-use Rattle.metis_universe.specs.Selection.{origin_of}
-use Rattle.metis_universe.specs.Universe.{Universe, all_pairs, has, is_free, pair_count}
+use Rattle.metis_universe.specs.Terms.{Universe, all_pairs, has, is_free, is_in_layer, layer_set, layered, origin_of, pair_count}
 use Rattle.metis_layers.proofs.LayerFacts.{in_layer, layer_below, layer_has}
-use Rattle.metis_ids.specs.Action.{makes}
+use Rattle.metis_ids.specs.Terms.{makes}
 use Rattle.metis_ids.proofs.Lists.{filter_short}
-use Rattle.metis_layers.specs.LayerOrder.{attained_pairs, instances_of, is_standing, path_to, path_within, standing_pairs}
-use Rattle.metis_layers.specs.SlotLines.{slot_binds, slot_line, slot_lines, slot_move, slot_moves, slot_unbinds, slots_gained}
+use Rattle.metis_layers.specs.Terms.{attained_pairs, instances_of, is_standing, path_to, path_within, slot_binds, slot_line, slot_lines, slot_move, slot_moves, slot_unbinds, slots_gained, standing_pairs}
 
 -- ---- kept elements
 

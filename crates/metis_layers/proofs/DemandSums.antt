@@ -3,8 +3,7 @@ use Rattle.std.proofs.Common.{◌≡◌, ℕ, zero, suc, ◌+◌, ◌≤◌, tru
 use Rattle.std.proofs.lemmas.Bool.{eq-eqb, false≢true, ne_eqb, or_left, or_right}
 use Rattle.std.proofs.lemmas.List.Sums.{sum_by-cons}
 use Rattle.std.specs.List.{position_or_len, slice_index_or, sum}
-use Rattle.metis_universe.specs.Config.{AreDifferent}
-use Rattle.metis_universe.specs.Universe.{Universe, IsUniverse, demand_of, demand_total, further_of, has, pair_at, required_of}
+use Rattle.metis_universe.specs.Terms.{AreDifferent, IsUniverse, Universe, demand_of, demand_total, further_of, has, pair_at, required_of}
 use Rattle.metis_layers.proofs.SlotLists.{required_differ}
 
 -- what the second list has at the place of the number in the first

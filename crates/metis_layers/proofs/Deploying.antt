@@ -4,9 +4,7 @@ use Rattle.std.proofs.lemmas.Bool.{eq-eqb, ne_eqb, cases_eq}
 use Rattle.std.specs.List.{list_any, slice_get}
 use Rattle.std.specs.Option.{option_map_or}
 use Rattle.metis_ids.specs.declared.actions.Action.{Action}
-use Rattle.metis_universe.specs.Config.{pair_of, is_bound}
-use Rattle.metis_universe.specs.Steadfast.{is_new}
-use Rattle.metis_universe.specs.Universe.{Universe, requires, provides}
+use Rattle.metis_universe.specs.Terms.{Universe, is_bound, is_new, pair_of, provides, requires}
 use Rattle.metis_layers.proofs.Going.{at}
 
 -- ---- who stands where

@@ -13,16 +13,12 @@ use Rattle.metis_ids.proofs.Tests.{eq_comm}
 use Rattle.metis_universe.proofs.Demands.{IsMet-slots}
 use Rattle.metis_universe.proofs.Edits.{pair_of-put, is_bound-tie, is_bound-untie}
 use Rattle.metis_universe.proofs.Frames.{bindings-after_all}
-use Rattle.metis_universe.specs.Config.{Correct, IsProvider, empty, pair_of, is_bound, is_tie}
-use Rattle.metis_universe.specs.Step.{CanBind}
-use Rattle.metis_universe.specs.Steadfast.{is_steadfast_after}
-use Rattle.metis_universe.specs.Universe.{Universe, demand_of, type_of, initial_of, next_of, provides, type_requires, type_provides, has}
-use Rattle.metis_universe.specs.Waits.{standing}
+use Rattle.metis_universe.specs.Terms.{CanBind, Correct, IsProvider, Universe, demand_of, empty, has, initial_of, is_bound, is_steadfast_after, is_tie, next_of, pair_of, provides, standing, type_of, type_provides, type_requires}
 use Rattle.metis_universe.proofs.Bindings.{unprovided}
 use Rattle.metis_layers.proofs.Deploying.{slice_get-before, slice_get-push}
 use Rattle.metis_layers.proofs.Going.{at, at-next, GoesOn, no_news, type_provides-own}
 use Rattle.metis_layers.proofs.Slots.{IsFilled, AreServed, IsAt, Stand, wants, ends_want, bound_slots, adding, dropping, Fresh, Ready, with_all, without_all, has_slot, here, later}
-use Rattle.metis_layers.specs.SlotLines.{slot_binds, slot_unbinds}
+use Rattle.metis_layers.specs.Terms.{slot_binds, slot_unbinds}
 use Rattle.metis_ids.proofs.Lists.{get_at_end}
 
 -- ---- tests

@@ -7,9 +7,7 @@ use Rattle.std.specs.Option.{option_map_or, option_and_then}
 use Rattle.metis_ids.proofs.Finding.{none_found}
 use Rattle.metis_ids.proofs.Lists.{all_has}
 use Rattle.metis_universe.proofs.Rounds.{has-filter, layer_of-least}
-use Rattle.metis_universe.specs.Layers.{layer_set, layer_of, is_in_layer, is_enabled, IsLeastRound}
-use Rattle.metis_universe.specs.Selection.{provider_of, origin_of, origin_below}
-use Rattle.metis_universe.specs.Universe.{Universe, all_pairs, pair_count, is_free, next_of, required_of, requires, provides, has}
+use Rattle.metis_universe.specs.Terms.{IsLeastRound, Universe, all_pairs, has, is_enabled, is_free, is_in_layer, layer_of, layer_set, next_of, origin_below, origin_of, pair_count, provider_of, provides, required_of, requires}
 
 -- what some number of a list passes
 pub record SomeOf (t : ℕ → Bool) (xs : List ℕ) : Type 0 where

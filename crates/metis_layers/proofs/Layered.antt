@@ -2,12 +2,10 @@
 use Rattle.std.proofs.Common.{◌≡◌, ℕ, ◌<◌, List, map, length, get_or, Option, None, sym, ap, ◌∙◌, subst}
 use Rattle.std.proofs.lemmas.List.Elements.{All-from_recursion}
 use Rattle.std.specs.List.{All, filter, find, flat_map, range_with_len}
-use Rattle.metis_ids.specs.PairSet.{PairSet}
-use Rattle.metis_universe.specs.Layers.{is_in_layer, layer_of, layered}
-use Rattle.metis_universe.specs.Universe.{Universe, all_pairs, pair_count, port_count, provides}
+use Rattle.metis_ids.specs.Terms.{PairSet}
+use Rattle.metis_universe.specs.Terms.{Universe, all_pairs, is_in_layer, layer_of, layered, pair_count, port_count, provides}
 use Rattle.metis_layers.proofs.Tables.{all_low, entries_count, entry, kept_alike}
-use Rattle.metis_layers.specs.LayerOrder.{attained_pairs}
-use Rattle.metis_layers.specs.Layers.{IsLayers, found_before, is_round, of_round, order_by}
+use Rattle.metis_layers.specs.Terms.{IsLayers, attained_pairs, found_before, is_round, of_round, order_by}
 
 module _ (u : Universe) (rounds : List (Option ℕ)) (known : rounds ≡ map (found_before u (pair_count u)) (all_pairs u)) where
   count : length rounds ≡ pair_count u

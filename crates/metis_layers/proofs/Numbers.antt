@@ -5,12 +5,11 @@ use Rattle.std.proofs.lemmas.List.{get_or_past}
 use Rattle.std.proofs.lemmas.List.Elements.{All-append, All-cons, All-map, All-nil, recursion_from_All}
 use Rattle.std.specs.List.{All, AllByRecursion}
 use Rattle.metis_ids.specs.declared.actions.Action.TheVariants.{New, Bind, Unbind, Move}
-use Rattle.metis_universe.specs.Numbers.{IsOf}
-use Rattle.metis_universe.specs.Universe.{Universe, IsUniverse, demand_of, has, next_of, no_pair, pair_count, port_count, required_of, type_of}
+use Rattle.metis_universe.specs.Terms.{IsOf, IsUniverse, Universe, demand_of, has, next_of, no_pair, pair_count, port_count, required_of, type_of}
 use Rattle.metis_layers.proofs.SlotLines.{AreHops as AreSlotHops, AreWays as AreSlotWays, IsWay as IsSlotWay, end_of as end_pair}
 use Rattle.metis_layers.proofs.SlotLists.{slots_of}
 use Rattle.metis_layers.proofs.Ways.{all_has}
-use Rattle.metis_layers.specs.SlotLines.{slot_binds, slot_line, slot_lines, slot_move, slot_moves, slot_unbinds, slots_above, slots_gained}
+use Rattle.metis_layers.specs.Terms.{slot_binds, slot_line, slot_lines, slot_move, slot_moves, slot_unbinds, slots_above, slots_gained}
 
 module _ (u : Universe) (k : IsUniverse u) where
   -- only pairs of the universe lead on, and only to its pairs

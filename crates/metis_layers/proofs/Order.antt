@@ -13,12 +13,7 @@ use Rattle.std.specs.declared.cmp.Ordering.TheVariants.{Less}
 use Rattle.metis_ids.specs.declared.actions.Action.{Action}
 use Rattle.metis_universe.proofs.Kept.{IsConfig-after_all, IsConfig-empty}
 use Rattle.metis_universe.proofs.Same.{numbers_exact, same_entries}
-use Rattle.metis_universe.specs.Config.{empty}
-use Rattle.metis_universe.specs.Goal.{Attainable, IsAttainedSet, holding}
-use Rattle.metis_universe.specs.Selection.{origin_of}
-use Rattle.metis_universe.specs.Layers.{is_enabled, layer_of, layer_set}
-use Rattle.metis_universe.specs.Step.{IsRun, after_all}
-use Rattle.metis_universe.specs.Universe.{Universe, IsUniverse, greatest_demand, has, is_free, pair_count}
+use Rattle.metis_universe.specs.Terms.{Attainable, IsAttainedSet, IsRun, IsUniverse, Universe, after_all, empty, greatest_demand, has, holding, is_enabled, is_free, layer_of, layer_set, origin_of, pair_count}
 use Rattle.metis_layers.proofs.ByLayer.{order_ways, slot_at, slot_back}
 use Rattle.metis_layers.proofs.Copies.{copies, length-copies}
 use Rattle.metis_layers.proofs.Counts.{count-append, count-enumerate, enumerate_ascends, lookup-enumerate, slot_lines_make, standing_few}
@@ -31,7 +26,7 @@ use Rattle.metis_layers.proofs.Standing.{AllLayered, HasSomeLayer}
 use Rattle.metis_universe.proofs.Attained.{Closed-layers}
 use Rattle.metis_universe.proofs.Inside.{refused}
 use Rattle.std.specs.Prelude.{IsSome}
-use Rattle.metis_layers.specs.LayerOrder.{Deploys, attained_pairs, layer_order, line_ends, path_to, path_within, slot_holder, standing_pairs}
+use Rattle.metis_layers.specs.Terms.{Deploys, attained_pairs, layer_order, line_ends, path_to, path_within, slot_holder, standing_pairs}
 
 module _ (u : Universe) where
   -- a path ends in its pair

@@ -6,8 +6,8 @@ use Rattle.std.proofs.Math.Nat.{suc-mul}
 use Rattle.std.proofs.lemmas.Bool.{eq-eqb, false≢true, ne_eqb, or_cases, or_left, or_right}
 use Rattle.std.proofs.lemmas.List.{length-replicate}
 use Rattle.metis_ids.proofs.Lists.{has-append, has-replicate}
-use Rattle.metis_universe.specs.Universe.{has}
-use Rattle.metis_layers.specs.LayerOrder.{place_of}
+use Rattle.metis_universe.specs.Terms.{has}
+use Rattle.metis_layers.specs.Terms.{place_of}
 
 abbrev pub blocks : (ℕ → ℕ) → List ℕ → List ℕ
 blocks f ps = flat_map (λ p. replicate (f p) p) ps

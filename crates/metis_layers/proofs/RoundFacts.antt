@@ -13,10 +13,8 @@ use Rattle.std.specs.Cmp.{both_ways as same_bool}
 use Rattle.metis_ids.proofs.Finding.{find_none, not_found}
 use Rattle.metis_ids.proofs.Lists.{any_at, has-append, has-filter, has_at, has_below, has_here, has_range, some_member, range_next}
 use Rattle.metis_ids.proofs.Options.{none_from_is_none}
-use Rattle.metis_universe.specs.Layers.{is_enabled, layer_set}
-use Rattle.metis_universe.specs.Universe.{Universe, IsUniverse, all_pairs, has, is_free, next_of, pair_count, provides, required_of}
-use Rattle.metis_layers.specs.Layers.{found_before}
-use Rattle.metis_layers.specs.Work.{IsRead, come_before, new_at}
+use Rattle.metis_universe.specs.Terms.{IsUniverse, Universe, all_pairs, has, is_enabled, is_free, layer_set, next_of, pair_count, provides, required_of}
+use Rattle.metis_layers.specs.Terms.{IsRead, come_before, found_before, new_at}
 use Rattle.metis_universe.proofs.PortRows.{Rises, rises}
 use Rattle.metis_layers.proofs.CounterFacts.{comes_by, next_within}
 

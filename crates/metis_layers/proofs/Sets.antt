@@ -10,7 +10,7 @@ use Rattle.std.specs.List.{filter, list_any, range_with_len, slice_get}
 use Rattle.metis_ids.proofs.Inserted.{has-insert_key}
 use Rattle.metis_ids.proofs.Lists.{range_more}
 use Rattle.metis_universe.proofs.Rounds.{has-filter}
-use Rattle.metis_universe.specs.Universe.{has}
+use Rattle.metis_universe.specs.Terms.{has}
 use Rattle.metis_layers.proofs.Ways.{in_range}
 
 -- ---- a range and one more

@@ -11,8 +11,7 @@ use Rattle.std.specs.Prelude.{IsSome}
 use Rattle.metis_ids.specs.declared.actions.Action.{Action}
 use Rattle.metis_ids.specs.declared.actions.Action.TheVariants.{Bind, Unbind, Move}
 use Rattle.metis_universe.proofs.Rounds.{grows_to, layers_grow}
-use Rattle.metis_universe.specs.Layers.{layer_of, layer_set}
-use Rattle.metis_universe.specs.Universe.{Universe, IsTable, IsUniverse, IsWithinLimits, all_pairs, demand_of, demand_total, has, next_of, pair_at, pair_count, required_of, type_of}
+use Rattle.metis_universe.specs.Terms.{IsTable, IsUniverse, IsWithinLimits, Universe, all_pairs, demand_of, demand_total, has, layer_of, layer_set, next_of, pair_at, pair_count, required_of, type_of}
 use Rattle.metis_layers.proofs.Counts.{slot_lines_make}
 use Rattle.metis_layers.proofs.DemandSums.{demands_within}
 use Rattle.metis_layers.proofs.LayerFacts.{layer_first, layer_has, layer_pair, no_origin, origin_at}
@@ -20,8 +19,7 @@ use Rattle.metis_layers.proofs.Order.{layered_some}
 use Rattle.metis_layers.proofs.Standing.{AllLayered, ends_layered}
 use Rattle.metis_layers.proofs.TypeWeights.{is_of, kept_besides, kept_more, type_weight, weight}
 use Rattle.metis_layers.proofs.Ways.{all_has, layered_pair}
-use Rattle.metis_layers.specs.LayerOrder.{instances_of, layer_order, line_ends, path_to, path_within, slot_holder}
-use Rattle.metis_layers.specs.SlotLines.{slot_binds, slot_line, slot_lines, slot_move, slot_moves, slot_unbinds, slots_above, slots_gained}
+use Rattle.metis_layers.specs.Terms.{instances_of, layer_order, line_ends, path_to, path_within, slot_binds, slot_holder, slot_line, slot_lines, slot_move, slot_moves, slot_unbinds, slots_above, slots_gained}
 
 -- ---- how many actions a path asks for
 

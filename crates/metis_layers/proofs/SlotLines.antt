@@ -7,14 +7,13 @@ use Rattle.std.proofs.lemmas.Option.{slice_get_past}
 use Rattle.metis_ids.specs.declared.actions.Action.{Action}
 use Rattle.metis_ids.specs.declared.actions.Action.TheVariants.{New, Move}
 use Rattle.metis_universe.proofs.Demands.{demand_none}
-use Rattle.metis_universe.specs.Config.{Correct}
-use Rattle.metis_universe.specs.Universe.{Universe, IsUniverse, demand_of, type_count, type_of, initial_of, is_free, is_empty, is_initial, next_of, required_of, type_requires, has}
+use Rattle.metis_universe.specs.Terms.{Correct, IsUniverse, Universe, demand_of, has, initial_of, is_empty, is_free, is_initial, next_of, required_of, type_count, type_of, type_requires}
 use Rattle.metis_layers.proofs.Deploying.{slice_get-before, slice_get-push}
 use Rattle.metis_layers.proofs.Going.{at-next, GoesOn, GoesOn-append, type_requires-own}
 use Rattle.metis_layers.proofs.Hops.{at_begin, at_move, at_retest, at_finish, binds_go, unbinds_go, move_goes, correct_at}
 use Rattle.metis_layers.proofs.SlotLists.{gained_apart, has_gained, wants_required}
 use Rattle.metis_layers.proofs.Slots.{IsFilled, AreServed, IsAt, Stand, all_fresh, all_ready, between, between_needed, ends_want, exchanged, has_slot, needed_before, none_between, none_to_none, up_to, wants, with_all, with_all-has, without_all, without_all-has}
-use Rattle.metis_layers.specs.SlotLines.{slot_binds, slot_line, slot_lines, slot_move, slot_moves, slot_unbinds, slots_gained}
+use Rattle.metis_layers.specs.Terms.{slot_binds, slot_line, slot_lines, slot_move, slot_moves, slot_unbinds, slots_gained}
 
 -- ---- hops and ways
 

@@ -10,10 +10,9 @@ use Rattle.std.specs.List.Sorted.{IsStrictlyIncreasing, IsStrictlySortedBy}
 use Rattle.metis_ids.proofs.Lists.{has_range, none_above}
 use Rattle.metis_ids.proofs.Tests.{eq_comm}
 use Rattle.metis_universe.proofs.Demands.{demand_none}
-use Rattle.metis_universe.specs.Config.{AreDifferent}
-use Rattle.metis_universe.specs.Universe.{Universe, IsUniverse, demand_of, has, no_pair, pair_count, required_of, requires}
+use Rattle.metis_universe.specs.Terms.{AreDifferent, IsUniverse, Universe, demand_of, has, no_pair, pair_count, required_of, requires}
 use Rattle.metis_layers.proofs.Slots.{AreApart, between, has_slot, none_from_none, wants}
-use Rattle.metis_layers.specs.SlotLines.{slots_above, slots_gained}
+use Rattle.metis_layers.specs.Terms.{slots_above, slots_gained}
 
 -- ---- numbers
 

@@ -7,9 +7,7 @@ use Rattle.std.specs.List.{list_any, slice_get}
 use Rattle.std.specs.Option.{option_map_or}
 use Rattle.std.specs.Prelude.{nat_le}
 use Rattle.metis_ids.specs.declared.actions.Action.{Action}
-use Rattle.metis_universe.specs.Config.{pair_of, is_bound}
-use Rattle.metis_universe.specs.Steadfast.{is_new}
-use Rattle.metis_universe.specs.Universe.{Universe, demand_of, provides}
+use Rattle.metis_universe.specs.Terms.{Universe, demand_of, is_bound, is_new, pair_of, provides}
 use Rattle.metis_layers.proofs.Going.{at}
 
 -- ---- which slots a pair needs

@@ -5,12 +5,10 @@ use Rattle.std.proofs.lemmas.List.Folds.{list_any-append}
 use Rattle.std.specs.List.{list_any, filter, flat_map, range_with_len, slice_get}
 use Rattle.std.specs.Option.{option_map_or}
 use Rattle.metis_universe.proofs.Rounds.{has-filter}
-use Rattle.metis_universe.specs.Layers.{is_in_layer, layer_of, layered}
-use Rattle.metis_universe.specs.Selection.{provider_of}
-use Rattle.metis_universe.specs.Universe.{Universe, all_pairs, greatest_demand, has, pair_count, port_count}
+use Rattle.metis_universe.specs.Terms.{Universe, all_pairs, greatest_demand, has, is_in_layer, layer_of, layered, pair_count, port_count, provider_of}
 use Rattle.metis_layers.proofs.Copies.{copies, has-copies}
 use Rattle.metis_layers.proofs.LayerFacts.{among_layer, in_layer, layer_below}
-use Rattle.metis_layers.specs.LayerOrder.{is_provider, is_standing, line_ends, place_of, standing_pairs}
+use Rattle.metis_layers.specs.Terms.{is_provider, is_standing, line_ends, place_of, standing_pairs}
 
 -- ---- lists
 

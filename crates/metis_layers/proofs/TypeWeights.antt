@@ -6,7 +6,7 @@ use Rattle.std.proofs.lemmas.List.{get_or_default, same_lists}
 use Rattle.std.proofs.lemmas.List.FromFn.{get_or-map-range_with_len, length-map-range_with_len}
 use Rattle.std.proofs.lemmas.List.Sums.{sum_by-cons}
 use Rattle.std.specs.List.{filter}
-use Rattle.metis_universe.specs.Universe.{Universe, Pair, IsWithinLimits, all_pairs, demand_total, has, no_pair, pair_at, pair_count, states_of_type, type_of}
+use Rattle.metis_universe.specs.Terms.{IsWithinLimits, Pair, Universe, all_pairs, demand_total, has, no_pair, pair_at, pair_count, states_of_type, type_of}
 
 -- ---- sums over what tests keep
 

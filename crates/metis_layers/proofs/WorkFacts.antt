@@ -10,11 +10,8 @@ use Rattle.std.proofs.lemmas.List.Folds.{find-append, list_any-append}
 use Rattle.std.proofs.Math.Bool.{or-false}
 use Rattle.metis_ids.proofs.Lists.{has-push}
 use Rattle.metis_universe.proofs.PortRows.{Rises, rises}
-use Rattle.metis_universe.specs.Universe.{Universe, IsUniverse, all_pairs, has, next_of, no_pair, pair_count, port_count, provided_of, provides, required_of, requirers_of}
-use Rattle.metis_layers.specs.Counters.{IsTallied}
-use Rattle.metis_layers.specs.Reading.{counted_bound, offer_cost, require_entries, total, unoffered, unvisited, visit_cost}
-use Rattle.metis_layers.specs.Layers.{found_before}
-use Rattle.metis_layers.specs.Work.{IsRead}
+use Rattle.metis_universe.specs.Terms.{IsUniverse, Universe, all_pairs, has, next_of, no_pair, pair_count, port_count, provided_of, provides, required_of, requirers_of}
+use Rattle.metis_layers.specs.Terms.{IsRead, IsTallied, counted_bound, found_before, offer_cost, require_entries, total, unoffered, unvisited, visit_cost}
 
 pub read_more : (u : Universe) (led led' : List Bool) (unmet unmet' : List ℕ) (first first' : List (Option ℕ)) (done : List ℕ) (p : ℕ) → IsRead u led unmet first done →
     length first' ≡ port_count u →

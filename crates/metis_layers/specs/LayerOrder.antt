@@ -12,18 +12,10 @@
 use Rattle.std.specs.Prelude.{ℕ, ◌+◌, ◌-◌, ◌*◌, ◌==◌, ◌≤◌, Bool, false, List, ◌++◌, length, map, flat_map, filter, replicate}
 use Rattle.std.specs.List.{All, list_any, position_or_len, range_with_len}
 use Rattle.std.specs.Option.{option_map_or}
-use Rattle.metis_ids.specs.Action.{makes}
+use Rattle.metis_ids.specs.Terms.{makes, path_by}
 use Rattle.metis_ids.specs.declared.actions.Action.{Action}
-use Rattle.metis_universe.specs.Universe.{Universe, greatest_demand, pair_count, port_count}
-use Rattle.metis_universe.specs.Config.{empty}
-use Rattle.metis_universe.specs.Goal.{Holds}
-use Rattle.metis_universe.specs.Layers.{layer_set, layered}
-use Rattle.metis_universe.specs.Selection.{provider_of, origin_of}
-use Rattle.metis_universe.specs.Numbers.{IsOf}
-use Rattle.metis_universe.specs.Steadfast.{IsSteadfastRun}
-use Rattle.metis_universe.specs.Step.{after_all}
+use Rattle.metis_universe.specs.Terms.{Holds, IsOf, IsSteadfastRun, Universe, after_all, empty, greatest_demand, layer_set, layered, origin_of, pair_count, port_count, provider_of}
 use Rattle.metis_layers.specs.SlotLines.{slot_lines}
-use Rattle.metis_ids.specs.Paths.{path_by}
 
 -- whether the pair is the port's first provider
 abbrev pub is_provider : Universe → ℕ → ℕ → Bool

@@ -7,10 +7,8 @@
 use Rattle.std.specs.Prelude.{◌≡◌, ℕ, ◌==◌, ◌<◌, Bool, false, List, length, filter, Option, Some, None, slice_index_or, if◌then◌else◌}
 use Rattle.std.specs.List.{find, flat_map, range_with_len}
 use Rattle.std.specs.Option.{option_map_or, option_or}
-use Rattle.metis_ids.specs.PairSet.{PairSet}
-use Rattle.metis_universe.specs.Layers.{layer_of, layer_set, layered}
-use Rattle.metis_universe.specs.Selection.{provider_of}
-use Rattle.metis_universe.specs.Universe.{Universe, has, pair_count, port_count}
+use Rattle.metis_ids.specs.Terms.{PairSet}
+use Rattle.metis_universe.specs.Terms.{Universe, has, layer_of, layer_set, layered, pair_count, port_count, provider_of}
 use Rattle.metis_layers.specs.LayerOrder.{attained_pairs}
 
 pub record Layers : Type 0 where

@@ -5,7 +5,7 @@
 use Rattle.std.specs.Prelude.{ℕ, zero, suc, ◌+◌, ◌*◌, List, Option, None, cond, length}
 use Rattle.std.specs.List.{slice_index_or}
 use Rattle.std.specs.Option.{is_none}
-use Rattle.metis_universe.specs.Universe.{Universe, has, next_of, pair_count, port_count, provided_of, required_of, requirers_of}
+use Rattle.metis_universe.specs.Terms.{Universe, has, next_of, pair_count, port_count, provided_of, required_of, requirers_of}
 
 abbrev pub total : (ℕ → ℕ) → ℕ → ℕ → ℕ
 total f a zero = 0

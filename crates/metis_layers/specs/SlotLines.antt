@@ -11,7 +11,7 @@ use Rattle.std.specs.Prelude.{ℕ, ◌+◌, ◌-◌, List, [], ◌∷◌, ◌++�
 use Rattle.std.specs.List.{range_with_len}
 use Rattle.metis_ids.specs.declared.actions.Action.{Action}
 use Rattle.metis_ids.specs.declared.actions.Action.TheVariants.{New, Bind, Unbind, Move}
-use Rattle.metis_universe.specs.Universe.{Universe, demand_of, required_of, type_of}
+use Rattle.metis_universe.specs.Terms.{Universe, demand_of, required_of, type_of}
 
 abbrev pub slots_above : ℕ → ℕ → List ℕ
 slots_above m n = range_with_len (m + 1) (n - m)

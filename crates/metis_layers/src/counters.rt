@@ -3,9 +3,9 @@ ghost use Rattle.std.specs.Prelude.{◌≡◌, ◌+◌, ◌<◌, ◌≤◌, ◌=
 ghost use Rattle.std.specs.List.{slice_index_or};
 ghost use Rattle.std.specs.List.Sorted.{IsStrictlySortedBy};
 ghost use Rattle.std.specs.Ordering.{nat_cmp};
-ghost use Rattle.metis_ids.specs.Counts.{occurrences};
-ghost use Rattle.metis_universe.specs.Universe.{IsTable, has, next_of, pair_count, port_count, requirers_of};
-ghost use Rattle.metis_layers.specs.Counters.{IsSettled, Leads, Meets, comes};
+ghost use Rattle.metis_ids.specs.Terms.{occurrences};
+ghost use Rattle.metis_universe.specs.Terms.{IsTable, has, next_of, pair_count, port_count, requirers_of};
+ghost use Rattle.metis_layers.specs.Terms.{IsSettled, Leads, Meets, comes};
 
 use metis_ids::{NoMemory, PairIx, PortIx, Steps};
 use metis_universe::Reading;

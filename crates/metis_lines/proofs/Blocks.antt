@@ -7,9 +7,9 @@ use Rattle.std.proofs.lemmas.Bool.{both_ways, cases_eq, cases_lt, eq-eqb, eqb-tr
 use Rattle.std.proofs.lemmas.List.{get_or-append-add, get_or-replicate, get_or-set_other, get_or-set_same, get_or_append_left, length-append, length-replicate, length-take-le, get_or-take, take-append-drop, take_more}
 use Rattle.std.proofs.lemmas.List.Elements.{filter-append}
 use Rattle.metis_ids.proofs.Lists.{has-replicate, has_one, none_above}
-use Rattle.metis_universe.specs.Universe.{has}
-use Rattle.metis_lines.specs.Tables.{AreSeconds}
-use Rattle.metis_layers.specs.LayerOrder.{place_of}
+use Rattle.metis_universe.specs.Terms.{has}
+use Rattle.metis_lines.specs.Terms.{AreSeconds}
+use Rattle.metis_layers.specs.Terms.{place_of}
 pub use Rattle.metis_layers.proofs.Repeated.{blocks, blocks_few, has_block}
 use Rattle.metis_layers.proofs.Repeated.{first_copy, past_place}
 use Rattle.metis_support.proofs.Lists.{first_passes, has-append_cases}

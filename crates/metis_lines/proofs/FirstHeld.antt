@@ -5,12 +5,11 @@ use Rattle.std.specs.Option.{option_or}
 use Rattle.std.proofs.lemmas.Bool.{cases_Bool, cases_eq, cond-true, cond-false, eq-eqb, eqb-true, ne_eqb, or_right}
 use Rattle.std.proofs.lemmas.List.{get_or_append_left, get_or_push, length-take-le, take_more}
 use Rattle.std.proofs.lemmas.List.Folds.{list_any_more}
-use Rattle.metis_universe.specs.Universe.{has}
-use Rattle.metis_layers.specs.LayerOrder.{place_of}
+use Rattle.metis_universe.specs.Terms.{has}
+use Rattle.metis_layers.specs.Terms.{place_of}
 use Rattle.metis_support.proofs.Lists.{any-append_left, any-append_right, first_passes}
 use Rattle.metis_lines.proofs.Pushes.{any_push, first_push, new_first}
-use Rattle.metis_lines.specs.LifeLines.{ends_in, first_line, goes_through}
-use Rattle.metis_lines.specs.Tables.{IsLineOf, first_held, held_by, on_line}
+use Rattle.metis_lines.specs.Terms.{IsLineOf, ends_in, first_held, first_line, goes_through, held_by, on_line}
 
 abbrev Held : Type 0
 Held = Option (ℕ × ℕ)

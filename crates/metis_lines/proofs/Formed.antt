@@ -1,11 +1,10 @@
 -- Lines over a support are formed, and their own pairs are selected.
 use Rattle.std.proofs.Common.{◌≡◌, ℕ, true, sym, ap, subst}
-use Rattle.metis_universe.specs.Universe.{Universe, has}
-use Rattle.metis_support.specs.Support.{IsSupport, Support, is_selected}
+use Rattle.metis_universe.specs.Terms.{Universe, has}
+use Rattle.metis_support.specs.Terms.{IsSupport, Support, is_selected}
 use Rattle.metis_lines.proofs.Holders.{provider_chosen}
 use Rattle.metis_lines.proofs.Sound.{formed}
-use Rattle.metis_lines.specs.LifeLines.{AreLines, LifeLines, plan_of}
-use Rattle.metis_lines.specs.Soundness.{IsFormed}
+use Rattle.metis_lines.specs.Terms.{AreLines, IsFormed, LifeLines, plan_of}
 
 module _ (u : Universe) (s : Support) (k : IsSupport u s) (x : LifeLines) (are : AreLines u s x) where
   pub own_selected : (p : ℕ) → has x.own p ≡ true → is_selected s p ≡ true

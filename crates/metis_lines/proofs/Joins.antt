@@ -7,7 +7,7 @@ use Rattle.std.specs.declared.cmp.Ordering.TheVariants.{Less}
 use Rattle.std.proofs.lemmas.Bool.{eq-eqb, eqb-true, false≢true, or_cases, or_left, or_right}
 use Rattle.metis_ids.proofs.Lists.{each_weaker}
 use Rattle.metis_universe.proofs.FirstSights.{each_append}
-use Rattle.metis_universe.specs.Universe.{has}
+use Rattle.metis_universe.specs.Terms.{has}
 use Rattle.metis_support.proofs.Lists.{IsPiece, any-append_left, any-append_right, both_each, first_passes, sorted_append}
 
 -- ---- over the members of a list

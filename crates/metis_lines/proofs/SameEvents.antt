@@ -4,7 +4,7 @@ use Rattle.std.proofs.lemmas.Bool.{and_from, and_parts, eq-eqb, eqb-true, false�
 use Rattle.std.specs.Cmp.{both_ways as same_bool}
 use Rattle.metis_ids.specs.declared.events.Event.{Event}
 use Rattle.metis_ids.specs.declared.events.Event.TheVariants.{At, End}
-use Rattle.metis_lines.specs.Events.{same_event}
+use Rattle.metis_lines.specs.Terms.{same_event}
 
 pub same_events : (e f : Event) → same_event e f ≡ true → e ≡ f
 same_events (At l j) (At m k) h =

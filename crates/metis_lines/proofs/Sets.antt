@@ -4,9 +4,9 @@ use Rattle.std.specs.List.{list_any}
 use Rattle.std.proofs.lemmas.List.Folds.{list_any-append, list_any_more}
 use Rattle.std.proofs.Math.Bool.{or-false}
 use Rattle.metis_ids.proofs.Lists.{has_here}
-use Rattle.metis_universe.specs.Universe.{has}
+use Rattle.metis_universe.specs.Terms.{has}
 use Rattle.metis_support.proofs.Lists.{any-append_right}
-use Rattle.metis_support.specs.Support.{Support, is_number, origin_at}
+use Rattle.metis_support.specs.Terms.{Support, is_number, origin_at}
 
 or_turned : (a b c : Bool) → (c || (a || b)) ≡ ((a || c) || b)
 or_turned true b true = refl

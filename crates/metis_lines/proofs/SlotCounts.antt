@@ -11,11 +11,11 @@ use Rattle.std.proofs.lemmas.Map.Keys.{sorted_from_strictly_increasing}
 use Rattle.metis_universe.proofs.Demands.{demand_one}
 use Rattle.metis_universe.proofs.Slots.{slots_enough as enough_by, slots_few as few_by, slots_none}
 use Rattle.metis_universe.proofs.Rounds.{has-filter}
-use Rattle.metis_universe.specs.Universe.{Universe, demand_of, greatest_demand, has, requires}
+use Rattle.metis_universe.specs.Terms.{Universe, demand_of, greatest_demand, has, requires}
 use Rattle.metis_support.proofs.Lists.{any_at, has_member, member, number_is}
-use Rattle.metis_support.specs.Support.{IsSupport, Support, is_number, is_selected, provider_at, provider_pairs}
+use Rattle.metis_support.specs.Terms.{IsSupport, Support, is_number, is_selected, provider_at, provider_pairs}
 use Rattle.metis_lines.proofs.Blocks.{blocks_few, copies, copies_in, has_block}
-use Rattle.metis_lines.specs.LifeLines.{later_ends, lines_of, slots, slots_of}
+use Rattle.metis_lines.specs.Terms.{later_ends, lines_of, slots, slots_of}
 
 pub providers_ascend : (s : Support) → IsStrictlyIncreasing s.selected.members → (i j : ℕ) → i < j → j < length (provider_pairs s) → get_or (provider_pairs s) i 0 < get_or (provider_pairs s) j 0
 providers_ascend s ascends i j before low = AllPairs-from_increasing (provider_pairs s) (IsStrictlyIncreasing-filter (λ q. list_any (is_number q) s.providers) s.selected.members ascends) i j 0 before low

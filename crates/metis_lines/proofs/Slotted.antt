@@ -1,9 +1,9 @@
 -- Who is a slot, where there is one.
 use Rattle.std.proofs.Common.{◌≡◌, ℕ, ◌+◌, ◌≤◌, true, false, ◌&&◌, Some, None, arith, nat_le}
 use Rattle.std.proofs.lemmas.Bool.{and_from, cond-false, cond-true, false_from_ne_true, leb-true, le-leb, and_parts}
-use Rattle.metis_universe.specs.Universe.{has}
+use Rattle.metis_universe.specs.Terms.{has}
 use Rattle.metis_lines.proofs.Blocks.{copies}
-use Rattle.metis_lines.specs.LifeLines.{LifeLines, holder_of, holding, slot_holding, slots}
+use Rattle.metis_lines.specs.Terms.{LifeLines, holder_of, holding, slot_holding, slots}
 
 pub some_slots : (x : LifeLines) (p : ℕ) → has x.providers p ≡ true → 1 ≤ slots x p
 some_slots x p listed = let all = cond-true (has x.providers p) (1 + copies x.later p) 0 listed in omega (arith, all)

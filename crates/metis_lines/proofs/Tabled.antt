@@ -6,13 +6,12 @@ use Rattle.std.proofs.lemmas.List.{get_or_past, get_or-set_same, get_or-set_othe
 use Rattle.std.proofs.lemmas.Map.Keys.{IsDistinct-push}
 use Rattle.std.proofs.lemmas.Cmp.{nat_eq_equiv}
 use Rattle.metis_ids.proofs.Lists.{has_here, has_one}
-use Rattle.metis_universe.specs.Universe.{Universe, has}
-use Rattle.metis_layers.specs.LayerOrder.{place_of}
-use Rattle.metis_support.specs.Support.{Support, IsKept, is_selected, path_to, provider_pairs}
+use Rattle.metis_universe.specs.Terms.{Universe, has}
+use Rattle.metis_layers.specs.Terms.{place_of}
+use Rattle.metis_support.specs.Terms.{IsKept, Support, is_selected, path_to, provider_pairs}
 use Rattle.metis_support.proofs.Paths.{IsWay, place_at_end}
 use Rattle.metis_support.proofs.Lists.{any-append_right, has-append_cases}
-use Rattle.metis_lines.specs.LifeLines.{AreLines, LifeLines, slot_line, slots, first_count, holder_line, holding, is_loose, later_ends, line_at, lines_by, lines_of, loose, other_ends}
-use Rattle.metis_lines.specs.Tables.{IsTabled, first_slot}
+use Rattle.metis_lines.specs.Terms.{AreLines, IsTabled, LifeLines, first_count, first_slot, holder_line, holding, is_loose, later_ends, line_at, lines_by, lines_of, loose, other_ends, slot_line, slots}
 use Rattle.metis_lines.proofs.Holders.{count, held_on, provider_chosen}
 use Rattle.metis_lines.proofs.Blocks.{copies, place_fits}
 use Rattle.metis_lines.proofs.Pushes.{new_first}

@@ -2,8 +2,8 @@
 --     Over, over_of u s x      a universe, a support and life lines;  of these
 --     IsOver o      the support is one over the universe, and the lines are some over both
 --     graph_over o      the plan without an order for the lines
-use Rattle.metis_universe.specs.Universe.{Universe}
-use Rattle.metis_support.specs.Support.{Support, IsSupport}
+use Rattle.metis_universe.specs.Terms.{Universe}
+use Rattle.metis_support.specs.Terms.{IsSupport, Support}
 use Rattle.metis_lines.specs.AbstractPlan.{AbstractPlan}
 use Rattle.metis_lines.specs.LifeLines.{AreLines, LifeLines, plan_of}
 

@@ -11,8 +11,8 @@
 use Rattle.std.specs.Prelude.{ℕ, ◌≡◌, ◌<◌, ◌≤◌, ◌+◌, ◌-◌, ◌*◌, IsTrue, Bool, false, not, List, [], length, Option, Some, None, slice_index_or, nat_eq, if◌then◌else◌}
 use Rattle.std.specs.List.{All, IsDistinct, list_any, position_or_len}
 use Rattle.std.specs.Option.{option_map_or, option_or}
-use Rattle.metis_universe.specs.Universe.{has}
-use Rattle.metis_layers.specs.LayerOrder.{place_of}
+use Rattle.metis_universe.specs.Terms.{has}
+use Rattle.metis_layers.specs.Terms.{place_of}
 use Rattle.metis_lines.specs.LifeLines.{LifeLines, ends_in, first_count, goes_through, holding, loose, slots}
 
 abbrev pub first_slot : LifeLines → ℕ → Option (ℕ × ℕ)

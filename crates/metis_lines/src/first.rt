@@ -1,9 +1,9 @@
 //! The lines that are there before any own pair has one.
 ghost use Rattle.std.specs.Prelude.{◌≡◌, ◌<◌, ◌++◌, ◌||◌, ℕ, map, IfOk, IsTrue};
 ghost use Rattle.std.specs.List.{All};
-ghost use Rattle.metis_support.specs.Support.{is_selected, path_to};
-ghost use Rattle.metis_universe.specs.Universe.{has};
-ghost use Rattle.metis_lines.specs.LifeLines.{is_origin, other_ends};
+ghost use Rattle.metis_support.specs.Terms.{is_selected, path_to};
+ghost use Rattle.metis_universe.specs.Terms.{has};
+ghost use Rattle.metis_lines.specs.Terms.{is_origin, other_ends};
 
 use crate::line::Line;
 use metis_ids::{NoMemory, PairIx, PairSet};

@@ -2,9 +2,8 @@
 ghost use Rattle.std.specs.Prelude.{◌≡◌, ◌<◌, ◌≤◌, ◌^◌, ℕ, None, Some, length, map, replicate, IfOk, slice_set, if◌then◌else◌};
 ghost use Rattle.std.specs.List.{All, filter, range_with_len, slice_index_or};
 ghost use Rattle.std.specs.Option.{option_or};
-ghost use Rattle.metis_universe.specs.Universe.{has};
-ghost use Rattle.metis_lines.specs.LifeLines.{ends_in, goes_through};
-ghost use Rattle.metis_lines.specs.Tables.{AreHeld, IsLineOf, first_held, first_holder, goes_on, held_by, on_line};
+ghost use Rattle.metis_universe.specs.Terms.{has};
+ghost use Rattle.metis_lines.specs.Terms.{AreHeld, IsLineOf, ends_in, first_held, first_holder, goes_on, goes_through, held_by, on_line};
 
 use crate::line::Line;
 use metis_ids::{IxVec, LineIx, NoMemory, PairIx, StepIx};

@@ -1,8 +1,8 @@
 //! A life line.
 ghost use Rattle.std.specs.Prelude.{◌≡◌, ◌<◌, ◌≤◌, ◌++◌, ◌+◌, ◌-◌, length, IfOk, OnOk, IsTrue};
 ghost use Rattle.std.specs.List.{slice_index_or};
-ghost use Rattle.metis_support.specs.Support.{is_selected, path_to};
-ghost use Rattle.metis_lines.specs.LifeLines.{ends_in};
+ghost use Rattle.metis_support.specs.Terms.{is_selected, path_to};
+ghost use Rattle.metis_lines.specs.Terms.{ends_in};
 
 use metis_ids::{NoMemory, PairIx, StepIx};
 use metis_support::Support;

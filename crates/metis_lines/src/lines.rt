@@ -1,9 +1,9 @@
 //! Life lines.
 ghost use Rattle.std.specs.Prelude.{ℕ, ◌≡◌, ◌<◌, ◌≤◌, ◌+◌, ◌++◌, ◌∷◌, [], length, IfOk, OnOk, OnErr, IsTrue, nat_lt};
 ghost use Rattle.std.specs.List.{slice_index_or};
-ghost use Rattle.metis_support.specs.Support.{IsSupport, is_selected};
-ghost use Rattle.metis_universe.specs.Universe.{Universe as Model, has};
-ghost use Rattle.metis_lines.specs.LifeLines.{AreLines, holder_of, is_loose, line_at, lines_of, loose, slots};
+ghost use Rattle.metis_support.specs.Terms.{IsSupport, is_selected};
+ghost use Rattle.metis_universe.specs.Terms.{Universe as Model, has};
+ghost use Rattle.metis_lines.specs.Terms.{AreLines, holder_of, is_loose, line_at, lines_of, loose, slots};
 
 use crate::first::first_lines;
 use crate::held::{count_loose, first_holders, holder_in};

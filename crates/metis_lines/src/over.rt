@@ -1,10 +1,9 @@
 //! Life lines with what they stand on.
 ghost use Rattle.std.specs.Prelude.{◌≡◌, ◌<◌, ◌≤◌, ◌+◌, length, nat_lt};
 ghost use Rattle.std.specs.List.{slice_index_or};
-ghost use Rattle.metis_support.specs.Support.{IsSupport};
-ghost use Rattle.metis_universe.specs.Universe.{IsTable};
-ghost use Rattle.metis_lines.specs.LifeLines.{AreLines, holder_of, line_at, slots};
-ghost use Rattle.metis_lines.specs.Over.{IsOver, over_of};
+ghost use Rattle.metis_support.specs.Terms.{IsSupport};
+ghost use Rattle.metis_universe.specs.Terms.{IsTable};
+ghost use Rattle.metis_lines.specs.Terms.{AreLines, IsOver, holder_of, line_at, over_of, slots};
 
 use crate::lines::Lines;
 use metis_ids::{LineIx, PairIx, StepIx};

@@ -1,8 +1,8 @@
 //! The lines for the later slots of provider pairs.
 ghost use Rattle.std.specs.Prelude.{◌≡◌, ◌<◌, ◌+◌, ◌-◌, ◌^◌, ◌++◌, length, map, replicate, IfOk, IsTrue, OnOk};
 ghost use Rattle.std.specs.List.{flat_map, slice_index_or};
-ghost use Rattle.metis_lines.specs.Tables.{AreSeconds};
-ghost use Rattle.metis_support.specs.Support.{is_selected, path_to, provider_pairs};
+ghost use Rattle.metis_lines.specs.Terms.{AreSeconds};
+ghost use Rattle.metis_support.specs.Terms.{is_selected, path_to, provider_pairs};
 
 use crate::line::Line;
 use metis_ids::{IxVec, NoMemory, PairIx};

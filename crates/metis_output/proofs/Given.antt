@@ -1,13 +1,11 @@
 -- What is promised of an answer is shown where it is put.
 use Rattle.std.proofs.Common.{ℕ, List, Result, Ok, Err, sym, subst}
 use Rattle.std.specs.Prelude.{IfOk}
-use Rattle.metis_outside.specs.Writes.{Written}
+use Rattle.metis_outside.specs.Terms.{Written}
 use Rattle.metis_outside.specs.declared.sink.Sink.{Ghosts}
-use Rattle.metis_output.specs.Puts.{Puts}
-use Rattle.metis_output.specs.Shown.{Shown}
+use Rattle.metis_output.specs.Terms.{Gives, Puts, Says, Shown, status_for}
 use Rattle.metis_output.specs.declared.status.Status.{Status}
 use Rattle.metis_output.proofs.Shown.{shown_weaker}
-use Rattle.metis_output.specs.Answers.{Gives, Says, status_for}
 use Rattle.metis_output.specs.declared.answer.Answer.{Answer}
 
 pub given : {L E : Type 0} (P : List (List ℕ) → Status → Type 0) (rest : L → List (List ℕ)) (answer : Result (Answer L) E) (old new : Written) (before now : ℕ) (status : Status)

@@ -1,6 +1,6 @@
 //! What a command answers.
 ghost use Rattle.std.specs.Prelude.{◌≡◌, ◌∷◌, [], string_bytes};
-ghost use Rattle.metis_outside.specs.Pieces.{IsLine};
+ghost use Rattle.metis_outside.specs.Terms.{IsLine};
 
 use crate::{Lines, Once};
 

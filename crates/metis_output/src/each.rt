@@ -1,6 +1,6 @@
 //! A line at each of some places.
 ghost use Rattle.std.specs.Prelude.{◌≡◌, ◌<◌, ℕ, List, Some, OnOk, drop, length, slice_get, string_bytes};
-ghost use Rattle.metis_outside.specs.Pieces.{IsLine};
+ghost use Rattle.metis_outside.specs.Terms.{IsLine};
 
 use crate::Lines;
 use std::alloc::AllocError;

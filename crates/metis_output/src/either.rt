@@ -1,5 +1,5 @@
 //! Lines of one kind or of another.
-ghost use Rattle.metis_output.specs.Either.{rest_of_either};
+ghost use Rattle.metis_output.specs.Terms.{rest_of_either};
 
 use crate::Lines;
 use std::alloc::AllocError;

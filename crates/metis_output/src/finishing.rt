@@ -1,7 +1,6 @@
 //! How an answer is put.
 ghost use Rattle.std.specs.Prelude.{◌≡◌};
-ghost use Rattle.metis_output.specs.Answers.{Gives, status_for};
-ghost use Rattle.metis_output.specs.Puts.{Puts};
+ghost use Rattle.metis_output.specs.Terms.{Gives, Puts, status_for};
 
 use crate::{Answer, Lines, Status, put_all, said};
 use metis_outside::Sink;

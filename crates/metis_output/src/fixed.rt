@@ -1,6 +1,6 @@
 //! A line that stands in the program.
 ghost use Rattle.std.specs.Prelude.{◌≡◌, ◌∷◌, [], OnOk, string_bytes};
-ghost use Rattle.metis_outside.specs.Pieces.{IsLine};
+ghost use Rattle.metis_outside.specs.Terms.{IsLine};
 
 use crate::Lines;
 use std::alloc::AllocError;

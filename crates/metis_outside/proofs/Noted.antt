@@ -1,8 +1,7 @@
 -- What a shelf remembers of its openings.
 use Rattle.std.proofs.Common.{◌≡◌, ◌+◌, ◌-◌, ◌^◌, ◌<◌, ℕ, zero, suc, min, true, List, [], ◌∷◌, ◌++◌, length, get_or, slice_set, string_bytes, Result, Err, Some, sym, ap, ◌∙◌, subst, arith}
 use Rattle.std.proofs.lemmas.List.{map-append}
-use Rattle.metis_outside.specs.Logs.{log_told, logged}
-use Rattle.metis_outside.specs.Openings.{Opens, broken}
+use Rattle.metis_outside.specs.Terms.{Opens, broken, log_told, logged}
 use Rattle.metis_outside.specs.declared.logged.Opening.{Opening}
 use Rattle.metis_outside.specs.declared.trouble.Trouble.{Trouble}
 use Rattle.metis_outside.specs.declared.trouble.Trouble.TheVariants.{Failed}

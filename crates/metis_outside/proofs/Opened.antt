@@ -2,7 +2,7 @@
 use Rattle.std.proofs.Common.{◌≡◌, ◌-◌, ◌^◌, ◌+◌, ℕ, zero, suc, min, Bool, true, List, [], ◌∷◌, ◌++◌, length, Result, Ok, Err, None, Some, refl, sym, ap, ◌∙◌, inr, add-zero, add-suc, length-append, append-nil, append_assoc}
 use Rattle.std.specs.declared.option.Option.{Option}
 use Rattle.std.specs.Prelude.{option_map}
-use Rattle.metis_outside.specs.Openings.{Openings, Opens, Takes, broken, failing, grown, opened, untold}
+use Rattle.metis_outside.specs.Terms.{Openings, Opens, Takes, broken, failing, grown, opened, untold}
 use Rattle.metis_outside.specs.declared.trouble.Trouble.{Trouble}
 use Rattle.metis_outside.specs.declared.trouble.Trouble.TheVariants.{Failed, NoMemory}
 

@@ -8,7 +8,7 @@ use Rattle.std.proofs.lemmas.Bool.{true≢false}
 use Rattle.std.proofs.lemmas.List.{length-map}
 use Rattle.std.proofs.lemmas.Option.{slice_get-map}
 use Rattle.indexmap.specs.IndexMap.{insert_entry}
-use Rattle.metis_place.specs.Entries.{entries_of, has_name}
+use Rattle.metis_place.specs.Terms.{entries_of, has_name}
 
 abbrev entry : String Global × ℕ → List ℕ × ℕ
 entry e = (string_bytes e.0, e.1)

@@ -4,7 +4,7 @@ use Rattle.std.specs.List.{find, range_with_len}
 use Rattle.std.specs.Option.{option_map_or}
 use Rattle.std.proofs.lemmas.Bool.{cases_eq}
 use Rattle.metis_ids.specs.declared.actions.Action.{Action}
-use Rattle.metis_place.specs.Placement.{HostLists, Seat, candidates, further, is_enough, seat_at, seats_by, shortest}
+use Rattle.metis_place.specs.Terms.{HostLists, Seat, candidates, further, is_enough, seat_at, seats_by, shortest}
 
 take_le : (m : ℕ) (xs : List ℕ) → length (take m xs) ≤ m
 take_le zero [] = omega arith

@@ -5,9 +5,8 @@ use Rattle.std.specs.Option.{option_map_or}
 use Rattle.std.proofs.lemmas.List.{length-map}
 use Rattle.std.proofs.lemmas.List.Sums.{sum_by-cons}
 use Rattle.metis_ids.specs.declared.actions.Action.{Action}
-use Rattle.metis_universe.specs.Waits.{action_at}
-use Rattle.metis_place.specs.Placement.{HostLists, Seat, freed, freed_by, is_enough, made_size, room_of, shortest}
-use Rattle.metis_place.specs.Shortest.{freed_sum, shortest_deletes}
+use Rattle.metis_universe.specs.Terms.{action_at}
+use Rattle.metis_place.specs.Terms.{HostLists, Seat, freed, freed_by, freed_sum, is_enough, made_size, room_of, shortest, shortest_deletes}
 
 -- each delete stands with the size that it frees
 abbrev pub AreFreed : List Action → List Seat → List (ℕ × ℕ) → Type 0

@@ -10,13 +10,8 @@ use Rattle.std.proofs.lemmas.List.FromFn.{map-range_with_len_more}
 use Rattle.std.proofs.Math.ListN.{set}
 use Rattle.metis_ids.specs.declared.actions.Action.{Action}
 use Rattle.metis_ids.specs.declared.actions.Action.TheVariants.{New, Delete, Bind, Unbind, Move}
-use Rattle.metis_universe.specs.Config.{empty}
-use Rattle.metis_universe.specs.Step.{IsRun}
-use Rattle.metis_universe.specs.Steadfast.{is_steadfast}
-use Rattle.metis_universe.specs.Universe.{Universe}
-use Rattle.metis_place.specs.Holding.{AreAt, HoldingLists, HostTally, IsHolding, deletes_by, tally_at}
-use Rattle.metis_place.specs.Placement.{HostLists, Seat, deletes_on, freed_by, further, made_size, room_of, seat_at, seat_for, seat_of, seats, seats_by}
-use Rattle.metis_place.specs.Shortest.{freed_sum, shortest_deletes}
+use Rattle.metis_universe.specs.Terms.{IsRun, Universe, empty, is_steadfast}
+use Rattle.metis_place.specs.Terms.{AreAt, HoldingLists, HostLists, HostTally, IsHolding, Seat, deletes_by, deletes_on, freed_by, freed_sum, further, made_size, room_of, seat_at, seat_for, seat_of, seats, seats_by, shortest_deletes, tally_at}
 use Rattle.metis_place.proofs.Settling.{at_place}
 use Rattle.metis_place.proofs.Tallies.{deletes_next, enough, low, made_next, made_same, no_waits, seat_on, unseated, waits_are}
 

@@ -10,15 +10,9 @@ use Rattle.std.proofs.lemmas.List.{length-append, length-map, map-append}
 use Rattle.std.proofs.lemmas.List.Elements.{All-cons, All-head, All-nil, All-tail}
 use Rattle.std.proofs.lemmas.List.Splits.{join_with_byte-slice_split, length-slice_split}
 use Rattle.std.proofs.lemmas.Slice.Eq.{bytes_eq-Decides}
-use Rattle.metis_universe.specs.Universe.{Universe}
-use Rattle.metis_place.specs.Entries.{Entries}
-use Rattle.metis_place.specs.HostsFaults.{IfFault, IsBegun, IsHostsFault, NoFeed, begun_bytes, too_short, of_first, of_line, past_end, in_first, in_later}
-use Rattle.metis_place.specs.HostsFlaws.{next_number}
-use Rattle.metis_place.specs.HostsText.{ReadsHosts, SeenLines, end_from, hosts_in, hosts_of, is_last, last_piece, lines_from, nothing, pieces, text_of, whole_lines, with_line}
-use Rattle.metis_tokens.specs.Cursor.{is_feed}
-use Rattle.metis_tokens.specs.Flaws.{and_then}
-use Rattle.metis_place.specs.HostsWritten.{host_line, hosts_bytes, hosts_header, size_line}
-use Rattle.metis_place.specs.Placement.{HostLists}
+use Rattle.metis_universe.specs.Terms.{Universe}
+use Rattle.metis_place.specs.Terms.{Entries, HostLists, IfFault, IsBegun, IsHostsFault, NoFeed, ReadsHosts, SeenLines, begun_bytes, end_from, host_line, hosts_bytes, hosts_header, hosts_in, hosts_of, in_first, in_later, is_last, last_piece, lines_from, next_number, nothing, of_first, of_line, past_end, pieces, size_line, text_of, too_short, whole_lines, with_line}
+use Rattle.metis_tokens.specs.Terms.{and_then, is_feed}
 use Rattle.metis_place.specs.declared.hosts_fault.HFault.{HFault}
 use Rattle.metis_place.specs.declared.hosts_fault.HFault.TheVariants.{Line, Short}
 use Rattle.metis_place.proofs.HostsLineFlaws.{flaw_had}

@@ -17,16 +17,11 @@ use Rattle.std.proofs.lemmas.Slice.Eq.{bytes_eq-Decides}
 use Rattle.metis_ids.proofs.Options.{none_from_is_some}
 use Rattle.metis_tokens.proofs.Cuts.{tokens_of_words, words_of_tokens}
 use Rattle.metis_tokens.proofs.Printed.{printed, printed_digits, printed_name}
-use Rattle.metis_tokens.specs.Flaws.{made}
-use Rattle.metis_tokens.specs.Line.{words}
-use Rattle.metis_tokens.specs.Tokens.{in_range, is_number, number_in, starts_number, tokens}
+use Rattle.metis_tokens.specs.Terms.{in_range, is_number, made, number_in, starts_number, tokens, words}
 use Rattle.metis_tokens.specs.declared.flaw.Flaw.{Flaw}
 use Rattle.metis_tokens.specs.declared.flaw.Flaw.TheVariants as flaw
-use Rattle.metis_universe.specs.Names.{is_name}
-use Rattle.metis_universe.specs.Universe.{Universe, type_named}
-use Rattle.metis_place.specs.Entries.{Entries, has_name}
-use Rattle.metis_place.specs.HostsFlaws.{EntryKind, IsFormed, IsHostsFlaw, IsInRange, IsTypeThere, MayStand, earlier, entry_words, next_number, of_host, of_size}
-use Rattle.metis_place.specs.HostsText.{SeenLines, entry_in, seen_lines, with_entry, with_host, with_line, with_size, with_tokens, with_words}
+use Rattle.metis_universe.specs.Terms.{Universe, is_name, type_named}
+use Rattle.metis_place.specs.Terms.{Entries, EntryKind, IsFormed, IsHostsFlaw, IsInRange, IsTypeThere, MayStand, SeenLines, earlier, entry_in, entry_words, has_name, next_number, of_host, of_size, seen_lines, with_entry, with_host, with_line, with_size, with_tokens, with_words}
 use Rattle.metis_place.specs.declared.hosts_fault.HFault.{HFault}
 use Rattle.metis_place.specs.declared.hosts_fault.HFault.TheVariants.{Line, Short, Number, Name, Twice, NoMemory}
 use Rattle.metis_place.proofs.HostsRead.{none_is, some_is}

@@ -2,10 +2,9 @@
 use Rattle.std.proofs.Common.{◌≡◌, ℕ, ◌+◌, ◌<◌, true, false, List, length, map, drop, get_or, Ok, Err, Result, ap, ◌∙◌}
 use Rattle.std.specs.Bool.{if◌then◌else◌}
 use Rattle.std.proofs.lemmas.List.{drop_more}
-use Rattle.metis_universe.specs.Universe.{Universe}
-use Rattle.metis_place.specs.HostsText.{SeenLines, end_from, is_last, lines_from, with_line}
-use Rattle.metis_tokens.specs.Flaws.{and_then}
-use Rattle.metis_place.specs.Placement.{HostLists}
+use Rattle.metis_universe.specs.Terms.{Universe}
+use Rattle.metis_place.specs.Terms.{HostLists, SeenLines, end_from, is_last, lines_from, with_line}
+use Rattle.metis_tokens.specs.Terms.{and_then}
 use Rattle.metis_place.specs.declared.hosts_fault.HFault.{HFault}
 
 -- lines that are lent, of which v gives the bytes

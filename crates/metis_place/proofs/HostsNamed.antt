@@ -4,13 +4,11 @@ use Rattle.std.specs.Prelude.{codes}
 use Rattle.std.specs.Bool.{◌==◌, if◌then◌else◌}
 use Rattle.std.specs.Option.{is_some}
 use Rattle.std.specs.Str.{bytes_eq}
-use Rattle.metis_tokens.specs.Flaws.{and_then, made}
-use Rattle.metis_tokens.specs.Tokens.{tokens}
+use Rattle.metis_tokens.specs.Terms.{and_then, made, tokens}
 use Rattle.metis_tokens.specs.declared.flaw.Flaw.{Flaw}
 use Rattle.metis_tokens.specs.declared.flaw.Flaw.TheVariants as flaw
-use Rattle.metis_universe.specs.Universe.{Universe, type_named}
-use Rattle.metis_place.specs.Entries.{Entries, has_name}
-use Rattle.metis_place.specs.HostsText.{SeenLines, entry_in, line_fault, hosts_in, hosts_of, is_last, last_piece, lines_from, nothing, pieces, text_of, whole_lines, with_entry, with_host, with_line, with_size, with_tokens, with_words}
+use Rattle.metis_universe.specs.Terms.{Universe, type_named}
+use Rattle.metis_place.specs.Terms.{Entries, SeenLines, entry_in, has_name, hosts_in, hosts_of, is_last, last_piece, line_fault, lines_from, nothing, pieces, text_of, whole_lines, with_entry, with_host, with_line, with_size, with_tokens, with_words}
 use Rattle.metis_place.specs.declared.hosts_fault.HFault.{HFault}
 use Rattle.metis_place.specs.declared.hosts_fault.HFault.TheVariants.{Line, NoMemory}
 

@@ -11,21 +11,14 @@ use Rattle.std.proofs.lemmas.List.{length-append, length-map, length-take-le, ma
 use Rattle.std.proofs.lemmas.List.Elements.{All-append, All-cons, All-nil}
 use Rattle.std.proofs.lemmas.List.Splits.{join_with_byte-slice_split, length-slice_split}
 use Rattle.std.proofs.lemmas.Slice.Eq.{bytes_eq-Decides}
-use Rattle.metis_tokens.specs.Flaws.{and_then, made}
-use Rattle.metis_tokens.specs.Line.{words}
-use Rattle.metis_tokens.specs.Tokens.{number_in, tokens}
+use Rattle.metis_tokens.specs.Terms.{and_then, is_feed, made, number_in, tokens, words}
 use Rattle.metis_tokens.specs.declared.flaw.Flaw.{Flaw}
 use Rattle.metis_tokens.specs.declared.flaw.Flaw.TheVariants.{Form}
 use Rattle.metis_tokens.proofs.Cuts.{words_of_tokens}
 use Rattle.metis_tokens.proofs.NumberTokens.{number_is}
 use Rattle.metis_tokens.proofs.Outcomes.{if_is, made_is}
-use Rattle.metis_universe.specs.Names.{is_name}
-use Rattle.metis_universe.specs.Universe.{Universe, type_count, type_named}
-use Rattle.metis_place.specs.Entries.{Entries, has_name}
-use Rattle.metis_place.specs.HostsText.{ReadsHosts, SeenLines, end_from, entry_in, hosts_in, hosts_of, is_last, last_piece, lines_from, nothing, pieces, seen_lines, text_of, whole_lines, with_entry, with_host, with_line, with_size, with_tokens, with_words}
-use Rattle.metis_tokens.specs.Cursor.{is_feed}
-use Rattle.metis_place.specs.HostsWritten.{IsEntry, IsHostsText, IsTextOf, are_apart, each_new, host_line, hosts_bytes, hosts_lines, size_line}
-use Rattle.metis_place.specs.Placement.{HostLists}
+use Rattle.metis_universe.specs.Terms.{Universe, is_name, type_count, type_named}
+use Rattle.metis_place.specs.Terms.{Entries, HostLists, IsEntry, IsHostsText, IsTextOf, ReadsHosts, SeenLines, are_apart, each_new, end_from, entry_in, has_name, host_line, hosts_bytes, hosts_in, hosts_lines, hosts_of, is_last, last_piece, lines_from, nothing, pieces, seen_lines, size_line, text_of, whole_lines, with_entry, with_host, with_line, with_size, with_tokens, with_words}
 use Rattle.metis_place.specs.declared.hosts_fault.HFault.{HFault}
 use Rattle.metis_place.specs.declared.hosts_fault.HFault.TheVariants.{Line, Name, Twice}
 

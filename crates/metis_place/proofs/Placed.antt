@@ -3,13 +3,9 @@ use Rattle.std.proofs.Common.{◌≡◌, ℕ, ◌-◌, ◌≤◌, true, List, []
 use Rattle.std.specs.List.{list_all, range_with_len}
 use Rattle.std.proofs.lemmas.List.FromFn.{get_or-map-range_with_len}
 use Rattle.metis_ids.specs.declared.actions.Action.{Action}
-use Rattle.metis_universe.specs.Config.{empty}
-use Rattle.metis_universe.specs.Step.{IsRun}
-use Rattle.metis_universe.specs.Steadfast.{is_steadfast}
-use Rattle.metis_universe.specs.Universe.{Universe, has}
-use Rattle.metis_universe.specs.Waits.{IsKept, IsKeptFrom, numbers, picked}
+use Rattle.metis_universe.specs.Terms.{IsKept, IsKeptFrom, IsRun, Universe, empty, has, is_steadfast, numbers, picked}
 use Rattle.metis_universe.proofs.Ranges.{in_range}
-use Rattle.metis_place.specs.Placement.{HostLists, IsHeld, IsHeldFrom, further, hold_of, load, room_of, seats}
+use Rattle.metis_place.specs.Terms.{HostLists, IsHeld, IsHeldFrom, further, hold_of, load, room_of, seats}
 use Rattle.metis_place.proofs.Room.{no_more}
 
 hold_is : (f : ℕ → List ℕ) (n k : ℕ) → has (range_with_len 1 n) k ≡ true → hold_of (map f (range_with_len 1 n)) k ≡ f k

@@ -3,7 +3,7 @@ use Rattle.std.proofs.Common.{◌≡◌, ℕ, zero, suc, ◌+◌, ◌<◌, ◌�
 use Rattle.std.specs.List.{find, range_with_len}
 use Rattle.std.proofs.lemmas.List.{take_more}
 use Rattle.metis_ids.proofs.Counts.{greatest_push}
-use Rattle.metis_ids.specs.Counts.{greatest}
+use Rattle.metis_ids.specs.Terms.{greatest}
 
 pub find_same : (t t' : ℕ → Bool) (a n : ℕ) → ((k : ℕ) → a ≤ k → k < a + n → t k ≡ t' k) → find t (range_with_len a n) ≡ find t' (range_with_len a n)
 find_same t t' a zero h = refl

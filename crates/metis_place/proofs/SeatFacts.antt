@@ -10,16 +10,11 @@ use Rattle.std.proofs.lemmas.List.Elements.{filter_map-append}
 use Rattle.metis_ids.proofs.Lists.{all_at, has_range}
 use Rattle.metis_ids.specs.declared.actions.Action.{Action}
 use Rattle.metis_ids.specs.declared.actions.Action.TheVariants.{New, Delete, Bind, Unbind, Move}
-use Rattle.metis_universe.specs.Universe.{Universe, IsUniverse, has, initial_of, next_of, pair_count, type_of}
-use Rattle.metis_universe.specs.Config.{Config, empty, pair_of}
-use Rattle.metis_universe.specs.Step.{Allows, IsRun, after, after_all}
-use Rattle.metis_universe.specs.Steadfast.{is_steadfast}
-use Rattle.metis_universe.specs.Waits.{IsKept, action_at, numbers, picked}
+use Rattle.metis_universe.specs.Terms.{Allows, Config, IsKept, IsRun, IsUniverse, Universe, action_at, after, after_all, empty, has, initial_of, is_steadfast, next_of, numbers, pair_count, pair_of, picked, type_of}
 use Rattle.metis_universe.proofs.Correctness.{all_has}
 use Rattle.metis_universe.proofs.Edits.{pair_of-put, pair_of-remove}
 use Rattle.metis_waits.proofs.KeptRuns.{kept_end}
-use Rattle.metis_place.specs.Placement.{HostLists, Seat, host_for, is_here, is_here_from, is_new, is_placed, is_placed_at, seat, seat_at, seat_for, seats, seats_by, size_of}
-use Rattle.metis_place.specs.Seated.{instance_made, instances_made}
+use Rattle.metis_place.specs.Terms.{HostLists, Seat, host_for, instance_made, instances_made, is_here, is_here_from, is_new, is_placed, is_placed_at, seat, seat_at, seat_for, seats, seats_by, size_of}
 use Rattle.metis_place.proofs.Once.{here_step, made_once}
 use Rattle.metis_place.proofs.Taken.{each_seat, seat_is}
 

@@ -12,14 +12,8 @@ use Rattle.std.proofs.lemmas.List.Sums.{sum_by-cons}
 use Rattle.metis_ids.specs.declared.actions.Action.{Action}
 use Rattle.metis_ids.specs.declared.actions.Action.TheVariants.{New, Delete, Bind, Unbind, Move}
 use Rattle.metis_ids.proofs.Lists.{range_push}
-use Rattle.metis_universe.specs.Config.{empty}
-use Rattle.metis_universe.specs.Step.{IsRun}
-use Rattle.metis_universe.specs.Steadfast.{is_steadfast}
-use Rattle.metis_universe.specs.Universe.{Universe}
-use Rattle.metis_universe.specs.Waits.{action_at}
-use Rattle.metis_place.specs.Holding.{AreAt, deletes_by, frees}
-use Rattle.metis_place.specs.Placement.{HostLists, Seat, candidates, deletes_on, freed, freed_by, further, is_enough, made_size, room_of, seat_at, seat_of, seats, seats_by, shortest, total}
-use Rattle.metis_place.specs.Shortest.{freed_sum, shortest_deletes}
+use Rattle.metis_universe.specs.Terms.{IsRun, Universe, action_at, empty, is_steadfast}
+use Rattle.metis_place.specs.Terms.{AreAt, HostLists, Seat, candidates, deletes_by, deletes_on, freed, freed_by, freed_sum, frees, further, is_enough, made_size, room_of, seat_at, seat_of, seats, seats_by, shortest, shortest_deletes, total}
 use Rattle.metis_place.proofs.FurtherIs.{AreFreed, further_is}
 use Rattle.metis_place.proofs.Loads.{seats_same}
 use Rattle.metis_place.proofs.Once.{made_before, made_once}

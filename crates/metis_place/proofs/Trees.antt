@@ -6,9 +6,8 @@ use Rattle.std.specs.Option.{option_or}
 use Rattle.std.specs.declared.alloc.Global.{Global}
 use Rattle.std.proofs.Math.ListN.{set}
 use Rattle.std.proofs.lemmas.Bool.{le-leb, lt-leb}
-use Rattle.metis_place.specs.FirstPlace.{first_place}
-use Rattle.metis_ids.specs.Counts.{greatest}
-use Rattle.metis_place.specs.Rooms.{IsRooms, rooms}
+use Rattle.metis_place.specs.Terms.{IsRooms, first_place, rooms}
+use Rattle.metis_ids.specs.Terms.{greatest}
 use Rattle.metis_place.specs.declared.rooms.Rooms.{Rooms}
 use Rattle.metis_place.specs.declared.rooms.Node.{Node}
 use Rattle.metis_place.specs.declared.rooms.Node.TheVariants.{Empty, Leaf, Fork}

@@ -8,7 +8,7 @@ use Rattle.std.proofs.lemmas.List.Elements.{All-append, All-cons, All-nil}
 use Rattle.metis_ids.specs.declared.actions.Action.{Action}
 use Rattle.metis_ids.specs.declared.actions.Action.TheVariants.{New, Delete, Bind, Unbind, Move}
 use Rattle.metis_ids.proofs.Finding.{found_within}
-use Rattle.metis_place.specs.Placement.{HostLists, Seat, has_room, host_for, seat, seat_at, seat_for, seats_by, size_of}
+use Rattle.metis_place.specs.Terms.{HostLists, Seat, has_room, host_for, seat, seat_at, seat_for, seats_by, size_of}
 
 mapped_is : {A B : Type 0} (f : A → B) (o : Option A) (y : B) → option_map f o ≡ Some y → (x : A) × (o ≡ Some x) × (f x ≡ y)
 mapped_is f None y h = cc

@@ -10,7 +10,7 @@ use Rattle.std.specs.List.{range_with_len, slice_index_or}
 use Rattle.std.specs.Map.{lookup}
 use Rattle.std.specs.Option.{option_map_or}
 use Rattle.metis_ids.specs.declared.actions.Action.{Action}
-use Rattle.metis_universe.specs.Waits.{action_at}
+use Rattle.metis_universe.specs.Terms.{action_at}
 use Rattle.metis_place.specs.Placement.{HostLists, Seat, candidates, freed_by, further, made_size, seat_of, seats, seats_by}
 
 pub record HostTally : Type 0 where

@@ -7,7 +7,7 @@
 use Rattle.std.specs.Prelude.{◌≡◌, ◌≢◌, ◌≤◌, ℕ, ◌+◌, ◌==◌, not, List, ◌∷◌, ◌++◌, Result, Ok, Err, IsTrue, IsFalse, codes, length, map, ⊤}
 use Rattle.std.specs.List.{All, concat, list_all}
 use Rattle.std.specs.Option.{is_some}
-use Rattle.metis_universe.specs.Universe.{Universe, type_named}
+use Rattle.metis_universe.specs.Terms.{Universe, type_named}
 use Rattle.metis_place.specs.Entries.{Entries}
 use Rattle.metis_place.specs.HostsFlaws.{IsHostsFlaw, next_number}
 use Rattle.metis_place.specs.HostsText.{is_last, seen_lines, with_line}

@@ -10,17 +10,14 @@ use Rattle.std.specs.Prelude.{◌≡◌, ◌≢◌, ℕ, ◌+◌, ◌-◌, ◌==
 use Rattle.std.specs.List.{slice_index_or, slice_split}
 use Rattle.std.specs.Option.{is_some}
 use Rattle.std.specs.Str.{bytes_eq}
-use Rattle.metis_tokens.specs.Flaws.{and_then, made}
-use Rattle.metis_tokens.specs.Tokens.{number_in, tokens}
+use Rattle.metis_tokens.specs.Terms.{and_then, is_feed, made, number_in, tokens}
 use Rattle.metis_tokens.specs.declared.flaw.Flaw.{Flaw}
 use Rattle.metis_tokens.specs.declared.flaw.Flaw.TheVariants as flaw
-use Rattle.metis_universe.specs.Names.{is_name}
-use Rattle.metis_universe.specs.Universe.{Universe, type_named}
+use Rattle.metis_universe.specs.Terms.{Universe, is_name, type_named}
 use Rattle.metis_place.specs.Entries.{Entries, has_name, number_of}
 use Rattle.metis_place.specs.Placement.{HostLists}
 use Rattle.metis_place.specs.declared.hosts_fault.HFault.{HFault}
 use Rattle.metis_place.specs.declared.hosts_fault.HFault.TheVariants.{Line, Short, Number, Name, Twice, NoMemory}
-use Rattle.metis_tokens.specs.Cursor.{is_feed}
 
 -- ---- one line
 

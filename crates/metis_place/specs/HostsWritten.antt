@@ -7,9 +7,8 @@
 use Rattle.std.specs.Prelude.{◌≡◌, ◌≤◌, ◌<◌, ◌^◌, ℕ, ◌&&◌, not, Bool, true, List, [], ◌∷◌, ◌++◌, IsTrue, codes, decimal, length, map}
 use Rattle.std.specs.List.{All, concat}
 use Rattle.std.specs.Option.{is_some}
-use Rattle.metis_tokens.specs.Line.{line, end_line}
-use Rattle.metis_universe.specs.Names.{is_name}
-use Rattle.metis_universe.specs.Universe.{Universe, type_named}
+use Rattle.metis_tokens.specs.Terms.{end_line, line}
+use Rattle.metis_universe.specs.Terms.{Universe, is_name, type_named}
 use Rattle.metis_place.specs.Entries.{Entries, has_name}
 use Rattle.metis_place.specs.HostsText.{sizes_of}
 use Rattle.metis_place.specs.Placement.{HostLists}

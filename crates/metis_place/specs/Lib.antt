@@ -11,3 +11,4 @@ pub mod Rooms
 pub mod RoomsFall
 pub mod Settled
 pub mod Shortest
+pub mod Terms

@@ -15,11 +15,10 @@ use Rattle.std.specs.List.{filter, find, list_all, range_with_len, slice_index_o
 use Rattle.std.specs.Option.{is_some, option_map_or, option_to_list}
 use Rattle.metis_ids.specs.declared.actions.Action.{Action}
 use Rattle.metis_ids.specs.declared.actions.Action.TheVariants.{New, Delete, Bind, Unbind, Move}
-use Rattle.metis_universe.specs.Universe.{has}
+use Rattle.metis_universe.specs.Terms.{action_at, has, numbers}
 use Rattle.metis_place.specs.declared.fault.PFault.{PFault}
 use Rattle.metis_place.specs.declared.fault.PFault.TheVariants as fault
-use Rattle.metis_universe.specs.Waits.{action_at, numbers}
-use Rattle.metis_ids.specs.Counts.{greatest}
+use Rattle.metis_ids.specs.Terms.{greatest}
 
 -- the name and the room of each host, and the size of each type
 pub record HostLists : Type 0 where

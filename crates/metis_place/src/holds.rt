@@ -1,13 +1,7 @@
 //! The further waits of each action.
 ghost use Rattle.std.specs.Prelude.{◌≡◌, ◌≤◌, ◌<◌, ◌+◌, ◌-◌, ◌*◌, ◌^◌, ◌++◌, ◌∷◌, [], IfOk, IsTrue, OnOk, length, map};
-ghost use Rattle.metis_universe.specs.Config.{empty};
-ghost use Rattle.metis_universe.specs.Steadfast.{is_steadfast};
-ghost use Rattle.metis_universe.specs.Step.{IsRun};
-ghost use Rattle.metis_universe.specs.Universe.{Universe};
-ghost use Rattle.metis_universe.specs.Waits.{numbers};
-ghost use Rattle.metis_place.specs.Placement.{further};
-ghost use Rattle.metis_place.specs.Shortest.{freed_sum, shortest_deletes};
-ghost use Rattle.metis_place.specs.Holding.{AreAt, IsHolding};
+ghost use Rattle.metis_universe.specs.Terms.{IsRun, Universe, empty, is_steadfast, numbers};
+ghost use Rattle.metis_place.specs.Terms.{AreAt, IsHolding, freed_sum, further, shortest_deletes};
 
 use crate::further::further_waits;
 use crate::hosts::Hosts;

@@ -1,6 +1,6 @@
 //! Why bytes are no text of hosts.
 ghost use Rattle.std.specs.Prelude.{◌≡◌};
-ghost use Rattle.metis_place.specs.HostsText.{line_fault};
+ghost use Rattle.metis_place.specs.Terms.{line_fault};
 
 use metis_tokens::Flaw;
 use std::alloc::{AllocError, AllocFailed};

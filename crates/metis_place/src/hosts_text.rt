@@ -1,12 +1,9 @@
 //! Reads the text of hosts.
 ghost use Rattle.std.specs.Prelude.{◌≡◌, ◌≤◌, IfOk, length, map};
 ghost use Rattle.std.specs.List.{All};
-ghost use Rattle.metis_tokens.specs.Flaws.{made};
-ghost use Rattle.metis_universe.specs.Universe.{type_count};
-ghost use Rattle.metis_place.specs.Entries.{entries_of, number_of};
-ghost use Rattle.metis_place.specs.HostsFaults.{IfFault, IsHostsFault};
-ghost use Rattle.metis_place.specs.HostsWritten.{IsEntry, IsTextOf};
-ghost use Rattle.metis_place.specs.HostsText.{ReadsHosts, Takes, end_from, entry_in, hosts_in, hosts_of, is_last, lines_from, nothing, sizes_of, text_of, whole_lines, last_piece, with_entry, with_host, with_line, with_size, with_tokens, with_words};
+ghost use Rattle.metis_tokens.specs.Terms.{made};
+ghost use Rattle.metis_universe.specs.Terms.{type_count};
+ghost use Rattle.metis_place.specs.Terms.{IfFault, IsEntry, IsHostsFault, IsTextOf, ReadsHosts, Takes, end_from, entries_of, entry_in, hosts_in, hosts_of, is_last, last_piece, lines_from, nothing, number_of, sizes_of, text_of, whole_lines, with_entry, with_host, with_line, with_size, with_tokens, with_words};
 
 use crate::hosts::Hosts;
 use crate::hosts_fault::{HFault, fault_at};

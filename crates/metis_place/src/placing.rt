@@ -1,12 +1,8 @@
 //! Instances on hosts, and what each action waits for besides.
 ghost use Rattle.std.specs.Prelude.{◌≡◌, ◌≤◌, ◌<◌, ◌-◌, ◌^◌, IfOk, IsTrue, List, ℕ, length};
 ghost use Rattle.std.specs.List.{All};
-ghost use Rattle.metis_universe.specs.Config.{empty};
-ghost use Rattle.metis_universe.specs.Steadfast.{is_steadfast};
-ghost use Rattle.metis_universe.specs.Step.{IsRun};
-ghost use Rattle.metis_universe.specs.Universe.{type_count};
-ghost use Rattle.metis_universe.specs.Waits.{IsKept, picked};
-ghost use Rattle.metis_place.specs.Placement.{IfNoRoom, IsHeld, IsNoRoom, IsPlacing, hold_of, load, room_of, seats};
+ghost use Rattle.metis_universe.specs.Terms.{IsKept, IsRun, empty, is_steadfast, picked, type_count};
+ghost use Rattle.metis_place.specs.Terms.{IfNoRoom, IsHeld, IsNoRoom, IsPlacing, hold_of, load, room_of, seats};
 
 use crate::fault::PFault;
 use crate::holds::{Hold, holds};

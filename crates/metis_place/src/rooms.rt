@@ -1,7 +1,7 @@
 //! The free rooms of hosts, in a tree that knows the greatest room of each part.
 ghost use Rattle.std.specs.Prelude.{◌≡◌, ◌≤◌, ◌<◌, ◌^◌, ◌++◌, IfOk, length, slice_index, slice_set};
-ghost use Rattle.metis_ids.specs.Counts.{greatest};
-ghost use Rattle.metis_place.specs.FirstPlace.{first_place};
+ghost use Rattle.metis_ids.specs.Terms.{greatest};
+ghost use Rattle.metis_place.specs.Terms.{first_place};
 
 use metis_ids::NoMemory;
 use std::alloc::Global;

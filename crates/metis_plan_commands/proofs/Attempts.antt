@@ -3,14 +3,9 @@ use Rattle.std.proofs.Common.{◌≡◌, List, refl, subst, sym}
 use Rattle.std.specs.Prelude.{IsTrue}
 use Rattle.metis_ids.specs.declared.actions.Action.{Action}
 use Rattle.metis_ids.specs.declared.goals.Goal.{Goal}
-use Rattle.metis_plan_commands.specs.Plan.{plan_of, plan_text}
-use Rattle.metis_plan_commands.specs.Reconfigure.{IsSound, Reconfigures}
-use Rattle.metis_reconfigure.specs.Answerable.{IsAnswerable}
-use Rattle.metis_reconfigure.specs.Kept.{IsAnswered}
-use Rattle.metis_reconfigure.specs.Reconfiguration.{Reconfiguration, reconfigured}
-use Rattle.metis_universe.specs.Goals.{AttainsGoals}
-use Rattle.metis_universe.specs.Steadfast.{IsSteadfastRun, is_steadfast}
-use Rattle.metis_universe.specs.Universe.{IsUniverse, Universe}
+use Rattle.metis_plan_commands.specs.Terms.{IsSound, Reconfigures, plan_of, plan_text}
+use Rattle.metis_reconfigure.specs.Terms.{IsAnswerable, IsAnswered, Reconfiguration, reconfigured}
+use Rattle.metis_universe.specs.Terms.{AttainsGoals, IsSteadfastRun, IsUniverse, Universe, is_steadfast}
 use Rattle.metis_wishes.specs.declared.wish.Wish.{Wish}
 
 -- the actions are those of a reconfiguration that can be answered

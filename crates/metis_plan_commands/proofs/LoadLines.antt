@@ -1,30 +1,24 @@
 -- The plan that rounds come to for the targets of a generated universe is good, and its line is a line.
 use Rattle.std.proofs.Common.{◌≡◌, ℕ, List, length, refl, sym, ◌∙◌, subst}
 use Rattle.std.specs.List.{All}
-use Rattle.metis_ids.specs.Plans.{Plan}
+use Rattle.metis_ids.specs.Terms.{Plan}
 use Rattle.metis_ids.specs.declared.actions.Action.{Action}
-use Rattle.metis_universe.specs.Config.{empty}
-use Rattle.metis_universe.specs.Goal.{Holds}
-use Rattle.metis_universe.specs.Goals.{pair_goals}
+use Rattle.metis_universe.specs.Terms.{Holds, IsOf, IsRun, IsUniverse, Universe, after_all, empty, pair_count, pair_goals}
 use Rattle.metis_universe.proofs.Served.{pairs_held}
-use Rattle.metis_universe.specs.Numbers.{IsOf}
-use Rattle.metis_universe.specs.Step.{IsRun, after_all}
-use Rattle.metis_universe.specs.Universe.{IsUniverse, Universe, pair_count}
 use Rattle.metis_replay.proofs.Verdicts.{exact}
-use Rattle.metis_replay.specs.Exact.{Tells}
+use Rattle.metis_replay.specs.Terms.{Tells}
 use Rattle.metis_replay.specs.declared.verdict.Verdict.{Verdict}
 use Rattle.metis_replay.specs.declared.verdict.Verdict.TheVariants.{Good}
-use Rattle.metis_gen.specs.Generated.{generated, generated_targets}
-use Rattle.metis_output.specs.Shown.{IsJust}
-use Rattle.metis_plan_commands.specs.Load.{Loaded, Loads, load_line}
+use Rattle.metis_gen.specs.Terms.{generated, generated_targets}
+use Rattle.metis_output.specs.Terms.{IsJust}
+use Rattle.metis_plan_commands.specs.Terms.{Loaded, Loads, counts_line, load_line}
 use Rattle.metis_output.specs.declared.status.Status.{Status}
 use Rattle.metis_output.specs.declared.status.Status.TheVariants.{Done}
-use Rattle.metis_planner.specs.Rounds.{IsByRounds}
+use Rattle.metis_planner.specs.Terms.{IsByRounds}
 use Rattle.std.specs.Prelude.{codes}
 use Rattle.metis_output.proofs.LineWords.{number_then}
 use Rattle.metis_outside.proofs.Feeds.{IsLine-from}
-use Rattle.metis_outside.specs.Pieces.{IsLine}
-use Rattle.metis_plan_commands.specs.Load.{counts_line}
+use Rattle.metis_outside.specs.Terms.{IsLine}
 
 -- the verdict on a run that holds the targets
 pub good_alone : (u : Universe) (actions : List Action) (g : List ℕ) (v : Verdict) → IsUniverse u → All (IsOf u) actions → IsRun u empty actions → Holds (after_all u empty actions) g → Tells u actions (pair_goals g) v → v ≡ Good

@@ -6,14 +6,11 @@ use Rattle.metis_ids.specs.declared.actions.Action.{Action}
 use Rattle.metis_ids.specs.declared.goals.Goal.{Goal}
 use Rattle.metis_ids.specs.declared.no_memory.NoMemory.{NoMemory}
 use Rattle.metis_output.specs.declared.status.Status.{Status}
-use Rattle.metis_plan_commands.specs.Plan.{PlanAnswer, Plans, Refuses, plan_text}
-use Rattle.metis_plan_commands.specs.Planned.{IsOfPlan, IsPlanned, TellsPlanned}
-use Rattle.metis_plan_commands.specs.Reconfigure.{HasAttempted, Reconfigures}
-use Rattle.metis_plan_commands.specs.Rollout.{RollsOut, RolloutAnswer, RollsOutGoals, RollsOutPairs, RollsOutTo}
+use Rattle.metis_plan_commands.specs.Terms.{HasAttempted, IsOfPlan, IsPlanned, PlanAnswer, Plans, Reconfigures, Refuses, RolloutAnswer, RollsOut, RollsOutGoals, RollsOutPairs, RollsOutTo, TellsPlanned, plan_text}
 use Rattle.metis_plan_commands.specs.declared.planned.Planned.{Planned}
 use Rattle.metis_plan_commands.specs.declared.planned.Planned.TheVariants.{Plan, Refusal}
 use Rattle.metis_plan_commands.specs.declared.reconfigure.Attempt.TheVariants as attempt
-use Rattle.metis_universe.specs.Universe.{Universe}
+use Rattle.metis_universe.specs.Terms.{Universe}
 use Rattle.metis_wishes.specs.declared.wish.Wish.{Wish}
 
 -- what its text is, a plan is

@@ -4,10 +4,8 @@ use Rattle.std.specs.List.{slice_get}
 use Rattle.std.specs.Option.{option_map_or}
 use Rattle.metis_ids.specs.declared.actions.Action.{Action}
 use Rattle.metis_universe.proofs.Places.{steadfast_at}
-use Rattle.metis_universe.specs.Steadfast.{is_steadfast, is_steadfast_after}
-use Rattle.metis_universe.specs.Universe.{Universe}
-use Rattle.metis_universe.specs.Waits.{before}
-use Rattle.metis_waits.specs.Waits.{IsFirstLoose}
+use Rattle.metis_universe.specs.Terms.{Universe, before, is_steadfast, is_steadfast_after}
+use Rattle.metis_waits.specs.Terms.{IsFirstLoose}
 
 pub never_loose : (u : Universe) (actions : List Action) (k : ℕ) → is_steadfast u actions ≡ true → IsFirstLoose u actions k → ⊥
 never_loose u actions zero steadfast first = true≢false first.loose

@@ -1,14 +1,13 @@
 -- The line of what stands in the way is a line.
 use Rattle.std.proofs.Common.{◌++◌, refl}
 use Rattle.std.specs.Prelude.{codes}
-use Rattle.metis_outside.specs.Pieces.{IsLine}
+use Rattle.metis_outside.specs.Terms.{IsLine}
 use Rattle.metis_output.proofs.LineWords.{by_number, by_two, by_word, number_then}
-use Rattle.metis_plan_commands.specs.Reconfigure.{obstacle_line}
+use Rattle.metis_plan_commands.specs.Terms.{obstacle_line}
 use Rattle.metis_reconfigure.specs.declared.answer.Obstacle.{Obstacle}
 use Rattle.metis_reconfigure.specs.declared.answer.Obstacle.TheVariants.{Absent, Kept, Unavoidable, Unmet, Needs}
 use Rattle.metis_tokens.proofs.WordFeeds.{no_feed-goal_word, no_feed-port_name_of}
-use Rattle.metis_universe.specs.GoalWords.{goal_word}
-use Rattle.metis_universe.specs.Universe.{IsNamed, Universe, port_name_of}
+use Rattle.metis_universe.specs.Terms.{IsNamed, Universe, goal_word, port_name_of}
 
 pub IsLine-obstacle_line : (u : Universe) → IsNamed u → (why : Obstacle) → IsLine (obstacle_line u why)
 IsLine-obstacle_line u named (Absent z) = by_number (codes "absent ") z refl

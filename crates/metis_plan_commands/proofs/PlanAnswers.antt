@@ -2,32 +2,22 @@
 use Rattle.std.proofs.Common.{◌≡◌, ℕ, ◌+◌, ◌*◌, ◌≤◌, ◌^◌, List, [], length, get_or, refl, sym, ◌∙◌, subst, arith}
 use Rattle.std.specs.List.{All, count_by}
 use Rattle.metis_ids.specs.declared.actions.Action.{Action}
-use Rattle.metis_ids.specs.Plans.{Plan}
-use Rattle.metis_ids.specs.Cycle.{HasCycle}
+use Rattle.metis_ids.specs.Terms.{HasCycle, Plan, makes}
 use Rattle.metis_ids.specs.declared.events.Event.{Event}
 use Rattle.metis_ids.specs.declared.events.Event.TheVariants.{At, End}
-use Rattle.metis_layers.specs.LayerOrder.{instances_of}
-use Rattle.metis_lines.specs.Justified.{graph_for}
+use Rattle.metis_layers.specs.Terms.{attained_pairs, instances_of}
+use Rattle.metis_lines.specs.Terms.{graph_for}
 use Rattle.metis_text.proofs.WrittenRun.{run_formed}
 use Rattle.std.proofs.lemmas.List.Sums.{length-filter}
 use Rattle.metis_choice.proofs.GoalLists.{found_among}
-use Rattle.metis_choice.specs.Resolutions.{ArePairsFor}
+use Rattle.metis_choice.specs.Terms.{ArePairsFor}
 use Rattle.metis_layers.proofs.Order.{attained_set}
-use Rattle.metis_layers.specs.LayerOrder.{attained_pairs}
 use Rattle.metis_ids.specs.declared.goals.Goal.{Goal}
 use Rattle.metis_universe.proofs.Served.{goals_refused}
-use Rattle.metis_universe.specs.GoalWords.{IsWordable}
-use Rattle.metis_universe.specs.Goals.{AttainsGoals, GoalRefusal, lacks}
-use Rattle.metis_universe.specs.Goal.{Attains, IsAttainedSet}
-use Rattle.metis_universe.specs.Universe.{IsTable, IsUniverse, Universe, greatest_demand}
-use Rattle.metis_planner.specs.Outcomes.{EventBelow}
-use Rattle.metis_planner.specs.PlanFor.{IsPlanFor}
-use Rattle.metis_planner.specs.Rounds.{numbered}
-use Rattle.metis_text.specs.InRange.{IsEventInRange}
-use Rattle.metis_ids.specs.Action.{makes}
-use Rattle.metis_text.specs.PlanText.{IsWellFormed}
-use Rattle.metis_plan_commands.specs.Plan.{IsDoubledByNeed, IsPlan, Plans, PlansPairs, Refuses, others, plan_text}
-use Rattle.metis_text.specs.RefusalText.{refusal_lines}
+use Rattle.metis_universe.specs.Terms.{Attains, AttainsGoals, GoalRefusal, IsAttainedSet, IsTable, IsUniverse, IsWordable, Universe, greatest_demand, lacks}
+use Rattle.metis_planner.specs.Terms.{EventBelow, IsPlanFor, numbered}
+use Rattle.metis_text.specs.Terms.{IsEventInRange, IsWellFormed, refusal_lines}
+use Rattle.metis_plan_commands.specs.Terms.{IsDoubledByNeed, IsPlan, Plans, PlansPairs, Refuses, others, plan_text}
 use Rattle.metis_text.specs.declared.refusal_text.Refusal.{Refusal}
 
 -- the instances that actions make, counted in two ways

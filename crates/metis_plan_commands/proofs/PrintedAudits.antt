@@ -11,18 +11,15 @@ use Rattle.metis_ids.specs.declared.goals.Goal.{Goal}
 use Rattle.metis_ids.proofs.Lists.{any_at, has_at}
 use Rattle.metis_universe.proofs.Attained.{Closed-layers}
 use Rattle.metis_universe.proofs.Inside.{refused}
-use Rattle.metis_universe.specs.Goal.{Attains}
-use Rattle.metis_universe.specs.Layers.{layer_of}
-use Rattle.metis_universe.specs.Universe.{IsUniverse, Universe, has}
-use Rattle.metis_universe.specs.Waits.{numbers}
-use Rattle.metis_layers.specs.LayerOrder.{attained_pairs}
-use Rattle.metis_audit.specs.Audits.{IsAnswer, IsAttained}
+use Rattle.metis_universe.specs.Terms.{Attains, IsUniverse, Universe, has, layer_of, numbers}
+use Rattle.metis_layers.specs.Terms.{attained_pairs}
+use Rattle.metis_audit.specs.Terms.{IsAnswer, IsAttained}
 use Rattle.metis_audit.specs.declared.answers.Answer.TheVariants.{Justified}
 use Rattle.metis_rounds.proofs.Leads.{not_found}
 use Rattle.metis_planner.proofs.Planning.{has_layer}
-use Rattle.metis_text.specs.PlanText.{after_of}
-use Rattle.metis_waits.specs.Waits.{waits_on_others}
-use Rattle.metis_plan_commands.specs.Plan.{Plans, PlansPairs, others}
+use Rattle.metis_text.specs.Terms.{after_of}
+use Rattle.metis_waits.specs.Terms.{waits_on_others}
+use Rattle.metis_plan_commands.specs.Terms.{Plans, PlansPairs, others}
 
 module _ (u : Universe) (universe : IsUniverse u) (g : List ℕ) (attains : Attains u g) where
   abbrev lacks : ℕ → Bool

@@ -4,3 +4,4 @@ pub mod Plan
 pub mod Planned
 pub mod Reconfigure
 pub mod Rollout
+pub mod Terms

@@ -4,18 +4,14 @@
 --     Loads n u g lines status      the plan that rounds come to is good, and the one line has its counts
 --     Loaded n lines status      the same for the generated universe of size n and its targets
 use Rattle.std.specs.Prelude.{◌≡◌, ℕ, Bool, true, false, List, [], ◌∷◌, ◌++◌, length, codes, decimal}
-use Rattle.metis_ids.specs.Plans.{Plan}
+use Rattle.metis_ids.specs.Terms.{Plan}
 use Rattle.metis_ids.specs.declared.actions.Action.{Action}
-use Rattle.metis_universe.specs.Config.{empty}
-use Rattle.metis_universe.specs.Goal.{Holds}
-use Rattle.metis_universe.specs.Goals.{pair_goals}
-use Rattle.metis_universe.specs.Step.{IsRun, after_all}
-use Rattle.metis_universe.specs.Universe.{Universe, pair_count}
-use Rattle.metis_replay.specs.Exact.{Tells}
+use Rattle.metis_universe.specs.Terms.{Holds, IsRun, Universe, after_all, empty, pair_count, pair_goals}
+use Rattle.metis_replay.specs.Terms.{Tells}
 use Rattle.metis_replay.specs.declared.verdict.Verdict.{Verdict}
 use Rattle.metis_replay.specs.declared.verdict.Verdict.TheVariants.{Good, Bad, Missing}
-use Rattle.metis_gen.specs.Generated.{generated, generated_targets}
-use Rattle.metis_planner.specs.Rounds.{IsByRounds}
+use Rattle.metis_gen.specs.Terms.{generated, generated_targets}
+use Rattle.metis_planner.specs.Terms.{IsByRounds}
 use Rattle.metis_output.specs.declared.status.Status.{Status}
 use Rattle.metis_output.specs.declared.status.Status.TheVariants.{Done}
 

@@ -3,12 +3,8 @@
 use Rattle.std.specs.Prelude.{◌≡◌, ◌<◌, ◌^◌, List, length}
 use Rattle.std.specs.List.{All}
 use Rattle.metis_ids.specs.declared.actions.Action.{Action}
-use Rattle.metis_universe.specs.Config.{Config, empty}
-use Rattle.metis_universe.specs.Numbers.{IsOf}
-use Rattle.metis_universe.specs.Steadfast.{IsSteadfastRun}
-use Rattle.metis_universe.specs.Step.{after_all}
-use Rattle.metis_universe.specs.Universe.{Universe}
-use Rattle.metis_waits.specs.Judged.{IsJudged}
+use Rattle.metis_universe.specs.Terms.{Config, IsOf, IsSteadfastRun, Universe, after_all, empty}
+use Rattle.metis_waits.specs.Terms.{IsJudged}
 use Rattle.metis_waits.specs.declared.judged.Judged.{Judged}
 
 pub record IsOld (u : Universe) (old : List Action) (left : Config) (judged : Judged) : Type 0 where

@@ -9,26 +9,15 @@
 use Rattle.std.specs.Prelude.{◌≡◌, ◌⊎◌, ℕ, ◌+◌, ◌*◌, ◌≤◌, List, [], length, map, IsTrue}
 use Rattle.std.specs.List.{count_by}
 use Rattle.metis_ids.specs.declared.actions.Action.{Action}
-use Rattle.metis_ids.specs.Plans.{Plan}
-use Rattle.metis_universe.specs.Universe.{Universe, greatest_demand}
-use Rattle.metis_universe.specs.Config.{empty}
-use Rattle.metis_universe.specs.Step.{after_all}
-use Rattle.metis_universe.specs.Goal.{Holds, Attains, IsAttainedSet}
-use Rattle.metis_universe.specs.Steadfast.{IsSteadfastRun}
-use Rattle.metis_universe.specs.Tidy.{IsTidy}
-use Rattle.metis_universe.specs.Goals.{AttainsGoals, GoalRefusal}
+use Rattle.metis_ids.specs.Terms.{HasCycle, Plan, makes}
+use Rattle.metis_universe.specs.Terms.{Attains, AttainsGoals, GoalRefusal, Holds, IsAttainedSet, IsSteadfastRun, IsTidy, Universe, after_all, empty, greatest_demand, numbers}
 use Rattle.metis_ids.specs.declared.goals.Goal.{Goal}
-use Rattle.metis_choice.specs.Resolutions.{ArePairsFor}
-use Rattle.metis_ids.specs.Action.{makes}
-use Rattle.metis_text.specs.PlanText.{IsWellFormed, plan_lines}
-use Rattle.metis_universe.specs.Waits.{numbers}
-use Rattle.metis_waits.specs.Waits.{waits_on_others}
-use Rattle.metis_text.specs.RefusalText.{refusal_lines}
-use Rattle.metis_ids.specs.Cycle.{HasCycle}
-use Rattle.metis_lines.specs.AbstractPlan.{line_count, stations}
-use Rattle.metis_lines.specs.Justified.{graph_for, is_justified}
-use Rattle.metis_emit.specs.Realized.{entered}
-use Rattle.metis_planner.specs.Rounds.{IsByRounds, graph_after, numbered}
+use Rattle.metis_choice.specs.Terms.{ArePairsFor}
+use Rattle.metis_text.specs.Terms.{IsWellFormed, plan_lines, refusal_lines}
+use Rattle.metis_waits.specs.Terms.{waits_on_others}
+use Rattle.metis_lines.specs.Terms.{graph_for, is_justified, line_count, stations}
+use Rattle.metis_emit.specs.Terms.{entered}
+use Rattle.metis_planner.specs.Terms.{IsByRounds, graph_after, numbered}
 use Rattle.metis_output.specs.declared.status.Status.{Status}
 use Rattle.metis_output.specs.declared.status.Status.TheVariants.{Done, No}
 

@@ -12,11 +12,9 @@ use Rattle.metis_output.specs.declared.status.Status.TheVariants.{Done, No}
 use Rattle.metis_plan_commands.specs.Plan.{Plans, Refuses, plan_text}
 use Rattle.metis_plan_commands.specs.declared.planned.Planned.{Planned}
 use Rattle.metis_plan_commands.specs.declared.planned.Planned.TheVariants.{Plan, Refusal}
-use Rattle.metis_text.specs.RefusalText.{refusal_lines}
-use Rattle.metis_universe.specs.GoalWords.{IsWordable}
-use Rattle.metis_universe.specs.Numbers.{IsOf}
-use Rattle.metis_universe.specs.Universe.{Universe, pair_count}
-use Rattle.metis_waits.specs.Waits.{AreWaits, WaitLists}
+use Rattle.metis_text.specs.Terms.{refusal_lines}
+use Rattle.metis_universe.specs.Terms.{IsOf, IsWordable, Universe, pair_count}
+use Rattle.metis_waits.specs.Terms.{AreWaits, WaitLists}
 
 abbrev pub TellsPlanned : Universe → Planned → List (List ℕ) → Status → Type 0
 TellsPlanned u (Plan p w) lines status = (lines ≡ plan_text u p) × (status ≡ Done)

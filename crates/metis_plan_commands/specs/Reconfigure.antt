@@ -22,26 +22,15 @@ use Rattle.metis_plan_commands.specs.Planned.{IsPrintable, TellsPlanned}
 use Rattle.metis_plan_commands.specs.declared.planned.Planned.TheVariants as planned
 use Rattle.metis_plan_commands.specs.declared.reconfigure.Attempt.{Attempt}
 use Rattle.metis_plan_commands.specs.declared.reconfigure.Attempt.TheVariants.{Planned, Barred}
-use Rattle.metis_reconfigure.specs.Answers.{IsObstacle}
-use Rattle.metis_reconfigure.specs.Kept.{IsAnswered, LeavesAlone, after_old, at_border, at_end}
-use Rattle.metis_reconfigure.specs.Reconfiguration.{Reconfiguration, before_removal, left_by, reconfigured}
-use Rattle.metis_reconfigure.specs.Staying.{wished}
-use Rattle.metis_reconfigure.specs.Tidied.{IsTidied}
+use Rattle.metis_reconfigure.specs.Terms.{IsAnswered, IsObstacle, IsTidied, LeavesAlone, Reconfiguration, after_old, at_border, at_end, before_removal, left_by, reconfigured, wished}
 use Rattle.metis_reconfigure.specs.declared.answer.Obstacle.{Obstacle}
 use Rattle.metis_reconfigure.specs.declared.answer.Obstacle.TheVariants as obstacle
-use Rattle.metis_rollout.specs.Guarded.{HasEach, IsGuardedAt, KeepsStanding, StandsIn}
-use Rattle.metis_rollout.specs.Removal.{IsWithout}
-use Rattle.metis_rollout.specs.Rollout.{all_but}
-use Rattle.metis_output.specs.NumberLine.{number_line}
-use Rattle.metis_steady.specs.Steady.{HasBadAction, HasLooseAction, IsSteady}
+use Rattle.metis_rollout.specs.Terms.{HasEach, IsGuardedAt, IsWithout, KeepsStanding, StandsIn, all_but}
+use Rattle.metis_output.specs.Terms.{number_line}
+use Rattle.metis_steady.specs.Terms.{HasBadAction, HasLooseAction, IsSteady}
 use Rattle.metis_steady.specs.declared.steady.Unsteady.{Unsteady}
-use Rattle.metis_text.specs.RefusalText.{refusal_lines}
-use Rattle.metis_universe.specs.Config.{pair_of}
-use Rattle.metis_universe.specs.GoalWords.{goal_word}
-use Rattle.metis_universe.specs.Goals.{AttainsGoals, HoldsGoals, IsGoalOf}
-use Rattle.metis_universe.specs.Steadfast.{IsSteadfastRun}
-use Rattle.metis_universe.specs.Universe.{Universe, has, port_count, port_name_of}
-use Rattle.metis_universe.specs.Waits.{IsKept, is_complete, picked}
+use Rattle.metis_text.specs.Terms.{refusal_lines}
+use Rattle.metis_universe.specs.Terms.{AttainsGoals, HoldsGoals, IsGoalOf, IsKept, IsSteadfastRun, Universe, goal_word, has, is_complete, pair_of, picked, port_count, port_name_of}
 use Rattle.metis_wishes.specs.declared.wish.Wish.{Wish}
 
 -- ---- the reconfiguration

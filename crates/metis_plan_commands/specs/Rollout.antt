@@ -8,22 +8,16 @@
 --     PutsRollout u goals old lines status      the actions are a steadfast run, and the lines are those of such a rollout where some actions attain the goals, and else of a refusal
 --     RolledOut u goals old lines status      that, or the one line is that of the first action that cannot be done, or of the first that is not steadfast
 use Rattle.std.specs.Prelude.{◌≡◌, ◌⊎◌, ℕ, List, [], Result, Ok, Err}
-use Rattle.metis_choice.specs.Resolutions.{ArePairsFor}
-use Rattle.metis_ids.specs.Plans.{Plan}
+use Rattle.metis_choice.specs.Terms.{ArePairsFor}
+use Rattle.metis_ids.specs.Terms.{Plan}
 use Rattle.metis_ids.specs.declared.actions.Action.{Action}
 use Rattle.metis_ids.specs.declared.goals.Goal.{Goal}
-use Rattle.metis_planner.specs.Rounds.{IsByRounds}
-use Rattle.metis_rollout.specs.Guarded.{GoesOnGuarded, NeverLacks}
-use Rattle.metis_rollout.specs.Rollout.{renumbered, rollout}
-use Rattle.metis_universe.specs.Steadfast.{IsSteadfastRun}
-use Rattle.metis_universe.specs.Config.{empty}
-use Rattle.metis_universe.specs.Goal.{Attains, Holds}
-use Rattle.metis_universe.specs.Goals.{AttainsGoals, HoldsGoals}
-use Rattle.metis_universe.specs.Step.{after_all}
-use Rattle.metis_universe.specs.Universe.{Universe}
-use Rattle.metis_steady.specs.Steady.{HasBadAction, HasLooseAction, IsSteady}
+use Rattle.metis_planner.specs.Terms.{IsByRounds}
+use Rattle.metis_rollout.specs.Terms.{GoesOnGuarded, NeverLacks, renumbered, rollout}
+use Rattle.metis_universe.specs.Terms.{Attains, AttainsGoals, Holds, HoldsGoals, IsSteadfastRun, Universe, after_all, empty}
+use Rattle.metis_steady.specs.Terms.{HasBadAction, HasLooseAction, IsSteady}
 use Rattle.metis_steady.specs.declared.steady.Unsteady.{Unsteady}
-use Rattle.metis_text.specs.RefusalText.{refusal_lines}
+use Rattle.metis_text.specs.Terms.{refusal_lines}
 use Rattle.metis_plan_commands.specs.declared.planned.Planned.{Planned}
 use Rattle.metis_plan_commands.specs.declared.planned.Planned.TheVariants as planned
 use Rattle.metis_plan_commands.specs.declared.planned.Planned.TheVariants.{Refusal}

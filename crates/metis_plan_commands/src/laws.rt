@@ -1,10 +1,10 @@
 //! Laws over the definitions.
 ghost use Rattle.std.specs.Prelude.{ℕ, List};
 ghost use Rattle.metis_ids.specs.declared.goals.Goal.{Goal};
-ghost use Rattle.metis_audit.specs.Audits.{IsAnswer};
+ghost use Rattle.metis_audit.specs.Terms.{IsAnswer};
 ghost use Rattle.metis_audit.specs.declared.answers.Answer.TheVariants.{Justified};
-ghost use Rattle.metis_universe.specs.Universe.{IsUniverse, Universe};
-ghost use Rattle.metis_plan_commands.specs.Plan.{Plans, others};
+ghost use Rattle.metis_universe.specs.Terms.{IsUniverse, Universe};
+ghost use Rattle.metis_plan_commands.specs.Terms.{Plans, others};
 
 /// The plan that is printed is justified for the pairs for its goals, with the numbers that stand behind its actions.
 pub fn printed_plans_are_justified()

@@ -1,9 +1,9 @@
 //! The actions of a plan that was carried out.
 ghost use Rattle.std.specs.Prelude.{◌≡◌, ◌<◌, ◌^◌, Err, IfErr, IfOk, length};
 ghost use Rattle.std.specs.List.{All};
-ghost use Rattle.metis_plan_commands.specs.Old.{IsOld};
-ghost use Rattle.metis_steady.specs.Steady.{IsSteady};
-ghost use Rattle.metis_universe.specs.Numbers.{IsOf};
+ghost use Rattle.metis_plan_commands.specs.Terms.{IsOld};
+ghost use Rattle.metis_steady.specs.Terms.{IsSteady};
+ghost use Rattle.metis_universe.specs.Terms.{IsOf};
 
 use metis_config::Config;
 use metis_ids::Action;

@@ -1,17 +1,11 @@
 //! The command that plans for goals.
 ghost use Rattle.std.specs.Prelude.{◌≡◌, ◌<◌, ◌≤◌, ◌-◌, ◌^◌, IfOk, IsTrue, length};
 ghost use Rattle.std.specs.List.{All, count_by};
-ghost use Rattle.metis_ids.specs.Action.{makes};
-ghost use Rattle.metis_output.specs.Answers.{Says};
-ghost use Rattle.metis_output.specs.Puts.{Puts};
-ghost use Rattle.metis_plan_commands.specs.Plan.{PlanAnswer, plan_of};
-ghost use Rattle.metis_plan_commands.specs.Planned.{IsOfPlan, IsPlanned, IsPrintable, TellsPlanned};
-ghost use Rattle.metis_universe.specs.GoalWords.{IsWordable};
-ghost use Rattle.metis_universe.specs.Goals.{IsGoalOf};
-ghost use Rattle.metis_universe.specs.Numbers.{IsOf};
-ghost use Rattle.metis_universe.specs.Steadfast.{is_steadfast};
-ghost use Rattle.metis_universe.specs.Universe.{pair_count};
-ghost use Rattle.metis_waits.specs.Judged.{IsBegun};
+ghost use Rattle.metis_ids.specs.Terms.{makes};
+ghost use Rattle.metis_output.specs.Terms.{Puts, Says};
+ghost use Rattle.metis_plan_commands.specs.Terms.{IsOfPlan, IsPlanned, IsPrintable, PlanAnswer, TellsPlanned, plan_of};
+ghost use Rattle.metis_universe.specs.Terms.{IsGoalOf, IsOf, IsWordable, is_steadfast, pair_count};
+ghost use Rattle.metis_waits.specs.Terms.{IsBegun};
 
 use crate::planned::{Planned, refusal};
 use metis_choice::{Resolved, pairs_for_goals_hold_them, resolve_goals};

@@ -1,8 +1,7 @@
 //! What a planner comes to.
 ghost use Rattle.std.specs.Prelude.{◌≡◌};
-ghost use Rattle.metis_layers.specs.LayerOrder.{attained_pairs};
-ghost use Rattle.metis_layers.specs.Layers.{IsLayers};
-ghost use Rattle.metis_universe.specs.Universe.{pair_count};
+ghost use Rattle.metis_layers.specs.Terms.{IsLayers, attained_pairs};
+ghost use Rattle.metis_universe.specs.Terms.{pair_count};
 
 use metis_ids::{Goal, Plan};
 use metis_layers::table::Layers;

@@ -3,18 +3,12 @@ ghost use Rattle.std.specs.Prelude.{◌≡◌, ◌<◌, ◌≤◌, ◌^◌, ◌�
 ghost use Rattle.std.specs.List.{All};
 ghost use Rattle.metis_ids.specs.declared.actions.Action.{Action};
 ghost use Rattle.metis_ids.specs.declared.goals.Goal.{Goal};
-ghost use Rattle.metis_layers.specs.Layers.{IsLayers};
-ghost use Rattle.metis_output.specs.Answers.{Says};
-ghost use Rattle.metis_output.specs.Puts.{Puts};
-ghost use Rattle.metis_plan_commands.specs.Old.{IsOld};
-ghost use Rattle.metis_plan_commands.specs.Reconfigure.{HasAttempted, IsAttempted, IsObstacleIn, IsSound, IsTellable, Reconfigured, obstacle_line};
-ghost use Rattle.metis_reconfigure.specs.Kept.{IsAnswered};
-ghost use Rattle.metis_reconfigure.specs.Reconfiguration.{Reconfiguration};
-ghost use Rattle.metis_steady.specs.Steady.{IsUnsteadyIn};
-ghost use Rattle.metis_universe.specs.GoalWords.{IsWordable};
-ghost use Rattle.metis_universe.specs.Goals.{AttainsGoals, IsGoalOf};
-ghost use Rattle.metis_universe.specs.Numbers.{IsOf};
-ghost use Rattle.metis_universe.specs.Universe.{IsUniverse, Universe};
+ghost use Rattle.metis_layers.specs.Terms.{IsLayers};
+ghost use Rattle.metis_output.specs.Terms.{Puts, Says};
+ghost use Rattle.metis_plan_commands.specs.Terms.{HasAttempted, IsAttempted, IsObstacleIn, IsOld, IsSound, IsTellable, Reconfigured, obstacle_line};
+ghost use Rattle.metis_reconfigure.specs.Terms.{IsAnswered, Reconfiguration};
+ghost use Rattle.metis_steady.specs.Terms.{IsUnsteadyIn};
+ghost use Rattle.metis_universe.specs.Terms.{AttainsGoals, IsGoalOf, IsOf, IsUniverse, IsWordable, Universe};
 ghost use Rattle.metis_wishes.specs.declared.wish.Wish.{Wish};
 
 use crate::old::{Old, old_of};

@@ -1,18 +1,11 @@
 //! The command that goes from a plan to other targets.
 ghost use Rattle.std.specs.Prelude.{◌<◌, ◌≤◌, ◌^◌, IfErr, IfOk, length};
 ghost use Rattle.std.specs.List.{All};
-ghost use Rattle.metis_layers.specs.Layers.{IsLayers};
-ghost use Rattle.metis_output.specs.Answers.{Says};
-ghost use Rattle.metis_output.specs.Puts.{Puts};
-ghost use Rattle.metis_plan_commands.specs.Planned.{IsPrintable};
-ghost use Rattle.metis_plan_commands.specs.Old.{IsOld};
-ghost use Rattle.metis_plan_commands.specs.Rollout.{IsRolledOut, RolledOut, RollsOutGoals, RollsOutTo};
-ghost use Rattle.metis_steady.specs.Steady.{IsUnsteadyIn};
-ghost use Rattle.metis_universe.specs.Goal.{Attains};
-ghost use Rattle.metis_universe.specs.GoalWords.{IsWordable};
-ghost use Rattle.metis_universe.specs.Goals.{IsGoalOf};
-ghost use Rattle.metis_universe.specs.Numbers.{IsOf};
-ghost use Rattle.metis_universe.specs.Universe.{pair_count};
+ghost use Rattle.metis_layers.specs.Terms.{IsLayers};
+ghost use Rattle.metis_output.specs.Terms.{Puts, Says};
+ghost use Rattle.metis_plan_commands.specs.Terms.{IsOld, IsPrintable, IsRolledOut, RolledOut, RollsOutGoals, RollsOutTo};
+ghost use Rattle.metis_steady.specs.Terms.{IsUnsteadyIn};
+ghost use Rattle.metis_universe.specs.Terms.{Attains, IsGoalOf, IsOf, IsWordable, pair_count};
 
 use crate::old::{Old, old_of};
 use crate::plan::{PlannedLines, planned_answer, with_no_dups};

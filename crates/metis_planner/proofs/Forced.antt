@@ -10,33 +10,25 @@ use Rattle.std.proofs.lemmas.List.{get_or_past, get_or-map, length-map, map-appe
 use Rattle.std.proofs.lemmas.List.Elements.{All-from_get_or, All-get_or}
 use Rattle.std.proofs.Math.Seq.{take-length}
 use Rattle.std.proofs.lemmas.Option.{slice_get-get_or, slice_get_within}
-use Rattle.metis_ids.specs.Plans.{Dup}
+use Rattle.metis_ids.specs.Terms.{Dup}
 use Rattle.metis_ids.specs.declared.events.Event.{Event}
 use Rattle.metis_ids.specs.declared.events.Event.TheVariants.{At, End}
 use Rattle.metis_ids.proofs.Lists.{all_in_range, has_at, has_one, take_one_more}
 use Rattle.metis_universe.proofs.PortRows.{few_below}
-use Rattle.metis_universe.specs.Layers.{layer_of}
-use Rattle.metis_universe.specs.Selection.{provider_pairs as provider_pairs_in}
-use Rattle.metis_universe.specs.Universe.{greatest_demand, Universe, IsTable, has, pair_count}
+use Rattle.metis_universe.specs.Terms.{IsTable, Universe, greatest_demand, has, layer_of, pair_count, provider_pairs as provider_pairs_in}
 use Rattle.metis_support.proofs.Kept.{kept}
 use Rattle.metis_support.proofs.Lists.{has-append_cases}
 use Rattle.metis_support.proofs.Selections.{is_support, same_provider_pairs, targets_selected}
-use Rattle.metis_support.specs.Support.{Support, IsKept, IsSupport, is_selected, layer_number, path_to, provider_pairs, support_of}
+use Rattle.metis_support.specs.Terms.{IsKept, IsSupport, Support, is_selected, layer_number, path_to, provider_pairs, support_of}
 use Rattle.metis_lines.proofs.Few.{apart_first, few, still_apart}
 use Rattle.metis_lines.proofs.Holders.{chosen_end, count, provider_chosen}
 use Rattle.metis_lines.proofs.Instances.{graph_formed, graph_rises, graph_sound, graph_stands}
-use Rattle.metis_lines.specs.AbstractPlan.{AbstractPlan, line_count, stations}
-use Rattle.metis_lines.specs.Events.{is_cycle, is_event, step_count}
-use Rattle.metis_lines.specs.Justified.{graph_for, is_justified, is_justified_at, is_justified_by, leads_on, lines_for, own_pairs}
-use Rattle.metis_lines.specs.LifeLines.{AreApart, AreLines, later_ends, line_ends, other_ends}
-use Rattle.metis_lines.specs.Soundness.{IsFormed, IsSound}
+use Rattle.metis_lines.specs.Terms.{AbstractPlan, AreApart, AreLines, IsFormed, IsSound, graph_for, is_cycle, is_event, is_justified, is_justified_at, is_justified_by, later_ends, leads_on, line_count, line_ends, lines_for, other_ends, own_pairs, stations, step_count}
 use Rattle.metis_rounds.proofs.Around.{all_by_place}
 use Rattle.metis_rounds.proofs.Cycles.{cycle_is_round, cycle_of_all_events, round_of_two}
 use Rattle.metis_rounds.proofs.Leads.{IsDoubled, doubled}
 use Rattle.metis_planner.proofs.Lists.{some_at}
-use Rattle.metis_planner.specs.Outcomes.{EventBelow}
-use Rattle.metis_planner.specs.Rounds.{graph_after}
-use Rattle.metis_planner.specs.UnderWay.{AreForced}
+use Rattle.metis_planner.specs.Terms.{AreForced, EventBelow, graph_after}
 
 sixteen_each : (n m : ℕ) → m ≤ 16 → n * m ≤ 16 * n
 sixteen_each zero m few = omega arith

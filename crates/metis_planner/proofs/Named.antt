@@ -8,12 +8,9 @@ use Rattle.metis_ids.specs.declared.actions.Action.{Action}
 use Rattle.metis_ids.specs.declared.actions.Action.TheVariants.{New, Delete, Bind, Unbind, Move}
 use Rattle.metis_ids.specs.declared.events.Event.{Event}
 use Rattle.metis_ids.specs.declared.events.Event.TheVariants.{At, End}
-use Rattle.metis_universe.specs.Numbers.{NamesBelow}
-use Rattle.metis_universe.specs.Universe.{Universe, type_of}
-use Rattle.metis_lines.specs.AbstractPlan.{AbstractPlan, Supply, is_supplied, is_there, line_count, station_at, stations}
-use Rattle.metis_lines.specs.Events.{IsOrder, IsOrderAfter}
-use Rattle.metis_lines.specs.Soundness.{IsFormed}
-use Rattle.metis_emit.specs.Emission.{binds, emission, event_actions, gained, move_actions, supplies_at, unbinds}
+use Rattle.metis_universe.specs.Terms.{NamesBelow, Universe, type_of}
+use Rattle.metis_lines.specs.Terms.{AbstractPlan, IsFormed, IsOrder, IsOrderAfter, Supply, is_supplied, is_there, line_count, station_at, stations}
+use Rattle.metis_emit.specs.Terms.{binds, emission, event_actions, gained, move_actions, supplies_at, unbinds}
 use Rattle.metis_emit.proofs.Members.{In, in_filter, all_from}
 use Rattle.metis_emit.proofs.Taken.{event_line}
 

@@ -2,17 +2,13 @@
 use Rattle.std.proofs.Common.{◌≡◌, ℕ, zero, suc, Bool, false, cond, List, [], ◌∷◌, Some, refl, sym, ap, ◌∙◌, subst}
 use Rattle.std.specs.List.{filter, slice_get}
 use Rattle.std.proofs.lemmas.Bool.{false≢true}
-use Rattle.metis_ids.specs.Cycle.{HasCycle}
-use Rattle.metis_ids.specs.Plans.{Dup, Plan}
-use Rattle.metis_universe.specs.Selection.{selected_within}
-use Rattle.metis_universe.specs.Universe.{Universe, all_pairs, pair_count}
-use Rattle.metis_support.specs.Support.{support_by}
-use Rattle.metis_lines.specs.AbstractPlan.{AbstractPlan, line_count}
-use Rattle.metis_lines.specs.Justified.{graph_for}
-use Rattle.metis_lines.specs.LifeLines.{lines_of, plan_of}
-use Rattle.metis_emit.specs.Emission.{emission}
+use Rattle.metis_ids.specs.Terms.{Dup, HasCycle, Plan}
+use Rattle.metis_universe.specs.Terms.{Universe, all_pairs, pair_count, selected_within}
+use Rattle.metis_support.specs.Terms.{support_by}
+use Rattle.metis_lines.specs.Terms.{AbstractPlan, graph_for, line_count, lines_of, plan_of}
+use Rattle.metis_emit.specs.Terms.{emission}
 use Rattle.metis_planner.proofs.Unique.{one_plan}
-use Rattle.metis_planner.specs.Rounds.{IsByRounds, numbered, ordered_events}
+use Rattle.metis_planner.specs.Terms.{IsByRounds, numbered, ordered_events}
 
 none_pass : (t : ℕ → Bool) → ((x : ℕ) → t x ≡ false) → (xs : List ℕ) → filter t xs ≡ []
 none_pass t none [] = refl

@@ -6,20 +6,16 @@ use Rattle.std.proofs.lemmas.Bool.{both_ways, cases_lt, false_from_ne_true}
 use Rattle.std.proofs.lemmas.List.{get_or-map, get_or_past, length-map}
 use Rattle.std.proofs.lemmas.Map.Keys.{sorted_from_strictly_increasing}
 use Rattle.metis_ids.proofs.Lists.{none_above}
-use Rattle.metis_ids.specs.Plans.{Plan}
+use Rattle.metis_ids.specs.Terms.{Plan}
 use Rattle.metis_universe.proofs.Slots.{has-map}
-use Rattle.metis_universe.specs.Config.{AreDifferent}
-use Rattle.metis_universe.specs.Goal.{Attains}
-use Rattle.metis_universe.specs.Universe.{IsTable, Universe, has}
-use Rattle.metis_support.specs.Support.{layer_number}
-use Rattle.metis_lines.specs.AbstractPlan.{AbstractPlan, line_count, stations}
-use Rattle.metis_lines.specs.Justified.{own_pairs}
-use Rattle.metis_lines.specs.Soundness.{Rises}
-use Rattle.metis_emit.specs.Realized.{entered}
+use Rattle.metis_universe.specs.Terms.{AreDifferent, Attains, IsTable, Universe, has}
+use Rattle.metis_support.specs.Terms.{layer_number}
+use Rattle.metis_lines.specs.Terms.{AbstractPlan, Rises, line_count, own_pairs, stations}
+use Rattle.metis_emit.specs.Terms.{entered}
 use Rattle.metis_planner.proofs.Ending.{attained_layered}
 use Rattle.metis_planner.proofs.Forced.{providers, sound_for}
 use Rattle.metis_planner.proofs.Rounded.{realizes}
-use Rattle.metis_planner.specs.Rounds.{IsByRounds, graph_after}
+use Rattle.metis_planner.specs.Terms.{IsByRounds, graph_after}
 
 -- ---- numbers along which a level rises
 

@@ -6,13 +6,11 @@ use Rattle.std.proofs.lemmas.List.{get_or-take, length-take-le}
 use Rattle.std.proofs.lemmas.Option.{get_or_from_slice_get, slice_get_within}
 use Rattle.metis_universe.proofs.Attained.{Closed-layers}
 use Rattle.metis_universe.proofs.Rounds.{grows_to, layers_grow}
-use Rattle.metis_universe.specs.Closed.{Refusal}
-use Rattle.metis_universe.specs.Layers.{layer_of, layer_set}
-use Rattle.metis_universe.specs.Universe.{Universe, IsUniverse, has, pair_count}
+use Rattle.metis_universe.specs.Terms.{IsUniverse, Refusal, Universe, has, layer_of, layer_set, pair_count}
 use Rattle.metis_layers.proofs.LayerFacts.{layer_below, layer_by, layer_has}
 use Rattle.metis_layers.proofs.Ways.{all_has}
-use Rattle.metis_layers.specs.LayerOrder.{attained_pairs}
-use Rattle.metis_choice.specs.Choices.{IsFirstWithout}
+use Rattle.metis_layers.specs.Terms.{attained_pairs}
+use Rattle.metis_choice.specs.Terms.{IsFirstWithout}
 use Rattle.metis_rounds.proofs.Searches.{find_at}
 
 module _ (u : Universe) where

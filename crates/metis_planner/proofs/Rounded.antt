@@ -5,39 +5,26 @@ use Rattle.std.specs.Prelude.{IsSome, is_some}
 use Rattle.std.proofs.Math.Nat.{suc-mul}
 use Rattle.std.proofs.lemmas.Bool.{and_from, and_parts, eq-eqb, false≢true, or_left, or_right}
 use Rattle.metis_ids.proofs.Orders.{order_sorts, order_without}
-use Rattle.metis_ids.specs.Order.{order_of}
-use Rattle.metis_ids.specs.Plans.{Plan}
+use Rattle.metis_ids.specs.Terms.{Plan, order_of}
 use Rattle.metis_ids.specs.declared.actions.Action.{Action}
 use Rattle.metis_universe.proofs.Rounds.{has-filter}
-use Rattle.metis_universe.specs.Config.{empty}
-use Rattle.metis_universe.specs.Goal.{Holds}
-use Rattle.metis_universe.specs.Layers.{is_enabled, layer_of, layer_set}
-use Rattle.metis_universe.specs.Numbers.{NamesBelow}
-use Rattle.metis_universe.specs.Selection.{is_needed, provider_pairs, selected, selected_within}
-use Rattle.metis_universe.specs.Step.{after_all}
-use Rattle.metis_universe.specs.Tidy.{IsTidy}
-use Rattle.metis_universe.specs.Universe.{Universe, greatest_demand, IsTable, all_pairs, has, is_free, pair_count}
+use Rattle.metis_universe.specs.Terms.{Holds, IsTable, IsTidy, NamesBelow, Universe, after_all, all_pairs, empty, greatest_demand, has, is_enabled, is_free, is_needed, layer_of, layer_set, pair_count, provider_pairs, selected, selected_within}
 use Rattle.metis_layers.proofs.Order.{attained_set}
-use Rattle.metis_layers.specs.LayerOrder.{attained_pairs, instances_of}
+use Rattle.metis_layers.specs.Terms.{attained_pairs, instances_of}
 use Rattle.metis_support.proofs.Selections.{layer_is, same_provider_pairs}
-use Rattle.metis_support.specs.Support.{layer_number}
-use Rattle.metis_lines.specs.AbstractPlan.{AbstractPlan, line_count}
-use Rattle.metis_lines.specs.Events.{IsOrder}
-use Rattle.metis_lines.specs.Justified.{own_pairs}
-use Rattle.metis_lines.specs.Soundness.{IsFormed}
+use Rattle.metis_support.specs.Terms.{layer_number}
+use Rattle.metis_lines.specs.Terms.{AbstractPlan, IsFormed, IsOrder, line_count, own_pairs}
 use Rattle.metis_events.proofs.Numbered.{graph_of_plan}
-use Rattle.metis_events.specs.Numbered.{IsGraphOf}
+use Rattle.metis_events.specs.Terms.{IsGraphOf}
 use Rattle.metis_emit.proofs.Joined.{joined, joined_tidy}
 use Rattle.metis_emit.proofs.Least.{least_is_late, least_order}
 use Rattle.metis_emit.proofs.Numbered.{least_numbers}
 use Rattle.metis_emit.proofs.Short.{short}
-use Rattle.metis_emit.specs.Emission.{emission}
-use Rattle.metis_emit.specs.Realized.{IsLeastOrder, Realizes}
+use Rattle.metis_emit.specs.Terms.{IsLeastOrder, Realizes, emission}
 use Rattle.metis_planner.proofs.Forced.{dups_few, formed_for, lines_bounded, lines_few, providers, sound_for, support}
 use Rattle.metis_planner.proofs.Named.{below, emission_below}
 use Rattle.metis_planner.proofs.Planning.{has_layer}
-use Rattle.metis_planner.specs.Outcomes.{IsLean}
-use Rattle.metis_planner.specs.Rounds.{IsByRounds, graph_after, numbered, ordered_events}
+use Rattle.metis_planner.specs.Terms.{IsByRounds, IsLean, graph_after, numbered, ordered_events}
 
 -- ---- the selected pairs are no more than the attainable ones
 

@@ -6,17 +6,14 @@ use Rattle.std.proofs.lemmas.Bool.{cases_lt}
 use Rattle.std.proofs.lemmas.List.{length-append, map-append}
 use Rattle.std.proofs.Math.Seq.{take-length}
 use Rattle.std.proofs.lemmas.Option.{slice_get_within}
-use Rattle.metis_ids.specs.Plans.{Dup}
-use Rattle.metis_universe.specs.Layers.{layer_of}
-use Rattle.metis_universe.specs.Universe.{Universe, IsTable, has}
-use Rattle.metis_support.specs.Support.{Support, support_of}
-use Rattle.metis_lines.specs.Justified.{lines_for, own_pairs}
-use Rattle.metis_lines.specs.LifeLines.{AreLines, LifeLines, lines_of, plan_of}
+use Rattle.metis_ids.specs.Terms.{Dup}
+use Rattle.metis_universe.specs.Terms.{IsTable, Universe, has, layer_of}
+use Rattle.metis_support.specs.Terms.{Support, support_of}
+use Rattle.metis_lines.specs.Terms.{AreLines, LifeLines, lines_for, lines_of, own_pairs, plan_of}
 use Rattle.metis_planner.proofs.Forced.{lines_for_own, providers}
 use Rattle.metis_planner.proofs.Lists.{get_behind, get_front, take_front}
-use Rattle.metis_rounds.specs.Forced.{IsForced}
-use Rattle.metis_planner.specs.Rounds.{graph_after}
-use Rattle.metis_planner.specs.UnderWay.{AreForced, IsUnderWay}
+use Rattle.metis_rounds.specs.Terms.{IsForced}
+use Rattle.metis_planner.specs.Terms.{AreForced, IsUnderWay, graph_after}
 
 module _ (u : Universe) (g : List ℕ) where
   -- one more that is forced over those before it

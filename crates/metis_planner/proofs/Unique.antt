@@ -5,16 +5,14 @@ use Rattle.std.specs.Prelude.{take}
 use Rattle.std.proofs.lemmas.Bool.{cases_lt}
 use Rattle.std.proofs.lemmas.Option.{same_Some}
 use Rattle.std.proofs.Math.Seq.{take-length}
-use Rattle.metis_ids.specs.Cycle.{HasCycle}
-use Rattle.metis_ids.specs.Plans.{Dup, Plan}
+use Rattle.metis_ids.specs.Terms.{Dup, HasCycle, Plan}
 use Rattle.metis_ids.proofs.Lists.{take_one_more}
-use Rattle.metis_universe.specs.Universe.{Universe}
-use Rattle.metis_lines.specs.AbstractPlan.{line_count}
-use Rattle.metis_lines.specs.Justified.{graph_for}
-use Rattle.metis_emit.specs.Emission.{emission}
+use Rattle.metis_universe.specs.Terms.{Universe}
+use Rattle.metis_lines.specs.Terms.{graph_for, line_count}
+use Rattle.metis_emit.specs.Terms.{emission}
 use Rattle.metis_planner.proofs.Lists.{some_at}
-use Rattle.metis_rounds.specs.Forced.{IsForced, doubled_by}
-use Rattle.metis_planner.specs.Rounds.{IsByRounds, graph_after, numbered, ordered_events}
+use Rattle.metis_rounds.specs.Terms.{IsForced, doubled_by}
+use Rattle.metis_planner.specs.Terms.{IsByRounds, graph_after, numbered, ordered_events}
 
 module _ (u : Universe) (g : List ℕ) where
   -- over the same pairs before it, a dup that is forced is one

@@ -6,13 +6,11 @@
 --     IfClosed result P      P holds of the set and of the target that it lacks, where it is no plan
 use Rattle.std.specs.Prelude.{ℕ, ◌+◌, ◌*◌, ◌<◌, ◌≤◌, List, length, Bool, true, false, ⊤, Result, Ok, Err}
 use Rattle.std.specs.Bool.{Decides}
-use Rattle.metis_ids.specs.PairSet.{PairSet}
+use Rattle.metis_ids.specs.Terms.{PairSet, Plan}
 use Rattle.metis_ids.specs.declared.events.Event.{Event}
 use Rattle.metis_ids.specs.declared.events.Event.TheVariants.{At, End}
 use Rattle.metis_ids.specs.declared.no_memory.NoMemory.{NoMemory}
-use Rattle.metis_ids.specs.Plans.{Plan}
-use Rattle.metis_universe.specs.Goal.{IsAttainedSet}
-use Rattle.metis_universe.specs.Universe.{Universe, greatest_demand}
+use Rattle.metis_universe.specs.Terms.{IsAttainedSet, Universe, greatest_demand}
 use Rattle.metis_planner.specs.declared.outcome.Outcome.{Outcome}
 use Rattle.metis_planner.specs.declared.outcome.Outcome.TheVariants as outcome
 

@@ -2,18 +2,11 @@
 --     IsPlanFor u g plan      its actions are a run that holds the targets, and what else the planner promises of it
 use Rattle.std.specs.Prelude.{◌≡◌, ◌≤◌, ◌<◌, ◌*◌, ◌^◌, ℕ, List, IsTrue, length}
 use Rattle.std.specs.List.{All}
-use Rattle.metis_ids.specs.Plans.{Plan}
-use Rattle.metis_universe.specs.Config.{empty}
-use Rattle.metis_universe.specs.Goal.{Holds}
-use Rattle.metis_universe.specs.Numbers.{IsOf, NamesBelow}
-use Rattle.metis_universe.specs.Steadfast.{IsSteadfastRun}
-use Rattle.metis_universe.specs.Step.{after_all}
-use Rattle.metis_universe.specs.Tidy.{IsTidy}
-use Rattle.metis_universe.specs.Universe.{Universe, pair_count}
-use Rattle.metis_layers.specs.LayerOrder.{instances_of}
-use Rattle.metis_lines.specs.AbstractPlan.{stations}
-use Rattle.metis_lines.specs.Justified.{is_justified}
-use Rattle.metis_emit.specs.Realized.{entered}
+use Rattle.metis_ids.specs.Terms.{Plan}
+use Rattle.metis_universe.specs.Terms.{Holds, IsOf, IsSteadfastRun, IsTidy, NamesBelow, Universe, after_all, empty, pair_count}
+use Rattle.metis_layers.specs.Terms.{instances_of}
+use Rattle.metis_lines.specs.Terms.{is_justified, stations}
+use Rattle.metis_emit.specs.Terms.{entered}
 use Rattle.metis_planner.specs.Outcomes.{EventBelow, IsLean}
 use Rattle.metis_planner.specs.Rounds.{IsByRounds, graph_after}
 

@@ -5,18 +5,13 @@
 --     graph_after u g ds      the plan without an order for the targets and the pairs of these dups
 --     IsByRounds u g p      each dup is forced over the pairs before it, over all pairs no cycle is left, and the actions are those of the order
 use Rattle.std.specs.Prelude.{ℕ, ◌≡◌, List, map, take, slice_get, Some}
-use Rattle.metis_ids.specs.Cycle.{HasCycle}
-use Rattle.metis_ids.specs.Graph.{Graph}
-use Rattle.metis_ids.specs.Order.{order_of}
-use Rattle.metis_ids.specs.Plans.{Dup, Plan}
+use Rattle.metis_ids.specs.Terms.{Dup, Graph, HasCycle, Plan, order_of}
 use Rattle.metis_ids.specs.declared.events.Event.{Event}
-use Rattle.metis_universe.specs.Universe.{Universe}
-use Rattle.metis_lines.specs.AbstractPlan.{AbstractPlan, line_count}
-use Rattle.metis_lines.specs.Justified.{graph_for, own_pairs}
-use Rattle.metis_events.specs.Edges.{graph_of}
-use Rattle.metis_events.specs.Numbered.{dag_of, nth_event}
-use Rattle.metis_emit.specs.Emission.{emission}
-use Rattle.metis_rounds.specs.Forced.{IsForced}
+use Rattle.metis_universe.specs.Terms.{Universe}
+use Rattle.metis_lines.specs.Terms.{AbstractPlan, graph_for, line_count, own_pairs}
+use Rattle.metis_events.specs.Terms.{dag_of, graph_of, nth_event}
+use Rattle.metis_emit.specs.Terms.{emission}
+use Rattle.metis_rounds.specs.Terms.{IsForced}
 
 abbrev pub numbered : AbstractPlan → Graph
 numbered w = dag_of (graph_of w)

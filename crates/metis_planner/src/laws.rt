@@ -1,13 +1,10 @@
 //! Laws of plans by rounds.
 ghost use Rattle.std.specs.Prelude.{◌≡◌, ℕ, List, []};
-ghost use Rattle.metis_ids.specs.Cycle.{HasCycle};
-ghost use Rattle.metis_ids.specs.Plans.{Plan};
-ghost use Rattle.metis_universe.specs.Config.{AreDifferent};
-ghost use Rattle.metis_universe.specs.Goal.{Attains};
-ghost use Rattle.metis_universe.specs.Universe.{IsTable, Universe};
-ghost use Rattle.metis_lines.specs.Justified.{graph_for};
-ghost use Rattle.metis_emit.specs.Realized.{entered};
-ghost use Rattle.metis_planner.specs.Rounds.{IsByRounds, numbered};
+ghost use Rattle.metis_ids.specs.Terms.{HasCycle, Plan};
+ghost use Rattle.metis_universe.specs.Terms.{AreDifferent, Attains, IsTable, Universe};
+ghost use Rattle.metis_lines.specs.Terms.{graph_for};
+ghost use Rattle.metis_emit.specs.Terms.{entered};
+ghost use Rattle.metis_planner.specs.Terms.{IsByRounds, numbered};
 
 /// Rounds come to one plan alone, so it is a function of the universe and the targets.
 pub fn rounds_come_to_one_plan()

@@ -1,13 +1,11 @@
 //! From lines whose events have an order to their actions.
 ghost use Rattle.std.specs.Prelude.{◌≡◌, ◌<◌, IfOk, length, map};
 ghost use Rattle.std.specs.List.{All};
-ghost use Rattle.metis_ids.specs.Cycle.{HasCycle};
-ghost use Rattle.metis_ids.specs.Order.{IsOrder};
-ghost use Rattle.metis_lines.specs.Over.{graph_over};
-ghost use Rattle.metis_events.specs.Edges.{event_at, graph_of};
-ghost use Rattle.metis_events.specs.Numbered.{dag_of};
-ghost use Rattle.metis_emit.specs.Emission.{emission};
-ghost use Rattle.metis_planner.specs.Rounds.{numbered, ordered_events};
+ghost use Rattle.metis_ids.specs.Terms.{HasCycle, IsOrder};
+ghost use Rattle.metis_lines.specs.Terms.{graph_over};
+ghost use Rattle.metis_events.specs.Terms.{dag_of, event_at, graph_of};
+ghost use Rattle.metis_emit.specs.Terms.{emission};
+ghost use Rattle.metis_planner.specs.Terms.{numbered, ordered_events};
 
 use metis_emit::emit;
 use metis_events::EventGraph;

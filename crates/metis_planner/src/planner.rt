@@ -1,26 +1,13 @@
 //! Plans for lists of targets.
 ghost use Rattle.std.specs.Prelude.{◌≡◌, ◌<◌, ◌≤◌, ◌*◌, ◌^◌, ℕ, IfOk, IsSome, IsTrue, length};
 ghost use Rattle.std.specs.List.{All};
-ghost use Rattle.metis_ids.specs.Cycle.{HasCycle};
-ghost use Rattle.metis_universe.specs.Closed.{Refusal};
-ghost use Rattle.metis_universe.specs.Config.{empty};
-ghost use Rattle.metis_universe.specs.Goal.{Attains, Holds, IsAttainedSet};
-ghost use Rattle.metis_universe.specs.Layers.{layer_of};
-ghost use Rattle.metis_universe.specs.Numbers.{IsOf, NamesBelow};
-ghost use Rattle.metis_universe.specs.Steadfast.{is_steadfast};
-ghost use Rattle.metis_universe.specs.Step.{IsRun, after_all};
-ghost use Rattle.metis_universe.specs.Tidy.{IsTidy};
-ghost use Rattle.metis_universe.specs.Universe.{pair_count};
-ghost use Rattle.metis_layers.specs.LayerOrder.{instances_of};
-ghost use Rattle.metis_layers.specs.Layers.{IsLayers};
-ghost use Rattle.metis_support.specs.Support.{support_of};
-ghost use Rattle.metis_lines.specs.AbstractPlan.{stations};
-ghost use Rattle.metis_lines.specs.Justified.{is_justified};
-ghost use Rattle.metis_emit.specs.Realized.{entered};
-ghost use Rattle.metis_planner.specs.Outcomes.{IsLean, IsPlanWhere, IfPlan, IfClosed, EventBelow};
-ghost use Rattle.metis_planner.specs.PlanFor.{IsPlanFor};
-ghost use Rattle.metis_planner.specs.Rounds.{IsByRounds, graph_after, numbered};
-ghost use Rattle.metis_planner.specs.UnderWay.{IsUnderWay};
+ghost use Rattle.metis_ids.specs.Terms.{HasCycle};
+ghost use Rattle.metis_universe.specs.Terms.{Attains, Holds, IsAttainedSet, IsOf, IsRun, IsTidy, NamesBelow, Refusal, after_all, empty, is_steadfast, layer_of, pair_count};
+ghost use Rattle.metis_layers.specs.Terms.{IsLayers, instances_of};
+ghost use Rattle.metis_support.specs.Terms.{support_of};
+ghost use Rattle.metis_lines.specs.Terms.{is_justified, stations};
+ghost use Rattle.metis_emit.specs.Terms.{entered};
+ghost use Rattle.metis_planner.specs.Terms.{EventBelow, IfClosed, IfPlan, IsByRounds, IsLean, IsPlanFor, IsPlanWhere, IsUnderWay, graph_after, numbered};
 
 use crate::order::ordered_actions;
 use crate::outcome::Outcome;

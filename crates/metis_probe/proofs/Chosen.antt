@@ -5,14 +5,13 @@ use Rattle.std.specs.List.{All}
 use Rattle.std.proofs.lemmas.Bool.{eqb-true}
 use Rattle.std.proofs.lemmas.List.Elements.{All-contains}
 use Rattle.metis_ids.specs.declared.no_memory.NoMemory.{NoMemory}
-use Rattle.metis_choice.specs.Choices.{IfSupport}
+use Rattle.metis_choice.specs.Terms.{IfSupport}
 use Rattle.metis_choice.specs.declared.choice.Choice.{Choice}
 use Rattle.metis_choice.specs.declared.choice.Choice.TheVariants as choice
-use Rattle.metis_universe.specs.Layers.{layer_of}
-use Rattle.metis_universe.specs.Universe.{Universe, IsUniverse, has}
+use Rattle.metis_universe.specs.Terms.{IsUniverse, Universe, has, layer_of}
 use Rattle.metis_support.proofs.Lists.{member}
 use Rattle.metis_support.proofs.Selections.{targets_selected}
-use Rattle.metis_support.specs.Support.{Support, is_selected, support_of}
+use Rattle.metis_support.specs.Terms.{Support, is_selected, support_of}
 
 pub targets_chosen : (u : Universe) (g : List ℕ) (s : Support) → IsUniverse u → All (λ p. IsSome (layer_of u p)) g → s ≡ support_of u g → (p : ℕ) → has g p ≡ true → is_selected s p ≡ true
 targets_chosen u g s universe layered is p h = subst (λ x. is_selected x p ≡ true) (sym is) (targets_selected u universe g each p h) where

@@ -1,6 +1,6 @@
 ghost use Rattle.std.specs.Prelude.{◌≡◌, ◌<◌, IfOk, length, map};
 ghost use Rattle.std.specs.List.{All};
-ghost use Rattle.metis_events.specs.Edges.{event_at};
+ghost use Rattle.metis_events.specs.Terms.{event_at};
 
 use crate::lists::put;
 use crate::stop::Stop;

@@ -1,6 +1,6 @@
 ghost use Rattle.std.specs.Prelude.{◌<◌, ◌≤◌, IfOk, length};
 ghost use Rattle.std.specs.List.{All};
-ghost use Rattle.metis_universe.specs.Universe.{pair_count};
+ghost use Rattle.metis_universe.specs.Terms.{pair_count};
 
 use crate::stop::Stop;
 use metis_ids::PairIx;

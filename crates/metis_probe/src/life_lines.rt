@@ -1,6 +1,6 @@
 ghost use Rattle.std.specs.Prelude.{◌≡◌, ◌<◌, IsTrue, length, not};
-ghost use Rattle.metis_universe.specs.Universe.{has};
-ghost use Rattle.metis_lines.specs.LifeLines.{ends_in, is_loose, line_at};
+ghost use Rattle.metis_universe.specs.Terms.{has};
+ghost use Rattle.metis_lines.specs.Terms.{ends_in, is_loose, line_at};
 
 use crate::lists::{put, put_number};
 use crate::stop::Stop;

@@ -1,9 +1,7 @@
 //! Plans that are read, and what is written of them.
 ghost use Rattle.std.specs.Prelude.{◌≡◌, ◌-◌, ◌<◌, ◌≤◌, ◌^◌, [], IfOk, OnOk, length};
 ghost use Rattle.std.specs.List.{All};
-ghost use Rattle.metis_universe.specs.Numbers.{IsOf};
-ghost use Rattle.metis_universe.specs.Steadfast.{IsSteadfastRun};
-ghost use Rattle.metis_universe.specs.Universe.{pair_count};
+ghost use Rattle.metis_universe.specs.Terms.{IsOf, IsSteadfastRun, pair_count};
 
 use crate::outputs::Ended;
 use crate::stop::Stop;

@@ -1,7 +1,7 @@
 ghost use Rattle.std.specs.Prelude.{IfOk};
 ghost use Rattle.std.specs.List.{All};
-ghost use Rattle.metis_universe.specs.Goals.{IsGoalOf};
-ghost use Rattle.metis_why.specs.Confirm.{IsLineOf};
+ghost use Rattle.metis_universe.specs.Terms.{IsGoalOf};
+ghost use Rattle.metis_why.specs.Terms.{IsLineOf};
 
 use crate::lists::put;
 use crate::stop::Stop;

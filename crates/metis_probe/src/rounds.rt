@@ -1,14 +1,12 @@
 ghost use Rattle.std.specs.Prelude.{◌≡◌, ◌+◌, ◌<◌, ◌≤◌, ℕ, IfOk, IsTrue, OnOk, length};
 ghost use Rattle.std.specs.List.{All};
-ghost use Rattle.metis_universe.specs.Universe.{Universe as Model, has, pair_count};
-ghost use Rattle.metis_choice.specs.Choices.{IfSupport};
-ghost use Rattle.metis_support.specs.Support.{IsSupport, is_selected};
-ghost use Rattle.metis_lines.specs.Over.{graph_over};
-ghost use Rattle.metis_lines.specs.LifeLines.{AreLines, loose};
-ghost use Rattle.metis_events.specs.Edges.{graph_of};
-ghost use Rattle.metis_events.specs.Numbered.{dag_of};
-ghost use Rattle.metis_ids.specs.Order.{IsOrder};
-ghost use Rattle.metis_sort.specs.Sorted.{IsSorted};
+ghost use Rattle.metis_universe.specs.Terms.{Universe as Model, has, pair_count};
+ghost use Rattle.metis_choice.specs.Terms.{IfSupport};
+ghost use Rattle.metis_support.specs.Terms.{IsSupport, is_selected};
+ghost use Rattle.metis_lines.specs.Terms.{AreLines, graph_over, loose};
+ghost use Rattle.metis_events.specs.Terms.{dag_of, graph_of};
+ghost use Rattle.metis_ids.specs.Terms.{IsOrder};
+ghost use Rattle.metis_sort.specs.Terms.{IsSorted};
 
 use crate::event_graph::{count_edges, events_of, write_edges, write_event, write_sorted};
 use crate::goals::targets_in;

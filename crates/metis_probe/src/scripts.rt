@@ -1,8 +1,8 @@
 //! The lines of scripts, to a controller with its agents and to a session.
 ghost use Rattle.std.specs.Prelude.{◌≡◌, ◌<◌, ◌≤◌, length};
 ghost use Rattle.std.specs.List.{All};
-ghost use Rattle.metis_universe.specs.Numbers.{IsOf};
-ghost use Rattle.metis_waits.specs.Waits.{AreWaits};
+ghost use Rattle.metis_universe.specs.Terms.{IsOf};
+ghost use Rattle.metis_waits.specs.Terms.{AreWaits};
 
 use crate::outputs::Ended;
 use crate::plan_texts::plan_in;

@@ -1,5 +1,5 @@
 ghost use Rattle.std.specs.Prelude.{◌<◌};
-ghost use Rattle.metis_universe.specs.Universe.{pair_count, port_count, type_count};
+ghost use Rattle.metis_universe.specs.Terms.{pair_count, port_count, type_count};
 
 use crate::lists::{put, put_none, put_number, write_pairs, write_ports};
 use crate::stop::Stop;

@@ -1,6 +1,6 @@
 ghost use Rattle.std.specs.Prelude.{◌-◌, ◌<◌, ◌≤◌, ◌^◌, length};
 ghost use Rattle.std.specs.List.{All};
-ghost use Rattle.metis_universe.specs.Numbers.{IsOf};
+ghost use Rattle.metis_universe.specs.Terms.{IsOf};
 
 use crate::lists::{put, write_numbers};
 use crate::stop::Stop;

@@ -15,35 +15,22 @@ use Rattle.std.proofs.lemmas.Option.{same_Some}
 use Rattle.metis_layers.proofs.Ways.{all_has}
 use Rattle.metis_choice.proofs.Below.{pair_low}
 use Rattle.metis_ids.proofs.Lists.{filter_short}
-use Rattle.metis_ids.specs.Plans.{Plan}
+use Rattle.metis_ids.specs.Terms.{Plan}
 use Rattle.metis_ids.specs.declared.actions.Action.{Action}
 use Rattle.metis_ids.specs.declared.actions.Action.TheVariants.{New, Delete, Bind, Unbind, Move}
 use Rattle.metis_ids.specs.declared.goals.Goal.{Goal}
 use Rattle.metis_ids.specs.declared.goals.Goal.TheVariants.{Pair, Port}
 use Rattle.metis_layers.proofs.Order.{deploys}
-use Rattle.metis_completion.specs.Given.{given_in}
-use Rattle.metis_layers.specs.LayerOrder.{layer_order}
-use Rattle.metis_layers.specs.Layers.{IsLayers, Layers}
-use Rattle.metis_planner.specs.PlanFor.{IsPlanFor}
-use Rattle.metis_rollout.specs.Rollout.{members}
+use Rattle.metis_completion.specs.Terms.{given_in}
+use Rattle.metis_layers.specs.Terms.{IsLayers, Layers, layer_order}
+use Rattle.metis_planner.specs.Terms.{IsPlanFor}
+use Rattle.metis_rollout.specs.Terms.{members}
 use Rattle.metis_universe.proofs.FirstPairs.{provider-provides}
-use Rattle.metis_universe.specs.Config.{Config, empty, pair_of}
-use Rattle.metis_universe.specs.Goal.{Attains}
-use Rattle.metis_universe.specs.Goals.{IsGoalOf, places_of}
-use Rattle.metis_universe.specs.Layers.{layer_of}
-use Rattle.metis_universe.specs.Selection.{provider_of}
-use Rattle.metis_universe.specs.Step.{after, after_all}
-use Rattle.metis_universe.specs.Universe.{IsUniverse, Universe, has, initial_of, pair_count, port_count}
-use Rattle.metis_wishes.specs.Wishes.{instance_of, is_avoided, kept, kept_of, named, rebound, rebound_of, subject_of}
+use Rattle.metis_universe.specs.Terms.{Attains, Config, IsGoalOf, IsUniverse, Universe, after, after_all, empty, has, initial_of, layer_of, pair_count, pair_of, places_of, port_count, provider_of}
+use Rattle.metis_wishes.specs.Terms.{instance_of, is_avoided, kept, kept_of, named, rebound, rebound_of, subject_of}
 use Rattle.metis_wishes.specs.declared.wish.Wish.{Wish}
 use Rattle.metis_wishes.specs.declared.wish.Wish.TheVariants.{Keep, KeepAll, Rebind, Retire, AvoidType, AvoidPair}
-use Rattle.metis_reconfigure.specs.Aims.{AreAims, IsBar, IsGround}
-use Rattle.metis_reconfigure.specs.Answerable.{AreMet, IsAnswerable, is_absent, is_firm, is_unavoidable}
-use Rattle.metis_reconfigure.specs.Answers.{AreWithin, absent, firm_leaving, first_unavoidable}
-use Rattle.metis_reconfigure.specs.Missing.{missing, missing_behind, pair_for, providers_short, rebound_in, serving_among, short, targets, targets_behind}
-use Rattle.metis_reconfigure.specs.Reconfiguration.{left_by}
-use Rattle.metis_reconfigure.specs.Settled.{given, gives, left_to_plan, settled}
-use Rattle.metis_reconfigure.specs.Targeted.{AreTables, IsLeft, IsUnmet}
+use Rattle.metis_reconfigure.specs.Terms.{AreAims, AreMet, AreTables, AreWithin, IsAnswerable, IsBar, IsGround, IsLeft, IsUnmet, absent, firm_leaving, first_unavoidable, given, gives, is_absent, is_firm, is_unavoidable, left_by, left_to_plan, missing, missing_behind, pair_for, providers_short, rebound_in, serving_among, settled, short, targets, targets_behind}
 use Rattle.metis_reconfigure.specs.declared.answer.Bar.TheVariants as bar
 use Rattle.metis_reconfigure.specs.declared.answer.Obstacle.TheVariants.{Needs, Unavoidable, Unmet}
 use Rattle.metis_reconfigure.proofs.Roots.{found_passes, none_found}

@@ -9,19 +9,13 @@ use Rattle.metis_ids.specs.declared.actions.Action.TheVariants.{New, Delete, Bin
 use Rattle.metis_ids.specs.declared.goals.Goal.{Goal}
 use Rattle.metis_ids.proofs.Lists.{has-filter}
 use Rattle.metis_universe.proofs.Frames.{bound_step, is_bound-after}
-use Rattle.metis_universe.specs.Config.{Config, empty, is_bound, is_tie, names}
-use Rattle.metis_universe.specs.Steadfast.{IsSteadfastRun}
-use Rattle.metis_universe.specs.Step.{Allows, IsRun, after, after_all}
-use Rattle.metis_universe.specs.Universe.{IsUniverse, Universe, has, requires}
+use Rattle.metis_universe.specs.Terms.{Allows, Config, IsRun, IsSteadfastRun, IsUniverse, Universe, after, after_all, empty, has, is_bound, is_tie, names, requires}
 use Rattle.metis_rollout.proofs.Quiet.{is_in}
 use Rattle.metis_rollout.proofs.Sparing.{all_removing}
-use Rattle.metis_rollout.specs.Removal.{Removing}
-use Rattle.metis_rollout.specs.Rollout.{all_but, fresh_name, is_idle, members, scaffold_name}
-use Rattle.metis_wishes.specs.Wishes.{rebound}
+use Rattle.metis_rollout.specs.Terms.{Removing, all_but, fresh_name, is_idle, members, scaffold_name}
+use Rattle.metis_wishes.specs.Terms.{rebound}
 use Rattle.metis_wishes.specs.declared.wish.Wish.{Wish}
-use Rattle.metis_reconfigure.specs.Kept.{IsAnswered, LeavesAlone, after_old, at_border, is_kept, rebinds_in, taken_away}
-use Rattle.metis_reconfigure.specs.Missing.{targets}
-use Rattle.metis_reconfigure.specs.Reconfiguration.{Reconfiguration, before_removal, fresh_actions, left_by}
+use Rattle.metis_reconfigure.specs.Terms.{IsAnswered, LeavesAlone, Reconfiguration, after_old, at_border, before_removal, fresh_actions, is_kept, left_by, rebinds_in, taken_away, targets}
 use Rattle.metis_reconfigure.proofs.Given.{follows}
 use Rattle.metis_reconfigure.proofs.Joined.{c_config, old_bound, same_pair, ties}
 use Rattle.metis_reconfigure.proofs.Keeping.{all_closed, before_alone, kept_made, neither, not_named}

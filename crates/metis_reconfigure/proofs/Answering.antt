@@ -7,18 +7,11 @@ use Rattle.std.proofs.lemmas.Bool.{false≢true}
 use Rattle.std.proofs.lemmas.List.{append-nil}
 use Rattle.metis_ids.specs.declared.actions.Action.{Action}
 use Rattle.metis_ids.specs.declared.goals.Goal.{Goal}
-use Rattle.metis_rollout.specs.Rollout.{members}
-use Rattle.metis_universe.specs.Config.{Config, empty, pair_of}
-use Rattle.metis_universe.specs.Goals.{AttainsGoals, places_of}
-use Rattle.metis_universe.specs.Selection.{provider_of}
-use Rattle.metis_universe.specs.Step.{IsRun}
-use Rattle.metis_universe.specs.Universe.{IsUniverse, Universe, has, port_count, provides}
-use Rattle.metis_wishes.specs.Wishes.{avoided, kept, named, rebound}
+use Rattle.metis_rollout.specs.Terms.{members}
+use Rattle.metis_universe.specs.Terms.{AttainsGoals, Config, IsRun, IsUniverse, Universe, empty, has, pair_of, places_of, port_count, provider_of, provides}
+use Rattle.metis_wishes.specs.Terms.{avoided, kept, named, rebound}
 use Rattle.metis_wishes.specs.declared.wish.Wish.{Wish}
-use Rattle.metis_reconfigure.specs.Answerable.{IsAnswerable}
-use Rattle.metis_reconfigure.specs.Missing.{missing, missing_behind, pair_for, providers_short, rebound_in, serving_among, short, targets, targets_behind}
-use Rattle.metis_reconfigure.specs.Reconfiguration.{left_by}
-use Rattle.metis_reconfigure.specs.Settled.{given, left_to_plan, settled}
+use Rattle.metis_reconfigure.specs.Terms.{IsAnswerable, given, left_by, left_to_plan, missing, missing_behind, pair_for, providers_short, rebound_in, serving_among, settled, short, targets, targets_behind}
 use Rattle.metis_reconfigure.proofs.Unavoided.{met_after_run, none_unavoidable}
 
 -- ---- few targets

@@ -13,18 +13,10 @@ use Rattle.metis_ids.proofs.Finding.{not_found}
 use Rattle.metis_ids.proofs.Lists.{has-append, has-filter}
 use Rattle.metis_ids.proofs.Options.{none_or_some}
 use Rattle.metis_rollout.proofs.Quiet.{has-keys}
-use Rattle.metis_rollout.specs.Removal.{IsWithout}
-use Rattle.metis_rollout.specs.Rollout.{all_but, fresh_name, members}
-use Rattle.metis_universe.specs.Config.{AreDifferent, Config, IsConfig, pair_of}
-use Rattle.metis_universe.specs.Goals.{HoldsGoals, places_of, serves}
-use Rattle.metis_universe.specs.Universe.{Universe, has}
+use Rattle.metis_rollout.specs.Terms.{IsWithout, all_but, fresh_name, members}
+use Rattle.metis_universe.specs.Terms.{AreDifferent, Config, HoldsGoals, IsConfig, Universe, has, pair_of, places_of, serves}
 use Rattle.metis_wishes.specs.declared.wish.Wish.{Wish}
-use Rattle.metis_reconfigure.specs.Answerable.{IsAnswerable}
-use Rattle.metis_reconfigure.specs.Missing.{serving_among, targets}
-use Rattle.metis_reconfigure.specs.Reached.{start}
-use Rattle.metis_reconfigure.specs.Reconfiguration.{Reconfiguration, before_removal, left_by}
-use Rattle.metis_reconfigure.specs.Settled.{settled}
-use Rattle.metis_reconfigure.specs.Staying.{StayBegun, fresh_in, next_serving, wished}
+use Rattle.metis_reconfigure.specs.Terms.{IsAnswerable, Reconfiguration, StayBegun, before_removal, fresh_in, left_by, next_serving, serving_among, settled, start, targets, wished}
 use Rattle.metis_reconfigure.proofs.Lists.{by_case, filter_differs, has_named, length-places, members_differ, named_differ, at_places, places, places_differ, serving_more}
 use Rattle.metis_reconfigure.proofs.Stays.{Within, count, counted, enough_stay, in_members, serves_by, serves_in, those, those_are, those_differ, length-those}
 use Rattle.metis_reconfigure.proofs.Wanted.{targets_enough}

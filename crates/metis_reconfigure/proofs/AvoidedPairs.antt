@@ -13,33 +13,22 @@ use Rattle.metis_ids.specs.declared.goals.Goal.TheVariants.{Pair, Port}
 use Rattle.metis_ids.proofs.Lists.{has-append, has-filter, has-replicate, has_at, has_range, has_take}
 use Rattle.metis_ids.proofs.Options.{IsSome_at}
 use Rattle.metis_layers.proofs.Going.{GoesOn, after_all-append, at}
-use Rattle.metis_layers.specs.SlotLines.{slot_binds, slot_unbinds}
-use Rattle.metis_universe.specs.Config.{Binding, Config, empty, is_tie, pair_of, tie}
-use Rattle.metis_universe.specs.Layers.{layered}
-use Rattle.metis_universe.specs.Selection.{provider_of}
-use Rattle.metis_universe.specs.Steadfast.{IsSteadfastRun, is_new}
-use Rattle.metis_universe.specs.Step.{after_all}
-use Rattle.metis_universe.specs.Universe.{IsUniverse, Universe, all_pairs, has, no_pair, pair_count, port_count, provides}
+use Rattle.metis_layers.specs.Terms.{slot_binds, slot_unbinds}
+use Rattle.metis_universe.specs.Terms.{Binding, Config, IsSteadfastRun, IsUniverse, Universe, after_all, all_pairs, empty, has, is_new, is_tie, layered, no_pair, pair_count, pair_of, port_count, provider_of, provides, tie}
 use Rattle.metis_completion.proofs.Avoiding.{bound_unavoided}
 use Rattle.metis_completion.proofs.Binding.{ties}
 use Rattle.metis_completion.proofs.Completion.{completion}
 use Rattle.metis_completion.proofs.GivenSlots.{given_ties-are, given_ties-own}
 use Rattle.metis_completion.proofs.ResidualRows.{provided_unavoided, residual_after_all}
-use Rattle.metis_completion.specs.Completed.{AreGiven, completed, completed_action, given_gained, given_holder}
+use Rattle.metis_completion.specs.Terms.{AreGiven, completed, completed_action, given_gained, given_holder}
 use Rattle.metis_rollout.proofs.Going.{going_from_steady, steady_from_going}
 use Rattle.metis_rollout.proofs.Quiet.{find_some, is_in}
 use Rattle.metis_rollout.proofs.Together.{touches_own}
 use Rattle.metis_rollout.proofs.Touching.{At, pair_touched}
-use Rattle.metis_rollout.specs.Rollout.{bind, renumbered}
-use Rattle.metis_rollout.specs.Standing.{is_made}
-use Rattle.metis_wishes.specs.Wishes.{avoided, is_avoided}
+use Rattle.metis_rollout.specs.Terms.{bind, is_made, renumbered}
+use Rattle.metis_wishes.specs.Terms.{avoided, is_avoided}
 use Rattle.metis_wishes.specs.declared.wish.Wish.{Wish}
-use Rattle.metis_reconfigure.specs.Answerable.{is_unavoidable}
-use Rattle.metis_reconfigure.specs.Kept.{GoesWell, IsAnswered, binds_at, is_bind, rebinds_in}
-use Rattle.metis_reconfigure.specs.Missing.{missing, pair_for, providers_short, rebound_in, short, targets, targets_behind}
-use Rattle.metis_reconfigure.specs.Reconfiguration.{Reconfiguration, fresh_actions, left_by}
-use Rattle.metis_reconfigure.specs.Rebinding.{fresh_givers}
-use Rattle.metis_reconfigure.specs.Settled.{given, left_to_plan, settled}
+use Rattle.metis_reconfigure.specs.Terms.{GoesWell, IsAnswered, Reconfiguration, binds_at, fresh_actions, fresh_givers, given, is_bind, is_unavoidable, left_by, left_to_plan, missing, pair_for, providers_short, rebinds_in, rebound_in, settled, short, targets, targets_behind}
 use Rattle.metis_reconfigure.proofs.Given.{given_ones, is_given}
 use Rattle.metis_reconfigure.proofs.Joined.{are_targets, besides, c_config, name, new_steady, target_named, ties as anew_ties, unused}
 use Rattle.metis_reconfigure.proofs.Keeping.{anew_are, anew_bind}

@@ -5,7 +5,7 @@ use Rattle.std.specs.List.{filter}
 use Rattle.std.specs.Map.{keys_of}
 use Rattle.std.specs.Ordering.{nat_cmp}
 use Rattle.metis_universe.proofs.Ascending.{has-insert_key}
-use Rattle.metis_universe.specs.Universe.{has}
+use Rattle.metis_universe.specs.Terms.{has}
 
 module _ (t : ℕ → Bool) where
   -- what is in the set so far, and what the instances that are left add

@@ -9,17 +9,12 @@ use Rattle.metis_ids.proofs.Lists.{has-filter}
 use Rattle.metis_rollout.proofs.Quiet.{find_some}
 use Rattle.metis_universe.proofs.Served.{count-cons}
 use Rattle.metis_universe.proofs.Slots.{has-map, most_has}
-use Rattle.metis_universe.specs.Config.{Config}
-use Rattle.metis_universe.specs.Layers.{layered}
-use Rattle.metis_universe.specs.Selection.{provider_of}
-use Rattle.metis_universe.specs.Universe.{Universe, has, provides}
+use Rattle.metis_universe.specs.Terms.{Config, Universe, has, layered, provider_of, provides}
 use Rattle.metis_completion.proofs.ResidualRows.{provided_before}
-use Rattle.metis_wishes.specs.Wishes.{avoided}
+use Rattle.metis_wishes.specs.Terms.{avoided}
 use Rattle.metis_wishes.specs.declared.wish.Wish.{Wish}
-use Rattle.metis_reconfigure.specs.Answerable.{AreMet}
-use Rattle.metis_reconfigure.specs.Missing.{lack, lacking, providers_short, short, targets_behind, wanted, wants}
+use Rattle.metis_reconfigure.specs.Terms.{AreMet, given, lack, lacking, left_to_plan, providers_short, short, targets_behind, wanted, wants}
 use Rattle.metis_reconfigure.proofs.Lists.{count-append}
-use Rattle.metis_reconfigure.specs.Settled.{given, left_to_plan}
 
 -- ---- counts
 

@@ -5,9 +5,9 @@ use Rattle.std.specs.BTreeSet.{insert_key}
 use Rattle.std.specs.Ordering.{is_eq, match_ordering}
 use Rattle.std.specs.declared.cmp.Ordering.TheVariants.{Less, Equal, Greater}
 use Rattle.std.proofs.lemmas.Bool.{and_parts, eqb-true}
-use Rattle.metis_universe.specs.Config.{Binding, binding_cmp}
+use Rattle.metis_universe.specs.Terms.{Binding, binding_cmp}
 use Rattle.metis_reconfigure.proofs.Reaching.{at_binding}
-use Rattle.metis_reconfigure.specs.Reached.{Edge, has_edge}
+use Rattle.metis_reconfigure.specs.Terms.{Edge, has_edge}
 
 -- edges in one place are one
 same_edge : (e x : Edge) → is_eq (binding_cmp e x) ≡ true → e ≡ x

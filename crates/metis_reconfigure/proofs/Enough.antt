@@ -7,14 +7,11 @@ use Rattle.std.proofs.lemmas.List.{length-map, length-take-le}
 use Rattle.std.proofs.lemmas.List.Sums.{length-filter}
 use Rattle.metis_ids.proofs.Lists.{has-append, has-filter}
 use Rattle.metis_rollout.proofs.Quiet.{keys-has}
-use Rattle.metis_rollout.specs.Rollout.{members}
+use Rattle.metis_rollout.specs.Terms.{members}
 use Rattle.metis_universe.proofs.Demands.{no_more}
-use Rattle.metis_universe.specs.Config.{Config, IsConfig, is_bound, pair_of}
-use Rattle.metis_universe.specs.Universe.{Universe, demand_of, has, provides}
+use Rattle.metis_universe.specs.Terms.{Config, IsConfig, Universe, demand_of, has, is_bound, pair_of, provides}
 use Rattle.metis_wishes.specs.declared.wish.Wish.{Wish}
-use Rattle.metis_reconfigure.specs.Missing.{lack, rebound_in, wants}
-use Rattle.metis_reconfigure.specs.Rebinding.{candidates, fresh_givers}
-use Rattle.metis_reconfigure.specs.Settled.{AreLeaving, given}
+use Rattle.metis_reconfigure.specs.Terms.{AreLeaving, candidates, fresh_givers, given, lack, rebound_in, wants}
 use Rattle.metis_reconfigure.proofs.Counted.{by_place}
 use Rattle.metis_reconfigure.proofs.Given.{is_given}
 use Rattle.metis_reconfigure.proofs.Rebound.{AreTargets, asked_there, fresh_away, givers, givers_differ, taken}

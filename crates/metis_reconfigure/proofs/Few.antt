@@ -1,20 +1,17 @@
 -- The instances that are made before the removal are those of the plan, which are few.
 use Rattle.std.proofs.Common.{◌≡◌, ℕ, ◌+◌, List, [], ◌∷◌, ◌++◌, length, map, refl, sym, ap, ◌∙◌, subst, arith}
 use Rattle.std.proofs.lemmas.List.Sums.{length-filter}
-use Rattle.metis_ids.specs.Action.{makes}
+use Rattle.metis_ids.specs.Terms.{makes}
 use Rattle.metis_ids.specs.declared.actions.Action.{Action}
 use Rattle.metis_ids.specs.declared.actions.Action.TheVariants.{New, Delete, Bind, Unbind, Move}
 use Rattle.metis_ids.specs.declared.goals.Goal.{Goal}
 use Rattle.metis_completion.proofs.Keeping.{completed_news}
-use Rattle.metis_layers.specs.LayerOrder.{instances_of}
-use Rattle.metis_planner.specs.Outcomes.{IsLean}
-use Rattle.metis_rollout.specs.Rollout.{bind, fresh_name, news_of, renumber, renumbered}
-use Rattle.metis_universe.specs.Config.{Binding}
-use Rattle.metis_universe.specs.Universe.{Universe}
+use Rattle.metis_layers.specs.Terms.{instances_of}
+use Rattle.metis_planner.specs.Terms.{IsLean}
+use Rattle.metis_rollout.specs.Terms.{bind, fresh_name, news_of, renumber, renumbered}
+use Rattle.metis_universe.specs.Terms.{Binding, Universe}
 use Rattle.metis_wishes.specs.declared.wish.Wish.{Wish}
-use Rattle.metis_reconfigure.specs.Missing.{targets}
-use Rattle.metis_reconfigure.specs.Reconfiguration.{Reconfiguration, fresh_actions, left_by, rebound_actions}
-use Rattle.metis_reconfigure.specs.Settled.{given, left_to_plan}
+use Rattle.metis_reconfigure.specs.Terms.{Reconfiguration, fresh_actions, given, left_by, left_to_plan, rebound_actions, targets}
 use Rattle.metis_reconfigure.proofs.Lists.{count-append}
 use Rattle.metis_reconfigure.proofs.Rebound.{rebind_ties, rebinds_are}
 

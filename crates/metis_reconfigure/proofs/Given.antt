@@ -11,15 +11,13 @@ use Rattle.metis_ids.proofs.Lists.{has-filter}
 use Rattle.metis_universe.proofs.Bindings.{own_tie}
 use Rattle.metis_universe.proofs.Demands.{some_provides}
 use Rattle.metis_universe.proofs.Edits.{tie_is}
-use Rattle.metis_universe.specs.Config.{Binding, Config, IsConfig, is_bound, is_tie, pair_of}
-use Rattle.metis_universe.specs.Universe.{Universe, has, provides}
-use Rattle.metis_completion.specs.Completed.{AreGiven}
+use Rattle.metis_universe.specs.Terms.{Binding, Config, IsConfig, Universe, has, is_bound, is_tie, pair_of, provides}
+use Rattle.metis_completion.specs.Terms.{AreGiven}
 use Rattle.metis_rollout.proofs.Quiet.{is_in, keys-has}
-use Rattle.metis_rollout.specs.Rollout.{is_idle, members}
-use Rattle.metis_wishes.specs.Wishes.{is_avoided, rebound}
+use Rattle.metis_rollout.specs.Terms.{is_idle, members}
+use Rattle.metis_wishes.specs.Terms.{is_avoided, rebound}
 use Rattle.metis_wishes.specs.declared.wish.Wish.{Wish}
-use Rattle.metis_reconfigure.specs.Reached.{Edge, IsReached, has_edge, next, start}
-use Rattle.metis_reconfigure.specs.Settled.{AreLeaving, dependents, given, gives, is_root, roots, settled}
+use Rattle.metis_reconfigure.specs.Terms.{AreLeaving, Edge, IsReached, dependents, given, gives, has_edge, is_root, next, roots, settled, start}
 
 -- ---- edges that are made of bindings
 

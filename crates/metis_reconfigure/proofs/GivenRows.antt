@@ -8,10 +8,9 @@ use Rattle.std.proofs.lemmas.Bool.{both_ways, cases_lt, eq-eqb, eqb-true, false_
 use Rattle.std.proofs.lemmas.List.{get_or-set_other, get_or-set_same, get_or_past, length-map, take_all, take_more}
 use Rattle.std.proofs.lemmas.List.FromFn.{get_or-map-range_with_len, length-range_with_len}
 use Rattle.metis_ids.proofs.Lists.{has-append, has_at}
-use Rattle.metis_universe.specs.Config.{AreDifferent, Config, pair_of}
-use Rattle.metis_universe.specs.Universe.{Universe, has, provides}
-use Rattle.metis_completion.specs.Given.{given_in}
-use Rattle.metis_reconfigure.specs.Settled.{given, gives, settled}
+use Rattle.metis_universe.specs.Terms.{AreDifferent, Config, Universe, has, pair_of, provides}
+use Rattle.metis_completion.specs.Terms.{given_in}
+use Rattle.metis_reconfigure.specs.Terms.{given, gives, settled}
 
 -- ---- rows
 

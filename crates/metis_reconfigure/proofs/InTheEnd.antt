@@ -8,24 +8,16 @@ use Rattle.metis_ids.specs.declared.goals.Goal.{Goal}
 use Rattle.metis_ids.proofs.Lists.{has-filter}
 use Rattle.metis_rollout.proofs.Removal.{left_config, left_correct}
 use Rattle.metis_rollout.proofs.Going.{going_from_steady}
-use Rattle.metis_rollout.specs.Rollout.{fresh_name, members}
-use Rattle.metis_universe.specs.Config.{Config, pair_of}
-use Rattle.metis_universe.specs.Goals.{HoldsGoals}
-use Rattle.metis_universe.specs.Steadfast.{IsSteadfastRun}
-use Rattle.metis_universe.specs.Universe.{IsUniverse, Universe, has}
-use Rattle.metis_wishes.specs.Wishes.{is_avoided}
+use Rattle.metis_rollout.specs.Terms.{fresh_name, members}
+use Rattle.metis_universe.specs.Terms.{Config, HoldsGoals, IsSteadfastRun, IsUniverse, Universe, has, pair_of}
+use Rattle.metis_wishes.specs.Terms.{is_avoided, rebound}
 use Rattle.metis_wishes.specs.declared.wish.Wish.{Wish}
-use Rattle.metis_reconfigure.specs.Kept.{IsAnswered, at_end}
-use Rattle.metis_reconfigure.specs.Missing.{targets}
-use Rattle.metis_reconfigure.specs.Reached.{IsReached, next, start}
-use Rattle.metis_reconfigure.specs.Reconfiguration.{Reconfiguration, before_removal, left_by, reconfigured}
-use Rattle.metis_reconfigure.specs.Settled.{AreLeaving, dependents, is_root, roots}
+use Rattle.metis_reconfigure.specs.Terms.{AreLeaving, IsAnswered, IsReached, Reconfiguration, at_end, before_removal, dependents, is_root, left_by, next, reconfigured, roots, start, targets}
 use Rattle.metis_reconfigure.proofs.AtEnd.{AreTargets, Joins, goals_held}
 use Rattle.metis_reconfigure.proofs.Joined.{are_targets, c_config, d_config, d_pair, place_at, same_pair}
 use Rattle.metis_reconfigure.proofs.Lawful.{ends_in, is_a_run}
 use Rattle.metis_reconfigure.proofs.NothingMissing.{nothing_joined}
 use Rattle.metis_reconfigure.proofs.Stays.{in_members}
-use Rattle.metis_wishes.specs.Wishes.{rebound}
 
 -- ---- the goals
 

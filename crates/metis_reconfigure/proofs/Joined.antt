@@ -4,32 +4,27 @@ use Rattle.std.specs.Prelude.{slice_get}
 use Rattle.std.specs.List.{AllByRecursion, slice_index_or}
 use Rattle.std.proofs.lemmas.Bool.{both_ways, false_from_ne_true}
 use Rattle.std.proofs.lemmas.Option.{same_Some}
-use Rattle.metis_ids.specs.Plans.{Plan}
+use Rattle.metis_ids.specs.Terms.{Plan}
 use Rattle.metis_ids.specs.declared.actions.Action.{Action}
 use Rattle.metis_ids.proofs.Options.{IsSome_at}
 use Rattle.metis_layers.proofs.Going.{GoesOn, GoesOn-append, after_all-append, at}
-use Rattle.metis_layers.specs.LayerOrder.{place_of}
-use Rattle.metis_universe.specs.Config.{Binding, Config, Correct, IsConfig, empty, is_bound, pair_of}
-use Rattle.metis_universe.specs.Steadfast.{IsSteadfastRun}
-use Rattle.metis_universe.specs.Step.{after_all}
-use Rattle.metis_universe.specs.Universe.{IsUniverse, Universe, has}
+use Rattle.metis_layers.specs.Terms.{place_of}
+use Rattle.metis_universe.specs.Terms.{Binding, Config, Correct, IsConfig, IsSteadfastRun, IsUniverse, Universe, after_all, empty, has, is_bound, pair_of}
 use Rattle.metis_completion.proofs.Binding.{Fits, binds_bound, binds_pair}
 use Rattle.metis_completion.proofs.Completion.{completion}
 use Rattle.metis_completion.proofs.ResidualRows.{residual_after_all}
-use Rattle.metis_completion.specs.Completed.{IsBeside}
-use Rattle.metis_planner.specs.PlanFor.{IsPlanFor}
+use Rattle.metis_completion.specs.Terms.{IsBeside}
+use Rattle.metis_planner.specs.Terms.{IsPlanFor}
 use Rattle.metis_rollout.proofs.FreeNumbers.{free_number-free}
 use Rattle.metis_rollout.proofs.Going.{going_from_steady, steady_from_going}
 use Rattle.metis_rollout.proofs.Quiet.{has-keys, is_in, quiet_goes}
 use Rattle.metis_rollout.proofs.Removal.{left_config, left_correct}
 use Rattle.metis_rollout.proofs.Together.{fresh_goes, fresh_renamed, fresh_unused, has-news, names_apart, touches_own}
 use Rattle.metis_rollout.proofs.Touching.{At, pair_touched}
-use Rattle.metis_rollout.specs.Rollout.{bind, fresh_name, members, news_of, renumbered}
-use Rattle.metis_rollout.specs.Standing.{is_made}
-use Rattle.metis_wishes.specs.Wishes.{avoided}
+use Rattle.metis_rollout.specs.Terms.{bind, fresh_name, is_made, members, news_of, renumbered}
+use Rattle.metis_wishes.specs.Terms.{avoided}
 use Rattle.metis_wishes.specs.declared.wish.Wish.{Wish}
-use Rattle.metis_reconfigure.specs.Reconfiguration.{fresh_actions, joined, left_by}
-use Rattle.metis_reconfigure.specs.Settled.{AreLeaving, given, left_to_plan}
+use Rattle.metis_reconfigure.specs.Terms.{AreLeaving, fresh_actions, given, joined, left_by, left_to_plan}
 use Rattle.metis_reconfigure.proofs.Binds.{AreApart, new_binds_quiet}
 use Rattle.metis_reconfigure.proofs.Given.{given_ones}
 use Rattle.metis_reconfigure.proofs.Rebound.{AreTargets, asked_there, in_rebinds, rebind_ties, rebinds_apart, rebinds_are, rebinds_fit}

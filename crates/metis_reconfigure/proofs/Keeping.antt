@@ -9,26 +9,16 @@ use Rattle.metis_ids.specs.declared.actions.Action.{Action}
 use Rattle.metis_ids.specs.declared.actions.Action.TheVariants.{New, Delete, Bind, Unbind, Move}
 use Rattle.metis_ids.specs.declared.goals.Goal.{Goal}
 use Rattle.metis_ids.proofs.Lists.{each_weaker, list_any-map}
-use Rattle.metis_universe.specs.Config.{Binding, Config, IsConfig, is_bound, pair_of}
-use Rattle.metis_universe.specs.Steadfast.{IsSteadfastRun, is_new}
-use Rattle.metis_universe.specs.Universe.{IsUniverse, Universe, has}
+use Rattle.metis_universe.specs.Terms.{Binding, Config, IsConfig, IsSteadfastRun, IsUniverse, Universe, has, is_bound, is_new, pair_of}
 use Rattle.metis_completion.proofs.Keeping.{completed_keeps}
-use Rattle.metis_completion.specs.Fresh.{KeepsTo}
+use Rattle.metis_completion.specs.Terms.{KeepsTo}
 use Rattle.metis_rollout.proofs.Going.{going_from_steady}
 use Rattle.metis_rollout.proofs.Quiet.{all_among, is_in, keys-has}
 use Rattle.metis_rollout.proofs.Removal.{none_bound, none_made}
-use Rattle.metis_rollout.specs.Guarded.{IsBeside, Spares}
-use Rattle.metis_rollout.specs.Removal.{IsNamed, IsWithout}
-use Rattle.metis_rollout.specs.Rollout.{all_but, bind, fresh_name, members, scaffold_name}
-use Rattle.metis_rollout.specs.Standing.{is_made}
-use Rattle.metis_wishes.specs.Wishes.{avoided}
+use Rattle.metis_rollout.specs.Terms.{IsBeside, IsNamed, IsWithout, Spares, all_but, bind, fresh_name, is_made, members, scaffold_name}
+use Rattle.metis_wishes.specs.Terms.{avoided}
 use Rattle.metis_wishes.specs.declared.wish.Wish.{Wish}
-use Rattle.metis_reconfigure.specs.Answerable.{is_firm}
-use Rattle.metis_reconfigure.specs.Kept.{ActsBeside, IsAnswered, IsJoined, LeavesAlone, after_old, at_border, at_end, binds_at, is_bind, is_kept, rebinds_in, taken_away}
-use Rattle.metis_reconfigure.specs.Missing.{targets}
-use Rattle.metis_reconfigure.specs.Reconfiguration.{Reconfiguration, before_removal, fresh_actions, left_by, reconfigured}
-use Rattle.metis_reconfigure.specs.Settled.{given}
-use Rattle.metis_reconfigure.specs.Staying.{fresh_in, wished}
+use Rattle.metis_reconfigure.specs.Terms.{ActsBeside, IsAnswered, IsJoined, LeavesAlone, Reconfiguration, after_old, at_border, at_end, before_removal, binds_at, fresh_actions, fresh_in, given, is_bind, is_firm, is_kept, left_by, rebinds_in, reconfigured, taken_away, targets, wished}
 use Rattle.metis_reconfigure.proofs.Joined.{beside, c_config, d_config, d_pair, made_old, name, new, new_bound, new_steady, old_bound, old_pair, place_at, same_pair, target_named, ties, unused}
 use Rattle.metis_reconfigure.proofs.Lawful.{ends_in_staying, labels_free, steady_before}
 use Rattle.metis_reconfigure.proofs.Rebound.{rebinds_are}

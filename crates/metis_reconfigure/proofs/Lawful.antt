@@ -4,22 +4,15 @@ use Rattle.std.proofs.lemmas.Bool.{false_from_ne_true, or_from}
 use Rattle.std.proofs.lemmas.List.Folds.{list_any-append}
 use Rattle.metis_ids.specs.declared.actions.Action.{Action}
 use Rattle.metis_ids.specs.declared.goals.Goal.{Goal}
-use Rattle.metis_universe.specs.Config.{Binding, Config}
-use Rattle.metis_universe.specs.Steadfast.{IsSteadfastRun, is_new}
-use Rattle.metis_universe.specs.Universe.{IsUniverse, Universe}
+use Rattle.metis_universe.specs.Terms.{Binding, Config, IsSteadfastRun, IsUniverse, Universe, is_new}
 use Rattle.metis_completion.proofs.Completion.{made_completed}
 use Rattle.metis_layers.proofs.Going.{GoesOn}
 use Rattle.metis_rollout.proofs.Going.{going_from_steady, steady_from_going}
 use Rattle.metis_rollout.proofs.Removal.{Removed}
 use Rattle.metis_rollout.proofs.Whole.{fresh_other, removed, scaffold_free}
-use Rattle.metis_rollout.specs.Removal.{AreFree, IsWithout, MayGo}
-use Rattle.metis_rollout.specs.Rollout.{all_but, bind, removal, renumbered, scaffold_name}
-use Rattle.metis_rollout.specs.Standing.{is_made}
+use Rattle.metis_rollout.specs.Terms.{AreFree, IsWithout, MayGo, all_but, bind, is_made, removal, renumbered, scaffold_name}
 use Rattle.metis_wishes.specs.declared.wish.Wish.{Wish}
-use Rattle.metis_reconfigure.specs.Answerable.{IsAnswerable}
-use Rattle.metis_reconfigure.specs.Missing.{targets}
-use Rattle.metis_reconfigure.specs.Reconfiguration.{Reconfiguration, before_removal, fresh_actions, left_by, rebound_actions, reconfigured}
-use Rattle.metis_reconfigure.specs.Settled.{given, left_to_plan}
+use Rattle.metis_reconfigure.specs.Terms.{IsAnswerable, Reconfiguration, before_removal, fresh_actions, given, left_by, left_to_plan, rebound_actions, reconfigured, targets}
 use Rattle.metis_reconfigure.proofs.Joined.{joined_steady, name, ties}
 use Rattle.metis_reconfigure.proofs.Rebound.{rebinds_are}
 use Rattle.metis_reconfigure.proofs.Served.{staying_served}

@@ -8,12 +8,10 @@ use Rattle.std.proofs.lemmas.Map.Entries.{length-keys_of}
 use Rattle.metis_completion.proofs.Front.{sorted_differ}
 use Rattle.metis_ids.proofs.Lists.{has-filter, list_any-map, some_member}
 use Rattle.metis_ids.specs.declared.goals.Goal.{Goal}
-use Rattle.metis_rollout.specs.Rollout.{members}
+use Rattle.metis_rollout.specs.Terms.{members}
 use Rattle.metis_universe.proofs.Demands.{no_more}
 use Rattle.metis_universe.proofs.Served.{count-cons}
-use Rattle.metis_universe.specs.Config.{AreDifferent, Config, IsConfig, pair_of}
-use Rattle.metis_universe.specs.Goals.{serves, serving}
-use Rattle.metis_universe.specs.Universe.{Universe, has}
+use Rattle.metis_universe.specs.Terms.{AreDifferent, Config, IsConfig, Universe, has, pair_of, serves, serving}
 
 pub by_case : (b : Bool) (P : Type 0) → (b ≡ true → P) → (b ≡ false → P) → P
 by_case true P t f = t refl

@@ -7,34 +7,20 @@ use Rattle.std.specs.Option.{option_map_or}
 use Rattle.std.proofs.lemmas.List.Elements.{All-append, All-from_recursion, recursion_from_All}
 use Rattle.metis_completion.proofs.Keeping.{completed_of}
 use Rattle.metis_completion.proofs.ResidualRows.{residual_pairs}
-use Rattle.metis_completion.specs.Completed.{completed}
-use Rattle.metis_completion.specs.Given.{given_in}
-use Rattle.metis_ids.specs.Plans.{Plan}
+use Rattle.metis_completion.specs.Terms.{completed, given_in}
+use Rattle.metis_ids.specs.Terms.{Plan}
 use Rattle.metis_ids.specs.declared.actions.Action.{Action}
 use Rattle.metis_ids.specs.declared.actions.Action.TheVariants.{New, Delete, Bind, Unbind, Move}
 use Rattle.metis_ids.specs.declared.goals.Goal.{Goal}
-use Rattle.metis_layers.specs.LayerOrder.{place_of}
-use Rattle.metis_layers.specs.Layers.{Layers}
-use Rattle.metis_planner.specs.PlanFor.{IsPlanFor}
+use Rattle.metis_layers.specs.Terms.{Layers, place_of}
+use Rattle.metis_planner.specs.Terms.{IsPlanFor}
 use Rattle.metis_rollout.proofs.FreeNumbers.{free_number-alike}
 use Rattle.metis_rollout.proofs.Together.{has-news}
-use Rattle.metis_rollout.specs.Rollout.{all_but, free_number, fresh_name, named, news_of, removal, renumber, renumbered}
-use Rattle.metis_universe.specs.Config.{Config, empty}
-use Rattle.metis_universe.specs.Numbers.{IsOf}
-use Rattle.metis_universe.specs.Residual.{residual}
-use Rattle.metis_universe.specs.Steadfast.{IsSteadfastRun}
-use Rattle.metis_universe.specs.Step.{IsRun}
-use Rattle.metis_universe.specs.Universe.{IsTable, IsUniverse, Universe, has}
-use Rattle.metis_wishes.specs.Wishes.{avoided, rebound, rebound_of}
+use Rattle.metis_rollout.specs.Terms.{all_but, free_number, fresh_name, named, news_of, removal, renumber, renumbered}
+use Rattle.metis_universe.specs.Terms.{Config, IsOf, IsRun, IsSteadfastRun, IsTable, IsUniverse, Universe, empty, has, residual}
+use Rattle.metis_wishes.specs.Terms.{avoided, rebound, rebound_of}
 use Rattle.metis_wishes.specs.declared.wish.Wish.{Wish}
-use Rattle.metis_reconfigure.specs.Aims.{AreAims, IsGround, IsList, IsMadeBeside}
-use Rattle.metis_reconfigure.specs.Answerable.{IsAnswerable}
-use Rattle.metis_reconfigure.specs.Kept.{IsAnswered}
-use Rattle.metis_reconfigure.specs.Missing.{rebound_in, targets}
-use Rattle.metis_reconfigure.specs.Rebinding.{named_targets, rebinds_of}
-use Rattle.metis_reconfigure.specs.Reconfiguration.{Reconfiguration, fresh_actions, joined, left_by, rebound_actions, reconfigured}
-use Rattle.metis_reconfigure.specs.Settled.{AreLeaving, given, left_to_plan}
-use Rattle.metis_reconfigure.specs.Staying.{AreStaying}
+use Rattle.metis_reconfigure.specs.Terms.{AreAims, AreLeaving, AreStaying, IsAnswerable, IsAnswered, IsGround, IsList, IsMadeBeside, Reconfiguration, fresh_actions, given, joined, left_by, left_to_plan, named_targets, rebinds_of, rebound_actions, rebound_in, reconfigured, targets}
 use Rattle.metis_reconfigure.proofs.Aiming.{aims_planned}
 use Rattle.metis_reconfigure.proofs.Alone.{run_rest}
 use Rattle.metis_reconfigure.proofs.Keeping.{every_bind}

@@ -7,13 +7,10 @@ use Rattle.std.specs.Map.{keys_of, lookup}
 use Rattle.std.specs.Option.{option_map_or}
 use Rattle.metis_config.proofs.Leasts.{each_there}
 use Rattle.metis_ids.specs.declared.goals.Goal.{Goal}
-use Rattle.metis_rollout.specs.Rollout.{members}
+use Rattle.metis_rollout.specs.Terms.{members}
 use Rattle.metis_universe.proofs.Served.{count-cons}
-use Rattle.metis_universe.specs.Config.{Config, IsConfig}
-use Rattle.metis_universe.specs.Goals.{places_of, serves}
-use Rattle.metis_universe.specs.Universe.{Universe, has}
-use Rattle.metis_reconfigure.specs.Missing.{missing_behind, serving_among}
-use Rattle.metis_reconfigure.specs.Settled.{settled}
+use Rattle.metis_universe.specs.Terms.{Config, IsConfig, Universe, has, places_of, serves}
+use Rattle.metis_reconfigure.specs.Terms.{missing_behind, serving_among, settled}
 
 -- ---- how many of the instances serve a goal
 

@@ -9,15 +9,10 @@ use Rattle.metis_ids.specs.declared.actions.Action.{Action}
 use Rattle.metis_ids.specs.declared.goals.Goal.{Goal}
 use Rattle.metis_rollout.proofs.Going.{going_from_steady}
 use Rattle.metis_rollout.proofs.Removal.{left_config}
-use Rattle.metis_rollout.specs.Guarded.{HasEach, IsGuardedAt, StandsIn}
-use Rattle.metis_rollout.specs.Rollout.{members}
-use Rattle.metis_universe.specs.Config.{Config, IsConfig}
-use Rattle.metis_universe.specs.Goals.{HoldsGoals, serving}
-use Rattle.metis_universe.specs.Universe.{IsUniverse, Universe, has}
-use Rattle.metis_universe.specs.Waits.{IsKept, picked}
+use Rattle.metis_rollout.specs.Terms.{HasEach, IsGuardedAt, StandsIn, members}
+use Rattle.metis_universe.specs.Terms.{Config, HoldsGoals, IsConfig, IsKept, IsUniverse, Universe, has, picked, serving}
 use Rattle.metis_wishes.specs.declared.wish.Wish.{Wish}
-use Rattle.metis_reconfigure.specs.Kept.{IsAnswered, at_end}
-use Rattle.metis_reconfigure.specs.Reconfiguration.{Reconfiguration, before_removal, left_by, reconfigured}
+use Rattle.metis_reconfigure.specs.Terms.{IsAnswered, Reconfiguration, at_end, before_removal, left_by, reconfigured}
 use Rattle.metis_reconfigure.proofs.InTheEnd.{goals_held_in_the_end}
 use Rattle.metis_reconfigure.proofs.Lawful.{is_a_run}
 use Rattle.metis_reconfigure.proofs.Lists.{filter_differs, members_differ, serving_more}

@@ -8,34 +8,25 @@ use Rattle.std.proofs.lemmas.List.{get_or_past}
 use Rattle.std.proofs.lemmas.List.Folds.{list_any_at}
 use Rattle.metis_completion.proofs.ResidualRows.{no_row_left, required_before, residual_demand, residual_is_universe, residual_next, residual_pairs, residual_provides, row_left}
 use Rattle.metis_ids.proofs.Lists.{all_at, any_at, has-filter, in_range, some_member}
-use Rattle.metis_ids.specs.Action.{actor_of}
+use Rattle.metis_ids.specs.Terms.{actor_of}
 use Rattle.metis_ids.proofs.Options.{none_or_some}
 use Rattle.metis_ids.specs.declared.actions.Action.{Action}
 use Rattle.metis_ids.specs.declared.actions.Action.TheVariants.{New, Delete, Bind, Unbind, Move}
 use Rattle.metis_ids.specs.declared.goals.Goal.{Goal}
 use Rattle.metis_ids.specs.declared.goals.Goal.TheVariants.{Pair, Port}
 use Rattle.metis_layers.proofs.LayerFacts.{layer_by, layer_pair}
-use Rattle.metis_layers.specs.LayerOrder.{attained_pairs}
+use Rattle.metis_layers.specs.Terms.{attained_pairs}
 use Rattle.metis_rollout.proofs.Quiet.{has-keys}
-use Rattle.metis_rollout.specs.Rollout.{members}
+use Rattle.metis_rollout.specs.Terms.{members}
 use Rattle.metis_universe.proofs.Attained.{Closed-layers}
 use Rattle.metis_universe.proofs.Demands.{demand_one, no_more, one_provider}
 use Rattle.metis_universe.proofs.Edits.{pair_of-put, pair_of-remove}
 use Rattle.metis_universe.proofs.Initials.{is_initial-own}
 use Rattle.metis_universe.proofs.Kept.{IsConfig-after}
-use Rattle.metis_universe.specs.Closed.{Closed, IsProvidedIn}
-use Rattle.metis_universe.specs.Config.{AreDifferent, Config, Correct, IsConfig, IsProvider, is_bound, pair_of, put}
-use Rattle.metis_universe.specs.Goals.{serves}
-use Rattle.metis_universe.specs.Layers.{layer_of}
-use Rattle.metis_universe.specs.Residual.{required_left}
-use Rattle.metis_universe.specs.Selection.{provider_of}
-use Rattle.metis_universe.specs.Step.{Allows, IsRun, after, after_all}
-use Rattle.metis_universe.specs.Universe.{IsUniverse, Universe, all_pairs, demand_of, has, initial_of, is_empty, is_free, is_initial, next_of, no_kind, no_pair, pair_at, pair_count, provides, required_of, requires, type_of}
-use Rattle.metis_wishes.specs.Wishes.{avoided, is_avoided}
+use Rattle.metis_universe.specs.Terms.{Allows, AreDifferent, Closed, Config, Correct, IsConfig, IsProvidedIn, IsProvider, IsRun, IsUniverse, Universe, after, after_all, all_pairs, demand_of, has, initial_of, is_bound, is_empty, is_free, is_initial, layer_of, next_of, no_kind, no_pair, pair_at, pair_count, pair_of, provider_of, provides, put, required_left, required_of, requires, serves, type_of}
+use Rattle.metis_wishes.specs.Terms.{avoided, is_avoided}
 use Rattle.metis_wishes.specs.declared.wish.Wish.{Wish}
-use Rattle.metis_reconfigure.specs.Answerable.{is_unavoidable}
-use Rattle.metis_reconfigure.specs.NewOnes.{IsNew, LeanRightly, NewOnesAct}
-use Rattle.metis_reconfigure.specs.Settled.{given, gives, left_to_plan, settled}
+use Rattle.metis_reconfigure.specs.Terms.{IsNew, LeanRightly, NewOnesAct, given, gives, is_unavoidable, left_to_plan, settled}
 use Rattle.metis_reconfigure.proofs.Lists.{by_case}
 use Rattle.metis_reconfigure.proofs.Unavoided.{attained_layer, attained_provider}
 

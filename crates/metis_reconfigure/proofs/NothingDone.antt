@@ -11,14 +11,10 @@ use Rattle.metis_ids.specs.declared.actions.Action.TheVariants.{Delete}
 use Rattle.metis_ids.specs.declared.goals.Goal.{Goal}
 use Rattle.metis_rollout.proofs.Among.{has-among}
 use Rattle.metis_rollout.proofs.Quiet.{has-keys}
-use Rattle.metis_rollout.specs.Rollout.{all_but, among, cycle_removal, ends_first, first_unbinds, is_idle, is_referenced, left_of, members, next_unreferenced, removal, scaffold_name, unbind, unreferenced_deletes, unreferenced_deletes_within, untied_of}
-use Rattle.metis_universe.specs.Config.{Binding, Config, IsConfig, is_bound, is_tie, pair_of, remove}
-use Rattle.metis_universe.specs.Goals.{HoldsGoals}
-use Rattle.metis_universe.specs.Steadfast.{IsSteadfastRun}
-use Rattle.metis_universe.specs.Step.{after_all}
-use Rattle.metis_universe.specs.Universe.{Universe, has, is_empty, requires}
+use Rattle.metis_rollout.specs.Terms.{all_but, among, cycle_removal, ends_first, first_unbinds, is_idle, is_referenced, left_of, members, next_unreferenced, removal, scaffold_name, unbind, unreferenced_deletes, unreferenced_deletes_within, untied_of}
+use Rattle.metis_universe.specs.Terms.{Binding, Config, HoldsGoals, IsConfig, IsSteadfastRun, Universe, after_all, has, is_bound, is_empty, is_tie, pair_of, remove, requires}
 use Rattle.metis_wishes.specs.declared.wish.Wish.{Wish}
-use Rattle.metis_reconfigure.specs.Reconfiguration.{Reconfiguration, before_removal, left_by, reconfigured}
+use Rattle.metis_reconfigure.specs.Terms.{Reconfiguration, before_removal, left_by, reconfigured}
 use Rattle.metis_rollout.proofs.Going.{going_from_steady}
 use Rattle.metis_rollout.proofs.Removal.{left_config}
 use Rattle.metis_reconfigure.proofs.InTheEnd.{nothing_for_nothing}

@@ -9,23 +9,17 @@ use Rattle.std.proofs.lemmas.List.{append-nil}
 use Rattle.metis_ids.specs.declared.actions.Action.{Action}
 use Rattle.metis_ids.specs.declared.actions.Action.TheVariants.{Bind}
 use Rattle.metis_ids.specs.declared.goals.Goal.{Goal}
-use Rattle.metis_completion.specs.Completed.{completed}
+use Rattle.metis_completion.specs.Terms.{completed}
 use Rattle.metis_ids.proofs.Lists.{has-filter}
 use Rattle.metis_planner.proofs.NoTargets.{empty_for_none}
-use Rattle.metis_planner.specs.PlanFor.{IsPlanFor}
+use Rattle.metis_planner.specs.Terms.{IsPlanFor}
 use Rattle.metis_rollout.proofs.Rebinding.{each_entry, sorted_unlike}
-use Rattle.metis_rollout.specs.Rollout.{fresh_name, members, renumbered}
+use Rattle.metis_rollout.specs.Terms.{fresh_name, members, renumbered}
 use Rattle.metis_universe.proofs.Demands.{demand_none}
 use Rattle.metis_universe.proofs.Served.{count-cons, same_itself}
-use Rattle.metis_universe.specs.Config.{Config, Correct, IsConfig, is_bound, pair_of}
-use Rattle.metis_universe.specs.Goals.{HoldsGoals, places_of, same_goal, serves, serving}
-use Rattle.metis_universe.specs.Selection.{provider_of}
-use Rattle.metis_universe.specs.Universe.{Universe, demand_of, has, port_count, provides, required_of, requires}
+use Rattle.metis_universe.specs.Terms.{Config, Correct, HoldsGoals, IsConfig, Universe, demand_of, has, is_bound, pair_of, places_of, port_count, provider_of, provides, required_of, requires, same_goal, serves, serving}
 use Rattle.metis_wishes.specs.declared.wish.Wish.{Wish}
-use Rattle.metis_reconfigure.specs.Missing.{lack, lacking, missing, missing_behind, pair_for, providers_short, rebound_in, serving_among, short, targets, targets_behind, wanted, wants}
-use Rattle.metis_reconfigure.specs.Rebinding.{candidates, rebinds, rebinds_at, rebinds_of}
-use Rattle.metis_reconfigure.specs.Reconfiguration.{Reconfiguration, before_removal, fresh_actions, left_by, rebound_actions}
-use Rattle.metis_reconfigure.specs.Settled.{given, gives, left_to_plan, settled}
+use Rattle.metis_reconfigure.specs.Terms.{Reconfiguration, before_removal, candidates, fresh_actions, given, gives, lack, lacking, left_by, left_to_plan, missing, missing_behind, pair_for, providers_short, rebinds, rebinds_at, rebinds_of, rebound_actions, rebound_in, serving_among, settled, short, targets, targets_behind, wanted, wants}
 use Rattle.metis_reconfigure.proofs.Lists.{by_case, count-append, count-push, passing_more}
 use Rattle.metis_reconfigure.proofs.Stays.{in_members, serves_in}
 

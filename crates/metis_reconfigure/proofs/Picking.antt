@@ -7,8 +7,8 @@ use Rattle.std.specs.Option.{option_or}
 use Rattle.std.specs.Ordering.{nat_cmp}
 use Rattle.std.proofs.lemmas.List.{drop_more}
 use Rattle.metis_universe.proofs.Ascending.{has-insert_key}
-use Rattle.metis_universe.specs.Universe.{has}
-use Rattle.metis_reconfigure.specs.Answers.{passing}
+use Rattle.metis_universe.specs.Terms.{has}
+use Rattle.metis_reconfigure.specs.Terms.{passing}
 
 -- ---- a set into which those instances are put that pass
 

@@ -10,9 +10,9 @@ use Rattle.std.proofs.lemmas.Bool.{and_from, and_parts, eq-eqb, eqb-true, falseâ
 use Rattle.std.proofs.lemmas.List.Folds.{list_any-append}
 use Rattle.std.proofs.lemmas.Option.{none-some}
 use Rattle.metis_config.proofs.Firsts.{head, short}
-use Rattle.metis_ids.specs.Lists.{has}
-use Rattle.metis_universe.specs.Config.{binding_cmp}
-use Rattle.metis_reconfigure.specs.Reached.{AreReached, Edge, IsClosed, IsFollowed, IsReached, IsUnderWay, has_edge, next, start}
+use Rattle.metis_ids.specs.Terms.{has}
+use Rattle.metis_universe.specs.Terms.{binding_cmp}
+use Rattle.metis_reconfigure.specs.Terms.{AreReached, Edge, IsClosed, IsFollowed, IsReached, IsUnderWay, has_edge, next, start}
 
 -- ---- the edges from one instance
 

@@ -8,11 +8,8 @@ use Rattle.std.proofs.lemmas.List.Elements.{filter-append}
 use Rattle.metis_ids.proofs.Lists.{range_more}
 use Rattle.metis_ids.specs.declared.actions.Action.{Action}
 use Rattle.metis_ids.specs.declared.actions.Action.TheVariants.{Bind}
-use Rattle.metis_universe.specs.Config.{Config, is_bound, pair_of}
-use Rattle.metis_universe.specs.Universe.{Universe, provides, required_of}
-use Rattle.metis_reconfigure.specs.Missing.{lack}
-use Rattle.metis_reconfigure.specs.Rebinding.{candidates, fresh_givers, named_targets, rebinds_at, rebinds_of}
-use Rattle.metis_reconfigure.specs.Settled.{given}
+use Rattle.metis_universe.specs.Terms.{Config, Universe, is_bound, pair_of, provides, required_of}
+use Rattle.metis_reconfigure.specs.Terms.{candidates, fresh_givers, given, lack, named_targets, rebinds_at, rebinds_of}
 
 -- ---- lists that grow
 

@@ -11,17 +11,14 @@ use Rattle.metis_ids.proofs.Lists.{any_at, each_weaker, has-append, has-filter, 
 use Rattle.metis_layers.proofs.SlotLists.{required_differ}
 use Rattle.metis_layers.proofs.Going.{type_provides-own, type_requires-own}
 use Rattle.metis_universe.proofs.Slots.{mapped_from}
-use Rattle.metis_universe.specs.Config.{AreDifferent, Binding, Config, IsConfig, is_bound, is_tie, pair_of}
-use Rattle.metis_universe.specs.Universe.{IsUniverse, Universe, has, provides, required_of, requires, type_of, type_provides, type_requires}
+use Rattle.metis_universe.specs.Terms.{AreDifferent, Binding, Config, IsConfig, IsUniverse, Universe, has, is_bound, is_tie, pair_of, provides, required_of, requires, type_of, type_provides, type_requires}
 use Rattle.metis_completion.proofs.Binding.{Fits}
 use Rattle.metis_completion.proofs.Front.{append_differs, front_differs, rising_differ}
 use Rattle.metis_rollout.proofs.Quiet.{all_among, is_in}
-use Rattle.metis_rollout.specs.Rollout.{bind, members}
-use Rattle.metis_wishes.specs.Wishes.{rebound}
+use Rattle.metis_rollout.specs.Terms.{bind, members}
+use Rattle.metis_wishes.specs.Terms.{rebound}
 use Rattle.metis_wishes.specs.declared.wish.Wish.{Wish}
-use Rattle.metis_reconfigure.specs.Missing.{lack, rebound_in}
-use Rattle.metis_reconfigure.specs.Rebinding.{candidates, fresh_givers, rebinds, rebinds_at, rebinds_of}
-use Rattle.metis_reconfigure.specs.Settled.{AreLeaving, given}
+use Rattle.metis_reconfigure.specs.Terms.{AreLeaving, candidates, fresh_givers, given, lack, rebinds, rebinds_at, rebinds_of, rebound_in}
 use Rattle.metis_reconfigure.proofs.Binds.{AreApart, AreApart-joined, AreApart-one}
 use Rattle.metis_reconfigure.proofs.Lists.{filter_differs, members_differ, named_differ}
 use Rattle.metis_reconfigure.proofs.Given.{given_ones, is_given, is_settled}

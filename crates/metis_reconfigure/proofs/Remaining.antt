@@ -6,17 +6,11 @@ use Rattle.std.proofs.lemmas.Bool.{and_from, and_parts, both_ways, eqb-true, fal
 use Rattle.metis_ids.specs.declared.goals.Goal.{Goal}
 use Rattle.metis_ids.proofs.Lists.{has-append, has-filter}
 use Rattle.metis_rollout.proofs.Quiet.{find_some, has-keys, keys-has}
-use Rattle.metis_rollout.specs.Rollout.{is_idle, members}
-use Rattle.metis_universe.specs.Config.{Binding, Config, IsConfig, is_bound, pair_of}
-use Rattle.metis_universe.specs.Goals.{places_of, serves}
-use Rattle.metis_universe.specs.Universe.{Universe, has}
-use Rattle.metis_wishes.specs.Wishes.{keeps_all, kept, rebound}
+use Rattle.metis_rollout.specs.Terms.{is_idle, members}
+use Rattle.metis_universe.specs.Terms.{Binding, Config, IsConfig, Universe, has, is_bound, pair_of, places_of, serves}
+use Rattle.metis_wishes.specs.Terms.{keeps_all, kept, rebound}
 use Rattle.metis_wishes.specs.declared.wish.Wish.{Wish}
-use Rattle.metis_reconfigure.specs.Answerable.{is_firm}
-use Rattle.metis_reconfigure.specs.Missing.{serving_among}
-use Rattle.metis_reconfigure.specs.Reached.{AreReached, Edge, IsReached, next, start}
-use Rattle.metis_reconfigure.specs.Settled.{AreLeaving, settled}
-use Rattle.metis_reconfigure.specs.Staying.{AreStaying, StayFor, StaysToo, fresh_in, holds_up, next_serving, wished, those_in}
+use Rattle.metis_reconfigure.specs.Terms.{AreLeaving, AreReached, AreStaying, Edge, IsReached, StayFor, StaysToo, fresh_in, holds_up, is_firm, next, next_serving, serving_among, settled, start, those_in, wished}
 use Rattle.metis_reconfigure.proofs.Given.{edge_from, edge_to, is_settled, leaves_inside}
 
 -- what stands in d, does not leave, and has with each all on which it stands that does not leave

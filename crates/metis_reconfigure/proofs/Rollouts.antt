@@ -10,40 +10,26 @@ use Rattle.metis_ids.specs.declared.actions.Action.{Action}
 use Rattle.metis_ids.specs.declared.goals.Goal.{Goal}
 use Rattle.metis_ids.specs.declared.goals.Goal.TheVariants.{Pair, Port}
 use Rattle.metis_choice.proofs.Resolving.{attained_where_none}
-use Rattle.metis_choice.specs.Resolutions.{ArePairsFor}
+use Rattle.metis_choice.specs.Terms.{ArePairsFor}
 use Rattle.metis_completion.proofs.Nothing.{completed_none, residual_none}
-use Rattle.metis_completion.specs.Completed.{completed}
+use Rattle.metis_completion.specs.Terms.{completed}
 use Rattle.metis_ids.proofs.Lists.{has-append, has-filter, some_member}
-use Rattle.metis_planner.specs.PlanFor.{IsPlanFor}
+use Rattle.metis_planner.specs.Terms.{IsPlanFor}
 use Rattle.metis_rollout.proofs.Alone.{removal_alone}
 use Rattle.metis_rollout.proofs.Among.{IsConfig-among, is_bound-among, pair_of-among}
-use Rattle.metis_layers.specs.LayerOrder.{attained_pairs, place_of}
+use Rattle.metis_layers.specs.Terms.{attained_pairs, place_of}
 use Rattle.metis_rollout.proofs.FreeNumbers.{free_number-free}
 use Rattle.metis_rollout.proofs.Going.{going_from_steady}
 use Rattle.metis_rollout.proofs.Quiet.{has-keys, keys-has}
 use Rattle.metis_rollout.proofs.Removal.{left_config, left_correct}
 use Rattle.metis_rollout.proofs.Together.{fresh_goes, has-news, together, touches_own}
 use Rattle.metis_rollout.proofs.Touching.{At, pair_touched}
-use Rattle.metis_rollout.specs.Removal.{GoesApart}
-use Rattle.metis_rollout.specs.Rollout.{all_but, all_go, among, fresh_name, is_idle, members, news_of, removal, renumbered, rollout, scaffold_name}
-use Rattle.metis_rollout.specs.Standing.{AreTogether, IsRenamed, is_made}
+use Rattle.metis_rollout.specs.Terms.{AreTogether, GoesApart, IsRenamed, all_but, all_go, among, fresh_name, is_idle, is_made, members, news_of, removal, renumbered, rollout, scaffold_name}
 use Rattle.metis_universe.proofs.Same.{same_config}
-use Rattle.metis_universe.specs.Config.{Config, IsConfig, empty, is_bound, pair_of}
-use Rattle.metis_universe.specs.Goals.{AttainsGoals, HoldsGoals, lacks, places_of, serves}
-use Rattle.metis_universe.specs.Layers.{is_provided}
-use Rattle.metis_universe.specs.Selection.{provider_of}
-use Rattle.metis_universe.specs.Residual.{residual}
-use Rattle.metis_universe.specs.Steadfast.{IsSteadfastRun}
-use Rattle.metis_universe.specs.Step.{after_all}
-use Rattle.metis_universe.specs.Universe.{IsUniverse, Universe, has, provides, requires}
-use Rattle.metis_wishes.specs.Wishes.{avoided, keeps_all, kept, rebound}
+use Rattle.metis_universe.specs.Terms.{AttainsGoals, Config, HoldsGoals, IsConfig, IsSteadfastRun, IsUniverse, Universe, after_all, empty, has, is_bound, is_provided, lacks, pair_of, places_of, provider_of, provides, requires, residual, serves}
+use Rattle.metis_wishes.specs.Terms.{avoided, keeps_all, kept, rebound}
 use Rattle.metis_wishes.specs.declared.wish.Wish.{Wish}
-use Rattle.metis_reconfigure.specs.Missing.{missing, missing_behind, pair_for, serving_among, targets}
-use Rattle.metis_reconfigure.specs.Reached.{IsReached, next, start}
-use Rattle.metis_reconfigure.specs.Rebinding.{rebinds_of}
-use Rattle.metis_reconfigure.specs.Reconfiguration.{Reconfiguration, before_removal, fresh_actions, left_by, rebound_actions, reconfigured}
-use Rattle.metis_reconfigure.specs.Settled.{given, gives, left_to_plan, settled}
-use Rattle.metis_reconfigure.specs.Staying.{AreStaying, StayFor, StaysToo, fresh_in, holds_up, next_serving, those_in, wished}
+use Rattle.metis_reconfigure.specs.Terms.{AreStaying, IsReached, Reconfiguration, StayFor, StaysToo, before_removal, fresh_actions, fresh_in, given, gives, holds_up, left_by, left_to_plan, missing, missing_behind, next, next_serving, pair_for, rebinds_of, rebound_actions, reconfigured, serving_among, settled, start, targets, those_in, wished}
 use Rattle.metis_reconfigure.proofs.Answering.{none_rebound, targets_for_goals}
 use Rattle.metis_reconfigure.proofs.Given.{edge_from}
 use Rattle.metis_reconfigure.proofs.InTheEnd.{no_root, none_leaves, nothing_for_nothing}

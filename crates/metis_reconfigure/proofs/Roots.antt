@@ -9,18 +9,15 @@ use Rattle.std.specs.declared.cmp.Ordering.TheVariants.{Less}
 use Rattle.std.proofs.lemmas.Bool.Decides.{nat_tests}
 use Rattle.std.proofs.lemmas.Bool.{and_from, and_parts, both_ways, eq-eqb, eqb-true, false≢true, or_cases, or_left, or_right}
 use Rattle.std.proofs.lemmas.Option.{same_Some}
-use Rattle.metis_config.specs.Over.{IsOver}
+use Rattle.metis_config.specs.Terms.{IsOver}
 use Rattle.metis_ids.proofs.Lists.{has-filter, has_here}
 use Rattle.metis_rollout.proofs.Quiet.{keys-has}
-use Rattle.metis_rollout.specs.Rollout.{is_idle, members}
+use Rattle.metis_rollout.specs.Terms.{is_idle, members}
 use Rattle.metis_universe.proofs.Attained.{pair_in}
-use Rattle.metis_universe.specs.Config.{Binding, Config, IsConfig, pair_of}
-use Rattle.metis_universe.specs.Universe.{Universe, all_pairs, has, pair_count}
-use Rattle.metis_wishes.specs.Wishes.{avoided, is_avoided, rebound, retired}
+use Rattle.metis_universe.specs.Terms.{Binding, Config, IsConfig, Universe, all_pairs, has, pair_count, pair_of}
+use Rattle.metis_wishes.specs.Terms.{avoided, is_avoided, rebound, retired}
 use Rattle.metis_wishes.specs.declared.wish.Wish.{Wish}
-use Rattle.metis_reconfigure.specs.Answers.{IsLeastRoot}
-use Rattle.metis_reconfigure.specs.Reached.{AreReached, Edge, IsReached, has_edge, next, start}
-use Rattle.metis_reconfigure.specs.Settled.{AreLeaving, dependents, is_root, leads_up, roots}
+use Rattle.metis_reconfigure.specs.Terms.{AreLeaving, AreReached, Edge, IsLeastRoot, IsReached, dependents, has_edge, is_root, leads_up, next, roots, start}
 use Rattle.metis_reconfigure.proofs.Given.{edge_from, edge_to, leaves_inside}
 
 -- ---- which the roots are

@@ -5,30 +5,22 @@ use Rattle.std.specs.List.{filter_map, range_with_len}
 use Rattle.std.specs.Option.{option_map_or}
 use Rattle.std.proofs.lemmas.Bool.{and_from, and_parts, both_ways, cases_Bool, cases_lt, false_from_ne_true, false≢true, or_cases, or_left, or_right}
 use Rattle.std.proofs.lemmas.List.{get_or_past}
-use Rattle.metis_ids.specs.Plans.{Plan}
+use Rattle.metis_ids.specs.Terms.{Plan}
 use Rattle.metis_ids.specs.declared.actions.Action.{Action}
 use Rattle.metis_ids.specs.declared.goals.Goal.{Goal}
 use Rattle.metis_ids.proofs.Lists.{all_at, has-append, has-filter, has_range}
 use Rattle.metis_ids.proofs.Options.{IsSome_at}
-use Rattle.metis_universe.specs.Config.{AreDifferent, Config, IsConfig, IsMet, IsProvider, is_bound, pair_of}
-use Rattle.metis_universe.specs.Steadfast.{IsSteadfastRun}
-use Rattle.metis_universe.specs.Universe.{IsUniverse, Universe, demand_of, has, no_pair, pair_count, port_count, required_of, requires}
+use Rattle.metis_universe.specs.Terms.{AreDifferent, Config, IsConfig, IsMet, IsProvider, IsSteadfastRun, IsUniverse, Universe, demand_of, has, is_bound, no_pair, pair_count, pair_of, port_count, required_of, requires}
 use Rattle.metis_completion.proofs.Front.{append_differs, rising_differ}
 use Rattle.metis_completion.proofs.Keeping.{fresh_leads}
-use Rattle.metis_planner.specs.PlanFor.{IsPlanFor}
+use Rattle.metis_planner.specs.Terms.{IsPlanFor}
 use Rattle.metis_rollout.proofs.Among.{is_bound-among, pair_among, pair_from}
 use Rattle.metis_rollout.proofs.Quiet.{keys-has}
-use Rattle.metis_rollout.specs.Removal.{MayGo}
-use Rattle.metis_rollout.specs.Rollout.{all_but, among, is_idle, members}
-use Rattle.metis_rollout.specs.Standing.{is_made}
-use Rattle.metis_wishes.specs.Wishes.{avoided, kept, named, rebound}
+use Rattle.metis_rollout.specs.Terms.{MayGo, all_but, among, is_idle, is_made, members}
+use Rattle.metis_wishes.specs.Terms.{avoided, kept, named, rebound}
 use Rattle.metis_wishes.specs.declared.wish.Wish.{Wish}
 use Rattle.metis_wishes.specs.declared.wish.Wish.TheVariants.{Keep, KeepAll, Rebind, Retire, AvoidType, AvoidPair}
-use Rattle.metis_reconfigure.specs.Answerable.{IsAnswerable, is_firm}
-use Rattle.metis_reconfigure.specs.Missing.{missing, pair_for, rebound_in, targets}
-use Rattle.metis_reconfigure.specs.Reconfiguration.{joined, left_by}
-use Rattle.metis_reconfigure.specs.Settled.{AreLeaving, given, left_to_plan}
-use Rattle.metis_reconfigure.specs.Staying.{AreStaying}
+use Rattle.metis_reconfigure.specs.Terms.{AreLeaving, AreStaying, IsAnswerable, given, is_firm, joined, left_by, left_to_plan, missing, pair_for, rebound_in, targets}
 use Rattle.metis_reconfigure.proofs.Counted.{all_met, wanted_by}
 use Rattle.metis_reconfigure.proofs.Enough.{enough_taken, held}
 use Rattle.metis_reconfigure.proofs.Given.{follows, given_ones, given_settled, is_given, is_settled, leaves_inside}

@@ -15,24 +15,17 @@ use Rattle.metis_ids.proofs.Lists.{has-filter, take_short}
 use Rattle.metis_universe.proofs.Demanded.{demands_in_all}
 use Rattle.metis_universe.proofs.Demands.{no_more}
 use Rattle.metis_universe.proofs.ResidualTable.{residual_table}
-use Rattle.metis_universe.specs.Config.{Binding, Config, is_bound, pair_of}
-use Rattle.metis_universe.specs.Numbers.{IsOf}
-use Rattle.metis_universe.specs.Steadfast.{IsSteadfastRun}
-use Rattle.metis_universe.specs.Universe.{IsTable, IsUniverse, IsWithinLimits, Pair, Universe, demand_of, demand_total, has, no_pair, pair_at, pair_count, required_of, type_of}
+use Rattle.metis_universe.specs.Terms.{Binding, Config, IsOf, IsSteadfastRun, IsTable, IsUniverse, IsWithinLimits, Pair, Universe, demand_of, demand_total, has, is_bound, no_pair, pair_at, pair_count, pair_of, required_of, type_of}
 use Rattle.metis_completion.proofs.Keeping.{completed_of}
 use Rattle.metis_completion.proofs.ResidualRows.{residual_pairs}
 use Rattle.metis_completion.proofs.Short.{completed_renamed, completed_short}
 use Rattle.metis_planner.proofs.Once.{comes_once}
 use Rattle.metis_rollout.proofs.ScaffoldSize.{whole_short}
 use Rattle.metis_rollout.proofs.Within.{removal_within}
-use Rattle.metis_rollout.specs.Rollout.{all_but, bind, fresh_name, members, renumber, renumbered, scaffold_name}
-use Rattle.metis_wishes.specs.Wishes.{avoided, rebound}
+use Rattle.metis_rollout.specs.Terms.{all_but, bind, fresh_name, members, renumber, renumbered, scaffold_name}
+use Rattle.metis_wishes.specs.Terms.{avoided, rebound}
 use Rattle.metis_wishes.specs.declared.wish.Wish.{Wish}
-use Rattle.metis_reconfigure.specs.Kept.{IsAnswered, rebinds_in}
-use Rattle.metis_reconfigure.specs.Missing.{lack, rebound_in, targets}
-use Rattle.metis_reconfigure.specs.Rebinding.{candidates}
-use Rattle.metis_reconfigure.specs.Reconfiguration.{Reconfiguration, before_removal, fresh_actions, left_by, reconfigured}
-use Rattle.metis_reconfigure.specs.Settled.{given, left_to_plan}
+use Rattle.metis_reconfigure.specs.Terms.{IsAnswered, Reconfiguration, before_removal, candidates, fresh_actions, given, lack, left_by, left_to_plan, rebinds_in, rebound_in, reconfigured, targets}
 use Rattle.metis_reconfigure.proofs.Joined.{are_targets, besides, c_config, name, ties}
 use Rattle.metis_reconfigure.proofs.Keeping.{every_bind}
 use Rattle.metis_reconfigure.proofs.Lawful.{may_go_all, steady_before}

@@ -10,15 +10,10 @@ use Rattle.metis_ids.specs.declared.goals.Goal.{Goal}
 use Rattle.metis_ids.proofs.Finding.{found}
 use Rattle.metis_ids.proofs.Lists.{has-filter}
 use Rattle.metis_rollout.proofs.Quiet.{keys-has}
-use Rattle.metis_rollout.specs.Rollout.{members}
+use Rattle.metis_rollout.specs.Terms.{members}
 use Rattle.metis_universe.proofs.Served.{same_is, same_itself}
-use Rattle.metis_universe.specs.Config.{AreDifferent, Config, IsConfig, pair_of}
-use Rattle.metis_universe.specs.Goals.{places_of, same_goal, serves}
-use Rattle.metis_universe.specs.Universe.{Universe, has}
-use Rattle.metis_reconfigure.specs.Missing.{serving_among}
-use Rattle.metis_reconfigure.specs.Reached.{start}
-use Rattle.metis_reconfigure.specs.Settled.{settled}
-use Rattle.metis_reconfigure.specs.Staying.{StayFor, StaysForOne, StaysToo, next_serving, those_in}
+use Rattle.metis_universe.specs.Terms.{AreDifferent, Config, IsConfig, Universe, has, pair_of, places_of, same_goal, serves}
+use Rattle.metis_reconfigure.specs.Terms.{StayFor, StaysForOne, StaysToo, next_serving, serving_among, settled, start, those_in}
 use Rattle.metis_reconfigure.proofs.Lists.{count-append, count-push, filter_differs, members_differ, passing_more}
 
 -- whether the instance serves the goal

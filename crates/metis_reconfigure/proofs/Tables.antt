@@ -6,23 +6,17 @@ use Rattle.std.specs.Option.{is_some, option_map_or}
 use Rattle.std.proofs.lemmas.Bool.{false_from_ne_true, false≢true, le-ltb, or_right}
 use Rattle.std.proofs.lemmas.List.{take_more}
 use Rattle.std.proofs.lemmas.List.Elements.{All-head, All-tail, filter_map-append}
-use Rattle.metis_completion.specs.Given.{given_in}
-use Rattle.metis_config.specs.Unmet.{demanded, is_required}
+use Rattle.metis_completion.specs.Terms.{given_in}
+use Rattle.metis_config.specs.Terms.{demanded, is_required}
 use Rattle.metis_ids.proofs.Lists.{has_here, range_more}
 use Rattle.metis_ids.specs.declared.goals.Goal.{Goal}
 use Rattle.metis_ids.specs.declared.goals.Goal.TheVariants.{Pair, Port}
-use Rattle.metis_layers.specs.Layers.{IsLayers, Layers, first_at}
+use Rattle.metis_layers.specs.Terms.{IsLayers, Layers, first_at}
 use Rattle.metis_universe.proofs.ResidualRows.{residual_count}
-use Rattle.metis_universe.specs.Config.{Config, pair_of}
-use Rattle.metis_universe.specs.Goals.{IsGoalOf}
-use Rattle.metis_universe.specs.Selection.{provider_of}
-use Rattle.metis_universe.specs.Universe.{Universe, demand_of, further_of, has, port_count, required_of, requires}
-use Rattle.metis_wishes.specs.Wishes.{avoided, is_avoided}
+use Rattle.metis_universe.specs.Terms.{Config, IsGoalOf, Universe, demand_of, further_of, has, pair_of, port_count, provider_of, required_of, requires}
+use Rattle.metis_wishes.specs.Terms.{avoided, is_avoided}
 use Rattle.metis_wishes.specs.declared.wish.Wish.{Wish}
-use Rattle.metis_reconfigure.specs.Answerable.{AreMet, is_unavoidable}
-use Rattle.metis_reconfigure.specs.Missing.{lack, pair_for, providers_short, short, targets_behind, wanted, wants}
-use Rattle.metis_reconfigure.specs.Settled.{given, left_to_plan}
-use Rattle.metis_reconfigure.specs.Targeted.{AreTables, HasRequired, IsLeft, IsUnmet, is_lacking, is_unavoidable_by, lack_by, pair_in, short_by, wanted_by}
+use Rattle.metis_reconfigure.specs.Terms.{AreMet, AreTables, HasRequired, IsLeft, IsUnmet, given, is_lacking, is_unavoidable, is_unavoidable_by, lack, lack_by, left_to_plan, pair_for, pair_in, providers_short, short, short_by, targets_behind, wanted, wanted_by, wants}
 
 -- ---- what is left to plan
 

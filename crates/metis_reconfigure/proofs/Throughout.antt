@@ -3,16 +3,11 @@ use Rattle.std.proofs.Common.{◌≡◌, ◌⊎◌, ℕ, ◌+◌, Bool, List, �
 use Rattle.std.specs.Prelude.{IsTrue}
 use Rattle.metis_ids.specs.declared.actions.Action.{Action}
 use Rattle.metis_ids.specs.declared.goals.Goal.{Goal}
-use Rattle.metis_universe.specs.Goal.{Holds}
-use Rattle.metis_universe.specs.Universe.{IsUniverse, Universe}
-use Rattle.metis_universe.specs.Waits.{IsKept, is_complete, picked}
+use Rattle.metis_universe.specs.Terms.{Holds, IsKept, IsUniverse, Universe, is_complete, picked}
 use Rattle.metis_rollout.proofs.Guarding.{goes_on, kept_stands, removal_never_lacks, removal_never_lacks_goals}
-use Rattle.metis_rollout.specs.Guarded.{HasEach, IsBeside, IsGuardedAt, KeepsStanding, StandsIn}
-use Rattle.metis_rollout.specs.Removal.{CanTake}
-use Rattle.metis_rollout.specs.Rollout.{all_but, scaffold_name}
+use Rattle.metis_rollout.specs.Terms.{CanTake, HasEach, IsBeside, IsGuardedAt, KeepsStanding, StandsIn, all_but, scaffold_name}
 use Rattle.metis_wishes.specs.declared.wish.Wish.{Wish}
-use Rattle.metis_reconfigure.specs.Kept.{IsAnswered, at_end, rebinds_in, taken_away}
-use Rattle.metis_reconfigure.specs.Reconfiguration.{Reconfiguration, before_removal, fresh_actions, left_by, reconfigured}
+use Rattle.metis_reconfigure.specs.Terms.{IsAnswered, Reconfiguration, at_end, before_removal, fresh_actions, left_by, rebinds_in, reconfigured, taken_away}
 use Rattle.metis_reconfigure.proofs.Keeping.{is_beside, whole_is}
 use Rattle.metis_reconfigure.proofs.Lawful.{labels_free, may_go_all, steady_before}
 

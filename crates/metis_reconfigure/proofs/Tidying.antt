@@ -11,29 +11,17 @@ use Rattle.metis_ids.proofs.Lists.{has-append, has-filter, has_range}
 use Rattle.metis_ids.proofs.Options.{IsSome_at}
 use Rattle.metis_layers.proofs.Going.{GoesOn, at}
 use Rattle.metis_universe.proofs.Slots.{has-map}
-use Rattle.metis_universe.specs.Config.{Config, empty, is_bound, pair_of}
-use Rattle.metis_universe.specs.Goals.{places_of, serves}
-use Rattle.metis_universe.specs.Steadfast.{IsSteadfastRun}
-use Rattle.metis_universe.specs.Step.{after_all}
-use Rattle.metis_universe.specs.Tidy.{IsReached as IsTidyReached, provider, target}
-use Rattle.metis_universe.specs.Universe.{IsUniverse, Universe, has, requires}
+use Rattle.metis_universe.specs.Terms.{Config, IsReached as IsTidyReached, IsSteadfastRun, IsUniverse, Universe, after_all, empty, has, is_bound, pair_of, places_of, requires, serves}
+use Rattle.metis_universe.specs.Tidy.{provider, target}
 use Rattle.metis_completion.proofs.ResidualRows.{required_before, residual_after_all}
 use Rattle.metis_rollout.proofs.Going.{going_from_steady}
 use Rattle.metis_rollout.proofs.Quiet.{find_some, has-keys, keys-has}
 use Rattle.metis_rollout.proofs.Together.{fresh_renamed, touches_own}
 use Rattle.metis_rollout.proofs.Touching.{At, bound_touched, pair_touched}
-use Rattle.metis_rollout.specs.Removal.{IsWithout}
-use Rattle.metis_rollout.specs.Rollout.{all_but, fresh_name, is_idle, members, renumbered}
-use Rattle.metis_rollout.specs.Standing.{is_made}
-use Rattle.metis_wishes.specs.Wishes.{avoided, rebound}
+use Rattle.metis_rollout.specs.Terms.{IsWithout, all_but, fresh_name, is_idle, is_made, members, renumbered}
+use Rattle.metis_wishes.specs.Terms.{avoided, rebound}
 use Rattle.metis_wishes.specs.declared.wish.Wish.{Wish}
-use Rattle.metis_reconfigure.specs.Kept.{IsAnswered, at_border, at_end, is_kept}
-use Rattle.metis_reconfigure.specs.Missing.{serving_among, targets}
-use Rattle.metis_reconfigure.specs.Reached.{Edge, IsReached, has_edge, next, start}
-use Rattle.metis_reconfigure.specs.Reconfiguration.{Reconfiguration, left_by}
-use Rattle.metis_reconfigure.specs.Settled.{given, left_to_plan, settled, stands_on}
-use Rattle.metis_reconfigure.specs.Staying.{StayFor, StaysToo, fresh_in, holds_up, next_serving, those_in, wished}
-use Rattle.metis_reconfigure.specs.Tidied.{IsTaken, IsTidied, target_instances}
+use Rattle.metis_reconfigure.specs.Terms.{Edge, IsAnswered, IsReached, IsTaken, IsTidied, Reconfiguration, StayFor, StaysToo, at_border, at_end, fresh_in, given, has_edge, holds_up, is_kept, left_by, left_to_plan, next, next_serving, serving_among, settled, stands_on, start, target_instances, targets, those_in, wished}
 use Rattle.metis_reconfigure.proofs.Given.{edge_from, edge_to, follows, leaves_inside}
 use Rattle.metis_reconfigure.proofs.Joined.{beside, c_config, d_pair, name_unused, new_bound, not_there, old_bound, same_pair, target_stands}
 use Rattle.metis_reconfigure.proofs.Keeping.{all_closed, fresh_stays, kept_made, stand_in_the_end, wished_stays, without}

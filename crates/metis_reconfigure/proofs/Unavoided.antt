@@ -12,27 +12,17 @@ use Rattle.metis_choice.proofs.Resolving.{attained_where_none}
 use Rattle.metis_completion.proofs.Attaining.{layer_still, provider_still}
 use Rattle.metis_ids.proofs.Lists.{has-filter, some_member}
 use Rattle.metis_layers.proofs.LayerFacts.{layer_by, layer_pair, provider_by}
-use Rattle.metis_layers.specs.LayerOrder.{attained_pairs}
+use Rattle.metis_layers.specs.Terms.{attained_pairs}
 use Rattle.metis_universe.proofs.Attained.{Closed-layers}
 use Rattle.metis_universe.proofs.Demands.{demand_none, one_provider}
 use Rattle.metis_universe.proofs.Inside.{IsInside-after_all, IsInside-empty}
 use Rattle.metis_universe.proofs.Kept.{IsConfig-empty}
 use Rattle.metis_universe.proofs.Places.{Correct-empty}
-use Rattle.metis_universe.specs.Config.{Config, Correct, empty, pair_of}
-use Rattle.metis_universe.specs.Goals.{AttainsGoals, lacks}
-use Rattle.metis_universe.specs.Layers.{is_provided, layer_of}
-use Rattle.metis_universe.specs.Residual.{residual}
-use Rattle.metis_universe.specs.Selection.{provider_of}
-use Rattle.metis_universe.specs.Step.{IsRun, after, after_all}
-use Rattle.metis_universe.specs.Universe.{IsUniverse, Universe, all_pairs, demand_of, has, pair_count, port_count, provides, requires}
-use Rattle.metis_wishes.specs.Wishes.{avoided, is_avoided}
+use Rattle.metis_universe.specs.Terms.{AttainsGoals, Config, Correct, IsRun, IsUniverse, Universe, after, after_all, all_pairs, demand_of, empty, has, is_provided, lacks, layer_of, pair_count, pair_of, places_of, port_count, provider_of, provides, requires, residual}
+use Rattle.metis_wishes.specs.Terms.{avoided, is_avoided}
 use Rattle.metis_wishes.specs.declared.wish.Wish.{Wish}
-use Rattle.metis_reconfigure.specs.Answerable.{AreMet, is_unavoidable}
-use Rattle.metis_reconfigure.specs.Missing.{lack, lacking, missing, missing_behind, pair_for, providers_short, rebound_in, serving_among, short, wanted, wants}
-use Rattle.metis_reconfigure.specs.Reconfiguration.{left_by}
-use Rattle.metis_reconfigure.specs.Settled.{given, left_to_plan, settled}
+use Rattle.metis_reconfigure.specs.Terms.{AreMet, given, is_unavoidable, lack, lacking, left_by, left_to_plan, missing, missing_behind, pair_for, providers_short, rebound_in, serving_among, settled, short, wanted, wants}
 use Rattle.metis_reconfigure.proofs.Lists.{by_case}
-use Rattle.metis_universe.specs.Goals.{places_of}
 
 -- ---- over the whole universe
 

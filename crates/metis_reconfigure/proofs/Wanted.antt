@@ -10,16 +10,10 @@ use Rattle.metis_ids.specs.declared.goals.Goal.TheVariants.{Pair, Port}
 use Rattle.metis_completion.proofs.ResidualRows.{residual_provides}
 use Rattle.metis_layers.proofs.LayerFacts.{found}
 use Rattle.metis_universe.proofs.Served.{count-cons, same_is}
-use Rattle.metis_universe.specs.Config.{Config}
-use Rattle.metis_universe.specs.Goals.{places_of, same_goal, serves}
-use Rattle.metis_universe.specs.Layers.{layered}
-use Rattle.metis_universe.specs.Selection.{provider_of}
-use Rattle.metis_universe.specs.Universe.{Universe, has, port_count, provides}
-use Rattle.metis_wishes.specs.Wishes.{avoided}
+use Rattle.metis_universe.specs.Terms.{Config, Universe, has, layered, places_of, port_count, provider_of, provides, same_goal, serves}
+use Rattle.metis_wishes.specs.Terms.{avoided}
 use Rattle.metis_wishes.specs.declared.wish.Wish.{Wish}
-use Rattle.metis_reconfigure.specs.Answerable.{is_unavoidable}
-use Rattle.metis_reconfigure.specs.Missing.{missing, missing_behind, pair_for, providers_short, rebound_in, serving_among, targets, targets_behind}
-use Rattle.metis_reconfigure.specs.Settled.{given, left_to_plan, settled}
+use Rattle.metis_reconfigure.specs.Terms.{given, is_unavoidable, left_to_plan, missing, missing_behind, pair_for, providers_short, rebound_in, serving_among, settled, targets, targets_behind}
 use Rattle.metis_reconfigure.proofs.Lists.{count-append, count-push}
 
 -- ---- how often a goal is missing

@@ -10,16 +10,11 @@ use Rattle.metis_config.proofs.Leasts.{each_there}
 use Rattle.metis_ids.proofs.Lists.{has-append}
 use Rattle.metis_ids.specs.declared.goals.Goal.{Goal}
 use Rattle.metis_rollout.proofs.Quiet.{has-keys, keys-has}
-use Rattle.metis_rollout.specs.Rollout.{members}
-use Rattle.metis_universe.specs.Config.{Config, IsConfig, pair_of}
-use Rattle.metis_universe.specs.Goals.{places_of, serves}
-use Rattle.metis_universe.specs.Universe.{Universe, has}
-use Rattle.metis_wishes.specs.Wishes.{keeps_all, kept, rebound}
+use Rattle.metis_rollout.specs.Terms.{members}
+use Rattle.metis_universe.specs.Terms.{Config, IsConfig, Universe, has, pair_of, places_of, serves}
+use Rattle.metis_wishes.specs.Terms.{keeps_all, kept, rebound}
 use Rattle.metis_wishes.specs.declared.wish.Wish.{Wish}
-use Rattle.metis_reconfigure.specs.Missing.{serving_among}
-use Rattle.metis_reconfigure.specs.Reached.{AreReached, Edge, IsClosed, has_edge}
-use Rattle.metis_reconfigure.specs.Settled.{settled}
-use Rattle.metis_reconfigure.specs.Staying.{AreStaying, StayBegun, StayFor, StaysForOne, StaysToo, fresh_in, holds_up, next_serving, those_in, wished}
+use Rattle.metis_reconfigure.specs.Terms.{AreReached, AreStaying, Edge, IsClosed, StayBegun, StayFor, StaysForOne, StaysToo, fresh_in, has_edge, holds_up, next_serving, serving_among, settled, those_in, wished}
 use Rattle.metis_reconfigure.proofs.Roots.{are_reached_same}
 
 -- ---- edges that lead from and to the same instances

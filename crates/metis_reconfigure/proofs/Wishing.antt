@@ -6,7 +6,7 @@ use Rattle.std.specs.Ordering.{nat_cmp}
 use Rattle.std.proofs.lemmas.List.{take_more}
 use Rattle.std.proofs.lemmas.List.Elements.{filter_map-append}
 use Rattle.std.proofs.lemmas.List.Folds.{list_any-append}
-use Rattle.metis_universe.specs.Universe.{has}
+use Rattle.metis_universe.specs.Terms.{has}
 use Rattle.metis_universe.proofs.Ascending.{has-insert_key}
 
 named_more : {A : Type 0} (f : A → Option ℕ) (ws : List A) (i : ℕ) (d : A) (z : ℕ) → i < length ws

@@ -8,16 +8,15 @@
 --     IsBar u wishes c goals bar      it is the first obstacle, or memory ran out
 use Rattle.std.specs.Prelude.{◌≡◌, ◌≤◌, ℕ, List, ◌++◌, None, length, ⊤}
 use Rattle.std.specs.List.{filter_map, range_with_len}
-use Rattle.metis_completion.specs.Given.{given_in}
-use Rattle.metis_ids.specs.Plans.{Plan}
+use Rattle.metis_completion.specs.Terms.{given_in}
+use Rattle.metis_ids.specs.Terms.{Plan}
 use Rattle.metis_ids.specs.declared.actions.Action.{Action}
 use Rattle.metis_ids.specs.declared.goals.Goal.{Goal}
-use Rattle.metis_layers.specs.Layers.{IsLayers, Layers}
-use Rattle.metis_planner.specs.PlanFor.{IsPlanFor}
-use Rattle.metis_rollout.specs.Rollout.{free_number, news_of}
-use Rattle.metis_universe.specs.Config.{Config}
-use Rattle.metis_universe.specs.Universe.{Universe, has, port_count}
-use Rattle.metis_wishes.specs.Wishes.{avoided, rebound}
+use Rattle.metis_layers.specs.Terms.{IsLayers, Layers}
+use Rattle.metis_planner.specs.Terms.{IsPlanFor}
+use Rattle.metis_rollout.specs.Terms.{free_number, news_of}
+use Rattle.metis_universe.specs.Terms.{Config, Universe, has, port_count}
+use Rattle.metis_wishes.specs.Terms.{avoided, rebound}
 use Rattle.metis_wishes.specs.declared.wish.Wish.{Wish}
 use Rattle.metis_reconfigure.specs.Answerable.{AreMet, IsAnswerable}
 use Rattle.metis_reconfigure.specs.Answers.{AreThere, AreWithin, IsObstacle, IsTold, firm_leaving}

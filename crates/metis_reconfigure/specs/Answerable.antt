@@ -10,12 +10,9 @@ use Rattle.std.specs.Option.{is_some}
 use Rattle.metis_ids.specs.declared.actions.Action.{Action}
 use Rattle.metis_ids.specs.declared.goals.Goal.{Goal}
 use Rattle.metis_ids.specs.declared.goals.Goal.TheVariants.{Pair, Port}
-use Rattle.metis_universe.specs.Config.{Config, pair_of}
-use Rattle.metis_universe.specs.Layers.{layer_of}
-use Rattle.metis_universe.specs.Selection.{provider_of}
-use Rattle.metis_universe.specs.Universe.{Universe, has, port_count}
+use Rattle.metis_universe.specs.Terms.{Config, Universe, has, layer_of, pair_of, port_count, provider_of}
 use Rattle.std.specs.List.{All, filter_map}
-use Rattle.metis_wishes.specs.Wishes.{is_avoided, kept, named, rebound}
+use Rattle.metis_wishes.specs.Terms.{is_avoided, kept, named, rebound}
 use Rattle.metis_wishes.specs.declared.wish.Wish.{Wish}
 use Rattle.metis_reconfigure.specs.Missing.{missing, pair_for, providers_short, rebound_in, short, targets}
 use Rattle.metis_reconfigure.specs.Reconfiguration.{left_by}

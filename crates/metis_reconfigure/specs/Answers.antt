@@ -10,10 +10,8 @@ use Rattle.std.specs.Prelude.{◌≡◌, ◌<◌, ◌≤◌, ℕ, ◌-◌, ◌^�
 use Rattle.std.specs.List.{All, Contains, filter_map, find, range_with_len}
 use Rattle.metis_ids.specs.declared.actions.Action.{Action}
 use Rattle.metis_ids.specs.declared.goals.Goal.{Goal}
-use Rattle.metis_universe.specs.Config.{Config}
-use Rattle.metis_universe.specs.Numbers.{IsOf}
-use Rattle.metis_universe.specs.Universe.{Universe, has, port_count}
-use Rattle.metis_wishes.specs.Wishes.{named, rebound}
+use Rattle.metis_universe.specs.Terms.{Config, IsOf, Universe, has, port_count}
+use Rattle.metis_wishes.specs.Terms.{named, rebound}
 use Rattle.metis_wishes.specs.declared.wish.Wish.{Wish}
 use Rattle.metis_reconfigure.specs.Answerable.{AreMet, IsAnswerable, is_absent, is_firm, is_unavoidable}
 use Rattle.metis_reconfigure.specs.Missing.{missing, pair_for, rebound_in, targets}

@@ -12,13 +12,10 @@ use Rattle.std.specs.List.{list_any}
 use Rattle.metis_ids.specs.declared.actions.Action.{Action}
 use Rattle.metis_ids.specs.declared.actions.Action.TheVariants.{New, Delete, Bind, Unbind, Move}
 use Rattle.metis_ids.specs.declared.goals.Goal.{Goal}
-use Rattle.metis_universe.specs.Config.{Config, is_bound, pair_of}
-use Rattle.metis_universe.specs.Steadfast.{IsSteadfastRun}
-use Rattle.metis_universe.specs.Universe.{Universe, has, provides}
-use Rattle.metis_completion.specs.Completed.{takes_given}
-use Rattle.metis_rollout.specs.Rollout.{all_but, fresh_name, is_idle, members, removal, renumbered, scaffold_name}
-use Rattle.metis_rollout.specs.Standing.{is_made}
-use Rattle.metis_wishes.specs.Wishes.{is_avoided, rebound}
+use Rattle.metis_universe.specs.Terms.{Config, IsSteadfastRun, Universe, has, is_bound, pair_of, provides}
+use Rattle.metis_completion.specs.Terms.{takes_given}
+use Rattle.metis_rollout.specs.Terms.{all_but, fresh_name, is_idle, is_made, members, removal, renumbered, scaffold_name}
+use Rattle.metis_wishes.specs.Terms.{is_avoided, rebound}
 use Rattle.metis_wishes.specs.declared.wish.Wish.{Wish}
 use Rattle.metis_reconfigure.specs.Answerable.{IsAnswerable}
 use Rattle.metis_reconfigure.specs.Missing.{targets}

@@ -11,3 +11,4 @@ pub mod Settled
 pub mod Staying
 pub mod Targeted
 pub mod Tidied
+pub mod Terms

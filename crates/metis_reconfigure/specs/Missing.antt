@@ -13,12 +13,9 @@ use Rattle.std.specs.List.{count_by, filter, filter_map, range_with_len}
 use Rattle.std.specs.Option.{option_map_or}
 use Rattle.metis_ids.specs.declared.goals.Goal.{Goal}
 use Rattle.metis_ids.specs.declared.goals.Goal.TheVariants.{Pair, Port}
-use Rattle.metis_universe.specs.Config.{Config, is_bound, pair_of}
-use Rattle.metis_universe.specs.Goals.{places_of, serves}
-use Rattle.metis_universe.specs.Selection.{provider_of}
-use Rattle.metis_universe.specs.Universe.{Universe, demand_of, has, port_count, provides}
-use Rattle.metis_rollout.specs.Rollout.{members}
-use Rattle.metis_wishes.specs.Wishes.{rebound}
+use Rattle.metis_universe.specs.Terms.{Config, Universe, demand_of, has, is_bound, pair_of, places_of, port_count, provider_of, provides, serves}
+use Rattle.metis_rollout.specs.Terms.{members}
+use Rattle.metis_wishes.specs.Terms.{rebound}
 use Rattle.metis_wishes.specs.declared.wish.Wish.{Wish}
 use Rattle.metis_reconfigure.specs.Settled.{given, left_to_plan, settled}
 

@@ -3,12 +3,10 @@
 --     LeanRightly u wishes c leaving d      each binding of a new instance leads to a settled one, or to a new one that is in no avoided pair
 --     NewOnesAct u wishes c leaving d actions      from d on new instances alone act, and at each moment their bindings lead so
 use Rattle.std.specs.Prelude.{◌≡◌, ◌⊎◌, ℕ, List, [], ◌∷◌, None, IsFalse, IsSomeAnd, IsTrue, ⊤}
-use Rattle.metis_ids.specs.Action.{actor_of}
+use Rattle.metis_ids.specs.Terms.{actor_of}
 use Rattle.metis_ids.specs.declared.actions.Action.{Action}
-use Rattle.metis_universe.specs.Config.{Config, is_bound, pair_of}
-use Rattle.metis_universe.specs.Step.{after}
-use Rattle.metis_universe.specs.Universe.{Universe, has}
-use Rattle.metis_wishes.specs.Wishes.{is_avoided}
+use Rattle.metis_universe.specs.Terms.{Config, Universe, after, has, is_bound, pair_of}
+use Rattle.metis_wishes.specs.Terms.{is_avoided}
 use Rattle.metis_wishes.specs.declared.wish.Wish.{Wish}
 use Rattle.metis_reconfigure.specs.Settled.{settled}
 

@@ -8,8 +8,7 @@ use Rattle.std.specs.List.{filter, range_with_len, slice_index_or}
 use Rattle.std.specs.Option.{option_map_or}
 use Rattle.metis_ids.specs.declared.actions.Action.{Action}
 use Rattle.metis_ids.specs.declared.actions.Action.TheVariants.{Bind}
-use Rattle.metis_universe.specs.Config.{Config, is_bound, pair_of}
-use Rattle.metis_universe.specs.Universe.{Universe, provides, required_of}
+use Rattle.metis_universe.specs.Terms.{Config, Universe, is_bound, pair_of, provides, required_of}
 use Rattle.metis_wishes.specs.declared.wish.Wish.{Wish}
 use Rattle.metis_reconfigure.specs.Missing.{lack, rebound_in}
 use Rattle.metis_reconfigure.specs.Settled.{given}

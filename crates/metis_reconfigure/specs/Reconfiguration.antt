@@ -6,15 +6,13 @@
 --     Reconfiguration u wishes old goals      what leaves, the plan for the targets, and what stays
 --     reconfigured r      the whole list
 use Rattle.std.specs.Prelude.{ℕ, List, ◌++◌}
-use Rattle.metis_ids.specs.Plans.{Plan}
+use Rattle.metis_ids.specs.Terms.{Plan}
 use Rattle.metis_ids.specs.declared.actions.Action.{Action}
 use Rattle.metis_ids.specs.declared.goals.Goal.{Goal}
-use Rattle.metis_universe.specs.Config.{Config, empty}
-use Rattle.metis_universe.specs.Step.{after_all}
-use Rattle.metis_universe.specs.Universe.{Universe}
-use Rattle.metis_completion.specs.Completed.{completed}
-use Rattle.metis_planner.specs.PlanFor.{IsPlanFor}
-use Rattle.metis_rollout.specs.Rollout.{all_but, fresh_name, removal, renumbered, scaffold_name}
+use Rattle.metis_universe.specs.Terms.{Config, Universe, after_all, empty}
+use Rattle.metis_completion.specs.Terms.{completed}
+use Rattle.metis_planner.specs.Terms.{IsPlanFor}
+use Rattle.metis_rollout.specs.Terms.{all_but, fresh_name, removal, renumbered, scaffold_name}
 use Rattle.metis_wishes.specs.declared.wish.Wish.{Wish}
 use Rattle.metis_reconfigure.specs.Missing.{targets}
 use Rattle.metis_reconfigure.specs.Rebinding.{rebinds}

@@ -9,11 +9,9 @@
 use Rattle.std.specs.Prelude.{ℕ, Bool, false, ◌&&◌, ◌||◌, not, List, length, map}
 use Rattle.std.specs.List.{filter}
 use Rattle.std.specs.Option.{option_map_or}
-use Rattle.metis_universe.specs.Config.{Config, pair_of}
-use Rattle.metis_universe.specs.Residual.{residual}
-use Rattle.metis_universe.specs.Universe.{Universe, has, provides}
-use Rattle.metis_rollout.specs.Rollout.{is_idle, members}
-use Rattle.metis_wishes.specs.Wishes.{avoided, is_avoided, rebound, retired}
+use Rattle.metis_universe.specs.Terms.{Config, Universe, has, pair_of, provides, residual}
+use Rattle.metis_rollout.specs.Terms.{is_idle, members}
+use Rattle.metis_wishes.specs.Terms.{avoided, is_avoided, rebound, retired}
 use Rattle.metis_wishes.specs.declared.wish.Wish.{Wish}
 use Rattle.metis_reconfigure.specs.Reached.{AreReached, Edge}
 

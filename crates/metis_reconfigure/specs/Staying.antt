@@ -10,11 +10,9 @@ use Rattle.std.specs.Prelude.{◌≡◌, ℕ, nat_le, false, ◌&&◌, not, List
 use Rattle.std.specs.List.{filter, find}
 use Rattle.std.specs.Option.{option_map_or}
 use Rattle.metis_ids.specs.declared.goals.Goal.{Goal}
-use Rattle.metis_universe.specs.Config.{Config, pair_of}
-use Rattle.metis_universe.specs.Goals.{places_of, serves}
-use Rattle.metis_universe.specs.Universe.{Universe, has}
-use Rattle.metis_rollout.specs.Rollout.{is_idle, members}
-use Rattle.metis_wishes.specs.Wishes.{keeps_all, kept, rebound}
+use Rattle.metis_universe.specs.Terms.{Config, Universe, has, pair_of, places_of, serves}
+use Rattle.metis_rollout.specs.Terms.{is_idle, members}
+use Rattle.metis_wishes.specs.Terms.{keeps_all, kept, rebound}
 use Rattle.metis_wishes.specs.declared.wish.Wish.{Wish}
 use Rattle.metis_reconfigure.specs.Missing.{serving_among}
 use Rattle.metis_reconfigure.specs.Reached.{AreReached, Edge}

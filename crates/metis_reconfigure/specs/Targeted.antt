@@ -11,16 +11,14 @@
 use Rattle.std.specs.Prelude.{◌≡◌, ◌<◌, ℕ, ◌-◌, nat_lt, Bool, ◌||◌, not, List, Option, Some, None, IsTrue, Result, Ok, Err, fold, length, map, max, ⊤}
 use Rattle.std.specs.List.{count_by, filter, find, range_with_len}
 use Rattle.std.specs.Option.{is_some}
-use Rattle.metis_completion.specs.Given.{given_in}
-use Rattle.metis_config.specs.Unmet.{demanded, is_required}
+use Rattle.metis_completion.specs.Terms.{given_in}
+use Rattle.metis_config.specs.Terms.{demanded, is_required}
 use Rattle.metis_ids.specs.declared.goals.Goal.{Goal}
 use Rattle.metis_ids.specs.declared.goals.Goal.TheVariants.{Pair, Port}
 use Rattle.metis_ids.specs.declared.no_memory.NoMemory.{NoMemory}
-use Rattle.metis_layers.specs.Layers.{IsLayers, Layers, first_at, layer_at}
-use Rattle.metis_universe.specs.Config.{Config, is_bound}
-use Rattle.metis_universe.specs.Selection.{provider_of}
-use Rattle.metis_universe.specs.Universe.{Universe, has, pair_count, port_count, provides}
-use Rattle.metis_wishes.specs.Wishes.{is_avoided}
+use Rattle.metis_layers.specs.Terms.{IsLayers, Layers, first_at, layer_at}
+use Rattle.metis_universe.specs.Terms.{Config, Universe, has, is_bound, pair_count, port_count, provider_of, provides}
+use Rattle.metis_wishes.specs.Terms.{is_avoided}
 use Rattle.metis_wishes.specs.declared.wish.Wish.{Wish}
 use Rattle.metis_reconfigure.specs.Answerable.{AreMet}
 use Rattle.metis_reconfigure.specs.Missing.{lack, short, targets_behind, wants}

@@ -6,10 +6,8 @@ use Rattle.std.specs.Prelude.{ℕ, List, ◌++◌, length, map, IsSome, IsSomeAn
 use Rattle.std.specs.List.{Contains, range_with_len}
 use Rattle.metis_ids.specs.declared.actions.Action.{Action}
 use Rattle.metis_ids.specs.declared.goals.Goal.{Goal}
-use Rattle.metis_universe.specs.Config.{Config, is_bound, pair_of}
-use Rattle.metis_universe.specs.Goals.{serves}
-use Rattle.metis_universe.specs.Universe.{Universe, has, requires}
-use Rattle.metis_rollout.specs.Rollout.{fresh_name}
+use Rattle.metis_universe.specs.Terms.{Config, Universe, has, is_bound, pair_of, requires, serves}
+use Rattle.metis_rollout.specs.Terms.{fresh_name}
 use Rattle.metis_wishes.specs.declared.wish.Wish.{Wish}
 use Rattle.metis_reconfigure.specs.Missing.{targets}
 use Rattle.metis_reconfigure.specs.Reached.{IsReached}

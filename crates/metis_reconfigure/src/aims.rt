@@ -1,10 +1,10 @@
 //! What stands in the way, and else what is to be planned for.
 ghost use Rattle.std.specs.Prelude.{◌<◌, ◌^◌, List, IfErr, IfOk, length};
 ghost use Rattle.std.specs.List.{All};
-ghost use Rattle.metis_config.specs.Over.{IsOver};
+ghost use Rattle.metis_config.specs.Terms.{IsOver};
 ghost use Rattle.metis_ids.specs.declared.goals.Goal.{Goal};
-ghost use Rattle.metis_universe.specs.Goals.{IsGoalOf};
-ghost use Rattle.metis_reconfigure.specs.Aims.{AreAimsOf, IsBar, IsGroundOf};
+ghost use Rattle.metis_universe.specs.Terms.{IsGoalOf};
+ghost use Rattle.metis_reconfigure.specs.Terms.{AreAimsOf, IsBar, IsGroundOf};
 
 use crate::answer::{Bar, Obstacle};
 use crate::avoiding::{avoided_of, unavoidable};

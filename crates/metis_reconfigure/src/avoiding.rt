@@ -1,11 +1,9 @@
 //! What new instances may not be in or cannot come to.
 ghost use Rattle.std.specs.Prelude.{◌≡◌, ◌<◌, ℕ, IfOk};
 ghost use Rattle.std.specs.List.{All, find};
-ghost use Rattle.metis_universe.specs.Goals.{IsGoalOf};
-ghost use Rattle.metis_universe.specs.Universe.{Universe, pair_count};
-ghost use Rattle.metis_wishes.specs.Wishes.{avoided, avoids, is_avoided};
-ghost use Rattle.metis_reconfigure.specs.Answerable.{is_unavoidable};
-ghost use Rattle.metis_reconfigure.specs.Targeted.{IsLeft, is_unavoidable_by};
+ghost use Rattle.metis_universe.specs.Terms.{IsGoalOf, Universe, pair_count};
+ghost use Rattle.metis_wishes.specs.Terms.{avoided, avoids, is_avoided};
+ghost use Rattle.metis_reconfigure.specs.Terms.{IsLeft, is_unavoidable, is_unavoidable_by};
 
 use metis_ids::{Goal, NoMemory, PairIx, PairSet};
 use metis_layers::table::Layers;

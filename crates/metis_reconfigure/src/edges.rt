@@ -1,11 +1,9 @@
 //! Which instance stands on which, as edges.
 ghost use Rattle.std.specs.Prelude.{◌≡◌, ◌&&◌, ℕ, IfOk, not};
-ghost use Rattle.metis_config.specs.Over.{IsOver};
-ghost use Rattle.metis_rollout.specs.Rollout.{is_idle};
-ghost use Rattle.metis_universe.specs.Universe.{has};
-ghost use Rattle.metis_reconfigure.specs.Reached.{has_edge};
-ghost use Rattle.metis_reconfigure.specs.Settled.{dependents, leads_up};
-ghost use Rattle.metis_reconfigure.specs.Staying.{holds_up};
+ghost use Rattle.metis_config.specs.Terms.{IsOver};
+ghost use Rattle.metis_rollout.specs.Terms.{is_idle};
+ghost use Rattle.metis_universe.specs.Terms.{has};
+ghost use Rattle.metis_reconfigure.specs.Terms.{dependents, has_edge, holds_up, leads_up};
 
 use crate::reach::{Edge, holds};
 use metis_config::Config;

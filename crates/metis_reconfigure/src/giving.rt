@@ -1,13 +1,12 @@
 //! What is given to fresh instances, and the universe that is left to plan over.
 ghost use Rattle.std.specs.Prelude.{◌≡◌, ◌<◌, ◌++◌, ◌∷◌, ◌^◌, ℕ, List, [], IfOk, OnOk, length, if◌then◌else◌};
 ghost use Rattle.std.specs.List.{slice_index_or};
-ghost use Rattle.metis_completion.specs.Given.{given_in};
-ghost use Rattle.metis_config.specs.Over.{IsOver};
-ghost use Rattle.metis_universe.specs.Config.{Config};
-ghost use Rattle.metis_universe.specs.Universe.{port_count};
-ghost use Rattle.metis_wishes.specs.Wishes.{avoided};
+ghost use Rattle.metis_completion.specs.Terms.{given_in};
+ghost use Rattle.metis_config.specs.Terms.{IsOver};
+ghost use Rattle.metis_universe.specs.Terms.{Config, port_count};
+ghost use Rattle.metis_wishes.specs.Terms.{avoided};
 ghost use Rattle.metis_wishes.specs.declared.wish.Wish.{Wish};
-ghost use Rattle.metis_reconfigure.specs.Settled.{given, gives, left_to_plan};
+ghost use Rattle.metis_reconfigure.specs.Terms.{given, gives, left_to_plan};
 
 use crate::reach::holds;
 use metis_completion::Given;

@@ -2,28 +2,16 @@
 ghost use Rattle.std.specs.Prelude.{◌≡◌, ◌⊎◌, ◌-◌, ◌^◌, ◌<◌, ◌≤◌, ◌++◌, false, ℕ, List, [], length, take, IsFalse, IsSome, IsTrue, None, Some};
 ghost use Rattle.std.specs.List.{All, filter_map, range_with_len};
 ghost use Rattle.std.specs.Option.{option_map_or};
-ghost use Rattle.metis_choice.specs.Resolutions.{ArePairsFor};
+ghost use Rattle.metis_choice.specs.Terms.{ArePairsFor};
 ghost use Rattle.metis_ids.specs.declared.actions.Action.{Action};
 ghost use Rattle.metis_ids.specs.declared.goals.Goal.{Goal};
-ghost use Rattle.metis_layers.specs.LayerOrder.{attained_pairs, instances_of};
-ghost use Rattle.metis_planner.specs.Outcomes.{IsLean};
-ghost use Rattle.metis_planner.specs.PlanFor.{IsPlanFor};
-ghost use Rattle.metis_universe.specs.Config.{Config, IsConfig, empty, is_bound, pair_of};
-ghost use Rattle.metis_universe.specs.Goals.{AttainsGoals, HoldsGoals, serves};
-ghost use Rattle.metis_universe.specs.Steadfast.{IsSteadfastRun};
-ghost use Rattle.metis_universe.specs.Step.{IsRun, after_all};
-ghost use Rattle.metis_universe.specs.Universe.{IsTable, Universe, IsUniverse, has, port_count, requires};
-ghost use Rattle.metis_universe.specs.Waits.{IsKept, picked};
-ghost use Rattle.metis_rollout.specs.Guarded.{HasEach, IsGuardedAt};
-ghost use Rattle.metis_rollout.specs.Rollout.{members, rollout};
-ghost use Rattle.metis_wishes.specs.Wishes.{avoided, is_avoided, kept, named, rebound};
+ghost use Rattle.metis_layers.specs.Terms.{attained_pairs, instances_of};
+ghost use Rattle.metis_planner.specs.Terms.{IsLean, IsPlanFor};
+ghost use Rattle.metis_universe.specs.Terms.{AttainsGoals, Config, HoldsGoals, IsConfig, IsKept, IsRun, IsSteadfastRun, IsTable, IsUniverse, Universe, after_all, empty, has, is_bound, pair_of, picked, port_count, requires, serves};
+ghost use Rattle.metis_rollout.specs.Terms.{HasEach, IsGuardedAt, members, rollout};
+ghost use Rattle.metis_wishes.specs.Terms.{avoided, is_avoided, kept, named, rebound};
 ghost use Rattle.metis_wishes.specs.declared.wish.Wish.{Wish};
-ghost use Rattle.metis_reconfigure.specs.Answerable.{AreMet, IsAnswerable, is_unavoidable};
-ghost use Rattle.metis_reconfigure.specs.Kept.{IsAnswered, at_end, rebinds_in};
-ghost use Rattle.metis_reconfigure.specs.Missing.{missing, pair_for, rebound_in, targets};
-ghost use Rattle.metis_reconfigure.specs.NewOnes.{IsNew, NewOnesAct};
-ghost use Rattle.metis_reconfigure.specs.Reconfiguration.{Reconfiguration, before_removal, fresh_actions, left_by, reconfigured};
-ghost use Rattle.metis_reconfigure.specs.Settled.{AreLeaving, is_root, left_to_plan};
+ghost use Rattle.metis_reconfigure.specs.Terms.{AreLeaving, AreMet, IsAnswerable, IsAnswered, IsNew, NewOnesAct, Reconfiguration, at_end, before_removal, fresh_actions, is_root, is_unavoidable, left_by, left_to_plan, missing, pair_for, rebinds_in, rebound_in, reconfigured, targets};
 
 /// In the end the goals are held. In a guarded order that keeps the waits, at each moment after the old actions any goals that their end
 /// holds are held, or these are.

@@ -4,23 +4,12 @@ ghost use Rattle.std.specs.List.{All};
 ghost use Rattle.metis_ids.specs.declared.actions.Action.{Action};
 ghost use Rattle.metis_ids.specs.declared.actions.Action.TheVariants.{Bind};
 ghost use Rattle.metis_ids.specs.declared.goals.Goal.{Goal};
-ghost use Rattle.metis_universe.specs.Config.{is_bound, pair_of};
-ghost use Rattle.metis_universe.specs.Goal.{Holds};
-ghost use Rattle.metis_universe.specs.Numbers.{IsOf};
-ghost use Rattle.metis_universe.specs.Steadfast.{IsSteadfastRun};
-ghost use Rattle.metis_universe.specs.Universe.{Universe, IsTable, IsUniverse, has};
-ghost use Rattle.metis_universe.specs.Waits.{IsKept, is_complete, picked};
-ghost use Rattle.metis_completion.specs.Completed.{AreGiven};
-ghost use Rattle.metis_rollout.specs.Guarded.{HasEach, IsBeside, IsGuardedAt, KeepsStanding, StandsIn};
-ghost use Rattle.metis_rollout.specs.Removal.{AreFree, IsWithout, MayGo};
-ghost use Rattle.metis_rollout.specs.Rollout.{all_but, is_idle, scaffold_name};
-ghost use Rattle.metis_wishes.specs.Wishes.{is_avoided, rebound};
+ghost use Rattle.metis_universe.specs.Terms.{Holds, IsKept, IsOf, IsSteadfastRun, IsTable, IsUniverse, Universe, has, is_bound, is_complete, pair_of, picked};
+ghost use Rattle.metis_completion.specs.Terms.{AreGiven};
+ghost use Rattle.metis_rollout.specs.Terms.{AreFree, HasEach, IsBeside, IsGuardedAt, IsWithout, KeepsStanding, MayGo, StandsIn, all_but, is_idle, scaffold_name};
+ghost use Rattle.metis_wishes.specs.Terms.{is_avoided, rebound};
 ghost use Rattle.metis_wishes.specs.declared.wish.Wish.{Wish};
-ghost use Rattle.metis_reconfigure.specs.Kept.{ActsBeside, GoesWell, IsAnswered, IsJoined, LeavesAlone, after_old, at_border, at_end, is_kept, rebinds_in};
-ghost use Rattle.metis_reconfigure.specs.Reconfiguration.{Reconfiguration, before_removal, fresh_actions, left_by, reconfigured};
-ghost use Rattle.metis_reconfigure.specs.Settled.{AreLeaving, given};
-ghost use Rattle.metis_reconfigure.specs.Staying.{fresh_in, wished};
-ghost use Rattle.metis_reconfigure.specs.Tidied.{IsTidied};
+ghost use Rattle.metis_reconfigure.specs.Terms.{ActsBeside, AreLeaving, GoesWell, IsAnswered, IsJoined, IsTidied, LeavesAlone, Reconfiguration, after_old, at_border, at_end, before_removal, fresh_actions, fresh_in, given, is_kept, left_by, rebinds_in, reconfigured, wished};
 
 /// The given instances of each port ascend, stand in pairs that provide it, do not leave, and are in no avoided pair.
 pub fn what_is_given_stands_and_is_settled()

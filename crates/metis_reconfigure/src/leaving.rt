@@ -2,17 +2,12 @@
 ghost use Rattle.std.specs.Prelude.{◌≡◌, ◌&&◌, ◌||◌, ◌∷◌, [], ℕ, List, IfOk, IsTrue, false};
 ghost use Rattle.std.specs.List.{find};
 ghost use Rattle.std.specs.Option.{option_map_or};
-ghost use Rattle.metis_config.specs.Over.{IsOver};
-ghost use Rattle.metis_rollout.specs.Rollout.{members};
-ghost use Rattle.metis_universe.specs.Config.{pair_of};
-ghost use Rattle.metis_universe.specs.Universe.{has};
-ghost use Rattle.metis_wishes.specs.Wishes.{avoided, instance_of, kept, rebound, subject_of};
+ghost use Rattle.metis_config.specs.Terms.{IsOver};
+ghost use Rattle.metis_rollout.specs.Terms.{members};
+ghost use Rattle.metis_universe.specs.Terms.{has, pair_of};
+ghost use Rattle.metis_wishes.specs.Terms.{avoided, instance_of, kept, rebound, subject_of};
 ghost use Rattle.metis_wishes.specs.declared.wish.Wish.{Wish};
-ghost use Rattle.metis_reconfigure.specs.Aims.{IsFound};
-ghost use Rattle.metis_reconfigure.specs.Answerable.{is_absent};
-ghost use Rattle.metis_reconfigure.specs.Answers.{IsLeastRoot, absent, firm_leaving, passing};
-ghost use Rattle.metis_reconfigure.specs.Reached.{AreReached};
-ghost use Rattle.metis_reconfigure.specs.Settled.{leads_up, roots};
+ghost use Rattle.metis_reconfigure.specs.Terms.{AreReached, IsFound, IsLeastRoot, absent, firm_leaving, is_absent, leads_up, passing, roots};
 
 use crate::edges::{dependents_of, leads_up_of};
 use crate::reach::{holds, reached};

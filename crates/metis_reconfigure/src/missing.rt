@@ -2,9 +2,8 @@
 ghost use Rattle.std.specs.Prelude.{◌≡◌, ◌&&◌, IfOk, not};
 ghost use Rattle.std.specs.List.{count_by};
 ghost use Rattle.metis_ids.specs.declared.goals.Goal.TheVariants.{Pair, Port};
-ghost use Rattle.metis_universe.specs.Goals.{places_of, same_goal, serves};
-ghost use Rattle.metis_universe.specs.Universe.{has};
-ghost use Rattle.metis_reconfigure.specs.Missing.{missing};
+ghost use Rattle.metis_universe.specs.Terms.{has, places_of, same_goal, serves};
+ghost use Rattle.metis_reconfigure.specs.Terms.{missing};
 
 use crate::reach::holds;
 use metis_config::Config;

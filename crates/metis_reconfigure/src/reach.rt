@@ -1,7 +1,7 @@
 //! What is reached along edges.
 ghost use Rattle.std.specs.Prelude.{◌≡◌, ◌++◌, ◌∷◌, ℕ, List, [], IfOk, MatchOption, OnOk};
-ghost use Rattle.metis_ids.specs.Lists.{has};
-ghost use Rattle.metis_reconfigure.specs.Reached.{AreReached, Edge, IsClosed, IsFollowed, IsUnderWay};
+ghost use Rattle.metis_ids.specs.Terms.{has};
+ghost use Rattle.metis_reconfigure.specs.Terms.{AreReached, Edge, IsClosed, IsFollowed, IsUnderWay};
 
 use metis_config::first_to;
 use metis_ids::{InstNo, NoMemory, PortIx};

@@ -1,14 +1,12 @@
 //! Instances that are bound to other providers.
 ghost use Rattle.std.specs.Prelude.{◌≡◌, ◌==◌, ◌≤◌, ◌++◌, ◌&&◌, ℕ, List, IfOk, OnOk, flat_map, length, map, not, take};
 ghost use Rattle.std.specs.List.{filter};
-ghost use Rattle.metis_completion.specs.Given.{given_in};
-ghost use Rattle.metis_config.specs.Over.{IsOver};
+ghost use Rattle.metis_completion.specs.Terms.{given_in};
+ghost use Rattle.metis_config.specs.Terms.{IsOver};
 ghost use Rattle.metis_ids.specs.declared.actions.Action.TheVariants.{Bind};
-ghost use Rattle.metis_rollout.specs.Rollout.{members, named};
-ghost use Rattle.metis_universe.specs.Config.{is_bound};
-ghost use Rattle.metis_universe.specs.Universe.{has};
-ghost use Rattle.metis_reconfigure.specs.Rebinding.{candidates, named_targets, rebinds_of};
-ghost use Rattle.metis_reconfigure.specs.Settled.{given};
+ghost use Rattle.metis_rollout.specs.Terms.{members, named};
+ghost use Rattle.metis_universe.specs.Terms.{has, is_bound};
+ghost use Rattle.metis_reconfigure.specs.Terms.{candidates, given, named_targets, rebinds_of};
 
 use crate::reach::holds;
 use crate::targets::lack_of;

@@ -2,17 +2,12 @@
 ghost use Rattle.std.specs.Prelude.{◌≡◌, ◌+◌, ◌-◌, ◌<◌, ◌≤◌, ◌^◌, ℕ, List, IfErr, IfOk, IsTrue, length};
 ghost use Rattle.std.specs.List.{All};
 ghost use Rattle.metis_ids.specs.declared.goals.Goal.{Goal};
-ghost use Rattle.metis_layers.specs.Layers.{IsLayers};
-ghost use Rattle.metis_config.specs.Over.{IsOver};
-ghost use Rattle.metis_rollout.specs.Rollout.{free_number, fresh_name, named, news_of, renumbered};
-ghost use Rattle.metis_universe.specs.Goals.{IsGoalOf};
-ghost use Rattle.metis_universe.specs.Numbers.{IsOf};
-ghost use Rattle.metis_universe.specs.Steadfast.{IsSteadfastRun};
-ghost use Rattle.metis_universe.specs.Universe.{Universe, has};
+ghost use Rattle.metis_layers.specs.Terms.{IsLayers};
+ghost use Rattle.metis_config.specs.Terms.{IsOver};
+ghost use Rattle.metis_rollout.specs.Terms.{free_number, fresh_name, named, news_of, renumbered};
+ghost use Rattle.metis_universe.specs.Terms.{IsGoalOf, IsOf, IsSteadfastRun, Universe, has};
 ghost use Rattle.metis_wishes.specs.declared.wish.Wish.{Wish};
-ghost use Rattle.metis_reconfigure.specs.Aims.{AreAimsOf, IsBar, IsGroundOf, IsList, IsMadeBeside};
-ghost use Rattle.metis_reconfigure.specs.Answers.{IsReconfigured, IsTold};
-ghost use Rattle.metis_reconfigure.specs.Reconfiguration.{left_by};
+ghost use Rattle.metis_reconfigure.specs.Terms.{AreAimsOf, IsBar, IsGroundOf, IsList, IsMadeBeside, IsReconfigured, IsTold, left_by};
 
 use crate::aims::{Aims, Ground, aim, settle};
 use crate::answer::{Bar, Reconfigured};

@@ -1,13 +1,10 @@
 //! What stays.
 ghost use Rattle.std.specs.Prelude.{◌≡◌, ◌&&◌, ◌||◌, ◌++◌, ℕ, IfOk, OnOk, not};
 ghost use Rattle.std.specs.List.{count_by};
-ghost use Rattle.metis_config.specs.Over.{IsOver};
-ghost use Rattle.metis_universe.specs.Goals.{serves};
-ghost use Rattle.metis_universe.specs.Universe.{has};
-ghost use Rattle.metis_wishes.specs.Wishes.{is_keep_all, keeps_all};
-ghost use Rattle.metis_reconfigure.specs.Missing.{serving_among};
-ghost use Rattle.metis_reconfigure.specs.Settled.{settled};
-ghost use Rattle.metis_reconfigure.specs.Staying.{AreStaying, fresh_in, next_serving, those_in, wished};
+ghost use Rattle.metis_config.specs.Terms.{IsOver};
+ghost use Rattle.metis_universe.specs.Terms.{has, serves};
+ghost use Rattle.metis_wishes.specs.Terms.{is_keep_all, keeps_all};
+ghost use Rattle.metis_reconfigure.specs.Terms.{AreStaying, fresh_in, next_serving, serving_among, settled, those_in, wished};
 
 use crate::edges::holds_up_of;
 use crate::missing::places_of;

@@ -1,13 +1,9 @@
 //! What is to be planned for.
 ghost use Rattle.std.specs.Prelude.{◌≡◌, ◌<◌, ◌++◌, ◌||◌, ℕ, List, IfOk, OnOk, replicate, if◌then◌else◌};
 ghost use Rattle.std.specs.List.{All, count_by, filter_map, find, range_with_len};
-ghost use Rattle.metis_config.specs.Over.{IsOver};
-ghost use Rattle.metis_config.specs.Unmet.{demanded};
-ghost use Rattle.metis_universe.specs.Goals.{IsGoalOf};
-ghost use Rattle.metis_universe.specs.Universe.{Universe, has, pair_count, port_count, provides};
-ghost use Rattle.metis_reconfigure.specs.Answerable.{AreMet};
-ghost use Rattle.metis_reconfigure.specs.Missing.{lack, pair_for, targets_behind, wants};
-ghost use Rattle.metis_reconfigure.specs.Targeted.{AreTables, HasRequired, IfTargets, IfUnmet, IsGivenAt, IsUnmet, is_lacking, lack_by, pair_in, short_by, wanted_by};
+ghost use Rattle.metis_config.specs.Terms.{IsOver, demanded};
+ghost use Rattle.metis_universe.specs.Terms.{IsGoalOf, Universe, has, pair_count, port_count, provides};
+ghost use Rattle.metis_reconfigure.specs.Terms.{AreMet, AreTables, HasRequired, IfTargets, IfUnmet, IsGivenAt, IsUnmet, is_lacking, lack, lack_by, pair_for, pair_in, short_by, targets_behind, wanted_by, wants};
 
 use metis_completion::Given;
 use metis_config::Config;

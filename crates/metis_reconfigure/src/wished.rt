@@ -1,7 +1,7 @@
 //! The instances that wishes name, as sets.
 ghost use Rattle.std.specs.Prelude.{◌≡◌, ◌||◌, ℕ, IfOk, OnOk};
-ghost use Rattle.metis_universe.specs.Universe.{has};
-ghost use Rattle.metis_wishes.specs.Wishes.{kept, kept_of, rebound, rebound_of, retired, retired_of};
+ghost use Rattle.metis_universe.specs.Terms.{has};
+ghost use Rattle.metis_wishes.specs.Terms.{kept, kept_of, rebound, rebound_of, retired, retired_of};
 
 use metis_ids::{InstNo, NoMemory};
 use metis_wishes::Wish;

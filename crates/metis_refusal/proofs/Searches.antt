@@ -7,9 +7,8 @@ use Rattle.std.proofs.lemmas.List.Folds.{find-append}
 use Rattle.std.specs.List.{All, find, list_all, range_with_len}
 use Rattle.std.specs.Option.{option_and_then, option_or}
 use Rattle.std.specs.Prelude.{is_some, option_map}
-use Rattle.metis_universe.specs.Universe.{Universe}
-use Rattle.metis_refusal.specs.Claims.{first_way_out, has_way_out, way_out}
-use Rattle.metis_refusal.specs.Supplies.{flag}
+use Rattle.metis_universe.specs.Terms.{Universe}
+use Rattle.metis_refusal.specs.Terms.{first_way_out, flag, has_way_out, way_out}
 
 -- a number, and those after it
 pub find_range : (t : ℕ → Bool) (n e : ℕ) → n < e → find t (range_with_len n (e - n)) ≡ cond (t n) (Some n) (find t (range_with_len (n + 1) (e - (n + 1))))

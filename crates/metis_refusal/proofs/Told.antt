@@ -12,12 +12,10 @@ use Rattle.metis_ids.specs.declared.goals.Goal.{Goal}
 use Rattle.metis_ids.proofs.Finding.{not_found, none_passes}
 use Rattle.metis_ids.proofs.Lists.{all_at, any_at, each_has, has_range, some_member}
 use Rattle.metis_universe.proofs.Correctness.{all_from_has, all_has}
-use Rattle.metis_universe.specs.Universe.{Universe, IsUniverse, all_pairs, has, initial_of, is_free, is_initial, next_of, no_kind, no_pair, pair_count, provides, required_of, requires, type_of}
+use Rattle.metis_universe.specs.Terms.{IsGoalOf, IsUniverse, Universe, all_pairs, has, initial_of, is_free, is_initial, is_provided, is_supplied, lacks, next_of, no_kind, no_pair, pair_count, provides, required_of, requires, type_of}
 use Rattle.metis_universe.specs.Closed as closed
-use Rattle.metis_universe.specs.Goals.{IsGoalOf, lacks}
-use Rattle.metis_universe.specs.Layers.{is_provided, is_supplied}
 use Rattle.metis_universe.proofs.PortRows.{Rises, rises}
-use Rattle.metis_refusal.specs.Claims.{HasFree, HasGoals, IsLeastUnfree, IsLeastWayOut, NamesOf, IsWayOut, Tells, first_unfree, first_way_out, has_way_out, is_unfree, is_way, lacked, verdict, verdict_by, way_out}
+use Rattle.metis_refusal.specs.Terms.{HasFree, HasGoals, IsLeastUnfree, IsLeastWayOut, IsWayOut, NamesOf, Tells, first_unfree, first_way_out, has_way_out, is_unfree, is_way, lacked, verdict, verdict_by, way_out}
 use Rattle.metis_refusal.specs.declared.verdict.Verdict2.{Verdict2}
 use Rattle.metis_refusal.specs.declared.verdict.Verdict2.TheVariants.{Closed, NotFree, Open, LacksNone}
 

@@ -12,10 +12,8 @@ use Rattle.std.specs.Prelude.{◌≡◌, ◌<◌, ◌≤◌, ◌⊎◌, ℕ, Boo
 use Rattle.std.specs.List.{All, find}
 use Rattle.std.specs.Option.{option_and_then}
 use Rattle.metis_ids.specs.declared.goals.Goal.{Goal}
-use Rattle.metis_universe.specs.Universe.{Universe, all_pairs, has, is_free, next_of, pair_count, requires}
+use Rattle.metis_universe.specs.Terms.{GoalRefusal, IsGoalOf, Universe, all_pairs, has, is_free, is_supplied, lacks, next_of, pair_count, requires}
 use Rattle.metis_universe.specs.Closed as closed
-use Rattle.metis_universe.specs.Goals.{GoalRefusal, IsGoalOf, lacks}
-use Rattle.metis_universe.specs.Layers.{is_supplied}
 use Rattle.metis_refusal.specs.declared.verdict.Verdict2.{Verdict2}
 use Rattle.metis_refusal.specs.declared.verdict.Verdict2.TheVariants.{Closed, NotFree, Open, LacksNone}
 

@@ -2,10 +2,8 @@
 ghost use Rattle.std.specs.Prelude.{◌≡◌, ◌<◌, ◌↔◌, ◌&&◌, not};
 ghost use Rattle.std.specs.List.{All};
 ghost use Rattle.metis_ids.specs.declared.goals.Goal.{Goal};
-ghost use Rattle.metis_universe.specs.Goals.{AttainsGoals, GoalRefusal, IsGoalOf, lacks};
-ghost use Rattle.metis_universe.specs.Universe.{has, pair_count};
-ghost use Rattle.metis_refusal.specs.Claims.{NamesOf, Tells, is_unfree, first_unfree, first_way_out, lacked, verdict, way_out};
-ghost use Rattle.metis_refusal.specs.Supplies.{AreProvided, AreSupplied, flag};
+ghost use Rattle.metis_universe.specs.Terms.{AttainsGoals, GoalRefusal, IsGoalOf, has, lacks, pair_count};
+ghost use Rattle.metis_refusal.specs.Terms.{AreProvided, AreSupplied, NamesOf, Tells, first_unfree, first_way_out, flag, is_unfree, lacked, verdict, way_out};
 
 use crate::Verdict2;
 use crate::supply::{PAIR_LIMIT, PORT_LIMIT, provided_by, supplied_by};

@@ -1,8 +1,8 @@
 //! Which ports the pairs of a set provide, and which pairs need no others.
 ghost use Rattle.std.specs.Prelude.{◌≡◌, ◌<◌, ◌||◌, ℕ, List};
 ghost use Rattle.std.specs.List.{All, list_all};
-ghost use Rattle.metis_universe.specs.Universe.{has, pair_count};
-ghost use Rattle.metis_refusal.specs.Supplies.{flag, AreProvided, AreSupplied};
+ghost use Rattle.metis_universe.specs.Terms.{has, pair_count};
+ghost use Rattle.metis_refusal.specs.Terms.{AreProvided, AreSupplied, flag};
 
 use metis_ids::{PairIx, PairSet, PortIx};
 use metis_universe::Universe;

@@ -5,16 +5,12 @@ use Rattle.std.specs.List.{AllByRecursion}
 use Rattle.std.specs.Prelude.{◌⊎◌}
 use Rattle.metis_ids.specs.declared.actions.Action.{Action}
 use Rattle.metis_universe.proofs.Kept.{IsConfig-after}
-use Rattle.metis_universe.specs.Config.{Config, Correct, IsConfig}
-use Rattle.metis_universe.specs.Numbers.{IsOf}
-use Rattle.metis_universe.specs.Step.{IsRun, after, after_all}
-use Rattle.metis_universe.specs.Universe.{Universe, IsUniverse}
+use Rattle.metis_universe.specs.Terms.{Config, Correct, IsConfig, IsOf, IsRun, IsUniverse, Universe, after, after_all}
 use Rattle.metis_actions.proofs.Causes.{no_fault-step, step-no_fault}
-use Rattle.metis_actions.specs.Faults.{fault_of}
+use Rattle.metis_actions.specs.Terms.{fault_of}
 use Rattle.metis_actions.specs.declared.faults.AFault.{AFault}
 use Rattle.metis_replay.proofs.Reasons.{never_memory}
-use Rattle.metis_replay.specs.Exact.{IsRefused}
-use Rattle.metis_replay.specs.Progress.{Progress, after_feeding, fed, fed_all, fed_by, progress_of, start}
+use Rattle.metis_replay.specs.Terms.{IsRefused, Progress, after_feeding, fed, fed_all, fed_by, progress_of, start}
 
 -- each action is counted
 fed_number : (s : Progress) (a : Action) → (fed s a).number ≡ s.number + 1

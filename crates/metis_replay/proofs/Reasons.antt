@@ -5,11 +5,9 @@ use Rattle.std.specs.Option.{option_map_or, option_or, option_and_then}
 use Rattle.std.specs.Prelude.{◌≢◌, option_map}
 use Rattle.metis_ids.specs.declared.actions.Action.{Action}
 use Rattle.metis_ids.specs.declared.actions.Action.TheVariants.{New, Delete, Bind, Unbind, Move}
-use Rattle.metis_universe.specs.Config.{Config, pair_of}
-use Rattle.metis_universe.specs.Step.{after}
-use Rattle.metis_universe.specs.Universe.{Universe}
-use Rattle.metis_config.specs.Unmet.{unmet}
-use Rattle.metis_actions.specs.Faults.{when, fault_of, unmet_after}
+use Rattle.metis_universe.specs.Terms.{Config, Universe, after, pair_of}
+use Rattle.metis_config.specs.Terms.{unmet}
+use Rattle.metis_actions.specs.Terms.{fault_of, unmet_after, when}
 use Rattle.metis_actions.specs.declared.faults.AFault.{AFault}
 use Rattle.metis_actions.specs.declared.faults.AFault.TheVariants.{InUse, NoInstance, NoState, NoTransition, SameInstance, NoSuchPort, Bound, NotBound, Unmet, NoMemory}
 

@@ -8,11 +8,8 @@ use Rattle.std.proofs.lemmas.Bool.{le-ltb, lt-ltb, ltb-true}
 use Rattle.metis_ids.specs.declared.goals.Goal.{Goal}
 use Rattle.metis_ids.proofs.Finding.{none_passes}
 use Rattle.metis_universe.proofs.Served.{count-cons, same_is}
-use Rattle.metis_universe.specs.Config.{Config}
-use Rattle.metis_universe.specs.Goals.{HoldsGoals, places_of, same_goal, serving}
-use Rattle.metis_universe.specs.Universe.{Universe}
-use Rattle.metis_replay.specs.Exact.{IsFirstMissing}
-use Rattle.metis_replay.specs.Progress.{first_short, shortage}
+use Rattle.metis_universe.specs.Terms.{Config, HoldsGoals, Universe, places_of, same_goal, serving}
+use Rattle.metis_replay.specs.Terms.{IsFirstMissing, first_short, shortage}
 
 -- ---- searches
 

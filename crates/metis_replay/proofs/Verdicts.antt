@@ -6,15 +6,11 @@ use Rattle.std.specs.Prelude.{◌↔◌}
 use Rattle.metis_ids.specs.declared.actions.Action.{Action}
 use Rattle.metis_ids.specs.declared.goals.Goal.{Goal}
 use Rattle.metis_universe.proofs.Kept.{IsConfig-empty}
-use Rattle.metis_universe.specs.Config.{empty}
-use Rattle.metis_universe.specs.Numbers.{IsOf}
-use Rattle.metis_universe.specs.Step.{IsRun, after_all}
-use Rattle.metis_universe.specs.Universe.{Universe, IsUniverse}
+use Rattle.metis_universe.specs.Terms.{IsOf, IsRun, IsUniverse, Universe, after_all, empty}
 use Rattle.metis_universe.proofs.Places.{Correct-empty}
 use Rattle.metis_replay.proofs.Feeding.{course, first_told, run_done}
 use Rattle.metis_replay.proofs.Shortages.{holds_none, missing_short, none_holds, short_missing}
-use Rattle.metis_replay.specs.Exact.{Tells}
-use Rattle.metis_replay.specs.Progress.{after_feeding, shortage, verdict, verdict_by}
+use Rattle.metis_replay.specs.Terms.{Tells, after_feeding, shortage, verdict, verdict_by}
 use Rattle.metis_replay.specs.declared.verdict.Verdict.{Verdict}
 use Rattle.metis_replay.specs.declared.verdict.Verdict.TheVariants.{Good, Bad, Missing}
 

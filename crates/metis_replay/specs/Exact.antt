@@ -6,11 +6,8 @@ use Rattle.std.specs.Prelude.{◌≡◌, ◌≢◌, ◌<◌, ◌≤◌, ℕ, ◌
 use Rattle.std.specs.List.{Contains}
 use Rattle.metis_ids.specs.declared.actions.Action.{Action}
 use Rattle.metis_ids.specs.declared.goals.Goal.{Goal}
-use Rattle.metis_universe.specs.Config.{Config, Correct, empty}
-use Rattle.metis_universe.specs.Goals.{HoldsGoals, places_of, serving}
-use Rattle.metis_universe.specs.Step.{Allows, IsRun, after, after_all}
-use Rattle.metis_universe.specs.Universe.{Universe}
-use Rattle.metis_actions.specs.Faults.{fault_of}
+use Rattle.metis_universe.specs.Terms.{Allows, Config, Correct, HoldsGoals, IsRun, Universe, after, after_all, empty, places_of, serving}
+use Rattle.metis_actions.specs.Terms.{fault_of}
 use Rattle.metis_actions.specs.declared.faults.AFault.{AFault}
 use Rattle.metis_actions.specs.declared.faults.AFault.TheVariants as faults
 use Rattle.metis_replay.specs.declared.verdict.Verdict.{Verdict}

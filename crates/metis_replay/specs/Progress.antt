@@ -10,12 +10,9 @@ use Rattle.std.specs.List.{find}
 use Rattle.std.specs.Option.{option_map_or}
 use Rattle.metis_ids.specs.declared.actions.Action.{Action}
 use Rattle.metis_ids.specs.declared.goals.Goal.{Goal}
-use Rattle.metis_universe.specs.Config.{Config, Correct, empty}
-use Rattle.metis_universe.specs.Goals.{IsGoalOf, places_of, serving}
-use Rattle.metis_universe.specs.Step.{after}
-use Rattle.metis_universe.specs.Universe.{Universe}
-use Rattle.metis_config.specs.Over.{IsOver}
-use Rattle.metis_actions.specs.Faults.{IsFaultOf, fault_of}
+use Rattle.metis_universe.specs.Terms.{Config, Correct, IsGoalOf, Universe, after, empty, places_of, serving}
+use Rattle.metis_config.specs.Terms.{IsOver}
+use Rattle.metis_actions.specs.Terms.{IsFaultOf, fault_of}
 use Rattle.metis_actions.specs.declared.faults.AFault.{AFault}
 use Rattle.metis_replay.specs.declared.verdict.Verdict.{Verdict}
 use Rattle.metis_replay.specs.declared.verdict.Verdict.TheVariants.{Good, Bad, Missing}

@@ -2,9 +2,8 @@
 ghost use Rattle.std.specs.Prelude.{◌≡◌, ◌↔◌, ℕ, Some, IsNone, IfSome, option_map};
 ghost use Rattle.std.specs.List.{All};
 ghost use Rattle.metis_ids.specs.declared.goals.Goal.{Goal};
-ghost use Rattle.metis_universe.specs.Goals.{HoldsGoals, IsGoalOf, places_of, same_goal, serving};
-ghost use Rattle.metis_replay.specs.Exact.{IsFirstMissing};
-ghost use Rattle.metis_replay.specs.Progress.{first_short, shortage};
+ghost use Rattle.metis_universe.specs.Terms.{HoldsGoals, IsGoalOf, places_of, same_goal, serving};
+ghost use Rattle.metis_replay.specs.Terms.{IsFirstMissing, first_short, shortage};
 
 use metis_config::Config;
 use metis_ids::Goal;

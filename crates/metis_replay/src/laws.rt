@@ -3,14 +3,10 @@ ghost use Rattle.std.specs.Prelude.{◌≡◌, ◌↔◌, ℕ, List, length};
 ghost use Rattle.std.specs.List.{All};
 ghost use Rattle.metis_ids.specs.declared.actions.Action.{Action};
 ghost use Rattle.metis_ids.specs.declared.goals.Goal.{Goal};
-ghost use Rattle.metis_universe.specs.Config.{empty};
-ghost use Rattle.metis_universe.specs.Numbers.{IsOf};
-ghost use Rattle.metis_universe.specs.Step.{IsRun, after_all};
-ghost use Rattle.metis_universe.specs.Universe.{Universe, IsUniverse};
+ghost use Rattle.metis_universe.specs.Terms.{IsOf, IsRun, IsUniverse, Universe, after_all, empty};
 ghost use Rattle.metis_actions.specs.declared.faults.AFault.{AFault};
 ghost use Rattle.metis_replay.specs.declared.verdict.Verdict.{Verdict};
-ghost use Rattle.metis_replay.specs.Exact.{IsFirstBad, Tells};
-ghost use Rattle.metis_replay.specs.Progress.{after_feeding, verdict};
+ghost use Rattle.metis_replay.specs.Terms.{IsFirstBad, Tells, after_feeding, verdict};
 
 /// After any actions, whose numbers are the universe's, the verdict is the one that is true of them.
 pub fn replay_is_exact()

@@ -1,12 +1,10 @@
 //! Does actions one after the other.
 ghost use Rattle.std.specs.Prelude.{◌≡◌, ◌<◌, ◌-◌, ◌^◌, IsTrue, IfOk, IfSome, OnOk, OnErr, None};
 ghost use Rattle.std.specs.List.{All};
-ghost use Rattle.metis_universe.specs.Config.{Correct};
-ghost use Rattle.metis_universe.specs.Goals.{IsGoalOf};
-ghost use Rattle.metis_universe.specs.Numbers.{IsOf};
-ghost use Rattle.metis_config.specs.Over.{IsOver};
-ghost use Rattle.metis_actions.specs.Faults.{IsFaultOf, fault_of, takes_memory};
-ghost use Rattle.metis_replay.specs.Progress.{IsVerdictOf, fed, left_by, start, verdict};
+ghost use Rattle.metis_universe.specs.Terms.{Correct, IsGoalOf, IsOf};
+ghost use Rattle.metis_config.specs.Terms.{IsOver};
+ghost use Rattle.metis_actions.specs.Terms.{IsFaultOf, fault_of, takes_memory};
+ghost use Rattle.metis_replay.specs.Terms.{IsVerdictOf, fed, left_by, start, verdict};
 
 use crate::Verdict;
 use crate::lacking::shortage;

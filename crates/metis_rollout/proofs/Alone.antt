@@ -5,14 +5,11 @@ use Rattle.std.specs.Option.{option_map_or}
 use Rattle.std.proofs.lemmas.Bool.{and_parts, eqb-true, false≢true}
 use Rattle.metis_ids.specs.declared.actions.Action.{Action}
 use Rattle.metis_ids.specs.declared.actions.Action.TheVariants.{Delete}
-use Rattle.metis_universe.specs.Universe.{Universe, is_empty, requires}
-use Rattle.metis_universe.specs.Config.{Binding, Config, config_of, is_bound, is_tie, names, pair_of, remove, untie}
-use Rattle.metis_universe.specs.Step.{after_all}
+use Rattle.metis_universe.specs.Terms.{Binding, Config, Universe, after_all, config_of, is_bound, is_empty, is_tie, names, pair_of, remove, requires, untie}
 use Rattle.metis_universe.proofs.Edits.{is_bound-remove}
 use Rattle.metis_universe.proofs.Sorted.{keys_of-filter}
 use Rattle.metis_support.proofs.Lists.{filter_alike}
-use Rattle.metis_rollout.specs.Removal.{GoesApart}
-use Rattle.metis_rollout.specs.Rollout.{all_go, among, cycle_removal, ends_first, first_unbinds, is_idle, is_referenced, left_of, members, next_unreferenced, removal, unbind, unreferenced_deletes, unreferenced_deletes_within, untied_of}
+use Rattle.metis_rollout.specs.Terms.{GoesApart, all_go, among, cycle_removal, ends_first, first_unbinds, is_idle, is_referenced, left_of, members, next_unreferenced, removal, unbind, unreferenced_deletes, unreferenced_deletes_within, untied_of}
 use Rattle.metis_rollout.proofs.Among.{among_all, filter_twice, pair_of-among}
 use Rattle.metis_rollout.proofs.FreeNumbers.{length-without}
 use Rattle.metis_rollout.proofs.Quiet.{all_among, is_in, next_one, unbinds_bound}

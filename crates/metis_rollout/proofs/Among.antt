@@ -10,13 +10,10 @@ use Rattle.std.proofs.lemmas.Map.Entries.{lookup-filter-keys}
 use Rattle.std.proofs.lemmas.Map.Views.{any-filter_same}
 use Rattle.metis_ids.proofs.Lists.{has-filter}
 use Rattle.metis_ids.proofs.Tests.{eq_comm}
-use Rattle.metis_universe.specs.Universe.{Universe, demand_of, has, provides, requires}
-use Rattle.metis_universe.specs.Config.{Binding, Config, Correct, IsConfig, IsMet, binding_cmp, config_of, is_bound, is_tie, names, pair_of, remove}
-use Rattle.metis_universe.specs.Step.{after_all}
+use Rattle.metis_universe.specs.Terms.{Binding, Config, Correct, IsConfig, IsMet, Universe, after_all, binding_cmp, config_of, demand_of, has, is_bound, is_tie, names, pair_of, provides, remove, requires}
 use Rattle.metis_universe.proofs.Edits.{tie_is}
 use Rattle.metis_universe.proofs.Sorted.{keys_of-filter}
-use Rattle.metis_rollout.specs.Rollout.{all_go, among, deletes, members}
-use Rattle.metis_rollout.specs.Removal.{MayGo}
+use Rattle.metis_rollout.specs.Terms.{MayGo, all_go, among, deletes, members}
 
 -- ---- lists
 

@@ -4,8 +4,8 @@ use Rattle.std.specs.List.{slice_get}
 use Rattle.std.proofs.lemmas.Bool.{cases_eq, false≢true, ne_eqb}
 use Rattle.std.proofs.lemmas.Grind.{flat_map-append}
 use Rattle.std.proofs.lemmas.List.{length-replicate, take_more}
-use Rattle.metis_universe.specs.Universe.{has}
-use Rattle.metis_layers.specs.LayerOrder.{place_of}
+use Rattle.metis_universe.specs.Terms.{has}
+use Rattle.metis_layers.specs.Terms.{place_of}
 use Rattle.metis_layers.proofs.Repeated.{blocks, first_copy, in_copies, past_copies, past_place}
 
 -- one more number at the end

@@ -10,18 +10,12 @@ use Rattle.std.proofs.lemmas.List.Elements.{filter_map-append}
 use Rattle.metis_ids.specs.declared.actions.Action.{Action}
 use Rattle.metis_ids.specs.declared.actions.Action.TheVariants.{Delete, Move}
 use Rattle.metis_ids.proofs.Lists.{has_range}
-use Rattle.metis_universe.specs.Config.{Binding, Config}
-use Rattle.metis_universe.specs.Layers.{layer_of}
-use Rattle.metis_universe.specs.Selection.{origin_of}
-use Rattle.metis_universe.specs.Universe.{Universe, IsUniverse, has, pair_count}
+use Rattle.metis_universe.specs.Terms.{Binding, Config, IsUniverse, Universe, has, layer_of, origin_of, pair_count}
 use Rattle.metis_layers.proofs.Ways.{all_has, in_range}
 use Rattle.metis_layers.proofs.Slots.{has_slot, here, later, wants}
-use Rattle.metis_layers.specs.LayerOrder.{path_to, path_within, place_of}
-use Rattle.metis_layers.specs.SlotLines.{slot_binds, slot_line, slot_lines, slot_move, slot_moves, slot_unbinds, slots_gained}
+use Rattle.metis_layers.specs.Terms.{path_to, path_within, place_of, slot_binds, slot_line, slot_lines, slot_move, slot_moves, slot_unbinds, slots_gained}
 use Rattle.metis_support.proofs.Selections.{some_is}
-use Rattle.metis_rollout.specs.Holders.{holder_at}
-use Rattle.metis_rollout.specs.Rollout.{bind, cycle_removal, deletes, downward, free_number, made_by, members, named, news_of, pairs_in, renumber, scaffold_bindings, scaffold_ends, scaffold_holder, scaffold_list, slots_required, unbind}
-use Rattle.metis_rollout.specs.Standing.{is_made}
+use Rattle.metis_rollout.specs.Terms.{bind, cycle_removal, deletes, downward, free_number, holder_at, is_made, made_by, members, named, news_of, pairs_in, renumber, scaffold_bindings, scaffold_ends, scaffold_holder, scaffold_list, slots_required, unbind}
 use Rattle.metis_rollout.proofs.Listed.{map_alike}
 use Rattle.metis_rollout.proofs.Required.{has_required}
 use Rattle.metis_rollout.proofs.Scaffold.{scaffold_goes, scaffold_serves}

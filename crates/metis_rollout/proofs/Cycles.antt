@@ -7,14 +7,12 @@ use Rattle.std.proofs.lemmas.Bool.{cases_eq, and_parts, eq-eqb, eqb-true, ne_eqb
 use Rattle.metis_ids.specs.declared.actions.Action.{Action}
 use Rattle.metis_ids.proofs.Options.{IsSome_at}
 use Rattle.metis_universe.proofs.Demands.{IsMet-slots}
-use Rattle.metis_universe.specs.Universe.{Universe, IsUniverse, demand_of, has}
-use Rattle.metis_universe.specs.Config.{Binding, Config, Correct, IsConfig, IsMet, is_bound, names, pair_of, remove}
-use Rattle.metis_universe.specs.Step.{after, after_all}
+use Rattle.metis_universe.specs.Terms.{Binding, Config, Correct, IsConfig, IsMet, IsUniverse, Universe, after, after_all, demand_of, has, is_bound, names, pair_of, remove}
 use Rattle.metis_universe.proofs.Edits.{is_bound-remove, pair_of-remove}
 use Rattle.metis_layers.proofs.Going.{after_all-append}
 use Rattle.metis_layers.proofs.SlotLists.{wants_required}
 use Rattle.metis_layers.proofs.Slots.{IsFilled, wants}
-use Rattle.metis_rollout.specs.Rollout.{among, bind, deletes, downward, members, scaffold_bindings, unbind}
+use Rattle.metis_rollout.specs.Terms.{among, bind, deletes, downward, members, scaffold_bindings, unbind}
 use Rattle.metis_rollout.proofs.Among.{IsConfig-among, bound_from, has-among, is_bound-among, pair_from, some_among, some_from}
 use Rattle.metis_rollout.proofs.Going.{Unpointed}
 use Rattle.metis_rollout.proofs.Quiet.{AllBound, QuietFrom, QuietFrom-append, all_among, has-keys, is_in, keys-has, remove_correct, unbinds_bound, unbinds_pair, unbinds_quiet}

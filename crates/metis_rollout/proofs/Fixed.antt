@@ -4,15 +4,11 @@ use Rattle.std.specs.Prelude.{slice_get}
 use Rattle.std.specs.List.{AllByRecursion, cons_option, filter}
 use Rattle.std.proofs.lemmas.Bool.{cases_lt, le-leb}
 use Rattle.metis_ids.specs.declared.actions.Action.{Action}
-use Rattle.metis_universe.specs.Universe.{Universe}
-use Rattle.metis_universe.specs.Config.{Config, empty, is_bound, pair_of}
-use Rattle.metis_universe.specs.Step.{after, after_all}
-use Rattle.metis_universe.specs.Steadfast.{IsSteadfastRun}
-use Rattle.metis_universe.specs.Waits.{IsKept, action_at, picked}
+use Rattle.metis_universe.specs.Terms.{Config, IsKept, IsSteadfastRun, Universe, action_at, after, after_all, empty, is_bound, pair_of, picked}
 use Rattle.metis_universe.proofs.Frames.{bound_step, is_bound-after, pair_of-after, pair_step}
 use Rattle.metis_layers.proofs.Going.{at}
 use Rattle.metis_waits.proofs.KeptRuns.{complete_end}
-use Rattle.metis_rollout.specs.Guarded.{HasEach}
+use Rattle.metis_rollout.specs.Terms.{HasEach}
 use Rattle.metis_rollout.proofs.Fronts.{complete_low, is_low, kept_low, not_low, picked_low}
 
 -- the action leaves the instance's pair as it is, and the binding

@@ -7,11 +7,10 @@ use Rattle.std.proofs.lemmas.Bool.{and_from, cases_lt, false_from_ne_true, le-le
 use Rattle.std.proofs.lemmas.List.{take-append-le}
 use Rattle.metis_ids.specs.declared.actions.Action.{Action}
 use Rattle.metis_ids.proofs.Lists.{has-filter, has_range, in_range}
-use Rattle.metis_universe.specs.Universe.{has}
-use Rattle.metis_universe.specs.Waits.{IsKeptFrom, action_at, before, is_complete, is_wait, numbers, picked, waits}
+use Rattle.metis_universe.specs.Terms.{IsKeptFrom, action_at, before, has, is_complete, is_wait, numbers, picked, waits}
 use Rattle.metis_universe.proofs.Correctness.{all_from_has, all_has}
 use Rattle.metis_waits.proofs.LastPlaces.{waits_earlier}
-use Rattle.metis_rollout.specs.Guarded.{HasEach}
+use Rattle.metis_rollout.specs.Terms.{HasEach}
 
 -- ---- numbers up to a border
 

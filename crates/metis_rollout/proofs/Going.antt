@@ -4,11 +4,7 @@ use Rattle.std.specs.Prelude.{slice_get}
 use Rattle.std.specs.List.{list_any}
 use Rattle.std.proofs.lemmas.Bool.{false≢true}
 use Rattle.metis_ids.specs.declared.actions.Action.{Action}
-use Rattle.metis_universe.specs.Universe.{Universe}
-use Rattle.metis_universe.specs.Config.{Binding, Config, Correct, empty, is_bound, is_tie}
-use Rattle.metis_universe.specs.Step.{Allows, after}
-use Rattle.metis_universe.specs.Steadfast.{is_steadfast_after, IsSteadfastRun}
-use Rattle.metis_universe.specs.Waits.{standing}
+use Rattle.metis_universe.specs.Terms.{Allows, Binding, Config, Correct, IsSteadfastRun, Universe, after, empty, is_bound, is_steadfast_after, is_tie, standing}
 use Rattle.metis_universe.proofs.Frames.{bindings-after_all}
 use Rattle.metis_universe.proofs.Places.{run_at, steadfast_at}
 use Rattle.metis_universe.proofs.Bindings.{unprovided}

@@ -8,18 +8,10 @@ use Rattle.std.proofs.lemmas.List.Folds.{list_any-append}
 use Rattle.metis_ids.specs.declared.actions.Action.{Action}
 use Rattle.metis_ids.proofs.Lists.{has_range, in_range}
 use Rattle.metis_ids.proofs.Options.{IsSome_at}
-use Rattle.metis_universe.specs.Universe.{Universe, IsUniverse, has}
-use Rattle.metis_universe.specs.Config.{Config, IsConfig, empty, is_bound, pair_of}
-use Rattle.metis_universe.specs.Goal.{Holds}
-use Rattle.metis_universe.specs.Steadfast.{IsSteadfastRun}
-use Rattle.metis_universe.specs.Step.{after_all}
-use Rattle.metis_universe.specs.Waits.{IsKept, IsKeptFrom, is_complete, picked}
+use Rattle.metis_universe.specs.Terms.{Config, Holds, IsConfig, IsKept, IsKeptFrom, IsSteadfastRun, IsUniverse, Universe, after_all, empty, has, is_bound, is_complete, pair_of, picked}
 use Rattle.metis_layers.proofs.Going.{GoesOn, after_all-append, at}
 use Rattle.metis_waits.proofs.GoesOn as on
-use Rattle.metis_rollout.specs.Guarded.{HasEach, IsBeside, IsGuardedAt, KeepsStanding, Spares, StandsIn}
-use Rattle.metis_rollout.specs.Removal.{AreFree, CanTake, IsWithout, MayGo, Removing, taking}
-use Rattle.metis_rollout.specs.Rollout.{ends_first, removal}
-use Rattle.metis_rollout.specs.Standing.{is_made}
+use Rattle.metis_rollout.specs.Terms.{AreFree, CanTake, HasEach, IsBeside, IsGuardedAt, IsWithout, KeepsStanding, MayGo, Removing, Spares, StandsIn, ends_first, is_made, removal, taking}
 use Rattle.metis_rollout.proofs.Each.{each_append}
 use Rattle.metis_rollout.proofs.Fixed.{FixesBinding, FixesPair, bound_fixed, pair_fixed, pair_kept}
 use Rattle.metis_rollout.proofs.Fronts.{is_low, kept_low, kept_whole, picked_low}

@@ -6,15 +6,10 @@ use Rattle.std.specs.Map.{keys_of, lookup}
 use Rattle.std.proofs.lemmas.Bool.{eq-eqb, eqb-true, ne_eqb, cases_eq, false≢true, or_left, or_right}
 use Rattle.std.proofs.lemmas.List.Sums.{length-filter}
 use Rattle.metis_ids.specs.declared.actions.Action.{Action}
-use Rattle.metis_universe.specs.Universe.{Universe, has}
-use Rattle.metis_universe.specs.Config.{Config, IsConfig, config_of, empty}
-use Rattle.metis_universe.specs.Goal.{holding}
-use Rattle.metis_universe.specs.Step.{after_all}
+use Rattle.metis_universe.specs.Terms.{Config, IsConfig, Universe, after_all, config_of, empty, has, holding}
 use Rattle.metis_universe.proofs.Edits.{pair_of-remove}
 use Rattle.metis_layers.proofs.Going.{GoesOn, at}
-use Rattle.metis_rollout.specs.Guarded.{StandsIn}
-use Rattle.metis_rollout.specs.Rollout.{fresh_name, renumbered}
-use Rattle.metis_rollout.specs.Standing.{is_made}
+use Rattle.metis_rollout.specs.Terms.{StandsIn, fresh_name, is_made, renumbered}
 use Rattle.metis_rollout.proofs.Quiet.{has-keys, keys-has}
 use Rattle.metis_rollout.proofs.Rebinding.{AllUnlike, sorted_unlike}
 use Rattle.metis_rollout.proofs.Removal.{left_config}

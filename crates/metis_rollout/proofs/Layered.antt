@@ -8,13 +8,10 @@ use Rattle.std.specs.Ordering.{nat_cmp}
 use Rattle.std.proofs.lemmas.Bool.{eq-eqb, false≢true}
 use Rattle.std.proofs.lemmas.List.Sums.{sum_by-cons}
 use Rattle.metis_ids.specs.declared.actions.Action.{Action}
-use Rattle.metis_universe.specs.Universe.{Universe, IsUniverse}
-use Rattle.metis_universe.specs.Config.{empty}
-use Rattle.metis_universe.specs.Layers.{layer_of}
-use Rattle.metis_universe.specs.Step.{IsRun, after_all}
+use Rattle.metis_universe.specs.Terms.{IsRun, IsUniverse, Universe, after_all, empty, layer_of}
 use Rattle.metis_universe.proofs.Sorted.{lookup_counted}
 use Rattle.metis_universe.proofs.Kept.{IsConfig-after_all, IsConfig-empty}
-use Rattle.metis_rollout.specs.Rollout.{among, pairs_in}
+use Rattle.metis_rollout.specs.Terms.{among, pairs_in}
 use Rattle.metis_rollout.proofs.Among.{IsConfig-among, pair_from}
 use Rattle.metis_rollout.proofs.Removal.{left, left_config_of}
 use Rattle.metis_rollout.proofs.Whole.{layer}

@@ -7,13 +7,10 @@ use Rattle.std.proofs.lemmas.List.{length-map, length-take-le, map-append, take_
 use Rattle.std.proofs.lemmas.List.Elements.{filter-append}
 use Rattle.metis_ids.specs.declared.actions.Action.{Action}
 use Rattle.metis_ids.specs.declared.actions.Action.TheVariants.{New}
-use Rattle.metis_universe.specs.Layers.{layer_of}
-use Rattle.metis_universe.specs.Selection.{origin_of}
-use Rattle.metis_universe.specs.Universe.{Universe, pair_count, type_of}
+use Rattle.metis_universe.specs.Terms.{Universe, layer_of, origin_of, pair_count, type_of}
 use Rattle.metis_layers.proofs.LayerFacts.{layer_below, no_origin, origin_at}
 use Rattle.metis_support.proofs.Selections.{some_is}
-use Rattle.metis_layers.specs.LayerOrder.{path_to, path_within}
-use Rattle.metis_layers.specs.SlotLines.{slot_line, slot_lines, slot_move, slot_moves}
+use Rattle.metis_layers.specs.Terms.{path_to, path_within, slot_line, slot_lines, slot_move, slot_moves}
 
 -- ---- one more of those that pass
 

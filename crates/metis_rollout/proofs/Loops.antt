@@ -8,12 +8,10 @@ use Rattle.std.proofs.lemmas.Bool.{and_from}
 use Rattle.std.proofs.lemmas.List.{map-append, take_more}
 use Rattle.metis_ids.specs.declared.actions.Action.{Action}
 use Rattle.metis_ids.specs.declared.actions.Action.TheVariants.{Delete}
-use Rattle.metis_universe.specs.Universe.{Universe}
-use Rattle.metis_universe.specs.Config.{Binding, Config, binding_cmp, is_bound, is_tie, remove, untie}
-use Rattle.metis_universe.specs.Step.{after_all}
+use Rattle.metis_universe.specs.Terms.{Binding, Config, Universe, after_all, binding_cmp, is_bound, is_tie, remove, untie}
 use Rattle.metis_universe.proofs.Edits.{tie_is}
 use Rattle.metis_layers.proofs.Going.{after_all-append}
-use Rattle.metis_rollout.specs.Rollout.{unreferenced_deletes_within, next_unreferenced, unbind}
+use Rattle.metis_rollout.specs.Terms.{next_unreferenced, unbind, unreferenced_deletes_within}
 use Rattle.metis_rollout.proofs.Quiet.{is_in, not_below_itself, unbinds_bound}
 
 below_at : (b : Binding) (xs : List Binding) (i : ℕ) (d : Binding) → AllByRecursion (λ x. binding_cmp b x ≡ Less) xs → i < length xs → binding_cmp b (get_or xs i d) ≡ Less

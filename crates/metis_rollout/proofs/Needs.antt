@@ -7,11 +7,10 @@ use Rattle.std.proofs.lemmas.List.{length-map}
 use Rattle.std.proofs.lemmas.List.Folds.{list_any-append}
 use Rattle.std.proofs.lemmas.List.FromFn.{length-range_with_len}
 use Rattle.metis_universe.proofs.Demands.{many_bound, passes}
-use Rattle.metis_universe.specs.Config.{AreDifferent, Binding, Config, Correct, IsConfig, pair_of}
-use Rattle.metis_universe.specs.Universe.{Universe, IsUniverse, demand_of, has, required_of, requires}
+use Rattle.metis_universe.specs.Terms.{AreDifferent, Binding, Config, Correct, IsConfig, IsUniverse, Universe, demand_of, has, pair_of, required_of, requires}
 use Rattle.metis_layers.proofs.SlotLists.{required_differ}
-use Rattle.metis_layers.specs.SlotLines.{slots_above}
-use Rattle.metis_rollout.specs.Rollout.{among, scaffold_bindings, slots_required}
+use Rattle.metis_layers.specs.Terms.{slots_above}
+use Rattle.metis_rollout.specs.Terms.{among, scaffold_bindings, slots_required}
 use Rattle.metis_rollout.proofs.Among.{IsConfig-among, pair_from}
 use Rattle.metis_rollout.proofs.Each.{each_joined}
 use Rattle.metis_rollout.proofs.Rebinding.{AllUnlike, at_slots, each_entry, sorted_unlike}

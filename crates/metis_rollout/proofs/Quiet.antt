@@ -13,18 +13,13 @@ use Rattle.std.proofs.lemmas.Map.Views.{any-filter_same}
 use Rattle.metis_ids.specs.declared.actions.Action.{Action}
 use Rattle.metis_ids.specs.declared.actions.Action.TheVariants.{New, Delete, Bind, Unbind, Move}
 use Rattle.metis_ids.proofs.Finding.{not_found}
-use Rattle.metis_universe.specs.Universe.{Universe, demand_of, has, provides, requires}
-use Rattle.metis_universe.specs.Config.{Binding, Config, Correct, IsConfig, IsMet, binding_cmp, is_bound, is_tie, names, pair_of, remove, untie}
-use Rattle.metis_universe.specs.Step.{Allows, after, after_all}
-use Rattle.metis_universe.specs.Steadfast.{is_new, is_steadfast_after}
+use Rattle.metis_universe.specs.Terms.{Allows, Binding, Config, Correct, IsConfig, IsMet, Universe, after, after_all, binding_cmp, demand_of, has, is_bound, is_new, is_steadfast_after, is_tie, names, pair_of, provides, remove, requires, untie}
 use Rattle.metis_universe.proofs.Edits.{binding_cmp_total, is_bound-remove, is_bound-untie, pair_of-remove, tie_is}
 use Rattle.metis_universe.proofs.Kept.{IsConfig-remove}
 use Rattle.metis_universe.proofs.Sorted.{keys_of-filter}
 use Rattle.metis_universe.proofs.Bindings.{own_tie}
 use Rattle.metis_layers.proofs.Going.{GoesOn, at, at-next}
-use Rattle.metis_rollout.specs.Removal.{MayGo}
-use Rattle.metis_rollout.specs.Rollout.{all_go, among, ends_first, first_unbinds, is_referenced, idle_unbinds, unreferenced_deletes_within, members, next_unreferenced, unbind}
-use Rattle.metis_rollout.specs.Standing.{is_made}
+use Rattle.metis_rollout.specs.Terms.{MayGo, all_go, among, ends_first, first_unbinds, idle_unbinds, is_made, is_referenced, members, next_unreferenced, unbind, unreferenced_deletes_within}
 use Rattle.metis_rollout.proofs.Among.{bound_from, pair_among, pair_from}
 use Rattle.metis_rollout.proofs.FreeNumbers.{length-without}
 use Rattle.metis_rollout.proofs.Serving.{more_bound, served_still}

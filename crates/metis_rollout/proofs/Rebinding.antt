@@ -10,13 +10,11 @@ use Rattle.std.proofs.lemmas.Bool.{and_from, and_parts, eq-eqb, eqb-true, false_
 use Rattle.std.proofs.lemmas.List.Folds.{list_any-append}
 use Rattle.metis_ids.proofs.Lists.{none_above}
 use Rattle.metis_ids.proofs.Tests.{eq_comm}
-use Rattle.metis_universe.specs.Universe.{Universe, IsUniverse, has, provides, requires, type_of, type_requires, type_provides}
-use Rattle.metis_universe.specs.Config.{Binding, Config, Correct, is_bound, is_tie, names, pair_of, remove, tie}
-use Rattle.metis_universe.specs.Step.{after_all}
+use Rattle.metis_universe.specs.Terms.{Binding, Config, Correct, IsUniverse, Universe, after_all, has, is_bound, is_tie, names, pair_of, provides, remove, requires, tie, type_of, type_provides, type_requires}
 use Rattle.metis_universe.proofs.Edits.{is_bound-remove, is_bound-tie, pair_of-remove}
 use Rattle.metis_layers.proofs.Going.{type_requires-own, type_provides-own}
 use Rattle.metis_layers.proofs.Slots.{AreApart, has_slot, here, later, wants}
-use Rattle.metis_rollout.specs.Rollout.{bind, deletes, slots_required}
+use Rattle.metis_rollout.specs.Terms.{bind, deletes, slots_required}
 use Rattle.metis_rollout.proofs.Going.{Unpointed}
 use Rattle.metis_rollout.proofs.Serving.{more_bound}
 use Rattle.metis_rollout.proofs.Quiet.{QuietFrom, is_in, keys-has, remove_correct, tie_flip}

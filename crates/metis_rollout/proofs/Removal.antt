@@ -8,17 +8,12 @@ use Rattle.std.proofs.lemmas.List.Folds.{list_any-append}
 use Rattle.metis_ids.specs.declared.actions.Action.{Action}
 use Rattle.metis_ids.specs.declared.actions.Action.TheVariants.{Delete}
 use Rattle.metis_ids.proofs.Options.{none_or_some}
-use Rattle.metis_universe.specs.Universe.{Universe, has, is_empty, requires}
-use Rattle.metis_universe.specs.Config.{Binding, Config, Correct, IsConfig, empty, is_bound, is_tie, pair_of, remove, untie}
-use Rattle.metis_universe.specs.Step.{IsRun, after, after_all}
-use Rattle.metis_universe.specs.Steadfast.{is_new, IsSteadfastRun}
+use Rattle.metis_universe.specs.Terms.{Binding, Config, Correct, IsConfig, IsRun, IsSteadfastRun, Universe, after, after_all, empty, has, is_bound, is_empty, is_new, is_tie, pair_of, remove, requires, untie}
 use Rattle.metis_universe.proofs.Kept.{IsConfig-after, IsConfig-after_all, IsConfig-empty, IsConfig-remove, IsConfig-untie}
 use Rattle.metis_universe.proofs.Same.{same_config}
 use Rattle.metis_universe.proofs.Places.{Correct-empty}
 use Rattle.metis_layers.proofs.Going.{GoesOn, GoesOn-append, after_all-append, at, run_from_going}
-use Rattle.metis_rollout.specs.Removal.{IsNamed, IsWithout, MayGo}
-use Rattle.metis_rollout.specs.Rollout.{all_go, among, cleared_by, cleared_of, cycle_removal, ends_first, first_unbinds, idle_unbinds, left_of, unreferenced_deletes, unreferenced_deletes_within, members, next_unreferenced, removal, renumbered, rollout, scaffold_name, unbind, untied_of}
-use Rattle.metis_rollout.specs.Standing.{IsCleared, IsUntied, is_made}
+use Rattle.metis_rollout.specs.Terms.{IsCleared, IsNamed, IsUntied, IsWithout, MayGo, all_go, among, cleared_by, cleared_of, cycle_removal, ends_first, first_unbinds, idle_unbinds, is_made, left_of, members, next_unreferenced, removal, renumbered, rollout, scaffold_name, unbind, unreferenced_deletes, unreferenced_deletes_within, untied_of}
 use Rattle.metis_rollout.proofs.Going.{going_from_steady, steady_from_going}
 use Rattle.metis_rollout.proofs.Among.{among_all, may_all, pair_of-among}
 use Rattle.metis_rollout.proofs.Quiet.{QuietFrom, QuietFrom-append, crosses, first_bound, first_pair, first_quiet, idle_bound, idle_pair, is_required, keys-has, staying_bound, staying_pair, unreferenced_bound, unreferenced_ends, unreferenced_pair, unreferenced_quiet, quiet_goes, quiet_makes_none}

@@ -6,14 +6,10 @@ use Rattle.std.proofs.lemmas.Bool.{cases_eq, eq-eqb, ne_eqb, false≢true}
 use Rattle.std.proofs.lemmas.List.{map-append}
 use Rattle.metis_ids.specs.declared.actions.Action.{Action}
 use Rattle.metis_ids.specs.declared.actions.Action.TheVariants.{New, Delete, Bind, Unbind, Move}
-use Rattle.metis_universe.specs.Universe.{Universe, demand_of, initial_of, provides, type_of, type_requires, type_provides}
-use Rattle.metis_universe.specs.Config.{Correct, empty, pair_of, is_bound}
-use Rattle.metis_universe.specs.Step.{Allows, after_all}
-use Rattle.metis_universe.specs.Steadfast.{is_new, is_steadfast_after}
+use Rattle.metis_universe.specs.Terms.{Allows, Correct, Universe, after_all, demand_of, empty, initial_of, is_bound, is_new, is_steadfast_after, pair_of, provides, type_of, type_provides, type_requires}
 use Rattle.metis_universe.proofs.Frames.{pair_step, pair_steps, pair_of-after_all, bound_step}
 use Rattle.metis_layers.proofs.Going.{GoesOn, at, at-next}
-use Rattle.metis_rollout.specs.Rollout.{renumber}
-use Rattle.metis_rollout.specs.Standing.{is_made}
+use Rattle.metis_rollout.specs.Terms.{is_made, renumber}
 use Rattle.metis_rollout.proofs.Going.{Unpointed, Unpointed-standing, standing-Unpointed}
 use Rattle.metis_rollout.proofs.Serving.{served}
 use Rattle.metis_rollout.proofs.Sides.{bound_steps, is_bound-after_all}

@@ -8,11 +8,11 @@ use Rattle.std.proofs.lemmas.Grind.{flat_map-append}
 use Rattle.std.proofs.lemmas.List.{get_or_past, take_more}
 use Rattle.metis_universe.proofs.Demands.{demand_none}
 use Rattle.metis_universe.proofs.Greatest.{greatest_low}
-use Rattle.metis_universe.specs.Universe.{Universe, IsUniverse, demand_of, greatest_demand, has, no_pair, pair_count, required_of}
+use Rattle.metis_universe.specs.Terms.{IsUniverse, Universe, demand_of, greatest_demand, has, no_pair, pair_count, required_of}
 use Rattle.metis_layers.proofs.SlotLists.{gained_apart, has_gained, slots_of}
 use Rattle.metis_layers.proofs.Slots.{AreApart, ends_want, has_slot, wants}
-use Rattle.metis_layers.specs.SlotLines.{slots_above, slots_gained}
-use Rattle.metis_rollout.specs.Rollout.{slots_required}
+use Rattle.metis_layers.specs.Terms.{slots_above, slots_gained}
+use Rattle.metis_rollout.specs.Terms.{slots_required}
 use Rattle.metis_rollout.proofs.Each.{each_joined}
 
 module _ (u : Universe) where

@@ -7,16 +7,9 @@ use Rattle.std.proofs.lemmas.List.Elements.{All-from_recursion}
 use Rattle.metis_ids.specs.declared.actions.Action.{Action}
 use Rattle.metis_ids.specs.declared.actions.Action.TheVariants.{New, Delete, Bind, Unbind, Move}
 use Rattle.metis_ids.proofs.Options.{IsSome_at}
-use Rattle.metis_universe.specs.Universe.{Universe, IsUniverse, has, initial_of}
-use Rattle.metis_universe.specs.Config.{Config, empty, is_bound, pair_of}
-use Rattle.metis_universe.specs.Goal.{Holds}
-use Rattle.metis_universe.specs.Steadfast.{IsSteadfastRun}
-use Rattle.metis_universe.specs.Step.{after_all}
-use Rattle.metis_universe.specs.Waits.{IsKept, picked}
+use Rattle.metis_universe.specs.Terms.{Config, Holds, IsKept, IsSteadfastRun, IsUniverse, Universe, after_all, empty, has, initial_of, is_bound, pair_of, picked}
 use Rattle.metis_layers.proofs.Going.{GoesOn, at}
-use Rattle.metis_rollout.specs.Guarded.{HasEach, IsBeside, IsGuarded, IsGuardedAt, Spares, StandsIn, border}
-use Rattle.metis_rollout.specs.Rollout.{all_go, fresh_name, removal, renumber, renumbered, rollout, scaffold_name}
-use Rattle.metis_rollout.specs.Standing.{is_made}
+use Rattle.metis_rollout.specs.Terms.{HasEach, IsBeside, IsGuarded, IsGuardedAt, Spares, StandsIn, all_go, border, fresh_name, is_made, removal, renumber, renumbered, rollout, scaffold_name}
 use Rattle.metis_rollout.proofs.Among.{may_all}
 use Rattle.metis_rollout.proofs.Fixed.{FixesBinding, FixesPair}
 use Rattle.metis_rollout.proofs.Going.{going_from_steady}

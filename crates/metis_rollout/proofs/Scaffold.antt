@@ -9,10 +9,7 @@ use Rattle.metis_universe.proofs.Greatest.{demand_least}
 use Rattle.metis_universe.proofs.Rounds.{has-filter}
 use Rattle.metis_universe.proofs.Selected.{selected-least}
 use Rattle.metis_universe.proofs.Slots.{slots_enough}
-use Rattle.metis_universe.specs.Layers.{layer_of, layered}
-use Rattle.metis_universe.specs.Numbers.{IsOf}
-use Rattle.metis_universe.specs.Selection.{needs_of, origin_of, provider_of, provider_pairs, providers_needed, selected}
-use Rattle.metis_universe.specs.Universe.{Universe, IsUniverse, all_pairs, demand_of, greatest_demand, has, pair_count, provides, required_of, requires}
+use Rattle.metis_universe.specs.Terms.{IsOf, IsUniverse, Universe, all_pairs, demand_of, greatest_demand, has, layer_of, layered, needs_of, origin_of, pair_count, provider_of, provider_pairs, providers_needed, provides, required_of, requires, selected}
 use Rattle.metis_layers.proofs.Copies.{block_back, block_own, block_slot}
 use Rattle.metis_layers.proofs.Going.{GoesOn}
 use Rattle.metis_layers.proofs.LayerFacts.{HasLayer, layer_free, layer_pair, provider_at, some_of}
@@ -22,10 +19,10 @@ use Rattle.metis_layers.proofs.SlotLists.{wants_required}
 use Rattle.metis_layers.proofs.Slots.{IsFilled, Stand, wants}
 use Rattle.metis_layers.proofs.Standing.{HasSomeLayer, Rising, has-append, layer_in, layered_has, layered_rises, rising-filter, rising-suffix}
 use Rattle.metis_layers.proofs.Ways.{FilledUpTo, HaveOrigins, ways_on}
-use Rattle.metis_layers.specs.LayerOrder.{path_to, path_within, place_of}
+use Rattle.metis_layers.specs.Terms.{path_to, path_within, place_of}
 use Rattle.metis_layers.proofs.Repeated.{blocks, has_block}
 use Rattle.metis_support.proofs.Selections.{mapped_from}
-use Rattle.metis_rollout.specs.Rollout.{scaffold_ends, scaffold_holder, scaffold_list, scaffold_pairs, slot_count}
+use Rattle.metis_rollout.specs.Terms.{scaffold_ends, scaffold_holder, scaffold_list, scaffold_pairs, slot_count}
 use Rattle.metis_rollout.proofs.Blocks.{blocks-push, copy_in}
 
 -- ---- lists

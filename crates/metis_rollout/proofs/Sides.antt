@@ -5,13 +5,10 @@ use Rattle.std.specs.List.{list_any, filter}
 use Rattle.std.specs.Option.{option_map_or}
 use Rattle.std.proofs.lemmas.Bool.{eqb-true, false≢true, and_parts, both_ways}
 use Rattle.std.proofs.lemmas.List.Elements.{filter-append}
-use Rattle.metis_ids.specs.Action.{actor_of}
+use Rattle.metis_ids.specs.Terms.{actor_of}
 use Rattle.metis_ids.specs.declared.actions.Action.{Action}
 use Rattle.metis_ids.specs.declared.actions.Action.TheVariants.{New, Delete, Bind, Unbind, Move}
-use Rattle.metis_universe.specs.Universe.{Universe, demand_of, initial_of, requires, provides, type_of, type_requires, type_provides}
-use Rattle.metis_universe.specs.Config.{Config, Correct, IsMet, empty, pair_of, is_bound, is_tie, names}
-use Rattle.metis_universe.specs.Step.{Allows, after, after_all}
-use Rattle.metis_universe.specs.Steadfast.{is_new, is_steadfast_after}
+use Rattle.metis_universe.specs.Terms.{Allows, Config, Correct, IsMet, Universe, after, after_all, demand_of, empty, initial_of, is_bound, is_new, is_steadfast_after, is_tie, names, pair_of, provides, requires, type_of, type_provides, type_requires}
 use Rattle.metis_universe.proofs.Frames.{pair_step, pair_steps, pair_of-after_all, bound_step, is_bound-after}
 use Rattle.metis_universe.proofs.Places.{Correct-empty}
 use Rattle.metis_layers.proofs.Going.{GoesOn, at, at-next}

@@ -3,9 +3,8 @@ use Rattle.std.proofs.Common.{◌≡◌, ◌++◌, ℕ, true, List, [], ◌∷�
 use Rattle.metis_ids.specs.declared.actions.Action.{Action}
 use Rattle.metis_ids.specs.declared.actions.Action.TheVariants.{New, Delete, Bind, Unbind, Move}
 use Rattle.metis_universe.proofs.PlanExamples.{kind}
-use Rattle.metis_universe.specs.Steadfast.{is_steadfast}
-use Rattle.metis_universe.specs.Universe.{Pair, Universe}
-use Rattle.metis_rollout.specs.Rollout.{rollout}
+use Rattle.metis_universe.specs.Terms.{Pair, Universe, is_steadfast}
+use Rattle.metis_rollout.specs.Terms.{rollout}
 
 abbrev row : ℕ → List ℕ → List ℕ → List ℕ → List ℕ → Pair
 row t provided required further next = record {

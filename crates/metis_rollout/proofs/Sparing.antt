@@ -6,14 +6,11 @@ use Rattle.std.specs.Option.{option_map_or}
 use Rattle.std.proofs.lemmas.Bool.{and_parts, both_ways, eqb-true, false_from_ne_true, false≢true}
 use Rattle.metis_ids.specs.declared.actions.Action.{Action}
 use Rattle.metis_ids.specs.declared.actions.Action.TheVariants.{New, Delete, Bind, Unbind, Move}
-use Rattle.metis_universe.specs.Universe.{Universe, initial_of, is_empty}
-use Rattle.metis_universe.specs.Config.{Binding, Config, IsConfig, is_bound, is_tie, names, pair_of, remove}
+use Rattle.metis_universe.specs.Terms.{Binding, Config, IsConfig, Universe, initial_of, is_bound, is_empty, is_tie, names, pair_of, remove}
 use Rattle.metis_universe.proofs.Edits.{tie_is}
 use Rattle.metis_universe.proofs.Frames.{is_bound-after, pair_of-after}
 use Rattle.metis_layers.proofs.Going.{GoesOn, at, at-next}
-use Rattle.metis_rollout.specs.Guarded.{Spares, StandsIn}
-use Rattle.metis_rollout.specs.Removal.{IsNamed, Removing}
-use Rattle.metis_rollout.specs.Rollout.{among, bind, cycle_removal, deletes, downward, ends_first, first_unbinds, left_of, members, next_unreferenced, pairs_in, removal, renumber, scaffold_bindings, scaffold_ends, scaffold_holder, scaffold_list, slots_required, unbind, unreferenced_deletes, unreferenced_deletes_within, untied_of}
+use Rattle.metis_rollout.specs.Terms.{IsNamed, Removing, Spares, StandsIn, among, bind, cycle_removal, deletes, downward, ends_first, first_unbinds, left_of, members, next_unreferenced, pairs_in, removal, renumber, scaffold_bindings, scaffold_ends, scaffold_holder, scaffold_list, slots_required, unbind, unreferenced_deletes, unreferenced_deletes_within, untied_of}
 use Rattle.metis_rollout.proofs.Each.{each_append}
 use Rattle.metis_rollout.proofs.Fixed.{FixesBinding, FixesPair}
 use Rattle.metis_rollout.proofs.Quiet.{next_one}

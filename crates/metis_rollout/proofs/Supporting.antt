@@ -5,18 +5,13 @@ use Rattle.std.specs.List.{All, filter, flat_map, list_any, range_with_len}
 use Rattle.std.proofs.lemmas.Bool.{and_parts}
 use Rattle.metis_ids.proofs.Lists.{has_at}
 use Rattle.metis_universe.proofs.Rounds.{has-filter}
-use Rattle.metis_universe.specs.Layers.{layer_of, layered}
-use Rattle.metis_universe.specs.Selection.{slots_by}
-use Rattle.metis_universe.specs.Universe.{Universe, IsTable, has, pair_count, port_count}
+use Rattle.metis_universe.specs.Terms.{IsTable, Universe, has, layer_of, layered, pair_count, port_count, slots_by}
 use Rattle.metis_layers.proofs.LayerFacts.{layer_pair}
 use Rattle.metis_layers.proofs.Ways.{all_has, in_range}
-use Rattle.metis_layers.specs.Layers.{Layers, IsLayers}
-use Rattle.metis_layers.specs.LayerOrder.{path_to}
-use Rattle.metis_layers.specs.SlotLines.{slot_lines}
+use Rattle.metis_layers.specs.Terms.{IsLayers, Layers, path_to, slot_lines}
 use Rattle.metis_support.proofs.Selections.{is_support, layer_is, origin_is, same_provider_pairs, same_slots, some_is}
-use Rattle.metis_support.specs.Support.{Support, IsSupport, is_number, is_selected, provider_at, provider_pairs, support_of}
-use Rattle.metis_rollout.specs.Holders.{AreFew, IsScaffoldIn, TellsTruly, ends_among, first_among, holder_at}
-use Rattle.metis_rollout.specs.Rollout.{scaffold_ends, scaffold_holder, scaffold_list, scaffold_pairs}
+use Rattle.metis_support.specs.Terms.{IsSupport, Support, is_number, is_selected, provider_at, provider_pairs, support_of}
+use Rattle.metis_rollout.specs.Terms.{AreFew, IsScaffoldIn, TellsTruly, ends_among, first_among, holder_at, scaffold_ends, scaffold_holder, scaffold_list, scaffold_pairs}
 use Rattle.metis_rollout.specs.declared.scaffolding.Scaffold.{Scaffold}
 use Rattle.metis_rollout.proofs.Scaffold.{end_layer, end_selected}
 use Rattle.metis_rollout.proofs.ScaffoldSize.{scaffold_short}

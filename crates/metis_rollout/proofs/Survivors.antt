@@ -4,11 +4,9 @@ use Rattle.std.specs.Prelude.{IsSome}
 use Rattle.std.specs.Option.{option_map_or}
 use Rattle.std.proofs.lemmas.Bool.{both_ways, eqb-true, false≢true}
 use Rattle.metis_ids.specs.declared.actions.Action.TheVariants.{Delete}
-use Rattle.metis_universe.specs.Universe.{Universe}
-use Rattle.metis_universe.specs.Config.{Config, is_bound, pair_of, remove}
-use Rattle.metis_universe.specs.Step.{after_all}
+use Rattle.metis_universe.specs.Terms.{Config, Universe, after_all, is_bound, pair_of, remove}
 use Rattle.metis_universe.proofs.Edits.{is_bound-remove, pair_of-remove}
-use Rattle.metis_rollout.specs.Rollout.{is_referenced, next_unreferenced, unreferenced_deletes_within}
+use Rattle.metis_rollout.specs.Terms.{is_referenced, next_unreferenced, unreferenced_deletes_within}
 use Rattle.metis_rollout.proofs.Quiet.{next_one, unreferenced_pair}
 use Rattle.metis_rollout.proofs.UnreferencedFacts.{bound_points}
 

@@ -9,11 +9,9 @@ use Rattle.metis_layers.proofs.LayerFacts.{found, layer_pair}
 use Rattle.metis_layers.proofs.Standing.{layer_in}
 use Rattle.metis_layers.proofs.Tables.{entries_count, entry}
 use Rattle.metis_layers.proofs.Ways.{all_has, in_range}
-use Rattle.metis_layers.specs.LayerOrder.{place_of}
-use Rattle.metis_universe.specs.Layers.{layered}
-use Rattle.metis_universe.specs.Selection.{provider_of}
-use Rattle.metis_universe.specs.Universe.{Universe, IsUniverse, has, pair_count, port_count, provided_of, provides}
-use Rattle.metis_rollout.specs.Holders.{AreFew, first_among, holder_at}
+use Rattle.metis_layers.specs.Terms.{place_of}
+use Rattle.metis_universe.specs.Terms.{IsUniverse, Universe, has, layered, pair_count, port_count, provided_of, provider_of, provides}
+use Rattle.metis_rollout.specs.Terms.{AreFew, first_among, holder_at}
 
 -- one more number of a list
 pub one_member : (xs : List ℕ) (i x p : ℕ) (now : Bool) → i < length xs → x ≡ get_or xs i x → now ≡ has (take i xs) p → (nat_eq x p || now) ≡ has (take (i + 1) xs) p

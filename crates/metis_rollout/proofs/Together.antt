@@ -3,17 +3,13 @@ use Rattle.std.proofs.Common.{◌≡◌, ℕ, Bool, true, false, not, ◌||◌, 
 use Rattle.std.specs.Prelude.{IsSome}
 use Rattle.std.proofs.lemmas.Bool.{false≢true}
 use Rattle.std.proofs.lemmas.List.Elements.{filter-append}
-use Rattle.metis_ids.specs.Action.{actor_of}
+use Rattle.metis_ids.specs.Terms.{actor_of}
 use Rattle.metis_ids.specs.declared.actions.Action.{Action}
 use Rattle.metis_ids.specs.declared.actions.Action.TheVariants.{New, Delete, Bind, Unbind, Move}
-use Rattle.metis_universe.specs.Universe.{Universe, has}
-use Rattle.metis_universe.specs.Config.{empty, pair_of, is_bound}
-use Rattle.metis_universe.specs.Step.{after_all}
+use Rattle.metis_universe.specs.Terms.{IsSteadfastRun, Universe, after_all, empty, has, is_bound, pair_of}
 use Rattle.metis_universe.proofs.Kept.{IsConfig-empty}
 use Rattle.metis_layers.proofs.Going.{GoesOn, at}
-use Rattle.metis_rollout.specs.Rollout.{fresh_name, news_of, renumbered}
-use Rattle.metis_rollout.specs.Standing.{AreTogether, IsRenamed, is_made}
-use Rattle.metis_universe.specs.Steadfast.{IsSteadfastRun}
+use Rattle.metis_rollout.specs.Terms.{AreTogether, IsRenamed, fresh_name, is_made, news_of, renumbered}
 use Rattle.metis_rollout.proofs.FreeNumbers.{free_number-apart, free_number-free, same_place}
 use Rattle.metis_rollout.proofs.Going.{going_from_steady, steady_from_going}
 use Rattle.metis_rollout.proofs.Renaming.{bound_ren, pair_ren, ren_goes, touches_ren}

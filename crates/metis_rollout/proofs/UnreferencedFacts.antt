@@ -14,13 +14,11 @@ use Rattle.std.proofs.lemmas.List.Elements.{recursion_from_All}
 use Rattle.std.proofs.lemmas.Map.Views.{any-filter_same}
 use Rattle.metis_ids.proofs.Lists.{above_rest}
 use Rattle.metis_ids.proofs.Tests.{eq_comm}
-use Rattle.metis_universe.specs.Universe.{has}
-use Rattle.metis_universe.specs.Config.{Binding, Config, IsConfig, config_of, is_bound, is_tie, remove, untie}
+use Rattle.metis_universe.specs.Terms.{Binding, Config, IsConfig, config_of, has, is_bound, is_tie, remove, untie}
 use Rattle.metis_universe.proofs.Edits.{tie_is}
 use Rattle.metis_universe.proofs.Sorted.{keys_of-filter}
 use Rattle.metis_config.proofs.Removed.{others}
-use Rattle.metis_rollout.specs.Unreferenced.{AreUnreferenced, AreUnreferencedBut, is_unreferenced}
-use Rattle.metis_rollout.specs.Rollout.{is_referenced, members, next_unreferenced}
+use Rattle.metis_rollout.specs.Terms.{AreUnreferenced, AreUnreferencedBut, is_referenced, is_unreferenced, members, next_unreferenced}
 use Rattle.metis_rollout.proofs.Going.{unpointed}
 use Rattle.metis_rollout.proofs.Quiet.{find_some, keys-has}
 

@@ -5,25 +5,21 @@ use Rattle.std.specs.List.{cons_option, find, range_with_len}
 use Rattle.std.specs.Map.{lookup}
 use Rattle.std.specs.Option.{option_map_or}
 use Rattle.std.proofs.lemmas.Bool.{eq-eqb, eqb-true, false≢true, or_cases}
-use Rattle.metis_layers.specs.LayerOrder.{place_of}
+use Rattle.metis_layers.specs.Terms.{place_of}
 use Rattle.std.specs.Ordering.{nat_cmp}
 use Rattle.std.specs.BTreeSet.{insert_key}
 use Rattle.std.proofs.lemmas.List.Elements.{filter_map-append}
 use Rattle.std.proofs.lemmas.List.Folds.{list_any-append}
 use Rattle.metis_universe.proofs.Ascending.{has-insert_key}
 use Rattle.metis_ids.specs.declared.actions.Action.TheVariants.{New, Delete, Bind, Unbind, Move}
-use Rattle.metis_rollout.specs.Rollout.{free_number, made_by, news_of, next_free}
+use Rattle.metis_rollout.specs.Terms.{free_number, is_made, made_by, news_of, next_free}
 use Rattle.std.proofs.lemmas.List.{take_all, take_more}
 use Rattle.metis_ids.specs.declared.actions.Action.{Action}
 use Rattle.metis_ids.proofs.Lists.{take_short}
-use Rattle.metis_universe.specs.Universe.{Universe, has}
-use Rattle.metis_universe.specs.Config.{Config, config_of}
-use Rattle.metis_universe.specs.Step.{Allows, IsRun, after, after_all}
+use Rattle.metis_universe.specs.Terms.{Allows, Config, IsRun, Universe, after, after_all, config_of, has, is_steadfast, is_steadfast_after}
 use Rattle.metis_layers.proofs.Going.{after_all-append}
 use Rattle.std.specs.BTreeMap.{insert_entry}
-use Rattle.metis_universe.specs.Steadfast.{is_steadfast, is_steadfast_after}
 use Rattle.metis_universe.proofs.Edits.{pair_of-put}
-use Rattle.metis_rollout.specs.Standing.{is_made}
 use Rattle.metis_rollout.proofs.FreeNumbers.{free_number-low}
 use Rattle.metis_rollout.proofs.Together.{has-news}
 use Rattle.metis_universe.proofs.Places.{steadfast_at}

@@ -12,11 +12,7 @@ use Rattle.std.specs.Prelude.{ℕ, ◌≡◌, ◌⊎◌, ◌+◌, ◌<◌, ◌�
 use Rattle.std.specs.List.{All}
 use Rattle.metis_ids.specs.declared.actions.Action.{Action}
 use Rattle.metis_ids.specs.declared.actions.Action.TheVariants.{New, Delete, Bind, Unbind, Move}
-use Rattle.metis_universe.specs.Universe.{Universe, has}
-use Rattle.metis_universe.specs.Config.{Config, empty, is_bound, pair_of}
-use Rattle.metis_universe.specs.Step.{after_all}
-use Rattle.metis_universe.specs.Steadfast.{IsSteadfastRun}
-use Rattle.metis_universe.specs.Waits.{IsKept, is_complete, picked}
+use Rattle.metis_universe.specs.Terms.{Config, IsKept, IsSteadfastRun, Universe, after_all, empty, has, is_bound, is_complete, pair_of, picked}
 use Rattle.metis_rollout.specs.Rollout.{renumbered, rollout}
 
 abbrev pub border : List Action → List Action → ℕ

@@ -8,12 +8,9 @@
 use Rattle.std.specs.Prelude.{ℕ, ◌+◌, ◌-◌, ◌≤◌, ◌≡◌, List, IsTrue, flat_map, length, map, replicate, slice_index_or}
 use Rattle.std.specs.List.{filter, range_with_len}
 use Rattle.std.specs.Option.{option_map_or}
-use Rattle.metis_universe.specs.Layers.{layer_of}
-use Rattle.metis_universe.specs.Selection.{origin_of, provider_of, slots_by}
-use Rattle.metis_universe.specs.Universe.{Universe, has, port_count}
-use Rattle.metis_layers.specs.LayerOrder.{path_to, place_of}
-use Rattle.metis_layers.specs.SlotLines.{slot_lines}
-use Rattle.metis_support.specs.Support.{Support, is_selected, layer_at, origin_at, provider_at, provider_pairs}
+use Rattle.metis_universe.specs.Terms.{Universe, has, layer_of, origin_of, port_count, provider_of, slots_by}
+use Rattle.metis_layers.specs.Terms.{path_to, place_of, slot_lines}
+use Rattle.metis_support.specs.Terms.{Support, is_selected, layer_at, origin_at, provider_at, provider_pairs}
 use Rattle.metis_rollout.specs.declared.scaffolding.Scaffold.{Scaffold}
 
 abbrev pub ends_among : Universe → Support → List ℕ → List ℕ

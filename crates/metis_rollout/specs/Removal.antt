@@ -9,10 +9,7 @@ use Rattle.std.specs.Prelude.{ℕ, ◌≡◌, ◌⊎◌, ◌&&◌, Bool, false, 
 use Rattle.std.specs.Option.{option_map_or}
 use Rattle.metis_ids.specs.declared.actions.Action.{Action}
 use Rattle.metis_ids.specs.declared.actions.Action.TheVariants.{New, Delete, Bind, Unbind, Move}
-use Rattle.metis_universe.specs.Universe.{Universe, requires}
-use Rattle.metis_universe.specs.Config.{Config, Correct, empty, is_bound, pair_of}
-use Rattle.metis_universe.specs.Step.{after_all}
-use Rattle.metis_universe.specs.Steadfast.{IsSteadfastRun}
+use Rattle.metis_universe.specs.Terms.{Config, Correct, IsSteadfastRun, Universe, after_all, empty, is_bound, pair_of, requires}
 use Rattle.metis_rollout.specs.Rollout.{among, ends_first, removal}
 use Rattle.metis_rollout.specs.Standing.{is_made}
 

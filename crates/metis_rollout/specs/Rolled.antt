@@ -3,12 +3,7 @@
 use Rattle.std.specs.Prelude.{ℕ, ◌≡◌, ◌<◌, ◌-◌, ◌^◌, List, ◌++◌, IsTrue, length}
 use Rattle.std.specs.List.{All}
 use Rattle.metis_ids.specs.declared.actions.Action.{Action}
-use Rattle.metis_universe.specs.Universe.{Universe, is_empty}
-use Rattle.metis_universe.specs.Config.{empty}
-use Rattle.metis_universe.specs.Goal.{Holds}
-use Rattle.metis_universe.specs.Numbers.{IsOf}
-use Rattle.metis_universe.specs.Step.{after_all}
-use Rattle.metis_universe.specs.Steadfast.{IsSteadfastRun}
+use Rattle.metis_universe.specs.Terms.{Holds, IsOf, IsSteadfastRun, Universe, after_all, empty, is_empty}
 use Rattle.metis_rollout.specs.Rollout.{cleared_by, members, renumbered, rollout}
 use Rattle.metis_rollout.specs.Standing.{AreTogether}
 

@@ -3,8 +3,7 @@
 --     AreUnreferenced goes c unreferenced      the list has exactly these
 --     AreUnreferencedBut goes c z unreferenced      all of them but z
 use Rattle.std.specs.Prelude.{ℕ, ◌≡◌, ◌==◌, ◌&&◌, not, Bool, List}
-use Rattle.metis_universe.specs.Universe.{has}
-use Rattle.metis_universe.specs.Config.{Config}
+use Rattle.metis_universe.specs.Terms.{Config, has}
 use Rattle.metis_rollout.specs.Rollout.{is_referenced, members}
 
 abbrev pub is_unreferenced : (ℕ → Bool) → Config → ℕ → Bool

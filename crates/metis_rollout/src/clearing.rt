@@ -3,11 +3,9 @@
 ghost use Rattle.std.specs.Prelude.{◌≡◌, ◌++◌, ◌∷◌, [], ℕ, IfOk, OnOk, IsTrue, map};
 ghost use Rattle.std.specs.List.{All, filter};
 ghost use Rattle.std.specs.List.Sorted.{IsStrictlySortedBy};
-ghost use Rattle.metis_config.specs.Over.{IsOver};
-ghost use Rattle.metis_universe.specs.Universe.{Universe};
-ghost use Rattle.metis_universe.specs.Config.{binding_cmp, is_bound, untie};
-ghost use Rattle.metis_universe.specs.Step.{after_all};
-ghost use Rattle.metis_rollout.specs.Rollout.{all_but, cleared_of, ends_first, first_unbinds, is_idle, left_of, unreferenced_deletes, unbind, untied_of};
+ghost use Rattle.metis_config.specs.Terms.{IsOver};
+ghost use Rattle.metis_universe.specs.Terms.{Universe, after_all, binding_cmp, is_bound, untie};
+ghost use Rattle.metis_rollout.specs.Terms.{all_but, cleared_of, ends_first, first_unbinds, is_idle, left_of, unbind, unreferenced_deletes, untied_of};
 
 use crate::staying::goes;
 use crate::unreferenced::{let_go, unreferenced_of};

@@ -1,11 +1,9 @@
 //! The removal of instances that are bound in cycles.
 ghost use Rattle.std.specs.Prelude.{◌≡◌, ◌+◌, ◌<◌, ◌≤◌, ◌^◌, ◌++◌, ℕ, IfOk, IsSome, OnOk, length, map};
 ghost use Rattle.std.specs.List.{All};
-ghost use Rattle.metis_universe.specs.Layers.{layer_of};
-ghost use Rattle.metis_universe.specs.Universe.{pair_count};
-ghost use Rattle.metis_layers.specs.Layers.{IsLayers};
-ghost use Rattle.metis_rollout.specs.Holders.{AreFew, holder_at};
-ghost use Rattle.metis_rollout.specs.Rollout.{bind, cycle_removal, deletes, downward, free_number, members, named, pairs_in, scaffold_bindings, unbind};
+ghost use Rattle.metis_universe.specs.Terms.{layer_of, pair_count};
+ghost use Rattle.metis_layers.specs.Terms.{IsLayers};
+ghost use Rattle.metis_rollout.specs.Terms.{AreFew, bind, cycle_removal, deletes, downward, free_number, holder_at, members, named, pairs_in, scaffold_bindings, unbind};
 
 use crate::lines::{holder_in, slots_needed_by};
 use crate::names::{name_of, names_for, push_renumbered};

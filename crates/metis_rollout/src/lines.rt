@@ -2,12 +2,10 @@
 ghost use Rattle.std.specs.Prelude.{◌≡◌, ◌<◌, ◌≤◌, ◌++◌, ◌∷◌, [], IfOk, IsTrue, OnOk, length, map};
 ghost use Rattle.std.specs.List.{All};
 ghost use Rattle.metis_ids.specs.declared.actions.Action.TheVariants.{New};
-ghost use Rattle.metis_universe.specs.Universe.{pair_count, port_count, type_of};
-ghost use Rattle.metis_layers.specs.LayerOrder.{path_to};
-ghost use Rattle.metis_layers.specs.SlotLines.{slot_binds, slot_line, slot_lines, slot_move, slot_unbinds, slots_above, slots_gained};
-ghost use Rattle.metis_support.specs.Support.{IsSupport, is_selected};
-ghost use Rattle.metis_rollout.specs.Holders.{AreFew, TellsTruly, holder_at};
-ghost use Rattle.metis_rollout.specs.Rollout.{slots_required};
+ghost use Rattle.metis_universe.specs.Terms.{pair_count, port_count, type_of};
+ghost use Rattle.metis_layers.specs.Terms.{path_to, slot_binds, slot_line, slot_lines, slot_move, slot_unbinds, slots_above, slots_gained};
+ghost use Rattle.metis_support.specs.Terms.{IsSupport, is_selected};
+ghost use Rattle.metis_rollout.specs.Terms.{AreFew, TellsTruly, holder_at, slots_required};
 
 use metis_ids::{Action, InstNo, IxVec, NoMemory, PairIx, PortIx};
 use metis_support::Support;

@@ -1,14 +1,9 @@
 //! From what stands to what is wanted.
 ghost use Rattle.std.specs.Prelude.{◌≡◌, ◌+◌, ◌<◌, ◌^◌, ◌++◌, ℕ, IfOk, OnOk, length};
 ghost use Rattle.std.specs.List.{All};
-ghost use Rattle.metis_universe.specs.Config.{empty};
-ghost use Rattle.metis_universe.specs.Numbers.{IsOf};
-ghost use Rattle.metis_universe.specs.Step.{after_all};
-ghost use Rattle.metis_universe.specs.Universe.{Universe, has};
-ghost use Rattle.metis_layers.specs.Layers.{IsLayers};
-ghost use Rattle.metis_rollout.specs.Rolled.{IsRollout};
-ghost use Rattle.metis_rollout.specs.Rollout.{free_number, news_of, renumbered};
-ghost use Rattle.metis_universe.specs.Steadfast.{IsSteadfastRun};
+ghost use Rattle.metis_universe.specs.Terms.{IsOf, IsSteadfastRun, Universe, after_all, empty, has};
+ghost use Rattle.metis_layers.specs.Terms.{IsLayers};
+ghost use Rattle.metis_rollout.specs.Terms.{IsRollout, free_number, news_of, renumbered};
 
 use crate::names::{made_by, names_for, next_free, push_renumbered};
 use crate::removing::remove;

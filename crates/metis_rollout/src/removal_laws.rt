@@ -2,16 +2,8 @@
 ghost use Rattle.std.specs.Prelude.{◌≡◌, ◌⊎◌, ◌++◌, ◌+◌, ◌*◌, ◌-◌, ◌^◌, ◌<◌, ◌≤◌, Bool, length, ℕ, List, IsTrue};
 ghost use Rattle.std.specs.List.{All};
 ghost use Rattle.metis_ids.specs.declared.actions.Action.{Action};
-ghost use Rattle.metis_universe.specs.Universe.{Universe, IsTable, IsUniverse};
-ghost use Rattle.metis_universe.specs.Config.{Config, empty};
-ghost use Rattle.metis_universe.specs.Goal.{Holds};
-ghost use Rattle.metis_universe.specs.Numbers.{IsOf};
-ghost use Rattle.metis_universe.specs.Step.{IsRun, after_all};
-ghost use Rattle.metis_universe.specs.Steadfast.{IsSteadfastRun};
-ghost use Rattle.metis_universe.specs.Waits.{IsKept, is_complete, picked};
-ghost use Rattle.metis_rollout.specs.Guarded.{HasEach, IsBeside, IsGuardedAt, KeepsStanding, StandsIn};
-ghost use Rattle.metis_rollout.specs.Removal.{CanTake, GoesApart, IsWithout, Removing, taking};
-ghost use Rattle.metis_rollout.specs.Rollout.{all_go, among, removal};
+ghost use Rattle.metis_universe.specs.Terms.{Config, Holds, IsKept, IsOf, IsRun, IsSteadfastRun, IsTable, IsUniverse, Universe, after_all, empty, is_complete, picked};
+ghost use Rattle.metis_rollout.specs.Terms.{CanTake, GoesApart, HasEach, IsBeside, IsGuardedAt, IsWithout, KeepsStanding, Removing, StandsIn, all_go, among, removal, taking};
 
 /// Where what stays is served by what stays, all that goes is removed by a list that goes on steadily.
 pub fn removal_goes_on()

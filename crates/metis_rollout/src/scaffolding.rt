@@ -2,13 +2,10 @@
 ghost use Rattle.std.specs.Prelude.{◌≡◌, ◌<◌, ◌≤◌, ℕ, IfOk, IsSome, IsTrue, length, map};
 ghost use Rattle.std.specs.List.{All, filter, range_with_len, slice_index_or};
 ghost use Rattle.std.specs.Option.{option_map_or};
-ghost use Rattle.metis_universe.specs.Layers.{layer_of};
-ghost use Rattle.metis_universe.specs.Universe.{has, pair_count, port_count};
-ghost use Rattle.metis_layers.specs.LayerOrder.{place_of};
-ghost use Rattle.metis_layers.specs.Layers.{IsLayers};
-ghost use Rattle.metis_support.specs.Support.{IsSupport, is_selected, provider_pairs};
-ghost use Rattle.metis_rollout.specs.Holders.{AreFew, IsScaffoldIn, TellsTruly, ends_among, first_among};
-ghost use Rattle.metis_rollout.specs.Rollout.{scaffold_ends, scaffold_list};
+ghost use Rattle.metis_universe.specs.Terms.{has, layer_of, pair_count, port_count};
+ghost use Rattle.metis_layers.specs.Terms.{IsLayers, place_of};
+ghost use Rattle.metis_support.specs.Terms.{IsSupport, is_selected, provider_pairs};
+ghost use Rattle.metis_rollout.specs.Terms.{AreFew, IsScaffoldIn, TellsTruly, ends_among, first_among, scaffold_ends, scaffold_list};
 
 use crate::lines::lines_to;
 use crate::slots::repeated;

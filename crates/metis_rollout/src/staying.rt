@@ -1,6 +1,6 @@
 //! What goes: all but the instances of a set.
 ghost use Rattle.std.specs.Prelude.{◌≡◌};
-ghost use Rattle.metis_rollout.specs.Rollout.{all_but, among};
+ghost use Rattle.metis_rollout.specs.Terms.{all_but, among};
 
 use metis_config::Config;
 use metis_ids::InstNo;

@@ -1,9 +1,7 @@
 //! The instances to which no binding points, kept at hand while they are removed one by one.
 ghost use Rattle.std.specs.Prelude.{◌≡◌, ◌==◌, ◌&&◌, ◌||◌, ℕ, IfOk, IsFalse, OnOk, not};
-ghost use Rattle.metis_universe.specs.Config.{remove};
-ghost use Rattle.metis_universe.specs.Universe.{has};
-ghost use Rattle.metis_rollout.specs.Unreferenced.{AreUnreferenced, AreUnreferencedBut};
-ghost use Rattle.metis_rollout.specs.Rollout.{all_but, is_referenced};
+ghost use Rattle.metis_universe.specs.Terms.{has, remove};
+ghost use Rattle.metis_rollout.specs.Terms.{AreUnreferenced, AreUnreferencedBut, all_but, is_referenced};
 
 use crate::staying::goes;
 use metis_config::Config;

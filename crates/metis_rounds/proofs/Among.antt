@@ -4,12 +4,11 @@ use Rattle.std.specs.Prelude.{◌⊎◌}
 use Rattle.std.specs.List.{filter, list_any}
 use Rattle.std.proofs.lemmas.Bool.{false≢true, both_ways, or_cases, or_left, or_right, cases_lt}
 use Rattle.metis_ids.specs.declared.events.Event.{Event}
-use Rattle.metis_lines.specs.AbstractPlan.{AbstractPlan}
-use Rattle.metis_lines.specs.Events.{events, is_among, is_event, is_go, is_return, is_start, precedes, same_event}
+use Rattle.metis_lines.specs.Terms.{AbstractPlan, events, is_among, is_event, is_go, is_return, is_start, precedes, same_event}
 use Rattle.metis_lines.proofs.SameEvents.{same_events, same_itself}
 use Rattle.metis_support.proofs.Lists.{any-append_left, any-append_right}
 use Rattle.metis_events.proofs.AllEvents.{all_events}
-use Rattle.metis_rounds.specs.Stuck.{IsHeldUp, IsStuck, has_before, stuck_events, stuck_within, with_before}
+use Rattle.metis_rounds.specs.Terms.{IsHeldUp, IsStuck, has_before, stuck_events, stuck_within, with_before}
 
 -- ---- members
 

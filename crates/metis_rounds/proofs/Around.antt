@@ -4,7 +4,7 @@ use Rattle.std.specs.List.{list_all}
 use Rattle.std.proofs.lemmas.Bool.{and_from}
 use Rattle.metis_ids.specs.declared.events.Event.{Event}
 use Rattle.metis_ids.specs.declared.events.Event.TheVariants.{End}
-use Rattle.metis_lines.specs.Events.{around, with_next}
+use Rattle.metis_lines.specs.Terms.{around, with_next}
 
 abbrev pub no_pair : Event × Event
 no_pair = (End, End)

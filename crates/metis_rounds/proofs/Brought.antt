@@ -7,12 +7,10 @@ use Rattle.std.proofs.lemmas.List.{append_assoc, append-nil, take_more}
 use Rattle.std.proofs.lemmas.List.Folds.{list_any-append}
 use Rattle.metis_ids.specs.declared.events.Event.{Event}
 use Rattle.metis_ids.specs.declared.events.Event.TheVariants.{At, End}
-use Rattle.metis_lines.specs.AbstractPlan.{AbstractPlan, is_target, last, line_count, stations}
-use Rattle.metis_lines.specs.Events.{is_among, is_end, leaving, same_event, step_count}
+use Rattle.metis_lines.specs.Terms.{AbstractPlan, is_among, is_end, is_target, last, leaving, line_count, same_event, stations, step_count}
 use Rattle.metis_lines.proofs.SameEvents.{same_events, same_itself}
 use Rattle.metis_events.proofs.Adding.{joined_more}
-use Rattle.metis_rounds.specs.Returns.{Brings}
-use Rattle.metis_rounds.specs.Tables.{HasRows, Rows, has_row, row_at}
+use Rattle.metis_rounds.specs.Terms.{Brings, HasRows, Rows, has_row, row_at}
 
 both_ors : (n t v x : Bool) → ((n && v) || ((n && t) || x)) ≡ ((n && (t || v)) || x)
 both_ors false t v x = refl

@@ -10,29 +10,23 @@ use Rattle.std.proofs.lemmas.List.FromFn.{map-range_with_len_more}
 use Rattle.std.proofs.lemmas.Map.Keys.{Less-from_sorted}
 use Rattle.std.proofs.lemmas.Map.Made.{length-remove_key}
 use Rattle.std.specs.Cmp.{both_ways as same_bool}
-use Rattle.metis_ids.specs.Cycle.{before_in, cycle_of, from_first, stuck, visit, visits}
-use Rattle.metis_ids.specs.Graph.{Graph, is_edge}
-use Rattle.metis_ids.specs.Lists.{has}
+use Rattle.metis_ids.specs.Terms.{Graph, before_in, cycle_of, from_first, has, is_edge, stuck, visit, visits}
 use Rattle.metis_ids.specs.declared.events.Event.{Event}
 use Rattle.metis_ids.specs.declared.events.Event.TheVariants.{End}
 use Rattle.metis_ids.proofs.Stuck.{stuck_ascend, stuck_before, within}
 use Rattle.metis_ids.proofs.Walks.{before_there, visit_there}
-use Rattle.metis_universe.specs.Universe.{Universe}
-use Rattle.metis_lines.specs.AbstractPlan.{AbstractPlan}
-use Rattle.metis_lines.specs.Events.{event_cmp, events, is_among, is_event, precedes, same_event}
-use Rattle.metis_lines.specs.Soundness.{IsFormed}
+use Rattle.metis_universe.specs.Terms.{Universe}
+use Rattle.metis_lines.specs.Terms.{AbstractPlan, IsFormed, event_cmp, events, is_among, is_event, precedes, same_event}
 use Rattle.metis_lines.proofs.SameEvents.{same_events, same_itself}
 use Rattle.metis_sort.proofs.CycleFacts.{walk_ends}
 use Rattle.metis_events.proofs.AllEvents.{all_events, events_ascend}
 use Rattle.metis_events.proofs.Befores.{found, number_of_event}
 use Rattle.metis_events.proofs.Numbered.{graph_of_plan}
-use Rattle.metis_events.specs.Edges.{graph_of}
-use Rattle.metis_events.specs.Numbered.{IsGraphOf, dag_of, nth_event}
+use Rattle.metis_events.specs.Terms.{IsGraphOf, dag_of, graph_of, nth_event}
 use Rattle.metis_rounds.proofs.Kept.{stuck_event, walk_stuck}
 use Rattle.metis_rounds.proofs.Numbered.{among_mapped, mapped, stuck_numbers}
 use Rattle.metis_rounds.proofs.Steps.{apart_push}
-use Rattle.metis_rounds.specs.Stuck.{is_stuck}
-use Rattle.metis_rounds.specs.Walks.{IsApart, IsLeastBefore, IsWalk, from_step, place_in, step_at}
+use Rattle.metis_rounds.specs.Terms.{IsApart, IsLeastBefore, IsWalk, from_step, is_stuck, place_in, step_at}
 
 -- ---- a walk begins, and goes on
 

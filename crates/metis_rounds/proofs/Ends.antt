@@ -6,29 +6,23 @@ use Rattle.std.proofs.lemmas.List.{get_or-map, length-map}
 use Rattle.metis_ids.proofs.Orders.{cycle_with}
 use Rattle.metis_ids.proofs.Stuck.{IsStuck-stuck}
 use Rattle.metis_ids.proofs.Walks.{cycle_of-cycle, cycle_stuck}
-use Rattle.metis_ids.specs.Cycle.{HasCycle, IsCycle, cycle_of, stuck}
-use Rattle.metis_ids.specs.Graph.{Graph}
-use Rattle.metis_ids.specs.Lists.{has}
+use Rattle.metis_ids.specs.Terms.{Graph, HasCycle, IsCycle, cycle_of, has, stuck}
 use Rattle.metis_ids.specs.declared.events.Event.{Event}
 use Rattle.metis_ids.specs.declared.events.Event.TheVariants.{At, End}
 use Rattle.metis_ids.proofs.Lists.{has_at, place_of}
-use Rattle.metis_universe.specs.Universe.{Universe}
+use Rattle.metis_universe.specs.Terms.{Universe}
 use Rattle.metis_support.proofs.Lists.{first_passes}
-use Rattle.metis_lines.specs.AbstractPlan.{AbstractPlan, is_there, line_count, stations}
-use Rattle.metis_lines.specs.Events.{around, is_move, is_return, is_return_into_move, step_count}
-use Rattle.metis_lines.specs.Soundness.{IsFormed, Rises, StandsOnLower}
+use Rattle.metis_lines.specs.Terms.{AbstractPlan, IsFormed, Rises, StandsOnLower, around, is_move, is_return, is_return_into_move, is_there, line_count, stations, step_count}
 use Rattle.metis_events.proofs.Befores.{event_of_node}
 use Rattle.metis_events.proofs.Numbered.{graph_of_plan}
 use Rattle.metis_events.proofs.Ranks.{cycle_returns}
-use Rattle.metis_events.specs.Edges.{graph_of}
-use Rattle.metis_events.specs.Numbered.{IsGraphOf, dag_of, nth_event}
+use Rattle.metis_events.specs.Terms.{IsGraphOf, dag_of, graph_of, nth_event}
 use Rattle.metis_rounds.proofs.Among.{stuck_greatest}
 use Rattle.metis_rounds.proofs.Around.{around_count, around_inside, around_last, no_pair}
 use Rattle.metis_rounds.proofs.Cycles.{cycle_is_round}
 use Rattle.metis_rounds.proofs.Numbered.{stuck_numbers}
 use Rattle.metis_rounds.proofs.Reaches.{stuck_left}
-use Rattle.metis_rounds.specs.Reach.{HasEnded, HasStopped, IsSafe, is_taken, taken_of}
-use Rattle.metis_rounds.specs.Stuck.{is_stuck}
+use Rattle.metis_rounds.specs.Terms.{HasEnded, HasStopped, IsSafe, is_stuck, is_taken, taken_of}
 
 -- the first of each pair around a list is of the list
 around_first : (es : List Event) (k : ℕ) → k < length (around es) → (get_or (around es) k no_pair).0 ≡ get_or es k End

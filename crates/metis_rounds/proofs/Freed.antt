@@ -3,13 +3,11 @@ use Rattle.std.proofs.Common.{◌≡◌, ℕ, zero, suc, ◌+◌, ◌-◌, ◌<�
 use Rattle.std.proofs.lemmas.Bool.{false≢true, both_ways, cases_eq, or_cases, false_from_ne_true, cond-true}
 use Rattle.metis_ids.specs.declared.events.Event.{Event}
 use Rattle.metis_ids.specs.declared.events.Event.TheVariants.{At, End}
-use Rattle.metis_lines.specs.AbstractPlan.{AbstractPlan, last}
-use Rattle.metis_lines.specs.Events.{is_among, is_event, precedes, same_event}
+use Rattle.metis_lines.specs.Terms.{AbstractPlan, is_among, is_event, last, precedes, same_event}
 use Rattle.metis_lines.proofs.SameEvents.{same_events, same_itself}
 use Rattle.metis_rounds.proofs.Among.{among_append, among_left, among_map, among_right, any_among, of_map, some_among, stuck_greatest}
 use Rattle.metis_rounds.proofs.Twins.{along, follows, line_event, old_event, to_end, twin_event}
-use Rattle.metis_rounds.specs.OwnLine.{IsWithOwnLine, twin}
-use Rattle.metis_rounds.specs.Stuck.{IsHeldUp, has_before, stuck_events}
+use Rattle.metis_rounds.specs.Terms.{IsHeldUp, IsWithOwnLine, has_before, stuck_events, twin}
 
 -- ---- the events of a line, from one on
 

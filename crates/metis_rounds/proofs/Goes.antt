@@ -6,22 +6,17 @@ use Rattle.std.proofs.Math.Bool.{or-false}
 use Rattle.std.proofs.lemmas.Bool.{false≢true, true≢false, both_ways, and_parts, and_from, or_cases, or_left, or_right, cases_eq, cases_Bool, cond-false, cond_both, eqb-true, eq-eqb, ne_eqb, ltb-true, lt-ltb, le-ltb, ltb-false, false_from_ne_true}
 use Rattle.std.proofs.lemmas.List.Sums.{sum_by-cons}
 use Rattle.std.proofs.lemmas.List.{get_or-set_same, get_or-set_other}
-use Rattle.metis_ids.specs.Lists.{has}
+use Rattle.metis_ids.specs.Terms.{has}
 use Rattle.metis_ids.specs.declared.events.Event.{Event}
 use Rattle.metis_ids.specs.declared.events.Event.TheVariants.{At, End}
-use Rattle.metis_universe.specs.Universe.{Universe}
-use Rattle.metis_support.specs.Support.{Support}
-use Rattle.metis_lines.specs.AbstractPlan.{AbstractPlan}
-use Rattle.metis_lines.specs.Events.{is_among, is_end, is_event, precedes, same_event, step_count}
-use Rattle.metis_lines.specs.LifeLines.{LifeLines, plan_of}
+use Rattle.metis_universe.specs.Terms.{Universe}
+use Rattle.metis_support.specs.Terms.{Support}
+use Rattle.metis_lines.specs.Terms.{AbstractPlan, LifeLines, is_among, is_end, is_event, plan_of, precedes, same_event, step_count}
 use Rattle.metis_lines.proofs.SameEvents.{same_events, same_itself}
 use Rattle.metis_rounds.proofs.Among.{any_among}
 use Rattle.metis_rounds.proofs.Reaches.{next_safe}
 use Rattle.metis_rounds.proofs.Steps.{among_push}
-use Rattle.metis_rounds.specs.Going.{HasSeen, IsGoing, IsWaiting, all_taken, event_count, is_on, next_uses, use_at, use_event, uses_at}
-use Rattle.metis_rounds.specs.Reach.{HasAllBefore, WaitsFor, is_taken, next_of, taken_of, with_next}
-use Rattle.metis_rounds.specs.Tables.{HasRows, Rows, has_row, row_at}
-use Rattle.metis_rounds.specs.Walks.{step_at}
+use Rattle.metis_rounds.specs.Terms.{HasAllBefore, HasRows, HasSeen, IsGoing, IsWaiting, Rows, WaitsFor, all_taken, event_count, has_row, is_on, is_taken, next_of, next_uses, row_at, step_at, taken_of, use_at, use_event, uses_at, with_next}
 use Rattle.metis_rounds.specs.declared.going.Going.{Going}
 
 -- ---- one event more is taken

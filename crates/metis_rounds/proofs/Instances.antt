@@ -5,14 +5,12 @@ use Rattle.std.proofs.lemmas.Bool.{both_ways, and_parts, and_from, cases_Bool, c
 use Rattle.std.proofs.lemmas.List.{get_or_append_left, get_or-append_right, get_or-map, length-append, length_push}
 use Rattle.std.proofs.lemmas.Option.{same_Some}
 use Rattle.metis_ids.proofs.Lists.{has_at, has_one}
-use Rattle.metis_universe.specs.Universe.{Universe, IsUniverse, demand_of, has}
-use Rattle.metis_layers.specs.LayerOrder.{place_of}
-use Rattle.metis_support.specs.Support.{Support, IsSupport, is_selected, level_at, path_to, provider_at, provider_pairs}
+use Rattle.metis_universe.specs.Terms.{IsUniverse, Universe, demand_of, has}
+use Rattle.metis_layers.specs.Terms.{place_of}
+use Rattle.metis_support.specs.Terms.{IsSupport, Support, is_selected, level_at, path_to, provider_at, provider_pairs}
 use Rattle.metis_support.proofs.Lists.{has-append_cases, member}
 use Rattle.metis_support.proofs.Paths.{OriginsFall, origins_fall, place_at_end}
-use Rattle.metis_lines.specs.AbstractPlan.{AbstractPlan, Supply, is_supplied}
-use Rattle.metis_lines.specs.LifeLines.{LifeLines, ends_in, holder_line, holder_of, holding, is_loose, later_ends, line_at, line_ends, lines_of, other_ends, plan_of, slot_holding, slot_line, slots}
-use Rattle.metis_lines.specs.Soundness.{IsSound}
+use Rattle.metis_lines.specs.Terms.{AbstractPlan, IsSound, LifeLines, Supply, ends_in, holder_line, holder_of, holding, is_loose, is_supplied, later_ends, line_at, line_ends, lines_of, other_ends, plan_of, slot_holding, slot_line, slots}
 use Rattle.metis_lines.proofs.Holders.{chosen_end, count, counted, held, held_on, own_holder, slot_at}
 use Rattle.metis_lines.proofs.OwnLines.{any_right, chosen, lines_are, longer, not_own, old_line, same_holder, way_to}
 use Rattle.metis_lines.proofs.Pushes.{new_first}
@@ -21,7 +19,7 @@ use Rattle.metis_lines.proofs.Slotted.{held_first, held_slot, no_slot, none_slot
 use Rattle.metis_lines.proofs.Sound.{IsSupplied, chosen as chosen_at, first_is, later_is, place_pair, provider_listed, sound, supplied}
 use Rattle.metis_rounds.proofs.Begun.{IsBegun, begun, path_is, place_on}
 use Rattle.metis_rounds.proofs.Twins.{new_twin, old_twin}
-use Rattle.metis_rounds.specs.OwnLine.{HasMoved, IsWithOwnLine, moved_supply, twin_line, twin_supply}
+use Rattle.metis_rounds.specs.Terms.{HasMoved, IsWithOwnLine, moved_supply, twin_line, twin_supply}
 
 same_supply : (a b : Supply) → a.line ≡ b.line → a.station ≡ b.station → a.port ≡ b.port → a.slot ≡ b.slot → a.holder ≡ b.holder → a.place ≡ b.place → a ≡ b
 same_supply a b line station port slot holder place = λ j. record { line = line j; station = station j; port = port j; slot = slot j; holder = holder j; place = place j }

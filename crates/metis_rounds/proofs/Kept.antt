@@ -10,8 +10,7 @@ use Rattle.std.proofs.lemmas.List.{get_or-take, length-take}
 use Rattle.std.proofs.lemmas.List.Sums.{fails_before_first, passes_at_first}
 use Rattle.metis_ids.specs.declared.events.Event.{Event}
 use Rattle.metis_ids.specs.declared.events.Event.TheVariants.{At, End}
-use Rattle.metis_lines.specs.AbstractPlan.{AbstractPlan, last, line_count}
-use Rattle.metis_lines.specs.Events.{event_cmp, is_among, is_end, is_event, is_go, is_return, is_return_of, is_start, is_start_of, precedes, same_event, step_count}
+use Rattle.metis_lines.specs.Terms.{AbstractPlan, event_cmp, is_among, is_end, is_event, is_go, is_return, is_return_of, is_start, is_start_of, last, line_count, precedes, same_event, step_count}
 use Rattle.metis_lines.proofs.SameEvents.{same_events, same_turned}
 use Rattle.metis_support.proofs.Lists.{member}
 use Rattle.metis_rounds.proofs.Among.{follows_stuck, stuck_greatest}
@@ -19,9 +18,7 @@ use Rattle.metis_rounds.proofs.Freed.{stuck_twin}
 use Rattle.metis_rounds.proofs.Stays.{edge_stays}
 use Rattle.metis_rounds.proofs.Steps.{among_taken, apart_take}
 use Rattle.metis_rounds.proofs.Twins.{follows, kept_event, old_event, old_last, old_or_new, old_twin}
-use Rattle.metis_rounds.specs.OwnLine.{HasMoved, IsWithOwnLine, twin_line}
-use Rattle.metis_rounds.specs.Stuck.{is_stuck}
-use Rattle.metis_rounds.specs.Walks.{IsKept, IsWalk, entry_place, kept_count, kept_steps, place_in, step_at}
+use Rattle.metis_rounds.specs.Terms.{HasMoved, IsKept, IsWalk, IsWithOwnLine, entry_place, is_stuck, kept_count, kept_steps, place_in, step_at, twin_line}
 
 -- ---- what is kept, and walks
 

@@ -5,19 +5,16 @@ use Rattle.std.specs.Option.{option_and_then}
 use Rattle.std.proofs.lemmas.Bool.{false≢true, and_from, and_parts, or_left, or_right, lt-ltb}
 use Rattle.metis_ids.specs.declared.events.Event.{Event}
 use Rattle.metis_ids.specs.declared.events.Event.TheVariants.{At, End}
-use Rattle.metis_universe.specs.Universe.{Universe, IsUniverse, has}
+use Rattle.metis_universe.specs.Terms.{IsUniverse, Universe, has}
 use Rattle.metis_support.proofs.Paths.{origins_fall}
-use Rattle.metis_support.specs.Support.{Support, IsSupport, is_selected, provider_pairs}
+use Rattle.metis_support.specs.Terms.{IsSupport, Support, is_selected, provider_pairs}
 use Rattle.metis_lines.proofs.Slotted.{held_first}
 use Rattle.metis_lines.proofs.Holders.{held, provider_chosen}
-use Rattle.metis_lines.specs.AbstractPlan.{AbstractPlan, last, station_at}
-use Rattle.metis_lines.specs.Events.{around, has_return_into_move, is_cycle, is_move, is_return, is_return_into_move, same_event}
-use Rattle.metis_lines.specs.Justified.{leads_on}
-use Rattle.metis_lines.specs.LifeLines.{AreLines, LifeLines, holder_of, holding, is_loose, lines_of, plan_of}
+use Rattle.metis_lines.specs.Terms.{AbstractPlan, AreLines, LifeLines, around, has_return_into_move, holder_of, holding, is_cycle, is_loose, is_move, is_return, is_return_into_move, last, leads_on, lines_of, plan_of, same_event, station_at}
 use Rattle.metis_lines.proofs.SameEvents.{same_itself}
 use Rattle.metis_events.proofs.Instances.{returns_from_loose, rounds_return}
 use Rattle.metis_events.proofs.Returns.{return_from_supply}
-use Rattle.metis_rounds.specs.Forced.{doubled_by, left_by}
+use Rattle.metis_rounds.specs.Terms.{doubled_by, left_by}
 
 -- ---- what a search finds
 

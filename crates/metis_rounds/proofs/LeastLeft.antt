@@ -10,21 +10,16 @@ use Rattle.std.proofs.lemmas.List.Sums.{fold-append}
 use Rattle.metis_ids.specs.declared.events.Event.{Event}
 use Rattle.metis_ids.specs.declared.events.Event.TheVariants.{At, End}
 use Rattle.metis_ids.proofs.Lists.{list_any-map}
-use Rattle.metis_universe.specs.Universe.{Universe, IsUniverse}
+use Rattle.metis_universe.specs.Terms.{IsUniverse, Universe}
 use Rattle.metis_support.proofs.Lists.{member}
-use Rattle.metis_support.specs.Support.{Support, IsSupport}
-use Rattle.metis_lines.specs.AbstractPlan.{AbstractPlan, last, line_count}
-use Rattle.metis_lines.specs.Events.{event_cmp, is_among, is_event, is_go, is_return, is_start, is_start_of, precedes, same_event}
-use Rattle.metis_lines.specs.LifeLines.{AreLines, LifeLines, plan_of}
+use Rattle.metis_support.specs.Terms.{IsSupport, Support}
+use Rattle.metis_lines.specs.Terms.{AbstractPlan, AreLines, LifeLines, event_cmp, is_among, is_event, is_go, is_return, is_start, is_start_of, last, line_count, plan_of, precedes, same_event}
 use Rattle.metis_lines.proofs.SameEvents.{same_events}
 use Rattle.metis_events.proofs.Befores.{event_equal}
 use Rattle.metis_events.proofs.Targets.{equal_events, event_total}
 use Rattle.metis_rounds.proofs.Among.{by_go, by_return, by_start, among_append, among_first, among_left, among_right}
 use Rattle.metis_rounds.proofs.Seen.{starts_at}
-use Rattle.metis_rounds.specs.Going.{use_event, uses_at}
-use Rattle.metis_rounds.specs.Least.{IsFirstLeft, least_left, lesser_of, on_line_before, with_left}
-use Rattle.metis_rounds.specs.Reach.{HasAllBefore, HasEnded, IsLeastLeft, is_taken, taken_of}
-use Rattle.metis_rounds.specs.Tables.{HasReturns, Rows, row_at}
+use Rattle.metis_rounds.specs.Terms.{HasAllBefore, HasEnded, HasReturns, IsFirstLeft, IsLeastLeft, Rows, is_taken, least_left, lesser_of, on_line_before, row_at, taken_of, use_event, uses_at, with_left}
 
 -- ---- the least of what has a property
 

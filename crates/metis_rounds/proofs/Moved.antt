@@ -7,12 +7,10 @@ use Rattle.std.specs.Cmp.{both_ways as same_bool}
 use Rattle.metis_ids.specs.declared.events.Event.{Event}
 use Rattle.metis_ids.specs.declared.events.Event.TheVariants.{At, End}
 use Rattle.metis_ids.proofs.Lists.{any_contained}
-use Rattle.metis_universe.specs.Universe.{Universe}
-use Rattle.metis_support.specs.Support.{IsSupport, Support}
+use Rattle.metis_universe.specs.Terms.{Universe}
+use Rattle.metis_support.specs.Terms.{IsSupport, Support}
 use Rattle.metis_support.proofs.Lists.{any_in_row, member}
-use Rattle.metis_lines.specs.AbstractPlan.{AbstractPlan, Supply, is_target, last, line_count, stations}
-use Rattle.metis_lines.specs.Events.{is_among, is_end, is_event, is_return, is_return_of, leaving, same_event, step_count}
-use Rattle.metis_lines.specs.LifeLines.{AreLines, LifeLines, line_supplies, plan_of}
+use Rattle.metis_lines.specs.Terms.{AbstractPlan, AreLines, LifeLines, Supply, is_among, is_end, is_event, is_return, is_return_of, is_target, last, leaving, line_count, line_supplies, plan_of, same_event, stations, step_count}
 use Rattle.metis_lines.proofs.SameEvents.{same_events, same_itself}
 use Rattle.metis_events.proofs.AllEvents.{in_row}
 use Rattle.metis_events.proofs.Ranks.{leaving_by}
@@ -20,9 +18,7 @@ use Rattle.metis_rounds.proofs.Supplied.{of_line, one_holder}
 use Rattle.metis_rounds.proofs.Tests.{found}
 use Rattle.metis_rounds.proofs.Twins as twins
 use Rattle.metis_rounds.proofs.Twins.{there_low}
-use Rattle.metis_rounds.specs.OwnLine.{HasMoved, IsWithOwnLine, is_from, moved_supply, twin_line, twin_supply}
-use Rattle.metis_rounds.specs.Returns.{Brings}
-use Rattle.metis_rounds.specs.Tables.{HasGrown, HasReturns, HasRows, Rows, has_row, row_at}
+use Rattle.metis_rounds.specs.Terms.{Brings, HasGrown, HasMoved, HasReturns, HasRows, IsWithOwnLine, Rows, has_row, is_from, moved_supply, row_at, twin_line, twin_supply}
 
 -- ---- return edges
 

@@ -4,10 +4,8 @@ use Rattle.std.specs.Prelude.{is_some}
 use Rattle.std.proofs.lemmas.Bool.{and_from, and_parts, and_left, and_right, cond-true, cond-false, false≢true}
 use Rattle.metis_ids.specs.declared.events.Event.{Event}
 use Rattle.metis_ids.specs.declared.events.Event.TheVariants.{At, End}
-use Rattle.metis_lines.specs.AbstractPlan.{AbstractPlan, station_at, stations}
-use Rattle.metis_lines.specs.Events.{is_among, is_move, is_return, is_return_into_move}
-use Rattle.metis_rounds.specs.Tables.{HasReturns, Rows, row_at}
-use Rattle.metis_rounds.specs.Forced.{left_by}
+use Rattle.metis_lines.specs.Terms.{AbstractPlan, is_among, is_move, is_return, is_return_into_move, station_at, stations}
+use Rattle.metis_rounds.specs.Terms.{HasReturns, Rows, left_by, row_at}
 
 module _ (w : AbstractPlan) (t : Rows) (has : HasReturns w t) where
   pub left : (e f : Event) (l j p : ℕ) → f ≡ At l j → (nat_le 1 j && nat_lt j (length (stations w l))) ≡ true → is_among (row_at t f) e ≡ true → p ≡ station_at w l (j - 1) → Some p ≡ cond (is_return_into_move w e f) (left_by w f) None

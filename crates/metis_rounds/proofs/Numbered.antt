@@ -5,20 +5,17 @@ use Rattle.std.proofs.lemmas.Bool.{false≢true, and_parts, and_from, or_cases, 
 use Rattle.std.proofs.lemmas.List.Folds.{list_any_at}
 use Rattle.std.specs.Cmp.{both_ways as same_bool}
 use Rattle.metis_ids.proofs.Stuck.{IsStuck-stuck}
-use Rattle.metis_ids.specs.Cycle.{has_before, stuck}
-use Rattle.metis_ids.specs.Graph.{Graph, all_nodes, is_edge}
-use Rattle.metis_ids.specs.Lists.{has}
+use Rattle.metis_ids.specs.Terms.{Graph, all_nodes, has, has_before, is_edge, stuck}
 use Rattle.metis_ids.specs.declared.events.Event.{Event}
 use Rattle.metis_ids.specs.declared.events.Event.TheVariants.{End}
 use Rattle.metis_ids.proofs.Lists.{any_at, has-filter, has_below, has_here, some_member}
-use Rattle.metis_lines.specs.AbstractPlan.{AbstractPlan}
-use Rattle.metis_lines.specs.Events.{events, is_among, is_event, precedes, same_event}
+use Rattle.metis_lines.specs.Terms.{AbstractPlan, events, is_among, is_event, precedes, same_event}
 use Rattle.metis_lines.proofs.SameEvents.{same_events, same_itself}
 use Rattle.metis_events.proofs.AllEvents.{all_events}
 use Rattle.metis_events.proofs.Befores.{event_of_node}
-use Rattle.metis_events.specs.Numbered.{IsGraphOf, nth_event}
+use Rattle.metis_events.specs.Terms.{IsGraphOf, nth_event}
 use Rattle.metis_rounds.proofs.Among.{any_among, some_among, stuck_greatest}
-use Rattle.metis_rounds.specs.Stuck.{IsHeldUp, is_stuck, stuck_events}
+use Rattle.metis_rounds.specs.Terms.{IsHeldUp, is_stuck, stuck_events}
 
 -- ---- events of numbers
 

@@ -2,20 +2,14 @@
 use Rattle.std.proofs.Common.{◌≡◌, ℕ, ◌+◌, ◌<◌, ◌++◌, ◌∷◌, [], length, slice_index_or, true, Some, sym, ap, ◌∙◌, subst, arith}
 use Rattle.std.specs.Prelude.{Option}
 use Rattle.metis_ids.specs.declared.events.Event.TheVariants.{At}
-use Rattle.metis_universe.specs.Universe.{Universe, IsTable, has}
-use Rattle.metis_support.specs.Support.{Support, IsSupport}
-use Rattle.metis_lines.specs.AbstractPlan.{AbstractPlan}
-use Rattle.metis_lines.specs.LifeLines.{AreLines, LifeLines, holder_of, holding, is_loose, lines_of, plan_of}
+use Rattle.metis_universe.specs.Terms.{IsTable, Universe, has}
+use Rattle.metis_support.specs.Terms.{IsSupport, Support}
+use Rattle.metis_lines.specs.Terms.{AbstractPlan, AreLines, LifeLines, holder_of, holding, is_loose, lines_of, plan_of}
 use Rattle.metis_lines.proofs.Slotted.{held_first}
 use Rattle.metis_rounds.proofs.Kept.{own_line_keeps}
 use Rattle.metis_rounds.proofs.Owned.{is_held, moved_plan, with_own_plan}
 use Rattle.metis_rounds.proofs.Twins.{old_last, old_steps}
-use Rattle.metis_rounds.specs.Going.{HasOwnLine, IsGoing}
-use Rattle.metis_rounds.specs.OwnLine.{HasMoved, IsWithOwnLine}
-use Rattle.metis_rounds.specs.Reach.{taken_of}
-use Rattle.metis_rounds.specs.Course.{IsCourse}
-use Rattle.metis_rounds.specs.Tables.{HasReturns}
-use Rattle.metis_rounds.specs.Walks.{IsKept, IsWalk, kept_steps}
+use Rattle.metis_rounds.specs.Terms.{HasMoved, HasOwnLine, HasReturns, IsCourse, IsGoing, IsKept, IsWalk, IsWithOwnLine, kept_steps, taken_of}
 use Rattle.metis_rounds.specs.declared.course.Course.{Course}
 
 -- who holds a provider pair

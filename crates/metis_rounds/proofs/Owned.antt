@@ -6,32 +6,26 @@ use Rattle.std.proofs.lemmas.Bool.{false≢true, both_ways, and_parts, and_from,
 use Rattle.std.proofs.lemmas.List.{get_or_append_left, get_or-append_right, get_or_past, get_or-set_same, get_or-set_other, length-set, length_push, length-append}
 use Rattle.metis_ids.specs.declared.events.Event.{Event}
 use Rattle.metis_ids.specs.declared.events.Event.TheVariants.{At, End}
-use Rattle.metis_universe.specs.Universe.{Universe, IsTable, IsUniverse, has}
+use Rattle.metis_universe.specs.Terms.{IsTable, IsUniverse, Universe, has}
 use Rattle.metis_universe.proofs.Rounds.{has-filter}
-use Rattle.metis_support.specs.Support.{Support, IsSupport, is_number, is_selected, provider_pairs}
+use Rattle.metis_support.specs.Terms.{IsSupport, Support, is_number, is_selected, provider_pairs}
 use Rattle.metis_support.proofs.Kept.{kept}
 use Rattle.metis_support.proofs.Paths.{OriginsFall, origins_fall}
-use Rattle.metis_lines.specs.AbstractPlan.{AbstractPlan, line_count}
-use Rattle.metis_lines.specs.Events.{is_among, is_end, is_event, precedes, same_event, step_count}
-use Rattle.metis_lines.specs.LifeLines.{AreLines, LifeLines, holder_line, holding, is_loose, line_at, lines_of, plan_of, slot_holding, slots}
+use Rattle.metis_lines.specs.Terms.{AbstractPlan, AreLines, LifeLines, holder_line, holding, is_among, is_end, is_event, is_loose, line_at, line_count, lines_of, plan_of, precedes, same_event, slot_holding, slots, step_count}
 use Rattle.metis_lines.proofs.OwnLines.{chosen, longer}
 use Rattle.metis_lines.proofs.Slotted.{none_slots}
 use Rattle.metis_lines.proofs.Sound.{first_is}
 use Rattle.metis_lines.proofs.SameEvents.{same_events}
 use Rattle.metis_lines.proofs.Formed.{lines_formed}
 use Rattle.metis_events.proofs.AllEvents.{edges_join_events}
-use Rattle.metis_events.specs.Gathered.{IsSlotThere}
+use Rattle.metis_events.specs.Terms.{IsSlotThere}
 use Rattle.metis_rounds.proofs.Among.{any_among, some_among}
 use Rattle.metis_rounds.proofs.Instances.{has_moved, new_holding, new_size, old, own_line_for_pair, own_too, picked, same_slot, y_low}
 use Rattle.metis_rounds.proofs.Reaches.{line_safe}
 use Rattle.metis_rounds.proofs.Starts.{chosen as station_chosen, use_there}
 use Rattle.metis_rounds.proofs.Stays.{edge_stays}
 use Rattle.metis_rounds.proofs.Twins.{kept_event, line_event, new_steps, old_or_new, old_steps}
-use Rattle.metis_rounds.specs.Going.{HasOwnLine, HasSeen, IsGoing, IsWaiting, is_on, next_uses, use_at, use_event}
-use Rattle.metis_rounds.specs.OwnLine.{HasMoved, IsWithOwnLine}
-use Rattle.metis_rounds.specs.Reach.{IsSafe, is_taken, next_of, taken_of}
-use Rattle.metis_rounds.specs.Tables.{HasGrown, HasRows, Rows, has_row, row_at, uses_of}
-use Rattle.metis_rounds.specs.Walks.{step_at}
+use Rattle.metis_rounds.specs.Terms.{HasGrown, HasMoved, HasOwnLine, HasRows, HasSeen, IsGoing, IsSafe, IsWaiting, IsWithOwnLine, Rows, has_row, is_on, is_taken, next_of, next_uses, row_at, step_at, taken_of, use_at, use_event, uses_of}
 use Rattle.metis_rounds.specs.declared.going.Going.{Going}
 
 -- what becomes of a round under way, where line y holds the pair in station i, and the new line is line n

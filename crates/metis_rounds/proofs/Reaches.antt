@@ -6,17 +6,13 @@ use Rattle.std.proofs.lemmas.List.{get_or_append_left, get_or-append_right, get_
 use Rattle.std.specs.Cmp.{both_ways as same_bool}
 use Rattle.metis_ids.specs.declared.events.Event.{Event}
 use Rattle.metis_ids.specs.declared.events.Event.TheVariants.{At, End}
-use Rattle.metis_universe.specs.Universe.{Universe}
-use Rattle.metis_lines.specs.AbstractPlan.{AbstractPlan, last, line_count}
-use Rattle.metis_lines.specs.Events.{events, is_among, is_event, is_go, precedes, step_count}
-use Rattle.metis_lines.specs.Soundness.{IsFormed}
+use Rattle.metis_universe.specs.Terms.{Universe}
+use Rattle.metis_lines.specs.Terms.{AbstractPlan, IsFormed, events, is_among, is_event, is_go, last, line_count, precedes, step_count}
 use Rattle.metis_events.proofs.AllEvents.{all_events, edges_join_events}
 use Rattle.metis_rounds.proofs.Among.{among_filter, any_among, by_go, of_filter, some_among, stuck_greatest}
 use Rattle.metis_rounds.proofs.Freed.{stuck_twin}
 use Rattle.metis_rounds.proofs.Twins.{new_twin, old_or_new, old_twin}
-use Rattle.metis_rounds.specs.OwnLine.{IsWithOwnLine, twin, twin_line}
-use Rattle.metis_rounds.specs.Reach.{HasAllBefore, HasStopped, IsSafe, WaitsFor, is_taken, next_of, taken_of, with_next}
-use Rattle.metis_rounds.specs.Stuck.{has_before, is_stuck, stuck_events}
+use Rattle.metis_rounds.specs.Terms.{HasAllBefore, HasStopped, IsSafe, IsWithOwnLine, WaitsFor, has_before, is_stuck, is_taken, next_of, stuck_events, taken_of, twin, twin_line, with_next}
 
 -- ---- one event more
 

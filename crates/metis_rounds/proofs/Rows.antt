@@ -5,7 +5,7 @@ use Rattle.std.proofs.lemmas.Bool.{cases_eq, cases_lt, eq-eqb, le-ltb, lt-ltb, n
 use Rattle.std.proofs.lemmas.List.{get_or-append_right, get_or-replicate, get_or_append_left, get_or_past, length-replicate, length_push}
 use Rattle.metis_ids.specs.declared.events.Event.{Event}
 use Rattle.metis_ids.specs.declared.events.Event.TheVariants.{At, End}
-use Rattle.metis_rounds.specs.Tables.{Rows, has_row, row_at}
+use Rattle.metis_rounds.specs.Terms.{Rows, has_row, row_at}
 
 empty_row : {X : Type 0} (n j : ℕ) → get_or (replicate {A = List X} n []) j [] ≡ []
 empty_row {X = X} n j = elim (cases_lt j n) [

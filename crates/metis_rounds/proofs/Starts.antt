@@ -7,18 +7,15 @@ use Rattle.std.proofs.lemmas.List.{get_or_default}
 use Rattle.std.proofs.lemmas.List.Elements.{All-contains, All-from_recursion}
 use Rattle.metis_ids.specs.declared.events.Event.{Event}
 use Rattle.metis_ids.specs.declared.events.Event.TheVariants.{At}
-use Rattle.metis_universe.specs.Universe.{Universe, demand_of, has, required_of}
-use Rattle.metis_support.specs.Support.{IsSupport, Support, is_selected, provider_at}
+use Rattle.metis_universe.specs.Terms.{Universe, demand_of, has, required_of}
+use Rattle.metis_support.specs.Terms.{IsSupport, Support, is_selected, provider_at}
 use Rattle.metis_lines.proofs.Joins.{each_counted, each_joined}
-use Rattle.metis_lines.specs.AbstractPlan.{Supply}
-use Rattle.metis_lines.specs.Events.{is_start, is_start_of, same_event}
-use Rattle.metis_lines.specs.LifeLines.{AreLines, LifeLines, line_at, line_supplies, plan_of, slot_holding, station_supplies}
+use Rattle.metis_lines.specs.Terms.{AreLines, LifeLines, Supply, is_start, is_start_of, line_at, line_supplies, plan_of, same_event, slot_holding, station_supplies}
 use Rattle.metis_lines.proofs.SameEvents.{same_itself}
 use Rattle.metis_events.proofs.Holding.{pair_chosen, slots_there}
 use Rattle.metis_rounds.proofs.Supplied.{of_line, of_station, pair_at, station_any}
 use Rattle.metis_rounds.proofs.Tests.{found, only_in}
-use Rattle.metis_rounds.specs.Returns.{IsUse}
-use Rattle.metis_rounds.specs.Tables.{port_uses, uses_of}
+use Rattle.metis_rounds.specs.Terms.{IsUse, port_uses, uses_of}
 
 and_sure : (a b : Bool) → b ≡ true → (a && b) ≡ a
 and_sure true b h = h

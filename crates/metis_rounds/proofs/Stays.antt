@@ -5,13 +5,12 @@ use Rattle.std.proofs.lemmas.Bool.{false≢true, both_ways, and_parts, and_from,
 use Rattle.metis_ids.specs.declared.events.Event.{Event}
 use Rattle.metis_ids.specs.declared.events.Event.TheVariants.{At, End}
 use Rattle.metis_ids.proofs.Lists.{any_contained}
-use Rattle.metis_lines.specs.AbstractPlan.{AbstractPlan, Supply, last, line_count}
-use Rattle.metis_lines.specs.Events.{is_end, is_event, is_go, is_return, is_return_of, is_start, is_start_of, leaving, precedes, same_event}
+use Rattle.metis_lines.specs.Terms.{AbstractPlan, Supply, is_end, is_event, is_go, is_return, is_return_of, is_start, is_start_of, last, leaving, line_count, precedes, same_event}
 use Rattle.metis_lines.proofs.SameEvents.{same_events, same_itself}
 use Rattle.metis_support.proofs.Lists.{member}
 use Rattle.metis_rounds.proofs.Among.{by_go, by_return, by_start}
 use Rattle.metis_rounds.proofs.Twins.{holder_leaves, kept_event, old_last, old_leaving, one_more, there_low}
-use Rattle.metis_rounds.specs.OwnLine.{HasMoved, IsWithOwnLine, moved_supply}
+use Rattle.metis_rounds.specs.Terms.{HasMoved, IsWithOwnLine, moved_supply}
 
 module _ (w v : AbstractPlan) (y i : ℕ) (h : IsWithOwnLine w v y i) (moved : HasMoved w v y i) where
   abbrev n : ℕ

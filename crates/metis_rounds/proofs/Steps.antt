@@ -14,10 +14,10 @@ use Rattle.std.proofs.lemmas.List.Sums.{passes_at_first, position_or_len_is}
 use Rattle.std.specs.Cmp.{both_ways as same_bool}
 use Rattle.metis_ids.specs.declared.events.Event.{Event}
 use Rattle.metis_ids.specs.declared.events.Event.TheVariants.{End}
-use Rattle.metis_lines.specs.Events.{event_cmp, is_among, same_event}
+use Rattle.metis_lines.specs.Terms.{event_cmp, is_among, same_event}
 use Rattle.metis_lines.proofs.SameEvents.{same_events, same_itself, same_turned}
 use Rattle.metis_events.proofs.Targets.{equal_events, same_event_equal}
-use Rattle.metis_rounds.specs.Walks.{IsApart, IsMet, entry_place, kept_count, kept_steps, place_in, step_at}
+use Rattle.metis_rounds.specs.Terms.{IsApart, IsMet, entry_place, kept_count, kept_steps, place_in, step_at}
 
 -- ---- one event and another
 

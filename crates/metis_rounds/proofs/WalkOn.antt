@@ -6,21 +6,15 @@ use Rattle.std.proofs.lemmas.Bool.{and_from, and_parts, both_ways, cases_eq, cas
 use Rattle.std.proofs.lemmas.Bool.Decides.{nat_tests}
 use Rattle.metis_ids.specs.declared.events.Event.{Event}
 use Rattle.metis_ids.specs.declared.events.Event.TheVariants.{At, End}
-use Rattle.metis_universe.specs.Universe.{Universe}
-use Rattle.metis_support.specs.Support.{Support}
-use Rattle.metis_lines.specs.AbstractPlan.{AbstractPlan, is_target, last, line_count, stations}
-use Rattle.metis_lines.specs.Events.{event_cmp, is_event, precedes, step_count}
-use Rattle.metis_lines.specs.LifeLines.{LifeLines, plan_of}
-use Rattle.metis_lines.specs.Soundness.{IsFormed}
+use Rattle.metis_universe.specs.Terms.{Universe}
+use Rattle.metis_support.specs.Terms.{Support}
+use Rattle.metis_lines.specs.Terms.{AbstractPlan, IsFormed, LifeLines, event_cmp, is_event, is_target, last, line_count, plan_of, precedes, stations, step_count}
 use Rattle.metis_events.proofs.AllEvents.{edges_join_events}
-use Rattle.metis_events.specs.Gathered.{without_supplies}
+use Rattle.metis_events.specs.Terms.{without_supplies}
 use Rattle.metis_rounds.proofs.Among.{some_among, stuck_greatest}
 use Rattle.metis_rounds.proofs.Closing.{walk_begins}
 use Rattle.metis_rounds.proofs.Kept.{kept_is_walk, kept_shorter, later_line, stuck_event}
-use Rattle.metis_rounds.specs.More.{IsBegun, IsFirstMore}
-use Rattle.metis_rounds.specs.Reach.{HasAllBefore, IsLeastLeft, is_taken, next_of, taken_of}
-use Rattle.metis_rounds.specs.Stuck.{is_stuck, stuck_events}
-use Rattle.metis_rounds.specs.Walks.{IsKept, IsLeastBefore, IsWalk, step_at}
+use Rattle.metis_rounds.specs.Terms.{HasAllBefore, IsBegun, IsFirstMore, IsKept, IsLeastBefore, IsLeastLeft, IsWalk, is_stuck, is_taken, next_of, step_at, stuck_events, taken_of}
 
 -- a later line, or the same one and no earlier step
 not_below : (l j m k : ℕ) → m ≤ l → (l ≡ m → k ≤ j) → event_cmp (At l j) (At m k) ≡ Less → ⊥

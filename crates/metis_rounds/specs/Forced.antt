@@ -7,14 +7,11 @@
 use Rattle.std.specs.Prelude.{ℕ, zero, suc, ◌≡◌, ◌+◌, nat_lt, if◌then◌else◌, List, map, Option, Some, None}
 use Rattle.std.specs.List.{find}
 use Rattle.std.specs.Option.{option_and_then}
-use Rattle.metis_ids.specs.Cycle.{HasCycle, cycle_of}
-use Rattle.metis_ids.specs.Plans.{Dup}
+use Rattle.metis_ids.specs.Terms.{Dup, HasCycle, cycle_of}
 use Rattle.metis_ids.specs.declared.events.Event.{Event}
 use Rattle.metis_ids.specs.declared.events.Event.TheVariants.{At, End}
-use Rattle.metis_lines.specs.AbstractPlan.{AbstractPlan, station_at}
-use Rattle.metis_lines.specs.Events.{around, is_return_into_move}
-use Rattle.metis_events.specs.Edges.{graph_of}
-use Rattle.metis_events.specs.Numbered.{dag_of, nth_event}
+use Rattle.metis_lines.specs.Terms.{AbstractPlan, around, is_return_into_move, station_at}
+use Rattle.metis_events.specs.Terms.{dag_of, graph_of, nth_event}
 
 abbrev pub cycle_of_events : AbstractPlan → List Event
 cycle_of_events w = map (nth_event w) (cycle_of (dag_of (graph_of w)))

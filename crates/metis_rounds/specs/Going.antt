@@ -11,14 +11,12 @@
 --     all_taken ns, event_count w      how many events are taken;  how many there are but for the end
 use Rattle.std.specs.Prelude.{ℕ, ◌≡◌, ◌<◌, ◌≤◌, ◌==◌, ◌⊎◌, Bool, false, nat_lt, if◌then◌else◌, List, [], ◌∷◌, ◌++◌, length, map, slice_index_or, IsTrue, IsFalse}
 use Rattle.std.specs.List.{range_with_len, sum_by}
-use Rattle.metis_ids.specs.Lists.{has}
+use Rattle.metis_ids.specs.Terms.{has}
 use Rattle.metis_ids.specs.declared.events.Event.{Event}
 use Rattle.metis_ids.specs.declared.events.Event.TheVariants.{At, End}
-use Rattle.metis_universe.specs.Universe.{Universe}
-use Rattle.metis_support.specs.Support.{Support}
-use Rattle.metis_lines.specs.AbstractPlan.{AbstractPlan}
-use Rattle.metis_lines.specs.Events.{is_among, is_end, is_event, precedes, step_count}
-use Rattle.metis_lines.specs.LifeLines.{AreLines, LifeLines, holding, is_loose, line_at, lines_of, plan_of, slot_holding}
+use Rattle.metis_universe.specs.Terms.{Universe}
+use Rattle.metis_support.specs.Terms.{Support}
+use Rattle.metis_lines.specs.Terms.{AbstractPlan, AreLines, LifeLines, holding, is_among, is_end, is_event, is_loose, line_at, lines_of, plan_of, precedes, slot_holding, step_count}
 use Rattle.metis_rounds.specs.Reach.{IsSafe, is_taken, next_of, taken_of}
 use Rattle.metis_rounds.specs.Tables.{HasRows, Rows, row_at, uses_of}
 use Rattle.metis_rounds.specs.Walks.{step_at}

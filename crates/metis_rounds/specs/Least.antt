@@ -8,8 +8,7 @@ use Rattle.std.specs.Prelude.{ℕ, ◌-◌, ◌<◌, ◌≤◌, ◌==◌, if◌t
 use Rattle.std.specs.Ordering.{is_lt}
 use Rattle.metis_ids.specs.declared.events.Event.{Event}
 use Rattle.metis_ids.specs.declared.events.Event.TheVariants.{At}
-use Rattle.metis_lines.specs.AbstractPlan.{AbstractPlan, last, line_count}
-use Rattle.metis_lines.specs.Events.{event_cmp}
+use Rattle.metis_lines.specs.Terms.{AbstractPlan, event_cmp, last, line_count}
 use Rattle.metis_rounds.specs.Reach.{is_taken, taken_of}
 
 abbrev pub lesser_of : Event → Option Event → Event

@@ -11,3 +11,4 @@ pub mod Rounds
 pub mod Stuck
 pub mod Tables
 pub mod Walks
+pub mod Terms

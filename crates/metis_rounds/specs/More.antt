@@ -4,8 +4,7 @@
 --     IsBegun w ns old new      a walk with a step stays as it is, and one with none begins with the first event that is not taken
 use Rattle.std.specs.Prelude.{ℕ, ◌≡◌, ◌<◌, ◌≤◌, ◌⊎◌, List, [], ◌∷◌, length}
 use Rattle.metis_ids.specs.declared.events.Event.{Event}
-use Rattle.metis_lines.specs.AbstractPlan.{AbstractPlan, line_count}
-use Rattle.metis_lines.specs.Events.{step_count}
+use Rattle.metis_lines.specs.Terms.{AbstractPlan, line_count, step_count}
 use Rattle.metis_rounds.specs.Reach.{next_of, taken_of}
 
 abbrev pub HasNoneLeft : AbstractPlan → List ℕ → ℕ → Type 0

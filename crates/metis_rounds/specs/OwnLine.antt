@@ -8,7 +8,7 @@ use Rattle.std.specs.Prelude.{ℕ, ◌≡◌, ◌<◌, ◌≤◌, ◌+◌, ◌==
 use Rattle.std.specs.List.{Contains}
 use Rattle.metis_ids.specs.declared.events.Event.{Event}
 use Rattle.metis_ids.specs.declared.events.Event.TheVariants.{At, End}
-use Rattle.metis_lines.specs.AbstractPlan.{AbstractPlan, Supply, IsWithin, last, line_count, stations}
+use Rattle.metis_lines.specs.Terms.{AbstractPlan, IsWithin, Supply, last, line_count, stations}
 
 abbrev pub twin_line : AbstractPlan → ℕ → ℕ → ℕ
 twin_line w y l = if l == line_count w then y else l

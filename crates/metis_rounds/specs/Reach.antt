@@ -12,8 +12,7 @@ use Rattle.std.specs.Prelude.{ℕ, ◌≢◌, ◌+◌, ◌<◌, ◌≤◌, Bool,
 use Rattle.std.specs.declared.cmp.Ordering.TheVariants.{Less}
 use Rattle.metis_ids.specs.declared.events.Event.{Event}
 use Rattle.metis_ids.specs.declared.events.Event.TheVariants.{At, End}
-use Rattle.metis_lines.specs.AbstractPlan.{AbstractPlan, last, line_count}
-use Rattle.metis_lines.specs.Events.{event_cmp, precedes, step_count}
+use Rattle.metis_lines.specs.Terms.{AbstractPlan, event_cmp, last, line_count, precedes, step_count}
 use Rattle.metis_rounds.specs.Stuck.{is_stuck}
 
 abbrev pub taken_of : List ℕ → ℕ → ℕ

@@ -1,9 +1,8 @@
 -- How a round ends.
 --     IsRoundOf r o      with the lines where their events have no cycle, and else with the same rounds, whose events are stuck
 use Rattle.std.specs.Prelude.{◌≡◌}
-use Rattle.metis_ids.specs.Cycle.{HasCycle}
-use Rattle.metis_events.specs.Edges.{graph_of}
-use Rattle.metis_events.specs.Numbered.{dag_of}
+use Rattle.metis_ids.specs.Terms.{HasCycle}
+use Rattle.metis_events.specs.Terms.{dag_of, graph_of}
 use Rattle.metis_rounds.specs.Rounds.{RoundsState, graph_now}
 use Rattle.metis_rounds.specs.declared.rounds.Round.{Round}
 use Rattle.metis_rounds.specs.declared.rounds.Round.TheVariants.{Ended, Stuck}

@@ -3,10 +3,9 @@
 --     graph_now r      the plan without an order for the lines
 --     with_own r p      with a line of its own for the pair
 use Rattle.std.specs.Prelude.{ℕ, [], ◌∷◌, ◌++◌}
-use Rattle.metis_universe.specs.Universe.{Universe}
-use Rattle.metis_support.specs.Support.{Support}
-use Rattle.metis_lines.specs.AbstractPlan.{AbstractPlan}
-use Rattle.metis_lines.specs.LifeLines.{LifeLines, lines_of, plan_of}
+use Rattle.metis_universe.specs.Terms.{Universe}
+use Rattle.metis_support.specs.Terms.{Support}
+use Rattle.metis_lines.specs.Terms.{AbstractPlan, LifeLines, lines_of, plan_of}
 
 pub record RoundsState : Type 0 where
   pub universe : Universe

@@ -7,8 +7,7 @@
 use Rattle.std.specs.Prelude.{ℕ, zero, suc, Bool, List, length, IsTrue}
 use Rattle.std.specs.List.{filter, list_any}
 use Rattle.metis_ids.specs.declared.events.Event.{Event}
-use Rattle.metis_lines.specs.AbstractPlan.{AbstractPlan}
-use Rattle.metis_lines.specs.Events.{events, is_among, is_event, precedes}
+use Rattle.metis_lines.specs.Terms.{AbstractPlan, events, is_among, is_event, precedes}
 
 abbrev pub has_before : AbstractPlan → List Event → Event → Bool
 has_before w es f = list_any (λ e. precedes w e f) es

@@ -14,12 +14,10 @@ use Rattle.std.specs.List.{flat_map, range_with_len}
 use Rattle.std.specs.Option.{option_map_or}
 use Rattle.metis_ids.specs.declared.events.Event.{Event}
 use Rattle.metis_ids.specs.declared.events.Event.TheVariants.{At, End}
-use Rattle.metis_universe.specs.Universe.{Universe, demand_of, required_of}
-use Rattle.metis_support.specs.Support.{Support, is_selected, provider_at}
-use Rattle.metis_lines.specs.AbstractPlan.{AbstractPlan}
-use Rattle.metis_lines.specs.Over.{Over, graph_over}
+use Rattle.metis_universe.specs.Terms.{Universe, demand_of, required_of}
+use Rattle.metis_support.specs.Terms.{Support, is_selected, provider_at}
+use Rattle.metis_lines.specs.Terms.{AbstractPlan, Over, graph_over, is_among, is_event, is_return, same_event}
 use Rattle.metis_rounds.specs.declared.tables.Tables.{Tables}
-use Rattle.metis_lines.specs.Events.{is_among, is_event, is_return, same_event}
 
 abbrev pub port_uses : Universe → Support → ℕ → ℕ → List (ℕ × ℕ)
 port_uses u s q r = option_map_or (λ p. map (λ k. (p, k)) (range_with_len 1 (demand_of u q r))) (provider_at s r) []

@@ -14,8 +14,7 @@ use Rattle.std.specs.List.{position_or_len}
 use Rattle.std.specs.declared.cmp.Ordering.TheVariants.{Less}
 use Rattle.metis_ids.specs.declared.events.Event.{Event}
 use Rattle.metis_ids.specs.declared.events.Event.TheVariants.{End}
-use Rattle.metis_lines.specs.AbstractPlan.{AbstractPlan}
-use Rattle.metis_lines.specs.Events.{event_cmp, is_among, is_event, precedes, same_event}
+use Rattle.metis_lines.specs.Terms.{AbstractPlan, event_cmp, is_among, is_event, precedes, same_event}
 use Rattle.metis_rounds.specs.Stuck.{is_stuck}
 
 abbrev pub IsNotBelow : AbstractPlan → (Event → Bool) → Event → Type 0

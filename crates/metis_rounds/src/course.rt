@@ -1,18 +1,11 @@
 //! The course of rounds, each of which goes on where the last one stopped.
 ghost use Rattle.std.specs.Prelude.{◌≡◌, ◌<◌, ◌≤◌, ◌+◌, ◌++◌, ◌∷◌, ℕ, [], length, map, IfOk, IsTrue, OnOk};
-ghost use Rattle.metis_ids.specs.Cycle.{cycle_of};
-ghost use Rattle.metis_universe.specs.Universe.{has};
-ghost use Rattle.metis_support.specs.Support.{IsSupport, is_selected};
-ghost use Rattle.metis_lines.specs.LifeLines.{AreLines, LifeLines, is_loose, lines_of, loose, plan_of};
-ghost use Rattle.metis_lines.specs.Over.{graph_over};
-ghost use Rattle.metis_events.specs.Edges.{graph_of};
-ghost use Rattle.metis_events.specs.Numbered.{dag_of, nth_event};
-ghost use Rattle.metis_rounds.specs.Course.{IfMore, IsCourse};
-ghost use Rattle.metis_rounds.specs.Forced.{IsForced};
-ghost use Rattle.metis_rounds.specs.Going.{HasNoLines, HasOwnLine, IsGoing};
-ghost use Rattle.metis_rounds.specs.Reach.{HasEnded, HasStopped, taken_of};
-ghost use Rattle.metis_rounds.specs.Tables.{HasReturns, HasUses};
-ghost use Rattle.metis_rounds.specs.Walks.{IsWalk};
+ghost use Rattle.metis_ids.specs.Terms.{cycle_of};
+ghost use Rattle.metis_universe.specs.Terms.{has};
+ghost use Rattle.metis_support.specs.Terms.{IsSupport, is_selected};
+ghost use Rattle.metis_lines.specs.Terms.{AreLines, LifeLines, graph_over, is_loose, lines_of, loose, plan_of};
+ghost use Rattle.metis_events.specs.Terms.{dag_of, graph_of, nth_event};
+ghost use Rattle.metis_rounds.specs.Terms.{HasEnded, HasNoLines, HasOwnLine, HasReturns, HasStopped, HasUses, IfMore, IsCourse, IsForced, IsGoing, IsWalk, taken_of};
 
 use crate::doubled::doubled_by;
 use crate::event_table::EventTable;

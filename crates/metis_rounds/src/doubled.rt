@@ -1,11 +1,8 @@
 //! Which pair a cycle doubles.
 ghost use Rattle.std.specs.Prelude.{◌≡◌, ◌<◌, ◌&&◌, None, Some, IsTrue, length, nat_le, nat_lt, if◌then◌else◌};
 ghost use Rattle.std.specs.List.{All};
-ghost use Rattle.metis_lines.specs.Events.{is_among, is_cycle, is_event, is_return_into_move};
-ghost use Rattle.metis_lines.specs.LifeLines.{line_at};
-ghost use Rattle.metis_lines.specs.Over.{graph_over};
-ghost use Rattle.metis_rounds.specs.Forced.{doubled_by, left_by, place_after};
-ghost use Rattle.metis_rounds.specs.Tables.{HasReturns, row_at};
+ghost use Rattle.metis_lines.specs.Terms.{graph_over, is_among, is_cycle, is_event, is_return_into_move, line_at};
+ghost use Rattle.metis_rounds.specs.Terms.{HasReturns, doubled_by, left_by, place_after, row_at};
 
 use crate::event_table::EventTable;
 use metis_ids::{Event, LineIx, PairIx, StepIx};

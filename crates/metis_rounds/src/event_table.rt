@@ -2,8 +2,8 @@
 ghost use Rattle.std.specs.Prelude.{◌≡◌, ◌+◌, ◌<◌, ◌==◌, ◌&&◌, ◌||◌, ◌++◌, ◌∷◌, ℕ, nat_lt, [], length, replicate, slice_index_or, slice_set, IsFalse, IsTrue, IfOk, OnOk};
 ghost use Rattle.metis_ids.specs.declared.events.Event.{Event as EventValue};
 ghost use Rattle.metis_ids.specs.declared.events.Event.TheVariants.{At};
-ghost use Rattle.metis_lines.specs.Events.{same_event};
-ghost use Rattle.metis_rounds.specs.Tables.{has_row, row_at};
+ghost use Rattle.metis_lines.specs.Terms.{same_event};
+ghost use Rattle.metis_rounds.specs.Terms.{has_row, row_at};
 
 use metis_ids::{Event, NoMemory, StepIx};
 use std::alloc::Global;

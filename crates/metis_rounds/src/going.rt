@@ -1,16 +1,11 @@
 //! How far a round has come.
 ghost use Rattle.std.specs.Prelude.{◌≡◌, ◌<◌, ◌≤◌, ◌+◌, ◌==◌, ◌||◌, ◌&&◌, ◌⊎◌, not, ℕ, List, [], IsTrue, IsFalse, IfNone, IfOk, IfSome, OnOk, drop, length, slice_set};
 ghost use Rattle.std.specs.List.{list_any, slice_index_or};
-ghost use Rattle.metis_ids.specs.Lists.{has};
+ghost use Rattle.metis_ids.specs.Terms.{has};
 ghost use Rattle.metis_ids.specs.declared.events.Event.{Event};
 ghost use Rattle.metis_ids.specs.declared.events.Event.TheVariants.{At, End};
-ghost use Rattle.metis_lines.specs.Events.{is_among, is_end, same_event, step_count};
-ghost use Rattle.metis_lines.specs.LifeLines.{LifeLines};
-ghost use Rattle.metis_lines.specs.Over.{graph_over};
-ghost use Rattle.metis_rounds.specs.Going.{HasLine, HasNoLines, HasOwnLine, HasPlaces, IsGoing, IsMissing, all_taken, is_on, use_at, use_event, uses_at};
-ghost use Rattle.metis_rounds.specs.Reach.{HasAllBefore, WaitsFor, is_taken, next_of, taken_of, with_next};
-ghost use Rattle.metis_rounds.specs.Returns.{IsUse};
-ghost use Rattle.metis_rounds.specs.Tables.{Empties, HasGrown, HasReturns, HasTables, HasUses, Rows, has_row, row_at};
+ghost use Rattle.metis_lines.specs.Terms.{LifeLines, graph_over, is_among, is_end, same_event, step_count};
+ghost use Rattle.metis_rounds.specs.Terms.{Empties, HasAllBefore, HasGrown, HasLine, HasNoLines, HasOwnLine, HasPlaces, HasReturns, HasTables, HasUses, IsGoing, IsMissing, IsUse, Rows, WaitsFor, all_taken, has_row, is_on, is_taken, next_of, row_at, taken_of, use_at, use_event, uses_at, with_next};
 
 use crate::event_table::EventTable;
 use crate::returns::holder_event;

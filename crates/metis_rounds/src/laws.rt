@@ -1,23 +1,12 @@
 //! Laws of rounds.
 ghost use Rattle.std.specs.Prelude.{◌≡◌, ◌<◌, ◌≤◌, not, length, ℕ, List, [], ◌∷◌, ◌++◌, IsSome, IsTrue, IsFalse};
-ghost use Rattle.metis_ids.specs.Cycle.{HasCycle, stuck};
-ghost use Rattle.metis_ids.specs.Graph.{Graph};
-ghost use Rattle.metis_ids.specs.Lists.{has as has_node};
+ghost use Rattle.metis_ids.specs.Terms.{Graph, HasCycle, has as has_node, stuck};
 ghost use Rattle.metis_ids.specs.declared.events.Event.{Event};
-ghost use Rattle.metis_universe.specs.Universe.{Universe, IsUniverse, has};
-ghost use Rattle.metis_universe.specs.Layers.{layer_of};
-ghost use Rattle.metis_universe.specs.Selection.{provider_pairs};
-ghost use Rattle.metis_support.specs.Support.{Support, IsSupport, is_selected, provider_pairs as provider_pairs_of};
-ghost use Rattle.metis_lines.specs.AbstractPlan.{AbstractPlan, line_count};
-ghost use Rattle.metis_lines.specs.Events.{is_event, precedes};
-ghost use Rattle.metis_lines.specs.Justified.{graph_for, lines_for};
-ghost use Rattle.metis_lines.specs.LifeLines.{holding, is_loose, lines_of, plan_of};
-ghost use Rattle.metis_lines.specs.Soundness.{IsFormed, Rises, StandsOnLower};
-ghost use Rattle.metis_events.specs.Edges.{graph_of};
-ghost use Rattle.metis_events.specs.Numbered.{IsGraphOf, dag_of, nth_event};
-ghost use Rattle.metis_rounds.specs.OwnLine.{HasMoved, IsWithOwnLine, twin};
-ghost use Rattle.metis_rounds.specs.Reach.{HasAllBefore, HasEnded, HasStopped, IsSafe, is_taken, next_of, taken_of, with_next};
-ghost use Rattle.metis_rounds.specs.Stuck.{IsStuck, is_stuck, stuck_events};
+ghost use Rattle.metis_universe.specs.Terms.{IsUniverse, Universe, has, layer_of, provider_pairs};
+ghost use Rattle.metis_support.specs.Terms.{IsSupport, Support, is_selected, provider_pairs as provider_pairs_of};
+ghost use Rattle.metis_lines.specs.Terms.{AbstractPlan, IsFormed, Rises, StandsOnLower, graph_for, holding, is_event, is_loose, line_count, lines_for, lines_of, plan_of, precedes};
+ghost use Rattle.metis_events.specs.Terms.{IsGraphOf, dag_of, graph_of, nth_event};
+ghost use Rattle.metis_rounds.specs.Terms.{HasAllBefore, HasEnded, HasMoved, HasStopped, IsSafe, IsStuck, IsWithOwnLine, is_stuck, is_taken, next_of, stuck_events, taken_of, twin, with_next};
 
 /// The stuck events are the greatest set of events each of which has a predecessor in the set.
 pub fn stuck_events_are_the_greatest()

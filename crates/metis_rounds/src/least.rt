@@ -1,13 +1,8 @@
 //! The least event that an event waits for.
 ghost use Rattle.std.specs.Prelude.{◌≡◌, ◌<◌, ◌≤◌, None, ℕ, IfNone, IfSome, IsTrue, length, map};
-ghost use Rattle.metis_lines.specs.AbstractPlan.{last};
-ghost use Rattle.metis_lines.specs.Events.{is_event};
-ghost use Rattle.metis_lines.specs.Over.{graph_over};
-ghost use Rattle.metis_events.specs.Gathered.{IsSlotThere, without_supplies};
-ghost use Rattle.metis_rounds.specs.Going.{use_at, use_event};
-ghost use Rattle.metis_rounds.specs.Least.{IsFirstLeft, least_left, on_line_before, with_left};
-ghost use Rattle.metis_rounds.specs.Reach.{HasAllBefore, HasEnded, IsLeastLeft, taken_of};
-ghost use Rattle.metis_rounds.specs.Tables.{HasTables};
+ghost use Rattle.metis_lines.specs.Terms.{graph_over, is_event, last};
+ghost use Rattle.metis_events.specs.Terms.{IsSlotThere, without_supplies};
+ghost use Rattle.metis_rounds.specs.Terms.{HasAllBefore, HasEnded, HasTables, IsFirstLeft, IsLeastLeft, least_left, on_line_before, taken_of, use_at, use_event, with_left};
 
 use crate::going::{is_taken, slots_at};
 use crate::returns::holder_event;

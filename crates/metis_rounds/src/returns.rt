@@ -3,14 +3,9 @@ ghost use Rattle.std.specs.Prelude.{◌≡◌, ◌+◌, ◌<◌, ◌≤◌, ◌&
 ghost use Rattle.std.specs.List.{list_any, slice_index_or};
 ghost use Rattle.metis_ids.specs.declared.events.Event.{Event as EventValue};
 ghost use Rattle.metis_ids.specs.declared.events.Event.TheVariants.{At};
-ghost use Rattle.metis_lines.specs.AbstractPlan.{AbstractPlan};
-ghost use Rattle.metis_lines.specs.Events.{is_end, is_return_of, leaving, same_event};
-ghost use Rattle.metis_lines.specs.LifeLines.{line_at, line_supplies, slot_holding};
-ghost use Rattle.metis_lines.specs.Over.{graph_over};
-ghost use Rattle.metis_events.specs.Gathered.{IsSlotThere, without_supplies};
-ghost use Rattle.metis_rounds.specs.OwnLine.{HasMoved, IsWithOwnLine};
-ghost use Rattle.metis_rounds.specs.Returns.{Brings, IsUse, is_brought};
-ghost use Rattle.metis_rounds.specs.Tables.{HasGrown, HasReturns, HasRows, HasUses, has_row, row_at};
+ghost use Rattle.metis_lines.specs.Terms.{AbstractPlan, graph_over, is_end, is_return_of, leaving, line_at, line_supplies, same_event, slot_holding};
+ghost use Rattle.metis_events.specs.Terms.{IsSlotThere, without_supplies};
+ghost use Rattle.metis_rounds.specs.Terms.{Brings, HasGrown, HasMoved, HasReturns, HasRows, HasUses, IsUse, IsWithOwnLine, has_row, is_brought, row_at};
 
 use crate::event_table::EventTable;
 use crate::uses::Uses;

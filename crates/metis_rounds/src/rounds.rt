@@ -1,11 +1,9 @@
 //! Rounds over the events of life lines.
 ghost use Rattle.std.specs.Prelude.{◌≡◌, ◌≤◌, ◌+◌, ℕ, [], length, IfOk, IsTrue};
-ghost use Rattle.metis_universe.specs.Universe.{has};
-ghost use Rattle.metis_support.specs.Support.{IsSupport, is_selected};
-ghost use Rattle.metis_lines.specs.LifeLines.{lines_of, loose};
-ghost use Rattle.metis_rounds.specs.Forced.{IsForced};
-ghost use Rattle.metis_rounds.specs.Round.{IsRoundOf};
-ghost use Rattle.metis_rounds.specs.Rounds.{graph_now, state_of, with_own};
+ghost use Rattle.metis_universe.specs.Terms.{has};
+ghost use Rattle.metis_support.specs.Terms.{IsSupport, is_selected};
+ghost use Rattle.metis_lines.specs.Terms.{lines_of, loose};
+ghost use Rattle.metis_rounds.specs.Terms.{IsForced, IsRoundOf, graph_now, state_of, with_own};
 
 use crate::course::Course;
 use metis_ids::{Dup, NoMemory, PairIx};

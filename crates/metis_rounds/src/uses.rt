@@ -1,8 +1,8 @@
 //! Which slots the selected pairs take.
 ghost use Rattle.std.specs.Prelude.{◌≡◌, ◌++◌, [], map, IfOk, IsTrue, OnOk};
 ghost use Rattle.std.specs.List.{range_with_len, slice_index_or};
-ghost use Rattle.metis_support.specs.Support.{is_selected};
-ghost use Rattle.metis_rounds.specs.Tables.{HasUses, uses_of};
+ghost use Rattle.metis_support.specs.Terms.{is_selected};
+ghost use Rattle.metis_rounds.specs.Terms.{HasUses, uses_of};
 
 use metis_ids::{NoMemory, PairIx};
 use metis_lines::OverLines;

@@ -1,8 +1,8 @@
 //! Walks back over stuck events, which keep what they met.
 ghost use Rattle.std.specs.Prelude.{◌≡◌, ◌<◌, ◌≤◌, ◌-◌, ◌==◌, ◌&&◌, ◌++◌, ◌∷◌, [], IsTrue, IsFalse, IfNone, IfSome, IfOk, OnOk, length, nat_lt, take};
-ghost use Rattle.metis_lines.specs.Events.{is_among, same_event};
+ghost use Rattle.metis_lines.specs.Terms.{is_among, same_event};
 ghost use Rattle.metis_ids.specs.declared.events.Event.{Event};
-ghost use Rattle.metis_rounds.specs.Walks.{IsApart, from_step, kept_steps, place_in, step_at};
+ghost use Rattle.metis_rounds.specs.Terms.{IsApart, from_step, kept_steps, place_in, step_at};
 
 use metis_events::{events_are_ordered, is_same_event};
 use metis_ids::{Event, NoMemory};

@@ -2,16 +2,11 @@
 ghost use Rattle.std.specs.Prelude.{ℕ, ◌≡◌, ◌<◌, ◌+◌, ◌-◌, List, length, map, IsTrue};
 ghost use Rattle.metis_ids.specs.declared.events.Event.{Event};
 ghost use Rattle.metis_ids.specs.declared.events.Event.TheVariants.{At};
-ghost use Rattle.metis_ids.specs.Cycle.{cycle_of};
-ghost use Rattle.metis_universe.specs.Universe.{Universe};
-ghost use Rattle.metis_lines.specs.AbstractPlan.{AbstractPlan};
-ghost use Rattle.metis_lines.specs.Events.{is_among};
-ghost use Rattle.metis_lines.specs.Soundness.{IsFormed};
-ghost use Rattle.metis_events.specs.Edges.{graph_of};
-ghost use Rattle.metis_events.specs.Numbered.{dag_of, nth_event};
-ghost use Rattle.metis_rounds.specs.OwnLine.{HasMoved, IsWithOwnLine};
-ghost use Rattle.metis_rounds.specs.Stuck.{is_stuck};
-ghost use Rattle.metis_rounds.specs.Walks.{IsKept, IsLeastBefore, IsWalk, from_step, kept_steps, step_at};
+ghost use Rattle.metis_ids.specs.Terms.{cycle_of};
+ghost use Rattle.metis_universe.specs.Terms.{Universe};
+ghost use Rattle.metis_lines.specs.Terms.{AbstractPlan, IsFormed, is_among};
+ghost use Rattle.metis_events.specs.Terms.{dag_of, graph_of, nth_event};
+ghost use Rattle.metis_rounds.specs.Terms.{HasMoved, IsKept, IsLeastBefore, IsWalk, IsWithOwnLine, from_step, is_stuck, kept_steps, step_at};
 
 /// What is kept of a walk is a walk where its last event is stuck: then all are, since each leads to the one before it.
 pub fn what_is_kept_is_a_walk()

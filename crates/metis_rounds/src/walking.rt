@@ -1,18 +1,10 @@
 //! The walk back over the stuck events, from where it stands to the cycle.
 ghost use Rattle.std.specs.Prelude.{◌≡◌, ◌<◌, ◌≤◌, ◌-◌, ℕ, not, IfNone, IfOk, IfSome, IsFalse, IsTrue, OnOk, length, map, take};
-ghost use Rattle.metis_ids.specs.Cycle.{cycle_of};
+ghost use Rattle.metis_ids.specs.Terms.{cycle_of};
 ghost use Rattle.metis_ids.specs.declared.events.Event.{Event};
-ghost use Rattle.metis_lines.specs.AbstractPlan.{last};
-ghost use Rattle.metis_lines.specs.Events.{is_event, step_count};
-ghost use Rattle.metis_lines.specs.Over.{graph_over};
-ghost use Rattle.metis_events.specs.Edges.{graph_of};
-ghost use Rattle.metis_events.specs.Gathered.{without_supplies};
-ghost use Rattle.metis_events.specs.Numbered.{dag_of, nth_event};
-ghost use Rattle.metis_rounds.specs.More.{HasNoneLeft, IsBegun, IsFirstMore};
-ghost use Rattle.metis_rounds.specs.Reach.{is_taken, taken_of};
-ghost use Rattle.metis_rounds.specs.Stuck.{is_stuck};
-ghost use Rattle.metis_rounds.specs.Tables.{HasTables};
-ghost use Rattle.metis_rounds.specs.Walks.{IsLeastBefore, IsWalk, step_at};
+ghost use Rattle.metis_lines.specs.Terms.{graph_over, is_event, last, step_count};
+ghost use Rattle.metis_events.specs.Terms.{dag_of, graph_of, nth_event, without_supplies};
+ghost use Rattle.metis_rounds.specs.Terms.{HasNoneLeft, HasTables, IsBegun, IsFirstMore, IsLeastBefore, IsWalk, is_stuck, is_taken, step_at, taken_of};
 
 use crate::going::is_taken;
 use crate::least::least_before;

@@ -5,12 +5,8 @@ use Rattle.std.specs.Str.{bytes_eq}
 use Rattle.metis_ids.specs.declared.actions.Action.TheVariants.{New, Delete, Bind, Unbind, Move}
 use Rattle.metis_universe.proofs.Named.{position_within}
 use Rattle.metis_universe.proofs.TypePlaces.{state_named-within}
-use Rattle.metis_universe.specs.Config.{Config, pair_of}
-use Rattle.metis_universe.specs.Names.{is_name}
-use Rattle.metis_universe.specs.Numbers.{IsOf}
-use Rattle.metis_universe.specs.Universe.{Universe, port_count, port_named, state_named, type_named, type_of}
-use Rattle.metis_sim.specs.Orders.{action_in, between, bind_args, delete_args, delete_in, ends_in, formed, known, move_args, move_in, move_states, named, new_args, new_in, on, present, tie_args, tie_ends, unbind_args}
-use Rattle.metis_sim.specs.Words.{number_of}
+use Rattle.metis_universe.specs.Terms.{Config, IsOf, Universe, is_name, pair_of, port_count, port_named, state_named, type_named, type_of}
+use Rattle.metis_sim.specs.Terms.{action_in, between, bind_args, delete_args, delete_in, ends_in, formed, known, move_args, move_in, move_states, named, new_args, new_in, number_of, on, present, tie_args, tie_ends, unbind_args}
 use Rattle.metis_sim.specs.declared.misread.Misread.{Misread}
 use Rattle.metis_sim.specs.declared.misread.Misread.TheVariants.{Form}
 

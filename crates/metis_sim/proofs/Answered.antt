@@ -4,22 +4,17 @@ use Rattle.std.proofs.Common.{◌≡◌, ℕ, Bool, true, false, cond, List, [],
 use Rattle.std.specs.Prelude.{◌≢◌, IfOk}
 use Rattle.std.specs.Str.{bytes_eq}
 use Rattle.metis_ids.specs.declared.actions.Action.{Action}
-use Rattle.metis_universe.specs.Config.{Config}
-use Rattle.metis_universe.specs.Numbers.{IsOf}
-use Rattle.metis_universe.specs.Universe.{Universe, IsUniverse}
-use Rattle.metis_config.specs.Over.{IsOver}
-use Rattle.metis_tokens.specs.Tokens.{tokens}
+use Rattle.metis_universe.specs.Terms.{Config, IsOf, IsUniverse, Universe}
+use Rattle.metis_config.specs.Terms.{IsOver}
+use Rattle.metis_tokens.specs.Terms.{tokens}
 use Rattle.metis_actions.proofs.FaultNumbers.{answer_is_of}
-use Rattle.metis_actions.specs.Faults.{IsCause, IsFaultOf, fault_of}
+use Rattle.metis_actions.specs.Terms.{IsCause, IsFaultOf, fault_of}
 use Rattle.metis_actions.specs.declared.faults.AFault.{AFault}
 use Rattle.metis_actions.specs.declared.faults.AFault.TheVariants as faults
 use Rattle.metis_replay.proofs.Reasons.{never_memory}
 use Rattle.metis_sim.proofs.ActionNumbers.{action_is_of}
 use Rattle.metis_sim.proofs.CheckNumbers.{check_calm, check_live, check_low}
-use Rattle.metis_sim.specs.Checks.{check_reply}
-use Rattle.metis_sim.specs.Orders.{action_in}
-use Rattle.metis_sim.specs.Replies.{IsReplyOf}
-use Rattle.metis_sim.specs.Session.{Answer, Session, acted, answer, answer_to_line, answer_to_words, changes, done_by, session_of, told, undone, undone_by}
+use Rattle.metis_sim.specs.Terms.{Answer, IsReplyOf, Session, acted, action_in, answer, answer_to_line, answer_to_words, changes, check_reply, done_by, session_of, told, undone, undone_by}
 use Rattle.metis_sim.specs.declared.misread.Misread.{Misread}
 use Rattle.metis_sim.specs.declared.misread.Misread.TheVariants.{Absent, Form, Name}
 use Rattle.metis_sim.specs.declared.reply.Reply.{Reply}

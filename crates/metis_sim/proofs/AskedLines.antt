@@ -4,12 +4,10 @@ use Rattle.std.specs.Prelude.{◌≢◌}
 use Rattle.std.specs.Str.{bytes_eq}
 use Rattle.std.proofs.lemmas.Bool.{cond-false}
 use Rattle.metis_ids.specs.declared.actions.Action.{Action}
-use Rattle.metis_tokens.specs.Tokens.{tokens}
-use Rattle.metis_universe.specs.Config.{Config}
-use Rattle.metis_universe.specs.Universe.{Universe}
-use Rattle.metis_sim.specs.Asked.{asked_by, asked_in, asked_of_words, is_undo, taken}
-use Rattle.metis_sim.specs.Orders.{action_in}
-use Rattle.metis_sim.specs.Session.{Answer, Session, acted, answer, answer_to_line, answer_to_words}
+use Rattle.metis_tokens.specs.Terms.{tokens}
+use Rattle.metis_universe.specs.Terms.{Config, Universe}
+use Rattle.metis_sim.specs.Terms.{Answer, Session, acted, action_in, answer, answer_to_line, answer_to_words, asked_by, asked_in, asked_of_words, taken}
+use Rattle.metis_sim.specs.Asked.{is_undo}
 use Rattle.metis_sim.specs.declared.asked.Asked.{Asked}
 use Rattle.metis_sim.specs.declared.asked.Asked.TheVariants.{Undo}
 use Rattle.metis_sim.specs.declared.misread.Misread.{Misread}

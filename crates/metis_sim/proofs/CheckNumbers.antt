@@ -7,19 +7,12 @@ use Rattle.std.specs.Str.{bytes_eq}
 use Rattle.std.proofs.lemmas.List.Elements.{All-append, All-from_recursion}
 use Rattle.metis_universe.proofs.Named.{position_within}
 use Rattle.metis_universe.proofs.TypePlaces.{state_named-within}
-use Rattle.metis_universe.specs.Config.{Config}
+use Rattle.metis_universe.specs.Terms.{Config, IsGoalOf, Universe, goal_named, means_port, pair_count, pair_named, pair_names, port_named, state_named, type_named}
 use Rattle.metis_ids.specs.declared.goals.Goal.{Goal}
 use Rattle.metis_ids.specs.declared.goals.Goal.TheVariants.{Pair, Port}
-use Rattle.metis_universe.specs.GoalWords.{goal_named, means_port}
-use Rattle.metis_universe.specs.Goals.{IsGoalOf}
-use Rattle.metis_universe.specs.PairWords.{pair_names}
-use Rattle.metis_universe.specs.Universe.{Universe, pair_count, pair_named, port_named, state_named, type_named}
 use Rattle.metis_replay.proofs.Shortages.{short_among}
-use Rattle.metis_replay.specs.Progress.{shortage}
-use Rattle.metis_sim.specs.Checks.{check_reply, goals_behind, goals_of, most_targets, reply_on, said_by}
-use Rattle.metis_sim.specs.Replies.{IsReplyOf}
-use Rattle.metis_sim.specs.Session.{changes}
-use Rattle.metis_sim.specs.Words.{goal_of_word, is_pair_word}
+use Rattle.metis_replay.specs.Terms.{shortage}
+use Rattle.metis_sim.specs.Terms.{IsReplyOf, changes, check_reply, goal_of_word, goals_behind, goals_of, is_pair_word, most_targets, reply_on, said_by}
 use Rattle.metis_sim.specs.declared.reply.Reply.{Reply}
 use Rattle.metis_sim.specs.declared.reply.Reply.TheVariants.{BadLine, Ended}
 

@@ -6,20 +6,16 @@ use Rattle.std.proofs.lemmas.Bool.{cond-false, cond-true, false≢true}
 use Rattle.std.proofs.lemmas.Slice.Eq.{bytes_eq-Decides}
 use Rattle.metis_ids.specs.declared.actions.Action.{Action}
 use Rattle.metis_universe.proofs.Kept.{IsConfig-after, IsConfig-empty}
-use Rattle.metis_universe.specs.Config.{Config, Correct, IsConfig}
-use Rattle.metis_universe.specs.Numbers.{IsOf}
-use Rattle.metis_universe.specs.Step.{after}
-use Rattle.metis_universe.specs.Universe.{Universe, IsUniverse}
+use Rattle.metis_universe.specs.Terms.{Config, Correct, IsConfig, IsOf, IsUniverse, Universe, after}
 use Rattle.metis_universe.proofs.Places.{Correct-empty}
 use Rattle.metis_config.proofs.Starts.{IsOver-empty}
-use Rattle.metis_config.specs.Over.{IsOver}
+use Rattle.metis_config.specs.Terms.{IsOver}
 use Rattle.metis_actions.proofs.Causes.{over_after, step-no_fault}
-use Rattle.metis_actions.specs.Faults.{fault_of}
+use Rattle.metis_actions.specs.Terms.{fault_of}
 use Rattle.metis_actions.specs.declared.faults.AFault.{AFault}
 use Rattle.metis_actions.specs.declared.faults.AFault.TheVariants as faults
 use Rattle.metis_sim.proofs.Answered.{answer_to, each_answer}
-use Rattle.metis_sim.specs.Replies.{IsReplyOf}
-use Rattle.metis_sim.specs.Session.{Answer, Session, after_line, after_lines, answer, answer_to_line, begin, changes, done_by, replies, reply, undone_by}
+use Rattle.metis_sim.specs.Terms.{Answer, IsReplyOf, Session, after_line, after_lines, answer, answer_to_line, begin, changes, done_by, replies, reply, undone_by}
 use Rattle.metis_sim.specs.declared.reply.Reply.{Reply}
 use Rattle.metis_sim.specs.declared.reply.Reply.TheVariants.{Bye, Did, Ended, Refused, Undone}
 

@@ -2,12 +2,12 @@
 use Rattle.std.proofs.Common.{◌≡◌, true, refl}
 use Rattle.std.specs.List.{list_all}
 use Rattle.std.proofs.lemmas.Bool.{and_from}
-use Rattle.metis_actions.specs.Faults.{fault_text, fault_tokens}
+use Rattle.metis_actions.specs.Terms.{fault_text, fault_tokens}
 use Rattle.metis_actions.specs.declared.faults.AFault.{AFault}
 use Rattle.metis_actions.specs.declared.faults.AFault.TheVariants as afault
 use Rattle.metis_outside.proofs.Feeds.{no_feed, no_feed-decimal, no_feed-join_with_byte}
 use Rattle.metis_tokens.proofs.WordFeeds.{no_feed-pair_word, no_feed-port_name_of}
-use Rattle.metis_universe.specs.Universe.{IsNamed, Universe}
+use Rattle.metis_universe.specs.Terms.{IsNamed, Universe}
 
 module _ (u : Universe) (named : IsNamed u) where
   no_feed-fault_tokens : (f : AFault) → list_all no_feed (fault_tokens u f) ≡ true

@@ -6,12 +6,8 @@ use Rattle.std.proofs.lemmas.Bool.{false≢true}
 use Rattle.std.proofs.lemmas.Slice.Eq.{bytes_eq-Decides}
 use Rattle.metis_ids.specs.declared.actions.Action.{Action}
 use Rattle.metis_ids.specs.declared.actions.Action.TheVariants.{New, Delete, Bind, Unbind, Move}
-use Rattle.metis_universe.specs.Config.{Config, pair_of}
-use Rattle.metis_universe.specs.Names.{is_name}
-use Rattle.metis_universe.specs.Universe.{Universe, port_named, state_named, type_named, type_of}
-use Rattle.metis_sim.specs.Forms.{IsMove, IsNumber, IsOfUnknown, IsOrder, IsTie, NamesNoState, NamesNothing, Order, binds, checks, deletes, makes, moves, order_words, unbinds}
-use Rattle.metis_sim.specs.Orders.{action_in, between, bind_args, delete_args, delete_in, ends_in, formed, known, move_args, move_in, new_args, new_in, on, present, tie_args, unbind_args}
-use Rattle.metis_sim.specs.Words.{number_of}
+use Rattle.metis_universe.specs.Terms.{Config, Universe, is_name, pair_of, port_named, state_named, type_named, type_of}
+use Rattle.metis_sim.specs.Terms.{IsMove, IsNumber, IsOfUnknown, IsOrder, IsTie, NamesNoState, NamesNothing, Order, action_in, between, bind_args, binds, checks, delete_args, delete_in, deletes, ends_in, formed, known, makes, move_args, move_in, moves, new_args, new_in, number_of, on, order_words, present, tie_args, unbind_args, unbinds}
 use Rattle.metis_sim.specs.declared.misread.Misread.{Misread}
 use Rattle.metis_sim.specs.declared.misread.Misread.TheVariants.{Absent, Form, Name}
 

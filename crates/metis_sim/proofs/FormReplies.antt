@@ -5,17 +5,14 @@ use Rattle.std.proofs.lemmas.Bool.{false≢true}
 use Rattle.std.proofs.lemmas.Slice.Eq.{bytes_eq-Decides}
 use Rattle.metis_ids.specs.declared.actions.Action.{Action}
 use Rattle.metis_ids.specs.declared.goals.Goal.{Goal}
-use Rattle.metis_actions.specs.Faults.{fault_of}
+use Rattle.metis_actions.specs.Terms.{fault_of}
 use Rattle.metis_actions.specs.declared.faults.AFault.{AFault}
-use Rattle.metis_replay.specs.Progress.{shortage}
-use Rattle.metis_tokens.specs.Tokens.{tokens}
-use Rattle.metis_universe.specs.Config.{Config}
+use Rattle.metis_replay.specs.Terms.{shortage}
+use Rattle.metis_tokens.specs.Terms.{tokens}
+use Rattle.metis_universe.specs.Terms.{Config}
 use Rattle.metis_sim.proofs.FormFacts.{HasNone, IsNamed, IsNoVerb, Judged, action_judged, no_order, only_check, order_same}
-use Rattle.metis_sim.specs.Checks.{check_reply, goals_of, most_targets, reply_on, said_by}
-use Rattle.metis_sim.specs.Forms.{HasForm, IsOfUnknown, IsOrder, NamesNothing, Order, binds, checks, deletes, is_order, is_quit, is_show, is_undo, makes, moves, order_words, unbinds}
-use Rattle.metis_sim.specs.Orders.{action_in}
-use Rattle.metis_sim.specs.Session.{Session, acted, answer_to_line, answer_to_words, done_by, reply, session_of, undone, undone_by}
-use Rattle.metis_sim.specs.Words.{is_pair_word}
+use Rattle.metis_sim.specs.Terms.{HasForm, IsOfUnknown, IsOrder, NamesNothing, Order, Session, acted, action_in, answer_to_line, answer_to_words, binds, check_reply, checks, deletes, done_by, goals_of, is_order, is_pair_word, is_quit, is_show, makes, most_targets, moves, order_words, reply, reply_on, said_by, session_of, unbinds, undone, undone_by}
+use Rattle.metis_sim.specs.Forms.{is_undo}
 use Rattle.metis_sim.specs.declared.misread.Misread.{Misread}
 use Rattle.metis_sim.specs.declared.misread.Misread.TheVariants.{Absent, Form, Name}
 use Rattle.metis_sim.specs.declared.reply.Reply.{Reply}

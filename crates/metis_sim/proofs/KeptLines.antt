@@ -5,16 +5,13 @@ use Rattle.std.specs.List.{list_any}
 use Rattle.std.specs.Str.{bytes_eq}
 use Rattle.std.proofs.lemmas.Bool.{cond-false, ltb-false, or_parts}
 use Rattle.metis_ids.specs.declared.actions.Action.{Action}
-use Rattle.metis_tokens.specs.Tokens.{tokens}
+use Rattle.metis_tokens.specs.Terms.{tokens}
 use Rattle.metis_actions.specs.declared.faults.AFault.{AFault}
-use Rattle.metis_actions.specs.Faults.{fault_of}
-use Rattle.metis_universe.specs.Universe.{Universe}
+use Rattle.metis_actions.specs.Terms.{fault_of}
+use Rattle.metis_universe.specs.Terms.{Universe}
 use Rattle.metis_sim.proofs.Courses.{reply_not_ended}
-use Rattle.metis_sim.specs.Asked.{KeepsEnough, forgotten, is_undo, unkept}
-use Rattle.metis_sim.specs.Orders.{action_in}
-use Rattle.metis_sim.specs.Replies.{reply_lines}
-use Rattle.metis_sim.specs.Session.{Answer, Session, acted, after_line, answer, answer_to_line, answer_to_words, done_by, reply, undone}
-use Rattle.metis_sim.specs.SessionLines.{replies_to}
+use Rattle.metis_sim.specs.Terms.{Answer, KeepsEnough, Session, acted, action_in, after_line, answer, answer_to_line, answer_to_words, done_by, forgotten, replies_to, reply, reply_lines, undone, unkept}
+use Rattle.metis_sim.specs.Asked.{is_undo}
 use Rattle.metis_sim.specs.declared.misread.Misread.{Misread}
 use Rattle.metis_sim.specs.declared.reply.Reply.{Reply}
 use Rattle.metis_sim.specs.declared.reply.Reply.TheVariants.{Ended}

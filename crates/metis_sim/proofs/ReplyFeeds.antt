@@ -3,18 +3,16 @@ use Rattle.std.proofs.Common.{◌≡◌, ℕ, List, ◌∷◌, [], ◌++◌, len
 use Rattle.std.specs.Prelude.{◌≢◌, codes}
 use Rattle.std.specs.List.{All}
 use Rattle.std.proofs.lemmas.List.Elements.{All-head}
-use Rattle.metis_actions.specs.Faults.{fault_text}
+use Rattle.metis_actions.specs.Terms.{fault_text}
 use Rattle.metis_outside.proofs.Feeds.{IsLine-append, IsLine-from, no_feed-decimal, one_line}
-use Rattle.metis_outside.specs.Pieces.{IsLine}
+use Rattle.metis_outside.specs.Terms.{IsLine}
 use Rattle.metis_output.proofs.LineWords.{by_two, by_word}
 use Rattle.metis_output.proofs.PutLines.{no_lines}
-use Rattle.metis_sim.specs.Replies.{binding_line, counts_line, instance_line, reply_lines}
+use Rattle.metis_sim.specs.Terms.{binding_line, counts_line, instance_line, reply_lines}
 use Rattle.metis_sim.specs.declared.reply.Reply.{Reply}
 use Rattle.metis_sim.specs.declared.reply.Reply.TheVariants as reply
 use Rattle.metis_tokens.proofs.WordFeeds.{IsLine-missing_line, no_feed-pair_word, no_feed-port_name_of}
-use Rattle.metis_universe.specs.Config.{Binding, Config}
-use Rattle.metis_universe.specs.PairWords.{pair_word}
-use Rattle.metis_universe.specs.Universe.{IsNamed, Universe, port_name_of}
+use Rattle.metis_universe.specs.Terms.{Binding, Config, IsNamed, Universe, pair_word, port_name_of}
 use Rattle.metis_sim.proofs.FaultFeeds.{no_feed-fault_text}
 
 pub IsLine-counts_line : (c : Config) → IsLine (counts_line c)

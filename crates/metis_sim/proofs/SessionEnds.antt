@@ -2,13 +2,10 @@
 use Rattle.std.proofs.Common.{◌≡◌, ℕ, suc, ◌+◌, ◌<◌, true, List, [], ◌∷◌, ◌++◌, length, map, drop, get_or, codes, refl, sym, ap, ◌∙◌, arith}
 use Rattle.std.proofs.Math.Seq.{drop-cons}
 use Rattle.std.specs.Prelude.{◌≢◌}
-use Rattle.metis_universe.specs.Config.{Config}
-use Rattle.metis_universe.specs.Universe.{Universe}
+use Rattle.metis_universe.specs.Terms.{Config, Universe}
 use Rattle.metis_sim.proofs.Answered.{each_answer}
 use Rattle.metis_sim.proofs.Courses.{answer_after_quit, over_by_bye}
-use Rattle.metis_sim.specs.Replies.{IsReplyOf, reply_lines}
-use Rattle.metis_sim.specs.Session.{Answer, Session, after_line, reply}
-use Rattle.metis_sim.specs.SessionLines.{replies_to}
+use Rattle.metis_sim.specs.Terms.{Answer, IsReplyOf, Session, after_line, replies_to, reply, reply_lines}
 use Rattle.metis_sim.specs.declared.reply.Reply.{Reply}
 use Rattle.metis_sim.specs.declared.reply.Reply.TheVariants.{BadLine, Bye, Did, Ended, Holds, Missing, NoMemory, Nothing, Refused, Show, Undone, Unknown}
 

@@ -4,11 +4,10 @@ use Rattle.std.specs.List.{AllByRecursion, list_any}
 use Rattle.std.specs.Map.{lookup}
 use Rattle.std.proofs.lemmas.Bool.{or_left, or_right}
 use Rattle.metis_ids.proofs.Lists.{each_weaker}
-use Rattle.metis_universe.specs.Config.{Binding, Config, IsConfig, is_tie}
-use Rattle.metis_universe.specs.Universe.{Universe, pair_count, port_count}
+use Rattle.metis_universe.specs.Terms.{Binding, Config, IsConfig, Universe, is_tie, pair_count, port_count}
 use Rattle.metis_universe.proofs.Bindings.{own_tie}
 use Rattle.metis_config.proofs.Leasts.{each_there}
-use Rattle.metis_config.specs.Over.{IsOver}
+use Rattle.metis_config.specs.Terms.{IsOver}
 
 pub instances_low : (u : Universe) (c : Config) → IsConfig c → IsOver u c → AllByRecursion (λ e. e.1 < pair_count u) c.instances
 instances_low u c h over = each_weaker (λ (e : ℕ × ℕ). lookup (nat_eq e.0) c.instances ≡ Some e.1) (λ e. e.1 < pair_count u) c.instances (λ e there. over.pairs e.0 e.1 there) (each_there c.instances h.ascending)

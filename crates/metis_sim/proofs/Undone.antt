@@ -9,12 +9,9 @@ use Rattle.metis_ids.specs.declared.actions.Action.TheVariants.{New, Delete, Bin
 use Rattle.metis_universe.proofs.Edits.{is_bound-remove, is_bound-tie, is_bound-untie, pair_of-put, pair_of-remove, tie_is}
 use Rattle.metis_universe.proofs.Kept.{IsConfig-after, IsConfig-put, IsConfig-remove, IsConfig-untie}
 use Rattle.metis_universe.proofs.Same.{same_config}
-use Rattle.metis_universe.specs.Config.{Binding, Config, Correct, IsConfig, config_of, is_bound, is_tie, names, pair_of, put, remove, tie, untie}
-use Rattle.metis_universe.specs.Step.{Allows, Step, after}
-use Rattle.metis_universe.specs.Universe.{Universe, initial_of}
-use Rattle.metis_config.specs.Over.{IsOver}
-use Rattle.metis_sim.specs.Changes.{AreUndoable, IsChangeOf, IsFit, IsUndoable, before, befores}
-use Rattle.metis_sim.specs.Session.{IsSound}
+use Rattle.metis_universe.specs.Terms.{Allows, Binding, Config, Correct, IsConfig, Step, Universe, after, config_of, initial_of, is_bound, is_tie, names, pair_of, put, remove, tie, untie}
+use Rattle.metis_config.specs.Terms.{IsOver}
+use Rattle.metis_sim.specs.Terms.{AreUndoable, IsChangeOf, IsFit, IsSound, IsUndoable, before, befores}
 use Rattle.metis_sim.specs.declared.change.Change.{Change}
 use Rattle.metis_sim.specs.declared.change.Change.TheVariants.{Made, Bound, Moved, Untied, Before}
 

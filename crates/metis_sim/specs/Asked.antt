@@ -8,10 +8,8 @@
 use Rattle.std.specs.Prelude.{◌≡◌, ℕ, Bool, true, false, List, [], ◌∷◌, codes, Result, Ok, Err, if◌then◌else◌, ⊤}
 use Rattle.std.specs.Str.{bytes_eq}
 use Rattle.metis_ids.specs.declared.actions.Action.{Action}
-use Rattle.metis_universe.specs.Config.{Config}
-use Rattle.metis_universe.specs.Numbers.{IsOf}
-use Rattle.metis_universe.specs.Universe.{Universe}
-use Rattle.metis_tokens.specs.Tokens.{tokens}
+use Rattle.metis_universe.specs.Terms.{Config, IsOf, Universe}
+use Rattle.metis_tokens.specs.Terms.{tokens}
 use Rattle.metis_sim.specs.Checks.{check_reply}
 use Rattle.metis_sim.specs.Orders.{action_in}
 use Rattle.metis_sim.specs.Session.{Answer, Session, done, session_of, told, undone}

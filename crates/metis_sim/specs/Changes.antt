@@ -8,10 +8,8 @@
 use Rattle.std.specs.Prelude.{◌≡◌, Bool, true, false, List, [], ◌∷◌, IsTrue, IsSome, ⊤}
 use Rattle.metis_ids.specs.declared.actions.Action.{Action}
 use Rattle.metis_ids.specs.declared.actions.Action.TheVariants.{New, Delete, Bind, Unbind, Move}
-use Rattle.metis_universe.specs.Config.{Config, Correct, config_of, is_bound, pair_of, put, remove, untie}
-use Rattle.metis_universe.specs.Universe.{Universe}
-use Rattle.metis_config.specs.Kept.{AreOver, Bindings}
-use Rattle.metis_config.specs.Over.{IsOver}
+use Rattle.metis_universe.specs.Terms.{Config, Correct, Universe, config_of, is_bound, pair_of, put, remove, untie}
+use Rattle.metis_config.specs.Terms.{AreOver, Bindings, IsOver}
 use Rattle.metis_sim.specs.declared.change.Change.{Change}
 use Rattle.metis_sim.specs.declared.change.Change.TheVariants.{Made, Bound, Moved, Untied, Before}
 

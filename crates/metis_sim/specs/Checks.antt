@@ -6,9 +6,8 @@ use Rattle.std.specs.Prelude.{ℕ, ◌&&◌, nat_le, List, [], ◌∷◌, ◌++�
 use Rattle.std.specs.List.{list_all}
 use Rattle.std.specs.Option.{option_and_then}
 use Rattle.metis_ids.specs.declared.goals.Goal.{Goal}
-use Rattle.metis_universe.specs.Config.{Config}
-use Rattle.metis_universe.specs.Universe.{Universe}
-use Rattle.metis_replay.specs.Progress.{shortage}
+use Rattle.metis_universe.specs.Terms.{Config, Universe}
+use Rattle.metis_replay.specs.Terms.{shortage}
 use Rattle.metis_sim.specs.Words.{goal_of_word, is_pair_word}
 use Rattle.metis_sim.specs.declared.reply.Reply.{Reply}
 use Rattle.metis_sim.specs.declared.reply.Reply.TheVariants.{BadLine, Holds, Missing, Unknown}

@@ -6,10 +6,8 @@
 --     IsOfUnknown u c ts      the tokens are those of an order that names something that is not there
 use Rattle.std.specs.Prelude.{ℕ, ◌≡◌, ◌⊎◌, List, [], ◌∷◌, IsTrue, codes, length, nat_le, Some, None}
 use Rattle.std.specs.List.{list_all}
-use Rattle.metis_universe.specs.Config.{Config, pair_of}
-use Rattle.metis_universe.specs.Names.{is_name}
-use Rattle.metis_universe.specs.Universe.{Universe, port_named, state_named, type_named, type_of}
-use Rattle.metis_tokens.specs.Tokens.{tokens}
+use Rattle.metis_universe.specs.Terms.{Config, Universe, is_name, pair_of, port_named, state_named, type_named, type_of}
+use Rattle.metis_tokens.specs.Terms.{tokens}
 use Rattle.metis_sim.specs.Checks.{goals_of, most_targets}
 use Rattle.metis_sim.specs.Words.{is_pair_word, number_of}
 

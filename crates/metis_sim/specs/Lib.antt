@@ -7,3 +7,4 @@ pub mod Replies
 pub mod Session
 pub mod SessionLines
 pub mod Words
+pub mod Terms

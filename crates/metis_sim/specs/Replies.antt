@@ -3,13 +3,9 @@
 --     reply_lines u c r      its lines, where c is the session's configuration
 --     HasLine u r, line_left u r      a reply that has one line, if there is a reply;  its line
 use Rattle.std.specs.Prelude.{◌≢◌, ℕ, List, [], ◌∷◌, ◌++◌, length, map, codes, decimal, Option, None, Some, ⊤}
-use Rattle.metis_universe.specs.Config.{Binding, Config, empty}
-use Rattle.metis_universe.specs.GoalWords.{goal_word}
-use Rattle.metis_universe.specs.Goals.{IsGoalOf}
-use Rattle.metis_universe.specs.Universe.{Universe, port_name_of}
-use Rattle.metis_universe.specs.PairWords.{pair_word}
-use Rattle.metis_tokens.specs.MissingLine.{missing_line}
-use Rattle.metis_actions.specs.Faults.{IsFaultOf, fault_text}
+use Rattle.metis_universe.specs.Terms.{Binding, Config, IsGoalOf, Universe, empty, goal_word, pair_word, port_name_of}
+use Rattle.metis_tokens.specs.Terms.{missing_line}
+use Rattle.metis_actions.specs.Terms.{IsFaultOf, fault_text}
 use Rattle.metis_sim.specs.declared.reply.Reply.{Reply}
 use Rattle.metis_sim.specs.declared.reply.Reply.TheVariants.{BadLine, Bye, Did, Ended, Holds, Missing, NoMemory, Nothing, Refused, Show, Undone, Unknown}
 

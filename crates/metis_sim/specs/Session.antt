@@ -12,11 +12,9 @@ use Rattle.std.specs.Prelude.{ℕ, Bool, true, false, ◌||◌, List, [], ◌∷
 use Rattle.std.specs.List.{AllByRecursion}
 use Rattle.std.specs.Str.{bytes_eq}
 use Rattle.metis_ids.specs.declared.actions.Action.{Action}
-use Rattle.metis_universe.specs.Config.{Config, empty}
-use Rattle.metis_universe.specs.Step.{after}
-use Rattle.metis_universe.specs.Universe.{Universe}
-use Rattle.metis_tokens.specs.Tokens.{tokens}
-use Rattle.metis_actions.specs.Faults.{fault_of}
+use Rattle.metis_universe.specs.Terms.{Config, Universe, after, empty}
+use Rattle.metis_tokens.specs.Terms.{tokens}
+use Rattle.metis_actions.specs.Terms.{fault_of}
 use Rattle.metis_actions.specs.declared.faults.AFault.{AFault}
 use Rattle.metis_sim.specs.Changes.{AreUndoable, IsFit, befores}
 use Rattle.metis_sim.specs.Checks.{check_reply}

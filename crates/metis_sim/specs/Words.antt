@@ -5,11 +5,9 @@
 use Rattle.std.specs.Prelude.{ℕ, Bool, List, Option, is_some}
 use Rattle.std.specs.Option.{option_and_then}
 use Rattle.std.specs.Result.{result_ok}
-use Rattle.metis_tokens.specs.Tokens.{number_in}
+use Rattle.metis_tokens.specs.Terms.{number_in}
 use Rattle.metis_ids.specs.declared.goals.Goal.{Goal}
-use Rattle.metis_universe.specs.GoalWords.{goal_named}
-use Rattle.metis_universe.specs.PairWords.{pair_names}
-use Rattle.metis_universe.specs.Universe.{Universe}
+use Rattle.metis_universe.specs.Terms.{Universe, goal_named, pair_names}
 
 abbrev pub number_of : List ℕ → Option ℕ
 number_of t = result_ok (number_in t)

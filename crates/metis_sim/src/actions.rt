@@ -1,11 +1,8 @@
 //! Reads an action from the tokens of a line.
 ghost use Rattle.std.specs.Prelude.{◌≡◌, ◌<◌, IfOk, IsTrue, Some, map};
-ghost use Rattle.metis_universe.specs.Config.{pair_of};
-ghost use Rattle.metis_universe.specs.Numbers.{IsOf};
-ghost use Rattle.metis_universe.specs.Universe.{pair_count, port_named, state_named, type_named};
-ghost use Rattle.metis_config.specs.Over.{IsOver};
-ghost use Rattle.metis_sim.specs.Orders.{action_in, between, bind_args, delete_args, delete_in, ends_in, formed, known, move_args, move_in, move_states, named, new_args, new_in, present, tie_args, tie_ends, unbind_args};
-ghost use Rattle.metis_sim.specs.Words.{number_of};
+ghost use Rattle.metis_universe.specs.Terms.{IsOf, pair_count, pair_of, port_named, state_named, type_named};
+ghost use Rattle.metis_config.specs.Terms.{IsOver};
+ghost use Rattle.metis_sim.specs.Terms.{action_in, between, bind_args, delete_args, delete_in, ends_in, formed, known, move_args, move_in, move_states, named, new_args, new_in, number_of, present, tie_args, tie_ends, unbind_args};
 
 use crate::misread::Misread;
 use metis_config::Config;

@@ -1,10 +1,9 @@
 //! What a line asks of a session.
 ghost use Rattle.std.specs.Prelude.{◌≡◌, ◌||◌, IfOk, IsFalse, OnErr, codes, map};
 ghost use Rattle.std.specs.Str.{bytes_eq};
-ghost use Rattle.metis_universe.specs.Numbers.{IsOf};
-ghost use Rattle.metis_config.specs.Over.{IsOver};
-ghost use Rattle.metis_sim.specs.Asked.{IsAskedOf, asked_by, asked_in, asked_of_words};
-ghost use Rattle.metis_sim.specs.Session.{told};
+ghost use Rattle.metis_universe.specs.Terms.{IsOf};
+ghost use Rattle.metis_config.specs.Terms.{IsOver};
+ghost use Rattle.metis_sim.specs.Terms.{IsAskedOf, asked_by, asked_in, asked_of_words, told};
 
 use crate::Reply;
 use crate::actions::action_in;

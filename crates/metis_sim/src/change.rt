@@ -1,6 +1,6 @@
 //! What an action changed, and how it is undone.
 ghost use Rattle.std.specs.Prelude.{◌≡◌, IfOk, IsTrue, OnErr};
-ghost use Rattle.metis_sim.specs.Changes.{IsChangeOf, IsUndoable, before, takes_away};
+ghost use Rattle.metis_sim.specs.Terms.{IsChangeOf, IsUndoable, before, takes_away};
 
 use metis_config::{Bindings, Config};
 use metis_ids::{Action, InstNo, NoMemory, PairIx, PortIx};

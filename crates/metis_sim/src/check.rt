@@ -1,8 +1,7 @@
 //! Whether the configuration holds the targets of a line.
 ghost use Rattle.std.specs.Prelude.{◌≡◌, IfOk, map, option_map};
 ghost use Rattle.std.specs.List.{list_all};
-ghost use Rattle.metis_sim.specs.Checks.{check_reply, goals_of, reply_on, said_of};
-ghost use Rattle.metis_sim.specs.Words.{goal_of_word, is_pair_word};
+ghost use Rattle.metis_sim.specs.Terms.{check_reply, goal_of_word, goals_of, is_pair_word, reply_on, said_of};
 
 use crate::Reply;
 use metis_config::Config;

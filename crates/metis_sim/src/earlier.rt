@@ -1,6 +1,6 @@
 //! The changes that a session keeps.
 ghost use Rattle.std.specs.Prelude.{◌≡◌, [], ◌∷◌, OnErr, OnOk, MatchOption, length};
-ghost use Rattle.metis_sim.specs.Changes.{IsUndoable, before};
+ghost use Rattle.metis_sim.specs.Terms.{IsUndoable, before};
 
 use crate::change::Change;
 use metis_config::Config;

@@ -1,15 +1,10 @@
 //! Laws over the definitions.
 ghost use Rattle.std.specs.Prelude.{◌≡◌, ◌≢◌, ◌↔◌, ℕ, List, [], ◌∷◌, IsFalse, IsTrue, Some, codes, map};
 ghost use Rattle.metis_ids.specs.declared.goals.Goal.{Goal};
-ghost use Rattle.metis_sim.specs.Checks.{goals_of};
-ghost use Rattle.metis_sim.specs.Forms.{HasForm, IsOfUnknown};
-ghost use Rattle.metis_tokens.specs.Tokens.{tokens};
-ghost use Rattle.metis_sim.specs.Words.{goal_of_word};
+ghost use Rattle.metis_sim.specs.Terms.{HasForm, IsOfUnknown, Session, after_line, after_lines, answer, begin, changes, goal_of_word, goals_of, replies, replies_to, reply};
+ghost use Rattle.metis_tokens.specs.Terms.{tokens};
 ghost use Rattle.std.specs.List.{AllByRecursion};
-ghost use Rattle.metis_universe.specs.Config.{Correct};
-ghost use Rattle.metis_universe.specs.Universe.{Universe, IsUniverse};
-ghost use Rattle.metis_sim.specs.Session.{Session, after_line, after_lines, answer, begin, changes, replies, reply};
-ghost use Rattle.metis_sim.specs.SessionLines.{replies_to};
+ghost use Rattle.metis_universe.specs.Terms.{Correct, IsUniverse, Universe};
 ghost use Rattle.metis_sim.specs.declared.reply.Reply.TheVariants.{BadLine, Bye, Did, Ended, Undone, Unknown};
 
 /// After an action that was done, `undo` gives the session before it again, and with it its configuration.

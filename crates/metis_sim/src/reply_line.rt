@@ -1,8 +1,8 @@
 //! The line of a reply that has one.
 ghost use Rattle.std.specs.Prelude.{◌≡◌, ◌≢◌, ◌∷◌, [], OnOk, string_bytes};
-ghost use Rattle.metis_universe.specs.Config.{Config, empty};
-ghost use Rattle.metis_actions.specs.Faults.{IsFaultOf, fault_text};
-ghost use Rattle.metis_sim.specs.Replies.{IsReplyOf, refused_line, reply_lines};
+ghost use Rattle.metis_universe.specs.Terms.{Config, empty};
+ghost use Rattle.metis_actions.specs.Terms.{IsFaultOf, fault_text};
+ghost use Rattle.metis_sim.specs.Terms.{IsReplyOf, refused_line, reply_lines};
 
 use crate::Reply;
 use metis_actions::{AFault, fault_text};

@@ -1,10 +1,9 @@
 //! What a session over a universe replies to the lines of a script.
 ghost use Rattle.std.specs.Prelude.{◌≡◌, ◌≢◌, ◌++◌, [], IfOk, IfNone, IfSome, drop, false, map};
 ghost use Rattle.std.specs.List.{list_any};
-ghost use Rattle.metis_tokens.specs.Scripts.{script_lines};
+ghost use Rattle.metis_tokens.specs.Terms.{script_lines};
 ghost use Rattle.metis_sim.specs.Asked.{is_undo};
-ghost use Rattle.metis_sim.specs.Session.{begin};
-ghost use Rattle.metis_sim.specs.SessionLines.{replies_to};
+ghost use Rattle.metis_sim.specs.Terms.{begin, replies_to};
 
 use crate::reply_line::ReplyLine;
 use crate::write::{ReplyLines, reply_lines};

@@ -1,12 +1,10 @@
 //! A session over a universe.
 ghost use Rattle.std.specs.Prelude.{◌≡◌, ◌≢◌, IfOk, IsFalse, IsTrue, OnErr, length};
-ghost use Rattle.metis_universe.specs.Config.{Correct};
-ghost use Rattle.metis_universe.specs.Numbers.{IsOf};
-ghost use Rattle.metis_config.specs.Over.{IsOver};
+ghost use Rattle.metis_universe.specs.Terms.{Correct, IsOf};
+ghost use Rattle.metis_config.specs.Terms.{IsOver};
 ghost use Rattle.metis_actions.specs.declared.faults.AFault.{AFault};
-ghost use Rattle.metis_sim.specs.Replies.{IsReplyOf};
-ghost use Rattle.metis_sim.specs.Asked.{IsAskedOf, KeepsEnough, is_undo, taken, unkept};
-ghost use Rattle.metis_sim.specs.Session.{answer, begin, changes, done, takes_none, undone};
+ghost use Rattle.metis_sim.specs.Terms.{IsAskedOf, IsReplyOf, KeepsEnough, answer, begin, changes, done, taken, takes_none, undone, unkept};
+ghost use Rattle.metis_sim.specs.Asked.{is_undo};
 
 use crate::Reply;
 use crate::asked::{Asked, asked_in};

@@ -1,8 +1,8 @@
 //! The lines of a configuration that is shown.
 ghost use Rattle.std.specs.Prelude.{◌≡◌, ◌<◌, ◌∷◌, [], ◌++◌, IfOk, OnOk, codes, decimal, map, string_bytes};
 ghost use Rattle.std.specs.List.{All};
-ghost use Rattle.metis_universe.specs.Universe.{pair_count, port_count};
-ghost use Rattle.metis_config.specs.Over.{IsOver};
+ghost use Rattle.metis_universe.specs.Terms.{pair_count, port_count};
+ghost use Rattle.metis_config.specs.Terms.{IsOver};
 ghost use Rattle.metis_sim.specs.Replies.{binding_line, counts_line, instance_line, show_lines};
 
 use metis_config::Config;

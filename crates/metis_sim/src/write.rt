@@ -1,8 +1,7 @@
 //! The lines of a reply.
 ghost use Rattle.std.specs.Prelude.{◌≡◌, IfOk};
-ghost use Rattle.metis_outside.specs.Faults.{CountsFault};
-ghost use Rattle.metis_outside.specs.Writes.{Writes};
-ghost use Rattle.metis_sim.specs.Replies.{IsReplyOf, reply_lines};
+ghost use Rattle.metis_outside.specs.Terms.{CountsFault, Writes};
+ghost use Rattle.metis_sim.specs.Terms.{IsReplyOf, reply_lines};
 
 use crate::reply_line::ReplyLine;
 use crate::shown::{ShownLines, shown_lines};

@@ -4,13 +4,10 @@ use Rattle.std.proofs.lemmas.List.{length-replicate}
 use Rattle.std.specs.List.{AllByRecursion, filter, flat_map, list_all, list_any, range_with_len}
 use Rattle.std.proofs.lemmas.Bool.{false≢true, both_ways, cases_eq, cases_lt, eqb-true, eq-eqb, ne_eqb}
 use Rattle.std.proofs.lemmas.List.Elements.{recursion_from_All, filter_agree}
-use Rattle.metis_ids.specs.Graph.{Graph, IsGraph, afters, befores, edge_count, is_edge, joins}
-use Rattle.metis_ids.specs.Lists.{has}
-use Rattle.metis_ids.specs.Order.{is_ready}
+use Rattle.metis_ids.specs.Terms.{Graph, IsGraph, afters, befores, edge_count, has, is_edge, is_ready, joins, occurrences}
 use Rattle.metis_ids.proofs.Counts.{occurrences-append}
 use Rattle.metis_ids.proofs.Lists.{filter_short, has-push}
-use Rattle.metis_sort.specs.Counts.{awaits, edges_from, edges_to, waiting}
-use Rattle.metis_ids.specs.Counts.{occurrences}
+use Rattle.metis_sort.specs.Terms.{awaits, edges_from, edges_to, waiting}
 
 -- ---- filters
 

@@ -8,16 +8,13 @@ use Rattle.std.proofs.lemmas.List.Elements.{filter_agree}
 use Rattle.std.proofs.lemmas.List.{get_or-set_same, get_or-set_other}
 use Rattle.std.proofs.lemmas.List.FromFn.{length-map-range_with_len, map-range_with_len_more}
 use Rattle.std.specs.Cmp.{both_ways as same_bool}
-use Rattle.metis_ids.specs.Graph.{Graph, IsGraph, all_nodes, befores, edge_count, is_edge, joins}
-use Rattle.metis_ids.specs.Lists.{has}
-use Rattle.metis_ids.specs.Order.{order_of}
-use Rattle.metis_ids.specs.Cycle.{before_in, cycle_of, from_first, has_before, stuck, visit, visits}
+use Rattle.metis_ids.specs.Terms.{Graph, IsGraph, all_nodes, before_in, befores, cycle_of, edge_count, from_first, has, has_before, is_edge, joins, order_of, stuck, visit, visits}
 use Rattle.metis_ids.proofs.Taken.{none_ready, taken_before}
 use Rattle.metis_ids.proofs.Stuck.{stuck_ascend, stuck_is_left, within, stuck_before}
 use Rattle.metis_ids.proofs.Walks.{again_within, visit_there}
 use Rattle.metis_ids.proofs.Orders.{order_stops}
 use Rattle.metis_ids.proofs.Lists.{has-push}
-use Rattle.metis_sort.specs.Counts.{all_waiting, awaits, edges_to, waiting}
+use Rattle.metis_sort.specs.Terms.{all_waiting, awaits, edges_to, waiting}
 use Rattle.metis_sort.proofs.CountFacts.{and_swap, any_by_count, edges_to-push, occurrences-outside, ready_by_count, waiting_outside}
 use Rattle.metis_sort.proofs.OrderFacts.{find-filter, find_least, waits_at}
 

@@ -5,14 +5,11 @@ use Rattle.std.proofs.lemmas.Bool.{false≢true, cases_eq, cases_lt, eq-eqb, eqb
 use Rattle.std.proofs.lemmas.List.{append-nil, get_or-set_same, get_or-set_other, get_or_past, length-map, length-replicate, take-append-drop, take_more, replicate_more}
 use Rattle.std.proofs.lemmas.List.Concat.{flat_map-append}
 use Rattle.std.proofs.lemmas.List.Elements.{All-from_recursion, filter-append, recursion_from_All}
-use Rattle.metis_ids.specs.Graph.{Graph, IsGraph, afters, befores, edge_count, is_edge, joins}
-use Rattle.metis_ids.specs.Lists.{has}
+use Rattle.metis_ids.specs.Terms.{Graph, IsGraph, afters, befores, edge_count, has, is_edge, joins, occurrences}
 use Rattle.metis_ids.proofs.Lists.{filter_short, flat_more, list_any-flat_map, range_more, some_member, take_short}
 use Rattle.metis_ids.proofs.Taken.{edge_from, edge_to}
 use Rattle.metis_ids.proofs.Counts.{occurrences-append}
-use Rattle.metis_ids.specs.Counts.{occurrences}
-use Rattle.metis_sort.specs.Dag.{HasEdgesOf, IsDag, ascending, edges_into, edges_of_row, graph_into, turned_row}
-use Rattle.metis_sort.specs.Rows.{joined}
+use Rattle.metis_sort.specs.Terms.{HasEdgesOf, IsDag, ascending, edges_into, edges_of_row, graph_into, joined, turned_row}
 use Rattle.metis_sort.proofs.CountFacts.{any_by_count, has-afters, no_edges, occurrences-afters, occurrences-befores, occurrences-inside, occurrences-outside}
 
 pub member : (xs : List ℕ) (i x : ℕ) → i < length xs → x ≡ get_or xs i x → has xs x ≡ true

@@ -7,15 +7,11 @@ use Rattle.std.proofs.lemmas.List.Folds.{find-append}
 use Rattle.std.proofs.lemmas.List.FromFn.{get_or-map-range_with_len, length-map-range_with_len, fill_by_all}
 use Rattle.std.specs.Option.{option_or}
 use Rattle.std.specs.Cmp.{both_ways as same_bool}
-use Rattle.metis_ids.specs.Graph.{Graph, IsGraph, afters, all_nodes, is_edge}
-use Rattle.metis_ids.specs.Lists.{has}
-use Rattle.metis_ids.specs.Order.{is_ready, order_of, pick, preferred, taken}
+use Rattle.metis_ids.specs.Terms.{Graph, IsGraph, afters, all_nodes, has, is_edge, is_ready, occurrences, order_of, pick, preferred, taken}
 use Rattle.metis_ids.proofs.Taken.{edge_to, ready_new, ready_before, ready_from, preferred_within, picked_ready, picked_within, taken_more, taken_before, taken_count, stopped_order}
 use Rattle.metis_ids.proofs.Finding.{find_none}
 use Rattle.metis_ids.proofs.Lists.{has-push, has_below}
-use Rattle.metis_sort.specs.Counts.{all_waiting, edges_from, waiting}
-use Rattle.metis_ids.specs.Counts.{occurrences}
-use Rattle.metis_sort.specs.Ready.{IsFirst}
+use Rattle.metis_sort.specs.Terms.{IsFirst, all_waiting, edges_from, waiting}
 use Rattle.metis_sort.proofs.CountFacts.{waiting-push, has-afters, ready_by_count, waiting_outside, edges_from-push}
 
 -- ---- searches

@@ -7,11 +7,11 @@ use Rattle.std.specs.BTreeMap.Range.{IsLtBy}
 use Rattle.std.specs.Ordering.{nat_cmp}
 use Rattle.std.proofs.lemmas.Bool.{both_ways, eqb-true, eq-eqb, ne_eqb, or_cases, or_left}
 use Rattle.std.proofs.lemmas.List.Elements.{recursion_from_All}
-use Rattle.metis_ids.specs.Lists.{has}
+use Rattle.metis_ids.specs.Terms.{has}
 use Rattle.metis_ids.proofs.Inserted.{has-insert_key}
 use Rattle.metis_ids.proofs.Lists.{above_rest}
 use Rattle.metis_ids.proofs.Tests.{eq_comm}
-use Rattle.metis_sort.specs.Ready.{offers, IsFirst}
+use Rattle.metis_sort.specs.Terms.{IsFirst, offers}
 
 pub insert_apart : (keys : List ℕ) (last node : ℕ) → has keys last ≡ false → nat_eq node last ≡ false → has (insert_key nat_cmp keys node) last ≡ false
 insert_apart keys last node apart other = has-insert_key keys node last ∙ (λ i. other i || apart i)

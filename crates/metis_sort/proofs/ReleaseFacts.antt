@@ -4,12 +4,10 @@ use Rattle.std.specs.List.{slice_get}
 use Rattle.std.proofs.lemmas.Bool.{cases_eq, eq-eqb, ne_eqb, or_left, or_right}
 use Rattle.std.proofs.lemmas.List.{get_or-set_same, get_or-set_other, take-append-drop}
 use Rattle.std.proofs.lemmas.Option.{slice_get_within}
-use Rattle.metis_ids.specs.Graph.{Graph, IsGraph, afters}
-use Rattle.metis_ids.specs.Lists.{has}
+use Rattle.metis_ids.specs.Terms.{Graph, IsGraph, afters, has, occurrences}
 use Rattle.metis_ids.proofs.Taken.{edge_to}
 use Rattle.metis_ids.proofs.Counts.{occurrences-append}
 use Rattle.metis_ids.proofs.Lists.{has-append, has-push, take_one_more}
-use Rattle.metis_ids.specs.Counts.{occurrences}
 use Rattle.metis_sort.proofs.CountFacts.{has-afters}
 
 module _ (ys : List ℕ) (k y : ℕ) (here : slice_get ys k ≡ Some y) where

@@ -7,7 +7,7 @@ use Rattle.std.proofs.lemmas.List.FromFn.{get_or-map-range_with_len, length-map-
 use Rattle.std.proofs.lemmas.Grind.{take-set_at}
 use Rattle.std.proofs.Math.Seq.{drop-append_seam}
 use Rattle.metis_ids.proofs.Lists.{flat_more, range_more}
-use Rattle.metis_sort.specs.Rows.{Filling, HasRoom, IsFull, IsRoomy, IsSpread, filling_of, joined, part, rows_by, rows_from}
+use Rattle.metis_sort.specs.Terms.{Filling, HasRoom, IsFull, IsRoomy, IsSpread, filling_of, joined, part, rows_by, rows_from}
 
 -- ---- parts of a list
 

@@ -4,8 +4,7 @@
 --     edges_from g d, edges_to g d      how many edges lead from nodes of d;  to nodes of d
 use Rattle.std.specs.Prelude.{ℕ, ◌==◌, ◌&&◌, Bool, not, List, length, map}
 use Rattle.std.specs.List.{filter}
-use Rattle.metis_ids.specs.Graph.{Graph, all_nodes}
-use Rattle.metis_ids.specs.Lists.{has}
+use Rattle.metis_ids.specs.Terms.{Graph, all_nodes, has}
 
 abbrev pub awaits : List ℕ → ℕ → (ℕ × ℕ) → Bool
 awaits done n e = e.1 == n && not (has done e.0)

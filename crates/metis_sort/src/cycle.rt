@@ -1,11 +1,8 @@
 //! The cycle of a graph that has no order.
 ghost use Rattle.std.specs.Prelude.{◌≡◌, ◌==◌, ◌+◌, ◌^◌, ◌<◌, ◌≤◌, IsTrue, not, length, slice_index, IfOk};
 ghost use Rattle.std.specs.List.{find, range_with_len};
-ghost use Rattle.metis_ids.specs.Graph.{Graph, IsGraph, befores};
-ghost use Rattle.metis_ids.specs.Lists.{has};
-ghost use Rattle.metis_ids.specs.Order.{order_of};
-ghost use Rattle.metis_ids.specs.Cycle.{before_in, cycle_of, from_first, has_before, stuck};
-ghost use Rattle.metis_sort.specs.Counts.{all_waiting};
+ghost use Rattle.metis_ids.specs.Terms.{Graph, IsGraph, before_in, befores, cycle_of, from_first, has, has_before, order_of, stuck};
+ghost use Rattle.metis_sort.specs.Terms.{all_waiting};
 
 use crate::reach::Reach;
 use metis_ids::{NoMemory, NodeIx, Steps};

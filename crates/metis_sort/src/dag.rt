@@ -1,11 +1,8 @@
 //! Graphs that hold the predecessors and the successors of each node.
 ghost use Rattle.std.specs.Prelude.{◌≡◌, ◌^◌, ◌<◌, ◌++◌, ℕ, [], IsTrue, IfOk, length, map, replicate, slice_index};
 ghost use Rattle.std.specs.List.{All, filter, slice_index_or};
-ghost use Rattle.metis_ids.specs.Graph.{joins};
-ghost use Rattle.metis_ids.specs.Lists.{has};
-ghost use Rattle.metis_ids.specs.Counts.{occurrences};
-ghost use Rattle.metis_sort.specs.Dag.{HasEdgesOf, ascending, edges_into, graph_into, turned_row};
-ghost use Rattle.metis_sort.specs.Rows.{HasRoom};
+ghost use Rattle.metis_ids.specs.Terms.{has, joins, occurrences};
+ghost use Rattle.metis_sort.specs.Terms.{HasEdgesOf, HasRoom, ascending, edges_into, graph_into, turned_row};
 
 use crate::filling::Filling;
 use crate::reach::Reach;

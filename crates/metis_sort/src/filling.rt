@@ -1,7 +1,7 @@
 //! Rows of nodes that are filled in any order, each up to the room that it has.
 ghost use Rattle.std.specs.Prelude.{◌≡◌, ◌+◌, ◌++◌, ◌∷◌, ◌<◌, ℕ, [], IfOk, length, slice_index, slice_set};
 ghost use Rattle.std.specs.List.{slice_index_or};
-ghost use Rattle.metis_sort.specs.Rows.{AreSpaced, HasRoom, IsFull};
+ghost use Rattle.metis_sort.specs.Terms.{AreSpaced, HasRoom, IsFull};
 
 use crate::rows::NodeRows;
 use metis_ids::{NoMemory, NodeIx};

@@ -1,11 +1,7 @@
 //! The order of a graph, as far as it goes.
 ghost use Rattle.std.specs.Prelude.{◌≡◌, ◌+◌, ◌*◌, ◌-◌, ◌^◌, ◌<◌, ◌≤◌, ◌==◌, ◌&&◌, ◌||◌, ℕ, nat_lt, [], length, map, slice_index, slice_set, IfOk, OnOk};
-ghost use Rattle.metis_ids.specs.Graph.{Graph, IsGraph, afters, all_nodes};
-ghost use Rattle.metis_ids.specs.Lists.{has};
-ghost use Rattle.metis_ids.specs.Order.{order_of};
-ghost use Rattle.metis_sort.specs.Counts.{all_waiting};
-ghost use Rattle.metis_ids.specs.Counts.{occurrences};
-ghost use Rattle.metis_sort.specs.Ready.{offers};
+ghost use Rattle.metis_ids.specs.Terms.{Graph, IsGraph, afters, all_nodes, has, occurrences, order_of};
+ghost use Rattle.metis_sort.specs.Terms.{all_waiting, offers};
 
 use crate::reach::Reach;
 use crate::ready::Ready;

@@ -1,6 +1,6 @@
 //! The nodes that are ready.
 ghost use Rattle.std.specs.Prelude.{◌≡◌, ◌==◌, ◌&&◌, ◌||◌, ℕ, false, not, IfNone, IfSome, OnOk};
-ghost use Rattle.metis_ids.specs.Lists.{has};
+ghost use Rattle.metis_ids.specs.Terms.{has};
 ghost use Rattle.metis_sort.specs.Ready.{offers, IsFirst};
 
 use metis_ids::{NoMemory, NodeIx};

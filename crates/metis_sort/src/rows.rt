@@ -1,7 +1,7 @@
 //! Rows of nodes in one list, one behind the other.
 ghost use Rattle.std.specs.Prelude.{◌≡◌, ◌++◌, ◌∷◌, ◌^◌, ◌<◌, [], IfOk, OnOk, length};
 ghost use Rattle.std.specs.List.{slice_index_or};
-ghost use Rattle.metis_sort.specs.Rows.{joined};
+ghost use Rattle.metis_sort.specs.Terms.{joined};
 
 use metis_ids::{NoMemory, NodeIx};
 use std::alloc::Global;

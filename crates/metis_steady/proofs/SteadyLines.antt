@@ -3,19 +3,19 @@ use Rattle.std.proofs.Common.{◌≡◌, ◌⊎◌, ℕ, true, List, ◌++◌, E
 use Rattle.std.specs.Prelude.{codes}
 use Rattle.std.specs.List.{list_all}
 use Rattle.std.proofs.lemmas.Bool.{and_from}
-use Rattle.metis_actions.specs.Faults.{fault_text, fault_tokens}
+use Rattle.metis_actions.specs.Terms.{fault_text, fault_tokens}
 use Rattle.metis_actions.specs.declared.faults.AFault.{AFault}
 use Rattle.metis_actions.specs.declared.faults.AFault.TheVariants as afault
 use Rattle.metis_output.proofs.LineWords.{by_number, number_then}
 use Rattle.metis_outside.proofs.Feeds.{no_feed, no_feed-decimal, no_feed-join_with_byte}
-use Rattle.metis_outside.specs.Pieces.{IsLine}
+use Rattle.metis_outside.specs.Terms.{IsLine}
 use Rattle.metis_output.proofs.LineWords.{by_word}
 use Rattle.metis_tokens.proofs.WordFeeds.{no_feed-pair_word, no_feed-port_name_of}
-use Rattle.metis_universe.specs.Universe.{IsNamed, Universe}
+use Rattle.metis_universe.specs.Terms.{IsNamed, Universe}
 use Rattle.metis_ids.specs.declared.actions.Action.{Action}
 use Rattle.metis_output.specs.declared.status.Status.{Status}
 use Rattle.metis_output.specs.declared.status.Status.TheVariants.{No}
-use Rattle.metis_steady.specs.Steady.{HasBadAction, HasLooseAction, IsSteady, IsUnsteadyIn, TellsUnsteady, bad_line, loose_line}
+use Rattle.metis_steady.specs.Terms.{HasBadAction, HasLooseAction, IsSteady, IsUnsteadyIn, TellsUnsteady, bad_line, loose_line}
 use Rattle.metis_steady.specs.declared.steady.Unsteady.{Unsteady}
 use Rattle.metis_steady.specs.declared.steady.Unsteady.TheVariants as unsteady
 

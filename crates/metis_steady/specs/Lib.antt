@@ -1,2 +1,3 @@
 pub mod Followed
 pub mod Steady
+pub mod Terms

@@ -6,17 +6,14 @@
 --     IsSteady u actions judged      the actions are a steadfast run and wait for these; or this is the first that cannot be done, or else the first that is not steadfast
 --     IsUnsteadyIn u why, TellsUnsteady u why lines      what it names is the universe's;  the one line says so
 use Rattle.std.specs.Prelude.{◌≡◌, ℕ, List, [], ◌∷◌, ◌++◌, length, codes, decimal, Result, Ok, Err}
-use Rattle.metis_actions.specs.Faults.{IsFaultOf, fault_text}
+use Rattle.metis_actions.specs.Terms.{IsFaultOf, fault_text}
 use Rattle.metis_actions.specs.declared.faults.AFault.{AFault}
 use Rattle.metis_ids.specs.declared.actions.Action.{Action}
 use Rattle.metis_output.specs.declared.status.Status.{Status}
 use Rattle.metis_output.specs.declared.status.Status.TheVariants.{No}
-use Rattle.metis_replay.specs.Exact.{IsFirstBad}
-use Rattle.metis_universe.specs.Config.{empty}
-use Rattle.metis_universe.specs.Steadfast.{IsSteadfastRun}
-use Rattle.metis_universe.specs.Step.{IsRun, after_all}
-use Rattle.metis_universe.specs.Universe.{Universe}
-use Rattle.metis_waits.specs.Waits.{AreWaits, IsFirstLoose, WaitLists}
+use Rattle.metis_replay.specs.Terms.{IsFirstBad}
+use Rattle.metis_universe.specs.Terms.{IsRun, IsSteadfastRun, Universe, after_all, empty}
+use Rattle.metis_waits.specs.Terms.{AreWaits, IsFirstLoose, WaitLists}
 use Rattle.metis_steady.specs.declared.steady.Unsteady.{Unsteady}
 use Rattle.metis_steady.specs.declared.steady.Unsteady.TheVariants.{Bad, Loose}
 use Rattle.metis_steady.specs.declared.steady.Unsteady.TheVariants as unsteady

@@ -1,13 +1,10 @@
 //! Whether a plan's actions are a steadfast run.
 ghost use Rattle.std.specs.Prelude.{◌≡◌, ◌<◌, ◌-◌, ◌^◌, IfOk, false, length, string_bytes};
 ghost use Rattle.std.specs.List.{All};
-ghost use Rattle.metis_actions.specs.Faults.{IsFaultOf, fault_text};
-ghost use Rattle.metis_steady.specs.Followed.{IsFollowed};
-ghost use Rattle.metis_steady.specs.Steady.{IsSteady, IsUnsteadyIn, TellsUnsteady, bad_line, standing_after};
-ghost use Rattle.metis_replay.specs.Exact.{Tells};
-ghost use Rattle.metis_replay.specs.Progress.{IsVerdictOf, after_feeding};
-ghost use Rattle.metis_universe.specs.Goals.{IsGoalOf};
-ghost use Rattle.metis_universe.specs.Numbers.{IsOf};
+ghost use Rattle.metis_actions.specs.Terms.{IsFaultOf, fault_text};
+ghost use Rattle.metis_steady.specs.Terms.{IsFollowed, IsSteady, IsUnsteadyIn, TellsUnsteady, bad_line, standing_after};
+ghost use Rattle.metis_replay.specs.Terms.{IsVerdictOf, Tells, after_feeding};
+ghost use Rattle.metis_universe.specs.Terms.{IsGoalOf, IsOf};
 
 use metis_actions::{AFault, fault_text};
 use metis_config::Config;

@@ -1,8 +1,8 @@
 //! How many slots each pair has over a support.
 ghost use Rattle.std.specs.Prelude.{◌≡◌, ◌<◌, ℕ, fold, length, max, replicate, IfOk, IsTrue, slice_set};
 ghost use Rattle.std.specs.List.{slice_index_or};
-ghost use Rattle.metis_universe.specs.Selection.{demands_on, slots_by};
-ghost use Rattle.metis_support.specs.Support.{IsSupport, is_selected, provider_at};
+ghost use Rattle.metis_universe.specs.Terms.{demands_on, slots_by};
+ghost use Rattle.metis_support.specs.Terms.{IsSupport, is_selected, provider_at};
 
 use crate::support::Support;
 use metis_ids::{IxVec, NoMemory, PairIx};

@@ -1,15 +1,13 @@
 -- A text is read as a plan with lists just where it is the text of that plan and the plan is well formed.
 use Rattle.std.proofs.Common.{◌≡◌, ℕ, ◌<◌, List, ◌++◌, length, Result, Ok, Err, sym, ap, ◌∙◌, subst}
 use Rattle.std.proofs.lemmas.List.{length-map}
-use Rattle.metis_ids.specs.Plans.{Plan}
-use Rattle.metis_outside.specs.Pieces.{bytes_of}
-use Rattle.metis_universe.specs.Universe.{IsNamed, IsUniverse, Universe}
-use Rattle.metis_text.specs.PlanText.{IsWellFormed, action_lines, counts_line, counts_of, dup_lines, plan_bytes, plan_header}
-use Rattle.metis_tokens.specs.Line.{end_line}
-use Rattle.metis_text.specs.Reading.{plan_in}
+use Rattle.metis_ids.specs.Terms.{Plan}
+use Rattle.metis_outside.specs.Terms.{bytes_of}
+use Rattle.metis_universe.specs.Terms.{IsNamed, IsUniverse, Universe}
+use Rattle.metis_text.specs.Terms.{IsTextOf, IsWellFormed, ReadsPlan, action_lines, counts_line, counts_of, dup_lines, dup_row, lists_of, parts_of, plan_bytes, plan_header, plan_in, said}
+use Rattle.metis_tokens.specs.Terms.{end_line}
 use Rattle.metis_tokens.specs.declared.fault.TFault.{TFault}
 use Rattle.std.specs.Prelude.{IfOk}
-use Rattle.metis_text.specs.Reads.{IsTextOf, ReadsPlan, dup_row, lists_of, parts_of, said}
 use Rattle.metis_text.specs.declared.plan_text.PlanText.{PlanText}
 use Rattle.metis_text.proofs.DupsRead.{dup_lines_as_read}
 use Rattle.metis_text.proofs.Formed.{formed, parts_of_formed}

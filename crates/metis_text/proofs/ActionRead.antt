@@ -5,11 +5,9 @@ use Rattle.std.specs.List.{list_all}
 use Rattle.std.proofs.lemmas.Bool.{and_from, eq-eqb}
 use Rattle.metis_ids.specs.declared.actions.Action.{Action}
 use Rattle.metis_ids.specs.declared.actions.Action.TheVariants.{New, Delete, Bind, Unbind, Move}
-use Rattle.metis_universe.specs.Universe.{IsNamed, Universe, pair_count, port_count, port_name_of, port_named, state_name_of, state_named, type_name_of, type_named, type_of}
-use Rattle.metis_text.specs.ActionLine.{after_in, bind_action, ends_in, kind_in, move_action, new_action, new_in, row_of, row_with, states_in, unbind_action}
-use Rattle.metis_tokens.specs.Tokens.{due, state_in, named, number_in}
-use Rattle.metis_tokens.specs.Flaws.{both, made, right}
-use Rattle.metis_text.specs.PlanText.{action_tokens, after_tokens}
+use Rattle.metis_universe.specs.Terms.{IsNamed, Universe, pair_count, port_count, port_name_of, port_named, state_name_of, state_named, type_name_of, type_named, type_of}
+use Rattle.metis_text.specs.Terms.{action_tokens, after_in, after_tokens, bind_action, ends_in, kind_in, move_action, new_action, new_in, row_of, row_with, states_in, unbind_action}
+use Rattle.metis_tokens.specs.Terms.{both, due, made, named, number_in, right, state_in}
 use Rattle.metis_tokens.specs.declared.flaw.Flaw.{Flaw}
 use Rattle.metis_tokens.specs.declared.flaw.Flaw.TheVariants.{Number}
 use Rattle.metis_text.proofs.ActionTokens.{IsSaid}

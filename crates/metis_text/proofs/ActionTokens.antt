@@ -9,13 +9,9 @@ use Rattle.std.specs.Str.{bytes_eq}
 use Rattle.std.proofs.lemmas.Slice.Eq.{bytes_eq-Decides}
 use Rattle.metis_ids.specs.declared.actions.Action.{Action}
 use Rattle.metis_ids.specs.declared.actions.Action.TheVariants.{New, Delete, Bind, Unbind, Move}
-use Rattle.metis_universe.specs.Numbers.{IsOf}
-use Rattle.metis_universe.specs.Universe.{Universe, pair_count, port_count, port_name_of, port_named, state_name_of, state_named, type_named, type_of}
-use Rattle.metis_text.specs.ActionLine.{Words, action_in, bind_action, delete_words, ends_in, kind_in, move_action, move_words, new_action, new_in, new_words, states_in, tie_words, unbind_action}
-use Rattle.metis_tokens.specs.Tokens.{state_in, named, number_in}
-use Rattle.metis_tokens.specs.Flaws.{both, made}
-use Rattle.metis_text.specs.InRange.{IsActionInRange}
-use Rattle.metis_text.specs.PlanText.{IsMoveOf, action_tokens}
+use Rattle.metis_universe.specs.Terms.{IsOf, Universe, pair_count, port_count, port_name_of, port_named, state_name_of, state_named, type_named, type_of}
+use Rattle.metis_text.specs.Terms.{IsActionInRange, IsMoveOf, Words, action_in, action_tokens, bind_action, delete_words, ends_in, kind_in, move_action, move_words, new_action, new_in, new_words, states_in, tie_words, unbind_action}
+use Rattle.metis_tokens.specs.Terms.{both, made, named, number_in, state_in}
 use Rattle.metis_tokens.proofs.NameTokens.{and_then_some, named_is, port_is, state_is, type_is}
 use Rattle.metis_tokens.proofs.NumberTokens.{number_is}
 use Rattle.metis_tokens.proofs.Outcomes.{both_is, made_is}

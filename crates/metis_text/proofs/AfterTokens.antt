@@ -6,10 +6,8 @@ use Rattle.std.specs.List.{AllByRecursion, list_all}
 use Rattle.std.specs.Str.{bytes_eq}
 use Rattle.std.proofs.lemmas.Bool.{and_from, and_parts, ltb-true}
 use Rattle.std.proofs.lemmas.Slice.Eq.{bytes_eq-Decides}
-use Rattle.metis_text.specs.ActionLine.{after_in, rise}
-use Rattle.metis_tokens.specs.Flaws.{all_behind, right}
-use Rattle.metis_text.specs.PlanText.{after_tokens}
-use Rattle.metis_tokens.specs.Tokens.{number_in}
+use Rattle.metis_text.specs.Terms.{after_in, after_tokens, rise}
+use Rattle.metis_tokens.specs.Terms.{all_behind, number_in, right}
 use Rattle.metis_tokens.specs.declared.flaw.Flaw.TheVariants.{Form, Number}
 use Rattle.metis_tokens.proofs.NumberTokens.{number_is, number_read}
 use Rattle.metis_tokens.proofs.Outcomes.{all_are, all_read, if_is, right_is, words_back, words_read}

@@ -6,7 +6,7 @@ use Rattle.std.specs.List.Sorted.{IsStrictlyIncreasing}
 use Rattle.std.proofs.lemmas.Bool.{and_from, and_parts, lt-ltb, ltb-true}
 use Rattle.std.proofs.lemmas.List.Elements.{All-from_recursion, recursion_from_All}
 use Rattle.metis_universe.proofs.PortRows.{Rises, rises}
-use Rattle.metis_text.specs.ActionLine.{rise}
+use Rattle.metis_text.specs.Terms.{rise}
 
 pub increasing : (xs : List ℕ) → Rises xs → IsStrictlyIncreasing xs
 increasing [] r k l = absurd (omega arith)

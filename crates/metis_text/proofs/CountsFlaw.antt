@@ -8,14 +8,11 @@ use Rattle.std.proofs.lemmas.Bool.{and_from, and_parts, lt-ltb}
 use Rattle.std.proofs.lemmas.Slice.Eq.{bytes_eq-Decides}
 use Rattle.metis_tokens.proofs.Cuts.{tokens_of_words, words_of_tokens}
 use Rattle.metis_tokens.proofs.Printed.{printed, printed_digits}
-use Rattle.metis_tokens.specs.Flaws.{both, graver}
-use Rattle.metis_tokens.specs.Line.{words}
-use Rattle.metis_tokens.specs.Tokens.{in_range, is_number, number_in, starts_number, tokens}
+use Rattle.metis_tokens.specs.Terms.{both, graver, in_range, is_number, number_in, starts_number, tokens, words}
 use Rattle.metis_tokens.specs.declared.flaw.Flaw.{Flaw}
 use Rattle.metis_tokens.specs.declared.flaw.Flaw.TheVariants.{Form, Number, Name}
 use Rattle.metis_text.proofs.LineFlaws.{number_formed}
-use Rattle.metis_text.specs.PlanFlaws.{AreInRange, AreNumbers, IsCountsFlaw, counts_with}
-use Rattle.metis_text.specs.Reading.{Numbers, counts_in, counts_of_tokens}
+use Rattle.metis_text.specs.Terms.{AreInRange, AreNumbers, IsCountsFlaw, Numbers, counts_in, counts_of_tokens, counts_with}
 
 -- ---- two parts of a line
 

@@ -9,13 +9,13 @@ use Rattle.std.proofs.lemmas.List.Elements.{All-weaker}
 use Rattle.std.proofs.lemmas.List.Folds.{concat-append}
 use Rattle.std.proofs.lemmas.List.Sums.{AllPass-from_list_all}
 use Rattle.metis_outside.proofs.Feeds.{no_feed, no_other}
-use Rattle.metis_outside.specs.Pieces.{bytes_of}
+use Rattle.metis_outside.specs.Terms.{bytes_of}
 use Rattle.metis_tokens.proofs.LinesTaken.{read_next_number}
 use Rattle.metis_tokens.proofs.Readers.{read_fails}
-use Rattle.metis_tokens.specs.Cursor.{Cursor, fault_at, read_next}
+use Rattle.metis_tokens.specs.Terms.{Cursor, fault_at, read_next}
 use Rattle.metis_tokens.specs.declared.fault.TFault.{TFault}
 use Rattle.metis_tokens.specs.declared.flaw.Flaw.{Flaw}
-use Rattle.metis_text.specs.DueLines.{HasEnded, IsOfDue, NoFeed}
+use Rattle.metis_text.specs.Terms.{HasEnded, IsOfDue, NoFeed}
 
 none_fed : (bytes : List ℕ) → no_feed bytes ≡ true → NoFeed bytes
 none_fed bytes h = All-weaker (λ b. not (b == 10) ≡ true) (λ b. b ≢ 10) no_other bytes (AllPass-from_list_all (λ b. not (b == 10)) bytes h)

@@ -12,22 +12,15 @@ use Rattle.metis_ids.specs.declared.events.Event.{Event}
 use Rattle.metis_ids.specs.declared.events.Event.TheVariants.{End}
 use Rattle.metis_tokens.proofs.Cuts.{tokens_of_words, words_of_tokens}
 use Rattle.metis_tokens.proofs.Printed.{printed}
-use Rattle.metis_tokens.specs.Flaws.{all_behind, both, made}
-use Rattle.metis_tokens.specs.Line.{words}
-use Rattle.metis_tokens.specs.Tokens.{due, number_in, starts_number, tokens}
-use Rattle.metis_tokens.specs.Words.{of_names, pair_in}
+use Rattle.metis_tokens.specs.Terms.{all_behind, both, due, made, number_in, of_names, pair_in, starts_number, tokens, words}
 use Rattle.metis_tokens.specs.declared.flaw.Flaw.{Flaw}
 use Rattle.metis_tokens.specs.declared.flaw.Flaw.TheVariants.{Form, Number, Name}
 use Rattle.metis_universe.proofs.NameBytes.{cut_back, name_some}
-use Rattle.metis_universe.specs.Names.{is_name}
-use Rattle.metis_universe.specs.PairWords.{is_colon, pair_names}
-use Rattle.metis_universe.specs.Universe.{Universe, pair_named}
+use Rattle.metis_universe.specs.Terms.{Universe, is_colon, is_name, pair_named, pair_names}
 use Rattle.metis_text.proofs.LineFlaws.{two_found, two_printed}
 use Rattle.metis_text.proofs.RowFlaws.{numeral_printed}
 use Rattle.metis_text.proofs.Tells.{Tells, found_form, found_number, found_there, tells_all, tells_as, tells_both, tells_due, tells_made, tells_number}
-use Rattle.metis_text.specs.DupLine.{DupRow, at_event, dup_in, dup_of, dup_with, event_in, is_point}
-use Rattle.metis_text.specs.PlanFlaws.{IsDupFlaw, IsDupWithin, IsEventWithin, IsFormedDup, IsFormedEvent, IsNumeral, IsPairThere, dup_words}
-use Rattle.metis_text.specs.RefusalFlaws.{AreTwoNames}
+use Rattle.metis_text.specs.Terms.{AreTwoNames, DupRow, IsDupFlaw, IsDupWithin, IsEventWithin, IsFormedDup, IsFormedEvent, IsNumeral, IsPairThere, at_event, dup_in, dup_of, dup_with, dup_words, event_in, is_point}
 
 -- ---- the pair
 

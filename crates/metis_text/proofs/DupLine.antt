@@ -8,15 +8,9 @@ use Rattle.std.proofs.lemmas.Bool.{and_from, and_parts}
 use Rattle.std.proofs.lemmas.List.{length-map}
 use Rattle.std.proofs.lemmas.Slice.Eq.{bytes_eq-Decides}
 use Rattle.metis_ids.specs.declared.events.Event.{Event}
-use Rattle.metis_universe.specs.Universe.{IsNamed, IsUniverse, Universe, pair_count}
-use Rattle.metis_tokens.specs.Tokens.{due, tokens}
-use Rattle.metis_text.specs.DupLine.{DupRow, dup_in, dup_of, dup_with, event_in}
-use Rattle.metis_tokens.specs.Words.{pair_in}
-use Rattle.metis_tokens.specs.Flaws.{all_behind, both, made}
-use Rattle.metis_text.specs.InRange.{IsEventInRange}
-use Rattle.metis_tokens.specs.Line.{words}
-use Rattle.metis_text.specs.PlanText.{dup_tokens, event_token}
-use Rattle.metis_universe.specs.PairWords.{pair_word}
+use Rattle.metis_universe.specs.Terms.{IsNamed, IsUniverse, Universe, pair_count, pair_word}
+use Rattle.metis_tokens.specs.Terms.{all_behind, both, due, made, pair_in, tokens, words}
+use Rattle.metis_text.specs.Terms.{DupRow, IsEventInRange, dup_in, dup_of, dup_tokens, dup_with, event_in, event_token}
 use Rattle.metis_tokens.specs.declared.flaw.Flaw.TheVariants.{Form}
 use Rattle.metis_text.proofs.ActionRead.{due_read}
 use Rattle.metis_tokens.proofs.Cuts.{tokens_of_words, words_of_tokens}

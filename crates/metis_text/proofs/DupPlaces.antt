@@ -2,10 +2,9 @@
 use Rattle.std.proofs.Common.{ℕ, ◌+◌, ◌<◌, ◌≤◌, ◌^◌, List, [], ◌∷◌, length, map, arith}
 use Rattle.std.specs.List.{All, AllByRecursion}
 use Rattle.std.proofs.lemmas.List.Elements.{All-from_recursion, recursion_from_All}
-use Rattle.metis_ids.specs.Plans.{Dup}
-use Rattle.metis_universe.specs.Universe.{Universe, pair_count}
-use Rattle.metis_text.specs.InRange.{IsEventInRange}
-use Rattle.metis_text.specs.Reads.{dup_row}
+use Rattle.metis_ids.specs.Terms.{Dup}
+use Rattle.metis_universe.specs.Terms.{Universe, pair_count}
+use Rattle.metis_text.specs.Terms.{IsEventInRange, dup_row}
 use Rattle.metis_text.proofs.DupLine.{IsDupRow}
 use Rattle.metis_text.proofs.DupsRead.{AreDups}
 

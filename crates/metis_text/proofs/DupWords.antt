@@ -12,11 +12,8 @@ use Rattle.metis_ids.specs.declared.events.Event.{Event}
 use Rattle.metis_ids.specs.declared.events.Event.TheVariants.{At, End}
 use Rattle.metis_ids.proofs.Tests.{bytes_apart}
 use Rattle.metis_universe.proofs.NameBytes.{cut_back}
-use Rattle.metis_text.specs.DupLine.{at_event, event_in, is_point}
-use Rattle.metis_tokens.specs.Flaws.{both, made}
-use Rattle.metis_text.specs.InRange.{IsEventInRange}
-use Rattle.metis_text.specs.PlanText.{event_token}
-use Rattle.metis_tokens.specs.Tokens.{number_in}
+use Rattle.metis_text.specs.Terms.{IsEventInRange, at_event, event_in, event_token, is_point}
+use Rattle.metis_tokens.specs.Terms.{both, made, number_in}
 use Rattle.metis_tokens.specs.declared.flaw.Flaw.{Flaw}
 use Rattle.metis_tokens.specs.declared.flaw.Flaw.TheVariants.{Form}
 use Rattle.metis_tokens.proofs.Cuts.{after_cut, before_cut}

@@ -4,15 +4,10 @@
 use Rattle.std.proofs.Common.{◌≡◌, ℕ, zero, suc, ◌+◌, List, [], ◌∷◌, ◌++◌, length, map, Ok, refl, sym, ap, ◌∙◌, append_assoc, append-nil, subst}
 use Rattle.std.specs.Prelude.{⊤}
 use Rattle.std.proofs.lemmas.List.{length_push}
-use Rattle.metis_ids.specs.Plans.{Dup}
-use Rattle.metis_universe.specs.Universe.{IsNamed, IsUniverse, Universe}
-use Rattle.metis_text.specs.DupLine.{DupRow, dup_in}
-use Rattle.metis_tokens.specs.Line.{line}
-use Rattle.metis_text.specs.PlanText.{dup_line}
-use Rattle.metis_tokens.specs.Cursor.{Cursor, lines_of, read_next}
-use Rattle.metis_text.specs.Reading.{dups_from}
-use Rattle.metis_tokens.specs.Flaws.{and_then}
-use Rattle.metis_text.specs.Reads.{dup_row}
+use Rattle.metis_ids.specs.Terms.{Dup}
+use Rattle.metis_universe.specs.Terms.{IsNamed, IsUniverse, Universe}
+use Rattle.metis_text.specs.Terms.{DupRow, dup_in, dup_line, dup_row, dups_from}
+use Rattle.metis_tokens.specs.Terms.{Cursor, and_then, line, lines_of, read_next}
 use Rattle.metis_text.proofs.DupLine.{IsDupRow, dup_is, dup_printed, dup_read, dup_row_tokens}
 use Rattle.metis_tokens.proofs.LinesTaken.{read_next_is, read_next_read, line_and_rest}
 use Rattle.metis_tokens.proofs.Outcomes.{and_then_is}

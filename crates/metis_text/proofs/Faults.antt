@@ -8,18 +8,11 @@ use Rattle.std.proofs.lemmas.Bool.Decides.{nat_tests}
 use Rattle.std.proofs.lemmas.List.{length-append, length-map, nil_from_length}
 use Rattle.std.proofs.lemmas.List.Sums.{count_by-le-length}
 use Rattle.std.proofs.lemmas.Slice.Zip.{length-zip}
-use Rattle.metis_ids.specs.Action.{makes}
-use Rattle.metis_ids.specs.Plans.{Dup, Plan}
-use Rattle.metis_outside.specs.Pieces.{bytes_of}
-use Rattle.metis_universe.specs.Universe.{IsTable, Universe}
-use Rattle.metis_text.specs.DupLine.{DupRow}
-use Rattle.metis_text.specs.Faults.{IsFault, IsMiscounted, IsPastEnd, IsWellFormedButCount, recounted}
-use Rattle.metis_tokens.specs.Line.{numbered, end_line}
-use Rattle.metis_text.specs.PlanText.{action_line, action_lines, dup_line, dup_lines, plan_bytes, plan_end, plan_lines}
-use Rattle.metis_tokens.specs.Cursor.{Cursor, fault_at, lines_of}
-use Rattle.metis_text.specs.Reading.{Parts, parts, plan_from, plan_in}
-use Rattle.metis_tokens.specs.Flaws.{and_then}
-use Rattle.metis_text.specs.Reads.{dup_row, said}
+use Rattle.metis_ids.specs.Terms.{Dup, Plan, makes}
+use Rattle.metis_outside.specs.Terms.{bytes_of}
+use Rattle.metis_universe.specs.Terms.{IsTable, Universe}
+use Rattle.metis_text.specs.Terms.{DupRow, IsFault, IsMiscounted, IsPastEnd, IsWellFormedButCount, Parts, action_line, action_lines, dup_line, dup_lines, dup_row, parts, plan_bytes, plan_end, plan_from, plan_in, plan_lines, recounted, said}
+use Rattle.metis_tokens.specs.Terms.{Cursor, and_then, end_line, fault_at, lines_of, numbered}
 use Rattle.metis_tokens.specs.declared.fault.TFault.{TFault}
 use Rattle.metis_tokens.specs.declared.fault.TFault.TheVariants.{Line, Short}
 use Rattle.metis_text.proofs.Accepted.{said_bytes}

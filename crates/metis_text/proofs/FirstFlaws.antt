@@ -9,24 +9,19 @@ use Rattle.metis_tokens.proofs.KnownLines.{exactly_is}
 use Rattle.metis_tokens.proofs.LinesTaken.{read_next_is}
 use Rattle.metis_tokens.proofs.Outcomes.{and_then_is}
 use Rattle.metis_tokens.proofs.Readers.{and_then_wrong}
-use Rattle.metis_tokens.specs.Cursor.{Cursor, ended, exactly, lines_of, read_next}
-use Rattle.metis_tokens.specs.Flaws.{and_then}
-use Rattle.metis_tokens.specs.Line.{end_line, words}
+use Rattle.metis_tokens.specs.Terms.{Cursor, and_then, end_line, ended, exactly, lines_of, read_next, words}
 use Rattle.metis_tokens.specs.declared.fault.TFault.{TFault}
 use Rattle.metis_tokens.specs.declared.fault.TFault.TheVariants.{Line}
 use Rattle.metis_tokens.specs.declared.flaw.Flaw.{Flaw}
-use Rattle.metis_universe.specs.GoalWords.{IsWordable}
-use Rattle.metis_universe.specs.Universe.{IsTable, Universe, pair_count}
+use Rattle.metis_universe.specs.Terms.{IsTable, IsWordable, Universe, pair_count}
 use Rattle.metis_text.proofs.LineFlaws.{exactly_fails, lacks_fails, pair_fails, size_fails}
 use Rattle.metis_text.proofs.PairsRead.{ArePairs}
 use Rattle.metis_text.proofs.RefusalWords.{lacks_is, lacks_tokens, next_pair_is, size_is, size_tokens}
 use Rattle.metis_text.proofs.RefusalSets.{pairs_ascend}
 use Rattle.metis_text.proofs.DueRead.{IsLeft, one_more, stops}
-use Rattle.metis_text.specs.DueLines.{IfFault}
-use Rattle.metis_text.specs.RefusalFlaws.{AreBegun, Due, HasFlaw, HasRefusalFault, IsBegun, begun_lines, first_line, goal_line, last_line, next_pair, of_line, past_end, size_line, too_short, with_all, with_first, with_goal, with_none, with_pairs}
-use Rattle.metis_text.specs.RefusalReading.{ReadsRefusal, above, lacks_in, next_pair_in, pairs_from, refusal_end_from, refusal_in, refusal_parts, refusal_set_from, size_in}
+use Rattle.metis_text.specs.Terms.{AreBegun, Due, HasFlaw, HasRefusalFault, IfFault, IsBegun, ReadsRefusal, above, begun_lines, goal_line, lacks_in, lacks_line, next_pair, next_pair_in, pair_line, pairs_from, pairs_line, refusal_end_from, refusal_header, refusal_in, refusal_parts, refusal_set_from, size_in, size_line, with_goal, with_pairs}
+use Rattle.metis_text.specs.RefusalFlaws.{first_line, last_line, of_line, past_end, too_short, with_all, with_first, with_none}
 use Rattle.metis_text.specs.declared.refusal_text.Refusal.{Refusal}
-use Rattle.metis_text.specs.RefusalText.{lacks_line, pair_line, pairs_line, refusal_header}
 
 module _ (u : Universe) (bytes : List ℕ) (f : TFault) where
   stop : {A : Type 0} (read : List ℕ → Result A Flaw) (due : Due) (lines : List (List ℕ)) (l : Cursor) → IsBegun u lines due → IsLeft bytes lines l

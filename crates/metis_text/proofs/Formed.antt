@@ -9,15 +9,9 @@ use Rattle.std.proofs.lemmas.List.Sums.{count_by-le-length}
 use Rattle.std.proofs.lemmas.Option.{get_or_from_slice_get, slice_get-get_or, slice_get_within}
 use Rattle.metis_ids.specs.declared.actions.Action.{Action}
 use Rattle.metis_ids.specs.declared.actions.Action.TheVariants.{New, Delete, Bind, Unbind, Move}
-use Rattle.metis_ids.specs.Plans.{Plan}
-use Rattle.metis_universe.specs.Numbers.{IsOf}
-use Rattle.metis_universe.specs.Universe.{Universe, pair_count}
-use Rattle.metis_universe.specs.Waits.{action_at, before}
-use Rattle.metis_text.specs.ActionLine.{rise}
-use Rattle.metis_text.specs.InRange.{IsActionInRange, IsEventInRange}
-use Rattle.metis_ids.specs.Action.{makes}
-use Rattle.metis_text.specs.PlanText.{IsMoveOf, IsWellFormed, after_of}
-use Rattle.metis_text.specs.Reads.{dup_row, said}
+use Rattle.metis_ids.specs.Terms.{Plan, makes}
+use Rattle.metis_universe.specs.Terms.{IsOf, Universe, action_at, before, pair_count}
+use Rattle.metis_text.specs.Terms.{IsActionInRange, IsEventInRange, IsMoveOf, IsWellFormed, after_of, dup_row, rise, said}
 use Rattle.metis_text.proofs.ActionTokens.{Fits}
 use Rattle.metis_text.proofs.Ascends.{is_rise, rise_is}
 use Rattle.metis_text.proofs.DupPlaces.{all_dups, dups_from_all}

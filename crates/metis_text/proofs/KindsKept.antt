@@ -6,8 +6,7 @@ use Rattle.metis_ids.specs.declared.actions.Action.{Action}
 use Rattle.metis_ids.specs.declared.actions.Action.TheVariants.{New}
 use Rattle.metis_ids.proofs.Tests.{eq_comm}
 use Rattle.metis_universe.proofs.Edits.{pair_of-put}
-use Rattle.metis_text.specs.Kinds.{AreKinds}
-use Rattle.metis_text.specs.PlanText.{kind_after, kind_from}
+use Rattle.metis_text.specs.Terms.{AreKinds, kind_after, kind_from}
 
 kind_from_push : (z : ℕ) (kind : Option ℕ) (xs : List Action) (a : Action) → kind_from z kind (xs ++ a ∷ []) ≡ kind_after z (kind_from z kind xs) a
 kind_from_push z kind [] a = refl

@@ -3,11 +3,11 @@ use Rattle.std.proofs.Common.{◌≡◌, ℕ, ◌+◌, ◌<◌, ◌≤◌, List,
 use Rattle.std.specs.List.{zip}
 use Rattle.std.proofs.lemmas.List.{length-append, length_push}
 use Rattle.std.proofs.lemmas.Slice.Zip.{length-zip}
-use Rattle.metis_ids.specs.Plans.{Plan}
-use Rattle.metis_outside.specs.Pieces.{bytes_of}
-use Rattle.metis_universe.specs.Universe.{Universe}
-use Rattle.metis_tokens.specs.Line.{line, words, end_line}
-use Rattle.metis_text.specs.PlanText.{action_line, action_lines, action_tokens, after_tokens, counts_of, dup_line, dup_lines, dup_tokens, event_token, plan_bytes, plan_header}
+use Rattle.metis_ids.specs.Terms.{Plan}
+use Rattle.metis_outside.specs.Terms.{bytes_of}
+use Rattle.metis_universe.specs.Terms.{Universe}
+use Rattle.metis_tokens.specs.Terms.{end_line, line, words}
+use Rattle.metis_text.specs.Terms.{action_line, action_lines, action_tokens, after_tokens, counts_of, dup_line, dup_lines, dup_tokens, event_token, plan_bytes, plan_header}
 use Rattle.metis_text.proofs.TextBytes.{numbered_bytes, plan_bytes_by_parts}
 
 line_some : (ts : List (List ℕ)) → 0 < length (line ts)

@@ -6,19 +6,16 @@ use Rattle.std.proofs.lemmas.Bool.{and_from}
 use Rattle.std.proofs.lemmas.List.Elements.{All-append, All-cons, All-map}
 use Rattle.std.proofs.lemmas.List.Folds.{list_all-append}
 use Rattle.metis_ids.specs.declared.goals.Goal.{Goal}
-use Rattle.metis_universe.specs.GoalWords.{goal_word}
+use Rattle.metis_universe.specs.Terms.{IsNamed, IsTable, Universe, goal_word, pair_word}
 use Rattle.metis_ids.specs.declared.actions.Action.{Action}
 use Rattle.metis_ids.specs.declared.actions.Action.TheVariants.{New, Delete, Bind, Unbind, Move}
 use Rattle.metis_ids.specs.declared.events.Event.{Event}
 use Rattle.metis_ids.specs.declared.events.Event.TheVariants.{At, End}
-use Rattle.metis_ids.specs.Plans.{Dup, Plan}
+use Rattle.metis_ids.specs.Terms.{Dup, Plan}
 use Rattle.metis_outside.proofs.Feeds.{one_line, no_feed, no_feed-append, no_feed-decimal}
-use Rattle.metis_outside.specs.Pieces.{IsLine}
-use Rattle.metis_universe.specs.Universe.{IsNamed, IsTable, Universe}
-use Rattle.metis_tokens.specs.Line.{end_line}
-use Rattle.metis_text.specs.PlanText.{action_line, action_lines, action_tokens, after_tokens, counts_line, dup_line, dup_lines, dup_tokens, event_token, plan_body, plan_header, plan_lines, plan_rest}
-use Rattle.metis_universe.specs.PairWords.{pair_word}
-use Rattle.metis_text.specs.RefusalText.{lacks_line, pair_line, pairs_line, refusal_body, refusal_header, refusal_lines, refusal_rest, refusal_set}
+use Rattle.metis_outside.specs.Terms.{IsLine}
+use Rattle.metis_tokens.specs.Terms.{end_line}
+use Rattle.metis_text.specs.Terms.{action_line, action_lines, action_tokens, after_tokens, counts_line, dup_line, dup_lines, dup_tokens, event_token, lacks_line, pair_line, pairs_line, plan_body, plan_header, plan_lines, plan_rest, refusal_body, refusal_header, refusal_lines, refusal_rest, refusal_set}
 use Rattle.metis_tokens.proofs.WordFeeds.{IsLine-line, end_is_line, no_feed-goal_word, no_feed-pair_word, no_feed-port_name_of, no_feed-state_name_of, no_feed-type_name_of, number_tokens, numbered_lines}
 
 -- ---- lines of tokens

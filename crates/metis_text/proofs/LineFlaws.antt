@@ -15,21 +15,12 @@ use Rattle.metis_tokens.proofs.GoalTokens.{goal_read}
 use Rattle.metis_tokens.proofs.PairTokens.{pair_is, pair_read}
 use Rattle.metis_tokens.proofs.Printed.{printed_digits}
 use Rattle.metis_tokens.proofs.TwoNames.{word_found, word_printed}
-use Rattle.metis_tokens.specs.Cursor.{exactly}
-use Rattle.metis_tokens.specs.Flaws.{found, right}
-use Rattle.metis_tokens.specs.Line.{words}
-use Rattle.metis_tokens.specs.Tokens.{in_range, is_number, number_in, starts_number, tokens}
-use Rattle.metis_tokens.specs.Words.{goal_in, of_names, pair_in}
+use Rattle.metis_tokens.specs.Terms.{exactly, found, goal_in, in_range, is_number, number_in, of_names, pair_in, right, starts_number, tokens, words}
 use Rattle.metis_tokens.specs.declared.flaw.Flaw.{Flaw}
 use Rattle.metis_tokens.specs.declared.flaw.Flaw.TheVariants.{Form, Number, Name}
 use Rattle.metis_universe.proofs.NameBytes.{cut_back, name_some}
-use Rattle.metis_universe.specs.GoalWords.{IsWordable, goal_named, goal_word}
-use Rattle.metis_universe.specs.Names.{is_name}
-use Rattle.metis_universe.specs.PairWords.{is_colon, pair_names, pair_word}
-use Rattle.metis_universe.specs.Universe.{IsNamed, IsUniverse, Universe, pair_count, pair_named}
-use Rattle.metis_text.specs.DueLines.{IsOther}
-use Rattle.metis_text.specs.RefusalFlaws.{AreTwoNames, IsLacksFlaw, IsPairFlaw, IsSizeFlaw, lacks_with, size_with}
-use Rattle.metis_text.specs.RefusalReading.{above, lacks_in, lacks_of_tokens, next_pair_in, pair_of_tokens, size_in, size_of_tokens}
+use Rattle.metis_universe.specs.Terms.{IsNamed, IsUniverse, IsWordable, Universe, goal_named, goal_word, is_colon, is_name, pair_count, pair_named, pair_names, pair_word}
+use Rattle.metis_text.specs.Terms.{AreTwoNames, IsLacksFlaw, IsOther, IsPairFlaw, IsSizeFlaw, above, lacks_in, lacks_of_tokens, lacks_with, next_pair_in, pair_of_tokens, size_in, size_of_tokens, size_with}
 
 -- ---- a line that is known
 

@@ -4,15 +4,11 @@ use Rattle.std.specs.Prelude.{codes}
 use Rattle.std.specs.Bool.{◌==◌, if◌then◌else◌}
 use Rattle.std.specs.List.{count_by}
 use Rattle.metis_ids.specs.declared.goals.Goal.{Goal}
-use Rattle.metis_universe.specs.Universe.{Universe}
-use Rattle.metis_text.specs.ActionLine.{row_in}
-use Rattle.metis_text.specs.DupLine.{DupRow, dup_in}
-use Rattle.metis_tokens.specs.Flaws.{and_then}
-use Rattle.metis_ids.specs.Action.{makes}
-use Rattle.metis_tokens.specs.Cursor.{Cursor, ended, exactly, lines_of, read_next}
-use Rattle.metis_text.specs.Reading.{Numbers, Parts, Rows, body_from, counted, counts_in, dups_from, end_from, parts, plan_in, rows_from, rows_of, with_row}
+use Rattle.metis_universe.specs.Terms.{Universe}
+use Rattle.metis_text.specs.Terms.{DupRow, Numbers, Parts, RefusalParts, Rows, body_from, counted, counts_in, dup_in, dups_from, end_from, lacks_in, next_pair_in, pairs_from, parts, plan_in, refusal_end_from, refusal_in, refusal_parts, refusal_set_from, row_in, rows_from, rows_of, size_in, with_row}
+use Rattle.metis_tokens.specs.Terms.{Cursor, and_then, ended, exactly, lines_of, read_next}
+use Rattle.metis_ids.specs.Terms.{makes}
 use Rattle.metis_tokens.proofs.NamedFaults.{IsNamed, and_then_named, read_next_named, ended_named}
-use Rattle.metis_text.specs.RefusalReading.{RefusalParts, lacks_in, next_pair_in, pairs_from, refusal_end_from, refusal_in, refusal_parts, refusal_set_from, size_in}
 use Rattle.metis_tokens.specs.declared.fault.TFault.TheVariants.{Line, NoMemory}
 
 module _ (u : Universe) where

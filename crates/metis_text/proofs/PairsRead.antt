@@ -4,11 +4,9 @@
 use Rattle.std.proofs.Common.{◌≡◌, ℕ, zero, suc, ◌+◌, ◌<◌, true, List, [], ◌∷◌, ◌++◌, length, Ok, refl, sym, ap, ◌∙◌, append_assoc, append-nil}
 use Rattle.std.specs.Prelude.{⊤}
 use Rattle.std.specs.List.{flat_map}
-use Rattle.metis_universe.specs.Universe.{IsNamed, IsUniverse, Universe, pair_count}
-use Rattle.metis_tokens.specs.Cursor.{Cursor, lines_of, read_next}
-use Rattle.metis_tokens.specs.Flaws.{and_then}
-use Rattle.metis_text.specs.RefusalReading.{above, next_pair_in, pairs_from}
-use Rattle.metis_text.specs.RefusalText.{pair_line}
+use Rattle.metis_universe.specs.Terms.{IsNamed, IsUniverse, Universe, pair_count}
+use Rattle.metis_tokens.specs.Terms.{Cursor, and_then, lines_of, read_next}
+use Rattle.metis_text.specs.Terms.{above, next_pair_in, pair_line, pairs_from}
 use Rattle.metis_tokens.proofs.LinesTaken.{read_next_is, read_next_read, line_and_rest}
 use Rattle.metis_tokens.proofs.Outcomes.{and_then_is}
 use Rattle.metis_text.proofs.RefusalWords.{next_pair_is, next_pair_read, pair_tokens, pair_tokens_printed}

@@ -6,11 +6,9 @@ use Rattle.std.specs.List.{count_by, list_all}
 use Rattle.std.specs.Str.{bytes_eq}
 use Rattle.std.proofs.lemmas.Bool.{and_from, and_parts, eq-eqb, eqb-true}
 use Rattle.std.proofs.lemmas.Slice.Eq.{bytes_eq-Decides}
-use Rattle.metis_tokens.specs.Flaws.{both}
-use Rattle.metis_tokens.specs.Line.{words}
-use Rattle.metis_ids.specs.Action.{makes}
-use Rattle.metis_text.specs.Reading.{Numbers, Parts, counted, counts_in, counts_of_tokens}
-use Rattle.metis_tokens.specs.Tokens.{number_in, tokens}
+use Rattle.metis_tokens.specs.Terms.{both, number_in, tokens, words}
+use Rattle.metis_ids.specs.Terms.{makes}
+use Rattle.metis_text.specs.Terms.{Numbers, Parts, counted, counts_in, counts_of_tokens}
 use Rattle.metis_tokens.specs.declared.fault.TFault.TheVariants.{Line}
 use Rattle.metis_tokens.specs.declared.flaw.Flaw.TheVariants.{Form}
 use Rattle.metis_tokens.proofs.Cuts.{tokens_of_words, words_of_tokens}

@@ -5,13 +5,10 @@
 use Rattle.std.proofs.Common.{◌≡◌, ℕ, List, [], ◌∷◌, ◌++◌, length, Ok, refl, sym, ap, ◌∙◌, subst, append_assoc}
 use Rattle.std.specs.Prelude.{codes}
 use Rattle.std.specs.List.{count_by, zip}
-use Rattle.metis_universe.specs.Universe.{IsNamed, IsUniverse, Universe}
-use Rattle.metis_tokens.specs.Line.{line, words, end_line}
-use Rattle.metis_ids.specs.Action.{makes}
-use Rattle.metis_text.specs.PlanText.{action_line, counts_line, plan_header}
-use Rattle.metis_tokens.specs.Cursor.{Cursor, ended, exactly, lines_of, read_next}
-use Rattle.metis_text.specs.Reading.{Numbers, Parts, Rows, body_from, counted, counts_in, dups_from, end_from, parts, plan_in, rows_from, rows_of}
-use Rattle.metis_tokens.specs.Flaws.{and_then}
+use Rattle.metis_universe.specs.Terms.{IsNamed, IsUniverse, Universe}
+use Rattle.metis_tokens.specs.Terms.{Cursor, and_then, end_line, ended, exactly, line, lines_of, read_next, words}
+use Rattle.metis_ids.specs.Terms.{makes}
+use Rattle.metis_text.specs.Terms.{Numbers, Parts, Rows, action_line, body_from, counted, counts_in, counts_line, dups_from, end_from, parts, plan_header, plan_in, rows_from, rows_of}
 use Rattle.metis_text.proofs.DupsRead.{AreDups, dup_row_line, dups_are, dups_read}
 use Rattle.metis_tokens.proofs.LinesTaken.{read_next_is, read_next_read}
 use Rattle.metis_tokens.proofs.Outcomes.{and_then_is}

@@ -8,11 +8,10 @@ use Rattle.metis_tokens.proofs.KnownLines.{exactly_is}
 use Rattle.metis_tokens.proofs.LinesTaken.{read_next_is}
 use Rattle.metis_tokens.proofs.Outcomes.{and_then_is}
 use Rattle.metis_tokens.proofs.Readers.{and_then_wrong}
-use Rattle.metis_tokens.specs.Cursor.{Cursor, exactly, lines_of, read_next}
-use Rattle.metis_tokens.specs.Line.{line, numbered, words}
+use Rattle.metis_tokens.specs.Terms.{Cursor, exactly, line, lines_of, numbered, read_next, words}
 use Rattle.metis_tokens.specs.declared.fault.TFault.{TFault}
 use Rattle.metis_tokens.specs.declared.flaw.Flaw.{Flaw}
-use Rattle.metis_universe.specs.Universe.{Universe}
+use Rattle.metis_universe.specs.Terms.{Universe}
 use Rattle.metis_text.proofs.CountsFlaw.{counts_fail}
 use Rattle.metis_text.proofs.DueRead.{IsLeft, one_more, stops}
 use Rattle.metis_text.proofs.DupFlaws.{dup_fails}
@@ -26,13 +25,8 @@ use Rattle.metis_text.proofs.RowFlaws.{row_fails}
 use Rattle.metis_text.proofs.RowLine.{IsRow, row_is, row_tokens}
 use Rattle.metis_text.proofs.RowPlaces.{rows_long}
 use Rattle.metis_text.proofs.RowsRead.{AreRows}
-use Rattle.metis_text.specs.ActionLine.{Row, row_in}
-use Rattle.metis_text.specs.DueLines.{HasEnded, IfFault, IsOfDue}
-use Rattle.metis_text.specs.DupLine.{DupRow, dup_in}
-use Rattle.metis_text.specs.PlanFlaws.{AreSaid, HasPlanFault, HasPlanFlaw, IsPlanBegun, PlanDue, begun_plan, first_line, last_line, miscounted, next_action, next_dup, of_line, past_end, second_line, too_short, with_actions, with_all, with_dups, with_first, with_none}
-use Rattle.metis_text.specs.PlanText.{action_line, counts_line, dup_line, plan_header}
-use Rattle.metis_text.specs.Reading.{Numbers, Rows, counts_in, dups_from, parts, plan_in, rows_from, rows_of, with_row}
-use Rattle.metis_text.specs.Reads.{ReadsPlan}
+use Rattle.metis_text.specs.Terms.{AreSaid, DupRow, HasEnded, HasPlanFault, HasPlanFlaw, IfFault, IsOfDue, IsPlanBegun, Numbers, PlanDue, ReadsPlan, Row, Rows, action_line, begun_plan, counts_in, counts_line, dup_in, dup_line, dups_from, miscounted, next_action, next_dup, parts, plan_header, plan_in, row_in, rows_from, rows_of, second_line, with_actions, with_dups, with_row}
+use Rattle.metis_text.specs.PlanFlaws.{first_line, last_line, of_line, past_end, too_short, with_all, with_first, with_none}
 use Rattle.metis_text.specs.declared.plan_text.PlanText.{PlanText}
 
 -- ---- one line more

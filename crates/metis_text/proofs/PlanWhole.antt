@@ -4,14 +4,11 @@ use Rattle.std.proofs.Common.{◌≡◌, ◌≢◌, ℕ, zero, suc, ◌+◌, ◌
 use Rattle.std.specs.Prelude.{codes}
 use Rattle.std.specs.Bool.{if◌then◌else◌, ◌==◌}
 use Rattle.std.specs.List.{count_by}
-use Rattle.metis_ids.specs.Action.{makes}
+use Rattle.metis_ids.specs.Terms.{makes}
 use Rattle.metis_ids.proofs.Tests.{nonzero}
-use Rattle.metis_universe.specs.Universe.{Universe}
-use Rattle.metis_text.specs.ActionLine.{row_in}
-use Rattle.metis_text.specs.DupLine.{DupRow, dup_in}
-use Rattle.metis_tokens.specs.Cursor.{Cursor, ended, exactly, read_next}
-use Rattle.metis_text.specs.Reading.{Numbers, Parts, Rows, body_from, counted, counts_in, dups_from, end_from, parts, plan_from, rows_from, rows_of, with_row}
-use Rattle.metis_tokens.specs.Flaws.{and_then}
+use Rattle.metis_universe.specs.Terms.{Universe}
+use Rattle.metis_text.specs.Terms.{DupRow, Numbers, Parts, Rows, body_from, counted, counts_in, dup_in, dups_from, end_from, parts, plan_from, row_in, rows_from, rows_of, with_row}
+use Rattle.metis_tokens.specs.Terms.{Cursor, and_then, ended, exactly, read_next}
 use Rattle.metis_tokens.specs.declared.fault.TFault.{TFault}
 use Rattle.metis_tokens.specs.declared.fault.TFault.TheVariants.{Line, Short}
 use Rattle.metis_tokens.proofs.Outcomes.{and_then_behind}

@@ -6,14 +6,10 @@ use Rattle.std.proofs.lemmas.Bool.Decides.{nat_tests}
 use Rattle.std.proofs.lemmas.List.{length-append, length-map}
 use Rattle.metis_ids.specs.declared.goals.Goal.{Goal}
 use Rattle.metis_ids.proofs.Tests.{nonzero}
-use Rattle.metis_outside.specs.Pieces.{bytes_of}
-use Rattle.metis_universe.specs.Universe.{IsTable, Universe}
-use Rattle.metis_text.specs.Faults.{IsRefusalFault}
-use Rattle.metis_tokens.specs.Line.{end_line}
-use Rattle.metis_tokens.specs.Cursor.{Cursor, ended, exactly, fault_at, lines_of, read_next}
-use Rattle.metis_tokens.specs.Flaws.{and_then}
-use Rattle.metis_text.specs.RefusalReading.{RefusalParts, lacks_in, next_pair_in, pairs_from, refusal_end_from, refusal_from, refusal_in, refusal_parts, refusal_set_from, size_in}
-use Rattle.metis_text.specs.RefusalText.{IsRefusal, pair_line, refusal_bytes, refusal_lines}
+use Rattle.metis_outside.specs.Terms.{bytes_of}
+use Rattle.metis_universe.specs.Terms.{IsTable, Universe}
+use Rattle.metis_text.specs.Terms.{IsRefusal, IsRefusalFault, RefusalParts, lacks_in, next_pair_in, pair_line, pairs_from, refusal_bytes, refusal_end_from, refusal_from, refusal_in, refusal_lines, refusal_parts, refusal_set_from, size_in}
+use Rattle.metis_tokens.specs.Terms.{Cursor, and_then, end_line, ended, exactly, fault_at, lines_of, read_next}
 use Rattle.metis_tokens.specs.declared.fault.TFault.{TFault}
 use Rattle.metis_tokens.specs.declared.fault.TFault.TheVariants.{Line, Short}
 use Rattle.metis_tokens.proofs.Outcomes.{and_then_behind, and_then_is}

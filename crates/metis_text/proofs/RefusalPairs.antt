@@ -5,8 +5,8 @@ use Rattle.std.specs.BTreeSet.{insert_key}
 use Rattle.std.specs.Cmp.{nat_cmp_is}
 use Rattle.std.proofs.lemmas.Bool.{and_from, and_parts, lt-ltb, ltb-true}
 use Rattle.std.proofs.lemmas.List.Folds.{list_all-append}
-use Rattle.metis_tokens.specs.Flaws.{right}
-use Rattle.metis_text.specs.RefusalReading.{above, follows}
+use Rattle.metis_tokens.specs.Terms.{right}
+use Rattle.metis_text.specs.Terms.{above, follows}
 use Rattle.metis_tokens.specs.declared.flaw.Flaw.{Flaw}
 use Rattle.metis_tokens.specs.declared.flaw.Flaw.TheVariants.{Number}
 

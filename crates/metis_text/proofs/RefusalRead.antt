@@ -3,13 +3,9 @@ use Rattle.std.proofs.Common.{◌≡◌, ℕ, ◌+◌, ◌<◌, ◌^◌, List, [
 use Rattle.std.specs.Prelude.{IfOk, codes}
 use Rattle.std.specs.List.{flat_map}
 use Rattle.metis_ids.specs.declared.goals.Goal.{Goal}
-use Rattle.metis_universe.specs.GoalWords.{IsWordable}
-use Rattle.metis_universe.specs.Universe.{IsTable, Universe}
-use Rattle.metis_tokens.specs.Line.{line, words, end_line}
-use Rattle.metis_tokens.specs.Cursor.{Cursor, ended, exactly, lines_of, read_next}
-use Rattle.metis_tokens.specs.Flaws.{and_then}
-use Rattle.metis_text.specs.RefusalReading.{ReadsRefusal, RefusalParts, lacks_in, pairs_from, refusal_end_from, refusal_in, refusal_of, refusal_parts, refusal_set_from, size_in}
-use Rattle.metis_text.specs.RefusalText.{IsRefusal, pair_line, refusal_bytes}
+use Rattle.metis_universe.specs.Terms.{IsTable, IsWordable, Universe}
+use Rattle.metis_tokens.specs.Terms.{Cursor, and_then, end_line, ended, exactly, line, lines_of, read_next, words}
+use Rattle.metis_text.specs.Terms.{IsRefusal, ReadsRefusal, RefusalParts, lacks_in, pair_line, pairs_from, refusal_bytes, refusal_end_from, refusal_in, refusal_of, refusal_parts, refusal_set_from, size_in}
 use Rattle.metis_tokens.specs.declared.fault.TFault.{TFault}
 use Rattle.metis_text.specs.declared.refusal_text.Refusal.{Refusal}
 use Rattle.metis_tokens.proofs.LinesTaken.{read_next_is, read_next_read}

@@ -8,9 +8,8 @@ use Rattle.std.proofs.lemmas.List.Elements.{All-from_recursion, recursion_from_A
 use Rattle.std.proofs.lemmas.List.Folds.{list_all-append}
 use Rattle.metis_ids.specs.declared.goals.Goal.{Goal}
 use Rattle.metis_universe.proofs.PortRows.{Rises, rises}
-use Rattle.metis_universe.specs.Universe.{IsTable, Universe, pair_count}
-use Rattle.metis_text.specs.RefusalReading.{above}
-use Rattle.metis_text.specs.RefusalText.{IsRefusal}
+use Rattle.metis_universe.specs.Terms.{IsTable, Universe, pair_count}
+use Rattle.metis_text.specs.Terms.{IsRefusal, above}
 use Rattle.metis_text.proofs.Ascends.{increasing}
 use Rattle.metis_text.proofs.PairsRead.{ArePairs}
 

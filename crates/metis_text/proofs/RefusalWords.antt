@@ -7,14 +7,9 @@ use Rattle.std.specs.Str.{bytes_eq}
 use Rattle.std.proofs.lemmas.Bool.{and_from}
 use Rattle.std.proofs.lemmas.Slice.Eq.{bytes_eq-Decides}
 use Rattle.metis_ids.specs.declared.goals.Goal.{Goal}
-use Rattle.metis_universe.specs.GoalWords.{IsWordable, goal_word}
-use Rattle.metis_universe.specs.Universe.{IsNamed, IsUniverse, Universe, pair_count}
-use Rattle.metis_tokens.specs.Flaws.{right}
-use Rattle.metis_tokens.specs.Line.{words}
-use Rattle.metis_universe.specs.PairWords.{pair_word}
-use Rattle.metis_text.specs.RefusalReading.{above, lacks_in, lacks_of_tokens, next_pair_in, pair_of_tokens, size_in, size_of_tokens}
-use Rattle.metis_tokens.specs.Words.{goal_in}
-use Rattle.metis_tokens.specs.Tokens.{number_in, tokens}
+use Rattle.metis_universe.specs.Terms.{IsNamed, IsUniverse, IsWordable, Universe, goal_word, pair_count, pair_word}
+use Rattle.metis_tokens.specs.Terms.{goal_in, number_in, right, tokens, words}
+use Rattle.metis_text.specs.Terms.{above, lacks_in, lacks_of_tokens, next_pair_in, pair_of_tokens, size_in, size_of_tokens}
 use Rattle.metis_tokens.specs.declared.flaw.Flaw.TheVariants.{Form, Number}
 use Rattle.metis_tokens.proofs.Cuts.{tokens_of_words, words_of_tokens}
 use Rattle.metis_tokens.proofs.PairTokens.{pair_is, pair_printed, pair_read}

@@ -14,16 +14,13 @@ use Rattle.metis_ids.specs.declared.actions.Action.TheVariants.{Delete}
 use Rattle.metis_tokens.proofs.Cuts.{tokens_of_words, words_of_tokens}
 use Rattle.metis_tokens.proofs.Outcomes.{AreRead, all_are}
 use Rattle.metis_tokens.proofs.Printed.{printed, printed_digits, printed_name}
-use Rattle.metis_tokens.specs.Flaws.{all_behind, both, made, right}
-use Rattle.metis_tokens.specs.Line.{words}
-use Rattle.metis_tokens.specs.Tokens.{due, named, number_in, starts_number, state_in, tokens}
+use Rattle.metis_tokens.specs.Terms.{all_behind, both, due, made, named, number_in, right, starts_number, state_in, tokens, words}
 use Rattle.metis_tokens.specs.declared.flaw.Flaw.{Flaw}
 use Rattle.metis_tokens.specs.declared.flaw.Flaw.TheVariants.{Form, Number, Name}
-use Rattle.metis_universe.specs.Universe.{Universe, port_named, state_named, type_named}
+use Rattle.metis_universe.specs.Terms.{Universe, port_named, state_named, type_named}
 use Rattle.metis_text.proofs.CountsFlaw.{number_right}
 use Rattle.metis_text.proofs.Tells.{Tells, tells_all, tells_as, tells_both, tells_due, tells_made, tells_named, tells_number}
-use Rattle.metis_text.specs.ActionLine.{Row, Words, action_in, after_in, bind_action, delete_words, ends_in, kind_in, move_action, move_words, new_action, new_in, new_words, rise, row_in, row_of, row_with, states_in, tie_words, unbind_action}
-use Rattle.metis_text.specs.PlanFlaws.{ActionWords, AreNamesThere, IsActionWithin, IsAfterWithin, IsFormedAction, IsFormedAfter, IsFormedRow, IsInRange, IsNumeral, IsRowFlaw, IsRowWithin, IsStateThere, action_words, bind_of, delete_of, move_of, new_of, row_words, unbind_of}
+use Rattle.metis_text.specs.Terms.{ActionWords, AreNamesThere, IsActionWithin, IsAfterWithin, IsFormedAction, IsFormedAfter, IsFormedRow, IsInRange, IsNumeral, IsRowFlaw, IsRowWithin, IsStateThere, Row, Words, action_in, action_words, after_in, bind_action, bind_of, delete_of, delete_words, ends_in, kind_in, move_action, move_of, move_words, new_action, new_in, new_of, new_words, rise, row_in, row_of, row_with, row_words, states_in, tie_words, unbind_action, unbind_of}
 
 -- ---- the list of an action
 

@@ -6,12 +6,9 @@ use Rattle.std.specs.List.{list_all}
 use Rattle.std.proofs.lemmas.Bool.{and_from, eqb-true}
 use Rattle.std.proofs.lemmas.List.Folds.{list_all-append}
 use Rattle.metis_ids.specs.declared.actions.Action.{Action}
-use Rattle.metis_universe.specs.Universe.{IsNamed, Universe}
-use Rattle.metis_text.specs.ActionLine.{Row, Words, action_in, after_in, rise, row_in, row_of, row_with}
-use Rattle.metis_tokens.specs.Tokens.{due, number_in, tokens}
-use Rattle.metis_tokens.specs.Flaws.{both}
-use Rattle.metis_tokens.specs.Line.{words}
-use Rattle.metis_text.specs.PlanText.{action_tokens, after_tokens}
+use Rattle.metis_universe.specs.Terms.{IsNamed, Universe}
+use Rattle.metis_text.specs.Terms.{Row, Words, action_in, action_tokens, after_in, after_tokens, rise, row_in, row_of, row_with}
+use Rattle.metis_tokens.specs.Terms.{both, due, number_in, tokens, words}
 use Rattle.metis_text.proofs.ActionRead.{action_printed, due_read, tokens_read}
 use Rattle.metis_text.proofs.ActionTokens.{IsSaid, action_is}
 use Rattle.metis_text.proofs.AfterTokens.{after_is, after_printed, after_read}

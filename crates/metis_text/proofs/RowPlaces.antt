@@ -1,7 +1,7 @@
 -- What holds of all actions with their lists, by their places.
 use Rattle.std.proofs.Common.{◌≡◌, ℕ, zero, suc, ◌<◌, List, [], ◌∷◌, ◌++◌, length, get_or, take, refl, sym, ap, subst, append_assoc, append-nil, arith}
 use Rattle.metis_ids.specs.declared.actions.Action.{Action}
-use Rattle.metis_universe.specs.Universe.{Universe}
+use Rattle.metis_universe.specs.Terms.{Universe}
 use Rattle.metis_text.proofs.RowLine.{IsRow}
 use Rattle.metis_text.proofs.RowsRead.{AreRows}
 

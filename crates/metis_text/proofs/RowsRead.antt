@@ -6,12 +6,9 @@ use Rattle.std.specs.Prelude.{⊤}
 use Rattle.std.specs.List.{zip}
 use Rattle.std.proofs.lemmas.List.{length_push}
 use Rattle.metis_ids.specs.declared.actions.Action.{Action}
-use Rattle.metis_universe.specs.Universe.{IsNamed, Universe}
-use Rattle.metis_text.specs.ActionLine.{Row, row_in}
-use Rattle.metis_text.specs.PlanText.{action_line}
-use Rattle.metis_tokens.specs.Cursor.{Cursor, lines_of, read_next}
-use Rattle.metis_text.specs.Reading.{Rows, rows_from, rows_of, with_row}
-use Rattle.metis_tokens.specs.Flaws.{and_then}
+use Rattle.metis_universe.specs.Terms.{IsNamed, Universe}
+use Rattle.metis_text.specs.Terms.{Row, Rows, action_line, row_in, rows_from, rows_of, with_row}
+use Rattle.metis_tokens.specs.Terms.{Cursor, and_then, lines_of, read_next}
 use Rattle.metis_tokens.proofs.LinesTaken.{line_and_rest, read_next_is, read_next_read}
 use Rattle.metis_tokens.proofs.Outcomes.{and_then_is}
 use Rattle.metis_text.proofs.RowLine.{IsRow, row_is, row_printed, row_read, row_tokens}

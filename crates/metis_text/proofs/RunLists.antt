@@ -9,9 +9,9 @@ use Rattle.std.proofs.lemmas.List.Elements.{All-filter, All-from_get_or, All-nil
 use Rattle.std.proofs.lemmas.List.FromFn.{get_or-map-range_with_len, get_or-range_with_len, length-map-range_with_len, length-range_with_len}
 use Rattle.std.proofs.lemmas.List.Kept.{IsStrictlyIncreasing-filter}
 use Rattle.metis_ids.specs.declared.actions.Action.{Action}
-use Rattle.metis_universe.specs.Waits.{action_at, before, is_wait, numbers, waits}
-use Rattle.metis_text.specs.PlanText.{after_of}
-use Rattle.metis_waits.specs.Waits.{waits_on_others}
+use Rattle.metis_universe.specs.Terms.{action_at, before, is_wait, numbers, waits}
+use Rattle.metis_text.specs.Terms.{after_of}
+use Rattle.metis_waits.specs.Terms.{waits_on_others}
 
 range_increasing : (a n : ℕ) → IsStrictlyIncreasing (range_with_len a n)
 range_increasing a n k low =

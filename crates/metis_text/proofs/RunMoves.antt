@@ -6,10 +6,8 @@ use Rattle.metis_ids.specs.declared.actions.Action.TheVariants.{New, Delete, Bin
 use Rattle.metis_ids.proofs.Lists.{all_at}
 use Rattle.metis_ids.proofs.Tests.{eq_comm}
 use Rattle.metis_universe.proofs.Edits.{pair_of-put, pair_of-remove}
-use Rattle.metis_universe.specs.Config.{Config, empty, pair_of, put}
-use Rattle.metis_universe.specs.Step.{Allows, IsRun, after}
-use Rattle.metis_universe.specs.Universe.{IsUniverse, Universe, has, initial_of, next_of, pair_count, type_of}
-use Rattle.metis_text.specs.PlanText.{kind_after, kind_from, last_kind}
+use Rattle.metis_universe.specs.Terms.{Allows, Config, IsRun, IsUniverse, Universe, after, empty, has, initial_of, next_of, pair_count, pair_of, put, type_of}
+use Rattle.metis_text.specs.Terms.{kind_after, kind_from, last_kind}
 use Rattle.metis_text.proofs.ActionTokens.{Fits}
 
 kind_pushed : (z : ℕ) (earlier : List Action) (a : Action) → last_kind z (earlier ++ a ∷ []) ≡ kind_after z (last_kind z earlier) a

@@ -6,12 +6,9 @@ use Rattle.std.proofs.lemmas.Bool.{cond-true, cond-false, lt-ltb}
 use Rattle.metis_ids.specs.declared.actions.Action.{Action}
 use Rattle.metis_tokens.specs.declared.flaw.Flaw.{Flaw}
 use Rattle.metis_tokens.specs.declared.flaw.Flaw.TheVariants.{Form}
-use Rattle.metis_text.specs.ActionLine.{Words, action_in, after_in, ends_in, move_action, move_words, new_in, new_words, row_of, row_with, states_in, tie_words}
-use Rattle.metis_tokens.specs.Tokens.{due, number_in}
-use Rattle.metis_text.specs.DupLine.{DupRow, dup_of, dup_with}
-use Rattle.metis_tokens.specs.Flaws.{both, made}
-use Rattle.metis_text.specs.Reading.{counts_of_tokens}
-use Rattle.metis_universe.specs.Universe.{Universe}
+use Rattle.metis_text.specs.Terms.{DupRow, Words, action_in, after_in, counts_of_tokens, dup_of, dup_with, ends_in, move_action, move_words, new_in, new_words, row_of, row_with, states_in, tie_words}
+use Rattle.metis_tokens.specs.Terms.{both, due, made, number_in}
+use Rattle.metis_universe.specs.Terms.{Universe}
 
 abbrev texts : List (Bor (List ℕ)) → List (List ℕ)
 texts ts = map (λ t. t.now) ts

@@ -6,14 +6,13 @@ use Rattle.std.specs.Bool.{if◌then◌else◌, nat_lt, ◌==◌}
 use Rattle.std.specs.List.{AllByRecursion}
 use Rattle.std.specs.Str.Parse.{digits_value}
 use Rattle.std.proofs.lemmas.Bool.{eq-eqb, eqb-true, ltb-true}
-use Rattle.metis_tokens.specs.Flaws.{all_behind, behind, both, found, made, right}
-use Rattle.metis_tokens.specs.Tokens.{due, in_range, is_number, named, number_in}
+use Rattle.metis_tokens.specs.Terms.{all_behind, behind, both, due, found, in_range, is_number, made, named, number_in, right}
 use Rattle.metis_tokens.specs.declared.flaw.Flaw.{Flaw}
 use Rattle.metis_tokens.specs.declared.flaw.Flaw.TheVariants.{Form, Number, Name}
-use Rattle.metis_universe.specs.Names.{is_name}
+use Rattle.metis_universe.specs.Terms.{is_name}
 use Rattle.metis_text.proofs.CountsFlaw.{both_fails, form_first, form_second, number_form, number_nameless, number_right}
 use Rattle.metis_text.proofs.LineFlaws.{number_formed}
-use Rattle.metis_text.specs.PlanFlaws.{IsInRange, IsNumeral}
+use Rattle.metis_text.specs.Terms.{IsInRange, IsNumeral}
 
 pub record Tells {A : Type 0} (x : Result A Flaw) (F R T : Type 0) : Type 0 where
   pub form : x ≢ Err Form → F

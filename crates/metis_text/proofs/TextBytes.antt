@@ -5,12 +5,11 @@ use Rattle.std.proofs.Common.{◌≡◌, ℕ, List, [], ◌∷◌, ◌++◌, len
 use Rattle.std.proofs.lemmas.List.Folds.{concat-append}
 use Rattle.std.specs.List.{flat_map}
 use Rattle.metis_ids.specs.declared.goals.Goal.{Goal}
-use Rattle.metis_ids.specs.Plans.{Plan}
-use Rattle.metis_outside.specs.Pieces.{bytes_of}
-use Rattle.metis_universe.specs.Universe.{Universe}
-use Rattle.metis_tokens.specs.Line.{numbered, end_line}
-use Rattle.metis_text.specs.PlanText.{action_lines, counts_of, dup_lines, plan_bytes, plan_end, plan_header}
-use Rattle.metis_text.specs.RefusalText.{lacks_line, pair_line, pairs_line, refusal_bytes, refusal_header}
+use Rattle.metis_ids.specs.Terms.{Plan}
+use Rattle.metis_outside.specs.Terms.{bytes_of}
+use Rattle.metis_universe.specs.Terms.{Universe}
+use Rattle.metis_tokens.specs.Terms.{end_line, numbered}
+use Rattle.metis_text.specs.Terms.{action_lines, counts_of, dup_lines, lacks_line, pair_line, pairs_line, plan_bytes, plan_end, plan_header, refusal_bytes, refusal_header}
 
 abbrev pub numbered_bytes : {X : Type 0} → (ℕ → X → List ℕ) → ℕ → List X → List ℕ
 numbered_bytes text k xs = bytes_of (numbered text k xs)

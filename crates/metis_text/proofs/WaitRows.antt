@@ -5,11 +5,10 @@ use Rattle.std.proofs.lemmas.List.FromFn.{length-map-range_with_len}
 use Rattle.std.proofs.lemmas.Slice.Zip.{length-zip, get_or-zip}
 use Rattle.std.specs.List.{zip}
 use Rattle.metis_ids.specs.declared.actions.Action.{Action}
-use Rattle.metis_waits.specs.Waits.{WaitLists, AreWaits, list_of, waits_on_others}
-use Rattle.metis_universe.specs.Universe.{Universe}
-use Rattle.metis_universe.specs.Waits.{waits}
-use Rattle.metis_tokens.specs.Line.{numbered}
-use Rattle.metis_text.specs.PlanText.{action_line, actions_left}
+use Rattle.metis_waits.specs.Terms.{AreWaits, WaitLists, list_of, waits_on_others}
+use Rattle.metis_universe.specs.Terms.{Universe, waits}
+use Rattle.metis_tokens.specs.Terms.{numbered}
+use Rattle.metis_text.specs.Terms.{action_line, actions_left}
 
 others_long : (actions : List Action) (w : WaitLists) → AreWaits actions w → length w.others ≡ length actions
 others_long actions w are = ap length are.others ∙ length-map-range_with_len (waits_on_others actions) 1 (length actions)

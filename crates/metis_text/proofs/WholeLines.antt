@@ -4,14 +4,9 @@
 use Rattle.std.proofs.Common.{◌≡◌, ℕ, zero, suc, ◌+◌, List, [], ◌∷◌, ◌++◌, length, Ok, refl, sym, ap, ◌∙◌, subst, append_assoc, arith}
 use Rattle.std.specs.Prelude.{codes}
 use Rattle.std.specs.List.{zip}
-use Rattle.metis_universe.specs.Universe.{IsNamed, IsUniverse, Universe}
-use Rattle.metis_text.specs.ActionLine.{row_in}
-use Rattle.metis_text.specs.DupLine.{DupRow, dup_in}
-use Rattle.metis_tokens.specs.Flaws.{and_then}
-use Rattle.metis_tokens.specs.Line.{line, words, end_line}
-use Rattle.metis_text.specs.PlanText.{action_line, counts_line}
-use Rattle.metis_tokens.specs.Cursor.{Cursor, exactly, lines_of, read_next}
-use Rattle.metis_text.specs.Reading.{Numbers, Parts, Rows, counts_in, dups_from, parts, rows_from, rows_of, with_row}
+use Rattle.metis_universe.specs.Terms.{IsNamed, IsUniverse, Universe}
+use Rattle.metis_text.specs.Terms.{DupRow, Numbers, Parts, Rows, action_line, counts_in, counts_line, dup_in, dups_from, parts, row_in, rows_from, rows_of, with_row}
+use Rattle.metis_tokens.specs.Terms.{Cursor, and_then, end_line, exactly, line, lines_of, read_next, words}
 use Rattle.metis_text.proofs.DupsRead.{AreDups, dup_row_line, dups_are, dups_read}
 use Rattle.metis_text.proofs.PlanWhole.{counts_then, dups_then, last_from, lines_from, rows_then}
 use Rattle.metis_tokens.proofs.LinesTaken.{read_next_is, read_next_read, read_next_number}

@@ -1,16 +1,9 @@
 -- What is written for a run from the empty configuration, with the lists of what its actions wait for, is read.
 use Rattle.std.proofs.Common.{◌≡◌, ◌-◌, ◌<◌, ◌≤◌, ◌^◌, length, Ok, arith}
 use Rattle.std.specs.List.{All, count_by}
-use Rattle.metis_ids.specs.Plans.{Plan}
-use Rattle.metis_universe.specs.Config.{empty}
-use Rattle.metis_universe.specs.Numbers.{IsOf}
-use Rattle.metis_universe.specs.Step.{IsRun}
-use Rattle.metis_universe.specs.Universe.{IsTable, Universe, pair_count}
-use Rattle.metis_text.specs.InRange.{IsPlanInRange}
-use Rattle.metis_ids.specs.Action.{makes}
-use Rattle.metis_text.specs.PlanText.{IsWellFormed, plan_bytes}
-use Rattle.metis_text.specs.Reading.{plan_in}
-use Rattle.metis_text.specs.Reads.{said}
+use Rattle.metis_ids.specs.Terms.{Plan, makes}
+use Rattle.metis_universe.specs.Terms.{IsOf, IsRun, IsTable, Universe, empty, pair_count}
+use Rattle.metis_text.specs.Terms.{IsPlanInRange, IsWellFormed, plan_bytes, plan_in, said}
 use Rattle.metis_text.proofs.Accepted.{well_formed_read}
 use Rattle.metis_text.proofs.Formed.{moves_from_fits}
 use Rattle.metis_text.proofs.Lengths.{actions_below_bytes, dups_below_bytes}

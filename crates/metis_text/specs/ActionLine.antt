@@ -8,10 +8,9 @@ use Rattle.metis_ids.specs.declared.actions.Action.{Action}
 use Rattle.metis_ids.specs.declared.actions.Action.TheVariants.{New, Delete, Bind, Unbind, Move}
 use Rattle.metis_tokens.specs.declared.flaw.Flaw.{Flaw}
 use Rattle.metis_tokens.specs.declared.flaw.Flaw.TheVariants.{Form}
-use Rattle.metis_tokens.specs.Flaws.{all_behind, both, made, right}
+use Rattle.metis_tokens.specs.Terms.{all_behind, both, due, made, named, number_in, right, state_in, tokens}
 use Rattle.metis_text.specs.PlanText.{last_kind}
-use Rattle.metis_tokens.specs.Tokens.{named, number_in, tokens, due, state_in}
-use Rattle.metis_universe.specs.Universe.{Universe, port_named, type_named}
+use Rattle.metis_universe.specs.Terms.{Universe, port_named, type_named}
 
 abbrev pub new_action : ℕ × ℕ → Action
 new_action p = New p.0 p.1

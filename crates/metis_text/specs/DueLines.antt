@@ -6,8 +6,8 @@
 --     IfFault result P      of a fault that is no want of memory
 use Rattle.std.specs.Prelude.{◌≡◌, ◌≢◌, ◌+◌, ℕ, List, ◌++◌, Result, Ok, Err, codes, length, ⊤}
 use Rattle.std.specs.List.{All}
-use Rattle.metis_outside.specs.Pieces.{bytes_of}
-use Rattle.metis_tokens.specs.Cursor.{fault_at}
+use Rattle.metis_outside.specs.Terms.{bytes_of}
+use Rattle.metis_tokens.specs.Terms.{fault_at}
 use Rattle.metis_tokens.specs.declared.fault.TFault.{TFault}
 use Rattle.metis_tokens.specs.declared.fault.TFault.TheVariants.{NoMemory, Short}
 use Rattle.metis_tokens.specs.declared.flaw.Flaw.{Flaw}

@@ -8,10 +8,8 @@ use Rattle.metis_ids.specs.declared.events.Event.{Event}
 use Rattle.metis_ids.specs.declared.events.Event.TheVariants.{At, End}
 use Rattle.metis_tokens.specs.declared.flaw.Flaw.{Flaw}
 use Rattle.metis_tokens.specs.declared.flaw.Flaw.TheVariants.{Form}
-use Rattle.metis_tokens.specs.Tokens.{due, number_in, tokens}
-use Rattle.metis_tokens.specs.Words.{pair_in}
-use Rattle.metis_tokens.specs.Flaws.{all_behind, both, made}
-use Rattle.metis_universe.specs.Universe.{Universe}
+use Rattle.metis_tokens.specs.Terms.{all_behind, both, due, made, number_in, pair_in, tokens}
+use Rattle.metis_universe.specs.Terms.{Universe}
 
 abbrev pub is_point : ℕ → Bool
 is_point byte = byte == 46

@@ -8,12 +8,11 @@
 use Rattle.std.specs.Prelude.{◌≡◌, ◌≢◌, ◌<◌, ◌≤◌, ◌^◌, ◌+◌, ℕ, List, ◌++◌, length}
 use Rattle.std.specs.List.{count_by}
 use Rattle.metis_ids.specs.declared.goals.Goal.{Goal}
-use Rattle.metis_ids.specs.Action.{makes}
-use Rattle.metis_ids.specs.Plans.{Plan}
-use Rattle.metis_universe.specs.Universe.{Universe}
+use Rattle.metis_ids.specs.Terms.{Plan, makes}
+use Rattle.metis_universe.specs.Terms.{Universe}
 use Rattle.metis_text.specs.PlanText.{IsWellFormed, plan_bytes, plan_lines}
 use Rattle.metis_text.specs.Reading.{plan_in}
-use Rattle.metis_tokens.specs.LineFaults.{IsOfLine}
+use Rattle.metis_tokens.specs.Terms.{IsOfLine}
 use Rattle.metis_text.specs.RefusalReading.{refusal_in}
 use Rattle.metis_text.specs.RefusalText.{IsRefusal, refusal_bytes, refusal_lines}
 use Rattle.metis_tokens.specs.declared.fault.TFault.{TFault}

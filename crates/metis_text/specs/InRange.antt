@@ -6,8 +6,8 @@ use Rattle.std.specs.List.{All}
 use Rattle.metis_ids.specs.declared.actions.Action.{Action}
 use Rattle.metis_ids.specs.declared.events.Event.{Event}
 use Rattle.metis_ids.specs.declared.events.Event.TheVariants.{At, End}
-use Rattle.metis_ids.specs.Plans.{Plan}
-use Rattle.metis_universe.specs.Numbers.{NamesBelow}
+use Rattle.metis_ids.specs.Terms.{Plan}
+use Rattle.metis_universe.specs.Terms.{NamesBelow}
 
 abbrev pub IsActionInRange : Action → Type 0
 IsActionInRange a = NamesBelow (2 ^ 32) a

@@ -11,3 +11,4 @@ pub mod Reads
 pub mod RefusalFlaws
 pub mod RefusalReading
 pub mod RefusalText
+pub mod Terms

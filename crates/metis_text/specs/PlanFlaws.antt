@@ -15,15 +15,13 @@ use Rattle.std.specs.Prelude.{◌≡◌, ◌≢◌, ◌⊎◌, ◌<◌, ◌^◌,
 use Rattle.std.specs.List.{AllByRecursion, after_first, before_first}
 use Rattle.std.specs.Option.{option_and_then}
 use Rattle.std.specs.Str.Parse.{digits_value}
-use Rattle.metis_ids.specs.Plans.{Plan}
+use Rattle.metis_ids.specs.Terms.{Plan}
 use Rattle.metis_ids.specs.declared.actions.Action.{Action}
-use Rattle.metis_tokens.specs.Line.{words}
-use Rattle.metis_tokens.specs.Tokens.{is_number}
+use Rattle.metis_tokens.specs.Terms.{is_number, words}
 use Rattle.metis_tokens.specs.declared.fault.TFault.{TFault}
 use Rattle.metis_tokens.specs.declared.flaw.Flaw.{Flaw}
 use Rattle.metis_tokens.specs.declared.flaw.Flaw.TheVariants.{Form, Number, Name}
-use Rattle.metis_universe.specs.Names.{is_name}
-use Rattle.metis_universe.specs.Universe.{Universe, pair_named, port_named, state_named, type_named}
+use Rattle.metis_universe.specs.Terms.{Universe, is_name, pair_named, port_named, state_named, type_named}
 use Rattle.metis_text.specs.ActionLine.{rise}
 use Rattle.metis_text.specs.DueLines.{HasEnded, IsOfDue, IsOther}
 use Rattle.metis_text.specs.DupLine.{is_point}

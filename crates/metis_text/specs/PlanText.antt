@@ -11,20 +11,16 @@
 use Rattle.std.specs.Prelude.{◌≡◌, ◌<◌, ◌≤◌, ℕ, zero, suc, ◌+◌, ◌^◌, drop, ◌==◌, cond, List, [], ◌∷◌, ◌++◌, length, map, codes, decimal, Option, Some, None}
 use Rattle.std.specs.List.{All, count_by, slice_index_or, zip}
 use Rattle.std.specs.List.Sorted.{IsStrictlyIncreasing}
-use Rattle.metis_ids.specs.Action.{makes}
+use Rattle.metis_ids.specs.Terms.{Dup, Plan, makes}
 use Rattle.metis_ids.specs.declared.actions.Action.{Action}
 use Rattle.metis_ids.specs.declared.actions.Action.TheVariants.{New, Delete, Bind, Unbind, Move}
 use Rattle.metis_ids.specs.declared.events.Event.{Event}
 use Rattle.metis_ids.specs.declared.events.Event.TheVariants.{At, End}
-use Rattle.metis_ids.specs.Plans.{Dup, Plan}
-use Rattle.metis_outside.specs.Pieces.{bytes_of}
+use Rattle.metis_outside.specs.Terms.{bytes_of}
 use Rattle.metis_text.specs.InRange.{IsPlanInRange}
-use Rattle.metis_tokens.specs.Line.{line, numbered, end_line}
-use Rattle.metis_universe.specs.Numbers.{IsOf}
-use Rattle.metis_universe.specs.PairWords.{pair_word}
-use Rattle.metis_universe.specs.Universe.{Universe, pair_count, type_of, type_name_of, state_name_of, port_name_of}
-use Rattle.metis_universe.specs.Waits.{action_at, before}
-use Rattle.metis_waits.specs.Waits.{AreWaits, WaitLists}
+use Rattle.metis_tokens.specs.Terms.{end_line, line, numbered}
+use Rattle.metis_universe.specs.Terms.{IsOf, Universe, action_at, before, pair_count, pair_word, port_name_of, state_name_of, type_name_of, type_of}
+use Rattle.metis_waits.specs.Terms.{AreWaits, WaitLists}
 
 abbrev pub action_tokens : Universe → Action → List (List ℕ)
 action_tokens u (New z t) = codes "new" ∷ decimal z ∷ type_name_of u t ∷ []

@@ -10,11 +10,9 @@ use Rattle.metis_tokens.specs.declared.fault.TFault.{TFault}
 use Rattle.metis_tokens.specs.declared.fault.TFault.TheVariants.{Line}
 use Rattle.metis_text.specs.ActionLine.{Row, row_in}
 use Rattle.metis_text.specs.DupLine.{DupRow, dup_in}
-use Rattle.metis_tokens.specs.Cursor.{Cursor, lines_of, read_next, exactly, ended}
-use Rattle.metis_tokens.specs.Flaws.{and_then, both}
-use Rattle.metis_ids.specs.Action.{makes}
-use Rattle.metis_tokens.specs.Tokens.{number_in, tokens}
-use Rattle.metis_universe.specs.Universe.{Universe}
+use Rattle.metis_tokens.specs.Terms.{Cursor, and_then, both, ended, exactly, lines_of, number_in, read_next, tokens}
+use Rattle.metis_ids.specs.Terms.{makes}
+use Rattle.metis_universe.specs.Terms.{Universe}
 
 -- the numbers of instances, of actions and of dups
 abbrev pub Numbers : Type 0

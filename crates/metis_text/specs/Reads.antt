@@ -3,8 +3,8 @@
 --     said p after, parts_of t      what the text of a plan with these lists says
 --     IsTextOf u t bytes      the bytes are the text of the plan with its lists, and it is well formed
 use Rattle.std.specs.Prelude.{◌≡◌, ◌≢◌, ℕ, List, map, Result, Ok, Err}
-use Rattle.metis_ids.specs.Plans.{Dup, Plan}
-use Rattle.metis_universe.specs.Universe.{Universe}
+use Rattle.metis_ids.specs.Terms.{Dup, Plan}
+use Rattle.metis_universe.specs.Terms.{Universe}
 use Rattle.metis_text.specs.PlanText.{IsWellFormed, plan_bytes}
 use Rattle.metis_tokens.specs.declared.fault.TFault.{TFault}
 use Rattle.metis_tokens.specs.declared.fault.TFault.TheVariants.{NoMemory}

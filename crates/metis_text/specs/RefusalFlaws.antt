@@ -10,15 +10,11 @@ use Rattle.std.specs.List.{All}
 use Rattle.std.specs.List.Sorted.{IsStrictlyIncreasing}
 use Rattle.std.specs.Str.Parse.{digits_value}
 use Rattle.metis_ids.specs.declared.goals.Goal.{Goal}
-use Rattle.metis_tokens.specs.Line.{words}
-use Rattle.metis_tokens.specs.Tokens.{is_number}
+use Rattle.metis_tokens.specs.Terms.{is_number, words}
 use Rattle.metis_tokens.specs.declared.fault.TFault.{TFault}
 use Rattle.metis_tokens.specs.declared.flaw.Flaw.{Flaw}
 use Rattle.metis_tokens.specs.declared.flaw.Flaw.TheVariants.{Form, Number, Name}
-use Rattle.metis_universe.specs.GoalWords.{IsWordable, goal_word}
-use Rattle.metis_universe.specs.Names.{is_name}
-use Rattle.metis_universe.specs.PairWords.{pair_word}
-use Rattle.metis_universe.specs.Universe.{Universe, pair_count}
+use Rattle.metis_universe.specs.Terms.{IsWordable, Universe, goal_word, is_name, pair_count, pair_word}
 use Rattle.metis_text.specs.DueLines.{HasEnded, IsOfDue, IsOther}
 use Rattle.metis_text.specs.Faults.{IsPastRefusal}
 use Rattle.metis_text.specs.RefusalText.{lacks_line, pair_line, pairs_line, refusal_header}

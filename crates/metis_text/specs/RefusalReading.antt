@@ -13,11 +13,8 @@ use Rattle.metis_tokens.specs.declared.fault.TFault.TheVariants.{NoMemory}
 use Rattle.metis_tokens.specs.declared.flaw.Flaw.{Flaw}
 use Rattle.metis_tokens.specs.declared.flaw.Flaw.TheVariants.{Form}
 use Rattle.metis_text.specs.declared.refusal_text.Refusal.{Refusal}
-use Rattle.metis_tokens.specs.Words.{pair_in, goal_in}
-use Rattle.metis_tokens.specs.Flaws.{and_then, right}
-use Rattle.metis_tokens.specs.Cursor.{Cursor, ended, exactly, lines_of, read_next}
-use Rattle.metis_tokens.specs.Tokens.{number_in, tokens}
-use Rattle.metis_universe.specs.Universe.{Universe}
+use Rattle.metis_tokens.specs.Terms.{Cursor, and_then, ended, exactly, goal_in, lines_of, number_in, pair_in, read_next, right, tokens}
+use Rattle.metis_universe.specs.Terms.{Universe}
 
 abbrev pub lacks_of_tokens : Universe → List (List ℕ) → Result Goal Flaw
 lacks_of_tokens u (lacks ∷ word ∷ []) = if bytes_eq lacks (codes "lacks") then goal_in u word else Err Form

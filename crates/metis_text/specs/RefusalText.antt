@@ -7,11 +7,9 @@ use Rattle.std.specs.Prelude.{◌<◌, ℕ, List, [], ◌∷◌, ◌++◌, lengt
 use Rattle.std.specs.List.{All}
 use Rattle.std.specs.List.Sorted.{IsStrictlyIncreasing}
 use Rattle.metis_ids.specs.declared.goals.Goal.{Goal}
-use Rattle.metis_outside.specs.Pieces.{bytes_of}
-use Rattle.metis_tokens.specs.Line.{line, end_line}
-use Rattle.metis_universe.specs.GoalWords.{IsWordable, goal_word}
-use Rattle.metis_universe.specs.PairWords.{pair_word}
-use Rattle.metis_universe.specs.Universe.{Universe, pair_count}
+use Rattle.metis_outside.specs.Terms.{bytes_of}
+use Rattle.metis_tokens.specs.Terms.{end_line, line}
+use Rattle.metis_universe.specs.Terms.{IsWordable, Universe, goal_word, pair_count, pair_word}
 
 abbrev pub refusal_header : List ℕ
 refusal_header = line (codes "metis" ∷ codes "refusal" ∷ codes "1" ∷ [])

@@ -2,9 +2,8 @@
 ghost use Rattle.std.specs.Prelude.{◌≡◌, ◌+◌, IfOk, Ok, [], length, map};
 ghost use Rattle.std.specs.Option.{option_map};
 ghost use Rattle.metis_ids.specs.declared.actions.Action.TheVariants.{Delete};
-ghost use Rattle.metis_text.specs.ActionLine.{action_in, after_in, bind_action, delete_words, ends_in, kind_in, move_action, move_words, new_in, new_words, rise, row_in, row_of, states_in, tie_words, unbind_action};
-ghost use Rattle.metis_tokens.specs.Tokens.{due, number_in};
-ghost use Rattle.metis_tokens.specs.Flaws.{made};
+ghost use Rattle.metis_text.specs.Terms.{action_in, after_in, bind_action, delete_words, ends_in, kind_in, move_action, move_words, new_in, new_words, rise, row_in, row_of, states_in, tie_words, unbind_action};
+ghost use Rattle.metis_tokens.specs.Terms.{due, made, number_in};
 
 use crate::rows::Rows;
 use metis_ids::{Action, InstNo, PairIx, PortIx, TypeIx};

@@ -1,9 +1,8 @@
 //! Reads the line of a dup.
 ghost use Rattle.std.specs.Prelude.{◌≡◌, ◌&&◌, IfOk, codes, length, map, nat_lt};
 ghost use Rattle.std.specs.Str.{bytes_eq};
-ghost use Rattle.metis_text.specs.DupLine.{dup_in, dup_of};
-ghost use Rattle.metis_tokens.specs.Flaws.{both, made};
-ghost use Rattle.metis_text.specs.Reads.{dup_row};
+ghost use Rattle.metis_text.specs.Terms.{dup_in, dup_of, dup_row};
+ghost use Rattle.metis_tokens.specs.Terms.{both, made};
 
 use crate::events::events_in;
 use metis_ids::{Dup, Event, PairIx};

@@ -1,8 +1,8 @@
 //! Reads the events of a cycle.
 ghost use Rattle.std.specs.Prelude.{◌≡◌, ◌==◌, IfOk, Ok, [], map};
 ghost use Rattle.std.specs.List.{after_first, before_first};
-ghost use Rattle.metis_text.specs.DupLine.{event_in};
-ghost use Rattle.metis_tokens.specs.Flaws.{all_behind, behind, made};
+ghost use Rattle.metis_text.specs.Terms.{event_in};
+ghost use Rattle.metis_tokens.specs.Terms.{all_behind, behind, made};
 
 use metis_ids::{Event, LineIx, StepIx};
 use metis_tokens::bytes::{is, place_of};

@@ -1,27 +1,14 @@
 //! Laws over the definitions.
 ghost use Rattle.std.specs.Prelude.{◌≡◌, ◌≢◌, ◌<◌, ◌≤◌, ◌-◌, ◌^◌, ◌+◌, ℕ, List, ◌++◌, Ok, Err, length, map};
 ghost use Rattle.std.specs.List.{All, count_by};
-ghost use Rattle.metis_ids.specs.Plans.{Plan};
+ghost use Rattle.metis_ids.specs.Terms.{Plan, makes};
 ghost use Rattle.metis_ids.specs.declared.goals.Goal.{Goal};
-ghost use Rattle.metis_outside.specs.Pieces.{IsLine};
-ghost use Rattle.metis_universe.specs.Config.{empty};
-ghost use Rattle.metis_universe.specs.Numbers.{IsOf};
-ghost use Rattle.metis_universe.specs.Step.{IsRun};
-ghost use Rattle.metis_universe.specs.Universe.{Universe, IsTable, pair_count};
-ghost use Rattle.metis_universe.specs.Waits.{numbers};
-ghost use Rattle.metis_text.specs.Faults.{IsFault, IsRefusalFault, IsWellFormedButCount};
-ghost use Rattle.metis_text.specs.InRange.{IsPlanInRange};
-ghost use Rattle.metis_ids.specs.Action.{makes};
-ghost use Rattle.metis_text.specs.PlanFlaws.{HasPlanFault};
-ghost use Rattle.metis_text.specs.PlanText.{IsWellFormed, plan_bytes, plan_lines};
-ghost use Rattle.metis_text.specs.Reading.{Parts, plan_in};
-ghost use Rattle.metis_text.specs.Reads.{said};
+ghost use Rattle.metis_outside.specs.Terms.{IsLine};
+ghost use Rattle.metis_universe.specs.Terms.{IsOf, IsRun, IsTable, Universe, empty, numbers, pair_count};
+ghost use Rattle.metis_text.specs.Terms.{HasPlanFault, HasRefusalFault, IsFault, IsPlanInRange, IsRefusal, IsRefusalFault, IsWellFormed, IsWellFormedButCount, Parts, RefusalParts, plan_bytes, plan_in, plan_lines, refusal_bytes, refusal_in, refusal_lines, refusal_parts, said};
 ghost use Rattle.metis_tokens.specs.declared.fault.TFault.{TFault};
 ghost use Rattle.metis_tokens.specs.declared.fault.TFault.TheVariants.{Line, Short};
-ghost use Rattle.metis_text.specs.RefusalFlaws.{HasRefusalFault};
-ghost use Rattle.metis_text.specs.RefusalReading.{RefusalParts, refusal_in, refusal_parts};
-ghost use Rattle.metis_text.specs.RefusalText.{IsRefusal, refusal_bytes, refusal_lines};
-ghost use Rattle.metis_waits.specs.Waits.{waits_on_others};
+ghost use Rattle.metis_waits.specs.Terms.{waits_on_others};
 
 /// A text that is read is that of the plan with the lists that it says, which is well formed.
 pub fn accepted_is_written()

@@ -1,9 +1,8 @@
 //! The lines of the text.
 ghost use Rattle.std.specs.Prelude.{◌≡◌, ◌<◌, ◌++◌, ◌∷◌, [], OnOk, codes, decimal, map, string_bytes};
-ghost use Rattle.metis_universe.specs.Numbers.{IsOf};
-ghost use Rattle.metis_universe.specs.Universe.{pair_count};
-ghost use Rattle.metis_tokens.specs.Line.{added, words};
-ghost use Rattle.metis_text.specs.PlanText.{action_line, action_tokens, after_tokens, counts_line, dup_line, dup_tokens, event_token};
+ghost use Rattle.metis_universe.specs.Terms.{IsOf, pair_count};
+ghost use Rattle.metis_tokens.specs.Terms.{added, words};
+ghost use Rattle.metis_text.specs.Terms.{action_line, action_tokens, after_tokens, counts_line, dup_line, dup_tokens, event_token};
 
 use metis_ids::{Action, Dup, Event, Ix, PairIx};
 use metis_tokens::push_numbers;

@@ -1,15 +1,8 @@
 //! Reads the text of a plan.
 ghost use Rattle.std.specs.Prelude.{◌≡◌, ◌<◌, ◌-◌, ◌+◌, ◌^◌, ◌&&◌, IfOk, [], codes, length, map};
 ghost use Rattle.std.specs.Str.{bytes_eq};
-ghost use Rattle.metis_tokens.specs.Flaws.{both, made};
-ghost use Rattle.metis_text.specs.ActionLine.{row_in};
-ghost use Rattle.metis_text.specs.DupLine.{dup_in};
-ghost use Rattle.metis_text.specs.DueLines.{IfFault};
-ghost use Rattle.metis_text.specs.PlanFlaws.{HasPlanFault};
-ghost use Rattle.metis_text.specs.Reading.{body_from, counts_in, counts_of_tokens, counted, dups_from, end_from, parts, plan_in, rows_from, rows_of};
-ghost use Rattle.metis_tokens.specs.Cursor.{read_next, Reads};
-ghost use Rattle.metis_text.specs.Reads.{IsTextOf, ReadsPlan, dup_row, numbers_of};
-ghost use Rattle.metis_tokens.specs.Tokens.{number_in};
+ghost use Rattle.metis_tokens.specs.Terms.{Reads, both, made, number_in, read_next};
+ghost use Rattle.metis_text.specs.Terms.{HasPlanFault, IfFault, IsTextOf, ReadsPlan, body_from, counted, counts_in, counts_of_tokens, dup_in, dup_row, dups_from, end_from, numbers_of, parts, plan_in, row_in, rows_from, rows_of};
 
 use crate::action_line::row_in;
 use crate::dup_line::dup_in;

@@ -1,7 +1,7 @@
 //! Reads what stands in the lines of a refusal.
 ghost use Rattle.std.specs.Prelude.{◌≡◌, map};
-ghost use Rattle.metis_tokens.specs.Flaws.{right};
-ghost use Rattle.metis_text.specs.RefusalReading.{follows, lacks_of_tokens, pair_of_tokens, size_of_tokens};
+ghost use Rattle.metis_tokens.specs.Terms.{right};
+ghost use Rattle.metis_text.specs.Terms.{follows, lacks_of_tokens, pair_of_tokens, size_of_tokens};
 
 use metis_ids::{Goal, PairIx};
 use metis_tokens::bytes::is;

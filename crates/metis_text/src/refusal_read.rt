@@ -1,12 +1,8 @@
 //! Reads the text of a refusal.
 ghost use Rattle.std.specs.Prelude.{◌≡◌, ◌<◌, ◌-◌, ◌^◌, IfOk, [], length};
-ghost use Rattle.metis_tokens.specs.Cursor.{read_next, Reads};
-ghost use Rattle.metis_text.specs.RefusalReading.{ReadsRefusal, lacks_in, pairs_from, refusal_in, size_in};
-ghost use Rattle.metis_text.specs.DueLines.{IfFault};
-ghost use Rattle.metis_text.specs.RefusalFlaws.{HasRefusalFault};
-ghost use Rattle.metis_text.specs.RefusalText.{refusal_bytes};
-ghost use Rattle.metis_universe.specs.GoalWords.{IsWordable};
-ghost use Rattle.metis_universe.specs.Universe.{pair_count};
+ghost use Rattle.metis_tokens.specs.Terms.{Reads, read_next};
+ghost use Rattle.metis_text.specs.Terms.{HasRefusalFault, IfFault, ReadsRefusal, lacks_in, pairs_from, refusal_bytes, refusal_in, size_in};
+ghost use Rattle.metis_universe.specs.Terms.{IsWordable, pair_count};
 
 use crate::refusal_lines::{lacks_of, next_pair_of, size_of};
 use crate::refusal_text::Refusal;

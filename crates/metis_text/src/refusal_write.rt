@@ -1,13 +1,10 @@
 //! The text of a refusal, line by line.
 ghost use Rattle.std.specs.Prelude.{◌≡◌, ◌<◌, ◌∷◌, ◌++◌, [], OnOk, codes, map, string_bytes};
 ghost use Rattle.std.specs.List.{All};
-ghost use Rattle.metis_outside.specs.Faults.{CountsFault};
-ghost use Rattle.metis_outside.specs.Writes.{Writes};
-ghost use Rattle.metis_output.specs.PutLines.{PutsByLine};
-ghost use Rattle.metis_tokens.specs.Line.{line};
-ghost use Rattle.metis_universe.specs.GoalWords.{IsWordable};
-ghost use Rattle.metis_universe.specs.Goals.{IsGoalOf};
-ghost use Rattle.metis_universe.specs.Universe.{pair_count};
+ghost use Rattle.metis_outside.specs.Terms.{CountsFault, Writes};
+ghost use Rattle.metis_output.specs.Terms.{PutsByLine};
+ghost use Rattle.metis_tokens.specs.Terms.{line};
+ghost use Rattle.metis_universe.specs.Terms.{IsGoalOf, IsWordable, pair_count};
 ghost use Rattle.metis_text.specs.RefusalText.{lacks_line, pair_line, pairs_line, refusal_front, refusal_lines};
 
 use crate::refusal_text::Refusal;

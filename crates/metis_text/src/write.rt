@@ -1,14 +1,11 @@
 //! The text of a plan, line by line.
 ghost use Rattle.std.specs.Prelude.{◌≡◌, ◌<◌, ◌≤◌, ◌+◌, ◌∷◌, [], ◌^◌, drop, length, map};
 ghost use Rattle.std.specs.List.{All};
-ghost use Rattle.metis_outside.specs.Faults.{CountsFault};
-ghost use Rattle.metis_outside.specs.Writes.{Writes};
-ghost use Rattle.metis_output.specs.PutLines.{PutsByLine};
-ghost use Rattle.metis_tokens.specs.Line.{numbered};
-ghost use Rattle.metis_universe.specs.Numbers.{IsOf};
-ghost use Rattle.metis_universe.specs.Universe.{pair_count};
-ghost use Rattle.metis_universe.specs.Waits.{numbers};
-ghost use Rattle.metis_waits.specs.Waits.{AreWaits, list_of, waits_on_others};
+ghost use Rattle.metis_outside.specs.Terms.{CountsFault, Writes};
+ghost use Rattle.metis_output.specs.Terms.{PutsByLine};
+ghost use Rattle.metis_tokens.specs.Terms.{numbered};
+ghost use Rattle.metis_universe.specs.Terms.{IsOf, numbers, pair_count};
+ghost use Rattle.metis_waits.specs.Terms.{AreWaits, list_of, waits_on_others};
 ghost use Rattle.metis_text.specs.PlanText.{IsListed, actions_left, counts_line, dup_line, plan_front, plan_header, plan_lines};
 
 use crate::lines::{set_action_line, set_counts, set_dup_line};

@@ -9,8 +9,7 @@ use Rattle.std.proofs.lemmas.List.Elements.{All-weaker}
 use Rattle.std.proofs.lemmas.List.Folds.{list_all-append}
 use Rattle.std.proofs.lemmas.List.Splits.{join_with_byte-slice_split, slice_split_at, slice_split_none}
 use Rattle.std.proofs.lemmas.List.Sums.{AllPass-from_list_all}
-use Rattle.metis_tokens.specs.Line.{words}
-use Rattle.metis_tokens.specs.Tokens.{is_space, tokens}
+use Rattle.metis_tokens.specs.Terms.{is_space, tokens, words}
 use Rattle.metis_tokens.proofs.Printed.{all_weaker, printed}
 
 module _ (p : ℕ → Bool) (xs : List ℕ) (y : ℕ) (ys : List ℕ) where

@@ -8,9 +8,8 @@ use Rattle.std.proofs.lemmas.Slice.Eq.{bytes_eq-Decides}
 use Rattle.metis_ids.specs.declared.goals.Goal.{Goal}
 use Rattle.metis_ids.specs.declared.goals.Goal.TheVariants.{Pair, Port}
 use Rattle.metis_ids.proofs.Options.{none_from_is_none}
-use Rattle.metis_universe.specs.GoalWords.{IsWordable, goal_named, goal_names, goal_word, means_port}
-use Rattle.metis_universe.specs.Universe.{IsNamed, IsUniverse, Universe, pair_named, port_name_of, port_named, state_name_of, type_name_of, type_named, type_of}
-use Rattle.metis_tokens.specs.Words.{goal_in}
+use Rattle.metis_universe.specs.Terms.{IsNamed, IsUniverse, IsWordable, Universe, goal_named, goal_names, goal_word, means_port, pair_named, port_name_of, port_named, state_name_of, type_name_of, type_named, type_of}
+use Rattle.metis_tokens.specs.Terms.{goal_in}
 use Rattle.metis_tokens.proofs.PairTokens.{kind_is_name, named_pair, pair_at, pair_printed}
 use Rattle.metis_tokens.proofs.NameTokens.{port_at, port_is, type_at}
 use Rattle.metis_tokens.proofs.Printed.{printed}

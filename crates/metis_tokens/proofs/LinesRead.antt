@@ -2,8 +2,7 @@
 use Rattle.std.proofs.Common.{◌≡◌, ℕ, suc, ◌+◌, ◌-◌, ◌<◌, List, Result, Ok, Err, ap, ◌∙◌, arith}
 use Rattle.metis_tokens.specs.declared.fault.TFault.{TFault}
 use Rattle.metis_tokens.specs.declared.flaw.Flaw.{Flaw}
-use Rattle.metis_tokens.specs.Flaws.{and_then, made}
-use Rattle.metis_tokens.specs.Cursor.{Cursor, fault_at, next_line, read_next, told}
+use Rattle.metis_tokens.specs.Terms.{Cursor, and_then, fault_at, made, next_line, read_next, told}
 
 -- from n s l      what reads n more lines, where s was read
 module _ {S A : Type 0} (read : S → List ℕ → Result A Flaw) (push : S → A → S) (from : ℕ → S → Cursor → Result (S × Cursor) TFault)

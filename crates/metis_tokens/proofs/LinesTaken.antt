@@ -5,9 +5,7 @@ use Rattle.std.specs.List.{list_all}
 use Rattle.std.proofs.lemmas.Bool.{eqb-true}
 use Rattle.std.proofs.lemmas.List.{drop_at, drop_more, length_push, take_at, take-append-drop}
 use Rattle.std.proofs.lemmas.List.Quantifiers.{position-Some}
-use Rattle.metis_tokens.specs.Flaws.{and_then, made}
-use Rattle.metis_tokens.specs.Line.{line, words}
-use Rattle.metis_tokens.specs.Cursor.{Cursor, is_feed, line_to, lines_of, next_line, read_next, told}
+use Rattle.metis_tokens.specs.Terms.{Cursor, and_then, is_feed, line, line_to, lines_of, made, next_line, read_next, told, words}
 use Rattle.metis_tokens.specs.declared.flaw.Flaw.{Flaw}
 use Rattle.metis_tokens.proofs.Cuts.{cut_at, words_no_feed}
 use Rattle.metis_tokens.proofs.Outcomes.{and_then_is, made_is, told_is}

@@ -8,10 +8,8 @@ use Rattle.std.proofs.lemmas.List.Quantifiers.{position-Some}
 use Rattle.std.proofs.lemmas.Slice.Eq.{bytes_eq-Decides}
 use Rattle.metis_ids.proofs.Finding.{position_here}
 use Rattle.metis_ids.proofs.Tests.{bytes_apart, bytes_same}
-use Rattle.metis_universe.specs.Names.{is_name}
-use Rattle.metis_universe.specs.Universe.{IsNamed, Universe, no_kind, no_pair, pair_count, port_count, port_name_of, port_named, state_name_of, state_named, type_count, type_name_of, type_named, type_of}
-use Rattle.metis_tokens.specs.Tokens.{state_in, named}
-use Rattle.metis_tokens.specs.Flaws.{found}
+use Rattle.metis_universe.specs.Terms.{IsNamed, Universe, is_name, no_kind, no_pair, pair_count, port_count, port_name_of, port_named, state_name_of, state_named, type_count, type_name_of, type_named, type_of}
+use Rattle.metis_tokens.specs.Terms.{found, named, state_in}
 use Rattle.metis_tokens.specs.declared.flaw.Flaw.TheVariants.{Form}
 use Rattle.metis_tokens.proofs.Outcomes.{found_is, if_is}
 

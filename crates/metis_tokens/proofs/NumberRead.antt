@@ -7,7 +7,7 @@ use Rattle.std.proofs.lemmas.Bool.{cond-false, le-ltb}
 use Rattle.std.proofs.lemmas.Str.{digit_value_digit}
 use Rattle.std.proofs.lemmas.Bool.Decides.{nat_tests}
 use Rattle.metis_tokens.specs.declared.flaw.Flaw.TheVariants.{Form, Number}
-use Rattle.metis_tokens.specs.Tokens.{in_range, value_after}
+use Rattle.metis_tokens.specs.Terms.{in_range, value_after}
 
 -- more digits make no number smaller
 no_smaller : (n : ℕ) (ds : List ℕ) → n ≤ digits_value_after 10 n ds

@@ -1,13 +1,11 @@
 -- A word is read as a pair just where it is the word of that pair.
 use Rattle.std.proofs.Common.{◌≡◌, ℕ, ◌<◌, true, List, ◌∷◌, ◌++◌, Some, Ok, refl, sym, ap, ◌∙◌}
 use Rattle.std.specs.Option.{option_and_then}
-use Rattle.metis_universe.specs.Names.{is_name}
-use Rattle.metis_universe.specs.Universe.{IsNamed, IsUniverse, Universe, pair_count, pair_named, state_name_of, state_named, type_name_of, type_named, type_of}
-use Rattle.metis_universe.specs.PairWords.{pair_word}
+use Rattle.metis_universe.specs.Terms.{IsNamed, IsUniverse, Universe, is_name, pair_count, pair_named, pair_word, state_name_of, state_named, type_name_of, type_named, type_of}
 use Rattle.metis_tokens.proofs.NameTokens.{and_then_some, state_at, state_is, type_at, type_is}
 use Rattle.metis_tokens.proofs.Printed.{printed}
 use Rattle.metis_tokens.proofs.TwoNames.{word_is, word_printed, word_read}
-use Rattle.metis_tokens.specs.Words.{pair_in}
+use Rattle.metis_tokens.specs.Terms.{pair_in}
 
 module _ (u : Universe) where
   -- the pair that is found by two names has these names

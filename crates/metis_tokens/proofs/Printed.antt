@@ -10,7 +10,7 @@ use Rattle.std.proofs.lemmas.Bool.{and_from, and_parts}
 use Rattle.std.proofs.lemmas.Bool.Decides.{nat_tests}
 use Rattle.std.proofs.lemmas.Fmt.{digits_decimal}
 use Rattle.std.proofs.lemmas.Str.Parse.{IsNumeralModel, numerals_by_value, tells_all_ascii_digits}
-use Rattle.metis_universe.specs.Names.{is_name, is_name_byte}
+use Rattle.metis_universe.specs.Terms.{is_name, is_name_byte}
 
 abbrev pub printed : List ℕ → Bool
 printed t = list_all (nat_lt 32) t

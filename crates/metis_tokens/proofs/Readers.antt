@@ -11,9 +11,8 @@ use Rattle.std.proofs.lemmas.List.{length-append}
 use Rattle.std.proofs.lemmas.List.Elements.{All-append, All-nil}
 use Rattle.std.proofs.lemmas.List.Folds.{concat-append}
 use Rattle.metis_outside.proofs.Feeds.{IsLine-from, no_feed, no_feed-append, one_line}
-use Rattle.metis_outside.specs.Pieces.{IsLine, bytes_of}
-use Rattle.metis_tokens.specs.Flaws.{and_then, made}
-use Rattle.metis_tokens.specs.Cursor.{Cursor, fault_at, is_feed, line_to, lines_of, next_line, read_next, told}
+use Rattle.metis_outside.specs.Terms.{IsLine, bytes_of}
+use Rattle.metis_tokens.specs.Terms.{Cursor, and_then, fault_at, is_feed, line_to, lines_of, made, next_line, read_next, told}
 use Rattle.metis_tokens.specs.declared.fault.TFault.{TFault}
 use Rattle.metis_tokens.specs.declared.fault.TFault.TheVariants.{Short}
 use Rattle.metis_tokens.specs.declared.flaw.Flaw.{Flaw}

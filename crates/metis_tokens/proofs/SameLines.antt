@@ -6,8 +6,8 @@ use Rattle.std.proofs.lemmas.Bool.Decides.{nat_tests}
 use Rattle.std.proofs.lemmas.List.Elements.{All-head, All-tail, All-weaker}
 use Rattle.std.proofs.lemmas.List.Sums.{list_all-from_AllPass}
 use Rattle.metis_outside.proofs.Feeds.{no_feed}
-use Rattle.metis_outside.specs.Pieces.{IsLine, bytes_of}
-use Rattle.metis_tokens.specs.Cursor.{fault_at, is_feed}
+use Rattle.metis_outside.specs.Terms.{IsLine, bytes_of}
+use Rattle.metis_tokens.specs.Terms.{fault_at, is_feed}
 use Rattle.metis_tokens.specs.declared.flaw.Flaw.{Flaw}
 use Rattle.metis_tokens.specs.declared.flaw.Flaw.TheVariants.{Form, Number, Name}
 use Rattle.metis_tokens.proofs.Cuts.{after_cut}

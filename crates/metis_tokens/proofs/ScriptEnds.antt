@@ -4,8 +4,8 @@ use Rattle.std.proofs.lemmas.Bool.{cond-false, cond-true}
 use Rattle.std.proofs.lemmas.Bool.Decides.{nat_tests}
 use Rattle.std.proofs.lemmas.List.{map-append, take_all, take_more}
 use Rattle.std.specs.Prelude.{length}
-use Rattle.metis_universe.specs.Universe.{is_empty}
-use Rattle.metis_tokens.specs.Scripts.{without_empty_end}
+use Rattle.metis_universe.specs.Terms.{is_empty}
+use Rattle.metis_tokens.specs.Terms.{without_empty_end}
 
 pub counted_empty : (xs : List ℕ) → nat_eq (length xs) 0 ≡ is_empty xs
 counted_empty [] = refl

@@ -3,9 +3,8 @@
 use Rattle.std.proofs.Common.{◌≡◌, ◌≢◌, ◌⊎◌, ℕ, ◌+◌, ◌≤◌, List, [], ◌∷◌, ◌++◌, length, Result, Ok, Err, refl, sym, ap, ◌∙◌, append_assoc, append-nil, arith, inl, inr}
 use Rattle.std.specs.List.{All}
 use Rattle.std.proofs.lemmas.List.{length-append}
-use Rattle.metis_outside.specs.Pieces.{bytes_of}
-use Rattle.metis_tokens.specs.Cursor.{Cursor, fault_at, lines_of}
-use Rattle.metis_tokens.specs.Flaws.{and_then}
+use Rattle.metis_outside.specs.Terms.{bytes_of}
+use Rattle.metis_tokens.specs.Terms.{Cursor, and_then, fault_at, lines_of}
 use Rattle.metis_tokens.specs.declared.fault.TFault.{TFault}
 use Rattle.metis_tokens.specs.declared.fault.TFault.TheVariants.{Line, Short}
 use Rattle.metis_tokens.specs.declared.flaw.Flaw.{Flaw}

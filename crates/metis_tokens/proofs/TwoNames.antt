@@ -4,11 +4,9 @@ use Rattle.std.specs.Bool.{if◌then◌else◌}
 use Rattle.std.specs.List.{after_first, before_first}
 use Rattle.std.proofs.lemmas.Bool.{and_from, and_parts, eqb-true}
 use Rattle.std.proofs.lemmas.List.Folds.{list_all-append}
-use Rattle.metis_universe.specs.Names.{is_name}
-use Rattle.metis_universe.specs.PairWords.{if_names, is_colon, pair_names}
+use Rattle.metis_universe.specs.Terms.{if_names, is_colon, is_name, pair_names}
 use Rattle.metis_universe.proofs.NameBytes.{cut_back, name_some}
-use Rattle.metis_tokens.specs.Words.{of_names}
-use Rattle.metis_tokens.specs.Flaws.{found}
+use Rattle.metis_tokens.specs.Terms.{found, of_names}
 use Rattle.metis_tokens.proofs.Cuts.{after_cut, before_cut}
 use Rattle.metis_tokens.proofs.Outcomes.{found_is}
 use Rattle.metis_tokens.proofs.Printed.{no_colon_name, printed, printed_name}

@@ -9,14 +9,10 @@ use Rattle.std.proofs.lemmas.Bool.Decides.{nat_tests}
 use Rattle.std.proofs.lemmas.List.Elements.{All-cons}
 use Rattle.metis_ids.specs.declared.goals.Goal.{Goal}
 use Rattle.metis_ids.specs.declared.goals.Goal.TheVariants.{Pair, Port}
-use Rattle.metis_universe.specs.GoalWords.{goal_word}
+use Rattle.metis_universe.specs.Terms.{IsNamed, Universe, goal_word, is_name, is_name_byte, no_kind, no_pair, pair_count, pair_word, port_count, port_name_of, state_name_of, type_count, type_name_of, type_of}
 use Rattle.metis_outside.proofs.Feeds.{IsLine-append, IsLine-from, no_feed, no_feed-append, no_feed-decimal, no_feed-join_with_byte}
-use Rattle.metis_outside.specs.Pieces.{IsLine}
-use Rattle.metis_universe.specs.Names.{is_name, is_name_byte}
-use Rattle.metis_universe.specs.Universe.{IsNamed, Universe, no_kind, no_pair, pair_count, port_count, port_name_of, state_name_of, type_count, type_name_of, type_of}
-use Rattle.metis_tokens.specs.Line.{added, line, numbered, words, end_line}
-use Rattle.metis_tokens.specs.MissingLine.{missing_line}
-use Rattle.metis_universe.specs.PairWords.{pair_word}
+use Rattle.metis_outside.specs.Terms.{IsLine}
+use Rattle.metis_tokens.specs.Terms.{added, end_line, line, missing_line, numbered, words}
 use Rattle.metis_tokens.proofs.Printed.{all_weaker}
 
 -- ---- names

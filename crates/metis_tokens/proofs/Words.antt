@@ -3,7 +3,7 @@ use Rattle.std.proofs.Common.{◌≡◌, ℕ, ◌+◌, ◌<◌, List, [], ◌∷
 use Rattle.std.proofs.lemmas.Grind.{flat_map-append}
 use Rattle.std.proofs.lemmas.List.{take_more, map-append}
 use Rattle.std.specs.Prelude.{codes}
-use Rattle.metis_tokens.specs.Line.{added, words}
+use Rattle.metis_tokens.specs.Terms.{added, words}
 
 -- more words behind those of a line that has some
 pub words_added : (t : List ℕ) (ts us : List (List ℕ)) → words ((t ∷ ts) ++ us) ≡ words (t ∷ ts) ++ added us

@@ -6,3 +6,4 @@ pub mod MissingLine
 pub mod Scripts
 pub mod Tokens
 pub mod Words
+pub mod Terms

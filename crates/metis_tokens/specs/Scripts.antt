@@ -3,7 +3,7 @@
 use Rattle.std.specs.Prelude.{ℕ, List, [], ◌∷◌, if◌then◌else◌}
 use Rattle.std.specs.List.{slice_split}
 use Rattle.metis_tokens.specs.Cursor.{is_feed}
-use Rattle.metis_universe.specs.Universe.{is_empty}
+use Rattle.metis_universe.specs.Terms.{is_empty}
 
 -- the pieces, but a last one that is empty
 abbrev pub without_empty_end : List (List ℕ) → List (List ℕ)

@@ -13,8 +13,7 @@ use Rattle.std.specs.Option.{option_and_then}
 use Rattle.metis_tokens.specs.Flaws.{found, right}
 use Rattle.metis_tokens.specs.declared.flaw.Flaw.{Flaw}
 use Rattle.metis_tokens.specs.declared.flaw.Flaw.TheVariants.{Form, Number}
-use Rattle.metis_universe.specs.Names.{is_name}
-use Rattle.metis_universe.specs.Universe.{Universe, state_named}
+use Rattle.metis_universe.specs.Terms.{Universe, is_name, state_named}
 
 abbrev pub is_space : ℕ → Bool
 is_space byte = byte == 32

@@ -7,9 +7,7 @@ use Rattle.metis_ids.specs.declared.goals.Goal.{Goal}
 use Rattle.metis_tokens.specs.declared.flaw.Flaw.{Flaw}
 use Rattle.metis_tokens.specs.declared.flaw.Flaw.TheVariants.{Form}
 use Rattle.metis_tokens.specs.Flaws.{found}
-use Rattle.metis_universe.specs.GoalWords.{goal_named}
-use Rattle.metis_universe.specs.PairWords.{pair_names}
-use Rattle.metis_universe.specs.Universe.{Universe, pair_named}
+use Rattle.metis_universe.specs.Terms.{Universe, goal_named, pair_named, pair_names}
 
 abbrev pub of_names : {A : Type 0} → (List ℕ → List ℕ → Option A) → Option (List ℕ × List ℕ) → Result A Flaw
 of_names find None = Err Form

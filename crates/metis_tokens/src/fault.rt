@@ -1,6 +1,6 @@
 //! Why bytes are no text of a plan, of a refusal or of an explanation.
 ghost use Rattle.std.specs.Prelude.{◌≡◌};
-ghost use Rattle.metis_tokens.specs.Cursor.{fault_at};
+ghost use Rattle.metis_tokens.specs.Terms.{fault_at};
 
 use crate::flaw::Flaw;
 use metis_ids::NoMemory;

@@ -1,6 +1,6 @@
 //! What is wrong with a line that is read.
 ghost use Rattle.std.specs.Prelude.{◌≡◌};
-ghost use Rattle.metis_tokens.specs.Flaws.{both, found, graver, made};
+ghost use Rattle.metis_tokens.specs.Terms.{both, found, graver, made};
 
 /// What is wrong with a line that is read.
 #[derive(Clone, Copy, PartialEq, Eq)]

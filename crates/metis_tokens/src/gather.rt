@@ -1,7 +1,6 @@
 //! Reads the numbers that stand in all of some tokens.
 ghost use Rattle.std.specs.Prelude.{◌≡◌, Err, IfOk, Ok, [], map};
-ghost use Rattle.metis_tokens.specs.Flaws.{all_behind, made};
-ghost use Rattle.metis_tokens.specs.Tokens.{number_in};
+ghost use Rattle.metis_tokens.specs.Terms.{all_behind, made, number_in};
 
 use crate::flaw::{Flaw, graver};
 use crate::tokens::number_in;

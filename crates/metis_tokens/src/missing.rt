@@ -1,8 +1,7 @@
 //! The line of a target of which there are too few instances.
 ghost use Rattle.std.specs.Prelude.{◌≡◌, IfOk, string_bytes};
-ghost use Rattle.metis_universe.specs.GoalWords.{goal_word};
-ghost use Rattle.metis_universe.specs.Goals.{IsGoalOf};
-ghost use Rattle.metis_tokens.specs.MissingLine.{missing_line};
+ghost use Rattle.metis_universe.specs.Terms.{IsGoalOf, goal_word};
+ghost use Rattle.metis_tokens.specs.Terms.{missing_line};
 
 use metis_ids::Goal;
 use metis_universe::Universe;

@@ -1,6 +1,6 @@
 //! Writes numbers.
 ghost use Rattle.std.specs.Prelude.{◌≡◌, ◌++◌, OnOk, codes, decimal, map, string_bytes};
-ghost use Rattle.metis_tokens.specs.Line.{added};
+ghost use Rattle.metis_tokens.specs.Terms.{added};
 
 use std::alloc::AllocError;
 

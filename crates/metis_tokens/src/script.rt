@@ -1,8 +1,7 @@
 //! The lines of a script.
 ghost use Rattle.std.specs.Prelude.{◌≡◌, ◌≤◌, ◌+◌, IfOk, length, map, take};
 ghost use Rattle.std.specs.List.{slice_split};
-ghost use Rattle.metis_tokens.specs.Cursor.{is_feed};
-ghost use Rattle.metis_tokens.specs.Scripts.{script_lines, without_empty_end};
+ghost use Rattle.metis_tokens.specs.Terms.{is_feed, script_lines, without_empty_end};
 
 use std::alloc::{AllocError, Global};
 

@@ -1,8 +1,7 @@
 //! The tokens of a line that is read.
 ghost use Rattle.std.specs.Prelude.{◌≡◌, IfOk, IsTrue, Ok, OnOk, Some, map};
-ghost use Rattle.metis_tokens.specs.Tokens.{due, state_in, named, number_in, starts_number, tokens, value_after};
-ghost use Rattle.metis_tokens.specs.Words.{pair_in, goal_in};
-ghost use Rattle.metis_universe.specs.Universe.{port_named, type_named};
+ghost use Rattle.metis_tokens.specs.Terms.{due, goal_in, named, number_in, pair_in, starts_number, state_in, tokens, value_after};
+ghost use Rattle.metis_universe.specs.Terms.{port_named, type_named};
 
 use crate::bytes::is;
 use crate::flaw::{Flaw, found};

@@ -1,6 +1,6 @@
 -- Exit codes tell statuses.
 use Rattle.std.proofs.Common.{◌≡◌, ◌↔◌, ◌==◌, ℕ, refl, ap, sym, ◌∙◌, if◌then◌else◌}
-use Rattle.metis_output.specs.Statuses.{code_of}
+use Rattle.metis_output.specs.Terms.{code_of}
 use Rattle.metis_output.specs.declared.status.Status.{Status}
 use Rattle.metis_output.specs.declared.status.Status.TheVariants.{Done, No, BadWords, BadInput, ReadFault, WriteFault, NoMemory}
 

@@ -3,17 +3,13 @@ use Rattle.std.proofs.Common.{◌≡◌, ◌≤◌, ◌+◌, ◌*◌, ℕ, List,
 use Rattle.std.specs.List.{count_by}
 use Rattle.std.specs.Prelude.{IsTrue}
 use Rattle.metis_choice.proofs.Resolving.{pairs_count, pairs_hold}
-use Rattle.metis_choice.specs.Resolutions.{ArePairsFor}
-use Rattle.metis_ids.specs.Action.{makes}
+use Rattle.metis_choice.specs.Terms.{ArePairsFor}
+use Rattle.metis_ids.specs.Terms.{makes}
 use Rattle.metis_ids.specs.declared.actions.Action.{Action}
 use Rattle.metis_ids.specs.declared.goals.Goal.{Goal}
-use Rattle.metis_universe.specs.Config.{empty}
-use Rattle.metis_universe.specs.Steadfast.{is_steadfast}
-use Rattle.metis_universe.specs.Step.{IsRun, after_all}
-use Rattle.metis_universe.specs.Universe.{Universe, greatest_demand}
-use Rattle.metis_universe.specs.Waits.{IsKept, is_complete, numbers, picked}
-use Rattle.metis_top.specs.Deployment.{Deploys, DeploysOrRefuses, InAnyOrder}
-use Rattle.metis_plan_commands.specs.Plan.{IsPlan, PlanAnswer, Plans}
+use Rattle.metis_universe.specs.Terms.{IsKept, IsRun, Universe, after_all, empty, greatest_demand, is_complete, is_steadfast, numbers, picked}
+use Rattle.metis_top.specs.Terms.{Deploys, DeploysOrRefuses, InAnyOrder}
+use Rattle.metis_plan_commands.specs.Terms.{IsPlan, PlanAnswer, Plans}
 use Rattle.metis_output.specs.declared.status.Status.{Status}
 
 -- what is known of the orders of a list of actions that keep its waits

@@ -5,10 +5,8 @@ use Rattle.std.specs.Option.{option_map_or}
 use Rattle.std.proofs.lemmas.Option.{slice_get_within}
 use Rattle.metis_ids.proofs.Finding.{not_found}
 use Rattle.metis_ids.proofs.Lists.{has_range}
-use Rattle.metis_tokens.specs.Flaws.{and_then}
-use Rattle.metis_words.specs.Form.{Form, form_by}
-use Rattle.metis_words.specs.Forms.{file_count, number_count, target_limit, verb_named}
-use Rattle.metis_words.specs.Words.{file_fits, file_misfit, fits_after, form_behind, form_of, form_with, numbers_after, size_in, targets_in, unless_misfit, with_verb}
+use Rattle.metis_tokens.specs.Terms.{and_then}
+use Rattle.metis_words.specs.Terms.{Form, file_count, file_fits, file_misfit, fits_after, form_behind, form_by, form_of, form_with, number_count, numbers_after, size_in, target_limit, targets_in, unless_misfit, verb_named, with_verb}
 use Rattle.metis_words.specs.declared.words.Verb.{Verb}
 use Rattle.metis_words.specs.declared.words.Verb.TheVariants.{Load, Waves}
 

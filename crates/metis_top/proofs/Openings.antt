@@ -6,22 +6,14 @@ use Rattle.std.specs.declared.option.Option.{Option as Known}
 use Rattle.metis_inputs.specs.declared.stop.InputFault.{InputFault}
 use Rattle.metis_inputs.specs.declared.stop.InputFault.TheVariants.{TooLong, Word}
 use Rattle.metis_inputs.specs.declared.stop.InputFault.TheVariants as input
-use Rattle.metis_output.specs.Shown.{Shown}
+use Rattle.metis_output.specs.Terms.{Shown}
 use Rattle.metis_output.specs.declared.status.Status.{Status}
-use Rattle.metis_outside.specs.Openings.{Openings, broken, grown, sound}
-use Rattle.metis_outside.specs.Writes.{Written}
-use Rattle.metis_inputs.specs.Commands.{command_script, goals_named, inputs_then, judged, meaning, or_fault, script_from, targets_then, text_limit, text_then, texts_then, universe_then}
-use Rattle.metis_inputs.specs.Inputs.{Inputs, Meaning, Meanings}
-use Rattle.metis_top.specs.Course.{OnShelf, Ran, Says}
-use Rattle.metis_top.specs.Lines.{fault_status}
-use Rattle.metis_inputs.specs.Gathers.{AreTaken, IsRead, after, named}
-use Rattle.metis_ujson.specs.Document.{document_limit, universe_in}
-use Rattle.metis_words.specs.Forms.{NoFile, OfGoals, OfUniverse, Reading, TextKind, file_count, files_of, reading}
-use Rattle.metis_top.specs.Openings.{IsAnswered, OpensFiles, OpensSome}
-use Rattle.metis_inputs.specs.Script.{Script, Read, Fault, Reply}
-use Rattle.metis_words.specs.Form.{Form}
-use Rattle.metis_words.specs.Words.{form_of, word_at}
-use Rattle.metis_universe.specs.Universe.{Universe}
+use Rattle.metis_outside.specs.Terms.{Openings, Written, broken, grown, sound}
+use Rattle.metis_inputs.specs.Terms.{AreTaken, Fault, Inputs, IsRead, Meaning, Meanings, Read, Reply, Script, after, command_script, goals_named, inputs_then, judged, meaning, named, or_fault, script_from, targets_then, text_limit, text_then, texts_then, universe_then}
+use Rattle.metis_top.specs.Terms.{IsAnswered, OnShelf, OpensFiles, OpensSome, Ran, Says, fault_status}
+use Rattle.metis_ujson.specs.Terms.{document_limit, universe_in}
+use Rattle.metis_words.specs.Terms.{Form, NoFile, OfGoals, OfUniverse, Reading, TextKind, file_count, files_of, form_of, reading, word_at}
+use Rattle.metis_universe.specs.Terms.{Universe}
 use Rattle.metis_outside.proofs.Opened.{grown-none}
 use Rattle.metis_top.proofs.FileWords.{are_words}
 

@@ -3,31 +3,22 @@ use Rattle.std.proofs.Common.{◌≡◌, ◌≢◌, sym, ℕ, ◌≤◌, Bool, L
 use Rattle.std.proofs.lemmas.List.{take_all}
 use Rattle.std.proofs.lemmas.Bool.Decides.{nat_tests}
 use Rattle.std.specs.declared.option.Option.{Option}
-use Rattle.metis_outside.specs.Faults.{Rose}
+use Rattle.metis_outside.specs.Terms.{Appends, Openings, Rose, Written}
 use Rattle.metis_inputs.specs.declared.stop.InputFault.TheVariants.{TooLong}
 use Rattle.metis_output.specs.declared.status.Status.{Status}
 use Rattle.metis_output.specs.declared.status.Status.TheVariants.{Done, No, NoMemory}
-use Rattle.metis_choice.specs.Resolutions.{ArePairsFor}
-use Rattle.metis_ids.specs.Plans.{Plan}
+use Rattle.metis_choice.specs.Terms.{ArePairsFor}
+use Rattle.metis_ids.specs.Terms.{Plan}
 use Rattle.metis_ids.specs.declared.goals.Goal.{Goal}
-use Rattle.metis_outside.specs.Writes.{Appends, Written}
-use Rattle.metis_universe.specs.Tidy.{IsTidy}
-use Rattle.metis_inputs.specs.Commands.{command_script, goals_named, script_from, universe_in_then, targets_then}
-use Rattle.metis_top.specs.Course.{Ran, Says, OnShelf}
-use Rattle.metis_output.specs.Shown.{Shown}
-use Rattle.metis_inputs.specs.Gathers.{AreTaken, after, named}
-use Rattle.metis_outside.specs.Openings.{Openings}
-use Rattle.metis_ujson.specs.Document.{document_limit, universe_in}
+use Rattle.metis_universe.specs.Terms.{IsTidy, Universe}
+use Rattle.metis_inputs.specs.Terms.{AreTaken, Fault, Read, Reply, Script, after, command_script, goals_named, named, script_from, targets_then, universe_in_then}
+use Rattle.metis_top.specs.Terms.{EndsTidy, Headline, IsThePlan, OnShelf, PlansHave, Ran, Says, Tells, Undisturbed, over}
+use Rattle.metis_output.specs.Terms.{Shown}
+use Rattle.metis_ujson.specs.Terms.{document_limit, universe_in}
 use Rattle.metis_top.proofs.Deployments.{OrderLaws, answer_deploys}
-use Rattle.metis_top.specs.Honest.{over, Tells, Headline, IsThePlan, PlansHave, Undisturbed}
-use Rattle.metis_top.specs.Deployment.{EndsTidy}
-use Rattle.metis_plan_commands.specs.Plan.{PlanAnswer, PlansPairs, plan_text}
-use Rattle.metis_inputs.specs.Script.{Script, Read, Fault, Reply}
-use Rattle.metis_words.specs.TargetName.{TargetName}
-use Rattle.metis_words.specs.Form.{form_by}
-use Rattle.metis_words.specs.Words.{form_of}
+use Rattle.metis_plan_commands.specs.Terms.{PlanAnswer, PlansPairs, plan_text}
+use Rattle.metis_words.specs.Terms.{TargetName, form_by, form_of}
 use Rattle.metis_words.specs.declared.words.Verb.TheVariants.{Plan as PlanVerb}
-use Rattle.metis_universe.specs.Universe.{Universe}
 
 -- no read failed, and memory did not run out, so the script has come to its end
 after-over : (file : List ℕ → List ℕ) (taken : List (List ℕ)) (script : Script) (names : Option Bool → List (List ℕ × Bool)) (faults faults' : ℕ) (opens opens' : Openings) (old new : Written) (status : Status)

@@ -2,29 +2,20 @@
 use Rattle.std.proofs.Common.{◌≡◌, ℕ, suc, ◌+◌, ◌-◌, ◌≤◌, List, [], ◌∷◌, drop, length, take, Option, Some, Result, Ok, Err, Bool, true, false, refl, sym, ap, ◌∙◌, subst, inl, inr, arith, nat_le, if◌then◌else◌}
 use Rattle.std.proofs.lemmas.List.{take-take}
 use Rattle.std.specs.declared.option.Option.{Option as Known}
-use Rattle.metis_outside.specs.Writes.{Appends, Written}
+use Rattle.metis_outside.specs.Terms.{Appends, Openings, Rose, Written, broken, grown, sound}
 use Rattle.metis_inputs.specs.declared.stop.InputFault.{InputFault}
 use Rattle.metis_inputs.specs.declared.stop.InputFault.TheVariants.{Word, TooLong}
 use Rattle.metis_inputs.specs.declared.stop.InputFault.TheVariants as input
 use Rattle.metis_output.specs.declared.status.Status.{Status}
 use Rattle.metis_output.specs.declared.status.Status.TheVariants.{ReadFault}
-use Rattle.metis_inputs.specs.Commands.{goals_named, inputs_then, judged, meaning, or_fault, command_script, script_from, targets_then, text_limit, text_then, texts_then, universe_then}
-use Rattle.metis_inputs.specs.Inputs.{Inputs, Meaning, Meanings}
-use Rattle.metis_top.specs.Course.{Ends, Ran, Says, OnShelf}
-use Rattle.metis_output.specs.Shown.{Shown}
-use Rattle.metis_inputs.specs.Gathers.{AreTaken, IsRead, after, named}
-use Rattle.metis_outside.specs.Faults.{Rose}
-use Rattle.metis_outside.specs.Openings.{Openings, broken, grown, sound}
+use Rattle.metis_inputs.specs.Terms.{AreTaken, Fault, Inputs, IsRead, Meaning, Meanings, Read, Reply, Script, after, command_script, goals_named, inputs_then, judged, meaning, named, or_fault, script_from, targets_then, text_limit, text_then, texts_then, universe_then}
+use Rattle.metis_top.specs.Terms.{Ends, Numbered, OnShelf, Ran, Says, TellsReadFault, fault_status, read_fault_line}
+use Rattle.metis_output.specs.Terms.{Shown}
 use Rattle.metis_top.proofs.FileWords.{are_words}
 use Rattle.metis_top.proofs.Openings.{names_failed, names_read, one_more, reads_command}
-use Rattle.metis_ujson.specs.Document.{document_limit, universe_in}
-use Rattle.metis_top.specs.Lines.{fault_status, read_fault_line}
-use Rattle.metis_top.specs.Numbered.{Numbered, TellsReadFault}
-use Rattle.metis_inputs.specs.Script.{Script, Read, Fault, Reply}
-use Rattle.metis_words.specs.Forms.{NoFile, OfGoals, OfUniverse, Reading, TextKind, file_count, reading}
-use Rattle.metis_words.specs.Form.{Form}
-use Rattle.metis_words.specs.Words.{form_of, word_at}
-use Rattle.metis_universe.specs.Universe.{Universe}
+use Rattle.metis_ujson.specs.Terms.{document_limit, universe_in}
+use Rattle.metis_words.specs.Terms.{Form, NoFile, OfGoals, OfUniverse, Reading, TextKind, file_count, form_of, reading, word_at}
+use Rattle.metis_universe.specs.Terms.{Universe}
 
 not_refused : (why : InputFault) → fault_status why ≡ ReadFault → ⊥
 not_refused (Word place) is = cc

@@ -3,7 +3,7 @@ use Rattle.std.proofs.Common.{◌≡◌, ◌≢◌, ℕ, List, ◌++◌, true, r
 use Rattle.std.proofs.lemmas.Bool.{false≢true}
 use Rattle.std.specs.Prelude.{codes}
 use Rattle.metis_outside.proofs.Feeds.{IsLine-from, no_feed}
-use Rattle.metis_outside.specs.Pieces.{IsLine}
+use Rattle.metis_outside.specs.Terms.{IsLine}
 use Rattle.metis_output.proofs.LineWords.{by_number, by_three, by_two, word_then}
 use Rattle.metis_inputs.specs.declared.stop.InputFault.{InputFault}
 use Rattle.metis_inputs.specs.declared.stop.InputFault.TheVariants.{Word, TooLong}
@@ -12,7 +12,7 @@ use Rattle.metis_place.specs.declared.hosts_fault.HFault.{HFault}
 use Rattle.metis_place.specs.declared.hosts_fault.HFault.TheVariants as hfault
 use Rattle.metis_tokens.specs.declared.fault.TFault.{TFault}
 use Rattle.metis_tokens.specs.declared.fault.TFault.TheVariants as tfault
-use Rattle.metis_top.specs.Lines.{fault_line, hosts_fault_line, is_told, limit_line, read_fault_line, text_fault_line, universe_line, wishes_fault_line}
+use Rattle.metis_top.specs.Terms.{fault_line, hosts_fault_line, is_told, limit_line, read_fault_line, text_fault_line, universe_line, wishes_fault_line}
 use Rattle.metis_ujson.specs.declared.faults.UFault.{UFault}
 use Rattle.metis_ujson.specs.declared.faults.UFault.TheVariants as ufault
 use Rattle.metis_universe.specs.declared.faults.LimitKind.{LimitKind}

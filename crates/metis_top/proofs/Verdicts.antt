@@ -2,33 +2,25 @@
 use Rattle.std.proofs.Common.{◌≡◌, ◌⊎◌, ◌∙◌, ℕ, List, inl, inr, sym}
 use Rattle.metis_audit.specs.declared.answers.Answer.{Answer}
 use Rattle.metis_audit.specs.declared.answers.Answer.TheVariants.{Justified, NotAttained, NoCycle, Count, Path, Loose, After}
-use Rattle.metis_commands.specs.Audit.{audit_status}
-use Rattle.metis_commands.specs.Confirm.{confirmation_status}
-use Rattle.metis_commands.specs.Refute.{judgement_status}
-use Rattle.metis_commands.specs.Replay.{verdict_status}
+use Rattle.metis_commands.specs.Terms.{audit_status, confirmation_status, judgement_status, verdict_status}
 use Rattle.metis_ids.specs.declared.actions.Action.{Action}
-use Rattle.metis_inputs.specs.Inputs.{Inputs}
-use Rattle.metis_inputs.specs.Script.{Script, Read, Fault, Reply}
+use Rattle.metis_inputs.specs.Terms.{Fault, Inputs, Read, Reply, Script}
 use Rattle.metis_inputs.specs.declared.stop.InputFault.{InputFault}
 use Rattle.metis_inputs.specs.declared.stop.InputFault.TheVariants as input
-use Rattle.metis_outside.specs.Faults.{Rose}
-use Rattle.metis_outside.specs.Writes.{Written}
-use Rattle.metis_output.specs.Shown.{Shown}
+use Rattle.metis_outside.specs.Terms.{Rose, Written}
+use Rattle.metis_output.specs.Terms.{Shown}
 use Rattle.metis_output.specs.declared.status.Status.{Status}
 use Rattle.metis_output.specs.declared.status.Status.TheVariants.{NoMemory, ReadFault, WriteFault}
 use Rattle.metis_refusal.specs.declared.verdict.Verdict2.{Verdict2}
 use Rattle.metis_refusal.specs.declared.verdict.Verdict2.TheVariants.{Closed, NotFree, Open, LacksNone}
 use Rattle.metis_replay.specs.declared.verdict.Verdict.{Verdict}
 use Rattle.metis_replay.specs.declared.verdict.Verdict.TheVariants.{Good, Bad, Missing}
-use Rattle.metis_steady.specs.Steady.{HasBadAction, HasLooseAction}
-use Rattle.metis_top.specs.Answers.{IsAnswer}
-use Rattle.metis_top.specs.Course.{Says}
-use Rattle.metis_top.specs.Lines.{fault_status}
-use Rattle.metis_top.specs.Openings.{IsAnswered}
-use Rattle.metis_universe.specs.Universe.{Universe}
+use Rattle.metis_steady.specs.Terms.{HasBadAction, HasLooseAction}
+use Rattle.metis_top.specs.Terms.{IsAnswer, IsAnswered, Says, fault_status}
+use Rattle.metis_universe.specs.Terms.{Universe}
 use Rattle.metis_why.specs.declared.confirming.Confirmation.{Confirmation}
 use Rattle.metis_why.specs.declared.confirming.Confirmation.TheVariants as confirmation
-use Rattle.metis_words.specs.Forms.{reading}
+use Rattle.metis_words.specs.Terms.{reading}
 use Rattle.metis_words.specs.declared.words.Verb.{Verb}
 use Rattle.metis_words.specs.declared.words.Verb.TheVariants as verb
 

@@ -4,15 +4,14 @@
 use Rattle.std.specs.Prelude.{◌≡◌, ◌≤◌, ℕ, List, [], ◌∷◌, ◌++◌, length, Some, Ok}
 use Rattle.std.specs.declared.option.Option.{Option}
 use Rattle.metis_ids.specs.declared.goals.Goal.{Goal}
-use Rattle.metis_inputs.specs.Commands.{goals_named}
-use Rattle.metis_outside.specs.Pieces.{bytes_of}
+use Rattle.metis_inputs.specs.Terms.{goals_named}
+use Rattle.metis_outside.specs.Terms.{bytes_of}
 use Rattle.metis_output.specs.declared.status.Status.{Status}
 use Rattle.metis_output.specs.declared.status.Status.TheVariants.{ReadFault, WriteFault}
 use Rattle.metis_top.specs.Deployment.{DeploysOrRefuses}
-use Rattle.metis_ujson.specs.Document.{document_limit, universe_in}
-use Rattle.metis_universe.specs.Universe.{Universe}
-use Rattle.metis_words.specs.TargetName.{TargetName}
-use Rattle.metis_words.specs.Words.{form_of}
+use Rattle.metis_ujson.specs.Terms.{document_limit, universe_in}
+use Rattle.metis_universe.specs.Terms.{Universe}
+use Rattle.metis_words.specs.Terms.{TargetName, form_of}
 use Rattle.metis_words.specs.declared.words.Verb.TheVariants.{Plan as PlanVerb}
 
 -- the writer had these bytes before, and behind them those of the lines

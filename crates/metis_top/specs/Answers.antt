@@ -1,25 +1,11 @@
 -- The lines that answer, and the status: the table of commands.
 --     IsAnswer verb inputs size numbers lines status      these are the lines of such a command over what was read for it, and its status
 use Rattle.std.specs.Prelude.{ℕ, List}
-use Rattle.metis_commands.specs.Audit.{Audited}
-use Rattle.metis_commands.specs.Control.{Controlled}
-use Rattle.metis_commands.specs.Confirm.{Confirms}
-use Rattle.metis_commands.specs.Crew.{Crewed}
-use Rattle.metis_commands.specs.Why.{WhyAnswer}
-use Rattle.metis_commands.specs.Refute.{Judged}
-use Rattle.metis_plan_commands.specs.Load.{Loaded}
-use Rattle.metis_commands.specs.Place.{Placed}
-use Rattle.metis_plan_commands.specs.Plan.{PlanAnswer}
-use Rattle.metis_commands.specs.Print.{Printed}
-use Rattle.metis_commands.specs.Replay.{Replayed}
-use Rattle.metis_plan_commands.specs.Reconfigure.{Reconfigured}
-use Rattle.metis_plan_commands.specs.Rollout.{RolledOut}
-use Rattle.metis_commands.specs.Sim.{Simulated}
-use Rattle.metis_commands.specs.Waits.{Awaited}
-use Rattle.metis_commands.specs.Waves.{Waved}
-use Rattle.metis_inputs.specs.Inputs.{Inputs, plan_said}
+use Rattle.metis_commands.specs.Terms.{Audited, Awaited, Confirms, Controlled, Crewed, Judged, Placed, Printed, Replayed, Simulated, Waved, WhyAnswer}
+use Rattle.metis_plan_commands.specs.Terms.{Loaded, PlanAnswer, Reconfigured, RolledOut}
+use Rattle.metis_inputs.specs.Terms.{Inputs, plan_said}
 use Rattle.metis_output.specs.declared.status.Status.{Status}
-use Rattle.metis_words.specs.Forms.{reading}
+use Rattle.metis_words.specs.Terms.{reading}
 use Rattle.metis_words.specs.declared.words.Verb.{Verb}
 use Rattle.metis_words.specs.declared.words.Verb.TheVariants.{Plan, Replay, Refute, Audit, Sim, Crew, Waves, Waits, Control, Rollout, Reconfigure, Place, Print, Load, Why, Confirm}
 

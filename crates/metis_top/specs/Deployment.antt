@@ -5,18 +5,11 @@
 --     DeploysOrRefuses u goals lines status      the lines are those of such a plan where some list of actions attains the goals, and else of a closed set of pairs that lacks one
 use Rattle.std.specs.Prelude.{◌≡◌, ◌⊎◌, ℕ, ◌+◌, ◌*◌, ◌≤◌, List, length, IsTrue}
 use Rattle.std.specs.List.{count_by}
-use Rattle.metis_ids.specs.Action.{makes}
-use Rattle.metis_ids.specs.Plans.{Plan}
+use Rattle.metis_ids.specs.Terms.{Plan, makes}
 use Rattle.metis_ids.specs.declared.actions.Action.{Action}
-use Rattle.metis_universe.specs.Config.{Config, empty}
+use Rattle.metis_universe.specs.Terms.{AttainsGoals, Config, HoldsGoals, IsAttainedSet, IsKept, IsRun, IsTidy, Universe, after_all, empty, greatest_demand, is_complete, numbers, picked}
 use Rattle.metis_ids.specs.declared.goals.Goal.{Goal}
-use Rattle.metis_universe.specs.Goal.{IsAttainedSet}
-use Rattle.metis_universe.specs.Goals.{AttainsGoals, HoldsGoals}
-use Rattle.metis_universe.specs.Step.{IsRun, after_all}
-use Rattle.metis_universe.specs.Tidy.{IsTidy}
-use Rattle.metis_universe.specs.Universe.{Universe, greatest_demand}
-use Rattle.metis_universe.specs.Waits.{IsKept, is_complete, numbers, picked}
-use Rattle.metis_plan_commands.specs.Plan.{Refuses, plan_text}
+use Rattle.metis_plan_commands.specs.Terms.{Refuses, plan_text}
 use Rattle.metis_output.specs.declared.status.Status.{Status}
 use Rattle.metis_output.specs.declared.status.Status.TheVariants.{Done, No}
 

@@ -7,21 +7,18 @@
 --     IsThePlan u pairs plan      it is the plan that rounds come to; no instance is doubled without need, and what is left at its end is tidy
 use Rattle.std.specs.Prelude.{◌≡◌, ◌≢◌, ℕ, ◌+◌, ◌≤◌, List, [], ◌∷◌, length, take, IfSome, Ok}
 use Rattle.std.specs.declared.option.Option.{Option}
-use Rattle.metis_ids.specs.Plans.{Plan}
-use Rattle.metis_outside.specs.Faults.{Rose}
-use Rattle.metis_outside.specs.Writes.{Appends, Written}
+use Rattle.metis_ids.specs.Terms.{Plan}
+use Rattle.metis_outside.specs.Terms.{Appends, Rose, Written}
 use Rattle.metis_top.specs.Course.{Says}
-use Rattle.metis_ujson.specs.Document.{document_limit, universe_in}
+use Rattle.metis_ujson.specs.Terms.{document_limit, universe_in}
 use Rattle.metis_ids.specs.declared.goals.Goal.{Goal}
-use Rattle.metis_choice.specs.Resolutions.{ArePairsFor}
-use Rattle.metis_inputs.specs.Commands.{goals_named}
+use Rattle.metis_choice.specs.Terms.{ArePairsFor}
+use Rattle.metis_inputs.specs.Terms.{Read, Script, goals_named}
 use Rattle.metis_top.specs.Deployment.{DeploysOrRefuses, EndsTidy}
-use Rattle.metis_plan_commands.specs.Plan.{IsDoubledByNeed, plan_text}
-use Rattle.metis_planner.specs.Rounds.{IsByRounds}
-use Rattle.metis_universe.specs.Universe.{Universe}
-use Rattle.metis_inputs.specs.Script.{Script, Read}
-use Rattle.metis_words.specs.TargetName.{TargetName}
-use Rattle.metis_words.specs.Words.{form_of}
+use Rattle.metis_plan_commands.specs.Terms.{IsDoubledByNeed, plan_text}
+use Rattle.metis_planner.specs.Terms.{IsByRounds}
+use Rattle.metis_universe.specs.Terms.{Universe}
+use Rattle.metis_words.specs.Terms.{TargetName, form_of}
 use Rattle.metis_output.specs.declared.status.Status.{Status}
 use Rattle.metis_output.specs.declared.status.Status.TheVariants.{Done, NoMemory}
 use Rattle.metis_words.specs.declared.words.Verb.TheVariants.{Plan as PlanVerb}

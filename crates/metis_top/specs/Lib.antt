@@ -8,3 +8,4 @@ pub mod Numbered
 pub mod Openings
 pub mod Over
 pub mod Program
+pub mod Terms

@@ -14,7 +14,7 @@ use Rattle.metis_inputs.specs.declared.stop.InputFault.TheVariants.{Word, TooLon
 use Rattle.metis_inputs.specs.declared.stop.InputFault.TheVariants as input
 use Rattle.metis_output.specs.declared.status.Status.{Status}
 use Rattle.metis_output.specs.declared.status.Status.TheVariants.{BadWords, BadInput}
-use Rattle.metis_output.specs.NumberLine.{number_line}
+use Rattle.metis_output.specs.Terms.{number_line}
 use Rattle.metis_wishes.specs.declared.fault.WishFault.{WishFault}
 use Rattle.metis_wishes.specs.declared.fault.WishFault.TheVariants as wfault
 

@@ -3,9 +3,8 @@
 --     OpensSome most files status opens opens'      the first of these files, in their order, and no other: how many, and of what the last of them is told
 --     OpensFiles form status opens opens'      the files of its words, as far as it goes, and at least one where there are any; none where the words are no command; at want of memory perhaps none
 use Rattle.std.specs.Prelude.{◌≡◌, ◌⊎◌, ◌≤◌, min, ℕ, List, length, take, Result, Ok, Err}
-use Rattle.metis_outside.specs.Openings.{Openings, broken, grown, sound}
-use Rattle.metis_words.specs.Forms.{file_count}
-use Rattle.metis_words.specs.Form.{Form}
+use Rattle.metis_outside.specs.Terms.{Openings, broken, grown, sound}
+use Rattle.metis_words.specs.Terms.{Form, file_count}
 use Rattle.metis_output.specs.declared.status.Status.{Status}
 use Rattle.metis_output.specs.declared.status.Status.TheVariants.{Done, No, NoMemory}
 

@@ -4,14 +4,11 @@ use Rattle.std.specs.Prelude.{◌≡◌, ℕ, List, drop, IfSome}
 use Rattle.std.specs.Process.{exit_status}
 use Rattle.std.specs.declared.option.Option.{Option}
 use Rattle.std.specs.declared.process.ExitCode.{ExitCode}
-use Rattle.metis_outside.specs.Writes.{Written}
-use Rattle.metis_outside.specs.Arguments.{AreGiven}
-use Rattle.metis_outside.specs.Openings.{Openings}
+use Rattle.metis_outside.specs.Terms.{AreGiven, Openings, Written}
 use Rattle.metis_output.specs.declared.status.Status.{Status}
-use Rattle.metis_output.specs.PutLines.{PutsLines}
-use Rattle.metis_inputs.specs.Commands.{script_of}
+use Rattle.metis_output.specs.Terms.{PutsLines, code_of}
+use Rattle.metis_inputs.specs.Terms.{script_of}
 use Rattle.metis_top.specs.Course.{Ran}
-use Rattle.metis_output.specs.Statuses.{code_of}
 
 pub record IsRun {S K : Type 0} (told : Option (List (List ℕ))) (files : S → Option (List ℕ → List ℕ)) (faults : S → ℕ) (opens : S → Openings) (written : K → Written) (sink_faults : K → ℕ)
     (shelf shelf' : S) (sink sink' : K) (code : ExitCode) : Type 0 where

@@ -1,8 +1,7 @@
 //! The run over what ships, where it tells its bytes, and over files and output in memory.
 ghost use Rattle.std.specs.Prelude.{IfSome};
-ghost use Rattle.metis_top.specs.Adapters.{HeadlineInBytes, IsCalm};
-ghost use Rattle.metis_top.specs.Honest.{Undisturbed};
-ghost use Rattle.metis_universe.specs.Texts.{texts};
+ghost use Rattle.metis_top.specs.Terms.{HeadlineInBytes, IsCalm, Undisturbed};
+ghost use Rattle.metis_universe.specs.Terms.{texts};
 
 use crate::top::run;
 use metis_output::Status;

@@ -1,10 +1,9 @@
 //! The table of commands: what each reads, and what it puts over that.
 ghost use Rattle.std.specs.Prelude.{◌≡◌};
-ghost use Rattle.metis_commands.specs.Waves.{Waved};
-ghost use Rattle.metis_inputs.specs.Commands.{command_script};
-ghost use Rattle.metis_output.specs.Puts.{Puts};
-ghost use Rattle.metis_top.specs.Course.{Performs};
-ghost use Rattle.metis_top.specs.Over.{Over};
+ghost use Rattle.metis_commands.specs.Terms.{Waved};
+ghost use Rattle.metis_inputs.specs.Terms.{command_script};
+ghost use Rattle.metis_output.specs.Terms.{Puts};
+ghost use Rattle.metis_top.specs.Terms.{Over, Performs};
 
 use metis_commands::{
     audit, confirm, control, crew, place, print, refute, replay, sim, waits, waves, why,

@@ -1,6 +1,6 @@
 //! Laws of how a run ends.
 ghost use Rattle.std.specs.Prelude.{◌≡◌, ◌↔◌};
-ghost use Rattle.metis_output.specs.Statuses.{code_of};
+ghost use Rattle.metis_output.specs.Terms.{code_of};
 ghost use Rattle.metis_output.specs.declared.status.Status.{Status};
 ghost use Rattle.metis_output.specs.declared.status.Status.TheVariants.{Done};
 

@@ -1,8 +1,8 @@
 //! The whole program, over the words, the files and the output that it is handed.
 ghost use Rattle.std.specs.Prelude.{◌≡◌, ◌⊎◌};
 ghost use Rattle.std.specs.Process.{exit_status};
-ghost use Rattle.metis_output.specs.Statuses.{code_of};
-ghost use Rattle.metis_top.specs.Program.{IsRun};
+ghost use Rattle.metis_output.specs.Terms.{code_of};
+ghost use Rattle.metis_top.specs.Terms.{IsRun};
 
 use crate::top::run;
 use metis_output::Status;

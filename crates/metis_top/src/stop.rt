@@ -1,11 +1,8 @@
 //! How a run ends before its work.
 ghost use Rattle.std.specs.Prelude.{◌≡◌, ◌∷◌, ◌++◌, [], IfOk, codes, string_bytes};
-ghost use Rattle.metis_outside.specs.Pieces.{IsLine};
-ghost use Rattle.metis_output.specs.PutLines.{PutsLines};
-ghost use Rattle.metis_output.specs.Shown.{Shown};
-ghost use Rattle.metis_output.specs.NumberLine.{number_line};
-ghost use Rattle.metis_top.specs.Course.{StopSays};
-ghost use Rattle.metis_top.specs.Lines.{fault_line, fault_status, hosts_fault_line, is_told, limit_line, part_line, state_line, text_fault_line, two_line, universe_line, wishes_fault_line};
+ghost use Rattle.metis_outside.specs.Terms.{IsLine};
+ghost use Rattle.metis_output.specs.Terms.{PutsLines, Shown, number_line};
+ghost use Rattle.metis_top.specs.Terms.{StopSays, fault_line, fault_status, hosts_fault_line, is_told, limit_line, part_line, state_line, text_fault_line, two_line, universe_line, wishes_fault_line};
 
 use metis_ids::NoMemory;
 use metis_inputs::{InputFault, Stop};

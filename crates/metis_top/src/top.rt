@@ -1,15 +1,11 @@
 //! The top call.
 ghost use Rattle.std.specs.Prelude.{◌≡◌};
-ghost use Rattle.metis_outside.specs.Faults.{Rose};
-ghost use Rattle.metis_inputs.specs.Commands.{script_of};
-ghost use Rattle.metis_top.specs.Course.{Ran};
-ghost use Rattle.metis_top.specs.Honest.{Headline, IsThePlan, PlansHave, Tells, Undisturbed};
-ghost use Rattle.metis_top.specs.Numbered.{TellsReadFault};
-ghost use Rattle.metis_top.specs.Openings.{OpensFiles};
-ghost use Rattle.metis_output.specs.PutLines.{PutsLines};
-ghost use Rattle.metis_output.specs.Statuses.{IsVerdict};
-ghost use Rattle.metis_words.specs.Words.{form_of};
-ghost use Rattle.metis_universe.specs.Texts.{texts};
+ghost use Rattle.metis_outside.specs.Terms.{Rose};
+ghost use Rattle.metis_inputs.specs.Terms.{script_of};
+ghost use Rattle.metis_top.specs.Terms.{Headline, IsThePlan, OpensFiles, PlansHave, Ran, Tells, TellsReadFault, Undisturbed};
+ghost use Rattle.metis_output.specs.Terms.{IsVerdict, PutsLines};
+ghost use Rattle.metis_words.specs.Terms.{form_of};
+ghost use Rattle.metis_universe.specs.Terms.{texts};
 
 use crate::commands::perform;
 use crate::stop::end;

@@ -1,12 +1,8 @@
 -- What was run behind the line of a case.
 use Rattle.std.proofs.Common.{◌≡◌, ◌≢◌, ◌++◌, [], ◌∷◌, List, ℕ, OnOk, Result, Ok, Err, Some, codes, subst, inl, inr}
-use Rattle.metis_outside.specs.Pieces.{bytes_of}
-use Rattle.metis_outside.specs.Writes.{Appends, InPieces}
+use Rattle.metis_outside.specs.Terms.{Appends, InPieces, bytes_of}
 use Rattle.metis_output.specs.declared.status.Status.{Status}
-use Rattle.metis_transcripts.specs.Cases.{case_head, piped_foot}
-use Rattle.metis_transcripts.specs.Outside.{Outside}
-use Rattle.metis_transcripts.specs.Runs.{IsAside, IsCase, IsPiped, IsPrepared, IsShown, IsSingle}
-use Rattle.metis_transcripts.specs.Settings.{Setting}
+use Rattle.metis_transcripts.specs.Terms.{IsAside, IsCase, IsPiped, IsPrepared, IsShown, IsSingle, Outside, Setting, case_head, piped_foot}
 
 pub single_case : {S K T E : Type 0} (o : Outside S K) (line : List ℕ) (setting : Setting) (shelf shelf' : S) (sink told sink' : K) (r : Result T E)
     → Appends (o.written sink) (o.written told) (case_head line ∷ [])

@@ -8,7 +8,7 @@
 use Rattle.std.specs.Prelude.{ℕ, List, [], ◌∷◌, ◌++◌, ◌==◌, codes, decimal, if◌then◌else◌}
 use Rattle.std.specs.List.{slice_split}
 use Rattle.metis_output.specs.declared.status.Status.{Status}
-use Rattle.metis_output.specs.Statuses.{code_of}
+use Rattle.metis_output.specs.Terms.{code_of}
 use Rattle.metis_transcripts.specs.declared.words.Role.{Role}
 use Rattle.metis_transcripts.specs.declared.words.Role.TheVariants.{Remark, Input, Failing, Case}
 

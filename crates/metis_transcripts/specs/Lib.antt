@@ -4,3 +4,4 @@ pub mod Plays
 pub mod Runs
 pub mod Settings
 pub mod Staged
+pub mod Terms

@@ -6,8 +6,7 @@
 --     written, write_faults, put      the pieces put so far, how often a put failed, and which put to come is to fail
 use Rattle.std.specs.Prelude.{ℕ, List}
 use Rattle.std.specs.declared.option.Option.{Option}
-use Rattle.metis_outside.specs.Openings.{Openings}
-use Rattle.metis_outside.specs.Writes.{Written}
+use Rattle.metis_outside.specs.Terms.{Openings, Written}
 
 pub record Outside (S K : Type 0) : Type 0 where
   pub files : S → Option (List ℕ → List ℕ)

@@ -1,8 +1,7 @@
 -- What it is that the lines of a file of cases were played, one after the other.
 use Rattle.std.specs.Prelude.{◌≡◌, ℕ, List, [], ◌∷◌, ◌≤◌, length}
 use Rattle.std.specs.Str.Lines.{lines}
-use Rattle.metis_outside.specs.Whole.{IsTaken}
-use Rattle.metis_outside.specs.Writes.{Appends}
+use Rattle.metis_outside.specs.Terms.{Appends, IsTaken}
 use Rattle.metis_transcripts.specs.declared.words.Role.{Role}
 use Rattle.metis_transcripts.specs.declared.words.Role.TheVariants.{Remark, Input, Failing, Case}
 use Rattle.metis_transcripts.specs.Cases.{role_of, plain_line}

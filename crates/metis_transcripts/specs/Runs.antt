@@ -1,13 +1,11 @@
 -- What it is that the command of a case was run.
 use Rattle.std.specs.Prelude.{◌≡◌, ◌≢◌, ◌⊎◌, ℕ, List, [], ◌∷◌, ◌++◌, codes}
 use Rattle.std.specs.declared.option.Option.{Option}
-use Rattle.metis_outside.specs.Pieces.{bytes_of}
-use Rattle.metis_outside.specs.Openings.{Openings}
-use Rattle.metis_outside.specs.Writes.{Appends, InPieces, Written}
+use Rattle.metis_outside.specs.Terms.{Appends, InPieces, Openings, Written, bytes_of}
 use Rattle.metis_output.specs.declared.status.Status.{Status}
 use Rattle.metis_output.specs.declared.status.Status.TheVariants.{WriteFault, NoMemory}
-use Rattle.metis_inputs.specs.Commands.{script_of}
-use Rattle.metis_top.specs.Course.{Ran}
+use Rattle.metis_inputs.specs.Terms.{script_of}
+use Rattle.metis_top.specs.Terms.{Ran}
 use Rattle.metis_transcripts.specs.Cases.{words_in, case_head, single_foot, piped_foot}
 use Rattle.metis_transcripts.specs.Outside.{Outside}
 use Rattle.metis_transcripts.specs.Settings.{Setting}

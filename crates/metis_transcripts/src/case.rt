@@ -1,9 +1,7 @@
 //! Runs a case.
 ghost use Rattle.std.specs.Prelude.{◌≡◌, ◌↔◌, ◌∷◌, [], IfOk, IsTrue, OnOk};
-ghost use Rattle.metis_outside.specs.Writes.{Appends};
-ghost use Rattle.metis_transcripts.specs.Cases.{case_head, single_foot, piped_foot};
-ghost use Rattle.metis_transcripts.specs.Outside.{outside};
-ghost use Rattle.metis_transcripts.specs.Runs.{IsAside, IsCase, IsPiped, IsShown, IsSingle, IsWhole};
+ghost use Rattle.metis_outside.specs.Terms.{Appends};
+ghost use Rattle.metis_transcripts.specs.Terms.{IsAside, IsCase, IsPiped, IsShown, IsSingle, IsWhole, case_head, outside, piped_foot, single_foot};
 
 use crate::case_shelf::CaseShelf;
 use crate::case_sink::CaseSink;

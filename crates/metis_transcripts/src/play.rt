@@ -1,11 +1,8 @@
 //! Runs cases, and puts their transcript.
 ghost use Rattle.std.specs.Prelude.{◌∷◌, [], OnOk};
-ghost use Rattle.metis_outside.specs.Writes.{Appends};
+ghost use Rattle.metis_outside.specs.Terms.{Appends};
 ghost use Rattle.std.specs.Str.Lines.{lines};
-ghost use Rattle.metis_transcripts.specs.Cases.{plain_line};
-ghost use Rattle.metis_transcripts.specs.Outside.{outside};
-ghost use Rattle.metis_transcripts.specs.Plays.{AreAllPlayed, IsPlayed, IsWholePlay};
-ghost use Rattle.metis_transcripts.specs.Settings.{blank};
+ghost use Rattle.metis_transcripts.specs.Terms.{AreAllPlayed, IsPlayed, IsWholePlay, blank, outside, plain_line};
 
 use crate::case::play_case;
 use crate::case_shelf::CaseShelf;

@@ -1,6 +1,6 @@
 //! What the lines before a case say of it.
 ghost use Rattle.std.specs.Prelude.{◌≡◌, ◌<◌, IfOk, IsTrue, OnOk, length};
-ghost use Rattle.metis_transcripts.specs.Settings.{IsNumber, SetsCall, blank, input_in, with_input};
+ghost use Rattle.metis_transcripts.specs.Terms.{IsNumber, SetsCall, blank, input_in, with_input};
 
 use crate::stop::Stop;
 use std::alloc::{AllocError, Global};

@@ -1,8 +1,7 @@
 ghost use Rattle.std.specs.Prelude.{◌≡◌, ◌+◌, ◌-◌, ◌^◌, ◌<◌, [], IsErrOf, IsTrue, None, OnOk, Some, codes, length, min};
 ghost use Rattle.std.specs.Io.{ReadsAtMost};
 ghost use Rattle.std.specs.Io.KnownBytes.{ReadConsumes};
-ghost use Rattle.metis_outside.specs.Faults.{CountsFault};
-ghost use Rattle.metis_outside.specs.Openings.{untold};
+ghost use Rattle.metis_outside.specs.Terms.{CountsFault, untold};
 
 use crate::case_shelf::CaseShelf;
 use crate::countdown::Countdown;

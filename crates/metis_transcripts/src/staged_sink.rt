@@ -1,6 +1,5 @@
 ghost use Rattle.std.specs.Prelude.{◌≡◌, ◌-◌, IsErrOf, IsTrue};
-ghost use Rattle.metis_outside.specs.Faults.{CountsFault};
-ghost use Rattle.metis_outside.specs.Writes.{Puts, is_told};
+ghost use Rattle.metis_outside.specs.Terms.{CountsFault, Puts, is_told};
 
 use crate::case_sink::CaseSink;
 use crate::countdown::Countdown;

@@ -1,8 +1,8 @@
 //! The lines of a file of cases, and the words of a line.
 ghost use Rattle.std.specs.Prelude.{◌≡◌, ◌∷◌, IfOk, IfSome, codes, map};
 ghost use Rattle.std.specs.Str.Lines.{lines};
-ghost use Rattle.metis_universe.specs.Texts.{texts};
-ghost use Rattle.metis_transcripts.specs.Cases.{role_of, words_in};
+ghost use Rattle.metis_universe.specs.Terms.{texts};
+ghost use Rattle.metis_transcripts.specs.Terms.{role_of, words_in};
 
 use std::alloc::{AllocError, Global};
 

@@ -8,7 +8,7 @@ use Rattle.json.specs.Written.{Written}
 use Rattle.serde_json.specs.Data.{Data, array}
 use Rattle.serde_json.specs.View.{items_of}
 use Rattle.serde_json.specs.Written.{items_outline}
-use Rattle.metis_ujson.specs.Spelling.{Adds, all_tokens, tokens_of}
+use Rattle.metis_ujson.specs.Terms.{Adds, all_tokens, tokens_of}
 
 pub adds_none : (a : Written) → Adds a a []
 adds_none a = record { before = refl; tokens = sym (append-nil a.tokens) }

@@ -1,6 +1,6 @@
 -- The pairs of a type, which stand together.
 use Rattle.std.proofs.Common.{◌≡◌, ℕ, zero, suc, ◌+◌, ◌<◌, List, [], ◌∷◌, drop, get_or, length, take, ap, ◌∙◌, arith}
-use Rattle.metis_universe.specs.Universe.{Pair, no_pair}
+use Rattle.metis_universe.specs.Terms.{Pair, no_pair}
 
 within : (first n : ℕ) (xs : List Pair) → length (take n (drop first xs)) ≡ n → (k : ℕ) → k < n → first + k < length xs
 within zero zero xs e k l = absurd (omega arith)

@@ -16,15 +16,12 @@ use Rattle.metis_universe.specs.declared.faults.RowFault.{RowFault}
 use Rattle.metis_universe.specs.declared.faults.RowFault.TheVariants.{TypeName, TypeTwice, StateName, StateTwice, NoInitial, UnknownNext, PortName, Demand, Limit}
 use Rattle.metis_universe.specs.declared.faults.LimitKind.{LimitKind}
 use Rattle.metis_universe.specs.declared.faults.LimitKind.TheVariants.{States, Requires, Pairs, Ports}
-use Rattle.metis_universe.specs.Names.{is_between, is_name}
-use Rattle.metis_universe.specs.RowShapes.{NeedRow, StateRow, TypeRow, names_needed}
-use Rattle.metis_universe.specs.Rows.{demand_sum, first_from, unless, limit_fault, has_state, port_fault, state_twice, state_fault, next_fault, head_fault, earlier_type, type_fault, first_fault, require_total, state_total, ports_of}
-use Rattle.metis_universe.specs.Universe.{Universe, Pair, no_pair, pair_at, demand_in, demand_total, type_of, type_count, pair_count, port_count, initial_of, type_name_of, state_name_of, port_name_of, IsUniverse, IsNamed, IsWithinLimits, IsBySight}
+use Rattle.metis_universe.specs.Terms.{IsBySight, IsNamed, IsUniverse, IsWithinLimits, NeedRow, Pair, StateRow, TypeRow, Universe, demand_in, demand_sum, demand_total, earlier_type, first_fault, first_from, has_state, head_fault, initial_of, is_between, is_name, limit_fault, names_needed, next_fault, no_pair, pair_at, pair_count, port_count, port_fault, port_name_of, ports_of, require_total, state_fault, state_name_of, state_total, state_twice, type_count, type_fault, type_name_of, type_of, unless}
 use Rattle.metis_universe.proofs.Ascending.{each_map}
 use Rattle.metis_universe.proofs.Blocks.{length-pairs_from}
 use Rattle.metis_universe.proofs.ClearRows.{IsClear, IsClearState, IsClearType}
 use Rattle.metis_universe.proofs.Gathered.{demand_sum-le}
-use Rattle.metis_ujson.specs.Canonical.{need_row, state_row, type_row, rows_of_universe}
+use Rattle.metis_ujson.specs.Terms.{need_row, rows_of_universe, state_row, type_row}
 use Rattle.metis_universe.proofs.Demanded.{demands_between, demands_in_all}
 use Rattle.metis_ujson.proofs.Demanded.{names_are}
 use Rattle.metis_ujson.proofs.Numbers.{position_never}

@@ -11,12 +11,10 @@ use Rattle.std.proofs.lemmas.Simd.{map-map}
 use Rattle.std.proofs.lemmas.Slice.Eq.{bytes_eq-Decides}
 use Rattle.metis_ids.proofs.Lists.{each_weaker}
 use Rattle.metis_ids.proofs.Tests.{bytes_same}
-use Rattle.metis_universe.specs.RowShapes.{NeedRow, names_needed}
-use Rattle.metis_universe.specs.Rows.{further_from, greatest_count}
-use Rattle.metis_universe.specs.Universe.{IsNamed, Pair, Universe, demand_in, has, port_count, port_name_of}
+use Rattle.metis_universe.specs.Terms.{IsNamed, NeedRow, Pair, Universe, demand_in, further_from, greatest_count, has, names_needed, port_count, port_name_of}
 use Rattle.metis_universe.proofs.Gathered.{count_at, greatest-at_least, greatest-at_most}
 use Rattle.metis_universe.proofs.Demanded.{demand_less_one, map_same}
-use Rattle.metis_ujson.specs.Canonical.{need_row}
+use Rattle.metis_ujson.specs.Terms.{need_row}
 
 -- ---- the entries of a pair's required ports
 

@@ -2,8 +2,8 @@
 use Rattle.std.proofs.Common.{◌≡◌, [], ◌∷◌, ◌++◌, codes, refl}
 use Rattle.std.specs.Fmt.{digits}
 use Rattle.json.specs.Print.{escape_byte}
-use Rattle.metis_universe.specs.Universe.{Universe, universe_of}
-use Rattle.metis_ujson.specs.Canonical.{canonical}
+use Rattle.metis_universe.specs.Terms.{Universe, universe_of}
+use Rattle.metis_ujson.specs.Terms.{canonical}
 
 no_types : Universe
 no_types = universe_of 1 [] [] []

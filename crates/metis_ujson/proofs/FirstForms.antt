@@ -3,9 +3,8 @@ use Rattle.std.proofs.Common.{◌≡◌, ℕ, zero, suc, ◌+◌, ◌⊎◌, tru
 use Rattle.std.specs.Prelude.{IsNone, IsSome, slice_get}
 use Rattle.serde_json.specs.Data.{Data, Items, no_items, item}
 use Rattle.metis_ids.proofs.Options.{none_from_IsNone}
-use Rattle.metis_universe.specs.RowShapes.{StateRow, TypeRow}
-use Rattle.metis_ujson.specs.Document.{Spelled, json_of, list_at, rows_in, rows_of, rows_or_not_json, spelled, state_in, states_from, text_at, type_in, type_of_states, type_with, types_from, types_with, version_in, with_state, with_type}
-use Rattle.metis_ujson.specs.FirstForm.{EachBefore, HasForm, IsFirstFault, IsFirstType, IsRead, IsWhole, LacksForm, Spells, values_of}
+use Rattle.metis_universe.specs.Terms.{StateRow, TypeRow}
+use Rattle.metis_ujson.specs.Terms.{EachBefore, HasForm, IsFirstFault, IsFirstType, IsRead, IsWhole, LacksForm, Spelled, Spells, json_of, list_at, rows_in, rows_of, rows_or_not_json, spelled, state_in, states_from, text_at, type_in, type_of_states, type_with, types_from, types_with, values_of, version_in, with_state, with_type}
 use Rattle.metis_ujson.specs.declared.faults.UFault.{UFault}
 use Rattle.metis_ujson.specs.declared.faults.UFault.TheVariants as faults
 use Rattle.metis_ujson.specs.declared.faults.UFault.TheVariants.{NotJson, NotUniverse, TypeForm, StateForm}

@@ -3,10 +3,9 @@ use Rattle.std.proofs.Common.{◌≡◌, ℕ, zero, suc, ◌+◌, ◌<◌, ◌�
 use Rattle.std.specs.List.{AllByRecursion, range_with_len}
 use Rattle.std.proofs.lemmas.List.{get_or_default}
 use Rattle.std.proofs.lemmas.List.Elements.{recursion_from_All}
-use Rattle.metis_universe.specs.RowShapes.{NeedRow, StateRow, TypeRow}
-use Rattle.metis_universe.specs.Universe.{IsUniverse, Pair, Universe, demand_in, no_pair, pair_at, pair_count, type_count}
+use Rattle.metis_universe.specs.Terms.{IsUniverse, NeedRow, Pair, StateRow, TypeRow, Universe, demand_in, no_pair, pair_at, pair_count, type_count}
 use Rattle.metis_universe.proofs.Ascending.{each_map}
-use Rattle.metis_ujson.specs.Canonical.{need_row, rows_of_universe, state_row, type_row}
+use Rattle.metis_ujson.specs.Terms.{need_row, rows_of_universe, state_row, type_row}
 use Rattle.metis_universe.proofs.Demanded.{demands_between, demands_one}
 use Rattle.metis_ujson.proofs.Rebuilt.{first, own, own_is, own_within}
 

@@ -4,8 +4,8 @@ use Rattle.std.proofs.lemmas.List.{map-append, take_more}
 use Rattle.serde_json.specs.Data.{string}
 use Rattle.serde_json.specs.View.{view}
 use Rattle.serde_json.specs.declared.value.Value.{Value}
-use Rattle.metis_universe.specs.RowShapes.{StateRow, TypeRow}
-use Rattle.metis_ujson.specs.Document.{with_first, with_state, with_type}
+use Rattle.metis_universe.specs.Terms.{StateRow, TypeRow}
+use Rattle.metis_ujson.specs.Terms.{with_first, with_state, with_type}
 use Rattle.metis_ujson.specs.declared.faults.UFault.{UFault}
 
 abbrev pub after_front : {A : Type 0} → List A → Option (List A) → Option (List A)

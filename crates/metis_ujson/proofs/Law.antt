@@ -5,10 +5,8 @@ use Rattle.std.proofs.lemmas.List.{length_push, get_or-append-add}
 use Rattle.std.proofs.lemmas.Str.{is_utf8-from_IsUtf8}
 use Rattle.serde_json.specs.Read.{read}
 use Rattle.serde_json.specs.Written.{compact_text}
-use Rattle.metis_universe.specs.Rows.{or_universe, universe_from}
-use Rattle.metis_universe.specs.Universe.{Universe, IsTable, IsBySight}
-use Rattle.metis_ujson.specs.Canonical.{rows_of_universe, document_of, canonical}
-use Rattle.metis_ujson.specs.Document.{without_last_newline, json_of_text, json_of, rows_or_not_json, or_form_fault, or_row_fault, universe_in}
+use Rattle.metis_universe.specs.Terms.{IsBySight, IsTable, Universe, or_universe, universe_from}
+use Rattle.metis_ujson.specs.Terms.{canonical, document_of, json_of, json_of_text, or_form_fault, or_row_fault, rows_of_universe, rows_or_not_json, universe_in, without_last_newline}
 use Rattle.metis_ujson.proofs.Clear.{no_fault}
 use Rattle.metis_ujson.proofs.Fitting.{FitRows, rows_fit}
 use Rattle.metis_ujson.proofs.Rebuilt.{rebuilt}

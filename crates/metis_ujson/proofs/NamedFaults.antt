@@ -4,16 +4,13 @@ use Rattle.std.specs.Prelude.{codes}
 use Rattle.std.specs.Option.{option_or}
 use Rattle.serde_json.specs.Data.{Data, Items, no_items, item}
 use Rattle.metis_universe.proofs.FromRows.{IsTable-universe_from, is_by_sight}
-use Rattle.metis_universe.specs.Names.{is_between, is_name}
-use Rattle.metis_universe.specs.RowShapes.{StateRow, TypeRow, names_needed}
-use Rattle.metis_universe.specs.Rows.{IsOfVersion, first_fault, first_from, has_state, head_fault, limit_fault, link_fault, next_fault, or_universe, port_fault, demand_fault, ports_of, require_total, state_fault, state_total, state_twice, type_fault, universe_from, unless, earlier_type}
-use Rattle.metis_universe.specs.Universe.{IsTable, Universe, IsBySight}
+use Rattle.metis_universe.specs.Terms.{IsBySight, IsOfVersion, IsTable, StateRow, TypeRow, Universe, demand_fault, earlier_type, first_fault, first_from, has_state, head_fault, is_between, is_name, limit_fault, link_fault, names_needed, next_fault, or_universe, port_fault, ports_of, require_total, state_fault, state_total, state_twice, type_fault, universe_from, unless}
 use Rattle.metis_universe.specs.declared.faults.LimitKind.{LimitKind}
 use Rattle.metis_universe.specs.declared.faults.LimitKind.TheVariants.{Pairs, Ports, Requires, States}
 use Rattle.metis_universe.specs.declared.faults.RowFault.{RowFault}
 use Rattle.metis_universe.specs.declared.faults.RowFault.TheVariants as row
 use Rattle.metis_ujson.proofs.OfVersion.{rows_in-of_version}
-use Rattle.metis_ujson.specs.Document.{fault_of_row, json_of, list_at, or_form_fault, or_row_fault, rows_in, rows_or_not_json, state_in, states_from, text_at, type_in, type_of_states, type_with, types_from, types_with, universe_in, with_state, with_type, spelled, version_in, Spelled}
+use Rattle.metis_ujson.specs.Terms.{Spelled, fault_of_row, json_of, list_at, or_form_fault, or_row_fault, rows_in, rows_or_not_json, spelled, state_in, states_from, text_at, type_in, type_of_states, type_with, types_from, types_with, universe_in, version_in, with_state, with_type}
 use Rattle.metis_ujson.specs.declared.faults.UFault.{UFault}
 use Rattle.metis_ujson.specs.declared.faults.UFault.TheVariants.{NoMemory, StateForm}
 

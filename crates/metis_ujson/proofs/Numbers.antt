@@ -8,7 +8,7 @@ use Rattle.std.specs.Str.{bytes_eq}
 use Rattle.std.proofs.lemmas.Bool.Decides.{nat_tests}
 use Rattle.metis_ids.proofs.Finding.{position_here}
 use Rattle.metis_ids.proofs.Tests.{bytes_apart, bytes_same}
-use Rattle.metis_universe.specs.Rows.{ascending}
+use Rattle.metis_universe.specs.Terms.{ascending}
 use Rattle.metis_universe.proofs.FirstFault.{position-cons}
 use Rattle.metis_universe.proofs.FirstSights.{each_append}
 use Rattle.metis_universe.proofs.PortRows.{Rises, rises}

@@ -6,9 +6,8 @@ use Rattle.std.proofs.lemmas.List.Elements.{All-from_recursion}
 use Rattle.metis_ids.proofs.Lists.{each_weaker}
 use Rattle.serde_json.specs.Data.{Data, Items, no_items, item}
 use Rattle.serde_json.specs.Find.{as_array, as_str, get}
-use Rattle.metis_universe.specs.RowShapes.{NeedRow, StateRow, TypeRow}
-use Rattle.metis_universe.specs.Rows.{IsOfVersion}
-use Rattle.metis_ujson.specs.Document.{Spelled, json_of, list_at, need_in, needs_in, needs_or_none, number_at, one_or_two, rows_in, rows_or_not_json, spelled, state_in, state_with, states_from, text_at, text_or_object, texts_or_none, type_in, type_of_states, type_with, types_from, types_with, version_in, with_first, with_state, with_type}
+use Rattle.metis_universe.specs.Terms.{IsOfVersion, NeedRow, StateRow, TypeRow}
+use Rattle.metis_ujson.specs.Terms.{Spelled, json_of, list_at, need_in, needs_in, needs_or_none, number_at, one_or_two, rows_in, rows_or_not_json, spelled, state_in, state_with, states_from, text_at, text_or_object, texts_or_none, type_in, type_of_states, type_with, types_from, types_with, version_in, with_first, with_state, with_type}
 use Rattle.metis_ujson.specs.declared.faults.UFault.{UFault}
 use Rattle.metis_ujson.specs.declared.faults.UFault.TheVariants.{StateForm}
 

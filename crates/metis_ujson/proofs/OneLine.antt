@@ -9,9 +9,9 @@ use Rattle.json.specs.Print.{escape, escape_byte, escape_letter, quoted}
 use Rattle.serde_json.specs.Data.{Data, null, boolean, number, unsigned, negative, float, Num, string, array, object, Items, no_items, item, Members, no_members, member}
 use Rattle.serde_json.specs.Written.{number_text, compact_text, items_text, members_text}
 use Rattle.metis_outside.proofs.Feeds.{IsLine-from, no_feed, no_feed-append, no_feed-decimal}
-use Rattle.metis_outside.specs.Pieces.{IsLine}
-use Rattle.metis_universe.specs.Universe.{Universe}
-use Rattle.metis_ujson.specs.Canonical.{canonical, document_of, rows_of_universe}
+use Rattle.metis_outside.specs.Terms.{IsLine}
+use Rattle.metis_universe.specs.Terms.{Universe}
+use Rattle.metis_ujson.specs.Terms.{canonical, document_of, rows_of_universe}
 
 -- ---- texts
 

@@ -2,8 +2,8 @@
 use Rattle.std.proofs.Common.{◌≡◌, ℕ, suc, ◌≤◌, List, [], ◌∷◌, true, false, cond, nat_eq, refl, arith}
 use Rattle.serde_json.specs.Data.{Data, string, depth}
 use Rattle.serde_json.specs.Written.{has_float}
-use Rattle.metis_universe.specs.RowShapes.{NeedRow, StateRow, TypeRow}
-use Rattle.metis_ujson.specs.Canonical.{counted_value, list_of, need_value, state_value, type_value, document_of}
+use Rattle.metis_universe.specs.Terms.{NeedRow, StateRow, TypeRow}
+use Rattle.metis_ujson.specs.Terms.{counted_value, document_of, list_of, need_value, state_value, type_value}
 
 no_float-list : {A : Type 0} (value : A → Data) → ((x : A) → has_float (value x) ≡ false) → (xs : List A) → has_float (list_of value xs) ≡ false
 no_float-list value none [] = refl

@@ -9,13 +9,10 @@ use Rattle.std.proofs.lemmas.List.Concat.{flat_map-append}
 use Rattle.std.proofs.lemmas.List.Elements.{filter_passes, recursion_from_All}
 use Rattle.std.proofs.lemmas.List.Folds.{flat_map-map}
 use Rattle.std.proofs.lemmas.Simd.{map-map}
-use Rattle.metis_universe.specs.RowShapes.{StateRow}
-use Rattle.metis_universe.specs.Rows.{further_from, ports_of_state, ports_of_type, ports_of, number_of, state_number, ascending, pair_from, pairs_of_type, pairs_from, kind_from, kinds_from, universe_from}
-use Rattle.metis_universe.specs.Universe.{Universe, Pair, no_kind, no_pair, universe_of, kind_at, pair_at, type_of, type_count, pair_count, port_count, initial_of, type_name_of, state_name_of, port_name_of, provided_of, required_of, next_of, IsUniverse, IsNamed, port_names_of_pair, IsBySight}
+use Rattle.metis_universe.specs.Terms.{IsBySight, IsNamed, IsUniverse, Pair, StateRow, Universe, ascending, first_sights, further_from, initial_of, kind_at, kind_from, kinds_from, next_of, no_kind, no_pair, number_of, pair_at, pair_count, pair_from, pairs_from, pairs_of_type, port_count, port_name_of, port_names_of_pair, ports_of, ports_of_state, ports_of_type, provided_of, required_of, state_name_of, state_number, type_count, type_name_of, type_of, universe_from, universe_of}
 use Rattle.metis_universe.proofs.Named.{position-map}
-use Rattle.metis_ujson.specs.Canonical.{need_row, state_row, type_row, rows_of_universe}
+use Rattle.metis_ujson.specs.Terms.{need_row, rows_of_universe, state_row, type_row}
 use Rattle.metis_ujson.proofs.Demanded.{further_back, names_are}
-use Rattle.metis_universe.specs.Sights.{first_sights}
 use Rattle.metis_ujson.proofs.Grouped.{is_of, below, of_type, AtLeast, Stands, stands, none_below, all_below, one_more, first_more, first_within, own_at, Spot, spot}
 use Rattle.metis_ujson.proofs.Numbers.{place_of_name, ascending-same}
 

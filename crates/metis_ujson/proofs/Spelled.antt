@@ -4,9 +4,8 @@ use Rattle.std.specs.List.{AllByRecursion}
 use Rattle.std.proofs.lemmas.Bool.{both_ways, eq-eqb, eqb-true}
 use Rattle.serde_json.specs.Data.{string}
 use Rattle.serde_json.specs.View.{items_of}
-use Rattle.metis_universe.specs.RowShapes.{NeedRow, StateRow, TypeRow}
-use Rattle.metis_ujson.specs.Canonical.{counted_value, need_value, state_value, type_value, document_of}
-use Rattle.metis_ujson.specs.Document.{need_in, needs_in, one_or_two, rows_of, spelled, state_in, states_from, texts_in, type_in, types_from, types_with, with_first}
+use Rattle.metis_universe.specs.Terms.{NeedRow, StateRow, TypeRow}
+use Rattle.metis_ujson.specs.Terms.{counted_value, document_of, need_in, need_value, needs_in, one_or_two, rows_of, spelled, state_in, state_value, states_from, texts_in, type_in, type_value, types_from, types_with, with_first}
 use Rattle.metis_ujson.proofs.Fitting.{FitRows, FitsNeed, FitsState, FitsType}
 
 texts_back : (xs : List (List ℕ)) → texts_in (items_of (map string xs)) ≡ Some xs

@@ -12,11 +12,9 @@ use Rattle.json.specs.Print.{quoted}
 use Rattle.json.proofs.Printed.Utf8.{are_ascii, IsUtf8-are_ascii, IsUtf8-quoted, IsUtf8-boolean}
 use Rattle.serde_json.specs.Data.{Data, null, boolean, number, string, array, object, Items, no_items, item, Members, no_members, member}
 use Rattle.serde_json.specs.Written.{number_text, compact_text, items_text, members_text}
-use Rattle.metis_universe.specs.Names.{is_name, is_name_byte}
-use Rattle.metis_universe.specs.RowShapes.{NeedRow, StateRow, TypeRow}
-use Rattle.metis_universe.specs.Universe.{Universe, Pair, demand_in, no_pair, pair_at, type_count, pair_count, port_count, initial_of, state_name_of, port_name_of, IsUniverse, IsNamed}
+use Rattle.metis_universe.specs.Terms.{IsNamed, IsUniverse, NeedRow, Pair, StateRow, TypeRow, Universe, demand_in, initial_of, is_name, is_name_byte, no_pair, pair_at, pair_count, port_count, port_name_of, state_name_of, type_count}
 use Rattle.metis_universe.proofs.Ascending.{each_map}
-use Rattle.metis_ujson.specs.Canonical.{counted_value, list_of, need_row, need_value, state_value, type_value, document_of, state_row, type_row, rows_of_universe}
+use Rattle.metis_ujson.specs.Terms.{counted_value, document_of, list_of, need_row, need_value, rows_of_universe, state_row, state_value, type_row, type_value}
 use Rattle.metis_ujson.proofs.Clear.{names_of_ports}
 use Rattle.metis_universe.proofs.Demanded.{demands_between}
 use Rattle.metis_ujson.proofs.Rebuilt.{own, first, own_is, own_within}

@@ -13,8 +13,8 @@ use Rattle.serde_json.specs.View.{items_of}
 use Rattle.serde_json.specs.Written.{compact_text, outline, items_outline, members_outline}
 use Rattle.serde_json.proofs.Numbers.{number_of-decimal}
 use Rattle.serde_json.proofs.Texts.{print-outline}
-use Rattle.metis_universe.specs.RowShapes.{NeedRow, StateRow, TypeRow}
-use Rattle.metis_ujson.specs.Canonical.{counted_value, list_of, need_value, state_value, type_value, document_of}
+use Rattle.metis_universe.specs.Terms.{NeedRow, StateRow, TypeRow}
+use Rattle.metis_ujson.specs.Terms.{counted_value, document_of, list_of, need_value, state_value, type_value}
 use Rattle.metis_ujson.proofs.Fitting.{FitRows, FitsNeed, FitsState, FitsType}
 use Rattle.metis_ujson.proofs.Plain.{shallow}
 

@@ -9,8 +9,7 @@ use Rattle.std.specs.List.{range_with_len}
 use Rattle.serde_json.specs.Data.{Data, unsigned, number, string, array, object, no_members, member}
 use Rattle.serde_json.specs.View.{items_of}
 use Rattle.serde_json.specs.Written.{compact_text}
-use Rattle.metis_universe.specs.RowShapes.{NeedRow, StateRow, TypeRow}
-use Rattle.metis_universe.specs.Universe.{Universe, Pair, demand_in, type_count, type_name_of, initial_of, state_name_of, port_name_of, states_of_type}
+use Rattle.metis_universe.specs.Terms.{NeedRow, Pair, StateRow, TypeRow, Universe, demand_in, initial_of, port_name_of, state_name_of, states_of_type, type_count, type_name_of}
 
 -- ---- the rows of a universe
 

@@ -4,3 +4,4 @@ pub mod Reads
 pub mod Spelling
 pub mod FirstForm
 pub mod Members
+pub mod Terms

@@ -1,6 +1,6 @@
 //! Why bytes are no universe document.
 ghost use Rattle.std.specs.Prelude.{◌≡◌};
-ghost use Rattle.metis_ujson.specs.Document.{fault_of_row};
+ghost use Rattle.metis_ujson.specs.Terms.{fault_of_row};
 
 use metis_universe::{LimitKind, RowFault};
 use std::alloc::{AllocError, AllocFailed};

@@ -2,9 +2,7 @@
 ghost use Rattle.std.specs.Prelude.{◌≡◌, ◌<◌, ◌^◌, ◌↔◌, codes, length, IsTrue, IfOk, option_and_then, option_map};
 ghost use Rattle.serde_json.specs.Find.{get, as_array};
 ghost use Rattle.serde_json.specs.View.{view, items_view};
-ghost use Rattle.metis_ujson.specs.Members.{object_of};
-ghost use Rattle.metis_ujson.specs.Document.{without_last_newline, text_at, number_at, list_at, need_in, need_object, needs_in, needs_or_none, state_in, states_from, type_in, types_from, version_in, rows_of, rows_in};
-ghost use Rattle.metis_ujson.specs.Reads.{Reads, ReadsJson};
+ghost use Rattle.metis_ujson.specs.Terms.{Reads, ReadsJson, list_at, need_in, need_object, needs_in, needs_or_none, number_at, object_of, rows_in, rows_of, state_in, states_from, text_at, type_in, types_from, version_in, without_last_newline};
 
 use crate::faults::UFault;
 use crate::members::{array_in, take, take_items, take_text, take_texts};

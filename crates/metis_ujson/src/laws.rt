@@ -1,10 +1,8 @@
 //! Laws over the definitions.
 ghost use Rattle.std.specs.Prelude.{◌≡◌, ◌↔◌, ℕ, List, Err, Ok};
-ghost use Rattle.metis_outside.specs.Pieces.{IsLine};
-ghost use Rattle.metis_universe.specs.Universe.{Universe, IsBySight, IsTable};
-ghost use Rattle.metis_ujson.specs.Canonical.{canonical};
-ghost use Rattle.metis_ujson.specs.Document.{rows_in, universe_in};
-ghost use Rattle.metis_ujson.specs.FirstForm.{IsFirstFault};
+ghost use Rattle.metis_outside.specs.Terms.{IsLine};
+ghost use Rattle.metis_universe.specs.Terms.{IsBySight, IsTable, Universe};
+ghost use Rattle.metis_ujson.specs.Terms.{IsFirstFault, canonical, rows_in, universe_in};
 ghost use Rattle.metis_ujson.specs.declared.faults.UFault.{UFault};
 
 /// The fault of form that is told of a document is the first: each type before it and each of their states has its form, and so has

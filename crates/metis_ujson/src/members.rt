@@ -1,11 +1,10 @@
 //! The members of an object, taken out of it one after another.
 ghost use Rattle.std.specs.Prelude.{◌≡◌, IfOk, Some, option_map};
 ghost use Rattle.std.specs.String.{string_bytes};
-ghost use Rattle.metis_universe.specs.Texts.{texts};
+ghost use Rattle.metis_universe.specs.Terms.{texts};
 ghost use Rattle.serde_json.specs.Find.{get, as_array};
 ghost use Rattle.serde_json.specs.View.{view, items_view};
-ghost use Rattle.metis_ujson.specs.Document.{list_at, text_at, texts_in, texts_or_none};
-ghost use Rattle.metis_ujson.specs.Members.{KeepsOthers, object_of};
+ghost use Rattle.metis_ujson.specs.Terms.{KeepsOthers, list_at, object_of, text_at, texts_in, texts_or_none};
 
 use serde_json::{Map, Value};
 use std::alloc::{AllocError, Global};

@@ -1,7 +1,6 @@
 //! The universe that a document means.
-ghost use Rattle.metis_ujson.specs.Document.{rows_made, universe_in};
-ghost use Rattle.metis_ujson.specs.Reads.{Reads};
-ghost use Rattle.metis_universe.specs.Rows.{IsOfVersion};
+ghost use Rattle.metis_ujson.specs.Terms.{Reads, rows_made, universe_in};
+ghost use Rattle.metis_universe.specs.Terms.{IsOfVersion};
 
 use crate::faults::UFault;
 use crate::forms::{Spelled, read_rows};

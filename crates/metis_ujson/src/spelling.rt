@@ -3,9 +3,8 @@ ghost use Rattle.std.specs.Prelude.{◌≡◌, ◌<◌, [], ◌∷◌, ◌++◌,
 ghost use Rattle.std.specs.List.{All};
 ghost use Rattle.json.specs.Token.{key, string};
 ghost use Rattle.serde_json.specs.Data.{string as text};
-ghost use Rattle.metis_universe.specs.Universe.{pair_at, pair_count, type_count, port_count, port_name_of, required_of, state_name_of, states_of_type};
-ghost use Rattle.metis_ujson.specs.Canonical.{canonical, need_row, state_row, type_row, rows_of_universe, list_of, need_value, state_value, type_value, document_of};
-ghost use Rattle.metis_ujson.specs.Spelling.{Adds, tokens_of};
+ghost use Rattle.metis_universe.specs.Terms.{pair_at, pair_count, port_count, port_name_of, required_of, state_name_of, states_of_type, type_count};
+ghost use Rattle.metis_ujson.specs.Terms.{Adds, canonical, document_of, list_of, need_row, need_value, rows_of_universe, state_row, state_value, tokens_of, type_row, type_value};
 
 use json::Writer;
 use metis_ids::{PairIx, PortIx, TypeIx};

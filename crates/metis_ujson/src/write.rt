@@ -1,8 +1,7 @@
 //! Writes the document of a universe.
 ghost use Rattle.std.specs.Prelude.{◌≡◌, [], ◌∷◌, IfOk};
-ghost use Rattle.metis_outside.specs.Faults.{CountsFault};
-ghost use Rattle.metis_outside.specs.Writes.{Writes};
-ghost use Rattle.metis_ujson.specs.Canonical.{canonical};
+ghost use Rattle.metis_outside.specs.Terms.{CountsFault, Writes};
+ghost use Rattle.metis_ujson.specs.Terms.{canonical};
 
 use crate::laws::written_is_a_line;
 use crate::spelling::text_of;

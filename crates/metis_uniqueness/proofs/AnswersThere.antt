@@ -4,62 +4,41 @@ use Rattle.std.specs.List.{All, list_all, range_with_len}
 use Rattle.std.specs.List.Sorted.{IsStrictlyIncreasing}
 use Rattle.std.specs.Option.{is_some, option_map_or}
 use Rattle.std.proofs.lemmas.Bool.{and_parts, cases_lt, false≢true, lt-ltb, ltb-true, not-false, or_parts}
-use Rattle.metis_actions.specs.Faults.{fault_text}
-use Rattle.metis_commands.specs.Confirm.{Confirms, confirmation_line, confirmation_status}
-use Rattle.metis_commands.specs.Control.{AnswersScript, Controlled}
-use Rattle.metis_commands.specs.Crew.{Crewed, TakesTurns, crew_lines}
-use Rattle.metis_commands.specs.Place.{Placed, PlacedRun, no_room_line, placing_lines}
-use Rattle.metis_commands.specs.Print.{Printed}
-use Rattle.metis_commands.specs.Refute.{Judged, judgement_line, judgement_status}
-use Rattle.metis_commands.specs.Replay.{Replayed, verdict_line, verdict_status}
-use Rattle.metis_commands.specs.Sim.{Simulated}
-use Rattle.metis_commands.specs.Waits.{Awaited, HasItsWaits, needed_waits}
-use Rattle.metis_commands.specs.Waves.{IsScheduled, Waved, durations_of, schedule_lines}
-use Rattle.metis_commands.specs.Why.{WhyAnswer, attained_line}
-use Rattle.metis_control.specs.Script.{script_answers}
-use Rattle.metis_ids.specs.Counts.{greatest}
-use Rattle.metis_ids.specs.Plans.{Plan}
+use Rattle.metis_actions.specs.Terms.{fault_text}
+use Rattle.metis_commands.specs.Terms.{AnswersScript, Awaited, Confirms, Controlled, Crewed, HasItsWaits, IsScheduled, Judged, Placed, PlacedRun, Printed, Replayed, Simulated, TakesTurns, Waved, WhyAnswer, attained_line, confirmation_line, confirmation_status, crew_lines, durations_of, judgement_line, judgement_status, needed_waits, no_room_line, placing_lines, schedule_lines, verdict_line, verdict_status}
+use Rattle.metis_control.specs.Terms.{script_answers}
+use Rattle.metis_ids.specs.Terms.{Plan, greatest}
 use Rattle.metis_ids.specs.declared.actions.Action.{Action}
 use Rattle.metis_ids.specs.declared.actions.Action.TheVariants.{New, Delete, Bind, Unbind, Move}
 use Rattle.metis_ids.specs.declared.goals.Goal.{Goal}
-use Rattle.metis_layers.specs.LayerOrder.{attained_pairs}
+use Rattle.metis_layers.specs.Terms.{attained_pairs}
 use Rattle.metis_output.specs.declared.status.Status.{Status}
 use Rattle.metis_output.specs.declared.status.Status.TheVariants.{Done, No}
-use Rattle.metis_place.specs.Placement.{HostLists, PlacingLists, free_rooms, further, is_new, is_placed, is_placed_at, seat_at, seats, size_of}
+use Rattle.metis_place.specs.Terms.{HostLists, PlacingLists, free_rooms, further, is_new, is_placed, is_placed_at, seat_at, seats, size_of}
 use Rattle.metis_refusal.proofs.Told.{told}
-use Rattle.metis_refusal.specs.Claims.{verdict as judgement}
+use Rattle.metis_refusal.specs.Terms.{verdict as judgement}
 use Rattle.metis_replay.proofs.Verdicts.{exact}
-use Rattle.metis_replay.specs.Exact.{IsFirstMissing, Tells}
-use Rattle.metis_replay.specs.Progress.{after_feeding, verdict}
+use Rattle.metis_replay.specs.Terms.{IsFirstMissing, Tells, after_feeding, verdict}
 use Rattle.metis_replay.specs.declared.verdict.Verdict.{Verdict}
 use Rattle.metis_replay.specs.declared.verdict.Verdict.TheVariants.{Good, Bad, Missing}
-use Rattle.metis_steady.specs.Steady.{bad_line, loose_line, standing_after}
-use Rattle.metis_sim.specs.Session.{begin}
-use Rattle.metis_sim.specs.SessionLines.{replies_to}
+use Rattle.metis_steady.specs.Terms.{bad_line, loose_line, standing_after}
+use Rattle.metis_sim.specs.Terms.{begin, replies_to}
 use Rattle.metis_text.proofs.WrittenRun.{run_formed}
-use Rattle.metis_text.specs.PlanText.{IsWellFormed, plan_lines}
-use Rattle.metis_tokens.specs.Scripts.{script_lines}
-use Rattle.metis_ujson.specs.Canonical.{canonical}
+use Rattle.metis_text.specs.Terms.{IsWellFormed, plan_lines}
+use Rattle.metis_tokens.specs.Terms.{script_lines}
+use Rattle.metis_ujson.specs.Terms.{canonical}
 use Rattle.metis_universe.proofs.PortRows.{rises}
-use Rattle.metis_universe.specs.Config.{Config, empty}
-use Rattle.metis_universe.specs.Goals.{IsGoalOf}
-use Rattle.metis_universe.specs.Numbers.{IsOf}
-use Rattle.metis_universe.specs.Steadfast.{IsSteadfastRun, is_steadfast, is_steadfast_at}
-use Rattle.metis_universe.specs.Step.{IsRun, after_all}
-use Rattle.metis_universe.specs.Universe.{IsTable, IsUniverse, Universe, has, pair_count}
-use Rattle.metis_universe.specs.Waits.{action_at, numbers}
+use Rattle.metis_universe.specs.Terms.{Config, IsGoalOf, IsOf, IsRun, IsSteadfastRun, IsTable, IsUniverse, Universe, action_at, after_all, empty, has, is_steadfast, is_steadfast_at, numbers, pair_count}
 use Rattle.metis_why.proofs.ByChoice.{explained}
 use Rattle.metis_why.proofs.Confirmed.{confirmed_unattained}
 use Rattle.metis_why.proofs.First.{all_attained, first_of_universe, first_unattained}
 use Rattle.metis_why.proofs.Found.{found}
-use Rattle.metis_why.specs.Answer.{IsFirstUnattained, IsLacking}
-use Rattle.metis_why.specs.Barred.{wanted_by}
-use Rattle.metis_why.specs.Confirm.{verdict as confirmation}
+use Rattle.metis_why.specs.Terms.{IsFirstUnattained, IsLacking, verdict as confirmation, wanted_by}
 use Rattle.metis_why.specs.declared.reason.Line.{Line}
-use Rattle.metis_why_text.specs.WhyText.{why_lines}
+use Rattle.metis_why_text.specs.Terms.{why_lines}
 use Rattle.metis_uniqueness.proofs.Runs.{OrUnsteady}
 use Rattle.metis_uniqueness.proofs.WavesThere.{waves_there}
-use Rattle.metis_uniqueness.specs.Answers.{HasAnAnswer}
+use Rattle.metis_uniqueness.specs.Terms.{HasAnAnswer}
 
 pub print_there : (u : Universe) → HasAnAnswer (Printed u)
 print_there u = (canonical u ∷ [], Done, (refl, refl))

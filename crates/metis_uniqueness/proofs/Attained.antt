@@ -2,8 +2,7 @@
 use Rattle.std.proofs.Common.{◌≡◌, ℕ, List}
 use Rattle.std.proofs.lemmas.Map.Keys.{sorted_from_strictly_increasing}
 use Rattle.metis_universe.proofs.InOrder.{same_members}
-use Rattle.metis_universe.specs.Goal.{IsAttainedSet}
-use Rattle.metis_universe.specs.Universe.{Universe, has}
+use Rattle.metis_universe.specs.Terms.{IsAttainedSet, Universe, has}
 use Rattle.metis_uniqueness.proofs.Firsts.{same_test}
 
 pub attained_set_is_one : (u : Universe) (s t : List ℕ) → IsAttainedSet u s → IsAttainedSet u t → s ≡ t

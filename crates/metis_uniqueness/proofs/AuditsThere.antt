@@ -2,40 +2,32 @@
 use Rattle.std.proofs.Common.{◌≡◌, ◌⊎◌, ◌≤◌, ◌<◌, ◌+◌, ◌-◌, ℕ, zero, suc, Bool, true, false, List, [], ◌∷◌, Option, Some, None, codes, find, length, refl, sym, subst, arith, inl, inr}
 use Rattle.std.specs.List.{count_by}
 use Rattle.std.proofs.lemmas.Bool.{cases_eq, cases_lt, false≢true}
-use Rattle.metis_audit.specs.Audits.{IsAnswer, IsAttained, IsCounted, IsFollowed, IsForced, IsSteady, audited_lines, follows}
+use Rattle.metis_audit.specs.Terms.{IsAnswer, IsAttained, IsCounted, IsFollowed, IsForced, IsSteady, audited_lines, follows}
 use Rattle.metis_audit.specs.declared.answers.Answer.{Answer}
 use Rattle.metis_audit.specs.declared.answers.Answer.TheVariants.{Justified, NoCycle, Count, Path, Loose, After}
-use Rattle.metis_commands.specs.Audit.{Audited, audit_line, audit_status}
-use Rattle.metis_commands.specs.GoalLine.{word_line}
+use Rattle.metis_commands.specs.Terms.{Audited, audit_line, audit_status, word_line}
 use Rattle.metis_choice.proofs.Resolving.{all_layered, chosen_attained, first_refused, first_unattained, pairs_chosen}
-use Rattle.metis_emit.specs.Realized.{entered}
+use Rattle.metis_emit.specs.Terms.{entered}
 use Rattle.metis_gen.proofs.Attained.{targets_attained}
 use Rattle.metis_gen.proofs.TargetPairs.{targets_counted}
 use Rattle.metis_gen.proofs.SameRows.{generated_tables, tables_are_a_table}
-use Rattle.metis_gen.specs.Generated.{generated, generated_targets}
-use Rattle.metis_gen.specs.Tables.{tables}
+use Rattle.metis_gen.specs.Terms.{generated, generated_targets, tables}
 use Rattle.metis_ids.proofs.Finding.{none_passes}
 use Rattle.metis_ids.proofs.Lists.{all_in_range}
-use Rattle.metis_ids.specs.Action.{makes}
-use Rattle.metis_ids.specs.Plans.{Plan}
+use Rattle.metis_ids.specs.Terms.{Plan, makes}
 use Rattle.metis_ids.specs.declared.goals.Goal.{Goal}
 use Rattle.metis_layers.proofs.Order.{attained_set}
-use Rattle.metis_layers.specs.LayerOrder.{attained_pairs}
-use Rattle.metis_lines.specs.Justified.{is_justified_at}
-use Rattle.metis_lines.specs.LifeLines.{line_at}
+use Rattle.metis_layers.specs.Terms.{attained_pairs}
+use Rattle.metis_lines.specs.Terms.{is_justified_at, line_at}
 use Rattle.metis_output.specs.declared.status.Status.TheVariants.{Done, No}
 use Rattle.metis_planner.proofs.Ending.{come_to_a_plan}
 use Rattle.metis_planner.proofs.Unique.{one_plan}
-use Rattle.metis_plan_commands.specs.Load.{Loaded, load_line}
-use Rattle.metis_text.specs.PlanText.{after_of}
-use Rattle.metis_universe.specs.Goal.{Attains}
-use Rattle.metis_universe.specs.GoalWords.{goal_word}
-use Rattle.metis_universe.specs.Goals.{lacks}
-use Rattle.metis_universe.specs.Steadfast.{is_steadfast_at}
-use Rattle.metis_universe.specs.Universe.{IsTable, Universe}
-use Rattle.metis_waits.specs.Waits.{waits_on_others}
+use Rattle.metis_plan_commands.specs.Terms.{Loaded, load_line}
+use Rattle.metis_text.specs.Terms.{after_of}
+use Rattle.metis_universe.specs.Terms.{Attains, IsTable, Universe, goal_word, is_steadfast_at, lacks}
+use Rattle.metis_waits.specs.Terms.{waits_on_others}
 use Rattle.metis_uniqueness.proofs.PlansThere.{chosen_all, each, plan_for}
-use Rattle.metis_uniqueness.specs.Answers.{HasAnAnswer}
+use Rattle.metis_uniqueness.specs.Terms.{HasAnAnswer}
 
 -- ---- searches
 

@@ -2,15 +2,13 @@
 use Rattle.std.proofs.Common.{◌≡◌, ℕ, ◌≤◌, List, [], ◌∷◌, ◌++◌, sym, ◌∙◌, subst, arith, inl, inr}
 use Rattle.metis_ids.specs.declared.goals.Goal.{Goal}
 use Rattle.metis_universe.proofs.Served.{count-cons}
-use Rattle.metis_universe.specs.Goals.{AttainsGoals, places_of, same_goal}
-use Rattle.metis_universe.specs.Universe.{Universe}
+use Rattle.metis_universe.specs.Terms.{AttainsGoals, Universe, places_of, same_goal}
 use Rattle.metis_why.proofs.Chosen.{choice_one}
-use Rattle.metis_why.specs.Answer.{IsFirstUnattained}
-use Rattle.metis_why.specs.Choice.{IsByChoice}
-use Rattle.metis_why_text.specs.WhyText.{why_lines}
-use Rattle.metis_commands.specs.Why.{Explains, WhyAnswer}
+use Rattle.metis_why.specs.Terms.{IsByChoice, IsFirstUnattained}
+use Rattle.metis_why_text.specs.Terms.{why_lines}
+use Rattle.metis_commands.specs.Terms.{Explains, WhyAnswer}
 use Rattle.metis_uniqueness.proofs.Firsts.{Among, parted}
-use Rattle.metis_uniqueness.specs.Answers.{HasAtMostOneAnswer}
+use Rattle.metis_uniqueness.specs.Terms.{HasAtMostOneAnswer}
 
 -- a goal of the list has a place in it
 place_in : (xs : List Goal) (g : Goal) (ys : List Goal) (h : Goal) → places_of (g ∷ []) h ≤ places_of (xs ++ g ∷ ys) h

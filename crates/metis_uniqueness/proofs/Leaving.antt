@@ -4,21 +4,11 @@ use Rattle.std.specs.List.{count_by, filter, filter_map, find, range_with_len}
 use Rattle.std.specs.Option.{option_map_or}
 use Rattle.metis_ids.specs.declared.actions.Action.TheVariants.{Bind}
 use Rattle.metis_ids.specs.declared.goals.Goal.{Goal}
-use Rattle.metis_universe.specs.Config.{Config, is_bound, pair_of}
-use Rattle.metis_universe.specs.Goals.{serves}
-use Rattle.metis_universe.specs.Residual.{residual}
-use Rattle.metis_universe.specs.Selection.{provider_of}
-use Rattle.metis_universe.specs.Universe.{Universe, demand_of, port_count, provides, required_of}
-use Rattle.metis_rollout.specs.Rollout.{is_idle, members}
-use Rattle.metis_wishes.specs.Wishes.{avoided, keeps_all, kept, named, rebound}
+use Rattle.metis_universe.specs.Terms.{Config, Universe, demand_of, is_bound, pair_of, port_count, provider_of, provides, required_of, residual, serves}
+use Rattle.metis_rollout.specs.Terms.{is_idle, members}
+use Rattle.metis_wishes.specs.Terms.{avoided, keeps_all, kept, named, rebound}
 use Rattle.metis_wishes.specs.declared.wish.Wish.{Wish}
-use Rattle.metis_reconfigure.specs.Answerable.{AreMet, is_firm, is_unavoidable}
-use Rattle.metis_reconfigure.specs.Answers.{firm_leaving, first_unavoidable}
-use Rattle.metis_reconfigure.specs.Missing.{lack, missing, missing_behind, pair_for, providers_short, rebound_in, short, targets, targets_behind, wanted, wants}
-use Rattle.metis_reconfigure.specs.Rebinding.{fresh_givers, rebinds}
-use Rattle.metis_reconfigure.specs.Settled.{given, gives, left_to_plan, settled}
-use Rattle.metis_reconfigure.specs.Staying.{holds_up, next_serving, wished}
-use Rattle.metis_reconfigure.specs.Targeted.{IsUnmet}
+use Rattle.metis_reconfigure.specs.Terms.{AreMet, IsUnmet, firm_leaving, first_unavoidable, fresh_givers, given, gives, holds_up, is_firm, is_unavoidable, lack, left_to_plan, missing, missing_behind, next_serving, pair_for, providers_short, rebinds, rebound_in, settled, short, targets, targets_behind, wanted, wants, wished}
 use Rattle.metis_uniqueness.proofs.Alike.{AreAlike}
 
 module _ (u : Universe) (wishes : List Wish) (c : Config) (l m : List ℕ) (same : AreAlike l m) where

@@ -7,17 +7,10 @@ use Rattle.std.proofs.lemmas.Option.{none-some, same_Some}
 use Rattle.metis_ids.proofs.Finding.{found}
 use Rattle.metis_ids.specs.declared.actions.Action.{Action}
 use Rattle.metis_ids.specs.declared.goals.Goal.{Goal}
-use Rattle.metis_universe.specs.Config.{Config, pair_of}
-use Rattle.metis_universe.specs.Selection.{provider_of}
-use Rattle.metis_universe.specs.Universe.{Universe, has, port_count}
-use Rattle.metis_wishes.specs.Wishes.{named}
+use Rattle.metis_universe.specs.Terms.{Config, Universe, has, pair_of, port_count, provider_of}
+use Rattle.metis_wishes.specs.Terms.{named}
 use Rattle.metis_wishes.specs.declared.wish.Wish.{Wish}
-use Rattle.metis_reconfigure.specs.Answerable.{AreMet, IsAnswerable, is_absent, is_firm, is_unavoidable}
-use Rattle.metis_reconfigure.specs.Answers.{AreThere, IsLeastRoot, IsObstacle, absent, firm_leaving, first_unavoidable}
-use Rattle.metis_reconfigure.specs.Missing.{lack, missing, pair_for, providers_short, rebound_in, short, targets, targets_behind}
-use Rattle.metis_reconfigure.specs.Reconfiguration.{left_by}
-use Rattle.metis_reconfigure.specs.Settled.{AreLeaving, left_to_plan}
-use Rattle.metis_reconfigure.specs.Targeted.{IsUnmet}
+use Rattle.metis_reconfigure.specs.Terms.{AreLeaving, AreMet, AreThere, IsAnswerable, IsLeastRoot, IsObstacle, IsUnmet, absent, firm_leaving, first_unavoidable, is_absent, is_firm, is_unavoidable, lack, left_by, left_to_plan, missing, pair_for, providers_short, rebound_in, short, targets, targets_behind}
 use Rattle.metis_reconfigure.specs.declared.answer.Obstacle.{Obstacle}
 use Rattle.metis_reconfigure.specs.declared.answer.Obstacle.TheVariants.{Absent, Kept, Unavoidable, Unmet, Needs}
 use Rattle.metis_uniqueness.proofs.Alike.{AreAlike}

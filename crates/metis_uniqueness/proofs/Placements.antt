@@ -3,11 +3,11 @@ use Rattle.std.proofs.Common.{◌≡◌, ℕ, zero, suc, ◌-◌, ◌≤◌, tru
 use Rattle.std.proofs.lemmas.Bool.{both_ways, cases_lt}
 use Rattle.std.proofs.lemmas.Option.{slice_get_past}
 use Rattle.metis_ids.proofs.Lists.{at_range}
-use Rattle.metis_ids.specs.Counts.{greatest}
+use Rattle.metis_ids.specs.Terms.{greatest}
 use Rattle.metis_ids.specs.declared.actions.Action.{Action}
 use Rattle.metis_ids.specs.declared.actions.Action.TheVariants.{New}
-use Rattle.metis_place.specs.Placement.{HostLists, IsNoRoom, IsPlacing, PlacingLists, free_rooms, is_placed_at, size_of}
-use Rattle.metis_universe.specs.Waits.{action_at}
+use Rattle.metis_place.specs.Terms.{HostLists, IsNoRoom, IsPlacing, PlacingLists, free_rooms, is_placed_at, size_of}
+use Rattle.metis_universe.specs.Terms.{action_at}
 use Rattle.metis_uniqueness.proofs.Firsts.{least_is_one}
 
 pub placing_is_one : (h : HostLists) (actions : List Action) (p q : PlacingLists) → IsPlacing h actions p → IsPlacing h actions q → p ≡ q

@@ -2,19 +2,15 @@
 use Rattle.std.proofs.Common.{ℕ, List, [], ◌∷◌, length, sym, ap, ◌∙◌}
 use Rattle.metis_ids.specs.declared.actions.Action.{Action}
 use Rattle.metis_ids.specs.declared.goals.Goal.{Goal}
-use Rattle.metis_universe.specs.Universe.{Universe}
+use Rattle.metis_universe.specs.Terms.{Universe}
 use Rattle.metis_why.specs.declared.reason.Line.{Line}
-use Rattle.metis_commands.specs.Confirm.{Confirms}
-use Rattle.metis_commands.specs.Print.{Printed}
-use Rattle.metis_commands.specs.Refute.{Judged, judgement_line, judgement_status}
-use Rattle.metis_commands.specs.Replay.{Replayed, verdict_line, verdict_status}
-use Rattle.metis_commands.specs.Sim.{Simulated}
-use Rattle.metis_plan_commands.specs.Load.{Loaded, load_line}
-use Rattle.metis_gen.specs.Generated.{generated, generated_targets}
-use Rattle.metis_steady.specs.Steady.{standing_after}
+use Rattle.metis_commands.specs.Terms.{Confirms, Judged, Printed, Replayed, Simulated, judgement_line, judgement_status, verdict_line, verdict_status}
+use Rattle.metis_plan_commands.specs.Terms.{Loaded, load_line}
+use Rattle.metis_gen.specs.Terms.{generated, generated_targets}
+use Rattle.metis_steady.specs.Terms.{standing_after}
 use Rattle.metis_uniqueness.proofs.Refuted.{judgement_is_one}
 use Rattle.metis_uniqueness.proofs.Replayed.{verdict_is_one}
-use Rattle.metis_uniqueness.specs.Answers.{HasAtMostOneAnswer}
+use Rattle.metis_uniqueness.specs.Terms.{HasAtMostOneAnswer}
 
 pub print_one : (u : Universe) → HasAtMostOneAnswer (Printed u)
 print_one u lines others status other a b = (a.0 ∙ sym b.0, a.1 ∙ sym b.1)

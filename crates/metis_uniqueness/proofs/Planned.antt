@@ -3,24 +3,20 @@ use Rattle.std.proofs.Common.{◌≡◌, ◌⊎◌, ℕ, List, [], ◌∷◌, So
 use Rattle.std.specs.List.{find}
 use Rattle.metis_audit.proofs.OneAnswer.{one_answer}
 use Rattle.metis_choice.proofs.Resolving.{pairs_unique}
-use Rattle.metis_ids.specs.Plans.{Plan}
+use Rattle.metis_ids.specs.Terms.{Plan}
 use Rattle.metis_ids.specs.declared.actions.Action.{Action}
 use Rattle.metis_ids.specs.declared.goals.Goal.{Goal}
 use Rattle.metis_output.specs.declared.status.Status.{Status}
 use Rattle.metis_output.specs.declared.status.Status.TheVariants.{Done, No}
 use Rattle.metis_planner.proofs.Unique.{one_plan}
-use Rattle.metis_planner.specs.Rounds.{IsByRounds}
-use Rattle.metis_text.specs.RefusalText.{refusal_lines}
-use Rattle.metis_universe.specs.Goals.{lacks}
-use Rattle.metis_universe.specs.GoalWords.{goal_word}
-use Rattle.metis_universe.specs.Universe.{Universe}
-use Rattle.metis_commands.specs.Audit.{Audited, AuditedFor, audit_line, audit_status}
-use Rattle.metis_commands.specs.GoalLine.{word_line}
-use Rattle.metis_plan_commands.specs.Plan.{PlanAnswer, Plans, Refuses, plan_text}
-use Rattle.metis_plan_commands.specs.Rollout.{PutsRollout, RolledOut, RollsOut, rollout_text}
+use Rattle.metis_planner.specs.Terms.{IsByRounds}
+use Rattle.metis_text.specs.Terms.{refusal_lines}
+use Rattle.metis_universe.specs.Terms.{Universe, goal_word, lacks}
+use Rattle.metis_commands.specs.Terms.{Audited, AuditedFor, audit_line, audit_status, word_line}
+use Rattle.metis_plan_commands.specs.Terms.{PlanAnswer, Plans, PutsRollout, Refuses, RolledOut, RollsOut, plan_text, rollout_text}
 use Rattle.metis_uniqueness.proofs.Attained.{attained_set_is_one}
 use Rattle.metis_uniqueness.proofs.Runs.{steady_or_one}
-use Rattle.metis_uniqueness.specs.Answers.{HasAtMostOneAnswer}
+use Rattle.metis_uniqueness.specs.Terms.{HasAtMostOneAnswer}
 
 same_goal : (g h : Goal) → Some g ≡ Some h → g ≡ h
 same_goal g h e = cc

@@ -6,15 +6,15 @@ use Rattle.std.proofs.lemmas.Bool.{both_ways, not-false}
 use Rattle.std.proofs.lemmas.List.{length-map}
 use Rattle.std.proofs.lemmas.List.Elements.{All-head, All-tail}
 use Rattle.metis_choice.proofs.Resolving.{IsChosen, first_refused, pairs_attain, pairs_attained, pairs_chosen, pairs_count, pairs_hold}
-use Rattle.metis_choice.specs.Resolutions.{ArePairsFor}
+use Rattle.metis_choice.specs.Terms.{ArePairsFor}
 use Rattle.metis_ids.proofs.Finding.{none_passes}
 use Rattle.metis_ids.proofs.Lists.{some_member}
-use Rattle.metis_ids.specs.Plans.{Plan}
+use Rattle.metis_ids.specs.Terms.{Plan}
 use Rattle.metis_ids.specs.declared.actions.Action.{Action}
 use Rattle.metis_ids.specs.declared.goals.Goal.{Goal}
 use Rattle.metis_ids.specs.declared.goals.Goal.TheVariants.{Pair, Port}
 use Rattle.metis_layers.proofs.Order.{attained_set}
-use Rattle.metis_layers.specs.LayerOrder.{attained_pairs}
+use Rattle.metis_layers.specs.Terms.{attained_pairs}
 use Rattle.metis_output.specs.declared.status.Status.TheVariants.{Done, No}
 use Rattle.metis_planner.proofs.Ending.{attained_layered, come_to_a_plan}
 use Rattle.metis_planner.proofs.Forced.{all_justified, cycles_of_two, events_low, pairs_low}
@@ -22,29 +22,18 @@ use Rattle.metis_planner.proofs.NoTargets.{empty_for_none}
 use Rattle.metis_planner.proofs.Planning.{has_layer}
 use Rattle.metis_planner.proofs.Rounded.{bounded, dups_at_most, holds, instances_counted, lean, named, realizes, short_enough, tidy}
 use Rattle.metis_planner.proofs.Unique.{none_doubled}
-use Rattle.metis_planner.specs.PlanFor.{IsPlanFor}
-use Rattle.metis_planner.specs.Rounds.{IsByRounds}
+use Rattle.metis_planner.specs.Terms.{IsByRounds, IsPlanFor}
 use Rattle.metis_plan_commands.proofs.PlanAnswers.{answer_by_plan, answer_by_refusal, answer_for_goals}
-use Rattle.metis_plan_commands.specs.Plan.{PlanAnswer, PlansPairs, Refuses, plan_text}
-use Rattle.metis_plan_commands.specs.Rollout.{PutsRollout, RolledOut, RollsOutPairs, rollout_text}
+use Rattle.metis_plan_commands.specs.Terms.{PlanAnswer, PlansPairs, PutsRollout, Refuses, RolledOut, RollsOutPairs, plan_text, rollout_text}
 use Rattle.metis_rollout.proofs.Guarding.{goes_on}
 use Rattle.metis_rollout.proofs.Rolling.{never_lack}
 use Rattle.metis_rollout.proofs.Whole.{replaced, taken_apart}
-use Rattle.metis_rollout.specs.Guarded.{GoesOnGuarded}
-use Rattle.metis_rollout.specs.Rollout.{all_go, fresh_name, removal, renumber, renumbered, rollout, scaffold_name}
-use Rattle.metis_text.specs.RefusalText.{refusal_lines}
+use Rattle.metis_rollout.specs.Terms.{GoesOnGuarded, all_go, fresh_name, removal, renumber, renumbered, rollout, scaffold_name}
+use Rattle.metis_text.specs.Terms.{refusal_lines}
 use Rattle.metis_universe.proofs.FirstPairs.{provider-none, provider-provides}
-use Rattle.metis_universe.specs.Config.{empty}
-use Rattle.metis_universe.specs.Goal.{Attains}
-use Rattle.metis_universe.specs.Goals.{lacks}
-use Rattle.metis_universe.specs.Layers.{layer_of}
-use Rattle.metis_universe.specs.Numbers.{IsOf}
-use Rattle.metis_universe.specs.Selection.{provider_of}
-use Rattle.metis_universe.specs.Steadfast.{IsSteadfastRun}
-use Rattle.metis_universe.specs.Step.{after_all}
-use Rattle.metis_universe.specs.Universe.{IsTable, Universe, has, provides}
+use Rattle.metis_universe.specs.Terms.{Attains, IsOf, IsSteadfastRun, IsTable, Universe, after_all, empty, has, lacks, layer_of, provider_of, provides}
 use Rattle.metis_uniqueness.proofs.AnswersThere.{steady_or_there}
-use Rattle.metis_uniqueness.specs.Answers.{HasAnAnswer}
+use Rattle.metis_uniqueness.specs.Terms.{HasAnAnswer}
 
 module _ (u : Universe) (table : IsTable u) where
   -- ---- the pairs for goals of which none is lacking

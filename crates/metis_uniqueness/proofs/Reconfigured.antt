@@ -2,16 +2,15 @@
 use Rattle.std.proofs.Common.{◌≡◌, ℕ, List, [], ◌∷◌, sym, ap, ◌∙◌, inl, inr}
 use Rattle.metis_ids.specs.declared.actions.Action.{Action}
 use Rattle.metis_ids.specs.declared.goals.Goal.{Goal}
-use Rattle.metis_reconfigure.specs.Reconfiguration.{left_by}
-use Rattle.metis_universe.specs.Universe.{Universe}
+use Rattle.metis_reconfigure.specs.Terms.{left_by}
+use Rattle.metis_universe.specs.Terms.{Universe}
 use Rattle.metis_wishes.specs.declared.wish.Wish.{Wish}
-use Rattle.metis_plan_commands.specs.Plan.{plan_of, plan_text}
-use Rattle.metis_plan_commands.specs.Reconfigure.{IsBarred, PutsReconfiguration, ReconfigurationAnswer, Reconfigured, Reconfigures, obstacle_line}
+use Rattle.metis_plan_commands.specs.Terms.{IsBarred, PutsReconfiguration, ReconfigurationAnswer, Reconfigured, Reconfigures, obstacle_line, plan_of, plan_text}
 use Rattle.metis_uniqueness.proofs.Obstacles.{answerable_has_none, obstacle_is_one}
 use Rattle.metis_uniqueness.proofs.Planned.{refusal_is_one}
 use Rattle.metis_uniqueness.proofs.Reconfiguring.{reconfigured_same}
 use Rattle.metis_uniqueness.proofs.Runs.{steady_or_one}
-use Rattle.metis_uniqueness.specs.Answers.{HasAtMostOneAnswer}
+use Rattle.metis_uniqueness.specs.Terms.{HasAtMostOneAnswer}
 
 module _ (u : Universe) (goals : List Goal) (old : List Action) (wishes : List Wish) where
   answered_is_one : (lines others : List (List ℕ)) → Reconfigures u goals old wishes lines → Reconfigures u goals old wishes others → lines ≡ others

@@ -2,19 +2,14 @@
 use Rattle.std.proofs.Common.{◌≡◌, ℕ, not, List, ◌++◌, refl, ◌∙◌, subst}
 use Rattle.metis_ids.specs.declared.actions.Action.{Action}
 use Rattle.metis_ids.specs.declared.goals.Goal.{Goal}
-use Rattle.metis_universe.specs.Config.{Config}
-use Rattle.metis_universe.specs.Universe.{Universe}
-use Rattle.metis_completion.specs.Completed.{completed}
+use Rattle.metis_universe.specs.Terms.{Config, Universe}
+use Rattle.metis_completion.specs.Terms.{completed}
 use Rattle.metis_planner.proofs.Unique.{one_plan}
-use Rattle.metis_planner.specs.Rounds.{IsByRounds}
-use Rattle.metis_rollout.specs.Rollout.{fresh_name, removal, renumbered, scaffold_name}
-use Rattle.metis_wishes.specs.Wishes.{rebound}
+use Rattle.metis_planner.specs.Terms.{IsByRounds}
+use Rattle.metis_rollout.specs.Terms.{fresh_name, removal, renumbered, scaffold_name}
+use Rattle.metis_wishes.specs.Terms.{rebound}
 use Rattle.metis_wishes.specs.declared.wish.Wish.{Wish}
-use Rattle.metis_reconfigure.specs.Missing.{targets}
-use Rattle.metis_reconfigure.specs.Rebinding.{rebinds}
-use Rattle.metis_reconfigure.specs.Reconfiguration.{Reconfiguration, before_removal, fresh_actions, left_by, rebound_actions, reconfigured}
-use Rattle.metis_reconfigure.specs.Settled.{AreLeaving, dependents, left_to_plan, roots}
-use Rattle.metis_reconfigure.specs.Staying.{AreStaying}
+use Rattle.metis_reconfigure.specs.Terms.{AreLeaving, AreStaying, Reconfiguration, before_removal, dependents, fresh_actions, left_by, left_to_plan, rebinds, rebound_actions, reconfigured, roots, targets}
 use Rattle.metis_uniqueness.proofs.Alike.{AreAlike, reached_alike}
 use Rattle.metis_uniqueness.proofs.Leaving.{given_same, left_same, rebinds_same, targets_same}
 use Rattle.metis_uniqueness.proofs.Staying.{staying_alike}

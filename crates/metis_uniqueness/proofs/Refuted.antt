@@ -2,12 +2,11 @@
 use Rattle.std.proofs.Common.{◌≡◌, ◌⊎◌, ℕ, ◌<◌, ◌≤◌, List, Some, refl, sym, ap, ◌∙◌, arith, inl, inr}
 use Rattle.std.proofs.lemmas.Bool.{both_ways}
 use Rattle.metis_ids.specs.declared.goals.Goal.{Goal}
-use Rattle.metis_refusal.specs.Claims.{HasFree, IsLeastUnfree, IsLeastWayOut, Tells}
+use Rattle.metis_refusal.specs.Terms.{HasFree, IsLeastUnfree, IsLeastWayOut, Tells}
 use Rattle.metis_refusal.specs.declared.verdict.Verdict2.{Verdict2}
 use Rattle.metis_refusal.specs.declared.verdict.Verdict2.TheVariants.{Closed, NotFree, Open, LacksNone}
 use Rattle.metis_universe.specs.Closed as closed
-use Rattle.metis_universe.specs.Goals.{lacks}
-use Rattle.metis_universe.specs.Universe.{Universe}
+use Rattle.metis_universe.specs.Terms.{Universe, lacks}
 use Rattle.metis_uniqueness.proofs.Firsts.{found_passes}
 
 pub same_goal_found : (g h : Goal) → Some g ≡ Some h → g ≡ h

@@ -4,13 +4,10 @@ use Rattle.std.specs.List.{Contains}
 use Rattle.std.proofs.lemmas.List.Elements.{Contains-append_right}
 use Rattle.metis_ids.specs.declared.actions.Action.{Action}
 use Rattle.metis_ids.specs.declared.goals.Goal.{Goal}
-use Rattle.metis_replay.specs.Exact.{IsFirstMissing, Tells}
+use Rattle.metis_replay.specs.Terms.{IsFirstMissing, Tells}
 use Rattle.metis_replay.specs.declared.verdict.Verdict.{Verdict}
 use Rattle.metis_replay.specs.declared.verdict.Verdict.TheVariants.{Good, Bad, Missing}
-use Rattle.metis_universe.specs.Config.{Config, empty}
-use Rattle.metis_universe.specs.Goals.{HoldsGoals, places_of, serving}
-use Rattle.metis_universe.specs.Step.{after_all}
-use Rattle.metis_universe.specs.Universe.{Universe}
+use Rattle.metis_universe.specs.Terms.{Config, HoldsGoals, Universe, after_all, empty, places_of, serving}
 use Rattle.metis_uniqueness.proofs.Firsts.{Among, parted}
 use Rattle.metis_uniqueness.proofs.Unsteady.{first_bad_is_one, run_is_not_bad}
 

@@ -1,22 +1,17 @@
 -- What a script comes to is one: a line that tells a fault, or an answer.
 use Rattle.std.proofs.Common.{ℕ, List, sym, ◌∙◌}
-use Rattle.metis_output.specs.Shown.{IsJust}
+use Rattle.metis_output.specs.Terms.{IsJust}
 use Rattle.metis_output.specs.declared.status.Status.{Status}
-use Rattle.metis_inputs.specs.Commands.{script_of}
-use Rattle.metis_inputs.specs.Inputs.{Inputs, plan_said}
-use Rattle.metis_inputs.specs.Script.{Script, Read, Fault, Reply}
-use Rattle.metis_top.specs.Answers.{IsAnswer}
-use Rattle.metis_top.specs.Course.{Says}
-use Rattle.metis_top.specs.Honest.{over}
-use Rattle.metis_top.specs.Lines.{fault_line, fault_status, read_fault_line}
+use Rattle.metis_inputs.specs.Terms.{Fault, Inputs, Read, Reply, Script, plan_said, script_of}
+use Rattle.metis_top.specs.Terms.{IsAnswer, Says, fault_line, fault_status, over, read_fault_line}
 use Rattle.metis_output.specs.declared.status.Status.TheVariants.{ReadFault}
 use Rattle.metis_uniqueness.proofs.Explained.{why_one}
 use Rattle.metis_uniqueness.proofs.Plain.{confirm_one, load_one, print_one, refute_one, replay_one, sim_one}
 use Rattle.metis_uniqueness.proofs.Planned.{audit_one, plan_one, rollout_one}
 use Rattle.metis_uniqueness.proofs.Reconfigured.{reconfigure_one}
 use Rattle.metis_uniqueness.proofs.Runs.{control_one, crew_one, place_one, waits_one, waves_one}
-use Rattle.metis_uniqueness.specs.Answers.{HasAtMostOneAnswer}
-use Rattle.metis_words.specs.Forms.{reading}
+use Rattle.metis_uniqueness.specs.Terms.{HasAtMostOneAnswer}
+use Rattle.metis_words.specs.Terms.{reading}
 use Rattle.metis_words.specs.declared.words.Verb.{Verb}
 use Rattle.metis_words.specs.declared.words.Verb.TheVariants.{Plan, Replay, Refute, Audit, Sim, Crew, Waves, Waits, Control, Rollout, Reconfigure, Place, Print, Load, Why, Confirm}
 

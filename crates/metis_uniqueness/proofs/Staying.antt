@@ -2,14 +2,10 @@
 use Rattle.std.proofs.Common.{◌≡◌, ℕ, List, [], ◌∷◌, ◌++◌, ◌||◌, Option, Some, None, if◌then◌else◌, nat_eq, nat_le, sym, ap, ◌∙◌, subst}
 use Rattle.std.specs.List.{filter}
 use Rattle.metis_ids.specs.declared.goals.Goal.{Goal}
-use Rattle.metis_universe.specs.Config.{Config}
-use Rattle.metis_universe.specs.Goals.{places_of}
-use Rattle.metis_universe.specs.Universe.{Universe, has}
-use Rattle.metis_rollout.specs.Rollout.{members}
+use Rattle.metis_universe.specs.Terms.{Config, Universe, has, places_of}
+use Rattle.metis_rollout.specs.Terms.{members}
 use Rattle.metis_wishes.specs.declared.wish.Wish.{Wish}
-use Rattle.metis_reconfigure.specs.Missing.{serving_among}
-use Rattle.metis_reconfigure.specs.Reached.{AreReached, Edge}
-use Rattle.metis_reconfigure.specs.Staying.{AreStaying, StayFor, StaysForOne, StaysToo, fresh_in, holds_up, next_serving, wished}
+use Rattle.metis_reconfigure.specs.Terms.{AreReached, AreStaying, Edge, StayFor, StaysForOne, StaysToo, fresh_in, holds_up, next_serving, serving_among, wished}
 use Rattle.metis_uniqueness.proofs.Alike.{AreAlike, reached_alike}
 use Rattle.metis_uniqueness.proofs.Leaving.{holds_up_same, next_same, wished_same}
 

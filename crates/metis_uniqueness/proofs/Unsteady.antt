@@ -5,15 +5,11 @@ use Rattle.std.proofs.lemmas.Bool.{both_ways, cases_lt, false≢true}
 use Rattle.std.proofs.lemmas.Option.{slice_get_past}
 use Rattle.metis_ids.specs.declared.actions.Action.{Action}
 use Rattle.metis_ids.proofs.Lists.{at_range}
-use Rattle.metis_actions.specs.Faults.{fault_of}
+use Rattle.metis_actions.specs.Terms.{fault_of}
 use Rattle.metis_actions.specs.declared.faults.AFault.{AFault}
-use Rattle.metis_replay.specs.Exact.{IsFirstBad}
-use Rattle.metis_universe.specs.Config.{Config, Correct, empty}
-use Rattle.metis_universe.specs.Steadfast.{is_steadfast, is_steadfast_after, is_steadfast_at}
-use Rattle.metis_universe.specs.Step.{Allows, IsRun, after, after_all}
-use Rattle.metis_universe.specs.Universe.{Universe}
-use Rattle.metis_universe.specs.Waits.{before}
-use Rattle.metis_waits.specs.Waits.{IsFirstLoose}
+use Rattle.metis_replay.specs.Terms.{IsFirstBad}
+use Rattle.metis_universe.specs.Terms.{Allows, Config, Correct, IsRun, Universe, after, after_all, before, empty, is_steadfast, is_steadfast_after, is_steadfast_at}
+use Rattle.metis_waits.specs.Terms.{IsFirstLoose}
 use Rattle.metis_uniqueness.proofs.Firsts.{Among, least_is_one, parted}
 
 -- ---- the first that cannot be done

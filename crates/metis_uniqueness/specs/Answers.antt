@@ -6,8 +6,7 @@ use Rattle.std.specs.Prelude.{◌≡◌, ℕ, List}
 use Rattle.std.specs.List.{All}
 use Rattle.metis_ids.specs.declared.actions.Action.{Action}
 use Rattle.metis_output.specs.declared.status.Status.{Status}
-use Rattle.metis_universe.specs.Numbers.{IsOf}
-use Rattle.metis_universe.specs.Universe.{IsUniverse, Universe}
+use Rattle.metis_universe.specs.Terms.{IsOf, IsUniverse, Universe}
 
 abbrev pub HasAtMostOneAnswer : (List (List ℕ) → Status → Type 0) → Type 0
 HasAtMostOneAnswer P = (lines others : List (List ℕ)) (status other : Status) → P lines status → P others other → (lines ≡ others) × (status ≡ other)

@@ -2,30 +2,16 @@
 ghost use Rattle.std.specs.Prelude.{◌≤◌, ℕ, List, length};
 ghost use Rattle.std.specs.List.{All};
 ghost use Rattle.std.specs.List.Sorted.{IsStrictlyIncreasing};
-ghost use Rattle.metis_commands.specs.Audit.{Audited};
-ghost use Rattle.metis_commands.specs.Confirm.{Confirms};
-ghost use Rattle.metis_commands.specs.Control.{Controlled};
-ghost use Rattle.metis_commands.specs.Crew.{Crewed};
-ghost use Rattle.metis_commands.specs.Place.{Placed};
-ghost use Rattle.metis_commands.specs.Print.{Printed};
-ghost use Rattle.metis_commands.specs.Refute.{Judged};
-ghost use Rattle.metis_commands.specs.Replay.{Replayed};
-ghost use Rattle.metis_commands.specs.Sim.{Simulated};
-ghost use Rattle.metis_commands.specs.Waits.{Awaited};
-ghost use Rattle.metis_commands.specs.Waves.{Waved};
-ghost use Rattle.metis_commands.specs.Why.{WhyAnswer};
+ghost use Rattle.metis_commands.specs.Terms.{Audited, Awaited, Confirms, Controlled, Crewed, Judged, Placed, Printed, Replayed, Simulated, Waved, WhyAnswer};
 ghost use Rattle.metis_ids.specs.declared.actions.Action.{Action};
 ghost use Rattle.metis_ids.specs.declared.goals.Goal.{Goal};
-ghost use Rattle.metis_ids.specs.Plans.{Plan};
-ghost use Rattle.metis_place.specs.Placement.{HostLists};
-ghost use Rattle.metis_plan_commands.specs.Load.{Loaded};
-ghost use Rattle.metis_plan_commands.specs.Plan.{PlanAnswer};
-ghost use Rattle.metis_plan_commands.specs.Rollout.{RolledOut};
-ghost use Rattle.metis_text.specs.PlanText.{IsWellFormed};
-ghost use Rattle.metis_universe.specs.Goals.{IsGoalOf};
-ghost use Rattle.metis_universe.specs.Universe.{IsTable, IsUniverse, Universe};
+ghost use Rattle.metis_ids.specs.Terms.{Plan};
+ghost use Rattle.metis_place.specs.Terms.{HostLists};
+ghost use Rattle.metis_plan_commands.specs.Terms.{Loaded, PlanAnswer, RolledOut};
+ghost use Rattle.metis_text.specs.Terms.{IsWellFormed};
+ghost use Rattle.metis_universe.specs.Terms.{IsGoalOf, IsTable, IsUniverse, Universe};
 ghost use Rattle.metis_why.specs.declared.reason.Line.{Line};
-ghost use Rattle.metis_uniqueness.specs.Answers.{HasAnAnswer, HasAnAnswerOver};
+ghost use Rattle.metis_uniqueness.specs.Terms.{HasAnAnswer, HasAnAnswerOver};
 
 /// At most 256 targets in a universe have a plan, or a refusal.
 pub fn a_plan_has_an_answer()

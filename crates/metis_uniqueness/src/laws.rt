@@ -1,32 +1,17 @@
 //! Laws of what a run says: of the same inputs at most one answer is true, which is a list of lines with a status.
 ghost use Rattle.std.specs.Prelude.{ℕ, List};
-ghost use Rattle.metis_commands.specs.Audit.{Audited};
-ghost use Rattle.metis_commands.specs.Confirm.{Confirms};
-ghost use Rattle.metis_commands.specs.Control.{Controlled};
-ghost use Rattle.metis_commands.specs.Crew.{Crewed};
-ghost use Rattle.metis_commands.specs.Place.{Placed};
-ghost use Rattle.metis_commands.specs.Print.{Printed};
-ghost use Rattle.metis_commands.specs.Refute.{Judged};
-ghost use Rattle.metis_commands.specs.Replay.{Replayed};
-ghost use Rattle.metis_commands.specs.Sim.{Simulated};
-ghost use Rattle.metis_commands.specs.Waits.{Awaited};
-ghost use Rattle.metis_commands.specs.Waves.{Waved};
-ghost use Rattle.metis_commands.specs.Why.{WhyAnswer};
+ghost use Rattle.metis_commands.specs.Terms.{Audited, Awaited, Confirms, Controlled, Crewed, Judged, Placed, Printed, Replayed, Simulated, Waved, WhyAnswer};
 ghost use Rattle.metis_ids.specs.declared.actions.Action.{Action};
 ghost use Rattle.metis_ids.specs.declared.goals.Goal.{Goal};
-ghost use Rattle.metis_ids.specs.Plans.{Plan};
-ghost use Rattle.metis_inputs.specs.Commands.{script_of};
-ghost use Rattle.metis_place.specs.Placement.{HostLists};
-ghost use Rattle.metis_plan_commands.specs.Load.{Loaded};
-ghost use Rattle.metis_plan_commands.specs.Plan.{PlanAnswer};
-ghost use Rattle.metis_plan_commands.specs.Reconfigure.{Reconfigured};
-ghost use Rattle.metis_plan_commands.specs.Rollout.{RolledOut};
-ghost use Rattle.metis_top.specs.Course.{Says};
-ghost use Rattle.metis_top.specs.Honest.{over};
-ghost use Rattle.metis_universe.specs.Universe.{Universe};
+ghost use Rattle.metis_ids.specs.Terms.{Plan};
+ghost use Rattle.metis_inputs.specs.Terms.{script_of};
+ghost use Rattle.metis_place.specs.Terms.{HostLists};
+ghost use Rattle.metis_plan_commands.specs.Terms.{Loaded, PlanAnswer, Reconfigured, RolledOut};
+ghost use Rattle.metis_top.specs.Terms.{Says, over};
+ghost use Rattle.metis_universe.specs.Terms.{Universe};
 ghost use Rattle.metis_why.specs.declared.reason.Line.{Line};
 ghost use Rattle.metis_wishes.specs.declared.wish.Wish.{Wish};
-ghost use Rattle.metis_uniqueness.specs.Answers.{HasAtMostOneAnswer};
+ghost use Rattle.metis_uniqueness.specs.Terms.{HasAtMostOneAnswer};
 
 /// Of targets in a universe at most one plan is true, or else one refusal, and never both.
 pub fn a_plan_has_one_answer()

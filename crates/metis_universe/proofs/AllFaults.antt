@@ -6,10 +6,7 @@ use Rattle.std.specs.Option.{option_or}
 use Rattle.std.specs.Str.{bytes_eq}
 use Rattle.std.proofs.lemmas.List.Elements.{All-contains, All-from_recursion, Contains-append_left, Contains-append_right}
 use Rattle.std.proofs.lemmas.Bool.{lt-ltb, ltb-true}
-use Rattle.metis_universe.specs.Names.{is_between, is_name}
-use Rattle.metis_universe.specs.RowShapes.{StateRow, TypeRow, names_needed}
-use Rattle.metis_universe.specs.Rows.{first_from, unless, limit_fault, has_state, port_fault, demand_fault, state_twice, state_fault, next_fault, earlier_type, type_fault, first_fault, require_total, state_total, ports_of}
-use Rattle.metis_universe.specs.RowFaults.{StateAt, HasFault, first_of, listed, faults_of_state, faults_of_next, faults_of_type, all_faults}
+use Rattle.metis_universe.specs.Terms.{HasFault, StateAt, StateRow, TypeRow, all_faults, demand_fault, earlier_type, faults_of_next, faults_of_state, faults_of_type, first_fault, first_from, first_of, has_state, is_between, is_name, limit_fault, listed, names_needed, next_fault, port_fault, ports_of, require_total, state_fault, state_total, state_twice, type_fault, unless}
 use Rattle.metis_universe.specs.declared.faults.LimitKind.{LimitKind}
 use Rattle.metis_universe.specs.declared.faults.LimitKind.TheVariants.{States, Requires, Pairs, Ports}
 use Rattle.metis_universe.specs.declared.faults.RowFault.{RowFault}

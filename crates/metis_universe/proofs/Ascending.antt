@@ -14,9 +14,7 @@ use Rattle.std.proofs.lemmas.Map.Keys.{below_from_sorted}
 use Rattle.std.proofs.lemmas.Slice.Eq.{bytes_eq-Decides}
 use Rattle.metis_ids.proofs.Lists.{none_above}
 use Rattle.metis_ids.proofs.Tests.{cmp_equal, less_apart}
-use Rattle.metis_universe.specs.Universe.{has}
-use Rattle.metis_universe.specs.RowShapes.{TypeRow}
-use Rattle.metis_universe.specs.Rows.{ascending, state_number}
+use Rattle.metis_universe.specs.Terms.{TypeRow, ascending, has, state_number}
 use Rattle.metis_universe.proofs.Edits.{any-insert_key}
 use Rattle.metis_universe.proofs.FirstFault.{list_any-from_position}
 use Rattle.metis_universe.proofs.Named.{position_within}

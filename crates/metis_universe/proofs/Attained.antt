@@ -5,9 +5,7 @@ use Rattle.std.proofs.lemmas.Bool.{and_from, eqb-true}
 use Rattle.std.proofs.lemmas.List.Folds.{Any-from_list_any}
 use Rattle.std.proofs.lemmas.List.{get_or_default}
 use Rattle.std.proofs.lemmas.List.FromFn.{length-range_with_len}
-use Rattle.metis_universe.specs.Universe.{Universe, IsUniverse, all_pairs, has, pair_count, initial_of, is_initial, is_free, no_kind, type_of, next_of, required_of, provides}
-use Rattle.metis_universe.specs.Layers.{layer_set}
-use Rattle.metis_universe.specs.Closed.{Closed}
+use Rattle.metis_universe.specs.Terms.{Closed, IsUniverse, Universe, all_pairs, has, initial_of, is_free, is_initial, layer_set, next_of, no_kind, pair_count, provides, required_of, type_of}
 use Rattle.metis_universe.proofs.Rounds.{has-filter, layers_grow, among_all, grows_to, settled}
 use Rattle.metis_universe.proofs.Correctness.{all_from_has}
 use Rattle.metis_universe.proofs.Ranges.{in_range}

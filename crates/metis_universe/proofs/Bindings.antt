@@ -2,7 +2,7 @@
 use Rattle.std.proofs.Common.{◌≡◌, ℕ, Bool, true, false, ◌&&◌, ◌||◌, List, [], ◌∷◌, refl, sym, ◌∙◌, nat_eq}
 use Rattle.std.proofs.lemmas.Bool.{and_from, eq-eqb, false≢true, or_left}
 use Rattle.std.specs.List.{list_any}
-use Rattle.metis_universe.specs.Config.{Binding, is_tie}
+use Rattle.metis_universe.specs.Terms.{Binding, is_tie}
 
 pub own_tie : (b : Binding) → is_tie b.0 b.1 b.2 b ≡ true
 own_tie b = λ i. eq-eqb b.0 b.0 refl i && eq-eqb b.1 b.1 refl i && eq-eqb b.2 b.2 refl i

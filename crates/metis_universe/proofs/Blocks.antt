@@ -3,9 +3,7 @@ use Rattle.std.proofs.Common.{◌≡◌, ℕ, suc, zero, ◌+◌, ◌-◌, ◌<�
 use Rattle.std.proofs.lemmas.Bool.{cases_lt}
 use Rattle.std.proofs.lemmas.List.{append-nil, append_assoc, get_or_append_left, get_or-append-add, get_or-map, length-append, length-map, take-take}
 use Rattle.std.proofs.lemmas.List.Sums.{sum_by-cons, sum_by_more_le, sum_by_more, sum_by-take-le}
-use Rattle.metis_universe.specs.Universe.{Kind, Pair}
-use Rattle.metis_universe.specs.RowShapes.{TypeRow, StateRow}
-use Rattle.metis_universe.specs.Rows.{state_total, pair_from, pairs_of_type, pairs_from, kind_from, kinds_from}
+use Rattle.metis_universe.specs.Terms.{Kind, Pair, StateRow, TypeRow, kind_from, kinds_from, pair_from, pairs_from, pairs_of_type, state_total}
 
 abbrev pub no_state : StateRow
 no_state = record { name = []; provide = []; require = []; next = [] }

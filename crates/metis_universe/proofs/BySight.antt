@@ -7,10 +7,7 @@ use Rattle.std.proofs.lemmas.List.Concat.{flat_map-append}
 use Rattle.std.proofs.lemmas.List.Elements.{All-from_recursion}
 use Rattle.std.proofs.lemmas.List.Sums.{fold-append}
 use Rattle.metis_ids.proofs.Lists.{each_weaker}
-use Rattle.metis_universe.specs.RowShapes.{StateRow, TypeRow, names_needed}
-use Rattle.metis_universe.specs.Rows.{ports_of_state, ports_of_type, ports_of, number_of, ascending, pair_from, pairs_of_type, pairs_from, universe_from}
-use Rattle.metis_universe.specs.Sights.{with_name, sights_after}
-use Rattle.metis_universe.specs.Universe.{Pair, has, IsBySight}
+use Rattle.metis_universe.specs.Terms.{IsBySight, Pair, StateRow, TypeRow, ascending, has, names_needed, number_of, pair_from, pairs_from, pairs_of_type, ports_of, ports_of_state, ports_of_type, sights_after, universe_from, with_name}
 use Rattle.metis_universe.proofs.Ascending.{at_seen, each_map, each_ascending, sorted_ascending}
 use Rattle.metis_universe.proofs.FirstSights.{each_seen, sights_keep}
 use Rattle.metis_universe.proofs.SeenNumbers.{Apart, names_of, each_number, number_at, front_numbers, seeing_numbers}

@@ -11,9 +11,7 @@ use Rattle.metis_universe.specs.declared.faults.RowFault.{RowFault}
 use Rattle.metis_universe.specs.declared.faults.RowFault.TheVariants.{TypeName, TypeTwice, StateName, StateTwice, NoInitial, UnknownNext, PortName, Demand, Limit}
 use Rattle.metis_universe.specs.declared.faults.LimitKind.{LimitKind}
 use Rattle.metis_universe.specs.declared.faults.LimitKind.TheVariants.{States, Requires, Pairs, Ports}
-use Rattle.metis_universe.specs.Names.{is_between, is_name}
-use Rattle.metis_universe.specs.RowShapes.{NeedRow, StateRow, TypeRow, names_needed}
-use Rattle.metis_universe.specs.Rows.{first_from, unless, limit_fault, has_state, port_fault, state_twice, state_fault, next_fault, head_fault, earlier_type, type_fault, first_fault, require_total, state_total, ports_of}
+use Rattle.metis_universe.specs.Terms.{NeedRow, StateRow, TypeRow, earlier_type, first_fault, first_from, has_state, head_fault, is_between, is_name, limit_fault, names_needed, next_fault, port_fault, ports_of, require_total, state_fault, state_total, state_twice, type_fault, unless}
 use Rattle.metis_universe.proofs.FirstFault.{option_or-none, option_map-none}
 
 -- a state's names are names, none before it in its type has its name, and its next states are there

@@ -10,10 +10,7 @@ use Rattle.std.specs.BTreeSet.{insert_key}
 use Rattle.std.proofs.lemmas.Bool.{eq-eqb, or_left, or_right}
 use Rattle.std.proofs.lemmas.List.Sums.{sum-map, sum_by-append, sum_by-cons}
 use Rattle.metis_ids.proofs.Lists.{each_weaker}
-use Rattle.metis_universe.specs.RowShapes.{NeedRow, names_needed}
-use Rattle.metis_universe.specs.Rows.{ascending, demand_sum, further_from, greatest_count, number_of}
-use Rattle.metis_universe.specs.Sights.{sights_after, with_name}
-use Rattle.metis_universe.specs.Universe.{has}
+use Rattle.metis_universe.specs.Terms.{NeedRow, ascending, demand_sum, further_from, greatest_count, has, names_needed, number_of, sights_after, with_name}
 use Rattle.metis_universe.proofs.Ascending.{at_seen, has-insert_key, insert_key-present, sorted_none}
 use Rattle.metis_universe.proofs.FirstSights.{each_append}
 use Rattle.metis_universe.proofs.Sorted.{IsStrictlySortedBy-insert_key}

@@ -5,7 +5,7 @@ use Rattle.std.specs.List.Sorted.{IsStrictlyIncreasing}
 use Rattle.std.proofs.lemmas.Bool.{eq-eqb, eqb-true, false_from_ne_true, or_left, or_right}
 use Rattle.std.proofs.lemmas.List.Sums.{sum-map, sum_by-cons}
 use Rattle.metis_ids.proofs.Lists.{each_weaker}
-use Rattle.metis_universe.specs.Universe.{Pair, demand_in, has}
+use Rattle.metis_universe.specs.Terms.{Pair, demand_in, has}
 use Rattle.metis_universe.proofs.PortRows.{Rises, rises}
 
 pub map_same : {A B : Type 0} (f g : A → B) (xs : List A) → AllByRecursion (λ x. f x ≡ g x) xs → map f xs ≡ map g xs

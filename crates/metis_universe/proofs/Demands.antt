@@ -7,8 +7,7 @@ use Rattle.std.specs.Option.{option_map_or}
 use Rattle.std.specs.declared.cmp.Ordering.TheVariants.{Less}
 use Rattle.std.proofs.lemmas.Bool.{false≢true, both_ways, and_parts, and_from, or_cases, or_left, or_right, eq-eqb, eqb-true, false_from_ne_true, le-leb, leb-true}
 use Rattle.std.proofs.lemmas.Bool.Decides.{nat_tests}
-use Rattle.metis_universe.specs.Universe.{Universe, demand_of, further_of, has, provides, required_of, requires}
-use Rattle.metis_universe.specs.Config.{AreDifferent, Binding, Config, IsConfig, IsMet, IsProvider, binding_cmp, is_met, is_tie, pair_of}
+use Rattle.metis_universe.specs.Terms.{AreDifferent, Binding, Config, IsConfig, IsMet, IsProvider, Universe, binding_cmp, demand_of, further_of, has, is_met, is_tie, pair_of, provides, required_of, requires}
 
 -- ---- demands
 

@@ -10,14 +10,7 @@ use Rattle.metis_ids.specs.declared.actions.Action.TheVariants.{New, Delete, Bin
 use Rattle.metis_ids.proofs.Lists.{has_one}
 use Rattle.metis_universe.specs.declared.faults.RowFault.TheVariants.{TypeName, TypeTwice, StateName, StateTwice, NoInitial, UnknownNext, PortName, Limit}
 use Rattle.metis_universe.specs.declared.faults.LimitKind.TheVariants.{States}
-use Rattle.metis_universe.specs.Names.{is_name}
-use Rattle.metis_universe.specs.RowShapes.{NeedRow, StateRow, TypeRow}
-use Rattle.metis_universe.specs.Rows.{first_fault, ports_of, meaning_of}
-use Rattle.metis_universe.specs.Sights.{first_sights}
-use Rattle.metis_universe.specs.Universe.{Universe, Kind, Pair, has, is_initial, is_empty, further_of, required_of, next_of, provided_of, provides, requires, type_count, pair_count, port_count, type_of, initial_of, state_place_of, type_named, pair_named, port_names_of_pair, IsBySight, IsUniverse}
-use Rattle.metis_universe.specs.Config.{Config, IsConfig, empty, is_correct}
-use Rattle.metis_universe.specs.Step.{Allows, after, after_all, IsRun}
-use Rattle.metis_universe.specs.Closed.{Closed, IsProvidedIn, Refusal}
+use Rattle.metis_universe.specs.Terms.{Allows, Closed, Config, IsBySight, IsConfig, IsProvidedIn, IsRun, IsUniverse, Kind, NeedRow, Pair, Refusal, StateRow, TypeRow, Universe, after, after_all, empty, first_fault, first_sights, further_of, has, initial_of, is_correct, is_empty, is_initial, is_name, meaning_of, next_of, pair_count, pair_named, port_count, port_names_of_pair, ports_of, provided_of, provides, required_of, requires, state_place_of, type_count, type_named, type_of}
 use Rattle.metis_universe.proofs.Correctness.{Correct-from_is_correct}
 use Rattle.metis_universe.proofs.Kept.{IsConfig-after, IsConfig-empty}
 

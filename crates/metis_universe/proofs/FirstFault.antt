@@ -8,7 +8,7 @@ use Rattle.std.proofs.lemmas.Option.{none-some}
 use Rattle.std.proofs.lemmas.List.{drop_more, drop_all}
 use Rattle.std.proofs.lemmas.Bool.Decides.{nat_tests}
 use Rattle.metis_universe.specs.declared.faults.RowFault.{RowFault}
-use Rattle.metis_universe.specs.Rows.{first_from, unless}
+use Rattle.metis_universe.specs.Terms.{first_from, unless}
 use Rattle.metis_universe.proofs.Named.{position-map}
 
 shifted : (i n : ℕ) → cond (nat_lt (1 + i) (suc n)) (Some (1 + i)) None ≡ option_map suc (cond (nat_lt i n) (Some i) None)

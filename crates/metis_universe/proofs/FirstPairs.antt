@@ -6,10 +6,7 @@ use Rattle.std.specs.Option.{option_and_then, option_map_or, option_or}
 use Rattle.std.proofs.lemmas.Bool.{false≢true, both_ways, and_parts, and_from, or_cases, or_right, eq-eqb, eqb-true, cases_eq, cases_lt}
 use Rattle.std.proofs.lemmas.List.FromFn.{length-range_with_len}
 use Rattle.std.proofs.lemmas.Option.{none-some}
-use Rattle.metis_universe.specs.Universe.{Universe, all_pairs, has, is_free, next_of, pair_count, provides}
-use Rattle.metis_universe.specs.Layers.{layer_set, layer_of, is_in_layer, is_enabled, IsLeastRound}
-use Rattle.metis_universe.specs.Selection.{provider_of, origin_of, origin_below}
-use Rattle.metis_universe.specs.Settled.{IsLower}
+use Rattle.metis_universe.specs.Terms.{IsLeastRound, IsLower, Universe, all_pairs, has, is_enabled, is_free, is_in_layer, layer_of, layer_set, next_of, origin_below, origin_of, pair_count, provider_of, provides}
 use Rattle.metis_universe.proofs.Ranges.{in_range}
 use Rattle.metis_universe.proofs.Rounds.{has-filter, layers_grow, among_all, comes_early, grows_to, layer_of-least}
 

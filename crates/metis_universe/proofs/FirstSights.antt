@@ -8,7 +8,7 @@ use Rattle.std.proofs.lemmas.Map.Keys.{IsDistinct-push}
 use Rattle.std.specs.Str.{bytes_eq}
 use Rattle.std.proofs.lemmas.List.{length_push}
 use Rattle.metis_ids.proofs.Tests.{bytes_same}
-use Rattle.metis_universe.specs.Sights.{with_name, sights_after}
+use Rattle.metis_universe.specs.Terms.{sights_after, with_name}
 
 length-with_name : (seen : List (List ℕ)) (name : List ℕ) → length (with_name seen name) ≤ length seen + 1
 length-with_name seen name = elim (list_any (bytes_eq name) seen) as (λ b. length (cond b seen (seen ++ name ∷ [])) ≤ length seen + 1) [

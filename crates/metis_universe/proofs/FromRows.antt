@@ -13,10 +13,7 @@ use Rattle.std.proofs.lemmas.Map.Keys.{apart_from_distinct}
 use Rattle.std.proofs.lemmas.Slice.Eq.{bytes_eq-Decides}
 use Rattle.metis_ids.proofs.Lists.{each_weaker}
 use Rattle.metis_ids.proofs.Tests.{bytes_same}
-use Rattle.metis_universe.specs.Names.{is_name}
-use Rattle.metis_universe.specs.RowShapes.{NeedRow, StateRow, TypeRow, names_needed}
-use Rattle.metis_universe.specs.Universe.{Kind, Pair, no_kind, no_pair, kind_at, pair_at, type_of, type_count, pair_count, port_count, initial_of, demand_total, states_of_type, IsUniverse, IsNamed, IsWithinLimits, IsBySight, IsTable}
-use Rattle.metis_universe.specs.Rows.{IsOfVersion, demand_sum, further_from, greatest_count, ports_of_state, ports_of_type, ports_of, state_total, has_state, first_fault, number_of, state_number, ascending, pair_from, pairs_of_type, pairs_from, kind_from, universe_from}
+use Rattle.metis_universe.specs.Terms.{IsBySight, IsNamed, IsOfVersion, IsTable, IsUniverse, IsWithinLimits, Kind, NeedRow, Pair, StateRow, TypeRow, ascending, demand_sum, demand_total, first_fault, further_from, greatest_count, has_state, initial_of, is_name, kind_at, kind_from, names_needed, no_kind, no_pair, number_of, pair_at, pair_count, pair_from, pairs_from, pairs_of_type, port_count, ports_of, ports_of_state, ports_of_type, state_number, state_total, states_of_type, type_count, type_of, universe_from}
 use Rattle.metis_universe.proofs.Ascending.{number_within, IsStrictlyIncreasing-ascending, All-ascending, each_ascending, each_map}
 use Rattle.metis_universe.proofs.DemandSums.{demands-le}
 use Rattle.metis_universe.proofs.Gathered.{greatest-le, greatest-some}

@@ -14,10 +14,7 @@ use Rattle.std.proofs.lemmas.Slice.Eq.{bytes_eq-Decides}
 use Rattle.metis_ids.proofs.Lists.{each_weaker}
 use Rattle.metis_ids.proofs.Tests.{bytes_same}
 use Rattle.indexmap.specs.IndexMap.{insert_entry}
-use Rattle.metis_universe.specs.Needs.{count_in, greatest_needs, need_of, need_rows_of, with_need}
-use Rattle.metis_universe.specs.RowShapes.{NeedRow, names_needed}
-use Rattle.metis_universe.specs.Rows.{demand_sum, further_from, greatest_count}
-use Rattle.metis_universe.specs.Sights.{first_sights, sights_after, with_name}
+use Rattle.metis_universe.specs.Terms.{NeedRow, count_in, demand_sum, first_sights, further_from, greatest_count, greatest_needs, names_needed, need_of, need_rows_of, sights_after, with_name, with_need}
 use Rattle.metis_universe.proofs.FirstSights.{distinct_none, seen_now, seen_stays, sights_distinct}
 use Rattle.metis_universe.proofs.Named.{turned}
 

@@ -6,12 +6,7 @@ use Rattle.std.proofs.lemmas.Bool.{and_parts, false≢true}
 use Rattle.metis_ids.specs.declared.goals.Goal.TheVariants.{Pair, Port}
 use Rattle.metis_ids.specs.declared.actions.Action.TheVariants.{New, Move}
 use Rattle.metis_ids.proofs.Lists.{has_one}
-use Rattle.metis_universe.specs.Universe.{Universe, has, is_empty, is_initial, next_of, provides, required_of, requires}
-use Rattle.metis_universe.specs.Config.{Config, empty}
-use Rattle.metis_universe.specs.Step.{after_all}
-use Rattle.metis_universe.specs.Closed.{Closed, IsProvidedIn}
-use Rattle.metis_universe.specs.GoalWords.{goal_named, goal_word}
-use Rattle.metis_universe.specs.Goals.{AttainsGoals, GoalRefusal, HoldsGoals, lacks, occupied, serving}
+use Rattle.metis_universe.specs.Terms.{AttainsGoals, Closed, Config, GoalRefusal, HoldsGoals, IsProvidedIn, Universe, after_all, empty, goal_named, goal_word, has, is_empty, is_initial, lacks, next_of, occupied, provides, required_of, requires, serving}
 use Rattle.metis_universe.proofs.Examples.{run_by_tests}
 use Rattle.metis_universe.proofs.Kept.{IsConfig-empty}
 use Rattle.metis_universe.proofs.PlanExamples.{kind, pair, web}

@@ -9,7 +9,7 @@ use Rattle.std.proofs.lemmas.List.Elements.{All-weaker, recursion_from_All}
 use Rattle.std.proofs.lemmas.List.Folds.{list_any_at}
 use Rattle.std.proofs.lemmas.List.Kept.{AllPairs-from_increasing}
 use Rattle.std.proofs.lemmas.List.Sums.{position_or_len_is}
-use Rattle.metis_universe.specs.Universe.{IsGreatestMet, IsUniverse, Pair, Universe, demand_in, demand_of, further_of, greatest_demand, has, no_pair, required_of, requires}
+use Rattle.metis_universe.specs.Terms.{IsGreatestMet, IsUniverse, Pair, Universe, demand_in, demand_of, further_of, greatest_demand, has, no_pair, required_of, requires}
 use Rattle.metis_universe.proofs.Demands.{demand_one}
 
 max_low : (a b n : ℕ) → a < n → b < n → max a b < n

@@ -14,8 +14,7 @@ use Rattle.std.proofs.lemmas.List.Kept.{IsStrictlySortedBy-dedup}
 use Rattle.std.proofs.lemmas.List.Sorted.{list_any-IsPermutation}
 use Rattle.metis_ids.proofs.Lists.{none_above}
 use Rattle.metis_ids.proofs.Tests.{cmp_less}
-use Rattle.metis_universe.specs.Rows.{ascending}
-use Rattle.metis_universe.specs.Universe.{has}
+use Rattle.metis_universe.specs.Terms.{ascending, has}
 use Rattle.metis_universe.proofs.Ascending.{has-insert_key, sorted_ascending}
 use Rattle.metis_universe.proofs.Sorted.{below_all}
 

@@ -8,8 +8,7 @@ use Rattle.std.proofs.lemmas.List.{drop_all}
 use Rattle.std.proofs.lemmas.List.Sums.{AllPass-from_list_all, passes_at_first, split_at_first}
 use Rattle.std.proofs.lemmas.Str.{IsUtf8-append, IsUtf8-from_ascii}
 use Rattle.std.proofs.lemmas.Str.Ascii.{IsAscii-from_all}
-use Rattle.metis_universe.specs.Names.{is_name, is_name_byte}
-use Rattle.metis_universe.specs.PairWords.{is_colon, pair_names}
+use Rattle.metis_universe.specs.Terms.{is_colon, is_name, is_name_byte, pair_names}
 
 small_mark : (b : ℕ) → is_name_byte b ≡ true → b < 128
 small_mark b h = grind (arith, nat_tests)

@@ -6,8 +6,7 @@ use Rattle.std.proofs.lemmas.Bool.{both_ways}
 use Rattle.std.proofs.lemmas.List.{length-map}
 use Rattle.std.proofs.lemmas.List.Quantifiers.{position-Some}
 use Rattle.std.proofs.lemmas.Slice.Eq.{bytes_eq-Decides}
-use Rattle.metis_universe.specs.Universe.{Kind, no_kind}
-use Rattle.metis_universe.specs.Kinds.{kinds_of}
+use Rattle.metis_universe.specs.Terms.{Kind, kinds_of, no_kind}
 
 -- names differ from either side
 pub turned : (a b : List ℕ) → bytes_eq a b ≡ false → bytes_eq b a ≡ false

@@ -4,9 +4,7 @@ use Rattle.std.specs.List.{AllByRecursion}
 use Rattle.std.proofs.lemmas.Bool.{cases_eq, eq-eqb, ne_eqb}
 use Rattle.std.proofs.lemmas.List.{append-nil}
 use Rattle.std.proofs.lemmas.List.Elements.{filter-append}
-use Rattle.metis_universe.specs.Universe.{Pair}
-use Rattle.metis_universe.specs.RowShapes.{TypeRow}
-use Rattle.metis_universe.specs.Rows.{pair_from, pairs_of_type, pairs_from}
+use Rattle.metis_universe.specs.Terms.{Pair, TypeRow, pair_from, pairs_from, pairs_of_type}
 use Rattle.metis_universe.proofs.Ascending.{each_map}
 use Rattle.metis_universe.proofs.Blocks.{row_at}
 

@@ -5,9 +5,7 @@ use Rattle.std.proofs.lemmas.Bool.{cases_lt, false≢true, and_parts}
 use Rattle.std.proofs.lemmas.List.{get_or_past}
 use Rattle.std.proofs.lemmas.List.Elements.{recursion_from_All}
 use Rattle.std.specs.Prelude.{◌↔◌}
-use Rattle.metis_universe.specs.Universe.{IsUniverse, Pair, Universe, further_of, greatest_demand, has, no_pair, pair_count, required_of, requires, is_empty, is_free, is_initial}
-use Rattle.metis_universe.specs.Config.{Config, Correct, IsMet}
-use Rattle.metis_universe.specs.Single.{HasProviders, IsSingle}
+use Rattle.metis_universe.specs.Terms.{Config, Correct, HasProviders, IsMet, IsSingle, IsUniverse, Pair, Universe, further_of, greatest_demand, has, is_empty, is_free, is_initial, no_pair, pair_count, required_of, requires}
 use Rattle.metis_universe.proofs.Demands.{IsMet-one, demand_one, one_provider}
 use Rattle.metis_universe.proofs.Greatest.{demand_least}
 

@@ -4,14 +4,8 @@ use Rattle.std.specs.Prelude.{slice_get, IsSome, IsSomeAnd, IsTrue}
 use Rattle.std.proofs.lemmas.Bool.{false≢true, cases_lt, ne_eqb, true≢false}
 use Rattle.metis_ids.specs.declared.actions.Action.{Action}
 use Rattle.metis_ids.specs.declared.actions.Action.TheVariants.{New, Delete, Bind, Unbind, Move}
-use Rattle.metis_universe.specs.Universe.{Universe, Kind, Pair, all_pairs, requires}
-use Rattle.metis_universe.specs.Config.{Binding, empty, pair_of, is_bound, is_tie}
-use Rattle.metis_universe.specs.Step.{after_all}
-use Rattle.metis_universe.specs.Waits.{IsKept, is_complete, picked, waits, numbers}
-use Rattle.metis_universe.specs.Steadfast.{is_steadfast, is_steadfast_at}
-use Rattle.metis_universe.specs.Layers.{layer_of}
-use Rattle.metis_universe.specs.Selection.{provider_of, origin_of, selected, provider_pairs}
-use Rattle.metis_universe.specs.Tidy.{IsTidy, IsReached, target, provider}
+use Rattle.metis_universe.specs.Terms.{Binding, IsKept, IsReached, IsTidy, Kind, Pair, Universe, after_all, all_pairs, empty, is_bound, is_complete, is_steadfast, is_steadfast_at, is_tie, layer_of, numbers, origin_of, pair_of, picked, provider_of, provider_pairs, requires, selected, waits}
+use Rattle.metis_universe.specs.Tidy.{target, provider}
 use Rattle.metis_universe.proofs.Edits.{tie_is}
 
 abbrev pub pair : ℕ → List ℕ → List ℕ → List ℕ → Pair

@@ -6,8 +6,7 @@ use Rattle.std.specs.Prelude.{slice_index}
 use Rattle.std.proofs.lemmas.Bool.{cases_eq, eq-eqb, ne_eqb}
 use Rattle.std.proofs.lemmas.List.Elements.{recursion_from_All}
 use Rattle.std.proofs.lemmas.List.{append-nil, get_or-set_same, get_or-set_other, length-replicate, get_or-replicate, get_or_default}
-use Rattle.metis_universe.specs.Universe.{Universe, Pair, IsUniverse, IsIndexed, all_pairs, has, no_pair, pair_at, pair_count, port_count}
-use Rattle.metis_universe.specs.PortRows.{with_pair, rows_from, port_rows}
+use Rattle.metis_universe.specs.Terms.{IsIndexed, IsUniverse, Pair, Universe, all_pairs, has, no_pair, pair_at, pair_count, port_count, port_rows, rows_from, with_pair}
 
 -- ---- ascending ports
 

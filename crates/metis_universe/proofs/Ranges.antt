@@ -2,7 +2,7 @@
 use Rattle.std.proofs.Common.{◌≡◌, ℕ, zero, suc, ◌+◌, ◌<◌, ◌≤◌, true, arith, nat_eq, inl, inr}
 use Rattle.std.specs.List.{range_with_len}
 use Rattle.std.proofs.lemmas.Bool.{false≢true, eqb-true, or_cases}
-use Rattle.metis_universe.specs.Universe.{has}
+use Rattle.metis_universe.specs.Terms.{has}
 
 pub in_range : (a n q : ℕ) → has (range_with_len a n) q ≡ true → (a ≤ q) × (q < a + n)
 in_range a zero q h = absurd (false≢true h)

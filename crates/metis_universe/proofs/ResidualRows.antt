@@ -9,8 +9,7 @@ use Rattle.std.proofs.lemmas.List.Elements.{All-from_recursion, recursion_from_A
 use Rattle.std.proofs.lemmas.List.FromFn.{get_or-map-range_with_len, length-map-range_with_len}
 use Rattle.std.proofs.lemmas.List.Kept.{IsStrictlyIncreasing-filter}
 use Rattle.std.proofs.lemmas.List.Sums.{sum-map, sum_by-cons}
-use Rattle.metis_universe.specs.Universe.{Pair, Universe, demand_in, demand_of, demand_total, has, is_initial, no_pair, pair_at, pair_count, provides}
-use Rattle.metis_universe.specs.Residual.{further_left, is_left, required_left, residual, residual_row}
+use Rattle.metis_universe.specs.Terms.{Pair, Universe, demand_in, demand_of, demand_total, further_left, has, is_initial, is_left, no_pair, pair_at, pair_count, provides, required_left, residual, residual_row}
 use Rattle.metis_universe.proofs.Demanded.{demands_between, demands_in_all, demands_one}
 
 pub residual_count : (u : Universe) (g : ℕ → ℕ) (avoided : List ℕ) → pair_count (residual u g avoided) ≡ pair_count u

@@ -6,9 +6,7 @@ use Rattle.std.specs.List.Sorted.{IsStrictlyIncreasing}
 use Rattle.std.proofs.lemmas.List.Elements.{All-filter}
 use Rattle.std.proofs.lemmas.List.FromFn.{fill_by_all, get_or-map-range_with_len}
 use Rattle.std.proofs.lemmas.List.Sums.{sum_by-cons}
-use Rattle.metis_universe.specs.Universe.{IsNamed, IsTable, IsUniverse, IsWithinLimits, Pair, Universe, all_pairs, demand_total, has, initial_of, is_initial, no_pair, pair_at, pair_count, port_count, type_of}
-use Rattle.metis_universe.specs.Names.{is_name}
-use Rattle.metis_universe.specs.Residual.{further_left, is_left, required_left, residual, residual_row}
+use Rattle.metis_universe.specs.Terms.{IsNamed, IsTable, IsUniverse, IsWithinLimits, Pair, Universe, all_pairs, demand_total, further_left, has, initial_of, is_initial, is_left, is_name, no_pair, pair_at, pair_count, port_count, required_left, residual, residual_row, type_of}
 use Rattle.metis_universe.proofs.ResidualRows.{left_length, left_low, left_none, left_rises, left_total, residual_at, residual_count}
 
 none_increase : IsStrictlyIncreasing []

@@ -2,11 +2,7 @@
 use Rattle.std.proofs.Common.{◌≡◌, ℕ, ◌+◌, ◌<◌, List, [], ◌∷◌, ◌++◌, length, map, set, take, drop, get_or, refl, ap, sym, ◌∙◌, arith, append_assoc}
 use Rattle.std.proofs.Math.Seq.{drop-append_seam, get_or-append_seam, set-append_seam, take-append_seam}
 use Rattle.std.proofs.lemmas.List.{append-nil, drop_more, length-drop, length-map, length_push, map-append, map_push, take-append-drop, take_more, length-take-le}
-use Rattle.metis_universe.specs.Universe.{Kind, Pair, no_pair}
-use Rattle.metis_universe.specs.Kinds.{kinds_of}
-use Rattle.metis_universe.specs.RowShapes.{StateRow, TypeRow}
-use Rattle.metis_universe.specs.Rows.{initial_from, initials_from, names_of, state_total, pair_from, pairs_of_type, pairs_from, kind_from, kinds_from}
-use Rattle.metis_universe.specs.Unnamed.{unnamed, with_names}
+use Rattle.metis_universe.specs.Terms.{Kind, Pair, StateRow, TypeRow, initial_from, initials_from, kind_from, kinds_from, kinds_of, names_of, no_pair, pair_from, pairs_from, pairs_of_type, state_total, unnamed, with_names}
 use Rattle.metis_universe.proofs.Blocks.{kinds_from-push, pairs_from-push}
 
 -- the types by their names and their initial pairs

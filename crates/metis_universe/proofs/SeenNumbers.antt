@@ -15,9 +15,7 @@ use Rattle.std.proofs.lemmas.List.Quantifiers.{position-Some}
 use Rattle.std.proofs.lemmas.Slice.Eq.{bytes_eq-Decides}
 use Rattle.metis_ids.proofs.Lists.{each_weaker, none_above}
 use Rattle.metis_ids.proofs.Tests.{bytes_same}
-use Rattle.metis_universe.specs.Rows.{ascending, number_of}
-use Rattle.metis_universe.specs.Sights.{with_name, sights_after}
-use Rattle.metis_universe.specs.Universe.{has}
+use Rattle.metis_universe.specs.Terms.{ascending, has, number_of, sights_after, with_name}
 use Rattle.metis_universe.proofs.Ascending.{at_seen, has-insert_key}
 use Rattle.metis_universe.proofs.FirstFault.{list_any-from_position}
 

@@ -16,11 +16,7 @@ use Rattle.std.proofs.lemmas.Slice.Eq.{bytes_eq-Decides}
 use Rattle.metis_ids.proofs.Lists.{each_weaker}
 use Rattle.metis_ids.proofs.Tests.{bytes_same}
 use Rattle.metis_universe.specs.declared.faults.RowFault.TheVariants.{PortName}
-use Rattle.metis_universe.specs.Names.{is_name}
-use Rattle.metis_universe.specs.Rows.{first_from, unless, port_fault, number_of}
-use Rattle.metis_universe.specs.SeenPorts.{number_within, IsNumbered}
-use Rattle.metis_universe.specs.Sights.{with_name, sights_after, first_sights}
-use Rattle.metis_universe.specs.Texts.{texts}
+use Rattle.metis_universe.specs.Terms.{IsNumbered, first_from, first_sights, is_name, number_of, number_within, port_fault, sights_after, texts, unless, with_name}
 use Rattle.metis_universe.proofs.Ascending.{at_seen, number-le}
 use Rattle.metis_universe.proofs.FirstFault.{position-cons, list_any-from_position}
 use Rattle.metis_universe.proofs.FirstSights.{each_seen}

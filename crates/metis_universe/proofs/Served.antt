@@ -8,12 +8,7 @@ use Rattle.metis_ids.specs.declared.actions.Action.{Action}
 use Rattle.metis_ids.specs.declared.goals.Goal.{Goal}
 use Rattle.metis_ids.specs.declared.goals.Goal.TheVariants.{Pair, Port}
 use Rattle.metis_ids.proofs.Lists.{any_at, list_any-map}
-use Rattle.metis_universe.specs.Universe.{Universe, has}
-use Rattle.metis_universe.specs.Config.{Config, IsConfig, empty, pair_of}
-use Rattle.metis_universe.specs.Step.{IsRun, after_all}
-use Rattle.metis_universe.specs.Goal.{Attains, Holds}
-use Rattle.metis_universe.specs.Closed.{Closed, Refusal}
-use Rattle.metis_universe.specs.Goals.{AttainsGoals, GoalRefusal, HoldsGoals, lacks, pair_goals, places_of, occupied, same_goal, serves, serving}
+use Rattle.metis_universe.specs.Terms.{Attains, AttainsGoals, Closed, Config, GoalRefusal, Holds, HoldsGoals, IsConfig, IsRun, Refusal, Universe, after_all, empty, has, lacks, occupied, pair_goals, pair_of, places_of, same_goal, serves, serving}
 use Rattle.metis_universe.proofs.Inside.{IsInside-after_all, IsInside-empty}
 use Rattle.metis_universe.proofs.Kept.{IsConfig-after_all, IsConfig-empty}
 use Rattle.metis_universe.proofs.Sorted.{lookup_counted}

@@ -5,13 +5,7 @@ use Rattle.std.proofs.lemmas.Bool.{false≢true, eq-eqb}
 use Rattle.std.proofs.lemmas.Option.{none-some, same_Some}
 use Rattle.metis_ids.specs.declared.actions.Action.{Action}
 use Rattle.metis_ids.specs.declared.actions.Action.TheVariants.{New, Delete, Bind, Unbind, Move}
-use Rattle.metis_universe.specs.Universe.{Universe, has, initial_of}
-use Rattle.metis_universe.specs.Config.{Config, empty}
-use Rattle.metis_universe.specs.Closed.{Closed}
-use Rattle.metis_universe.specs.Step.{IsRun, after}
-use Rattle.metis_universe.specs.Steadfast.{pair_after}
-use Rattle.metis_universe.specs.Waits.{action_at}
-use Rattle.metis_universe.specs.Settled.{settles, IsLast, NoneSettles}
+use Rattle.metis_universe.specs.Terms.{Closed, Config, IsLast, IsRun, NoneSettles, Universe, action_at, after, empty, has, initial_of, pair_after, settles}
 use Rattle.metis_universe.proofs.Frames.{pair_step, pair_steps, pair_of-after_all}
 use Rattle.metis_universe.proofs.Inside.{IsInside-after_all, IsInside-empty}
 use Rattle.metis_universe.proofs.Kept.{IsConfig-empty}

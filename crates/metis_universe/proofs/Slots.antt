@@ -8,8 +8,7 @@ use Rattle.std.proofs.lemmas.Bool.{cases_Bool, eq-eqb, eqb-true, false≢true, o
 use Rattle.std.proofs.lemmas.List.Folds.{list_any-append, list_any_at}
 use Rattle.metis_universe.proofs.Demands.{some_provides}
 use Rattle.metis_universe.proofs.Greatest.{demand_least, most_from, most_met}
-use Rattle.metis_universe.specs.Selection.{IsSlotBy, demands_on, slots_by}
-use Rattle.metis_universe.specs.Universe.{Universe, demand_of, greatest_demand, has, required_of, requires}
+use Rattle.metis_universe.specs.Terms.{IsSlotBy, Universe, demand_of, demands_on, greatest_demand, has, required_of, requires, slots_by}
 
 -- ---- the greatest of some numbers
 

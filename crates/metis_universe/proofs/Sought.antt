@@ -13,7 +13,7 @@ use Rattle.std.proofs.lemmas.List.Folds.{list_any_at}
 use Rattle.std.proofs.lemmas.List.Quantifiers.{position-Some}
 use Rattle.std.proofs.lemmas.List.Sorted.{searched}
 use Rattle.std.proofs.lemmas.List.Sums.{position_or_len_is}
-use Rattle.metis_universe.specs.Universe.{Pair, Universe, IsUniverse, all_pairs, demand_in, has, kind_in, no_pair, pair_count, port_count}
+use Rattle.metis_universe.specs.Terms.{IsUniverse, Pair, Universe, all_pairs, demand_in, has, kind_in, no_pair, pair_count, port_count}
 use Rattle.metis_universe.proofs.FirstFault.{list_any-from_position}
 use Rattle.metis_universe.proofs.PortRows.{Rises, rises}
 use Rattle.metis_universe.proofs.TypeBlock.{is_of, any-filter}

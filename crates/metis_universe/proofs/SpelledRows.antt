@@ -12,10 +12,7 @@ use Rattle.std.proofs.lemmas.List.Quantifiers.{position-Some}
 use Rattle.std.proofs.lemmas.List.Sums.{position_or_len_is}
 use Rattle.std.proofs.lemmas.Slice.Eq.{bytes_eq-Decides}
 use Rattle.metis_ids.proofs.Finding.{position_here}
-use Rattle.metis_universe.specs.RowShapes.{StateRow, TypeRow, names_needed}
-use Rattle.metis_universe.specs.Rows.{IsOfVersion, ascending, first_fault, greatest_count, has_state, number_of, pair_from, ports_of, state_number, universe_from}
-use Rattle.metis_universe.specs.Spelled.{Spells, demand_named, is_listed, leads_to, provides_named}
-use Rattle.metis_universe.specs.Universe.{Kind, Pair, Universe, IsTable, demand_in, demand_of, has, initial_of, is_initial, kind_at, next_of, no_kind, no_pair, pair_at, pair_count, pair_named, provides, state_named, type_count, type_named, type_of}
+use Rattle.metis_universe.specs.Terms.{IsOfVersion, IsTable, Kind, Pair, Spells, StateRow, TypeRow, Universe, ascending, demand_in, demand_named, demand_of, first_fault, greatest_count, has, has_state, initial_of, is_initial, is_listed, kind_at, leads_to, names_needed, next_of, no_kind, no_pair, number_of, pair_at, pair_count, pair_from, pair_named, ports_of, provides, provides_named, state_named, state_number, type_count, type_named, type_of, universe_from}
 use Rattle.metis_universe.proofs.Ascending.{at_seen, has-insert_key}
 use Rattle.metis_universe.proofs.Blocks.{first_of, length-kinds_from, no_row, no_state, row_at, states_at}
 use Rattle.metis_universe.proofs.ClearRows.{IsClear-from_first_fault, some_counts}

@@ -2,7 +2,7 @@
 use Rattle.std.proofs.Common.{◌≡◌, ℕ, zero, suc, ◌+◌, ◌≤◌, Bool, true, false, cond, ◌&&◌, ◌||◌, ltb, leb, nat_eq, List, [], ◌∷◌, length, take, drop, refl, ap, ◌∙◌, sym, arith}
 use Rattle.std.specs.List.{list_any, filter, AllWithin}
 use Rattle.std.proofs.lemmas.Bool.Decides.{nat_tests}
-use Rattle.metis_universe.specs.Universe.{Pair}
+use Rattle.metis_universe.specs.Terms.{Pair}
 
 -- a test of what a filter keeps
 pub any-filter : {A : Type 0} (keeps t : A → Bool) (xs : List A) → list_any t (filter keeps xs) ≡ list_any (λ x. keeps x && t x) xs

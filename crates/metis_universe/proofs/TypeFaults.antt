@@ -9,10 +9,7 @@ use Rattle.metis_ids.proofs.Options.{none_from_is_some}
 use Rattle.metis_universe.specs.declared.faults.RowFault.{RowFault}
 use Rattle.metis_universe.specs.declared.faults.RowFault.TheVariants.{TypeName, TypeTwice, Limit}
 use Rattle.metis_universe.specs.declared.faults.LimitKind.TheVariants.{Requires}
-use Rattle.metis_universe.specs.Names.{is_name}
-use Rattle.metis_universe.specs.RowShapes.{NeedRow, StateRow, TypeRow}
-use Rattle.metis_universe.specs.Sights.{with_name}
-use Rattle.metis_universe.specs.Rows.{StateFits, TypeFits, demand_sum, RowsFit, unless, limit_fault, earlier_type, head_fault, fault_after, type_fault, state_total, require_total}
+use Rattle.metis_universe.specs.Terms.{NeedRow, RowsFit, StateFits, StateRow, TypeFits, TypeRow, demand_sum, earlier_type, fault_after, head_fault, is_name, limit_fault, require_total, state_total, type_fault, unless, with_name}
 use Rattle.metis_universe.proofs.Gathered.{demand_sum-le}
 use Rattle.metis_universe.proofs.Named.{position-map}
 use Rattle.metis_universe.proofs.FirstFault.{option_or-none, option_map-none, list_any-from_position}

@@ -5,7 +5,7 @@ use Rattle.std.specs.List.{filter, AllByRecursion, AllWithin, prefix_len}
 use Rattle.std.specs.List.Sorted.{IsNonDecreasingBy}
 use Rattle.std.proofs.lemmas.Bool.{lt-ltb, le-ltb, eq-eqb, ne_eqb, cases_lt, cases_eq}
 use Rattle.std.specs.Str.{bytes_eq}
-use Rattle.metis_universe.specs.Universe.{Universe, IsUniverse, Pair, no_pair, pair_count, state_named, state_place_of, states_of_type, type_of}
+use Rattle.metis_universe.specs.Terms.{IsUniverse, Pair, Universe, no_pair, pair_count, state_named, state_place_of, states_of_type, type_of}
 use Rattle.metis_universe.proofs.Named.{position_within}
 use Rattle.metis_universe.proofs.TypeBlock.{is_of}
 

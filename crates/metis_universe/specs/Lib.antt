@@ -27,3 +27,4 @@ pub mod Tidy
 pub mod Universe
 pub mod Unnamed
 pub mod Waits
+pub mod Terms

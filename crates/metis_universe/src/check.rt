@@ -4,11 +4,7 @@ ghost use Rattle.std.specs.List.{All};
 ghost use Rattle.std.specs.Option.{option_or};
 ghost use Rattle.std.specs.Str.{bytes_eq};
 ghost use Rattle.std.specs.String.{string_bytes};
-ghost use Rattle.metis_universe.specs.Names.{is_between, is_name};
-ghost use Rattle.metis_universe.specs.RowShapes.{names_needed};
-ghost use Rattle.metis_universe.specs.Rows.{first_from, unless, limit_fault, has_state, port_fault, demand_fault, state_twice, state_fault, next_fault, head_fault, link_fault, fault_after, type_fault, first_fault, StateFits, TypeFits, RowsFit, state_total, require_total, names_of, ports_of_state, ports_of_type, ports_of};
-ghost use Rattle.metis_universe.specs.SeenPorts.{AreNamed};
-ghost use Rattle.metis_universe.specs.Texts.{texts};
+ghost use Rattle.metis_universe.specs.Terms.{AreNamed, RowsFit, StateFits, TypeFits, demand_fault, fault_after, first_fault, first_from, has_state, head_fault, is_between, is_name, limit_fault, link_fault, names_needed, names_of, next_fault, port_fault, ports_of, ports_of_state, ports_of_type, require_total, state_fault, state_total, state_twice, texts, type_fault, unless};
 ghost use Rattle.metis_universe.specs.declared.faults.RowFault.TheVariants.{TypeTwice};
 ghost use Rattle.metis_universe.specs.declared.faults.LimitKind.TheVariants.{Requires};
 

@@ -4,12 +4,7 @@ ghost use Rattle.std.specs.List.{find};
 ghost use Rattle.metis_ids.specs.declared.actions.Action.{Action};
 ghost use Rattle.metis_ids.specs.declared.goals.Goal.{Goal};
 ghost use Rattle.metis_ids.specs.declared.goals.Goal.TheVariants.{Pair, Port};
-ghost use Rattle.metis_universe.specs.Universe.{Universe, has};
-ghost use Rattle.metis_universe.specs.Config.{Config, empty};
-ghost use Rattle.metis_universe.specs.Step.{IsRun, after_all};
-ghost use Rattle.metis_universe.specs.Goal.{Attains, Holds};
-ghost use Rattle.metis_universe.specs.Closed.{Closed, Refusal};
-ghost use Rattle.metis_universe.specs.Goals.{AttainsGoals, GoalRefusal, HoldsGoals, lacks, pair_goals, occupied, serving};
+ghost use Rattle.metis_universe.specs.Terms.{Attains, AttainsGoals, Closed, Config, GoalRefusal, Holds, HoldsGoals, IsRun, Refusal, Universe, after_all, empty, has, lacks, occupied, pair_goals, serving};
 
 /// A list of pairs is held, attained or refused exactly where the goals that are these pairs are.
 pub fn pairs_are_goals()

@@ -1,9 +1,7 @@
 //! What serves a goal, and the names by which goals are asked for.
 ghost use Rattle.std.specs.Prelude.{◌≡◌, IfSome, option_map};
 ghost use Rattle.metis_ids.specs.declared.goals.Goal.TheVariants.{Pair, Port};
-ghost use Rattle.metis_universe.specs.Goals.{IsGoalOf, serves};
-ghost use Rattle.metis_universe.specs.GoalWords.{IsWordable, goal_named, goal_names, means_port};
-ghost use Rattle.metis_universe.specs.Universe.{pair_named, port_named};
+ghost use Rattle.metis_universe.specs.Terms.{IsGoalOf, IsWordable, goal_named, goal_names, means_port, pair_named, port_named, serves};
 
 use crate::Universe;
 use metis_ids::{Goal, PairIx};

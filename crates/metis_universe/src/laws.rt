@@ -4,23 +4,8 @@ ghost use Rattle.std.specs.Bool.{Decides};
 ghost use Rattle.std.specs.List.{list_any};
 ghost use Rattle.metis_ids.specs.declared.actions.Action.{Action};
 ghost use Rattle.metis_ids.specs.declared.actions.Action.TheVariants.{New, Delete, Move};
-ghost use Rattle.metis_universe.specs.Config.{Config, Correct, IsConfig, IsMet, empty, is_correct, is_met, is_tie};
-ghost use Rattle.metis_universe.specs.Single.{HasProviders, IsSingle};
-ghost use Rattle.metis_universe.specs.Step.{IsRun};
-ghost use Rattle.metis_universe.specs.Steadfast.{pair_after};
-ghost use Rattle.metis_universe.specs.Settled.{IsLast, NoneSettles, IsLower};
-ghost use Rattle.metis_universe.specs.Waits.{standing, IsStanding};
-ghost use Rattle.metis_universe.specs.Universe.{Universe, IsGreatestMet, IsUniverse, demand_of, greatest_demand, pair_count, has, is_initial, next_of, initial_of, provides, requires};
-ghost use Rattle.metis_universe.specs.Residual.{residual};
-ghost use Rattle.metis_universe.specs.RowShapes.{StateRow, TypeRow};
-ghost use Rattle.metis_universe.specs.Rows.{IsOfVersion, first_fault, universe_from};
-ghost use Rattle.metis_universe.specs.Spelled.{Spells};
-ghost use Rattle.metis_universe.specs.RowFaults.{HasFault, StateAt, all_faults, first_of};
+ghost use Rattle.metis_universe.specs.Terms.{Attains, Closed, Config, Correct, HasFault, HasProviders, IsConfig, IsGreatestMet, IsLast, IsLeastRound, IsLeastSelection, IsLower, IsMet, IsOfVersion, IsRun, IsSingle, IsSlot, IsSlotBy, IsStanding, IsUniverse, NoneSettles, Refusal, Spells, StateAt, StateRow, TypeRow, Universe, all_faults, demand_of, empty, first_fault, first_of, greatest_demand, has, initial_of, is_correct, is_initial, is_met, is_tie, layer_of, layer_set, next_of, origin_of, pair_after, pair_count, provider_of, provides, requires, residual, selected, slots, slots_by, standing, universe_from};
 ghost use Rattle.metis_universe.specs.declared.faults.RowFault.{RowFault};
-ghost use Rattle.metis_universe.specs.Goal.{Attains};
-ghost use Rattle.metis_universe.specs.Closed.{Closed, Refusal};
-ghost use Rattle.metis_universe.specs.Layers.{layer_of, layer_set, IsLeastRound};
-ghost use Rattle.metis_universe.specs.Selection.{provider_of, origin_of, selected, slots, slots_by, IsLeastSelection, IsSlot, IsSlotBy};
 
 /// No list of actions attains what a refusal refuses: each run from the empty configuration stays inside every closed set.
 pub fn refused_is_not_attained()

@@ -1,8 +1,7 @@
 //! Names of types, states and ports.
 ghost use Rattle.std.specs.Prelude.{◌≡◌, IsTrue, MatchOption, false, length, option_map};
 ghost use Rattle.std.specs.List.{list_all};
-ghost use Rattle.metis_universe.specs.Names.{is_name, is_name_byte, is_between};
-ghost use Rattle.metis_universe.specs.PairWords.{pair_names};
+ghost use Rattle.metis_universe.specs.Terms.{is_between, is_name, is_name_byte, pair_names};
 
 use crate::limits::LONGEST_NAME;
 

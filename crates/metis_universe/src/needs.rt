@@ -1,8 +1,7 @@
 //! What the entries of a state's required ports demand, port by port.
 ghost use Rattle.std.specs.Prelude.{◌≡◌, ◌≤◌, ◌<◌, ◌-◌, ◌^◌, ◌↔◌, [], length, map, sum_by, IsTrue, IfOk, OnOk};
 ghost use Rattle.std.specs.List.{All, slice_index_or};
-ghost use Rattle.metis_universe.specs.Needs.{count_in, greatest_needs, need_rows_of, no_need, with_need};
-ghost use Rattle.metis_universe.specs.Rows.{TypeFits, demand_sum, further_from, require_total};
+ghost use Rattle.metis_universe.specs.Terms.{TypeFits, count_in, demand_sum, further_from, greatest_needs, need_rows_of, no_need, require_total, with_need};
 
 use crate::numbered::NumberedNames;
 use crate::rows::{NeedRow, TypeRow};

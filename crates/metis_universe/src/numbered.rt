@@ -4,8 +4,7 @@ ghost use Rattle.std.specs.Prelude.{◌≡◌, ◌<◌, ◌++◌, ◌∷◌, [],
 ghost use Rattle.std.specs.List.{slice_index_or};
 ghost use Rattle.std.specs.Str.{bytes_eq};
 ghost use Rattle.std.specs.String.{string_bytes};
-ghost use Rattle.metis_universe.specs.Sights.{with_name};
-ghost use Rattle.metis_universe.specs.Texts.{texts};
+ghost use Rattle.metis_universe.specs.Terms.{texts, with_name};
 
 use std::alloc::{AllocError, Global};
 use std::collections::HashMap;

@@ -1,6 +1,6 @@
 //! The rows of a universe, as a document spells them.
 ghost use Rattle.std.specs.Prelude.{IsTrue, ◌↔◌};
-ghost use Rattle.metis_universe.specs.Rows.{StateFits, TypeFits, RowsFit};
+ghost use Rattle.metis_universe.specs.Terms.{RowsFit, StateFits, TypeFits};
 
 use std::marker::Model;
 

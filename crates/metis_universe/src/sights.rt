@@ -1,9 +1,6 @@
 //! Names in the order in which they are first seen.
 ghost use Rattle.std.specs.Prelude.{◌≡◌, ◌∷◌, [], flat_map, map, IfOk, OnOk};
-ghost use Rattle.metis_universe.specs.Rows.{ports_of_state, ports_of_type, ports_of};
-ghost use Rattle.metis_universe.specs.RowShapes.{names_needed};
-ghost use Rattle.metis_universe.specs.SeenPorts.{number_within, IsNumbered};
-ghost use Rattle.metis_universe.specs.Texts.{texts};
+ghost use Rattle.metis_universe.specs.Terms.{IsNumbered, names_needed, number_within, ports_of, ports_of_state, ports_of_type, texts};
 
 use crate::limits::MOST_PORTS;
 use crate::numbered::NumberedNames;

@@ -3,9 +3,7 @@ ghost use Rattle.std.specs.Prelude.{◌≡◌, ◌≤◌, ◌<◌, ◌==◌, ◌
 ghost use Rattle.std.specs.List.{All, filter, list_any, position_or_len, slice_index_or};
 ghost use Rattle.std.specs.List.Sorted.{IsStrictlyIncreasing, IsNonDecreasingBy};
 ghost use Rattle.std.specs.Str.{bytes_eq};
-ghost use Rattle.metis_universe.specs.Universe.{has, kind_in, pair_count, type_count, port_count, type_of, state_place_of, initial_of, is_free, is_initial, next_of, provided_of, required_of, demand_of, greatest_demand, provides, type_requires, type_provides, providers_of, requirers_of, type_named, port_named, state_named, pair_named, type_name_of, state_name_of, port_name_of, states_of_type, IsBySight, IsTable};
-ghost use Rattle.metis_universe.specs.Numbers.{IsOf};
-ghost use Rattle.metis_universe.specs.Rows.{IsOfVersion, RowsFit, IsMade};
+ghost use Rattle.metis_universe.specs.Terms.{IsBySight, IsMade, IsOf, IsOfVersion, IsTable, RowsFit, demand_of, greatest_demand, has, initial_of, is_free, is_initial, kind_in, next_of, pair_count, pair_named, port_count, port_name_of, port_named, provided_of, providers_of, provides, required_of, requirers_of, state_name_of, state_named, state_place_of, states_of_type, type_count, type_name_of, type_named, type_of, type_provides, type_requires};
 
 mod build;
 mod residual;

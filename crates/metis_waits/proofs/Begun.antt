@@ -6,17 +6,13 @@ use Rattle.std.proofs.lemmas.Option.{get_or_from_slice_get, slice_get_within}
 use Rattle.std.specs.List.{filter, range_with_len, slice_get}
 use Rattle.std.specs.Option.{option_map_or}
 use Rattle.metis_ids.proofs.Lists.{has_range}
-use Rattle.metis_ids.specs.Action.{actor_of}
+use Rattle.metis_ids.specs.Terms.{actor_of}
 use Rattle.metis_ids.specs.declared.actions.Action.{Action}
 use Rattle.metis_universe.proofs.Correctness.{all_has}
-use Rattle.metis_universe.specs.Steadfast.{is_steadfast, is_steadfast_after, is_steadfast_at}
-use Rattle.metis_universe.specs.Universe.{Universe}
-use Rattle.metis_universe.specs.Waits.{action_at, before, is_wait, last_number, numbers, waits}
+use Rattle.metis_universe.specs.Terms.{Universe, action_at, before, is_steadfast, is_steadfast_after, is_steadfast_at, is_wait, last_number, numbers, waits}
 use Rattle.metis_waits.proofs.Listed.{numbered}
 use Rattle.metis_waits.proofs.Passed.{all_steadfast, mapped, one_more, others_next, steadfast_next, waits_next}
-use Rattle.metis_waits.specs.Judged.{IsBegun, IsJudged}
-use Rattle.metis_waits.specs.Summary.{IsSummary}
-use Rattle.metis_waits.specs.Waits.{IsFirstLoose, IsNumbered, is_by, own_previous, waits_on_others}
+use Rattle.metis_waits.specs.Terms.{IsBegun, IsFirstLoose, IsJudged, IsNumbered, IsSummary, is_by, own_previous, waits_on_others}
 use Rattle.metis_waits.specs.declared.judged.Judged.{Judged}
 
 -- the first i of the actions are judged, and i is how many lists there are

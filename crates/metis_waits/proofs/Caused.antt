@@ -4,7 +4,7 @@ use Rattle.std.specs.Prelude.{◌↔◌, slice_get, IfSome, IsSomeAnd}
 use Rattle.std.specs.List.{filter, list_any, range_with_len}
 use Rattle.std.specs.Option.{option_map_or}
 use Rattle.std.proofs.lemmas.Bool.{false≢true, and_from, and_parts, both_ways, cases_order, eq-eqb, eqb-true, lt-ltb, ltb-true, or_cases, or_left, or_right}
-use Rattle.metis_ids.specs.Action.{actor_of}
+use Rattle.metis_ids.specs.Terms.{actor_of}
 use Rattle.metis_ids.specs.declared.actions.Action.{Action}
 use Rattle.metis_ids.specs.declared.actions.Action.TheVariants.{New, Delete, Bind, Unbind, Move}
 use Rattle.metis_ids.proofs.Lists.{has_range}
@@ -12,13 +12,10 @@ use Rattle.metis_universe.proofs.Places.{passes_at, place_below}
 use Rattle.metis_universe.proofs.Ranges.{in_range}
 use Rattle.metis_universe.proofs.Rounds.{has-filter}
 use Rattle.metis_universe.proofs.Standing.{Decides-standing}
-use Rattle.metis_universe.specs.Config.{Binding, is_tie}
-use Rattle.metis_universe.specs.Universe.{has}
-use Rattle.metis_universe.specs.Waits.{IsStanding, action_at, before, enters, is_release_of, is_wait, last_number, numbers, releases, standing, waits}
+use Rattle.metis_universe.specs.Terms.{Binding, IsStanding, action_at, before, enters, has, is_release_of, is_tie, is_wait, last_number, numbers, releases, standing, waits}
 use Rattle.metis_waits.proofs.LastPlaces.{IsLast, last_place, length_is, passes_from, passes_some}
 use Rattle.metis_waits.proofs.Providers.{release_is_wait, slice_get-take, some_tie, take-take}
-use Rattle.metis_waits.specs.Causes.{HasCause, IsLastBefore, IsProviderRelease, takes_out}
-use Rattle.metis_waits.specs.Waits.{is_by}
+use Rattle.metis_waits.specs.Terms.{HasCause, IsLastBefore, IsProviderRelease, is_by, takes_out}
 
 less_one : (i : ℕ) → suc i - 1 ≡ i
 less_one i = omega arith

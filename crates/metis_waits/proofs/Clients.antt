@@ -17,11 +17,10 @@ use Rattle.std.specs.declared.cmp.Ordering.TheVariants.{Equal}
 use Rattle.metis_universe.proofs.Bindings.{own_tie}
 use Rattle.metis_universe.proofs.Edits.{any-insert_key, binding_cmp-exact, binding_cmp_total, tie_is}
 use Rattle.metis_universe.proofs.Sorted.{remove_key-sorted}
-use Rattle.metis_universe.specs.Config.{Binding, binding_cmp, is_tie, names}
+use Rattle.metis_universe.specs.Terms.{Binding, binding_cmp, is_tie, names}
 use Rattle.metis_waits.proofs.Counted.{counted_in, counted_out, insert_key-there, kept_all, none_behind}
 use Rattle.metis_waits.proofs.LetGo.{is_to}
-use Rattle.metis_waits.specs.Instances.{is_own, tie_cmp}
-use Rattle.metis_waits.specs.Summary.{clients_of}
+use Rattle.metis_waits.specs.Terms.{clients_of, is_own, tie_cmp}
 
 -- ---- ports with their providers
 

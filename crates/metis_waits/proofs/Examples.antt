@@ -2,8 +2,8 @@
 use Rattle.std.proofs.Common.{◌≡◌, List, [], ◌∷◌, map, refl}
 use Rattle.metis_ids.specs.declared.actions.Action.{Action}
 use Rattle.metis_ids.specs.declared.actions.Action.TheVariants.{New, Delete, Bind, Move}
-use Rattle.metis_universe.specs.Waits.{numbers, waits}
-use Rattle.metis_waits.specs.Waits.{own_previous, waits_on_others}
+use Rattle.metis_universe.specs.Terms.{numbers, waits}
+use Rattle.metis_waits.specs.Terms.{own_previous, waits_on_others}
 
 -- a database is switched on, and a web server is bound to it and runs
 abbrev session : List Action

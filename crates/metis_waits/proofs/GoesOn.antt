@@ -5,8 +5,7 @@ use Rattle.std.proofs.lemmas.Bool.{and_from, cases_eq, eq-eqb, eqb-true, falseâ‰
 use Rattle.std.proofs.lemmas.List.Folds.{list_any-append}
 use Rattle.metis_ids.specs.declared.actions.Action.{Action}
 use Rattle.metis_ids.proofs.Lists.{has-filter, has_range}
-use Rattle.metis_universe.specs.Universe.{has}
-use Rattle.metis_universe.specs.Waits.{IsKept, IsKeptFrom, is_complete, numbers, waits}
+use Rattle.metis_universe.specs.Terms.{IsKept, IsKeptFrom, has, is_complete, numbers, waits}
 use Rattle.metis_universe.proofs.Correctness.{all_from_has, all_has}
 use Rattle.metis_waits.proofs.LastPlaces.{waits_earlier}
 

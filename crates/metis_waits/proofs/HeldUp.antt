@@ -7,10 +7,9 @@ use Rattle.std.proofs.lemmas.Bool.{and_from, and_parts, both_ways, cases_Bool, c
 use Rattle.std.proofs.lemmas.List.Folds.{list_any-append}
 use Rattle.metis_ids.specs.declared.actions.Action.{Action}
 use Rattle.metis_ids.proofs.Lists.{has-filter, has_range}
-use Rattle.metis_universe.specs.Universe.{has}
-use Rattle.metis_universe.specs.Waits.{IsKept, IsKeptFrom, numbers, waits}
+use Rattle.metis_universe.specs.Terms.{IsKept, IsKeptFrom, has, numbers, waits}
 use Rattle.metis_universe.proofs.Correctness.{all_from_has}
-use Rattle.metis_waits.specs.Failures.{HasAllOthers, NoneHeldUp, is_held_up, is_held_up_within}
+use Rattle.metis_waits.specs.Terms.{HasAllOthers, NoneHeldUp, is_held_up, is_held_up_within}
 use Rattle.metis_waits.proofs.GoesOn.{appended}
 use Rattle.metis_waits.proofs.LastPlaces.{waits_earlier}
 

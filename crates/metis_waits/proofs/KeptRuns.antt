@@ -4,16 +4,11 @@ use Rattle.std.specs.Prelude.{slice_get, IsTrue, IsSome, IsSomeAnd}
 use Rattle.std.specs.List.{cons_option}
 use Rattle.std.specs.Option.{option_map_or}
 use Rattle.std.proofs.lemmas.Bool.{false≢true, or_left, or_right, or_cases, eq-eqb, eqb-true, cases_lt, cases_eq, both_ways, cases_Bool, false_from_ne_true}
-use Rattle.metis_ids.specs.Action.{actor_of}
+use Rattle.metis_ids.specs.Terms.{actor_of}
 use Rattle.metis_ids.specs.declared.actions.Action.{Action}
 use Rattle.metis_ids.specs.declared.actions.Action.TheVariants.{New, Delete, Bind, Unbind, Move}
 use Rattle.metis_ids.proofs.Lists.{at_range}
-use Rattle.metis_universe.specs.Universe.{demand_of, Universe, has, type_of, type_requires, type_provides}
-use Rattle.metis_universe.specs.Config.{Config, Binding, empty, pair_of, is_bound, is_tie, Correct}
-use Rattle.metis_universe.specs.Step.{Allows, after, after_all, IsRun}
-use Rattle.metis_universe.specs.Waits.{waits, picked, IsKeptFrom, IsKept, is_complete}
-use Rattle.metis_universe.specs.Settled.{settles}
-use Rattle.metis_universe.specs.Steadfast.{is_steadfast}
+use Rattle.metis_universe.specs.Terms.{Allows, Binding, Config, Correct, IsKept, IsKeptFrom, IsRun, Universe, after, after_all, demand_of, empty, has, is_bound, is_complete, is_steadfast, is_tie, pair_of, picked, settles, type_of, type_provides, type_requires, waits}
 use Rattle.metis_universe.proofs.Edits.{tie_is}
 use Rattle.metis_universe.proofs.Frames.{pair_step, pair_of-after, bound_step, is_bound-after}
 use Rattle.metis_universe.proofs.Standing.{step_made}
@@ -27,7 +22,7 @@ use Rattle.metis_universe.proofs.Settling.{step_other}
 use Rattle.metis_waits.proofs.LastPlaces.{last_place, passes_from, passes_some}
 use Rattle.metis_waits.proofs.Orders.{IsAt, IsClosedUnderWaits, last_own_done, own_done, place_of}
 use Rattle.metis_waits.proofs.Providers.{bound_next, config_at-start, not_changed_later, not_early, own_place, pair_between, pair_next, same_provider, settles_own, take_past, unbound_at}
-use Rattle.metis_waits.specs.Waits.{is_by}
+use Rattle.metis_waits.specs.Terms.{is_by}
 
 -- d has of each instance, and of each binding of it, what the run has before the instance's first action that is not done
 pub record IsAgreeing (u : Universe) (A : List Action) (done : List ℕ) (d : Config) : Type 0 where

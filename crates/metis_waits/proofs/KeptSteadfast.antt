@@ -8,12 +8,7 @@ use Rattle.std.proofs.lemmas.List.Folds.{list_any-append}
 use Rattle.std.proofs.lemmas.Option.{same_Some}
 use Rattle.metis_ids.specs.declared.actions.Action.{Action}
 use Rattle.metis_ids.specs.declared.actions.Action.TheVariants.{New, Delete, Bind, Unbind, Move}
-use Rattle.metis_universe.specs.Config.{Binding, empty, is_tie}
-use Rattle.metis_universe.specs.Settled.{settles}
-use Rattle.metis_universe.specs.Steadfast.{is_new, is_steadfast, is_steadfast_after, is_steadfast_at}
-use Rattle.metis_universe.specs.Step.{Allows, IsRun, after_all}
-use Rattle.metis_universe.specs.Universe.{Universe, has, provides}
-use Rattle.metis_universe.specs.Waits.{IsKept, IsKeptFrom, before, picked, standing, waits}
+use Rattle.metis_universe.specs.Terms.{Allows, Binding, IsKept, IsKeptFrom, IsRun, Universe, after_all, before, empty, has, is_new, is_steadfast, is_steadfast_after, is_steadfast_at, is_tie, picked, provides, settles, standing, waits}
 use Rattle.metis_universe.proofs.Correctness.{all_has}
 use Rattle.metis_universe.proofs.Frames.{bindings-after_all}
 use Rattle.metis_universe.proofs.Places.{action_below, config_at, passes_at, run_at, steadfast_at}

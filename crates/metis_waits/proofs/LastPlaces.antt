@@ -5,16 +5,15 @@ use Rattle.std.specs.List.{filter, suffix_len}
 use Rattle.std.specs.Option.{option_map_or}
 use Rattle.std.proofs.lemmas.List.Sums.{suffix_len-take_no, suffix_len-take_yes}
 use Rattle.std.proofs.lemmas.Bool.{false≢true, and_parts, or_left, eq-eqb, cases_eq, cases_Bool, not_from_true, not_from_false}
-use Rattle.metis_ids.specs.Action.{actor_of}
+use Rattle.metis_ids.specs.Terms.{actor_of}
 use Rattle.metis_ids.specs.declared.actions.Action.{Action}
 use Rattle.metis_ids.specs.declared.actions.Action.TheVariants.{New, Delete, Bind, Unbind, Move}
 use Rattle.metis_ids.proofs.Lists.{take_short}
-use Rattle.metis_universe.specs.Universe.{has}
-use Rattle.metis_universe.specs.Waits.{action_at, before, is_wait, last_number, numbers, waits}
+use Rattle.metis_universe.specs.Terms.{action_at, before, has, is_wait, last_number, numbers, waits}
 use Rattle.metis_universe.proofs.Places.{action_below, passes_at, place_below}
 use Rattle.metis_universe.proofs.Ranges.{in_range}
 use Rattle.metis_universe.proofs.Rounds.{has-filter}
-use Rattle.metis_waits.specs.Waits.{is_by}
+use Rattle.metis_waits.specs.Terms.{is_by}
 
 get_of : (A : List Action) (i : ℕ) (a d : Action) → slice_get A i ≡ Some a → get_or A i d ≡ a
 get_of [] i a d h = cc

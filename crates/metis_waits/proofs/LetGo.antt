@@ -7,7 +7,7 @@ use Rattle.std.proofs.lemmas.Bool.{eq-eqb, eqb-true}
 use Rattle.std.proofs.lemmas.List.{length-append, length_push}
 use Rattle.std.proofs.lemmas.List.Elements.{filter-append}
 use Rattle.std.proofs.lemmas.List.Folds.{list_any-append}
-use Rattle.metis_waits.specs.Instances.{InstanceState, changed, is_last, let_go, noted, with_clients, without_own}
+use Rattle.metis_waits.specs.Terms.{InstanceState, changed, is_last, let_go, noted, with_clients, without_own}
 use Rattle.metis_waits.specs.declared.instances.Change.TheVariants.{Released}
 use Rattle.metis_ids.proofs.Lists.{get_at_end}
 

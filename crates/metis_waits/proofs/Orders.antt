@@ -2,13 +2,12 @@
 use Rattle.std.proofs.Common.{◌≡◌, ℕ, zero, suc, ◌<◌, ◌≤◌, Bool, true, false, not, ◌&&◌, List, Some, refl, sym, ap, ◌∙◌, arith, inl, inr, take, length}
 use Rattle.std.specs.Prelude.{slice_get}
 use Rattle.std.proofs.lemmas.Bool.{false≢true, and_parts, eqb-true, cases_lt, cases_eq, both_ways, not-true}
-use Rattle.metis_ids.specs.Action.{actor_of}
+use Rattle.metis_ids.specs.Terms.{actor_of}
 use Rattle.metis_ids.specs.declared.actions.Action.{Action}
-use Rattle.metis_universe.specs.Universe.{has}
-use Rattle.metis_universe.specs.Waits.{last_number, waits}
+use Rattle.metis_universe.specs.Terms.{has, last_number, waits}
 use Rattle.metis_universe.proofs.Places.{least_place, passes_at, place_below, wait_has}
 use Rattle.metis_waits.proofs.LastPlaces.{IsLast, last_place, own_is_wait, passes_some}
-use Rattle.metis_waits.specs.Waits.{is_by}
+use Rattle.metis_waits.specs.Terms.{is_by}
 
 -- the waits of what is done are done
 abbrev pub IsClosedUnderWaits : List Action → List ℕ → Type 0

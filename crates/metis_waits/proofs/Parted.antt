@@ -2,7 +2,7 @@
 use Rattle.std.proofs.Common.{◌≡◌, ℕ, zero, suc, ◌-◌, ◌<◌, ◌≤◌, List, [], ◌∷◌, ◌++◌, length, take, drop, get_or, refl, ap, ◌∙◌, arith}
 use Rattle.std.proofs.lemmas.List.{length-append, take-append-le}
 use Rattle.std.proofs.Math.Seq.{take-length}
-use Rattle.metis_waits.specs.Rows.{IsParted, rows_from, start_at}
+use Rattle.metis_waits.specs.Terms.{IsParted, rows_from, start_at}
 
 pub parted_low : (a : ℕ) (ns es : List ℕ) → IsParted a ns es → a ≤ length ns
 parted_low a ns [] k = omega (arith, k)

@@ -5,8 +5,7 @@ use Rattle.std.specs.List.{filter_map, range_with_len, cons_option}
 use Rattle.std.proofs.lemmas.Bool.{false≢true, or_left, or_right, eq-eqb, eqb-true, cases_Bool, cases_eq, false_from_ne_true}
 use Rattle.metis_ids.specs.declared.actions.Action.{Action}
 use Rattle.metis_ids.proofs.Lists.{has_range}
-use Rattle.metis_universe.specs.Universe.{has}
-use Rattle.metis_universe.specs.Waits.{waits, numbers, action_at, picked, IsKeptFrom, IsKept, is_complete}
+use Rattle.metis_universe.specs.Terms.{IsKept, IsKeptFrom, action_at, has, is_complete, numbers, picked, waits}
 use Rattle.metis_universe.proofs.Correctness.{all_from_has}
 use Rattle.metis_waits.proofs.LastPlaces.{waits_earlier}
 

@@ -7,12 +7,7 @@ use Rattle.std.proofs.lemmas.Bool.{false≢true, and_parts, and_from, or_left, o
 use Rattle.metis_ids.specs.declared.actions.Action.{Action}
 use Rattle.metis_ids.specs.declared.actions.Action.TheVariants.{New, Delete, Bind, Unbind, Move}
 use Rattle.metis_ids.proofs.Options.{none_or_some}
-use Rattle.metis_universe.specs.Universe.{Universe, has, provides, initial_of}
-use Rattle.metis_universe.specs.Config.{Binding, empty, pair_of, is_bound, is_tie}
-use Rattle.metis_universe.specs.Step.{after_all, IsRun}
-use Rattle.metis_universe.specs.Waits.{waits, is_wait, is_release_of, releases, action_at, before, last_number, enters, standing, ends}
-use Rattle.metis_universe.specs.Settled.{settles}
-use Rattle.metis_universe.specs.Steadfast.{is_steadfast, is_steadfast_after}
+use Rattle.metis_universe.specs.Terms.{Binding, IsRun, Universe, action_at, after_all, before, empty, ends, enters, has, initial_of, is_bound, is_release_of, is_steadfast, is_steadfast_after, is_tie, is_wait, last_number, pair_of, provides, releases, settles, standing, waits}
 use Rattle.metis_universe.proofs.Edits.{tie_is}
 use Rattle.metis_universe.proofs.Kept.{IsConfig-empty}
 use Rattle.metis_universe.proofs.Frames.{pair_step, pair_of-after, bound_step, is_bound-after, bindings-after_all}
@@ -21,8 +16,7 @@ use Rattle.metis_universe.proofs.Places.{place_below, action_below, config_at, c
 use Rattle.metis_universe.proofs.Settling.{step_other}
 use Rattle.metis_waits.proofs.LastPlaces.{IsLast, last_place, passes_from, passes_some}
 use Rattle.metis_waits.proofs.Orders.{IsAt, IsClosedUnderWaits, own_done}
-use Rattle.metis_waits.specs.Causes.{takes_out}
-use Rattle.metis_waits.specs.Waits.{is_by}
+use Rattle.metis_waits.specs.Terms.{is_by, takes_out}
 
 flip_eq : (a b : ℕ) → nat_eq a b ≡ true → nat_eq b a ≡ true
 flip_eq a b h = eq-eqb b a (sym (eqb-true a b h))

@@ -6,11 +6,8 @@ use Rattle.std.proofs.lemmas.List.{length_push, reverse-append, take-append-le, 
 use Rattle.std.specs.List.{prefix_len, slice_get, suffix_len}
 use Rattle.std.specs.Option.{option_map_or}
 use Rattle.metis_ids.specs.declared.actions.Action.{Action}
-use Rattle.metis_universe.specs.Config.{Binding, Config, empty}
-use Rattle.metis_universe.specs.Step.{after, after_all}
-use Rattle.metis_universe.specs.Universe.{Universe}
-use Rattle.metis_universe.specs.Waits.{bindings_after, last_number, releases, standing, standing_from}
-use Rattle.metis_waits.specs.Summary.{released}
+use Rattle.metis_universe.specs.Terms.{Binding, Config, Universe, after, after_all, bindings_after, empty, last_number, releases, standing, standing_from}
+use Rattle.metis_waits.specs.Terms.{released}
 
 pub last_pushed : (p : Action → Bool) (xs : List Action) (a : Action) → last_number p (xs ++ a ∷ []) ≡ cond (p a) (length xs + 1) (last_number p xs)
 last_pushed p xs a =

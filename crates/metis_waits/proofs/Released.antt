@@ -7,10 +7,10 @@ use Rattle.std.proofs.lemmas.List.{length_push}
 use Rattle.std.proofs.lemmas.List.Elements.{filter-append}
 use Rattle.metis_ids.specs.declared.actions.Action.{Action}
 use Rattle.metis_ids.proofs.Lists.{range_push}
-use Rattle.metis_universe.specs.Waits.{before, enters, is_release_of, last_number, numbers, releases, standing}
+use Rattle.metis_universe.specs.Terms.{before, enters, is_release_of, last_number, numbers, releases, standing}
 use Rattle.metis_waits.proofs.Gathered.{last_low}
 use Rattle.metis_waits.proofs.Pushed.{get_past, last_pushed, released_pushed}
-use Rattle.metis_waits.specs.Summary.{released}
+use Rattle.metis_waits.specs.Terms.{released}
 
 none_in_range : (p : ℕ → Bool) (a n : ℕ) → ((m : ℕ) → m < a + n → p m ≡ false) → filter p (range_with_len a n) ≡ []
 none_in_range p a zero h = refl

@@ -2,7 +2,7 @@
 use Rattle.std.proofs.Common.{◌≡◌, ℕ, true, false, cond, List, Option, Some, refl, sym, ap, ◌∙◌, nat_eq}
 use Rattle.std.specs.Map.{lookup}
 use Rattle.std.specs.Prelude.{unwrap_or}
-use Rattle.metis_waits.specs.Instances.{InstanceState, idle, state_at}
+use Rattle.metis_waits.specs.Terms.{InstanceState, idle, state_at}
 
 pub found : (es : List (ℕ × InstanceState)) (z k : ℕ) (o : Option InstanceState) → k ≡ z → o ≡ lookup (nat_eq k) es → state_at es z ≡ unwrap_or o idle
 found es z k o at is = ap (λ n. unwrap_or (lookup (nat_eq n) es) idle) (sym at) ∙ ap (λ p. unwrap_or p idle) (sym is)

@@ -20,19 +20,14 @@ use Rattle.metis_universe.proofs.Edits.{binding_cmp_total, tie_is}
 use Rattle.metis_universe.proofs.Ranges.{in_range}
 use Rattle.metis_universe.proofs.Rounds.{has-filter}
 use Rattle.metis_universe.proofs.Sorted.{IsStrictlySortedBy-insert_key}
-use Rattle.metis_universe.specs.Config.{Binding, binding_cmp, is_tie, names}
-use Rattle.metis_universe.specs.Steadfast.{is_new}
-use Rattle.metis_universe.specs.Universe.{Universe, has, initial_of, pair_count}
-use Rattle.metis_universe.specs.Waits.{bindings_after, enters, is_release_of, numbers, releases, standing, standing_from}
+use Rattle.metis_universe.specs.Terms.{Binding, Universe, binding_cmp, bindings_after, enters, has, initial_of, is_new, is_release_of, is_tie, names, numbers, pair_count, releases, standing, standing_from}
 use Rattle.metis_waits.proofs.Clients.{gone_clients, gone_releases, gone_ties, in_again, in_clients, in_ties, out_clients, out_never, out_ties, own_at, passes, remove_own, tie_cmp_total}
 use Rattle.metis_waits.proofs.Counted.{one_counted}
 use Rattle.metis_waits.proofs.LetGo.{is_to}
 use Rattle.metis_waits.proofs.Pushed.{standing_pushed}
 use Rattle.metis_waits.proofs.Released.{released_more}
 use Rattle.metis_waits.proofs.Tracked.{pair_then, tracked}
-use Rattle.metis_waits.specs.Instances.{InstanceState, changed, entering, is_last, is_own, let_go, noted, state_at, takes_effect, tie_cmp, with_clients, with_last, without_own}
-use Rattle.metis_waits.specs.Summary.{IsInstance, clients_of}
-use Rattle.metis_waits.specs.Waits.{is_by}
+use Rattle.metis_waits.specs.Terms.{InstanceState, IsInstance, changed, clients_of, entering, is_by, is_last, is_own, let_go, noted, state_at, takes_effect, tie_cmp, with_clients, with_last, without_own}
 use Rattle.metis_waits.specs.declared.instances.Change.TheVariants.{Bound, Deleted, Gained, Made, Moved, Released, Unbound}
 
 -- ---- the bindings that stand

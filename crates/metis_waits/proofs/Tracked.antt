@@ -5,14 +5,9 @@ use Rattle.std.specs.List.{list_any}
 use Rattle.metis_ids.specs.declared.actions.Action.{Action}
 use Rattle.metis_ids.specs.declared.actions.Action.TheVariants.{New, Delete, Bind, Unbind, Move}
 use Rattle.metis_universe.proofs.Edits.{pair_of-put, pair_of-remove}
-use Rattle.metis_universe.specs.Config.{Config, empty, pair_of}
-use Rattle.metis_universe.specs.Steadfast.{is_new, pair_after}
-use Rattle.metis_universe.specs.Step.{after, after_all}
-use Rattle.metis_universe.specs.Universe.{Universe, initial_of}
-use Rattle.metis_universe.specs.Waits.{bindings_after, enters, standing}
+use Rattle.metis_universe.specs.Terms.{Config, Universe, after, after_all, bindings_after, empty, enters, initial_of, is_new, pair_after, pair_of, standing}
 use Rattle.metis_waits.proofs.Pushed.{after_pushed, last_pushed, standing_pushed}
-use Rattle.metis_waits.specs.Summary.{IsTrack, clients_of}
-use Rattle.metis_waits.specs.Waits.{is_by}
+use Rattle.metis_waits.specs.Terms.{IsTrack, clients_of, is_by}
 use Rattle.metis_waits.specs.declared.instances.Track.{Track}
 
 new_pushed : (earlier : List Action) (a : Action) (z : ℕ) → list_any (is_new z) (earlier ++ a ∷ []) ≡ (is_new z a || list_any (is_new z) earlier)

@@ -6,10 +6,10 @@
 --     IsProviderRelease actions k m      action k moves or deletes a provider, and since this one came into its pair action m ended a binding to it, on the requirer's side
 --     HasCause actions k m      one of the three
 use Rattle.std.specs.Prelude.{◌≡◌, ◌<◌, ◌==◌, ◌⊎◌, ℕ, Bool, false, List, IfSome, IsFalse, IsSomeAnd, IsTrue, Some}
-use Rattle.metis_ids.specs.Action.{actor_of}
+use Rattle.metis_ids.specs.Terms.{actor_of}
 use Rattle.metis_ids.specs.declared.actions.Action.{Action}
 use Rattle.metis_ids.specs.declared.actions.Action.TheVariants.{New, Delete, Bind, Unbind, Move}
-use Rattle.metis_universe.specs.Waits.{IsStanding, action_at, before, enters}
+use Rattle.metis_universe.specs.Terms.{IsStanding, action_at, before, enters}
 use Rattle.metis_waits.specs.Waits.{is_by}
 
 pub record IsLastBefore (p : Action → Bool) (actions : List Action) (k m : ℕ) : Type 0 where

@@ -7,10 +7,7 @@
 use Rattle.std.specs.Prelude.{◌≡◌, ◌||◌, ℕ, zero, suc, Bool, List, IsFalse, IsSomeAnd, IsTrue}
 use Rattle.std.specs.List.{list_any}
 use Rattle.metis_ids.specs.declared.actions.Action.{Action}
-use Rattle.metis_universe.specs.Config.{empty, is_bound, pair_of}
-use Rattle.metis_universe.specs.Step.{after_all}
-use Rattle.metis_universe.specs.Universe.{Universe, has}
-use Rattle.metis_universe.specs.Waits.{action_at, numbers, picked, waits}
+use Rattle.metis_universe.specs.Terms.{Universe, action_at, after_all, empty, has, is_bound, numbers, pair_of, picked, waits}
 use Rattle.metis_waits.specs.Waits.{is_by}
 
 -- by a way of at most so many waits

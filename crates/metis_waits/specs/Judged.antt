@@ -3,8 +3,7 @@
 --     IsBegun u actions judged      the first ones of the actions are judged, how many ever
 use Rattle.std.specs.Prelude.{◌≡◌, ◌<◌, ◌-◌, ◌^◌, List, ◌++◌, length, IsTrue}
 use Rattle.metis_ids.specs.declared.actions.Action.{Action}
-use Rattle.metis_universe.specs.Steadfast.{is_steadfast}
-use Rattle.metis_universe.specs.Universe.{Universe}
+use Rattle.metis_universe.specs.Terms.{Universe, is_steadfast}
 use Rattle.metis_waits.specs.Summary.{IsSummary}
 use Rattle.metis_waits.specs.Waits.{AreWaits, WaitLists}
 use Rattle.metis_waits.specs.declared.judged.Judged.{Judged}

@@ -6,3 +6,4 @@ pub mod Orders
 pub mod Rows
 pub mod Summary
 pub mod Waits
+pub mod Terms

@@ -12,10 +12,7 @@ use Rattle.std.specs.List.Sorted.{IsStrictlySortedBy}
 use Rattle.std.specs.Option.{option_map_or}
 use Rattle.std.specs.Ordering.{nat_cmp}
 use Rattle.metis_ids.specs.declared.actions.Action.{Action}
-use Rattle.metis_universe.specs.Config.{Binding, is_tie}
-use Rattle.metis_universe.specs.Steadfast.{is_new, pair_after}
-use Rattle.metis_universe.specs.Universe.{Universe, pair_count}
-use Rattle.metis_universe.specs.Waits.{action_at, before, enters, is_release_of, last_number, numbers, releases, standing}
+use Rattle.metis_universe.specs.Terms.{Binding, Universe, action_at, before, enters, is_new, is_release_of, is_tie, last_number, numbers, pair_after, pair_count, releases, standing}
 use Rattle.metis_waits.specs.Instances.{InstanceState, is_own, state_at, tie_cmp}
 use Rattle.metis_waits.specs.Waits.{is_by}
 use Rattle.metis_waits.specs.declared.instances.Track.{Track}

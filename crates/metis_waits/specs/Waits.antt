@@ -9,11 +9,9 @@
 use Rattle.std.specs.Prelude.{◌≡◌, ◌<◌, ℕ, ◌-◌, ◌^◌, ◌==◌, Bool, not, List, [], length, map, IsTrue, IsFalse, Result, Ok, Err, ⊤}
 use Rattle.std.specs.List.{filter, slice_index_or}
 use Rattle.std.specs.Option.{option_map_or}
-use Rattle.metis_ids.specs.Action.{actor_of}
+use Rattle.metis_ids.specs.Terms.{actor_of}
 use Rattle.metis_ids.specs.declared.actions.Action.{Action}
-use Rattle.metis_universe.specs.Steadfast.{is_steadfast_at}
-use Rattle.metis_universe.specs.Universe.{Universe}
-use Rattle.metis_universe.specs.Waits.{action_at, before, last_number, numbers, waits}
+use Rattle.metis_universe.specs.Terms.{Universe, action_at, before, is_steadfast_at, last_number, numbers, waits}
 use Rattle.metis_waits.specs.declared.fault.WFault.{WFault}
 use Rattle.metis_waits.specs.declared.fault.WFault.TheVariants as fault
 

@@ -1,6 +1,6 @@
 //! What is known of each instance.
 ghost use Rattle.std.specs.Prelude.{◌≡◌, ◌<◌, ◌==◌, ◌∷◌, ◌++◌, [], ℕ, IfOk, OnOk, if◌then◌else◌};
-ghost use Rattle.metis_waits.specs.Instances.{IsPossible, changed, idle, noted, state_at, takes_effect, without_own};
+ghost use Rattle.metis_waits.specs.Terms.{IsPossible, changed, idle, noted, state_at, takes_effect, without_own};
 
 use metis_ids::{InstNo, Ix, NoMemory, PairIx, PortIx};
 use std::alloc::Global;

@@ -1,15 +1,10 @@
 //! The actions of a list, judged one after the other.
 ghost use Rattle.std.specs.Prelude.{◌≡◌, ◌<◌, ◌-◌, ◌^◌, ◌==◌, ◌++◌, ◌∷◌, [], IfOk, IsTrue, List, OnOk, length, not};
 ghost use Rattle.std.specs.List.{All, filter};
-ghost use Rattle.metis_ids.specs.Action.{actor_of};
+ghost use Rattle.metis_ids.specs.Terms.{actor_of};
 ghost use Rattle.metis_ids.specs.declared.actions.Action.{Action};
-ghost use Rattle.metis_universe.specs.Numbers.{IsOf};
-ghost use Rattle.metis_universe.specs.Steadfast.{is_steadfast_after};
-ghost use Rattle.metis_universe.specs.Universe.{Universe};
-ghost use Rattle.metis_universe.specs.Waits.{is_wait, last_number, numbers};
-ghost use Rattle.metis_waits.specs.Judged.{IsBegun, IsJudged};
-ghost use Rattle.metis_waits.specs.Summary.{IsSummary};
-ghost use Rattle.metis_waits.specs.Waits.{AreWaits, IfLoose, IsFirstLoose, is_by};
+ghost use Rattle.metis_universe.specs.Terms.{IsOf, Universe, is_steadfast_after, is_wait, last_number, numbers};
+ghost use Rattle.metis_waits.specs.Terms.{AreWaits, IfLoose, IsBegun, IsFirstLoose, IsJudged, IsSummary, is_by};
 
 use crate::fault::WFault;
 use crate::rows::Rows;

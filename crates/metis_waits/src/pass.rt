@@ -1,9 +1,8 @@
 //! One pass over a list of actions.
 ghost use Rattle.std.specs.Prelude.{◌<◌, ◌-◌, ◌^◌, IfOk, IsTrue, length};
 ghost use Rattle.std.specs.List.{All};
-ghost use Rattle.metis_universe.specs.Numbers.{IsOf};
-ghost use Rattle.metis_universe.specs.Steadfast.{is_steadfast};
-ghost use Rattle.metis_waits.specs.Waits.{AreWaits, IfLoose, IsFirstLoose};
+ghost use Rattle.metis_universe.specs.Terms.{IsOf, is_steadfast};
+ghost use Rattle.metis_waits.specs.Terms.{AreWaits, IfLoose, IsFirstLoose};
 
 use crate::fault::WFault;
 use crate::judged::Judged;

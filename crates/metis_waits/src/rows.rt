@@ -1,7 +1,7 @@
 //! Lists of numbers, one behind the other.
 ghost use Rattle.std.specs.Prelude.{◌≡◌, ◌<◌, ◌==◌, ◌++◌, ◌∷◌, [], OnErr, OnOk, length, not, take};
 ghost use Rattle.std.specs.List.{filter, slice_index_or};
-ghost use Rattle.metis_waits.specs.Rows.{start_at};
+ghost use Rattle.metis_waits.specs.Terms.{start_at};
 
 use metis_ids::NoMemory;
 use std::alloc::Global;

@@ -4,14 +4,9 @@ ghost use Rattle.std.specs.List.{filter};
 ghost use Rattle.std.specs.List.Sorted.{IsStrictlySortedBy};
 ghost use Rattle.std.specs.Option.{option_map_or};
 ghost use Rattle.std.specs.Ordering.{nat_cmp};
-ghost use Rattle.metis_ids.specs.Action.{actor_of};
-ghost use Rattle.metis_universe.specs.Numbers.{IsOf};
-ghost use Rattle.metis_universe.specs.Steadfast.{is_steadfast_after, pair_after};
-ghost use Rattle.metis_universe.specs.Universe.{has, provides};
-ghost use Rattle.metis_universe.specs.Waits.{is_wait, last_number, numbers};
-ghost use Rattle.metis_waits.specs.Instances.{changed, is_last, let_go, state_at, without_own};
-ghost use Rattle.metis_waits.specs.Summary.{IsSummary, has_number, with_number};
-ghost use Rattle.metis_waits.specs.Waits.{is_by};
+ghost use Rattle.metis_ids.specs.Terms.{actor_of};
+ghost use Rattle.metis_universe.specs.Terms.{IsOf, has, is_steadfast_after, is_wait, last_number, numbers, pair_after, provides};
+ghost use Rattle.metis_waits.specs.Terms.{IsSummary, changed, has_number, is_by, is_last, let_go, state_at, with_number, without_own};
 ghost use Rattle.metis_waits.specs.declared.instances.Change.TheVariants.{Deleted};
 
 use crate::instances::{Change, Instance, note_change, take_own, track_of};

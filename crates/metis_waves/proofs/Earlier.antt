@@ -4,8 +4,7 @@ use Rattle.std.specs.List.{filter}
 use Rattle.std.specs.Option.{option_map_or}
 use Rattle.std.proofs.lemmas.Bool.{false≢true}
 use Rattle.metis_ids.specs.declared.actions.Action.{Action}
-use Rattle.metis_universe.specs.Universe.{has}
-use Rattle.metis_universe.specs.Waits.{waits, is_wait, numbers, action_at, before}
+use Rattle.metis_universe.specs.Terms.{action_at, before, has, is_wait, numbers, waits}
 use Rattle.metis_universe.proofs.Places.{place_below}
 use Rattle.metis_waits.proofs.LastPlaces as last_places
 

@@ -2,8 +2,7 @@
 use Rattle.std.proofs.Common.{◌≡◌, ℕ, List, [], ◌∷◌, Some, None, refl}
 use Rattle.metis_ids.specs.declared.actions.Action.{Action}
 use Rattle.metis_ids.specs.declared.actions.Action.TheVariants.{New, Bind, Move}
-use Rattle.metis_waves.specs.Schedule.{end_of_all}
-use Rattle.metis_waves.specs.Waves.{IsChain, tight_wait}
+use Rattle.metis_waves.specs.Terms.{IsChain, end_of_all, tight_wait}
 use Rattle.metis_waves.specs.declared.durations.Durations.{Durations}
 
 -- a web server that needs a database

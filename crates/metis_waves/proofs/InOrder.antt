@@ -11,12 +11,11 @@ use Rattle.std.proofs.lemmas.Cmp.{nat_cmp_total, on_total, then_total}
 use Rattle.metis_ids.specs.declared.actions.Action.{Action}
 use Rattle.metis_ids.proofs.Lists.{each_has, has_range}
 use Rattle.metis_ids.proofs.Tests.{cmp_equal}
-use Rattle.metis_universe.specs.Universe.{has}
-use Rattle.metis_universe.specs.Waits.{IsKeptFrom, IsKept, is_complete, numbers, waits}
+use Rattle.metis_universe.specs.Terms.{IsKept, IsKeptFrom, has, is_complete, numbers, waits}
 use Rattle.metis_universe.proofs.Correctness.{all_from_has}
 use Rattle.metis_universe.proofs.Edits.{any-insert_key}
 use Rattle.metis_universe.proofs.Sorted.{IsStrictlySortedBy-insert_key}
-use Rattle.metis_waves.specs.Schedule.{IsByStart, IsSchedule, start_cmp, start_of}
+use Rattle.metis_waves.specs.Terms.{IsByStart, IsSchedule, start_cmp, start_of}
 use Rattle.metis_waves.specs.declared.durations.Durations.{Durations}
 use Rattle.metis_waves.proofs.Earlier.{waits_earlier}
 

@@ -1,12 +1,10 @@
 -- What is done sooner delays nothing.
 use Rattle.std.proofs.Common.{◌≡◌, ℕ, zero, suc, ◌+◌, ◌≤◌, true, List, map, sym, subst, arith, length}
-use Rattle.metis_ids.specs.Counts.{greatest}
+use Rattle.metis_ids.specs.Terms.{greatest}
 use Rattle.metis_ids.specs.declared.actions.Action.{Action}
 use Rattle.metis_ids.proofs.Lists.{has_range}
-use Rattle.metis_universe.specs.Universe.{has}
-use Rattle.metis_universe.specs.Waits.{numbers, waits}
-use Rattle.metis_waves.specs.Schedule.{IsPrompt, IsWithin, end_of, start_of}
-use Rattle.metis_waves.specs.Waves.{AreWaves, WaveLists}
+use Rattle.metis_universe.specs.Terms.{has, numbers, waits}
+use Rattle.metis_waves.specs.Terms.{AreWaves, IsPrompt, IsWithin, WaveLists, end_of, start_of}
 use Rattle.metis_waves.specs.declared.durations.Durations.{Durations}
 use Rattle.metis_waves.proofs.Bounds.{greatest_above, greatest_below}
 use Rattle.metis_waves.proofs.Earlier.{waits_earlier}

@@ -12,11 +12,10 @@ use Rattle.metis_ids.specs.declared.actions.Action.TheVariants.{New, Delete, Bin
 use Rattle.metis_ids.proofs.Counts.{greatest_push}
 use Rattle.metis_ids.proofs.Finding.{none_then_at}
 use Rattle.metis_ids.proofs.Lists.{range_push, all_from}
-use Rattle.metis_universe.specs.Universe.{has}
-use Rattle.metis_universe.specs.Waits.{action_at, numbers, waits}
-use Rattle.metis_waits.specs.Waits.{AreWaits, WaitLists}
-use Rattle.metis_waves.specs.Schedule.{AreShort, duration_of, end_of, start_of, takes}
-use Rattle.metis_ids.specs.Counts.{greatest}
+use Rattle.metis_universe.specs.Terms.{action_at, has, numbers, waits}
+use Rattle.metis_waits.specs.Terms.{AreWaits, WaitLists}
+use Rattle.metis_waves.specs.Terms.{AreShort, duration_of, end_of, start_of, takes}
+use Rattle.metis_ids.specs.Terms.{greatest}
 use Rattle.metis_waves.specs.declared.durations.Durations.{Durations}
 use Rattle.metis_waves.proofs.Bounds.{greatest_below}
 use Rattle.metis_waves.proofs.Earlier.{waits_earlier}

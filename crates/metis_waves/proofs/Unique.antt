@@ -5,9 +5,8 @@ use Rattle.std.specs.List.{find, slice_index_or}
 use Rattle.std.proofs.lemmas.List.{length_push}
 use Rattle.std.proofs.lemmas.Option.{same_Some}
 use Rattle.metis_ids.specs.declared.actions.Action.{Action}
-use Rattle.metis_universe.specs.Waits.{waits}
-use Rattle.metis_waves.specs.Schedule.{end_of, start_of}
-use Rattle.metis_waves.specs.Waves.{AreWaves, IsChain, IsLinked, WaveLists, last_of, tight_wait}
+use Rattle.metis_universe.specs.Terms.{waits}
+use Rattle.metis_waves.specs.Terms.{AreWaves, IsChain, IsLinked, WaveLists, end_of, last_of, start_of, tight_wait}
 use Rattle.metis_waves.specs.declared.durations.Durations.{Durations}
 use Rattle.metis_waves.proofs.Chained.{no_last}
 

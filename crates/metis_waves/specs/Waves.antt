@@ -9,7 +9,7 @@
 use Rattle.std.specs.Prelude.{◌≡◌, ◌≤◌, ◌==◌, ℕ, List, [], ◌∷◌, Option, Some, None, IfSome, ⊤}
 use Rattle.std.specs.List.{find, slice_get, sum_by}
 use Rattle.metis_ids.specs.declared.actions.Action.{Action}
-use Rattle.metis_universe.specs.Waits.{numbers, waits}
+use Rattle.metis_universe.specs.Terms.{numbers, waits}
 use Rattle.metis_waves.specs.Schedule.{IsSchedule, end_of, end_of_all, start_of, takes}
 use Rattle.metis_waves.specs.declared.durations.Durations.{Durations}
 

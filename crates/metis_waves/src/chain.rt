@@ -1,9 +1,8 @@
 //! A chain of waits.
 ghost use Rattle.std.specs.Prelude.{◌≡◌, ◌≤◌, ◌<◌, ◌-◌, ◌^◌, ◌==◌, ℕ, IfOk, length};
 ghost use Rattle.std.specs.List.{All, find};
-ghost use Rattle.metis_waits.specs.Waits.{AreWaits};
-ghost use Rattle.metis_waves.specs.Schedule.{AreShort, IsEarliest, end_of, end_of_all, start_of};
-ghost use Rattle.metis_waves.specs.Waves.{IsChain, first_ending, tight_wait};
+ghost use Rattle.metis_waits.specs.Terms.{AreWaits};
+ghost use Rattle.metis_waves.specs.Terms.{AreShort, IsChain, IsEarliest, end_of, end_of_all, first_ending, start_of, tight_wait};
 
 use crate::durations::Durations;
 use crate::ends::end_of;

@@ -1,9 +1,9 @@
 //! The earliest starts.
 ghost use Rattle.std.specs.Prelude.{◌≡◌, ◌≤◌, ◌<◌, ◌*◌, ◌-◌, ◌^◌, ℕ, IfOk, length, map};
 ghost use Rattle.std.specs.List.{All};
-ghost use Rattle.metis_waits.specs.Waits.{AreWaits};
-ghost use Rattle.metis_waves.specs.Schedule.{AreShort, IsEarliest, end_of, end_of_all, start_of};
-ghost use Rattle.metis_ids.specs.Counts.{greatest};
+ghost use Rattle.metis_waits.specs.Terms.{AreWaits};
+ghost use Rattle.metis_waves.specs.Terms.{AreShort, IsEarliest, end_of, end_of_all, start_of};
+ghost use Rattle.metis_ids.specs.Terms.{greatest};
 
 use crate::durations::Durations;
 use crate::ends::end_of;

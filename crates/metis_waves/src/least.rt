@@ -1,10 +1,9 @@
 //! The least time in which all actions can be done.
 ghost use Rattle.std.specs.Prelude.{◌≡◌, ◌≤◌, ℕ, List, [], IfOk, IfSome};
 ghost use Rattle.std.specs.List.{slice_get, sum_by};
-ghost use Rattle.metis_universe.specs.Waits.{waits};
-ghost use Rattle.metis_waits.specs.Waits.{AreWaits};
-ghost use Rattle.metis_waves.specs.Schedule.{AreShort, IsSchedule, end_of_all, start_of, takes};
-ghost use Rattle.metis_waves.specs.Waves.{IsLinked, first_ending, last_of};
+ghost use Rattle.metis_universe.specs.Terms.{waits};
+ghost use Rattle.metis_waits.specs.Terms.{AreWaits};
+ghost use Rattle.metis_waves.specs.Terms.{AreShort, IsLinked, IsSchedule, end_of_all, first_ending, last_of, start_of, takes};
 
 use crate::chain::chain;
 use crate::durations::Durations;

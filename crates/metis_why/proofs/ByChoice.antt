@@ -7,16 +7,13 @@ use Rattle.metis_ids.proofs.Lists.{has_one}
 use Rattle.metis_ids.specs.declared.goals.Goal.{Goal}
 use Rattle.metis_ids.specs.declared.goals.Goal.TheVariants.{Pair, Port}
 use Rattle.metis_universe.proofs.Correctness.{all_from_has, all_has}
-use Rattle.metis_universe.specs.Goals.{IsGoalOf}
-use Rattle.metis_universe.specs.Universe.{Universe, has, next_of, pair_count, provides}
+use Rattle.metis_universe.specs.Terms.{IsGoalOf, Universe, has, next_of, pair_count, provides}
 use Rattle.metis_why.proofs.Chosen.{listed_in}
 use Rattle.metis_why.proofs.Followed.{followed_apart, followed_done, followed_starts, reading_each}
 use Rattle.metis_why.proofs.Found.{reason_best}
 use Rattle.metis_why.proofs.Nearest.{needed_where_nearest}
 use Rattle.metis_why.proofs.Soundness.{passes_of}
-use Rattle.metis_why.specs.Barred.{AreOnce, IsReason, IsWhy, listed, named_by, wanted_by}
-use Rattle.metis_why.specs.Choice.{IsByChoice, IsFollowed, IsNearest, line_in, lines_in, names_in, reason_in}
-use Rattle.metis_why.specs.Nearing.{AreApart}
+use Rattle.metis_why.specs.Terms.{AreApart, AreOnce, IsByChoice, IsFollowed, IsNearest, IsReason, IsWhy, line_in, lines_in, listed, named_by, names_in, reason_in, wanted_by}
 use Rattle.metis_why.specs.declared.reason.Line.{Line}
 use Rattle.metis_why.specs.declared.reason.Reason.{Reason}
 use Rattle.metis_why.specs.declared.reason.Reason.TheVariants.{Needs, Comes}

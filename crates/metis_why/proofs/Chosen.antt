@@ -8,18 +8,14 @@ use Rattle.std.proofs.lemmas.List.Elements.{All-take}
 use Rattle.std.proofs.lemmas.List.Sums.{fold_more}
 use Rattle.metis_ids.proofs.Lists.{all_at}
 use Rattle.metis_ids.specs.declared.goals.Goal.{Goal}
-use Rattle.metis_refusal.specs.Supplies.{flag}
+use Rattle.metis_refusal.specs.Terms.{flag}
 use Rattle.metis_universe.proofs.Correctness.{all_from_has, all_has}
-use Rattle.metis_universe.specs.Universe.{Universe, has, next_of, pair_count, provides, providers_of, required_of}
+use Rattle.metis_universe.specs.Terms.{Universe, has, next_of, pair_count, providers_of, provides, required_of}
 use Rattle.metis_why.proofs.Farther.{cost_inside, distance_covers, distance_one, distance_step}
 use Rattle.metis_why.proofs.Followed.{followed_one, noted_more}
 use Rattle.metis_why.proofs.Nearest.{nearest_one}
 use Rattle.metis_why.proofs.Soundness.{kept_by, passes_of}
-use Rattle.metis_why.specs.Answer.{IsLacking}
-use Rattle.metis_why.specs.Barred.{IsReason, before_of, listed, named_by, wanted_by}
-use Rattle.metis_why.specs.Choice.{IsByChoice, IsByDistance, IsNearest, IsStep, IsTold, fewer, fewest_port, line_in, lines_in, names_in, noted, reason_by, reason_in}
-use Rattle.metis_why.specs.Flags.{AreGiven, AreLed}
-use Rattle.metis_why.specs.Leaving.{IsEnough}
+use Rattle.metis_why.specs.Terms.{AreGiven, AreLed, IsByChoice, IsByDistance, IsEnough, IsLacking, IsNearest, IsReason, IsStep, IsTold, before_of, fewer, fewest_port, line_in, lines_in, listed, named_by, names_in, noted, reason_by, reason_in, wanted_by}
 use Rattle.metis_why.specs.declared.reason.Line.{Line}
 use Rattle.metis_why.specs.declared.reason.Reason.{Reason}
 use Rattle.metis_why.specs.declared.reason.Reason.TheVariants.{Needs, Comes}

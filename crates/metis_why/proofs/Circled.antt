@@ -7,10 +7,9 @@ use Rattle.std.proofs.lemmas.List.Elements.{All-head, All-tail}
 use Rattle.metis_ids.proofs.Lists.{has_here}
 use Rattle.metis_ids.specs.declared.goals.Goal.{Goal}
 use Rattle.metis_universe.proofs.Correctness.{all_has}
-use Rattle.metis_universe.specs.Universe.{Universe, has}
+use Rattle.metis_universe.specs.Terms.{Universe, has}
 use Rattle.metis_why.proofs.Listed.{listed_cases}
-use Rattle.metis_why.specs.Barred.{IsReason, IsWhy, listed, named_by}
-use Rattle.metis_why.specs.Circles.{AreNamed, IsCircle, IsNaming}
+use Rattle.metis_why.specs.Terms.{AreNamed, IsCircle, IsNaming, IsReason, IsWhy, listed, named_by}
 use Rattle.metis_why.specs.declared.reason.Line.{Line}
 
 -- from a place at or below the one that the last names, some place names one that is not above it

@@ -10,11 +10,9 @@ use Rattle.metis_ids.proofs.Lists.{filter_more}
 use Rattle.metis_ids.specs.declared.goals.Goal.{Goal}
 use Rattle.metis_universe.proofs.Correctness.{all_has}
 use Rattle.metis_universe.proofs.Served.{count-cons, same_itself}
-use Rattle.metis_universe.specs.Goals.{AttainsGoals, places_of, same_goal}
-use Rattle.metis_universe.specs.Universe.{Universe, IsUniverse, has, is_free, next_of, pair_count}
+use Rattle.metis_universe.specs.Terms.{AttainsGoals, IsUniverse, Universe, has, is_free, next_of, pair_count, places_of, same_goal}
 use Rattle.metis_why.proofs.Soundness.{kept_by, unattained}
-use Rattle.metis_why.specs.Barred.{IsOwn, IsReason, before_of, listed, named_by, wanted_by}
-use Rattle.metis_why.specs.Confirm.{IsLineOf, covered, first_bad, line_holds, own_holds, verdict_by}
+use Rattle.metis_why.specs.Terms.{IsLineOf, IsOwn, IsReason, before_of, covered, first_bad, line_holds, listed, named_by, own_holds, verdict_by, wanted_by}
 use Rattle.metis_why.specs.declared.confirming.Confirmation.TheVariants.{Confirmed}
 use Rattle.metis_why.specs.declared.reason.Line.{Line}
 use Rattle.metis_why.specs.declared.reason.Reason.{Reason}

@@ -7,10 +7,8 @@ use Rattle.std.proofs.lemmas.List.{length_push}
 use Rattle.std.proofs.Math.Nat.{mul-le-mul_left, mul-suc}
 use Rattle.metis_ids.proofs.Lists.{has-append, has_one}
 use Rattle.metis_ids.specs.declared.goals.Goal.{Goal}
-use Rattle.metis_universe.specs.Universe.{Universe, has, providers_of, required_of}
-use Rattle.metis_why.specs.Barred.{before_of, named_by, wanted_by}
-use Rattle.metis_why.specs.Choice.{Ascends, IsBefore, IsByDistance, IsCost, IsStep, further, wanted}
-use Rattle.metis_why.specs.Costs.{IsFirst, IsReaching, led_by, led_on, lowered}
+use Rattle.metis_universe.specs.Terms.{Universe, has, providers_of, required_of}
+use Rattle.metis_why.specs.Terms.{Ascends, IsBefore, IsByDistance, IsCost, IsFirst, IsReaching, IsStep, before_of, further, led_by, led_on, lowered, named_by, wanted, wanted_by}
 use Rattle.metis_why.specs.declared.reason.Reason.{Reason}
 use Rattle.metis_why.specs.declared.reason.Reason.TheVariants.{Needs, Comes}
 

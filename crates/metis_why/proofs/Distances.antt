@@ -4,9 +4,8 @@ use Rattle.std.specs.List.{All}
 use Rattle.std.proofs.lemmas.List.{take-append-drop, take_min, take_more}
 use Rattle.metis_ids.proofs.Lists.{all_at, has-push, has_take, all_from}
 use Rattle.metis_ids.specs.declared.goals.Goal.{Goal}
-use Rattle.metis_universe.specs.Universe.{Universe, has, pair_count}
-use Rattle.metis_why.specs.Flags.{IsWithin}
-use Rattle.metis_why.specs.Leaving.{IsEnough}
+use Rattle.metis_universe.specs.Terms.{Universe, has, pair_count}
+use Rattle.metis_why.specs.Terms.{IsEnough, IsWithin}
 
 -- ---- flags of a front
 

@@ -4,14 +4,12 @@ use Rattle.std.specs.List.{slice_index_or}
 use Rattle.std.proofs.lemmas.Bool.{cases_eq, cases_lt, false_from_ne_true}
 use Rattle.std.proofs.lemmas.List.{get_or-set_same, get_or-set_other, set_past}
 use Rattle.metis_ids.proofs.Lists.{place_of}
-use Rattle.metis_universe.specs.Universe.{Universe, has, next_of, pair_count, provides, required_of, requires}
+use Rattle.metis_universe.specs.Terms.{Universe, has, next_of, pair_count, provides, required_of, requires}
 use Rattle.metis_why.proofs.Going.{in_length}
 use Rattle.metis_why.proofs.Reasons.{not_inside}
 use Rattle.metis_why.proofs.Soundness.{moved_not_held}
-use Rattle.metis_why.specs.Barred.{IsBarred}
-use Rattle.metis_why.specs.Flags.{AreGiven, AreLed, IsGreatest, IsInside}
-use Rattle.metis_refusal.specs.Supplies.{flag}
-use Rattle.metis_why.specs.Settling.{AreReached, Falls, IsFrom, IsShrunk}
+use Rattle.metis_why.specs.Terms.{AreGiven, AreLed, AreReached, Falls, IsBarred, IsFrom, IsGreatest, IsInside, IsShrunk}
+use Rattle.metis_refusal.specs.Terms.{flag}
 use Rattle.metis_why.specs.declared.falling.Falling.{Falling}
 
 pub shrunk_start : (u : Universe) (x : ℕ → Bool) → IsShrunk u x x

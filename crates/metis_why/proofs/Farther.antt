@@ -5,12 +5,8 @@ use Rattle.std.proofs.lemmas.Bool.{both_ways, eq-eqb, eqb-true, false_from_ne_tr
 use Rattle.metis_ids.proofs.Lists.{any_at, has-append, list_any-flat_map, some_member}
 use Rattle.metis_ids.specs.declared.goals.Goal.{Goal}
 use Rattle.metis_universe.proofs.Correctness.{all_from_has, all_has}
-use Rattle.metis_universe.specs.Universe.{Universe, has, providers_of, required_of}
-use Rattle.metis_why.specs.Barred.{Covers, before_of, named_by, wanted_by}
-use Rattle.metis_why.specs.Choice.{Ascends, IsBefore, IsByDistance, IsCost, IsStep, all_in, further, may_name, place_in, wanted}
-use Rattle.metis_why.specs.Flags.{IsInside}
-use Rattle.metis_why.specs.Nearing.{AreApart}
-use Rattle.metis_why.specs.Steps.{IsFromNearToFar, IsWithinCost}
+use Rattle.metis_universe.specs.Terms.{Universe, has, providers_of, required_of}
+use Rattle.metis_why.specs.Terms.{AreApart, Ascends, Covers, IsBefore, IsByDistance, IsCost, IsFromNearToFar, IsInside, IsStep, IsWithinCost, all_in, before_of, further, may_name, named_by, place_in, wanted, wanted_by}
 use Rattle.metis_why.specs.declared.reason.Reason.{Reason}
 use Rattle.metis_why.specs.declared.reason.Reason.TheVariants.{Needs, Comes}
 

@@ -5,17 +5,13 @@ use Rattle.std.specs.List.{All, count_by, find, list_all}
 use Rattle.std.proofs.lemmas.List.Elements.{All-cons, All-head, All-nil, All-tail}
 use Rattle.metis_choice.proofs.Resolving.{attained_where_none}
 use Rattle.metis_ids.specs.declared.goals.Goal.{Goal}
-use Rattle.metis_layers.specs.LayerOrder.{attained_pairs}
+use Rattle.metis_layers.specs.Terms.{attained_pairs}
 use Rattle.metis_universe.proofs.Served.{count-cons, same_itself}
-use Rattle.metis_universe.specs.Goals.{AttainsGoals, IsGoalOf, lacks, places_of, same_goal}
-use Rattle.metis_universe.specs.Universe.{Universe, IsUniverse}
+use Rattle.metis_universe.specs.Terms.{AttainsGoals, IsGoalOf, IsUniverse, Universe, lacks, places_of, same_goal}
 use Rattle.metis_why.proofs.Lacking.{lacking_barred, uncovered}
 use Rattle.metis_why.proofs.Soundness.{unattained}
 use Rattle.metis_why.proofs.Told.{lines_of_universe}
-use Rattle.metis_why.specs.Answer.{IfLacks, IsFirstUnattained, IsLacking}
-use Rattle.metis_why.specs.Barred.{IsOwn, IsWhy, wanted_by}
-use Rattle.metis_why.specs.Confirm.{IsHeldUp, IsTellable}
-use Rattle.metis_why.specs.Leaving.{IsEnough}
+use Rattle.metis_why.specs.Terms.{IfLacks, IsEnough, IsFirstUnattained, IsHeldUp, IsLacking, IsOwn, IsTellable, IsWhy, wanted_by}
 use Rattle.metis_why.specs.declared.explaining.Explained.{Explained}
 use Rattle.metis_why.specs.declared.explaining.Explained.TheVariants.{Lacks}
 use Rattle.metis_why.specs.declared.reason.Explanation.{Explanation}

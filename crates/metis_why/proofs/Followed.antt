@@ -5,9 +5,8 @@ use Rattle.std.proofs.lemmas.Bool.{cases_eq, cases_lt, eq-eqb, eqb-true, falseâ‰
 use Rattle.std.proofs.lemmas.List.{append-nil, get_or_append_left, take_more}
 use Rattle.metis_ids.proofs.Lists.{has-append, has_at, has_here, has_one, place_of}
 use Rattle.metis_ids.proofs.Tests.{eq_comm}
-use Rattle.metis_universe.specs.Universe.{has}
-use Rattle.metis_why.specs.Choice.{IsFollowed, IsReadTo, noted, read_to}
-use Rattle.metis_why.specs.Nearing.{AreApart}
+use Rattle.metis_universe.specs.Terms.{has}
+use Rattle.metis_why.specs.Terms.{AreApart, IsFollowed, IsReadTo, noted, read_to}
 
 -- ---- one pair more
 

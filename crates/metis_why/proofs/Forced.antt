@@ -5,12 +5,10 @@ use Rattle.std.proofs.lemmas.List.{get_or-set_other}
 use Rattle.std.specs.List.{All}
 use Rattle.metis_ids.specs.declared.goals.Goal.{Goal}
 use Rattle.metis_universe.proofs.Correctness.{all_has}
-use Rattle.metis_universe.specs.Universe.{Universe, has}
+use Rattle.metis_universe.specs.Terms.{Universe, has}
 use Rattle.metis_why.proofs.Left.{missed_less}
 use Rattle.metis_why.proofs.Reasons.{all_inside}
-use Rattle.metis_why.specs.Barred.{IsReason, named_by, wanted_by}
-use Rattle.metis_why.specs.Flags.{IsInside, IsMissed}
-use Rattle.metis_why.specs.Leaving.{AreForced, AreMarked}
+use Rattle.metis_why.specs.Terms.{AreForced, AreMarked, IsInside, IsMissed, IsReason, named_by, wanted_by}
 use Rattle.metis_why.specs.declared.reason.Reason.{Reason}
 use Rattle.metis_ids.proofs.Lists.{all_from}
 

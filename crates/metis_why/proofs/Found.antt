@@ -5,10 +5,9 @@ use Rattle.std.specs.List.{count_by, list_all}
 use Rattle.std.proofs.lemmas.Bool.{and_parts, both_ways, cases_lt, eq-eqb, eqb-true, false_from_ne_true, false≢true, lt-ltb, ltb-true, not-true, or_cases, or_left, or_right, true_from_ne_false}
 use Rattle.std.proofs.lemmas.List.Elements.{All-cons, All-nil}
 use Rattle.metis_ids.specs.declared.goals.Goal.{Goal}
-use Rattle.metis_layers.specs.LayerOrder.{attained_pairs}
+use Rattle.metis_layers.specs.Terms.{attained_pairs}
 use Rattle.metis_universe.proofs.Correctness.{all_has}
-use Rattle.metis_universe.specs.Goals.{AttainsGoals, IsGoalOf}
-use Rattle.metis_universe.specs.Universe.{Universe, IsUniverse, all_pairs, has, pair_count, providers_of, required_of}
+use Rattle.metis_universe.specs.Terms.{AttainsGoals, IsGoalOf, IsUniverse, Universe, all_pairs, has, pair_count, providers_of, required_of}
 use Rattle.metis_why.proofs.Chosen.{distance_enough, fewest_none, fewest_some}
 use Rattle.metis_why.proofs.First.{all_attained}
 use Rattle.metis_why.proofs.Followed.{read_apart, reading_each, reading_more, reading_start}
@@ -18,14 +17,7 @@ use Rattle.metis_why.proofs.Ordered.{order_there, short}
 use Rattle.metis_why.proofs.Reasons.{all_inside}
 use Rattle.metis_why.proofs.Told.{own_back}
 use Rattle.metis_why.proofs.Tried.{inside_without, tried_nearest}
-use Rattle.metis_why.specs.Answer.{IsLacking}
-use Rattle.metis_why.specs.Barred.{Covers, IsBarred, IsOwn, IsReason, named_by, wanted_by}
-use Rattle.metis_why.specs.Choice.{IsByChoice, IsFollowed, IsNearest, IsReadTo, IsTold, fewest_port, lines_in, names_in, noted, reason_by, reason_in}
-use Rattle.metis_why.specs.Confirm.{own_holds}
-use Rattle.metis_why.specs.Flags.{IsGreatest, IsInside, IsWithin}
-use Rattle.metis_why.specs.Leaving.{IsEnough}
-use Rattle.metis_why.specs.Nearing.{AreApart}
-use Rattle.metis_why.specs.Trying.{AreTried, without}
+use Rattle.metis_why.specs.Terms.{AreApart, AreTried, Covers, IsBarred, IsByChoice, IsEnough, IsFollowed, IsGreatest, IsInside, IsLacking, IsNearest, IsOwn, IsReadTo, IsReason, IsTold, IsWithin, fewest_port, lines_in, named_by, names_in, noted, own_holds, reason_by, reason_in, wanted_by, without}
 use Rattle.metis_why.specs.declared.reason.Line.{Line}
 use Rattle.metis_why.specs.declared.reason.Reason.{Reason}
 use Rattle.metis_why.specs.declared.reason.Reason.TheVariants.{Needs, Comes}

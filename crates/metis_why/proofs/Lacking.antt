@@ -5,16 +5,12 @@ use Rattle.std.proofs.lemmas.Bool.{both_ways, false_from_ne_true, not-true, or_l
 use Rattle.metis_ids.proofs.Lists.{any_at, some_member}
 use Rattle.metis_ids.specs.declared.goals.Goal.{Goal}
 use Rattle.metis_ids.specs.declared.goals.Goal.TheVariants.{Pair, Port}
-use Rattle.metis_layers.specs.LayerOrder.{attained_pairs}
+use Rattle.metis_layers.specs.Terms.{attained_pairs}
 use Rattle.metis_universe.proofs.Attained.{Closed-layers}
 use Rattle.metis_universe.proofs.Correctness.{all_from_has, all_has}
-use Rattle.metis_universe.specs.Closed.{Closed}
-use Rattle.metis_universe.specs.Goals.{IsGoalOf, lacks}
-use Rattle.metis_universe.specs.Layers.{is_provided}
-use Rattle.metis_universe.specs.Universe.{Universe, IsUniverse, has, is_free, next_of, pair_count, provides, providers_of, required_of, requires}
+use Rattle.metis_universe.specs.Terms.{Closed, IsGoalOf, IsUniverse, Universe, has, is_free, is_provided, lacks, next_of, pair_count, providers_of, provides, required_of, requires}
 use Rattle.metis_why.proofs.Soundness.{passes_of}
-use Rattle.metis_why.specs.Answer.{IsLacking}
-use Rattle.metis_why.specs.Barred.{IsBarred, IsReason, before_of, wanted_by}
+use Rattle.metis_why.specs.Terms.{IsBarred, IsLacking, IsReason, before_of, wanted_by}
 use Rattle.metis_why.specs.declared.reason.Reason.{Reason}
 use Rattle.metis_why.specs.declared.reason.Reason.TheVariants.{Needs, Comes}
 

@@ -2,10 +2,9 @@
 use Rattle.std.proofs.Common.{◌≡◌, ℕ, ◌+◌, ◌<◌, ◌≤◌, Bool, List, [], length, get_or, ap, ◌∙◌, arith}
 use Rattle.std.proofs.lemmas.List.{get_or-map, length-map}
 use Rattle.metis_ids.specs.declared.goals.Goal.{Goal}
-use Rattle.metis_universe.specs.Universe.{Universe}
+use Rattle.metis_universe.specs.Terms.{Universe}
 use Rattle.metis_why.proofs.Followed.{reading_more, reading_start}
-use Rattle.metis_why.specs.Barred.{named_by, wanted_by}
-use Rattle.metis_why.specs.Choice.{IsReadTo, IsTold, line_in, lines_in, names_in, noted}
+use Rattle.metis_why.specs.Terms.{IsReadTo, IsTold, line_in, lines_in, named_by, names_in, noted, wanted_by}
 use Rattle.metis_why.specs.declared.reason.Line.{Line}
 
 module _ (u : Universe) (x : ℕ → Bool) (g : Goal) where

@@ -6,12 +6,10 @@ use Rattle.std.proofs.lemmas.Bool.{cases_lt}
 use Rattle.std.proofs.lemmas.List.{get_or_default, get_or_past, take_all, take_more}
 use Rattle.std.proofs.lemmas.List.Sums.{fold_more}
 use Rattle.metis_ids.proofs.Lists.{has-push}
-use Rattle.metis_refusal.specs.Supplies.{flag}
-use Rattle.metis_universe.specs.Universe.{Universe, has, providers_of, required_of}
+use Rattle.metis_refusal.specs.Terms.{flag}
+use Rattle.metis_universe.specs.Terms.{Universe, has, providers_of, required_of}
 use Rattle.metis_why.proofs.Chosen.{given_is, led_is}
-use Rattle.metis_why.specs.Barred.{before_of}
-use Rattle.metis_why.specs.Costs.{far_in, led_by, led_by_moves, led_by_ports, led_on, lowered, never}
-use Rattle.metis_why.specs.Flags.{AreGiven, AreLed}
+use Rattle.metis_why.specs.Terms.{AreGiven, AreLed, before_of, far_in, led_by, led_by_moves, led_by_ports, led_on, lowered, never}
 
 -- ---- one pair more
 

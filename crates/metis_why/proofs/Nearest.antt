@@ -5,13 +5,9 @@ use Rattle.std.proofs.lemmas.Bool.{both_ways, cases_eq, eq-eqb, eqb-true, falseâ
 use Rattle.std.proofs.lemmas.List.{get_or_default, take_all}
 use Rattle.metis_ids.proofs.Lists.{has-append, has_at, has_take}
 use Rattle.metis_ids.specs.declared.goals.Goal.{Goal}
-use Rattle.metis_universe.specs.Universe.{Universe, has}
+use Rattle.metis_universe.specs.Terms.{Universe, has}
 use Rattle.metis_why.proofs.Reasons.{all_inside}
-use Rattle.metis_why.specs.Barred.{IsBarred, IsNeeded, wanted_by}
-use Rattle.metis_why.specs.Choice.{IsNearest, place_in}
-use Rattle.metis_why.specs.Flags.{IsGreatest, IsInside, IsMissed}
-use Rattle.metis_why.specs.Leaving.{IsEnough, IsLess}
-use Rattle.metis_why.specs.Nearing.{AreApart, IsFront, IsNearing}
+use Rattle.metis_why.specs.Terms.{AreApart, IsBarred, IsEnough, IsFront, IsGreatest, IsInside, IsLess, IsMissed, IsNearest, IsNearing, IsNeeded, place_in, wanted_by}
 
 -- ---- places
 

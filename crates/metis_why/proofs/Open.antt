@@ -8,11 +8,9 @@ use Rattle.std.proofs.lemmas.List.Elements.{All-more, All-nil, All-weaker}
 use Rattle.std.proofs.lemmas.List.Sums.{get_or-le-sum_by}
 use Rattle.metis_ids.proofs.Lists.{all_at, has_at, place_of, all_from}
 use Rattle.metis_universe.proofs.Served.{none_counted}
-use Rattle.metis_universe.specs.Universe.{has}
+use Rattle.metis_universe.specs.Terms.{has}
 use Rattle.metis_why.proofs.Lowered.{known_low, none_known}
-use Rattle.metis_why.specs.Choice.{IsBefore}
-use Rattle.metis_why.specs.Costs.{IsFirst, far_in, never}
-use Rattle.metis_why.specs.Open.{AreOpen, NoneBefore, StayOpen, times}
+use Rattle.metis_why.specs.Terms.{AreOpen, IsBefore, IsFirst, NoneBefore, StayOpen, far_in, never, times}
 use Rattle.metis_why.specs.declared.far.Ways.{Ways}
 
 -- ---- the nearest of a list

@@ -9,16 +9,11 @@ use Rattle.std.proofs.lemmas.List.Sums.{count_by-le-length, length-filter}
 use Rattle.metis_ids.proofs.Lists.{has_range, all_from}
 use Rattle.metis_ids.specs.declared.goals.Goal.{Goal}
 use Rattle.metis_universe.proofs.Demands.{no_more}
-use Rattle.metis_universe.specs.Config.{AreDifferent}
-use Rattle.metis_universe.specs.Universe.{Universe, all_pairs, has, next_of, pair_count, provides}
+use Rattle.metis_universe.specs.Terms.{AreDifferent, Universe, all_pairs, has, next_of, pair_count, provides}
 use Rattle.metis_why.proofs.Costs.{on_cases, on_most, on_there, reaching_done, reaching_more, reaching_start}
 use Rattle.metis_why.proofs.Farther.{ascends_apart, cost_inside}
 use Rattle.metis_why.proofs.Soundness.{passes_of}
-use Rattle.metis_why.specs.Barred.{named_by, wanted_by}
-use Rattle.metis_why.specs.Choice.{IsByDistance, IsCost}
-use Rattle.metis_why.specs.Costs.{IsFirst, IsNext, IsReaching, far_in, least_of, led_on, lowered, never}
-use Rattle.metis_why.specs.Leaving.{IsEnough}
-use Rattle.metis_why.specs.Nearing.{AreApart}
+use Rattle.metis_why.specs.Terms.{AreApart, IsByDistance, IsCost, IsEnough, IsFirst, IsNext, IsReaching, far_in, least_of, led_on, lowered, named_by, never, wanted_by}
 use Rattle.metis_why.specs.declared.reason.Reason.{Reason}
 use Rattle.metis_why.specs.declared.reason.Reason.TheVariants.{Needs, Comes}
 

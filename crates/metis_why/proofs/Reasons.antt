@@ -3,11 +3,10 @@ use Rattle.std.proofs.Common.{◌≡◌, ℕ, Bool, true, false, List, ap, refl}
 use Rattle.std.specs.List.{list_all}
 use Rattle.std.proofs.lemmas.Bool.{both_ways, false_from_ne_true, true_from_ne_false}
 use Rattle.metis_universe.proofs.Correctness.{all_from_has, all_has}
-use Rattle.metis_universe.specs.Universe.{Universe, has, is_free, next_of, provides, providers_of, requires}
+use Rattle.metis_universe.specs.Terms.{Universe, has, is_free, next_of, providers_of, provides, requires}
 use Rattle.metis_why.proofs.Soundness.{free_not_held, kept_by, moved_not_held, passes_of}
-use Rattle.metis_why.specs.Barred.{IsBarred, IsReason, before_of}
-use Rattle.metis_why.specs.Flags.{AreGiven, AreLed, IsInside}
-use Rattle.metis_refusal.specs.Supplies.{flag}
+use Rattle.metis_why.specs.Terms.{AreGiven, AreLed, IsBarred, IsInside, IsReason, before_of}
+use Rattle.metis_refusal.specs.Terms.{flag}
 use Rattle.metis_why.specs.declared.reason.Reason.{Reason}
 use Rattle.metis_why.specs.declared.reason.Reason.TheVariants.{Needs, Comes}
 

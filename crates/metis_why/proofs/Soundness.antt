@@ -5,7 +5,7 @@ use Rattle.std.proofs.lemmas.Bool.{and_from, and_parts, both_ways, eqb-true, fal
 use Rattle.std.proofs.lemmas.List.{get_or_default}
 use Rattle.std.proofs.lemmas.List.Folds.{Any-from_list_any}
 use Rattle.metis_ids.proofs.Lists.{all_at, some_member}
-use Rattle.metis_universe.specs.Layers.{is_provided}
+use Rattle.metis_universe.specs.Terms.{AttainsGoals, Closed, IsRun, IsUniverse, Universe, after_all, all_pairs, empty, has, initial_of, is_free, is_initial, is_provided, lacks, next_of, no_kind, pair_count, places_of, providers_of, provides, requires, serving, type_of}
 use Rattle.metis_ids.specs.declared.actions.Action.{Action}
 use Rattle.metis_ids.specs.declared.goals.Goal.{Goal}
 use Rattle.metis_ids.specs.declared.goals.Goal.TheVariants.{Pair, Port}
@@ -13,12 +13,7 @@ use Rattle.metis_universe.proofs.Correctness.{all_has}
 use Rattle.metis_universe.proofs.Ranges.{in_range}
 use Rattle.metis_universe.proofs.Rounds.{has-filter}
 use Rattle.metis_universe.proofs.Served.{run_lacks}
-use Rattle.metis_universe.specs.Closed.{Closed}
-use Rattle.metis_universe.specs.Config.{empty}
-use Rattle.metis_universe.specs.Goals.{AttainsGoals, lacks, places_of, serving}
-use Rattle.metis_universe.specs.Step.{IsRun, after_all}
-use Rattle.metis_universe.specs.Universe.{Universe, IsUniverse, all_pairs, has, is_free, initial_of, is_initial, next_of, no_kind, pair_count, provides, providers_of, requires, type_of}
-use Rattle.metis_why.specs.Barred.{Covers, IsBarred, IsOwn, IsReason, before_of, outside}
+use Rattle.metis_why.specs.Terms.{Covers, IsBarred, IsOwn, IsReason, before_of, outside}
 use Rattle.metis_why.specs.declared.reason.Reason.{Reason}
 use Rattle.metis_why.specs.declared.reason.Reason.TheVariants.{Needs, Comes}
 use Rattle.metis_universe.proofs.Attained.{pair_in}

@@ -5,10 +5,8 @@ use Rattle.std.proofs.lemmas.Bool.{false≢true, or_left, or_right, or_cases, eq
 use Rattle.std.proofs.lemmas.List.{append-nil, map-append}
 use Rattle.metis_ids.proofs.Lists.{has-append, has_at}
 use Rattle.metis_ids.specs.declared.goals.Goal.{Goal}
-use Rattle.metis_universe.specs.Universe.{Universe, has}
-use Rattle.metis_why.specs.Barred.{wanted_by}
-use Rattle.metis_why.specs.Choice.{IsByChoice, IsFollowed, IsTold, line_in, lines_in, names_in, noted, read_to}
-use Rattle.metis_why.specs.Steps.{IsCalledFor, some_names}
+use Rattle.metis_universe.specs.Terms.{Universe, has}
+use Rattle.metis_why.specs.Terms.{IsByChoice, IsCalledFor, IsFollowed, IsTold, line_in, lines_in, names_in, noted, read_to, some_names, wanted_by}
 use Rattle.metis_why.specs.declared.reason.Line.{Line}
 
 -- ---- what stands before each place

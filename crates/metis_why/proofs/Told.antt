@@ -8,15 +8,12 @@ use Rattle.std.proofs.lemmas.List.{get_or_default}
 use Rattle.std.proofs.lemmas.List.Folds.{find-append, list_any_at}
 use Rattle.std.proofs.lemmas.List.Quantifiers.{position-Some}
 use Rattle.metis_ids.specs.declared.goals.Goal.{Goal}
-use Rattle.metis_universe.specs.Goals.{AttainsGoals}
-use Rattle.metis_universe.specs.Universe.{Universe, IsUniverse}
+use Rattle.metis_universe.specs.Terms.{AttainsGoals, IsUniverse, Universe}
 use Rattle.metis_why.proofs.Confirmed.{placed}
 use Rattle.metis_why.proofs.Listed.{nameable}
 use Rattle.metis_why.proofs.Reached.{reason_at}
 use Rattle.metis_why.proofs.Soundness.{unattained}
-use Rattle.metis_why.specs.Answer.{IsFirstUnattained}
-use Rattle.metis_why.specs.Barred.{IsOwn, IsWhy, listed, named_by, wanted_by}
-use Rattle.metis_why.specs.Confirm.{IsLineOf, covered, first_bad, line_holds, own_holds, verdict, verdict_by}
+use Rattle.metis_why.specs.Terms.{IsFirstUnattained, IsLineOf, IsOwn, IsWhy, covered, first_bad, line_holds, listed, named_by, own_holds, verdict, verdict_by, wanted_by}
 use Rattle.metis_why.specs.declared.confirming.Confirmation.TheVariants.{Confirmed}
 use Rattle.metis_why.specs.declared.reason.Line.{Line}
 use Rattle.metis_why.specs.declared.reason.Reason.{Reason}

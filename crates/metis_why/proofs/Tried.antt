@@ -7,20 +7,14 @@ use Rattle.std.proofs.lemmas.List.{append-nil, get_or_at, length_push}
 use Rattle.std.proofs.lemmas.List.Kept.{AllPairs-from_increasing}
 use Rattle.metis_ids.proofs.Lists.{has_here, place_of}
 use Rattle.metis_ids.specs.declared.goals.Goal.{Goal}
-use Rattle.metis_universe.specs.Universe.{Universe, IsUniverse, has, pair_count, providers_of, required_of}
+use Rattle.metis_universe.specs.Terms.{IsUniverse, Universe, has, pair_count, providers_of, required_of}
 use Rattle.metis_why.proofs.Chosen.{distance_enough, fewest_none, fewest_some}
 use Rattle.metis_why.proofs.Farther.{distance_apart}
 use Rattle.metis_why.proofs.Lacking.{lacking_barred}
 use Rattle.metis_why.proofs.Left.{less_start}
 use Rattle.metis_why.proofs.Nearest.{nearing_done, nearing_more, nearing_start, place_apart}
 use Rattle.metis_why.proofs.Reasons.{all_inside}
-use Rattle.metis_why.specs.Answer.{IsLacking}
-use Rattle.metis_why.specs.Barred.{Covers, wanted_by}
-use Rattle.metis_why.specs.Choice.{IsByDistance, IsNearest, fewer, fewest_port, place_in, reason_by, reason_in}
-use Rattle.metis_why.specs.Flags.{IsGreatest, IsInside}
-use Rattle.metis_why.specs.Leaving.{IsEnough}
-use Rattle.metis_why.specs.Nearing.{AreApart, IsFront, IsNearing}
-use Rattle.metis_why.specs.Trying.{AreTried, IsFewest, IsWaitedFor, without}
+use Rattle.metis_why.specs.Terms.{AreApart, AreTried, Covers, IsByDistance, IsEnough, IsFewest, IsFront, IsGreatest, IsInside, IsLacking, IsNearest, IsNearing, IsWaitedFor, fewer, fewest_port, place_in, reason_by, reason_in, wanted_by, without}
 use Rattle.metis_why.specs.declared.reason.Reason.TheVariants.{Needs, Comes}
 
 -- ---- one pair is tried

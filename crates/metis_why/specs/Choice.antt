@@ -23,7 +23,7 @@
 use Rattle.std.specs.Prelude.{◌≡◌, ◌≤◌, ◌<◌, ◌+◌, ◌⊎◌, ◌==◌, ℕ, zero, suc, Bool, List, [], ◌∷◌, ◌++◌, length, map, fold, nat_lt, Option, Some, None, IsTrue, if◌then◌else◌}
 use Rattle.std.specs.List.{flat_map, list_all, slice_index_or}
 use Rattle.metis_ids.specs.declared.goals.Goal.{Goal}
-use Rattle.metis_universe.specs.Universe.{Universe, has, providers_of, required_of, requires}
+use Rattle.metis_universe.specs.Terms.{Universe, has, providers_of, required_of, requires}
 use Rattle.metis_why.specs.Answer.{IsLacking}
 use Rattle.metis_why.specs.Barred.{Covers, IsBarred, before_of, named_by, wanted_by}
 use Rattle.metis_why.specs.Flags.{IsInside}

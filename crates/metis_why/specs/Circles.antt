@@ -3,7 +3,7 @@
 --     AreNamed u lines i places back      line i names the pair of the first of these places, each of them that of the next, and the last that of the place back
 --     IsCircle u lines places      each of these places names the pair of the next, and the last that of the first; there is at least one
 use Rattle.std.specs.Prelude.{◌≡◌, ℕ, List, [], ◌∷◌, Some, slice_get, IsTrue}
-use Rattle.metis_universe.specs.Universe.{Universe, has}
+use Rattle.metis_universe.specs.Terms.{Universe, has}
 use Rattle.metis_why.specs.Barred.{named_by}
 use Rattle.metis_why.specs.declared.reason.Line.{Line}
 

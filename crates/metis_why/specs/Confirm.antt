@@ -8,7 +8,7 @@
 use Rattle.std.specs.Prelude.{◌<◌, ℕ, Bool, not, ◌&&◌, List, Option, Some, None, IsFalse, position}
 use Rattle.std.specs.List.{find, list_all}
 use Rattle.metis_ids.specs.declared.goals.Goal.{Goal}
-use Rattle.metis_universe.specs.Universe.{Universe, is_free, pair_count, requires}
+use Rattle.metis_universe.specs.Terms.{Universe, is_free, pair_count, requires}
 use Rattle.metis_why.specs.Barred.{IsNameable, listed, named_by, wanted_by}
 use Rattle.metis_why.specs.declared.confirming.Confirmation.{Confirmation}
 use Rattle.metis_why.specs.declared.confirming.Confirmation.TheVariants.{Confirmed, Unfounded, LacksNone}

@@ -13,7 +13,7 @@
 use Rattle.std.specs.Prelude.{◌≡◌, ◌≤◌, ◌<◌, ◌⊎◌, ◌+◌, ◌*◌, ℕ, Bool, List, length, fold, nat_lt, Option, Some, None, MatchOption, IsTrue, IsFalse, if◌then◌else◌}
 use Rattle.std.specs.List.{list_all, slice_index_or}
 use Rattle.metis_ids.specs.declared.goals.Goal.{Goal}
-use Rattle.metis_universe.specs.Universe.{Universe, has, providers_of, required_of}
+use Rattle.metis_universe.specs.Terms.{Universe, has, providers_of, required_of}
 use Rattle.metis_why.specs.Barred.{before_of, named_by, wanted_by}
 use Rattle.metis_why.specs.Choice.{Ascends, IsBefore, IsCost, IsStep}
 use Rattle.metis_why.specs.declared.reason.Reason.{Reason}

@@ -9,8 +9,8 @@
 --     IsMissed u g x q      each barred set inside x that covers the goal has q
 use Rattle.std.specs.Prelude.{◌≡◌, ◌<◌, ℕ, Bool, List, IsTrue, IsFalse, Option, MatchOption}
 use Rattle.metis_ids.specs.declared.goals.Goal.{Goal}
-use Rattle.metis_refusal.specs.Supplies.{flag}
-use Rattle.metis_universe.specs.Universe.{Universe, has, next_of, pair_count, port_count, provides}
+use Rattle.metis_refusal.specs.Terms.{flag}
+use Rattle.metis_universe.specs.Terms.{Universe, has, next_of, pair_count, port_count, provides}
 use Rattle.metis_why.specs.Barred.{Covers, IsBarred, IsNameable, IsReason}
 use Rattle.metis_why.specs.declared.reason.Reason.{Reason}
 

@@ -7,12 +7,12 @@
 use Rattle.std.specs.Prelude.{ℕ, Bool, List, IsTrue}
 use Rattle.std.specs.List.{All}
 use Rattle.metis_ids.specs.declared.goals.Goal.{Goal}
-use Rattle.metis_universe.specs.Universe.{Universe}
+use Rattle.metis_universe.specs.Terms.{Universe}
 use Rattle.metis_why.specs.Barred.{Covers, IsBarred}
 use Rattle.metis_why.specs.Flags.{IsInside, IsMissed, IsWithin}
 use Rattle.metis_why.specs.Settling.{IsFrom}
 use Rattle.metis_why.specs.declared.leaving.Kept.{Kept}
-use Rattle.metis_refusal.specs.Supplies.{flag}
+use Rattle.metis_refusal.specs.Terms.{flag}
 
 pub record IsEnough (u : Universe) (g : Goal) (x : ℕ → Bool) : Type 0 where
   pub within : IsWithin u x

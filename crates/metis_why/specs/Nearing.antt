@@ -6,7 +6,7 @@
 use Rattle.std.specs.Prelude.{◌≡◌, ◌≤◌, ◌<◌, ℕ, Bool, List, [], ◌∷◌, Option, None, MatchOption, IsTrue, IsFalse}
 use Rattle.std.specs.List.{slice_index_or}
 use Rattle.metis_ids.specs.declared.goals.Goal.{Goal}
-use Rattle.metis_universe.specs.Universe.{Universe, has, pair_count}
+use Rattle.metis_universe.specs.Terms.{Universe, has, pair_count}
 use Rattle.metis_why.specs.Barred.{Covers, IsBarred}
 use Rattle.metis_why.specs.Choice.{place_in, reason_in}
 use Rattle.metis_why.specs.Flags.{IsGreatest, IsInside, IsWithin}

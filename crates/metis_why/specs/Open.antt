@@ -7,7 +7,7 @@
 --     IsLedOn u x old new q      to the old ways come those that lead on from q by its reasons in x
 use Rattle.std.specs.Prelude.{◌≡◌, ◌+◌, ◌==◌, ℕ, Bool, List, [], ◌∷◌, ◌++◌, nat_lt, if◌then◌else◌}
 use Rattle.std.specs.List.{All, count_by}
-use Rattle.metis_universe.specs.Universe.{Universe}
+use Rattle.metis_universe.specs.Terms.{Universe}
 use Rattle.metis_why.specs.Choice.{IsBefore}
 use Rattle.metis_why.specs.Costs.{far_in, led_on, never}
 use Rattle.metis_why.specs.declared.far.Ways.{Ways}

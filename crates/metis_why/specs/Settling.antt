@@ -9,12 +9,12 @@
 --     IsRound u x z more      z is x without some pairs; where none was taken out it is x, and barred
 use Rattle.std.specs.Prelude.{◌≡◌, ◌+◌, ◌<◌, ◌≤◌, ℕ, Bool, List, length, IsTrue, IsFalse}
 use Rattle.std.specs.List.{count_by, slice_index_or}
-use Rattle.metis_universe.specs.Universe.{Universe, has, next_of, pair_count, provides, required_of}
+use Rattle.metis_universe.specs.Terms.{Universe, has, next_of, pair_count, provides, required_of}
 use Rattle.metis_why.specs.Barred.{IsBarred, IsReason}
 use Rattle.metis_why.specs.declared.falling.Falling.{Falling}
 use Rattle.metis_why.specs.declared.reason.Reason.{Reason}
 use Rattle.metis_why.specs.Flags.{IsInside}
-use Rattle.metis_refusal.specs.Supplies.{flag}
+use Rattle.metis_refusal.specs.Terms.{flag}
 
 abbrev pub held : List Bool → ℕ
 held flags = count_by (λ b. b) flags

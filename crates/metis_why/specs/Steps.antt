@@ -6,7 +6,7 @@
 use Rattle.std.specs.Prelude.{◌<◌, ◌≤◌, ◌⊎◌, ℕ, Bool, List, IsTrue}
 use Rattle.std.specs.List.{list_any}
 use Rattle.metis_ids.specs.declared.goals.Goal.{Goal}
-use Rattle.metis_universe.specs.Universe.{Universe, has}
+use Rattle.metis_universe.specs.Terms.{Universe, has}
 use Rattle.metis_why.specs.Barred.{named_by, wanted_by}
 use Rattle.metis_why.specs.Choice.{IsCost, place_in}
 use Rattle.metis_why.specs.declared.reason.Line.{Line}

@@ -7,7 +7,7 @@
 use Rattle.std.specs.Prelude.{◌≡◌, ◌≤◌, ◌<◌, ◌==◌, ◌⊎◌, ◌&&◌, ℕ, Bool, not, List, [], ◌∷◌, length, IsTrue, if◌then◌else◌}
 use Rattle.std.specs.List.{list_all}
 use Rattle.metis_ids.specs.declared.goals.Goal.{Goal}
-use Rattle.metis_universe.specs.Universe.{Universe, providers_of, requires}
+use Rattle.metis_universe.specs.Terms.{Universe, providers_of, requires}
 use Rattle.metis_why.specs.Barred.{wanted_by}
 use Rattle.metis_why.specs.Flags.{IsGreatest}
 

@@ -1,13 +1,9 @@
 //! Why a goal is never attained.
 ghost use Rattle.std.specs.Prelude.{◌≡◌, ◌<◌, ◌∷◌, [], ℕ};
 ghost use Rattle.std.specs.List.{All};
-ghost use Rattle.metis_universe.specs.Goals.{AttainsGoals, IsGoalOf};
-ghost use Rattle.metis_why.specs.Answer.{IfAttained, IfWhy};
-ghost use Rattle.metis_why.specs.Barred.{IsWhy, listed};
-ghost use Rattle.metis_why.specs.Choice.{IsByChoice};
-ghost use Rattle.metis_why.specs.Confirm.{IsLineOf};
-ghost use Rattle.metis_why.specs.Flags.{IsWithin};
-ghost use Rattle.metis_refusal.specs.Supplies.{flag};
+ghost use Rattle.metis_universe.specs.Terms.{AttainsGoals, IsGoalOf};
+ghost use Rattle.metis_why.specs.Terms.{IfAttained, IfWhy, IsByChoice, IsLineOf, IsWhy, IsWithin, listed};
+ghost use Rattle.metis_refusal.specs.Terms.{flag};
 
 use crate::explaining::{Explained, explain};
 use crate::listing::is_listed;

@@ -2,11 +2,9 @@
 ghost use Rattle.std.specs.Prelude.{◌≡◌, ◌<◌, ℕ};
 ghost use Rattle.std.specs.List.{All, list_all};
 ghost use Rattle.metis_ids.specs.declared.goals.Goal.{Goal};
-ghost use Rattle.metis_universe.specs.Goals.{AttainsGoals, IsGoalOf};
-ghost use Rattle.metis_universe.specs.Universe.{port_count, providers_of};
-ghost use Rattle.metis_why.specs.Barred.{before_of, listed};
-ghost use Rattle.metis_why.specs.Confirm.{IsLineOf, covered, first_bad, line_holds, verdict};
-ghost use Rattle.metis_refusal.specs.Supplies.{flag};
+ghost use Rattle.metis_universe.specs.Terms.{AttainsGoals, IsGoalOf, port_count, providers_of};
+ghost use Rattle.metis_why.specs.Terms.{IsLineOf, before_of, covered, first_bad, line_holds, listed, verdict};
+ghost use Rattle.metis_refusal.specs.Terms.{flag};
 
 use crate::because::flags_of;
 use crate::named::leads;

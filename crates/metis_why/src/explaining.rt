@@ -1,14 +1,10 @@
 //! Why goals are never attained together.
 ghost use Rattle.std.specs.Prelude.{◌≡◌, ◌<◌, ℕ, IfOk};
 ghost use Rattle.std.specs.List.{All};
-ghost use Rattle.metis_universe.specs.Goals.{AttainsGoals, IsGoalOf};
-ghost use Rattle.metis_layers.specs.Layers.{IsLayers};
-ghost use Rattle.metis_why.specs.Answer.{IfAllAttained, IfLacks, IsFirstUnattained, IsLacking};
-ghost use Rattle.metis_why.specs.Barred.{IsWhy};
-ghost use Rattle.metis_why.specs.Choice.{IsByChoice};
-ghost use Rattle.metis_why.specs.Confirm.{IsTellable};
-ghost use Rattle.metis_refusal.specs.Supplies.{flag};
-ghost use Rattle.metis_why.specs.Leaving.{IsEnough};
+ghost use Rattle.metis_universe.specs.Terms.{AttainsGoals, IsGoalOf};
+ghost use Rattle.metis_layers.specs.Terms.{IsLayers};
+ghost use Rattle.metis_why.specs.Terms.{IfAllAttained, IfLacks, IsByChoice, IsEnough, IsFirstUnattained, IsLacking, IsTellable, IsWhy};
+ghost use Rattle.metis_refusal.specs.Terms.{flag};
 
 use crate::far::by_distance;
 use crate::leaving::leave_out_all;

@@ -1,11 +1,9 @@
 //! Pairs that fall out of a set, one after the other.
 ghost use Rattle.std.specs.Prelude.{◌≡◌, ◌<◌, ℕ, Bool, IsTrue, IsFalse, OnOk, false, set};
 ghost use Rattle.std.specs.List.{All};
-ghost use Rattle.metis_universe.specs.Universe.{Universe, has, next_of, pair_count, port_count, provides, requires};
-ghost use Rattle.metis_why.specs.Barred.{IsBarred};
-ghost use Rattle.metis_why.specs.Flags.{IsInside};
-ghost use Rattle.metis_refusal.specs.Supplies.{flag};
-ghost use Rattle.metis_why.specs.Settling.{AreReached, Falls, IsFrom, IsShrunk};
+ghost use Rattle.metis_universe.specs.Terms.{Universe, has, next_of, pair_count, port_count, provides, requires};
+ghost use Rattle.metis_why.specs.Terms.{AreReached, Falls, IsBarred, IsFrom, IsInside, IsShrunk};
+ghost use Rattle.metis_refusal.specs.Terms.{flag};
 
 use crate::outside::{PAIR_LIMIT, PORT_LIMIT, given_outside, is_set, led_outside};
 use metis_ids::{NoMemory, PairIx, PortIx};

@@ -1,12 +1,10 @@
 //! Pairs that no barred set can leave out that covers the goal.
 ghost use Rattle.std.specs.Prelude.{◌≡◌, ◌<◌, ℕ, Bool, IfOk, IsFalse, IsTrue, MatchOption, OnOk};
 ghost use Rattle.std.specs.List.{All};
-ghost use Rattle.metis_universe.specs.Goals.{IsGoalOf};
+ghost use Rattle.metis_universe.specs.Terms.{IsGoalOf, Universe, pair_count, port_count, requires};
 ghost use Rattle.metis_ids.specs.declared.goals.Goal.{Goal};
-ghost use Rattle.metis_universe.specs.Universe.{Universe, pair_count, port_count, requires};
-ghost use Rattle.metis_why.specs.Flags.{AreGiven, AreLed, IsMissed, IsOnlyReason};
-ghost use Rattle.metis_refusal.specs.Supplies.{flag};
-ghost use Rattle.metis_why.specs.Leaving.{AreForced, AreMarked, IsEnough};
+ghost use Rattle.metis_why.specs.Terms.{AreForced, AreGiven, AreLed, AreMarked, IsEnough, IsMissed, IsOnlyReason};
+ghost use Rattle.metis_refusal.specs.Terms.{flag};
 
 use crate::falling::are_given;
 use crate::named::{named, wanted};

@@ -3,20 +3,8 @@ ghost use Rattle.std.specs.Prelude.{◌≡◌, ◌≤◌, ◌<◌, ◌⊎◌, �
 ghost use Rattle.std.specs.List.{All, list_all};
 ghost use Rattle.metis_ids.specs.declared.actions.Action.{Action};
 ghost use Rattle.metis_ids.specs.declared.goals.Goal.{Goal};
-ghost use Rattle.metis_universe.specs.Closed.{Closed};
-ghost use Rattle.metis_universe.specs.Config.{empty};
-ghost use Rattle.metis_universe.specs.Goals.{AttainsGoals, IsGoalOf, places_of, serving};
-ghost use Rattle.metis_universe.specs.Step.{IsRun, after_all};
-ghost use Rattle.metis_universe.specs.Universe.{Universe, IsUniverse, has, pair_count};
-ghost use Rattle.metis_why.specs.Answer.{IsFirstUnattained, IsLacking};
-ghost use Rattle.metis_why.specs.Barred.{Covers, IsBarred, IsNeeded, IsReason, IsWhy, listed, named_by, outside};
-ghost use Rattle.metis_why.specs.Choice.{IsByChoice, IsByDistance, IsNearest, may_name, reason_in};
-ghost use Rattle.metis_why.specs.Circles.{IsCircle, IsNaming};
-ghost use Rattle.metis_why.specs.Confirm.{verdict};
-ghost use Rattle.metis_why.specs.Flags.{IsInside};
-ghost use Rattle.metis_why.specs.Nearing.{AreApart};
-ghost use Rattle.metis_why.specs.Steps.{IsCalledFor, IsFromNearToFar, IsWithinCost};
-ghost use Rattle.metis_why.specs.Trying.{AreTried, IsFewest, IsWaitedFor};
+ghost use Rattle.metis_universe.specs.Terms.{AttainsGoals, Closed, IsGoalOf, IsRun, IsUniverse, Universe, after_all, empty, has, pair_count, places_of, serving};
+ghost use Rattle.metis_why.specs.Terms.{AreApart, AreTried, Covers, IsBarred, IsByChoice, IsByDistance, IsCalledFor, IsCircle, IsFewest, IsFirstUnattained, IsFromNearToFar, IsInside, IsLacking, IsNaming, IsNearest, IsNeeded, IsReason, IsWaitedFor, IsWhy, IsWithinCost, listed, may_name, named_by, outside, reason_in, verdict};
 ghost use Rattle.metis_why.specs.declared.reason.Line.{Line};
 
 use crate::confirming::Confirmation;

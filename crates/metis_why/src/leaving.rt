@@ -1,13 +1,8 @@
 //! A set of pairs of which none can be left out.
 ghost use Rattle.std.specs.Prelude.{◌≡◌, ◌<◌, ℕ, Bool, IfOk, IsTrue, IsFalse, OnOk, set, false};
-ghost use Rattle.metis_universe.specs.Goals.{IsGoalOf};
-ghost use Rattle.metis_why.specs.Barred.{Covers, IsBarred};
-ghost use Rattle.metis_why.specs.Choice.{IsNearest};
-ghost use Rattle.metis_why.specs.Flags.{IsGreatest, IsInside, IsMissed, IsWithin};
-ghost use Rattle.metis_refusal.specs.Supplies.{flag};
-ghost use Rattle.metis_why.specs.Leaving.{AreForced, IsEnough, IsKept, IsLess};
-ghost use Rattle.metis_why.specs.Nearing.{AreApart, IsFront};
-ghost use Rattle.metis_why.specs.Settling.{IsFrom, IsShrunk};
+ghost use Rattle.metis_universe.specs.Terms.{IsGoalOf};
+ghost use Rattle.metis_why.specs.Terms.{AreApart, AreForced, Covers, IsBarred, IsEnough, IsFrom, IsFront, IsGreatest, IsInside, IsKept, IsLess, IsMissed, IsNearest, IsShrunk, IsWithin};
+ghost use Rattle.metis_refusal.specs.Terms.{flag};
 
 use crate::falling::{Falling, await_all, spread_all};
 use crate::forcing::forced;

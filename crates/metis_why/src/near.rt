@@ -1,12 +1,9 @@
 //! The nearest pairs behind a goal.
 ghost use Rattle.std.specs.Prelude.{◌≡◌, ◌<◌, ◌||◌, ◌==◌, ◌++◌, ℕ, List, IfOk, take};
 ghost use Rattle.std.specs.List.{All};
-ghost use Rattle.metis_universe.specs.Goals.{IsGoalOf};
-ghost use Rattle.metis_universe.specs.Universe.{has, pair_count};
-ghost use Rattle.metis_why.specs.Flags.{IsGreatest};
-ghost use Rattle.metis_refusal.specs.Supplies.{flag};
-ghost use Rattle.metis_why.specs.Leaving.{IsEnough};
-ghost use Rattle.metis_why.specs.Nearing.{IsFront};
+ghost use Rattle.metis_universe.specs.Terms.{IsGoalOf, has, pair_count};
+ghost use Rattle.metis_why.specs.Terms.{IsEnough, IsFront, IsGreatest};
+ghost use Rattle.metis_refusal.specs.Terms.{flag};
 
 use crate::outside::PAIR_LIMIT;
 use crate::settling::{covers, settle};

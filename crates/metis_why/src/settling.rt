@@ -2,12 +2,9 @@
 ghost use Rattle.std.specs.Prelude.{◌≡◌, ◌<◌, ℕ, Bool, IsTrue, IsFalse, OnOk};
 ghost use Rattle.std.specs.List.{All, find, list_all};
 ghost use Rattle.metis_ids.specs.declared.goals.Goal.{Goal};
-ghost use Rattle.metis_universe.specs.Universe.{pair_count};
-ghost use Rattle.metis_universe.specs.Goals.{IsGoalOf};
-ghost use Rattle.metis_why.specs.Barred.{IsBarred, IsReason, wanted_by};
-ghost use Rattle.metis_why.specs.Flags.{AreGiven, AreLed, IsGreatest, IsInside, IsWithin};
-ghost use Rattle.metis_refusal.specs.Supplies.{flag};
-ghost use Rattle.metis_why.specs.Settling.{IsRound};
+ghost use Rattle.metis_universe.specs.Terms.{IsGoalOf, pair_count};
+ghost use Rattle.metis_why.specs.Terms.{AreGiven, AreLed, IsBarred, IsGreatest, IsInside, IsReason, IsRound, IsWithin, wanted_by};
+ghost use Rattle.metis_refusal.specs.Terms.{flag};
 ghost use Rattle.metis_why.specs.declared.reason.Reason.{Reason};
 
 use crate::falling::{are_given, drain};

@@ -9,10 +9,9 @@ use Rattle.metis_tokens.proofs.Cuts.{tokens_of_words, words_of_tokens}
 use Rattle.metis_tokens.proofs.NumberTokens.{number_is, number_read}
 use Rattle.metis_tokens.proofs.Outcomes.{if_is}
 use Rattle.metis_tokens.proofs.Printed.{printed, printed_decimal}
-use Rattle.metis_tokens.specs.Line.{words}
-use Rattle.metis_tokens.specs.Tokens.{number_in, tokens}
+use Rattle.metis_tokens.specs.Terms.{number_in, tokens, words}
 use Rattle.metis_tokens.specs.declared.flaw.Flaw.TheVariants.{Form}
-use Rattle.metis_why_text.specs.WhyReading.{count_in, count_of_tokens}
+use Rattle.metis_why_text.specs.Terms.{count_in, count_of_tokens}
 
 abbrev pub count_tokens : ℕ → List (List ℕ)
 count_tokens n = codes "lines" ∷ decimal n ∷ []

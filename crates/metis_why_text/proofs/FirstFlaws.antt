@@ -9,29 +9,25 @@ use Rattle.std.proofs.lemmas.List.Elements.{All-append, All-cons, All-nil}
 use Rattle.metis_ids.specs.declared.goals.Goal.{Goal}
 use Rattle.metis_text.proofs.DueRead.{IsLeft, one_more, stops}
 use Rattle.metis_text.proofs.LineFlaws.{exactly_fails}
-use Rattle.metis_text.specs.DueLines.{IfFault}
+use Rattle.metis_text.specs.Terms.{IfFault}
 use Rattle.metis_tokens.proofs.KnownLines.{exactly_is}
 use Rattle.metis_tokens.proofs.LinesTaken.{read_next_is}
 use Rattle.metis_tokens.proofs.Outcomes.{and_then_is}
 use Rattle.metis_tokens.proofs.Readers.{and_then_wrong}
-use Rattle.metis_tokens.specs.Cursor.{Cursor, ended, exactly, lines_of, read_next}
-use Rattle.metis_tokens.specs.Flaws.{and_then}
-use Rattle.metis_tokens.specs.Line.{end_line, words}
+use Rattle.metis_tokens.specs.Terms.{Cursor, and_then, end_line, ended, exactly, lines_of, read_next, words}
 use Rattle.metis_tokens.specs.declared.fault.TFault.{TFault}
 use Rattle.metis_tokens.specs.declared.fault.TFault.TheVariants as faults
 use Rattle.metis_tokens.specs.declared.flaw.Flaw.{Flaw}
-use Rattle.metis_universe.specs.GoalWords.{IsWordable}
-use Rattle.metis_universe.specs.Universe.{IsTable, Universe}
-use Rattle.metis_why.specs.Confirm.{IsTellable}
+use Rattle.metis_universe.specs.Terms.{IsTable, IsWordable, Universe}
+use Rattle.metis_why.specs.Terms.{IsTellable}
 use Rattle.metis_why.specs.declared.reason.Explanation.{Explanation}
 use Rattle.metis_why.specs.declared.reason.Line.{Line}
 use Rattle.metis_why_text.proofs.CountTokens.{count_is, count_tokens}
 use Rattle.metis_why_text.proofs.GoalTokens.{lacks_is}
 use Rattle.metis_why_text.proofs.LineFlaws.{count_fails, goal_fails, item_fails}
 use Rattle.metis_why_text.proofs.LineTokens.{line_is}
-use Rattle.metis_why_text.specs.WhyFlaws.{AreTold, HasWhyFault, HasWhyFlaw, IsWhyBegun, WhyDue, begun_why, first_line, goal_line, last_line, next_item, number_line, of_line, past_end, too_short, with_all, with_first, with_goal, with_items, with_none}
-use Rattle.metis_why_text.specs.WhyReading.{ReadsWhy, count_in, lacks_in, line_in, lines_from, why_counted_from, why_end_from, why_in, why_parts}
-use Rattle.metis_why_text.specs.WhyText.{count_line, lacks_line, lacks_tokens, line_text, line_tokens, why_header}
+use Rattle.metis_why_text.specs.Terms.{AreTold, HasWhyFault, HasWhyFlaw, IsWhyBegun, ReadsWhy, WhyDue, begun_why, count_in, count_line, first_line, goal_line, lacks_in, lacks_line, lacks_tokens, last_line, line_in, line_text, line_tokens, lines_from, next_item, number_line, why_counted_from, why_end_from, why_header, why_in, why_parts, with_all, with_first, with_goal, with_items, with_none}
+use Rattle.metis_why_text.specs.WhyFlaws.{of_line, past_end, too_short}
 
 module _ (u : Universe) (bytes : List ℕ) (f : TFault) where
   stop : {A : Type 0} (read : List ℕ → Result A Flaw) (due : WhyDue) (lines : List (List ℕ)) (l : Cursor) → IsWhyBegun u lines due → IsLeft bytes lines l

@@ -12,15 +12,12 @@ use Rattle.metis_tokens.proofs.Cuts.{tokens_of_words}
 use Rattle.metis_tokens.proofs.GoalTokens.{goal_is, goal_read}
 use Rattle.metis_tokens.proofs.Outcomes.{if_is}
 use Rattle.metis_tokens.proofs.Printed.{printed}
-use Rattle.metis_tokens.specs.Line.{words}
-use Rattle.metis_tokens.specs.Tokens.{tokens}
+use Rattle.metis_tokens.specs.Terms.{tokens, words}
 use Rattle.metis_tokens.specs.declared.flaw.Flaw.{Flaw}
 use Rattle.metis_tokens.specs.declared.flaw.Flaw.TheVariants.{Form}
-use Rattle.metis_universe.specs.GoalWords.{IsWordable, goal_word}
-use Rattle.metis_universe.specs.Universe.{IsNamed, IsUniverse, Universe, providers_of}
+use Rattle.metis_universe.specs.Terms.{IsNamed, IsUniverse, IsWordable, Universe, goal_word, providers_of}
 use Rattle.metis_why_text.proofs.Printed.{lacks_printed}
-use Rattle.metis_why_text.specs.WhyReading.{fitting, goal_of_tokens, is_lacks_of, lacks_in, lacks_of_tokens}
-use Rattle.metis_why_text.specs.WhyText.{lacks_tokens, list_words}
+use Rattle.metis_why_text.specs.Terms.{fitting, goal_of_tokens, is_lacks_of, lacks_in, lacks_of_tokens, lacks_tokens, list_words}
 
 -- what was read fits its line
 pub fitting_is : {A : Type 0} (fits : A → Bool) (x : Result A Flaw) (a : A) → fitting fits x ≡ Ok a → (x ≡ Ok a) × (fits a ≡ true)

@@ -8,16 +8,15 @@ use Rattle.std.proofs.lemmas.List.Folds.{list_all-append}
 use Rattle.metis_ids.specs.declared.goals.Goal.{Goal}
 use Rattle.metis_ids.specs.declared.goals.Goal.TheVariants.{Pair, Port}
 use Rattle.metis_outside.proofs.Feeds.{IsLine-from, no_feed, no_feed-decimal, no_feed-join_with_byte, one_line}
-use Rattle.metis_outside.specs.Pieces.{IsLine}
+use Rattle.metis_outside.specs.Terms.{IsLine}
 use Rattle.metis_tokens.proofs.WordFeeds.{no_feed-goal_word, no_feed-pair_word, no_feed-port_name_of}
-use Rattle.metis_tokens.specs.Line.{line, words, end_line}
-use Rattle.metis_universe.specs.PairWords.{pair_word}
-use Rattle.metis_universe.specs.Universe.{IsNamed, IsTable, Universe, providers_of}
-use Rattle.metis_why.specs.Barred.{named_by}
+use Rattle.metis_tokens.specs.Terms.{end_line, line, words}
+use Rattle.metis_universe.specs.Terms.{IsNamed, IsTable, Universe, pair_word, providers_of}
+use Rattle.metis_why.specs.Terms.{named_by}
 use Rattle.metis_why.specs.declared.reason.Line.{Line}
 use Rattle.metis_why.specs.declared.reason.Reason.{Reason}
 use Rattle.metis_why.specs.declared.reason.Reason.TheVariants.{Needs, Comes}
-use Rattle.metis_why_text.specs.WhyText.{comes_tokens, count_line, lacks_line, lacks_tokens, line_text, line_tokens, list_words, reason_tokens, start_port, why_body, why_counted, why_header, why_lines, why_rest}
+use Rattle.metis_why_text.specs.Terms.{comes_tokens, count_line, lacks_line, lacks_tokens, line_text, line_tokens, list_words, reason_tokens, start_port, why_body, why_counted, why_header, why_lines, why_rest}
 
 IsLine-line : (ts : List (List ℕ)) → list_all no_feed ts ≡ true → IsLine (line ts)
 IsLine-line ts h = IsLine-from (words ts) (no_feed-join_with_byte 32 ts refl h)

@@ -10,30 +10,22 @@ use Rattle.std.proofs.lemmas.Bool.{and_from, and_parts, eqb-true, ltb-false}
 use Rattle.std.proofs.lemmas.List.Splits.{slice_split_at}
 use Rattle.std.proofs.lemmas.Slice.Eq.{bytes_eq-Decides}
 use Rattle.metis_text.proofs.LineFlaws.{number_formed, two_found, two_printed}
-use Rattle.metis_text.specs.PlanFlaws.{IsPairThere}
-use Rattle.metis_text.specs.RefusalFlaws.{AreTwoNames}
+use Rattle.metis_text.specs.Terms.{AreTwoNames, IsPairThere}
 use Rattle.metis_tokens.proofs.Cuts.{tokens_of_words, words_of_tokens, no_space}
 use Rattle.metis_tokens.proofs.GoalTokens.{goal_is, goal_read}
 use Rattle.metis_tokens.proofs.Printed.{printed, printed_digits, printed_name}
-use Rattle.metis_tokens.specs.Flaws.{both, found, made}
-use Rattle.metis_tokens.specs.Line.{words}
-use Rattle.metis_tokens.specs.Tokens.{in_range, is_number, is_space, number_in, starts_number, tokens}
-use Rattle.metis_tokens.specs.Words.{goal_in, of_names, pair_in}
+use Rattle.metis_tokens.specs.Terms.{both, found, goal_in, in_range, is_number, is_space, made, number_in, of_names, pair_in, starts_number, tokens, words}
 use Rattle.metis_tokens.specs.declared.flaw.Flaw.{Flaw}
 use Rattle.metis_tokens.specs.declared.flaw.Flaw.TheVariants.{Form, Number, Name}
 use Rattle.metis_universe.proofs.NameBytes.{cut_back, name_some}
-use Rattle.metis_universe.specs.GoalWords.{IsWordable, goal_named, goal_word}
-use Rattle.metis_universe.specs.Names.{is_name}
-use Rattle.metis_universe.specs.PairWords.{is_colon, pair_names}
-use Rattle.metis_universe.specs.Universe.{IsNamed, IsUniverse, Universe, pair_named, port_named}
+use Rattle.metis_universe.specs.Terms.{IsNamed, IsUniverse, IsWordable, Universe, goal_named, goal_word, is_colon, is_name, pair_named, pair_names, port_named}
 use Rattle.metis_ids.specs.declared.goals.Goal.{Goal}
 use Rattle.metis_why.specs.declared.reason.Line.{Line}
 use Rattle.metis_why.specs.declared.reason.Reason.{Reason}
 use Rattle.metis_why.specs.declared.reason.Reason.TheVariants.{Needs, Comes}
 use Rattle.metis_why_text.proofs.GoalTokens.{lacks_read}
 use Rattle.metis_why_text.proofs.LineTokens.{line_read}
-use Rattle.metis_why_text.specs.WhyFlaws.{BeginsWith, IsCountFlaw, IsFormedReason, IsGoalFlaw, IsItemFlaw, IsPortThere, NamesNoGoal, NamesNone, ReasonWords, comes, count_with, needs_port, reason_words, starts}
-use Rattle.metis_why_text.specs.WhyReading.{count_in, count_of_tokens, fitting, is_lacks_of, is_text_of, lacks_in, lacks_of_tokens, line_in, line_of_tokens, line_with, needs_of_tokens, reason_of_tokens}
+use Rattle.metis_why_text.specs.Terms.{BeginsWith, IsCountFlaw, IsFormedReason, IsGoalFlaw, IsItemFlaw, IsPortThere, NamesNoGoal, NamesNone, ReasonWords, comes, count_in, count_of_tokens, count_with, fitting, is_lacks_of, is_text_of, lacks_in, lacks_of_tokens, line_in, line_of_tokens, line_with, needs_of_tokens, needs_port, reason_of_tokens, reason_words, starts}
 
 -- ---- lines that begin with known words
 

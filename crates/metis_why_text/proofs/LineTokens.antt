@@ -10,22 +10,16 @@ use Rattle.metis_tokens.proofs.Cuts.{tokens_of_words}
 use Rattle.metis_tokens.proofs.PairTokens.{pair_is, pair_read}
 use Rattle.metis_tokens.proofs.NameTokens.{named_is, named_read, port_at, port_is}
 use Rattle.metis_tokens.proofs.Outcomes.{both_is, if_is, made_is}
-use Rattle.metis_tokens.specs.Words.{pair_in}
-use Rattle.metis_tokens.specs.Flaws.{both, made}
-use Rattle.metis_tokens.specs.Line.{words}
-use Rattle.metis_tokens.specs.Tokens.{named, tokens}
+use Rattle.metis_tokens.specs.Terms.{both, made, named, pair_in, tokens, words}
 use Rattle.metis_tokens.specs.declared.flaw.Flaw.TheVariants.{Form}
-use Rattle.metis_universe.specs.PairWords.{pair_word}
-use Rattle.metis_universe.specs.Universe.{IsNamed, IsUniverse, Universe, is_free, port_name_of, port_named}
-use Rattle.metis_why.specs.Barred.{IsNameable, named_by}
-use Rattle.metis_why.specs.Confirm.{IsHeldUp, IsLineOf, IsTellable}
+use Rattle.metis_universe.specs.Terms.{IsNamed, IsUniverse, Universe, is_free, pair_word, port_name_of, port_named}
+use Rattle.metis_why.specs.Terms.{IsHeldUp, IsLineOf, IsNameable, IsTellable, named_by}
 use Rattle.metis_why.specs.declared.reason.Line.{Line}
 use Rattle.metis_why.specs.declared.reason.Reason.{Reason}
 use Rattle.metis_why.specs.declared.reason.Reason.TheVariants.{Needs, Comes}
 use Rattle.metis_why_text.proofs.GoalTokens.{fitting_is}
 use Rattle.metis_why_text.proofs.Printed.{line_printed}
-use Rattle.metis_why_text.specs.WhyReading.{fitting, is_held_up, is_text_of, line_in, line_of_tokens, line_with, needs_of_tokens, reason_of_tokens}
-use Rattle.metis_why_text.specs.WhyText.{comes_tokens, line_tokens, list_words, reason_tokens, start_port}
+use Rattle.metis_why_text.specs.Terms.{comes_tokens, fitting, is_held_up, is_text_of, line_in, line_of_tokens, line_tokens, line_with, list_words, needs_of_tokens, reason_of_tokens, reason_tokens, start_port}
 
 module _ (u : Universe) where
   -- ---- what may be told

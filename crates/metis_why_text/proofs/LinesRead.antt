@@ -4,16 +4,14 @@ use Rattle.std.proofs.Common.{◌≡◌, ℕ, zero, suc, ◌+◌, ◌-◌, ◌<�
 use Rattle.std.specs.List.{AllByRecursion, flat_map}
 use Rattle.metis_tokens.proofs.LinesTaken.{read_next_is, read_next_read, line_and_rest}
 use Rattle.metis_tokens.proofs.Outcomes.{and_then_is}
-use Rattle.metis_tokens.specs.Flaws.{and_then}
-use Rattle.metis_tokens.specs.Cursor.{Cursor, lines_of, read_next}
+use Rattle.metis_tokens.specs.Terms.{Cursor, and_then, lines_of, read_next}
 use Rattle.metis_tokens.specs.declared.fault.TFault.{TFault}
-use Rattle.metis_universe.specs.Universe.{IsNamed, IsUniverse, Universe}
-use Rattle.metis_why.specs.Confirm.{IsTellable}
+use Rattle.metis_universe.specs.Terms.{IsNamed, IsUniverse, Universe}
+use Rattle.metis_why.specs.Terms.{IsTellable}
 use Rattle.metis_why.specs.declared.reason.Line.{Line}
 use Rattle.metis_why_text.proofs.LineTokens.{line_is, line_read}
 use Rattle.metis_why_text.proofs.Printed.{line_printed}
-use Rattle.metis_why_text.specs.WhyReading.{line_in, lines_from}
-use Rattle.metis_why_text.specs.WhyText.{line_text, line_tokens}
+use Rattle.metis_why_text.specs.Terms.{line_in, line_text, line_tokens, lines_from}
 
 pub record LinesRead (u : Universe) (left : ℕ) (lines : List Line) (l : Cursor) (p : List Line × Cursor) : Type 0 where
   pub added : List Line

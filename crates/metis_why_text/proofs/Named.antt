@@ -2,8 +2,8 @@
 use Rattle.std.proofs.Common.{ℕ, zero, suc, ◌+◌, ◌<◌, ◌≤◌, Bool, arith}
 use Rattle.std.specs.List.{All, filter, range_with_len}
 use Rattle.std.proofs.lemmas.List.Elements.{All-cons, All-filter, All-nil}
-use Rattle.metis_universe.specs.Universe.{Universe, all_pairs, has, next_of, pair_count, provides}
-use Rattle.metis_why.specs.Barred.{named_by}
+use Rattle.metis_universe.specs.Terms.{Universe, all_pairs, has, next_of, pair_count, provides}
+use Rattle.metis_why.specs.Terms.{named_by}
 use Rattle.metis_why.specs.declared.reason.Reason.{Reason}
 use Rattle.metis_why.specs.declared.reason.Reason.TheVariants.{Needs, Comes}
 

@@ -11,16 +11,13 @@ use Rattle.metis_ids.specs.declared.goals.Goal.TheVariants.{Pair, Port}
 use Rattle.metis_tokens.proofs.PairTokens.{pair_printed}
 use Rattle.metis_tokens.proofs.GoalTokens.{goal_printed}
 use Rattle.metis_tokens.proofs.Printed.{printed, printed_name}
-use Rattle.metis_universe.specs.GoalWords.{IsWordable}
-use Rattle.metis_universe.specs.PairWords.{pair_word}
-use Rattle.metis_universe.specs.Universe.{IsNamed, IsUniverse, Universe, is_initial, pair_count, port_count, port_name_of, provides, providers_of, required_of}
-use Rattle.metis_why.specs.Barred.{IsNameable, named_by}
-use Rattle.metis_why.specs.Confirm.{IsLineOf}
+use Rattle.metis_universe.specs.Terms.{IsNamed, IsUniverse, IsWordable, Universe, is_initial, pair_count, pair_word, port_count, port_name_of, providers_of, provides, required_of}
+use Rattle.metis_why.specs.Terms.{IsLineOf, IsNameable, named_by}
 use Rattle.metis_why.specs.declared.reason.Line.{Line}
 use Rattle.metis_why.specs.declared.reason.Reason.{Reason}
 use Rattle.metis_why.specs.declared.reason.Reason.TheVariants.{Needs, Comes}
 use Rattle.metis_why_text.proofs.Named.{kept_below, named_below}
-use Rattle.metis_why_text.specs.WhyText.{comes_tokens, lacks_tokens, line_tokens, list_words, reason_tokens, start_port}
+use Rattle.metis_why_text.specs.Terms.{comes_tokens, lacks_tokens, line_tokens, list_words, reason_tokens, start_port}
 
 first_holds : (P : ℕ → Type 0) (xs : List ℕ) → All P xs → IfSome (slice_get xs 0) P
 first_holds P [] all = tt

@@ -4,11 +4,11 @@ use Rattle.std.proofs.Common.{◌≡◌, ℕ, List, [], ◌∷◌, ◌++◌, len
 use Rattle.std.proofs.lemmas.List.Folds.{concat-append}
 use Rattle.std.specs.List.{flat_map}
 use Rattle.metis_ids.specs.declared.goals.Goal.{Goal}
-use Rattle.metis_outside.specs.Pieces.{bytes_of}
-use Rattle.metis_tokens.specs.Line.{end_line}
-use Rattle.metis_universe.specs.Universe.{Universe}
+use Rattle.metis_outside.specs.Terms.{bytes_of}
+use Rattle.metis_tokens.specs.Terms.{end_line}
+use Rattle.metis_universe.specs.Terms.{Universe}
 use Rattle.metis_why.specs.declared.reason.Line.{Line}
-use Rattle.metis_why_text.specs.WhyText.{count_line, lacks_line, line_text, why_bytes, why_header}
+use Rattle.metis_why_text.specs.Terms.{count_line, lacks_line, line_text, why_bytes, why_header}
 
 abbrev pub rest_bytes : Universe → List Line → List ℕ
 rest_bytes u lines = flat_map (line_text u) lines ++ end_line

@@ -6,23 +6,19 @@ use Rattle.std.proofs.lemmas.Bool.Decides.{nat_tests}
 use Rattle.std.proofs.lemmas.List.{length-append, length-map}
 use Rattle.metis_ids.specs.declared.goals.Goal.{Goal}
 use Rattle.metis_ids.proofs.Tests.{nonzero}
-use Rattle.metis_outside.specs.Pieces.{bytes_of}
+use Rattle.metis_outside.specs.Terms.{bytes_of}
 use Rattle.metis_tokens.proofs.Outcomes.{and_then_behind, and_then_is}
 use Rattle.metis_tokens.proofs.Readers.{IsReader, Took, Wrong, and_then_wrong, done_reads, read_next_reads, then_reads}
 use Rattle.metis_tokens.proofs.Texts.{IsText, early_is_short, text_by, whole_more}
 use Rattle.metis_tokens.proofs.LinesTaken.{read_next_number}
-use Rattle.metis_tokens.specs.Flaws.{and_then}
-use Rattle.metis_tokens.specs.Line.{end_line}
-use Rattle.metis_tokens.specs.Cursor.{Cursor, ended, exactly, fault_at, lines_of, read_next}
+use Rattle.metis_tokens.specs.Terms.{Cursor, and_then, end_line, ended, exactly, fault_at, lines_of, read_next}
 use Rattle.metis_tokens.specs.declared.fault.TFault.{TFault}
 use Rattle.metis_tokens.specs.declared.fault.TFault.TheVariants as faults
-use Rattle.metis_universe.specs.Universe.{IsTable, Universe}
+use Rattle.metis_universe.specs.Terms.{IsTable, Universe}
 use Rattle.metis_why.specs.declared.reason.Line.{Line}
 use Rattle.metis_why_text.proofs.LinesRead.{lines_are}
 use Rattle.metis_why_text.proofs.WhyRead.{why_is, why_read}
-use Rattle.metis_why_text.specs.WhyFaults.{IsWhyFault}
-use Rattle.metis_why_text.specs.WhyReading.{WhyParts, count_in, lacks_in, line_in, lines_from, why_counted_from, why_end_from, why_from, why_in, why_parts}
-use Rattle.metis_why_text.specs.WhyText.{IsWhyText, line_text, why_bytes, why_lines}
+use Rattle.metis_why_text.specs.Terms.{IsWhyFault, IsWhyText, WhyParts, count_in, lacks_in, line_in, line_text, lines_from, why_bytes, why_counted_from, why_end_from, why_from, why_in, why_lines, why_parts}
 
 -- ---- its lines, and then their end
 

@@ -7,13 +7,10 @@ use Rattle.metis_ids.specs.declared.goals.Goal.{Goal}
 use Rattle.metis_tokens.proofs.LinesTaken.{read_next_is, read_next_read}
 use Rattle.metis_tokens.proofs.Outcomes.{and_then_is}
 use Rattle.metis_tokens.proofs.KnownLines.{ended_is, exactly_is}
-use Rattle.metis_tokens.specs.Flaws.{and_then}
-use Rattle.metis_tokens.specs.Line.{line, end_line}
-use Rattle.metis_tokens.specs.Cursor.{Cursor, ended, exactly, lines_of, read_next}
+use Rattle.metis_tokens.specs.Terms.{Cursor, and_then, end_line, ended, exactly, line, lines_of, read_next}
 use Rattle.metis_tokens.specs.declared.fault.TFault.{TFault}
-use Rattle.metis_universe.specs.GoalWords.{IsWordable}
-use Rattle.metis_universe.specs.Universe.{IsTable, Universe}
-use Rattle.metis_why.specs.Confirm.{IsTellable}
+use Rattle.metis_universe.specs.Terms.{IsTable, IsWordable, Universe}
+use Rattle.metis_why.specs.Terms.{IsTellable}
 use Rattle.metis_why.specs.declared.reason.Explanation.{Explanation}
 use Rattle.metis_why.specs.declared.reason.Line.{Line}
 use Rattle.metis_why_text.proofs.CountTokens.{count_is, count_printed, count_read, count_tokens}
@@ -21,8 +18,7 @@ use Rattle.metis_why_text.proofs.GoalTokens.{lacks_is, lacks_read}
 use Rattle.metis_why_text.proofs.LinesRead.{lines_are, lines_read}
 use Rattle.metis_why_text.proofs.Printed.{lacks_printed}
 use Rattle.metis_why_text.proofs.WhyBytes.{body_bytes, counted_bytes, rest_bytes, why_bytes_by_parts}
-use Rattle.metis_why_text.specs.WhyReading.{ReadsWhy, WhyParts, count_in, lacks_in, lines_from, parts_of, why_counted_from, why_end_from, why_in, why_parts}
-use Rattle.metis_why_text.specs.WhyText.{IsWhyText, lacks_tokens, line_text, why_bytes}
+use Rattle.metis_why_text.specs.Terms.{IsWhyText, ReadsWhy, WhyParts, count_in, lacks_in, lacks_tokens, line_text, lines_from, parts_of, why_bytes, why_counted_from, why_end_from, why_in, why_parts}
 use Rattle.metis_text.proofs.RefusalRead.{line_behind}
 
 -- ---- what was read was written

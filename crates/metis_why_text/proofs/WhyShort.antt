@@ -7,22 +7,17 @@ use Rattle.std.proofs.lemmas.Fmt.{length-decimal-le_succ}
 use Rattle.std.proofs.lemmas.List.Elements.{All-append, All-cons, All-head, All-map, All-nil, All-tail}
 use Rattle.metis_ids.specs.declared.goals.Goal.{Goal}
 use Rattle.metis_ids.specs.declared.goals.Goal.TheVariants.{Pair, Port}
-use Rattle.metis_outside.specs.Pieces.{bytes_of}
-use Rattle.metis_tokens.specs.Line.{line, words, end_line}
-use Rattle.metis_universe.specs.GoalWords.{IsWordable, goal_word}
-use Rattle.metis_universe.specs.Names.{is_between, is_name, is_name_byte}
-use Rattle.metis_universe.specs.PairWords.{pair_word}
-use Rattle.metis_universe.specs.Universe.{IsTable, Universe, has, pair_count, port_count, port_name_of, providers_of, state_name_of, type_name_of, type_of}
+use Rattle.metis_outside.specs.Terms.{bytes_of}
+use Rattle.metis_tokens.specs.Terms.{end_line, line, words}
+use Rattle.metis_universe.specs.Terms.{IsTable, IsWordable, Universe, goal_word, has, is_between, is_name, is_name_byte, pair_count, pair_word, port_count, port_name_of, providers_of, state_name_of, type_name_of, type_of}
 use Rattle.metis_why.proofs.Ordered.{few_named, short}
-use Rattle.metis_why.specs.Barred.{AreOnce, IsNameable, IsWhy, listed, named_by}
-use Rattle.metis_why.specs.Confirm.{IsLineOf}
-use Rattle.metis_why.specs.Nearing.{AreApart}
+use Rattle.metis_why.specs.Terms.{AreApart, AreOnce, IsLineOf, IsNameable, IsWhy, listed, named_by}
 use Rattle.metis_why.specs.declared.reason.Line.{Line}
 use Rattle.metis_why.specs.declared.reason.Reason.{Reason}
 use Rattle.metis_why.specs.declared.reason.Reason.TheVariants.{Needs, Comes}
 use Rattle.metis_why_text.proofs.Named.{named_below}
 use Rattle.metis_why_text.proofs.Printed.{start_low}
-use Rattle.metis_why_text.specs.WhyText.{IsWhyText, comes_tokens, count_line, lacks_line, lacks_tokens, line_text, line_tokens, list_words, reason_tokens, start_port, why_bytes, why_header, why_lines, why_rest}
+use Rattle.metis_why_text.specs.Terms.{IsWhyText, comes_tokens, count_line, lacks_line, lacks_tokens, line_text, line_tokens, list_words, reason_tokens, start_port, why_bytes, why_header, why_lines, why_rest}
 
 -- ---- lines of few short tokens
 

@@ -3,10 +3,10 @@
 --     IsWhyFault u bytes f      the bytes end too early, or a line has a flaw, or it is this
 use Rattle.std.specs.Prelude.{◌≡◌, ◌≤◌, ◌+◌, ℕ, List, ◌++◌, length}
 use Rattle.metis_ids.specs.declared.goals.Goal.{Goal}
-use Rattle.metis_tokens.specs.LineFaults.{IsOfLine}
+use Rattle.metis_tokens.specs.Terms.{IsOfLine}
 use Rattle.metis_tokens.specs.declared.fault.TFault.{TFault}
 use Rattle.metis_tokens.specs.declared.fault.TFault.TheVariants as faults
-use Rattle.metis_universe.specs.Universe.{Universe}
+use Rattle.metis_universe.specs.Terms.{Universe}
 use Rattle.metis_why.specs.declared.reason.Line.{Line}
 use Rattle.metis_why_text.specs.WhyReading.{why_in}
 use Rattle.metis_why_text.specs.WhyText.{IsWhyText, why_bytes, why_lines}

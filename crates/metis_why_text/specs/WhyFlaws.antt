@@ -17,18 +17,13 @@ use Rattle.std.specs.Prelude.{◌≡◌, ◌≢◌, ◌<◌, ◌≤◌, ◌^◌,
 use Rattle.std.specs.List.{All}
 use Rattle.std.specs.Str.Parse.{digits_value}
 use Rattle.metis_ids.specs.declared.goals.Goal.{Goal}
-use Rattle.metis_text.specs.DueLines.{HasEnded, IsOfDue, IsOther}
-use Rattle.metis_text.specs.PlanFlaws.{IsPairThere}
-use Rattle.metis_text.specs.RefusalFlaws.{AreTwoNames}
-use Rattle.metis_tokens.specs.Line.{words}
-use Rattle.metis_tokens.specs.Tokens.{is_number}
+use Rattle.metis_text.specs.Terms.{AreTwoNames, HasEnded, IsOfDue, IsOther, IsPairThere}
+use Rattle.metis_tokens.specs.Terms.{is_number, words}
 use Rattle.metis_tokens.specs.declared.fault.TFault.{TFault}
 use Rattle.metis_tokens.specs.declared.flaw.Flaw.{Flaw}
 use Rattle.metis_tokens.specs.declared.flaw.Flaw.TheVariants.{Form, Number, Name}
-use Rattle.metis_universe.specs.GoalWords.{IsWordable, goal_word}
-use Rattle.metis_universe.specs.Names.{is_name}
-use Rattle.metis_universe.specs.Universe.{Universe, port_named}
-use Rattle.metis_why.specs.Confirm.{IsTellable}
+use Rattle.metis_universe.specs.Terms.{IsWordable, Universe, goal_word, is_name, port_named}
+use Rattle.metis_why.specs.Terms.{IsTellable}
 use Rattle.metis_why.specs.declared.reason.Line.{Line}
 use Rattle.metis_why_text.specs.WhyFaults.{IsPastWhy}
 use Rattle.metis_why_text.specs.WhyText.{count_line, lacks_line, lacks_tokens, line_text, line_tokens, why_header}

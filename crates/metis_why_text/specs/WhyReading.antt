@@ -17,12 +17,8 @@ use Rattle.metis_tokens.specs.declared.fault.TFault.{TFault}
 use Rattle.metis_tokens.specs.declared.fault.TFault.TheVariants.{NoMemory}
 use Rattle.metis_tokens.specs.declared.flaw.Flaw.{Flaw}
 use Rattle.metis_tokens.specs.declared.flaw.Flaw.TheVariants.{Form}
-use Rattle.metis_tokens.specs.Words.{pair_in, goal_in}
-use Rattle.metis_tokens.specs.Flaws.{and_then, both, made}
-use Rattle.metis_tokens.specs.Line.{words}
-use Rattle.metis_tokens.specs.Cursor.{Cursor, ended, exactly, lines_of, read_next}
-use Rattle.metis_tokens.specs.Tokens.{named, number_in, tokens}
-use Rattle.metis_universe.specs.Universe.{Universe, is_free, port_named}
+use Rattle.metis_tokens.specs.Terms.{Cursor, and_then, both, ended, exactly, goal_in, lines_of, made, named, number_in, pair_in, read_next, tokens, words}
+use Rattle.metis_universe.specs.Terms.{Universe, is_free, port_named}
 use Rattle.metis_why.specs.declared.reason.Explanation.{Explanation}
 use Rattle.metis_why.specs.declared.reason.Line.{Line}
 use Rattle.metis_why.specs.declared.reason.Reason.{Reason}

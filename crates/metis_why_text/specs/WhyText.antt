@@ -11,13 +11,10 @@ use Rattle.std.specs.Prelude.{◌<◌, ◌^◌, ℕ, List, [], ◌∷◌, ◌++�
 use Rattle.std.specs.List.{All}
 use Rattle.metis_ids.specs.declared.goals.Goal.{Goal}
 use Rattle.metis_ids.specs.declared.goals.Goal.TheVariants.{Pair, Port}
-use Rattle.metis_outside.specs.Pieces.{bytes_of}
-use Rattle.metis_tokens.specs.Line.{line, end_line}
-use Rattle.metis_universe.specs.GoalWords.{IsWordable, goal_word}
-use Rattle.metis_universe.specs.PairWords.{pair_word}
-use Rattle.metis_universe.specs.Universe.{Universe, is_initial, port_name_of, providers_of, required_of}
-use Rattle.metis_why.specs.Barred.{named_by}
-use Rattle.metis_why.specs.Confirm.{IsTellable}
+use Rattle.metis_outside.specs.Terms.{bytes_of}
+use Rattle.metis_tokens.specs.Terms.{end_line, line}
+use Rattle.metis_universe.specs.Terms.{IsWordable, Universe, goal_word, is_initial, pair_word, port_name_of, providers_of, required_of}
+use Rattle.metis_why.specs.Terms.{IsTellable, named_by}
 use Rattle.metis_why.specs.declared.reason.Line.{Line}
 use Rattle.metis_why.specs.declared.reason.Reason.{Reason}
 use Rattle.metis_why.specs.declared.reason.Reason.TheVariants.{Needs, Comes}

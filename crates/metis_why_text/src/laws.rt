@@ -2,16 +2,13 @@
 ghost use Rattle.std.specs.Prelude.{◌≡◌, ◌≢◌, ◌≤◌, ◌+◌, ◌^◌, ℕ, List, ◌++◌, Ok, Err, length};
 ghost use Rattle.std.specs.List.{All};
 ghost use Rattle.metis_ids.specs.declared.goals.Goal.{Goal};
-ghost use Rattle.metis_outside.specs.Pieces.{IsLine};
+ghost use Rattle.metis_outside.specs.Terms.{IsLine};
 ghost use Rattle.metis_tokens.specs.declared.fault.TFault.{TFault};
 ghost use Rattle.metis_tokens.specs.declared.fault.TFault.TheVariants as faults;
-ghost use Rattle.metis_universe.specs.Universe.{Universe, IsTable};
-ghost use Rattle.metis_why.specs.Barred.{IsWhy};
+ghost use Rattle.metis_universe.specs.Terms.{IsTable, Universe};
+ghost use Rattle.metis_why.specs.Terms.{IsWhy};
 ghost use Rattle.metis_why.specs.declared.reason.Line.{Line};
-ghost use Rattle.metis_why_text.specs.WhyFaults.{IsWhyFault};
-ghost use Rattle.metis_why_text.specs.WhyFlaws.{HasWhyFault};
-ghost use Rattle.metis_why_text.specs.WhyReading.{WhyParts, why_in, why_parts};
-ghost use Rattle.metis_why_text.specs.WhyText.{IsWhyText, why_bytes, why_lines};
+ghost use Rattle.metis_why_text.specs.Terms.{HasWhyFault, IsWhyFault, IsWhyText, WhyParts, why_bytes, why_in, why_lines, why_parts};
 
 /// A text that is read is that of the explanation that it says, whose goal, pairs and ports are the universe's.
 pub fn accepted_why_is_written()

@@ -1,11 +1,10 @@
 //! Lists of pairs in a line.
 ghost use Rattle.std.specs.Prelude.{◌≡◌, ◌<◌, ◌++◌, OnOk, codes, map, string_bytes};
 ghost use Rattle.std.specs.List.{All};
-ghost use Rattle.metis_tokens.specs.Line.{added};
-ghost use Rattle.metis_universe.specs.PairWords.{pair_word};
-ghost use Rattle.metis_universe.specs.Universe.{pair_count};
-ghost use Rattle.metis_why.specs.Barred.{IsNameable, before_of, named_by};
-ghost use Rattle.metis_why_text.specs.WhyText.{list_words};
+ghost use Rattle.metis_tokens.specs.Terms.{added};
+ghost use Rattle.metis_universe.specs.Terms.{pair_count, pair_word};
+ghost use Rattle.metis_why.specs.Terms.{IsNameable, before_of, named_by};
+ghost use Rattle.metis_why_text.specs.Terms.{list_words};
 
 use metis_ids::PairIx;
 use metis_universe::Universe;

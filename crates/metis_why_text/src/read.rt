@@ -1,13 +1,11 @@
 //! Reads the text of an explanation.
 ghost use Rattle.std.specs.Prelude.{◌≡◌, ◌<◌, ◌-◌, ◌^◌, IfOk, [], length};
 ghost use Rattle.std.specs.List.{All};
-ghost use Rattle.metis_text.specs.DueLines.{IfFault};
-ghost use Rattle.metis_tokens.specs.Cursor.{read_next, Reads};
-ghost use Rattle.metis_universe.specs.GoalWords.{IsWordable};
-ghost use Rattle.metis_why.specs.Confirm.{IsTellable};
-ghost use Rattle.metis_why_text.specs.WhyFlaws.{HasWhyFault};
-ghost use Rattle.metis_why_text.specs.WhyReading.{ReadsWhy, count_in, lacks_in, line_in, lines_from, why_in};
-ghost use Rattle.metis_why_text.specs.WhyText.{why_bytes};
+ghost use Rattle.metis_text.specs.Terms.{IfFault};
+ghost use Rattle.metis_tokens.specs.Terms.{Reads, read_next};
+ghost use Rattle.metis_universe.specs.Terms.{IsWordable};
+ghost use Rattle.metis_why.specs.Terms.{IsTellable};
+ghost use Rattle.metis_why_text.specs.Terms.{HasWhyFault, ReadsWhy, count_in, lacks_in, line_in, lines_from, why_bytes, why_in};
 
 use crate::said::{count_of, lacks_in, line_in};
 use metis_ids::Goal;

@@ -1,12 +1,11 @@
 //! What the lines of the text say. Their first words tell what they are about; the whole line has to be what is written for that.
 ghost use Rattle.std.specs.Prelude.{◌≡◌, ◌<◌, ◌||◌, IfOk, Ok, Err, codes, map, if◌then◌else◌};
 ghost use Rattle.std.specs.Str.{bytes_eq};
-ghost use Rattle.metis_tokens.specs.Flaws.{both, made};
+ghost use Rattle.metis_tokens.specs.Terms.{both, made};
 ghost use Rattle.metis_tokens.specs.declared.flaw.Flaw.TheVariants.{Form};
-ghost use Rattle.metis_universe.specs.GoalWords.{IsWordable};
-ghost use Rattle.metis_universe.specs.Universe.{pair_count};
-ghost use Rattle.metis_why.specs.Confirm.{IsLineOf};
-ghost use Rattle.metis_why_text.specs.WhyReading.{count_of_tokens, fitting, goal_of_tokens, is_held_up, is_lacks_of, is_text_of, lacks_in, lacks_of_tokens, line_in, line_of_tokens, line_with, needs_of_tokens, reason_by, reason_of_tokens};
+ghost use Rattle.metis_universe.specs.Terms.{IsWordable, pair_count};
+ghost use Rattle.metis_why.specs.Terms.{IsLineOf};
+ghost use Rattle.metis_why_text.specs.Terms.{count_of_tokens, fitting, goal_of_tokens, is_held_up, is_lacks_of, is_text_of, lacks_in, lacks_of_tokens, line_in, line_of_tokens, line_with, needs_of_tokens, reason_by, reason_of_tokens};
 
 use crate::words::{lacks_words, line_words};
 use metis_ids::{Goal, PairIx};

@@ -1,13 +1,10 @@
 //! The lines of the text, without their line feeds.
 ghost use Rattle.std.specs.Prelude.{◌≡◌, ◌<◌, ◌++◌, ◌∷◌, [], IfOk, IfSome, codes, string_bytes};
 ghost use Rattle.metis_ids.specs.declared.goals.Goal.TheVariants.{Pair, Port};
-ghost use Rattle.metis_tokens.specs.Line.{words};
-ghost use Rattle.metis_universe.specs.Goals.{IsGoalOf};
-ghost use Rattle.metis_universe.specs.PairWords.{pair_word};
-ghost use Rattle.metis_universe.specs.Universe.{pair_count, port_count, port_name_of};
-ghost use Rattle.metis_why.specs.Barred.{IsNameable};
-ghost use Rattle.metis_why.specs.Confirm.{IsLineOf};
-ghost use Rattle.metis_why_text.specs.WhyText.{comes_tokens, lacks_tokens, line_tokens, reason_tokens, start_port};
+ghost use Rattle.metis_tokens.specs.Terms.{words};
+ghost use Rattle.metis_universe.specs.Terms.{IsGoalOf, pair_count, pair_word, port_count, port_name_of};
+ghost use Rattle.metis_why.specs.Terms.{IsLineOf, IsNameable};
+ghost use Rattle.metis_why_text.specs.Terms.{comes_tokens, lacks_tokens, line_tokens, reason_tokens, start_port};
 
 use crate::lists::{push_list, push_named};
 use metis_ids::{Goal, PairIx, PortIx};

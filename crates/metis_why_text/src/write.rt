@@ -1,13 +1,11 @@
 //! The text of an explanation, line by line.
 ghost use Rattle.std.specs.Prelude.{◌≡◌, OnOk, map, string_bytes};
 ghost use Rattle.std.specs.List.{All};
-ghost use Rattle.metis_outside.specs.Faults.{CountsFault};
-ghost use Rattle.metis_outside.specs.Writes.{Writes};
-ghost use Rattle.metis_output.specs.PutLines.{PutsByLine};
-ghost use Rattle.metis_universe.specs.GoalWords.{IsWordable};
-ghost use Rattle.metis_universe.specs.Goals.{IsGoalOf};
-ghost use Rattle.metis_why.specs.Confirm.{IsTellable};
-ghost use Rattle.metis_why_text.specs.WhyText.{count_line, lacks_line, line_text, why_front, why_lines};
+ghost use Rattle.metis_outside.specs.Terms.{CountsFault, Writes};
+ghost use Rattle.metis_output.specs.Terms.{PutsByLine};
+ghost use Rattle.metis_universe.specs.Terms.{IsGoalOf, IsWordable};
+ghost use Rattle.metis_why.specs.Terms.{IsTellable};
+ghost use Rattle.metis_why_text.specs.Terms.{count_line, lacks_line, line_text, why_front, why_lines};
 
 use crate::words::{lacks_words, line_words};
 use metis_ids::Goal;

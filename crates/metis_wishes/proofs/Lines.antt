@@ -5,11 +5,11 @@ use Rattle.std.specs.Prelude.{codes}
 use Rattle.std.specs.Str.{bytes_eq}
 use Rattle.std.proofs.lemmas.Bool.{false≢true}
 use Rattle.std.proofs.lemmas.List.{drop_more}
-use Rattle.metis_universe.specs.Universe.{Universe}
-use Rattle.metis_tokens.specs.Flaws.{and_then}
+use Rattle.metis_universe.specs.Terms.{Universe}
+use Rattle.metis_tokens.specs.Terms.{and_then}
 use Rattle.metis_tokens.specs.declared.flaw.Flaw.{Flaw}
 use Rattle.metis_tokens.specs.declared.flaw.Flaw.TheVariants as flaw
-use Rattle.metis_wishes.specs.Reading.{end_from, lines_from, wish_in, with_wish}
+use Rattle.metis_wishes.specs.Terms.{end_from, lines_from, wish_in, with_wish}
 use Rattle.metis_wishes.specs.declared.fault.WishFault.{WishFault}
 use Rattle.metis_wishes.specs.declared.wish.Wish.{Wish}
 

@@ -8,13 +8,10 @@ use Rattle.std.specs.Prelude.{◌≡◌, ◌≢◌, ℕ, ◌+◌, ◌-◌, ◌==
 use Rattle.std.specs.List.{slice_index_or, slice_split}
 use Rattle.std.specs.Option.{is_some}
 use Rattle.std.specs.Str.{bytes_eq}
-use Rattle.metis_tokens.specs.Cursor.{is_feed}
-use Rattle.metis_tokens.specs.Flaws.{and_then, made}
-use Rattle.metis_tokens.specs.Tokens.{named, number_in, tokens}
-use Rattle.metis_tokens.specs.Words.{pair_in}
+use Rattle.metis_tokens.specs.Terms.{and_then, is_feed, made, named, number_in, pair_in, tokens}
 use Rattle.metis_tokens.specs.declared.flaw.Flaw.{Flaw}
 use Rattle.metis_tokens.specs.declared.flaw.Flaw.TheVariants as flaw
-use Rattle.metis_universe.specs.Universe.{Universe, type_named}
+use Rattle.metis_universe.specs.Terms.{Universe, type_named}
 use Rattle.metis_wishes.specs.Wishes.{is_about}
 use Rattle.metis_wishes.specs.declared.fault.WishFault.{WishFault}
 use Rattle.metis_wishes.specs.declared.fault.WishFault.TheVariants.{Line, Short, Number, Name, Twice, NoMemory}

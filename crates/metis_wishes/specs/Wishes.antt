@@ -7,7 +7,7 @@
 --     is_avoided u wishes p, avoided u wishes      whether the pair, or its type, is avoided;  these pairs, ascending
 use Rattle.std.specs.Prelude.{ℕ, ◌==◌, Bool, true, false, ◌||◌, List, Option, Some, None}
 use Rattle.std.specs.List.{filter, filter_map, list_any}
-use Rattle.metis_universe.specs.Universe.{Universe, all_pairs, type_of}
+use Rattle.metis_universe.specs.Terms.{Universe, all_pairs, type_of}
 use Rattle.metis_wishes.specs.declared.wish.Subject.{Subject}
 use Rattle.metis_wishes.specs.declared.wish.Subject.TheVariants.{Instance, Everything, Kind, Pair}
 use Rattle.metis_wishes.specs.declared.wish.Wish.{Wish}

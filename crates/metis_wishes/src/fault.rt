@@ -1,6 +1,6 @@
 //! Why bytes are no text of wishes.
 ghost use Rattle.std.specs.Prelude.{◌≡◌};
-ghost use Rattle.metis_wishes.specs.Reading.{line_fault};
+ghost use Rattle.metis_wishes.specs.Terms.{line_fault};
 
 use metis_tokens::Flaw;
 use std::alloc::{AllocError, AllocFailed};

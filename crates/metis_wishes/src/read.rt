@@ -1,9 +1,8 @@
 //! Reads the text of wishes.
 ghost use Rattle.std.specs.Prelude.{◌≡◌, ◌≤◌, ◌^◌, ◌<◌, [], IfOk, IsTrue, length, map};
 ghost use Rattle.std.specs.List.{All, list_any};
-ghost use Rattle.metis_tokens.specs.Flaws.{made};
-ghost use Rattle.metis_wishes.specs.Reading.{Reads, avoided_in, instance_in, kept_in, last_piece, lines_from, text_of, whole_lines, wish_in, wish_of, wishes_in, with_wish};
-ghost use Rattle.metis_wishes.specs.Wishes.{is_about};
+ghost use Rattle.metis_tokens.specs.Terms.{made};
+ghost use Rattle.metis_wishes.specs.Terms.{Reads, avoided_in, instance_in, is_about, kept_in, last_piece, lines_from, text_of, whole_lines, wish_in, wish_of, wishes_in, with_wish};
 
 use crate::fault::{WishFault, fault_at};
 use crate::wish::{Wish, is_same, subject_of};

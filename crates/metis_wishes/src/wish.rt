@@ -1,6 +1,6 @@
 //! One wish.
 ghost use Rattle.std.specs.Prelude.{◌≡◌};
-ghost use Rattle.metis_wishes.specs.Wishes.{is_everything, is_instance, is_kind, is_pair, is_same, subject_of};
+ghost use Rattle.metis_wishes.specs.Terms.{is_everything, is_instance, is_kind, is_pair, is_same, subject_of};
 
 use metis_ids::{InstNo, PairIx, TypeIx};
 

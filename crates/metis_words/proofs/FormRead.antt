@@ -5,15 +5,13 @@ use Rattle.std.proofs.lemmas.Result.{err_from_is_err_and}
 use Rattle.std.specs.Prelude.{string_bytes}
 use Rattle.std.specs.Result.{IsErrAnd}
 use Rattle.std.specs.declared.alloc.Global.{Global}
-use Rattle.metis_tokens.specs.Flaws.{and_then}
-use Rattle.metis_words.specs.Form.{form_by}
-use Rattle.metis_words.specs.Forms.{file_count, number_count, target_limit, verb_named}
-use Rattle.metis_words.specs.Words.{ReadsWords, files_in, form_behind, form_of, form_with, numbers_after, size_in, targets_in, with_verb}
+use Rattle.metis_tokens.specs.Terms.{and_then}
+use Rattle.metis_words.specs.Terms.{ReadsWords, file_count, files_in, form_behind, form_by, form_of, form_with, number_count, numbers_after, size_in, target_limit, targets_in, verb_named, with_verb}
 use Rattle.metis_words.specs.declared.words.Verb.{Verb}
 use Rattle.metis_words.specs.declared.words.Verb.TheVariants.{Load, Waves}
 use Rattle.metis_words.specs.declared.words.WordFault.{WordFault}
 use Rattle.metis_words.specs.declared.words.WordFault.TheVariants.{At, NoMemory}
-use Rattle.metis_universe.specs.Texts.{texts}
+use Rattle.metis_universe.specs.Terms.{texts}
 
 is_behind : (n : ℕ) (words : List (String Global)) → drop n words ≡ take (length words - n) (drop n words)
 is_behind n words = sym (take_all (length words - n) (drop n words) (omega (arith, length-drop n words)))

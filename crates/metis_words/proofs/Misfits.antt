@@ -10,8 +10,7 @@ use Rattle.std.proofs.lemmas.Result.{err_from_is_err_and}
 use Rattle.std.specs.Prelude.{is_some}
 use Rattle.std.specs.Option.{ok_or, option_map_or}
 use Rattle.std.specs.Result.{IsErrAnd}
-use Rattle.metis_words.specs.TargetName.{TargetName}
-use Rattle.metis_words.specs.Words.{ReadsWords, file_fits, fits_after, is_dash, target_fits, target_of, unless_misfit}
+use Rattle.metis_words.specs.Terms.{ReadsWords, TargetName, file_fits, fits_after, is_dash, target_fits, target_of, unless_misfit}
 use Rattle.metis_words.specs.declared.words.WordFault.{WordFault}
 use Rattle.metis_words.specs.declared.words.WordFault.TheVariants.{At}
 use Rattle.metis_ids.proofs.Finding.{found_in_range}

@@ -4,3 +4,4 @@ pub mod TargetName
 pub mod Words
 pub mod Numbers
 pub mod Rows
+pub mod Terms

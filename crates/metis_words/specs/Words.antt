@@ -12,10 +12,8 @@ use Rattle.std.specs.List.{filter_map, find, list_any, range_with_len}
 use Rattle.std.specs.Option.{option_and_then, option_map_or}
 use Rattle.std.specs.Result.{result_ok}
 use Rattle.std.specs.Str.{bytes_eq}
-use Rattle.metis_tokens.specs.Flaws.{and_then}
-use Rattle.metis_tokens.specs.Tokens.{number_in}
-use Rattle.metis_universe.specs.PairWords.{pair_names}
-use Rattle.metis_universe.specs.Universe.{is_empty}
+use Rattle.metis_tokens.specs.Terms.{and_then, number_in}
+use Rattle.metis_universe.specs.Terms.{is_empty, pair_names}
 use Rattle.metis_words.specs.Form.{Form, form_by}
 use Rattle.metis_words.specs.Forms.{file_count, number_count, target_limit, verb_named}
 use Rattle.metis_words.specs.TargetName.{TargetName}

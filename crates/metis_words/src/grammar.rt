@@ -1,8 +1,8 @@
 //! From words to a command.
 ghost use Rattle.std.specs.Prelude.{◌≡◌, ◌<◌, ◌≤◌, [], IfOk, IfSome, IsTrue, length, string_bytes};
 ghost use Rattle.std.specs.List.{All, list_any};
-ghost use Rattle.metis_universe.specs.Texts.{texts};
-ghost use Rattle.metis_words.specs.Words.{file_fits, files_in, form_of, form_with, is_dash, number_within, numbers_after, size_in, target_of, targets_in, ReadsWords};
+ghost use Rattle.metis_universe.specs.Terms.{texts};
+ghost use Rattle.metis_words.specs.Terms.{ReadsWords, file_fits, files_in, form_of, form_with, is_dash, number_within, numbers_after, size_in, target_of, targets_in};
 
 use crate::words::{Command, TargetWord, Verb, WordFault, verb_named};
 use metis_tokens::number_in;

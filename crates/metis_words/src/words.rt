@@ -1,9 +1,7 @@
 //! The parts of a command.
 ghost use Rattle.std.specs.Prelude.{◌≡◌, ◌<◌, ◌≤◌, length};
 ghost use Rattle.std.specs.List.{All};
-ghost use Rattle.metis_words.specs.Forms.{file_count, number_count, target_limit, verb_named};
-ghost use Rattle.metis_words.specs.Rows.{reads};
-ghost use Rattle.metis_words.specs.Words.{word_at};
+ghost use Rattle.metis_words.specs.Terms.{file_count, number_count, reads, target_limit, verb_named, word_at};
 ghost use Rattle.metis_words.specs.declared.words.WordFault.TheVariants.{NoMemory};
 
 use std::alloc::{AllocError, AllocFailed};

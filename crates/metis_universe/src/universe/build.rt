@@ -1,13 +1,7 @@
 //! The tables of rows that have no fault.
 ghost use Rattle.std.specs.Prelude.{◌≡◌, ◌+◌, ◌≤◌, ◌<◌, ◌^◌, ◌++◌, ◌∷◌, [], ℕ, List, length, map, flat_map, replicate, None, IfOk, OnOk};
 ghost use Rattle.std.specs.List.{All};
-ghost use Rattle.metis_universe.specs.PortRows.{with_pair, rows_from, port_rows};
-ghost use Rattle.metis_universe.specs.Kinds.{kinds_of};
-ghost use Rattle.metis_universe.specs.Texts.{texts};
-ghost use Rattle.metis_universe.specs.SeenPorts.{number_within};
-ghost use Rattle.metis_universe.specs.Universe.{universe_of, IsTable, IsBySight};
-ghost use Rattle.metis_universe.specs.Unnamed.{unnamed, with_names};
-ghost use Rattle.metis_universe.specs.Rows.{IsOfVersion, number_of, state_number, ascending, initial_from, initials_from, names_of, pair_from, pairs_from, pairs_of_type, universe_from, first_fault, ports_of_state, ports_of_type, ports_of};
+ghost use Rattle.metis_universe.specs.Terms.{IsBySight, IsOfVersion, IsTable, ascending, first_fault, initial_from, initials_from, kinds_of, names_of, number_of, number_within, pair_from, pairs_from, pairs_of_type, port_rows, ports_of, ports_of_state, ports_of_type, rows_from, state_number, texts, universe_from, universe_of, unnamed, with_names, with_pair};
 
 use super::{PairRow, PortRow, Universe};
 use crate::check::place_of_state;

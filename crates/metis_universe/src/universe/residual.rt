@@ -1,8 +1,7 @@
 //! What is left to be demanded where some providers are given.
 ghost use Rattle.std.specs.Prelude.{[], ◌≡◌, ◌<◌, ◌-◌, map, IfOk};
 ghost use Rattle.std.specs.List.{filter, slice_index_or};
-ghost use Rattle.metis_universe.specs.Universe.{demand_of, has, pair_at, pair_count};
-ghost use Rattle.metis_universe.specs.Residual.{further_left, required_left, residual, residual_row};
+ghost use Rattle.metis_universe.specs.Terms.{demand_of, further_left, has, pair_at, pair_count, required_left, residual, residual_row};
 
 use super::build::indexed;
 use super::{PairRow, Universe};

@@ -1,11 +1,9 @@
 use Rattle.std.proofs.Common.{◌≡◌, ◌∙◌, ◌<◌, ℕ, Option, length, true, ap, subst}
 use Rattle.std.specs.Prelude.{MatchOption, ⊤}
 use Rattle.metis_text.specs.declared.plan_text.PlanText.{PlanText}
-use Rattle.metis_lines.specs.Justified.{own_pairs}
-use Rattle.metis_lines.specs.LifeLines.{lines_of}
+use Rattle.metis_lines.specs.Terms.{lines_of, own_pairs}
 use Rattle.metis_audit.proofs.Audited.{audited, forced, targets_chosen, unjustified}
-use Rattle.metis_audit.specs.Audits.{IsFirstUnjustified}
-use Rattle.metis_audit.specs.Forced.{IsFirstUnforced, is_forced_at}
+use Rattle.metis_audit.specs.Terms.{IsFirstUnforced, IsFirstUnjustified, is_forced_at}
 use Rattle.metis_audit.proofs.auditing.audit_dups.Goals as goal
 
 pub new-requires-clause-selected : goal.new-requires-clause-selected

@@ -3,10 +3,9 @@ use Rattle.std.proofs.lemmas.Bool.{eqb-false}
 use Rattle.std.proofs.lemmas.List.{get_or_read}
 use Rattle.std.specs.Prelude.{length}
 use Rattle.metis_ids.specs.declared.events.Event.TheVariants.{End}
-use Rattle.metis_lines.specs.Events.{precedes}
-use Rattle.metis_lines.specs.LifeLines.{plan_of}
+use Rattle.metis_lines.specs.Terms.{plan_of, precedes}
 use Rattle.metis_audit.proofs.Rounds.{no_round, round}
-use Rattle.metis_audit.specs.Forced.{next_around}
+use Rattle.metis_audit.specs.Terms.{next_around}
 use Rattle.metis_audit.proofs.cycles.is_cycle.Goals as goal
 use borrow.Author.Count.{below_more}
 

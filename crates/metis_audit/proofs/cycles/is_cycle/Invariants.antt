@@ -1,9 +1,8 @@
 use Rattle.std.proofs.Common.{◌≡◌, ◌<◌, ℕ, true}
 use Rattle.std.specs.List.{slice_index_or}
 use Rattle.metis_ids.specs.declared.events.Event.TheVariants.{End}
-use Rattle.metis_lines.specs.Events.{precedes}
-use Rattle.metis_lines.specs.LifeLines.{plan_of}
-use Rattle.metis_audit.specs.Forced.{next_around}
+use Rattle.metis_lines.specs.Terms.{plan_of, precedes}
+use Rattle.metis_audit.specs.Terms.{next_around}
 use Rattle.metis_audit.proofs.cycles.is_cycle.Given as goal
 
 -- the events before are behind their next ones

@@ -2,10 +2,9 @@ use Rattle.std.proofs.Common.{◌≡◌, ◌∙◌, false, arith, get_or, sym}
 use Rattle.std.proofs.lemmas.Bool.{lt-ltb}
 use Rattle.std.proofs.lemmas.List.{get_or_read}
 use Rattle.metis_ids.specs.declared.events.Event.TheVariants.{End}
-use Rattle.metis_lines.specs.AbstractPlan.{last as last_of}
-use Rattle.metis_lines.specs.LifeLines.{plan_of}
+use Rattle.metis_lines.specs.Terms.{last as last_of, plan_of}
 use Rattle.metis_audit.proofs.Rounds.{leading, not_leading}
-use Rattle.metis_audit.specs.Forced.{is_exit, next_around}
+use Rattle.metis_audit.specs.Terms.{is_exit, next_around}
 use Rattle.metis_audit.proofs.cycles.leads_on.Goals as goal
 use borrow.Author.Count.{below_more}
 

@@ -1,8 +1,8 @@
 use Rattle.std.proofs.Common.{◌≡◌, ◌<◌, ℕ, false}
 use Rattle.std.specs.List.{slice_index_or}
 use Rattle.metis_ids.specs.declared.events.Event.TheVariants.{End}
-use Rattle.metis_lines.specs.LifeLines.{plan_of}
-use Rattle.metis_audit.specs.Forced.{is_exit, next_around}
+use Rattle.metis_lines.specs.Terms.{plan_of}
+use Rattle.metis_audit.specs.Terms.{is_exit, next_around}
 use Rattle.metis_audit.proofs.cycles.leads_on.Given as goal
 
 -- none of the edges before leads on

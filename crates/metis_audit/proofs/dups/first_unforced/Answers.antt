@@ -1,11 +1,10 @@
 use Rattle.std.proofs.Common.{◌≡◌, ◌∙◌, ◌+◌, ◌-◌, ◌++◌, ◌∷◌, [], Some, true, arith, ap, sym, take}
 use Rattle.std.proofs.lemmas.Option.{slice_get-get_or}
-use Rattle.metis_ids.specs.Plans.{Dup}
-use Rattle.metis_lines.specs.Justified.{own_pairs}
-use Rattle.metis_lines.specs.LifeLines.{lines_of}
+use Rattle.metis_ids.specs.Terms.{Dup}
+use Rattle.metis_lines.specs.Terms.{lines_of, own_pairs}
 use Rattle.metis_audit.proofs.DupLines.{forced_here, lines_more, own_more}
 use Rattle.metis_audit.proofs.Loose.{goes_on}
-use Rattle.metis_audit.specs.Forced.{is_forced, is_forced_at}
+use Rattle.metis_audit.specs.Terms.{is_forced, is_forced_at}
 use Rattle.metis_audit.proofs.dups.first_unforced.Goals as goal
 use borrow.Author.Count.{below_more}
 

@@ -1,7 +1,6 @@
 use Rattle.std.proofs.Common.{◌≡◌, ◌<◌, ℕ, true, take}
-use Rattle.metis_lines.specs.Justified.{own_pairs}
-use Rattle.metis_lines.specs.LifeLines.{AreLines, lines_of}
-use Rattle.metis_audit.specs.Forced.{is_forced_at}
+use Rattle.metis_lines.specs.Terms.{AreLines, lines_of, own_pairs}
+use Rattle.metis_audit.specs.Terms.{is_forced_at}
 use Rattle.metis_audit.proofs.dups.first_unforced.Given as goal
 
 -- the dups before are forced, and have lines of their own

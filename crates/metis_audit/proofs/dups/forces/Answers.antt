@@ -1,6 +1,6 @@
 use Rattle.std.proofs.Common.{◌∙◌, ap}
-use Rattle.metis_lines.specs.Over.{Over}
-use Rattle.metis_audit.specs.Forced.{is_forced}
+use Rattle.metis_lines.specs.Terms.{Over}
+use Rattle.metis_audit.specs.Terms.{is_forced}
 use Rattle.metis_audit.proofs.dups.forces.Goals as goal
 
 pub returns : goal.returns

@@ -1,8 +1,8 @@
 use Rattle.std.proofs.Common.{◌≡◌, ◌+◌, ◌-◌, ◌∙◌, arith, false, sym, ap}
 use Rattle.metis_ids.proofs.Lists.{any_counted}
-use Rattle.metis_lines.specs.LifeLines.{holder_of}
+use Rattle.metis_lines.specs.Terms.{holder_of}
 use Rattle.metis_audit.proofs.Rounds.{none_in_row}
-use Rattle.metis_audit.specs.Takes.{is_at}
+use Rattle.metis_audit.specs.Terms.{is_at}
 use Rattle.metis_audit.proofs.edges.has_slot_at.Goals as goal
 use borrow.Author.Count.{below_more}
 

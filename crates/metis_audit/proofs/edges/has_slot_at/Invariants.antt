@@ -1,6 +1,6 @@
 use Rattle.std.proofs.Common.{◌≡◌, ◌<◌, ◌+◌, ℕ, false}
-use Rattle.metis_lines.specs.LifeLines.{holder_of}
-use Rattle.metis_audit.specs.Takes.{is_at}
+use Rattle.metis_lines.specs.Terms.{holder_of}
+use Rattle.metis_audit.specs.Terms.{is_at}
 use Rattle.metis_audit.proofs.edges.has_slot_at.Given as goal
 
 -- none of the slots before is at the place

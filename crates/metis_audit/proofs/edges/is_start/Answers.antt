@@ -1,6 +1,5 @@
 use Rattle.std.proofs.Common.{◌∙◌, ap, sym}
-use Rattle.metis_lines.specs.Events.{is_start}
-use Rattle.metis_lines.specs.LifeLines.{plan_of}
+use Rattle.metis_lines.specs.Terms.{is_start, plan_of}
 use Rattle.metis_audit.proofs.Supplies.{end_starts, start_end}
 use Rattle.metis_audit.proofs.edges.is_start.Goals as goal
 

@@ -1,7 +1,7 @@
 use Rattle.std.proofs.Common.{◌∙◌, ap, sym}
-use Rattle.metis_lines.specs.Events.{is_end}
+use Rattle.metis_lines.specs.Terms.{is_end}
 use Rattle.metis_audit.proofs.Supplies.{taken_at_end, taken_left, taken_none}
-use Rattle.metis_audit.specs.Takes.{is_taken}
+use Rattle.metis_audit.specs.Terms.{is_taken}
 use Rattle.metis_audit.proofs.edges.is_taken.Goals as goal
 
 pub returns-in-Some : goal.returns-in-Some

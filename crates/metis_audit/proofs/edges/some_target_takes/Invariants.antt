@@ -1,7 +1,7 @@
 use Rattle.std.proofs.Common.{◌≡◌, ◌<◌, ℕ, false}
-use Rattle.metis_events.specs.Gathered.{without_supplies}
-use Rattle.metis_lines.specs.AbstractPlan.{last}
-use Rattle.metis_audit.specs.Takes.{takes}
+use Rattle.metis_events.specs.Terms.{without_supplies}
+use Rattle.metis_lines.specs.Terms.{last}
+use Rattle.metis_audit.specs.Terms.{takes}
 use Rattle.metis_audit.proofs.edges.some_target_takes.Given as goal
 
 -- none of the lines before takes from the place

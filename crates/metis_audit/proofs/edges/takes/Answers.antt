@@ -1,8 +1,8 @@
 use Rattle.std.proofs.Common.{◌≡◌, ◌<◌, ◌∙◌, ℕ, ap, subst, sym, true}
 use Rattle.std.proofs.lemmas.List.{get_or_default}
 use Rattle.metis_ids.proofs.Lists.{has_at}
-use Rattle.metis_universe.specs.Universe.{Universe, has, pair_count, required_of}
-use Rattle.metis_support.specs.Support.{is_selected}
+use Rattle.metis_universe.specs.Terms.{Universe, has, pair_count, required_of}
+use Rattle.metis_support.specs.Terms.{is_selected}
 use Rattle.metis_events.proofs.Holding.{pair_chosen, pair_low}
 use Rattle.metis_audit.proofs.edges.takes.Goals as goal
 

@@ -1,7 +1,7 @@
 use Rattle.std.proofs.Common.{◌≡◌, false, get_or, take}
 use Rattle.std.specs.List.{list_any}
-use Rattle.metis_lines.specs.LifeLines.{line_at}
-use Rattle.metis_audit.specs.Takes.{takes_port}
+use Rattle.metis_lines.specs.Terms.{line_at}
+use Rattle.metis_audit.specs.Terms.{takes_port}
 use Rattle.metis_audit.proofs.edges.takes.Given as goal
 
 -- none of the ports before is taken from the place

@@ -1,7 +1,7 @@
 use Rattle.std.proofs.Common.{◌≤◌, ◌∙◌, ℕ, ap, arith, subst, sym}
 use Rattle.metis_universe.proofs.Demands.{demand_one}
-use Rattle.metis_universe.specs.Universe.{Universe, demand_of}
-use Rattle.metis_support.specs.Support.{Support, provider_at}
+use Rattle.metis_universe.specs.Terms.{Universe, demand_of}
+use Rattle.metis_support.specs.Terms.{Support, provider_at}
 use Rattle.metis_events.proofs.Holding.{slots_there}
 use Rattle.metis_audit.proofs.edges.takes_port.Goals as goal
 

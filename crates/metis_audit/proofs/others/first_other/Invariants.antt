@@ -1,7 +1,7 @@
 use Rattle.std.proofs.Common.{◌≡◌, ◌≤◌, ℕ, List, map}
 use Rattle.metis_ids.specs.declared.actions.Action.{Action}
-use Rattle.metis_text.specs.PlanText.{after_of}
-use Rattle.metis_waits.specs.Waits.{AreWaits, waits_on_others}
+use Rattle.metis_text.specs.Terms.{after_of}
+use Rattle.metis_waits.specs.Terms.{AreWaits, waits_on_others}
 use Rattle.metis_audit.proofs.others.first_other.Given as goal
 
 -- behind the actions before stands what they wait for

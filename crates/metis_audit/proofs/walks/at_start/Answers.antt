@@ -1,7 +1,7 @@
 use Rattle.std.proofs.Common.{[], arith, subst, sym}
-use Rattle.metis_lines.specs.LifeLines.{line_at}
+use Rattle.metis_lines.specs.Terms.{line_at}
 use Rattle.metis_audit.proofs.WalkFacts.{starts}
-use Rattle.metis_audit.specs.Walks.{IsWalk}
+use Rattle.metis_audit.specs.Terms.{IsWalk}
 use Rattle.metis_audit.proofs.walks.at_start.Goals as goal
 
 pub returns : goal.returns

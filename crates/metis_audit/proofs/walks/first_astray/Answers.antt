@@ -1,7 +1,7 @@
 use Rattle.std.proofs.Common.{◌∙◌, ◌++◌, ◌∷◌, [], ap, subst, sym, take}
 use Rattle.std.proofs.lemmas.List.{take_more}
 use Rattle.metis_ids.specs.declared.actions.Action.{Action}
-use Rattle.metis_audit.specs.Walks.{AreWalks}
+use Rattle.metis_audit.specs.Terms.{AreWalks}
 use Rattle.metis_audit.proofs.walks.first_astray.Goals as goal
 
 pub loop-action-preserved : goal.loop-action-preserved

@@ -1,6 +1,6 @@
 use Rattle.std.proofs.Common.{◌≡◌, arith}
-use Rattle.metis_emit.specs.Realized.{entered}
-use Rattle.metis_lines.specs.LifeLines.{line_at}
+use Rattle.metis_emit.specs.Terms.{entered}
+use Rattle.metis_lines.specs.Terms.{line_at}
 use Rattle.metis_audit.proofs.walks.first_open.Goals as goal
 use borrow.Author.Count.{below_more}
 

@@ -1,8 +1,8 @@
 use Rattle.std.proofs.Common.{◌≡◌, ◌<◌, ℕ, List}
 use Rattle.metis_ids.specs.declared.actions.Action.{Action}
-use Rattle.metis_emit.specs.Realized.{entered}
-use Rattle.metis_lines.specs.LifeLines.{line_at}
-use Rattle.metis_audit.specs.Walks.{AreWalks}
+use Rattle.metis_emit.specs.Terms.{entered}
+use Rattle.metis_lines.specs.Terms.{line_at}
+use Rattle.metis_audit.specs.Terms.{AreWalks}
 use Rattle.metis_audit.proofs.walks.first_open.Given as goal
 
 -- the lines before are gone through

@@ -1,7 +1,7 @@
 use Rattle.std.proofs.Common.{subst}
-use Rattle.metis_lines.specs.LifeLines.{line_at}
+use Rattle.metis_lines.specs.Terms.{line_at}
 use Rattle.metis_audit.proofs.WalkFacts.{off_not_whole}
-use Rattle.metis_audit.specs.Walks.{IsWalk}
+use Rattle.metis_audit.specs.Terms.{IsWalk}
 use Rattle.metis_audit.proofs.walks.is_whole.Goals as goal
 
 pub returns-in-None : goal.returns-in-None

@@ -1,8 +1,8 @@
 use Rattle.std.proofs.Common.{◌≡◌, ◌∙◌, None, arith, subst, sym}
 use Rattle.std.proofs.lemmas.List.{get_or_read}
-use Rattle.metis_lines.specs.LifeLines.{line_at}
+use Rattle.metis_lines.specs.Terms.{line_at}
 use Rattle.metis_audit.proofs.WalkFacts.{noted_at, outside, passed}
-use Rattle.metis_audit.specs.Walks.{IsWalk}
+use Rattle.metis_audit.specs.Terms.{IsWalk}
 use Rattle.metis_audit.proofs.walks.note.Goals as goal
 
 pub returns-then-number-count : goal.returns-then-number-count

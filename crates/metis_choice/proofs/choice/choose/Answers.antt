@@ -1,14 +1,11 @@
 use Rattle.std.proofs.Common.{◌≡◌, ℕ, true, Some, sym, ◌∙◌, subst}
 use Rattle.std.specs.Prelude.{IsSomeAnd, MatchOption}
 use Rattle.metis_universe.proofs.Selected.{selected-least}
-use Rattle.metis_universe.specs.Layers.{layer_of}
-use Rattle.metis_universe.specs.Selection.{IsLeastSelection}
-use Rattle.metis_universe.specs.Universe.{requires}
-use Rattle.metis_support.specs.Support.{IsSupport, is_selected, layer_at, origin_at, provider_at}
+use Rattle.metis_universe.specs.Terms.{IsLeastSelection, layer_of, requires}
+use Rattle.metis_support.specs.Terms.{IsSupport, is_selected, layer_at, origin_at, provider_at}
 use Rattle.metis_choice.proofs.Chosen.{layers, origins, over, providers}
 use Rattle.metis_choice.proofs.Lacking.{all_layered, first_without}
-use Rattle.metis_choice.specs.Choices.{IsFirstProvider}
-use Rattle.metis_choice.specs.Origins.{IsLeastBelow}
+use Rattle.metis_choice.specs.Terms.{IsFirstProvider, IsLeastBelow}
 use Rattle.metis_choice.proofs.choice.choose.Goals as goal
 
 pub support-requires-clause-layered : goal.support-requires-clause-layered

@@ -1,5 +1,5 @@
 use Rattle.std.proofs.Common.{sym, subst}
-use Rattle.metis_support.specs.Support.{IsSupport}
+use Rattle.metis_support.specs.Terms.{IsSupport}
 use Rattle.metis_choice.proofs.Chosen.{built, over}
 use Rattle.metis_choice.proofs.choice.support.Goals as goal
 

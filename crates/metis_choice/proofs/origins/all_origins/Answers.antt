@@ -1,6 +1,6 @@
 use Rattle.std.proofs.Common.{◌≡◌, subst, arith}
-use Rattle.metis_universe.specs.Universe.{pair_count}
-use Rattle.metis_choice.specs.Origins.{AreFirstBelow}
+use Rattle.metis_universe.specs.Terms.{pair_count}
+use Rattle.metis_choice.specs.Terms.{AreFirstBelow}
 use Rattle.metis_choice.proofs.Below.{all_found}
 use Rattle.metis_choice.proofs.origins.all_origins.Goals as goal
 

@@ -1,4 +1,4 @@
-use Rattle.metis_choice.specs.Origins.{AreFirstBelow}
+use Rattle.metis_choice.specs.Terms.{AreFirstBelow}
 use Rattle.metis_choice.proofs.origins.all_origins.Given as goal
 
 abbrev pub invariant-loop-number : goal.invariant-loop-number

@@ -5,7 +5,7 @@ use Rattle.std.proofs.lemmas.Bool.{both_ways}
 use Rattle.std.proofs.lemmas.List.{take_all}
 use Rattle.std.proofs.lemmas.List.Elements.{All-get_or}
 use Rattle.metis_ids.proofs.Lists.{has_at}
-use Rattle.metis_universe.specs.Universe.{has, next_of, pair_count}
+use Rattle.metis_universe.specs.Terms.{has, next_of, pair_count}
 use Rattle.metis_layers.proofs.Sets.{take_more}
 use Rattle.metis_choice.proofs.Below.{IsNoted, is_above, leads_up, noted_all, noted_past, noted_up}
 use Rattle.metis_choice.proofs.origins.note_origin.Goals as goal

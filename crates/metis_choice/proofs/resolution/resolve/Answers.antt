@@ -2,7 +2,7 @@ use Rattle.std.proofs.Common.{◌+◌, [], take, sym, ◌∙◌, subst}
 use Rattle.std.specs.List.{AllZip}
 use Rattle.std.proofs.lemmas.List.{take_all}
 use Rattle.std.proofs.lemmas.List.Elements.{All-get_or}
-use Rattle.metis_universe.specs.Goals.{IsGoalOf}
+use Rattle.metis_universe.specs.Terms.{IsGoalOf}
 use Rattle.metis_choice.proofs.Resolving.{IsChosen, all_layered, all_low, chosen_attained, chosen_by, chosen_more, first_lacked, first_refused, first_unattained, lacked_by, none_lacked, pairs_attained, pairs_chosen}
 use Rattle.metis_choice.proofs.resolution.resolve.Goals as goal
 

@@ -1,13 +1,11 @@
 use Rattle.std.proofs.Common.{◌≡◌, ◌<◌, ℕ, length, List, Ok}
 use Rattle.std.specs.List.{All}
-use Rattle.metis_choice.specs.Resolutions.{ArePairsFor, IfLacksGoal, IfPairs, IsResolved}
+use Rattle.metis_choice.specs.Terms.{ArePairsFor, IfLacksGoal, IfPairs, IsResolved}
 use Rattle.metis_choice.specs.declared.resolution.Resolved.{Resolved}
 use Rattle.metis_choice.specs.declared.resolution.Resolved.TheVariants.{Pairs, Lacks}
 use Rattle.metis_ids.specs.declared.goals.Goal.{Goal}
-use Rattle.metis_layers.specs.LayerOrder.{attained_pairs}
-use Rattle.metis_universe.specs.Goal.{Attains}
-use Rattle.metis_universe.specs.Goals.{GoalRefusal}
-use Rattle.metis_universe.specs.Universe.{Universe, pair_count}
+use Rattle.metis_layers.specs.Terms.{attained_pairs}
+use Rattle.metis_universe.specs.Terms.{Attains, GoalRefusal, Universe, pair_count}
 use Rattle.metis_choice.proofs.resolution.resolve_goals.Goals as goal
 
 resolved_so : (u : Universe) (goals : List Goal) (r : Resolved) → ((pairs : List ℕ) → ArePairsFor u goals pairs → length pairs ≡ length goals)

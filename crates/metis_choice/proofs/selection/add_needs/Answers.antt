@@ -1,12 +1,11 @@
 use Rattle.std.proofs.Common.{◌++◌, None, get_or, sym, ap, ◌∙◌, subst, arith}
 use Rattle.std.specs.Option.{option_to_list}
 use Rattle.std.proofs.lemmas.Result.{on_ok_weaker}
-use Rattle.metis_universe.specs.Selection.{origin_of, providers_needed}
-use Rattle.metis_universe.specs.Universe.{pair_count}
+use Rattle.metis_universe.specs.Terms.{origin_of, pair_count, providers_needed}
 use Rattle.metis_layers.proofs.Tables.{entry}
 use Rattle.metis_choice.proofs.Adding.{adds_both}
 use Rattle.metis_choice.proofs.Below.{origin_low}
-use Rattle.metis_choice.specs.WorkList.{Adds}
+use Rattle.metis_choice.specs.Terms.{Adds}
 use Rattle.metis_choice.proofs.selection.add_needs.Goals as goal
 
 pub add_need-requires : goal.add_need-requires

@@ -2,12 +2,11 @@ use Rattle.std.proofs.Common.{◌<◌, ◌++◌, take, sym, ap, ◌∙◌, subst
 use Rattle.std.specs.List.{filter_map}
 use Rattle.std.specs.Option.{option_to_list}
 use Rattle.std.proofs.lemmas.List.Elements.{All-get_or}
-use Rattle.metis_universe.specs.Selection.{provider_of}
-use Rattle.metis_universe.specs.Universe.{port_count}
+use Rattle.metis_universe.specs.Terms.{port_count, provider_of}
 use Rattle.metis_layers.proofs.Sets.{take_more}
 use Rattle.metis_choice.proofs.Adding.{adds_both, filter_map_push}
 use Rattle.metis_choice.proofs.Below.{provider_low}
-use Rattle.metis_choice.specs.WorkList.{Adds}
+use Rattle.metis_choice.specs.Terms.{Adds}
 use Rattle.metis_choice.proofs.selection.add_providers.Goals as goal
 
 pub add_need-requires : goal.add_need-requires

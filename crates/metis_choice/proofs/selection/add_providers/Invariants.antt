@@ -1,7 +1,7 @@
 use Rattle.std.proofs.Common.{take}
 use Rattle.std.specs.List.{filter_map}
-use Rattle.metis_universe.specs.Selection.{provider_of}
-use Rattle.metis_choice.specs.WorkList.{Adds}
+use Rattle.metis_universe.specs.Terms.{provider_of}
+use Rattle.metis_choice.specs.Terms.{Adds}
 use Rattle.metis_choice.proofs.selection.add_providers.Given as goal
 
 -- the providers of the ports before this one are added

@@ -1,4 +1,4 @@
-use Rattle.metis_choice.specs.WorkList.{work_left}
+use Rattle.metis_choice.specs.Terms.{work_left}
 use Rattle.metis_choice.proofs.UnderWay.{IsUnderWay}
 use Rattle.metis_choice.proofs.selection.selected_pairs.Given as goal
 

@@ -1,8 +1,7 @@
 use Rattle.std.proofs.Common.{◌<◌, None, cond, ap, ◌∙◌, arith, length}
-use Rattle.metis_universe.specs.Layers.{layer_of}
-use Rattle.metis_universe.specs.Universe.{has, pair_count}
+use Rattle.metis_universe.specs.Terms.{has, layer_of, pair_count}
 use Rattle.metis_layers.proofs.Tables.{entries_count, pushed}
-use Rattle.metis_support.specs.Support.{of_selected}
+use Rattle.metis_support.specs.Terms.{of_selected}
 use Rattle.metis_choice.proofs.tables.layer_table.Goals as goal
 
 pub push-requires : goal.push-requires

@@ -1,7 +1,7 @@
 use Rattle.std.proofs.Common.{◌≡◌, map}
 use Rattle.std.specs.List.{range_with_len}
-use Rattle.metis_universe.specs.Layers.{layer_of}
-use Rattle.metis_support.specs.Support.{of_selected}
+use Rattle.metis_universe.specs.Terms.{layer_of}
+use Rattle.metis_support.specs.Terms.{of_selected}
 use Rattle.metis_choice.proofs.tables.layer_table.Given as goal
 
 abbrev pub invariant-loop-number : goal.invariant-loop-number

@@ -1,6 +1,5 @@
 use Rattle.std.proofs.Common.{◌≡◌, ◌<◌, ℕ, None, cond, get_or, length, take}
-use Rattle.metis_universe.specs.Selection.{provider_of}
-use Rattle.metis_universe.specs.Universe.{has, port_count}
+use Rattle.metis_universe.specs.Terms.{has, port_count, provider_of}
 use Rattle.metis_choice.proofs.tables.note_providers.Given as goal
 
 -- the ports before this one are noted

@@ -1,8 +1,7 @@
 use Rattle.std.proofs.Common.{◌<◌, None, cond, get_or, ap, ◌∙◌, arith, length}
-use Rattle.metis_universe.specs.Selection.{origin_of}
-use Rattle.metis_universe.specs.Universe.{has, pair_count}
+use Rattle.metis_universe.specs.Terms.{has, origin_of, pair_count}
 use Rattle.metis_layers.proofs.Tables.{entries_count, entry, pushed}
-use Rattle.metis_support.specs.Support.{of_selected}
+use Rattle.metis_support.specs.Terms.{of_selected}
 use Rattle.metis_choice.proofs.tables.origin_table.Goals as goal
 
 pub push-requires : goal.push-requires

@@ -1,8 +1,7 @@
 use Rattle.std.proofs.Common.{◌++◌, None, append-nil, ap, sym, ◌∙◌}
 use Rattle.std.proofs.lemmas.List.FromFn.{fill_by_all}
-use Rattle.metis_universe.specs.Selection.{provider_of}
-use Rattle.metis_universe.specs.Universe.{port_count}
-use Rattle.metis_support.specs.Support.{of_needed}
+use Rattle.metis_universe.specs.Terms.{port_count, provider_of}
+use Rattle.metis_support.specs.Terms.{of_needed}
 use Rattle.metis_choice.proofs.tables.provider_table.Goals as goal
 
 pub returns : goal.returns

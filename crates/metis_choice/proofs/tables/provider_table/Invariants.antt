@@ -1,7 +1,6 @@
 use Rattle.std.proofs.Common.{◌≡◌, ◌<◌, ◌++◌, ℕ, None, get_or, length}
-use Rattle.metis_universe.specs.Selection.{provider_of}
-use Rattle.metis_universe.specs.Universe.{port_count}
-use Rattle.metis_support.specs.Support.{of_needed}
+use Rattle.metis_universe.specs.Terms.{port_count, provider_of}
+use Rattle.metis_support.specs.Terms.{of_needed}
 use Rattle.metis_choice.proofs.tables.provider_table.Given as goal
 
 abbrev pub invariant-loop-pair : goal.invariant-loop-pair

@@ -2,10 +2,10 @@ use Rattle.std.proofs.Common.{ap, inl, inr}
 use Rattle.std.proofs.lemmas.Result.{IfOk-weaker}
 use Rattle.metis_choice.proofs.GoalLists.{found_among}
 use Rattle.metis_layers.proofs.Order.{attained_set}
-use Rattle.metis_layers.specs.LayerOrder.{attained_pairs}
-use Rattle.metis_output.specs.Answers.{status_for}
+use Rattle.metis_layers.specs.Terms.{attained_pairs}
+use Rattle.metis_output.specs.Terms.{status_for}
 use Rattle.metis_universe.proofs.Served.{goals_refused}
-use Rattle.metis_universe.specs.Goals.{IsGoalOf, lacks}
+use Rattle.metis_universe.specs.Terms.{IsGoalOf, lacks}
 use Rattle.metis_commands.proofs.audit.answer.Goals as goal
 
 pub returns-in-Pairs : goal.returns-in-Pairs

@@ -1,6 +1,6 @@
 use Rattle.std.proofs.Common.{sym, subst}
 use Rattle.metis_commands.proofs.AuditLines.{IsLine-audit_line}
-use Rattle.metis_outside.specs.Pieces.{IsLine}
+use Rattle.metis_outside.specs.Terms.{IsLine}
 use Rattle.metis_commands.proofs.audit.audited.Goals as goal
 
 pub line_answer-requires : goal.line_answer-requires

@@ -1,6 +1,6 @@
 use Rattle.std.proofs.Common.{codes, refl, sym, subst}
 use Rattle.metis_commands.proofs.GoalLine.{IsLine-word_line}
-use Rattle.metis_outside.specs.Pieces.{IsLine}
+use Rattle.metis_outside.specs.Terms.{IsLine}
 use Rattle.metis_commands.proofs.audit.not_attained.Goals as goal
 
 pub line_answer-requires : goal.line_answer-requires

@@ -1,4 +1,4 @@
-use Rattle.metis_commands.specs.Audit.{Audited}
+use Rattle.metis_commands.specs.Terms.{Audited}
 use Rattle.metis_output.proofs.Given.{puts}
 use Rattle.metis_commands.proofs.audit.put.Goals as goal
 

@@ -1,6 +1,6 @@
 use Rattle.std.proofs.Common.{sym, subst}
 use Rattle.metis_commands.proofs.ConfirmLines.{IsLine-confirmation_line, sayable}
-use Rattle.metis_outside.specs.Pieces.{IsLine}
+use Rattle.metis_outside.specs.Terms.{IsLine}
 use Rattle.metis_commands.proofs.confirm.answer.Goals as goal
 
 pub confirmation_line-requires : goal.confirmation_line-requires

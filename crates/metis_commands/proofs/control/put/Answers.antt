@@ -1,5 +1,5 @@
 use Rattle.std.proofs.Common.{ap}
-use Rattle.metis_commands.specs.Control.{Controlled}
+use Rattle.metis_commands.specs.Terms.{Controlled}
 use Rattle.metis_inputs.specs.declared.asked.PlanAnd.{PlanAnd}
 use Rattle.metis_output.proofs.Given.{puts}
 use Rattle.metis_commands.proofs.control.put.Goals as goal

@@ -1,7 +1,7 @@
 use Rattle.std.proofs.Common.{◌∙◌, false, ap, inr, refl}
 use Rattle.metis_commands.proofs.CrewLines.{all_left}
-use Rattle.metis_commands.specs.Crew.{lines_left}
-use Rattle.metis_crew.specs.Crew.{CrewState, start}
+use Rattle.metis_commands.specs.Terms.{lines_left}
+use Rattle.metis_crew.specs.Terms.{CrewState, start}
 use Rattle.metis_commands.proofs.crew.answer.Goals as goal
 
 pub returns-in_ok-new-in-Ok : goal.returns-in_ok-new-in-Ok

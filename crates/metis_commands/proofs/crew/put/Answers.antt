@@ -1,5 +1,5 @@
 use Rattle.std.proofs.Common.{ap}
-use Rattle.metis_commands.specs.Crew.{Crewed}
+use Rattle.metis_commands.specs.Terms.{Crewed}
 use Rattle.metis_inputs.specs.declared.asked.PlanAnd.{PlanAnd}
 use Rattle.metis_output.proofs.Given.{puts}
 use Rattle.metis_commands.proofs.crew.put.Goals as goal

@@ -1,5 +1,5 @@
 use Rattle.std.proofs.Common.{ap}
-use Rattle.metis_commands.specs.Place.{Placed}
+use Rattle.metis_commands.specs.Terms.{Placed}
 use Rattle.metis_inputs.specs.declared.asked.PlanAnd.{PlanAnd}
 use Rattle.metis_output.proofs.Given.{puts}
 use Rattle.metis_commands.proofs.place.put.Goals as goal

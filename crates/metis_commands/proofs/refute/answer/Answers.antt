@@ -1,6 +1,6 @@
 use Rattle.std.proofs.Common.{sym, subst}
 use Rattle.metis_commands.proofs.RefuteLines.{IsLine-judgement_line}
-use Rattle.metis_outside.specs.Pieces.{IsLine}
+use Rattle.metis_outside.specs.Terms.{IsLine}
 use Rattle.metis_commands.proofs.refute.answer.Goals as goal
 
 pub line_answer-requires : goal.line_answer-requires

@@ -1,4 +1,4 @@
-use Rattle.metis_commands.specs.Refute.{Judged}
+use Rattle.metis_commands.specs.Terms.{Judged}
 use Rattle.metis_output.proofs.Given.{puts}
 use Rattle.metis_commands.proofs.refute.put.Goals as goal
 

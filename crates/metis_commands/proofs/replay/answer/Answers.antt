@@ -1,6 +1,6 @@
 use Rattle.std.proofs.Common.{length, sym, subst}
 use Rattle.metis_commands.proofs.ReplayLines.{IsLine-verdict_line}
-use Rattle.metis_outside.specs.Pieces.{IsLine}
+use Rattle.metis_outside.specs.Terms.{IsLine}
 use Rattle.metis_commands.proofs.replay.answer.Goals as goal
 
 pub line_answer-requires : goal.line_answer-requires

@@ -1,5 +1,5 @@
 use Rattle.std.proofs.Common.{ap}
-use Rattle.metis_commands.specs.Replay.{Replayed}
+use Rattle.metis_commands.specs.Terms.{Replayed}
 use Rattle.metis_inputs.specs.declared.asked.GoalsAnd.{GoalsAnd}
 use Rattle.metis_output.proofs.Given.{puts}
 use Rattle.metis_commands.proofs.replay.put.Goals as goal

@@ -1,4 +1,4 @@
-use Rattle.metis_commands.specs.Waits.{Awaited}
+use Rattle.metis_commands.specs.Terms.{Awaited}
 use Rattle.metis_output.proofs.Given.{puts}
 use Rattle.metis_commands.proofs.waits.put.Goals as goal
 

@@ -1,5 +1,5 @@
 use Rattle.std.proofs.Common.{ap}
-use Rattle.metis_commands.specs.Waves.{Waved}
+use Rattle.metis_commands.specs.Terms.{Waved}
 use Rattle.metis_inputs.specs.declared.asked.UniverseAnd.{UniverseAnd}
 use Rattle.metis_output.proofs.Given.{puts}
 use Rattle.metis_commands.proofs.waves.put.Goals as goal

@@ -2,13 +2,11 @@ use Rattle.std.proofs.Common.{List, Result, Ok, Err}
 use Rattle.std.specs.List.{All}
 use Rattle.std.specs.Prelude.{IfOk}
 use Rattle.metis_commands.proofs.WhyLines.{wordable_among}
-use Rattle.metis_commands.specs.Why.{IsTold}
+use Rattle.metis_commands.specs.Terms.{IsTold}
 use Rattle.metis_ids.specs.declared.goals.Goal.{Goal}
 use Rattle.metis_ids.specs.declared.no_memory.NoMemory.{NoMemory}
-use Rattle.metis_universe.specs.GoalWords.{IsWordable}
-use Rattle.metis_universe.specs.Universe.{Universe}
-use Rattle.metis_why.specs.Answer.{IfLacks, IsFirstUnattained}
-use Rattle.metis_why.specs.Confirm.{IsTellable}
+use Rattle.metis_universe.specs.Terms.{IsWordable, Universe}
+use Rattle.metis_why.specs.Terms.{IfLacks, IsFirstUnattained, IsTellable}
 use Rattle.metis_why.specs.declared.explaining.Explained.{Explained}
 use Rattle.metis_why.specs.declared.explaining.Explained.TheVariants.{Attained, Lacks}
 use Rattle.metis_commands.proofs.why.explained.Goals as goal

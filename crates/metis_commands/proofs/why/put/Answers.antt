@@ -1,4 +1,4 @@
-use Rattle.metis_commands.specs.Why.{WhyAnswer}
+use Rattle.metis_commands.specs.Terms.{WhyAnswer}
 use Rattle.metis_output.proofs.Given.{puts}
 use Rattle.metis_commands.proofs.why.put.Goals as goal
 

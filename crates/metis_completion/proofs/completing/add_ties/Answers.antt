@@ -1,10 +1,8 @@
 use Rattle.std.proofs.Common.{◌≤◌, ◌∙◌, ◌++◌, ap, subst, sym, take_all, length, map}
-use Rattle.metis_layers.specs.SlotLines.{slots_above}
-use Rattle.metis_completion.specs.Completed.{given_holder}
-use Rattle.metis_completion.specs.Given.{given_in}
+use Rattle.metis_layers.specs.Terms.{slots_above}
+use Rattle.metis_completion.specs.Terms.{given_holder, given_in, slot_ties}
 use Rattle.metis_completion.proofs.GivenSlots.{given_demand-few}
 use Rattle.metis_completion.proofs.Slots.{slots_gained_of, ties_more}
-use Rattle.metis_completion.specs.Ties.{slot_ties}
 use Rattle.metis_completion.proofs.completing.add_ties.Goals as goal
 
 pub tie_above-requires : goal.tie_above-requires

@@ -1,7 +1,5 @@
 use Rattle.std.proofs.Common.{◌≡◌, ◌++◌, take}
-use Rattle.metis_completion.specs.Completed.{given_holder}
-use Rattle.metis_completion.specs.Given.{given_in}
-use Rattle.metis_completion.specs.Ties.{slot_ties}
+use Rattle.metis_completion.specs.Terms.{given_holder, given_in, slot_ties}
 use Rattle.metis_completion.proofs.Slots.{slots_gained_of}
 use Rattle.metis_completion.proofs.completing.add_ties.Given as goal
 

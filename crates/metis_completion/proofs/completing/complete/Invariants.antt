@@ -1,6 +1,5 @@
 use Rattle.std.proofs.Common.{◌≡◌, ◌++◌, take}
-use Rattle.metis_completion.specs.Completed.{completed}
-use Rattle.metis_completion.specs.Given.{given_in}
+use Rattle.metis_completion.specs.Terms.{completed, given_in}
 use Rattle.metis_completion.proofs.completing.complete.Given as goal
 
 -- those before this one are completed

@@ -1,9 +1,7 @@
 use Rattle.std.proofs.Common.{◌≡◌, ◌<◌, ◌+◌, ◌-◌, ◌++◌, ◌∷◌, [], ◌∙◌, ap, arith, get_or, length, map}
 use Rattle.std.specs.List.{range_with_len}
-use Rattle.metis_completion.specs.Completed.{given_holder}
-use Rattle.metis_completion.specs.Given.{given_in}
+use Rattle.metis_completion.specs.Terms.{given_holder, given_in, slot_ties}
 use Rattle.metis_completion.proofs.Slots.{tie_more}
-use Rattle.metis_completion.specs.Ties.{slot_ties}
 use Rattle.metis_completion.proofs.completing.tie_above.Goals as goal
 
 pub loop-below-preserved : goal.loop-below-preserved

@@ -1,8 +1,6 @@
 use Rattle.std.proofs.Common.{◌≡◌, ◌≤◌, ◌+◌, ◌++◌, ◌-◌, map}
 use Rattle.std.specs.List.{range_with_len}
-use Rattle.metis_completion.specs.Completed.{given_holder}
-use Rattle.metis_completion.specs.Given.{given_in}
-use Rattle.metis_completion.specs.Ties.{slot_ties}
+use Rattle.metis_completion.specs.Terms.{given_holder, given_in, slot_ties}
 use Rattle.metis_completion.proofs.completing.tie_above.Given as goal
 
 abbrev pub invariant-loop-below : goal.invariant-loop-below

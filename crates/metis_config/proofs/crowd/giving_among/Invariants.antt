@@ -1,6 +1,6 @@
 use Rattle.std.proofs.Common.{◌≡◌, take}
-use Rattle.metis_universe.specs.Universe.{provides}
-use Rattle.metis_config.specs.Crowd.{weight}
+use Rattle.metis_universe.specs.Terms.{provides}
+use Rattle.metis_config.specs.Terms.{weight}
 use Rattle.metis_config.proofs.crowd.giving_among.Given as goal
 
 abbrev pub invariant-loop-share : goal.invariant-loop-share

@@ -4,7 +4,7 @@ use Rattle.std.specs.List.{find, filter}
 use Rattle.std.specs.Map.Iter.{deref}
 use Rattle.std.proofs.lemmas.Bool.{and_from}
 use Rattle.std.proofs.lemmas.Map.Iter.{rest_more, rest_all}
-use Rattle.metis_universe.specs.Config.{Binding}
+use Rattle.metis_universe.specs.Terms.{Binding}
 use Rattle.metis_config.proofs.Prefixes.{IsRest, IsRest-filter, find-from, find_none, is_from}
 use Rattle.metis_config.proofs.Keys.{and_none, has_front-from, is_front, no_front_after, third}
 use Rattle.metis_config.proofs.ends.first_at.Goals as goal

@@ -3,7 +3,7 @@ use Rattle.std.specs.Prelude.{option_map}
 use Rattle.std.specs.List.{find, filter}
 use Rattle.std.specs.Map.Iter.{deref}
 use Rattle.std.proofs.lemmas.Map.Iter.{rest_more, rest_all}
-use Rattle.metis_universe.specs.Config.{Binding}
+use Rattle.metis_universe.specs.Terms.{Binding}
 use Rattle.metis_config.proofs.Prefixes.{IsRest, IsRest-filter, find-from, find_none, has_head-from, no_head_after, is_from}
 use Rattle.metis_config.proofs.Firsts.{short}
 use Rattle.metis_config.proofs.ends.first_to.Goals as goal

@@ -8,7 +8,7 @@ use Rattle.metis_universe.proofs.Sorted.{keys_of-filter}
 use Rattle.std.specs.List.Sorted.{IsStrictlySortedBy}
 use Rattle.std.specs.Map.{keys_of}
 use Rattle.std.specs.Ordering.{is_le}
-use Rattle.metis_config.specs.Supply.{key_cmp}
+use Rattle.metis_config.specs.Terms.{key_cmp}
 use Rattle.metis_config.proofs.Keys.{AreKeys, Entry, AreKeys-from, AreKeys-tail, has_key, has_key-from, has_looked, is_key_from, key_passed, none_after, none_at, some_at}
 use Rattle.metis_config.proofs.ends.some_from.Goals as goal
 

@@ -1,5 +1,5 @@
 use Rattle.std.proofs.Common.{◌≡◌, ℕ, true, []}
-use Rattle.metis_universe.specs.Config.{config_of, is_bound}
+use Rattle.metis_universe.specs.Terms.{config_of, is_bound}
 use Rattle.metis_config.proofs.Keys.{AreKeys, has_key}
 use Rattle.metis_config.proofs.ends.some_from.Given as goal
 

@@ -1,6 +1,6 @@
 use Rattle.std.proofs.Common.{◌∙◌, get_or, ap, arith}
 use Rattle.metis_ids.proofs.Lists.{has_at}
-use Rattle.metis_control.specs.Acknowledged.{flag_at}
+use Rattle.metis_control.specs.Terms.{flag_at}
 use Rattle.metis_control.proofs.Flagged.{cleared_all, cleared_first, cleared_more}
 use Rattle.metis_control.proofs.acknowledged.clear_flags.Goals as goal
 

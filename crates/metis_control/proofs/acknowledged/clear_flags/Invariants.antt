@@ -1,6 +1,6 @@
 use Rattle.std.proofs.Common.{◌≡◌, ◌&&◌, ℕ, not, take}
-use Rattle.metis_universe.specs.Universe.{has}
-use Rattle.metis_control.specs.Acknowledged.{flag_at}
+use Rattle.metis_universe.specs.Terms.{has}
+use Rattle.metis_control.specs.Terms.{flag_at}
 use Rattle.metis_control.proofs.acknowledged.clear_flags.Given as goal
 
 abbrev pub invariant-loop-k : goal.invariant-loop-k

@@ -1,6 +1,6 @@
 use Rattle.std.proofs.Common.{sym, subst}
 use Rattle.metis_control.proofs.Orders.{place_found}
-use Rattle.metis_control.specs.Owned.{IsPlaceOf}
+use Rattle.metis_control.specs.Terms.{IsPlaceOf}
 use Rattle.metis_control.proofs.agent.place_of.Goals as goal
 
 pub returns : goal.returns

@@ -5,8 +5,7 @@ use Rattle.std.specs.Map.{lookup}
 use Rattle.std.specs.Ordering.{nat_cmp}
 use Rattle.std.proofs.lemmas.Result.{on_ok_weaker}
 use Rattle.metis_control.proofs.Carried.{added_new, added_to, found_agent}
-use Rattle.metis_control.specs.Agent.{AgentState, with_number}
-use Rattle.metis_control.specs.Owned.{IsRising}
+use Rattle.metis_control.specs.Terms.{AgentState, IsRising, with_number}
 use Rattle.metis_control.proofs.agents.add.Goals as goal
 
 pub take_on-requires-clause-rising : goal.take_on-requires-clause-rising

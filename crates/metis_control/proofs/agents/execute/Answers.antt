@@ -1,9 +1,9 @@
 use Rattle.std.proofs.Common.{◌≡◌, ◌∙◌, ◌++◌, ◌∷◌, [], ◌+◌, true, length, ap, sym, subst, arith}
 use Rattle.metis_ids.proofs.Lists.{has_range}
-use Rattle.metis_control.specs.Fields.{IsOrdered}
+use Rattle.metis_control.specs.Terms.{IsOrdered}
 use Rattle.metis_control.specs.declared.happening.Packet.TheVariants as packet
 use Rattle.metis_crew.proofs.OwnActions.{own_self}
-use Rattle.metis_crew.specs.Crew.{is_own}
+use Rattle.metis_crew.specs.Terms.{is_own}
 use Rattle.metis_control.proofs.Carried.{carried_out, heard_again_told, heard_executed, never_ahead}
 use Rattle.metis_control.proofs.agents.execute.Goals as goal
 

@@ -1,7 +1,6 @@
 use Rattle.std.proofs.Common.{◌∙◌, ap, Some}
 use Rattle.metis_control.proofs.Scripts.{each_line_is_answered, line_is_answered}
-use Rattle.metis_control.specs.Script.{answer_of, events_of}
-use Rattle.metis_control.specs.World.{after_events, at_first}
+use Rattle.metis_control.specs.Terms.{after_events, answer_of, at_first, events_of}
 use Rattle.std.proofs.Common.{take}
 use Rattle.metis_control.proofs.laws.a_line_gets_its_answer.Goals as goal
 

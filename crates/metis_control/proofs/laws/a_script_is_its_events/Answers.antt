@@ -1,5 +1,5 @@
 use Rattle.metis_control.proofs.Scripts.{lines_are_events}
-use Rattle.metis_control.specs.World.{at_first}
+use Rattle.metis_control.specs.Terms.{at_first}
 use Rattle.metis_control.proofs.laws.a_script_is_its_events.Goals as goal
 
 pub returns : goal.returns

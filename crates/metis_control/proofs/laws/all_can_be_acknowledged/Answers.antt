@@ -1,4 +1,4 @@
-use Rattle.metis_control.specs.World.{after_events, at_first}
+use Rattle.metis_control.specs.Terms.{after_events, at_first}
 use Rattle.metis_control.proofs.Progress.{acknowledged_in_the_end}
 use Rattle.metis_control.proofs.laws.all_can_be_acknowledged.Goals as goal
 

@@ -1,5 +1,5 @@
 use Rattle.metis_control.proofs.Reached.{reached, order_done, order_answered, ack_noted}
-use Rattle.metis_control.specs.World.{after_events, at_first}
+use Rattle.metis_control.specs.Terms.{after_events, at_first}
 use Rattle.metis_control.proofs.laws.what_arrives_counts.Goals as goal
 
 pub returns-clause-done : goal.returns-clause-done

@@ -1,7 +1,7 @@
 use Rattle.std.proofs.Common.{Result, Ok, Err}
 use Rattle.std.specs.Prelude.{OnOk}
 use Rattle.metis_control.proofs.Scripts.{heard_few, heard_is}
-use Rattle.metis_control.specs.World.{hear}
+use Rattle.metis_control.specs.Terms.{hear}
 use Rattle.metis_control.proofs.script.set_event_line.Goals as goal
 
 always : {T E : Type 0} (put : Result T E) (P : Type 0) → P → OnOk put P

@@ -1,5 +1,5 @@
 use Rattle.std.proofs.Common.{◌≡◌, drop}
-use Rattle.metis_crew.specs.Crew.{none_done, start}
+use Rattle.metis_crew.specs.Terms.{none_done, start}
 use Rattle.metis_crew.proofs.crew.none_done.Given as goal
 
 abbrev pub invariant-loop-action : goal.invariant-loop-action

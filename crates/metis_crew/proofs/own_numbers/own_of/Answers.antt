@@ -1,6 +1,6 @@
 use Rattle.std.proofs.Common.{◌∙◌, ◌+◌, ◌++◌, ◌∷◌, [], ap, sym, Some, cond, nat_eq}
 use Rattle.std.proofs.lemmas.Option.{slice_get-get_or}
-use Rattle.metis_crew.specs.Tables.{row_at}
+use Rattle.metis_crew.specs.Terms.{row_at}
 use Rattle.metis_crew.proofs.Made.{own_more}
 use Rattle.metis_crew.proofs.own_numbers.own_of.Goals as goal
 

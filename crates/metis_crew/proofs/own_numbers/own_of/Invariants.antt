@@ -1,7 +1,6 @@
 use Rattle.std.proofs.Common.{◌≡◌, ℕ}
 use Rattle.std.specs.List.{filter, range_with_len}
-use Rattle.metis_crew.specs.Crew.{is_own}
-use Rattle.metis_crew.specs.Tables.{row_at}
+use Rattle.metis_crew.specs.Terms.{is_own, row_at}
 use Rattle.metis_crew.proofs.own_numbers.own_of.Given as goal
 
 abbrev pub invariant-loop-index : goal.invariant-loop-index

@@ -2,7 +2,7 @@ use Rattle.std.proofs.Common.{ℕ, refl, sym, ap, ◌∙◌, subst}
 use Rattle.std.specs.Prelude.{IsSome}
 use Rattle.std.proofs.lemmas.Option.{same_Some}
 use Rattle.metis_lines.proofs.Slotted.{held_slot}
-use Rattle.metis_lines.specs.LifeLines.{slot_holding}
+use Rattle.metis_lines.specs.Terms.{slot_holding}
 use Rattle.metis_emit.proofs.writing.slot_instance.Goals as goal
 
 pub unwrap-holder-requires : goal.unwrap-holder-requires

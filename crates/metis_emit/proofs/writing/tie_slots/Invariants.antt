@@ -1,7 +1,7 @@
 use Rattle.std.proofs.Common.{◌≡◌, ◌+◌, ◌++◌, map}
 use Rattle.std.specs.List.{range_with_len}
-use Rattle.metis_emit.specs.PortActions.{tie_action}
-use Rattle.metis_lines.specs.LifeLines.{slot_holding}
+use Rattle.metis_emit.specs.Terms.{tie_action}
+use Rattle.metis_lines.specs.Terms.{slot_holding}
 use Rattle.metis_emit.proofs.writing.tie_slots.Given as goal
 
 abbrev pub invariant-loop-further : goal.invariant-loop-further

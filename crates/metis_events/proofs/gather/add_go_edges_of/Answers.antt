@@ -2,15 +2,13 @@ use Rattle.std.proofs.Common.{◌≡◌, ◌-◌, ◌∷◌, ◌++◌, [], ℕ, 
 use Rattle.std.specs.List.{range_with_len}
 use Rattle.metis_ids.specs.declared.events.Event.{Event}
 use Rattle.metis_ids.specs.declared.events.Event.TheVariants.{At, End}
-use Rattle.metis_lines.specs.AbstractPlan.{last}
-use Rattle.metis_lines.specs.Events.{step_count}
+use Rattle.metis_lines.specs.Terms.{last, step_count}
 use Rattle.metis_events.proofs.Adding.{mapped_more}
 use Rattle.metis_events.proofs.Targets.{adds_both}
 use Rattle.metis_events.proofs.gather.add_go_edges_of.Goals as goal
 use Rattle.metis_events.specs.declared.edges.Edge.{Edge}
 use Rattle.metis_events.specs.declared.edges.EdgeKind.TheVariants.{Go}
-use Rattle.metis_events.specs.Edges.{edge_of}
-use Rattle.metis_events.specs.Gathered.{Adds, next_edge, without_supplies}
+use Rattle.metis_events.specs.Terms.{Adds, edge_of, next_edge, without_supplies}
 
 pub loop-step-preserved : goal.loop-step-preserved
 loop-step-preserved c = mapped_more (next_edge c.args.line) c.loop-step.step c.args.edges.now c.loop-step.edges c.add.new.self c.loop-step.invariant c.in_ok-add.ensures

@@ -3,10 +3,10 @@ use Rattle.std.specs.Prelude.{IsSome}
 use Rattle.std.specs.List.{flat_map, range_with_len}
 use Rattle.std.proofs.lemmas.Option.{same_Some}
 use Rattle.metis_lines.proofs.Slotted.{held_slot}
-use Rattle.metis_lines.specs.LifeLines.{line_at, slot_holding, supply_from}
+use Rattle.metis_lines.specs.Terms.{line_at, slot_holding, supply_from}
 use Rattle.metis_events.proofs.Adding.{slots_more}
 use Rattle.metis_events.proofs.gather.add_slot_supplies.Goals as goal
-use Rattle.metis_events.specs.Gathered.{Adds, supply_edges, without_supplies}
+use Rattle.metis_events.specs.Terms.{Adds, supply_edges, without_supplies}
 
 pub unwrap-holder-requires : goal.unwrap-holder-requires
 unwrap-holder-requires c =

@@ -1,8 +1,8 @@
 use Rattle.std.proofs.Common.{ℕ, map}
 use Rattle.std.specs.List.{flat_map, range_with_len}
-use Rattle.metis_lines.specs.LifeLines.{slot_holding, supply_from}
+use Rattle.metis_lines.specs.Terms.{slot_holding, supply_from}
 use Rattle.metis_events.proofs.gather.add_slot_supplies.Given as goal
-use Rattle.metis_events.specs.Gathered.{Adds, supply_edges, without_supplies}
+use Rattle.metis_events.specs.Terms.{Adds, supply_edges, without_supplies}
 
 -- the slots before this one are done
 abbrev pub invariant-loop-slot : goal.invariant-loop-slot

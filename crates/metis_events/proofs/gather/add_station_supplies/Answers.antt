@@ -3,15 +3,14 @@ use Rattle.std.specs.Option.{option_map_or}
 use Rattle.std.specs.List.{flat_map, range_with_len}
 use Rattle.std.proofs.lemmas.List.{get_or_default, take_all}
 use Rattle.metis_ids.proofs.Lists.{has_at}
-use Rattle.metis_universe.specs.Universe.{Universe, demand_of, has, pair_count, required_of, requires}
-use Rattle.metis_support.specs.Support.{Support, provider_at}
-use Rattle.metis_lines.specs.AbstractPlan.{Supply}
-use Rattle.metis_lines.specs.LifeLines.{line_at, port_supplies, slot_holding, slot_supplies, supply_from}
+use Rattle.metis_universe.specs.Terms.{Universe, demand_of, has, pair_count, required_of, requires}
+use Rattle.metis_support.specs.Terms.{Support, provider_at}
+use Rattle.metis_lines.specs.Terms.{Supply, line_at, port_supplies, slot_holding, slot_supplies, supply_from}
 use Rattle.metis_events.proofs.Adding.{ports_more}
 use Rattle.metis_events.proofs.Holding.{pair_chosen, pair_low, slots_there}
 use Rattle.metis_events.proofs.gather.add_station_supplies.Goals as goal
 use Rattle.metis_events.proofs.gather.add_station_supplies.Goals.{in-Some+in_ok-add_slot_supplies, in_default}
-use Rattle.metis_events.specs.Gathered.{Adds, supply_edges, without_supplies}
+use Rattle.metis_events.specs.Terms.{Adds, supply_edges, without_supplies}
 
 pub requires_-port-items-requires : goal.requires_-port-items-requires
 requires_-port-items-requires c =

@@ -1,8 +1,8 @@
 use Rattle.std.proofs.Common.{get_or, take}
 use Rattle.std.specs.List.{flat_map}
-use Rattle.metis_lines.specs.LifeLines.{line_at, port_supplies}
+use Rattle.metis_lines.specs.Terms.{line_at, port_supplies}
 use Rattle.metis_events.proofs.gather.add_station_supplies.Given as goal
-use Rattle.metis_events.specs.Gathered.{Adds, supply_edges, without_supplies}
+use Rattle.metis_events.specs.Terms.{Adds, supply_edges, without_supplies}
 
 -- the ports before this one are done
 abbrev pub invariant-loop-port : goal.invariant-loop-port

@@ -1,7 +1,7 @@
-use Rattle.metis_lines.specs.LifeLines.{line_supplies}
+use Rattle.metis_lines.specs.Terms.{line_supplies}
 use Rattle.metis_events.proofs.Adding.{supplies_more}
 use Rattle.metis_events.proofs.gather.add_supplies.Goals as goal
-use Rattle.metis_events.specs.Gathered.{supply_edges, without_supplies}
+use Rattle.metis_events.specs.Terms.{supply_edges, without_supplies}
 
 pub loop-number-preserved : goal.loop-number-preserved
 loop-number-preserved c =

@@ -1,8 +1,8 @@
 use Rattle.std.proofs.Common.{◌++◌, ap, arith, sym, ◌∙◌}
-use Rattle.metis_lines.specs.Events.{events_of}
+use Rattle.metis_lines.specs.Terms.{events_of}
 use Rattle.metis_events.proofs.Adding.{joined_more}
 use Rattle.metis_events.proofs.graph.all_events.Goals as goal
-use Rattle.metis_events.specs.Gathered.{without_supplies}
+use Rattle.metis_events.specs.Terms.{without_supplies}
 
 pub loop-number-preserved : goal.loop-number-preserved
 loop-number-preserved c =

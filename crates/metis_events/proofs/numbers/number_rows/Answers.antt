@@ -1,9 +1,9 @@
 use Rattle.std.proofs.Common.{◌≡◌, ◌<◌, ◌++◌, ◌∷◌, ℕ, [], List, length, get_or, map, take, arith, ap, subst, sym, ◌∙◌}
 use Rattle.std.proofs.lemmas.List.{map-append, take_more}
 use Rattle.std.specs.List.{All, position_or_len}
-use Rattle.metis_lines.specs.Events.{same_event}
+use Rattle.metis_lines.specs.Terms.{same_event}
 use Rattle.metis_events.specs.declared.edges.Edge.{Edge}
-use Rattle.metis_events.specs.Numbered.{graph_by, number_of}
+use Rattle.metis_events.specs.Terms.{graph_by, number_of}
 use Rattle.metis_events.proofs.numbers.number_rows.Goals as goal
 
 pub put_numbers-requires-clause-from : goal.put_numbers-requires-clause-from

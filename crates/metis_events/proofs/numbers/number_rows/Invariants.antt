@@ -1,6 +1,6 @@
 use Rattle.std.proofs.Common.{◌≡◌, map, take}
 use Rattle.metis_events.specs.declared.edges.Edge.{Edge}
-use Rattle.metis_events.specs.Numbered.{graph_by, number_of}
+use Rattle.metis_events.specs.Terms.{graph_by, number_of}
 use Rattle.metis_events.proofs.numbers.number_rows.Given as goal
 
 -- the rows so far have their numbers

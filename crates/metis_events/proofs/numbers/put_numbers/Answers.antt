@@ -2,7 +2,7 @@ use Rattle.std.proofs.Common.{◌<◌, length, arith, nat_lt, refl, Some, None, 
 use Rattle.std.proofs.lemmas.Bool.{cond-true, lt-ltb}
 use Rattle.std.specs.List.{position_or_len}
 use Rattle.std.specs.Option.{IsSome}
-use Rattle.metis_lines.specs.Events.{same_event}
+use Rattle.metis_lines.specs.Terms.{same_event}
 use Rattle.metis_events.specs.declared.edges.Edge.{Edge}
 use Rattle.metis_events.proofs.numbers.put_numbers.Goals as goal
 

@@ -1,6 +1,6 @@
 use Rattle.std.proofs.Common.{◌≡◌, map, take}
 use Rattle.std.specs.List.{position_or_len}
-use Rattle.metis_lines.specs.Events.{same_event}
+use Rattle.metis_lines.specs.Terms.{same_event}
 use Rattle.metis_events.specs.declared.edges.Edge.{Edge}
 use Rattle.metis_events.proofs.numbers.put_numbers.Given as goal
 

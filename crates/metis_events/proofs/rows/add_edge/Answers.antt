@@ -2,7 +2,7 @@ use Rattle.std.proofs.Common.{sym, ◌∙◌, arith, length}
 use Rattle.std.specs.List.{position_or_len}
 use Rattle.metis_events.proofs.InRows.{row_more, rows_same, some_place}
 use Rattle.metis_events.proofs.rows.add_edge.Goals as goal
-use Rattle.metis_lines.specs.Events.{same_event}
+use Rattle.metis_lines.specs.Terms.{same_event}
 
 pub index_mut-requires : goal.index_mut-requires
 index_mut-requires c =

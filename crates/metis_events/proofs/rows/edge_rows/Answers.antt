@@ -2,7 +2,7 @@ use Rattle.std.proofs.Common.{ap, map, ◌∙◌}
 use Rattle.std.proofs.lemmas.List.{take_all}
 use Rattle.std.proofs.lemmas.Simd.{map-map}
 use Rattle.metis_events.proofs.rows.edge_rows.Goals as goal
-use Rattle.metis_events.specs.Gathered.{edges_to, in_order}
+use Rattle.metis_events.specs.Terms.{edges_to, in_order}
 
 pub returns : goal.returns
 returns c =

@@ -1,6 +1,6 @@
 use Rattle.std.proofs.Common.{◌≡◌, map, take}
 use Rattle.metis_events.proofs.rows.edge_rows.Given as goal
-use Rattle.metis_events.specs.Gathered.{edges_to}
+use Rattle.metis_events.specs.Terms.{edges_to}
 
 -- the rows have the edges so far
 abbrev pub invariant-loop-to : goal.invariant-loop-to

@@ -1,7 +1,7 @@
 use Rattle.std.proofs.Common.{arith}
 use Rattle.metis_events.proofs.InRows.{changed_more}
 use Rattle.metis_events.proofs.rows.put_in_order.Goals as goal
-use Rattle.metis_events.specs.Gathered.{in_order}
+use Rattle.metis_events.specs.Terms.{in_order}
 
 pub loop-place-preserved : goal.loop-place-preserved
 loop-place-preserved c =

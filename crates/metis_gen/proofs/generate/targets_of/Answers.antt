@@ -1,6 +1,6 @@
 use Rattle.std.proofs.Common.{arith}
 use Rattle.std.proofs.lemmas.Grind.{common_steps}
-use Rattle.metis_gen.specs.Generated.{targets_at, generated_targets}
+use Rattle.metis_gen.specs.Terms.{generated_targets, targets_at}
 use Rattle.metis_gen.proofs.Pieces.{pieces_more}
 use Rattle.metis_gen.proofs.generate.targets_of.Goals as goal
 

@@ -1,5 +1,5 @@
 use Rattle.std.proofs.Common.{ap, subst, sym, ◌∙◌, arith}
-use Rattle.metis_universe.specs.Rows.{IsOfVersion, RowsFit, meaning_of}
+use Rattle.metis_universe.specs.Terms.{IsOfVersion, RowsFit, meaning_of}
 use Rattle.metis_gen.proofs.SameRows.{rows_fit, rows_mean, rows_of_version}
 use Rattle.metis_gen.proofs.generate.universe_of.Goals as goal
 

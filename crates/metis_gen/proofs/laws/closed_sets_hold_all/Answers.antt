@@ -1,7 +1,6 @@
 use Rattle.std.proofs.Common.{ap, subst, ◌∙◌, arith}
-use Rattle.metis_universe.specs.Closed.{Closed, Refusal}
-use Rattle.metis_universe.specs.Universe.{pair_count}
-use Rattle.metis_gen.specs.Generated.{generated_targets}
+use Rattle.metis_universe.specs.Terms.{Closed, Refusal, pair_count}
+use Rattle.metis_gen.specs.Terms.{generated_targets}
 use Rattle.metis_gen.proofs.Places.{pairs_counted}
 use Rattle.metis_gen.proofs.SameRows.{generated_tables}
 use Rattle.metis_gen.proofs.Whole.{all_in, no_refusal}

@@ -1,7 +1,7 @@
 use Rattle.std.proofs.Common.{ap, ◌∙◌, arith}
 use Rattle.std.specs.Prelude.{codes}
-use Rattle.metis_universe.specs.Universe.{pair_named}
-use Rattle.metis_gen.specs.Generated.{left_row, right_row}
+use Rattle.metis_universe.specs.Terms.{pair_named}
+use Rattle.metis_gen.specs.Terms.{left_row, right_row}
 use Rattle.metis_gen.proofs.SameRows.{generated_tables}
 use Rattle.metis_gen.proofs.TargetNames.{left_target, right_target}
 use Rattle.metis_gen.proofs.laws.targets_are_last_states.Goals as goal

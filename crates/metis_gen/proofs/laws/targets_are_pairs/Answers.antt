@@ -1,8 +1,8 @@
 use Rattle.std.proofs.Common.{◌≡◌, ◌<◌, ◌*◌, ap, sym, ◌∙◌, subst, arith}
 use Rattle.std.proofs.lemmas.List.Elements.{All-from_recursion}
 use Rattle.std.specs.List.{All}
-use Rattle.metis_universe.specs.Universe.{pair_count}
-use Rattle.metis_gen.specs.Generated.{generated, generated_targets}
+use Rattle.metis_universe.specs.Terms.{pair_count}
+use Rattle.metis_gen.specs.Terms.{generated, generated_targets}
 use Rattle.metis_gen.proofs.Places.{pairs_counted}
 use Rattle.metis_gen.proofs.SameRows.{generated_tables}
 use Rattle.metis_gen.proofs.TargetPairs.{targets_counted, targets_within}

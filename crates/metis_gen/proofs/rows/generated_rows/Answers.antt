@@ -1,6 +1,6 @@
 use Rattle.std.proofs.Common.{arith}
 use Rattle.std.proofs.lemmas.Grind.{common_steps}
-use Rattle.metis_gen.specs.Generated.{rows_at, generated_rows}
+use Rattle.metis_gen.specs.Terms.{generated_rows, rows_at}
 use Rattle.metis_gen.proofs.Pieces.{pieces_more}
 use Rattle.metis_gen.proofs.rows.generated_rows.Goals as goal
 

@@ -1,6 +1,6 @@
 use Rattle.std.proofs.lemmas.Result.{err_from_is_err_and}
 use Rattle.metis_inputs.proofs.OneText.{goals_plan_no_text, goals_plan_text, no_goals_and_plan}
-use Rattle.metis_inputs.specs.Views.{goals_and_said}
+use Rattle.metis_inputs.specs.Terms.{goals_and_said}
 use Rattle.metis_inputs.proofs.inputs.goals_plan_and.Goals as goal
 
 pub returns-in-Ok : goal.returns-in-Ok

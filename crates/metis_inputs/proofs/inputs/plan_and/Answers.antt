@@ -1,6 +1,6 @@
 use Rattle.std.proofs.lemmas.Result.{err_from_is_err_and}
 use Rattle.metis_inputs.proofs.OneText.{no_plan, plan_no_text, plan_text}
-use Rattle.metis_inputs.specs.Views.{universe_and_said}
+use Rattle.metis_inputs.specs.Terms.{universe_and_said}
 use Rattle.metis_inputs.proofs.inputs.plan_and.Goals as goal
 
 pub returns-in-Ok : goal.returns-in-Ok

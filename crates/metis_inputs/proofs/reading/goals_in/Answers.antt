@@ -1,7 +1,6 @@
 use Rattle.std.proofs.Common.{◌≡◌, ◌∙◌, None, ap, rules, sym}
 use Rattle.metis_inputs.proofs.NamedGoals.{stops_at}
-use Rattle.metis_inputs.specs.Commands.{judged}
-use Rattle.metis_inputs.specs.NamedGoals.{goal_of}
+use Rattle.metis_inputs.specs.Terms.{goal_of, judged}
 use Rattle.metis_inputs.proofs.reading.goals_in.Goals as goal
 
 pub returns-in-None-clause-judges : goal.returns-in-None-clause-judges

@@ -1,7 +1,7 @@
 use Rattle.std.proofs.Common.{◌≡◌, ◌+◌, drop, length}
 use Rattle.std.specs.List.{All}
-use Rattle.metis_universe.specs.GoalWords.{IsWordable}
-use Rattle.metis_inputs.specs.Commands.{goals_after, goals_named}
+use Rattle.metis_universe.specs.Terms.{IsWordable}
+use Rattle.metis_inputs.specs.Terms.{goals_after, goals_named}
 use Rattle.metis_inputs.proofs.reading.goals_in.Given as goal
 
 abbrev pub invariant-loop-k : goal.invariant-loop-k

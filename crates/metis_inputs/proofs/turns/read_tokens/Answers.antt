@@ -1,5 +1,5 @@
 use Rattle.std.proofs.Common.{ℕ, Bor, List, [], ◌+◌, ◌∷◌, ◌++◌, ◌∙◌, ◌≡◌, Err, ap, arith, sym}
-use Rattle.metis_inputs.specs.Commands.{turns_then}
+use Rattle.metis_inputs.specs.Terms.{turns_then}
 use Rattle.metis_inputs.proofs.TurnsRead.{no_turns_yet, numbers_more, one_turn_more, turns_misread, turns_read}
 use Rattle.metis_inputs.proofs.turns.read_tokens.Goals as goal
 

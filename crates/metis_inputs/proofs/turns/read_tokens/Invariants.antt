@@ -1,7 +1,7 @@
 use Rattle.std.proofs.Common.{◌≡◌, map, take}
 use Rattle.std.specs.List.{filter_map}
 use Rattle.metis_inputs.proofs.TurnsRead.{AreTurns}
-use Rattle.metis_inputs.specs.Turns.{turn_of}
+use Rattle.metis_inputs.specs.Terms.{turn_of}
 use Rattle.metis_inputs.proofs.turns.read_tokens.Given as goal
 
 abbrev pub invariant-loop-k : goal.invariant-loop-k

@@ -1,8 +1,8 @@
 use Rattle.std.proofs.Common.{◌≡◌, ◌∙◌, ℕ, List, ap, length, nat_eq, not, rules, tests}
 use Rattle.std.proofs.lemmas.Iterator.Consumers.{YieldsList-from_filter, map_from_collect}
 use Rattle.std.proofs.lemmas.Iterator.Splits.{YieldsList-from_slice_split}
-use Rattle.metis_universe.specs.Universe.{is_empty}
-use Rattle.metis_inputs.specs.Turns.{is_blank}
+use Rattle.metis_universe.specs.Terms.{is_empty}
+use Rattle.metis_inputs.specs.Terms.{is_blank}
 use Rattle.metis_inputs.proofs.turns.tokens_of.Goals as goal
 use Rattle.metis_tokens.proofs.ScriptEnds.{counted_empty}
 

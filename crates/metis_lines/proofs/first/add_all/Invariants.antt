@@ -1,5 +1,5 @@
 use Rattle.std.proofs.Common.{◌≡◌, ◌||◌, ℕ, take}
-use Rattle.metis_universe.specs.Universe.{has}
+use Rattle.metis_universe.specs.Terms.{has}
 use Rattle.metis_lines.proofs.first.add_all.Given as goal
 
 abbrev pub invariant-loop-pair : goal.invariant-loop-pair

@@ -1,6 +1,6 @@
 use Rattle.std.proofs.Common.{◌∙◌, ap, arith, sym}
 use Rattle.metis_ids.proofs.Inserted.{has-insert_key}
-use Rattle.metis_universe.specs.Universe.{has}
+use Rattle.metis_universe.specs.Terms.{has}
 use Rattle.metis_lines.proofs.Sets.{origin_more, still_left, taken}
 use Rattle.metis_lines.proofs.first.add_origins.Goals as goal
 

@@ -1,7 +1,7 @@
 use Rattle.std.proofs.Common.{◌≡◌, ◌||◌, ◌++◌, ℕ}
 use Rattle.std.specs.List.{list_any}
-use Rattle.metis_support.specs.Support.{is_number, origin_at}
-use Rattle.metis_universe.specs.Universe.{has}
+use Rattle.metis_support.specs.Terms.{is_number, origin_at}
+use Rattle.metis_universe.specs.Terms.{has}
 use Rattle.metis_lines.proofs.first.add_origins.Given as goal
 
 -- with the origins of the pairs so far

@@ -1,5 +1,5 @@
 use Rattle.std.proofs.Common.{◌∙◌, ap, arith, get_or}
-use Rattle.metis_ids.specs.PairSet.{PairSet}
+use Rattle.metis_ids.specs.Terms.{PairSet}
 use Rattle.metis_ids.proofs.Lists.{has_at}
 use Rattle.metis_lines.proofs.first.targets_and_origins.Goals as goal
 

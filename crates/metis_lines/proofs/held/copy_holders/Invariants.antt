@@ -1,5 +1,5 @@
 use Rattle.std.proofs.Common.{◌≡◌, ℕ, None, cond, get_or, length, take}
-use Rattle.metis_universe.specs.Universe.{has}
+use Rattle.metis_universe.specs.Terms.{has}
 use Rattle.metis_lines.proofs.held.copy_holders.Given as goal
 
 -- the pairs so far have their entries

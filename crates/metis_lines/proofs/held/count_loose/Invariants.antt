@@ -1,6 +1,6 @@
 use Rattle.std.proofs.Common.{◌≡◌, ◌≤◌, length, take}
 use Rattle.std.specs.List.{filter}
-use Rattle.metis_lines.specs.Tables.{goes_on}
+use Rattle.metis_lines.specs.Terms.{goes_on}
 use Rattle.metis_lines.proofs.held.count_loose.Given as goal
 
 -- those of the pairs so far

@@ -1,10 +1,10 @@
 use Rattle.std.proofs.Common.{◌∙◌, None, ap, cond, get_or, length}
 use Rattle.std.proofs.lemmas.List.{length-replicate}
 use Rattle.std.proofs.lemmas.List.FromFn.{fill_by_all}
-use Rattle.metis_universe.specs.Universe.{has}
+use Rattle.metis_universe.specs.Terms.{has}
 use Rattle.metis_lines.proofs.FirstHeld.{unheld}
 use Rattle.metis_lines.proofs.held.first_holders.Goals as goal
-use Rattle.metis_lines.specs.Tables.{first_holder}
+use Rattle.metis_lines.specs.Terms.{first_holder}
 
 pub returns : goal.returns
 returns c =

@@ -2,8 +2,7 @@ use Rattle.std.proofs.Common.{◌∙◌, None, ap, get_or}
 use Rattle.std.specs.Option.{option_or}
 use Rattle.metis_lines.proofs.FirstHeld.{unheld}
 use Rattle.metis_lines.proofs.held.found_on.Goals as goal
-use Rattle.metis_lines.specs.LifeLines.{ends_in, goes_through}
-use Rattle.metis_lines.specs.Tables.{held_by}
+use Rattle.metis_lines.specs.Terms.{ends_in, goes_through, held_by}
 
 pub returns : goal.returns
 returns c = λ p.

@@ -3,8 +3,7 @@ use Rattle.std.proofs.lemmas.List.{get_or_default}
 use Rattle.std.specs.Option.{option_or}
 use Rattle.metis_lines.proofs.FirstHeld.{held_more, line_noted}
 use Rattle.metis_lines.proofs.held.note_all.Goals as goal
-use Rattle.metis_lines.specs.LifeLines.{goes_through}
-use Rattle.metis_lines.specs.Tables.{held_by, on_line}
+use Rattle.metis_lines.specs.Terms.{goes_through, held_by, on_line}
 
 pub loop-number-preserved : goal.loop-number-preserved
 loop-number-preserved c =

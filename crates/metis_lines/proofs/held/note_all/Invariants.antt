@@ -1,7 +1,6 @@
 use Rattle.std.proofs.Common.{◌≡◌, ℕ, None, get_or, length, take}
 use Rattle.std.specs.Option.{option_or}
-use Rattle.metis_lines.specs.LifeLines.{goes_through}
-use Rattle.metis_lines.specs.Tables.{held_by}
+use Rattle.metis_lines.specs.Terms.{goes_through, held_by}
 use Rattle.metis_lines.proofs.held.note_all.Given as goal
 
 -- the table after the lines so far

@@ -3,8 +3,7 @@ use Rattle.std.proofs.lemmas.List.{get_or_default, length-set}
 use Rattle.std.specs.Option.{option_or}
 use Rattle.metis_lines.proofs.FirstHeld.{end_more, held_more, noted}
 use Rattle.metis_lines.proofs.held.note_ends.Goals as goal
-use Rattle.metis_lines.specs.LifeLines.{ends_in}
-use Rattle.metis_lines.specs.Tables.{IsLineOf, held_by}
+use Rattle.metis_lines.specs.Terms.{IsLineOf, ends_in, held_by}
 
 pub loop-number-preserved : goal.loop-number-preserved
 loop-number-preserved c =

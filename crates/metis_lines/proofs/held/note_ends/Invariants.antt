@@ -1,7 +1,6 @@
 use Rattle.std.proofs.Common.{◌≡◌, ℕ, None, get_or, length, take}
 use Rattle.std.specs.Option.{option_or}
-use Rattle.metis_lines.specs.LifeLines.{ends_in}
-use Rattle.metis_lines.specs.Tables.{held_by}
+use Rattle.metis_lines.specs.Terms.{ends_in, held_by}
 use Rattle.metis_lines.proofs.held.note_ends.Given as goal
 
 -- the table after the lines so far

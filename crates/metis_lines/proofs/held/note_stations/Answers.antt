@@ -3,7 +3,7 @@ use Rattle.std.proofs.lemmas.List.{length-set, take_all}
 use Rattle.std.specs.Option.{option_or}
 use Rattle.metis_lines.proofs.FirstHeld.{noted, on_more}
 use Rattle.metis_lines.proofs.held.note_stations.Goals as goal
-use Rattle.metis_lines.specs.Tables.{on_line}
+use Rattle.metis_lines.specs.Terms.{on_line}
 
 pub loop-place-preserved : goal.loop-place-preserved
 loop-place-preserved c =

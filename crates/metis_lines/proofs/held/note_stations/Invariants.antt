@@ -1,6 +1,6 @@
 use Rattle.std.proofs.Common.{◌≡◌, ℕ, None, get_or, length, take}
 use Rattle.std.specs.Option.{option_or}
-use Rattle.metis_lines.specs.Tables.{on_line}
+use Rattle.metis_lines.specs.Terms.{on_line}
 use Rattle.metis_lines.proofs.held.note_stations.Given as goal
 
 -- the table after the stations so far

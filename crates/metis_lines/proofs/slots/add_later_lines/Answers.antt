@@ -1,9 +1,9 @@
 use Rattle.std.proofs.Common.{ℕ, ◌≡◌, ◌<◌, ◌+◌, ◌-◌, ◌++◌, true, false, List, length, get_or, map, replicate, set, take, sym, ap, ◌∙◌, subst, arith, append_assoc}
 use Rattle.std.proofs.lemmas.List.{get_or_default, length-append, length-map, length-set, map-append}
 use Rattle.metis_ids.proofs.Lists.{has_at}
-use Rattle.metis_universe.specs.Universe.{has}
-use Rattle.metis_support.specs.Support.{is_selected, path_to, provider_pairs}
-use Rattle.metis_lines.specs.Tables.{AreSeconds}
+use Rattle.metis_universe.specs.Terms.{has}
+use Rattle.metis_support.specs.Terms.{is_selected, path_to, provider_pairs}
+use Rattle.metis_lines.specs.Terms.{AreSeconds}
 use Rattle.metis_lines.proofs.Blocks.{blocks-front, blocks-more, fresh_at, map-replicate, seconds_more}
 use Rattle.metis_lines.proofs.Holders.{provider_chosen}
 use Rattle.metis_lines.proofs.SlotCounts.{providers_ascend}

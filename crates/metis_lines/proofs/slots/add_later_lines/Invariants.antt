@@ -1,7 +1,7 @@
 use Rattle.std.proofs.Common.{◌≡◌, ◌++◌, ◌-◌, get_or, length, map, take}
-use Rattle.metis_support.specs.Support.{path_to, provider_pairs}
+use Rattle.metis_support.specs.Terms.{path_to, provider_pairs}
 use Rattle.metis_layers.proofs.Repeated.{blocks}
-use Rattle.metis_lines.specs.Tables.{AreSeconds}
+use Rattle.metis_lines.specs.Terms.{AreSeconds}
 use Rattle.metis_lines.proofs.slots.add_later_lines.Given as goal
 
 -- the lines of the provider pairs so far

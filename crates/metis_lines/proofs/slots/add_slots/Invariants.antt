@@ -1,5 +1,5 @@
 use Rattle.std.proofs.Common.{◌≡◌, ◌++◌, replicate}
-use Rattle.metis_support.specs.Support.{path_to}
+use Rattle.metis_support.specs.Terms.{path_to}
 use Rattle.metis_lines.proofs.slots.add_slots.Given as goal
 
 abbrev pub invariant-loop : goal.invariant-loop

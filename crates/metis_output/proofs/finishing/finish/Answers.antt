@@ -1,7 +1,7 @@
 use Rattle.std.proofs.Common.{refl}
 use Rattle.metis_output.proofs.PutLines.{said_lines}
 use Rattle.metis_output.proofs.Shown.{said_is_calm, shown_by_writer}
-use Rattle.metis_output.specs.Answers.{status_for}
+use Rattle.metis_output.specs.Terms.{status_for}
 use Rattle.metis_output.proofs.finishing.finish.Goals as goal
 
 pub returns-in-Ok : goal.returns-in-Ok

@@ -1,6 +1,6 @@
 use Rattle.std.proofs.Common.{◌∙◌, ap, false}
 use Rattle.metis_outside.proofs.Opened.{failing-grown}
-use Rattle.metis_outside.specs.Openings.{failing}
+use Rattle.metis_outside.specs.Terms.{failing}
 use Rattle.metis_outside.proofs.whole.read_whole.Goals as goal
 
 pub returns-in-Err-Failed-take-clause-opens : goal.returns-in-Err-Failed-take-clause-opens

@@ -1,5 +1,5 @@
 use Rattle.std.proofs.Common.{◌≡◌, ℕ, [], length}
-use Rattle.metis_place.specs.Holding.{IsHolding, tally_at}
+use Rattle.metis_place.specs.Terms.{IsHolding, tally_at}
 use Rattle.metis_place.proofs.holds.holds.Given as goal
 
 abbrev pub invariant-loop-place : goal.invariant-loop-place

@@ -1,7 +1,6 @@
 use Rattle.std.proofs.Common.{◌∙◌, ◌+◌, ◌++◌, ◌∷◌, [], ap, sym, refl, subst, arith, slice_set}
 use Rattle.std.proofs.lemmas.List.{get_or_read}
-use Rattle.metis_place.specs.Holding.{HostTally, IsHolding}
-use Rattle.metis_place.specs.Shortest.{freed_sum, shortest_deletes}
+use Rattle.metis_place.specs.Terms.{HostTally, IsHolding, freed_sum, shortest_deletes}
 use Rattle.metis_place.proofs.Holdings.{gone_low, new_enough, new_little, new_low, next_default, next_delete, next_gone, next_new, next_unseated, no_tally}
 use Rattle.metis_place.proofs.Settling.{at_place}
 use Rattle.metis_place.proofs.holds.take_in.Goals as goal

@@ -1,7 +1,7 @@
 use Rattle.std.proofs.Common.{◌∷◌, [], ◌++◌, Err, Ok, sym, ap, ◌∙◌}
 use Rattle.std.specs.Bool.{if◌then◌else◌}
 use Rattle.std.specs.Prelude.{is_some}
-use Rattle.metis_place.specs.Entries.{entries_of, has_name}
+use Rattle.metis_place.specs.Terms.{entries_of, has_name}
 use Rattle.metis_place.specs.declared.hosts_fault.HFault.TheVariants.{Twice}
 use Rattle.metis_place.proofs.Entries.{entries_of-insert, lookup-entries_of}
 use Rattle.metis_place.proofs.hosts_text.add_entry.Goals as goal

@@ -1,5 +1,5 @@
 use Rattle.std.proofs.Common.{◌≡◌, map, take}
-use Rattle.metis_place.specs.Entries.{entries_of, number_of}
+use Rattle.metis_place.specs.Terms.{entries_of, number_of}
 use Rattle.metis_place.proofs.hosts_text.all_sizes.Given as goal
 
 abbrev pub invariant-loop-kind : goal.invariant-loop-kind

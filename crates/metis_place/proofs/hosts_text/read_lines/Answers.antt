@@ -1,7 +1,7 @@
 use Rattle.std.proofs.Common.{◌∙◌, ◌+◌, ℕ, List, Bor, [], map, sym, ap, subst, arith, drop, get_or, ◌≡◌}
 use Rattle.std.proofs.lemmas.List.{take_rest}
 use Rattle.std.proofs.lemmas.Result.{err_from_is_err_and}
-use Rattle.metis_place.specs.HostsText.{ReadsHosts, end_from, lines_from}
+use Rattle.metis_place.specs.Terms.{ReadsHosts, end_from, lines_from}
 use Rattle.metis_place.proofs.HostsLines.{ends_here, fails_here, next_line}
 use Rattle.metis_place.proofs.HostsRead.{entries_more}
 use Rattle.metis_place.proofs.hosts_text.read_lines.Goals as goal

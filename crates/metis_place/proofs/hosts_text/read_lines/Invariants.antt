@@ -1,7 +1,6 @@
 use Rattle.std.proofs.Common.{◌≡◌, ◌+◌, drop, map}
 use Rattle.std.specs.List.{All}
-use Rattle.metis_place.specs.HostsWritten.{IsEntry}
-use Rattle.metis_place.specs.HostsText.{lines_from, nothing}
+use Rattle.metis_place.specs.Terms.{IsEntry, lines_from, nothing}
 use Rattle.metis_place.proofs.hosts_text.read_lines.Given as goal
 
 abbrev pub invariant-loop-k : goal.invariant-loop-k

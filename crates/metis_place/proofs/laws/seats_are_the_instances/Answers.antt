@@ -1,7 +1,7 @@
 use Rattle.std.proofs.lemmas.List.Elements.{All-from_recursion}
 use Rattle.metis_waits.proofs.KeptRuns.{kept_end}
-use Rattle.metis_universe.specs.Waits.{picked}
-use Rattle.metis_place.specs.Placement.{seats}
+use Rattle.metis_universe.specs.Terms.{picked}
+use Rattle.metis_place.specs.Terms.{seats}
 use Rattle.metis_place.proofs.SeatFacts.{here_is_there, seats_are_made, sizes_are}
 use Rattle.metis_place.proofs.laws.seats_are_the_instances.Goals as goal
 

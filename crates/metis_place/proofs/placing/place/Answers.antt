@@ -2,8 +2,8 @@ use Rattle.std.proofs.Common.{◌<◌, arith, length, subst, sym}
 use Rattle.std.specs.List.{All}
 use Rattle.metis_universe.proofs.Correctness.{all_from_has}
 use Rattle.metis_universe.proofs.Ranges.{in_range}
-use Rattle.metis_universe.specs.Waits.{numbers}
-use Rattle.metis_place.specs.Placement.{is_placed_at}
+use Rattle.metis_universe.specs.Terms.{numbers}
+use Rattle.metis_place.specs.Terms.{is_placed_at}
 use Rattle.metis_place.proofs.Placed.{no_more_held}
 use Rattle.metis_place.proofs.Within.{hosts_within}
 use Rattle.metis_place.proofs.placing.place.Goals as goal

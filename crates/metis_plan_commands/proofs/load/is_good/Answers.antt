@@ -1,14 +1,14 @@
 use Rattle.std.proofs.Common.{◌≡◌, ◌∙◌, false, List, ap, refl, sym, subst}
 use Rattle.std.specs.List.{All}
-use Rattle.metis_ids.specs.Plans.{Plan}
+use Rattle.metis_ids.specs.Terms.{Plan}
 use Rattle.metis_ids.specs.declared.actions.Action.{Action}
 use Rattle.metis_ids.specs.declared.goals.Goal.{Goal}
-use Rattle.metis_universe.specs.Goals.{IsGoalOf, pair_goals}
-use Rattle.metis_replay.specs.Exact.{Tells}
+use Rattle.metis_universe.specs.Terms.{IsGoalOf, pair_goals}
+use Rattle.metis_replay.specs.Terms.{Tells}
 use Rattle.metis_replay.specs.declared.verdict.Verdict.{Verdict}
 use Rattle.metis_replay.specs.declared.verdict.Verdict.TheVariants.{Good, Bad, Missing}
 use Rattle.metis_choice.proofs.GoalLists.{pairs_are_goals}
-use Rattle.metis_plan_commands.specs.Load.{is_good}
+use Rattle.metis_plan_commands.specs.Terms.{is_good}
 use Rattle.metis_plan_commands.proofs.load.is_good.Goals as goal
 use Rattle.metis_plan_commands.proofs.load.is_good.Goals.{in-Good, in_default}
 

@@ -1,7 +1,7 @@
 use Rattle.std.proofs.Common.{◌≡◌, ap, append_assoc, length, rules, string_bytes, subst}
 use Rattle.std.specs.Prelude.{IfOk}
-use Rattle.metis_ids.specs.Plans.{Plan}
-use Rattle.metis_plan_commands.specs.Load.{counts_line, load_line}
+use Rattle.metis_ids.specs.Terms.{Plan}
+use Rattle.metis_plan_commands.specs.Terms.{counts_line, load_line}
 use Rattle.metis_plan_commands.proofs.load.load_line.Goals as goal
 
 pub returns : goal.returns

@@ -1,8 +1,8 @@
 use Rattle.std.proofs.Common.{◌≡◌, ◌∙◌, ◌∷◌, [], true, ap, sym, subst}
-use Rattle.metis_outside.specs.Pieces.{IsLine}
-use Rattle.metis_output.specs.Answers.{status_for}
+use Rattle.metis_outside.specs.Terms.{IsLine}
+use Rattle.metis_output.specs.Terms.{status_for}
 use Rattle.metis_plan_commands.proofs.LoadLines.{IsLine-load_line, good_alone, loaded_by}
-use Rattle.metis_plan_commands.specs.Load.{is_good}
+use Rattle.metis_plan_commands.specs.Terms.{is_good}
 use Rattle.metis_plan_commands.proofs.load.planned_load.Goals as goal
 
 pub line_answer-requires : goal.line_answer-requires

@@ -1,5 +1,5 @@
 use Rattle.metis_output.proofs.Given.{puts}
-use Rattle.metis_plan_commands.specs.Load.{Loaded}
+use Rattle.metis_plan_commands.specs.Terms.{Loaded}
 use Rattle.metis_plan_commands.proofs.load.put.Goals as goal
 
 pub returns : goal.returns

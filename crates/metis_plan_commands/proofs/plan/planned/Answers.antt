@@ -1,7 +1,7 @@
 use Rattle.std.proofs.Common.{arith}
 use Rattle.metis_plan_commands.proofs.MadePlans.{planned_by}
 use Rattle.metis_plan_commands.proofs.PlanAnswers.{IsKnown, answer_by_plan, answer_for_goals, refused_in_words, refuses}
-use Rattle.metis_plan_commands.specs.Plan.{plan_text}
+use Rattle.metis_plan_commands.specs.Terms.{plan_text}
 use Rattle.metis_plan_commands.proofs.plan.planned.Goals as goal
 
 pub plan_over-requires-clause-few : goal.plan_over-requires-clause-few

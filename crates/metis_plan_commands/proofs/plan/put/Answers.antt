@@ -1,5 +1,5 @@
 use Rattle.metis_output.proofs.Given.{puts}
-use Rattle.metis_plan_commands.specs.Plan.{PlanAnswer}
+use Rattle.metis_plan_commands.specs.Terms.{PlanAnswer}
 use Rattle.metis_plan_commands.proofs.plan.put.Goals as goal
 
 pub returns : goal.returns

@@ -1,10 +1,8 @@
 use Rattle.std.proofs.Common.{◌≡◌, ◌∙◌, ap, subst}
 use Rattle.std.specs.List.{count_by}
 use Rattle.std.specs.Prelude.{IfOk}
-use Rattle.metis_ids.specs.Action.{makes}
-use Rattle.metis_ids.specs.Plans.{Plan}
-use Rattle.metis_plan_commands.specs.Plan.{plan_of}
-use Rattle.metis_plan_commands.specs.Planned.{IsOfPlan}
+use Rattle.metis_ids.specs.Terms.{Plan, makes}
+use Rattle.metis_plan_commands.specs.Terms.{IsOfPlan, plan_of}
 use Rattle.metis_plan_commands.proofs.plan.with_no_dups.Goals as goal
 
 pub returns-clause-plan : goal.returns-clause-plan

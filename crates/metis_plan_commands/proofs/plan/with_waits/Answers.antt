@@ -1,5 +1,5 @@
 use Rattle.std.proofs.Common.{◌≡◌, ◌∙◌, ap}
-use Rattle.metis_ids.specs.Plans.{Plan}
+use Rattle.metis_ids.specs.Terms.{Plan}
 use Rattle.metis_plan_commands.proofs.NeverLoose.{never_loose}
 use Rattle.metis_plan_commands.proofs.plan.with_waits.Goals as goal
 

@@ -1,5 +1,5 @@
 use Rattle.std.proofs.Common.{sym, subst}
-use Rattle.metis_outside.specs.Pieces.{IsLine}
+use Rattle.metis_outside.specs.Terms.{IsLine}
 use Rattle.metis_plan_commands.proofs.ObstacleLines.{IsLine-obstacle_line}
 use Rattle.metis_plan_commands.proofs.reconfigure.obstacle_once.Goals as goal
 

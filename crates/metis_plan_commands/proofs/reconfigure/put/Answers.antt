@@ -1,7 +1,7 @@
 use Rattle.std.proofs.Common.{ap}
 use Rattle.metis_inputs.specs.declared.asked.GoalsPlanAnd.{GoalsPlanAnd}
 use Rattle.metis_output.proofs.Given.{puts}
-use Rattle.metis_plan_commands.specs.Reconfigure.{Reconfigured}
+use Rattle.metis_plan_commands.specs.Terms.{Reconfigured}
 use Rattle.metis_plan_commands.proofs.reconfigure.put.Goals as goal
 
 pub answer-requires-clause-made : goal.answer-requires-clause-made

@@ -1,6 +1,6 @@
 use Rattle.metis_plan_commands.proofs.Attempts.{IsGiven, given_by, given_steadfast, given_told}
 use Rattle.metis_plan_commands.proofs.MadePlans.{attempted_by}
-use Rattle.metis_plan_commands.specs.Plan.{plan_of}
+use Rattle.metis_plan_commands.specs.Terms.{plan_of}
 use Rattle.metis_plan_commands.proofs.reconfigure.to_goals.Goals as goal
 
 pub with_no_dups-requires-clause-steadfast : goal.with_no_dups-requires-clause-steadfast

@@ -1,7 +1,7 @@
 use Rattle.std.proofs.Common.{ap}
 use Rattle.metis_inputs.specs.declared.asked.GoalsAnd.{GoalsAnd}
 use Rattle.metis_output.proofs.Given.{puts}
-use Rattle.metis_plan_commands.specs.Rollout.{RolledOut}
+use Rattle.metis_plan_commands.specs.Terms.{RolledOut}
 use Rattle.metis_plan_commands.proofs.rollout.put.Goals as goal
 
 pub answer-requires-clause-rolled : goal.answer-requires-clause-rolled

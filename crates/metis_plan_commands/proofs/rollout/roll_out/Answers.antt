@@ -1,20 +1,15 @@
 use Rattle.std.proofs.Common.{◌≡◌, ℕ, List, [], ◌∷◌, Result, Ok, Err, arith, refl}
 use Rattle.std.specs.Prelude.{IfOk}
-use Rattle.metis_choice.specs.Resolutions.{ArePairsFor}
+use Rattle.metis_choice.specs.Terms.{ArePairsFor}
 use Rattle.metis_ids.specs.declared.actions.Action.{Action}
 use Rattle.metis_ids.specs.declared.goals.Goal.{Goal}
 use Rattle.metis_ids.specs.declared.no_memory.NoMemory.{NoMemory}
 use Rattle.metis_plan_commands.proofs.PlanAnswers.{refused_in_words, refuses}
-use Rattle.metis_plan_commands.specs.Plan.{plan_text}
-use Rattle.metis_plan_commands.specs.Rollout.{RollsOut, RollsOutGoals, RollsOutPairs, RollsOutTo}
+use Rattle.metis_plan_commands.specs.Terms.{RollsOut, RollsOutGoals, RollsOutPairs, RollsOutTo, plan_text}
 use Rattle.metis_plan_commands.specs.declared.planned.Planned.{Planned}
 use Rattle.metis_plan_commands.specs.declared.planned.Planned.TheVariants.{Plan, Refusal}
-use Rattle.metis_rollout.specs.Rollout.{rollout}
-use Rattle.metis_universe.specs.Config.{Config, empty}
-use Rattle.metis_universe.specs.Goal.{Holds}
-use Rattle.metis_universe.specs.Goals.{AttainsGoals, HoldsGoals}
-use Rattle.metis_universe.specs.Step.{after_all}
-use Rattle.metis_universe.specs.Universe.{Universe}
+use Rattle.metis_rollout.specs.Terms.{rollout}
+use Rattle.metis_universe.specs.Terms.{AttainsGoals, Config, Holds, HoldsGoals, Universe, after_all, empty}
 use Rattle.metis_plan_commands.proofs.rollout.roll_out.Goals as goal
 
 no_pairs : (u : Universe) (goals : List Goal) (pairs : List ℕ) → ArePairsFor u goals pairs → goals ≡ [] → pairs ≡ []

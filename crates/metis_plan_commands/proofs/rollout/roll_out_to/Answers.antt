@@ -1,15 +1,11 @@
 use Rattle.std.proofs.Common.{◌≡◌, ◌∙◌, [], ap, refl, subst, sym}
 use Rattle.std.specs.Prelude.{IfOk}
-use Rattle.metis_ids.specs.Plans.{Plan}
-use Rattle.metis_plan_commands.specs.Planned.{IsOfPlan}
-use Rattle.metis_planner.specs.Rounds.{IsByRounds}
+use Rattle.metis_ids.specs.Terms.{Plan}
+use Rattle.metis_plan_commands.specs.Terms.{IsOfPlan, RollsOutPairs, plan_of, plan_text, rollout_plan}
+use Rattle.metis_planner.specs.Terms.{IsByRounds}
 use Rattle.metis_plan_commands.proofs.MadePlans.{rolled_by}
-use Rattle.metis_plan_commands.specs.Plan.{plan_of, plan_text}
-use Rattle.metis_plan_commands.specs.Rollout.{RollsOutPairs, rollout_plan}
-use Rattle.metis_rollout.specs.Rollout.{rollout}
-use Rattle.metis_universe.specs.Config.{empty}
-use Rattle.metis_universe.specs.Steadfast.{IsSteadfastRun}
-use Rattle.metis_universe.specs.Step.{after_all}
+use Rattle.metis_rollout.specs.Terms.{rollout}
+use Rattle.metis_universe.specs.Terms.{IsSteadfastRun, after_all, empty}
 use Rattle.metis_plan_commands.proofs.rollout.roll_out_to.Goals as goal
 
 pub returns-clause-rolls : goal.returns-clause-rolls

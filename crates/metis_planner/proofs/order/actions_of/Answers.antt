@@ -1,19 +1,17 @@
 use Rattle.std.proofs.Common.{◌≡◌, ◌∙◌, ◌<◌, List, ap, map, sym, subst, length, get_or}
 use Rattle.std.specs.Prelude.{IfOk}
 use Rattle.metis_ids.proofs.Orders.{order_sorts, order_unique}
-use Rattle.metis_ids.specs.Order.{IsOrder as IsOrderOfNodes}
+use Rattle.metis_ids.specs.Terms.{IsOrder as IsOrderOfNodes}
 use Rattle.metis_ids.specs.declared.events.Event.{Event}
 use Rattle.metis_ids.proofs.Lists.{has_at}
 use Rattle.metis_emit.proofs.Least.{least_order}
 use Rattle.metis_emit.proofs.Numbered.{least_numbers}
 use Rattle.metis_lines.proofs.Formed.{lines_formed}
-use Rattle.metis_emit.specs.Emission.{emission}
+use Rattle.metis_emit.specs.Terms.{emission}
 use Rattle.metis_events.proofs.Numbered.{graph_of_plan}
-use Rattle.metis_events.specs.Edges.{EventGraph, event_at, graph_of}
-use Rattle.metis_events.specs.Numbered.{dag_of, nth_event}
-use Rattle.metis_lines.specs.Events.{IsOrder}
-use Rattle.metis_lines.specs.LifeLines.{plan_of}
-use Rattle.metis_planner.specs.Rounds.{ordered_events}
+use Rattle.metis_events.specs.Terms.{EventGraph, dag_of, event_at, graph_of, nth_event}
+use Rattle.metis_lines.specs.Terms.{IsOrder, plan_of}
+use Rattle.metis_planner.specs.Terms.{ordered_events}
 use Rattle.metis_planner.proofs.order.actions_of.Goals as goal
 
 pub events_of-requires : goal.events_of-requires

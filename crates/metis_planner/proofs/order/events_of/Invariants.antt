@@ -1,5 +1,5 @@
 use Rattle.std.proofs.Common.{◌≡◌, map, take}
-use Rattle.metis_events.specs.Edges.{event_at}
+use Rattle.metis_events.specs.Terms.{event_at}
 use Rattle.metis_planner.proofs.order.events_of.Given as goal
 
 -- the events of the nodes so far

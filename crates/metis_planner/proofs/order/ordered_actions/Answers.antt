@@ -1,10 +1,10 @@
 use Rattle.std.proofs.Common.{◌≡◌, ◌∙◌, ap, subst}
-use Rattle.metis_ids.specs.Cycle.{HasCycle}
-use Rattle.metis_events.specs.Numbered.{dag_of}
-use Rattle.metis_lines.specs.LifeLines.{plan_of}
-use Rattle.metis_sort.specs.Sorted.{IsSorted}
+use Rattle.metis_ids.specs.Terms.{HasCycle}
+use Rattle.metis_events.specs.Terms.{dag_of}
+use Rattle.metis_lines.specs.Terms.{plan_of}
+use Rattle.metis_sort.specs.Terms.{IsSorted}
 use Rattle.metis_sort.specs.declared.sorted.Sorted.{Sorted}
-use Rattle.metis_planner.specs.Rounds.{numbered}
+use Rattle.metis_planner.specs.Terms.{numbered}
 use Rattle.metis_planner.proofs.order.ordered_actions.Goals as goal
 
 pub unreachable-requires : goal.unreachable-requires

@@ -1,14 +1,12 @@
 use Rattle.std.proofs.Common.{◌∙◌, length, refl, sym, ap, subst}
-use Rattle.metis_ids.specs.Cycle.{HasCycle}
-use Rattle.metis_support.specs.Support.{IsSupport}
-use Rattle.metis_emit.specs.Emission.{emission}
-use Rattle.metis_lines.specs.AbstractPlan.{AbstractPlan}
-use Rattle.metis_lines.specs.LifeLines.{AreLines, LifeLines}
-use Rattle.metis_lines.specs.Over.{Over, graph_over as graph_of}
+use Rattle.metis_ids.specs.Terms.{HasCycle}
+use Rattle.metis_support.specs.Terms.{IsSupport}
+use Rattle.metis_emit.specs.Terms.{emission}
+use Rattle.metis_lines.specs.Terms.{AbstractPlan, AreLines, LifeLines, Over, graph_over as graph_of}
 use Rattle.metis_planner.proofs.Forced.{support}
 use Rattle.metis_planner.proofs.Planning.{layered_each}
 use Rattle.metis_planner.proofs.UnderWay.{graph_over, lines_now}
-use Rattle.metis_planner.specs.Rounds.{numbered, ordered_events}
+use Rattle.metis_planner.specs.Terms.{numbered, ordered_events}
 use Rattle.metis_planner.proofs.planner.ordered_plan.Goals as goal
 
 pub over-over-requires-clause-support : goal.over-over-requires-clause-support

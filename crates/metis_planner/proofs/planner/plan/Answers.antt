@@ -1,12 +1,11 @@
 use Rattle.std.proofs.Common.{◌∙◌, List, Ok, refl, sym, ap, subst, ℕ}
 use Rattle.std.proofs.lemmas.Bool.{false≢true}
-use Rattle.metis_choice.specs.Choices.{IfLacks, IsFirstWithout}
+use Rattle.metis_choice.specs.Terms.{IfLacks, IsFirstWithout}
 use Rattle.metis_choice.specs.declared.choice.Choice.{Choice}
 use Rattle.metis_universe.proofs.Inside.{refused}
-use Rattle.metis_universe.specs.Closed.{Refusal}
-use Rattle.metis_universe.specs.Goal.{IsAttainedSet}
+use Rattle.metis_universe.specs.Terms.{IsAttainedSet, Refusal}
 use Rattle.metis_layers.proofs.Order.{attained_set}
-use Rattle.metis_layers.specs.LayerOrder.{attained_pairs}
+use Rattle.metis_layers.specs.Terms.{attained_pairs}
 use Rattle.metis_planner.proofs.Planning.{refuses}
 use Rattle.metis_planner.proofs.planner.plan.Goals as goal
 use Rattle.metis_choice.proofs.Lacking.{lacking_low}

@@ -1,18 +1,14 @@
 use Rattle.std.proofs.Common.{◌≡◌, ◌∙◌, ◌∷◌, ◌++◌, [], sym, ap, subst}
 use Rattle.std.specs.Prelude.{IsTrue}
-use Rattle.metis_ids.specs.Cycle.{HasCycle}
-use Rattle.metis_support.specs.Support.{IsSupport, is_selected, support_of}
-use Rattle.metis_lines.specs.AbstractPlan.{AbstractPlan}
-use Rattle.metis_lines.specs.LifeLines.{lines_of}
-use Rattle.metis_rounds.specs.Forced.{IsForced}
-use Rattle.metis_rounds.specs.Round.{IsRoundOf}
-use Rattle.metis_rounds.specs.Rounds.{RoundsState, graph_now}
+use Rattle.metis_ids.specs.Terms.{HasCycle}
+use Rattle.metis_support.specs.Terms.{IsSupport, is_selected, support_of}
+use Rattle.metis_lines.specs.Terms.{AbstractPlan, lines_of}
+use Rattle.metis_rounds.specs.Terms.{IsForced, IsRoundOf, RoundsState, graph_now}
 use Rattle.metis_rounds.specs.declared.rounds.Round.{Round}
 use Rattle.metis_planner.proofs.Forced.{support, targets}
 use Rattle.metis_planner.proofs.Planning.{layered_each}
 use Rattle.metis_planner.proofs.UnderWay.{graph_over, with_dup}
-use Rattle.metis_planner.specs.Rounds.{graph_after, numbered}
-use Rattle.metis_planner.specs.UnderWay.{IsUnderWay}
+use Rattle.metis_planner.specs.Terms.{IsUnderWay, graph_after, numbered}
 use Rattle.metis_planner.proofs.planner.plan_by_rounds.Goals as goal
 
 pub new-requires-clause-support : goal.new-requires-clause-support

@@ -1,6 +1,6 @@
 use Rattle.std.proofs.Common.{◌≡◌}
-use Rattle.metis_lines.specs.LifeLines.{loose}
-use Rattle.metis_planner.specs.UnderWay.{IsUnderWay}
+use Rattle.metis_lines.specs.Terms.{loose}
+use Rattle.metis_planner.specs.Terms.{IsUnderWay}
 use Rattle.metis_planner.proofs.planner.plan_by_rounds.Given as goal
 
 abbrev pub invariant-loop-dups : goal.invariant-loop-dups

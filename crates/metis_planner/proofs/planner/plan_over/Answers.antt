@@ -1,6 +1,6 @@
 use Rattle.std.specs.Prelude.{IsSome}
 use Rattle.metis_ids.proofs.Lists.{all_from}
-use Rattle.metis_universe.specs.Layers.{layer_of}
+use Rattle.metis_universe.specs.Terms.{layer_of}
 use Rattle.metis_planner.proofs.Ending.{attained_layered}
 use Rattle.metis_planner.proofs.planner.plan_over.Goals as goal
 

@@ -1,6 +1,6 @@
 use Rattle.std.proofs.Common.{◌<◌, ◌≤◌, length}
 use Rattle.std.specs.List.{All}
-use Rattle.metis_universe.specs.Universe.{pair_count}
+use Rattle.metis_universe.specs.Terms.{pair_count}
 use Rattle.metis_probe.proofs.goals.targets_in.Given as goal
 
 abbrev pub invariant-loop-word : goal.invariant-loop-word

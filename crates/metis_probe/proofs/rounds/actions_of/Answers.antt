@@ -1,10 +1,8 @@
 use Rattle.std.proofs.Common.{◌∙◌, ◌<◌, ap, map, sym, subst, length, get_or}
-use Rattle.metis_ids.specs.Order.{IsOrder as IsOrderOfNodes}
+use Rattle.metis_ids.specs.Terms.{IsOrder as IsOrderOfNodes}
 use Rattle.metis_ids.proofs.Lists.{has_at}
-use Rattle.metis_lines.specs.Events.{IsOrder}
-use Rattle.metis_lines.specs.LifeLines.{plan_of}
-use Rattle.metis_events.specs.Edges.{EventGraph, event_at, graph_of}
-use Rattle.metis_events.specs.Numbered.{IsGraphOf, dag_of, nth_event}
+use Rattle.metis_lines.specs.Terms.{IsOrder, plan_of}
+use Rattle.metis_events.specs.Terms.{EventGraph, IsGraphOf, dag_of, event_at, graph_of, nth_event}
 use Rattle.metis_lines.proofs.Formed.{lines_formed}
 use Rattle.metis_probe.proofs.rounds.actions_of.Goals as goal
 

@@ -1,8 +1,8 @@
 use Rattle.std.proofs.Common.{◌≡◌, ◌∙◌, ℕ, Ok, sym, subst, true}
-use Rattle.metis_choice.specs.Choices.{IfSupport}
+use Rattle.metis_choice.specs.Terms.{IfSupport}
 use Rattle.metis_choice.specs.declared.choice.Choice.{Choice}
-use Rattle.metis_support.specs.Support.{is_selected}
-use Rattle.metis_universe.specs.Universe.{has}
+use Rattle.metis_support.specs.Terms.{is_selected}
+use Rattle.metis_universe.specs.Terms.{has}
 use Rattle.metis_probe.proofs.rounds.write_counts.Goals as goal
 
 pub counts-requires-clause-selected : goal.counts-requires-clause-selected

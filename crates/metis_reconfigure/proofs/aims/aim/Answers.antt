@@ -1,9 +1,7 @@
 use Rattle.std.proofs.Common.{◌≡◌, ◌<◌, ◌≤◌, ◌^◌, length, arith, ap, sym, subst, ◌∙◌}
 use Rattle.std.specs.List.{filter}
-use Rattle.metis_rollout.specs.Rollout.{members}
-use Rattle.metis_reconfigure.specs.Aims.{AreAims}
-use Rattle.metis_reconfigure.specs.Missing.{rebound_in}
-use Rattle.metis_reconfigure.specs.Settled.{left_to_plan}
+use Rattle.metis_rollout.specs.Terms.{members}
+use Rattle.metis_reconfigure.specs.Terms.{AreAims, left_to_plan, rebound_in}
 use Rattle.metis_reconfigure.proofs.Aiming.{are_aims, barred_needs, barred_unavoidable, barred_unmet, first_is, given_few, missing_within, over_left, tables}
 use Rattle.metis_reconfigure.proofs.aims.aim.Goals as goal
 

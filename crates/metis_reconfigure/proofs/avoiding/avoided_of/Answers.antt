@@ -1,6 +1,6 @@
 use Rattle.std.proofs.Common.{sym, ◌∙◌}
 use Rattle.metis_layers.proofs.Sets.{kept_in, left_out}
-use Rattle.metis_wishes.specs.Wishes.{is_avoided}
+use Rattle.metis_wishes.specs.Terms.{is_avoided}
 use Rattle.metis_reconfigure.proofs.avoiding.avoided_of.Goals as goal
 use Rattle.metis_reconfigure.proofs.avoiding.avoided_of.Goals.{then-is_avoided, else-is_avoided}
 

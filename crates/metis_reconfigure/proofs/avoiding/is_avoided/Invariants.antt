@@ -1,6 +1,6 @@
 use Rattle.std.proofs.Common.{◌≡◌, drop}
 use Rattle.std.specs.List.{list_any}
-use Rattle.metis_wishes.specs.Wishes.{avoids, is_avoided}
+use Rattle.metis_wishes.specs.Terms.{avoids, is_avoided}
 use Rattle.metis_reconfigure.proofs.avoiding.is_avoided.Given as goal
 
 -- it is avoided if one of the wishes that are left avoids it

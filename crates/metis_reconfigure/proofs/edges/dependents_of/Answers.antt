@@ -1,8 +1,7 @@
 use Rattle.std.proofs.Common.{◌&&◌, not, sym, ◌∙◌}
-use Rattle.metis_rollout.specs.Rollout.{is_idle}
-use Rattle.metis_universe.specs.Universe.{has}
-use Rattle.metis_reconfigure.specs.Reached.{has_edge}
-use Rattle.metis_reconfigure.specs.Settled.{dependents}
+use Rattle.metis_rollout.specs.Terms.{is_idle}
+use Rattle.metis_universe.specs.Terms.{has}
+use Rattle.metis_reconfigure.specs.Terms.{dependents, has_edge}
 use Rattle.metis_reconfigure.proofs.Edging.{edge_taken}
 use Rattle.metis_reconfigure.proofs.edges.dependents_of.Goals as goal
 

@@ -1,9 +1,8 @@
 use Rattle.std.proofs.Common.{◌&&◌, not, sym, ap, ◌∙◌}
 use Rattle.std.proofs.lemmas.Bool.{and_from}
-use Rattle.metis_rollout.specs.Rollout.{is_idle}
-use Rattle.metis_universe.specs.Universe.{has}
-use Rattle.metis_reconfigure.specs.Reached.{has_edge}
-use Rattle.metis_reconfigure.specs.Staying.{holds_up}
+use Rattle.metis_rollout.specs.Terms.{is_idle}
+use Rattle.metis_universe.specs.Terms.{has}
+use Rattle.metis_reconfigure.specs.Terms.{has_edge, holds_up}
 use Rattle.metis_reconfigure.proofs.Edging.{edge_taken}
 use Rattle.metis_reconfigure.proofs.edges.holds_up_of.Goals as goal
 

@@ -2,7 +2,7 @@ use Rattle.std.proofs.Common.{ℕ, ◌≡◌, ◌+◌, ◌<◌, ◌∷◌, ◌++
 use Rattle.std.specs.List.{range_with_len}
 use Rattle.std.proofs.lemmas.List.{map-append}
 use Rattle.std.proofs.lemmas.List.FromFn.{length-map-range_with_len}
-use Rattle.metis_completion.specs.Given.{given_in}
+use Rattle.metis_completion.specs.Terms.{given_in}
 use Rattle.metis_ids.proofs.Lists.{range_more}
 use Rattle.metis_reconfigure.proofs.GivenRows.{counted_at}
 use Rattle.metis_reconfigure.proofs.giving.counts_of.Goals as goal

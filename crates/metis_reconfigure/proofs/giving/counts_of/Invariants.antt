@@ -1,6 +1,6 @@
 use Rattle.std.proofs.Common.{◌≡◌, length, map}
 use Rattle.std.specs.List.{range_with_len}
-use Rattle.metis_completion.specs.Given.{given_in}
+use Rattle.metis_completion.specs.Terms.{given_in}
 use Rattle.metis_reconfigure.proofs.giving.counts_of.Given as goal
 
 abbrev pub invariant-loop-number : goal.invariant-loop-number

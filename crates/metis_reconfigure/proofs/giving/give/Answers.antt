@@ -1,9 +1,9 @@
 use Rattle.std.proofs.Common.{◌<◌, ◌++◌, ◌∷◌, [], length, arith, ap, ◌∙◌}
 use Rattle.metis_completion.proofs.Front.{rising_differ}
-use Rattle.metis_completion.specs.Given.{given_in}
+use Rattle.metis_completion.specs.Terms.{given_in}
 use Rattle.metis_ids.proofs.Lists.{has_at}
 use Rattle.metis_layers.proofs.Ways.{all_has}
-use Rattle.metis_universe.specs.Universe.{has, port_count}
+use Rattle.metis_universe.specs.Terms.{has, port_count}
 use Rattle.metis_reconfigure.proofs.GivenRows.{given_to_one, length_set}
 use Rattle.metis_reconfigure.proofs.giving.give.Goals as goal
 

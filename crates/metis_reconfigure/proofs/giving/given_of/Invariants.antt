@@ -1,5 +1,5 @@
 use Rattle.std.proofs.Common.{◌≡◌, length}
-use Rattle.metis_universe.specs.Universe.{port_count}
+use Rattle.metis_universe.specs.Terms.{port_count}
 use Rattle.metis_reconfigure.proofs.GivenRows.{AreGivenSoFar}
 use Rattle.metis_reconfigure.proofs.giving.given_of.Given as goal
 

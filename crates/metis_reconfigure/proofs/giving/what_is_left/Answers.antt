@@ -1,7 +1,6 @@
 use Rattle.std.proofs.Common.{◌≡◌, length, ap, subst, ◌∙◌}
 use Rattle.std.specs.Prelude.{IfOk}
-use Rattle.metis_universe.specs.Residual.{residual}
-use Rattle.metis_universe.specs.Universe.{Universe}
+use Rattle.metis_universe.specs.Terms.{Universe, residual}
 use Rattle.metis_reconfigure.proofs.giving.what_is_left.Goals as goal
 
 pub returns : goal.returns

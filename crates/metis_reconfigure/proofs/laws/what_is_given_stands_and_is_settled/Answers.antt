@@ -1,6 +1,6 @@
 use Rattle.metis_rollout.proofs.Going.{going_from_steady}
 use Rattle.metis_rollout.proofs.Removal.{left_config}
-use Rattle.metis_reconfigure.specs.Reconfiguration.{left_by}
+use Rattle.metis_reconfigure.specs.Terms.{left_by}
 use Rattle.metis_reconfigure.proofs.Given.{given_ones, given_settled, given_unavoided}
 use Rattle.metis_reconfigure.proofs.laws.what_is_given_stands_and_is_settled.Goals as goal
 

@@ -2,8 +2,8 @@ use Rattle.std.proofs.Common.{◌+◌, drop, sym, ap, ◌∙◌}
 use Rattle.std.specs.List.{filter_map, find}
 use Rattle.std.specs.Option.{option_or}
 use Rattle.std.proofs.lemmas.List.{drop_all}
-use Rattle.metis_wishes.specs.Wishes.{instance_of, subject_of}
-use Rattle.metis_reconfigure.specs.Answerable.{is_absent}
+use Rattle.metis_wishes.specs.Terms.{instance_of, subject_of}
+use Rattle.metis_reconfigure.specs.Terms.{is_absent}
 use Rattle.metis_reconfigure.proofs.Picking.{first_named}
 use Rattle.metis_reconfigure.proofs.leaving.first_absent.Goals as goal
 

@@ -1,8 +1,7 @@
 use Rattle.std.proofs.Common.{◌≡◌, drop}
 use Rattle.std.specs.List.{filter_map, find}
-use Rattle.metis_wishes.specs.Wishes.{instance_of, subject_of}
-use Rattle.metis_reconfigure.specs.Answerable.{is_absent}
-use Rattle.metis_reconfigure.specs.Answers.{absent}
+use Rattle.metis_wishes.specs.Terms.{instance_of, subject_of}
+use Rattle.metis_reconfigure.specs.Terms.{absent, is_absent}
 use Rattle.metis_reconfigure.proofs.leaving.first_absent.Given as goal
 
 -- none before this one

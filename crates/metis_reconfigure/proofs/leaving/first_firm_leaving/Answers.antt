@@ -2,8 +2,8 @@ use Rattle.std.proofs.Common.{ℕ, Bool, ◌≡◌, ◌+◌, ◌&&◌, ◌||◌,
 use Rattle.std.specs.List.{filter_map, find}
 use Rattle.std.specs.Option.{option_or}
 use Rattle.std.proofs.lemmas.List.{drop_all}
-use Rattle.metis_universe.specs.Universe.{has}
-use Rattle.metis_wishes.specs.Wishes.{instance_of, named, subject_of}
+use Rattle.metis_universe.specs.Terms.{has}
+use Rattle.metis_wishes.specs.Terms.{instance_of, named, subject_of}
 use Rattle.metis_reconfigure.proofs.Picking.{first_named}
 use Rattle.metis_reconfigure.proofs.leaving.first_firm_leaving.Goals as goal
 

@@ -1,8 +1,8 @@
 use Rattle.std.proofs.Common.{◌≡◌, ◌&&◌, ◌||◌, drop}
 use Rattle.std.specs.List.{filter_map, find}
-use Rattle.metis_universe.specs.Universe.{has}
-use Rattle.metis_wishes.specs.Wishes.{instance_of, subject_of}
-use Rattle.metis_reconfigure.specs.Answers.{firm_leaving}
+use Rattle.metis_universe.specs.Terms.{has}
+use Rattle.metis_wishes.specs.Terms.{instance_of, subject_of}
+use Rattle.metis_reconfigure.specs.Terms.{firm_leaving}
 use Rattle.metis_reconfigure.proofs.leaving.first_firm_leaving.Given as goal
 
 -- none before this one

@@ -1,8 +1,8 @@
 use Rattle.std.proofs.Common.{◌≡◌, ◌&&◌}
 use Rattle.std.specs.List.{find}
 use Rattle.std.specs.Map.{keys_of}
-use Rattle.metis_rollout.specs.Rollout.{members}
-use Rattle.metis_universe.specs.Universe.{has}
+use Rattle.metis_rollout.specs.Terms.{members}
+use Rattle.metis_universe.specs.Terms.{has}
 use Rattle.metis_reconfigure.proofs.leaving.least_among.Given as goal
 
 -- none before this one

@@ -1,7 +1,6 @@
 use Rattle.std.proofs.Common.{ap, ◌∙◌}
-use Rattle.metis_wishes.specs.Wishes.{rebound}
-use Rattle.metis_reconfigure.specs.Reached.{has_edge}
-use Rattle.metis_reconfigure.specs.Settled.{dependents, roots}
+use Rattle.metis_wishes.specs.Terms.{rebound}
+use Rattle.metis_reconfigure.specs.Terms.{dependents, has_edge, roots}
 use Rattle.metis_reconfigure.proofs.Roots.{are_reached_same, dependents_same}
 use Rattle.metis_reconfigure.proofs.leaving.leaving_of.Goals as goal
 

@@ -1,6 +1,6 @@
 use Rattle.std.proofs.Common.{sym, ◌∙◌}
-use Rattle.metis_universe.specs.Universe.{has}
-use Rattle.metis_reconfigure.specs.Settled.{is_root, roots}
+use Rattle.metis_universe.specs.Terms.{has}
+use Rattle.metis_reconfigure.specs.Terms.{is_root, roots}
 use Rattle.metis_reconfigure.proofs.Picking.{picked_none, picked_one}
 use Rattle.metis_reconfigure.proofs.Roots.{root_tested}
 use Rattle.metis_reconfigure.proofs.leaving.roots_of.Goals as goal

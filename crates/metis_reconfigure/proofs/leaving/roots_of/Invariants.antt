@@ -1,5 +1,5 @@
-use Rattle.metis_universe.specs.Universe.{has}
-use Rattle.metis_reconfigure.specs.Settled.{is_root, roots}
+use Rattle.metis_universe.specs.Terms.{has}
+use Rattle.metis_reconfigure.specs.Terms.{is_root, roots}
 use Rattle.metis_reconfigure.proofs.Picking.{ArePicked}
 use Rattle.metis_reconfigure.proofs.leaving.roots_of.Given as goal
 

@@ -1,10 +1,9 @@
 use Rattle.std.proofs.Common.{◌∷◌, [], ap, ◌∙◌}
 use Rattle.std.specs.BTreeSet.{insert_key}
 use Rattle.std.specs.Ordering.{nat_cmp}
-use Rattle.metis_universe.specs.Universe.{has}
-use Rattle.metis_wishes.specs.Wishes.{rebound}
-use Rattle.metis_reconfigure.specs.Reached.{has_edge}
-use Rattle.metis_reconfigure.specs.Settled.{leads_up}
+use Rattle.metis_universe.specs.Terms.{has}
+use Rattle.metis_wishes.specs.Terms.{rebound}
+use Rattle.metis_reconfigure.specs.Terms.{has_edge, leads_up}
 use Rattle.metis_reconfigure.proofs.Roots.{are_reached_same, leads_up_same}
 use Rattle.metis_reconfigure.proofs.leaving.under_of.Goals as goal
 

@@ -1,4 +1,4 @@
-use Rattle.metis_reconfigure.specs.Settled.{settled}
+use Rattle.metis_reconfigure.specs.Terms.{settled}
 use Rattle.metis_reconfigure.proofs.MissingGoals.{AreMissing}
 use Rattle.metis_reconfigure.proofs.missing.missing_of.Given as goal
 

@@ -1,5 +1,5 @@
 use Rattle.std.proofs.Common.{ℕ, List, ◌+◌, ◌*◌, length}
-use Rattle.metis_reconfigure.specs.Reached.{Edge, IsUnderWay}
+use Rattle.metis_reconfigure.specs.Terms.{Edge, IsUnderWay}
 use Rattle.metis_reconfigure.proofs.reach.follow_all.Given as goal
 
 abbrev pub invariant-instances : goal.invariant-instances

@@ -1,5 +1,5 @@
 use Rattle.std.proofs.Common.{refl, ap, sym, ◌∙◌, arith, inl, inr}
-use Rattle.metis_ids.specs.Lists.{has}
+use Rattle.metis_ids.specs.Terms.{has}
 use Rattle.metis_universe.proofs.Ascending.{has-insert_key}
 use Rattle.metis_reconfigure.proofs.Reaching.{first_edge, following-begin, following-end, following-next, no_edge, shorter, there_again}
 use Rattle.metis_reconfigure.proofs.reach.follow_from.Goals as goal

@@ -1,6 +1,6 @@
 use Rattle.std.proofs.Common.{◌≡◌, ◌∷◌, [], ap, ◌∙◌, rules}
 use Rattle.std.proofs.lemmas.Result.{on_ok_weaker}
-use Rattle.metis_ids.specs.Lists.{has}
+use Rattle.metis_ids.specs.Terms.{has}
 use Rattle.metis_universe.proofs.Ascending.{has-insert_key}
 use Rattle.metis_reconfigure.proofs.Reaching.{under_way-again}
 use Rattle.metis_reconfigure.proofs.reach.reach_too.Goals as goal

@@ -1,7 +1,7 @@
 use Rattle.std.proofs.Common.{◌≡◌, ℕ, ◌<◌, ◌≤◌, get_or, length, sym, ap, ◌∙◌, subst}
 use Rattle.std.specs.List.{filter}
-use Rattle.metis_completion.specs.Given.{given_in}
-use Rattle.metis_universe.specs.Universe.{provides}
+use Rattle.metis_completion.specs.Terms.{given_in}
+use Rattle.metis_universe.specs.Terms.{provides}
 use Rattle.metis_reconfigure.proofs.Rebinds.{all_candidates, gives_not, is_other, next_chosen, passes_not}
 use Rattle.metis_reconfigure.proofs.rebinding.candidates.Goals as goal
 use Rattle.metis_reconfigure.proofs.rebinding.candidates.Goals.{then-serves+then-is_other-2+in_ok-push-2, else-serves, else-serves-via-then-serves+else-is_other-2, else-serves-via-else-serves}

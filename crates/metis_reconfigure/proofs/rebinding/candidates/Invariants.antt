@@ -1,7 +1,7 @@
 use Rattle.std.proofs.Common.{◌≡◌, ◌++◌, take}
 use Rattle.std.specs.List.{filter}
-use Rattle.metis_completion.specs.Given.{given_in}
-use Rattle.metis_universe.specs.Universe.{provides}
+use Rattle.metis_completion.specs.Terms.{given_in}
+use Rattle.metis_universe.specs.Terms.{provides}
 use Rattle.metis_reconfigure.proofs.Rebinds.{chosen, is_other}
 use Rattle.metis_reconfigure.proofs.rebinding.candidates.Given as goal
 

@@ -1,7 +1,6 @@
 use Rattle.std.proofs.Common.{◌≡◌, ◌++◌, map, take, sym, ap, ◌∙◌}
 use Rattle.metis_ids.specs.declared.actions.Action.TheVariants.{Bind}
-use Rattle.metis_reconfigure.specs.Missing.{lack}
-use Rattle.metis_reconfigure.specs.Rebinding.{rebinds_at}
+use Rattle.metis_reconfigure.specs.Terms.{lack, rebinds_at}
 use Rattle.metis_reconfigure.proofs.Rebinds.{all_ports, bound_at, next_appended, none_at}
 use Rattle.metis_reconfigure.proofs.rebinding.rebind.Goals as goal
 use Rattle.metis_reconfigure.proofs.rebinding.rebind.Goals.{then-lack-gt0+in_ok-others+in_ok-bind_first, else-lack-gt0}

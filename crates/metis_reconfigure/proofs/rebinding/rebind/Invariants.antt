@@ -1,8 +1,7 @@
 use Rattle.std.proofs.Common.{◌≡◌, ℕ, List, ◌++◌, take}
 use Rattle.std.specs.Prelude.{flat_map}
-use Rattle.metis_completion.specs.Given.{given_in}
-use Rattle.metis_reconfigure.specs.Rebinding.{named_targets, rebinds_at}
-use Rattle.metis_reconfigure.specs.Settled.{given}
+use Rattle.metis_completion.specs.Terms.{given_in}
+use Rattle.metis_reconfigure.specs.Terms.{given, named_targets, rebinds_at}
 use Rattle.metis_reconfigure.proofs.rebinding.rebind.Given as goal
 
 abbrev pub invariant-loop-port : goal.invariant-loop-port

@@ -1,4 +1,4 @@
-use Rattle.metis_reconfigure.specs.Rebinding.{rebinds_of}
+use Rattle.metis_reconfigure.specs.Terms.{rebinds_of}
 use Rattle.metis_reconfigure.proofs.Rebinds.{all_appended, next_appended}
 use Rattle.metis_reconfigure.proofs.rebinding.rebind_all.Goals as goal
 

@@ -1,6 +1,6 @@
 use Rattle.std.specs.List.{filter}
-use Rattle.metis_rollout.specs.Rollout.{members}
-use Rattle.metis_universe.specs.Universe.{has}
+use Rattle.metis_rollout.specs.Terms.{members}
+use Rattle.metis_universe.specs.Terms.{has}
 use Rattle.metis_reconfigure.proofs.Choosing.{IsSoFar}
 use Rattle.metis_reconfigure.proofs.rebinding.rebound_in.Given as goal
 

@@ -1,15 +1,12 @@
 use Rattle.std.proofs.Common.{◌≡◌, ◌++◌, ◌<◌, ◌≤◌, ℕ, [], length, map, arith, subst, sym, ap, ◌∙◌}
 use Rattle.std.specs.Prelude.{IsTrue}
 use Rattle.std.specs.List.{All, flat_map}
-use Rattle.metis_completion.specs.Completed.{completed}
-use Rattle.metis_completion.specs.Given.{given_in}
-use Rattle.metis_ids.specs.Plans.{Plan}
-use Rattle.metis_rollout.specs.Rollout.{free_number, fresh_name, named, news_of, renumbered}
-use Rattle.metis_universe.specs.Numbers.{IsOf}
-use Rattle.metis_universe.specs.Universe.{has}
-use Rattle.metis_wishes.specs.Wishes.{avoided}
-use Rattle.metis_reconfigure.specs.Rebinding.{named_targets, rebinds_of}
-use Rattle.metis_reconfigure.specs.Settled.{given, left_to_plan}
+use Rattle.metis_completion.specs.Terms.{completed, given_in}
+use Rattle.metis_ids.specs.Terms.{Plan}
+use Rattle.metis_rollout.specs.Terms.{free_number, fresh_name, named, news_of, renumbered}
+use Rattle.metis_universe.specs.Terms.{IsOf, has}
+use Rattle.metis_wishes.specs.Terms.{avoided}
+use Rattle.metis_reconfigure.specs.Terms.{given, left_to_plan, named_targets, rebinds_of}
 use Rattle.metis_reconfigure.proofs.Aiming.{aims_layered, all_low, layered_attained}
 use Rattle.metis_reconfigure.proofs.Making.{all_of, made_beside}
 use Rattle.metis_reconfigure.proofs.reconfiguring.make_beside.Goals as goal

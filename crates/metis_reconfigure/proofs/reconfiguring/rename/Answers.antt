@@ -1,9 +1,9 @@
 use Rattle.std.proofs.Common.{◌≡◌, ◌+◌, ◌++◌, ℕ, Some, nat_eq, true, length, map, arith, ap, ◌∙◌}
 use Rattle.std.specs.Map.{lookup}
-use Rattle.metis_layers.specs.LayerOrder.{place_of}
+use Rattle.metis_layers.specs.Terms.{place_of}
 use Rattle.metis_rollout.proofs.Listed.{renamed}
-use Rattle.metis_rollout.specs.Rollout.{free_number, named, news_of, renumber}
-use Rattle.metis_universe.specs.Universe.{has}
+use Rattle.metis_rollout.specs.Terms.{free_number, named, news_of, renumber}
+use Rattle.metis_universe.specs.Terms.{has}
 use Rattle.metis_reconfigure.proofs.Making.{name_found}
 use Rattle.metis_reconfigure.proofs.reconfiguring.rename.Goals as goal
 

@@ -1,9 +1,8 @@
 use Rattle.std.proofs.Common.{◌≡◌, true, false, not, ◌||◌, sym, ◌∙◌, rules}
 use Rattle.std.specs.Prelude.{is_none}
-use Rattle.metis_rollout.specs.Rollout.{members}
-use Rattle.metis_universe.specs.Config.{pair_of}
-use Rattle.metis_universe.specs.Universe.{has}
-use Rattle.metis_reconfigure.specs.Staying.{fresh_in}
+use Rattle.metis_rollout.specs.Terms.{members}
+use Rattle.metis_universe.specs.Terms.{has, pair_of}
+use Rattle.metis_reconfigure.specs.Terms.{fresh_in}
 use Rattle.metis_reconfigure.proofs.Choosing.{one_skipped, one_taken}
 use Rattle.metis_reconfigure.proofs.WhatStays.{not_member}
 use Rattle.metis_reconfigure.proofs.staying.add_fresh.Goals as goal

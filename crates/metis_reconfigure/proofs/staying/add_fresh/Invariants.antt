@@ -1,7 +1,7 @@
 use Rattle.std.proofs.Common.{not, ◌||◌}
-use Rattle.metis_rollout.specs.Rollout.{members}
-use Rattle.metis_universe.specs.Universe.{has}
-use Rattle.metis_reconfigure.specs.Staying.{fresh_in}
+use Rattle.metis_rollout.specs.Terms.{members}
+use Rattle.metis_universe.specs.Terms.{has}
+use Rattle.metis_reconfigure.specs.Terms.{fresh_in}
 use Rattle.metis_reconfigure.proofs.Choosing.{AreSoFar}
 use Rattle.metis_reconfigure.proofs.staying.add_fresh.Given as goal
 

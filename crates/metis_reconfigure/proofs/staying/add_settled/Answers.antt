@@ -1,6 +1,6 @@
 use Rattle.std.proofs.Common.{not, ◌||◌, sym, ap, ◌∙◌}
-use Rattle.metis_universe.specs.Universe.{has}
-use Rattle.metis_reconfigure.specs.Settled.{settled}
+use Rattle.metis_universe.specs.Terms.{has}
+use Rattle.metis_reconfigure.specs.Terms.{settled}
 use Rattle.metis_reconfigure.proofs.Choosing.{one_skipped, one_taken}
 use Rattle.metis_reconfigure.proofs.staying.add_settled.Goals as goal
 

@@ -1,5 +1,5 @@
 use Rattle.std.proofs.Common.{◌≡◌}
-use Rattle.metis_reconfigure.specs.Staying.{next_serving}
+use Rattle.metis_reconfigure.specs.Terms.{next_serving}
 use Rattle.metis_reconfigure.proofs.WhatStays.{first_next}
 use Rattle.metis_reconfigure.proofs.staying.next_serving.Given as goal
 

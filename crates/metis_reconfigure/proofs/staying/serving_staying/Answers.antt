@@ -1,5 +1,5 @@
 use Rattle.std.proofs.Common.{◌∙◌}
-use Rattle.metis_universe.specs.Universe.{has}
+use Rattle.metis_universe.specs.Terms.{has}
 use Rattle.metis_reconfigure.proofs.MissingGoals.{serving_counted}
 use Rattle.metis_reconfigure.proofs.staying.serving_staying.Goals as goal
 

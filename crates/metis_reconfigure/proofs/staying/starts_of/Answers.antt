@@ -1,5 +1,5 @@
 use Rattle.std.proofs.Common.{sym, ap, ◌∙◌}
-use Rattle.metis_universe.specs.Universe.{has}
+use Rattle.metis_universe.specs.Terms.{has}
 use Rattle.metis_reconfigure.proofs.WhatStays.{all_starts, not_held, too_held}
 use Rattle.metis_reconfigure.proofs.staying.starts_of.Goals as goal
 use Rattle.metis_reconfigure.proofs.staying.starts_of.Goals.{then-keeps_all+in_ok-add_settled, else-keeps_all}

@@ -1,8 +1,7 @@
 use Rattle.std.proofs.Common.{◌≡◌, take, nat_le, sym, ◌∙◌}
 use Rattle.std.proofs.lemmas.Bool.{le-leb, lt-leb}
-use Rattle.metis_universe.specs.Goals.{places_of}
-use Rattle.metis_reconfigure.specs.Missing.{serving_among}
-use Rattle.metis_reconfigure.specs.Staying.{holds_up, those_in}
+use Rattle.metis_universe.specs.Terms.{places_of}
+use Rattle.metis_reconfigure.specs.Terms.{holds_up, serving_among, those_in}
 use Rattle.metis_reconfigure.proofs.WhatStays.{enough_stay, none_is_left, one_stays, staying-begin, staying-end, staying-next}
 use Rattle.metis_reconfigure.proofs.staying.staying_of.Goals as goal
 use Rattle.metis_reconfigure.proofs.staying.staying_of.Goals.{then-serving_staying-places_of+in-Some+in_ok-reach_too, then-serving_staying-places_of+in_default, else-serving_staying-places_of}

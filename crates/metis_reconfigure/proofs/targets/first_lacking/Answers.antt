@@ -2,7 +2,7 @@ use Rattle.std.proofs.Common.{◌≡◌, ◌+◌, ◌<◌, ◌≤◌, true, fals
 use Rattle.std.proofs.lemmas.Bool.{le-ltb, lt-ltb}
 use Rattle.std.proofs.lemmas.List.{drop_more}
 use Rattle.std.specs.List.{find}
-use Rattle.metis_reconfigure.specs.Targeted.{is_lacking, lack_by}
+use Rattle.metis_reconfigure.specs.Terms.{is_lacking, lack_by}
 use Rattle.metis_reconfigure.proofs.Tables.{not_among}
 use Rattle.metis_reconfigure.proofs.targets.first_lacking.Goals as goal
 

@@ -1,6 +1,6 @@
 use Rattle.std.proofs.Common.{◌≡◌, drop}
 use Rattle.std.specs.List.{find}
-use Rattle.metis_reconfigure.specs.Targeted.{is_lacking}
+use Rattle.metis_reconfigure.specs.Terms.{is_lacking}
 use Rattle.metis_reconfigure.proofs.targets.first_lacking.Given as goal
 
 -- none before this one

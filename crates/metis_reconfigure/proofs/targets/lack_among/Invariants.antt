@@ -1,7 +1,7 @@
 use Rattle.std.proofs.Common.{◌≡◌, ◌-◌, take}
 use Rattle.std.specs.List.{count_by}
-use Rattle.metis_config.specs.Unmet.{demanded}
-use Rattle.metis_universe.specs.Config.{is_bound}
+use Rattle.metis_config.specs.Terms.{demanded}
+use Rattle.metis_universe.specs.Terms.{is_bound}
 use Rattle.metis_reconfigure.proofs.targets.lack_among.Given as goal
 
 abbrev pub invariant-loop-y : goal.invariant-loop-y

@@ -1,5 +1,5 @@
 use Rattle.std.proofs.Common.{ap, ◌∙◌}
-use Rattle.metis_reconfigure.specs.Targeted.{lack_by}
+use Rattle.metis_reconfigure.specs.Terms.{lack_by}
 use Rattle.metis_reconfigure.proofs.targets.lack_of.Goals as goal
 
 pub returns : goal.returns

@@ -1,6 +1,6 @@
 use Rattle.std.proofs.Common.{◌++◌, ◌∷◌, [], take, sym, ap, ◌∙◌, append-nil}
 use Rattle.std.specs.List.{cons_option, filter_map}
-use Rattle.metis_reconfigure.specs.Targeted.{pair_in}
+use Rattle.metis_reconfigure.specs.Terms.{pair_in}
 use Rattle.metis_reconfigure.proofs.Tables.{paired_more}
 use Rattle.metis_reconfigure.proofs.targets.pairs_for.Goals as goal
 use Rattle.metis_reconfigure.proofs.targets.pairs_for.Goals.{in-Some+in_ok-push, in_default}

@@ -1,5 +1,5 @@
 use Rattle.std.proofs.Common.{take}
-use Rattle.metis_reconfigure.specs.Targeted.{HasRequired}
+use Rattle.metis_reconfigure.specs.Terms.{HasRequired}
 use Rattle.metis_reconfigure.proofs.targets.ports_required.Given as goal
 
 abbrev pub invariant-loop-z : goal.invariant-loop-z

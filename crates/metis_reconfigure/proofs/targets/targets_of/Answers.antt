@@ -1,8 +1,7 @@
 use Rattle.std.proofs.Common.{◌≡◌, ◌+◌, ◌<◌, ◌++◌, replicate, sym, ap, ◌∙◌, subst, arith}
 use Rattle.std.specs.List.{filter_map, find}
-use Rattle.metis_universe.specs.Universe.{port_count}
-use Rattle.metis_reconfigure.specs.Missing.{pair_for}
-use Rattle.metis_reconfigure.specs.Targeted.{is_lacking, short_by}
+use Rattle.metis_universe.specs.Terms.{port_count}
+use Rattle.metis_reconfigure.specs.Terms.{is_lacking, pair_for, short_by}
 use Rattle.metis_reconfigure.proofs.Tables.{AreSoFar, begun, none_lacking, none_short, pairs_alike, provided_more, unmet_here}
 use Rattle.metis_reconfigure.proofs.targets.targets_of.Goals as goal
 use Rattle.metis_reconfigure.proofs.targets.targets_of.Goals.{in-Some+in-Some-first_provider+in_ok-push_times-in-Some-first_provider, in-Some+in-None+else-short-gt0, in_default}

@@ -1,8 +1,7 @@
 use Rattle.std.proofs.Common.{ℕ, List}
 use Rattle.std.specs.List.{filter_map}
-use Rattle.metis_universe.specs.Universe.{Universe}
-use Rattle.metis_reconfigure.specs.Missing.{pair_for}
-use Rattle.metis_reconfigure.specs.Targeted.{AreTables}
+use Rattle.metis_universe.specs.Terms.{Universe}
+use Rattle.metis_reconfigure.specs.Terms.{AreTables, pair_for}
 use Rattle.metis_reconfigure.proofs.Tables.{AreSoFar}
 use Rattle.metis_reconfigure.proofs.targets.targets_of.Given as goal
 

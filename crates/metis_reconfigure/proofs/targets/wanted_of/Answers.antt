@@ -1,7 +1,7 @@
 use Rattle.std.proofs.Common.{◌<◌, ◌≤◌, max, sym, ◌∙◌, subst}
 use Rattle.std.proofs.lemmas.Bool.{le-ltb, lt-ltb}
 use Rattle.metis_ids.proofs.Tests.{ord_max_is}
-use Rattle.metis_reconfigure.specs.Targeted.{lack_by}
+use Rattle.metis_reconfigure.specs.Terms.{lack_by}
 use Rattle.metis_reconfigure.proofs.Tables.{wanted_with, wanted_without}
 use Rattle.metis_reconfigure.proofs.targets.wanted_of.Goals as goal
 use Rattle.metis_reconfigure.proofs.targets.wanted_of.Goals.{then-lack_among-gt0, else-lack_among-gt0}

@@ -1,5 +1,5 @@
 use Rattle.std.proofs.Common.{◌≡◌, take}
-use Rattle.metis_reconfigure.specs.Targeted.{wanted_by}
+use Rattle.metis_reconfigure.specs.Terms.{wanted_by}
 use Rattle.metis_reconfigure.proofs.targets.wanted_of.Given as goal
 
 abbrev pub invariant-loop-z : goal.invariant-loop-z

@@ -1,6 +1,6 @@
 use Rattle.std.proofs.Common.{sym, ap, ◌∙◌}
-use Rattle.metis_universe.specs.Universe.{has}
-use Rattle.metis_wishes.specs.Wishes.{rebound_of}
+use Rattle.metis_universe.specs.Terms.{has}
+use Rattle.metis_wishes.specs.Terms.{rebound_of}
 use Rattle.metis_reconfigure.proofs.Wishing.{added_none, added_one}
 use Rattle.metis_reconfigure.proofs.wished.add_rebound.Goals.{in-Some+in_ok-insert, in_default}
 use Rattle.metis_reconfigure.proofs.wished.add_rebound.Goals as goal

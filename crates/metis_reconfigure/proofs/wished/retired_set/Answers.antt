@@ -1,6 +1,6 @@
 use Rattle.std.proofs.Common.{sym, ap, ◌∙◌}
-use Rattle.metis_universe.specs.Universe.{has}
-use Rattle.metis_wishes.specs.Wishes.{retired_of}
+use Rattle.metis_universe.specs.Terms.{has}
+use Rattle.metis_wishes.specs.Terms.{retired_of}
 use Rattle.metis_reconfigure.proofs.Wishing.{named_none, named_one}
 use Rattle.metis_reconfigure.proofs.wished.retired_set.Goals.{in-Some+in_ok-insert, in_default}
 use Rattle.metis_reconfigure.proofs.wished.retired_set.Goals as goal

@@ -1,6 +1,6 @@
 use Rattle.std.proofs.Common.{ℕ, ◌≡◌, take}
-use Rattle.metis_universe.specs.Universe.{has}
-use Rattle.metis_wishes.specs.Wishes.{retired}
+use Rattle.metis_universe.specs.Terms.{has}
+use Rattle.metis_wishes.specs.Terms.{retired}
 use Rattle.metis_reconfigure.proofs.wished.retired_set.Given as goal
 
 abbrev pub invariant-loop-wish : goal.invariant-loop-wish

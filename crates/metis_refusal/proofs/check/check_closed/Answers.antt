@@ -3,7 +3,7 @@ use Rattle.std.specs.List.{All}
 use Rattle.metis_universe.proofs.Served.{goals_refused}
 use Rattle.metis_universe.proofs.PortRows.{rises}
 use Rattle.metis_refusal.proofs.Told.{told, told_of, unique}
-use Rattle.metis_refusal.specs.Claims.{Tells}
+use Rattle.metis_refusal.specs.Terms.{Tells}
 use Rattle.metis_refusal.specs.declared.verdict.Verdict2.TheVariants.{Closed}
 use Rattle.metis_refusal.proofs.check.check_closed.Goals as goal
 

@@ -1,6 +1,6 @@
 use Rattle.std.proofs.Common.{arith, sym, ◌∙◌}
-use Rattle.metis_universe.specs.Universe.{pair_count}
-use Rattle.metis_refusal.specs.Claims.{is_unfree}
+use Rattle.metis_universe.specs.Terms.{pair_count}
+use Rattle.metis_refusal.specs.Terms.{is_unfree}
 use Rattle.metis_refusal.proofs.Searches.{find_range, found_here, found_later}
 use Rattle.metis_refusal.proofs.check.first_unfree.Goals as goal
 

@@ -1,7 +1,7 @@
 use Rattle.std.proofs.Common.{◌≡◌, ◌-◌}
 use Rattle.std.specs.List.{find, range_with_len}
-use Rattle.metis_universe.specs.Universe.{pair_count}
-use Rattle.metis_refusal.specs.Claims.{is_unfree, first_unfree}
+use Rattle.metis_universe.specs.Terms.{pair_count}
+use Rattle.metis_refusal.specs.Terms.{first_unfree, is_unfree}
 use Rattle.metis_refusal.proofs.check.first_unfree.Given as goal
 
 abbrev pub invariant-loop-number : goal.invariant-loop-number

@@ -1,6 +1,6 @@
 use Rattle.std.proofs.Common.{◌≡◌, ◌++◌, None}
 use Rattle.std.specs.List.{find}
-use Rattle.metis_refusal.specs.Claims.{has_way_out}
+use Rattle.metis_refusal.specs.Terms.{has_way_out}
 use Rattle.metis_refusal.proofs.check.first_way_out.Given as goal
 
 abbrev pub invariant-loop-from : goal.invariant-loop-from

@@ -1,7 +1,7 @@
 use Rattle.std.proofs.Common.{◌≡◌, drop}
 use Rattle.std.specs.List.{find}
-use Rattle.metis_universe.specs.Goals.{lacks}
-use Rattle.metis_refusal.specs.Claims.{lacked}
+use Rattle.metis_universe.specs.Terms.{lacks}
+use Rattle.metis_refusal.specs.Terms.{lacked}
 use Rattle.metis_refusal.proofs.check.lacked.Given as goal
 
 abbrev pub invariant-loop-goal : goal.invariant-loop-goal

@@ -1,6 +1,6 @@
 use Rattle.std.proofs.Common.{◌≡◌, drop}
 use Rattle.std.specs.List.{find}
-use Rattle.metis_refusal.specs.Claims.{is_way, way_out}
+use Rattle.metis_refusal.specs.Terms.{is_way, way_out}
 use Rattle.metis_refusal.proofs.check.way_out.Given as goal
 
 abbrev pub invariant-loop-to : goal.invariant-loop-to

@@ -1,6 +1,6 @@
 use Rattle.std.proofs.Common.{◌≡◌, take, true}
 use Rattle.std.specs.List.{list_all}
-use Rattle.metis_refusal.specs.Supplies.{flag}
+use Rattle.metis_refusal.specs.Terms.{flag}
 use Rattle.metis_refusal.proofs.supply.are_set.Given as goal
 
 abbrev pub invariant-loop-port : goal.invariant-loop-port

@@ -1,5 +1,5 @@
 use Rattle.std.proofs.Common.{◌≡◌, ◌++◌}
-use Rattle.metis_refusal.specs.Supplies.{AreProvided}
+use Rattle.metis_refusal.specs.Terms.{AreProvided}
 use Rattle.metis_refusal.proofs.supply.provided_by.Given as goal
 
 abbrev pub invariant-loop-pair : goal.invariant-loop-pair

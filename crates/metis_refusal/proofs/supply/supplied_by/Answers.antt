@@ -1,9 +1,8 @@
 use Rattle.std.proofs.Common.{◌∙◌, ap, arith}
 use Rattle.std.proofs.lemmas.List.{length-set}
 use Rattle.std.specs.List.{list_all}
-use Rattle.metis_universe.specs.Universe.{port_count, required_of}
-use Rattle.metis_universe.specs.Layers.{is_provided}
-use Rattle.metis_refusal.specs.Supplies.{flag}
+use Rattle.metis_universe.specs.Terms.{is_provided, port_count, required_of}
+use Rattle.metis_refusal.specs.Terms.{flag}
 use Rattle.metis_refusal.proofs.Searches.{all_alike, flagged}
 use Rattle.metis_refusal.proofs.supply.supplied_by.Goals as goal
 

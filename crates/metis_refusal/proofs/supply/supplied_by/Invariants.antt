@@ -1,7 +1,7 @@
 use Rattle.std.proofs.Common.{◌≡◌, ℕ, ◌<◌, length}
 use Rattle.std.specs.List.{list_all}
-use Rattle.metis_universe.specs.Universe.{required_of}
-use Rattle.metis_refusal.specs.Supplies.{flag}
+use Rattle.metis_universe.specs.Terms.{required_of}
+use Rattle.metis_refusal.specs.Terms.{flag}
 use Rattle.metis_refusal.proofs.supply.supplied_by.Given as goal
 
 abbrev pub invariant-loop-number : goal.invariant-loop-number

@@ -2,9 +2,9 @@ use Rattle.std.proofs.Common.{◌≡◌, ℕ, Option, Some, None, refl, ap, sym,
 use Rattle.std.specs.Prelude.{IfSome, IsNone, option_map}
 use Rattle.metis_ids.specs.declared.goals.Goal.{Goal}
 use Rattle.metis_ids.proofs.Options.{none_from_IsNone}
-use Rattle.metis_universe.specs.Goals.{IsGoalOf, places_of, serving}
+use Rattle.metis_universe.specs.Terms.{IsGoalOf, places_of, serving}
 use Rattle.metis_replay.proofs.Shortages.{holds_none, missing_short, none_holds, short_among, short_missing}
-use Rattle.metis_replay.specs.Progress.{shortage}
+use Rattle.metis_replay.specs.Terms.{shortage}
 use Rattle.metis_replay.proofs.lacking.shortage.Goals as goal
 
 among : (P : Goal → Type 0) (o : Option (Goal × ℕ × ℕ)) → ((s : Goal × ℕ × ℕ) → o ≡ Some s → P s.0) → IfSome o (λ s. P s.0)

@@ -1,9 +1,9 @@
 use Rattle.std.proofs.Common.{ap, ◌∙◌, zero-add, length}
 use Rattle.metis_universe.proofs.Kept.{IsConfig-empty}
-use Rattle.metis_universe.specs.Config.{empty}
+use Rattle.metis_universe.specs.Terms.{empty}
 use Rattle.metis_universe.proofs.Places.{Correct-empty}
 use Rattle.metis_replay.proofs.Feeding.{fed_count, first_kept, run_done}
-use Rattle.metis_replay.specs.Progress.{after_feeding, start}
+use Rattle.metis_replay.specs.Terms.{after_feeding, start}
 use Rattle.metis_replay.proofs.laws.replay_keeps_what_was_done.Goals as goal
 
 pub returns-clause-counts : goal.returns-clause-counts

@@ -1,7 +1,7 @@
 use Rattle.std.proofs.Common.{◌++◌, ◌∙◌, ap, append_assoc}
 use Rattle.std.proofs.lemmas.Result.{on_ok_weaker}
-use Rattle.metis_universe.specs.Step.{after_all}
-use Rattle.metis_rollout.specs.Rollout.{all_but, first_unbinds, unreferenced_deletes, untied_of}
+use Rattle.metis_universe.specs.Terms.{after_all}
+use Rattle.metis_rollout.specs.Terms.{all_but, first_unbinds, unreferenced_deletes, untied_of}
 use Rattle.metis_rollout.proofs.clearing.clear.Goals as goal
 
 pub returns-clause-actions : goal.returns-clause-actions

@@ -3,8 +3,8 @@ use Rattle.std.proofs.lemmas.Map.Entries.{length-keys_of}
 use Rattle.std.specs.Map.{keys_of}
 use Rattle.metis_ids.specs.declared.actions.Action.{Action}
 use Rattle.metis_ids.specs.declared.actions.Action.TheVariants.{Delete}
-use Rattle.metis_universe.specs.Config.{Config, remove}
-use Rattle.metis_rollout.specs.Rollout.{all_but, unreferenced_deletes, unreferenced_deletes_within, members, next_unreferenced}
+use Rattle.metis_universe.specs.Terms.{Config, remove}
+use Rattle.metis_rollout.specs.Terms.{all_but, members, next_unreferenced, unreferenced_deletes, unreferenced_deletes_within}
 use Rattle.metis_rollout.proofs.Loops.{Left, left_done, left_next, unreferenced_none}
 use Rattle.metis_rollout.proofs.UnreferencedFacts.{but_first, first_free, next_is, no_keys, none_is}
 use Rattle.metis_rollout.proofs.clearing.delete_unreferenced.Goals as goal

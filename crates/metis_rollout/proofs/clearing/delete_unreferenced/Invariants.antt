@@ -1,6 +1,5 @@
 use Rattle.std.proofs.Common.{◌≡◌, ◌+◌, ℕ, length}
-use Rattle.metis_rollout.specs.Rollout.{all_but, unreferenced_deletes, members}
-use Rattle.metis_rollout.specs.Unreferenced.{AreUnreferenced}
+use Rattle.metis_rollout.specs.Terms.{AreUnreferenced, all_but, members, unreferenced_deletes}
 use Rattle.metis_rollout.proofs.Loops.{Left}
 use Rattle.metis_rollout.proofs.clearing.delete_unreferenced.Given as goal
 

@@ -1,6 +1,6 @@
 use Rattle.std.proofs.Common.{◌≡◌, ◌++◌}
 use Rattle.std.specs.List.{filter}
-use Rattle.metis_rollout.specs.Rollout.{all_but, ends_first}
+use Rattle.metis_rollout.specs.Terms.{all_but, ends_first}
 use Rattle.metis_rollout.proofs.clearing.first_ties.Given as goal
 
 abbrev pub invariant-loop-tie : goal.invariant-loop-tie

@@ -3,8 +3,8 @@ use Rattle.std.proofs.lemmas.List.Elements.{All-from_recursion}
 use Rattle.std.proofs.lemmas.List.Kept.{IsStrictlySortedBy-filter}
 use Rattle.std.specs.List.{All}
 use Rattle.std.specs.List.Sorted.{IsStrictlySortedBy}
-use Rattle.metis_universe.specs.Config.{binding_cmp, is_bound}
-use Rattle.metis_rollout.specs.Rollout.{all_but, ends_first}
+use Rattle.metis_universe.specs.Terms.{binding_cmp, is_bound}
+use Rattle.metis_rollout.specs.Terms.{all_but, ends_first}
 use Rattle.metis_rollout.proofs.Quiet.{all_bound}
 use Rattle.metis_rollout.proofs.clearing.unbind_first.Goals as goal
 

@@ -1,7 +1,6 @@
 use Rattle.std.proofs.Common.{◌<◌, ◌++◌, ◌∙◌, ap, map}
-use Rattle.metis_universe.specs.Universe.{pair_count}
-use Rattle.metis_rollout.specs.Holders.{holder_at}
-use Rattle.metis_rollout.specs.Rollout.{bind, named}
+use Rattle.metis_universe.specs.Terms.{pair_count}
+use Rattle.metis_rollout.specs.Terms.{bind, holder_at, named}
 use Rattle.metis_rollout.proofs.CycleList.{bound_next, rest_all, ties_of}
 use Rattle.metis_rollout.proofs.cyclic.bind_all.Goals as goal
 

@@ -1,6 +1,5 @@
 use Rattle.std.proofs.Common.{◌≡◌, ◌++◌, map, take}
-use Rattle.metis_rollout.specs.Holders.{holder_at}
-use Rattle.metis_rollout.specs.Rollout.{bind, named}
+use Rattle.metis_rollout.specs.Terms.{bind, holder_at, named}
 use Rattle.metis_rollout.proofs.cyclic.bind_slots.Given as goal
 
 abbrev pub invariant-loop-slot : goal.invariant-loop-slot

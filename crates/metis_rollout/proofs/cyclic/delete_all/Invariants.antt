@@ -1,6 +1,6 @@
 use Rattle.std.proofs.Common.{◌≡◌, ◌++◌}
 use Rattle.std.specs.Map.{keys_of}
-use Rattle.metis_rollout.specs.Rollout.{deletes, members}
+use Rattle.metis_rollout.specs.Terms.{deletes, members}
 use Rattle.metis_rollout.proofs.cyclic.delete_all.Given as goal
 
 abbrev pub invariant-loop-z : goal.invariant-loop-z

@@ -1,6 +1,6 @@
 use Rattle.std.proofs.Common.{◌++◌, ◌∷◌, [], ◌∙◌, ap}
 use Rattle.metis_ids.specs.declared.actions.Action.TheVariants.{Delete}
-use Rattle.metis_rollout.specs.Rollout.{named}
+use Rattle.metis_rollout.specs.Terms.{named}
 use Rattle.metis_rollout.proofs.CycleList.{down_next}
 use Rattle.metis_rollout.proofs.cyclic.delete_downward.Goals as goal
 

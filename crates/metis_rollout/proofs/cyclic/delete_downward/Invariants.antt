@@ -1,5 +1,5 @@
 use Rattle.std.proofs.Common.{◌≡◌, ◌++◌, ◌-◌, map}
-use Rattle.metis_rollout.specs.Rollout.{deletes, downward, named}
+use Rattle.metis_rollout.specs.Terms.{deletes, downward, named}
 use Rattle.metis_rollout.proofs.cyclic.delete_downward.Given as goal
 
 abbrev pub invariant-loop-done : goal.invariant-loop-done

@@ -1,5 +1,5 @@
 use Rattle.std.proofs.Common.{◌≡◌, ◌++◌, map}
-use Rattle.metis_rollout.specs.Rollout.{pairs_in}
+use Rattle.metis_rollout.specs.Terms.{pairs_in}
 use Rattle.metis_rollout.proofs.cyclic.pairs_of.Given as goal
 
 abbrev pub invariant-loop-p : goal.invariant-loop-p

@@ -2,10 +2,8 @@ use Rattle.std.proofs.Common.{◌++◌, ◌<◌, List, ℕ, ◌∙◌, ap, arith
 use Rattle.std.specs.Prelude.{IsTrue}
 use Rattle.std.specs.List.{All, range_with_len}
 use Rattle.std.proofs.lemmas.Result.{on_ok_weaker}
-use Rattle.metis_universe.specs.Steadfast.{is_steadfast}
-use Rattle.metis_universe.specs.Universe.{pair_count, port_count}
-use Rattle.metis_rollout.specs.Holders.{first_among, holder_at}
-use Rattle.metis_rollout.specs.Rollout.{pairs_in, renumber, named, scaffold_ends, scaffold_list}
+use Rattle.metis_universe.specs.Terms.{is_steadfast, pair_count, port_count}
+use Rattle.metis_rollout.specs.Terms.{first_among, holder_at, named, pairs_in, renumber, scaffold_ends, scaffold_list}
 use Rattle.metis_rollout.proofs.CycleList.{AreNamed, removed_by}
 use Rattle.metis_rollout.proofs.Going.{steady_from_going}
 use Rattle.metis_rollout.proofs.Scaffold.{scaffold_goes}

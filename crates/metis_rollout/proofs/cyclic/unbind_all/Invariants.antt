@@ -1,5 +1,5 @@
 use Rattle.std.proofs.Common.{◌≡◌, ◌++◌, map}
-use Rattle.metis_rollout.specs.Rollout.{unbind}
+use Rattle.metis_rollout.specs.Terms.{unbind}
 use Rattle.metis_rollout.proofs.cyclic.unbind_all.Given as goal
 
 abbrev pub invariant-loop-tie : goal.invariant-loop-tie

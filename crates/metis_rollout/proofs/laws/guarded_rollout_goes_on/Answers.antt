@@ -1,8 +1,7 @@
 use Rattle.std.proofs.Common.{◌≡◌, length, arith}
 use Rattle.std.proofs.lemmas.List.{length-map}
-use Rattle.metis_universe.specs.Config.{empty}
-use Rattle.metis_universe.specs.Step.{after_all}
-use Rattle.metis_rollout.specs.Rollout.{all_go, fresh_name, removal, renumber, renumbered, scaffold_name}
+use Rattle.metis_universe.specs.Terms.{after_all, empty}
+use Rattle.metis_rollout.specs.Terms.{all_go, fresh_name, removal, renumber, renumbered, scaffold_name}
 use Rattle.metis_rollout.proofs.Guarding.{goes_on}
 use Rattle.metis_rollout.proofs.laws.guarded_rollout_goes_on.Goals as goal
 

@@ -1,8 +1,8 @@
 use Rattle.std.proofs.Common.{◌<◌, ◌∙◌, arith, subst, sym}
 use Rattle.std.proofs.lemmas.Result.{on_ok_weaker}
 use Rattle.std.specs.Prelude.{IsSome}
-use Rattle.metis_support.specs.Support.{level_at}
-use Rattle.metis_rollout.specs.Holders.{holder_at}
+use Rattle.metis_support.specs.Terms.{level_at}
+use Rattle.metis_rollout.specs.Terms.{holder_at}
 use Rattle.metis_rollout.proofs.Lined.{line_begins, line_goes}
 use Rattle.metis_rollout.proofs.lines.+add_line.Goals as goal
 

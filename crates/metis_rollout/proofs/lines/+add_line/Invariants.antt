@@ -1,4 +1,4 @@
-use Rattle.metis_support.specs.Support.{level_at}
+use Rattle.metis_support.specs.Terms.{level_at}
 use Rattle.metis_rollout.proofs.lines.+add_line.Given as goal
 
 -- each origin is of a lower layer

@@ -1,6 +1,6 @@
 use Rattle.std.proofs.Common.{◌≡◌, ◌++◌, map, take}
 use Rattle.metis_ids.specs.declared.actions.Action.TheVariants.{Bind}
-use Rattle.metis_rollout.specs.Holders.{holder_at}
+use Rattle.metis_rollout.specs.Terms.{holder_at}
 use Rattle.metis_rollout.proofs.lines.add_binds.Given as goal
 
 abbrev pub invariant-loop-slot : goal.invariant-loop-slot

@@ -1,5 +1,5 @@
 use Rattle.std.proofs.Common.{arith, refl}
-use Rattle.metis_rollout.specs.Holders.{holder_at}
+use Rattle.metis_rollout.specs.Terms.{holder_at}
 use Rattle.metis_rollout.proofs.Lined.{lines_more}
 use Rattle.metis_rollout.proofs.lines.lines_to.Goals as goal
 

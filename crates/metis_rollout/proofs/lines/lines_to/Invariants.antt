@@ -1,7 +1,6 @@
 use Rattle.std.proofs.Common.{◌≡◌, map, take}
-use Rattle.metis_layers.specs.LayerOrder.{path_to}
-use Rattle.metis_layers.specs.SlotLines.{slot_lines}
-use Rattle.metis_rollout.specs.Holders.{holder_at}
+use Rattle.metis_layers.specs.Terms.{path_to, slot_lines}
+use Rattle.metis_rollout.specs.Terms.{holder_at}
 use Rattle.metis_rollout.proofs.lines.lines_to.Given as goal
 
 abbrev pub invariant-loop-number : goal.invariant-loop-number

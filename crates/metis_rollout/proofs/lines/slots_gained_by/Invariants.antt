@@ -1,7 +1,7 @@
 use Rattle.std.proofs.Common.{◌≡◌, take}
-use Rattle.metis_universe.specs.Universe.{demand_of}
+use Rattle.metis_universe.specs.Terms.{demand_of}
 use Rattle.metis_layers.proofs.SlotLists.{slots_of}
-use Rattle.metis_layers.specs.SlotLines.{slots_above}
+use Rattle.metis_layers.specs.Terms.{slots_above}
 use Rattle.metis_rollout.proofs.lines.slots_gained_by.Given as goal
 
 abbrev pub invariant-loop-port : goal.invariant-loop-port

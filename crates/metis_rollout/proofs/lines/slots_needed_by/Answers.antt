@@ -1,9 +1,9 @@
 use Rattle.std.proofs.Common.{◌≤◌, ◌∙◌, ◌++◌, List, ℕ, ap, map, subst, sym, take, take_all}
 use Rattle.std.specs.List.{All}
 use Rattle.std.proofs.lemmas.List.Elements.{All-from_recursion}
-use Rattle.metis_universe.specs.Universe.{demand_of}
+use Rattle.metis_universe.specs.Terms.{demand_of}
 use Rattle.metis_universe.proofs.Greatest.{demand_least}
-use Rattle.metis_layers.specs.SlotLines.{slots_above}
+use Rattle.metis_layers.specs.Terms.{slots_above}
 use Rattle.metis_layers.proofs.SlotLists.{slots_of}
 use Rattle.metis_rollout.proofs.Required.{slots_low, slots_more}
 use Rattle.metis_rollout.proofs.lines.slots_needed_by.Goals as goal

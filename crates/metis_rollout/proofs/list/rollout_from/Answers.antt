@@ -1,12 +1,8 @@
 use Rattle.std.proofs.Common.{List, arith, ◌≡◌, ◌+◌, ◌<◌, ◌-◌, ◌^◌, length, ◌++◌, sym, subst, ◌∙◌, ap}
 use Rattle.std.specs.List.{All}
 use Rattle.metis_ids.specs.declared.actions.Action.{Action}
-use Rattle.metis_universe.specs.Config.{empty}
-use Rattle.metis_universe.specs.Goal.{Holds}
-use Rattle.metis_universe.specs.Numbers.{IsOf}
-use Rattle.metis_universe.specs.Step.{after_all}
-use Rattle.metis_rollout.specs.Rollout.{all_but, free_number, news_of, removal, rollout}
-use Rattle.metis_universe.specs.Steadfast.{IsSteadfastRun}
+use Rattle.metis_universe.specs.Terms.{Holds, IsOf, IsSteadfastRun, after_all, empty}
+use Rattle.metis_rollout.specs.Terms.{all_but, free_number, news_of, removal, rollout}
 use Rattle.metis_rollout.proofs.Listed.{listed_rollout}
 use Rattle.metis_rollout.proofs.Removal.{short_rollout}
 use Rattle.metis_rollout.proofs.ScaffoldSize.{rollout_short}

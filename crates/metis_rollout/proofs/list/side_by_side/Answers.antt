@@ -1,9 +1,9 @@
 use Rattle.std.proofs.Common.{◌≡◌, ◌+◌, ◌++◌, ◌∙◌, ap, arith, length, map, ℕ, Some, nat_eq, true}
 use Rattle.std.specs.Map.{lookup}
-use Rattle.metis_layers.specs.LayerOrder.{place_of}
-use Rattle.metis_universe.specs.Universe.{has}
+use Rattle.metis_layers.specs.Terms.{place_of}
+use Rattle.metis_universe.specs.Terms.{has}
 use Rattle.metis_rollout.proofs.Listed.{renamed}
-use Rattle.metis_rollout.specs.Rollout.{free_number, named, news_of, renumber}
+use Rattle.metis_rollout.specs.Terms.{free_number, named, news_of, renumber}
 use Rattle.metis_rollout.proofs.list.side_by_side.Goals as goal
 
 pub names_for-requires-clause-steadfast : goal.names_for-requires-clause-steadfast

@@ -1,7 +1,6 @@
 use Rattle.std.proofs.lemmas.List.Elements.{All-from_recursion}
-use Rattle.metis_universe.specs.Config.{empty}
-use Rattle.metis_universe.specs.Step.{after_all}
-use Rattle.metis_rollout.specs.Removal.{Removing, taking}
+use Rattle.metis_universe.specs.Terms.{after_all, empty}
+use Rattle.metis_rollout.specs.Terms.{Removing, taking}
 use Rattle.metis_rollout.proofs.Sparing.{all_removing}
 use Rattle.metis_rollout.proofs.removal_laws.what_stays_is_left_alone.Goals as goal
 

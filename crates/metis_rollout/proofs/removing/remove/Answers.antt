@@ -1,11 +1,9 @@
 use Rattle.std.proofs.Common.{◌≡◌, ◌+◌, ◌++◌, ◌∙◌, ℕ, ap, arith, refl, sym, subst}
 use Rattle.std.specs.Prelude.{IsSome}
 use Rattle.std.specs.List.{All}
-use Rattle.metis_config.specs.Over.{IsOver}
-use Rattle.metis_universe.specs.Config.{Config}
-use Rattle.metis_universe.specs.Layers.{layer_of}
-use Rattle.metis_universe.specs.Universe.{is_empty}
-use Rattle.metis_rollout.specs.Rollout.{all_but, among, cycle_removal, free_number, left_of, members, pairs_in}
+use Rattle.metis_config.specs.Terms.{IsOver}
+use Rattle.metis_universe.specs.Terms.{Config, is_empty, layer_of}
+use Rattle.metis_rollout.specs.Terms.{all_but, among, cycle_removal, free_number, left_of, members, pairs_in}
 use Rattle.metis_rollout.proofs.Layered.{left_layered}
 use Rattle.metis_rollout.proofs.Listed.{listed, listed_long, none_left, some_left}
 use Rattle.metis_rollout.proofs.Over.{over_left}

@@ -1,9 +1,8 @@
 use Rattle.std.proofs.Common.{◌<◌, ap, ◌∙◌, arith, length, get_or}
 use Rattle.std.specs.Option.{option_map_or}
-use Rattle.metis_universe.specs.Selection.{provider_of}
-use Rattle.metis_universe.specs.Universe.{port_count}
+use Rattle.metis_universe.specs.Terms.{port_count, provider_of}
 use Rattle.metis_layers.proofs.Tables.{entries_count, pushed}
-use Rattle.metis_rollout.specs.Holders.{first_among}
+use Rattle.metis_rollout.specs.Terms.{first_among}
 use Rattle.metis_rollout.proofs.Tabulated.{holder_is, provider_low}
 use Rattle.metis_rollout.proofs.scaffolding.firsts_of.Goals as goal
 

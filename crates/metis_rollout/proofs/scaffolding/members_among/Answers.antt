@@ -1,5 +1,5 @@
 use Rattle.std.proofs.Common.{◌∙◌, sym}
-use Rattle.metis_universe.specs.Universe.{has}
+use Rattle.metis_universe.specs.Terms.{has}
 use Rattle.metis_rollout.proofs.Lined.{kept_more, kept_past}
 use Rattle.metis_rollout.proofs.scaffolding.members_among.Goals as goal
 use Rattle.metis_rollout.proofs.scaffolding.members_among.Goals.{then-has+in_ok-push, else-has}

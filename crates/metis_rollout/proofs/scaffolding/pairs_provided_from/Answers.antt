@@ -1,6 +1,6 @@
 use Rattle.std.proofs.Common.{◌<◌, List, ℕ, sym, subst}
 use Rattle.std.specs.List.{All}
-use Rattle.metis_support.specs.Support.{provider_pairs}
+use Rattle.metis_support.specs.Terms.{provider_pairs}
 use Rattle.metis_rollout.proofs.Supporting.{providers_low}
 use Rattle.metis_rollout.proofs.scaffolding.pairs_provided_from.Goals as goal
 

@@ -2,9 +2,9 @@ use Rattle.std.proofs.Common.{◌<◌, List, ℕ, ◌∙◌, ap, arith, length, 
 use Rattle.std.proofs.lemmas.Result.{IfOk-weaker}
 use Rattle.std.specs.Prelude.{IfOk, IsTrue}
 use Rattle.std.specs.List.{All}
-use Rattle.metis_universe.specs.Universe.{pair_count}
-use Rattle.metis_support.specs.Support.{is_selected}
-use Rattle.metis_rollout.specs.Holders.{IsScaffoldIn}
+use Rattle.metis_universe.specs.Terms.{pair_count}
+use Rattle.metis_support.specs.Terms.{is_selected}
+use Rattle.metis_rollout.specs.Terms.{IsScaffoldIn}
 use Rattle.metis_rollout.proofs.Supporting.{ends_found, firsts_are, firsts_low, list_is, supports, truth}
 use Rattle.metis_rollout.proofs.scaffolding.scaffold_for.Goals as goal
 

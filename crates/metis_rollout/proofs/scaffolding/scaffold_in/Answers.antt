@@ -1,6 +1,6 @@
 use Rattle.std.proofs.Common.{subst, sym}
-use Rattle.metis_universe.specs.Universe.{port_count}
-use Rattle.metis_rollout.specs.Holders.{AreFew}
+use Rattle.metis_universe.specs.Terms.{port_count}
+use Rattle.metis_rollout.specs.Terms.{AreFew}
 use Rattle.metis_rollout.proofs.Tabulated.{firsts_few}
 use Rattle.metis_rollout.proofs.scaffolding.scaffold_in.Goals as goal
 

@@ -1,6 +1,6 @@
 use Rattle.std.proofs.Common.{◌∙◌, ap}
 use Rattle.metis_ids.proofs.Inserted.{has-insert_key}
-use Rattle.metis_universe.specs.Universe.{has}
+use Rattle.metis_universe.specs.Terms.{has}
 use Rattle.metis_rollout.proofs.Tabulated.{one_member}
 use Rattle.metis_rollout.proofs.scaffolding.set_of.Goals as goal
 

@@ -1,5 +1,5 @@
 use Rattle.std.proofs.Common.{◌≡◌, take}
-use Rattle.metis_universe.specs.Step.{after_all}
+use Rattle.metis_universe.specs.Terms.{after_all}
 use Rattle.metis_rollout.proofs.standing.go_on.Given as goal
 
 abbrev pub invariant-loop-action : goal.invariant-loop-action

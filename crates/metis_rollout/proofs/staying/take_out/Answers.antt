@@ -1,7 +1,6 @@
 use Rattle.std.proofs.Common.{◌≡◌, ◌∙◌, [], ap, rules, sym}
-use Rattle.metis_universe.specs.Step.{after_all}
-use Rattle.metis_universe.specs.Universe.{universe_of}
-use Rattle.metis_rollout.specs.Rollout.{deletes}
+use Rattle.metis_universe.specs.Terms.{after_all, universe_of}
+use Rattle.metis_rollout.specs.Terms.{deletes}
 use Rattle.metis_rollout.proofs.Among.{deletes_among}
 use Rattle.metis_rollout.proofs.staying.take_out.Goals as goal
 

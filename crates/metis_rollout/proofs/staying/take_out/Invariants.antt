@@ -1,7 +1,6 @@
 use Rattle.std.proofs.Common.{◌≡◌}
-use Rattle.metis_universe.specs.Step.{after_all}
-use Rattle.metis_universe.specs.Universe.{Universe}
-use Rattle.metis_rollout.specs.Rollout.{deletes}
+use Rattle.metis_universe.specs.Terms.{Universe, after_all}
+use Rattle.metis_rollout.specs.Terms.{deletes}
 use Rattle.metis_rollout.proofs.staying.take_out.Given as goal
 
 abbrev pub invariant-loop-z : goal.invariant-loop-z

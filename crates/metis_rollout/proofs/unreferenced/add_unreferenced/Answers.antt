@@ -1,5 +1,5 @@
 use Rattle.std.proofs.Common.{sym, ◌∙◌}
-use Rattle.metis_rollout.specs.Rollout.{all_but}
+use Rattle.metis_rollout.specs.Terms.{all_but}
 use Rattle.metis_rollout.proofs.UnreferencedFacts.{inserted}
 use Rattle.metis_rollout.proofs.unreferenced.add_unreferenced.Goals as goal
 

@@ -1,9 +1,8 @@
 use Rattle.std.proofs.Common.{◌≡◌, ℕ, ◌&&◌, ◌||◌, not, nat_eq, length, true, refl, ap, ◌∙◌, arith, rules}
 use Rattle.std.proofs.lemmas.Bool.{eq-eqb, or_left}
 use Rattle.metis_config.proofs.Removed.{fewer, names_tie, others, others-all, others-untied, unbound-untie}
-use Rattle.metis_universe.specs.Config.{Config, is_bound, is_tie, untie}
-use Rattle.metis_universe.specs.Universe.{has}
-use Rattle.metis_rollout.specs.Rollout.{all_but, is_referenced}
+use Rattle.metis_universe.specs.Terms.{Config, has, is_bound, is_tie, untie}
+use Rattle.metis_rollout.specs.Terms.{all_but, is_referenced}
 use Rattle.metis_rollout.proofs.Going.{unpointed}
 use Rattle.metis_rollout.proofs.UnreferencedFacts.{but_cut, gone}
 use Rattle.metis_rollout.proofs.unreferenced.let_go.Goals as goal

@@ -1,7 +1,6 @@
 use Rattle.std.proofs.Common.{◌≡◌, length}
 use Rattle.metis_config.proofs.Removed.{others}
-use Rattle.metis_rollout.specs.Rollout.{all_but}
-use Rattle.metis_rollout.specs.Unreferenced.{AreUnreferencedBut}
+use Rattle.metis_rollout.specs.Terms.{AreUnreferencedBut, all_but}
 use Rattle.metis_rollout.proofs.Going.{Unpointed}
 use Rattle.metis_rollout.proofs.unreferenced.let_go.Given as goal
 

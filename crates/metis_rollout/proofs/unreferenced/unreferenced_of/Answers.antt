@@ -1,4 +1,4 @@
-use Rattle.metis_rollout.specs.Rollout.{all_but}
+use Rattle.metis_rollout.specs.Terms.{all_but}
 use Rattle.metis_rollout.proofs.UnreferencedFacts.{unreferenced_next}
 use Rattle.metis_rollout.proofs.unreferenced.unreferenced_of.Goals as goal
 

@@ -1,4 +1,4 @@
-use Rattle.metis_rollout.specs.Rollout.{all_but}
+use Rattle.metis_rollout.specs.Terms.{all_but}
 use Rattle.metis_rollout.proofs.UnreferencedFacts.{AreUnreferencedWith}
 use Rattle.metis_rollout.proofs.unreferenced.unreferenced_of.Given as goal
 

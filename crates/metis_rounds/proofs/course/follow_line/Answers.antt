@@ -1,4 +1,4 @@
-use Rattle.metis_lines.specs.LifeLines.{plan_of}
+use Rattle.metis_lines.specs.Terms.{plan_of}
 use Rattle.metis_rounds.proofs.Owned.{moved_plan, with_own_plan}
 use Rattle.metis_rounds.proofs.course.follow_line.Goals as goal
 

@@ -2,12 +2,10 @@ use Rattle.std.proofs.Common.{◌∙◌, None, cond, get_or, length, sym, ap, ar
 use Rattle.std.proofs.lemmas.Bool.{cases_eq}
 use Rattle.std.proofs.lemmas.List.{get_or_default}
 use Rattle.metis_ids.specs.declared.events.Event.TheVariants.{End}
-use Rattle.metis_lines.specs.Events.{is_return_into_move}
-use Rattle.metis_lines.specs.LifeLines.{plan_of}
+use Rattle.metis_lines.specs.Terms.{is_return_into_move, plan_of}
 use Rattle.metis_rounds.proofs.Moves.{move_leaves}
 use Rattle.metis_rounds.proofs.Placed.{leads_at, left_at, none_left, not_left}
-use Rattle.metis_rounds.specs.Forced.{left_by}
-use Rattle.metis_rounds.specs.Forced.{place_after}
+use Rattle.metis_rounds.specs.Terms.{left_by, place_after}
 use Rattle.metis_rounds.proofs.doubled.first_left.Goals as goal
 
 pub returns-then-is_some : goal.returns-then-is_some

@@ -1,8 +1,6 @@
 use Rattle.std.proofs.Common.{◌-◌, sym, ap, ◌∙◌}
-use Rattle.metis_lines.specs.AbstractPlan.{station_at}
-use Rattle.metis_lines.specs.Events.{is_among}
-use Rattle.metis_lines.specs.LifeLines.{plan_of}
-use Rattle.metis_rounds.specs.Tables.{row_at}
+use Rattle.metis_lines.specs.Terms.{is_among, plan_of, station_at}
+use Rattle.metis_rounds.specs.Terms.{row_at}
 use Rattle.metis_rounds.proofs.Moves.{left, not_moved, not_returned}
 use Rattle.metis_rounds.proofs.doubled.left_after.Goals.{else-is_move-via-then-is_move+else-returns_into, else-is_move-via-else-is_move}
 use Rattle.metis_rounds.proofs.doubled.left_after.Goals as goal

@@ -1,7 +1,7 @@
 use Rattle.std.proofs.Common.{ℕ, ◌≡◌, ◌||◌, take}
 use Rattle.std.specs.List.{list_any}
-use Rattle.metis_ids.specs.Lists.{has}
-use Rattle.metis_rounds.specs.Going.{is_on}
+use Rattle.metis_ids.specs.Terms.{has}
+use Rattle.metis_rounds.specs.Terms.{is_on}
 use Rattle.metis_rounds.proofs.going.add_lines.Given as goal
 
 abbrev pub invariant-loop-event : goal.invariant-loop-event

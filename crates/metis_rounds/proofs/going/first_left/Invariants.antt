@@ -2,7 +2,7 @@ use Rattle.std.proofs.Common.{ℕ, ◌≤◌, ◌<◌, ◌-◌, length}
 use Rattle.std.specs.Prelude.{IsTrue}
 use Rattle.std.specs.List.{slice_index_or}
 use Rattle.metis_ids.specs.declared.events.Event.TheVariants.{End}
-use Rattle.metis_rounds.specs.Reach.{is_taken}
+use Rattle.metis_rounds.specs.Terms.{is_taken}
 use Rattle.metis_rounds.proofs.going.first_left.Given as goal
 
 abbrev pub invariant-loop-place : goal.invariant-loop-place

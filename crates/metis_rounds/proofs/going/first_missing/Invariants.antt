@@ -1,7 +1,6 @@
 use Rattle.std.proofs.Common.{ℕ, ◌≤◌, ◌<◌, ◌-◌, length}
 use Rattle.std.specs.Prelude.{IsTrue}
-use Rattle.metis_rounds.specs.Going.{use_at, use_event}
-use Rattle.metis_rounds.specs.Reach.{is_taken}
+use Rattle.metis_rounds.specs.Terms.{is_taken, use_at, use_event}
 use Rattle.metis_rounds.proofs.going.first_missing.Given as goal
 
 abbrev pub invariant-loop-place : goal.invariant-loop-place

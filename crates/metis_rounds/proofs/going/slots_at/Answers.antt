@@ -1,11 +1,9 @@
 use Rattle.std.proofs.Common.{◌∙◌, ◌<◌, ℕ, List, length, sym, ap, subst, arith, get_or, nat_lt, []}
 use Rattle.std.proofs.lemmas.Bool.{cond-true, lt-ltb}
-use Rattle.metis_support.specs.Support.{is_selected}
-use Rattle.metis_lines.specs.LifeLines.{line_at}
+use Rattle.metis_support.specs.Terms.{is_selected}
+use Rattle.metis_lines.specs.Terms.{line_at}
 use Rattle.metis_rounds.proofs.Starts.{chosen, use_there}
-use Rattle.metis_rounds.specs.Going.{use_at}
-use Rattle.metis_rounds.specs.Returns.{IsUse}
-use Rattle.metis_rounds.specs.Tables.{uses_of}
+use Rattle.metis_rounds.specs.Terms.{IsUse, use_at, uses_of}
 use Rattle.metis_rounds.proofs.going.slots_at.Goals as goal
 
 pub returns-then-step-last-clause-uses : goal.returns-then-step-last-clause-uses

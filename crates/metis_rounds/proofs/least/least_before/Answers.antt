@@ -1,13 +1,8 @@
 use Rattle.std.proofs.Common.{◌≡◌, ◌∙◌, map, sym, ap, subst, arith, None}
 use Rattle.std.specs.Prelude.{IfNone, IfSome}
 use Rattle.metis_ids.specs.declared.events.Event.TheVariants.{At}
-use Rattle.metis_lines.specs.AbstractPlan.{last}
-use Rattle.metis_lines.specs.Events.{is_event}
-use Rattle.metis_lines.specs.LifeLines.{plan_of}
-use Rattle.metis_rounds.specs.Going.{use_event, uses_at}
-use Rattle.metis_rounds.specs.Least.{least_left, on_line_before}
-use Rattle.metis_rounds.specs.Reach.{HasAllBefore, IsLeastLeft}
-use Rattle.metis_rounds.specs.Tables.{row_at}
+use Rattle.metis_lines.specs.Terms.{is_event, last, plan_of}
+use Rattle.metis_rounds.specs.Terms.{HasAllBefore, IsLeastLeft, least_left, on_line_before, row_at, use_event, uses_at}
 use Rattle.metis_rounds.proofs.LeastLeft.{ended_has_all, first_is_least, least_before_none, least_before_some}
 use Rattle.metis_rounds.proofs.least.least_before.Goals as goal
 

@@ -3,8 +3,7 @@ use Rattle.std.proofs.lemmas.List.{get_or-map, get_or_default}
 use Rattle.std.proofs.lemmas.List.Sums.{fold_more}
 use Rattle.std.proofs.Math.ListN.{length-map}
 use Rattle.metis_ids.specs.declared.events.Event.TheVariants.{End}
-use Rattle.metis_rounds.specs.Going.{use_at, use_event}
-use Rattle.metis_rounds.specs.Least.{with_left}
+use Rattle.metis_rounds.specs.Terms.{use_at, use_event, with_left}
 use Rattle.metis_rounds.proofs.least.least_holder.Goals as goal
 
 pub loop-slot-preserved : goal.loop-slot-preserved

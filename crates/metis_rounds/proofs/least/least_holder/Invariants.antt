@@ -1,6 +1,5 @@
 use Rattle.std.proofs.Common.{◌≡◌, map, take}
-use Rattle.metis_rounds.specs.Going.{use_event}
-use Rattle.metis_rounds.specs.Least.{least_left}
+use Rattle.metis_rounds.specs.Terms.{least_left, use_event}
 use Rattle.metis_rounds.proofs.least.least_holder.Given as goal
 
 abbrev pub invariant-loop-slot : goal.invariant-loop-slot

@@ -1,5 +1,5 @@
 use Rattle.std.proofs.Common.{◌≡◌, take}
-use Rattle.metis_rounds.specs.Least.{least_left}
+use Rattle.metis_rounds.specs.Terms.{least_left}
 use Rattle.metis_rounds.proofs.least.least_return.Given as goal
 
 abbrev pub invariant-loop-event : goal.invariant-loop-event

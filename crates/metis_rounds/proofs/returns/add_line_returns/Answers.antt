@@ -1,10 +1,8 @@
 use Rattle.std.proofs.Common.{◌≡◌, ◌<◌, ℕ, List, [], ap, get_or, length, subst, refl, sym, ◌∙◌, arith}
 use Rattle.std.specs.List.{list_any}
-use Rattle.metis_lines.specs.Events.{is_return_of, leaving}
-use Rattle.metis_lines.specs.LifeLines.{line_at, station_supplies}
-use Rattle.metis_events.specs.Gathered.{without_supplies}
-use Rattle.metis_rounds.specs.Returns.{Brings, IsUse, is_brought}
-use Rattle.metis_rounds.specs.Tables.{uses_of}
+use Rattle.metis_lines.specs.Terms.{is_return_of, leaving, line_at, station_supplies}
+use Rattle.metis_events.specs.Terms.{without_supplies}
+use Rattle.metis_rounds.specs.Terms.{Brings, IsUse, is_brought, uses_of}
 use Rattle.metis_rounds.proofs.Brought.{brings_alike, pieces_more, rows_kept}
 use Rattle.metis_rounds.proofs.Starts.{chosen, use_there}
 use Rattle.metis_rounds.proofs.Supplied.{pair_at, station_any}

@@ -1,8 +1,7 @@
 use Rattle.std.specs.List.{flat_map, list_any, range_with_len}
-use Rattle.metis_lines.specs.Events.{is_return_of}
-use Rattle.metis_lines.specs.LifeLines.{station_supplies}
-use Rattle.metis_events.specs.Gathered.{without_supplies}
-use Rattle.metis_rounds.specs.Returns.{Brings}
+use Rattle.metis_lines.specs.Terms.{is_return_of, station_supplies}
+use Rattle.metis_events.specs.Terms.{without_supplies}
+use Rattle.metis_rounds.specs.Terms.{Brings}
 use Rattle.metis_rounds.proofs.returns.add_line_returns.Given as goal
 
 -- the stations before this one are done

@@ -1,10 +1,8 @@
 use Rattle.std.proofs.Common.{◌≡◌, ◌&&◌, ◌||◌, ℕ, ap, get_or, subst, sym, ◌∙◌}
 use Rattle.std.proofs.lemmas.List.{get_or_default}
-use Rattle.metis_lines.specs.Events.{is_end, leaving, same_event}
-use Rattle.metis_lines.specs.LifeLines.{slot_holding}
-use Rattle.metis_events.specs.Gathered.{without_supplies}
-use Rattle.metis_rounds.specs.Returns.{IsUse, is_brought}
-use Rattle.metis_rounds.specs.Tables.{has_row}
+use Rattle.metis_lines.specs.Terms.{is_end, leaving, same_event, slot_holding}
+use Rattle.metis_events.specs.Terms.{without_supplies}
+use Rattle.metis_rounds.specs.Terms.{IsUse, has_row, is_brought}
 use Rattle.metis_rounds.proofs.Brought.{brings_alike, elements_more, leaving_has, rows_kept}
 use Rattle.metis_rounds.proofs.returns.add_station_returns.Goals as goal
 

@@ -1,8 +1,8 @@
 use Rattle.std.proofs.Common.{take}
 use Rattle.std.specs.List.{list_any}
-use Rattle.metis_lines.specs.Events.{leaving}
-use Rattle.metis_events.specs.Gathered.{without_supplies}
-use Rattle.metis_rounds.specs.Returns.{Brings, is_brought}
+use Rattle.metis_lines.specs.Terms.{leaving}
+use Rattle.metis_events.specs.Terms.{without_supplies}
+use Rattle.metis_rounds.specs.Terms.{Brings, is_brought}
 use Rattle.metis_rounds.proofs.returns.add_station_returns.Given as goal
 
 -- the slots before this one are done

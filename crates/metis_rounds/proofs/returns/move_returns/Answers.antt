@@ -3,11 +3,8 @@ use Rattle.std.specs.List.{list_any}
 use Rattle.std.proofs.lemmas.Bool.{and_left, ne_eqb}
 use Rattle.std.proofs.lemmas.Result.{on_ok_weaker}
 use Rattle.metis_ids.specs.declared.events.Event.TheVariants.{At}
-use Rattle.metis_lines.specs.AbstractPlan.{AbstractPlan, line_count}
-use Rattle.metis_lines.specs.Events.{is_return_of, leaving, same_event, step_count}
-use Rattle.metis_lines.specs.LifeLines.{line_supplies, plan_of}
-use Rattle.metis_rounds.specs.Returns.{Brings}
-use Rattle.metis_rounds.specs.Tables.{HasRows, has_row, row_at}
+use Rattle.metis_lines.specs.Terms.{AbstractPlan, is_return_of, leaving, line_count, line_supplies, plan_of, same_event, step_count}
+use Rattle.metis_rounds.specs.Terms.{Brings, HasRows, has_row, row_at}
 use Rattle.metis_rounds.proofs.Moved.{AreMoved, held_event, held_leaves, lists_grown, new_event, new_leaves, returns_moved, rows_added}
 use Rattle.metis_rounds.proofs.Twins.{on_line, one_more}
 use Rattle.metis_rounds.proofs.returns.move_returns.Goals.{After-leaving}

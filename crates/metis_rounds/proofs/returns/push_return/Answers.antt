@@ -1,5 +1,5 @@
 use Rattle.std.proofs.Common.{ap}
-use Rattle.metis_lines.specs.Events.{is_end}
+use Rattle.metis_lines.specs.Terms.{is_end}
 use Rattle.metis_rounds.proofs.Brought.{pushed}
 use Rattle.metis_rounds.proofs.returns.push_return.Goals as goal
 

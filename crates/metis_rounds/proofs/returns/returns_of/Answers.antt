@@ -1,8 +1,7 @@
 use Rattle.std.proofs.Common.{not, ◌∙◌}
 use Rattle.std.specs.List.{list_any}
-use Rattle.metis_lines.specs.Events.{is_end, is_return_of}
-use Rattle.metis_lines.specs.LifeLines.{line_supplies}
-use Rattle.metis_events.specs.Gathered.{without_supplies}
+use Rattle.metis_lines.specs.Terms.{is_end, is_return_of, line_supplies}
+use Rattle.metis_events.specs.Terms.{without_supplies}
 use Rattle.metis_rounds.proofs.Brought.{rows_kept, more_lines}
 use Rattle.metis_rounds.proofs.returns.returns_of.Goals as goal
 

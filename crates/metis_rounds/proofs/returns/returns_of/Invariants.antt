@@ -1,10 +1,9 @@
 use Rattle.std.proofs.Common.{◌≡◌, ◌&&◌, not}
 use Rattle.std.specs.List.{flat_map, list_any, range_with_len}
 use Rattle.metis_ids.specs.declared.events.Event.{Event}
-use Rattle.metis_lines.specs.Events.{is_among, is_end, is_return_of}
-use Rattle.metis_lines.specs.LifeLines.{line_supplies}
-use Rattle.metis_events.specs.Gathered.{without_supplies}
-use Rattle.metis_rounds.specs.Tables.{HasRows, row_at}
+use Rattle.metis_lines.specs.Terms.{is_among, is_end, is_return_of, line_supplies}
+use Rattle.metis_events.specs.Terms.{without_supplies}
+use Rattle.metis_rounds.specs.Terms.{HasRows, row_at}
 use Rattle.metis_rounds.proofs.returns.returns_of.Given as goal
 
 -- the lines before this one are done

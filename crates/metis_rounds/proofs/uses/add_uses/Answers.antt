@@ -1,9 +1,9 @@
 use Rattle.std.proofs.Common.{◌≡◌, ◌<◌, ◌++◌, ◌+◌, [], ℕ, List, ap, get_or, length, map, subst, sym, take, ◌∙◌, append_assoc, append-nil}
 use Rattle.std.specs.List.{flat_map, range_with_len}
 use Rattle.std.specs.Option.{option_map_or}
-use Rattle.metis_universe.specs.Universe.{Universe, demand_of, required_of}
-use Rattle.metis_support.specs.Support.{Support, provider_at}
-use Rattle.metis_rounds.specs.Tables.{port_uses}
+use Rattle.metis_universe.specs.Terms.{Universe, demand_of, required_of}
+use Rattle.metis_support.specs.Terms.{Support, provider_at}
+use Rattle.metis_rounds.specs.Terms.{port_uses}
 use Rattle.metis_rounds.proofs.UseLists.{ports_more}
 use Rattle.metis_rounds.proofs.uses.add_uses.Goals as goal
 use Rattle.metis_rounds.proofs.uses.add_uses.Goals.{in-Some+in_ok-add_slots, in_default}

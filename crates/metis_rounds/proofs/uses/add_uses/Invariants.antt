@@ -1,7 +1,7 @@
 use Rattle.std.proofs.Common.{◌≡◌, ◌++◌, take}
 use Rattle.std.specs.List.{flat_map}
-use Rattle.metis_universe.specs.Universe.{required_of}
-use Rattle.metis_rounds.specs.Tables.{port_uses}
+use Rattle.metis_universe.specs.Terms.{required_of}
+use Rattle.metis_rounds.specs.Terms.{port_uses}
 use Rattle.metis_rounds.proofs.uses.add_uses.Given as goal
 
 -- the ports before this one are done

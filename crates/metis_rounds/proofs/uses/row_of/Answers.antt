@@ -1,9 +1,9 @@
 use Rattle.std.proofs.Common.{◌++◌, sym, ap, ◌∙◌}
 use Rattle.std.proofs.lemmas.Bool.{both_ways}
-use Rattle.metis_ids.specs.PairSet.{PairSet}
-use Rattle.metis_support.specs.Support.{Support, is_selected}
-use Rattle.metis_universe.specs.Universe.{has}
-use Rattle.metis_rounds.specs.Tables.{uses_of}
+use Rattle.metis_ids.specs.Terms.{PairSet}
+use Rattle.metis_support.specs.Terms.{Support, is_selected}
+use Rattle.metis_universe.specs.Terms.{has}
+use Rattle.metis_rounds.specs.Terms.{uses_of}
 use Rattle.metis_rounds.proofs.uses.row_of.Goals as goal
 use Rattle.metis_rounds.proofs.uses.row_of.Goals.{then-has+in_ok-add_uses, else-has}
 

@@ -1,9 +1,9 @@
 use Rattle.std.proofs.Common.{◌≡◌, ◌-◌, ◌<◌, ◌∙◌, length, sym, ap, arith}
 use Rattle.std.proofs.lemmas.List.{get_or_default}
 use Rattle.metis_ids.specs.declared.events.Event.TheVariants.{End}
-use Rattle.metis_lines.specs.Events.{same_event}
+use Rattle.metis_lines.specs.Terms.{same_event}
 use Rattle.metis_rounds.proofs.Steps.{place_is, place_none}
-use Rattle.metis_rounds.specs.Walks.{step_at}
+use Rattle.metis_rounds.specs.Terms.{step_at}
 use Rattle.metis_rounds.proofs.walk.last_place.Goals as goal
 
 pub returns-then-is_same_event-clause-place : goal.returns-then-is_same_event-clause-place

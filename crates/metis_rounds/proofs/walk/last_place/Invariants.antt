@@ -1,6 +1,6 @@
 use Rattle.std.proofs.Common.{◌≡◌, ◌<◌, ◌≤◌, ℕ, false, length}
-use Rattle.metis_lines.specs.Events.{same_event}
-use Rattle.metis_rounds.specs.Walks.{step_at}
+use Rattle.metis_lines.specs.Terms.{same_event}
+use Rattle.metis_rounds.specs.Terms.{step_at}
 use Rattle.metis_rounds.proofs.walk.last_place.Given as goal
 
 -- the event is at no place from this one on

@@ -2,12 +2,10 @@ use Rattle.std.proofs.Common.{◌≡◌, ◌<◌, ◌-◌, None, Option, Some, l
 use Rattle.std.specs.Option.{IfNone, IfSome, IsSome}
 use Rattle.metis_lines.proofs.Formed.{lines_formed}
 use Rattle.metis_ids.specs.declared.events.Event.{Event}
-use Rattle.metis_lines.specs.LifeLines.{plan_of}
+use Rattle.metis_lines.specs.Terms.{plan_of}
 use Rattle.metis_rounds.proofs.Kept.{stuck_event, walk_stuck}
 use Rattle.metis_rounds.proofs.WalkOn.{left_is_before, some_before}
-use Rattle.metis_rounds.specs.Reach.{HasAllBefore, IsLeastLeft}
-use Rattle.metis_rounds.specs.Stuck.{is_stuck}
-use Rattle.metis_rounds.specs.Walks.{IsLeastBefore, step_at}
+use Rattle.metis_rounds.specs.Terms.{HasAllBefore, IsLeastBefore, IsLeastLeft, is_stuck, step_at}
 use Rattle.std.specs.Prelude.{IsTrue}
 use Rattle.metis_rounds.proofs.walking.next_step.Goals.{After-unwrap-event}
 use Rattle.metis_rounds.proofs.walking.next_step.Goals as goal

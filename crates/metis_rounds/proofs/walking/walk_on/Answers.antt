@@ -2,9 +2,9 @@ use Rattle.std.proofs.Common.{length, sym, ap, subst, ◌∙◌, arith}
 use Rattle.std.proofs.lemmas.List.{length_push}
 use Rattle.std.proofs.lemmas.Result.{IfOk-weaker}
 use Rattle.metis_lines.proofs.Formed.{lines_formed}
-use Rattle.metis_lines.specs.LifeLines.{plan_of}
+use Rattle.metis_lines.specs.Terms.{plan_of}
 use Rattle.metis_rounds.proofs.Closing.{walk_closes, walk_grows, walk_room}
-use Rattle.metis_rounds.specs.Walks.{IsWalk}
+use Rattle.metis_rounds.specs.Terms.{IsWalk}
 use Rattle.metis_rounds.proofs.walking.walk_on.Goals as goal
 
 pub returns-then-has-clause-cycle : goal.returns-then-has-clause-cycle

@@ -1,7 +1,6 @@
 use Rattle.std.proofs.Common.{◌<◌, ◌-◌, length}
-use Rattle.metis_lines.specs.Events.{events}
-use Rattle.metis_lines.specs.LifeLines.{plan_of}
-use Rattle.metis_rounds.specs.Walks.{IsWalk}
+use Rattle.metis_lines.specs.Terms.{events, plan_of}
+use Rattle.metis_rounds.specs.Terms.{IsWalk}
 use Rattle.metis_rounds.proofs.walking.walk_on.Given as goal
 
 abbrev pub invariant-loop-walk : goal.invariant-loop-walk

@@ -1,6 +1,6 @@
 use Rattle.std.proofs.Common.{map, sym, subst}
 use Rattle.std.specs.Prelude.{IfOk}
-use Rattle.metis_universe.specs.Numbers.{IsOf}
+use Rattle.metis_universe.specs.Terms.{IsOf}
 use Rattle.metis_sim.proofs.ActionNumbers.{action_is_of}
 use Rattle.metis_sim.proofs.actions.action_in.Goals as goal
 

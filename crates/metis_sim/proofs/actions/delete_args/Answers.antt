@@ -1,5 +1,5 @@
 use Rattle.std.proofs.Common.{ap, ◌∙◌}
-use Rattle.metis_sim.specs.Orders.{delete_args}
+use Rattle.metis_sim.specs.Terms.{delete_args}
 use Rattle.metis_sim.proofs.WordLists.{no_word, one_word}
 use Rattle.metis_sim.proofs.actions.delete_args.Goals as goal
 

@@ -3,7 +3,7 @@ use Rattle.std.proofs.lemmas.Bool.{eqb-true, ltb-true}
 use Rattle.std.proofs.lemmas.Slice.Eq.{bytes_eq-Decides}
 use Rattle.std.specs.Str.{bytes_eq}
 use Rattle.metis_tokens.proofs.NameTokens.{state_at}
-use Rattle.metis_universe.specs.Universe.{pair_count, state_name_of, state_named, type_of}
+use Rattle.metis_universe.specs.Terms.{pair_count, state_name_of, state_named, type_of}
 use Rattle.metis_sim.proofs.actions.is_state.Goals.{then-pair-pairs, else-pair-pairs}
 use Rattle.metis_sim.proofs.actions.is_state.Goals as goal
 

@@ -1,5 +1,5 @@
 use Rattle.std.proofs.Common.{ap, ◌∙◌}
-use Rattle.metis_sim.specs.Orders.{move_states}
+use Rattle.metis_sim.specs.Terms.{move_states}
 use Rattle.metis_sim.proofs.WordLists.{no_word, two_words}
 use Rattle.metis_sim.proofs.actions.move_states.Goals as goal
 

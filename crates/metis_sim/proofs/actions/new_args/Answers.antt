@@ -1,5 +1,5 @@
 use Rattle.std.proofs.Common.{ap, ◌∙◌}
-use Rattle.metis_sim.specs.Orders.{new_args}
+use Rattle.metis_sim.specs.Terms.{new_args}
 use Rattle.metis_sim.proofs.WordLists.{no_word, two_words}
 use Rattle.metis_sim.proofs.actions.new_args.Goals as goal
 

@@ -1,5 +1,5 @@
 use Rattle.std.proofs.Common.{ap, ◌∙◌}
-use Rattle.metis_sim.specs.Orders.{tie_ends}
+use Rattle.metis_sim.specs.Terms.{tie_ends}
 use Rattle.metis_sim.proofs.WordLists.{no_word, two_words}
 use Rattle.metis_sim.proofs.actions.tie_ends.Goals as goal
 

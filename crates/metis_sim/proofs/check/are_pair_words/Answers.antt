@@ -2,7 +2,7 @@ use Rattle.std.proofs.Common.{ℕ, List, Bor, ◌∙◌, rules, tests}
 use Rattle.std.proofs.lemmas.Iterator.{YieldsList-from_slice}
 use Rattle.std.proofs.lemmas.Iterator.Search.{all_from_yields_List}
 use Rattle.metis_sim.proofs.WordLists.{list_all-texts}
-use Rattle.metis_sim.specs.Words.{is_pair_word}
+use Rattle.metis_sim.specs.Terms.{is_pair_word}
 use Rattle.metis_sim.proofs.check.are_pair_words.Goals as goal
 
 pub returns : goal.returns

@@ -1,5 +1,5 @@
 use Rattle.std.proofs.Common.{◌≡◌, drop, map}
-use Rattle.metis_sim.specs.Checks.{goals_behind, goals_of}
+use Rattle.metis_sim.specs.Terms.{goals_behind, goals_of}
 use Rattle.metis_sim.proofs.check.goals_of.Given as goal
 
 abbrev pub invariant-loop-word : goal.invariant-loop-word

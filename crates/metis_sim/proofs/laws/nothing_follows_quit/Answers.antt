@@ -1,5 +1,5 @@
 use Rattle.metis_sim.proofs.Courses.{over_by_bye, replies_after_quit, session_after_quit}
-use Rattle.metis_sim.specs.Session.{after_line}
+use Rattle.metis_sim.specs.Terms.{after_line}
 use Rattle.metis_sim.proofs.laws.nothing_follows_quit.Goals as goal
 
 pub returns-clause-replies : goal.returns-clause-replies

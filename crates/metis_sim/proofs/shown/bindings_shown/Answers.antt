@@ -1,8 +1,7 @@
 use Rattle.std.proofs.Common.{◌<◌, sym, subst}
 use Rattle.std.specs.List.{All}
 use Rattle.std.proofs.lemmas.List.Elements.{All-from_recursion}
-use Rattle.metis_universe.specs.Config.{Binding}
-use Rattle.metis_universe.specs.Universe.{port_count}
+use Rattle.metis_universe.specs.Terms.{Binding, port_count}
 use Rattle.metis_sim.proofs.ShownNumbers.{bindings_low}
 use Rattle.metis_sim.proofs.shown.bindings_shown.Goals as goal
 

@@ -1,7 +1,7 @@
 use Rattle.std.proofs.Common.{ℕ, ◌<◌, sym, subst}
 use Rattle.std.specs.List.{All}
 use Rattle.std.proofs.lemmas.List.Elements.{All-from_recursion}
-use Rattle.metis_universe.specs.Universe.{pair_count}
+use Rattle.metis_universe.specs.Terms.{pair_count}
 use Rattle.metis_sim.proofs.ShownNumbers.{instances_low}
 use Rattle.metis_sim.proofs.shown.instances_shown.Goals as goal
 

@@ -1,5 +1,5 @@
 use Rattle.std.proofs.Common.{sym, subst}
-use Rattle.metis_outside.specs.Pieces.{IsLine}
+use Rattle.metis_outside.specs.Terms.{IsLine}
 use Rattle.metis_sim.proofs.ReplyFeeds.{IsLine-counts_line}
 use Rattle.metis_sim.proofs.shown.line_of_counts.Goals as goal
 

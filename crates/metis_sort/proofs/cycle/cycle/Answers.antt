@@ -1,10 +1,9 @@
 use Rattle.std.proofs.Common.{◌≡◌, ℕ, suc, ◌+◌, ◌<◌, true, false, List, ◌∷◌, ◌++◌, [], length, get_or, set, sym, ap, ◌∙◌, arith, length-set}
 use Rattle.std.proofs.lemmas.List.{get_or_default, length_push}
 use Rattle.std.proofs.lemmas.Result.{IfOk-weaker}
-use Rattle.metis_ids.specs.Lists.{has}
-use Rattle.metis_ids.specs.Cycle.{before_in, from_first, stuck, visit, visits}
+use Rattle.metis_ids.specs.Terms.{before_in, from_first, has, stuck, visit, visits}
 use Rattle.metis_ids.proofs.Stuck.{stuck_before}
-use Rattle.metis_sort.specs.Counts.{edges_to}
+use Rattle.metis_sort.specs.Terms.{edges_to}
 use Rattle.metis_sort.proofs.CountFacts.{edges_to-few}
 use Rattle.metis_sort.proofs.CycleFacts.{new_more, seen_more, visit_low, visit_stuck, visits_more, walk_cost, walk_ends, walk_room}
 use Rattle.metis_sort.proofs.cycle.cycle.Goals as goal

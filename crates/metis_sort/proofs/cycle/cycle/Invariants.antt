@@ -1,7 +1,6 @@
 use Rattle.std.proofs.Common.{◌≡◌, ℕ, ◌+◌, ◌-◌, ◌<◌, ◌≤◌, false, length, get_or}
-use Rattle.metis_ids.specs.Lists.{has}
-use Rattle.metis_ids.specs.Cycle.{stuck, visit, visits}
-use Rattle.metis_sort.specs.Counts.{edges_to}
+use Rattle.metis_ids.specs.Terms.{has, stuck, visit, visits}
+use Rattle.metis_sort.specs.Terms.{edges_to}
 use Rattle.metis_sort.proofs.cycle.cycle.Given as goal
 
 abbrev pub invariant-loop-seen : goal.invariant-loop-seen

@@ -1,5 +1,5 @@
 use Rattle.std.proofs.Common.{◌≡◌, ℕ, length, get_or, take}
-use Rattle.metis_ids.specs.Counts.{occurrences}
+use Rattle.metis_ids.specs.Terms.{occurrences}
 use Rattle.metis_sort.proofs.dag.counts_of.Given as goal
 
 abbrev pub invariant-loop-node : goal.invariant-loop-node

@@ -1,8 +1,7 @@
 use Rattle.std.proofs.Common.{◌≡◌, ◌+◌, ◌<◌, ◌++◌, [], length, get_or, replicate, ap, ◌∙◌, sym, subst, arith, true}
 use Rattle.std.specs.List.{flat_map, range_with_len}
-use Rattle.metis_ids.specs.Lists.{has}
+use Rattle.metis_ids.specs.Terms.{has, occurrences}
 use Rattle.metis_ids.proofs.Lists.{flat_more}
-use Rattle.metis_ids.specs.Counts.{occurrences}
 use Rattle.metis_sort.proofs.DagFacts.{edges_into_count, in_joined, occurrences_below, turned_length}
 use Rattle.metis_sort.proofs.dag.turned.Goals as goal
 

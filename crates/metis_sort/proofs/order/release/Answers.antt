@@ -1,10 +1,8 @@
 use Rattle.std.proofs.Common.{◌≡◌, ◌+◌, ◌-◌, ◌<◌, ◌||◌, ◌&&◌, ℕ, List, length, get_or, set, take, nat_eq, sym, ap, ◌∙◌, arith, refl}
 use Rattle.std.proofs.lemmas.List.{take_all}
-use Rattle.metis_ids.specs.Graph.{afters}
-use Rattle.metis_ids.specs.Lists.{has}
+use Rattle.metis_ids.specs.Terms.{afters, has, occurrences}
 use Rattle.metis_ids.proofs.Lists.{end_past}
-use Rattle.metis_ids.specs.Counts.{occurrences}
-use Rattle.metis_sort.specs.Ready.{offers}
+use Rattle.metis_sort.specs.Terms.{offers}
 use Rattle.metis_sort.proofs.CountFacts.{few_afters}
 use Rattle.metis_sort.proofs.ReleaseFacts.{place_low, entry_within, waits_some, waits_step, ready_step}
 use Rattle.metis_sort.proofs.order.release.Goals as goal

@@ -1,8 +1,6 @@
 use Rattle.std.proofs.Common.{◌≡◌, ◌+◌, ◌-◌, ◌≤◌, ◌&&◌, ◌||◌, ◌==◌, ℕ, length, slice_index, take}
-use Rattle.metis_ids.specs.Graph.{afters}
-use Rattle.metis_ids.specs.Lists.{has}
-use Rattle.metis_ids.specs.Counts.{occurrences}
-use Rattle.metis_sort.specs.Ready.{offers}
+use Rattle.metis_ids.specs.Terms.{afters, has, occurrences}
+use Rattle.metis_sort.specs.Terms.{offers}
 use Rattle.metis_sort.proofs.order.release.Given as goal
 
 abbrev pub invariant-loop-next : goal.invariant-loop-next

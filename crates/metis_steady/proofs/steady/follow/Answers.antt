@@ -1,11 +1,10 @@
 use Rattle.std.proofs.Common.{◌≡◌, ◌∙◌, [], ap, arith, inl, inr, subst, sym}
-use Rattle.metis_actions.specs.Faults.{IsFaultOf}
+use Rattle.metis_actions.specs.Terms.{IsFaultOf}
 use Rattle.metis_replay.proofs.Feeding.{fed_universe}
-use Rattle.metis_replay.specs.Progress.{after_feeding, start, verdict}
+use Rattle.metis_replay.specs.Terms.{after_feeding, start, verdict}
 use Rattle.metis_replay.specs.declared.verdict.Verdict.{Verdict}
 use Rattle.metis_replay.specs.declared.verdict.Verdict.TheVariants.{Bad, Good, Missing}
-use Rattle.metis_universe.specs.Config.{empty}
-use Rattle.metis_universe.specs.Step.{IsRun}
+use Rattle.metis_universe.specs.Terms.{IsRun, empty}
 use Rattle.metis_steady.proofs.steady.follow.Goals as goal
 
 pub returns-in-Bad : goal.returns-in-Bad

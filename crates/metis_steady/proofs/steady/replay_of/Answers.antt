@@ -1,8 +1,8 @@
 use Rattle.std.proofs.Common.{ap, sym, ◌∙◌, subst, arith, take}
 use Rattle.std.proofs.lemmas.List.{take_all}
-use Rattle.metis_universe.specs.Numbers.{IsOf}
+use Rattle.metis_universe.specs.Terms.{IsOf}
 use Rattle.metis_replay.proofs.Feeding.{fed_next, fed_universe}
-use Rattle.metis_replay.specs.Progress.{after_feeding, fed, start}
+use Rattle.metis_replay.specs.Terms.{after_feeding, fed, start}
 use Rattle.metis_steady.proofs.steady.replay_of.Goals as goal
 
 pub feed-requires-clause-action : goal.feed-requires-clause-action

@@ -1,9 +1,8 @@
 use Rattle.std.proofs.Common.{ap, sym, ◌∙◌, subst, length}
 use Rattle.std.specs.List.{All}
-use Rattle.metis_universe.specs.Config.{Config}
-use Rattle.metis_universe.specs.Goals.{IsGoalOf}
+use Rattle.metis_universe.specs.Terms.{Config, IsGoalOf}
 use Rattle.metis_replay.proofs.Feeding.{fed_universe}
-use Rattle.metis_replay.specs.Progress.{IsVerdictOf, start, verdict}
+use Rattle.metis_replay.specs.Terms.{IsVerdictOf, start, verdict}
 use Rattle.metis_replay.specs.declared.verdict.Verdict.TheVariants.{Good}
 use Rattle.metis_steady.proofs.steady.replayed.Goals as goal
 

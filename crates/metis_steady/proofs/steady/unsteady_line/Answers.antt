@@ -1,5 +1,5 @@
 use Rattle.std.proofs.Common.{sym, subst}
-use Rattle.metis_outside.specs.Pieces.{IsLine}
+use Rattle.metis_outside.specs.Terms.{IsLine}
 use Rattle.metis_steady.proofs.SteadyLines.{IsLine-bad_line, IsLine-loose_line}
 use Rattle.metis_steady.proofs.steady.unsteady_line.Goals as goal
 

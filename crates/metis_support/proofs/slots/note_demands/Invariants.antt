@@ -1,5 +1,5 @@
 use Rattle.std.proofs.Common.{◌≡◌, ℕ, fold, get_or, length, map, max, take}
-use Rattle.metis_universe.specs.Universe.{required_of}
+use Rattle.metis_universe.specs.Terms.{required_of}
 use Rattle.metis_support.proofs.SlotCounts.{demanded_from}
 use Rattle.metis_support.proofs.slots.note_demands.Given as goal
 

@@ -1,7 +1,7 @@
 use Rattle.std.proofs.Common.{◌≡◌, ◌++◌, ℕ, fold, get_or, length, max}
 use Rattle.std.specs.List.{flat_map}
-use Rattle.metis_universe.specs.Selection.{demands_on}
-use Rattle.metis_support.specs.Support.{provider_at}
+use Rattle.metis_universe.specs.Terms.{demands_on}
+use Rattle.metis_support.specs.Terms.{provider_at}
 use Rattle.metis_support.proofs.slots.slot_counts.Given as goal
 
 -- raised to what the pairs so far demand

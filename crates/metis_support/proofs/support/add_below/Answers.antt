@@ -1,9 +1,9 @@
 use Rattle.std.proofs.Common.{◌||◌, ap, sym, ◌∙◌, nat_eq}
 use Rattle.std.proofs.Math.Bool.{or_comm}
-use Rattle.metis_support.specs.Support.{is_number}
+use Rattle.metis_support.specs.Terms.{is_number}
 use Rattle.metis_support.proofs.support.add_below.Goals as goal
 use Rattle.metis_universe.proofs.Ascending.{has-insert_key}
-use Rattle.metis_universe.specs.Universe.{has}
+use Rattle.metis_universe.specs.Terms.{has}
 
 pub returns-in-Some-clause-members : goal.returns-in-Some-clause-members
 returns-in-Some-clause-members c = λ q low.

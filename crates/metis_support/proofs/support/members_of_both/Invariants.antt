@@ -1,6 +1,6 @@
 use Rattle.std.proofs.Common.{◌≡◌}
 use Rattle.std.specs.List.{filter}
-use Rattle.metis_universe.specs.Universe.{has}
+use Rattle.metis_universe.specs.Terms.{has}
 use Rattle.metis_support.proofs.support.members_of_both.Given as goal
 
 -- those of the members so far

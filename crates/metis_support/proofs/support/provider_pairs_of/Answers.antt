@@ -3,8 +3,8 @@ use Rattle.std.proofs.lemmas.List.Elements.{recursion_from_All}
 use Rattle.std.specs.List.{list_any}
 use Rattle.metis_support.proofs.Lists.{filter_alike}
 use Rattle.metis_support.proofs.support.provider_pairs_of.Goals as goal
-use Rattle.metis_support.specs.Support.{is_number}
-use Rattle.metis_universe.specs.Universe.{has}
+use Rattle.metis_support.specs.Terms.{is_number}
+use Rattle.metis_universe.specs.Terms.{has}
 
 pub returns : goal.returns
 returns c =

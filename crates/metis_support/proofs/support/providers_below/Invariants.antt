@@ -1,7 +1,7 @@
 use Rattle.std.proofs.Common.{◌≡◌, ℕ, ◌<◌, take}
 use Rattle.std.specs.List.{list_any}
-use Rattle.metis_universe.specs.Universe.{has}
-use Rattle.metis_support.specs.Support.{is_number}
+use Rattle.metis_universe.specs.Terms.{has}
+use Rattle.metis_support.specs.Terms.{is_number}
 use Rattle.metis_support.proofs.support.providers_below.Given as goal
 
 -- the set has the providers of the ports so far

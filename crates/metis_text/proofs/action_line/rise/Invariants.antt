@@ -1,5 +1,5 @@
 use Rattle.std.proofs.Common.{◌≡◌, drop}
-use Rattle.metis_text.specs.ActionLine.{rise}
+use Rattle.metis_text.specs.Terms.{rise}
 use Rattle.metis_text.proofs.action_line.rise.Given as goal
 
 abbrev pub invariant-loop-number : goal.invariant-loop-number

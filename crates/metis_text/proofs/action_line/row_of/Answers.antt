@@ -1,8 +1,7 @@
 use Rattle.std.proofs.Common.{List, [], ℕ, Bor, Vec, Global, get_or, map, sym, ap, ◌∙◌}
 use Rattle.metis_ids.specs.declared.actions.Action.{Action}
-use Rattle.metis_text.specs.ActionLine.{Row, after_in}
-use Rattle.metis_tokens.specs.Tokens.{due}
-use Rattle.metis_tokens.specs.Flaws.{both, made}
+use Rattle.metis_text.specs.Terms.{Row, after_in}
+use Rattle.metis_tokens.specs.Terms.{both, due, made}
 use Rattle.metis_text.proofs.Shapes.{both_view, numbered_view, row_few, row_some}
 use Rattle.metis_text.proofs.action_line.row_of.Goals as goal
 

@@ -1,4 +1,4 @@
-use Rattle.metis_text.specs.ActionLine.{unbind_action}
+use Rattle.metis_text.specs.Terms.{unbind_action}
 use Rattle.metis_text.proofs.Shapes.{no_token, tie_three}
 use Rattle.metis_text.proofs.action_line.unbind_words.Goals as goal
 

@@ -1,8 +1,6 @@
 use Rattle.std.proofs.Common.{List, [], ℕ, Bor, get_or, sym, ap, ◌∙◌}
-use Rattle.metis_tokens.specs.Words.{pair_in}
-use Rattle.metis_tokens.specs.Tokens.{due}
-use Rattle.metis_tokens.specs.Flaws.{both, made}
-use Rattle.metis_text.specs.Reads.{dup_row}
+use Rattle.metis_tokens.specs.Terms.{both, due, made, pair_in}
+use Rattle.metis_text.specs.Terms.{dup_row}
 use Rattle.metis_text.proofs.Shapes.{dup_few, dup_worded, dup_wordless, numbered_view}
 use Rattle.metis_text.proofs.dup_line.dup_of.Goals as goal
 

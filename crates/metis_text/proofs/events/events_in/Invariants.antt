@@ -1,7 +1,7 @@
 use Rattle.std.proofs.Common.{◌≡◌, [], drop}
 use Rattle.std.specs.Prelude.{Ok, map}
-use Rattle.metis_tokens.specs.Flaws.{all_behind, made}
-use Rattle.metis_text.specs.DupLine.{event_in}
+use Rattle.metis_tokens.specs.Terms.{all_behind, made}
+use Rattle.metis_text.specs.Terms.{event_in}
 use Rattle.metis_text.proofs.events.events_in.Given as goal
 
 abbrev pub invariant-loop-token : goal.invariant-loop-token

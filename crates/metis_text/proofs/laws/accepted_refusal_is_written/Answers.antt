@@ -1,4 +1,4 @@
-use Rattle.metis_text.specs.RefusalReading.{refusal_parts}
+use Rattle.metis_text.specs.Terms.{refusal_parts}
 use Rattle.metis_text.proofs.RefusalRead.{refusal_is}
 use Rattle.metis_text.proofs.laws.accepted_refusal_is_written.Goals as goal
 

@@ -1,6 +1,5 @@
 use Rattle.std.proofs.Common.{sym, ap, ◌∙◌}
-use Rattle.metis_text.specs.Reading.{plan_from, plan_in}
-use Rattle.metis_text.specs.Reads.{said}
+use Rattle.metis_text.specs.Terms.{plan_from, plan_in, said}
 use Rattle.metis_text.proofs.Accepted.{well_formed_read}
 use Rattle.metis_text.proofs.PlanWhole.{closed, lines_from, plan_text}
 use Rattle.metis_tokens.proofs.Texts.{front_of_accepted}

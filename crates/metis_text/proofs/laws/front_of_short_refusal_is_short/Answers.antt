@@ -1,4 +1,4 @@
-use Rattle.metis_text.specs.RefusalReading.{refusal_from}
+use Rattle.metis_text.specs.Terms.{refusal_from}
 use Rattle.metis_text.proofs.RefusalFaults.{closed, lines_from, refusal_text}
 use Rattle.metis_tokens.proofs.Texts.{front_of_short}
 use Rattle.metis_text.proofs.laws.front_of_short_refusal_is_short.Goals as goal

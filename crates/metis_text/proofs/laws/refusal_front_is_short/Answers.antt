@@ -1,5 +1,5 @@
 use Rattle.std.proofs.Common.{sym, ap, ◌∙◌}
-use Rattle.metis_text.specs.RefusalReading.{refusal_from, refusal_in, refusal_parts}
+use Rattle.metis_text.specs.Terms.{refusal_from, refusal_in, refusal_parts}
 use Rattle.metis_text.proofs.RefusalFaults.{closed, lines_from, refusal_text}
 use Rattle.metis_text.proofs.RefusalRead.{refusal_read}
 use Rattle.metis_tokens.proofs.Texts.{front_of_accepted}

@@ -1,4 +1,4 @@
-use Rattle.metis_text.specs.RefusalReading.{refusal_from}
+use Rattle.metis_text.specs.Terms.{refusal_from}
 use Rattle.metis_text.proofs.RefusalFaults.{closed, lines_from, refusal_text}
 use Rattle.metis_tokens.proofs.Texts.{short_stays}
 use Rattle.metis_text.proofs.laws.short_refusal_until_a_line_ends.Goals as goal

@@ -1,7 +1,7 @@
 use Rattle.std.proofs.Common.{◌++◌, ap, ◌∙◌}
 use Rattle.std.specs.Prelude.{codes, string_bytes}
 use Rattle.metis_tokens.proofs.Words.{added_next}
-use Rattle.metis_text.specs.PlanText.{event_token}
+use Rattle.metis_text.specs.Terms.{event_token}
 use Rattle.metis_text.proofs.lines.push_events.Goals as goal
 
 pub loop-event-preserved : goal.loop-event-preserved

@@ -1,7 +1,7 @@
 use Rattle.std.proofs.Common.{◌≡◌, ◌++◌, take}
 use Rattle.std.specs.Prelude.{map, string_bytes}
-use Rattle.metis_text.specs.PlanText.{event_token}
-use Rattle.metis_tokens.specs.Line.{added}
+use Rattle.metis_text.specs.Terms.{event_token}
+use Rattle.metis_tokens.specs.Terms.{added}
 use Rattle.metis_text.proofs.lines.push_events.Given as goal
 
 abbrev pub invariant-loop-event : goal.invariant-loop-event

@@ -1,8 +1,8 @@
 use Rattle.std.proofs.Common.{◌++◌, ◌∷◌, sym, ap, ◌∙◌}
 use Rattle.std.specs.Prelude.{codes, decimal}
 use Rattle.metis_tokens.proofs.Words.{words_added}
-use Rattle.metis_tokens.specs.Line.{added, words}
-use Rattle.metis_text.specs.PlanText.{action_tokens, after_tokens}
+use Rattle.metis_tokens.specs.Terms.{added, words}
+use Rattle.metis_text.specs.Terms.{action_tokens, after_tokens}
 use Rattle.metis_text.proofs.lines.set_action_line.Goals as goal
 
 pub returns : goal.returns

@@ -1,9 +1,9 @@
 use Rattle.std.proofs.Common.{◌++◌, ◌∷◌, [], map, sym, ap, ◌∙◌}
 use Rattle.std.specs.Prelude.{codes, decimal, string_bytes}
 use Rattle.metis_tokens.proofs.Words.{words_added}
-use Rattle.metis_tokens.specs.Line.{added, words}
-use Rattle.metis_text.specs.PlanText.{event_token}
-use Rattle.metis_universe.specs.PairWords.{pair_word}
+use Rattle.metis_tokens.specs.Terms.{added, words}
+use Rattle.metis_text.specs.Terms.{event_token}
+use Rattle.metis_universe.specs.Terms.{pair_word}
 use Rattle.metis_text.proofs.lines.set_dup_line.Goals as goal
 
 pub returns : goal.returns

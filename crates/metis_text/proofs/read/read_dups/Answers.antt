@@ -1,10 +1,8 @@
 use Rattle.std.proofs.Common.{◌+◌, ◌-◌, [], ◌∷◌, ◌++◌, length, map, refl, sym, ap, ◌∙◌}
 use Rattle.std.proofs.lemmas.List.{length-map, length_push, map-append}
 use Rattle.std.proofs.lemmas.Result.{err_from_is_err_and}
-use Rattle.metis_tokens.specs.Cursor.{read_next}
-use Rattle.metis_text.specs.DupLine.{dup_in}
-use Rattle.metis_text.specs.Reading.{dups_from}
-use Rattle.metis_text.specs.Reads.{dup_row}
+use Rattle.metis_tokens.specs.Terms.{read_next}
+use Rattle.metis_text.specs.Terms.{dup_in, dup_row, dups_from}
 use Rattle.metis_text.proofs.NextRead.{reads_none, reads_one}
 use Rattle.metis_text.proofs.read.read_dups.Goals as goal
 

@@ -1,7 +1,6 @@
 use Rattle.std.proofs.Common.{◌≡◌, ◌-◌, [], length}
 use Rattle.std.specs.Prelude.{map}
-use Rattle.metis_text.specs.Reading.{dups_from}
-use Rattle.metis_text.specs.Reads.{dup_row}
+use Rattle.metis_text.specs.Terms.{dup_row, dups_from}
 use Rattle.metis_text.proofs.read.read_dups.Given as goal
 
 abbrev pub invariant-loop-index : goal.invariant-loop-index

@@ -1,8 +1,7 @@
 use Rattle.std.proofs.Common.{◌+◌, ◌-◌, length, refl, sym, ap, ◌∙◌}
 use Rattle.std.proofs.lemmas.List.{length_push}
 use Rattle.std.proofs.lemmas.Result.{err_from_is_err_and}
-use Rattle.metis_text.specs.ActionLine.{Row, row_in}
-use Rattle.metis_text.specs.Reading.{Rows, rows_from, with_row}
+use Rattle.metis_text.specs.Terms.{Row, Rows, row_in, rows_from, with_row}
 use Rattle.metis_text.proofs.NextRead.{reads_none, reads_one}
 use Rattle.metis_text.proofs.read.read_rows.Goals as goal
 

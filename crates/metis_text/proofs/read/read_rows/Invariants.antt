@@ -1,5 +1,5 @@
 use Rattle.std.proofs.Common.{◌≡◌, ◌-◌, [], length}
-use Rattle.metis_text.specs.Reading.{rows_from, rows_of}
+use Rattle.metis_text.specs.Terms.{rows_from, rows_of}
 use Rattle.metis_text.proofs.read.read_rows.Given as goal
 
 abbrev pub invariant-loop-index : goal.invariant-loop-index

@@ -1,9 +1,8 @@
 use Rattle.std.proofs.Common.{◌≡◌, ◌+◌, ◌-◌, ◌∷◌, ◌++◌, [], ℕ, List, Bor, true, Ok, Err, refl, sym, ap, ◌∙◌}
 use Rattle.std.specs.Prelude.{map}
 use Rattle.std.proofs.lemmas.Result.{err_from_is_err_and}
-use Rattle.metis_tokens.specs.Flaws.{right}
-use Rattle.metis_tokens.specs.Cursor.{fault_at}
-use Rattle.metis_text.specs.RefusalReading.{above, follows, next_pair_in, pair_of_tokens, pairs_from}
+use Rattle.metis_tokens.specs.Terms.{fault_at, right}
+use Rattle.metis_text.specs.Terms.{above, follows, next_pair_in, pair_of_tokens, pairs_from}
 use Rattle.metis_tokens.proofs.LinesRead.{reads_more, reads_short, reads_wrong}
 use Rattle.metis_tokens.proofs.Outcomes.{right_is}
 use Rattle.metis_text.proofs.RefusalPairs.{above_last, insert_behind, right_same}

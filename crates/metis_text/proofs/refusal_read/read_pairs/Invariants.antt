@@ -1,6 +1,6 @@
 use Rattle.std.proofs.Common.{◌≡◌, ◌-◌, [], ℕ}
-use Rattle.metis_text.specs.RefusalReading.{above, follows, pairs_from}
-use Rattle.metis_universe.specs.Universe.{pair_count}
+use Rattle.metis_text.specs.Terms.{above, follows, pairs_from}
+use Rattle.metis_universe.specs.Terms.{pair_count}
 use Rattle.metis_text.proofs.refusal_read.read_pairs.Given as goal
 
 abbrev pub invariant-loop : goal.invariant-loop

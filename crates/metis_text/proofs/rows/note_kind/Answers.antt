@@ -1,6 +1,6 @@
 use Rattle.std.proofs.Common.{[], ◌∷◌, ◌++◌, refl, sym, subst}
 use Rattle.metis_ids.specs.declared.actions.Action.{Action}
-use Rattle.metis_text.specs.Kinds.{AreKinds}
+use Rattle.metis_text.specs.Terms.{AreKinds}
 use Rattle.metis_text.proofs.KindsKept.{kinds_new, kinds_stay}
 use Rattle.metis_text.proofs.rows.note_kind.Goals as goal
 

@@ -1,8 +1,8 @@
 use Rattle.std.proofs.Common.{◌≡◌, ◌++◌, ◌∙◌, ap, refl}
 use Rattle.std.specs.Prelude.{codes}
-use Rattle.metis_ids.specs.Plans.{Plan}
+use Rattle.metis_ids.specs.Terms.{Plan}
 use Rattle.metis_outside.proofs.Feeds.{IsLine-from}
-use Rattle.metis_text.specs.PlanText.{dup_lines}
+use Rattle.metis_text.specs.Terms.{dup_lines}
 use Rattle.metis_text.proofs.write.lines_of_plan.Goals as goal
 
 pub of-requires : goal.of-requires

@@ -1,5 +1,5 @@
 use Rattle.std.proofs.Common.{subst}
-use Rattle.metis_outside.specs.Writes.{Writes}
+use Rattle.metis_outside.specs.Terms.{Writes}
 use Rattle.metis_text.proofs.write.write_plan.Goals as goal
 
 pub returns-clause-text : goal.returns-clause-text

@@ -1,7 +1,6 @@
 use Rattle.std.proofs.Common.{◌≡◌, [], drop}
 use Rattle.std.specs.Prelude.{Ok, map}
-use Rattle.metis_tokens.specs.Flaws.{all_behind}
-use Rattle.metis_tokens.specs.Tokens.{number_in}
+use Rattle.metis_tokens.specs.Terms.{all_behind, number_in}
 use Rattle.metis_tokens.proofs.gather.numbers_in.Given as goal
 
 abbrev pub invariant-loop-index : goal.invariant-loop-index

@@ -1,7 +1,7 @@
 use Rattle.std.proofs.Common.{rules, tests}
 use Rattle.std.proofs.lemmas.Iterator.Consumers.{map_from_collect}
 use Rattle.std.proofs.lemmas.Iterator.Splits.{YieldsList-from_slice_split}
-use Rattle.metis_tokens.specs.Cursor.{is_feed}
+use Rattle.metis_tokens.specs.Terms.{is_feed}
 use Rattle.metis_tokens.proofs.script.pieces_of.Goals as goal
 
 pub returns-clause-pieces : goal.returns-clause-pieces

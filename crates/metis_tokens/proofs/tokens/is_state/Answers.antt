@@ -1,7 +1,7 @@
 use Rattle.std.proofs.Common.{◌≡◌, ◌<◌, sym, ap, ◌∙◌, arith}
 use Rattle.std.proofs.lemmas.Bool.{eqb-true, ltb-true}
 use Rattle.std.specs.Str.{bytes_eq}
-use Rattle.metis_universe.specs.Universe.{pair_count, type_of}
+use Rattle.metis_universe.specs.Terms.{pair_count, type_of}
 use Rattle.metis_tokens.proofs.NameTokens.{state_found}
 use Rattle.metis_tokens.proofs.tokens.is_state.Goals.{then-pair-pairs, else-pair-pairs}
 use Rattle.metis_tokens.proofs.tokens.is_state.Goals as goal

@@ -5,7 +5,7 @@ use Rattle.std.proofs.lemmas.Iterator.{YieldsList}
 use Rattle.std.proofs.lemmas.Iterator.Adapters.{fact_from_extend}
 use Rattle.std.proofs.lemmas.Iterator.Consumers.{YieldsList-at}
 use Rattle.std.proofs.lemmas.Iterator.Splits.{YieldsList-from_slice_split}
-use Rattle.metis_tokens.specs.Tokens.{is_space, tokens}
+use Rattle.metis_tokens.specs.Terms.{is_space, tokens}
 use Rattle.metis_tokens.proofs.tokens.retake_tokens.Goals as goal
 
 -- what is known of a list that was extended from a source of known items

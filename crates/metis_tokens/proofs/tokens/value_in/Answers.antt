@@ -1,6 +1,6 @@
 use Rattle.std.proofs.Common.{◌≡◌, ◌+◌, ◌^◌, ◌≤◌, get_or, drop, true, sym, ap, ◌∙◌, arith}
 use Rattle.std.specs.Char.{is_ascii_digit}
-use Rattle.metis_tokens.specs.Tokens.{value_after}
+use Rattle.metis_tokens.specs.Terms.{value_after}
 use Rattle.metis_tokens.proofs.NumberRead.{digit_passed, digit_taken}
 use Rattle.metis_tokens.proofs.tokens.value_in.Goals.{then-value-lt-NUMBERS, else-value-lt-NUMBERS}
 use Rattle.metis_tokens.proofs.tokens.value_in.Goals as goal

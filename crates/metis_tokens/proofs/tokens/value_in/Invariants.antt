@@ -1,5 +1,5 @@
 use Rattle.std.proofs.Common.{◌≡◌, drop}
-use Rattle.metis_tokens.specs.Tokens.{value_after}
+use Rattle.metis_tokens.specs.Terms.{value_after}
 use Rattle.metis_tokens.proofs.tokens.value_in.Given as goal
 
 abbrev pub invariant-loop-byte : goal.invariant-loop-byte

@@ -1,5 +1,5 @@
 use Rattle.metis_top.proofs.InBytes.{headline_in_bytes}
-use Rattle.metis_universe.specs.Texts.{texts}
+use Rattle.metis_universe.specs.Terms.{texts}
 use Rattle.metis_top.proofs.adapters.headline_over_adapters.Goals as goal
 
 pub returns : goal.returns

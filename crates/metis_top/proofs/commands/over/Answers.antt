@@ -1,5 +1,5 @@
 use Rattle.std.proofs.Common.{Ok, Err, refl, subst, sym}
-use Rattle.metis_top.specs.Over.{Over}
+use Rattle.metis_top.specs.Terms.{Over}
 use Rattle.metis_top.proofs.commands.over.Goals as goal
 
 pub returns-in-Ok : goal.returns-in-Ok

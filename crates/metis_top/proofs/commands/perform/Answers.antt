@@ -1,13 +1,12 @@
 use Rattle.std.proofs.Common.{◌∙◌, ap, subst, sym}
-use Rattle.metis_commands.specs.Audit.{Audited}
-use Rattle.metis_commands.specs.Waits.{Awaited}
-use Rattle.metis_ids.specs.Plans.{Plan}
+use Rattle.metis_commands.specs.Terms.{Audited, Awaited}
+use Rattle.metis_ids.specs.Terms.{Plan}
 use Rattle.metis_inputs.proofs.Said.{plan_is_said}
-use Rattle.metis_inputs.specs.Views.{asked_said, goals_and_said, goals_plan_and_said, plan_and_said, universe_and_said, universe_said}
-use Rattle.metis_output.specs.Puts.{Puts}
-use Rattle.metis_text.specs.Reads.{lists_of}
+use Rattle.metis_inputs.specs.Terms.{asked_said, goals_and_said, goals_plan_and_said, plan_and_said, universe_and_said, universe_said}
+use Rattle.metis_output.specs.Terms.{Puts}
+use Rattle.metis_text.specs.Terms.{lists_of}
 use Rattle.metis_top.proofs.Gathered.{performs_over, ran_at_once}
-use Rattle.metis_words.specs.Form.{Form}
+use Rattle.metis_words.specs.Terms.{Form}
 use Rattle.metis_words.specs.declared.words.Verb.TheVariants as verb
 use Rattle.metis_top.proofs.commands.perform.Goals as goal
 

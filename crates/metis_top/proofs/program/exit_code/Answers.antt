@@ -1,5 +1,5 @@
 use Rattle.std.proofs.Common.{◌∙◌, inl}
-use Rattle.metis_universe.specs.Texts.{texts}
+use Rattle.metis_universe.specs.Terms.{texts}
 use Rattle.metis_top.proofs.program.exit_code.Goals as goal
 
 pub returns-in-Ok : goal.returns-in-Ok

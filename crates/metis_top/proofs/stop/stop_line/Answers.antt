@@ -1,8 +1,8 @@
 use Rattle.std.proofs.Common.{[], ◌∷◌, ◌∙◌, ap, refl, string_bytes, subst, sym}
-use Rattle.metis_outside.specs.Pieces.{IsLine}
+use Rattle.metis_outside.specs.Terms.{IsLine}
 use Rattle.metis_output.specs.declared.status.Status.TheVariants.{ReadFault}
 use Rattle.metis_top.proofs.StopLines.{IsLine-fault_line, IsLine-read_fault_line}
-use Rattle.metis_top.specs.Course.{StopSays}
+use Rattle.metis_top.specs.Terms.{StopSays}
 use Rattle.metis_top.proofs.stop.stop_line.Goals as goal
 
 pub returns-in_ok-line-in-Faulty-clause-line : goal.returns-in_ok-line-in-Faulty-clause-line

@@ -3,8 +3,8 @@ use Rattle.metis_top.proofs.OverFiles.{ran_headline, ran_plans, ran_tells, the_p
 use Rattle.metis_top.proofs.Openings.{ran_opens}
 use Rattle.metis_top.proofs.ReadFaults.{ran_read_fault}
 use Rattle.metis_top.proofs.Verdicts.{write_fault_rose}
-use Rattle.metis_top.specs.Honest.{IsThePlan}
-use Rattle.metis_universe.specs.Texts.{texts}
+use Rattle.metis_top.specs.Terms.{IsThePlan}
+use Rattle.metis_universe.specs.Terms.{texts}
 use Rattle.metis_top.proofs.top.run.Given.{Over}
 use Rattle.metis_top.proofs.top.run.Goals as goal
 

@@ -1,6 +1,6 @@
 use Rattle.std.proofs.Common.{◌∙◌}
 use Rattle.metis_transcripts.proofs.Cases.{piped_run, told_same}
-use Rattle.metis_transcripts.specs.Outside.{outside}
+use Rattle.metis_transcripts.specs.Terms.{outside}
 use Rattle.metis_transcripts.proofs.case.play_piped.Goals as goal
 
 pub returns : goal.returns

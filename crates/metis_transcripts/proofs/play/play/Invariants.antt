@@ -1,6 +1,5 @@
 use Rattle.std.proofs.Common.{map, drop}
-use Rattle.metis_transcripts.specs.Outside.{outside}
-use Rattle.metis_transcripts.specs.Plays.{AreAllPlayed}
+use Rattle.metis_transcripts.specs.Terms.{AreAllPlayed, outside}
 use Rattle.metis_transcripts.proofs.play.play.Given as goal
 
 -- what is left to play makes the whole

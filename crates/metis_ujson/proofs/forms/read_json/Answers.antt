@@ -2,7 +2,7 @@ use Rattle.std.proofs.Common.{◌≡◌, ℕ, List, None, true, false, refl, if�
 use Rattle.std.specs.Str.{IsUtf8, is_utf8}
 use Rattle.std.proofs.lemmas.Str.{IsUtf8-from_is_utf8, is_utf8-from_IsUtf8}
 use Rattle.serde_json.specs.Read.{read}
-use Rattle.metis_ujson.specs.Document.{json_of_text}
+use Rattle.metis_ujson.specs.Terms.{json_of_text}
 use Rattle.metis_ujson.proofs.forms.read_json.Goals as goal
 
 -- a text that is refused where it is UTF-8

@@ -2,7 +2,7 @@ use Rattle.std.proofs.Common.{◌+◌, length, ap, sym, ◌∙◌, arith}
 use Rattle.std.proofs.lemmas.List.{length_push}
 use Rattle.std.specs.Vec.Iter.{into_iter_items}
 use Rattle.serde_json.specs.View.{items_view}
-use Rattle.metis_ujson.specs.Document.{states_from, with_state}
+use Rattle.metis_ujson.specs.Terms.{states_from, with_state}
 use Rattle.metis_ujson.specs.declared.faults.UFault.TheVariants.{StateForm}
 use Rattle.metis_ujson.proofs.Fronts.{behind, behind-state}
 use Rattle.metis_ujson.proofs.forms.read_state_list.Goals as goal

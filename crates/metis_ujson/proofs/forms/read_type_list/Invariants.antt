@@ -1,7 +1,7 @@
 use Rattle.std.proofs.Common.{◌≡◌, ◌+◌, ◌<◌, ◌^◌, length}
 use Rattle.std.specs.Vec.Iter.{into_iter_items, into_iter_len}
 use Rattle.serde_json.specs.View.{items_view}
-use Rattle.metis_ujson.specs.Document.{types_from}
+use Rattle.metis_ujson.specs.Terms.{types_from}
 use Rattle.metis_ujson.proofs.Fronts.{behind}
 use Rattle.metis_ujson.proofs.forms.read_type_list.Given as goal
 

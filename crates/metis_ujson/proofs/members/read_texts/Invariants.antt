@@ -1,8 +1,8 @@
 use Rattle.std.proofs.Common.{◌≡◌, length}
 use Rattle.std.specs.Vec.Iter.{into_iter_items, into_iter_len}
-use Rattle.metis_universe.specs.Texts.{texts}
+use Rattle.metis_universe.specs.Terms.{texts}
 use Rattle.serde_json.specs.View.{items_view}
-use Rattle.metis_ujson.specs.Document.{texts_in}
+use Rattle.metis_ujson.specs.Terms.{texts_in}
 use Rattle.metis_ujson.proofs.Fronts.{after_front}
 use Rattle.metis_ujson.proofs.members.read_texts.Given as goal
 

@@ -1,6 +1,6 @@
 use Rattle.std.proofs.Common.{◌∷◌, [], ◌∙◌, decimal, subst}
 use Rattle.json.specs.Token.{number}
-use Rattle.metis_ujson.specs.Spelling.{Adds}
+use Rattle.metis_ujson.specs.Terms.{Adds}
 use Rattle.metis_ujson.proofs.Adding.{adds_then, adds_token, on_ok}
 use Rattle.metis_ujson.proofs.spelling.put_document.Goals as goal
 

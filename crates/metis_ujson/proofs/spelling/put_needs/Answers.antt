@@ -2,10 +2,8 @@ use Rattle.std.proofs.Common.{◌≡◌, ◌<◌, get_or, length, take, sym, ap,
 use Rattle.std.proofs.Math.Seq.{take-length}
 use Rattle.std.proofs.lemmas.List.{get_or_default}
 use Rattle.json.specs.Token.{begin_array, end_array}
-use Rattle.metis_universe.specs.RowShapes.{NeedRow}
-use Rattle.metis_universe.specs.Universe.{demand_of, pair_at, required_of}
-use Rattle.metis_ujson.specs.Canonical.{need_row, need_value}
-use Rattle.metis_ujson.specs.Spelling.{Adds, tokens_of}
+use Rattle.metis_universe.specs.Terms.{NeedRow, demand_of, pair_at, required_of}
+use Rattle.metis_ujson.specs.Terms.{Adds, need_row, need_value, tokens_of}
 use Rattle.metis_ujson.proofs.Adding.{adds_next, adds_rows, adds_token, on_ok}
 use Rattle.metis_ujson.proofs.spelling.put_needs.Goals as goal
 

@@ -1,7 +1,6 @@
 use Rattle.std.proofs.Common.{map, take}
-use Rattle.metis_universe.specs.Universe.{pair_at, required_of}
-use Rattle.metis_ujson.specs.Canonical.{need_row, need_value}
-use Rattle.metis_ujson.specs.Spelling.{Adds, all_tokens}
+use Rattle.metis_universe.specs.Terms.{pair_at, required_of}
+use Rattle.metis_ujson.specs.Terms.{Adds, all_tokens, need_row, need_value}
 use Rattle.metis_ujson.proofs.spelling.put_needs.Given as goal
 
 abbrev pub invariant-loop-place : goal.invariant-loop-place

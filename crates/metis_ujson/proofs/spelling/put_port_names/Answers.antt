@@ -3,8 +3,8 @@ use Rattle.std.proofs.Math.Seq.{take-length}
 use Rattle.json.specs.Token.{begin_array, end_array}
 use Rattle.json.specs.Token as token
 use Rattle.serde_json.specs.Data.{string}
-use Rattle.metis_universe.specs.Universe.{port_name_of}
-use Rattle.metis_ujson.specs.Spelling.{Adds, tokens_of}
+use Rattle.metis_universe.specs.Terms.{port_name_of}
+use Rattle.metis_ujson.specs.Terms.{Adds, tokens_of}
 use Rattle.metis_ujson.proofs.Adding.{adds_next, adds_rows, adds_token, on_ok}
 use Rattle.metis_ujson.proofs.spelling.put_port_names.Goals as goal
 

@@ -1,9 +1,8 @@
 use Rattle.std.proofs.Common.{◌∷◌, [], codes, map, subst}
 use Rattle.json.specs.Token.{key, string}
 use Rattle.serde_json.specs.Data.{string as text}
-use Rattle.metis_universe.specs.Universe.{port_name_of, state_name_of}
-use Rattle.metis_ujson.specs.Canonical.{list_of}
-use Rattle.metis_ujson.specs.Spelling.{Adds, tokens_of}
+use Rattle.metis_universe.specs.Terms.{port_name_of, state_name_of}
+use Rattle.metis_ujson.specs.Terms.{Adds, list_of, tokens_of}
 use Rattle.metis_ujson.proofs.Adding.{adds_then, adds_token, on_ok}
 use Rattle.metis_ujson.proofs.spelling.put_state.Goals as goal
 

@@ -1,7 +1,7 @@
 use Rattle.std.proofs.Common.{map, take}
 use Rattle.serde_json.specs.Data.{string}
-use Rattle.metis_universe.specs.Universe.{state_name_of}
-use Rattle.metis_ujson.specs.Spelling.{Adds, all_tokens}
+use Rattle.metis_universe.specs.Terms.{state_name_of}
+use Rattle.metis_ujson.specs.Terms.{Adds, all_tokens}
 use Rattle.metis_ujson.proofs.spelling.put_state_names.Given as goal
 
 abbrev pub invariant-loop-pair : goal.invariant-loop-pair

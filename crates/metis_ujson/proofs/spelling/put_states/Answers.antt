@@ -1,9 +1,9 @@
 use Rattle.std.proofs.Common.{◌≡◌, ◌+◌, ◌<◌, drop, length, take, sym, ap, ◌∙◌, arith}
 use Rattle.std.proofs.Math.Seq.{take-length}
 use Rattle.std.proofs.lemmas.List.{get_or_default}
-use Rattle.metis_universe.specs.Universe.{no_pair, pair_at, states_of_type}
+use Rattle.metis_universe.specs.Terms.{no_pair, pair_at, states_of_type}
 use Rattle.json.specs.Token.{begin_array, end_array}
-use Rattle.metis_ujson.specs.Canonical.{state_row, state_value}
+use Rattle.metis_ujson.specs.Terms.{state_row, state_value}
 use Rattle.metis_ujson.proofs.Adding.{adds_next, adds_none, adds_rows, adds_token, on_ok}
 use Rattle.metis_ujson.proofs.Blocks.{block_at, block_within}
 use Rattle.metis_ujson.proofs.spelling.put_states.Goals as goal

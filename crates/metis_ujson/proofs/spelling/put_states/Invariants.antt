@@ -1,7 +1,6 @@
 use Rattle.std.proofs.Common.{map, take}
-use Rattle.metis_universe.specs.Universe.{states_of_type}
-use Rattle.metis_ujson.specs.Canonical.{state_row, state_value}
-use Rattle.metis_ujson.specs.Spelling.{Adds, all_tokens}
+use Rattle.metis_universe.specs.Terms.{states_of_type}
+use Rattle.metis_ujson.specs.Terms.{Adds, all_tokens, state_row, state_value}
 use Rattle.metis_ujson.proofs.spelling.put_states.Given as goal
 
 abbrev pub invariant-loop-place : goal.invariant-loop-place

@@ -1,7 +1,7 @@
 use Rattle.std.proofs.Common.{◌∷◌, [], ◌∙◌, ap, codes, subst}
 use Rattle.json.specs.Token.{key, string}
-use Rattle.metis_universe.specs.Universe.{state_name_of}
-use Rattle.metis_ujson.specs.Spelling.{Adds}
+use Rattle.metis_universe.specs.Terms.{state_name_of}
+use Rattle.metis_ujson.specs.Terms.{Adds}
 use Rattle.metis_ujson.proofs.Adding.{adds_then, adds_token, on_ok}
 use Rattle.metis_ujson.proofs.spelling.put_type.Goals as goal
 

@@ -3,8 +3,8 @@ use Rattle.std.specs.List.{range_with_len}
 use Rattle.std.proofs.Math.Seq.{take-length}
 use Rattle.std.proofs.lemmas.List.FromFn.{get_or-range_with_len, length-range_with_len}
 use Rattle.json.specs.Token.{begin_array, end_array}
-use Rattle.metis_universe.specs.Universe.{type_count}
-use Rattle.metis_ujson.specs.Canonical.{type_row, type_value}
+use Rattle.metis_universe.specs.Terms.{type_count}
+use Rattle.metis_ujson.specs.Terms.{type_row, type_value}
 use Rattle.metis_ujson.proofs.Adding.{adds_next, adds_rows, adds_token, on_ok}
 use Rattle.metis_ujson.proofs.spelling.put_types.Goals as goal
 

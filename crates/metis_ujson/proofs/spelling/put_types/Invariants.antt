@@ -1,8 +1,7 @@
 use Rattle.std.proofs.Common.{map, take}
 use Rattle.std.specs.List.{range_with_len}
-use Rattle.metis_universe.specs.Universe.{type_count}
-use Rattle.metis_ujson.specs.Canonical.{type_row, type_value}
-use Rattle.metis_ujson.specs.Spelling.{Adds, all_tokens}
+use Rattle.metis_universe.specs.Terms.{type_count}
+use Rattle.metis_ujson.specs.Terms.{Adds, all_tokens, type_row, type_value}
 use Rattle.metis_ujson.proofs.spelling.put_types.Given as goal
 
 abbrev pub invariant-loop-t : goal.invariant-loop-t

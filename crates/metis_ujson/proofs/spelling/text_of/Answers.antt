@@ -1,8 +1,7 @@
 use Rattle.std.proofs.Common.{◌≡◌, ◌++◌, [], IfOk, ap, codes, string_bytes, subst, ◌∙◌}
 use Rattle.json.specs.Print.{print}
 use Rattle.serde_json.proofs.Texts.{print-outline}
-use Rattle.metis_ujson.specs.Canonical.{document_of, rows_of_universe}
-use Rattle.metis_ujson.specs.Spelling.{tokens_of}
+use Rattle.metis_ujson.specs.Terms.{document_of, rows_of_universe, tokens_of}
 use Rattle.metis_ujson.proofs.spelling.text_of.Goals as goal
 
 pub returns : goal.returns

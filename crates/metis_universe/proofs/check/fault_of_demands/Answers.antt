@@ -1,6 +1,5 @@
 use Rattle.std.proofs.Common.{◌+◌, Some, sym, ap, ◌∙◌, option_map, zero-add}
-use Rattle.metis_universe.specs.Names.{is_between}
-use Rattle.metis_universe.specs.RowShapes.{NeedRow}
+use Rattle.metis_universe.specs.Terms.{NeedRow, is_between}
 use Rattle.metis_universe.specs.declared.faults.RowFault.TheVariants.{Demand}
 use Rattle.metis_universe.proofs.FirstFault.{first_from-unless}
 use Rattle.metis_universe.proofs.check.fault_of_demands.Goals as goal

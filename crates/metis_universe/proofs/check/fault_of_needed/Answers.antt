@@ -1,6 +1,5 @@
 use Rattle.std.proofs.Common.{◌+◌, not, sym, ap, ◌∙◌, option_map}
-use Rattle.metis_universe.specs.Names.{is_name}
-use Rattle.metis_universe.specs.RowShapes.{NeedRow, names_needed}
+use Rattle.metis_universe.specs.Terms.{NeedRow, is_name, names_needed}
 use Rattle.metis_universe.specs.declared.faults.RowFault.TheVariants.{PortName}
 use Rattle.metis_universe.proofs.FirstFault.{first_from-unless}
 use Rattle.metis_universe.proofs.Named.{position-map}

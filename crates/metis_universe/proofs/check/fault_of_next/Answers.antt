@@ -1,8 +1,6 @@
 use Rattle.std.proofs.Common.{◌≡◌, ℕ, ◌+◌, List, not, position, option_map, Option, Some, None, String, string_bytes, refl, sym, ap, ◌∙◌, zero-add}
 use Rattle.std.specs.declared.alloc.Global.{Global}
-use Rattle.metis_universe.specs.RowShapes.{TypeRow, StateRow}
-use Rattle.metis_universe.specs.Texts.{texts}
-use Rattle.metis_universe.specs.Rows.{first_from, unless, has_state, next_fault}
+use Rattle.metis_universe.specs.Terms.{StateRow, TypeRow, first_from, has_state, next_fault, texts, unless}
 use Rattle.metis_universe.specs.declared.faults.RowFault.TheVariants.{UnknownNext}
 use Rattle.metis_universe.proofs.FirstFault.{first_from-texts}
 use Rattle.metis_universe.proofs.check.fault_of_next.Goals as goal

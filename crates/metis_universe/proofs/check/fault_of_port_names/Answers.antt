@@ -1,8 +1,6 @@
 use Rattle.std.proofs.Common.{length, sym, ap, ◌∙◌, IsTrue}
 use Rattle.std.specs.Option.{option_or}
-use Rattle.metis_universe.specs.Names.{is_name}
-use Rattle.metis_universe.specs.RowShapes.{names_needed}
-use Rattle.metis_universe.specs.Rows.{first_from, port_fault}
+use Rattle.metis_universe.specs.Terms.{first_from, is_name, names_needed, port_fault}
 use Rattle.metis_universe.proofs.FirstSights.{each_parts}
 use Rattle.metis_universe.proofs.SeenPorts.{no_port_fault}
 use Rattle.metis_universe.proofs.check.fault_of_port_names.Goals as goal

@@ -1,5 +1,5 @@
 use Rattle.std.proofs.Common.{◌+◌, sym, ap, ◌∙◌, option_map}
-use Rattle.metis_universe.specs.Names.{is_name}
+use Rattle.metis_universe.specs.Terms.{is_name}
 use Rattle.metis_universe.specs.declared.faults.RowFault.TheVariants.{PortName}
 use Rattle.metis_universe.proofs.FirstFault.{first_from-texts}
 use Rattle.metis_universe.proofs.check.fault_of_ports.Goals as goal

@@ -1,8 +1,6 @@
 use Rattle.std.proofs.Common.{◌≡◌, ◌<◌, List, length, get_or, IsTrue, sym, ap, ◌∙◌, subst}
 use Rattle.std.specs.List.{AllByRecursion}
-use Rattle.metis_universe.specs.Names.{is_name}
-use Rattle.metis_universe.specs.RowShapes.{StateRow}
-use Rattle.metis_universe.specs.Rows.{ports_of_state}
+use Rattle.metis_universe.specs.Terms.{StateRow, is_name, ports_of_state}
 use Rattle.metis_universe.proofs.FirstSights.{each_of_flat_map}
 use Rattle.metis_universe.proofs.check.fault_of_states.Goals as goal
 

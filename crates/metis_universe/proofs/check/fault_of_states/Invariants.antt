@@ -1,5 +1,5 @@
 use Rattle.std.proofs.Common.{◌≡◌, drop}
-use Rattle.metis_universe.specs.Rows.{first_from, state_fault}
+use Rattle.metis_universe.specs.Terms.{first_from, state_fault}
 use Rattle.metis_universe.proofs.check.fault_of_states.Given as goal
 
 abbrev pub invariant-loop-s : goal.invariant-loop-s

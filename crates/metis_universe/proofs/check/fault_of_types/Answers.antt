@@ -1,10 +1,7 @@
 use Rattle.std.proofs.Common.{length, take, IsTrue, sym, ap, ◌∙◌, subst, arith}
 use Rattle.std.proofs.lemmas.List.{length-map, length-take-le}
 use Rattle.std.specs.List.{AllByRecursion}
-use Rattle.metis_universe.specs.Names.{is_name}
-use Rattle.metis_universe.specs.RowShapes.{TypeRow}
-use Rattle.metis_universe.specs.Rows.{ports_of_type, type_fault}
-use Rattle.metis_universe.specs.Sights.{with_name}
+use Rattle.metis_universe.specs.Terms.{TypeRow, is_name, ports_of_type, type_fault, with_name}
 use Rattle.metis_universe.proofs.FirstFault.{first_from_found, first_from_passed}
 use Rattle.metis_universe.proofs.FirstSights.{each_of_flat_map}
 use Rattle.metis_universe.proofs.TypeFaults.{type_fault-seen, not_seen, names_more}

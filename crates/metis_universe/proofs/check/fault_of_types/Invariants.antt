@@ -1,5 +1,5 @@
 use Rattle.std.proofs.Common.{◌≡◌, drop, take, map}
-use Rattle.metis_universe.specs.Rows.{first_from, type_fault}
+use Rattle.metis_universe.specs.Terms.{first_from, type_fault}
 use Rattle.metis_universe.proofs.check.fault_of_types.Given as goal
 
 abbrev pub invariant-loop-t : goal.invariant-loop-t

@@ -1,6 +1,6 @@
 use Rattle.std.proofs.Common.{flat_map, not, sym, ap, ◌∙◌}
 use Rattle.metis_ids.proofs.Options.{none_from_is_some}
-use Rattle.metis_universe.specs.Rows.{ports_of_type}
+use Rattle.metis_universe.specs.Terms.{ports_of_type}
 use Rattle.metis_universe.proofs.SeenPorts.{named_entries}
 use Rattle.metis_universe.proofs.TypeFaults.{state_total-fits}
 use Rattle.metis_universe.proofs.check.first_fault.Goals as goal

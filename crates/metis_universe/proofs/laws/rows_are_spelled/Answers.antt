@@ -1,8 +1,6 @@
 use Rattle.std.proofs.Common.{◌≡◌, ◌<◌, ◌+◌, get_or, length, sym, subst}
 use Rattle.std.proofs.lemmas.Option.{get_or_from_slice_get, slice_get_within}
-use Rattle.metis_universe.specs.RowShapes.{StateRow, TypeRow}
-use Rattle.metis_universe.specs.Rows.{universe_from}
-use Rattle.metis_universe.specs.Spelled.{Spells}
+use Rattle.metis_universe.specs.Terms.{Spells, StateRow, TypeRow, universe_from}
 use Rattle.metis_universe.proofs.Blocks.{first_of, no_row, no_state, row_at, states_at}
 use Rattle.metis_universe.proofs.SpelledRows.{spelled}
 use Rattle.metis_universe.proofs.laws.rows_are_spelled.Goals as goal

@@ -1,5 +1,5 @@
 use Rattle.metis_universe.proofs.Slots.{slots_are, slots_none}
-use Rattle.metis_universe.specs.Selection.{provider_of, selected}
+use Rattle.metis_universe.specs.Terms.{provider_of, selected}
 use Rattle.metis_universe.proofs.laws.slots_are_demanded.Goals as goal
 
 pub returns-clause-by : goal.returns-clause-by

@@ -1,6 +1,6 @@
 use Rattle.std.proofs.Common.{◌≡◌, max, ap, sym, ◌∙◌, string_bytes, string_eq}
 use Rattle.indexmap.specs.IndexMap.{insert_entry}
-use Rattle.metis_universe.specs.Needs.{count_in, need_of, need_rows_of, with_need}
+use Rattle.metis_universe.specs.Terms.{count_in, need_of, need_rows_of, with_need}
 use Rattle.metis_universe.proofs.Gathered.{need_rows_of-insert}
 use Rattle.metis_universe.proofs.needs.add_need.Goals as goal
 

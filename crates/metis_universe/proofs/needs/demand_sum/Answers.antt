@@ -1,6 +1,6 @@
 use Rattle.std.proofs.Common.{sum_by, ap, ◌∙◌, arith}
 use Rattle.std.proofs.lemmas.List.Sums.{sum_by-le}
-use Rattle.metis_universe.specs.RowShapes.{NeedRow}
+use Rattle.metis_universe.specs.Terms.{NeedRow}
 use Rattle.metis_universe.proofs.Gathered.{demand_sum-counts, demand_sum-le}
 use Rattle.metis_universe.proofs.needs.demand_sum.Goals as goal
 

@@ -1,7 +1,7 @@
 use Rattle.std.proofs.Common.{◌≡◌, ◌-◌, ◌∷◌, [], ◌++◌, get_or, ap, sym, ◌∙◌}
 use Rattle.std.specs.List.{slice_index_or}
 use Rattle.std.proofs.lemmas.List.{map_more}
-use Rattle.metis_universe.specs.Needs.{count_in, need_rows_of}
+use Rattle.metis_universe.specs.Terms.{count_in, need_rows_of}
 use Rattle.metis_universe.proofs.needs.further_among.Goals as goal
 
 pub loop-r-preserved : goal.loop-r-preserved

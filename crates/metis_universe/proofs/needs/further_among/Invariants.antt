@@ -1,6 +1,6 @@
 use Rattle.std.proofs.Common.{◌≡◌, ◌-◌, [], map, take}
 use Rattle.std.specs.List.{slice_index_or}
-use Rattle.metis_universe.specs.Needs.{count_in, need_rows_of}
+use Rattle.metis_universe.specs.Terms.{count_in, need_rows_of}
 use Rattle.metis_universe.proofs.needs.further_among.Given as goal
 
 abbrev pub invariant-loop-r : goal.invariant-loop-r

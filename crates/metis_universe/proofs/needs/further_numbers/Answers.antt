@@ -1,7 +1,6 @@
 use Rattle.std.proofs.Common.{◌≡◌, ℕ, ◌-◌, [], IfOk, map, ap, sym, ◌∙◌, subst, refl}
 use Rattle.std.specs.List.{slice_index_or}
-use Rattle.metis_universe.specs.Needs.{count_in, need_rows_of}
-use Rattle.metis_universe.specs.Rows.{greatest_count}
+use Rattle.metis_universe.specs.Terms.{count_in, greatest_count, need_rows_of}
 use Rattle.metis_universe.proofs.Gathered.{count_in-greatest, further_from-one}
 use Rattle.metis_universe.proofs.needs.further_numbers.Goals as goal
 

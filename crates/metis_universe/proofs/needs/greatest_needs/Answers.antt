@@ -1,5 +1,5 @@
 use Rattle.std.proofs.Common.{ap, ◌∙◌, take}
-use Rattle.metis_universe.specs.Needs.{greatest_needs, with_need}
+use Rattle.metis_universe.specs.Terms.{greatest_needs, with_need}
 use Rattle.metis_universe.proofs.Gathered.{greatest_needs-more}
 use Rattle.metis_universe.proofs.needs.greatest_needs.Goals as goal
 

@@ -1,5 +1,5 @@
 use Rattle.std.proofs.Common.{◌≡◌, ◌≤◌, ◌*◌, ◌^◌, take, sum_by}
-use Rattle.metis_universe.specs.Rows.{demand_sum}
+use Rattle.metis_universe.specs.Terms.{demand_sum}
 use Rattle.metis_universe.proofs.needs.require_total.Given as goal
 
 abbrev pub invariant-loop-state : goal.invariant-loop-state

@@ -1,8 +1,7 @@
 use Rattle.std.proofs.Common.{◌≡◌, ◌+◌, length, sum_by, sym, ◌∙◌, ap, arith}
 use Rattle.std.proofs.lemmas.List.{length-map, take_all}
 use Rattle.std.proofs.lemmas.List.Sums.{sum_by_more, sum_by_more_le}
-use Rattle.metis_universe.specs.Needs.{need_rows_of, no_need}
-use Rattle.metis_universe.specs.RowShapes.{NeedRow}
+use Rattle.metis_universe.specs.Terms.{NeedRow, need_rows_of, no_need}
 use Rattle.metis_universe.proofs.needs.value_sum.Goals as goal
 
 pub count_at-sum-requires : goal.count_at-sum-requires

@@ -1,5 +1,5 @@
 use Rattle.std.proofs.Common.{◌∷◌, [], string_bytes, ap, ◌∙◌, subst}
-use Rattle.metis_universe.specs.SeenPorts.{IsNumbered}
+use Rattle.metis_universe.specs.Terms.{IsNumbered}
 use Rattle.metis_universe.proofs.SeenPorts.{numbered_next}
 use Rattle.metis_universe.proofs.sights.add_names.Goals as goal
 

@@ -1,6 +1,5 @@
 use Rattle.std.proofs.Common.{take}
-use Rattle.metis_universe.specs.SeenPorts.{IsNumbered}
-use Rattle.metis_universe.specs.Texts.{texts}
+use Rattle.metis_universe.specs.Terms.{IsNumbered, texts}
 use Rattle.metis_universe.proofs.sights.add_names.Given as goal
 
 abbrev pub invariant-loop-name : goal.invariant-loop-name

@@ -1,6 +1,5 @@
 use Rattle.std.proofs.Common.{◌∷◌, [], ap, ◌∙◌, subst}
-use Rattle.metis_universe.specs.RowShapes.{NeedRow}
-use Rattle.metis_universe.specs.SeenPorts.{IsNumbered}
+use Rattle.metis_universe.specs.Terms.{IsNumbered, NeedRow}
 use Rattle.metis_universe.proofs.SeenPorts.{numbered_next}
 use Rattle.metis_universe.proofs.sights.add_names_needed.Goals as goal
 

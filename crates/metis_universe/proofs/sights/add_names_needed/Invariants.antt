@@ -1,6 +1,5 @@
 use Rattle.std.proofs.Common.{take}
-use Rattle.metis_universe.specs.RowShapes.{names_needed}
-use Rattle.metis_universe.specs.SeenPorts.{IsNumbered}
+use Rattle.metis_universe.specs.Terms.{IsNumbered, names_needed}
 use Rattle.metis_universe.proofs.sights.add_names_needed.Given as goal
 
 abbrev pub invariant-loop-need : goal.invariant-loop-need

@@ -1,8 +1,5 @@
 use Rattle.std.proofs.Common.{◌++◌, ap, ◌∙◌, subst}
-use Rattle.metis_universe.specs.RowShapes.{names_needed}
-use Rattle.metis_universe.specs.Rows.{ports_of_state}
-use Rattle.metis_universe.specs.SeenPorts.{IsNumbered}
-use Rattle.metis_universe.specs.Texts.{texts}
+use Rattle.metis_universe.specs.Terms.{IsNumbered, names_needed, ports_of_state, texts}
 use Rattle.metis_universe.proofs.SeenPorts.{numbered_more, numbered_then}
 use Rattle.metis_universe.proofs.sights.add_ports.Goals as goal
 

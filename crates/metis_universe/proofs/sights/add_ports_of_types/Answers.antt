@@ -1,6 +1,5 @@
 use Rattle.std.proofs.Common.{flat_map, ap, ◌∙◌, subst}
-use Rattle.metis_universe.specs.Rows.{ports_of_state, ports_of_type}
-use Rattle.metis_universe.specs.SeenPorts.{IsNumbered}
+use Rattle.metis_universe.specs.Terms.{IsNumbered, ports_of_state, ports_of_type}
 use Rattle.metis_universe.proofs.SeenPorts.{numbered_more}
 use Rattle.metis_universe.proofs.sights.add_ports_of_types.Goals as goal
 

@@ -1,6 +1,5 @@
 use Rattle.std.proofs.Common.{take, flat_map}
-use Rattle.metis_universe.specs.Rows.{ports_of_type}
-use Rattle.metis_universe.specs.SeenPorts.{IsNumbered}
+use Rattle.metis_universe.specs.Terms.{IsNumbered, ports_of_type}
 use Rattle.metis_universe.proofs.sights.add_ports_of_types.Given as goal
 
 abbrev pub invariant-loop-row : goal.invariant-loop-row

@@ -1,6 +1,5 @@
 use Rattle.std.proofs.Common.{[], map, flat_map, ap, ◌∙◌, subst}
-use Rattle.metis_universe.specs.Rows.{ports_of_type}
-use Rattle.metis_universe.specs.SeenPorts.{IsNumbered, number_within}
+use Rattle.metis_universe.specs.Terms.{IsNumbered, number_within, ports_of_type}
 use Rattle.metis_universe.proofs.sights.ports_of.Goals as goal
 
 pub returns-clause-numbers : goal.returns-clause-numbers

@@ -1,6 +1,6 @@
 use Rattle.std.proofs.Common.{◌+◌, ◌-◌, ◌≡◌, ◌≤◌, ltb, leb, arith, rules}
 use Rattle.std.proofs.lemmas.List.Sorted.{IsPartitionPoint-from_clause, IsPartitionedBy-ltb, IsPartitionedBy-leb}
-use Rattle.metis_universe.specs.Universe.{Pair}
+use Rattle.metis_universe.specs.Terms.{Pair}
 use Rattle.metis_universe.proofs.TypeBlock.{AreEnds, block, ends_in_order}
 use Rattle.metis_universe.proofs.universe.block_of.Goals as goal
 

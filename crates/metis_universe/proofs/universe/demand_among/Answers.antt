@@ -3,7 +3,7 @@ use Rattle.std.specs.List.{position_or_len, slice_index_or}
 use Rattle.std.proofs.lemmas.List.Folds.{list_any_at}
 use Rattle.std.proofs.lemmas.List.Quantifiers.{position-Some}
 use Rattle.std.proofs.lemmas.List.Sums.{position_or_len_is}
-use Rattle.metis_universe.specs.Universe.{has}
+use Rattle.metis_universe.specs.Terms.{has}
 use Rattle.metis_universe.proofs.FirstFault.{list_any-from_position}
 use Rattle.metis_universe.proofs.universe.demand_among.Goals as goal
 

@@ -1,5 +1,5 @@
 use Rattle.std.proofs.Common.{◌≡◌, fold, max, take}
-use Rattle.metis_universe.specs.Universe.{Pair}
+use Rattle.metis_universe.specs.Terms.{Pair}
 use Rattle.metis_universe.proofs.universe.most_further.Given as goal
 
 abbrev pub invariant-loop-pair : goal.invariant-loop-pair

@@ -2,7 +2,7 @@ use Rattle.std.proofs.Common.{◌≡◌, ◌&&◌, false, true, length, ltb, nat
 use Rattle.std.proofs.lemmas.List.{get_or_default}
 use Rattle.std.proofs.lemmas.List.Sorted.{IsPartitionPoint-from_clause, IsPartitionedBy-ltb}
 use Rattle.std.proofs.lemmas.Bool.{ltb-true}
-use Rattle.metis_universe.specs.Universe.{kind_in}
+use Rattle.metis_universe.specs.Terms.{kind_in}
 use Rattle.metis_universe.proofs.Sought.{any_from, kinds_rise}
 use Rattle.metis_universe.proofs.universe.some_of_type.Goals as goal
 

@@ -1,6 +1,6 @@
 use Rattle.std.proofs.Common.{ltb, sym, rules}
 use Rattle.std.proofs.lemmas.List.Sorted.{IsPartitionPoint-from_clause, IsPartitionedBy-ltb}
-use Rattle.metis_universe.specs.Universe.{Pair}
+use Rattle.metis_universe.specs.Terms.{Pair}
 use Rattle.metis_universe.proofs.TypePlaces.{length-before}
 use Rattle.metis_universe.proofs.universe.start_of.Goals as goal
 

@@ -1,7 +1,7 @@
 use Rattle.std.proofs.Common.{◌∙◌, None, Some, ap, sym, subst, cond, nat_eq}
 use Rattle.std.specs.Map.{lookup}
 use Rattle.metis_waits.proofs.States.{found, put}
-use Rattle.metis_waits.specs.Instances.{IsPossible, changed, state_at}
+use Rattle.metis_waits.specs.Terms.{IsPossible, changed, state_at}
 use Rattle.metis_waits.proofs.instances.note_change.Goals as goal
 
 pub apply-requires : goal.apply-requires

@@ -2,8 +2,8 @@ use Rattle.std.proofs.Common.{◌≡◌, ℕ, suc, true, arith, sym, subst, leng
 use Rattle.std.specs.Prelude.{IsSomeAnd, IsTrue}
 use Rattle.metis_ids.proofs.Lists.{has_range}
 use Rattle.metis_universe.proofs.Places.{passes_at, place_below}
-use Rattle.metis_universe.specs.Universe.{has}
-use Rattle.metis_waits.specs.Waits.{is_by}
+use Rattle.metis_universe.specs.Terms.{has}
+use Rattle.metis_waits.specs.Terms.{is_by}
 use Rattle.metis_waits.proofs.HeldUp.{all_rest, held_up_by, kept_rest, none_held_up, rest}
 use Rattle.metis_waits.proofs.KeptRuns.{kept_end, pair_at_end, ties_at_end}
 use Rattle.metis_waits.proofs.LastPlaces.{passes_some}

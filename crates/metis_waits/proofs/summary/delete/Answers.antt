@@ -2,7 +2,7 @@ use Rattle.std.proofs.Common.{◌∙◌, ◌++◌, ◌∷◌, [], ℕ, append_as
 use Rattle.std.proofs.lemmas.Map.Iter.{rest_more}
 use Rattle.std.specs.Map.Iter.{deref}
 use Rattle.metis_waits.proofs.LetGo.{one_goes, same_releases}
-use Rattle.metis_waits.specs.Instances.{is_last, state_at, without_own}
+use Rattle.metis_waits.specs.Terms.{is_last, state_at, without_own}
 use Rattle.metis_waits.proofs.summary.delete.Goals as goal
 
 pub loop-provider-preserved : goal.loop-provider-preserved

@@ -1,5 +1,5 @@
 use Rattle.std.proofs.Common.{◌≡◌, ℕ, List, ◌++◌, cond, nat_eq}
-use Rattle.metis_waits.specs.Instances.{let_go, state_at, without_own}
+use Rattle.metis_waits.specs.Terms.{let_go, state_at, without_own}
 use Rattle.metis_waits.proofs.summary.delete.Given as goal
 
 abbrev pub invariant-loop-provider : goal.invariant-loop-provider

@@ -1,5 +1,5 @@
 use Rattle.std.proofs.Common.{◌≡◌, ◌++◌, drop}
-use Rattle.metis_waits.specs.Summary.{with_number}
+use Rattle.metis_waits.specs.Terms.{with_number}
 use Rattle.metis_waits.proofs.summary.put_with.Given as goal
 
 abbrev pub invariant-loop-each : goal.invariant-loop-each

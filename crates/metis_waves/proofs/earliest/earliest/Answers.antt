@@ -1,8 +1,8 @@
 use Rattle.std.proofs.Common.{◌≡◌, ◌+◌, ◌∙◌, ap, arith, length, map}
 use Rattle.std.proofs.lemmas.List.{length_push}
-use Rattle.metis_universe.specs.Waits.{waits}
-use Rattle.metis_waves.specs.Schedule.{end_of}
-use Rattle.metis_ids.specs.Counts.{greatest}
+use Rattle.metis_universe.specs.Terms.{waits}
+use Rattle.metis_waves.specs.Terms.{end_of}
+use Rattle.metis_ids.specs.Terms.{greatest}
 use Rattle.metis_waves.proofs.Steps.{all_below_next, at_more, low_more, waits_long}
 use Rattle.metis_waves.proofs.earliest.earliest.Goals as goal
 

@@ -1,6 +1,6 @@
 use Rattle.std.proofs.Common.{◌<◌, ◌-◌, ◌∙◌, ap, arith, length}
 use Rattle.std.proofs.lemmas.List.{get_or_read, length-set}
-use Rattle.metis_waves.specs.Schedule.{start_of}
+use Rattle.metis_waves.specs.Terms.{start_of}
 use Rattle.metis_waves.proofs.Steps.{listed_earlier, waits_long}
 use Rattle.metis_waves.proofs.Late.{late_init, late_step}
 use Rattle.metis_waves.proofs.latest.latest.Goals as goal

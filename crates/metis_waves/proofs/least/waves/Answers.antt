@@ -1,6 +1,5 @@
 use Rattle.std.proofs.Common.{◌≡◌, ◌≤◌, ◌∙◌, List, ℕ, ap, length, sym, subst}
-use Rattle.metis_waves.specs.Schedule.{IsSchedule, end_of_all}
-use Rattle.metis_waves.specs.Waves.{IsChain}
+use Rattle.metis_waves.specs.Terms.{IsChain, IsSchedule, end_of_all}
 use Rattle.metis_waves.proofs.Bounds.{early, late, latest_ends, least, schedule_from_earliest, schedule_from_latest}
 use Rattle.metis_waves.proofs.Chained.{chain_empty}
 use Rattle.metis_waves.proofs.Steps.{few_actions}

@@ -1,12 +1,9 @@
 use Rattle.std.proofs.Common.{[], ◌∷◌, subst}
 use Rattle.std.specs.List.{All}
 use Rattle.std.proofs.lemmas.List.Elements.{All-weaker}
-use Rattle.metis_universe.specs.Goals.{AttainsGoals}
+use Rattle.metis_universe.specs.Terms.{AttainsGoals}
 use Rattle.metis_why.proofs.First.{first_of_one, of_lacks}
-use Rattle.metis_why.specs.Answer.{IsFirstUnattained}
-use Rattle.metis_why.specs.Barred.{IsWhy}
-use Rattle.metis_why.specs.Choice.{IsByChoice}
-use Rattle.metis_why.specs.Confirm.{IsLineOf, IsTellable}
+use Rattle.metis_why.specs.Terms.{IsByChoice, IsFirstUnattained, IsLineOf, IsTellable, IsWhy}
 use Rattle.metis_why.proofs.because.why.Goals as goal
 
 -- it is the first of one goal, and so that goal

@@ -1,6 +1,6 @@
 use Rattle.std.proofs.Common.{◌∙◌}
 use Rattle.std.specs.List.{find, list_all}
-use Rattle.metis_why.specs.Barred.{wanted_by}
+use Rattle.metis_why.specs.Terms.{wanted_by}
 use Rattle.metis_why.proofs.confirming.covered.Goals as goal
 
 pub returns : goal.returns

@@ -1,4 +1,4 @@
-use Rattle.metis_refusal.specs.Supplies.{flag}
+use Rattle.metis_refusal.specs.Terms.{flag}
 use Rattle.metis_why.proofs.Chosen.{distance_enough}
 use Rattle.metis_why.proofs.Farther.{distance_apart}
 use Rattle.metis_why.proofs.Listed.{why_by}

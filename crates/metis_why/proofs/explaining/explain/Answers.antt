@@ -1,5 +1,5 @@
 use Rattle.metis_why.proofs.First.{all_attained, first_enough, first_of_universe, first_unattained, tellable_lines}
-use Rattle.metis_refusal.specs.Supplies.{flag}
+use Rattle.metis_refusal.specs.Terms.{flag}
 use Rattle.metis_why.proofs.explaining.explain.Goals as goal
 
 pub chosen_lines-requires-clause-goal : goal.chosen_lines-requires-clause-goal

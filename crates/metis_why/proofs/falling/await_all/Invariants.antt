@@ -1,5 +1,5 @@
 use Rattle.std.proofs.Common.{◌≡◌}
-use Rattle.metis_why.specs.Settling.{IsFrom}
+use Rattle.metis_why.specs.Terms.{IsFrom}
 use Rattle.metis_why.proofs.falling.await_all.Given as goal
 
 abbrev pub invariant-loop-number : goal.invariant-loop-number

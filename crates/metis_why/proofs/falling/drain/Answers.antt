@@ -1,7 +1,7 @@
 use Rattle.std.proofs.Common.{List, Bool, subst}
 use Rattle.metis_why.proofs.Fallen.{shrunk_then}
-use Rattle.metis_refusal.specs.Supplies.{flag}
-use Rattle.metis_why.specs.Settling.{IsShrunk}
+use Rattle.metis_refusal.specs.Terms.{flag}
+use Rattle.metis_why.specs.Terms.{IsShrunk}
 use Rattle.metis_why.proofs.falling.drain.Goals as goal
 
 pub returns : goal.returns

@@ -1,4 +1,4 @@
-use Rattle.metis_why.specs.Settling.{Falls}
+use Rattle.metis_why.specs.Terms.{Falls}
 use Rattle.metis_why.proofs.falling.give.Given as goal
 
 abbrev pub invariant-loop-requirer : goal.invariant-loop-requirer

@@ -1,4 +1,4 @@
-use Rattle.metis_why.specs.Settling.{Falls}
+use Rattle.metis_why.specs.Terms.{Falls}
 use Rattle.metis_why.proofs.falling.give_all.Given as goal
 
 abbrev pub invariant-loop-port : goal.invariant-loop-port

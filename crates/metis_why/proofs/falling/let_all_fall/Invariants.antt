@@ -1,4 +1,4 @@
-use Rattle.metis_why.specs.Settling.{Falls}
+use Rattle.metis_why.specs.Terms.{Falls}
 use Rattle.metis_why.proofs.falling.let_all_fall.Given as goal
 
 abbrev pub invariant-loop-number : goal.invariant-loop-number

@@ -1,5 +1,5 @@
 use Rattle.metis_why.proofs.Fallen.{shrunk_then}
-use Rattle.metis_refusal.specs.Supplies.{flag}
+use Rattle.metis_refusal.specs.Terms.{flag}
 use Rattle.metis_why.proofs.falling.spread_all.Goals as goal
 
 pub loop-pair-preserved : goal.loop-pair-preserved

@@ -1,6 +1,6 @@
 use Rattle.std.proofs.Common.{◌+◌, length}
-use Rattle.metis_refusal.specs.Supplies.{flag}
-use Rattle.metis_why.specs.Settling.{IsFrom, IsShrunk, held}
+use Rattle.metis_refusal.specs.Terms.{flag}
+use Rattle.metis_why.specs.Terms.{IsFrom, IsShrunk, held}
 use Rattle.metis_why.proofs.falling.spread_all.Given as goal
 
 abbrev pub invariant-loop-pair : goal.invariant-loop-pair

@@ -1,5 +1,5 @@
 use Rattle.metis_why.proofs.Lowered.{bring_done, bring_more}
-use Rattle.metis_why.specs.Costs.{far_in}
+use Rattle.metis_why.specs.Terms.{far_in}
 use Rattle.metis_why.proofs.far.bring_near.Goals as goal
 
 pub loop-pair-preserved : goal.loop-pair-preserved

@@ -1,6 +1,5 @@
 use Rattle.std.proofs.Common.{◌≡◌, take}
-use Rattle.metis_why.specs.Costs.{far_in, lowered}
-use Rattle.metis_why.specs.Open.{StayOpen}
+use Rattle.metis_why.specs.Terms.{StayOpen, far_in, lowered}
 use Rattle.metis_why.proofs.far.bring_near.Given as goal
 
 abbrev pub invariant-loop-pair : goal.invariant-loop-pair

@@ -1,12 +1,10 @@
 use Rattle.std.proofs.Common.{◌∙◌, [], arith, subst, sym}
-use Rattle.metis_refusal.specs.Supplies.{flag}
+use Rattle.metis_refusal.specs.Terms.{flag}
 use Rattle.metis_why.proofs.Costs.{reaching_start}
 use Rattle.metis_why.proofs.Lowered.{first_known}
 use Rattle.metis_why.proofs.Open.{open_known, open_start}
 use Rattle.metis_why.proofs.Ordered.{next_low, next_more, next_near, next_none, next_smaller}
-use Rattle.metis_why.specs.Barred.{wanted_by}
-use Rattle.metis_why.specs.Costs.{IsReaching, far_in, never}
-use Rattle.metis_why.specs.Open.{AreOpen}
+use Rattle.metis_why.specs.Terms.{AreOpen, IsReaching, far_in, never, wanted_by}
 use Rattle.metis_why.proofs.far.by_distance.Goals as goal
 
 pub loop-pair-init : goal.loop-pair-init

@@ -1,10 +1,10 @@
 use Rattle.std.proofs.Common.{length, ap, ◌∙◌, sym, arith}
-use Rattle.metis_refusal.specs.Supplies.{flag}
-use Rattle.metis_universe.specs.Universe.{providers_of, required_of}
+use Rattle.metis_refusal.specs.Terms.{flag}
+use Rattle.metis_universe.specs.Terms.{providers_of, required_of}
 use Rattle.metis_why.proofs.Lowered.{fold_done, port_off, port_on}
 use Rattle.metis_why.proofs.Open.{stay_same, stay_then}
 use Rattle.metis_why.proofs.Ordered.{few_low, few_named}
-use Rattle.metis_why.specs.Costs.{far_in}
+use Rattle.metis_why.specs.Terms.{far_in}
 use Rattle.metis_why.specs.declared.reason.Reason.TheVariants.{Needs}
 use Rattle.metis_why.proofs.far.lead_by_ports.Goals as goal
 use Rattle.metis_why.proofs.far.lead_by_ports.Goals.{then-not-given-port+in_ok-bring_near, else-not-given-port}

@@ -1,9 +1,8 @@
 use Rattle.std.proofs.Common.{◌≡◌, ◌+◌, cond, length, take}
 use Rattle.std.specs.Prelude.{fold}
-use Rattle.metis_refusal.specs.Supplies.{flag}
-use Rattle.metis_universe.specs.Universe.{providers_of}
-use Rattle.metis_why.specs.Costs.{far_in, lowered}
-use Rattle.metis_why.specs.Open.{StayOpen}
+use Rattle.metis_refusal.specs.Terms.{flag}
+use Rattle.metis_universe.specs.Terms.{providers_of}
+use Rattle.metis_why.specs.Terms.{StayOpen, far_in, lowered}
 use Rattle.metis_why.proofs.far.lead_by_ports.Given as goal
 
 abbrev pub invariant-loop-port : goal.invariant-loop-port

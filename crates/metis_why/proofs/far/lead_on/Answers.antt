@@ -1,10 +1,9 @@
 use Rattle.std.proofs.Common.{◌≡◌, ◌∙◌, ap, arith, get_or, refl, sym, Result, Ok, Err, ℕ, Bool}
 use Rattle.std.specs.Result.{OnOk}
 use Rattle.metis_ids.specs.declared.no_memory.NoMemory.{NoMemory}
-use Rattle.metis_refusal.specs.Supplies.{flag}
+use Rattle.metis_refusal.specs.Terms.{flag}
 use Rattle.metis_why.proofs.Lowered.{entry_is, led_not, led_too}
-use Rattle.metis_why.specs.Costs.{far_in, led_by_moves, led_by_ports, led_on}
-use Rattle.metis_why.specs.Flags.{AreGiven, AreLed}
+use Rattle.metis_why.specs.Terms.{AreGiven, AreLed, far_in, led_by_moves, led_by_ports, led_on}
 use Rattle.metis_why.proofs.far.lead_on.Goals as goal
 
 pub returns-then-is_set-clause-far : goal.returns-then-is_set-clause-far

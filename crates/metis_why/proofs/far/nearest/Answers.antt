@@ -1,7 +1,7 @@
 use Rattle.std.proofs.Common.{sym, ◌∙◌}
 use Rattle.std.proofs.lemmas.Bool.{false≢true}
 use Rattle.metis_why.proofs.Open.{found_new, found_old, none_start}
-use Rattle.metis_why.specs.Costs.{far_in}
+use Rattle.metis_why.specs.Terms.{far_in}
 use Rattle.metis_why.proofs.far.nearest.Goals as goal
 use Rattle.metis_why.proofs.far.nearest.Goals.{then-is_before, else-is_before}
 

@@ -1,6 +1,5 @@
 use Rattle.std.proofs.Common.{◌<◌, get_or, length, take}
-use Rattle.metis_why.specs.Costs.{far_in}
-use Rattle.metis_why.specs.Open.{NoneBefore}
+use Rattle.metis_why.specs.Terms.{NoneBefore, far_in}
 use Rattle.metis_why.proofs.far.nearest.Given as goal
 
 abbrev pub invariant-loop-place : goal.invariant-loop-place

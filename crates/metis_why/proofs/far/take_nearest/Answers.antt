@@ -1,8 +1,7 @@
 use Rattle.std.proofs.Common.{◌≡◌, get_or, length, rules, sym, subst, vec_len, ◌∙◌, arith}
 use Rattle.std.proofs.lemmas.Bool.{eqb-true}
 use Rattle.metis_why.proofs.Open.{low_of_known, next_first, next_none}
-use Rattle.metis_why.specs.Costs.{far_in}
-use Rattle.metis_why.specs.Open.{NoneBefore}
+use Rattle.metis_why.specs.Terms.{NoneBefore, far_in}
 use Rattle.metis_why.proofs.far.take_nearest.Goals as goal
 
 pub nearest-place-requires-clause-low : goal.nearest-place-requires-clause-low

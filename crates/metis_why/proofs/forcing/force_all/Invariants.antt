@@ -1,9 +1,8 @@
 use Rattle.std.proofs.Common.{ℕ, Bool}
 use Rattle.std.specs.List.{All}
 use Rattle.metis_ids.specs.declared.goals.Goal.{Goal}
-use Rattle.metis_universe.specs.Universe.{Universe}
-use Rattle.metis_why.specs.Flags.{IsMissed}
-use Rattle.metis_why.specs.Leaving.{AreMarked}
+use Rattle.metis_universe.specs.Terms.{Universe}
+use Rattle.metis_why.specs.Terms.{AreMarked, IsMissed}
 use Rattle.metis_why.proofs.forcing.force_all.Given as goal
 
 abbrev pub invariant-loop-pair : goal.invariant-loop-pair

@@ -2,8 +2,8 @@ use Rattle.std.proofs.Common.{◌<◌, ◌∙◌, length, ap, sym, subst, rules}
 use Rattle.std.specs.List.{All}
 use Rattle.std.proofs.lemmas.Bool.{false≢true}
 use Rattle.std.proofs.lemmas.List.Elements.{All-get_or, All-nil}
-use Rattle.metis_why.specs.Flags.{IsMissed}
-use Rattle.metis_refusal.specs.Supplies.{flag}
+use Rattle.metis_why.specs.Terms.{IsMissed}
+use Rattle.metis_refusal.specs.Terms.{flag}
 use Rattle.metis_why.proofs.Forced.{marked_at, named_missed, wanted_missed}
 use Rattle.metis_refusal.proofs.Searches.{unset}
 use Rattle.metis_why.proofs.forcing.forced.Goals as goal

@@ -1,5 +1,5 @@
-use Rattle.metis_refusal.specs.Supplies.{flag}
-use Rattle.metis_why.specs.Leaving.{AreMarked}
+use Rattle.metis_refusal.specs.Terms.{flag}
+use Rattle.metis_why.specs.Terms.{AreMarked}
 use Rattle.metis_why.proofs.forcing.forced.Given as goal
 
 abbrev pub invariant-loop-next : goal.invariant-loop-next

@@ -1,7 +1,7 @@
 use Rattle.std.proofs.Common.{◌≡◌, ◌<◌, ℕ, true, false, take}
 use Rattle.std.specs.Prelude.{MatchOption}
-use Rattle.metis_universe.specs.Universe.{has, port_count}
-use Rattle.metis_refusal.specs.Supplies.{flag}
+use Rattle.metis_universe.specs.Terms.{has, port_count}
+use Rattle.metis_refusal.specs.Terms.{flag}
 use Rattle.metis_why.proofs.forcing.only_missing.Given as goal
 
 abbrev pub invariant-loop-port : goal.invariant-loop-port

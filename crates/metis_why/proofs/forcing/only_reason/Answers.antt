@@ -1,8 +1,8 @@
 use Rattle.std.proofs.Common.{◌∙◌, sym}
 use Rattle.std.proofs.lemmas.Bool.{both_ways}
-use Rattle.metis_refusal.specs.Supplies.{flag}
+use Rattle.metis_refusal.specs.Terms.{flag}
 use Rattle.metis_why.proofs.Reasons.{comes_unled, only_comes, only_needs}
-use Rattle.metis_universe.specs.Universe.{is_free}
+use Rattle.metis_universe.specs.Terms.{is_free}
 use Rattle.metis_why.proofs.forcing.only_reason.Goals as goal
 use Rattle.metis_why.proofs.forcing.only_reason.Goals.{then-is_set-via-then-is_set, then-is_set-via-else-is_set+then-is_free}
 

@@ -1,5 +1,5 @@
 use Rattle.std.proofs.Common.{◌≡◌}
-use Rattle.metis_why.specs.Leaving.{IsKept}
+use Rattle.metis_why.specs.Terms.{IsKept}
 use Rattle.metis_why.proofs.leaving.force_near.Given as goal
 
 abbrev pub invariant-loop-pair : goal.invariant-loop-pair

@@ -1,10 +1,8 @@
 use Rattle.std.proofs.Common.{◌≡◌, List, Bool, rules, set, sym, subst, true}
-use Rattle.metis_refusal.specs.Supplies.{flag}
+use Rattle.metis_refusal.specs.Terms.{flag}
 use Rattle.metis_why.proofs.Forced.{forced_more}
 use Rattle.metis_why.proofs.Left.{lost_missed}
-use Rattle.metis_why.specs.Flags.{IsMissed}
-use Rattle.metis_why.specs.Leaving.{AreForced}
-use Rattle.metis_why.specs.Settling.{IsFrom}
+use Rattle.metis_why.specs.Terms.{AreForced, IsFrom, IsMissed}
 use Rattle.metis_why.specs.declared.falling.Falling.{Falling}
 use Rattle.metis_why.proofs.leaving.force_one.Goals as goal
 

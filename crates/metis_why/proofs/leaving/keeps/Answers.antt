@@ -1,9 +1,9 @@
 use Rattle.std.proofs.Common.{◌∙◌, sym}
 use Rattle.std.specs.List.{list_all}
 use Rattle.std.proofs.lemmas.Bool.{both_ways}
-use Rattle.metis_refusal.specs.Supplies.{flag}
+use Rattle.metis_refusal.specs.Terms.{flag}
 use Rattle.metis_why.proofs.Reasons.{all_inside}
-use Rattle.metis_why.specs.Barred.{wanted_by}
+use Rattle.metis_why.specs.Terms.{wanted_by}
 use Rattle.metis_why.proofs.leaving.keeps.Goals as goal
 
 pub returns-else-covers-clause-lost : goal.returns-else-covers-clause-lost

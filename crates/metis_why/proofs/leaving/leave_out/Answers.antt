@@ -1,7 +1,7 @@
 use Rattle.std.proofs.Common.{◌≡◌, List, Bool, false, rules, set, sym, subst, true}
-use Rattle.metis_refusal.specs.Supplies.{flag}
+use Rattle.metis_refusal.specs.Terms.{flag}
 use Rattle.metis_why.proofs.Left.{keeps_without}
-use Rattle.metis_why.specs.Flags.{IsGreatest}
+use Rattle.metis_why.specs.Terms.{IsGreatest}
 use Rattle.metis_why.proofs.leaving.leave_out.Goals as goal
 
 pub returns-then-is_enough-clause-keeps : goal.returns-then-is_enough-clause-keeps

@@ -1,7 +1,7 @@
 use Rattle.std.proofs.Common.{◌≡◌, ◌+◌, ◌-◌, ◌<◌, Bool, List, length, sym, subst, arith}
-use Rattle.metis_refusal.specs.Supplies.{flag}
+use Rattle.metis_refusal.specs.Terms.{flag}
 use Rattle.metis_why.proofs.Nearest.{nearing_done, nearing_more, nearing_start, place_read}
-use Rattle.metis_why.specs.Nearing.{IsNearing}
+use Rattle.metis_why.specs.Terms.{IsNearing}
 use Rattle.metis_why.proofs.leaving.leave_out_all.Goals as goal
 
 pub loop-place-init : goal.loop-place-init

@@ -1,7 +1,6 @@
 use Rattle.std.proofs.Common.{◌≤◌, length}
-use Rattle.metis_refusal.specs.Supplies.{flag}
-use Rattle.metis_why.specs.Leaving.{IsKept}
-use Rattle.metis_why.specs.Nearing.{IsNearing}
+use Rattle.metis_refusal.specs.Terms.{flag}
+use Rattle.metis_why.specs.Terms.{IsKept, IsNearing}
 use Rattle.metis_why.proofs.leaving.leave_out_all.Given as goal
 
 abbrev pub invariant-loop-place : goal.invariant-loop-place

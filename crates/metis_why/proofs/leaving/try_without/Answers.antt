@@ -1,9 +1,8 @@
 use Rattle.std.proofs.Common.{List, Bool, false, set, sym, subst}
-use Rattle.metis_refusal.specs.Supplies.{flag}
+use Rattle.metis_refusal.specs.Terms.{flag}
 use Rattle.metis_why.proofs.Fallen.{greatest_after}
 use Rattle.metis_why.proofs.Left.{lost_missed, shrunk_greatest}
-use Rattle.metis_why.specs.Flags.{IsGreatest}
-use Rattle.metis_why.specs.Leaving.{AreForced}
+use Rattle.metis_why.specs.Terms.{AreForced, IsGreatest}
 use Rattle.metis_why.proofs.leaving.try_without.Goals as goal
 
 pub returns-then-not-keeps-clause-missed : goal.returns-then-not-keeps-clause-missed

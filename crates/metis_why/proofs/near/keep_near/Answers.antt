@@ -1,5 +1,5 @@
 use Rattle.std.proofs.Common.{sym, ◌∙◌, ap, take, arith}
-use Rattle.metis_refusal.specs.Supplies.{flag}
+use Rattle.metis_refusal.specs.Terms.{flag}
 use Rattle.metis_why.proofs.Distances.{cut_at, low_of}
 use Rattle.metis_why.proofs.Nearest.{front_all, front_cut}
 use Rattle.metis_why.proofs.near.keep_near.Goals as goal

@@ -1,7 +1,7 @@
 use Rattle.std.proofs.Common.{◌≡◌, drop}
 use Rattle.std.specs.List.{find, list_all}
-use Rattle.metis_why.specs.Barred.{wanted_by}
-use Rattle.metis_refusal.specs.Supplies.{flag}
+use Rattle.metis_why.specs.Terms.{wanted_by}
+use Rattle.metis_refusal.specs.Terms.{flag}
 use Rattle.metis_why.proofs.settling.first_covered.Given as goal
 
 abbrev pub invariant-loop-goal : goal.invariant-loop-goal

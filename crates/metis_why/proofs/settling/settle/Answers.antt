@@ -1,5 +1,5 @@
 use Rattle.metis_why.proofs.Fallen.{greatest_after}
-use Rattle.metis_refusal.specs.Supplies.{flag}
+use Rattle.metis_refusal.specs.Terms.{flag}
 use Rattle.metis_why.proofs.settling.settle.Goals as goal
 
 pub returns : goal.returns

@@ -1,6 +1,5 @@
-use Rattle.metis_why.specs.Flags.{IsWithin}
-use Rattle.metis_refusal.specs.Supplies.{flag}
-use Rattle.metis_why.specs.Settling.{IsShrunk, held}
+use Rattle.metis_why.specs.Terms.{IsShrunk, IsWithin, held}
+use Rattle.metis_refusal.specs.Terms.{flag}
 use Rattle.metis_why.proofs.settling.settle_in_rounds.Given as goal
 
 abbrev pub invariant-loop : goal.invariant-loop

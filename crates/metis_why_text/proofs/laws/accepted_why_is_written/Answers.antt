@@ -1,5 +1,5 @@
 use Rattle.metis_why_text.proofs.WhyRead.{why_is}
-use Rattle.metis_why_text.specs.WhyReading.{why_parts}
+use Rattle.metis_why_text.specs.Terms.{why_parts}
 use Rattle.metis_why_text.proofs.laws.accepted_why_is_written.Goals as goal
 
 pub returns : goal.returns

@@ -2,7 +2,7 @@ use Rattle.std.proofs.Common.{sym, ap, ◌∙◌}
 use Rattle.metis_tokens.proofs.Texts.{front_of_accepted}
 use Rattle.metis_why_text.proofs.WhyFaults.{all_from, closed, why_text}
 use Rattle.metis_why_text.proofs.WhyRead.{why_read}
-use Rattle.metis_why_text.specs.WhyReading.{why_from, why_in, why_parts}
+use Rattle.metis_why_text.specs.Terms.{why_from, why_in, why_parts}
 use Rattle.metis_why_text.proofs.laws.why_front_is_short.Goals as goal
 
 pub returns : goal.returns

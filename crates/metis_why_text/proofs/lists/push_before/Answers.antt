@@ -1,6 +1,6 @@
 use Rattle.std.proofs.Common.{◌<◌, ◌∙◌}
 use Rattle.std.proofs.lemmas.List.Elements.{All-same}
-use Rattle.metis_universe.specs.Universe.{has, next_of, pair_count}
+use Rattle.metis_universe.specs.Terms.{has, next_of, pair_count}
 use Rattle.metis_why_text.proofs.Named.{kept_below}
 use Rattle.metis_why_text.proofs.lists.push_before.Goals as goal
 

@@ -1,6 +1,6 @@
 use Rattle.std.proofs.Common.{◌<◌}
 use Rattle.std.proofs.lemmas.List.Elements.{All-same}
-use Rattle.metis_universe.specs.Universe.{pair_count, provides}
+use Rattle.metis_universe.specs.Terms.{pair_count, provides}
 use Rattle.metis_why_text.proofs.Named.{kept_below}
 use Rattle.metis_why_text.proofs.lists.push_named.Goals as goal
 

@@ -1,7 +1,7 @@
 use Rattle.std.proofs.Common.{◌++◌, ap, ◌∙◌}
 use Rattle.std.specs.Prelude.{codes, string_bytes}
 use Rattle.metis_tokens.proofs.Words.{added_next}
-use Rattle.metis_universe.specs.PairWords.{pair_word}
+use Rattle.metis_universe.specs.Terms.{pair_word}
 use Rattle.metis_why_text.proofs.lists.push_pairs.Goals as goal
 
 pub loop-pair-preserved : goal.loop-pair-preserved

@@ -1,7 +1,7 @@
 use Rattle.std.proofs.Common.{◌≡◌, ◌++◌, map, take}
 use Rattle.std.specs.Prelude.{string_bytes}
-use Rattle.metis_tokens.specs.Line.{added}
-use Rattle.metis_universe.specs.PairWords.{pair_word}
+use Rattle.metis_tokens.specs.Terms.{added}
+use Rattle.metis_universe.specs.Terms.{pair_word}
 use Rattle.metis_why_text.proofs.lists.push_pairs.Given as goal
 
 abbrev pub invariant-loop-pair : goal.invariant-loop-pair

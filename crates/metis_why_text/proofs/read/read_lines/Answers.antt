@@ -1,7 +1,7 @@
 use Rattle.std.proofs.Common.{◌+◌, ◌-◌, sym, ap, ◌∙◌}
 use Rattle.std.proofs.lemmas.Result.{err_from_is_err_and}
 use Rattle.metis_why_text.proofs.LinesRead.{line_more, line_wrong}
-use Rattle.metis_why_text.specs.WhyReading.{lines_from}
+use Rattle.metis_why_text.specs.Terms.{lines_from}
 use Rattle.metis_why_text.proofs.read.read_lines.Goals as goal
 
 pub returns-in_err-pair : goal.returns-in_err-pair

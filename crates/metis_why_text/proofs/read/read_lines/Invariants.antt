@@ -1,5 +1,5 @@
 use Rattle.std.proofs.Common.{◌≡◌, ◌-◌, []}
-use Rattle.metis_why_text.specs.WhyReading.{lines_from}
+use Rattle.metis_why_text.specs.Terms.{lines_from}
 use Rattle.metis_why_text.proofs.read.read_lines.Given as goal
 
 abbrev pub invariant-loop : goal.invariant-loop

@@ -1,9 +1,9 @@
 use Rattle.std.proofs.Common.{◌++◌, sym, ap, ◌∙◌}
 use Rattle.metis_tokens.proofs.Words.{words_added}
-use Rattle.metis_tokens.specs.Line.{added}
-use Rattle.metis_universe.specs.PairWords.{pair_word}
-use Rattle.metis_why.specs.Barred.{named_by}
-use Rattle.metis_why_text.specs.WhyText.{list_words, reason_tokens}
+use Rattle.metis_tokens.specs.Terms.{added}
+use Rattle.metis_universe.specs.Terms.{pair_word}
+use Rattle.metis_why.specs.Terms.{named_by}
+use Rattle.metis_why_text.specs.Terms.{list_words, reason_tokens}
 use Rattle.metis_why_text.proofs.words.line_words.Goals as goal
 
 pub returns : goal.returns

@@ -3,11 +3,10 @@ use Rattle.std.specs.Prelude.{codes}
 use Rattle.std.proofs.lemmas.List.Elements.{All-same}
 use Rattle.metis_ids.specs.declared.goals.Goal.TheVariants.{Port}
 use Rattle.metis_tokens.proofs.Words.{words_added}
-use Rattle.metis_tokens.specs.Line.{added, words}
-use Rattle.metis_universe.specs.GoalWords.{goal_word}
-use Rattle.metis_universe.specs.Universe.{pair_count, provides, providers_of}
+use Rattle.metis_tokens.specs.Terms.{added, words}
+use Rattle.metis_universe.specs.Terms.{goal_word, pair_count, providers_of, provides}
 use Rattle.metis_why_text.proofs.Named.{kept_below}
-use Rattle.metis_why_text.specs.WhyText.{list_words}
+use Rattle.metis_why_text.specs.Terms.{list_words}
 use Rattle.metis_why_text.proofs.words.port_words.Goals as goal
 
 pub push_list-requires : goal.push_list-requires

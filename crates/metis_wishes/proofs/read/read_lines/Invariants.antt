@@ -1,5 +1,5 @@
 use Rattle.std.proofs.Common.{◌≡◌, ◌+◌, ◌≤◌, [], drop, length, map}
-use Rattle.metis_wishes.specs.Reading.{lines_from}
+use Rattle.metis_wishes.specs.Terms.{lines_from}
 use Rattle.metis_wishes.proofs.read.read_lines.Given as goal
 
 abbrev pub invariant-loop-k : goal.invariant-loop-k

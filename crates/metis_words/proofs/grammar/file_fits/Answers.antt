@@ -1,7 +1,7 @@
 use Rattle.std.proofs.Common.{◌≡◌, ◌∙◌, not, ap, sym, nat_eq, take, length, rules, string_bytes}
 use Rattle.metis_ids.proofs.Lists.{list_any-map}
-use Rattle.metis_universe.specs.Texts.{texts}
-use Rattle.metis_words.specs.Words.{is_dash}
+use Rattle.metis_universe.specs.Terms.{texts}
+use Rattle.metis_words.specs.Terms.{is_dash}
 use Rattle.metis_words.proofs.Misfits.{file_fits_is, file_missing, fits_dash, fits_plain}
 use Rattle.metis_words.proofs.grammar.file_fits.Goals as goal
 

@@ -1,7 +1,7 @@
 use Rattle.std.proofs.Common.{◌≡◌, ℕ, ◌<◌, ◌+◌, ◌∙◌, not, ap, sym, arith, take, length, string_bytes, Err}
 use Rattle.std.proofs.lemmas.List.{length_push}
-use Rattle.metis_universe.specs.Texts.{texts}
-use Rattle.metis_words.specs.Words.{file_fits}
+use Rattle.metis_universe.specs.Terms.{texts}
+use Rattle.metis_words.specs.Terms.{file_fits}
 use Rattle.metis_ids.proofs.Finding.{none_in_range}
 use Rattle.metis_words.proofs.Misfits.{misfit_at, texts_next}
 use Rattle.metis_words.proofs.grammar.read_files.Goals as goal

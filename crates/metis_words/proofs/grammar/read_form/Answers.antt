@@ -1,9 +1,7 @@
 use Rattle.std.proofs.Common.{◌≡◌, ◌∙◌, ℕ, List, [], Ok, ap, sym, subst, Vec, Global}
-use Rattle.metis_tokens.specs.Flaws.{and_then}
-use Rattle.metis_universe.specs.Texts.{texts}
-use Rattle.metis_words.specs.Form.{Form, form_by}
-use Rattle.metis_words.specs.TargetName.{TargetName}
-use Rattle.metis_words.specs.Words.{ReadsWords}
+use Rattle.metis_tokens.specs.Terms.{and_then}
+use Rattle.metis_universe.specs.Terms.{texts}
+use Rattle.metis_words.specs.Terms.{Form, ReadsWords, TargetName, form_by}
 use Rattle.metis_words.proofs.FormRead.{aimed, numbered, sized, stops}
 use Rattle.metis_words.proofs.grammar.read_form.Goals as goal
 use Rattle.metis_words.proofs.grammar.read_form.Goals.{in-Load+in_ok-size-in-Load, in-Waves+in_ok-numbers-in-Waves, in_default+in_ok-targets-in_default}

@@ -4,8 +4,8 @@ use Rattle.std.specs.Option.{option_and_then}
 use Rattle.std.proofs.lemmas.List.{length-map, length_push}
 use Rattle.std.proofs.lemmas.List.Elements.{All-push}
 use Rattle.std.proofs.lemmas.Option.{slice_get_past}
-use Rattle.metis_universe.specs.Texts.{texts}
-use Rattle.metis_words.specs.Words.{duration_of, numbers_after}
+use Rattle.metis_universe.specs.Terms.{texts}
+use Rattle.metis_words.specs.Terms.{duration_of, numbers_after}
 use Rattle.metis_words.proofs.Misfits.{stops_at, word_is}
 use Rattle.metis_words.proofs.NumbersRead.{next_number, no_number, some_left}
 use Rattle.metis_words.proofs.grammar.read_numbers.Goals as goal

@@ -1,7 +1,7 @@
 use Rattle.std.proofs.Common.{◌≡◌, ◌≤◌, ◌+◌, ◌-◌, [], drop, length}
 use Rattle.std.specs.List.{All}
-use Rattle.metis_universe.specs.Texts.{texts}
-use Rattle.metis_words.specs.Words.{numbers_after}
+use Rattle.metis_universe.specs.Terms.{texts}
+use Rattle.metis_words.specs.Terms.{numbers_after}
 use Rattle.metis_words.proofs.grammar.read_numbers.Given as goal
 
 -- what is left, behind the numbers so far

@@ -2,8 +2,8 @@ use Rattle.std.proofs.Common.{◌≡◌, ◌+◌, ◌∙◌, ℕ, not, ap, sym, 
 use Rattle.std.proofs.lemmas.List.{length-map, length_push}
 use Rattle.std.specs.List.{filter_map}
 use Rattle.std.specs.Prelude.{is_some}
-use Rattle.metis_universe.specs.Texts.{texts}
-use Rattle.metis_words.specs.Words.{target_fits, target_of}
+use Rattle.metis_universe.specs.Terms.{texts}
+use Rattle.metis_words.specs.Terms.{target_fits, target_of}
 use Rattle.metis_ids.proofs.Finding.{none_in_range}
 use Rattle.metis_words.proofs.Misfits.{misfit_at, stops_at, target_fits_is, target_past, targets_next}
 use Rattle.metis_words.proofs.grammar.read_targets.Goals as goal

@@ -1,8 +1,6 @@
 use Rattle.std.proofs.Common.{◌∙◌, ◌-◌, ap, sym, subst, drop, length, take}
-use Rattle.metis_universe.specs.Texts.{texts}
-use Rattle.metis_words.specs.Form.{Form}
-use Rattle.metis_words.specs.Forms.{verb_named}
-use Rattle.metis_words.specs.Words.{ReadsWords, with_verb}
+use Rattle.metis_universe.specs.Terms.{texts}
+use Rattle.metis_words.specs.Terms.{Form, ReadsWords, verb_named, with_verb}
 use Rattle.metis_words.proofs.FormRead.{first_word}
 use Rattle.metis_words.proofs.grammar.read_words.Goals as goal
 

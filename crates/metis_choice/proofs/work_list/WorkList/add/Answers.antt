@@ -1,5 +1,5 @@
 use Rattle.std.proofs.Common.{◌∷◌, [], sym, ◌∙◌, subst, arith}
-use Rattle.metis_choice.specs.WorkList.{WorkList, Adds}
+use Rattle.metis_choice.specs.Terms.{Adds, WorkList}
 use Rattle.metis_choice.proofs.Adding.{adds_new}
 use Rattle.metis_choice.proofs.work_list.WorkList.add.Goals as goal
 

@@ -1,5 +1,5 @@
 use Rattle.std.proofs.Common.{take}
-use Rattle.metis_choice.specs.WorkList.{Adds}
+use Rattle.metis_choice.specs.Terms.{Adds}
 use Rattle.metis_choice.proofs.work_list.WorkList.add_all.Given as goal
 
 -- the pairs before this one are added

@@ -1,7 +1,7 @@
 use Rattle.std.proofs.Common.{◌≡◌, ◌∷◌, ◌∙◌, true, ap, length, string_bytes, sym}
-use Rattle.metis_crew.specs.Crew.{done_count}
+use Rattle.metis_crew.specs.Terms.{done_count}
 use Rattle.metis_commands.proofs.CrewLines.{is_progress_line, is_turn_line, last_left}
-use Rattle.metis_commands.specs.Crew.{lines_left, progress_line}
+use Rattle.metis_commands.specs.Terms.{lines_left, progress_line}
 use Rattle.metis_commands.proofs.crew.TurnLinesLines.next_line.Goals as goal
 
 pub returns-in-Some-clause-line : goal.returns-in-Some-clause-line

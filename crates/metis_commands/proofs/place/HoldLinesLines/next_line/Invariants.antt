@@ -1,5 +1,5 @@
 use Rattle.std.proofs.Common.{◌≡◌, ◌-◌, length}
-use Rattle.metis_commands.specs.Place.{holds_behind}
+use Rattle.metis_commands.specs.Terms.{holds_behind}
 use Rattle.metis_commands.proofs.place.HoldLinesLines.next_line.Given as goal
 
 abbrev pub invariant-loop-self : goal.invariant-loop-self

@@ -1,8 +1,8 @@
 use Rattle.std.proofs.Common.{◌≡◌, ◌+◌, ◌<◌, ◌∷◌, ◌∙◌, ap, arith, drop, get_or, length, string_bytes, sym}
 use Rattle.std.proofs.lemmas.List.{drop_all, get_or_read}
 use Rattle.metis_commands.proofs.PlaceLines.{seats_end, seats_next}
-use Rattle.metis_commands.specs.Place.{on_line, on_lines}
-use Rattle.metis_place.specs.Placement.{name_of}
+use Rattle.metis_commands.specs.Terms.{on_line, on_lines}
+use Rattle.metis_place.specs.Terms.{name_of}
 use Rattle.metis_commands.proofs.place.SeatLinesLines.next_line.Goals.{then-self-len-via-then-self-len, then-self-len-via-else-self-len+then-self-len-2}
 use Rattle.metis_commands.proofs.place.SeatLinesLines.next_line.Goals as goal
 

@@ -1,8 +1,7 @@
 use Rattle.std.proofs.Common.{◌≡◌, ◌∙◌, subst}
 use Rattle.std.proofs.lemmas.List.Elements.{same_from_all_zip}
-use Rattle.metis_universe.specs.Config.{Config}
-use Rattle.metis_config.specs.Kept.{AreOver}
-use Rattle.metis_config.specs.Supply.{shares_in}
+use Rattle.metis_universe.specs.Terms.{Config}
+use Rattle.metis_config.specs.Terms.{AreOver, shares_in}
 use Rattle.metis_config.proofs.Tallies.{weight-shares}
 use Rattle.metis_config.proofs.config.Config.copy_bindings.Goals as goal
 

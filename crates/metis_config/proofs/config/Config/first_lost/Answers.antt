@@ -3,10 +3,9 @@ use Rattle.std.specs.List.{AllByRecursion, find, filter}
 use Rattle.std.specs.Map.Iter.{deref}
 use Rattle.std.proofs.lemmas.Bool.{and_from, both_ways, false_from_ne_true, and_parts, eqb-true, not-true, not-false}
 use Rattle.std.proofs.lemmas.Map.Iter.{rest_more, rest_all}
-use Rattle.metis_universe.specs.Config.{Binding, is_bound}
+use Rattle.metis_universe.specs.Terms.{Binding, is_bound}
 use Rattle.metis_universe.proofs.Demands.{gives}
-use Rattle.metis_config.specs.Unmet.{is_required}
-use Rattle.metis_config.specs.Clients.{has_client}
+use Rattle.metis_config.specs.Terms.{has_client, is_required}
 use Rattle.metis_config.proofs.GivenUp.{giver, each_from_in, each_in, is_in}
 use Rattle.metis_config.proofs.Prefixes.{IsRest, IsRest-filter, IsRest-tail, find-from, find_none, each_weaker, has_head-from, no_head_after, is_from}
 use Rattle.metis_config.proofs.Unmets.{lacks, lost_client, lost_least, lacking}

@@ -1,8 +1,8 @@
 use Rattle.std.proofs.Common.{◌≡◌, Some, nat_eq, sym, ap, ◌∙◌, subst}
 use Rattle.std.specs.List.{AllByRecursion}
 use Rattle.std.specs.Map.{lookup}
-use Rattle.metis_universe.specs.Config.{pair_of}
-use Rattle.metis_config.specs.Unmet.{unmet_among}
+use Rattle.metis_universe.specs.Terms.{pair_of}
+use Rattle.metis_config.specs.Terms.{unmet_among}
 use Rattle.metis_config.proofs.Leasts.{each_there}
 use Rattle.metis_config.proofs.config.Config.first_unmet.Goals as goal
 

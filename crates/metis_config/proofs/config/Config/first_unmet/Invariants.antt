@@ -1,7 +1,7 @@
 use Rattle.std.proofs.Common.{◌≡◌, Some}
 use Rattle.std.specs.List.{AllByRecursion}
-use Rattle.metis_universe.specs.Config.{pair_of}
-use Rattle.metis_config.specs.Unmet.{unmet, unmet_among}
+use Rattle.metis_universe.specs.Terms.{pair_of}
+use Rattle.metis_config.specs.Terms.{unmet, unmet_among}
 use Rattle.metis_config.proofs.config.Config.first_unmet.Given as goal
 
 abbrev pub invariant-loop-z : goal.invariant-loop-z

@@ -1,7 +1,6 @@
 use Rattle.std.proofs.Common.{ap, ◌∙◌}
-use Rattle.metis_universe.specs.Config.{Config}
-use Rattle.metis_universe.specs.Universe.{provides}
-use Rattle.metis_config.specs.Supply.{providers_in}
+use Rattle.metis_universe.specs.Terms.{Config, provides}
+use Rattle.metis_config.specs.Terms.{providers_in}
 use Rattle.metis_config.proofs.config.Config.giving.Goals as goal
 
 pub returns : goal.returns

@@ -1,6 +1,6 @@
 use Rattle.std.proofs.Common.{◌&&◌, ◌==◌, leb, sym, ap, ◌∙◌}
 use Rattle.std.proofs.lemmas.List.Sums.{length-filter}
-use Rattle.metis_universe.specs.Config.{pair_of}
+use Rattle.metis_universe.specs.Terms.{pair_of}
 use Rattle.metis_universe.proofs.Demands.{gives}
 use Rattle.metis_config.proofs.config.Config.is_met.Goals as goal
 

@@ -1,8 +1,7 @@
 use Rattle.std.proofs.Common.{sym, ◌∙◌, subst, nat_lt}
 use Rattle.std.specs.List.{list_all}
 use Rattle.std.proofs.lemmas.Bool.{both_ways}
-use Rattle.metis_universe.specs.Config.{Binding, IsConfig}
-use Rattle.metis_universe.specs.Universe.{pair_count, port_count}
+use Rattle.metis_universe.specs.Terms.{Binding, IsConfig, pair_count, port_count}
 use Rattle.metis_config.proofs.Firsts.{below_pairs, below_ports, pairs_below, ports_below}
 use Rattle.metis_config.proofs.config.Config.is_over.Goals as goal
 

@@ -1,8 +1,8 @@
 use Rattle.std.proofs.Common.{◌≡◌, ◌<◌, ◌&&◌, Bool, true, false, leb, not, refl, sym, ap, ◌∙◌, subst}
 use Rattle.std.proofs.lemmas.Bool.{lt-ltb}
-use Rattle.metis_universe.specs.Config.{pair_of}
+use Rattle.metis_universe.specs.Terms.{pair_of}
 use Rattle.metis_universe.proofs.Demands.{gives}
-use Rattle.metis_config.specs.Unmet.{demanded}
+use Rattle.metis_config.specs.Terms.{demanded}
 use Rattle.metis_config.proofs.GivenUp.{given_up}
 use Rattle.metis_config.proofs.Providers.{one_fewer, required_demanded}
 use Rattle.metis_config.proofs.Unmets.{lacks}

@@ -1,8 +1,8 @@
 use Rattle.std.proofs.Common.{◌≡◌, ◌<◌, ◌+◌, ◌&&◌, true, false, ltb, None, sym, ap, ◌∙◌, subst}
 use Rattle.std.proofs.lemmas.Bool.{lt-ltb}
-use Rattle.metis_universe.specs.Config.{pair_of}
+use Rattle.metis_universe.specs.Terms.{pair_of}
 use Rattle.metis_universe.proofs.Demands.{gives}
-use Rattle.metis_config.specs.Unmet.{demanded}
+use Rattle.metis_config.specs.Terms.{demanded}
 use Rattle.metis_config.proofs.GivenUp.{given_tie}
 use Rattle.metis_config.proofs.Providers.{required_demanded, without_tie}
 use Rattle.metis_config.proofs.Unmets.{lacks}

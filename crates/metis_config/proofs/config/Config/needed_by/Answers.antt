@@ -1,6 +1,6 @@
 use Rattle.std.proofs.Common.{ℕ, subst}
 use Rattle.std.specs.Prelude.{IsFalse, IsTrue, MatchOption}
-use Rattle.metis_universe.specs.Config.{Config, config_of, is_bound}
+use Rattle.metis_universe.specs.Terms.{Config, config_of, is_bound}
 use Rattle.metis_config.proofs.Keys.{bound_there}
 use Rattle.metis_config.proofs.config.Config.needed_by.Goals as goal
 

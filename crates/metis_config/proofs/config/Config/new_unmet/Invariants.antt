@@ -1,8 +1,7 @@
 use Rattle.std.proofs.Common.{◌≡◌, drop, nat_lt, not, ◌&&◌}
 use Rattle.std.specs.List.{find}
-use Rattle.metis_universe.specs.Config.{is_met}
-use Rattle.metis_universe.specs.Universe.{demand_of, required_of}
-use Rattle.metis_config.specs.Unmet.{demanded}
+use Rattle.metis_universe.specs.Terms.{demand_of, is_met, required_of}
+use Rattle.metis_config.specs.Terms.{demanded}
 use Rattle.metis_config.proofs.config.Config.new_unmet.Given as goal
 
 abbrev pub invariant-loop-place : goal.invariant-loop-place

@@ -1,5 +1,5 @@
 use Rattle.std.proofs.Common.{◌≡◌, None, ap, sym, ◌∙◌}
-use Rattle.metis_universe.specs.Config.{Config, config_of, pair_of}
+use Rattle.metis_universe.specs.Terms.{Config, config_of, pair_of}
 use Rattle.metis_config.proofs.Indexed.{IsIndexed-put}
 use Rattle.metis_config.proofs.Providers.{providers-new}
 use Rattle.metis_config.proofs.config.Config.put.Goals as goal

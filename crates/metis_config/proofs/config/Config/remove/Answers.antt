@@ -2,7 +2,7 @@ use Rattle.std.proofs.Common.{◌≡◌, length, true, not, refl, ap, sym, ◌�
 use Rattle.std.specs.Prelude.{◌==◌}
 use Rattle.std.specs.List.{filter}
 use Rattle.std.proofs.lemmas.Bool.{eq-eqb, or_left, or_right}
-use Rattle.metis_universe.specs.Config.{Config, config_of, is_bound, is_tie, untie}
+use Rattle.metis_universe.specs.Terms.{Config, config_of, is_bound, is_tie, untie}
 use Rattle.metis_universe.proofs.Sorted.{remove_entry-numbers}
 use Rattle.metis_config.proofs.Indexed.{IsIndexed-gone}
 use Rattle.metis_config.proofs.Providers.{providers-gone}

@@ -1,5 +1,5 @@
 use Rattle.std.proofs.Common.{◌≡◌, ℕ, false, length}
-use Rattle.metis_universe.specs.Config.{is_bound}
+use Rattle.metis_universe.specs.Terms.{is_bound}
 use Rattle.metis_config.proofs.Removed.{others}
 use Rattle.metis_config.proofs.config.Config.remove.Given as goal
 

@@ -1,6 +1,6 @@
 use Rattle.std.proofs.Common.{ℕ, sym, ◌∙◌, subst}
 use Rattle.std.specs.Prelude.{IsFalse, IsTrue}
-use Rattle.metis_universe.specs.Config.{Config, config_of, is_bound}
+use Rattle.metis_universe.specs.Terms.{Config, config_of, is_bound}
 use Rattle.metis_config.proofs.Firsts.{served_none, served_some}
 use Rattle.metis_config.proofs.config.Config.served_by.Goals as goal
 

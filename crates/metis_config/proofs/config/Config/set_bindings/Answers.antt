@@ -1,6 +1,6 @@
 use Rattle.std.proofs.Common.{sym, ◌∙◌, subst}
-use Rattle.metis_universe.specs.Config.{Config}
-use Rattle.metis_config.specs.Kept.{AreOver, Bindings}
+use Rattle.metis_universe.specs.Terms.{Config}
+use Rattle.metis_config.specs.Terms.{AreOver, Bindings}
 use Rattle.metis_config.proofs.Tallies.{weight-shares}
 use Rattle.metis_config.proofs.config.Config.set_bindings.Goals as goal
 

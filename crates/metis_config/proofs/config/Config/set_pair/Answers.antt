@@ -1,5 +1,5 @@
 use Rattle.std.proofs.Common.{◌≡◌, ◌<◌, ◌&&◌, Some, cond, nat_eq, ap, sym, subst, ◌∙◌, arith, rules}
-use Rattle.metis_universe.specs.Config.{config_of, is_bound, pair_of}
+use Rattle.metis_universe.specs.Terms.{config_of, is_bound, pair_of}
 use Rattle.metis_config.proofs.Indexed.{IsIndexed-put}
 use Rattle.metis_config.proofs.Providers.{bound-counted, providers-moved}
 use Rattle.metis_config.proofs.Tallies.{split}

@@ -1,8 +1,8 @@
 use Rattle.std.proofs.Common.{refl, sym, ◌∙◌, subst}
 use Rattle.std.specs.Prelude.{IsNone}
 use Rattle.metis_ids.proofs.Options.{none_from_IsNone}
-use Rattle.metis_universe.specs.Config.{IsConfig}
-use Rattle.metis_config.specs.Unmet.{is_unmet, IsLeast}
+use Rattle.metis_universe.specs.Terms.{IsConfig}
+use Rattle.metis_config.specs.Terms.{IsLeast, is_unmet}
 use Rattle.metis_config.proofs.Leasts.{correct-unmet, unmet-correct, unmet_least}
 use Rattle.metis_config.proofs.config.Config.unmet.Goals as goal
 

@@ -1,9 +1,8 @@
 use Rattle.std.proofs.Common.{◌≡◌, ◌&&◌, ℕ, List, [], ◌∷◌, Some, cond, nat_lt, not, refl, sym, ap, ◌∙◌}
 use Rattle.std.specs.List.{find}
 use Rattle.std.specs.Option.{option_and_then}
-use Rattle.metis_universe.specs.Config.{is_met}
-use Rattle.metis_universe.specs.Universe.{demand_of, required_of}
-use Rattle.metis_config.specs.Unmet.{demanded, is_met_if}
+use Rattle.metis_universe.specs.Terms.{demand_of, is_met, required_of}
+use Rattle.metis_config.specs.Terms.{demanded, is_met_if}
 use Rattle.metis_config.proofs.GivenUp.{new_ports}
 use Rattle.metis_config.proofs.Providers.{own_met}
 use Rattle.metis_config.proofs.config.Config.unmet_own.Goals as goal

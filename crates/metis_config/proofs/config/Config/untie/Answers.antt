@@ -1,5 +1,5 @@
 use Rattle.std.proofs.Common.{◌≡◌, ◌<◌, Some, true, nat_eq, ap, sym, subst, ◌∙◌, arith, rules}
-use Rattle.metis_universe.specs.Config.{Config, config_of, is_bound, pair_of}
+use Rattle.metis_universe.specs.Terms.{Config, config_of, is_bound, pair_of}
 use Rattle.metis_universe.proofs.Edits.{remove_key-bindings}
 use Rattle.metis_config.proofs.Indexed.{IsIndexed-untie}
 use Rattle.metis_config.proofs.Providers.{bound-counted, providers-untied}

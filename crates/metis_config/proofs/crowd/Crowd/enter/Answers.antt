@@ -1,6 +1,6 @@
 use Rattle.std.proofs.Common.{◌<◌, ◌+◌, true, cond, position, nat_eq, arith, ap, sym, ◌∙◌, subst}
 use Rattle.std.specs.Prelude.{vec_capacity}
-use Rattle.metis_config.specs.Crowd.{Crowd, total_of, weight}
+use Rattle.metis_config.specs.Terms.{Crowd, total_of, weight}
 use Rattle.metis_config.proofs.Weights.{all-push, entered, found_pair, length-le-total, weight-push}
 use Rattle.metis_config.proofs.crowd.Crowd.enter.Goals as goal
 use Rattle.metis_config.proofs.crowd.Crowd.enter.Goals.{in-Some, in-None}

@@ -1,5 +1,5 @@
 use Rattle.std.proofs.Common.{◌<◌, ◌+◌, true, cond, position, nat_eq, arith, ap, sym, ◌∙◌, subst}
-use Rattle.metis_config.specs.Crowd.{Crowd, weight}
+use Rattle.metis_config.specs.Terms.{Crowd, weight}
 use Rattle.metis_config.proofs.Weights.{found_pair, weight-absent, weight-le-total}
 use Rattle.metis_config.proofs.crowd.Crowd.leave.Goals as goal
 

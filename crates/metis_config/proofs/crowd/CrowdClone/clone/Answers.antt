@@ -1,7 +1,7 @@
 use Rattle.std.proofs.Common.{◌≡◌, ◌≤◌, length, vec_len, arith, ap, ◌∙◌, rules}
 use Rattle.std.specs.Prelude.{vec_capacity}
 use Rattle.std.proofs.lemmas.List.Elements.{same_from_all_zip}
-use Rattle.metis_config.specs.Crowd.{Crowd}
+use Rattle.metis_config.specs.Terms.{Crowd}
 use Rattle.metis_config.proofs.Weights.{length-le-total}
 use Rattle.metis_config.proofs.crowd.CrowdClone.clone.Goals as goal
 

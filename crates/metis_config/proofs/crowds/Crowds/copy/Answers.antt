@@ -1,7 +1,7 @@
 use Rattle.std.proofs.Common.{◌≡◌, ℕ}
 use Rattle.std.specs.BTreeMap.{get, is_at}
 use Rattle.std.proofs.lemmas.Map.Entries.{lookup_clone}
-use Rattle.metis_config.specs.Supply.{key_cmp, shares_of}
+use Rattle.metis_config.specs.Terms.{key_cmp, shares_of}
 use Rattle.metis_config.specs.declared.supply.Supply.{Supply}
 use Rattle.metis_config.proofs.Tallies.{cloned}
 use Rattle.metis_config.proofs.crowds.Crowds.copy.Goals as goal

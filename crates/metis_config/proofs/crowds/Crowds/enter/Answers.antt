@@ -1,8 +1,7 @@
 use Rattle.std.proofs.Common.{◌≡◌, ◌+◌, ℕ, cond, Some, None, IsSome, ap, ◌∙◌, arith, rules}
 use Rattle.std.specs.BTreeMap.{get, is_at}
 use Rattle.std.specs.Map.{lookup}
-use Rattle.metis_config.specs.Crowd.{weight}
-use Rattle.metis_config.specs.Supply.{key_cmp}
+use Rattle.metis_config.specs.Terms.{key_cmp, weight}
 use Rattle.metis_config.specs.declared.supply.Supply.TheVariants.{One}
 use Rattle.metis_config.proofs.Tallies.{entered, on_err, on_ok, same, weighed}
 use Rattle.metis_config.proofs.Weights.{weight-one}

@@ -1,6 +1,6 @@
 use Rattle.std.proofs.Common.{◌≡◌, ℕ, cond, Some, None, IsSome, nat_eq, arith, ap, sym, ◌∙◌, rules}
 use Rattle.std.specs.BTreeMap.{get, is_at}
-use Rattle.metis_config.specs.Supply.{key_cmp}
+use Rattle.metis_config.specs.Terms.{key_cmp}
 use Rattle.metis_config.proofs.Tallies.{last_gone, left, weighed}
 use Rattle.metis_config.proofs.crowds.Crowds.leave.Goals as goal
 use Rattle.metis_config.proofs.crowds.Crowds.leave.Goals.{in-Some, in-None}

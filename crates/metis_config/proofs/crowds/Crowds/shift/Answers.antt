@@ -1,6 +1,6 @@
 use Rattle.std.proofs.Common.{◌≡◌, ◌+◌, ℕ, cond, Some, IsSome, ap, ◌∙◌, rules}
 use Rattle.std.specs.BTreeMap.{get, is_at}
-use Rattle.metis_config.specs.Supply.{key_cmp}
+use Rattle.metis_config.specs.Terms.{key_cmp}
 use Rattle.metis_config.proofs.Tallies.{shifted, weighed}
 use Rattle.metis_config.proofs.crowds.Crowds.shift.Goals as goal
 

@@ -3,9 +3,8 @@ use Rattle.std.specs.List.{AllByRecursion, filter, list_any}
 use Rattle.std.specs.Map.Iter.{deref}
 use Rattle.std.proofs.lemmas.Bool.{and_parts, eqb-true, not-true, not-false}
 use Rattle.std.proofs.lemmas.Map.Iter.{rest_more}
-use Rattle.metis_universe.specs.Config.{Binding, is_tie}
-use Rattle.metis_config.specs.Clients.{has_client}
-use Rattle.metis_config.specs.Supply.{weight_at}
+use Rattle.metis_universe.specs.Terms.{Binding, is_tie}
+use Rattle.metis_config.specs.Terms.{has_client, weight_at}
 use Rattle.metis_config.proofs.GivenUp.{each_from_in, each_in, is_in}
 use Rattle.metis_config.proofs.Prefixes.{IsRest, IsRest-filter, IsRest-tail, any-from, any_none, each_weaker, has_head-from, no_head_after, is_from}
 use Rattle.metis_config.proofs.Shifted.{all_done, is_done, none_done, not_yet, one_done, one_moved}

@@ -1,6 +1,6 @@
 use Rattle.std.proofs.Common.{◌≡◌, ℕ, ◌+◌, Bool, cond, ◌&&◌}
 use Rattle.std.specs.List.{AllByRecursion}
-use Rattle.metis_config.specs.Supply.{weight_at}
+use Rattle.metis_config.specs.Terms.{weight_at}
 use Rattle.metis_config.proofs.GivenUp.{is_in}
 use Rattle.metis_config.proofs.Prefixes.{IsRest}
 use Rattle.metis_config.proofs.Shifted.{is_done}

@@ -1,6 +1,5 @@
 use Rattle.std.proofs.Common.{◌≡◌, arith, ap}
-use Rattle.metis_config.specs.Crowd.{total_of, weight}
-use Rattle.metis_config.specs.Supply.{shares_of}
+use Rattle.metis_config.specs.Terms.{shares_of, total_of, weight}
 use Rattle.metis_config.proofs.Weights.{weight-le-total}
 use Rattle.metis_config.proofs.supply.Supply.leave.Goals as goal
 

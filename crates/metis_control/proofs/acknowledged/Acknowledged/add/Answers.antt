@@ -1,6 +1,6 @@
 use Rattle.std.proofs.Common.{◌≡◌, ◌∙◌, ◌-◌, true, ap, arith, length, set, drop, length-set}
-use Rattle.metis_universe.specs.Universe.{has}
-use Rattle.metis_control.specs.Acknowledged.{AcknowledgedState}
+use Rattle.metis_universe.specs.Terms.{has}
+use Rattle.metis_control.specs.Terms.{AcknowledgedState}
 use Rattle.metis_control.proofs.Flagged.{flagged_as, flagged_more, written}
 use Rattle.metis_control.proofs.acknowledged.Acknowledged.add.Goals as goal
 

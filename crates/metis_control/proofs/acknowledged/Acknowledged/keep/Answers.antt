@@ -1,6 +1,6 @@
 use Rattle.std.proofs.Common.{◌∙◌, ◌&&◌, not, ap, sym, arith, length, drop}
-use Rattle.metis_universe.specs.Universe.{has}
-use Rattle.metis_control.specs.Acknowledged.{flag_at}
+use Rattle.metis_universe.specs.Terms.{has}
+use Rattle.metis_control.specs.Terms.{flag_at}
 use Rattle.metis_control.proofs.Flagged.{dropped_within, flagged_as, flagged_front, rest_of, written}
 use Rattle.metis_control.proofs.acknowledged.Acknowledged.keep.Goals as goal
 

@@ -1,8 +1,8 @@
 use Rattle.std.proofs.Common.{ap, length, subst, sym, arith}
 use Rattle.metis_crew.proofs.OwnActions.{own_short, rising}
-use Rattle.metis_crew.specs.Crew.{own_numbers}
+use Rattle.metis_crew.specs.Terms.{own_numbers}
 use Rattle.metis_control.proofs.Orders.{rise}
-use Rattle.metis_control.specs.Owned.{IsRising}
+use Rattle.metis_control.specs.Terms.{IsRising}
 use Rattle.metis_control.proofs.agent.Agent.new.Goals as goal
 
 pub invariant_of-result : goal.invariant_of-result

@@ -1,8 +1,6 @@
 use Rattle.std.proofs.Common.{List, ℕ, Bor, ap, ◌∙◌, false, map}
 use Rattle.metis_control.proofs.Scripts.{all_left}
-use Rattle.metis_control.specs.Fields.{WorldValue}
-use Rattle.metis_control.specs.Script.{lines_left}
-use Rattle.metis_control.specs.World.{at_first}
+use Rattle.metis_control.specs.Terms.{WorldValue, at_first, lines_left}
 use Rattle.metis_control.proofs.script.AnswerLines.of.Goals as goal
 
 pub returns : goal.returns

@@ -1,11 +1,10 @@
 use Rattle.std.proofs.Common.{◌≡◌, ◌∙◌, Option, Bor, Some, None, ap, sym, not, refl}
 use Rattle.std.specs.Prelude.{is_some, IfSome}
 use Rattle.std.specs.Option.{option_copied}
-use Rattle.metis_universe.specs.Universe.{is_empty}
-use Rattle.metis_crew.specs.Crew.{count_of, own_numbers}
+use Rattle.metis_universe.specs.Terms.{is_empty}
+use Rattle.metis_crew.specs.Terms.{count_of, own_numbers}
 use Rattle.metis_crew.proofs.Looked.{by_cmp}
-use Rattle.metis_control.specs.Agent.{AgentState}
-use Rattle.metis_control.specs.Fields.{WorldValue}
+use Rattle.metis_control.specs.Terms.{AgentState, WorldValue}
 use Rattle.metis_control.proofs.Carried.{agent_count, agent_exists}
 use Rattle.metis_control.proofs.world.World.agent.Goals as goal
 

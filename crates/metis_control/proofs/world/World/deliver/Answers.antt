@@ -1,6 +1,5 @@
 use Rattle.std.proofs.Common.{◌∙◌, Some, ap, arith, sym}
-use Rattle.metis_control.specs.Fields.{state_of}
-use Rattle.metis_control.specs.World.{came, packet_at}
+use Rattle.metis_control.specs.Terms.{came, packet_at, state_of}
 use Rattle.metis_control.specs.declared.happening.Packet.TheVariants as packet
 use Rattle.metis_control.proofs.Happened.{ack_low, came_reached, heard_reached, order_low, rows_count}
 use Rattle.metis_control.proofs.Reached.{not_ahead}

@@ -1,6 +1,6 @@
 use Rattle.std.proofs.Common.{◌∙◌, ap, refl, arith}
 use Rattle.metis_waits.proofs.Listed.{length-each}
-use Rattle.metis_control.specs.Controller.{ControllerState}
+use Rattle.metis_control.specs.Terms.{ControllerState}
 use Rattle.metis_control.proofs.Happened.{world_made}
 use Rattle.metis_control.proofs.world.World.new.Goals as goal
 

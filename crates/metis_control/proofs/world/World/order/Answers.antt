@@ -1,6 +1,5 @@
 use Rattle.std.proofs.Common.{◌≡◌, ◌∙◌, ◌+◌, suc, length, ap, sym, subst, arith}
-use Rattle.metis_control.specs.Fields.{Adds, IsAnswered, IsHeard, WorldValue, state_of}
-use Rattle.metis_control.specs.World.{IsReached, ordered}
+use Rattle.metis_control.specs.Terms.{Adds, IsAnswered, IsHeard, IsReached, WorldValue, ordered, state_of}
 use Rattle.metis_control.specs.declared.happening.Leave.TheVariants as left
 use Rattle.metis_control.specs.declared.happening.Told.{Told}
 use Rattle.metis_control.specs.declared.happening.Told.TheVariants as told

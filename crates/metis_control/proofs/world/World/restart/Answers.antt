@@ -1,5 +1,5 @@
 use Rattle.std.proofs.Common.{◌∙◌}
-use Rattle.metis_control.specs.Fields.{state_of}
+use Rattle.metis_control.specs.Terms.{state_of}
 use Rattle.metis_control.proofs.Happened.{restart_reached}
 use Rattle.metis_control.proofs.world.World.restart.Goals as goal
 

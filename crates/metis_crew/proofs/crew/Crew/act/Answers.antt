@@ -1,8 +1,7 @@
 use Rattle.std.proofs.Common.{◌∙◌, ◌+◌, ◌-◌, ap, sym, subst, arith, set, true}
 use Rattle.metis_crew.proofs.Counted.{done_count-low}
 use Rattle.metis_crew.proofs.Looked.{count_low, next_within, tables_after}
-use Rattle.metis_crew.specs.Crew.{CrewState, next_of}
-use Rattle.metis_crew.specs.Tables.{AreTables}
+use Rattle.metis_crew.specs.Terms.{AreTables, CrewState, next_of}
 use Rattle.metis_crew.proofs.crew.Crew.act.Goals as goal
 
 pub count_up-requires-clause-known : goal.count_up-requires-clause-known

@@ -1,10 +1,10 @@
 use Rattle.std.proofs.Common.{◌∙◌, ap, arith, length, not, sym}
 use Rattle.std.specs.List.{find}
 use Rattle.std.proofs.lemmas.Bool.{not_from_true, not_from_false}
-use Rattle.metis_universe.specs.Waits.{waits}
+use Rattle.metis_universe.specs.Terms.{waits}
 use Rattle.metis_waits.proofs.Listed.{length-each}
 use Rattle.metis_crew.proofs.Looked.{found_here, found_later, found_none, wait_in}
-use Rattle.metis_crew.specs.Crew.{CrewState, is_done}
+use Rattle.metis_crew.specs.Terms.{CrewState, is_done}
 use Rattle.metis_crew.proofs.crew.Crew.first_wait.Goals as goal
 
 pub of-m-items-requires-clause-last : goal.of-m-items-requires-clause-last

@@ -3,8 +3,7 @@ use Rattle.metis_ids.specs.declared.events.Event.{Event}
 use Rattle.metis_events.proofs.Targets.{adds_one}
 use Rattle.metis_events.proofs.edges.EdgeList.add.Goals as goal
 use Rattle.metis_events.specs.declared.edges.Edge.{Edge}
-use Rattle.metis_events.specs.Edges.{edge_of}
-use Rattle.metis_events.specs.Gathered.{has_target}
+use Rattle.metis_events.specs.Terms.{edge_of, has_target}
 
 pub returns : goal.returns
 returns c = λ x.

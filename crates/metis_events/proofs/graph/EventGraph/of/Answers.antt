@@ -1,18 +1,15 @@
 use Rattle.std.proofs.Common.{◌≡◌, ◌-◌, ℕ, List, ap, length, map, subst, sym, ◌∙◌}
 use Rattle.std.proofs.lemmas.List.{length-map}
 use Rattle.std.specs.List.{All}
-use Rattle.metis_lines.specs.AbstractPlan.{AbstractPlan}
-use Rattle.metis_lines.specs.Events.{event_cmp, events}
-use Rattle.metis_lines.specs.LifeLines.{plan_of}
+use Rattle.metis_lines.specs.Terms.{AbstractPlan, event_cmp, events, plan_of}
 use Rattle.metis_lines.proofs.Formed.{lines_formed}
 use Rattle.std.specs.List.Sorted.{IsStrictlySortedBy}
 use Rattle.metis_events.proofs.AllEvents.{events_ascend}
 use Rattle.metis_events.proofs.Numbered.{joined}
 use Rattle.metis_events.proofs.NumberRows.{graph_is, rows_ascend, rows_of}
 use Rattle.metis_events.proofs.graph.EventGraph.of.Goals as goal
-use Rattle.metis_sort.specs.Dag.{ascending, graph_into}
-use Rattle.metis_events.specs.Edges.{before, graph_of}
-use Rattle.metis_events.specs.Numbered.{IsJoined, graph_by}
+use Rattle.metis_sort.specs.Terms.{ascending, graph_into}
+use Rattle.metis_events.specs.Terms.{IsJoined, before, graph_by, graph_of}
 
 pub edges_into_all-requires : goal.edges_into_all-requires
 edges_into_all-requires c = c.deref.ensures.value ∙ c.in_ok-events.ensures.events

@@ -4,7 +4,7 @@ use Rattle.std.specs.List.Sorted.{IsSorted}
 use Rattle.metis_events.proofs.Targets.{in_order_is}
 use Rattle.metis_events.proofs.rows.EdgeRow.put_in_order.Goals as goal
 use Rattle.metis_events.specs.declared.edges.Edge.{Edge}
-use Rattle.metis_events.specs.Gathered.{in_order}
+use Rattle.metis_events.specs.Terms.{in_order}
 
 pub returns : goal.returns
 returns c =

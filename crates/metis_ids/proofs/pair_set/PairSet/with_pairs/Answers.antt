@@ -1,6 +1,6 @@
 use Rattle.std.proofs.Common.{◌≡◌, ℕ, Bool, false, List, [], replicate, length, sym, ap, ◌∙◌, arith, rules}
 use Rattle.std.proofs.lemmas.List.{length-replicate}
-use Rattle.metis_ids.specs.PairSet.{members_of}
+use Rattle.metis_ids.specs.Terms.{members_of}
 use Rattle.metis_ids.proofs.Flags.{members_from-replicate}
 use Rattle.metis_ids.proofs.pair_set.PairSet.with_pairs.Goals as goal
 

@@ -1,8 +1,8 @@
 use Rattle.std.proofs.Common.{◌≡◌, length, take, sym, ap, ◌∙◌, subst, arith}
 use Rattle.std.proofs.lemmas.List.{take_all}
 use Rattle.metis_ids.proofs.Lists.{end_past}
-use Rattle.metis_universe.specs.Universe.{next_of}
-use Rattle.metis_layers.specs.Counters.{Leads}
+use Rattle.metis_universe.specs.Terms.{next_of}
+use Rattle.metis_layers.specs.Terms.{Leads}
 use Rattle.metis_layers.proofs.CounterFacts.{entry_low, entry_there, led_step, next_few, next_within}
 use Rattle.metis_layers.proofs.counters.Counters.lead_on.Goals as goal
 

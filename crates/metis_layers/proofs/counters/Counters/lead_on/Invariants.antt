@@ -1,6 +1,6 @@
 use Rattle.std.proofs.Common.{◌≡◌, ◌+◌, ◌-◌, ◌≤◌, length, take}
-use Rattle.metis_universe.specs.Universe.{next_of}
-use Rattle.metis_layers.specs.Counters.{IsSettled, Leads}
+use Rattle.metis_universe.specs.Terms.{next_of}
+use Rattle.metis_layers.specs.Terms.{IsSettled, Leads}
 use Rattle.metis_layers.proofs.counters.Counters.lead_on.Given as goal
 
 abbrev pub invariant-loop-q : goal.invariant-loop-q

@@ -1,8 +1,8 @@
 use Rattle.std.proofs.Common.{◌≡◌, length, take, sym, ap, ◌∙◌, subst, arith}
 use Rattle.std.proofs.lemmas.List.{take_all}
 use Rattle.metis_ids.proofs.Lists.{end_past}
-use Rattle.metis_universe.specs.Universe.{requirers_of}
-use Rattle.metis_layers.specs.Counters.{Meets}
+use Rattle.metis_universe.specs.Terms.{requirers_of}
+use Rattle.metis_layers.specs.Terms.{Meets}
 use Rattle.metis_layers.proofs.CounterFacts.{counter_some, counter_step, entry_low, entry_there, requirers_few, requirers_within}
 use Rattle.metis_layers.proofs.counters.Counters.meet_all.Goals as goal
 

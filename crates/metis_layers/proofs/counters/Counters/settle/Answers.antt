@@ -2,8 +2,8 @@ use Rattle.std.proofs.Common.{◌≡◌, ◌<◌, ◌&&◌, ◌||◌, true, fals
 use Rattle.std.specs.Option.{is_none, is_some}
 use Rattle.std.proofs.lemmas.Bool.{and_from, eq-eqb}
 use Rattle.std.proofs.lemmas.List.{get_or_read}
-use Rattle.metis_universe.specs.Universe.{has}
-use Rattle.metis_layers.specs.Counters.{Counters, comes}
+use Rattle.metis_universe.specs.Terms.{has}
+use Rattle.metis_layers.specs.Terms.{Counters, comes}
 use Rattle.metis_layers.proofs.CounterFacts.{comes_by, none_at, put_in}
 use Rattle.metis_layers.proofs.counters.Counters.settle.Goals as goal
 

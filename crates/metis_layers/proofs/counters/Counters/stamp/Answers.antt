@@ -1,6 +1,6 @@
 use Rattle.std.proofs.Common.{◌<◌, Some, None, length, get_or, set, ap, ◌∙◌, arith, length-set}
 use Rattle.std.proofs.lemmas.List.{get_or_read}
-use Rattle.metis_layers.specs.Counters.{Counters}
+use Rattle.metis_layers.specs.Terms.{Counters}
 use Rattle.metis_layers.proofs.WorkFacts.{stamp_step}
 use Rattle.metis_layers.proofs.counters.Counters.stamp.Goals as goal
 

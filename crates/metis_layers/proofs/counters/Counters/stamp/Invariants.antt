@@ -1,5 +1,5 @@
 use Rattle.std.proofs.Common.{◌≡◌, ℕ, cond, Some, None, length, get_or, take}
-use Rattle.metis_universe.specs.Universe.{has}
+use Rattle.metis_universe.specs.Terms.{has}
 use Rattle.metis_layers.proofs.counters.Counters.stamp.Given as goal
 
 abbrev pub invariant-loop-p : goal.invariant-loop-p

@@ -1,7 +1,6 @@
 use Rattle.std.proofs.Common.{◌<◌, Some, length, set, sym, ap, ◌∙◌, arith, length-set}
 use Rattle.std.specs.Option.{is_some}
-use Rattle.metis_layers.specs.Counters.{unmet_of}
-use Rattle.metis_layers.specs.Reading.{unoffered}
+use Rattle.metis_layers.specs.Terms.{unmet_of, unoffered}
 use Rattle.metis_layers.proofs.CounterFacts.{none_at, offer_less, offer_owed, tallied_offer}
 use Rattle.metis_layers.proofs.work.Work.offer.Goals as goal
 

@@ -1,6 +1,6 @@
 use Rattle.std.proofs.Common.{◌+◌, ◌-◌, ◌≤◌, length, take}
-use Rattle.metis_universe.specs.Universe.{provided_of}
-use Rattle.metis_layers.specs.Work.{IsCounting, Provides, offers_left}
+use Rattle.metis_universe.specs.Terms.{provided_of}
+use Rattle.metis_layers.specs.Terms.{IsCounting, Provides, offers_left}
 use Rattle.metis_layers.proofs.work.Work.provide.Given as goal
 
 abbrev pub invariant-loop-port : goal.invariant-loop-port

@@ -1,5 +1,5 @@
 use Rattle.std.proofs.Common.{ℕ, Bool, List, false, get_or, sym, ap, ◌∙◌, subst}
-use Rattle.metis_layers.specs.Work.{IsRead}
+use Rattle.metis_layers.specs.Terms.{IsRead}
 use Rattle.metis_layers.proofs.WorkFacts.{read_more}
 use Rattle.metis_layers.proofs.work.Work.visit.Goals as goal
 

@@ -1,5 +1,5 @@
 use Rattle.std.proofs.Common.{◌≡◌, ◌+◌, ◌≤◌, ◌++◌, take}
-use Rattle.metis_layers.specs.Work.{IsTally, work_left}
+use Rattle.metis_layers.specs.Terms.{IsTally, work_left}
 use Rattle.metis_layers.proofs.work.Work.visit_all.Given as goal
 
 abbrev pub invariant-loop-p : goal.invariant-loop-p

@@ -1,6 +1,6 @@
 use Rattle.std.proofs.Common.{◌<◌, ◌≤◌, ◌++◌, ◌∙◌, ap, length, subst, sym, List, ℕ}
 use Rattle.metis_support.proofs.Paths.{way}
-use Rattle.metis_support.specs.Support.{path_to}
+use Rattle.metis_support.specs.Terms.{path_to}
 use Rattle.metis_lines.proofs.line.Line.to.Goals as goal
 
 pub invariant_of-result : goal.invariant_of-result

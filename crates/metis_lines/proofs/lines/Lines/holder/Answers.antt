@@ -1,6 +1,5 @@
 use Rattle.std.proofs.Common.{◌≤◌, subst, arith}
-use Rattle.metis_lines.specs.LifeLines.{LifeLines, slots}
-use Rattle.metis_lines.specs.Tables.{IsTabled}
+use Rattle.metis_lines.specs.Terms.{IsTabled, LifeLines, slots}
 use Rattle.metis_lines.proofs.Tabled.{slot_line_low}
 use Rattle.metis_lines.proofs.lines.Lines.holder.Goals as goal
 

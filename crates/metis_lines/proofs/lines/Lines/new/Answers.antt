@@ -1,15 +1,14 @@
 use Rattle.std.proofs.Common.{◌≡◌, ◌<◌, ◌-◌, ◌++◌, ℕ, [], List, Option, get_or, length, map, replicate, subst, sym, ap, ◌∙◌, arith}
 use Rattle.std.proofs.lemmas.Bool.{false≢true}
 use Rattle.metis_universe.proofs.Greatest.{greatest_low}
-use Rattle.metis_universe.specs.Universe.{has}
-use Rattle.metis_support.specs.Support.{path_to, provider_pairs}
+use Rattle.metis_universe.specs.Terms.{has}
+use Rattle.metis_support.specs.Terms.{path_to, provider_pairs}
 use Rattle.metis_lines.proofs.SlotCounts.{slots_are}
 use Rattle.std.specs.List.{All, filter, flat_map, range_with_len}
-use Rattle.metis_ids.specs.PairSet.{PairSet}
+use Rattle.metis_ids.specs.Terms.{PairSet}
 use Rattle.metis_lines.proofs.FirstTable.{all_lines, all_of, are_held, few_later, few_lines, few_providers, first_table, members_few, providers_low, table}
 use Rattle.metis_lines.proofs.lines.Lines.new.Goals as goal
-use Rattle.metis_lines.specs.LifeLines.{LifeLines, later_ends, lines_by, lines_of, other_ends}
-use Rattle.metis_lines.specs.Tables.{AreHeld, AreSeconds, IsLineOf, IsTabled, first_holder, goes_on}
+use Rattle.metis_lines.specs.Terms.{AreHeld, AreSeconds, IsLineOf, IsTabled, LifeLines, first_holder, goes_on, later_ends, lines_by, lines_of, other_ends}
 
 pub first_holders-requires-clause-few : goal.first_holders-requires-clause-few
 first_holders-requires-clause-few c =

@@ -1,8 +1,7 @@
 use Rattle.std.proofs.Common.{◌≡◌, ◌+◌, ◌-◌, ℕ, [], ◌∷◌, ◌++◌, List, Option, Some, length, set, sym, ap, ◌∙◌, subst, arith}
-use Rattle.metis_support.specs.Support.{path_to}
+use Rattle.metis_support.specs.Terms.{path_to}
 use Rattle.metis_lines.proofs.Tabled.{grown_are, grown_is, grown_loose, grown_table, pair_selected, pair_there, some_loose}
-use Rattle.metis_lines.specs.LifeLines.{AreLines, LifeLines, lines_by, loose}
-use Rattle.metis_lines.specs.Tables.{IsTabled}
+use Rattle.metis_lines.specs.Terms.{AreLines, IsTabled, LifeLines, lines_by, loose}
 use Rattle.metis_lines.proofs.lines.Lines.own_line.Goals as goal
 
 pub to-requires : goal.to-requires

@@ -1,8 +1,6 @@
 use Rattle.std.proofs.Common.{sym, ap, ◌∙◌, subst}
 use Rattle.std.specs.List.{All}
-use Rattle.metis_place.specs.Entries.{entries_of}
-use Rattle.metis_place.specs.HostsText.{SeenLines}
-use Rattle.metis_place.specs.HostsWritten.{IsEntry}
+use Rattle.metis_place.specs.Terms.{IsEntry, SeenLines, entries_of}
 use Rattle.metis_place.proofs.hosts_text.Seen.hosts.Goals as goal
 
 pub invariant_of-result : goal.invariant_of-result

@@ -1,6 +1,6 @@
 use Rattle.std.proofs.Common.{◌+◌, ◌∙◌, Some, ap, sym, arith}
-use Rattle.metis_place.specs.FirstPlace.{first_place}
-use Rattle.metis_ids.specs.Counts.{greatest}
+use Rattle.metis_place.specs.Terms.{first_place}
+use Rattle.metis_ids.specs.Terms.{greatest}
 use Rattle.metis_place.proofs.Trees.{at_fork, place_first, place_low, place_neither, place_none, place_other, rooms_most}
 use Rattle.metis_place.proofs.rooms.Rooms.+first.Goals as goal
 

@@ -1,5 +1,5 @@
 use Rattle.std.proofs.Common.{◌∙◌, ap}
-use Rattle.metis_ids.specs.Counts.{greatest}
+use Rattle.metis_ids.specs.Terms.{greatest}
 use Rattle.metis_place.proofs.Trees.{rooms_most}
 use Rattle.metis_place.proofs.rooms.Rooms.most.Goals as goal
 

@@ -1,5 +1,5 @@
 use Rattle.std.proofs.Common.{◌++◌, ◌∷◌, [], ap, ◌∙◌}
-use Rattle.metis_rollout.specs.Rollout.{named}
+use Rattle.metis_rollout.specs.Terms.{named}
 use Rattle.metis_reconfigure.proofs.Rebinds.{next_named}
 use Rattle.metis_reconfigure.proofs.rebinding.Givers.new.Goals as goal
 

@@ -1,6 +1,6 @@
 use Rattle.std.proofs.Common.{◌≡◌, map}
 use Rattle.std.specs.List.{range_with_len, slice_index_or}
-use Rattle.metis_rollout.specs.Rollout.{named}
+use Rattle.metis_rollout.specs.Terms.{named}
 use Rattle.metis_reconfigure.proofs.rebinding.Givers.new.Given as goal
 
 abbrev pub invariant-loop-number : goal.invariant-loop-number

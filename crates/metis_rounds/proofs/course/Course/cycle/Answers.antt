@@ -2,24 +2,14 @@ use Rattle.std.proofs.Common.{◌≡◌, ◌<◌, ◌≤◌, ◌-◌, ℕ, List,
 use Rattle.std.specs.Prelude.{IfOk, IsTrue, IsFalse, OnOk}
 use Rattle.std.proofs.lemmas.Result.{on_ok_weaker}
 use Rattle.metis_lines.proofs.Formed.{lines_formed}
-use Rattle.metis_ids.specs.Cycle.{cycle_of}
+use Rattle.metis_ids.specs.Terms.{cycle_of}
 use Rattle.metis_ids.specs.declared.events.Event.{Event}
-use Rattle.metis_lines.specs.AbstractPlan.{last}
-use Rattle.metis_events.specs.Edges.{graph_of}
-use Rattle.metis_events.specs.Numbered.{dag_of, nth_event}
-use Rattle.metis_lines.specs.Events.{is_event, step_count}
-use Rattle.metis_lines.specs.LifeLines.{plan_of}
-use Rattle.metis_lines.specs.Over.{Over, graph_over}
-use Rattle.metis_lines.specs.Soundness.{IsFormed}
-use Rattle.metis_events.specs.Gathered.{without_supplies}
+use Rattle.metis_lines.specs.Terms.{IsFormed, Over, graph_over, is_event, last, plan_of, step_count}
+use Rattle.metis_events.specs.Terms.{dag_of, graph_of, nth_event, without_supplies}
 use Rattle.metis_rounds.proofs.Kept.{walk_kept}
 use Rattle.metis_rounds.proofs.Reaches.{stuck_left}
 use Rattle.metis_rounds.proofs.WalkOn.{begun_same, begun_walk, dropped_walk, unfinished_more}
-use Rattle.metis_rounds.specs.More.{IsBegun}
-use Rattle.metis_rounds.specs.Reach.{is_taken, taken_of}
-use Rattle.metis_rounds.specs.Stuck.{is_stuck}
-use Rattle.metis_rounds.specs.Tables.{HasTables}
-use Rattle.metis_rounds.specs.Walks.{IsWalk, step_at}
+use Rattle.metis_rounds.specs.Terms.{HasTables, IsBegun, IsWalk, is_stuck, is_taken, step_at, taken_of}
 use Rattle.metis_rounds.proofs.course.Course.cycle.Goals.{After-deref}
 use Rattle.metis_rounds.proofs.course.Course.cycle.Goals as goal
 

@@ -1,6 +1,6 @@
 use Rattle.std.proofs.Common.{◌∙◌}
-use Rattle.metis_universe.specs.Universe.{has}
-use Rattle.metis_lines.specs.LifeLines.{is_loose}
+use Rattle.metis_universe.specs.Terms.{has}
+use Rattle.metis_lines.specs.Terms.{is_loose}
 use Rattle.metis_rounds.proofs.Leads.{doubled_loose, doubled_provider}
 use Rattle.metis_rounds.proofs.course.Course.double.Goals as goal
 

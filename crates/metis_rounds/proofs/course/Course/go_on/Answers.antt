@@ -1,11 +1,7 @@
 use Rattle.std.proofs.Common.{◌≡◌, ◌<◌, [], ap, arith, subst, sym}
-use Rattle.metis_lines.specs.AbstractPlan.{last}
-use Rattle.metis_lines.specs.Over.{Over}
-use Rattle.metis_events.specs.Gathered.{without_supplies}
-use Rattle.metis_rounds.specs.Going.{IsGoing}
-use Rattle.metis_rounds.specs.Least.{IsFirstLeft}
-use Rattle.metis_rounds.specs.Reach.{taken_of}
-use Rattle.metis_rounds.specs.Tables.{HasTables}
+use Rattle.metis_lines.specs.Terms.{Over, last}
+use Rattle.metis_events.specs.Terms.{without_supplies}
+use Rattle.metis_rounds.specs.Terms.{HasTables, IsFirstLeft, IsGoing, taken_of}
 use Rattle.metis_rounds.proofs.course.Course.go_on.Goals as goal
 
 pub first_unfinished-requires-clause-first : goal.first_unfinished-requires-clause-first

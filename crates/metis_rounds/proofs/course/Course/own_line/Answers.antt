@@ -1,13 +1,9 @@
 use Rattle.std.proofs.Common.{◌≡◌, ◌<◌, ◌+◌, ◌++◌, ◌∷◌, ℕ, [], Result, Ok, Err, length, refl, sym, ap, ◌∙◌, subst, arith}
 use Rattle.std.specs.Prelude.{IsSome, OnOk}
 use Rattle.metis_ids.specs.declared.events.Event.TheVariants.{At}
-use Rattle.metis_lines.specs.LifeLines.{LifeLines, lines_of, plan_of}
-use Rattle.metis_lines.specs.Over.{Over, graph_over}
+use Rattle.metis_lines.specs.Terms.{LifeLines, Over, graph_over, lines_of, plan_of}
 use Rattle.metis_lines.proofs.Slotted.{held_first}
-use Rattle.metis_rounds.specs.Going.{HasOwnLine, IsGoing}
-use Rattle.metis_rounds.specs.Reach.{taken_of}
-use Rattle.metis_rounds.specs.Tables.{HasReturns, HasUses}
-use Rattle.metis_rounds.specs.Walks.{kept_steps}
+use Rattle.metis_rounds.specs.Terms.{HasOwnLine, HasReturns, HasUses, IsGoing, kept_steps, taken_of}
 use Rattle.metis_rounds.specs.declared.course.Course.{Course}
 use Rattle.metis_rounds.proofs.OwnRounds.{holds, own_line_of, rounds_go_on}
 use Rattle.metis_rounds.proofs.Owned.{is_held}

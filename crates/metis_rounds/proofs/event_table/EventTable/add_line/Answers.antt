@@ -1,7 +1,7 @@
 use Rattle.std.proofs.Common.{[], ap, ◌∙◌, ◌+◌, ◌++◌, ◌∷◌, ◌&&◌, ◌||◌, length, nat_eq, nat_lt}
 use Rattle.std.proofs.lemmas.List.{length_push}
 use Rattle.metis_ids.specs.declared.events.Event.TheVariants.{At}
-use Rattle.metis_rounds.specs.Tables.{has_row, row_at}
+use Rattle.metis_rounds.specs.Terms.{has_row, row_at}
 use Rattle.metis_rounds.proofs.Rows.{added_has, added_rows}
 use Rattle.metis_rounds.proofs.event_table.EventTable.add_line.Goals as goal
 

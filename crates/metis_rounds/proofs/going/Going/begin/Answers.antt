@@ -1,9 +1,8 @@
 use Rattle.std.proofs.Common.{◌≡◌, ◌+◌, ◌++◌, ◌∷◌, ◌||◌, ◌&&◌, [], length, nat_eq, nat_lt, arith, ap, ◌∙◌, subst}
 use Rattle.std.proofs.lemmas.List.{length_push}
-use Rattle.metis_ids.specs.Lists.{has}
+use Rattle.metis_ids.specs.Terms.{has}
 use Rattle.metis_ids.specs.declared.events.Event.TheVariants.{At}
-use Rattle.metis_rounds.specs.Reach.{taken_of}
-use Rattle.metis_rounds.specs.Tables.{has_row}
+use Rattle.metis_rounds.specs.Terms.{has_row, taken_of}
 use Rattle.metis_rounds.proofs.Beginning.{IsBeginning, begins, more_rows, one_more, still_none}
 use Rattle.metis_rounds.proofs.going.Going.begin.Goals as goal
 

@@ -1,8 +1,8 @@
 use Rattle.std.proofs.Common.{◌∙◌, ap, arith, [], inl, inr}
 use Rattle.std.proofs.lemmas.Bool.{both_ways, eq-eqb}
-use Rattle.metis_lines.specs.LifeLines.{plan_of}
+use Rattle.metis_lines.specs.Terms.{plan_of}
 use Rattle.metis_rounds.proofs.Goes.{fewer_left, taken_few}
-use Rattle.metis_rounds.specs.Going.{all_taken, event_count}
+use Rattle.metis_rounds.specs.Terms.{all_taken, event_count}
 use Rattle.metis_rounds.proofs.going.Going.go_on.Goals as goal
 
 pub loop-alloc-smaller : goal.loop-alloc-smaller

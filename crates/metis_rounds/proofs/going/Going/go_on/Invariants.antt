@@ -1,8 +1,7 @@
 use Rattle.std.proofs.Common.{[], length, ℕ, ◌≤◌}
 use Rattle.std.specs.Prelude.{◌+◌, ◌-◌, ◌*◌, ◌==◌, if◌then◌else◌}
-use Rattle.metis_lines.specs.LifeLines.{plan_of}
-use Rattle.metis_rounds.specs.Going.{IsGoing, all_taken, event_count}
-use Rattle.metis_rounds.specs.Reach.{taken_of}
+use Rattle.metis_lines.specs.Terms.{plan_of}
+use Rattle.metis_rounds.specs.Terms.{IsGoing, all_taken, event_count, taken_of}
 use Rattle.metis_rounds.proofs.going.Going.go_on.Given as goal
 
 abbrev pub invariant-loop-alloc : goal.invariant-loop-alloc

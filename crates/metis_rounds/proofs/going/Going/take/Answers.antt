@@ -3,11 +3,9 @@ use Rattle.std.specs.List.{list_any}
 use Rattle.std.proofs.lemmas.List.{get_or_default}
 use Rattle.std.proofs.lemmas.Result.{on_ok_weaker}
 use Rattle.std.specs.Prelude.{Result, Ok, Err, OnOk}
-use Rattle.metis_ids.specs.Lists.{has}
+use Rattle.metis_ids.specs.Terms.{has}
 use Rattle.metis_ids.specs.declared.events.Event.TheVariants.{At}
-use Rattle.metis_rounds.specs.Going.{is_on}
-use Rattle.metis_rounds.specs.Reach.{next_of, taken_of}
-use Rattle.metis_rounds.specs.Tables.{Empties, row_at}
+use Rattle.metis_rounds.specs.Terms.{Empties, is_on, next_of, row_at, taken_of}
 use Rattle.metis_rounds.proofs.Beginning.{has_push}
 use Rattle.metis_rounds.proofs.going.Going.take.Goals as goal
 

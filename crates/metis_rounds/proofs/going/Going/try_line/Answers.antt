@@ -4,15 +4,12 @@ use Rattle.std.specs.Prelude.{Result, Ok, Err, OnOk}
 use Rattle.std.proofs.lemmas.Bool.{lt-ltb, and_from}
 use Rattle.std.proofs.lemmas.List.Sums.{sum_by-set}
 use Rattle.std.proofs.lemmas.Result.{on_ok_weaker}
-use Rattle.metis_ids.specs.Lists.{has}
+use Rattle.metis_ids.specs.Terms.{has}
 use Rattle.metis_lines.proofs.Formed.{lines_formed}
 use Rattle.metis_events.proofs.AllEvents.{edges_join_events}
-use Rattle.metis_lines.specs.Events.{is_among, is_end, is_event, same_event, step_count}
-use Rattle.metis_lines.specs.LifeLines.{plan_of}
+use Rattle.metis_lines.specs.Terms.{is_among, is_end, is_event, plan_of, same_event, step_count}
 use Rattle.metis_rounds.proofs.Goes.{here, next_line, no_fewer, row_of_event, skipped, took, waited}
-use Rattle.metis_rounds.specs.Going.{HasSeen, all_taken, is_on}
-use Rattle.metis_rounds.specs.Reach.{next_of, taken_of, with_next}
-use Rattle.metis_rounds.specs.Tables.{has_row, row_at}
+use Rattle.metis_rounds.specs.Terms.{HasSeen, all_taken, has_row, is_on, next_of, row_at, taken_of, with_next}
 use Rattle.metis_rounds.proofs.going.Going.try_line.Goals as goal
 
 -- clauses of an answer together

@@ -1,7 +1,6 @@
 use Rattle.std.proofs.Common.{◌≡◌, ◌<◌, ◌≤◌, ℕ, drop}
 use Rattle.std.specs.Prelude.{◌⊎◌}
-use Rattle.metis_rounds.specs.Going.{IsGoing, all_taken}
-use Rattle.metis_rounds.specs.Reach.{taken_of}
+use Rattle.metis_rounds.specs.Terms.{IsGoing, all_taken, taken_of}
 use Rattle.metis_rounds.proofs.going.Going.try_lines.Given as goal
 
 abbrev pub invariant-loop-place : goal.invariant-loop-place

@@ -2,10 +2,9 @@ use Rattle.std.proofs.Common.{◌≡◌, ◌∙◌, Bool, true, false, refl, not
 use Rattle.std.specs.Prelude.{Result, Ok, Err, OnOk}
 use Rattle.metis_ids.specs.declared.events.Event.{Event}
 use Rattle.metis_ids.specs.declared.events.Event.TheVariants.{At}
-use Rattle.metis_lines.specs.Events.{is_among, is_end, same_event}
+use Rattle.metis_lines.specs.Terms.{is_among, is_end, same_event}
 use Rattle.metis_rounds.proofs.Goes.{listed}
-use Rattle.metis_rounds.specs.Reach.{next_of, taken_of}
-use Rattle.metis_rounds.specs.Tables.{row_at}
+use Rattle.metis_rounds.specs.Terms.{next_of, row_at, taken_of}
 use Rattle.metis_rounds.proofs.going.Going.wait.Goals as goal
 
 -- two clauses of an answer together

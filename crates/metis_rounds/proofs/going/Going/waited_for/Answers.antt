@@ -4,11 +4,8 @@ use Rattle.std.proofs.lemmas.Option.{IfSome_then}
 use Rattle.metis_ids.specs.declared.events.Event.{Event}
 use Rattle.metis_ids.specs.declared.events.Event.TheVariants.{At}
 use Rattle.std.proofs.lemmas.Bool.{cases_lt}
-use Rattle.metis_lines.specs.LifeLines.{plan_of}
-use Rattle.metis_rounds.specs.Going.{HasSeen, IsMissing, next_uses, use_at, use_event, uses_at}
-use Rattle.metis_rounds.specs.Reach.{HasAllBefore, is_taken, next_of, taken_of}
-use Rattle.metis_rounds.specs.Tables.{row_at}
-use Rattle.metis_rounds.specs.Walks.{step_at}
+use Rattle.metis_lines.specs.Terms.{plan_of}
+use Rattle.metis_rounds.specs.Terms.{HasAllBefore, HasSeen, IsMissing, is_taken, next_of, next_uses, row_at, step_at, taken_of, use_at, use_event, uses_at}
 use Rattle.metis_rounds.proofs.Seen.{may_go, missing_waits, seen_more}
 use Rattle.metis_rounds.proofs.going.Going.waited_for.Goals.{After-row-row}
 use Rattle.metis_rounds.proofs.going.Going.waited_for.Goals as goal

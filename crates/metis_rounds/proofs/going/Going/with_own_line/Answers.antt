@@ -5,12 +5,10 @@ use Rattle.std.specs.List.{list_any}
 use Rattle.std.proofs.lemmas.Bool.{false≢true, or_left, or_right, and_from, eq-eqb, lt-ltb}
 use Rattle.std.proofs.lemmas.List.{get_or_append_left, get_or_default, length_push}
 use Rattle.std.proofs.lemmas.Result.{on_ok_weaker}
-use Rattle.metis_ids.specs.Lists.{has}
+use Rattle.metis_ids.specs.Terms.{has}
 use Rattle.metis_ids.specs.declared.events.Event.{Event}
 use Rattle.metis_ids.specs.declared.events.Event.TheVariants.{At, End}
-use Rattle.metis_rounds.specs.Going.{is_on}
-use Rattle.metis_rounds.specs.Reach.{taken_of}
-use Rattle.metis_rounds.specs.Tables.{has_row, row_at}
+use Rattle.metis_rounds.specs.Terms.{has_row, is_on, row_at, taken_of}
 use Rattle.metis_rounds.proofs.Beginning.{has_push}
 use Rattle.metis_rounds.proofs.Owned.{goes_on_with, is_held}
 use Rattle.metis_rounds.proofs.going.Going.with_own_line.Goals as goal

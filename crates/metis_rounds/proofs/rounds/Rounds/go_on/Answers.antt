@@ -1,12 +1,9 @@
 use Rattle.std.proofs.Common.{◌≡◌, ◌∙◌, Bool, Ok, ap, subst}
-use Rattle.metis_ids.specs.Cycle.{HasCycle}
+use Rattle.metis_ids.specs.Terms.{HasCycle}
 use Rattle.metis_lines.proofs.Formed.{lines_formed}
-use Rattle.metis_lines.specs.LifeLines.{plan_of}
-use Rattle.metis_events.specs.Edges.{graph_of}
-use Rattle.metis_events.specs.Numbered.{dag_of}
-use Rattle.metis_rounds.specs.Course.{IfMore}
-use Rattle.metis_rounds.specs.Reach.{HasEnded, HasStopped}
-use Rattle.metis_rounds.specs.Rounds.{RoundsState, graph_now, state_of}
+use Rattle.metis_lines.specs.Terms.{plan_of}
+use Rattle.metis_events.specs.Terms.{dag_of, graph_of}
+use Rattle.metis_rounds.specs.Terms.{HasEnded, HasStopped, IfMore, RoundsState, graph_now, state_of}
 use Rattle.metis_rounds.proofs.Ended.{no_cycle_left}
 use Rattle.metis_rounds.proofs.Ends.{stopped_cycle}
 use Rattle.metis_rounds.proofs.rounds.Rounds.go_on.Goals as goal

@@ -1,6 +1,5 @@
 use Rattle.std.proofs.Common.{subst}
-use Rattle.metis_rounds.specs.Forced.{IsForced}
-use Rattle.metis_rounds.specs.Rounds.{RoundsState, graph_now}
+use Rattle.metis_rounds.specs.Terms.{IsForced, RoundsState, graph_now}
 use Rattle.metis_rounds.proofs.rounds.StuckRounds.double.Goals as goal
 
 pub returns-clause-forced : goal.returns-clause-forced

@@ -1,6 +1,6 @@
 use Rattle.std.proofs.Common.{◌≡◌, ◌<◌, ℕ, [], true, get_or, length}
-use Rattle.metis_support.specs.Support.{is_selected}
-use Rattle.metis_rounds.specs.Tables.{uses_of}
+use Rattle.metis_support.specs.Terms.{is_selected}
+use Rattle.metis_rounds.specs.Terms.{uses_of}
 use Rattle.metis_rounds.proofs.uses.Uses.of.Given as goal
 
 -- the pairs before this one are done

@@ -1,5 +1,5 @@
 use Rattle.std.proofs.Common.{◌≡◌, ◌≤◌, length, take}
-use Rattle.metis_rounds.specs.Walks.{place_in}
+use Rattle.metis_rounds.specs.Terms.{place_in}
 use Rattle.metis_rounds.proofs.walk.Walk.pop_from.Given as goal
 
 -- it has first steps of those at the start, and all before the event

@@ -1,7 +1,7 @@
 use Rattle.std.proofs.Common.{true, subst, sym, ap, ◌∙◌}
 use Rattle.metis_ids.specs.declared.events.Event.{Event}
-use Rattle.metis_lines.specs.Events.{is_among}
-use Rattle.metis_rounds.specs.Walks.{IsMet}
+use Rattle.metis_lines.specs.Terms.{is_among}
+use Rattle.metis_rounds.specs.Terms.{IsMet}
 use Rattle.metis_rounds.proofs.Steps.{met_pushed}
 use Rattle.std.specs.BTreeSet.{UpdatesBy}
 use Rattle.metis_rounds.proofs.walk.Walk.push.Goals as goal

@@ -1,5 +1,5 @@
 use Rattle.std.proofs.Common.{rules}
-use Rattle.metis_universe.specs.Config.{empty}
+use Rattle.metis_universe.specs.Terms.{empty}
 use Rattle.metis_sim.proofs.ReplyFeeds.{IsLine-of_reply}
 use Rattle.metis_sim.proofs.reply_line.ReplyLineLines.next_line.Goals as goal
 

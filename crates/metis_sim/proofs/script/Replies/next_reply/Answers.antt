@@ -1,10 +1,9 @@
 use Rattle.std.proofs.Common.{◌≡◌, ltb, List, ℕ, ◌+◌, Bor, false, drop, map, sym, ap, ◌∙◌, subst, arith}
 use Rattle.std.specs.List.{list_any}
 use Rattle.metis_sim.specs.Asked.{is_undo}
-use Rattle.metis_sim.specs.Replies.{IsReplyOf}
+use Rattle.metis_sim.specs.Terms.{IsReplyOf, replies_to}
 use Rattle.metis_sim.proofs.KeptLines.{never_ended, none_from, replies_from}
 use Rattle.metis_sim.proofs.SessionEnds.{lines_from, replies_to-ended, reply_has_lines}
-use Rattle.metis_sim.specs.SessionLines.{replies_to}
 use Rattle.metis_sim.proofs.script.Replies.next_reply.Goals as goal
 
 abbrev bytes : Bor (List ℕ) → List ℕ

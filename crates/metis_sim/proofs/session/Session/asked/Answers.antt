@@ -1,7 +1,5 @@
 use Rattle.std.proofs.Common.{◌≡◌, ap, sym, ◌∙◌, subst}
-use Rattle.metis_sim.specs.Asked.{taken}
-use Rattle.metis_sim.specs.Changes.{befores}
-use Rattle.metis_sim.specs.Session.{Session, answer, session_of}
+use Rattle.metis_sim.specs.Terms.{Session, answer, befores, session_of, taken}
 use Rattle.metis_sim.proofs.AskedLines.{taken_line, undo_is_asked}
 use Rattle.metis_sim.proofs.session.Session.asked.Goals as goal
 

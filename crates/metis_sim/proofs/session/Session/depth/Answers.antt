@@ -1,6 +1,6 @@
 use Rattle.std.proofs.Common.{◌∙◌, ap, length, sym}
 use Rattle.metis_sim.proofs.Undone.{length-befores}
-use Rattle.metis_sim.specs.Session.{Session}
+use Rattle.metis_sim.specs.Terms.{Session}
 use Rattle.metis_sim.proofs.session.Session.depth.Goals as goal
 
 pub returns : goal.returns

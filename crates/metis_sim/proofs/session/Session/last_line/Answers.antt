@@ -1,9 +1,8 @@
 use Rattle.std.proofs.Common.{◌∙◌, ap, sym, subst}
-use Rattle.metis_universe.specs.Universe.{IsUniverse}
-use Rattle.metis_config.specs.Over.{IsOver}
+use Rattle.metis_universe.specs.Terms.{IsUniverse}
+use Rattle.metis_config.specs.Terms.{IsOver}
 use Rattle.metis_sim.proofs.Courses.{numbered}
-use Rattle.metis_sim.specs.Replies.{IsReplyOf}
-use Rattle.metis_sim.specs.Session.{Answer, Session}
+use Rattle.metis_sim.specs.Terms.{Answer, IsReplyOf, Session}
 use Rattle.metis_sim.proofs.session.Session.last_line.Goals as goal
 
 pub returns-in-Ok-clause-numbers : goal.returns-in-Ok-clause-numbers

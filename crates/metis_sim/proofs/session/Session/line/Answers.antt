@@ -1,10 +1,9 @@
 use Rattle.std.proofs.Common.{◌∙◌, ap, sym, subst}
-use Rattle.metis_universe.specs.Universe.{IsUniverse}
-use Rattle.metis_config.specs.Over.{IsOver}
+use Rattle.metis_universe.specs.Terms.{IsUniverse}
+use Rattle.metis_config.specs.Terms.{IsOver}
 use Rattle.metis_sim.proofs.Courses.{never_for_memory, numbered, unchanged}
 use Rattle.metis_sim.proofs.SessionEnds.{universe_after_line}
-use Rattle.metis_sim.specs.Replies.{IsReplyOf}
-use Rattle.metis_sim.specs.Session.{Answer, Session, changes}
+use Rattle.metis_sim.specs.Terms.{Answer, IsReplyOf, Session, changes}
 use Rattle.metis_sim.proofs.session.Session.line.Goals as goal
 
 pub returns-in-Ok-clause-kept : goal.returns-in-Ok-clause-kept

@@ -1,9 +1,8 @@
 use Rattle.std.proofs.Common.{◌≡◌, List, ◌∷◌, ◌∙◌, ap, subst, sym}
 use Rattle.std.proofs.lemmas.Result.{err_from_is_err_and}
-use Rattle.metis_universe.specs.Config.{Config}
+use Rattle.metis_universe.specs.Terms.{Config}
 use Rattle.metis_sim.proofs.Undone.{IsSound-more, befores_is, is_undoable, undone_is}
-use Rattle.metis_sim.specs.Changes.{befores}
-use Rattle.metis_sim.specs.Session.{IsSound, Session, done, done_by, session_of}
+use Rattle.metis_sim.specs.Terms.{IsSound, Session, befores, done, done_by, session_of}
 use Rattle.metis_sim.specs.declared.change.Change.{Change}
 use Rattle.metis_sim.specs.declared.reply.Reply.TheVariants.{Did}
 use Rattle.metis_sim.proofs.session.Session.perform.Goals as goal

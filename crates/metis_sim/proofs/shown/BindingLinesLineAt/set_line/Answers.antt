@@ -1,5 +1,5 @@
 use Rattle.std.proofs.Common.{sym, subst}
-use Rattle.metis_outside.specs.Pieces.{IsLine}
+use Rattle.metis_outside.specs.Terms.{IsLine}
 use Rattle.metis_sim.proofs.ReplyFeeds.{IsLine-binding_line}
 use Rattle.metis_sim.proofs.shown.BindingLinesLineAt.set_line.Goals as goal
 

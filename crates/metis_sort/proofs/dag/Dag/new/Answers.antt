@@ -2,9 +2,8 @@ use Rattle.std.proofs.Common.{◌≡◌, ℕ, ◌<◌, [], List, length, get_or,
 use Rattle.std.specs.List.{filter}
 use Rattle.std.proofs.lemmas.List.{get_or_default}
 use Rattle.std.proofs.lemmas.Result.{IfOk-weaker}
-use Rattle.metis_ids.specs.Graph.{Graph, IsGraph, befores, edge_count, joins}
-use Rattle.metis_ids.specs.Counts.{occurrences}
-use Rattle.metis_sort.specs.Dag.{HasEdgesOf, ascending}
+use Rattle.metis_ids.specs.Terms.{Graph, IsGraph, befores, edge_count, joins, occurrences}
+use Rattle.metis_sort.specs.Terms.{HasEdgesOf, ascending}
 use Rattle.metis_sort.proofs.DagFacts.{afters_within, befores_ascend, befores_is, ends_within, has_edges}
 use Rattle.metis_sort.proofs.dag.Dag.new.Goals as goal
 

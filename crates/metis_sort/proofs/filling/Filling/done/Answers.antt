@@ -1,5 +1,5 @@
 use Rattle.std.proofs.Common.{◌<◌, ℕ, length, subst, sym, ◌∙◌, ap}
-use Rattle.metis_sort.specs.Rows.{Filling, IsFull}
+use Rattle.metis_sort.specs.Terms.{Filling, IsFull}
 use Rattle.metis_sort.proofs.RowFacts.{full_rows, full_spread}
 use Rattle.metis_sort.proofs.filling.Filling.done.Goals as goal
 

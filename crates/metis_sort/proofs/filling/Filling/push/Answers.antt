@@ -1,6 +1,6 @@
 use Rattle.std.proofs.Common.{◌≡◌, ◌+◌, ◌++◌, ◌∷◌, [], get_or, set, subst, ap, sym, ◌∙◌, arith}
 use Rattle.std.proofs.lemmas.List.{get_or_default}
-use Rattle.metis_sort.specs.Rows.{IsRoomy, filling_of}
+use Rattle.metis_sort.specs.Terms.{IsRoomy, filling_of}
 use Rattle.metis_sort.proofs.RowFacts.{one_filled, place_within, row_room, row_within, still_roomy}
 use Rattle.metis_sort.proofs.filling.Filling.push.Goals as goal
 

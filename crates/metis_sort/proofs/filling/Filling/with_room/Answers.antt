@@ -1,5 +1,5 @@
 use Rattle.std.proofs.Common.{◌≡◌, ◌++◌, [], length, get_or, take, ap, ◌∙◌}
-use Rattle.metis_sort.specs.Rows.{filling_of}
+use Rattle.metis_sort.specs.Terms.{filling_of}
 use Rattle.metis_sort.proofs.RowFacts.{empty_count, empty_rows}
 use Rattle.metis_sort.proofs.filling.Filling.with_room.Goals as goal
 

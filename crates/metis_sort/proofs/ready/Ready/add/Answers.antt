@@ -1,8 +1,8 @@
 use Rattle.std.proofs.Common.{◌≡◌, false, sym, ap, ◌∙◌}
 use Rattle.std.specs.Ordering.{nat_cmp}
 use Rattle.std.specs.BTreeSet.{insert_key}
-use Rattle.metis_ids.specs.Lists.{has}
-use Rattle.metis_sort.specs.Ready.{offers}
+use Rattle.metis_ids.specs.Terms.{has}
+use Rattle.metis_sort.specs.Terms.{offers}
 use Rattle.metis_sort.proofs.ReadyFacts.{insert_apart, offers-insert, ok_or_err}
 use Rattle.metis_sort.proofs.ready.Ready.add.Goals as goal
 

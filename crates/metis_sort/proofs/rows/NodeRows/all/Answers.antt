@@ -1,5 +1,5 @@
 use Rattle.std.proofs.Common.{sym, ap, ◌∙◌}
-use Rattle.metis_sort.specs.Rows.{joined}
+use Rattle.metis_sort.specs.Terms.{joined}
 use Rattle.metis_sort.proofs.RowFacts.{joined_is}
 use Rattle.metis_sort.proofs.rows.NodeRows.all.Goals as goal
 

@@ -1,5 +1,5 @@
 use Rattle.std.proofs.Common.{◌≡◌, ◌+◌, ◌∷◌, ◌++◌, [], length, ap, ◌∙◌, arith}
-use Rattle.metis_sort.specs.Rows.{rows_by}
+use Rattle.metis_sort.specs.Terms.{rows_by}
 use Rattle.metis_sort.proofs.RowFacts.{one_more}
 use Rattle.metis_sort.proofs.rows.NodeRows.push.Goals as goal
 

@@ -1,8 +1,8 @@
 use Rattle.std.proofs.Common.{◌<◌, ℕ, List, sym, subst}
-use Rattle.metis_outside.specs.Pieces.{IsLine}
+use Rattle.metis_outside.specs.Terms.{IsLine}
 use Rattle.metis_text.proofs.LineFeeds.{IsLine-pair_line}
 use Rattle.metis_text.proofs.Yielded.{all_after}
-use Rattle.metis_universe.specs.Universe.{pair_count}
+use Rattle.metis_universe.specs.Terms.{pair_count}
 use Rattle.metis_text.proofs.refusal_write.PairLinesLines.next_line.Goals as goal
 
 pub returns-in_ok-set_pair_line-in-Some-clause-line : goal.returns-in_ok-set_pair_line-in-Some-clause-line

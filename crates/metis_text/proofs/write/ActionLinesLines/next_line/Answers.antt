@@ -1,8 +1,8 @@
 use Rattle.std.proofs.Common.{◌+◌, ◌∷◌, ◌∙◌, ap, arith, sym, subst}
-use Rattle.metis_outside.specs.Pieces.{IsLine}
+use Rattle.metis_outside.specs.Terms.{IsLine}
 use Rattle.metis_text.proofs.LineFeeds.{IsLine-action_line}
 use Rattle.metis_text.proofs.WaitRows.{is_listed, next_left}
-use Rattle.metis_text.specs.PlanText.{action_line, actions_left}
+use Rattle.metis_text.specs.Terms.{action_line, actions_left}
 use Rattle.metis_text.proofs.write.ActionLinesLines.next_line.Goals as goal
 
 pub listed-after-requires-clause-last : goal.listed-after-requires-clause-last

@@ -1,5 +1,5 @@
 use Rattle.std.proofs.Common.{sym, subst}
-use Rattle.metis_outside.specs.Pieces.{IsLine}
+use Rattle.metis_outside.specs.Terms.{IsLine}
 use Rattle.metis_text.proofs.LineFeeds.{IsLine-dup_line}
 use Rattle.metis_text.proofs.write.DupLinesLines.next_line.Goals as goal
 

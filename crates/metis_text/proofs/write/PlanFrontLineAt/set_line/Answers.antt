@@ -2,7 +2,7 @@ use Rattle.std.proofs.Common.{refl, sym, subst}
 use Rattle.std.specs.Prelude.{codes}
 use Rattle.std.proofs.lemmas.Result.{on_ok_weaker}
 use Rattle.metis_outside.proofs.Feeds.{IsLine-from}
-use Rattle.metis_outside.specs.Pieces.{IsLine}
+use Rattle.metis_outside.specs.Terms.{IsLine}
 use Rattle.metis_text.proofs.LineFeeds.{IsLine-counts_line}
 use Rattle.metis_text.proofs.write.PlanFrontLineAt.set_line.Goals as goal
 

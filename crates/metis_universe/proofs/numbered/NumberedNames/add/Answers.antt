@@ -4,7 +4,7 @@ use Rattle.std.specs.Map.{update}
 use Rattle.std.specs.Str.{bytes_eq}
 use Rattle.std.proofs.lemmas.List.{map_push}
 use Rattle.std.proofs.lemmas.Map.Text.{hash_map_updates_text}
-use Rattle.metis_universe.specs.Texts.{texts}
+use Rattle.metis_universe.specs.Terms.{texts}
 use Rattle.metis_universe.proofs.SeenPorts.{numbers_more}
 use Rattle.metis_universe.proofs.numbered.NumberedNames.add.Goals as goal
 

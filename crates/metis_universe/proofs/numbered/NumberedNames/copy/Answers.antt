@@ -4,7 +4,7 @@ use Rattle.std.specs.List.{AllZip}
 use Rattle.std.specs.Str.{bytes_eq}
 use Rattle.std.specs.declared.alloc.Global.{Global}
 use Rattle.std.proofs.lemmas.Map.Entries.{lookup_clone}
-use Rattle.metis_universe.specs.Texts.{texts}
+use Rattle.metis_universe.specs.Terms.{texts}
 use Rattle.metis_universe.proofs.numbered.NumberedNames.copy.Goals as goal
 
 same_texts : (xs ys : List (String Global)) → AllZip (λ x y. string_bytes y ≡ string_bytes x) xs ys → texts ys ≡ texts xs

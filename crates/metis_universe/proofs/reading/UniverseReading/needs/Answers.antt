@@ -1,5 +1,5 @@
 use Rattle.std.proofs.Common.{arith}
-use Rattle.metis_universe.specs.Universe.{port_count}
+use Rattle.metis_universe.specs.Terms.{port_count}
 use Rattle.metis_universe.proofs.PortRows.{few_below}
 use Rattle.metis_universe.proofs.reading.UniverseReading.needs.Goals as goal
 

@@ -1,7 +1,7 @@
 use Rattle.std.proofs.Common.{◌≡◌, ◌<◌, length, get_or, sym, ap, ◌∙◌, subst}
 use Rattle.std.specs.List.Sorted.{IsStrictlyIncreasing}
 use Rattle.std.proofs.lemmas.List.{get_or_default}
-use Rattle.metis_universe.specs.Universe.{IsUniverse, no_pair, pair_count, required_of}
+use Rattle.metis_universe.specs.Terms.{IsUniverse, no_pair, pair_count, required_of}
 use Rattle.metis_universe.proofs.universe.Universe.demand.Goals as goal
 
 pub demand_among-requires-clause-ascending : goal.demand_among-requires-clause-ascending

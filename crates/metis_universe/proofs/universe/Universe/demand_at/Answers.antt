@@ -1,6 +1,6 @@
 use Rattle.std.proofs.Common.{◌≡◌, ◌+◌, ◌<◌, length, get_or, sym, ap, ◌∙◌, subst, arith}
 use Rattle.std.proofs.lemmas.List.{get_or_default}
-use Rattle.metis_universe.specs.Universe.{IsUniverse, no_pair, pair_at, pair_count, further_of}
+use Rattle.metis_universe.specs.Terms.{IsUniverse, further_of, no_pair, pair_at, pair_count}
 use Rattle.metis_universe.proofs.Sought.{demand_own}
 use Rattle.metis_universe.proofs.universe.Universe.demand_at.Goals as goal
 

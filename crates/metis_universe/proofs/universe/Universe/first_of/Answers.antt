@@ -1,6 +1,6 @@
 use Rattle.std.proofs.Common.{◌≡◌, length, drop, ltb, take, sym, ap, ◌∙◌, subst, arith}
 use Rattle.std.specs.List.{filter}
-use Rattle.metis_universe.specs.Universe.{IsUniverse, Pair, Universe, states_of_type}
+use Rattle.metis_universe.specs.Terms.{IsUniverse, Pair, Universe, states_of_type}
 use Rattle.metis_universe.proofs.Sought.{from_start}
 use Rattle.metis_universe.proofs.TypePlaces.{rises, start_in, together}
 use Rattle.metis_universe.proofs.universe.Universe.first_of.Goals as goal

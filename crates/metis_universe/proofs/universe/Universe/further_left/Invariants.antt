@@ -1,6 +1,6 @@
 use Rattle.std.proofs.Common.{◌≡◌, ◌-◌, map, take}
 use Rattle.std.specs.List.{slice_index_or}
-use Rattle.metis_universe.specs.Universe.{demand_of}
+use Rattle.metis_universe.specs.Terms.{demand_of}
 use Rattle.metis_universe.proofs.universe.Universe.further_left.Given as goal
 
 abbrev pub invariant-loop-r : goal.invariant-loop-r

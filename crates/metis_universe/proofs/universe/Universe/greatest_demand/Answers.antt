@@ -1,5 +1,5 @@
 use Rattle.std.proofs.Common.{◌≡◌, ◌∙◌, ap, subst, arith}
-use Rattle.metis_universe.specs.Universe.{IsUniverse, Universe}
+use Rattle.metis_universe.specs.Terms.{IsUniverse, Universe}
 use Rattle.metis_universe.proofs.Greatest.{further_low, most_in}
 use Rattle.metis_universe.proofs.universe.Universe.greatest_demand.Goals as goal
 

@@ -1,6 +1,5 @@
 use Rattle.std.proofs.Common.{◌≡◌, ◌<◌, ℕ, List, length, get_or, sym, ap, ◌∙◌, subst, arith}
-use Rattle.metis_universe.specs.Kinds.{kinds_of}
-use Rattle.metis_universe.specs.Universe.{Universe, IsUniverse, pair_count, type_count, initial_of, universe_of}
+use Rattle.metis_universe.specs.Terms.{IsUniverse, Universe, initial_of, kinds_of, pair_count, type_count, universe_of}
 use Rattle.metis_universe.proofs.Named.{initial-kinds_of, length-kinds_of}
 use Rattle.metis_universe.proofs.universe.Universe.initial.Goals as goal
 

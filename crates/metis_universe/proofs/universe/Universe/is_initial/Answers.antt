@@ -1,5 +1,5 @@
 use Rattle.std.proofs.Common.{◌∙◌, ap, nat_eq, subst}
-use Rattle.metis_universe.specs.Universe.{IsUniverse, initial_of}
+use Rattle.metis_universe.specs.Terms.{IsUniverse, initial_of}
 use Rattle.metis_universe.proofs.Initials.{is_initial-own}
 use Rattle.metis_universe.proofs.universe.Universe.is_initial.Goals as goal
 

@@ -1,6 +1,6 @@
 use Rattle.std.proofs.Common.{◌≡◌, ◌<◌, length, get_or, sym, ap, ◌∙◌, subst}
 use Rattle.std.specs.List.{All}
-use Rattle.metis_universe.specs.Universe.{IsUniverse, pair_count, next_of, no_pair}
+use Rattle.metis_universe.specs.Terms.{IsUniverse, next_of, no_pair, pair_count}
 use Rattle.std.proofs.lemmas.List.{get_or_default}
 use Rattle.metis_universe.proofs.universe.Universe.next.Goals as goal
 

@@ -1,5 +1,5 @@
 use Rattle.std.proofs.Common.{◌∙◌, sym, ap}
-use Rattle.metis_universe.specs.Universe.{port_named}
+use Rattle.metis_universe.specs.Terms.{port_named}
 use Rattle.metis_universe.proofs.universe.Universe.port_named.Goals as goal
 
 pub returns-in_err-index : goal.returns-in_err-index

@@ -1,6 +1,6 @@
 use Rattle.std.proofs.Common.{nat_eq, ap, ◌∙◌}
 use Rattle.std.specs.Option.{is_some}
-use Rattle.metis_universe.specs.Universe.{has}
+use Rattle.metis_universe.specs.Terms.{has}
 use Rattle.metis_universe.proofs.Sought.{found_is_there}
 use Rattle.metis_universe.proofs.universe.Universe.provides.Goals as goal
 

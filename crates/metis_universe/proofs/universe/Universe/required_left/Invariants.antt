@@ -1,7 +1,6 @@
 use Rattle.std.proofs.Common.{◌≡◌, take}
 use Rattle.std.specs.List.{filter, slice_index_or}
-use Rattle.metis_universe.specs.Universe.{pair_at}
-use Rattle.metis_universe.specs.Residual.{is_left}
+use Rattle.metis_universe.specs.Terms.{is_left, pair_at}
 use Rattle.metis_universe.proofs.universe.Universe.required_left.Given as goal
 
 abbrev pub invariant-loop-r : goal.invariant-loop-r

@@ -2,7 +2,7 @@ use Rattle.std.proofs.Common.{◌≡◌, ◌<◌, length, get_or, sym, ap, ◌�
 use Rattle.std.specs.List.{All}
 use Rattle.std.specs.List.Sorted.{IsStrictlyIncreasing}
 use Rattle.std.proofs.lemmas.List.{get_or_default}
-use Rattle.metis_universe.specs.Universe.{IsUniverse, pair_count, port_count, required_of, no_pair}
+use Rattle.metis_universe.specs.Terms.{IsUniverse, no_pair, pair_count, port_count, required_of}
 use Rattle.metis_universe.proofs.universe.Universe.requires_.Goals as goal
 
 pub returns-clause-ascending : goal.returns-clause-ascending

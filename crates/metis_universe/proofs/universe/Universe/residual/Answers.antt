@@ -1,9 +1,7 @@
 use Rattle.std.proofs.Common.{◌≡◌, ℕ, sym, ◌∙◌, subst}
 use Rattle.std.specs.List.{slice_index_or}
 use Rattle.std.proofs.lemmas.List.Elements.{same_from_all_zip}
-use Rattle.metis_universe.specs.Kinds.{kinds_of}
-use Rattle.metis_universe.specs.Residual.{residual}
-use Rattle.metis_universe.specs.Universe.{IsTable, universe_of}
+use Rattle.metis_universe.specs.Terms.{IsTable, kinds_of, residual, universe_of}
 use Rattle.metis_universe.proofs.ResidualTable.{residual_table}
 use Rattle.metis_universe.proofs.universe.Universe.residual.Goals as goal
 

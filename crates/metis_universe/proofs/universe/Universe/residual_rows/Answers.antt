@@ -1,7 +1,7 @@
 use Rattle.std.proofs.Common.{[], ◌∷◌, ◌++◌, sym, ◌∙◌, arith}
 use Rattle.std.specs.List.{slice_index_or}
 use Rattle.std.proofs.lemmas.List.FromFn.{map-range_with_len_more}
-use Rattle.metis_universe.specs.Residual.{residual_row}
+use Rattle.metis_universe.specs.Terms.{residual_row}
 use Rattle.metis_universe.proofs.universe.Universe.residual_rows.Goals as goal
 
 pub loop-number-preserved : goal.loop-number-preserved

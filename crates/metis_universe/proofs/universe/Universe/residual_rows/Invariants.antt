@@ -1,6 +1,6 @@
 use Rattle.std.proofs.Common.{◌≡◌, map}
 use Rattle.std.specs.List.{range_with_len, slice_index_or}
-use Rattle.metis_universe.specs.Residual.{residual_row}
+use Rattle.metis_universe.specs.Terms.{residual_row}
 use Rattle.metis_universe.proofs.universe.Universe.residual_rows.Given as goal
 
 abbrev pub invariant-loop-number : goal.invariant-loop-number

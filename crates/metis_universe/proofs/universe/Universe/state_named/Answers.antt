@@ -2,7 +2,7 @@ use Rattle.std.proofs.Common.{◌≡◌, ℕ, ◌+◌, List, Some, None, length,
 use Rattle.std.specs.Prelude.{option_map, position}
 use Rattle.std.specs.List.{filter}
 use Rattle.std.specs.Str.{bytes_eq}
-use Rattle.metis_universe.specs.Universe.{Universe, IsUniverse, IsWithinLimits, Pair, state_named, states_of_type}
+use Rattle.metis_universe.specs.Terms.{IsUniverse, IsWithinLimits, Pair, Universe, state_named, states_of_type}
 use Rattle.metis_universe.proofs.TypePlaces.{start_in, state_named-block, state_named-within}
 use Rattle.metis_universe.proofs.universe.Universe.state_named.Goals as goal
 

@@ -1,6 +1,6 @@
 use Rattle.std.proofs.Common.{◌≡◌, length, ltb, arith, ap, ◌∙◌, subst}
 use Rattle.std.specs.List.{filter}
-use Rattle.metis_universe.specs.Universe.{Universe, IsUniverse, IsWithinLimits, Pair}
+use Rattle.metis_universe.specs.Terms.{IsUniverse, IsWithinLimits, Pair, Universe}
 use Rattle.metis_universe.proofs.TypePlaces.{start_in, start_and_place}
 use Rattle.metis_universe.proofs.universe.Universe.state_of.Goals as goal
 

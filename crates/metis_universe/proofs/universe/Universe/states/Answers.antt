@@ -1,6 +1,6 @@
 use Rattle.std.proofs.Common.{length, nat_eq, arith, ap, ◌∙◌}
 use Rattle.std.specs.List.{filter}
-use Rattle.metis_universe.specs.Universe.{Pair}
+use Rattle.metis_universe.specs.Terms.{Pair}
 use Rattle.metis_universe.proofs.universe.Universe.states.Goals as goal
 
 pub overflow_cast-result : goal.overflow_cast-result

@@ -1,5 +1,5 @@
 use Rattle.std.proofs.Common.{◌≡◌, [], length, get_or, sym, ap, ◌∙◌, arith}
-use Rattle.metis_universe.specs.Universe.{Universe, type_count, type_name_of}
+use Rattle.metis_universe.specs.Terms.{Universe, type_count, type_name_of}
 use Rattle.metis_universe.proofs.Named.{length-kinds_of, name-kinds_of}
 use Rattle.metis_universe.proofs.universe.Universe.type_name.Goals as goal
 

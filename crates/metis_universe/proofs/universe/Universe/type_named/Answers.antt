@@ -1,6 +1,6 @@
 use Rattle.std.proofs.Common.{arith, ◌∙◌, sym, ap}
 use Rattle.metis_universe.proofs.Named.{length-kinds_of, position-kinds_of}
-use Rattle.metis_universe.specs.Universe.{type_named}
+use Rattle.metis_universe.specs.Terms.{type_named}
 use Rattle.metis_universe.proofs.universe.Universe.type_named.Goals as goal
 
 pub returns-in_err-index : goal.returns-in_err-index

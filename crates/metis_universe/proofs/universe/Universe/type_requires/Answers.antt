@@ -1,7 +1,7 @@
 use Rattle.std.proofs.Common.{◌≡◌, nat_eq, get_or, [], sym, ap, ◌∙◌, subst}
 use Rattle.std.specs.List.{list_any}
 use Rattle.std.specs.List.Sorted.{IsNonDecreasingBy}
-use Rattle.metis_universe.specs.Universe.{Universe, kind_in, type_requires}
+use Rattle.metis_universe.specs.Terms.{Universe, kind_in, type_requires}
 use Rattle.metis_universe.proofs.PortRows.{required_within}
 use Rattle.metis_universe.proofs.Sought.{of_type_in_row, row_kinds}
 use Rattle.metis_universe.proofs.universe.Universe.type_requires.Goals as goal

@@ -1,5 +1,5 @@
 use Rattle.std.proofs.Common.{sym, ap, ◌∙◌, arith}
-use Rattle.metis_universe.specs.Universe.{type_count}
+use Rattle.metis_universe.specs.Terms.{type_count}
 use Rattle.metis_universe.proofs.Named.{length-kinds_of}
 use Rattle.metis_universe.proofs.universe.Universe.types.Goals as goal
 

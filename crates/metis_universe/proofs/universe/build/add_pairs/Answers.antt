@@ -1,8 +1,6 @@
 use Rattle.std.proofs.Common.{◌≡◌, ◌+◌, length, string_bytes, ap, ◌∙◌, arith}
 use Rattle.std.proofs.lemmas.List.{length-append, length-map}
-use Rattle.metis_universe.specs.RowShapes.{NeedRow, names_needed}
-use Rattle.metis_universe.specs.Rows.{number_of, pair_from, ports_of_state}
-use Rattle.metis_universe.specs.Unnamed.{unnamed}
+use Rattle.metis_universe.specs.Terms.{NeedRow, names_needed, number_of, pair_from, ports_of_state, unnamed}
 use Rattle.metis_universe.proofs.SeenPorts.{items_next, entries_next}
 use Rattle.metis_universe.proofs.universe.build.add_pairs.Goals as goal
 

@@ -1,6 +1,5 @@
 use Rattle.std.proofs.Common.{◌≡◌, ℕ, List, ◌++◌, map, flat_map, take, drop}
-use Rattle.metis_universe.specs.Rows.{number_of, pair_from, ports_of_state, ports_of_type}
-use Rattle.metis_universe.specs.Unnamed.{unnamed}
+use Rattle.metis_universe.specs.Terms.{number_of, pair_from, ports_of_state, ports_of_type, unnamed}
 use Rattle.metis_universe.proofs.universe.build.add_pairs.Given as goal
 
 abbrev pub invariant-loop-state : goal.invariant-loop-state

@@ -1,5 +1,5 @@
 use Rattle.std.proofs.Common.{◌≡◌, length, take}
-use Rattle.metis_universe.specs.PortRows.{with_pair}
+use Rattle.metis_universe.specs.Terms.{with_pair}
 use Rattle.metis_universe.proofs.universe.build.add_to_rows.Given as goal
 
 abbrev pub invariant-loop-r : goal.invariant-loop-r

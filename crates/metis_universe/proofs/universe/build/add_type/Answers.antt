@@ -1,7 +1,5 @@
 use Rattle.std.proofs.Common.{◌≡◌, ◌++◌, length, ap, ◌∙◌, arith}
-use Rattle.metis_universe.specs.RowShapes.{TypeRow}
-use Rattle.metis_universe.specs.Rows.{pairs_of_type}
-use Rattle.metis_universe.specs.Unnamed.{with_names}
+use Rattle.metis_universe.specs.Terms.{TypeRow, pairs_of_type, with_names}
 use Rattle.metis_universe.proofs.RowTables.{names_moved}
 use Rattle.metis_universe.proofs.universe.build.add_type.Goals as goal
 

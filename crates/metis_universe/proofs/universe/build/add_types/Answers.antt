@@ -1,8 +1,7 @@
 use Rattle.std.proofs.Common.{◌≡◌, ◌+◌, ◌∷◌, [], ◌++◌, length, map, flat_map, take, drop, sym, ap, ◌∙◌, arith}
 use Rattle.std.proofs.lemmas.List.{length_push, nil_from_length}
 use Rattle.std.specs.Vec.Iter.{into_iter_items}
-use Rattle.metis_universe.specs.RowShapes.{TypeRow}
-use Rattle.metis_universe.specs.Rows.{number_of, ports_of_type, pairs_of_type, pairs_from, initial_from, initials_from}
+use Rattle.metis_universe.specs.Terms.{TypeRow, initial_from, initials_from, number_of, pairs_from, pairs_of_type, ports_of_type}
 use Rattle.metis_universe.proofs.Blocks.{first_of}
 use Rattle.metis_universe.proofs.FromRows.{has_room}
 use Rattle.metis_universe.proofs.RowTables.{all_taken, left_at, initials_more, pairs_more}

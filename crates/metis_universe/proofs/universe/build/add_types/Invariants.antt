@@ -1,6 +1,6 @@
 use Rattle.std.proofs.Common.{◌≡◌, length, map, flat_map, take, drop}
 use Rattle.std.specs.Vec.Iter.{into_iter_items, into_iter_len}
-use Rattle.metis_universe.specs.Rows.{number_of, ports_of_type, initials_from, pairs_from}
+use Rattle.metis_universe.specs.Terms.{initials_from, number_of, pairs_from, ports_of_type}
 use Rattle.metis_universe.proofs.universe.build.add_types.Given as goal
 
 abbrev pub invariant-loop-row : goal.invariant-loop-row

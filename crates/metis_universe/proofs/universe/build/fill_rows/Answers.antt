@@ -1,5 +1,5 @@
 use Rattle.std.proofs.Common.{◌≡◌, ◌+◌, ◌∷◌, length, drop, add-one, drop-cons, sym, ap, ◌∙◌}
-use Rattle.metis_universe.specs.PortRows.{with_pair, rows_from}
+use Rattle.metis_universe.specs.Terms.{rows_from, with_pair}
 use Rattle.metis_universe.proofs.PortRows.{length-with}
 use Rattle.metis_universe.proofs.universe.build.fill_rows.Goals as goal
 

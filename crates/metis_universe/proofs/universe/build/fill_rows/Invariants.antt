@@ -1,5 +1,5 @@
 use Rattle.std.proofs.Common.{◌≡◌, length, drop}
-use Rattle.metis_universe.specs.PortRows.{rows_from}
+use Rattle.metis_universe.specs.Terms.{rows_from}
 use Rattle.metis_universe.proofs.universe.build.fill_rows.Given as goal
 
 abbrev pub invariant-loop-p : goal.invariant-loop-p

@@ -1,9 +1,7 @@
 use Rattle.std.proofs.Common.{◌≤◌, ◌<◌, List, length, ◌≡◌, sym, ap, ◌∙◌, subst, ℕ, arith}
 use Rattle.std.specs.List.{All}
-use Rattle.metis_universe.specs.Universe.{Pair, port_count, universe_of, IsIndexed}
-use Rattle.metis_universe.specs.PortRows.{port_rows}
+use Rattle.metis_universe.specs.Terms.{IsIndexed, Pair, kinds_of, port_count, port_rows, universe_of}
 use Rattle.metis_universe.proofs.PortRows.{IsIndexed-port_rows, provided_within, required_within}
-use Rattle.metis_universe.specs.Kinds.{kinds_of}
 use Rattle.metis_universe.proofs.universe.build.indexed.Goals as goal
 
 pub index_rows-requires-clause-provided : goal.index_rows-requires-clause-provided

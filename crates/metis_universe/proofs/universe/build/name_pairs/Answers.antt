@@ -1,9 +1,7 @@
 use Rattle.std.proofs.Common.{rules, ◌≡◌, ◌+◌, ◌≤◌, ◌∷◌, ◌<◌, length, set, ap, sym, ◌∙◌, subst, arith, length-set}
 use Rattle.std.proofs.lemmas.List.{get_or_default, nil_from_length}
 use Rattle.std.specs.Vec.Iter.{into_iter_items}
-use Rattle.metis_universe.specs.RowShapes.{StateRow}
-use Rattle.metis_universe.specs.Universe.{no_pair}
-use Rattle.metis_universe.specs.Unnamed.{with_names}
+use Rattle.metis_universe.specs.Terms.{StateRow, no_pair, with_names}
 use Rattle.metis_universe.proofs.universe.build.name_pairs.Goals as goal
 
 pub overflow_add-p : goal.overflow_add-p

@@ -1,6 +1,6 @@
 use Rattle.std.proofs.Common.{◌≡◌, ◌+◌, ◌≤◌, length}
 use Rattle.std.specs.Vec.Iter.{into_iter_items, into_iter_len}
-use Rattle.metis_universe.specs.Unnamed.{with_names}
+use Rattle.metis_universe.specs.Terms.{with_names}
 use Rattle.metis_universe.proofs.universe.build.name_pairs.Given as goal
 
 abbrev pub invariant-loop-state : goal.invariant-loop-state

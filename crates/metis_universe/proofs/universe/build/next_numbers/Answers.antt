@@ -1,7 +1,6 @@
 use Rattle.std.proofs.Common.{◌+◌, map, ap, ◌∙◌}
 use Rattle.std.proofs.lemmas.List.{take_all}
-use Rattle.metis_universe.specs.Rows.{ascending, state_number}
-use Rattle.metis_universe.specs.Texts.{texts}
+use Rattle.metis_universe.specs.Terms.{ascending, state_number, texts}
 use Rattle.metis_universe.proofs.universe.build.next_numbers.Goals as goal
 
 pub returns : goal.returns

@@ -1,6 +1,5 @@
 use Rattle.std.proofs.Common.{◌≡◌, ◌+◌, map, take}
-use Rattle.metis_universe.specs.Texts.{texts}
-use Rattle.metis_universe.specs.Rows.{state_number}
+use Rattle.metis_universe.specs.Terms.{state_number, texts}
 use Rattle.metis_universe.proofs.universe.build.next_numbers.Given as goal
 
 abbrev pub invariant-loop-name : goal.invariant-loop-name

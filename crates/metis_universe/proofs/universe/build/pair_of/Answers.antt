@@ -1,8 +1,6 @@
 use Rattle.std.proofs.Common.{◌≡◌, ◌+◌, length, map, string_bytes, ap, ◌∙◌, arith}
 use Rattle.std.proofs.lemmas.List.{length-map}
-use Rattle.metis_universe.specs.RowShapes.{StateRow, names_needed}
-use Rattle.metis_universe.specs.Rows.{ascending, further_from, number_of, state_number}
-use Rattle.metis_universe.specs.Texts.{texts}
+use Rattle.metis_universe.specs.Terms.{StateRow, ascending, further_from, names_needed, number_of, state_number, texts}
 use Rattle.metis_universe.proofs.RowTables.{parted}
 use Rattle.metis_universe.proofs.universe.build.pair_of.Goals as goal
 

@@ -1,11 +1,9 @@
 use Rattle.std.proofs.Common.{◌≡◌, IfOk, map, flat_map, sym, ap, ◌∙◌, subst}
 use Rattle.std.specs.Prelude.{Result, Ok, Err}
-use Rattle.metis_universe.specs.Universe.{Universe, universe_of, IsBySight, IsTable}
+use Rattle.metis_universe.specs.Terms.{IsBySight, IsTable, Universe, kinds_of, number_of, ports_of, ports_of_type, universe_from, universe_of}
 use Rattle.metis_universe.proofs.FromRows.{IsTable-universe_from, is_by_sight, ports_fit}
 use Rattle.metis_universe.proofs.RowTables.{kinds_again}
 use Rattle.metis_universe.proofs.SeenPorts.{numbers_fit}
-use Rattle.metis_universe.specs.Kinds.{kinds_of}
-use Rattle.metis_universe.specs.Rows.{number_of, ports_of_type, ports_of, universe_from}
 use Rattle.metis_universe.proofs.universe.build.tables.Goals as goal
 
 pub type_tables-requires-clause-entries : goal.type_tables-requires-clause-entries

@@ -1,7 +1,7 @@
 use Rattle.std.proofs.Common.{◌≡◌, ◌++◌, ◌∷◌, [], ℕ, List, length, not, nat_eq, vec_len, ap, ◌∙◌, rules}
 use Rattle.std.specs.List.{filter}
 use Rattle.metis_waits.proofs.Parted.{IsParted-push, rows_from-push}
-use Rattle.metis_waits.specs.Rows.{rows_from}
+use Rattle.metis_waits.specs.Terms.{rows_from}
 use Rattle.metis_waits.proofs.rows.Rows.push_without.Goals as goal
 
 pub invariant_of-self-else-is_err-2 : goal.invariant_of-self-else-is_err-2

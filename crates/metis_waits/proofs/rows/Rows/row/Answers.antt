@@ -1,7 +1,7 @@
 use Rattle.std.proofs.Common.{◌<◌, ◌≤◌, ◌-◌, ℕ, List, [], length, get_or, take, drop, ap, sym, ◌∙◌, arith, rules}
 use Rattle.std.proofs.lemmas.List.{get_or_default}
 use Rattle.metis_waits.proofs.Parted.{ends_in_order, length-rows_from, rows_from-at}
-use Rattle.metis_waits.specs.Rows.{start_at}
+use Rattle.metis_waits.specs.Terms.{start_at}
 use Rattle.metis_waits.proofs.rows.Rows.row.Goals as goal
 
 pub start_at-start-requires : goal.start_at-start-requires

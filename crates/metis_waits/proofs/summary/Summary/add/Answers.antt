@@ -1,12 +1,9 @@
 use Rattle.std.proofs.Common.{◌≡◌, ◌∙◌, ◌+◌, ◌<◌, ◌++◌, ◌∷◌, [], List, ap, arith, length, refl, subst, sym}
 use Rattle.std.proofs.lemmas.Bool.{not-true}
 use Rattle.metis_ids.specs.declared.actions.Action.{Action}
-use Rattle.metis_universe.specs.Numbers.{IsOf}
-use Rattle.metis_universe.specs.Steadfast.{is_steadfast_after}
-use Rattle.metis_universe.specs.Universe.{Universe, pair_count}
+use Rattle.metis_universe.specs.Terms.{IsOf, Universe, is_steadfast_after, pair_count}
 use Rattle.metis_waits.proofs.Stepped.{IsKnown, Puts, all_counted, bound_again_all, bound_new_all, gone_all, has_room, is_counted, is_fresh, kept_clients, made_all, moved_all, unbound_none_all, unbound_one_all}
-use Rattle.metis_waits.specs.Instances.{changed, state_at}
-use Rattle.metis_waits.specs.Summary.{IsSummary}
+use Rattle.metis_waits.specs.Terms.{IsSummary, changed, state_at}
 use Rattle.metis_waits.specs.declared.instances.Change.TheVariants.{Made}
 use Rattle.metis_waits.specs.declared.summary.Summary.{Summary}
 use Rattle.metis_waits.proofs.summary.Summary.add.Goals as goal

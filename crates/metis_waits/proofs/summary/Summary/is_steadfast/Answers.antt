@@ -1,7 +1,5 @@
 use Rattle.std.proofs.Common.{◌∙◌, ap, nat_eq, sym}
-use Rattle.metis_universe.specs.Config.{Binding}
-use Rattle.metis_universe.specs.Steadfast.{is_steadfast_after}
-use Rattle.metis_universe.specs.Waits.{standing}
+use Rattle.metis_universe.specs.Terms.{Binding, is_steadfast_after, standing}
 use Rattle.metis_waits.proofs.Counted.{none_counted}
 use Rattle.metis_waits.specs.declared.instances.Track.{Track}
 use Rattle.metis_waits.proofs.summary.Summary.is_steadfast.Goals as goal

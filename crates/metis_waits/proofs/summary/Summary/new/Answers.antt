@@ -1,6 +1,6 @@
 use Rattle.std.proofs.Common.{List, [], ℕ, sym, subst}
 use Rattle.metis_waits.proofs.Stepped.{IsKnown, nothing_known}
-use Rattle.metis_waits.specs.Instances.{InstanceState, state_at}
+use Rattle.metis_waits.specs.Terms.{InstanceState, state_at}
 use Rattle.metis_waits.proofs.summary.Summary.new.Goals as goal
 
 pub returns : goal.returns

@@ -1,13 +1,10 @@
 use Rattle.std.proofs.Common.{◌≡◌, ℕ, ◌&&◌, ◌∙◌, ap, refl, sym, subst}
-use Rattle.metis_ids.specs.Action.{actor_of}
+use Rattle.metis_ids.specs.Terms.{actor_of}
 use Rattle.metis_ids.specs.declared.actions.Action.{Action}
-use Rattle.metis_universe.specs.Universe.{has}
-use Rattle.metis_universe.specs.Waits.{is_wait, last_number, numbers}
+use Rattle.metis_universe.specs.Terms.{has, is_wait, last_number, numbers}
 use Rattle.metis_waits.proofs.Gathered.{listed, own_alone, own_and_entry, releases_members, releases_sorted}
 use Rattle.metis_waits.proofs.TwoNumbers.{no_number}
-use Rattle.metis_waits.specs.Instances.{state_at}
-use Rattle.metis_waits.specs.Summary.{has_number}
-use Rattle.metis_waits.specs.Waits.{is_by}
+use Rattle.metis_waits.specs.Terms.{has_number, is_by, state_at}
 use Rattle.metis_waits.specs.declared.instances.Track.{Track}
 use Rattle.metis_waits.proofs.summary.Summary.note_waits.Goals as goal
 

@@ -1,6 +1,6 @@
 use Rattle.std.proofs.Common.{◌∙◌, ap}
 use Rattle.metis_waits.proofs.Listed.{list_of-each}
-use Rattle.metis_waits.specs.Waits.{WaitLists, list_of}
+use Rattle.metis_waits.specs.Terms.{WaitLists, list_of}
 use Rattle.metis_waits.proofs.wait_lists.Waits.of.Goals as goal
 
 pub returns-clause-waits : goal.returns-clause-waits

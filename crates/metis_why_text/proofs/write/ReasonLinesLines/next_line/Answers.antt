@@ -1,5 +1,5 @@
 use Rattle.std.proofs.Common.{sym, subst}
-use Rattle.metis_outside.specs.Pieces.{IsLine}
+use Rattle.metis_outside.specs.Terms.{IsLine}
 use Rattle.metis_why_text.proofs.LineFeeds.{IsLine-line_text}
 use Rattle.metis_why_text.proofs.write.ReasonLinesLines.next_line.Goals as goal
 
