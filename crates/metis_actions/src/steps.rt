@@ -18,7 +18,7 @@ pub fn apply(u: &Universe, c: &mut Config, a: &Action) -> Result<(), AFault>
     requires action { IsOf u.now a.now }
     ensures answers { Answers u.now c.old a.now c.new result }
 
-    // So it is done exactly where the definitions allow a step to a correct configuration, and memory lasts.
+    // It is done exactly where the definitions allow a step to a correct configuration, and memory lasts.
     ensures step { OnOk result (Step u.now c.old a.now c.new) }
     ensures refused { IfErr result (λ f. f ≢ AFault.NoMemory → Allows u.now c.old a.now → Correct u.now (after u.now c.old a.now) → ⊥) }
     ensures correct { Correct u.now c.new }

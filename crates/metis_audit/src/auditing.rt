@@ -44,7 +44,7 @@ pub fn audit(
     }
 }
 
-// The same where the targets are attainable.
+// The audit of targets that are attainable: the dups, and what comes behind them.
 fn audit_dups(
     alloc: Global,
     u: &Universe,
@@ -68,7 +68,7 @@ fn audit_dups(
     }
 }
 
-// The same where the dups are justified too.
+// The audit of a plan whose dups are justified: the instances by the lines, and the waits.
 fn audit_lines(alloc: Global, u: &Universe, l: &Lines, text: &PlanText) -> Result<Answer, NoMemory>
     requires lines { l.now ≡ audited_lines u.now l.now.targets text.now.plan }
     requires forced { IsForced u.now l.now.targets text.now.plan }
@@ -86,7 +86,7 @@ fn audit_lines(alloc: Global, u: &Universe, l: &Lines, text: &PlanText) -> Resul
     }
 }
 
-// The same where the instances follow the lines too.
+// The audit of a plan whose instances follow the lines: the waits.
 fn audit_waits(alloc: Global, u: &Universe, text: &PlanText) -> Result<Answer, NoMemory>
     requires formed { IsWellFormed u.now text.now.plan (lists_of text.now) }
     requires few_actions { length text.now.plan.actions < 2 ^ 32 - 1 }

@@ -12,6 +12,7 @@ pub fn first_other(w: &Waits, after: &[Vec<u32>]) -> Option<u32>
     requires { length after.now ≡ length w.now.each }
     ensures { (actions : List Action) → AreWaits actions w.now → MatchOption result ((k : ℕ) → 1 ≤ k → k ≤ length actions → after_of (map (λ ks. ks.items) after.now) k ≡ waits_on_others actions k) (IsFirstOther actions (map (λ ks. ks.items) after.now)) }
 {
+    // For the proof alone: the lists of the waits are fewer than 2^32.
     let _count = w.count();
     for index in 0..after.len() {
         let number = index as u32 + 1;

@@ -48,7 +48,7 @@ pub fn choose(
     ensures origins { IfSupport result (λ s. (p : ℕ) → IsTrue (is_selected s p) → MatchOption (origin_at s p) (layer_of u.now p ≡ Some 0) (IsLeastBelow u.now p)) }
     ensures providers { IfSupport result (λ s. (p r : ℕ) → IsTrue (is_selected s p) → IsTrue (requires u.now p r) → IsSomeAnd (provider_at s r) (IsFirstProvider u.now r)) }
 
-    // So it is the support of the selection, and nothing is told of other pairs and ports.
+    // A support is that of the selection, and tells nothing of other pairs and ports.
     ensures support { IfSupport result (λ s. s ≡ support_of u.now targets.now) }
     ensures over { IfSupport result (IsSupport u.now) }
 {

@@ -47,6 +47,7 @@ impl WorkList {
         }
         self.waiting.push(pair)?;
         self.selected.add(pair);
+        // For the proof alone: a set has no more members than its size.
         let _count = self.selected.count();
         Ok(())
     }

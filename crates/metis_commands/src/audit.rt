@@ -49,7 +49,7 @@ fn answer(
     }
 }
 
-// The same for the pairs for the goals.
+// The audit of a plan for the pairs that were found for the goals.
 fn audited(
     alloc: Global,
     u: &Universe,

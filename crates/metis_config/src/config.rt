@@ -123,10 +123,11 @@ impl Config {
         }
     }
 
-    /// It does nothing: what every configuration keeps.
+    /// What every configuration keeps. A call does nothing when it runs: a proof that needs the fact makes it.
     pub fn keeps_invariant(&self)
         ensures { IsConfig self.now }
     {
+        // For the proof alone: to name a field is to open the invariant.
         let _parts = &self.instances;
     }
 
@@ -165,6 +166,7 @@ impl Config {
     pub fn is_over(&self, u: &Universe) -> bool
         ensures { IsTrue result ↔ IsOver u.now self.now }
     {
+        // For the proof alone: to name a field is to open the invariant.
         let _parts = &self.clients;
         are_pairs_below(&self.instances, u.pairs()) && are_ports_below(&self.bindings, u.ports())
     }
@@ -270,7 +272,7 @@ impl Config {
         self.tie_to(r, z, y, pair)
     }
 
-    /// The same, where it is known which pair the provider is in.
+    /// Binds as `tie` does, for a caller who knows which pair the provider is in.
     pub fn tie_to(&mut self, r: PortIx, z: InstNo, y: InstNo, pair: PairIx) -> Result<(), NoMemory>
         requires apart { z ≢ y }
         requires requirer { IsSome (pair_of self.old z) }

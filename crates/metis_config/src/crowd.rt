@@ -71,6 +71,7 @@ impl Crowd {
         requires { total_of self.old.shares < self.old.room }
         ensures { (f : ℕ → Bool) → weight f self.new.shares ≡ weight f self.old.shares + (if f pair then 1 else 0) }
     {
+        // For the proof alone: the shares stand within their room.
         let _room = self.shares.capacity();
         match place_of(&self.shares, pair) {
             Some(place) => add_one(&mut self.shares, place),
@@ -103,6 +104,7 @@ impl Crowd {
     pub fn giving(&self, u: &Universe, r: PortIx) -> usize
         ensures { result ≡ weight (λ q. provides u.now q r) self.now.shares }
     {
+        // For the proof alone: the shares stand within their room.
         let _room = self.shares.capacity();
         giving_among(&self.shares, u, r)
     }
@@ -124,6 +126,7 @@ fn add_one(shares: &mut Vec<(PairIx, usize)>, place: usize)
     ensures some { All (λ s. 0 < s.1) shares.new.items }
     ensures room { vec_capacity shares.new ≡ vec_capacity shares.old }
 {
+    // For the proof alone: the shares stand within their room.
     let _room = shares.capacity();
     let share = &mut shares[place];
     share.1 += 1;

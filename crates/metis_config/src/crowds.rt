@@ -27,7 +27,7 @@ impl Crowds {
         }
     }
 
-    /// The same.
+    /// A copy.
     pub fn copy(&self) -> Result<Crowds, NoMemory>
         ensures { IfOk result (λ crowds. (w r : ℕ) (f : ℕ → Bool) → weight_at crowds.map w r f ≡ weight_at self.now.map w r f) }
     {

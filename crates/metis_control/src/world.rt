@@ -42,6 +42,7 @@ impl<'a> World<'a> {
         requires { AreWaits actions.now w.now }
         ensures { IfOk result (λ world. world ≡ record { actions = actions.now; state = at_first actions.now }) }
     {
+        // For the proof alone: the lists of the waits are fewer than 2^32.
         let _count = w.count();
         Ok(World {
             actions,

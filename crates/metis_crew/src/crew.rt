@@ -47,6 +47,7 @@ impl<'a> Crew<'a> {
         requires { AreWaits actions.now w.now }
         ensures { IfOk result (λ crew. crew ≡ at_start actions.now) }
     {
+        // For the proof alone: the lists of the waits are fewer than 2^32.
         let _count = w.count();
         Ok(Crew {
             actions,

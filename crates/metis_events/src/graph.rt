@@ -69,6 +69,7 @@ impl EventGraph {
     pub fn node(&self, e: Event) -> Option<NodeIx>
         ensures { result ≡ node_of self.now e }
     {
+        // For the proof alone: to name a field is to open the invariant.
         let _rows = &self.edges;
         let place = place_of(&self.events, &self.starts, &e)?;
         Some(NodeIx(place as u32))

@@ -38,11 +38,12 @@ impl PairSet {
         Ok(PairSet { flags, count: 0 })
     }
 
-    /// It does nothing: what every set keeps.
+    /// What every set keeps. A call does nothing when it runs: a proof that needs the fact makes it.
     pub fn keeps_invariant(&self)
         ensures ascending { IsStrictlyIncreasing self.now.members }
         ensures below { All (λ p. p < self.now.size) self.now.members }
     {
+        // For the proof alone: to name a field is to open the invariant.
         let _flags = &self.flags;
     }
 

@@ -17,7 +17,7 @@ pub fn read_turns(alloc: Global, bytes: &[u8]) -> Result<Vec<InstNo>, Stop>
     read_tokens(alloc, &tokens)
 }
 
-// The same if the tokens are known.
+// The instances that these tokens name, one a token.
 fn read_tokens(alloc: Global, tokens: &[&[u8]]) -> Result<Vec<InstNo>, Stop>
     requires { length tokens.now < 2 ^ 32 }
     ensures { Judges (λ turns. turns.items) (turns_then (turns_of (map (λ token. token.now) tokens.now))) result }

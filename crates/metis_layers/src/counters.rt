@@ -180,6 +180,7 @@ fn ascending(alloc: Global, set: BTreeSet<PairIx>) -> Result<Vec<PairIx>, NoMemo
     ensures members { IfOk result (λ v. v.items ≡ set.keys) }
     ensures sorted { IsStrictlySortedBy nat_cmp set.keys }
 {
+    // For the proof alone: the keys of a set ascend.
     let _count = set.len();
     let members = set.into_iter().collect(alloc)?;
     Ok(members)

@@ -31,6 +31,7 @@ impl Line {
         requires { IsTrue (is_selected s.now p) }
         ensures { IfOk result (λ line. line ≡ path_to s.now p) }
     {
+        // For the proof alone: what every support keeps.
         let _kept = s.selected();
         let mut stations = Vec::new(alloc);
         add_path(&mut stations, s, p)?;
@@ -75,6 +76,7 @@ fn add_path(stations: &mut Vec<PairIx>, s: &Support, p: PairIx) -> Result<(), No
     requires { IsTrue (is_selected s.now p) }
     ensures { OnOk result (stations.new.items ≡ stations.old.items ++ path_to s.now p) }
 {
+    // For the proof alone: what every support keeps.
     let _kept = s.selected();
     if let Some(o) = s.origin(p) {
         add_path(stations, s, o)?;

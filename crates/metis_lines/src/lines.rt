@@ -61,6 +61,7 @@ impl Lines {
     {
         u.keeps_invariant();
         let selected = s.selected();
+        // For the proof alone: a set has no more members than its size.
         let _count = selected.count();
         let mut lines = first_lines(alloc, s, targets)?;
         let providers = Vec::from_slice(alloc, s.provider_pairs())?;
@@ -87,6 +88,7 @@ impl Lines {
         ensures count { result ≡ length self.now.lines }
         ensures few { length self.now.lines ≤ 34256 }
     {
+        // For the proof alone: to name a field is to open the invariant.
         let _table = &self.holders;
         self.lines.len() as u32
     }
@@ -128,6 +130,7 @@ impl Lines {
     pub fn slots(&self, p: PairIx) -> u32
         ensures { result ≡ slots self.now p }
     {
+        // For the proof alone: to name a field is to open the invariant.
         let _lines = &self.lines;
         count_in(&self.counts, p)
     }
@@ -151,6 +154,7 @@ impl Lines {
     pub fn loose(&self) -> u32
         ensures { result ≡ loose self.now }
     {
+        // For the proof alone: to name a field is to open the invariant.
         let _lines = &self.lines;
         self.loose
     }
@@ -167,6 +171,7 @@ impl Lines {
         ensures loose { OnOk result (loose self.new + 1 ≡ loose self.old) }
         ensures err { OnErr result (self.new ≡ self.old) }
     {
+        // For the proof alone: what every support keeps.
         let _kept = s.selected();
         let line = Line::to(alloc, s, p)?;
         let number = LineIx(self.lines.len() as u32);

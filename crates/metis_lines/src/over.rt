@@ -111,7 +111,7 @@ impl<'a> OverLines<'a> {
         self.lines.holder(p, slot)
     }
 
-    /// Each is over the one before. A call is for proofs alone.
+    /// Each is over the one before. A call does nothing when it runs: a proof that needs the fact makes it.
     pub fn keeps_invariant(&self)
         ensures table { IsTable self.now.universe }
         ensures over { IsOver self.now }

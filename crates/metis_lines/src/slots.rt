@@ -28,6 +28,7 @@ pub fn add_later_lines(
     ensures lines { OnOk result (lines.new.items ≡ lines.old.items ++ map (path_to s.now) (flat_map (λ p. replicate (slice_index_or counts.now p 0 - 1) p) (provider_pairs s.now))) }
     ensures seconds { IfOk result (λ later. AreSeconds (length lines.old.items) later.pairs.items later.seconds (provider_pairs s.now)) }
 {
+    // For the proof alone: what every support keeps.
     let _kept = s.selected();
     let mut pairs = Vec::new(alloc);
     let mut seconds = filled(alloc, s.selected().size(), 0)?;

@@ -221,7 +221,7 @@ pub fn read_hosts(alloc: Global, u: &Universe, bytes: &[u8]) -> Result<Hosts, HF
     requires { length bytes.now ≤ 65536 }
     ensures read { ReadsHosts result (hosts_in u.now bytes.now) }
 
-    // So the bytes are the text of what is read.
+    // The bytes are the text of what is read.
     ensures text { IfOk result (λ h. IsTextOf u.now h bytes.now) }
 
     // Each fault comes of the first line that is wrong, and is what is wrong with it, or of an end that is missing.

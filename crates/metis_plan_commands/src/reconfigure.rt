@@ -82,7 +82,7 @@ fn answer<'a>(
     }
 }
 
-// The same as a value.
+// The plan that reconfigures what the old actions leave, or why there is none.
 fn reconfigured(
     alloc: Global,
     u: &Universe,
@@ -139,7 +139,7 @@ fn from_old(
     }
 }
 
-// The same to goals that some list of actions attains.
+// The reconfiguration to goals that some list of actions attains.
 fn to_goals(
     alloc: Global,
     u: &Universe,
@@ -207,7 +207,7 @@ fn obstacle_line(alloc: Global, u: &Universe, why: Obstacle) -> Result<String, A
     }
 }
 
-// The same as one line.
+// What stands in the way, as the one line of an answer.
 fn obstacle_once(alloc: Global, u: &Universe, why: Obstacle) -> Result<Once, AllocError>
     requires { IsObstacleIn u.now why }
     ensures { IfOk result (λ lines. lines ≡ obstacle_line u.now why ∷ []) }

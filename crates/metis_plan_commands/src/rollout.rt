@@ -60,7 +60,7 @@ fn answer<'a>(
     }
 }
 
-// The same as a value.
+// The plan that leads from what the old actions leave to the goals, or why there is none.
 fn rolled_out(
     alloc: Global,
     u: &Universe,

@@ -20,7 +20,7 @@ pub fn check_closed(u: &Universe, set: &PairSet, targets: &[Goal]) -> Verdict2
     // It is the verdict that is true of the set and the goals.
     ensures exactly { (v : Verdict2) → (result ≡ v) ↔ Tells u.now set.now.members targets.now v }
 
-    // So `Closed` comes where the set refuses the goals by this one, and then no list of actions attains them.
+    // `Closed` comes where the set refuses the goals by this one, and then no list of actions attains them.
     ensures closed { (g : Goal) → (result ≡ Verdict2.Closed g) ↔ GoalRefusal u.now targets.now set.now.members g }
     ensures unattained { (g : Goal) → result ≡ Verdict2.Closed g → AttainsGoals u.now targets.now → ⊥ }
     ensures names { NamesOf u.now result }

@@ -99,7 +99,7 @@ impl<'a> Replay<'a> {
         &self.config
     }
 
-    /// The same, taken over.
+    /// The configuration, taken out of the replay.
     pub fn into_config(self) -> Config
         ensures config { result ≡ self.entry.config }
         ensures correct { Correct self.entry.universe self.entry.config }

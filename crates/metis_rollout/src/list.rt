@@ -36,7 +36,7 @@ pub fn rollout(
     rollout_from(alloc, u, l, old, fresh, left)
 }
 
-/// The same for a caller who has what the old actions leave, and does not follow them again.
+/// The rollout for a caller who has what the old actions leave, and does not follow them again.
 pub fn rollout_from(
     alloc: Global,
     u: &Universe,

@@ -23,7 +23,7 @@ pub fn doubled_by(over: &OverLines<'_>, returns: &EventTable, cycle: &[Event]) -
     }
 }
 
-// The same for any events, where there is such a move.
+// The first pair that a move among these events leaves by a return, if there is such a move.
 fn first_left(over: &OverLines<'_>, returns: &EventTable, events: &[Event]) -> Option<PairIx>
     requires returns { HasReturns (graph_over over.now) returns.now }
     requires events { All (λ e. IsTrue (is_event (graph_over over.now) e)) events.now }

@@ -59,7 +59,7 @@ impl Model for LineRows {
 }
 
 impl LineRows {
-    // So many empty lists.
+    // A row of empty lists, one a step.
     #[tactic(auto, using(std::proofs::lemmas::List::replicate_more))]
     fn empty(alloc: Global, steps: u32) -> Result<LineRows, NoMemory>
         ensures { IfOk result (λ line. line ≡ replicate steps []) }

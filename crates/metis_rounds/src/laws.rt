@@ -24,7 +24,7 @@ pub fn stuck_twins_were_stuck()
     ensures { (w v : AbstractPlan) (y i : ℕ) → IsWithOwnLine w v y i → (e : Event) → IsTrue (is_stuck v e) → IsTrue (is_stuck w (twin w y e)) }
 {}
 
-/// So each event that was not stuck is not stuck with the new line.
+/// Each event that was not stuck is not stuck with the new line.
 pub fn own_line_only_frees()
     ensures { (w v : AbstractPlan) (y i : ℕ) → IsWithOwnLine w v y i → (e : Event) → IsTrue (is_event w e) → IsFalse (is_stuck w e) → IsFalse (is_stuck v e) }
 {}
@@ -51,12 +51,12 @@ pub fn own_pairs_have_own_lines()
     ensures { (u : Universe) (s : Support) (g d : List ℕ) (p : ℕ) → IsUniverse u → IsSupport u s → ((q : ℕ) → IsTrue (has g q) → IsTrue (is_selected s q)) → ((q : ℕ) → IsTrue (has d q) → IsTrue (is_selected s q)) → IsTrue (has (provider_pairs_of s) p) → IsTrue (is_loose (lines_of u s g d) p) → IsWithOwnLine (plan_of u s (lines_of u s g d)) (plan_of u s (lines_of u s g (d ++ p ∷ []))) (holding (lines_of u s g d) p).0 (holding (lines_of u s g d) p).1 }
 {}
 
-/// And the supplies from that station are from the new line, and all others stay.
+/// The supplies from a station that has a line of its own are from the new line, and all others stay.
 pub fn own_pairs_move_supplies()
     ensures { (u : Universe) (s : Support) (g d : List ℕ) (p : ℕ) → IsUniverse u → IsSupport u s → ((q : ℕ) → IsTrue (has g q) → IsTrue (is_selected s q)) → ((q : ℕ) → IsTrue (has d q) → IsTrue (is_selected s q)) → IsTrue (has (provider_pairs_of s) p) → IsTrue (is_loose (lines_of u s g d) p) → HasMoved (plan_of u s (lines_of u s g d)) (plan_of u s (lines_of u s g (d ++ p ∷ []))) (holding (lines_of u s g d) p).0 (holding (lines_of u s g d) p).1 }
 {}
 
-/// So in the graph for targets that have a layer each event that was not stuck is not stuck with one more own pair, a provider pair whose
+/// In the graph for targets that have a layer each event that was not stuck is not stuck with one more own pair, a provider pair whose
 /// slot 1 is a line that goes on from it.
 pub fn own_lines_only_free()
     ensures { (u : Universe) (g d : List ℕ) (p : ℕ) → IsUniverse u → ((q : ℕ) → IsTrue (has g q) → IsSome (layer_of u q)) → ((q : ℕ) → IsTrue (has d q) → IsTrue (has (provider_pairs u g) q)) → IsTrue (has (provider_pairs u g) p) → IsTrue (is_loose (lines_for u g d) p) → (e : Event) → IsTrue (is_event (graph_for u g d) e) → IsFalse (is_stuck (graph_for u g d) e) → IsFalse (is_stuck (graph_for u g (d ++ p ∷ [])) e) }

@@ -46,7 +46,7 @@ pub fn returns_of(alloc: Global, over: &OverLines<'_>, uses: &Uses) -> Result<Ev
     Ok(table)
 }
 
-/// The same after one more line, a line of its own for a station, from the table for the lines before it. What led to the
+/// The table of returns after one more line, a line of its own for a station, from the table for the lines before it. What led to the
 /// holder's leaving the station leads to the new line's; the rest is what the new line's own stations bring.
 pub fn move_returns(
     alloc: Global,

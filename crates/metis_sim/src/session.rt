@@ -94,7 +94,7 @@ impl<'a> Session<'a> {
         self.ended
     }
 
-    /// The same as `line`, but only a session that keeps can go back behind it. One that does not lets go what it kept.
+    /// Answers as `line` does, but only a session that keeps can go back behind it. One that does not lets go what it kept.
     pub(crate) fn reply_to(&mut self, bytes: &[u8], keeps: bool) -> Reply
         requires { IsFalse keeps → IsFalse (is_undo bytes.now) }
         ensures answer { result ≢ Reply.NoMemory → KeepsEnough keeps (result, self.new) (answer self.old bytes.now) }

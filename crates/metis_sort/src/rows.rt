@@ -77,6 +77,7 @@ impl NodeRows {
         ensures nodes { result.now ≡ joined self.now }
         ensures few { length result.now < 2 ^ 32 }
     {
+        // For the proof alone: to name a field is to open the invariant.
         let _starts = &self.starts;
         &self.nodes
     }

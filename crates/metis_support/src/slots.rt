@@ -22,7 +22,7 @@ pub fn slot_counts(alloc: Global, u: &Universe, s: &Support) -> Result<IxVec<Pai
     Ok(counts)
 }
 
-/// So many times this number.
+/// A list of this size in which each entry is the number.
 pub fn filled(alloc: Global, size: u32, number: u32) -> Result<IxVec<PairIx, u32>, NoMemory>
     ensures { IfOk result (λ numbers. numbers ≡ replicate size number) }
 {

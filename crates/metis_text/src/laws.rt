@@ -15,7 +15,7 @@ pub fn accepted_is_written()
     ensures { (u : Universe) (bytes : List ℕ) (p : Plan) (after : List (List ℕ)) → plan_in u bytes ≡ Ok (said p after) → (bytes ≡ plan_bytes u p after) × IsWellFormed u p after }
 {}
 
-/// And the text of a plan with lists that is well formed is read as this plan.
+/// The text of a plan with lists that is well formed is read as this plan.
 pub fn well_formed_is_read()
     ensures { (u : Universe) (p : Plan) (after : List (List ℕ)) → IsTable u → IsWellFormed u p after → plan_in u (plan_bytes u p after) ≡ Ok (said p after) }
 {}
@@ -63,7 +63,7 @@ pub fn front_of_short_is_short()
     ensures { (u : Universe) (front more : List ℕ) → plan_in u (front ++ more) ≡ Err Short → plan_in u front ≡ Err Short }
 {}
 
-/// And a text that is short stays so until a line ends behind it.
+/// A text of a plan that is short stays so until a line ends behind it.
 pub fn short_until_a_line_ends()
     ensures { (u : Universe) (front more : List ℕ) → All (λ b. b ≢ 10) more → plan_in u front ≡ Err Short → plan_in u (front ++ more) ≡ Err Short }
 {}
@@ -75,7 +75,7 @@ pub fn written_run_is_well_formed()
         → IsWellFormed u p (map (waits_on_others p.actions) (numbers p.actions)) }
 {}
 
-/// So the text that is written for it is read as this plan.
+/// The text that is written for a plan whose actions are a run is read as this plan.
 pub fn written_run_is_read()
     ensures { (u : Universe) (p : Plan) → IsTable u → IsRun u empty p.actions → All (IsOf u) p.actions → All (λ d. d.pair < pair_count u) p.dups → All (λ d. 2 ≤ length d.cycle) p.dups
         → IsPlanInRange p → p.instances ≡ count_by makes p.actions
@@ -88,7 +88,7 @@ pub fn accepted_refusal_is_written()
     ensures { (u : Universe) (bytes set : List ℕ) (lacks : Goal) → refusal_in u bytes ≡ Ok (refusal_parts lacks set) → (bytes ≡ refusal_bytes u set lacks) × IsRefusal u set lacks }
 {}
 
-/// And the text of a refusal whose pairs are the universe's and ascend is read as this refusal.
+/// The text of a refusal whose pairs are the universe's and ascend is read as this refusal.
 pub fn refusal_is_read()
     ensures { (u : Universe) → IsTable u → (set : List ℕ) (lacks : Goal) → IsRefusal u set lacks → refusal_in u (refusal_bytes u set lacks) ≡ Ok (refusal_parts lacks set) }
 {}
@@ -98,7 +98,7 @@ pub fn plan_has_lines()
     ensures { (u : Universe) (p : Plan) (after : List (List ℕ)) → IsTable u → All IsLine (plan_lines u p after) }
 {}
 
-/// And so does each line of the text of a refusal.
+/// Each line of the text of a refusal ends with a line feed, and has no other.
 pub fn refusal_has_lines()
     ensures { (u : Universe) (set : List ℕ) (lacks : Goal) → IsTable u → All IsLine (refusal_lines u set lacks) }
 {}
@@ -135,7 +135,7 @@ pub fn front_of_short_refusal_is_short()
     ensures { (u : Universe) (front more : List ℕ) → refusal_in u (front ++ more) ≡ Err Short → refusal_in u front ≡ Err Short }
 {}
 
-/// And a text of a refusal that is short stays so until a line ends behind it.
+/// A text of a refusal that is short stays so until a line ends behind it.
 pub fn short_refusal_until_a_line_ends()
     ensures { (u : Universe) (front more : List ℕ) → All (λ b. b ≢ 10) more → refusal_in u front ≡ Err Short → refusal_in u (front ++ more) ≡ Err Short }
 {}

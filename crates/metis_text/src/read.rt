@@ -28,7 +28,7 @@ pub fn read_plan(alloc: Global, u: &Universe, bytes: &[u8]) -> Result<PlanText, 
     requires { length bytes.now < 2 ^ 32 - 1 }
     ensures read { ReadsPlan result (plan_in u.now bytes.now) }
 
-    // So the bytes are the text of what is read, and this is well formed.
+    // The bytes are the text of what is read, and this is well formed.
     ensures text { IfOk result (λ t. IsTextOf u.now t bytes.now) }
     ensures fewer { IfOk result (λ t. length t.plan.actions < length bytes.now) }
 
@@ -121,7 +121,7 @@ fn has_words(instances: &[u8], actions: &[u8], dups: &[u8]) -> bool
     is(instances, "instances") && is(actions, "actions") && is(dups, "dups")
 }
 
-// So many actions.
+// The lines of this many actions.
 fn read_rows<'a>(
     alloc: Global,
     u: &Universe,
@@ -158,7 +158,7 @@ fn next_row<'a>(
     }
 }
 
-// So many dups.
+// The lines of this many dups.
 fn read_dups(
     alloc: Global,
     u: &Universe,

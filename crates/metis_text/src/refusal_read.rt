@@ -19,7 +19,7 @@ pub fn read_refusal(alloc: Global, u: &Universe, bytes: &[u8]) -> Result<Refusal
     ensures size { IfOk result (λ r. r.pairs.size ≡ pair_count u.now) }
     ensures lacks { IfOk result (λ r. IsWordable u.now r.lacks) }
 
-    // So the bytes are the text of what is read.
+    // The bytes are the text of what is read.
     ensures text { IfOk result (λ r. bytes.now ≡ refusal_bytes u.now r.pairs.members r.lacks) }
 
     // Each fault is that of the first line that is wrong, by what this line says, or of an end that is missing.

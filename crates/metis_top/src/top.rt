@@ -43,7 +43,7 @@ pub fn run<H: Shelf, K: Sink>(alloc: Global, words: &[String], shelf: &mut H, ou
     ensures told { Undisturbed (H.files shelf.old) (H.faults shelf.old) (H.faults shelf.new) (K.faults out.old) (K.faults out.new) result
         (λ file. Tells file (script_of (texts words.now)) (K.written out.old) (K.written out.new) result) }
 
-    // So the headline of `plan` holds.
+    // The headline of `plan` holds.
     ensures headline { Undisturbed (H.files shelf.old) (H.faults shelf.old) (H.faults shelf.new) (K.faults out.old) (K.faults out.new) result
         (λ file. Headline (texts words.now) file (K.written out.old) (K.written out.new) result) }
 

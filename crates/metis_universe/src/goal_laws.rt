@@ -15,7 +15,7 @@ pub fn pairs_are_goals()
 {}
 
 /// An instance serves a goal exactly where the pairs that instances are in do not lack it. A set lacks what a larger one lacks.
-/// So a configuration whose instances are in pairs of a set holds no goals of which the set lacks one.
+/// A configuration whose instances are in pairs of a set holds no goals of which the set lacks one.
 pub fn lacked_goals_are_not_held()
     ensures occupied { (u : Universe) (c : Config) (g : Goal) → IsTrue (lacks u (occupied c) g) ↔ (serving u c g ≡ 0) }
     ensures larger { (u : Universe) (s t : List ℕ) (g : Goal) → ((p : ℕ) → IsTrue (has t p) → IsTrue (has s p)) → IsTrue (lacks u s g) → IsTrue (lacks u t g) }

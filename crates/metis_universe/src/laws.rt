@@ -117,7 +117,7 @@ pub fn slots_are_demanded()
     ensures none { (u : Universe) (g : List ℕ) (p : ℕ) → ((q r : ℕ) → IsTrue (has (selected u g) q) → IsTrue (requires u q r) → provider_of u r ≡ Some p → ⊥) → slots u g p ≡ 0 }
 {}
 
-/// So many bindings of a port lead to instances that provide it as it has different providers.
+/// As many bindings of a port lead to instances that provide it as it has different providers.
 pub fn bindings_count_providers()
     ensures { (u : Universe) (c : Config) (z r n : ℕ) → IsConfig c → Decides (is_met u c z r n) (IsMet u c z r n) }
 {}

@@ -42,7 +42,7 @@ impl NumberedNames {
         })
     }
 
-    /// The same names.
+    /// A copy.
     pub fn copy(&self) -> Result<NumberedNames, AllocError>
         ensures { IfOk result (λ names. names ≡ self.now) }
     {

@@ -70,6 +70,7 @@ impl Reading for Universe {
 
     fn needs<L: Ledger>(&self, p: PairIx, steps: &mut Steps<L>) -> u32 {
         steps.tick();
+        // For the proof alone: the ports are fewer than 2^32.
         let _ports = Universe::ports(self);
         let required = self.requires_(p);
         required.len() as u32

@@ -97,10 +97,11 @@ impl Universe {
         Ok(build::tables(alloc, version, rows, kinds, found)?)
     }
 
-    /// It does nothing: what every universe keeps.
+    /// What every universe keeps. A call does nothing when it runs: a proof that needs the fact makes it.
     pub fn keeps_invariant(&self)
         ensures { IsTable self.now }
     {
+        // For the proof alone: to name a field is to open the invariant.
         let _tables = &self.kinds;
     }
 
@@ -108,6 +109,7 @@ impl Universe {
     pub fn version(&self) -> u32
         ensures { result ≡ self.now.version }
     {
+        // For the proof alone: to name a field is to open the invariant.
         let _tables = &self.pairs;
         self.version
     }
@@ -158,6 +160,7 @@ impl Universe {
         requires { t < type_count self.now }
         ensures { states_of_type self.now t ≡ take (length (states_of_type self.now t)) (drop result self.now.pairs) }
     {
+        // For the proof alone: to name a field is to open the invariant.
         let _tables = &self.kinds;
         PairIx(start_of(&self.pairs, t) as u32)
     }
@@ -166,6 +169,7 @@ impl Universe {
     pub fn states(&self, t: TypeIx) -> u32
         ensures { result ≡ length (states_of_type self.now t) }
     {
+        // For the proof alone: to name a field is to open the invariant.
         let _tables = &self.kinds;
         block_of(&self.pairs, t).len() as u32
     }
@@ -176,6 +180,7 @@ impl Universe {
         ensures pair { result ≡ initial_of self.now t }
         ensures within { result < pair_count self.now }
     {
+        // For the proof alone: to name a field is to open the invariant.
         let _tables = &self.pairs;
         initial_among(&self.initials, t)
     }
@@ -185,6 +190,7 @@ impl Universe {
         requires { p < pair_count self.now }
         ensures { result ≡ is_initial self.now p }
     {
+        // For the proof alone: to name a field is to open the invariant.
         let _tables = &self.kinds;
         self.initial(self.type_of(p)) == p
     }
@@ -285,6 +291,7 @@ impl Universe {
     pub fn type_requires(&self, t: TypeIx, r: PortIx) -> bool
         ensures { result ≡ type_requires self.now t r }
     {
+        // For the proof alone: to name a field is to open the invariant.
         let _tables = &self.kinds;
         some_of_type(&self.pairs, pairs_at(&self.requirers, r), t)
     }
@@ -293,6 +300,7 @@ impl Universe {
     pub fn type_provides(&self, t: TypeIx, r: PortIx) -> bool
         ensures { result ≡ type_provides self.now t r }
     {
+        // For the proof alone: to name a field is to open the invariant.
         let _tables = &self.kinds;
         some_of_type(&self.pairs, pairs_at(&self.providers, r), t)
     }

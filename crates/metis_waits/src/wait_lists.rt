@@ -51,7 +51,7 @@ impl Waits {
         self.each.row(k as usize - 1)
     }
 
-    /// The same without the previous action of the action's own instance.
+    /// The numbers that action k waits for, ascending, without the previous action of its own instance.
     pub fn after(&self, k: u32) -> &[u32]
         requires first { 1 ≤ k }
         requires last { k ≤ length self.now.each }

@@ -37,6 +37,7 @@ pub fn waves(alloc: Global, actions: &[Action], w: &Waits, d: &Durations) -> Res
     ensures chain_begins { IfOk result (λ waves. IfSome (slice_get waves.chain 0) (λ k. waits actions.now k ≡ [])) }
     ensures chain_takes { IfOk result (λ waves. sum_by (takes d.now actions.now) waves.chain ≡ waves.finish) }
 {
+    // For the proof alone: the lists of the waits are fewer than 2^32.
     let _count = w.count();
     let earliest = earliest(alloc, actions, w, d)?;
     let finish = finish(actions, d, &earliest);

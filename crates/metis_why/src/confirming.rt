@@ -69,6 +69,7 @@ fn line_holds(u: &Universe, held: &[bool; PAIR_LIMIT], lines: &[Line], line: &Li
     requires held { (p : ℕ) → flag held.now p ≡ listed lines.now p }
     ensures { result ≡ line_holds u.now lines.now line.now }
 {
+    // The contract alone speaks of the lines.
     let _lines = lines;
     match line.reason {
         Reason::Needs(port) => u.requires_(line.pair).contains(&port)
@@ -103,6 +104,7 @@ fn covered(u: &Universe, held: &[bool; PAIR_LIMIT], lines: &[Line], goals: &[Goa
     requires held { (p : ℕ) → flag held.now p ≡ listed lines.now p }
     ensures { result ≡ covered u.now lines.now goals.now }
 {
+    // The contract alone speaks of the lines.
     let _lines = lines;
     first_covered(u, held, goals)
 }

@@ -39,7 +39,7 @@ pub fn what_is_told_is_confirmed()
     ensures { (u : Universe) (g : Goal) (lines : List Line) → IsWhy u g lines → verdict u lines (g ∷ []) ≡ Confirmation.Confirmed g }
 {}
 
-/// And what is told of several goals, of the first that no list of actions attains, is confirmed of them.
+/// What is told of several goals, of the first that no list of actions attains, is confirmed of them.
 pub fn what_is_told_is_confirmed_of_all()
     ensures { (u : Universe) (goals : List Goal) (g : Goal) (lines : List Line) → IsUniverse u → IsFirstUnattained u goals g → IsWhy u g lines → verdict u lines goals ≡ Confirmation.Confirmed g }
 {}

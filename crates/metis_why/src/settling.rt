@@ -23,7 +23,7 @@ pub fn settle(alloc: Global, u: &Universe, held: &mut [bool; PAIR_LIMIT]) -> Res
     Ok(())
 }
 
-/// The same, in rounds over all pairs. After `drain` the first one finds nothing to do.
+/// Settles in rounds over all pairs. After `drain` the first one finds nothing to do.
 pub fn settle_in_rounds(u: &Universe, held: &mut [bool; PAIR_LIMIT])
     requires { IsWithin u.now (flag held.old) }
     ensures { IsGreatest u.now (flag held.old) (flag held.new) }

@@ -15,7 +15,7 @@ pub fn accepted_why_is_written()
     ensures { (u : Universe) (bytes : List ℕ) (lacks : Goal) (lines : List Line) → why_in u bytes ≡ Ok (why_parts lacks lines) → (bytes ≡ why_bytes u lacks lines) × IsWhyText u lacks lines }
 {}
 
-/// And the text of such an explanation is read as this one.
+/// The text of an explanation that is well formed is read as this one.
 pub fn why_is_read()
     ensures { (u : Universe) → IsTable u → (lacks : Goal) (lines : List Line) → IsWhyText u lacks lines → why_in u (why_bytes u lacks lines) ≡ Ok (why_parts lacks lines) }
 {}
@@ -63,7 +63,7 @@ pub fn front_of_short_why_is_short()
     ensures { (u : Universe) (front more : List ℕ) → why_in u (front ++ more) ≡ Err faults.Short → why_in u front ≡ Err faults.Short }
 {}
 
-/// And a text of an explanation that is short stays so until a line ends behind it.
+/// A text of an explanation that is short stays so until a line ends behind it.
 pub fn short_why_until_a_line_ends()
     ensures { (u : Universe) (front more : List ℕ) → All (λ b. b ≢ 10) more → why_in u front ≡ Err faults.Short → why_in u (front ++ more) ≡ Err faults.Short }
 {}

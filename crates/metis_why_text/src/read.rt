@@ -22,7 +22,7 @@ pub fn read_why(alloc: Global, u: &Universe, bytes: &[u8]) -> Result<Explanation
     ensures lacks { IfOk result (λ why. IsWordable u.now why.lacks) }
     ensures tellable { IfOk result (λ why. All (IsTellable u.now) why.lines.items) }
 
-    // So the bytes are the text of what is read.
+    // The bytes are the text of what is read.
     ensures text { IfOk result (λ why. bytes.now ≡ why_bytes u.now why.lacks why.lines.items) }
 
     // Each fault is that of the first line that is wrong, by what this line says, or of an end that is missing.
@@ -67,7 +67,7 @@ fn read_count(alloc: Global, lines: &mut Cursor<'_>) -> Result<u32, TFault>
     }
 }
 
-// So many lines.
+// This many lines of an explanation.
 fn read_lines(
     alloc: Global,
     u: &Universe,

@@ -75,7 +75,7 @@ fn number_within(word: &str, least: u32, most: u32) -> Option<u32>
     }
 }
 
-// So many numbers, and nothing behind them. The first of them has this place.
+// This many numbers, and nothing behind them. The first of them has this place.
 fn read_numbers(
     alloc: Global,
     first: u32,
@@ -100,7 +100,7 @@ fn read_numbers(
     Ok(numbers)
 }
 
-// So many file words.
+// This many file words.
 fn read_files(alloc: Global, count: usize, words: &[String]) -> Result<Vec<String>, WordFault>
     requires { count ≤ 3 }
     ensures files { ReadsWords (λ files. texts files.items) result (files_in count (texts words.now)) }

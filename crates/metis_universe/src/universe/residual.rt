@@ -91,7 +91,7 @@ impl Universe {
         self.relieved(alloc, p, given)
     }
 
-    // The same of a pair that is not initial.
+    // What a pair that is not initial still needs, and of how many.
     fn relieved(
         &self,
         alloc: Global,
