@@ -22,7 +22,7 @@ PROMISE = ("metis_top.specs.Deployment", "DeploysOrRefuses")
 BEGIN, END = "<!-- the list, by tools/reading_list.py -->\n", "<!-- the end of the list -->\n"
 PHRASES = "| phrase | definitions | laws and contracts |\n"
 
-USE = re.compile(r"^(?:pub |ghost )?use Rattle\.([\w.]+?)(?:\.\{(.*)\}| as (\w+))?;?$")
+USE = re.compile(r"^(?:unfoldable )?(?:pub |ghost )?use Rattle\.([\w.]+?)(?:\.\{(.*)\}| as (\w+))?;?$")
 ITEM = re.compile(r"^(?:abbrev pub|abbrev|pub abbrev|pub record|record|pub data|data) (\S+)")
 WORD = re.compile(r"[^\s(){},;∷]+")
 

@@ -10,7 +10,7 @@ use metis_inputs::PlanAnd;
 use metis_output::{Answer, Chain, Each, Either, LineAt, Lines, Once, Status, finish};
 use metis_outside::Sink;
 use metis_place::{Hold, Hosts, PFault, Placing, place};
-use metis_steady::{steady_waits, unsteady_answer};
+use metis_steady::{check_steady, unsteady_answer};
 use metis_tokens::push_numbers;
 use metis_universe::Universe;
 use std::alloc::{AllocError, Global};
@@ -43,7 +43,7 @@ fn answer<'a>(
     requires sizes { length h.now.sizes ≡ type_count u.now }
     ensures { IfOk result (Says (Placed u.now actions.now h.now) ⟦<PlaceLines<'a> as Lines>⟧.rest) }
 {
-    if let Err(why) = steady_waits(alloc, u, actions) {
+    if let Err(why) = check_steady(alloc, u, actions) {
         return unsteady_answer(alloc, u, &why);
     }
     match place(alloc, u, actions, h) {

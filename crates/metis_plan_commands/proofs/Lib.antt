@@ -1,7 +1,6 @@
 pub mod Attempts
 pub mod LoadLines
 pub mod MadePlans
-pub mod NeverLoose
 pub mod ObstacleLines
 pub mod PlanAnswers
 pub mod PrintedAudits

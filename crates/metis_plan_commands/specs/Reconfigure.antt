@@ -27,7 +27,7 @@ use Rattle.metis_reconfigure.specs.declared.answer.Obstacle.{Obstacle}
 use Rattle.metis_reconfigure.specs.declared.answer.Obstacle.TheVariants as obstacle
 use Rattle.metis_rollout.specs.Terms.{HasEach, IsGuardedAt, IsWithout, KeepsStanding, StandsIn, all_but}
 use Rattle.metis_output.specs.Terms.{number_line}
-use Rattle.metis_steady.specs.Terms.{HasBadAction, HasLooseAction, IsSteady}
+use Rattle.metis_steady.specs.Terms.{HasBadAction, HasLooseAction, IsUnsteady}
 use Rattle.metis_steady.specs.declared.steady.Unsteady.{Unsteady}
 use Rattle.metis_text.specs.Terms.{refusal_lines}
 use Rattle.metis_universe.specs.Terms.{AttainsGoals, HoldsGoals, IsGoalOf, IsKept, IsSteadfastRun, Universe, goal_word, has, is_complete, pair_of, picked, port_count, port_name_of}
@@ -125,7 +125,7 @@ HasAttempted u goals old wishes (Barred why) = IsBarred u goals old wishes (obst
 -- the same from actions that are a steadfast run, or what keeps them from being one
 abbrev pub IsAttempted : Universe → List Goal → List Action → List Wish → Result Attempt Unsteady → Type 0
 IsAttempted u goals old wishes (Ok made) = IsSteadfastRun u old × HasAttempted u goals old wishes made
-IsAttempted u goals old wishes (Err why) = IsSteady u old (Err why)
+IsAttempted u goals old wishes (Err why) = IsUnsteady u old why
 
 -- ---- what is put
 

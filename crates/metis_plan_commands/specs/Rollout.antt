@@ -15,7 +15,7 @@ use Rattle.metis_ids.specs.declared.goals.Goal.{Goal}
 use Rattle.metis_planner.specs.Terms.{IsByRounds}
 use Rattle.metis_rollout.specs.Terms.{GoesOnGuarded, NeverLacks, renumbered, rollout}
 use Rattle.metis_universe.specs.Terms.{Attains, AttainsGoals, Holds, HoldsGoals, IsSteadfastRun, Universe, after_all, empty}
-use Rattle.metis_steady.specs.Terms.{HasBadAction, HasLooseAction, IsSteady}
+use Rattle.metis_steady.specs.Terms.{HasBadAction, HasLooseAction, IsUnsteady}
 use Rattle.metis_steady.specs.declared.steady.Unsteady.{Unsteady}
 use Rattle.metis_text.specs.Terms.{refusal_lines}
 use Rattle.metis_plan_commands.specs.declared.planned.Planned.{Planned}
@@ -68,7 +68,7 @@ RollsOutGoals u goals old (Refusal r) = Refuses u goals (refusal_lines u r.pairs
 -- the same from actions that are a steadfast run, or what keeps them from being one
 abbrev pub IsRolledOut : Universe → List Goal → List Action → Result Planned Unsteady → Type 0
 IsRolledOut u goals old (Ok made) = IsSteadfastRun u old × RollsOutGoals u goals old made
-IsRolledOut u goals old (Err why) = IsSteady u old (Err why)
+IsRolledOut u goals old (Err why) = IsUnsteady u old why
 
 abbrev pub RolloutAnswer : Universe → List Goal → List Action → List (List ℕ) → Status → Type 0
 RolloutAnswer u goals old lines status = ((status ≡ Done) × RollsOut u goals old lines) ⊎ ((status ≡ No) × Refuses u goals lines)

@@ -6,11 +6,12 @@ ghost use Rattle.metis_output.specs.Terms.{Puts, Says};
 ghost use Rattle.metis_plan_commands.specs.Terms.{IsGood, Loaded, load_line};
 ghost use Rattle.metis_universe.specs.Terms.{IsOf, pair_count, pair_goals};
 
-use metis_gen::{closed_sets_hold_all, targets_are_pairs, targets_of, universe_of};
+use metis_gen::{targets_are_attained, targets_are_pairs, targets_of, universe_of};
 use metis_ids::{Goal, NoMemory, PairIx, Plan};
+use metis_layers::layers;
 use metis_output::{Answer, Lines, Once, Status, finish, line_answer};
 use metis_outside::Sink;
-use metis_planner::{Outcome, plan, rounds_come_to_one_plan};
+use metis_planner::{plan_over, rounds_come_to_one_plan};
 use metis_replay::Verdict;
 use metis_steady::replayed;
 use metis_universe::Universe;
@@ -36,8 +37,8 @@ fn answer(alloc: Global, n: u32) -> Result<Answer<Once>, NoMemory>
     planned_load(alloc, n, &universe, &targets)
 }
 
-// The same if both are made. There is a plan, since each closed set of pairs has all targets. It is good, since it is a run that
-// holds them.
+// The answer for the universe and the targets that were made. There is a plan, since some list of actions attains the targets. It
+// is good, since it is a run that holds them.
 fn planned_load(
     alloc: Global,
     n: u32,
@@ -50,16 +51,13 @@ fn planned_load(
     ensures { IfOk result (Says (Loaded n) ⟦<Once as Lines>⟧.rest) }
 {
     u.keeps_invariant();
-    closed_sets_hold_all();
+    targets_are_attained();
     targets_are_pairs();
     rounds_come_to_one_plan();
-    match plan(alloc, u, targets)? {
-        Outcome::Plan(plan) => {
-            let good = is_good(alloc, u, &plan, targets)?;
-            Ok(line_answer(load_line(alloc, n, u, &plan, targets)?, good))
-        }
-        Outcome::Closed(..) => unreachable!(),
-    }
+    let layers = layers(alloc, u)?;
+    let plan = plan_over(alloc, u, &layers, targets)?;
+    let good = is_good(alloc, u, &plan, targets)?;
+    Ok(line_answer(load_line(alloc, n, u, &plan, targets)?, good))
 }
 
 // Whether the plan's replay says that it is good.

@@ -1,8 +1,8 @@
 //! The actions of a plan that was carried out.
-ghost use Rattle.std.specs.Prelude.{◌≡◌, ◌<◌, ◌^◌, Err, IfErr, IfOk, length};
+ghost use Rattle.std.specs.Prelude.{◌≡◌, ◌<◌, ◌^◌, IfErr, IfOk, length};
 ghost use Rattle.std.specs.List.{All};
 ghost use Rattle.metis_plan_commands.specs.Terms.{IsOld};
-ghost use Rattle.metis_steady.specs.Terms.{IsSteady};
+ghost use Rattle.metis_steady.specs.Terms.{IsUnsteady};
 ghost use Rattle.metis_universe.specs.Terms.{IsOf};
 
 use metis_config::Config;
@@ -26,7 +26,7 @@ pub fn old_of<'a>(alloc: Global, u: &Universe, old: &'a [Action]) -> Result<Old<
     requires short { length old.now < 2 ^ 28 }
     ensures old { IfOk result (λ o. IsOld u.now old.now o.left o.judged) }
     ensures same { IfOk result (λ o. o.actions.now ≡ old.now) }
-    ensures steady { IfErr result (λ why. IsSteady u.now old.now (Err why)) }
+    ensures steady { IfErr result (IsUnsteady u.now old.now) }
 {
     match follow(alloc, u, old) {
         Ok(Followed::Left(left)) => match Judged::new(alloc, u).go_on(alloc, u, old) {

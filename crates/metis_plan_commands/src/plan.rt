@@ -16,7 +16,7 @@ use metis_outside::Sink;
 use metis_planner::{nothing_is_doubled_without_a_cycle, plan_over};
 use metis_text::{PlanLines, RefusalLines, lines_of_plan, lines_of_refusal};
 use metis_universe::Universe;
-use metis_waits::{Judged, WFault};
+use metis_waits::Judged;
 use std::alloc::{AllocError, Global};
 use std::marker::Model;
 
@@ -89,7 +89,7 @@ fn planned(alloc: Global, u: &Universe, goals: &[Goal]) -> Result<Planned, NoMem
 }
 
 /// The plan with what each of its actions waits for, if the first ones of them are judged. No provider leaves its pair while a
-/// binding to it stands, so there is no loose action.
+/// binding to it stands: all its actions are steadfast.
 pub fn with_waits(
     alloc: Global,
     u: &Universe,
@@ -104,11 +104,8 @@ pub fn with_waits(
     ensures plan { IfOk result (IsOfPlan plan) }
     ensures printable { IfOk result (IsPrintable u.now) }
 {
-    match judged.go_on(alloc, u, &plan.actions) {
-        Ok(judged) => Ok(Planned::Plan(plan, judged.into_waits())),
-        Err(WFault::NoMemory) => Err(NoMemory),
-        Err(WFault::Loose(_)) => unreachable!(),
-    }
+    let judged = judged.go_on_steadfast(alloc, u, &plan.actions)?;
+    Ok(Planned::Plan(plan, judged.into_waits()))
 }
 
 /// The plan of the actions, without dups and with what each of them waits for, if the first ones of them are judged.

@@ -3,7 +3,8 @@
 --     standing_after u actions      how many instances stand after the actions
 --     HasBadAction u actions lines status      the one line is that of the first action that cannot be done from the empty configuration on
 --     HasLooseAction u actions lines status      the actions are a run, and the one line is that of the first one that is not steadfast
---     IsSteady u actions judged      the actions are a steadfast run and wait for these; or this is the first that cannot be done, or else the first that is not steadfast
+--     IsUnsteady u actions why      this is the first that cannot be done, or else the first that is not steadfast
+--     IsSteady u actions judged      the actions are a steadfast run and wait for these, or are not, and this is why
 --     IsUnsteadyIn u why, TellsUnsteady u why lines      what it names is the universe's;  the one line says so
 use Rattle.std.specs.Prelude.{◌≡◌, ℕ, List, [], ◌∷◌, ◌++◌, length, codes, decimal, Result, Ok, Err}
 use Rattle.metis_actions.specs.Terms.{IsFaultOf, fault_text}
@@ -42,11 +43,15 @@ pub record HasLooseAction (u : Universe) (actions : List Action) (lines : List (
   pub told : lines ≡ loose_line number ∷ []
   pub is : status ≡ No
 
+-- out of memory nothing is said
+abbrev pub IsUnsteady : Universe → List Action → Unsteady → Type 0
+IsUnsteady u actions (Bad k f) = IsFirstBad u actions k f × IsFaultOf u f
+IsUnsteady u actions (Loose k) = IsRun u empty actions × IsFirstLoose u actions k
+IsUnsteady u actions unsteady.NoMemory = Unit {0}
+
 abbrev pub IsSteady : Universe → List Action → Result WaitLists Unsteady → Type 0
 IsSteady u actions (Ok w) = IsSteadfastRun u actions × AreWaits actions w
-IsSteady u actions (Err (Bad k f)) = IsFirstBad u actions k f × IsFaultOf u f
-IsSteady u actions (Err (Loose k)) = IsRun u empty actions × IsFirstLoose u actions k
-IsSteady u actions (Err unsteady.NoMemory) = Unit {0}
+IsSteady u actions (Err why) = IsUnsteady u actions why
 
 abbrev pub IsUnsteadyIn : Universe → Unsteady → Type 0
 IsUnsteadyIn u (Bad k f) = IsFaultOf u f

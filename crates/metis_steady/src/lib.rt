@@ -4,5 +4,6 @@
 mod steady;
 
 pub use steady::{
-    Followed, Unsteady, bad_line, follow, replay_of, replayed, steady_waits, unsteady_answer,
+    Followed, Unsteady, bad_line, check_steady, follow, replay_of, replayed, steady_waits,
+    unsteady_answer,
 };

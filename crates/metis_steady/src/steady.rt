@@ -1,10 +1,10 @@
 //! Whether a plan's actions are a steadfast run.
-ghost use Rattle.std.specs.Prelude.{◌≡◌, ◌<◌, ◌-◌, ◌^◌, IfOk, false, length, string_bytes};
+ghost use Rattle.std.specs.Prelude.{◌≡◌, ◌<◌, ◌-◌, ◌^◌, IfErr, IfOk, false, length, string_bytes};
 ghost use Rattle.std.specs.List.{All};
 ghost use Rattle.metis_actions.specs.Terms.{IsFaultOf, fault_text};
-ghost use Rattle.metis_steady.specs.Terms.{IsFollowed, IsSteady, IsUnsteadyIn, TellsUnsteady, bad_line, standing_after};
+ghost use Rattle.metis_steady.specs.Terms.{IsFollowed, IsSteady, IsUnsteady, IsUnsteadyIn, TellsUnsteady, bad_line, standing_after};
 ghost use Rattle.metis_replay.specs.Terms.{IsVerdictOf, Tells, after_feeding};
-ghost use Rattle.metis_universe.specs.Terms.{IsGoalOf, IsOf};
+ghost use Rattle.metis_universe.specs.Terms.{IsGoalOf, IsOf, IsSteadfastRun};
 
 use metis_actions::{AFault, fault_text};
 use metis_config::Config;
@@ -12,7 +12,7 @@ use metis_ids::{Action, Goal, NoMemory};
 use metis_output::{Answer, Either, Lines, Once, number_line};
 use metis_replay::{Replay, Verdict, replay_is_exact, replay_keeps_what_was_done};
 use metis_universe::Universe;
-use metis_waits::{WFault, Waits, waits};
+use metis_waits::{WFault, Waits, first_loose, waits};
 use std::alloc::{AllocError, Global};
 
 /// What the actions came to, and how many instances stood then.
@@ -101,6 +101,24 @@ pub fn steady_waits(alloc: Global, u: &Universe, actions: &[Action]) -> Result<W
             Ok(waits) => Ok(waits),
             Err(WFault::Loose(number)) => Err(Unsteady::Loose(number)),
             Err(WFault::NoMemory) => Err(Unsteady::NoMemory),
+        },
+        Ok(Followed::Bad(number, fault)) => Err(Unsteady::Bad(number, fault)),
+        Err(_) => Err(Unsteady::NoMemory),
+    }
+}
+
+/// Whether the actions are a steadfast run from the empty configuration on. It makes no waits, for callers who need none.
+pub fn check_steady(alloc: Global, u: &Universe, actions: &[Action]) -> Result<(), Unsteady>
+    requires numbers { All (IsOf u.now) actions.now }
+    requires few { length actions.now < 2 ^ 32 - 1 }
+    ensures steady { IfOk result (λ _. IsSteadfastRun u.now actions.now) }
+    ensures unsteady { IfErr result (IsUnsteady u.now actions.now) }
+{
+    match follow(alloc, u, actions) {
+        Ok(Followed::Left(_left)) => match first_loose(alloc, u, actions) {
+            Ok(None) => Ok(()),
+            Ok(Some(number)) => Err(Unsteady::Loose(number)),
+            Err(_) => Err(Unsteady::NoMemory),
         },
         Ok(Followed::Bad(number, fault)) => Err(Unsteady::Bad(number, fault)),
         Err(_) => Err(Unsteady::NoMemory),

@@ -14,14 +14,19 @@ use Rattle.metis_waits.proofs.Listed.{numbered}
 use Rattle.metis_waits.proofs.Passed.{all_steadfast, mapped, one_more, others_next, steadfast_next, waits_next}
 use Rattle.metis_waits.specs.Terms.{IsBegun, IsFirstLoose, IsJudged, IsNumbered, IsSummary, is_by, own_previous, waits_on_others}
 use Rattle.metis_waits.specs.declared.judged.Judged.{Judged}
+use Rattle.metis_waits.specs.declared.summary.Summary.{Summary}
 
--- the first i of the actions are judged, and i is how many lists there are
-pub record IsJudgedTo (u : Universe) (actions : List Action) (i : ℕ) (judged : Judged) : Type 0 where
+-- the first i of the actions are steadfast, and this is what they come to
+pub record IsPassedTo (u : Universe) (actions : List Action) (i : ℕ) (summary : Summary) : Type 0 where
   pub within : i ≤ length actions
-  pub summary : IsSummary u (take i actions) judged.summary
+  pub comes_to : IsSummary u (take i actions) summary
+  pub steadfast : (j : ℕ) → j ≤ i → is_steadfast_at u actions j ≡ true
+
+-- what is more, i is how many lists there are
+pub record IsJudgedTo (u : Universe) (actions : List Action) (i : ℕ) (judged : Judged) : Type 0 where
+  pub passed : IsPassedTo u actions i judged.summary
   pub each : judged.lists.each ≡ map (waits actions) (range_with_len 1 i)
   pub others : judged.lists.others ≡ map (waits_on_others actions) (range_with_len 1 i)
-  pub steadfast : (j : ℕ) → j ≤ i → is_steadfast_at u actions j ≡ true
 
 got_in_front : (xs ys : List Action) (i : ℕ) → i < length xs → slice_get (xs ++ ys) i ≡ slice_get xs i
 got_in_front [] ys i low = absurd (omega arith)
@@ -72,47 +77,64 @@ begun_to u actions judged b = subst (λ l. IsJudgedTo u l (length judged.lists.e
 
   there : IsJudgedTo u (xs ++ ys) (length xs) judged
   there = record {
-    within = let long = length-append xs ys in omega arith;
-    summary = subst (λ l. IsSummary u l judged.summary) (sym (take-append-le (length xs) xs ys (omega arith) ∙ take_all (length xs) xs (omega arith))) b.begun.summary;
+    passed = record {
+      within = let long = length-append xs ys in omega arith;
+      comes_to = subst (λ l. IsSummary u l judged.summary) (sym (take-append-le (length xs) xs ys (omega arith) ∙ take_all (length xs) xs (omega arith))) b.begun.summary;
+      steadfast = λ j low. steadfast_front xs ys j low u ∙ each_steadfast u xs b.begun.steadfast j low;
+    };
     each = b.begun.waits.each ∙ map_alike (waits xs) (waits (xs ++ ys)) 1 (length xs) (λ j low. sym (waits_front xs ys j (omega arith)));
     others = b.begun.waits.others ∙ map_alike (waits_on_others xs) (waits_on_others (xs ++ ys)) 1 (length xs) (λ j low. sym (others_front xs ys j (omega arith)));
-    steadfast = λ j low. steadfast_front xs ys j low u ∙ each_steadfast u xs b.begun.steadfast j low;
   }
 
--- and where it ends
+-- before the first action
+pub passed_none : (u : Universe) (actions : List Action) (s : Summary) → IsSummary u [] s → IsPassedTo u actions 0 s
+passed_none u actions s empty = record { within = omega arith; comes_to = empty; steadfast = none } where
+  none : (j : ℕ) → j ≤ 0 → is_steadfast_at u actions j ≡ true
+  none zero low = refl
+  none (suc j) low = absurd (omega arith)
+
+-- one action more
+pub passed_next : (u : Universe) (actions : List Action) (i : ℕ) (a : Action) (s next : Summary) → slice_get actions i ≡ Some a → is_steadfast_after u (take i actions) a ≡ true → IsPassedTo u actions i s
+    → IsSummary u (take i actions ++ a ∷ []) next → IsPassedTo u actions (i + 1) next
+passed_next u actions i a s next is steady p comes_to =
+    let low = slice_get_within actions i a is in
+    record {
+      within = omega arith;
+      comes_to = subst (λ l. IsSummary u l next) (sym (take_more actions i a low ∙ ap (λ (x : Action). take i actions ++ x ∷ []) (get_or_from_slice_get actions i a a is))) comes_to;
+      steadfast = one_more (is_steadfast_at u actions) i p.steadfast (steadfast_next actions i a is u ∙ steady);
+    }
+
+-- after the last action
+pub passed_all : (u : Universe) (actions : List Action) (i : ℕ) (s : Summary) → length actions ≤ i → IsPassedTo u actions i s → is_steadfast u actions ≡ true
+passed_all u actions i s high p = all_steadfast u actions i high p.steadfast
+
+-- the one that is not steadfast is the first
+pub first_loose : (u : Universe) (actions : List Action) (i : ℕ) (a : Action) (s : Summary) → slice_get actions i ≡ Some a → is_steadfast_after u (take i actions) a ≡ false → IsPassedTo u actions i s → IsFirstLoose u actions (i + 1)
+first_loose u actions i a s is not_steady p = record {
+  loose = steadfast_next actions i a is u ∙ not_steady;
+  before = λ k low. p.steadfast k (omega arith);
+}
+
+-- the same of what is judged: after the last action, and one action more
 pub judged_all : (u : Universe) (actions : List Action) (i : ℕ) (judged : Judged) → length actions ≤ i → length actions < 2 ^ 32 - 1 → IsJudgedTo u actions i judged → IsJudged u actions judged
 judged_all u actions i judged high few j =
-    let same : i ≡ length actions = omega (arith, j.within) in
+    let same : i ≡ length actions = omega (arith, j.passed.within) in
     record {
-      steadfast = all_steadfast u actions i high j.steadfast;
-      summary = subst (λ l. IsSummary u l judged.summary) (take_all i actions high) j.summary;
+      steadfast = passed_all u actions i judged.summary high j.passed;
+      summary = subst (λ l. IsSummary u l judged.summary) (take_all i actions high) j.passed.comes_to;
       waits = record { each = j.each ∙ ap (λ n. map (waits actions) (range_with_len 1 n)) same; others = j.others ∙ ap (λ n. map (waits_on_others actions) (range_with_len 1 n)) same };
       few = few;
     }
 
--- one action more
 pub judged_next : (u : Universe) (actions : List Action) (i : ℕ) (a : Action) (judged next : Judged) → slice_get actions i ≡ Some a → is_steadfast_after u (take i actions) a ≡ true → IsJudgedTo u actions i judged
     → IsSummary u (take i actions ++ a ∷ []) next.summary
     → next.lists.each ≡ judged.lists.each ++ filter (is_wait (take i actions) a) (numbers (take i actions)) ∷ []
     → next.lists.others ≡ judged.lists.others ++ filter (λ m. not (nat_eq m (last_number (is_by (actor_of a)) (take i actions)))) (filter (is_wait (take i actions) a) (numbers (take i actions))) ∷ []
     → IsJudgedTo u actions (i + 1) next
-judged_next u actions i a judged next is steady j summary each others =
-    let low = slice_get_within actions i a is in
-    record {
-      within = omega arith;
-      summary = subst (λ l. IsSummary u l next.summary) (sym (taken actions i a is)) summary;
-      each = mapped (waits actions) i judged.lists.each next.lists.each _ each j.each (sym (waits_next actions i a is));
-      others = mapped (waits_on_others actions) i judged.lists.others next.lists.others _ others j.others (others_next actions i a is _ _ refl refl);
-      steadfast = one_more (is_steadfast_at u actions) i j.steadfast (steadfast_next actions i a is u ∙ steady);
-    } where
-      taken : (xs : List Action) (i : ℕ) (a : Action) → slice_get xs i ≡ Some a → take (i + 1) xs ≡ take i xs ++ a ∷ []
-      taken xs i a is = take_more xs i a (slice_get_within xs i a is) ∙ ap (λ (x : Action). take i xs ++ x ∷ []) (get_or_from_slice_get xs i a a is)
-
--- the one that is not steadfast is the first
-pub first_loose : (u : Universe) (actions : List Action) (i : ℕ) (a : Action) (judged : Judged) → slice_get actions i ≡ Some a → is_steadfast_after u (take i actions) a ≡ false → IsJudgedTo u actions i judged → IsFirstLoose u actions (i + 1)
-first_loose u actions i a judged is not_steady j = record {
-  loose = steadfast_next actions i a is u ∙ not_steady;
-  before = λ k low. j.steadfast k (omega arith);
+judged_next u actions i a judged next is steady j summary each others = record {
+  passed = passed_next u actions i a judged.summary next.summary is steady j.passed summary;
+  each = mapped (waits actions) i judged.lists.each next.lists.each _ each j.each (sym (waits_next actions i a is));
+  others = mapped (waits_on_others actions) i judged.lists.others next.lists.others _ others j.others (others_next actions i a is _ _ refl refl);
 }
 
 -- as many lists of each kind, and few enough to be numbered

@@ -3,7 +3,7 @@ ghost use Rattle.std.specs.Prelude.{◌≡◌, ◌<◌, ◌-◌, ◌^◌, ◌==�
 ghost use Rattle.std.specs.List.{All, filter};
 ghost use Rattle.metis_ids.specs.Terms.{actor_of};
 ghost use Rattle.metis_ids.specs.declared.actions.Action.{Action};
-ghost use Rattle.metis_universe.specs.Terms.{IsOf, Universe, is_steadfast_after, is_wait, last_number, numbers};
+ghost use Rattle.metis_universe.specs.Terms.{IsOf, Universe, is_steadfast, is_steadfast_after, is_wait, last_number, numbers};
 ghost use Rattle.metis_waits.specs.Terms.{AreWaits, IfLoose, IsBegun, IsFirstLoose, IsJudged, IsSummary, is_by};
 
 use crate::fault::WFault;
@@ -50,6 +50,28 @@ impl Judged {
                 return Err(WFault::Loose(index as u32 + 1));
             }
             judged.take_in(alloc, u, earlier, action)?;
+        }
+        Ok(judged)
+    }
+
+    /// Judges the further actions of the list, which begins with those that are judged, for a caller who knows that the whole list
+    /// is steadfast.
+    pub fn go_on_steadfast(
+        self,
+        alloc: Global,
+        u: &Universe,
+        actions: &[Action],
+    ) -> Result<Judged, NoMemory>
+        requires numbers { All (IsOf u.now) actions.now }
+        requires few { length actions.now < 2 ^ 32 - 1 }
+        requires steadfast { IsTrue (is_steadfast u.now actions.now) }
+        requires begun { IsBegun u.now actions.now self }
+        ensures { IfOk result (IsJudged u.now actions.now) }
+    {
+        let mut judged = self;
+        let start = judged.count();
+        for index in start..actions.len() {
+            judged.take_in(alloc, u, &actions[..index], &actions[index])?;
         }
         Ok(judged)
     }

@@ -11,7 +11,7 @@ returns-then-not-is_steadfast-clause-loose c =
     let actions = c.args.actions.now in
     let i = c.loop-index.index in
     let a = c.index-actions-index.result in
-    first_loose c.args.u.now actions i a c.loop-index.judged (slice_get-get_or actions i a c.loop-index-test.true ∙ ap Some (sym c.index-actions-index.is)) (sym c.if-not-is_steadfast.ensures) c.loop-index.invariant
+    first_loose c.args.u.now actions i a c.loop-index.judged.summary (slice_get-get_or actions i a c.loop-index-test.true ∙ ap Some (sym c.index-actions-index.is)) (sym c.if-not-is_steadfast.ensures) c.loop-index.invariant.passed
 
 pub loop-index-preserved : goal.loop-index-preserved
 loop-index-preserved c =
