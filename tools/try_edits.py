@@ -9,14 +9,16 @@ It runs `rt ci` over a copy of these crates and those below, in which the edits 
 `rt ci` passed proves nothing again there. For each edit it tells the goal at which it was refused, and it ends with a line
 `N refused, M not`. The status is 0 where all are refused.
 
-crates/edits.json says for each crate the sum of its own src, specs and edits when all its edits were last refused. It is
-written anew after each run, and committed. An edit in must-fail/ is tried by `rt ci` itself, and not here.
+crates/edits.json says for each crate the sum of its own src, specs and edits when all its edits were last refused; imports,
+declarations of modules and whole-line comments do not count. It is written anew after each run, and committed. An edit in
+must-fail/ is tried by `rt ci` itself, and not here.
 """
 
 import argparse
 import hashlib
 import json
 import pathlib
+import re
 import shutil
 import subprocess
 import sys
@@ -30,7 +32,9 @@ from edits import Try, tries_in
 LEDGER = TOP / "crates" / "edits.json"
 # How many crates are tried at each run although they did not change: a clause below that grew weaker shows so.
 BY_TURNS = 3
-PARTS = ("src", "specs", "edits")
+CODE = ("src", "specs")
+# A line that says nothing of its own: where names are found, or a comment.
+SILENT = re.compile(r"\s*((ghost |pub |unfoldable )*use .*|(pub )?mod \w+;?|(//|--).*)?")
 
 
 def crates_with_edits() -> list[str]:
@@ -41,13 +45,19 @@ def edits_of(crate: str) -> list[str]:
     return sorted(path.stem for path in (TOP / "crates" / crate / "edits").glob("*.edit"))
 
 
+def said_in(path: pathlib.Path) -> bytes:
+    """What a file of code says: its lines without imports and comments."""
+    return "\n".join(line for line in path.read_text().splitlines() if not SILENT.fullmatch(line)).encode()
+
+
 def sum_of(crate: str) -> str:
     """A sum of what the crate's edits stand on: its own code, specs and edits. Proofs may change without making one due."""
+    home = TOP / "crates" / crate
+    texts = {path: said_in(path) for part in CODE for path in (home / part).rglob("*") if path.is_file()}
+    texts |= {path: path.read_bytes() for path in (home / "edits").glob("*.edit")}
     found = hashlib.sha256()
-    for part in PARTS:
-        for path in sorted((TOP / "crates" / crate / part).rglob("*")):
-            if path.is_file():
-                found.update(f"{path.relative_to(TOP)}\n{hashlib.sha256(path.read_bytes()).hexdigest()}\n".encode())
+    for path in sorted(path for path, text in texts.items() if text):
+        found.update(f"{path.relative_to(TOP)}\n{hashlib.sha256(texts[path]).hexdigest()}\n".encode())
     return found.hexdigest()[:16]
 
 

@@ -60,9 +60,18 @@ class DueTest(unittest.TestCase):
     def test_a_definition_and_an_edit_do_so_too_and_a_proof_does_not(self) -> None:
         for part in ("specs", "edits", "proofs"):
             path = next(iter(sorted((self.top / "crates" / "metis_waves" / part).rglob("*.*"))))
-            path.write_text(path.read_text() + "\n")
+            path.write_text(path.read_text() + "\nabbrev pub more : ℕ\n")
             self.assertEqual(self.tool.changed(), [] if part == "proofs" else ["metis_waves"], part)
             self.tool.write_ledger(["metis_waves"])
+
+    def test_an_import_and_a_comment_make_nothing_due(self) -> None:
+        home = self.top / "crates" / "metis_waves"
+        source = next(iter(sorted((home / "src").glob("*.rt"))))
+        source.write_text("ghost use Rattle.std.specs.Prelude.{List};\n// A comment.\n" + source.read_text())
+        (home / "specs" / "More.antt").write_text("-- What others cite.\npub use Rattle.metis_waves.specs.More.{more}\n")
+        self.assertEqual(self.tool.changed(), [])
+        source.write_text(source.read_text().replace("{\n", "{ // Not a line of its own.\n", 1))
+        self.assertEqual(self.tool.changed(), ["metis_waves"])
 
     def test_a_new_crate_is_due_and_a_crate_that_is_gone_is_forgotten(self) -> None:
         shutil.copytree(self.top / "crates" / "metis_crew", self.top / "crates" / "metis_new")
