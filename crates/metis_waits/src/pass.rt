@@ -27,11 +27,7 @@ pub fn waits(alloc: Global, u: &Universe, actions: &[Action]) -> Result<Waits, W
 
 /// The number of the first action that is not steadfast, if there is one. The actions are numbered from 1. It keeps no waits, so a
 /// caller who needs none pays for none.
-pub fn first_loose(
-    alloc: Global,
-    u: &Universe,
-    actions: &[Action],
-) -> Result<Option<u32>, NoMemory>
+pub fn first_loose(alloc: Global, u: &Universe, actions: &[Action]) -> Result<Option<u32>, NoMemory>
     requires numbers { All (IsOf u.now) actions.now }
     requires few { length actions.now < 2 ^ 32 - 1 }
     ensures { IfOk result (λ k. MatchOption k (IsTrue (is_steadfast u.now actions.now)) (IsFirstLoose u.now actions.now)) }
