@@ -1,7 +1,7 @@
 -- A plan that is audited has an answer, and so has a generated universe.
 use Rattle.std.proofs.Common.{◌≡◌, ◌⊎◌, ◌≤◌, ◌<◌, ◌+◌, ◌-◌, ℕ, zero, suc, Bool, true, false, List, [], ◌∷◌, Option, Some, None, codes, find, length, refl, sym, subst, arith, inl, inr}
 use Rattle.std.specs.List.{count_by}
-use Rattle.std.proofs.lemmas.Bool.{cases_eq, cases_lt, false≢true}
+use Rattle.std.proofs.lemmas.Bool.{cases_eq, cases_lt, false≢true, false_from_ne_true}
 use Rattle.metis_audit.specs.Terms.{IsAnswer, IsAttained, IsCounted, IsFollowed, IsForced, IsSteady, audited_lines, follows}
 use Rattle.metis_audit.specs.declared.answers.Answer.{Answer}
 use Rattle.metis_audit.specs.declared.answers.Answer.TheVariants.{Justified, NoCycle, Count, Path, Loose, After}
@@ -70,10 +70,6 @@ same_or_not (x ∷ xs) (y ∷ ys) = by (cases_eq x y) (same_or_not xs ys) where
   by (inl one) (inr other) = inr (λ e. other (tail e))
   by (inr other) rest = inr (λ e. other (head e))
 
-false_of_not : (b : Bool) → (b ≡ true → ⊥) → b ≡ false
-false_of_not true off = absurd (off refl)
-false_of_not false off = refl
-
 -- ---- the first test that fails, or none
 
 module _ (u : Universe) (g : List ℕ) (plan : Plan) (after : List (List ℕ)) (attained : IsAttained u g) where
@@ -115,7 +111,7 @@ module _ (u : Universe) (g : List ℕ) (plan : Plan) (after : List (List ℕ)) (
   fifth_test followed = by (all_or_first (λ j. is_steadfast_at u plan.actions j ≡ true) (λ j. passes_or_not (is_steadfast_at u plan.actions j)) (length plan.actions + 1)) where
     by : AllOrFirst (λ j. is_steadfast_at u plan.actions j ≡ true) (length plan.actions + 1) → Found
     by (inl all) = last_test (record { followed = followed; steadfast = all_in_range (is_steadfast_at u plan.actions) 1 (length plan.actions) (λ k low high. all k (omega arith)) })
-    by (inr first) = (Loose first.0, (followed, record { loose = false_of_not _ first.2; before = first.3 }))
+    by (inr first) = (Loose first.0, (followed, record { loose = false_from_ne_true _ first.2; before = first.3 }))
 
   fourth_test : IsCounted u g plan → Found
   fourth_test counted = by (all_or_first (follows u g plan) (λ l. same_or_not (entered u l plan.actions) (line_at (audited_lines u g plan) l)) (length (audited_lines u g plan).lines)) where
@@ -141,7 +137,7 @@ module _ (u : Universe) (g : List ℕ) (plan : Plan) (after : List (List ℕ)) (
             record {
               first = omega arith;
               last = omega (arith, first.1);
-              fails = subst (λ i. is_justified_at u g plan.dups i ≡ false) place (false_of_not _ first.2);
+              fails = subst (λ i. is_justified_at u g plan.dups i ≡ false) place (false_from_ne_true _ first.2);
               before = λ i low. first.3 i (omega arith);
             },
           ),

@@ -18,9 +18,6 @@ use Rattle.metis_uniqueness.proofs.Firsts.{found_passes}
 use Rattle.metis_uniqueness.proofs.Leaving.{firm_same, is_unmet_too, targets_same, unavoidable_same}
 use Rattle.metis_uniqueness.proofs.Reconfiguring.{leaving_alike}
 
-one_goal : (g h : Goal) → Some g ≡ Some h → g ≡ h
-one_goal g h e = cc
-
 -- ---- ports that are met
 
 module _ (u v : Universe) (c : Config) (l zs : List ℕ) where
@@ -101,7 +98,7 @@ module _ (u : Universe) (wishes : List Wish) (c : Config) (goals : List Goal) wh
       no_goal g e = cc
 
     avoid_one : (g h : Goal) → first_unavoidable u wishes c l goals ≡ Some g → first_unavoidable u wishes c m goals ≡ Some h → g ≡ h
-    avoid_one g h one two = one_goal g h (sym one ∙ unavoidable_same u wishes c l m alike goals ∙ two)
+    avoid_one g h one two = same_Some g h (sym one ∙ unavoidable_same u wishes c l m alike goals ∙ two)
 
     unmet_apart : (z r : ℕ) → Unmets l z r → Met m → ⊥
     unmet_apart z r unmet met =
