@@ -27,7 +27,9 @@ all_in_a_row = refl
 
 -- the chain 2, 3, 4, 5
 chain : IsChain web times earliest 9 (2 ∷ 3 ∷ 4 ∷ 5 ∷ [])
-chain = record { ends = refl; linked = (refl, (refl, (refl, tt))); begins = refl; takes = refl }
+chain = record { empty = λ none. absurd (some none); ends = refl; linked = (refl, (refl, (refl, tt))); begins = refl; takes = refl } where
+  some : web ≡ [] → ⊥
+  some h = cc
 
 -- the binding waits for the first action too, and this one ends earlier
 bind_waits_for_the_database : tight_wait times web earliest 4 ≡ Some 3

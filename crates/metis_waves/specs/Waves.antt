@@ -4,7 +4,7 @@
 --     tight_wait d actions s k      the least number that k waits for and that ends when k starts
 --     IsLinked d actions s ks      before each number stands its tight wait
 --     last_of ks      the last number, if there is one
---     IsChain actions d s t ks      linked, from a number without waits to the least number that ends at t, and its durations sum to t
+--     IsChain actions d s t ks      linked, from a number without waits to the least number that ends at t, and its durations sum to t; it has no number where there is no action
 --     AreWaves actions d w      all that is said of the answer
 use Rattle.std.specs.Prelude.{◌≡◌, ◌≤◌, ◌==◌, ℕ, List, [], ◌∷◌, Option, Some, None, IfSome, ⊤}
 use Rattle.std.specs.List.{find, slice_get, sum_by}
@@ -36,6 +36,7 @@ last_of (k ∷ []) = Some k
 last_of (m ∷ k ∷ ks) = last_of (k ∷ ks)
 
 pub record IsChain (actions : List Action) (d : Durations) (s : List ℕ) (t : ℕ) (ks : List ℕ) : Type 0 where
+  pub empty : actions ≡ [] → ks ≡ []
   pub ends : last_of ks ≡ first_ending d actions s t
   pub linked : IsLinked d actions s ks
   pub begins : IfSome (slice_get ks 0) (λ k. waits actions k ≡ [])

@@ -11,7 +11,7 @@ use Rattle.metis_universe.proofs.Served.{none_counted}
 use Rattle.metis_universe.specs.Terms.{has}
 use Rattle.metis_why.proofs.Lowered.{known_low, none_known}
 use Rattle.metis_why.specs.Terms.{AreOpen, IsBefore, IsFirst, NoneBefore, StayOpen, far_in, never, times}
-use Rattle.metis_why.specs.declared.far.Ways.{Ways}
+use Rattle.metis_why.specs.declared.distance.Ways.{Ways}
 
 -- ---- the nearest of a list
 

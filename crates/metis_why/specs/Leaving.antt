@@ -11,7 +11,7 @@ use Rattle.metis_universe.specs.Terms.{Universe}
 use Rattle.metis_why.specs.Barred.{Covers, IsBarred}
 use Rattle.metis_why.specs.Flags.{IsInside, IsMissed, IsWithin}
 use Rattle.metis_why.specs.Settling.{IsFrom}
-use Rattle.metis_why.specs.declared.leaving.Kept.{Kept}
+use Rattle.metis_why.specs.declared.minimizing.Kept.{Kept}
 use Rattle.metis_refusal.specs.Terms.{flag}
 
 pub record IsEnough (u : Universe) (g : Goal) (x : ℕ → Bool) : Type 0 where

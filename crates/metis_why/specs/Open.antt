@@ -10,7 +10,7 @@ use Rattle.std.specs.List.{All, count_by}
 use Rattle.metis_universe.specs.Terms.{Universe}
 use Rattle.metis_why.specs.Choice.{IsBefore}
 use Rattle.metis_why.specs.Costs.{far_in, led_on, never}
-use Rattle.metis_why.specs.declared.far.Ways.{Ways}
+use Rattle.metis_why.specs.declared.distance.Ways.{Ways}
 
 abbrev pub NoneBefore : (ℕ → ℕ) → ℕ → List ℕ → Type 0
 NoneBefore far q pairs = All (λ p. IsBefore far p q → ⊥) pairs

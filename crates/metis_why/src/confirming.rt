@@ -3,14 +3,14 @@ ghost use Rattle.std.specs.Prelude.{◌≡◌, ◌<◌, ℕ};
 ghost use Rattle.std.specs.List.{All, list_all};
 ghost use Rattle.metis_ids.specs.declared.goals.Goal.{Goal};
 ghost use Rattle.metis_universe.specs.Terms.{AttainsGoals, IsGoalOf, port_count, providers_of};
-ghost use Rattle.metis_why.specs.Terms.{IsLineOf, before_of, covered, first_bad, line_holds, listed, verdict};
+ghost use Rattle.metis_why.specs.Terms.{IsLineOf, IsWithin, before_of, covered, first_bad, line_holds, listed, verdict};
 ghost use Rattle.metis_refusal.specs.Terms.{flag};
 
-use crate::because::flags_of;
+use crate::covering::{covers, first_covered};
+use crate::listing::is_listed;
 use crate::named::leads;
 use crate::outside::{PAIR_LIMIT, is_set};
 use crate::reason::{Line, Reason};
-use crate::settling::{covers, first_covered};
 use metis_ids::{Goal, PairIx, PortIx};
 use metis_universe::Universe;
 
@@ -50,6 +50,18 @@ fn judged(u: &Universe, lines: &[Line], goals: &[Goal]) -> Confirmation
         Some(goal) => Confirmation::Confirmed(goal),
         None => Confirmation::LacksNone,
     }
+}
+
+// The pairs of the lines.
+fn flags_of(u: &Universe, lines: &[Line]) -> [bool; PAIR_LIMIT]
+    requires { IsWithin u.now (listed lines.now) }
+    ensures { (p : ℕ) → flag result p ≡ listed lines.now p }
+{
+    let mut flags = [false; PAIR_LIMIT];
+    for number in 0..u.pairs() {
+        flags[number as usize] = is_listed(lines, PairIx(number));
+    }
+    flags
 }
 
 // The place of the first line that does not hold.

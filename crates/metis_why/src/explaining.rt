@@ -6,13 +6,13 @@ ghost use Rattle.metis_layers.specs.Terms.{IsLayers};
 ghost use Rattle.metis_why.specs.Terms.{IfAllAttained, IfLacks, IsByChoice, IsEnough, IsFirstUnattained, IsLacking, IsTellable, IsWhy};
 ghost use Rattle.metis_refusal.specs.Terms.{flag};
 
-use crate::far::by_distance;
-use crate::leaving::leave_out_all;
+use crate::covering::first_covered;
+use crate::distance::by_distance;
+use crate::front::keep_near;
 use crate::listing::lines_of;
-use crate::near::keep_near;
+use crate::minimizing::leave_out_all;
 use crate::outside::PAIR_LIMIT;
 use crate::reason::{Explanation, Line};
-use crate::settling::first_covered;
 use metis_ids::{Goal, NoMemory, PairIx};
 use metis_layers::layers;
 use metis_layers::table::Layers;

@@ -1,22 +1,63 @@
 //! Why a goal is never attained: a small set of pairs that wait for one another, each with its reason.
+//!
+//! The steps of an explanation, as `explain` goes them:
+//!
+//! 1. `explaining` takes the pairs that are not attainable, and `covering` finds the first goal that they cover.
+//! 2. `distance` puts the pairs behind this goal in order, from near to far.
+//! 3. `front` cuts the order to its first pairs of which a barred set covers the goal. `settling` finds the greatest such set: pairs
+//!    that wait for none of the others fall out of it, one after the other by `falling`.
+//! 4. `minimizing` leaves pairs out, from the farthest on, until none can be left out. It does not try those that `forcing` finds.
+//! 5. `listing` gives each pair that is left a line with a reason, in the order in which lines name pairs.
+//!
+//! All stand on `named`, the pairs for which a pair waits, and on `outside`, what the pairs outside a set give. `one_goal` explains one
+//! goal, and `confirming` judges lines from any source.
 #![tactic(auto)]
 
-mod because;
-mod confirming;
-mod explaining;
-mod falling;
-mod far;
-mod forcing;
-mod laws;
-mod leaving;
-mod listing;
-mod named;
-mod near;
-mod outside;
+// The words of an explanation.
 mod reason;
+
+// The pairs for which a pair waits.
+mod named;
+
+// What the pairs outside a set give.
+mod outside;
+
+// Step 1, and the calls of the others.
+mod explaining;
+
+// Whether a set has what a goal wants.
+mod covering;
+
+// Step 2.
+mod distance;
+
+// Step 3.
+mod front;
+
+// The greatest barred set inside another.
 mod settling;
 
-pub use because::{Because, why};
+// How pairs fall out of a set.
+mod falling;
+
+// Step 4.
+mod minimizing;
+
+// The pairs that cannot be left out.
+mod forcing;
+
+// Step 5.
+mod listing;
+
+// The explanation of one goal.
+mod one_goal;
+
+// The verdict on lines from any source.
+mod confirming;
+
+// What is so of all explanations.
+mod laws;
+
 pub use confirming::{Confirmation, confirm};
 pub use explaining::{Explained, explain};
 pub use laws::{
@@ -28,4 +69,5 @@ pub use laws::{
     what_is_told_is_confirmed, what_is_told_is_confirmed_of_all,
 };
 pub use named::named as named_by;
+pub use one_goal::{Because, why};
 pub use reason::{Explanation, Line, Reason};

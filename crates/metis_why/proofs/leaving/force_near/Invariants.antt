@@ -1,9 +1,0 @@
-use Rattle.std.proofs.Common.{◌≡◌}
-use Rattle.metis_why.specs.Terms.{IsKept}
-use Rattle.metis_why.proofs.leaving.force_near.Given as goal
-
-abbrev pub invariant-loop-pair : goal.invariant-loop-pair
-invariant-loop-pair l = record {
-  held : l.kept.known.held ≡ l.initial.kept.known.held;
-  kept : IsKept l.u l.goal l.kept;
-}
