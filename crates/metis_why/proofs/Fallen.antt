@@ -1,13 +1,13 @@
 -- Pairs that fall out of a set.
-use Rattle.std.proofs.Common.{◌≡◌, ◌<◌, ◌≤◌, ℕ, zero, suc, ◌∙◌, refl, Bool, true, false, List, length, replicate, set, ap, sym, subst, arith, inl, inr}
+use Rattle.std.proofs.Common.{◌≡◌, ◌<◌, ◌≤◌, ℕ, zero, suc, ◌∙◌, refl, Bool, true, false, List, length, replicate, set, ap, sym, subst, arith, inl, inr, get_or}
 use Rattle.std.specs.List.{slice_index_or}
 use Rattle.std.proofs.lemmas.Bool.{cases_eq, cases_lt, false_from_ne_true}
 use Rattle.std.proofs.lemmas.List.{get_or-set_same, get_or-set_other, set_past}
-use Rattle.metis_ids.proofs.Lists.{place_of}
-use Rattle.metis_universe.specs.Terms.{Universe, has, next_of, pair_count, provides, required_of, requires}
+use Rattle.metis_ids.proofs.Lists.{has_at, place_of}
+use Rattle.metis_universe.specs.Terms.{Universe, has, next_of, pair_count, provides, required_of, requirers_of, requires}
 use Rattle.metis_why.proofs.Going.{in_length}
 use Rattle.metis_why.proofs.Reasons.{not_inside}
-use Rattle.metis_why.proofs.Soundness.{moved_not_held}
+use Rattle.metis_why.proofs.Soundness.{moved_not_held, passes_of}
 use Rattle.metis_why.specs.Terms.{AreGiven, AreLed, AreReached, Falls, IsBarred, IsFrom, IsGreatest, IsInside, IsShrunk}
 use Rattle.metis_refusal.specs.Terms.{flag}
 use Rattle.metis_why.specs.declared.falling.Falling.{Falling}
@@ -123,3 +123,11 @@ pub reached_all : (u : Universe) (q n : ℕ) (given : List Bool) → AreReached 
 reached_all u q n given reached all r needs =
     let at = place_of (required_of u q) r needs in
     ap (flag given) (sym at.2) ∙ reached at.0 (omega (arith, at.1, all)) at.1
+
+-- ---- what is read of a universe
+
+pub read_at : (items all : List ℕ) (i p : ℕ) → items ≡ all → i < length items → p ≡ get_or items i p → has all p ≡ true
+read_at items all i p same low at = subst (λ l. has l p ≡ true) same (subst (λ q. has items q ≡ true) (sym at) (has_at items i p low))
+
+pub requirer_low : (u : Universe) (items : List ℕ) (r i q : ℕ) → items ≡ requirers_of u r → i < length items → q ≡ get_or items i q → q < pair_count u
+requirer_low u items r i q same low at = (passes_of u (λ z. requires u z r) q (read_at items (requirers_of u r) i q same low at)).1

@@ -1,3 +1,4 @@
+pub mod Adding
 pub mod ByChoice
 pub mod Chosen
 pub mod Circled

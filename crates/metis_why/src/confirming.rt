@@ -2,8 +2,8 @@
 ghost use Rattle.std.specs.Prelude.{◌≡◌, ◌<◌, ℕ};
 ghost use Rattle.std.specs.List.{All, list_all};
 ghost use Rattle.metis_ids.specs.declared.goals.Goal.{Goal};
-ghost use Rattle.metis_universe.specs.Terms.{AttainsGoals, IsGoalOf, port_count, providers_of};
-ghost use Rattle.metis_why.specs.Terms.{IsLineOf, IsWithin, before_of, covered, first_bad, line_holds, listed, verdict};
+ghost use Rattle.metis_universe.specs.Terms.{AttainsGoals, IsGoalOf};
+ghost use Rattle.metis_why.specs.Terms.{IsLineOf, IsWithin, before_of, first_bad, line_holds, listed, verdict};
 ghost use Rattle.metis_refusal.specs.Terms.{flag};
 
 use crate::covering::{covers, first_covered};
@@ -11,7 +11,8 @@ use crate::listing::is_listed;
 use crate::named::leads;
 use crate::outside::{PAIR_LIMIT, is_set};
 use crate::reason::{Line, Reason};
-use metis_ids::{Goal, PairIx, PortIx};
+use crate::target::Target;
+use metis_ids::{Goal, PairIx};
 use metis_universe::Universe;
 
 /// What lines come to that are said to tell why goals are never attained.
@@ -34,19 +35,11 @@ pub fn confirm(u: &Universe, lines: &[Line], goals: &[Goal]) -> Confirmation
     ensures unattained { (g : Goal) → result ≡ Confirmation.Confirmed g → AttainsGoals u.now goals.now → ⊥ }
 {
     u.keeps_invariant();
-    judged(u, lines, goals)
-}
-
-fn judged(u: &Universe, lines: &[Line], goals: &[Goal]) -> Confirmation
-    requires lines { All (IsLineOf u.now) lines.now }
-    requires goals { All (IsGoalOf u.now) goals.now }
-    ensures { result ≡ verdict u.now lines.now goals.now }
-{
     let held = flags_of(u, lines);
     if let Some(place) = first_bad(u, &held, lines) {
         return Confirmation::Unfounded(place);
     }
-    match covered(u, &held, lines, goals) {
+    match first_covered(u, &held, goals) {
         Some(goal) => Confirmation::Confirmed(goal),
         None => Confirmation::LacksNone,
     }
@@ -84,18 +77,12 @@ fn line_holds(u: &Universe, held: &[bool; PAIR_LIMIT], lines: &[Line], line: &Li
     // The contract alone speaks of the lines.
     let _lines = lines;
     match line.reason {
-        Reason::Needs(port) => u.requires_(line.pair).contains(&port)
-            && provided_inside(u, held, port),
+        Reason::Needs(port) => {
+            let goal = Goal::Port(port);
+            u.requires_(line.pair).contains(&port) && covers(&Target { u, goal }, held)
+        }
         Reason::Comes => !u.is_free(line.pair) && led_inside(u, held, line.pair),
     }
-}
-
-// Whether each pair that provides the port is in the set.
-fn provided_inside(u: &Universe, held: &[bool; PAIR_LIMIT], port: PortIx) -> bool
-    requires { port < port_count u.now }
-    ensures { result ≡ list_all (flag held.now) (providers_of u.now port) }
-{
-    covers(u, held, Goal::Port(port))
 }
 
 // Whether each pair from which a move leads to this one is in the set.
@@ -108,15 +95,4 @@ fn led_inside(u: &Universe, held: &[bool; PAIR_LIMIT], pair: PairIx) -> bool
         }
     }
     true
-}
-
-// The first goal that the pairs of the lines cover.
-fn covered(u: &Universe, held: &[bool; PAIR_LIMIT], lines: &[Line], goals: &[Goal]) -> Option<Goal>
-    requires goals { All (IsGoalOf u.now) goals.now }
-    requires held { (p : ℕ) → flag held.now p ≡ listed lines.now p }
-    ensures { result ≡ covered u.now lines.now goals.now }
-{
-    // The contract alone speaks of the lines.
-    let _lines = lines;
-    first_covered(u, held, goals)
 }

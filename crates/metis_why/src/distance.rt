@@ -1,14 +1,15 @@
 //! How far pairs are from a goal.
 ghost use Rattle.std.specs.Prelude.{◌≡◌, ◌<◌, ◌≤◌, ◌+◌, ◌*◌, ◌↔◌, ◌∷◌, [], ℕ, Bool, List, IfOk, IfSome, IsTrue, OnOk, length, slice_index_or};
 ghost use Rattle.std.specs.List.{All};
-ghost use Rattle.metis_universe.specs.Terms.{IsGoalOf, has, pair_count};
-ghost use Rattle.metis_why.specs.Terms.{AreGiven, AreLed, AreOpen, HaveMoved, IsBefore, IsByDistance, IsEnough, IsLedOn, IsNext, NoneBefore, StayOpen, far_in, led_by_moves, led_by_ports, lowered};
+ghost use Rattle.metis_universe.specs.Terms.{has, pair_count};
+ghost use Rattle.metis_why.specs.Terms.{AreGiven, AreLed, AreOpen, HaveMoved, IsBefore, IsByDistance, IsEnough, IsLedOn, IsNext, NoneBefore, StayOpen, far_in, lowered};
 ghost use Rattle.metis_refusal.specs.Terms.{flag};
 
 use crate::named::{named, wanted};
 use crate::outside::{PAIR_LIMIT, PORT_LIMIT, given_outside, is_set, led_outside};
 use crate::reason::Reason;
-use metis_ids::{Goal, NoMemory, PairIx};
+use crate::target::Target;
+use metis_ids::{NoMemory, PairIx};
 use metis_universe::Universe;
 use std::alloc::Global;
 
@@ -28,18 +29,17 @@ pub struct Ways {
 /// they are not in the order yet.
 pub fn by_distance(
     alloc: Global,
-    u: &Universe,
+    target: &Target,
     held: &[bool; PAIR_LIMIT],
-    goal: &Goal,
 ) -> Result<Vec<PairIx>, NoMemory>
-    requires goal { IsGoalOf u.now goal.now }
-    requires enough { IsEnough u.now goal.now (flag held.now) }
-    ensures { IfOk result (λ v. IsByDistance u.now (flag held.now) goal.now v.items) }
+    requires { IsEnough target.now.u.now target.now.goal (flag held.now) }
+    ensures { IfOk result (λ v. IsByDistance target.now.u.now (flag held.now) target.now.goal v.items) }
 {
+    let u = target.u;
     u.keeps_invariant();
     let given = given_outside(u, held);
     let led = led_outside(u, held);
-    let first = wanted(alloc, u, *goal)?;
+    let first = wanted(alloc, target)?;
     let mut ways = Ways {
         far: [NEVER; PAIR_LIMIT],
         open_pairs: Vec::new(alloc),
@@ -93,7 +93,8 @@ fn is_before(far: &[u32; PAIR_LIMIT], p: PairIx, q: PairIx) -> bool
     here < there || here == there && p.0 < q.0
 }
 
-// Notes the ways that lead on from the pair, where pairs outside a set give these ports and lead to these pairs.
+// Notes the ways that lead on from the pair, where pairs outside a set give these ports and lead to these pairs: by the ports that it
+// requires and that are not among these, and by the moves that lead to it, where it is not.
 fn lead_on(
     alloc: Global,
     u: &Universe,
@@ -109,52 +110,18 @@ fn lead_on(
 {
     u.keeps_invariant();
     let here = ways.far[pair.0 as usize];
-    lead_by_ports(u, given, ways, pair, here)?;
-    if is_set(led, pair) {
-        return Ok(());
-    }
-    lead_by_moves(alloc, u, ways, pair, here)
-}
-
-// Notes those by the ports that the pair requires, where their flags are not set.
-fn lead_by_ports(
-    u: &Universe,
-    given: &[bool; PORT_LIMIT],
-    ways: &mut Ways,
-    pair: PairIx,
-    here: u32,
-) -> Result<(), NoMemory>
-    requires low { pair < pair_count u.now }
-    requires near { here ≤ 2000 * 2000 }
-    ensures far { OnOk result (far_in ways.new.far ≡ led_by_ports u.now (flag given.now) here (far_in ways.old.far) pair) }
-    ensures stay { OnOk result (StayOpen ways.old ways.new) }
-{
-    u.keeps_invariant();
     for port in u.requires_(pair) {
         if !given[port.0 as usize] {
             let providers = u.providers(*port);
             bring_near(ways, providers, here + providers.len() as u32)?;
         }
     }
-    Ok(())
-}
-
-// Notes those by the moves that lead to the pair.
-fn lead_by_moves(
-    alloc: Global,
-    u: &Universe,
-    ways: &mut Ways,
-    pair: PairIx,
-    here: u32,
-) -> Result<(), NoMemory>
-    requires low { pair < pair_count u.now }
-    requires near { here ≤ 2000 * 2000 }
-    ensures far { OnOk result (far_in ways.new.far ≡ led_by_moves u.now here (far_in ways.old.far) pair) }
-    ensures stay { OnOk result (StayOpen ways.old ways.new) }
-{
-    u.keeps_invariant();
+    if is_set(led, pair) {
+        return Ok(());
+    }
     let before = named(alloc, u, pair, Reason::Comes)?;
-    bring_near(ways, &before, here + before.len() as u32)
+    bring_near(ways, &before, here + before.len() as u32)?;
+    Ok(())
 }
 
 // Notes a way at this cost to each of the pairs, where none is known that costs as little.

@@ -2,7 +2,6 @@
 ghost use Rattle.std.specs.Prelude.{◌≡◌, ◌<◌, ℕ, IfOk};
 ghost use Rattle.std.specs.List.{All};
 ghost use Rattle.metis_universe.specs.Terms.{AttainsGoals, IsGoalOf};
-ghost use Rattle.metis_layers.specs.Terms.{IsLayers};
 ghost use Rattle.metis_why.specs.Terms.{IfAllAttained, IfLacks, IsByChoice, IsEnough, IsFirstUnattained, IsLacking, IsTellable, IsWhy};
 ghost use Rattle.metis_refusal.specs.Terms.{flag};
 
@@ -13,9 +12,9 @@ use crate::listing::lines_of;
 use crate::minimizing::leave_out_all;
 use crate::outside::PAIR_LIMIT;
 use crate::reason::{Explanation, Line};
+use crate::target::Target;
 use metis_ids::{Goal, NoMemory, PairIx};
 use metis_layers::layers;
-use metis_layers::table::Layers;
 use metis_universe::Universe;
 use std::alloc::Global;
 
@@ -42,45 +41,44 @@ pub fn explain(alloc: Global, u: &Universe, goals: &[Goal]) -> Result<Explained,
     ensures chosen { IfLacks result (λ e. IsByChoice u.now e.lacks e.lines.items) }
 {
     u.keeps_invariant();
-    let layers = layers(alloc, u)?;
-    let held = lacking(u, &layers);
+    let held = lacking(alloc, u)?;
     match first_covered(u, &held, goals) {
         Some(lacks) => {
-            let lines = chosen_lines(alloc, u, &held, &lacks)?;
+            let goal = lacks;
+            let target = Target { u, goal };
+            let lines = chosen_lines(alloc, &target, &held)?;
             Ok(Explained::Lacks(Explanation { lacks, lines }))
         }
         None => Ok(Explained::Attained),
     }
 }
 
-// The pairs that do not come in any round.
-fn lacking(u: &Universe, layers: &Layers) -> [bool; PAIR_LIMIT]
-    requires { IsLayers u.now layers.now }
-    ensures { IsLacking u.now (flag result) }
+// The pairs that are not attainable: they do not come in any round.
+fn lacking(alloc: Global, u: &Universe) -> Result<[bool; PAIR_LIMIT], NoMemory>
+    ensures { IfOk result (λ held. IsLacking u.now (flag held)) }
 {
+    let layers = layers(alloc, u)?;
     let mut held = [false; PAIR_LIMIT];
     for number in 0..u.pairs() {
         held[number as usize] = !layers.attained().has(PairIx(number));
     }
-    held
+    Ok(held)
 }
 
 // The lines of the chosen barred set inside this one that covers the goal.
 fn chosen_lines(
     alloc: Global,
-    u: &Universe,
+    target: &Target,
     held: &[bool; PAIR_LIMIT],
-    goal: &Goal,
 ) -> Result<Vec<Line>, NoMemory>
-    requires goal { IsGoalOf u.now goal.now }
-    requires lacking { IsLacking u.now (flag held.now) }
-    requires enough { IsEnough u.now goal.now (flag held.now) }
-    ensures why { IfOk result (λ v. IsWhy u.now goal.now v.items) }
-    ensures chosen { IfOk result (λ v. IsByChoice u.now goal.now v.items) }
+    requires lacking { IsLacking target.now.u.now (flag held.now) }
+    requires enough { IsEnough target.now.u.now target.now.goal (flag held.now) }
+    ensures why { IfOk result (λ v. IsWhy target.now.u.now target.now.goal v.items) }
+    ensures chosen { IfOk result (λ v. IsByChoice target.now.u.now target.now.goal v.items) }
 {
-    let mut order = by_distance(alloc, u, held, goal)?;
-    let mut needed = keep_near(alloc, u, goal, &mut order)?;
-    leave_out_all(alloc, u, &mut needed, goal, &order)?;
-    let lines = lines_of(alloc, u, &needed, goal)?;
+    let mut order = by_distance(alloc, target, held)?;
+    let mut needed = keep_near(alloc, target, &mut order)?;
+    leave_out_all(alloc, target, &mut needed, &order)?;
+    let lines = lines_of(alloc, target, &needed)?;
     Ok(lines)
 }

@@ -1,7 +1,7 @@
 //! Pairs that fall out of a set, one after the other.
 ghost use Rattle.std.specs.Prelude.{◌≡◌, ◌<◌, ℕ, Bool, IsTrue, IsFalse, OnOk, false, set};
 ghost use Rattle.std.specs.List.{All};
-ghost use Rattle.metis_universe.specs.Terms.{Universe, has, next_of, pair_count, port_count, provides, requires};
+ghost use Rattle.metis_universe.specs.Terms.{Universe, pair_count, requires};
 ghost use Rattle.metis_why.specs.Terms.{AreReached, Falls, IsBarred, IsFrom, IsInside, IsShrunk};
 ghost use Rattle.metis_refusal.specs.Terms.{flag};
 
@@ -205,88 +205,29 @@ pub fn are_given(u: &Universe, given: &[bool; PORT_LIMIT], pair: PairIx) -> bool
     true
 }
 
-// Reads what a pair outside the set gives: its ports, and its moves.
+// Reads what a pair outside the set gives: its ports, and its moves. Pairs that await such a port may fall, and those to which such a
+// move leads.
 fn spread(u: &Universe, falling: &mut Falling, pair: PairIx) -> Result<(), NoMemory>
     requires { IsFrom u.now falling.old }
     ensures { OnOk result (Falls u.now falling.old falling.new) }
 {
-    if !falling.is_over && pair.0 < u.pairs() && !is_set(&falling.held, pair) {
-        give_all(u, falling, pair)?;
-        lead_all(u, falling, pair)?;
-    }
-    Ok(())
-}
-
-// Reads the ports that a pair outside the set provides.
-fn give_all(u: &Universe, falling: &mut Falling, pair: PairIx) -> Result<(), NoMemory>
-    requires pair { pair < pair_count u.now }
-    requires out { IsFalse (flag falling.old.held pair) }
-    requires from { IsFrom u.now falling.old }
-    ensures { OnOk result (Falls u.now falling.old falling.new) }
-{
     u.keeps_invariant();
+    if falling.is_over || pair.0 >= u.pairs() || is_set(&falling.held, pair) {
+        return Ok(());
+    }
     for port in u.provided(pair) {
-        give(u, falling, pair, *port)?;
-    }
-    Ok(())
-}
-
-// Notes that a pair outside the set provides the port. Pairs that await it may fall.
-fn give(u: &Universe, falling: &mut Falling, pair: PairIx, port: PortIx) -> Result<(), NoMemory>
-    requires pair { pair < pair_count u.now }
-    requires out { IsFalse (flag falling.old.held pair) }
-    requires port { port < port_count u.now }
-    requires provides { IsTrue (provides u.now pair port) }
-    requires from { IsFrom u.now falling.old }
-    ensures { OnOk result (Falls u.now falling.old falling.new) }
-{
-    u.keeps_invariant();
-    if !falling.given[port.0 as usize] {
-        falling.given[port.0 as usize] = true;
-        for requirer in u.requirers(port) {
-            tell(u, falling, *requirer, port)?;
+        if !falling.given[port.0 as usize] {
+            falling.given[port.0 as usize] = true;
+            for requirer in u.requirers(*port) {
+                if falling.awaited[requirer.0 as usize] == *port {
+                    let_fall(u, falling, *requirer)?;
+                }
+            }
         }
     }
-    Ok(())
-}
-
-// The pair may fall where the port that was given is the one that it awaits.
-fn tell(u: &Universe, falling: &mut Falling, pair: PairIx, port: PortIx) -> Result<(), NoMemory>
-    requires pair { pair < pair_count u.now }
-    requires from { IsFrom u.now falling.old }
-    ensures { OnOk result (Falls u.now falling.old falling.new) }
-{
-    u.keeps_invariant();
-    if falling.awaited[pair.0 as usize] == port {
-        let_fall(u, falling, pair)?;
-    }
-    Ok(())
-}
-
-// Reads the moves that lead from a pair outside the set.
-fn lead_all(u: &Universe, falling: &mut Falling, pair: PairIx) -> Result<(), NoMemory>
-    requires pair { pair < pair_count u.now }
-    requires out { IsFalse (flag falling.old.held pair) }
-    requires from { IsFrom u.now falling.old }
-    ensures { OnOk result (Falls u.now falling.old falling.new) }
-{
-    u.keeps_invariant();
     for next in u.next(pair) {
-        lead(u, falling, pair, *next)?;
+        falling.led[next.0 as usize] = true;
+        let_fall(u, falling, *next)?;
     }
     Ok(())
-}
-
-// Notes that a move leads from a pair outside the set to this one, which may fall.
-fn lead(u: &Universe, falling: &mut Falling, pair: PairIx, next: PairIx) -> Result<(), NoMemory>
-    requires pair { pair < pair_count u.now }
-    requires out { IsFalse (flag falling.old.held pair) }
-    requires next { next < pair_count u.now }
-    requires leads { IsTrue (has (next_of u.now pair) next) }
-    requires from { IsFrom u.now falling.old }
-    ensures { OnOk result (Falls u.now falling.old falling.new) }
-{
-    u.keeps_invariant();
-    falling.led[next.0 as usize] = true;
-    let_fall(u, falling, next)
 }

@@ -16,6 +16,9 @@
 // The words of an explanation.
 mod reason;
 
+// A goal of a universe.
+mod target;
+
 // The pairs for which a pair waits.
 mod named;
 

@@ -1,6 +1,5 @@
 //! A set of pairs of which none can be left out.
 ghost use Rattle.std.specs.Prelude.{◌≡◌, ◌<◌, ℕ, Bool, IfOk, IsTrue, IsFalse, OnOk, set, false};
-ghost use Rattle.metis_universe.specs.Terms.{IsGoalOf};
 ghost use Rattle.metis_why.specs.Terms.{AreApart, AreForced, Covers, IsBarred, IsEnough, IsFrom, IsFront, IsGreatest, IsInside, IsKept, IsLess, IsMissed, IsNearest, IsShrunk, IsWithin};
 ghost use Rattle.metis_refusal.specs.Terms.{flag};
 
@@ -9,7 +8,8 @@ use crate::falling::{Falling, await_all, spread_all};
 use crate::forcing::forced;
 use crate::outside::{PAIR_LIMIT, is_set};
 use crate::settling::settle_in_rounds;
-use metis_ids::{Goal, NoMemory, PairIx};
+use crate::target::Target;
+use metis_ids::{NoMemory, PairIx};
 use metis_universe::Universe;
 use std::alloc::Global;
 
@@ -35,65 +35,56 @@ pub struct Kept {
 /// which it is plain that they are missed are not tried.
 pub fn leave_out_all(
     alloc: Global,
-    u: &Universe,
+    target: &Target,
     held: &mut [bool; PAIR_LIMIT],
-    goal: &Goal,
     order: &[PairIx],
 ) -> Result<(), NoMemory>
-    requires goal { IsGoalOf u.now goal.now }
-    requires front { IsFront u.now goal.now order.now (flag held.old) }
+    requires front { IsFront target.now.u.now target.now.goal order.now (flag held.old) }
     requires apart { AreApart order.now }
-    ensures within { OnOk result (IsWithin u.now (flag held.new)) }
-    ensures nearest { OnOk result (IsNearest u.now goal.now order.now (flag held.new)) }
+    ensures within { OnOk result (IsWithin target.now.u.now (flag held.new)) }
+    ensures nearest { OnOk result (IsNearest target.now.u.now target.now.goal order.now (flag held.new)) }
 {
-    let mut kept = kept_set(alloc, u, held, goal)?;
+    let mut kept = kept_set(alloc, target, held)?;
     let mut place = order.len();
     while place > 0 {
         place -= 1;
         let pair = order[place];
-        leave_out(u, &mut kept, goal, pair)?;
-        force_near(u, &mut kept, goal, &order[..place])?;
+        leave_out(target, &mut kept, pair)?;
+        force_near(target, &mut kept, &order[..place])?;
     }
     *held = kept.known.held;
     Ok(())
 }
 
 // The set, of which no pair is left out yet.
-fn kept_set(
-    alloc: Global,
-    u: &Universe,
-    held: &[bool; PAIR_LIMIT],
-    goal: &Goal,
-) -> Result<Kept, NoMemory>
-    requires { IsGoalOf u.now goal.now }
+fn kept_set(alloc: Global, target: &Target, held: &[bool; PAIR_LIMIT]) -> Result<Kept, NoMemory>
     ensures held { IfOk result (λ kept. kept.known.held ≡ held.now) }
-    ensures kept { IfOk result (IsKept u.now goal.now) }
+    ensures kept { IfOk result (IsKept target.now.u.now target.now.goal) }
 {
-    let mut known = Falling::of(alloc, u, held);
-    await_all(u, &mut known);
-    let forced = forced(alloc, u, held, goal)?;
+    let mut known = Falling::of(alloc, target.u, held);
+    await_all(target.u, &mut known);
+    let forced = forced(alloc, target, held)?;
     Ok(Kept {
         known,
-        rest: Falling::of(alloc, u, held),
+        rest: Falling::of(alloc, target.u, held),
         forced,
         in_vain: 0,
     })
 }
 
 // Leaves the pair out, and what it then keeps from being barred, where the rest still covers the goal.
-fn leave_out(u: &Universe, kept: &mut Kept, goal: &Goal, pair: PairIx) -> Result<(), NoMemory>
-    requires goal { IsGoalOf u.now goal.now }
-    requires enough { IsEnough u.now goal.now (flag kept.old.known.held) }
-    requires kept { IsKept u.now goal.now kept.old }
-    ensures kept { OnOk result (IsKept u.now goal.now kept.new) }
-    ensures less { OnOk result (IsLess u.now goal.now (flag kept.old.known.held) (flag kept.new.known.held)) }
-    ensures missed { OnOk result (IsTrue (flag kept.new.known.held pair) → IsMissed u.now goal.now (flag kept.new.known.held) pair) }
-    ensures keeps { OnOk result ((y : ℕ → Bool) → IsBarred u.now y → IsInside y (flag kept.old.known.held) → (IsTrue (y pair) → IsTrue (flag kept.new.known.held pair)) → IsInside y (flag kept.new.known.held)) }
+fn leave_out(target: &Target, kept: &mut Kept, pair: PairIx) -> Result<(), NoMemory>
+    requires enough { IsEnough target.now.u.now target.now.goal (flag kept.old.known.held) }
+    requires kept { IsKept target.now.u.now target.now.goal kept.old }
+    ensures kept { OnOk result (IsKept target.now.u.now target.now.goal kept.new) }
+    ensures less { OnOk result (IsLess target.now.u.now target.now.goal (flag kept.old.known.held) (flag kept.new.known.held)) }
+    ensures missed { OnOk result (IsTrue (flag kept.new.known.held pair) → IsMissed target.now.u.now target.now.goal (flag kept.new.known.held) pair) }
+    ensures keeps { OnOk result ((y : ℕ → Bool) → IsBarred target.now.u.now y → IsInside y (flag kept.old.known.held) → (IsTrue (y pair) → IsTrue (flag kept.new.known.held pair)) → IsInside y (flag kept.new.known.held)) }
 {
     if !may_be_left(kept, pair) {
         return Ok(());
     }
-    let is_enough = try_without(u, kept, goal, pair)?;
+    let is_enough = try_without(target, kept, pair)?;
     if is_enough {
         kept.known.take_over(&kept.rest);
         return Ok(());
@@ -112,24 +103,23 @@ fn may_be_left(kept: &Kept, pair: PairIx) -> bool
 }
 
 // Seeks the greatest barred set without the pair, and answers whether it covers the goal.
-fn try_without(u: &Universe, kept: &mut Kept, goal: &Goal, pair: PairIx) -> Result<bool, NoMemory>
-    requires goal { IsGoalOf u.now goal.now }
-    requires enough { IsEnough u.now goal.now (flag kept.old.known.held) }
-    requires kept { IsKept u.now goal.now kept.old }
+fn try_without(target: &Target, kept: &mut Kept, pair: PairIx) -> Result<bool, NoMemory>
+    requires enough { IsEnough target.now.u.now target.now.goal (flag kept.old.known.held) }
+    requires kept { IsKept target.now.u.now target.now.goal kept.old }
     requires held { IsTrue (flag kept.old.known.held pair) }
     ensures known { OnOk result (kept.new.known ≡ kept.old.known) }
     ensures forced { OnOk result (kept.new.forced ≡ kept.old.forced) }
-    ensures from { OnOk result (IsFrom u.now kept.new.rest) }
-    ensures greatest { IfOk result (λ is_enough. IsTrue is_enough → IsGreatest u.now (flag (set kept.old.known.held pair false)) (flag kept.new.rest.held)) }
-    ensures covers { IfOk result (λ is_enough. IsTrue is_enough → Covers u.now (flag kept.new.rest.held) goal.now) }
-    ensures missed { IfOk result (λ is_enough. IsFalse is_enough → IsMissed u.now goal.now (flag kept.old.known.held) pair) }
+    ensures from { OnOk result (IsFrom target.now.u.now kept.new.rest) }
+    ensures greatest { IfOk result (λ is_enough. IsTrue is_enough → IsGreatest target.now.u.now (flag (set kept.old.known.held pair false)) (flag kept.new.rest.held)) }
+    ensures covers { IfOk result (λ is_enough. IsTrue is_enough → Covers target.now.u.now (flag kept.new.rest.held) target.now.goal) }
+    ensures missed { IfOk result (λ is_enough. IsFalse is_enough → IsMissed target.now.u.now target.now.goal (flag kept.old.known.held) pair) }
 {
-    spread_without(u, kept, pair)?;
-    if !keeps(u, &kept.rest.held, goal, &kept.forced) {
+    spread_without(target.u, kept, pair)?;
+    if !keeps(target, &kept.rest.held, &kept.forced) {
         return Ok(false);
     }
-    settle_in_rounds(u, &mut kept.rest.held);
-    let is_enough = keeps(u, &kept.rest.held, goal, &kept.forced);
+    settle_in_rounds(target.u, &mut kept.rest.held);
+    let is_enough = keeps(target, &kept.rest.held, &kept.forced);
     Ok(is_enough)
 }
 
@@ -148,12 +138,11 @@ fn spread_without(u: &Universe, kept: &mut Kept, pair: PairIx) -> Result<(), NoM
 }
 
 // Whether the set covers the goal, and has each of the pairs that cannot be left out.
-fn keeps(u: &Universe, held: &[bool; PAIR_LIMIT], goal: &Goal, forced: &[bool; PAIR_LIMIT]) -> bool
-    requires { IsGoalOf u.now goal.now }
-    ensures covers { IsTrue result → Covers u.now (flag held.now) goal.now }
-    ensures lost { IsFalse result → (x y : ℕ → Bool) → AreForced u.now goal.now x forced.now → IsBarred u.now y → Covers u.now y goal.now → IsInside y x → IsInside y (flag held.now) → ⊥ }
+fn keeps(target: &Target, held: &[bool; PAIR_LIMIT], forced: &[bool; PAIR_LIMIT]) -> bool
+    ensures covers { IsTrue result → Covers target.now.u.now (flag held.now) target.now.goal }
+    ensures lost { IsFalse result → (x y : ℕ → Bool) → AreForced target.now.u.now target.now.goal x forced.now → IsBarred target.now.u.now y → Covers target.now.u.now y target.now.goal → IsInside y x → IsInside y (flag held.now) → ⊥ }
 {
-    covers(u, held, *goal) && has_all(held, forced)
+    covers(target, held) && has_all(held, forced)
 }
 
 // Whether the set has each pair whose flag is set.
@@ -170,11 +159,10 @@ fn has_all(held: &[bool; PAIR_LIMIT], flags: &[bool; PAIR_LIMIT]) -> bool
 
 // Where many pairs fell in vain, seeks those that cannot be left out, from near to far, as long as not too many more fall. A later
 // try goes no further than to the first of these. What is spent on this is in proportion to what tries had spent in vain.
-fn force_near(u: &Universe, kept: &mut Kept, goal: &Goal, near: &[PairIx]) -> Result<(), NoMemory>
-    requires goal { IsGoalOf u.now goal.now }
-    requires kept { IsKept u.now goal.now kept.old }
+fn force_near(target: &Target, kept: &mut Kept, near: &[PairIx]) -> Result<(), NoMemory>
+    requires kept { IsKept target.now.u.now target.now.goal kept.old }
     ensures held { OnOk result (kept.new.known.held ≡ kept.old.known.held) }
-    ensures kept { OnOk result (IsKept u.now goal.now kept.new) }
+    ensures kept { OnOk result (IsKept target.now.u.now target.now.goal kept.new) }
 {
     if kept.in_vain as usize / MOST_IN_VAIN <= near.len() {
         return Ok(());
@@ -184,25 +172,24 @@ fn force_near(u: &Universe, kept: &mut Kept, goal: &Goal, near: &[PairIx]) -> Re
         if kept.in_vain as usize > MOST_IN_SEEKING * near.len() {
             break;
         }
-        force_one(u, kept, goal, *pair)?;
+        force_one(target, kept, *pair)?;
     }
     kept.in_vain = 0;
     Ok(())
 }
 
 // Seeks whether the pair cannot be left out.
-fn force_one(u: &Universe, kept: &mut Kept, goal: &Goal, pair: PairIx) -> Result<(), NoMemory>
-    requires goal { IsGoalOf u.now goal.now }
-    requires kept { IsKept u.now goal.now kept.old }
+fn force_one(target: &Target, kept: &mut Kept, pair: PairIx) -> Result<(), NoMemory>
+    requires kept { IsKept target.now.u.now target.now.goal kept.old }
     ensures held { OnOk result (kept.new.known.held ≡ kept.old.known.held) }
-    ensures kept { OnOk result (IsKept u.now goal.now kept.new) }
+    ensures kept { OnOk result (IsKept target.now.u.now target.now.goal kept.new) }
 {
     if !may_be_left(kept, pair) {
         return Ok(());
     }
-    spread_without(u, kept, pair)?;
+    spread_without(target.u, kept, pair)?;
     kept.in_vain = kept.in_vain.saturating_add(kept.rest.count);
-    if keeps(u, &kept.rest.held, goal, &kept.forced) {
+    if keeps(target, &kept.rest.held, &kept.forced) {
         return Ok(());
     }
     kept.forced[pair.0 as usize] = true;

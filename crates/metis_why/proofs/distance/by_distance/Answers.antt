@@ -10,8 +10,8 @@ use Rattle.metis_why.proofs.distance.by_distance.Goals as goal
 pub loop-pair-init : goal.loop-pair-init
 loop-pair-init c = record {
   reaching =
-      reaching_start c.args.u.now (flag c.args.held.now) c.args.goal.now 2000 never (omega arith) (far_in c.bring_near.new.ways.far) c.new-order.result.items
-      (first_known c.bring_near.new.ways.far 2000 c.deref.result.now (wanted_by c.args.u.now c.args.goal.now) c.in_ok-bring_near.ensures.far (c.deref.ensures.value ∙ c.in_ok-first.ensures)) c.new-order.ensures.items;
+      reaching_start c.args.target.now.u.now (flag c.args.held.now) c.args.target.now.goal 2000 never (omega arith) (far_in c.bring_near.new.ways.far) c.new-order.result.items
+      (first_known c.bring_near.new.ways.far 2000 c.deref.result.now (wanted_by c.args.target.now.u.now c.args.target.now.goal) c.in_ok-bring_near.ensures.far (c.deref.ensures.value ∙ c.in_ok-first.ensures)) c.new-order.ensures.items;
   open_ =
       subst (λ order. AreOpen c.bring_near.new.ways.far c.bring_near.new.ways.open_pairs.items order) (sym c.new-order.ensures.items)
       (c.in_ok-bring_near.ensures.stay [] (subst (λ pairs. AreOpen _ pairs []) (sym c.new.ensures.items) (open_start 2000)));
@@ -22,23 +22,23 @@ take_nearest-requires c = open_known c.loop-pair.ways.far c.loop-pair.ways.open_
 
 pub lead_on-requires-clause-low : goal.lead_on-requires-clause-low
 lead_on-requires-clause-low c =
-    next_low c.args.u.now (flag c.args.held.now) c.args.goal.now c.requires.enough c.keeps_invariant.ensures.limits.pairs c.loop-pair.ways.far c.loop-pair.order.items c.loop-pair.invariant.reaching
+    next_low c.args.target.now.u.now (flag c.args.held.now) c.args.target.now.goal c.requires c.keeps_invariant.ensures.limits.pairs c.loop-pair.ways.far c.loop-pair.order.items c.loop-pair.invariant.reaching
     c.in-Some.pair (c.in-Some.ensures.next c.loop-pair.order.items c.loop-pair.invariant.open_)
 
 pub lead_on-requires-clause-near : goal.lead_on-requires-clause-near
 lead_on-requires-clause-near c =
-    next_near c.args.u.now (flag c.args.held.now) c.args.goal.now c.requires.enough c.keeps_invariant.ensures.limits.pairs c.loop-pair.ways.far c.loop-pair.order.items c.loop-pair.invariant.reaching
+    next_near c.args.target.now.u.now (flag c.args.held.now) c.args.target.now.goal c.requires c.keeps_invariant.ensures.limits.pairs c.loop-pair.ways.far c.loop-pair.order.items c.loop-pair.invariant.reaching
     c.in-Some.pair (c.in-Some.ensures.next c.loop-pair.order.items c.loop-pair.invariant.open_)
 
-reached : (c : goal.In_ok-lead_on) → IsReaching c.args.u.now (flag c.args.held.now) c.args.goal.now 2000 never (far_in c.lead_on.new.ways.far) c.push.new.self.items
+reached : (c : goal.In_ok-lead_on) → IsReaching c.args.target.now.u.now (flag c.args.held.now) c.args.target.now.goal 2000 never (far_in c.lead_on.new.ways.far) c.push.new.self.items
 reached c =
-    next_more c.args.u.now (flag c.args.held.now) c.args.goal.now c.requires.enough c.keeps_invariant.ensures.limits.pairs c.loop-pair.ways.far c.loop-pair.order.items c.loop-pair.invariant.reaching
+    next_more c.args.target.now.u.now (flag c.args.held.now) c.args.target.now.goal c.requires c.keeps_invariant.ensures.limits.pairs c.loop-pair.ways.far c.loop-pair.order.items c.loop-pair.invariant.reaching
     c.lead_on.new.ways.far c.push.new.self.items c.in-Some.pair (c.in-Some.ensures.next c.loop-pair.order.items c.loop-pair.invariant.open_)
     (c.in_ok-lead_on.ensures.far (flag c.args.held.now) c.given_outside-given.ensures c.led_outside-led.ensures) c.in_ok-push.ensures.items
 
 pub loop-pair-smaller : goal.loop-pair-smaller
 loop-pair-smaller c =
-    next_smaller c.args.u.now (flag c.args.held.now) c.args.goal.now c.requires.enough c.keeps_invariant.ensures.limits.pairs c.loop-pair.ways.far c.loop-pair.order.items c.loop-pair.invariant.reaching
+    next_smaller c.args.target.now.u.now (flag c.args.held.now) c.args.target.now.goal c.requires c.keeps_invariant.ensures.limits.pairs c.loop-pair.ways.far c.loop-pair.order.items c.loop-pair.invariant.reaching
     c.lead_on.new.ways.far c.push.new.self.items c.in-Some.pair (reached c) c.in_ok-push.ensures.items
 
 pub loop-pair-preserved : goal.loop-pair-preserved
@@ -51,5 +51,5 @@ loop-pair-preserved c = record {
 
 pub returns : goal.returns
 returns c =
-    next_none c.args.u.now (flag c.args.held.now) c.args.goal.now c.requires.enough c.keeps_invariant.ensures.limits.pairs c.loop-pair.ways.far c.loop-pair.order.items c.loop-pair.invariant.reaching
+    next_none c.args.target.now.u.now (flag c.args.held.now) c.args.target.now.goal c.requires c.keeps_invariant.ensures.limits.pairs c.loop-pair.ways.far c.loop-pair.order.items c.loop-pair.invariant.reaching
     (c.in_default.ensures.next c.loop-pair.order.items c.loop-pair.invariant.open_)

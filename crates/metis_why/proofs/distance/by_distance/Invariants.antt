@@ -5,7 +5,7 @@ use Rattle.metis_why.proofs.distance.by_distance.Given as goal
 
 abbrev pub invariant-loop-pair : goal.invariant-loop-pair
 invariant-loop-pair l = record {
-  reaching : IsReaching l.u (flag l.held) l.goal 2000 never (far_in l.ways.far) l.order.items;
+  reaching : IsReaching l.target.u.now (flag l.held) l.target.goal 2000 never (far_in l.ways.far) l.order.items;
   open_ : AreOpen l.ways.far l.ways.open_pairs.items l.order.items;
 }
 

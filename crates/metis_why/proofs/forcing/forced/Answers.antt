@@ -11,8 +11,8 @@ use Rattle.metis_why.proofs.forcing.forced.Goals.{in-Some+in_ok-names+in_ok-forc
 
 pub loop-next-init : goal.loop-next-init
 loop-next-init c =
-    let u = c.args.u.now in
-    let g = c.args.goal.now in
+    let u = c.args.target.now.u.now in
+    let g = c.args.target.now.goal in
     let x = flag c.args.held.now in
     c.in_ok-force_all.ensures u g x
     (subst (λ xs. All (IsMissed u g x) xs) (sym (c.deref.ensures.value ∙ c.in_ok-first.ensures)) (wanted_missed u g x))
@@ -23,8 +23,8 @@ loop-next-init c =
 
 pub loop-next-preserved : goal.loop-next-preserved
 loop-next-preserved c =
-    let u = c.args.u.now in
-    let g = c.args.goal.now in
+    let u = c.args.target.now.u.now in
+    let g = c.args.target.now.goal in
     let x = flag c.args.held.now in
     let pair = c.index-pair.result.now in
     let low : c.loop-next.next < length c.loop-next.list.items = search rules in

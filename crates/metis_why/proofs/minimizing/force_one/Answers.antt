@@ -8,8 +8,8 @@ use Rattle.metis_why.proofs.minimizing.force_one.Goals as goal
 
 pub returns-clause-kept : goal.returns-clause-kept
 returns-clause-kept c =
-    let u = c.args.u.now in
-    let g = c.args.goal.now in
+    let u = c.args.target.now.u.now in
+    let g = c.args.target.now.goal in
     let kept = c.args.kept.now in
     let known = c.in_ok-spread_without.ensures.known in
     let flags = c.spread_without.new.kept.forced in

@@ -6,7 +6,7 @@ use Rattle.metis_why.proofs.minimizing.leave_out.Goals as goal
 
 pub returns-then-is_enough-clause-keeps : goal.returns-then-is_enough-clause-keeps
 returns-then-is_enough-clause-keeps c = λ y barred inside back.
-    let u = c.args.u.now in
+    let u = c.args.target.now.u.now in
     let held = c.args.kept.now.known.held in
     let on : flag held c.args.pair ≡ true = search rules in
     let most : IsGreatest u (flag (set held c.args.pair false)) (flag c.take_over.new.self.held) =

@@ -6,8 +6,8 @@ use Rattle.metis_why.proofs.minimizing.leave_out_all.Goals as goal
 
 pub loop-place-init : goal.loop-place-init
 loop-place-init c =
-    let u = c.args.u.now in
-    let g = c.args.goal.now in
+    let u = c.args.target.now.u.now in
+    let g = c.args.target.now.goal in
     let order = c.args.order.now in
     record {
       low = omega arith;
@@ -17,8 +17,8 @@ loop-place-init c =
 
 pub loop-place-preserved : goal.loop-place-preserved
 loop-place-preserved c =
-    let u = c.args.u.now in
-    let g = c.args.goal.now in
+    let u = c.args.target.now.u.now in
+    let g = c.args.target.now.goal in
     let order = c.args.order.now in
     let x = flag c.loop-place.kept.known.held in
     let z = flag c.leave_out.new.kept.known.held in
@@ -37,4 +37,4 @@ pub returns-clause-nearest : goal.returns-clause-nearest
 returns-clause-nearest c =
     let none : c.loop-place.place ≡ 0 = omega (arith, c.loop-place-test.false) in
     let held = c.loop-place.kept.known.held in
-    nearing_done c.args.u.now c.args.goal.now c.args.order.now (flag held) (subst (λ k. IsNearing c.args.u.now c.args.goal.now c.args.order.now (flag held) k) none c.loop-place.invariant.nearing)
+    nearing_done c.args.target.now.u.now c.args.target.now.goal c.args.order.now (flag held) (subst (λ k. IsNearing c.args.target.now.u.now c.args.target.now.goal c.args.order.now (flag held) k) none c.loop-place.invariant.nearing)

@@ -6,8 +6,8 @@ use Rattle.metis_why.proofs.minimizing.leave_out_all.Given as goal
 abbrev pub invariant-loop-place : goal.invariant-loop-place
 invariant-loop-place l = record {
   low : l.place ≤ length l.order;
-  nearing : IsNearing l.u l.goal l.order (flag l.kept.known.held) l.place;
-  kept : IsKept l.u l.goal l.kept;
+  nearing : IsNearing l.target.u.now l.target.goal l.order (flag l.kept.known.held) l.place;
+  kept : IsKept l.target.u.now l.target.goal l.kept;
 }
 
 abbrev pub decreases-loop-place : goal.decreases-loop-place

@@ -7,8 +7,8 @@ use Rattle.metis_why.proofs.minimizing.try_without.Goals as goal
 
 pub returns-then-not-keeps-clause-missed : goal.returns-then-not-keeps-clause-missed
 returns-then-not-keeps-clause-missed c = λ _.
-    let u = c.args.u.now in
-    let g = c.args.goal.now in
+    let u = c.args.target.now.u.now in
+    let g = c.args.target.now.goal in
     let kept = c.args.kept.now in
     let forced : AreForced u g (flag kept.known.held) c.spread_without.new.kept.forced =
     subst (λ (f : List Bool). AreForced u g (flag kept.known.held) f) (sym c.in_ok-spread_without.ensures.forced) c.requires.kept.forced in
@@ -16,12 +16,12 @@ returns-then-not-keeps-clause-missed c = λ _.
 
 pub returns-clause-greatest : goal.returns-clause-greatest
 returns-clause-greatest c = λ _.
-    greatest_after c.args.u.now (flag (set c.args.kept.now.known.held c.args.pair false)) (flag c.spread_without.new.kept.rest.held) (flag c.settle_in_rounds.new.held) c.in_ok-spread_without.ensures.shrunk c.settle_in_rounds.ensures
+    greatest_after c.args.target.now.u.now (flag (set c.args.kept.now.known.held c.args.pair false)) (flag c.spread_without.new.kept.rest.held) (flag c.settle_in_rounds.new.held) c.in_ok-spread_without.ensures.shrunk c.settle_in_rounds.ensures
 
 pub returns-clause-missed : goal.returns-clause-missed
 returns-clause-missed c = λ off.
-    let u = c.args.u.now in
-    let g = c.args.goal.now in
+    let u = c.args.target.now.u.now in
+    let g = c.args.target.now.goal in
     let kept = c.args.kept.now in
     let x = flag (set kept.known.held c.args.pair false) in
     let z = flag c.settle_in_rounds.new.held in

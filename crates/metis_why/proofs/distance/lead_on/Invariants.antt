@@ -3,7 +3,7 @@ use Rattle.std.specs.Prelude.{fold}
 use Rattle.metis_refusal.specs.Terms.{flag}
 use Rattle.metis_universe.specs.Terms.{providers_of}
 use Rattle.metis_why.specs.Terms.{StayOpen, far_in, lowered}
-use Rattle.metis_why.proofs.distance.lead_by_ports.Given as goal
+use Rattle.metis_why.proofs.distance.lead_on.Given as goal
 
 abbrev pub invariant-loop-port : goal.invariant-loop-port
 invariant-loop-port l = record {
