@@ -11,7 +11,7 @@ use Rattle.metis_universe.proofs.Sorted.{keys_of-filter}
 use Rattle.metis_support.proofs.Lists.{filter_alike}
 use Rattle.metis_rollout.specs.Terms.{GoesApart, all_go, among, cycle_removal, ends_first, first_unbinds, is_idle, is_referenced, left_of, members, next_unreferenced, removal, unbind, unreferenced_deletes, unreferenced_deletes_within, untied_of}
 use Rattle.metis_rollout.proofs.Among.{among_all, filter_twice, pair_of-among}
-use Rattle.metis_rollout.proofs.FreeNumbers.{length-without}
+use Rattle.metis_rollout.proofs.Unused.{length-without}
 use Rattle.metis_rollout.proofs.Quiet.{all_among, is_in, next_one, unbinds_bound}
 
 -- ---- lists

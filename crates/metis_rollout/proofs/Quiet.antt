@@ -21,7 +21,7 @@ use Rattle.metis_universe.proofs.Bindings.{own_tie}
 use Rattle.metis_layers.proofs.Going.{GoesOn, at, at-next}
 use Rattle.metis_rollout.specs.Terms.{MayGo, all_go, among, ends_first, first_unbinds, idle_unbinds, is_made, is_referenced, members, next_unreferenced, unbind, unreferenced_deletes_within}
 use Rattle.metis_rollout.proofs.Among.{bound_from, pair_among, pair_from}
-use Rattle.metis_rollout.proofs.FreeNumbers.{length-without}
+use Rattle.metis_rollout.proofs.Unused.{length-without}
 use Rattle.metis_rollout.proofs.Serving.{more_bound, served_still}
 use Rattle.metis_rollout.proofs.Going.{Unpointed, standing-Unpointed, unpointed}
 

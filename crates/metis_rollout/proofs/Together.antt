@@ -10,7 +10,7 @@ use Rattle.metis_universe.specs.Terms.{IsSteadfastRun, Universe, after_all, empt
 use Rattle.metis_universe.proofs.Kept.{IsConfig-empty}
 use Rattle.metis_layers.proofs.Going.{GoesOn, at}
 use Rattle.metis_rollout.specs.Terms.{AreTogether, IsRenamed, fresh_name, is_made, news_of, renumbered}
-use Rattle.metis_rollout.proofs.FreeNumbers.{free_number-apart, free_number-free, same_place}
+use Rattle.metis_rollout.proofs.Unused.{free_number-apart, free_number-free, same_place}
 use Rattle.metis_rollout.proofs.Going.{going_from_steady, steady_from_going}
 use Rattle.metis_rollout.proofs.Renaming.{bound_ren, pair_ren, ren_goes, touches_ren}
 use Rattle.metis_rollout.proofs.Sides.{AreOpposite, all_other_kept, bound_on, on, pair_on, sides_go}

@@ -20,7 +20,7 @@ use Rattle.metis_universe.specs.Terms.{Allows, Config, IsRun, Universe, after, a
 use Rattle.metis_layers.proofs.Going.{after_all-append}
 use Rattle.std.specs.BTreeMap.{insert_entry}
 use Rattle.metis_universe.proofs.Edits.{pair_of-put}
-use Rattle.metis_rollout.proofs.FreeNumbers.{free_number-low}
+use Rattle.metis_rollout.proofs.Unused.{free_number-low}
 use Rattle.metis_rollout.proofs.Together.{has-news}
 use Rattle.metis_universe.proofs.Places.{steadfast_at}
 

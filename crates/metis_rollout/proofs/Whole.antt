@@ -17,7 +17,7 @@ use Rattle.metis_layers.specs.Terms.{place_of}
 use Rattle.metis_rollout.specs.Terms.{AreFree, AreTogether, CanTake, IsNamed, IsWithout, MayGo, all_go, among, cycle_removal, first_unbinds, fresh_name, is_made, members, news_of, pairs_in, removal, renumber, renumbered, rollout, scaffold_ends, scaffold_holder, scaffold_list, scaffold_name, taking, unreferenced_deletes}
 use Rattle.metis_rollout.proofs.Among.{may_all, pair_from}
 use Rattle.metis_rollout.proofs.Cycles.{Scene, taken_down, taken_down_bound, taken_down_goes, taken_down_pair}
-use Rattle.metis_rollout.proofs.FreeNumbers.{free_number-apart, free_number-free}
+use Rattle.metis_rollout.proofs.Unused.{free_number-apart, free_number-free}
 use Rattle.metis_rollout.proofs.Going.{going_from_steady, steady_from_going}
 use Rattle.metis_rollout.proofs.Holding.{renumbered_holds}
 use Rattle.metis_rollout.proofs.Quiet.{QuietFrom, quiet_goes, quiet_makes_none}

@@ -6,35 +6,36 @@ ghost use Rattle.metis_layers.specs.Terms.{IsLayers};
 ghost use Rattle.metis_rollout.specs.Terms.{AreFew, bind, cycle_removal, deletes, downward, free_number, holder_at, members, named, pairs_in, scaffold_bindings, unbind};
 
 use crate::lines::{holder_in, slots_needed_by};
-use crate::names::{name_of, names_for, push_renumbered};
+use crate::names::{FreeNumbers, name_of, names_for, push_renumbered};
 use crate::scaffolding::scaffold_for;
 use metis_config::Config;
 use metis_ids::{Action, InstNo, IxVec, NoMemory, PairIx, PortIx};
 use metis_layers::table::Layers;
 use metis_universe::Universe;
 use std::alloc::Global;
-use std::collections::{BTreeMap, BTreeSet};
+use std::collections::BTreeMap;
 
-/// Removes all instances: a scaffold under the free numbers from `next` on is made, they are bound to it, unbound from one
-/// another and deleted, and then the scaffold is.
+/// Removes all instances: a scaffold under free numbers is made, they are bound to it, unbound from one another and deleted, and then
+/// the scaffold is.
 pub fn remove_cycles(
     alloc: Global,
     u: &Universe,
     l: &Layers,
-    used: &BTreeSet<InstNo>,
-    next: &mut u32,
+    free: &mut FreeNumbers,
     c: &Config,
     actions: &mut Vec<Action>,
 ) -> Result<(), NoMemory>
     requires layers { IsLayers u.now l.now }
     requires layered { All (λ p. IsSome (layer_of u.now p)) (pairs_in c.now) }
-    requires next { (n : ℕ) × (next.old ≡ free_number used.now.keys n) × (length used.now.keys + length used.now.keys + n < 2 ^ 31) }
-    ensures { OnOk result ((n : ℕ) → next.old ≡ free_number used.now.keys n → actions.new.items ≡ actions.old.items ++ cycle_removal u.now (λ k. free_number used.now.keys (n + k)) c.now) }
+    requires next { (n : ℕ) × (free.old.next ≡ free_number free.old.used.keys n)
+        × (length free.old.used.keys + length free.old.used.keys + n < 2 ^ 31) }
+    ensures { OnOk result ((n : ℕ) → free.old.next ≡ free_number free.old.used.keys n
+        → actions.new.items ≡ actions.old.items ++ cycle_removal u.now (λ k. free_number free.old.used.keys (n + k)) c.now) }
 {
     u.keeps_invariant();
     let pairs = pairs_of(alloc, c)?;
     let scaffold = scaffold_for(alloc, u, l, &pairs)?;
-    let names = names_for(alloc, used, next, &scaffold.actions)?;
+    let names = names_for(alloc, free, &scaffold.actions)?;
     push_renumbered(&names, &scaffold.actions, actions)?;
     bind_all(alloc, u, c, &scaffold.firsts, &names, actions)?;
     unbind_all(c, actions)?;

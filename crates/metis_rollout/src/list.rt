@@ -5,11 +5,11 @@ ghost use Rattle.metis_universe.specs.Terms.{IsOf, IsSteadfastRun, Universe, aft
 ghost use Rattle.metis_layers.specs.Terms.{IsLayers};
 ghost use Rattle.metis_rollout.specs.Terms.{IsRollout, free_number, news_of, renumbered};
 
-use crate::names::{made_by, names_for, next_free, push_renumbered};
-use crate::removing::remove;
+use crate::names::{FreeNumbers, names_for, push_renumbered};
+use crate::removing::{Standing, remove};
 use crate::standing::left_by;
 use metis_config::Config;
-use metis_ids::{Action, InstNo, NoMemory};
+use metis_ids::{Action, NoMemory};
 use metis_layers::table::Layers;
 use metis_universe::Universe;
 use std::alloc::Global;
@@ -55,30 +55,32 @@ pub fn rollout_from(
     ensures { IfOk result (λ list. IsRollout u.now old.now fresh.now list.items) }
 {
     u.keeps_invariant();
-    let used = made_by(alloc, old)?;
-    let mut next = next_free(&used, 0);
-    let mut actions = side_by_side(alloc, &used, &mut next, old, fresh)?;
-    let stays = BTreeSet::new(alloc);
-    remove(alloc, u, l, left, &stays, &used, &mut next, &mut actions)?;
+    let mut free = FreeNumbers::beside(alloc, old)?;
+    let mut actions = side_by_side(alloc, &mut free, old, fresh)?;
+    let all_go = Standing {
+        config: left,
+        stays: BTreeSet::new(alloc),
+    };
+    remove(alloc, u, l, all_go, &mut free, &mut actions)?;
     Ok(actions)
 }
 
-// The old actions, and then the fresh ones under the first free numbers. Then `next` is the free number behind them.
+// The old actions, and then the fresh ones under the first free numbers, which are then given.
 fn side_by_side(
     alloc: Global,
-    used: &BTreeSet<InstNo>,
-    next: &mut u32,
+    free: &mut FreeNumbers,
     old: &[Action],
     fresh: &[Action],
 ) -> Result<Vec<Action>, NoMemory>
     requires steadfast { (u : Universe) × IsSteadfastRun u fresh.now }
-    requires used { (z : ℕ) → has used.now.keys z ≡ has (news_of old.now) z }
-    requires next { next.old ≡ free_number used.now.keys 0 }
-    requires few { length used.now.keys + length used.now.keys + length fresh.now + 2 < 2 ^ 32 }
+    requires used { (z : ℕ) → has free.old.used.keys z ≡ has (news_of old.now) z }
+    requires next { free.old.next ≡ free_number free.old.used.keys 0 }
+    requires few { length free.old.used.keys + length free.old.used.keys + length fresh.now + 2 < 2 ^ 32 }
     ensures list { IfOk result (λ list. list.items ≡ old.now ++ renumbered old.now fresh.now) }
-    ensures next { OnOk result (next.new ≡ free_number used.now.keys (length (news_of fresh.now))) }
+    ensures used { OnOk result (free.new.used ≡ free.old.used) }
+    ensures next { OnOk result (free.new.next ≡ free_number free.old.used.keys (length (news_of fresh.now))) }
 {
-    let names = names_for(alloc, used, next, fresh)?;
+    let names = names_for(alloc, free, fresh)?;
     let mut actions = Vec::new(alloc);
     actions.extend_from_slice(old)?;
     push_renumbered(&names, fresh, &mut actions)?;

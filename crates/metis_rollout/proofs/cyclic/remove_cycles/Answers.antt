@@ -43,7 +43,7 @@ returns c =
     let count = c.in_ok-scaffold.ensures.count ∙ ap (λ g. length (scaffold_ends u g)) pairs in
     let firsts = c.in_ok-scaffold.ensures.firsts ∙ ap (λ g. map (first_among u (scaffold_ends u g)) (range_with_len 0 (port_count u))) pairs in
     let holder = ap holder_at firsts ∙ firsts_all u k (scaffold_ends u (pairs_in d)) in
-    let used = c.args.used.now.keys in
+    let used = c.args.free.now.used.keys in
     let table = c.in_ok-names.names.entries in
     on_ok_weaker c.delete_downward.result
     (λ last n is. removed_by u k d used n table c.requires.layered (subst (AreNamed used n table) (c.deref-2.ensures.value ∙ list) (c.in_ok-names.ensures.names n is)) s.actions.items s.firsts s.count

@@ -16,7 +16,10 @@ pub remove-requires-clause-stands : goal.remove-requires-clause-stands
 remove-requires-clause-stands c = (c.args.old.now, c.requires.old.run, c.requires.old_ours, c.requires.left)
 
 pub remove-requires-clause-next : goal.remove-requires-clause-next
-remove-requires-clause-next c = (length (news_of c.args.fresh.now), c.in_ok-actions.ensures.next, omega (arith, c.in_ok-used.ensures.few, news_few c.args.fresh.now, c.requires.few))
+remove-requires-clause-next c =
+    let count = length (news_of c.args.fresh.now) in
+    let same = c.in_ok-actions.ensures.used in
+    (count, c.in_ok-actions.ensures.next ∙ ap (λ s. free_number s.keys count) (sym same), omega (arith, ap (λ s. length s.keys) same, c.in_ok-free.ensures.few, news_few c.args.fresh.now, c.requires.few))
 
 pub side_by_side-requires-clause-steadfast : goal.side_by_side-requires-clause-steadfast
 side_by_side-requires-clause-steadfast c = (c.args.u.now, c.requires.fresh)
@@ -26,11 +29,14 @@ returns c =
     let u = c.args.u.now in
     let old = c.args.old.now in
     let fresh = c.args.fresh.now in
-    let used = c.in_ok-used.used.keys in
+    let used = c.in_ok-free.free.used.keys in
+    let same = c.in_ok-actions.ensures.used in
     let count = length (news_of fresh) in
     let actions = c.remove.new.actions.items in
-    let is : actions ≡ rollout u old fresh = listed_rollout u old fresh actions used c.new-stays.result.keys c.args.left c.in_ok-used.ensures.same c.new-stays.ensures.empty c.requires.left
-    (c.in_ok-remove.ensures count c.in_ok-actions.ensures.next ∙ ap (λ l. l ++ removal u (all_but c.new-stays.result.keys) (λ k. free_number used (count + k)) c.args.left) c.in_ok-actions.ensures.list) in
+    let stays = c.new.result.keys in
+    let is : actions ≡ rollout u old fresh = listed_rollout u old fresh actions used stays c.args.left c.in_ok-free.ensures.used c.new.ensures.empty c.requires.left
+    (c.in_ok-remove.ensures count (c.in_ok-actions.ensures.next ∙ ap (λ s. free_number s.keys count) (sym same))
+    ∙ (λ i. c.in_ok-actions.ensures.list i ++ removal u (all_but stays) (λ k. free_number (same i).keys (count + k)) c.args.left)) in
     let whole = replaced u old fresh c.keeps_invariant.ensures.universe c.requires.old c.requires.fresh in
     record {
       list = is;

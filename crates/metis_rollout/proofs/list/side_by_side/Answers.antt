@@ -14,7 +14,7 @@ names_for-requires-clause-next c = (0, c.requires.next, omega (arith, c.requires
 
 pub returns-clause-list : goal.returns-clause-list
 returns-clause-list c =
-    let used = c.args.used.now.keys in
+    let used = c.args.free.now.used.keys in
     let fresh = c.args.fresh.now in
     let table = c.in_ok-names.names.entries in
     let first = c.in_ok-extend_from_slice.ensures.items ∙ ap (λ l. l ++ c.args.old.now) c.new-actions.ensures.items in
@@ -27,4 +27,4 @@ pub returns-clause-next : goal.returns-clause-next
 returns-clause-next c =
     let count = length (news_of c.args.fresh.now) in
     let same : 0 + count ≡ count = omega arith in
-    c.in_ok-names.ensures.next 0 c.requires.next ∙ ap (free_number c.args.used.now.keys) same
+    c.in_ok-names.ensures.next 0 c.requires.next ∙ ap (free_number c.args.free.now.used.keys) same
