@@ -21,7 +21,7 @@ use metis_layers::table::Layers;
 use metis_output::{Answer, Either, Lines, Once, Status, finish, number_line};
 use metis_outside::Sink;
 use metis_reconfigure::{
-    Obstacle, a_reconfiguration_ends_in_what_stays, a_reconfiguration_is_a_steadfast_run,
+    Obstacle, Request, a_reconfiguration_ends_in_what_stays, a_reconfiguration_is_a_steadfast_run,
     a_reconfiguration_is_tidy, guarded_reconfiguration_goes_on,
     guarded_reconfiguration_never_lacks, reconfigure, the_goals_are_held_in_the_end,
     the_kept_are_left_alone, the_kept_never_fall, what_is_wished_stays,
@@ -159,7 +159,8 @@ fn to_goals(
 {
     u.keeps_invariant();
     answered_reconfigurations_are_sound();
-    match reconfigure(alloc, u, layers, old.actions, old.left, goals, wishes)? {
+    let request = Request { goals, wishes };
+    match reconfigure(alloc, u, layers, old.actions, old.left, &request)? {
         metis_reconfigure::Reconfigured::Actions(actions) => {
             let planned = with_no_dups(alloc, u, actions, old.judged)?;
             Ok(Attempt::Planned(planned))

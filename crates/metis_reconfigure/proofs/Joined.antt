@@ -15,7 +15,7 @@ use Rattle.metis_completion.proofs.Completion.{completion}
 use Rattle.metis_completion.proofs.ResidualRows.{residual_after_all}
 use Rattle.metis_completion.specs.Terms.{IsBeside}
 use Rattle.metis_planner.specs.Terms.{IsPlanFor}
-use Rattle.metis_rollout.proofs.FreeNumbers.{free_number-free}
+use Rattle.metis_rollout.proofs.Unused.{free_number-free}
 use Rattle.metis_rollout.proofs.Going.{going_from_steady, steady_from_going}
 use Rattle.metis_rollout.proofs.Quiet.{has-keys, is_in, quiet_goes}
 use Rattle.metis_rollout.proofs.Removal.{left_config, left_correct}

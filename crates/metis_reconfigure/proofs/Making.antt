@@ -14,7 +14,7 @@ use Rattle.metis_ids.specs.declared.actions.Action.TheVariants.{New, Delete, Bin
 use Rattle.metis_ids.specs.declared.goals.Goal.{Goal}
 use Rattle.metis_layers.specs.Terms.{Layers, place_of}
 use Rattle.metis_planner.specs.Terms.{IsPlanFor}
-use Rattle.metis_rollout.proofs.FreeNumbers.{free_number-alike}
+use Rattle.metis_rollout.proofs.Unused.{free_number-alike}
 use Rattle.metis_rollout.proofs.Together.{has-news}
 use Rattle.metis_rollout.specs.Terms.{all_but, free_number, fresh_name, named, news_of, removal, renumber, renumbered}
 use Rattle.metis_universe.specs.Terms.{Config, IsOf, IsRun, IsSteadfastRun, IsTable, IsUniverse, Universe, empty, has, residual}

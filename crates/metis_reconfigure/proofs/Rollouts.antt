@@ -18,7 +18,7 @@ use Rattle.metis_planner.specs.Terms.{IsPlanFor}
 use Rattle.metis_rollout.proofs.Alone.{removal_alone}
 use Rattle.metis_rollout.proofs.Among.{IsConfig-among, is_bound-among, pair_of-among}
 use Rattle.metis_layers.specs.Terms.{attained_pairs, place_of}
-use Rattle.metis_rollout.proofs.FreeNumbers.{free_number-free}
+use Rattle.metis_rollout.proofs.Unused.{free_number-free}
 use Rattle.metis_rollout.proofs.Going.{going_from_steady}
 use Rattle.metis_rollout.proofs.Quiet.{has-keys, keys-has}
 use Rattle.metis_rollout.proofs.Removal.{left_config, left_correct}

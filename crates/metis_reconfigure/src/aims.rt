@@ -12,11 +12,12 @@ use crate::giving::{given_of, what_is_left};
 use crate::leaving::{first_absent, first_firm_leaving, least_root_under, leaving_of};
 use crate::missing::missing_of;
 use crate::rebinding::rebound_in;
-use crate::targets::{Targets, targets_of};
+use crate::request::Request;
+use crate::targets::{Sources, Targets, targets_of};
 use crate::wished::{kept_set, rebound_set};
 use metis_completion::Given;
 use metis_config::Config;
-use metis_ids::{Goal, InstNo, PairIx, PairSet};
+use metis_ids::{InstNo, PairIx, PairSet};
 use metis_layers::table::Layers;
 use metis_layers::table::counted::layers;
 use metis_universe::Universe;
@@ -80,24 +81,27 @@ pub fn aim(
     u: &Universe,
     c: &Config,
     ground: &Ground,
-    goals: &[Goal],
-    wishes: &[Wish],
+    request: &Request,
 ) -> Result<Aims, Bar>
     requires over { IsOver u.now c.now }
     requires few { length c.now.instances < 2 ^ 32 }
-    requires ground { IsGroundOf u.now wishes.now c.now ground.now }
-    requires within { All (IsGoalOf u.now) goals.now }
-    ensures aims { IfOk result (AreAimsOf u.now wishes.now c.now ground.now goals.now) }
-    ensures obstacle { IfErr result (IsBar u.now wishes.now c.now goals.now) }
+    requires ground { IsGroundOf u.now request.now.wishes.now c.now ground.now }
+    requires within { All (IsGoalOf u.now) request.now.goals.now }
+    ensures aims { IfOk result (AreAimsOf u.now request.now.wishes.now c.now ground.now request.now.goals.now) }
+    ensures obstacle { IfErr result (IsBar u.now request.now.wishes.now c.now request.now.goals.now) }
 {
     let left = what_is_left(alloc, u, &ground.given, &ground.avoided)?;
     let layers = layers(alloc, &left)?;
-    let missing = missing_of(alloc, u, c, &ground.leaving, goals)?;
-    if let Some(goal) = unavoidable(u, wishes, &layers, &missing) {
+    let missing = missing_of(alloc, u, c, &ground.leaving, request.goals)?;
+    if let Some(goal) = unavoidable(u, request.wishes, &layers, &missing) {
         return Err(Bar::Obstacle(Obstacle::Unavoidable(goal)));
     }
     let rebound = rebound_in(alloc, c, &ground.free)?;
-    match targets_of(alloc, u, c, &ground.given, &layers, &rebound, &missing)? {
+    let sources = Sources {
+        given: &ground.given,
+        layers: &layers,
+    };
+    match targets_of(alloc, u, c, &sources, &rebound, &missing)? {
         Targets::Unmet(z, port) => Err(Bar::Obstacle(Obstacle::Unmet(z, port))),
         Targets::Pairs(targets) => {
             if targets.len() > 256 {

@@ -13,6 +13,7 @@ mod missing;
 mod reach;
 mod rebinding;
 mod reconfiguring;
+mod request;
 mod staying;
 mod targets;
 mod wished;
@@ -37,5 +38,6 @@ pub use laws::{
 pub use missing::missing_of;
 pub use reach::{Edge, reached};
 pub use reconfiguring::reconfigure;
-pub use targets::{Targets, lack_of, targets_of};
+pub use request::Request;
+pub use targets::{Sources, Targets, lack_of, targets_of};
 pub use wished::{kept_set, rebound_set, retired_set};

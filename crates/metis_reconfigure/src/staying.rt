@@ -9,6 +9,7 @@ ghost use Rattle.metis_reconfigure.specs.Terms.{AreStaying, fresh_in, next_servi
 use crate::edges::holds_up_of;
 use crate::missing::places_of;
 use crate::reach::{holds, reach_too, reached};
+use crate::request::Request;
 use crate::wished::{add_rebound, kept_set};
 use metis_config::Config;
 use metis_ids::{Goal, InstNo, NoMemory, PairIx};
@@ -25,18 +26,17 @@ pub fn staying_of(
     u: &Universe,
     c: &Config,
     d: &Config,
-    wishes: &[Wish],
     leaving: &BTreeSet<InstNo>,
-    goals: &[Goal],
+    request: &Request,
 ) -> Result<BTreeSet<InstNo>, NoMemory>
     requires { IsOver u.now d.now }
-    ensures { IfOk result (λ staying. AreStaying u.now wishes.now c.now d.now leaving.now.keys goals.now staying.keys) }
+    ensures { IfOk result (λ staying. AreStaying u.now request.now.wishes.now c.now d.now leaving.now.keys request.now.goals.now staying.keys) }
 {
-    let starts = starts_of(alloc, c, d, wishes, leaving)?;
+    let starts = starts_of(alloc, c, d, request.wishes, leaving)?;
     let mut edges = holds_up_of(alloc, u, d, leaving)?;
     let mut staying = reached(alloc, starts, &mut edges)?;
-    for (place, goal) in goals.iter().enumerate() {
-        if serving_staying(u, d, &staying, *goal) <= places_of(&goals[..place], *goal) {
+    for (place, goal) in request.goals.iter().enumerate() {
+        if serving_staying(u, d, &staying, *goal) <= places_of(&request.goals[..place], *goal) {
             if let Some(z) = next_serving(u, c, leaving, &staying, *goal) {
                 reach_too(alloc, z, &mut edges, &mut staying)?;
             }

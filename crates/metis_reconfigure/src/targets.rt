@@ -22,34 +22,42 @@ pub enum Targets {
     Unmet(InstNo, PortIx),
 }
 
+/// Where providers come from.
+#[derive(Clone, Copy)]
+pub struct Sources<'a> {
+    /// The settled instances that provide each port.
+    pub given: &'a Given,
+    /// The layers of what is left to plan over, which say what can be made.
+    pub layers: &'a Layers,
+}
+
 /// The pairs for the missing goals, and then, port by port, the provider of each that those to be bound anew lack, as often as is short
 /// where there are the given instances and the targets so far; or the first port that is short and has no provider.
 pub fn targets_of(
     alloc: Global,
     u: &Universe,
     c: &Config,
-    given: &Given,
-    v: &Layers,
+    sources: &Sources,
     rebound: &[InstNo],
     missing: &[Goal],
 ) -> Result<Targets, NoMemory>
     requires over { IsOver u.now c.now }
     requires within { All (IsGoalOf u.now) missing.now }
-    ensures targets { (left : Universe) → (leaving : List ℕ) → AreTables u.now left c.now leaving given.now v.now → IfTargets result (λ ts.
-        ts ≡ targets_behind u.now left c.now leaving rebound.now (filter_map (pair_for left) missing.now) (range_with_len 0 (port_count u.now))) }
-    ensures met { (left : Universe) → (leaving : List ℕ) → AreTables u.now left c.now leaving given.now v.now → IfTargets result (λ _.
-        AreMet u.now left c.now leaving rebound.now (filter_map (pair_for left) missing.now) (range_with_len 0 (port_count u.now))) }
-    ensures unmet { (left : Universe) → (leaving : List ℕ) → AreTables u.now left c.now leaving given.now v.now →
-        IfUnmet result (IsUnmet u.now left c.now leaving rebound.now (filter_map (pair_for left) missing.now)) }
+    ensures targets { (left : Universe) → (leaving : List ℕ) → AreTables u.now left c.now leaving sources.now.given.now sources.now.layers.now
+        → IfTargets result (λ ts. ts ≡ targets_behind u.now left c.now leaving rebound.now (filter_map (pair_for left) missing.now) (range_with_len 0 (port_count u.now))) }
+    ensures met { (left : Universe) → (leaving : List ℕ) → AreTables u.now left c.now leaving sources.now.given.now sources.now.layers.now
+        → IfTargets result (λ _. AreMet u.now left c.now leaving rebound.now (filter_map (pair_for left) missing.now) (range_with_len 0 (port_count u.now))) }
+    ensures unmet { (left : Universe) → (leaving : List ℕ) → AreTables u.now left c.now leaving sources.now.given.now sources.now.layers.now
+        → IfUnmet result (IsUnmet u.now left c.now leaving rebound.now (filter_map (pair_for left) missing.now)) }
 {
-    let mut targets = pairs_for(alloc, v, missing)?;
+    let mut targets = pairs_for(alloc, sources.layers, missing)?;
     let ports = ports_required(alloc, u, c, rebound)?;
     for number in 0..u.ports() {
         let port = PortIx(number);
-        let standing = given.of(port);
+        let standing = sources.given.of(port);
         if let Some(z) = first_lacking(u, c, standing, rebound, &ports, port) {
             let short = short_of(u, c, standing, rebound, port, &targets);
-            match v.first_provider(port) {
+            match sources.layers.first_provider(port) {
                 Some(pair) => push_times(pair, short, &mut targets)?,
                 None if short > 0 => return Ok(Targets::Unmet(z, port)),
                 None => {}

@@ -11,14 +11,14 @@ what_is_left-requires-clause-few c = λ r. omega (arith, given_few c.args.u.now 
 pub unavoidable-requires : goal.unavoidable-requires
 unavoidable-requires c =
     let g = c.args.ground.now in
-    let left_is = c.in_ok-left.ensures c.args.wishes.now g.leaving.keys c.args.c.now c.requires.ground.avoids_are c.requires.ground.gives in
-    missing_within c.args.u.now c.args.wishes.now c.args.c.now c.args.goals.now g.avoided.members g.free.keys g.leaving.keys g.given c.in_ok-left.left c.in_ok-layers.layers c.requires.ground left_is c.in_ok-layers.ensures.layers
+    let left_is = c.in_ok-left.ensures c.args.request.now.wishes.now g.leaving.keys c.args.c.now c.requires.ground.avoids_are c.requires.ground.gives in
+    missing_within c.args.u.now c.args.request.now.wishes.now c.args.c.now c.args.request.now.goals.now g.avoided.members g.free.keys g.leaving.keys g.given c.in_ok-left.left c.in_ok-layers.layers c.requires.ground left_is c.in_ok-layers.ensures.layers
     c.deref.result.now (c.deref.ensures.value ∙ c.in_ok-missing.ensures) c.requires.within
 
 pub returns-in-Some-clause-obstacle : goal.returns-in-Some-clause-obstacle
 returns-in-Some-clause-obstacle c =
     let u = c.args.u.now in
-    let w = c.args.wishes.now in
+    let w = c.args.request.now.wishes.now in
     let d = c.args.c.now in
     let g = c.args.ground.now in
     let left = c.in_ok-left.left in
@@ -26,23 +26,23 @@ returns-in-Some-clause-obstacle c =
     let left_is = c.in_ok-left.ensures w g.leaving.keys d c.requires.ground.avoids_are c.requires.ground.gives in
     let ms_are = c.deref.ensures.value ∙ c.in_ok-missing.ensures in
     let over = over_left u w d g.leaving.keys g.given left l c.requires.ground.gives left_is c.in_ok-layers.ensures.layers in
-    let is = first_is u w d c.args.goals.now g.avoided.members g.free.keys g.leaving.keys g.given left l c.requires.ground left_is c.in_ok-layers.ensures.layers c.deref.result.now ms_are
+    let is = first_is u w d c.args.request.now.goals.now g.avoided.members g.free.keys g.leaving.keys g.given left l c.requires.ground left_is c.in_ok-layers.ensures.layers c.deref.result.now ms_are
     c.unavoidable.result (c.unavoidable.ensures (left_to_plan u w d g.leaving.keys) over) in
-    barred_unavoidable u w d c.args.goals.now g.avoided.members g.free.keys g.leaving.keys g.given left l c.requires.ground left_is c.in_ok-layers.ensures.layers c.deref.result.now ms_are c.in-Some.goal (is ∙ c.in-Some.is)
+    barred_unavoidable u w d c.args.request.now.goals.now g.avoided.members g.free.keys g.leaving.keys g.given left l c.requires.ground left_is c.in_ok-layers.ensures.layers c.deref.result.now ms_are c.in-Some.goal (is ∙ c.in-Some.is)
 
 pub targets_of-requires-clause-within : goal.targets_of-requires-clause-within
 targets_of-requires-clause-within c =
     let g = c.args.ground.now in
-    let left_is = c.in_ok-left.ensures c.args.wishes.now g.leaving.keys c.args.c.now c.requires.ground.avoids_are c.requires.ground.gives in
-    missing_within c.args.u.now c.args.wishes.now c.args.c.now c.args.goals.now g.avoided.members g.free.keys g.leaving.keys g.given c.in_ok-left.left c.in_ok-layers.layers c.requires.ground left_is c.in_ok-layers.ensures.layers
+    let left_is = c.in_ok-left.ensures c.args.request.now.wishes.now g.leaving.keys c.args.c.now c.requires.ground.avoids_are c.requires.ground.gives in
+    missing_within c.args.u.now c.args.request.now.wishes.now c.args.c.now c.args.request.now.goals.now g.avoided.members g.free.keys g.leaving.keys g.given c.in_ok-left.left c.in_ok-layers.layers c.requires.ground left_is c.in_ok-layers.ensures.layers
     c.deref-3.result.now (c.deref-3.ensures.value ∙ c.in_ok-missing.ensures) c.requires.within
 
 pub returns-then-len-gt256-clause-obstacle : goal.returns-then-len-gt256-clause-obstacle
 returns-then-len-gt256-clause-obstacle c =
     let u = c.args.u.now in
-    let w = c.args.wishes.now in
+    let w = c.args.request.now.wishes.now in
     let d = c.args.c.now in
-    let goals = c.args.goals.now in
+    let goals = c.args.request.now.goals.now in
     let g = c.args.ground.now in
     let left = c.in_ok-left.left in
     let l = c.in_ok-layers.layers in
@@ -65,9 +65,9 @@ returns-then-len-gt256-clause-obstacle c =
 pub returns-in-Unmet-clause-obstacle : goal.returns-in-Unmet-clause-obstacle
 returns-in-Unmet-clause-obstacle c =
     let u = c.args.u.now in
-    let w = c.args.wishes.now in
+    let w = c.args.request.now.wishes.now in
     let d = c.args.c.now in
-    let goals = c.args.goals.now in
+    let goals = c.args.request.now.goals.now in
     let g = c.args.ground.now in
     let left = c.in_ok-left.left in
     let l = c.in_ok-layers.layers in
@@ -88,9 +88,9 @@ returns-in-Unmet-clause-obstacle c =
 pub returns-else-len-gt256-clause-aims : goal.returns-else-len-gt256-clause-aims
 returns-else-len-gt256-clause-aims c =
     let u = c.args.u.now in
-    let w = c.args.wishes.now in
+    let w = c.args.request.now.wishes.now in
     let d = c.args.c.now in
-    let goals = c.args.goals.now in
+    let goals = c.args.request.now.goals.now in
     let g = c.args.ground.now in
     let left = c.in_ok-left.left in
     let l = c.in_ok-layers.layers in

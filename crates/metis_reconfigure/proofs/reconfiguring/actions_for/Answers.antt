@@ -24,20 +24,20 @@ pub make_beside-requires-clause-over : goal.make_beside-requires-clause-over
 make_beside-requires-clause-over c = subst (IsOver c.args.u.now) (sym c.requires.left) (over_left c.args.u.now c.args.old.now c.keeps_invariant.ensures.universe c.requires.ours)
 
 pub make_beside-requires-clause-aims : goal.make_beside-requires-clause-aims
-make_beside-requires-clause-aims c = (c.args.wishes.now, c.args.goals.now, c.in_ok-ground.ensures.ground, c.in_ok-aims.ensures.aims)
+make_beside-requires-clause-aims c = (c.args.request.now.wishes.now, c.args.request.now.goals.now, c.in_ok-ground.ensures.ground, c.in_ok-aims.ensures.aims)
 
 pub go_on-requires : goal.go_on-requires
 go_on-requires c =
     let u = c.args.u.now in
     let k = c.keeps_invariant.ensures.universe in
-    let w = c.args.wishes.now in
-    let goals = c.args.goals.now in
+    let w = c.args.request.now.wishes.now in
+    let goals = c.args.request.now.goals.now in
     let old = c.args.old.now in
     let leaving = c.in_ok-ground.ground.leaving.keys in
     let acts = c.in_ok-beside.beside.actions.items in
     let plan = c.in_ok-beside.beside.plan in
-    let used = c.in_ok-beside.beside.used.keys in
-    let next = c.in_ok-beside.beside.next in
+    let used = c.in_ok-beside.beside.free.used.keys in
+    let next = c.in_ok-beside.beside.free.next in
     let m = c.in_ok-beside.ensures w goals c.in_ok-ground.ensures.ground c.in_ok-aims.ensures.aims in
     let leave : AreLeaving u w (left_by u old) leaving = subst (λ e. AreLeaving u w e leaving) c.requires.left c.in_ok-ground.ensures.ground.there.leave in
     subst (λ e. IsRun u e c.deref.result.now) (sym (c.in_ok-border.ensures ∙ c.requires.left))
@@ -47,14 +47,14 @@ pub staying_of-requires : goal.staying_of-requires
 staying_of-requires c =
     let u = c.args.u.now in
     let k = c.keeps_invariant.ensures.universe in
-    let w = c.args.wishes.now in
-    let goals = c.args.goals.now in
+    let w = c.args.request.now.wishes.now in
+    let goals = c.args.request.now.goals.now in
     let old = c.args.old.now in
     let leaving = c.in_ok-ground.ground.leaving.keys in
     let acts = c.in_ok-beside.beside.actions.items in
     let plan = c.in_ok-beside.beside.plan in
-    let used = c.in_ok-beside.beside.used.keys in
-    let next = c.in_ok-beside.beside.next in
+    let used = c.in_ok-beside.beside.free.used.keys in
+    let next = c.in_ok-beside.beside.free.next in
     let m = c.in_ok-beside.ensures w goals c.in_ok-ground.ensures.ground c.in_ok-aims.ensures.aims in
     let leave : AreLeaving u w (left_by u old) leaving = subst (λ e. AreLeaving u w e leaving) c.requires.left c.in_ok-ground.ensures.ground.there.leave in
     let border_is : c.go_on.new.c ≡ left_by u (old ++ acts) = c.in_ok-go_on.ensures ∙ ((λ i. after_all u ((c.in_ok-border.ensures ∙ c.requires.left) i) (c.deref.ensures.value i)) ∙ sym (after_all-append u empty old acts)) in
@@ -64,14 +64,14 @@ pub remove-requires-clause-stands : goal.remove-requires-clause-stands
 remove-requires-clause-stands c =
     let u = c.args.u.now in
     let k = c.keeps_invariant.ensures.universe in
-    let w = c.args.wishes.now in
-    let goals = c.args.goals.now in
+    let w = c.args.request.now.wishes.now in
+    let goals = c.args.request.now.goals.now in
     let old = c.args.old.now in
     let leaving = c.in_ok-ground.ground.leaving.keys in
     let acts = c.in_ok-beside.beside.actions.items in
     let plan = c.in_ok-beside.beside.plan in
-    let used = c.in_ok-beside.beside.used.keys in
-    let next = c.in_ok-beside.beside.next in
+    let used = c.in_ok-beside.beside.free.used.keys in
+    let next = c.in_ok-beside.beside.free.next in
     let m = c.in_ok-beside.ensures w goals c.in_ok-ground.ensures.ground c.in_ok-aims.ensures.aims in
     let leave : AreLeaving u w (left_by u old) leaving = subst (λ e. AreLeaving u w e leaving) c.requires.left c.in_ok-ground.ensures.ground.there.leave in
     let border_is : c.go_on.new.c ≡ left_by u (old ++ acts) = c.in_ok-go_on.ensures ∙ ((λ i. after_all u ((c.in_ok-border.ensures ∙ c.requires.left) i) (c.deref.ensures.value i)) ∙ sym (after_all-append u empty old acts)) in
@@ -81,14 +81,14 @@ pub remove-requires-clause-next : goal.remove-requires-clause-next
 remove-requires-clause-next c =
     let u = c.args.u.now in
     let k = c.keeps_invariant.ensures.universe in
-    let w = c.args.wishes.now in
-    let goals = c.args.goals.now in
+    let w = c.args.request.now.wishes.now in
+    let goals = c.args.request.now.goals.now in
     let old = c.args.old.now in
     let leaving = c.in_ok-ground.ground.leaving.keys in
     let acts = c.in_ok-beside.beside.actions.items in
     let plan = c.in_ok-beside.beside.plan in
-    let used = c.in_ok-beside.beside.used.keys in
-    let next = c.in_ok-beside.beside.next in
+    let used = c.in_ok-beside.beside.free.used.keys in
+    let next = c.in_ok-beside.beside.free.next in
     let m = c.in_ok-beside.ensures w goals c.in_ok-ground.ensures.ground c.in_ok-aims.ensures.aims in
     let leave : AreLeaving u w (left_by u old) leaving = subst (λ e. AreLeaving u w e leaving) c.requires.left c.in_ok-ground.ensures.ground.there.leave in
     (length (news_of plan.actions), m.next_is, omega (arith, m.few, c.requires.short, news_few plan.actions, m.planned.short, m.planned.bounded))
@@ -97,14 +97,14 @@ pub returns-clause-actions : goal.returns-clause-actions
 returns-clause-actions c =
     let u = c.args.u.now in
     let k = c.keeps_invariant.ensures.universe in
-    let w = c.args.wishes.now in
-    let goals = c.args.goals.now in
+    let w = c.args.request.now.wishes.now in
+    let goals = c.args.request.now.goals.now in
     let old = c.args.old.now in
     let leaving = c.in_ok-ground.ground.leaving.keys in
     let acts = c.in_ok-beside.beside.actions.items in
     let plan = c.in_ok-beside.beside.plan in
-    let used = c.in_ok-beside.beside.used.keys in
-    let next = c.in_ok-beside.beside.next in
+    let used = c.in_ok-beside.beside.free.used.keys in
+    let next = c.in_ok-beside.beside.free.next in
     let m = c.in_ok-beside.ensures w goals c.in_ok-ground.ensures.ground c.in_ok-aims.ensures.aims in
     let leave : AreLeaving u w (left_by u old) leaving = subst (λ e. AreLeaving u w e leaving) c.requires.left c.in_ok-ground.ensures.ground.there.leave in
     let border_is : c.go_on.new.c ≡ left_by u (old ++ acts) = c.in_ok-go_on.ensures ∙ ((λ i. after_all u ((c.in_ok-border.ensures ∙ c.requires.left) i) (c.deref.ensures.value i)) ∙ sym (after_all-append u empty old acts)) in
@@ -120,7 +120,7 @@ returns-clause-actions c =
 
 pub returns-clause-told : goal.returns-clause-told
 returns-clause-told c =
-    list_told c.args.u.now c.keeps_invariant.ensures c.args.wishes.now c.args.old.now c.args.goals.now c.requires.old c.requires.ours c.requires.short c.requires.lines c.remove.new.actions.items (returns-clause-actions c)
+    list_told c.args.u.now c.keeps_invariant.ensures c.args.request.now.wishes.now c.args.old.now c.args.request.now.goals.now c.requires.old c.requires.ours c.requires.short c.requires.lines c.remove.new.actions.items (returns-clause-actions c)
 
 pub returns-in_err-ground-clause-obstacle : goal.returns-in_err-ground-clause-obstacle
-returns-in_err-ground-clause-obstacle c = let at = c.in_err-ground.ensures.obstacle c.args.goals.now in search (rules, at)
+returns-in_err-ground-clause-obstacle c = let at = c.in_err-ground.ensures.obstacle c.args.request.now.goals.now in search (rules, at)

@@ -50,7 +50,7 @@ returns c = λ wishes goals g a.
     let shown : c.deref-2.result.now ≡ plan.actions = c.deref-2.ensures.value ∙ ap (λ (p : Plan). p.actions) c.plan.view_is in
     let made : first ≡ completed u (given_in ground.given) fresh.actions.items = c.in_ok-complete.ensures ∙ (λ i. c.new-actions.ensures.items i ++ completed u (given_in ground.given) (c.deref-3.ensures.value i)) in
     made_beside u c.keeps_invariant.ensures.universe wishes old c.requires.old goals d c.requires.left ground.avoided.members ground.free.keys ground.leaving.keys ground.given
-    aims.left aims.layers aims.targets.items aims.rebound.items plan table fresh.actions.items first c.rebind_all.new.actions.items fresh.used.keys fresh.next g a
+    aims.left aims.layers aims.targets.items aims.rebound.items plan table fresh.actions.items first c.rebind_all.new.actions.items fresh.free.used.keys fresh.free.next g a
     (rw (sym c.deref.ensures.value) c.in_ok-plan.ensures)
     (c.in_ok-fresh.ensures.actions ∙ ap (renumbered old) shown)
     made
@@ -59,4 +59,4 @@ returns c = λ wishes goals g a.
     c.in_ok-rebind_all.ensures gone targets name (λ r. ap (λ rs. given_in rs r) c.in_ok-givers.ensures.given ∙ gives r) (c.in_ok-givers.ensures.fresh ∙ (ap (named_targets (named table)) c.deref-4.ensures.value ∙ same))
     ∙ ap (λ xs. first ++ flat_map (rebinds_of u d gone targets name) xs) c.deref-5.ensures.value)
     c.in_ok-fresh.ensures.used c.in_ok-fresh.ensures.few
-    (c.in_ok-fresh.ensures.next ∙ ap (λ xs. free_number fresh.used.keys (length (news_of xs))) shown)
+    (c.in_ok-fresh.ensures.next ∙ ap (λ xs. free_number fresh.free.used.keys (length (news_of xs))) shown)

@@ -12,7 +12,7 @@ loop-number-init c = λ left leaving k.
     let d = c.args.c.now in
     let zs = c.args.rebound.now in
     let first = filter_map (pair_for left) c.args.missing.now in
-    subst (AreSoFar u left d leaving zs first 0) (sym (c.in_ok-targets.ensures ∙ pairs_alike u left c.args.v.now k.over c.args.missing.now c.requires.within)) (begun u left d leaving zs first)
+    subst (AreSoFar u left d leaving zs first 0) (sym (c.in_ok-targets.ensures ∙ pairs_alike u left c.args.sources.now.layers.now k.over c.args.missing.now c.requires.within)) (begun u left d leaving zs first)
 
 pub returns-in-None-clause-unmet : goal.returns-in-None-clause-unmet
 returns-in-None-clause-unmet c = λ left leaving k.
@@ -21,7 +21,7 @@ returns-in-None-clause-unmet c = λ left leaving k.
     let zs = c.args.rebound.now in
     let n = c.loop-number.number in
     let low : n < port_count u = subst (λ m. n < m) c.ports-number-end.ensures c.loop-number-test.true in
-    unmet_here u left d leaving zs c.args.given.now c.args.v.now k (filter_map (pair_for left) c.args.missing.now) c.loop-number.targets.items n c.in-Some.z low
+    unmet_here u left d leaving zs c.args.sources.now.given.now c.args.sources.now.layers.now k (filter_map (pair_for left) c.args.missing.now) c.loop-number.targets.items n c.in-Some.z low
     (sym c.first_provider.ensures ∙ c.in-None.is)
     (ap (λ standing. find (is_lacking u d standing n) zs) (sym c.of-standing.ensures) ∙ sym c.first_lacking.ensures ∙ c.in-Some.is)
     (subst (λ m. 0 < m) (c.short_of-short.ensures ∙ (λ i. short_by u d (c.of-standing.ensures i) zs (c.deref.ensures.value i) n)) c.if-short-gt0.true)
@@ -32,8 +32,8 @@ loop-number-preserved c = λ left leaving k.
     let u = c.args.u.now in
     let d = c.args.c.now in
     let zs = c.args.rebound.now in
-    let rows = c.args.given.now in
-    let l = c.args.v.now in
+    let rows = c.args.sources.now.given.now in
+    let l = c.args.sources.now.layers.now in
     let n = c.loop-number.number in
     let ts = c.loop-number.targets.items in
     let first = filter_map (pair_for left) c.args.missing.now in

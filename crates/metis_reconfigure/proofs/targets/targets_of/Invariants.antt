@@ -6,4 +6,4 @@ use Rattle.metis_reconfigure.proofs.Tables.{AreSoFar}
 use Rattle.metis_reconfigure.proofs.targets.targets_of.Given as goal
 
 abbrev pub invariant-loop-number : goal.invariant-loop-number
-invariant-loop-number l = (left : Universe) → (leaving : List ℕ) → AreTables l.u left l.c leaving l.given l.v → AreSoFar l.u left l.c leaving l.rebound (filter_map (pair_for left) l.missing) l.number l.targets.items
+invariant-loop-number l = (left : Universe) → (leaving : List ℕ) → AreTables l.u left l.c leaving l.sources.given.now l.sources.layers.now → AreSoFar l.u left l.c leaving l.rebound (filter_map (pair_for left) l.missing) l.number l.targets.items
