@@ -10,8 +10,8 @@ It runs `rt ci` over a copy of these crates and those below, in which the edits 
 `N refused, M not`. The status is 0 where all are refused.
 
 crates/edits.json says for each crate the sum of its own src, specs and edits when all its edits were last refused; imports,
-declarations of modules and whole-line comments do not count. It is written anew after each run, and committed. An edit in
-must-fail/ is tried by `rt ci` itself, and not here.
+declarations of modules and whole-line comments do not count, so an import that gives a name another meaning makes nothing due.
+It is written anew after each run, and committed. An edit in must-fail/ is tried by `rt ci` itself, and not here.
 """
 
 import argparse
