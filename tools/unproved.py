@@ -25,6 +25,8 @@ CRATE = TOP / "crates" / PROGRAM
 ROOM = CACHE / "unproved"
 # The programs of so many states of the sources are kept, at 16 MB each.
 KEPT = 4
+# So often it is said that the build goes on.
+SECONDS_BETWEEN_LINES = 20
 # What a build writes, and the program twice.
 MEGABYTES = 120
 STANDS, FAILED, NOT_KEPT = 0, 1, 3
@@ -36,8 +38,12 @@ def sum_of_sources() -> str:
 
 
 def end_of(pipe, job):
-    """The end of the pipe that keeps its reader waiting, or None where the job ends before anything reads it."""
+    """The end of the pipe that keeps its reader waiting, or None where the job ends before anything reads it. Says how long it takes."""
+    begun = said = time.monotonic()
     while job.poll() is None:
+        if time.monotonic() - said >= SECONDS_BETWEEN_LINES:
+            said = time.monotonic()
+            say(f"still building, for {said - begun:.0f} s so far")
         try:
             return os.open(pipe, os.O_WRONLY | os.O_NONBLOCK)
         except OSError as fault:

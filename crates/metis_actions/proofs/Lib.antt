@@ -1,3 +1,4 @@
 pub mod Causes
+pub mod FaultFeeds
 pub mod FaultNumbers
 pub mod FirstReasons

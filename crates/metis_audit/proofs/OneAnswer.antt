@@ -17,6 +17,7 @@ use Rattle.metis_waits.specs.Terms.{IsFirstLoose, waits_on_others}
 use Rattle.metis_audit.specs.Terms.{IsAnswer, IsAttained, IsAudited, IsCounted, IsFirstOff, IsFirstOther, IsFirstUnjustified, IsFollowed, IsForced, IsMiscount, IsSteady, follows}
 use Rattle.metis_audit.specs.declared.answers.Answer.{Answer}
 use Rattle.metis_audit.specs.declared.answers.Answer.TheVariants.{Justified, NotAttained, NoCycle, Count, Path, Loose, After}
+use Rattle.metis_ids.proofs.Tests.{least_is_one}
 
 -- how many tests pass, and the numbers that are told of the one that fails
 abbrev stage : Answer → ℕ
@@ -63,16 +64,6 @@ made_of (Path l) = refl
 made_of (Loose k) = refl
 made_of (After k) = refl
 made_of Justified = refl
-
--- a first number is one
-least_is_one : (P : ℕ → Type 0) (j k : ℕ) → (P j → ⊥) → (P k → ⊥) → ((i : ℕ) → i < j → P i) → ((i : ℕ) → i < k → P i) → j ≡ k
-least_is_one P j k one two below_j below_k = elim (cases_lt j k) [
-  | inl low ↦ absurd (one (below_k j low))
-  | inr high ↦ elim (cases_lt k j) [
-    | inl low ↦ absurd (two (below_j k low))
-    | inr same ↦ omega arith
-  ]
-]
 
 got : (xs : List ℕ) (i q : ℕ) → slice_get xs i ≡ Some q → (i < length xs) × (get_or xs i q ≡ q)
 got [] i q is = absurd (none_some q is) where

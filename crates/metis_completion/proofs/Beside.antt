@@ -11,7 +11,8 @@ use Rattle.metis_ids.proofs.Options.{IsSome_at}
 use Rattle.metis_universe.proofs.Demands.{demand_none}
 use Rattle.metis_universe.specs.Terms.{Config, Correct, IsConfig, IsMet, Universe, demand_of, has, is_bound, is_initial, pair_of, requires, residual}
 use Rattle.metis_completion.specs.Terms.{AreGiven, given_demand, takes_given}
-use Rattle.metis_completion.proofs.Front.{append_differs, front_differs, rising_differ}
+use Rattle.metis_completion.proofs.Front.{append_differs, front_differs}
+use Rattle.metis_universe.proofs.Different.{rising_differ}
 use Rattle.metis_completion.proofs.GivenSlots.{given_demand-few}
 use Rattle.metis_completion.proofs.ResidualRows.{provided_before, residual_demand}
 

@@ -14,6 +14,7 @@ use Rattle.metis_rollout.proofs.Quiet.{AllBound, QuietFrom, QuietFrom-append, al
 use Rattle.metis_rollout.proofs.Serving.{more_bound}
 use Rattle.metis_universe.specs.Terms.{Binding, CanBind, Config, Correct, Universe, after_all, binding_cmp, has, is_bound, is_tie, next_of, pair_of, provides, put, tie}
 use Rattle.metis_universe.proofs.Edits.{is_bound-tie, pair_of-put, tie_is}
+use Rattle.metis_rollout.proofs.Rebinding.{binds_pair}
 
 -- the bindings of an instance to these slots
 abbrev pub ties : (ℕ → ℕ → ℕ) → ℕ → List (ℕ × ℕ) → List Binding
@@ -50,10 +51,6 @@ fits_still u c b (d ∷ bs) below all = (
   },
   fits_still u c b bs below.1 all.1,
 )
-
-pub binds_pair : (u : Universe) (c : Config) (bs : List Binding) (z : ℕ) → pair_of (after_all u c (map bind bs)) z ≡ pair_of c z
-binds_pair u c [] z = refl
-binds_pair u c (b ∷ bs) z = binds_pair u (tie c b.0 b.1 b.2) bs z
 
 pub binds_bound : (u : Universe) (c : Config) (bs : List Binding) (r z y : ℕ) → is_bound (after_all u c (map bind bs)) r z y ≡ (is_in bs r z y || is_bound c r z y)
 binds_bound u c [] r z y = refl

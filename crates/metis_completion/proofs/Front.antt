@@ -56,14 +56,6 @@ passed_slot xs m n y h =
 
 -- ---- different numbers
 
-pub sorted_differ : (xs : List ℕ) → IsStrictlySortedBy nat_cmp xs → AreDifferent xs
-unfolding IsStrictlySortedBy
-sorted_differ [] sorted = tt
-sorted_differ (x ∷ xs) sorted = (none_above x xs sorted.0, sorted_differ xs sorted.1)
-
-pub rising_differ : (xs : List ℕ) → IsStrictlyIncreasing xs → AreDifferent xs
-rising_differ xs up = sorted_differ xs (sorted_from_strictly_increasing xs up)
-
 pub front_differs : (n : ℕ) (xs : List ℕ) → AreDifferent xs → AreDifferent (take n xs)
 front_differs zero xs differ = tt
 front_differs (suc n) [] differ = tt

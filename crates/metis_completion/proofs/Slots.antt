@@ -8,8 +8,9 @@ use Rattle.metis_layers.proofs.SlotLists.{slots_of}
 use Rattle.metis_layers.specs.Terms.{slots_above}
 use Rattle.metis_rollout.proofs.Required.{slots_more}
 use Rattle.metis_universe.specs.Terms.{Universe}
-use Rattle.metis_completion.specs.Terms.{given_demand, given_holder, slot_ties, tie_action}
-use Rattle.metis_completion.specs.declared.tie.Tie.{Tie}
+use Rattle.metis_completion.specs.Terms.{given_demand, given_holder, slot_ties}
+use Rattle.metis_ids.specs.Terms.{tie_action}
+use Rattle.metis_ids.specs.declared.tie.Tie.{Tie}
 
 -- the slots of these ports that q takes and p does not
 abbrev pub slots_gained_of : Universe → (ℕ → List ℕ) → ℕ → ℕ → List ℕ → List (ℕ × ℕ)

@@ -6,8 +6,7 @@ ghost use Rattle.metis_layers.specs.Terms.{slots_above};
 ghost use Rattle.metis_completion.specs.Terms.{completed, completed_action, given_demand, given_gained, given_holder, given_in, slot_ties};
 
 use crate::given::Given;
-use crate::tie::Tie;
-use metis_ids::{Action, NoMemory, PairIx, PortIx};
+use metis_ids::{Action, NoMemory, PairIx, PortIx, Tie};
 use metis_universe::Universe;
 
 /// Appends the fresh actions, where around each move the instance is bound to the given instances that its new pair demands, and

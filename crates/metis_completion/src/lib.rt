@@ -4,7 +4,6 @@
 mod completing;
 mod given;
 mod laws;
-mod tie;
 
 pub use completing::complete;
 pub use given::Given;

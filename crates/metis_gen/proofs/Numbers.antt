@@ -3,7 +3,7 @@ use Rattle.std.proofs.Common.{◌≡◌, ℕ, suc, zero, ◌+◌, ◌*◌, ◌/�
 use Rattle.std.specs.List.{All}
 use Rattle.std.specs.List.Sorted.{IsNonDecreasingBy, IsStrictlyIncreasing}
 use Rattle.std.proofs.lemmas.List.{get_or_default}
-use Rattle.std.proofs.lemmas.List.Elements.{All-from_recursion}
+use Rattle.std.proofs.lemmas.List.Elements.{All-from_recursion, All-nil}
 use Rattle.metis_universe.specs.Terms.{IsUniverse, Pair, initial_of, next_of, no_kind, no_pair, pair_at, pair_count, provided_of, required_of, type_of}
 use Rattle.metis_gen.specs.Terms.{earlier_z_number, kinds_at, pairs_at, tables}
 use Rattle.metis_gen.proofs.Places.{types_counted, pairs_counted, ports_counted, each_of_two, each_of_eight, each_kind, each_pair}
@@ -16,9 +16,6 @@ none_rises k l = absurd (omega arith)
 one_rises : (x : ℕ) → IsStrictlyIncreasing (x ∷ [])
 one_rises x k l = absurd (omega arith)
 
-none_all : (P : ℕ → Type 0) → All P []
-none_all P = All-from_recursion P [] tt
-
 one_all : (P : ℕ → Type 0) (x : ℕ) → P x → All P (x ∷ [])
 one_all P x h = All-from_recursion P (x ∷ []) (h, tt)
 
@@ -26,7 +23,7 @@ abbrev IsPart : ℕ → List ℕ → Type 0
 IsPart m xs = IsStrictlyIncreasing xs × All (λ r. r < m) xs
 
 none_part : (m : ℕ) → IsPart m []
-none_part m = (none_rises, none_all (λ r. r < m))
+none_part m = (none_rises, All-nil (λ r. r < m))
 
 one_part : (m x : ℕ) → x < m → IsPart m (x ∷ [])
 one_part m x l = (one_rises x, one_all (λ r. r < m) x l)
@@ -68,7 +65,7 @@ abbrev Ones : List ℕ → Type 0
 Ones rs = (length (zeros rs) ≡ length rs) × All (λ n. n ≡ 0) (zeros rs)
 
 none_ones : Ones []
-none_ones = (refl, none_all (λ n. n ≡ 0))
+none_ones = (refl, All-nil (λ n. n ≡ 0))
 
 one_ones : (r : ℕ) → Ones (r ∷ [])
 one_ones r = (refl, one_all (λ n. n ≡ 0) 0 refl)
@@ -87,7 +84,7 @@ abbrev Leads : ℕ → ℕ → List ℕ → Type 0
 Leads n p xs = IsStrictlyIncreasing xs × All (λ q. (q < 8 * n) × (q / 4 ≡ p / 4)) xs
 
 none_leads : (n p : ℕ) → Leads n p []
-none_leads n p = (none_rises, none_all (λ q. (q < 8 * n) × (q / 4 ≡ p / 4)))
+none_leads n p = (none_rises, All-nil (λ q. (q < 8 * n) × (q / 4 ≡ p / 4)))
 
 one_leads : (n p q : ℕ) → q < 8 * n → q / 4 ≡ p / 4 → Leads n p (q ∷ [])
 one_leads n p q l e = (one_rises q, one_all (λ q. (q < 8 * n) × (q / 4 ≡ p / 4)) q (l, e))

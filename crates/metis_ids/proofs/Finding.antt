@@ -19,6 +19,11 @@ found t (y ∷ xs) x h =
       | false ↦ λ _ e. let rest = found t xs x e in (rest.0, or_right _ _ rest.1)
     ] refl h
 
+-- tests that agree find the same
+pub find_agree : {X : Type 0} (s t : X → Bool) → ((x : X) → s x ≡ t x) → (xs : List X) → find s xs ≡ find t xs
+find_agree s t same [] = refl
+find_agree s t same (x ∷ xs) = let rest = find_agree s t same xs in λ i. cond (same x i) (Some x) (rest i)
+
 -- ---- none passes
 
 pub not_found : (t : ℕ → Bool) (xs : List ℕ) → find t xs ≡ None → (x : ℕ) → has xs x ≡ true → t x ≡ false

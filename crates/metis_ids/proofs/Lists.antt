@@ -10,6 +10,7 @@ use Rattle.std.proofs.lemmas.List.Concat.{flat_map-append}
 use Rattle.std.proofs.lemmas.List.Elements.{All-head, All-tail, filter-append, All-cons, All-nil}
 use Rattle.std.proofs.lemmas.List.Folds.{list_any-append, list_any_at}
 use Rattle.std.proofs.lemmas.Map.Views.{any-filter_same}
+use Rattle.std.proofs.lemmas.Option.{same_Some}
 use Rattle.metis_ids.specs.Terms.{has}
 use Rattle.metis_ids.proofs.Tests.{eq_comm, less_apart}
 
@@ -29,6 +30,11 @@ list_any-flat_map t g (x ∷ xs) = list_any-append t (g x) (flat_map g xs) ∙ a
 
 pub any_contained : {X : Type 0} (t : X → Bool) (xs : List X) (x : X) → Contains xs x → t x ≡ true → list_any t xs ≡ true
 any_contained t xs x c passes = list_any_at t xs c.0 x c.1 (ap t c.2 ∙ passes)
+
+pub any_place : {X : Type 0} (t : X → Bool) (xs : List X) (i : ℕ) (a : X) → slice_get xs i ≡ Some a → t a ≡ true → list_any t xs ≡ true
+any_place t [] i a at h = cc
+any_place t (x ∷ xs) zero a at h = or_left (t x) (list_any t xs) (ap t (same_Some x a at) ∙ h)
+any_place t (x ∷ xs) (suc i) a at h = or_right (t x) (list_any t xs) (any_place t xs i a at h)
 
 pub each_weaker : {X : Type 0} (P Q : X → Type 0) (xs : List X) → ((x : X) → P x → Q x) → AllByRecursion P xs → AllByRecursion Q xs
 each_weaker P Q [] h all = tt
@@ -136,6 +142,16 @@ above_rest x n (y ∷ xs) all h =
       | inl now ↦ let e = eqb-true y n now in let l = all.0 in grind (arith, nat_tests)
       | inr later ↦ above_rest x n xs all.1 later
     ]
+
+-- a member of what stands above all is above it
+pub above_head : (x n : ℕ) (xs : List ℕ) → AllByRecursion (λ y. nat_cmp x y ≡ Less) xs → has xs n ≡ true → x < n
+above_head x n [] all h = absurd (false≢true h)
+above_head x n (y ∷ xs) all h = elim (or_cases (nat_eq y n) (has xs n) h) [
+  | inl now ↦ less y (eqb-true y n now) all.0
+  | inr later ↦ above_head x n xs all.1 later
+] where
+  less : (y : ℕ) → y ≡ n → nat_cmp x y ≡ Less → x < n
+  less y e h = grind (arith, nat_tests)
 
 -- ---- members and places
 

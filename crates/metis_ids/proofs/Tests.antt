@@ -33,6 +33,16 @@ ord_max_is a b = elim (cases_lt b a) [
   ]
 ]
 
+-- a number that fails, and before which all pass, is one
+pub least_is_one : (P : ℕ → Type 0) (j k : ℕ) → (P j → ⊥) → (P k → ⊥) → ((i : ℕ) → i < j → P i) → ((i : ℕ) → i < k → P i) → j ≡ k
+least_is_one P j k one two below_j below_k = elim (cases_lt j k) [
+  | inl low ↦ absurd (one (below_k j low))
+  | inr high ↦ elim (cases_lt k j) [
+    | inl low ↦ absurd (two (below_j k low))
+    | inr same ↦ omega arith
+  ]
+]
+
 pub bytes_same : (a : List ℕ) → bytes_eq a a ≡ true
 bytes_same a = (bytes_eq-Decides a a).1 refl
 

@@ -13,13 +13,9 @@ use Rattle.metis_universe.proofs.Demands.{demand_none}
 use Rattle.metis_universe.specs.Terms.{AreDifferent, IsUniverse, Universe, demand_of, has, no_pair, pair_count, required_of, requires}
 use Rattle.metis_layers.proofs.Slots.{AreApart, between, has_slot, none_from_none, wants}
 use Rattle.metis_layers.specs.Terms.{slots_above, slots_gained}
+use Rattle.metis_universe.proofs.Different.{sorted_differ}
 
 -- ---- numbers
-
-rising_differ : (xs : List ℕ) → IsStrictlySortedBy nat_cmp xs → AreDifferent xs
-unfolding IsStrictlySortedBy
-rising_differ [] rises = tt
-rising_differ (x ∷ xs) rises = (none_above x xs rises.0, rising_differ xs rises.1)
 
 -- what a range has
 pub of_range : (n a q : ℕ) → has (range_with_len a n) q ≡ true → (a ≤ q) × (q < a + n)
@@ -119,7 +115,7 @@ module _ (u : Universe) where
 
   -- the ports that a pair requires ascend, so that they differ
   pub required_differ : IsUniverse u → (p : ℕ) → AreDifferent (required_of u p)
-  required_differ k p = rising_differ (required_of u p) (sorted_from_strictly_increasing (required_of u p) (elim (cases_lt p (pair_count u)) [
+  required_differ k p = sorted_differ (required_of u p) (sorted_from_strictly_increasing (required_of u p) (elim (cases_lt p (pair_count u)) [
     | inl low ↦ (k.required p low).0
     | inr past ↦ none_rises (required_of u p) (nothing_past p past)
   ]))

@@ -5,6 +5,7 @@ use Rattle.std.specs.Option.{option_map_or}
 use Rattle.std.proofs.lemmas.Bool.{cases_eq}
 use Rattle.metis_ids.specs.declared.actions.Action.{Action}
 use Rattle.metis_place.specs.Terms.{HostLists, Seat, candidates, further, is_enough, seat_at, seats_by, shortest}
+use Rattle.std.proofs.lemmas.Option.{same_Some}
 
 take_le : (m : ℕ) (xs : List ℕ) → length (take m xs) ≤ m
 take_le zero [] = omega arith
@@ -12,14 +13,11 @@ take_le zero (x ∷ xs) = omega arith
 take_le (suc m) [] = omega arith
 take_le (suc m) (x ∷ xs) = let rest = take_le m xs in omega arith
 
-same : (a b : ℕ) → Some a ≡ Some b → a ≡ b
-same a b h = cc
-
 none_before : (t : ℕ → Bool) (a k m n : ℕ) → find t (range_with_len a k) ≡ Some m → a ≤ n → n < m → t n ≡ false
 none_before t a zero m n h low less = cc
 none_before t a (suc k) m n h low less = by (none_before t (a + 1) k m n) (t a) refl h where
   by : (find t (range_with_len (a + 1) k) ≡ Some m → a + 1 ≤ n → n < m → t n ≡ false) → (b : Bool) → t a ≡ b → cond b (Some a) (find t (range_with_len (a + 1) k)) ≡ Some m → t n ≡ false
-  by next true e h = let is = same a m h in absurd (omega arith)
+  by next true e h = let is = same_Some a m h in absurd (omega arith)
   by next false e h = elim (cases_eq a n) [
     | inl at ↦ sym (ap t at) ∙ e
     | inr other ↦ next h (omega arith) less

@@ -11,10 +11,11 @@ use Rattle.std.proofs.lemmas.List.Elements.{All-cons, All-head, All-nil, All-tai
 use Rattle.std.proofs.lemmas.List.Splits.{join_with_byte-slice_split, length-slice_split}
 use Rattle.std.proofs.lemmas.Slice.Eq.{bytes_eq-Decides}
 use Rattle.metis_universe.specs.Terms.{Universe}
-use Rattle.metis_place.specs.Terms.{Entries, HostLists, IfFault, IsBegun, IsHostsFault, NoFeed, ReadsHosts, SeenLines, begun_bytes, end_from, host_line, hosts_bytes, hosts_header, hosts_in, hosts_of, in_first, in_later, is_last, last_piece, lines_from, next_number, nothing, of_first, of_line, past_end, pieces, size_line, text_of, too_short, whole_lines, with_line}
-use Rattle.metis_tokens.specs.Terms.{and_then, is_feed}
+use Rattle.metis_place.specs.Terms.{Entries, HostLists, IsBegun, IsHostsFault, NoFeed, ReadsHosts, SeenLines, begun_bytes, end_from, host_line, hosts_bytes, hosts_header, hosts_in, hosts_of, in_first, in_later, is_last, lines_from, next_number, nothing, of_first, of_line, past_end, size_line, text_of, too_short, with_line}
+use Rattle.metis_ids.specs.Terms.{IfFault}
+use Rattle.metis_tokens.specs.Terms.{and_then, is_feed, last_piece, pieces, whole_lines}
 use Rattle.metis_place.specs.declared.hosts_fault.HFault.{HFault}
-use Rattle.metis_place.specs.declared.hosts_fault.HFault.TheVariants.{Line, Short}
+use Rattle.metis_place.specs.declared.hosts_fault.HFault.TheVariants.{Line, NoMemory, Short}
 use Rattle.metis_place.proofs.HostsLineFlaws.{flaw_had}
 use Rattle.metis_place.proofs.HostsRead.{Say, all_words, cut_last, fed, fed_host, fed_size, host_words, none_said, one_more, size_words, some_is}
 
@@ -183,7 +184,7 @@ module _ (u : Universe) (bytes : List ℕ) (lines : List (List ℕ)) (rest : Lis
           })
         ]
 
-pub fault_read : (u : Universe) (bytes : List ℕ) (r : Result HostLists HFault) → ReadsHosts r (hosts_in u bytes) → IfFault r (λ f. IsHostsFault u bytes f)
+pub fault_read : (u : Universe) (bytes : List ℕ) (r : Result HostLists HFault) → ReadsHosts r (hosts_in u bytes) → IfFault NoMemory r (λ f. IsHostsFault u bytes f)
 fault_read u bytes (Ok h) is = tt
 fault_read u bytes (Err f) is = λ known.
     let ps = pieces bytes in

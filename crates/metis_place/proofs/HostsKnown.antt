@@ -9,13 +9,13 @@ use Rattle.std.proofs.lemmas.Bool.Decides.{nat_tests}
 use Rattle.std.proofs.lemmas.List.{get_or-append_right, length-append, take_at}
 use Rattle.std.proofs.lemmas.List.Elements.{All-append, All-cons, All-head, All-nil, All-tail}
 use Rattle.std.proofs.lemmas.List.Splits.{slice_split_at}
-use Rattle.metis_tokens.specs.Terms.{and_then, is_feed, made, number_in, words}
+use Rattle.metis_tokens.specs.Terms.{and_then, is_feed, last_piece, made, number_in, pieces, whole_lines, words}
 use Rattle.metis_tokens.specs.declared.flaw.Flaw.TheVariants.{Form}
 use Rattle.metis_tokens.proofs.Cuts.{tokens_of_words, words_no_feed}
 use Rattle.metis_tokens.proofs.NumberTokens.{number_read}
 use Rattle.metis_tokens.proofs.Printed.{printed, printed_decimal, printed_name}
 use Rattle.metis_universe.specs.Terms.{Universe, type_named}
-use Rattle.metis_place.specs.Terms.{Entries, IsEntry, IsHostsText, SeenLines, each_new, end_from, entry_in, has_name, hosts_bytes, hosts_in, hosts_of, is_last, last_piece, lines_from, pieces, seen_lines, text_of, whole_lines, with_host, with_line, with_size, with_tokens}
+use Rattle.metis_place.specs.Terms.{Entries, IsEntry, IsHostsText, SeenLines, each_new, end_from, entry_in, has_name, hosts_bytes, hosts_in, hosts_of, is_last, lines_from, seen_lines, text_of, with_host, with_line, with_size, with_tokens}
 use Rattle.metis_place.specs.declared.hosts_fault.HFault.TheVariants.{Line, Name, Twice}
 use Rattle.metis_place.proofs.HostsRead.{fed, fed_lines, host_words, size_words, text_lines}
 

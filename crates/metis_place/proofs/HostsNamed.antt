@@ -4,13 +4,13 @@ use Rattle.std.specs.Prelude.{codes}
 use Rattle.std.specs.Bool.{◌==◌, if◌then◌else◌}
 use Rattle.std.specs.Option.{is_some}
 use Rattle.std.specs.Str.{bytes_eq}
-use Rattle.metis_tokens.specs.Terms.{and_then, made, tokens}
+use Rattle.metis_tokens.specs.Terms.{and_then, last_piece, line_fault, made, pieces, tokens, whole_lines}
 use Rattle.metis_tokens.specs.declared.flaw.Flaw.{Flaw}
 use Rattle.metis_tokens.specs.declared.flaw.Flaw.TheVariants as flaw
 use Rattle.metis_universe.specs.Terms.{Universe, type_named}
-use Rattle.metis_place.specs.Terms.{Entries, SeenLines, entry_in, has_name, hosts_in, hosts_of, is_last, last_piece, line_fault, lines_from, nothing, pieces, text_of, whole_lines, with_entry, with_host, with_line, with_size, with_tokens, with_words}
+use Rattle.metis_place.specs.Terms.{Entries, SeenLines, entry_in, has_name, hosts_in, hosts_of, is_last, lines_from, nothing, text_of, with_entry, with_host, with_line, with_size, with_tokens, with_words}
 use Rattle.metis_place.specs.declared.hosts_fault.HFault.{HFault}
-use Rattle.metis_place.specs.declared.hosts_fault.HFault.TheVariants.{Line, NoMemory}
+use Rattle.metis_place.specs.declared.hosts_fault.HFault.TheVariants.{Line, Name, NoMemory, Number}
 
 abbrev IsNamed : {A : Type 0} → Result A HFault → Type 0
 IsNamed r = r ≡ Err NoMemory → ⊥
@@ -27,7 +27,7 @@ and_then_named : {A B : Type 0} (r : Result A HFault) (next : A → Result B HFa
 and_then_named (Ok a) next named later h = later a h
 and_then_named (Err f) next named later h = named (cc)
 
-fault_at_named : {A : Type 0} (n : ℕ) (f : Flaw) → IsNamed {A = A} (Err (line_fault n f))
+fault_at_named : {A : Type 0} (n : ℕ) (f : Flaw) → IsNamed {A = A} (Err (line_fault Line Number Name n f))
 fault_at_named n flaw.Form h = cc
 fault_at_named n flaw.Number h = cc
 fault_at_named n flaw.Name h = cc

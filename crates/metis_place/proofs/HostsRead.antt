@@ -11,16 +11,17 @@ use Rattle.std.proofs.lemmas.List.{length-append, length-map, length-take-le, ma
 use Rattle.std.proofs.lemmas.List.Elements.{All-append, All-cons, All-nil}
 use Rattle.std.proofs.lemmas.List.Splits.{join_with_byte-slice_split, length-slice_split}
 use Rattle.std.proofs.lemmas.Slice.Eq.{bytes_eq-Decides}
-use Rattle.metis_tokens.specs.Terms.{and_then, is_feed, made, number_in, tokens, words}
+use Rattle.metis_tokens.specs.Terms.{and_then, is_feed, last_piece, made, number_in, pieces, text_from, tokens, whole_lines, words}
 use Rattle.metis_tokens.specs.declared.flaw.Flaw.{Flaw}
 use Rattle.metis_tokens.specs.declared.flaw.Flaw.TheVariants.{Form}
 use Rattle.metis_tokens.proofs.Cuts.{words_of_tokens}
 use Rattle.metis_tokens.proofs.NumberTokens.{number_is}
 use Rattle.metis_tokens.proofs.Outcomes.{if_is, made_is}
 use Rattle.metis_universe.specs.Terms.{Universe, is_name, type_count, type_named}
-use Rattle.metis_place.specs.Terms.{Entries, HostLists, IsEntry, IsHostsText, IsTextOf, ReadsHosts, SeenLines, are_apart, each_new, end_from, entry_in, has_name, host_line, hosts_bytes, hosts_in, hosts_lines, hosts_of, is_last, last_piece, lines_from, nothing, pieces, seen_lines, size_line, text_of, whole_lines, with_entry, with_host, with_line, with_size, with_tokens, with_words}
+use Rattle.metis_place.specs.Terms.{Entries, HostLists, IsEntry, IsHostsText, IsTextOf, ReadsHosts, SeenLines, are_apart, each_new, end_from, entry_in, has_name, host_line, host_line_rules, hosts_bytes, hosts_in, hosts_lines, hosts_of, is_last, lines_from, nothing, seen_lines, size_line, text_of, with_entry, with_host, with_line, with_size, with_tokens, with_words}
 use Rattle.metis_place.specs.declared.hosts_fault.HFault.{HFault}
 use Rattle.metis_place.specs.declared.hosts_fault.HFault.TheVariants.{Line, Name, Twice}
+use Rattle.metis_tokens.proofs.OwnTexts.{text_later}
 
 -- ---- outcomes
 
@@ -291,6 +292,16 @@ hosts_are_text u bytes h is =
       text = whole ∙ ap (λ hs. hosts_bytes hs seen.sizes) (sym hosts);
       sized = ap (λ h. h.sizes) all.is;
     }
+
+-- what was seen at last is what is read
+pub all_read : (u : Universe) (lines : List (List ℕ)) (rest : List ℕ) (s : SeenLines) → text_from (codes "metis hosts 1") (host_line_rules u) (λ s. s) nothing lines rest ≡ Ok s → text_of u lines rest ≡ Ok (hosts_of u s)
+all_read u lines rest s is = sym (text_later (host_line_rules u) (hosts_of u) (codes "metis hosts 1") nothing lines rest) ∙ ap (made (hosts_of u)) is
+
+pub fails_read : (u : Universe) (lines : List (List ℕ)) (rest : List ℕ) (f : HFault) → text_from (codes "metis hosts 1") (host_line_rules u) (λ s. s) nothing lines rest ≡ Err f → text_of u lines rest ≡ Err f
+fails_read u lines rest f is = sym (text_later (host_line_rules u) (hosts_of u) (codes "metis hosts 1") nothing lines rest) ∙ ap (made (hosts_of u)) is
+
+pub entries_read : (u : Universe) (lines : List (List ℕ)) (rest : List ℕ) (h : HostLists) → text_of u lines rest ≡ Ok h → All IsEntry h.hosts
+entries_read u lines rest h is = let all = (text_is u lines rest h is).2 in subst (All IsEntry) (sym (ap (λ h. h.hosts) all.is)) all.say.hosts_are
 
 -- each host has a line
 pub few_hosts : (u : Universe) (ps : List (List ℕ)) (h : HostLists) → text_of u (whole_lines ps) (last_piece ps) ≡ Ok h → length h.hosts + 2 ≤ length ps + 1

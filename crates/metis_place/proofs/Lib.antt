@@ -23,5 +23,4 @@ pub mod HostsBroken
 pub mod HostsLineFlaws
 pub mod HostsNamed
 pub mod HostsRead
-pub mod HostsLines
 pub mod HostsKnown

@@ -3,7 +3,6 @@
 --     IsBegun u hosts sizes, begun_bytes hosts sizes      what the lines of a text say that can be read so far;  these lines, the first one before them
 --     IsTooShort, IsOfFirst, IsOfLine, IsPastEnd u bytes f      the bytes end before the last line does;  the first line is another;  the line behind those that can be read has a flaw, and is told;  more stands behind the last line
 --     IsHostsFault u bytes f      one of these
---     IfFault result P      of a fault that is no want of memory
 use Rattle.std.specs.Prelude.{◌≡◌, ◌≢◌, ◌≤◌, ℕ, ◌+◌, ◌==◌, not, List, ◌∷◌, ◌++◌, Result, Ok, Err, IsTrue, IsFalse, codes, length, map, ⊤}
 use Rattle.std.specs.List.{All, concat, list_all}
 use Rattle.std.specs.Option.{is_some}
@@ -68,7 +67,3 @@ pub data IsHostsFault (u : Universe) (bytes : List ℕ) (f : HFault) : Type 0 wh
   of_first : IsOfFirst bytes f → IsHostsFault u bytes f
   of_line : IsOfLine u bytes f → IsHostsFault u bytes f
   past_end : IsPastEnd u bytes f → IsHostsFault u bytes f
-
-abbrev pub IfFault : {A : Type 0} → Result A HFault → (HFault → Type 0) → Type 0
-IfFault (Ok x) P = ⊤
-IfFault (Err fault) P = fault ≢ NoMemory → P fault

@@ -3,14 +3,14 @@
 --     entry_in name number      the name and the number that two tokens are
 --     with_line u n seen line      what is seen with line n, or its fault
 --     sizes_of u sizes      the size of each type: that of its line, or 1
---     whole_lines bytes, last_piece bytes      the lines that end with a line feed;  what stands behind the last of them
+--     lines_from u seen n lines rest, text_of u lines rest      the lines from line n on, or all, and what stands behind the last of them
 --     hosts_in u bytes      what the bytes say
---     Takes result seen meaning, ReadsHosts result meaning      what was taken in, or read, is what was meant, unless memory ran out
-use Rattle.std.specs.Prelude.{◌≡◌, ◌≢◌, ℕ, ◌+◌, ◌-◌, ◌==◌, ◌&&◌, not, Bool, List, [], ◌∷◌, ◌++◌, codes, length, map, take, Result, Ok, Err, if◌then◌else◌}
-use Rattle.std.specs.List.{slice_index_or, slice_split}
+--     ReadsHosts result meaning      what was read is what was meant, unless memory ran out
+use Rattle.std.specs.Prelude.{◌≡◌, ◌≢◌, ℕ, ◌==◌, ◌&&◌, not, Bool, List, [], ◌∷◌, ◌++◌, codes, length, map, Result, Ok, Err, if◌then◌else◌}
 use Rattle.std.specs.Option.{is_some}
 use Rattle.std.specs.Str.{bytes_eq}
-use Rattle.metis_tokens.specs.Terms.{and_then, is_feed, made, number_in, tokens}
+use Rattle.metis_tokens.specs.OwnTexts as own
+use Rattle.metis_tokens.specs.Terms.{LineRules, line_fault, line_rules, made, number_in, tokens}
 use Rattle.metis_tokens.specs.declared.flaw.Flaw.{Flaw}
 use Rattle.metis_tokens.specs.declared.flaw.Flaw.TheVariants as flaw
 use Rattle.metis_universe.specs.Terms.{Universe, is_name, type_named}
@@ -31,12 +31,6 @@ seen_lines hosts sizes = record { hosts = hosts; sizes = sizes }
 abbrev pub nothing : SeenLines
 nothing = seen_lines [] []
 
--- the fault of line n
-abbrev pub line_fault : ℕ → Flaw → HFault
-line_fault n flaw.Form = Line n
-line_fault n flaw.Number = Number n
-line_fault n flaw.Name = Name n
-
 abbrev pub entry_in : List ℕ → List ℕ → Result (List ℕ × ℕ) Flaw
 entry_in name number = if is_name name then made (λ k. (name, k)) (number_in number) else Err flaw.Form
 
@@ -46,11 +40,11 @@ with_entry n es e = if has_name es e.0 then Err (Twice n) else Ok (es ++ e ∷ [
 
 abbrev pub with_host : ℕ → SeenLines → Result (List ℕ × ℕ) Flaw → Result SeenLines HFault
 with_host n seen (Ok e) = made (λ hosts. seen_lines hosts seen.sizes) (with_entry n seen.hosts e)
-with_host n seen (Err f) = Err (line_fault n f)
+with_host n seen (Err f) = Err (line_fault Line Number Name n f)
 
 abbrev pub with_size : Universe → ℕ → SeenLines → Result (List ℕ × ℕ) Flaw → Result SeenLines HFault
 with_size u n seen (Ok e) = if is_some (type_named u e.0) then made (λ sizes. seen_lines seen.hosts sizes) (with_entry n seen.sizes e) else Err (Name n)
-with_size u n seen (Err f) = Err (line_fault n f)
+with_size u n seen (Err f) = Err (line_fault Line Number Name n f)
 
 -- a host stands before all sizes, and a size behind a host
 abbrev pub with_words : Universe → ℕ → SeenLines → List ℕ → Result (List ℕ × ℕ) Flaw → Result SeenLines HFault
@@ -77,36 +71,24 @@ hosts_of u seen = record { hosts = seen.hosts; sizes = sizes_of u seen.sizes }
 abbrev pub is_last : SeenLines → List ℕ → Bool
 is_last seen line = bytes_eq line (codes "end") && not (length seen.hosts == 0)
 
+abbrev pub host_line_rules : Universe → LineRules SeenLines HFault
+host_line_rules u = line_rules is_last (with_line u) Line Short
+
 -- line n and what stands behind it: nothing, once the last line was read
 abbrev pub end_from : Universe → SeenLines → ℕ → List (List ℕ) → List ℕ → Result HostLists HFault
-end_from u seen n lines rest = if (length lines == 0) && (length rest == 0) then Ok (hosts_of u seen) else Err (Line n)
+end_from u seen n lines rest = own.end_from (host_line_rules u) (hosts_of u) seen n lines rest
 
 -- the lines from line n on, and what stands behind the last of them
 abbrev pub lines_from : Universe → SeenLines → ℕ → List (List ℕ) → List ℕ → Result HostLists HFault
-lines_from u seen n [] rest = Err Short
-lines_from u seen n (line ∷ lines) rest = if is_last seen line then end_from u seen (n + 1) lines rest else and_then (with_line u n seen line) (λ s. lines_from u s (n + 1) lines rest)
+lines_from u seen n lines rest = own.lines_from (host_line_rules u) (hosts_of u) seen n lines rest
 
 abbrev pub text_of : Universe → List (List ℕ) → List ℕ → Result HostLists HFault
-text_of u [] rest = Err Short
-text_of u (header ∷ lines) rest = if bytes_eq header (codes "metis hosts 1") then lines_from u nothing 2 lines rest else Err (Line 1)
-
-abbrev pub pieces : List ℕ → List (List ℕ)
-pieces bytes = slice_split is_feed bytes
-
-abbrev pub whole_lines : List (List ℕ) → List (List ℕ)
-whole_lines pieces = take (length pieces - 1) pieces
-
-abbrev pub last_piece : List (List ℕ) → List ℕ
-last_piece pieces = slice_index_or pieces (length pieces - 1) []
+text_of u lines rest = own.text_from (codes "metis hosts 1") (host_line_rules u) (hosts_of u) nothing lines rest
 
 abbrev pub hosts_in : Universe → List ℕ → Result HostLists HFault
-hosts_in u bytes = text_of u (whole_lines (pieces bytes)) (last_piece (pieces bytes))
+hosts_in u bytes = own.own_text (codes "metis hosts 1") (host_line_rules u) (hosts_of u) nothing bytes
 
 -- ---- what is told
-
-abbrev pub Takes : {X Y : Type 0} → Result Y HFault → X → Result X HFault → Type 0
-Takes (Ok y) x meaning = meaning ≡ Ok x
-Takes (Err fault) x meaning = fault ≢ NoMemory → meaning ≡ Err fault
 
 abbrev pub ReadsHosts : Result HostLists HFault → Result HostLists HFault → Type 0
 ReadsHosts (Ok h) meaning = meaning ≡ Ok h

@@ -1,6 +1,7 @@
 //! Why bytes are no text of hosts.
 ghost use Rattle.std.specs.Prelude.{◌≡◌};
-ghost use Rattle.metis_place.specs.Terms.{line_fault};
+ghost use Rattle.metis_tokens.specs.Terms.{line_fault};
+ghost use Rattle.metis_place.specs.declared.hosts_fault.HFault.TheVariants.{Line, Name, Number};
 
 use metis_tokens::Flaw;
 use std::alloc::{AllocError, AllocFailed};
@@ -23,7 +24,7 @@ pub enum HFault {
 
 /// The fault of the line of this number, which has the flaw.
 pub fn fault_at(number: u32, flaw: Flaw) -> HFault
-    ensures { result ≡ line_fault number flaw }
+    ensures { result ≡ line_fault Line Number Name number flaw }
 {
     match flaw {
         Flaw::Form => HFault::Line(number),

@@ -1,16 +1,18 @@
 //! Reads the text of hosts.
 ghost use Rattle.std.specs.Prelude.{◌≡◌, ◌≤◌, IfOk, length, map};
 ghost use Rattle.std.specs.List.{All};
-ghost use Rattle.metis_tokens.specs.Terms.{made};
+ghost use Rattle.metis_tokens.specs.Terms.{TakesAs, last_piece, made, whole_lines};
 ghost use Rattle.metis_universe.specs.Terms.{type_count};
-ghost use Rattle.metis_place.specs.Terms.{IfFault, IsEntry, IsHostsFault, IsTextOf, ReadsHosts, Takes, end_from, entries_of, entry_in, hosts_in, hosts_of, is_last, last_piece, lines_from, nothing, number_of, sizes_of, text_of, whole_lines, with_entry, with_host, with_line, with_size, with_tokens, with_words};
+ghost use Rattle.metis_place.specs.Terms.{IsEntry, IsHostsFault, IsTextOf, ReadsHosts, end_from, entries_of, entry_in, hosts_in, hosts_of, is_last, lines_from, nothing, number_of, sizes_of, text_of, with_entry, with_host, with_line, with_size, with_tokens, with_words};
+ghost use Rattle.metis_ids.specs.Terms.{IfFault};
+ghost use Rattle.metis_place.specs.declared.hosts_fault.HFault.TheVariants.{NoMemory};
 
 use crate::hosts::Hosts;
 use crate::hosts_fault::{HFault, fault_at};
 use indexmap::IndexMap;
 use metis_ids::TypeIx;
 use metis_tokens::bytes::is;
-use metis_tokens::{Flaw, number_in, pieces_of, tokens_of};
+use metis_tokens::{Flaw, Lined, number_in, pieces_of, read_own, tokens_of};
 use metis_universe::{Universe, name_in};
 use std::alloc::{AllocError, Global};
 use std::marker::Model;
@@ -43,14 +45,6 @@ impl Seen {
         }
     }
 
-    // Takes in the line of this number.
-    fn take(&mut self, alloc: Global, u: &Universe, number: u32, line: &[u8]) -> Result<(), HFault>
-        ensures { Takes result self.new (with_line u.now number self.old line.now) }
-    {
-        let tokens = tokens_of(alloc, line)?;
-        self.take_tokens(alloc, u, number, &tokens)
-    }
-
     fn take_tokens(
         &mut self,
         alloc: Global,
@@ -58,7 +52,7 @@ impl Seen {
         number: u32,
         tokens: &[&[u8]],
     ) -> Result<(), HFault>
-        ensures { Takes result self.new (with_tokens u.now number self.old (map (λ t. t.now) tokens.now)) }
+        ensures { TakesAs NoMemory result self.new (with_tokens u.now number self.old (map (λ t. t.now) tokens.now)) }
     {
         match tokens {
             [word, name, value] => self.take_words(alloc, u, number, word, entry_in(name, value)),
@@ -75,7 +69,7 @@ impl Seen {
         word: &[u8],
         said: Result<(&str, u32), Flaw>,
     ) -> Result<(), HFault>
-        ensures { Takes result self.new (with_words u.now number self.old word.now (made (λ e. (e.0.now, e.1)) said.entry)) }
+        ensures { TakesAs NoMemory result self.new (with_words u.now number self.old word.now (made (λ e. (e.0.now, e.1)) said.entry)) }
     {
         if is(word, "host") && self.sizes.is_empty() {
             self.take_host(alloc, number, said)
@@ -92,7 +86,7 @@ impl Seen {
         number: u32,
         said: Result<(&str, u32), Flaw>,
     ) -> Result<(), HFault>
-        ensures { Takes result self.new (with_host number self.old (made (λ e. (e.0.now, e.1)) said.entry)) }
+        ensures { TakesAs NoMemory result self.new (with_host number self.old (made (λ e. (e.0.now, e.1)) said.entry)) }
     {
         match said {
             Ok((name, room)) => add_entry(alloc, &mut self.rooms, number, name, room),
@@ -108,7 +102,7 @@ impl Seen {
         number: u32,
         said: Result<(&str, u32), Flaw>,
     ) -> Result<(), HFault>
-        ensures { Takes result self.new (with_size u.now number self.old (made (λ e. (e.0.now, e.1)) said.entry)) }
+        ensures { TakesAs NoMemory result self.new (with_size u.now number self.old (made (λ e. (e.0.now, e.1)) said.entry)) }
     {
         match said {
             Ok((name, size)) => {
@@ -121,31 +115,6 @@ impl Seen {
         }
     }
 
-    // Whether this is the last line, which stands behind a host.
-    fn ends_with(&self, line: &[u8]) -> bool
-        ensures { result ≡ is_last self.now line.now }
-    {
-        is(line, "end") && !self.rooms.is_empty()
-    }
-
-    // The hosts, if nothing stands behind the last line. The line behind it has this number.
-    fn end(
-        self,
-        alloc: Global,
-        u: &Universe,
-        number: u32,
-        lines: &[&[u8]],
-        rest: &[u8],
-    ) -> Result<Hosts, HFault>
-        requires { All IsEntry self.hosts }
-        ensures { ReadsHosts result (end_from u.now self number (map (λ line. line.now) lines.now) rest.now) }
-    {
-        if !lines.is_empty() || !rest.is_empty() {
-            return Err(HFault::Line(number));
-        }
-        Ok(self.hosts(alloc, u)?)
-    }
-
     // The hosts, and the size of each type.
     fn hosts(self, alloc: Global, u: &Universe) -> Result<Hosts, AllocError>
         requires { All IsEntry self.hosts }
@@ -156,6 +125,47 @@ impl Seen {
             rooms: rooms_of(alloc, self.rooms)?,
             sizes,
         })
+    }
+}
+
+impl Lined for Seen {
+    ghost use Rattle.metis_place.specs.Terms.{is_last, with_line};
+    ghost use Rattle.metis_place.specs.declared.hosts_fault.HFault.TheVariants.{Line, NoMemory, Short};
+
+    type Fault = HFault;
+
+    ghost ends = { is_last };
+
+    ghost taken = { with_line };
+
+    ghost of_line = { Line };
+
+    ghost short = { Short };
+
+    ghost memory = { NoMemory };
+
+    // The last line stands behind a host.
+    fn ends_with(&self, line: &[u8]) -> bool {
+        is(line, "end") && !self.rooms.is_empty()
+    }
+
+    fn take(
+        &mut self,
+        alloc: Global,
+        u: &Universe,
+        number: u32,
+        line: &[u8],
+    ) -> Result<(), HFault> {
+        let tokens = tokens_of(alloc, line)?;
+        self.take_tokens(alloc, u, number, &tokens)
+    }
+
+    fn line_fault(number: u32) -> HFault {
+        HFault::Line(number)
+    }
+
+    fn short_fault() -> HFault {
+        HFault::Short
     }
 }
 
@@ -178,7 +188,7 @@ fn add_entry(
     name: &str,
     value: u32,
 ) -> Result<(), HFault>
-    ensures { Takes result (entries_of entries.new.entries) (with_entry number (entries_of entries.old.entries) (name.now, value)) }
+    ensures { TakesAs NoMemory result (entries_of entries.new.entries) (with_entry number (entries_of entries.old.entries) (name.now, value)) }
 {
     if entries.contains_key(name) {
         return Err(HFault::Twice(number));
@@ -225,7 +235,7 @@ pub fn read_hosts(alloc: Global, u: &Universe, bytes: &[u8]) -> Result<Hosts, HF
     ensures text { IfOk result (λ h. IsTextOf u.now h bytes.now) }
 
     // Each fault comes of the first line that is wrong, and is what is wrong with it, or of an end that is missing.
-    ensures fault { IfFault result (λ f. IsHostsFault u.now bytes.now f) }
+    ensures fault { IfFault NoMemory result (λ f. IsHostsFault u.now bytes.now f) }
     ensures few { IfOk result (λ h. length h.hosts ≤ 65536) }
     ensures sizes { IfOk result (λ h. length h.sizes ≡ type_count u.now) }
 {
@@ -238,39 +248,7 @@ fn read_pieces(alloc: Global, u: &Universe, pieces: &[&[u8]]) -> Result<Hosts, H
     requires { length pieces.now ≤ 65537 }
     ensures { ReadsHosts result (text_of u.now (whole_lines (map (λ piece. piece.now) pieces.now)) (last_piece (map (λ piece. piece.now) pieces.now))) }
 {
-    match pieces {
-        [lines @ .., rest] => read_text(alloc, u, lines, rest),
-        [] => Err(HFault::Short),
-    }
-}
-
-fn read_text(alloc: Global, u: &Universe, lines: &[&[u8]], rest: &[u8]) -> Result<Hosts, HFault>
-    requires { length lines.now ≤ 65536 }
-    ensures { ReadsHosts result (text_of u.now (map (λ line. line.now) lines.now) rest.now) }
-{
-    match lines {
-        [header, lines @ ..] => {
-            if !is(header, "metis hosts 1") {
-                return Err(HFault::Line(1));
-            }
-            read_lines(alloc, u, lines, rest)
-        }
-        [] => Err(HFault::Short),
-    }
-}
-
-// The lines from the second on, and what stands behind the last of them.
-fn read_lines(alloc: Global, u: &Universe, lines: &[&[u8]], rest: &[u8]) -> Result<Hosts, HFault>
-    requires { length lines.now ≤ 65536 }
-    ensures { ReadsHosts result (lines_from u.now nothing 2 (map (λ line. line.now) lines.now) rest.now) }
-{
     let mut seen = Seen::new(alloc);
-    for (k, line) in lines.iter().enumerate() {
-        let number = k as u32 + 2;
-        if seen.ends_with(line) {
-            return seen.end(alloc, u, number + 1, &lines[k + 1..], rest);
-        }
-        seen.take(alloc, u, number, line)?;
-    }
-    Err(HFault::Short)
+    read_own(alloc, u, "metis hosts 1", pieces, &mut seen)?;
+    Ok(seen.hosts(alloc, u)?)
 }

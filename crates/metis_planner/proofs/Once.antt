@@ -16,13 +16,9 @@ use Rattle.metis_planner.proofs.Ending.{attained_layered}
 use Rattle.metis_planner.proofs.Forced.{providers, sound_for}
 use Rattle.metis_planner.proofs.Rounded.{realizes}
 use Rattle.metis_planner.specs.Terms.{IsByRounds, graph_after}
+use Rattle.metis_universe.proofs.Different.{sorted_differ}
 
 -- ---- numbers along which a level rises
-
-sorted_differ : (xs : List ℕ) → IsStrictlySortedBy nat_cmp xs → AreDifferent xs
-unfolding IsStrictlySortedBy
-sorted_differ [] sorted = tt
-sorted_differ (x ∷ xs) sorted = (none_above x xs sorted.0, sorted_differ xs sorted.1)
 
 -- what differs under a name differs
 named_apart : (f : ℕ → ℕ) (xs : List ℕ) → AreDifferent (map f xs) → AreDifferent xs

@@ -1,3 +1,4 @@
+//! Writes what `EventGraph` answers.
 ghost use Rattle.std.specs.Prelude.{◌≡◌, ◌<◌, IfOk, length, map};
 ghost use Rattle.std.specs.List.{All};
 ghost use Rattle.metis_events.specs.Terms.{event_at};

@@ -1,3 +1,4 @@
+//! The targets of a probe.
 ghost use Rattle.std.specs.Prelude.{◌<◌, ◌≤◌, IfOk, length};
 ghost use Rattle.std.specs.List.{All};
 ghost use Rattle.metis_universe.specs.Terms.{pair_count};

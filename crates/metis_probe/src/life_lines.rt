@@ -1,3 +1,4 @@
+//! Writes what `Lines` answers.
 ghost use Rattle.std.specs.Prelude.{◌≡◌, ◌<◌, IsTrue, length, not};
 ghost use Rattle.metis_universe.specs.Terms.{has};
 ghost use Rattle.metis_lines.specs.Terms.{ends_in, is_loose, line_at};

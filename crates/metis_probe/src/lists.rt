@@ -1,3 +1,4 @@
+//! Writes words, numbers and lists.
 use crate::stop::Stop;
 use metis_ids::{PairIx, PortIx};
 

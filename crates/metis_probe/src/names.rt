@@ -1,3 +1,4 @@
+//! Writes what names mean.
 use crate::lists::{put, put_number};
 use crate::stop::Stop;
 use metis_ids::{PairIx, PortIx, TypeIx};

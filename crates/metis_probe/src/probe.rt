@@ -1,3 +1,4 @@
+//! Makes the probes of a file, line by line.
 use crate::graphs::write_sorting;
 use crate::layers::write_layers;
 use crate::names::write_names;

@@ -1,3 +1,4 @@
+//! Writes what `why` answers.
 ghost use Rattle.std.specs.Prelude.{IfOk};
 ghost use Rattle.std.specs.List.{All};
 ghost use Rattle.metis_universe.specs.Terms.{IsGoalOf};

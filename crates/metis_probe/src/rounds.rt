@@ -1,3 +1,4 @@
+//! Writes what the rounds of the planner come to.
 ghost use Rattle.std.specs.Prelude.{◌≡◌, ◌+◌, ◌<◌, ◌≤◌, ℕ, IfOk, IsTrue, OnOk, length};
 ghost use Rattle.std.specs.List.{All};
 ghost use Rattle.metis_universe.specs.Terms.{Universe as Model, has, pair_count};

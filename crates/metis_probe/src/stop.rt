@@ -1,3 +1,4 @@
+//! Why probes stop.
 use metis_ids::NoMemory;
 use std::alloc::{AllocError, AllocFailed};
 use std::io;

@@ -1,3 +1,4 @@
+//! Writes the tables of a universe.
 ghost use Rattle.std.specs.Prelude.{◌<◌};
 ghost use Rattle.metis_universe.specs.Terms.{pair_count, port_count, type_count};
 

@@ -1,3 +1,4 @@
+//! Writes what `waits` answers.
 ghost use Rattle.std.specs.Prelude.{◌-◌, ◌<◌, ◌≤◌, ◌^◌, length};
 ghost use Rattle.std.specs.List.{All};
 ghost use Rattle.metis_universe.specs.Terms.{IsOf};

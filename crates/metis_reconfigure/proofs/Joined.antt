@@ -10,7 +10,8 @@ use Rattle.metis_ids.proofs.Options.{IsSome_at}
 use Rattle.metis_layers.proofs.Going.{GoesOn, GoesOn-append, after_all-append, at}
 use Rattle.metis_layers.specs.Terms.{place_of}
 use Rattle.metis_universe.specs.Terms.{Binding, Config, Correct, IsConfig, IsSteadfastRun, IsUniverse, Universe, after_all, empty, has, is_bound, pair_of}
-use Rattle.metis_completion.proofs.Binding.{Fits, binds_bound, binds_pair}
+use Rattle.metis_completion.proofs.Binding.{Fits, binds_bound}
+use Rattle.metis_rollout.proofs.Rebinding.{binds_pair}
 use Rattle.metis_completion.proofs.Completion.{completion}
 use Rattle.metis_completion.proofs.ResidualRows.{residual_after_all}
 use Rattle.metis_completion.specs.Terms.{IsBeside}

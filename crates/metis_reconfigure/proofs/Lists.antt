@@ -5,7 +5,7 @@ use Rattle.std.specs.Map.{keys_of, lookup}
 use Rattle.std.proofs.lemmas.Bool.{and_from, and_parts, both_ways, eq-eqb, eqb-true, false_from_ne_true, false≢true, or_cases, or_left, or_right}
 use Rattle.std.proofs.lemmas.List.Sums.{length-filter, sum_by-append}
 use Rattle.std.proofs.lemmas.Map.Entries.{length-keys_of}
-use Rattle.metis_completion.proofs.Front.{sorted_differ}
+use Rattle.metis_universe.proofs.Different.{sorted_differ}
 use Rattle.metis_ids.proofs.Lists.{has-filter, list_any-map, some_member}
 use Rattle.metis_ids.specs.declared.goals.Goal.{Goal}
 use Rattle.metis_rollout.specs.Terms.{members}

@@ -13,7 +13,8 @@ use Rattle.metis_layers.proofs.Going.{type_provides-own, type_requires-own}
 use Rattle.metis_universe.proofs.Slots.{mapped_from}
 use Rattle.metis_universe.specs.Terms.{AreDifferent, Binding, Config, IsConfig, IsUniverse, Universe, has, is_bound, is_tie, pair_of, provides, required_of, requires, type_of, type_provides, type_requires}
 use Rattle.metis_completion.proofs.Binding.{Fits}
-use Rattle.metis_completion.proofs.Front.{append_differs, front_differs, rising_differ}
+use Rattle.metis_completion.proofs.Front.{append_differs, front_differs}
+use Rattle.metis_universe.proofs.Different.{rising_differ}
 use Rattle.metis_rollout.proofs.Quiet.{all_among, is_in}
 use Rattle.metis_rollout.specs.Terms.{bind, members}
 use Rattle.metis_wishes.specs.Terms.{rebound}

@@ -11,7 +11,8 @@ use Rattle.metis_ids.specs.declared.goals.Goal.{Goal}
 use Rattle.metis_ids.proofs.Lists.{all_at, has-append, has-filter, has_range}
 use Rattle.metis_ids.proofs.Options.{IsSome_at}
 use Rattle.metis_universe.specs.Terms.{AreDifferent, Config, IsConfig, IsMet, IsProvider, IsSteadfastRun, IsUniverse, Universe, demand_of, has, is_bound, no_pair, pair_count, pair_of, port_count, required_of, requires}
-use Rattle.metis_completion.proofs.Front.{append_differs, rising_differ}
+use Rattle.metis_completion.proofs.Front.{append_differs}
+use Rattle.metis_universe.proofs.Different.{rising_differ}
 use Rattle.metis_completion.proofs.Keeping.{fresh_leads}
 use Rattle.metis_planner.specs.Terms.{IsPlanFor}
 use Rattle.metis_rollout.proofs.Among.{is_bound-among, pair_among, pair_from}

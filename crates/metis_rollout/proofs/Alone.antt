@@ -13,6 +13,7 @@ use Rattle.metis_rollout.specs.Terms.{GoesApart, all_go, among, cycle_removal, e
 use Rattle.metis_rollout.proofs.Among.{among_all, filter_twice, pair_of-among}
 use Rattle.metis_rollout.proofs.Unused.{length-without}
 use Rattle.metis_rollout.proofs.Quiet.{all_among, is_in, next_one, unbinds_bound}
+use Rattle.metis_ids.proofs.Finding.{find_agree}
 
 -- ---- lists
 
@@ -32,10 +33,6 @@ any_kept t p (b ∷ xs) keeps = by (t b) (p b) refl keeps.0 (any_kept t p xs kee
   by v true is keep rest = λ i. is i || rest i
   by true false is keep rest = absurd (false≢true (keep refl))
   by false false is keep rest = rest
-
-find_same : (p q : ℕ → Bool) → ((z : ℕ) → p z ≡ q z) → (xs : List ℕ) → find p xs ≡ find q xs
-find_same p q same [] = refl
-find_same p q same (x ∷ xs) = λ i. cond (same x i) (Some x) (find_same p q same xs i)
 
 find_kept : (p q : ℕ → Bool) (xs : List ℕ) → find p (filter q xs) ≡ find (λ z. q z && p z) xs
 find_kept p q [] = refl
@@ -91,7 +88,7 @@ module _ (goes : ℕ → Bool) where
 
   next_among : (c : Config) → IsApart c → next_unreferenced goes c ≡ next_unreferenced all_go (among goes c)
   next_among c apart =
-      find_same (λ z. goes z && not (is_referenced c z)) (λ z. goes z && not (is_referenced (among goes c) z)) (λ z. by z (goes z) (referenced_among c apart z)) (members c)
+      find_agree (λ z. goes z && not (is_referenced c z)) (λ z. goes z && not (is_referenced (among goes c) z)) (λ z. by z (goes z) (referenced_among c apart z)) (members c)
       ∙ sym (find_kept (λ z. not (is_referenced (among goes c) z)) goes (members c))
       ∙ ap (find (λ z. not (is_referenced (among goes c) z))) (sym (keys_of-filter goes c.instances)) where
         by : (z : ℕ) (v : Bool) → (v ≡ true → is_referenced (among goes c) z ≡ is_referenced c z) → (v && not (is_referenced c z)) ≡ (v && not (is_referenced (among goes c) z))

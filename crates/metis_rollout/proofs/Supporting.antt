@@ -23,7 +23,7 @@ providers_low u s support = λ k d low.
     let there = has_at (provider_pairs s) k d low in
     support.pairs _ (and_parts _ _ (sym (has-filter (λ p. list_any (is_number p) s.providers) _ s.selected.members) ∙ there)).1
 
-layer_low : (u : Universe) (p : ℕ) → IsSome (layer_of u p) → p < pair_count u
+pub layer_low : (u : Universe) (p : ℕ) → IsSome (layer_of u p) → p < pair_count u
 layer_low u p h = let l = some_is (layer_of u p) h in omega (arith, in_range 0 (pair_count u) p (layer_pair u p l.0 l.1))
 
 -- so are pairs that have a layer

@@ -12,7 +12,7 @@ use Rattle.std.proofs.lemmas.Bool.{and_parts, cases_eq, eq-eqb, eqb-true, false_
 use Rattle.std.proofs.lemmas.Bool.Decides.{nat_tests}
 use Rattle.std.proofs.lemmas.List.Elements.{recursion_from_All}
 use Rattle.std.proofs.lemmas.Map.Views.{any-filter_same}
-use Rattle.metis_ids.proofs.Lists.{above_rest}
+use Rattle.metis_ids.proofs.Lists.{above_head, above_rest}
 use Rattle.metis_ids.proofs.Tests.{eq_comm}
 use Rattle.metis_universe.specs.Terms.{Binding, Config, IsConfig, config_of, has, is_bound, is_tie, remove, untie}
 use Rattle.metis_universe.proofs.Edits.{tie_is}
@@ -31,15 +31,6 @@ bound_points c r z y h = elim (is_referenced c y) as (λ b. is_referenced c y �
 ] refl
 
 -- ---- the least unreferenced instance
-
-pub above_head : (x n : ℕ) (xs : List ℕ) → AllByRecursion (λ y. nat_cmp x y ≡ Less) xs → has xs n ≡ true → x < n
-above_head x n [] all h = absurd (false≢true h)
-above_head x n (y ∷ xs) all h = elim (or_cases (nat_eq y n) (has xs n) h) [
-  | inl now ↦ less y (eqb-true y n now) all.0
-  | inr later ↦ above_head x n xs all.1 later
-] where
-  less : (y : ℕ) → y ≡ n → nat_cmp x y ≡ Less → x < n
-  less y e h = grind (arith, nat_tests)
 
 find_first : (t : ℕ → Bool) (xs : List ℕ) (z : ℕ) → IsStrictlySortedBy nat_cmp xs → has xs z ≡ true → t z ≡ true → ((w : ℕ) → has xs w ≡ true → t w ≡ true → z ≤ w) → find t xs ≡ Some z
 unfolding IsStrictlySortedBy

@@ -16,6 +16,7 @@ pub mod LeastLeft
 pub mod Moved
 pub mod Moves
 pub mod Numbered
+pub mod Outcomes
 pub mod OwnRounds
 pub mod Owned
 pub mod Placed

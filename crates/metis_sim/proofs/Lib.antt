@@ -4,7 +4,6 @@ pub mod AskedLines
 pub mod CheckNumbers
 pub mod CheckWords
 pub mod Courses
-pub mod FaultFeeds
 pub mod FormFacts
 pub mod FormReplies
 pub mod KeptLines

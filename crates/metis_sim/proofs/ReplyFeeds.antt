@@ -13,7 +13,7 @@ use Rattle.metis_sim.specs.declared.reply.Reply.{Reply}
 use Rattle.metis_sim.specs.declared.reply.Reply.TheVariants as reply
 use Rattle.metis_tokens.proofs.WordFeeds.{IsLine-missing_line, no_feed-pair_word, no_feed-port_name_of}
 use Rattle.metis_universe.specs.Terms.{Binding, Config, IsNamed, Universe, pair_word, port_name_of}
-use Rattle.metis_sim.proofs.FaultFeeds.{no_feed-fault_text}
+use Rattle.metis_actions.proofs.FaultFeeds.{no_feed-fault_text}
 
 pub IsLine-counts_line : (c : Config) → IsLine (counts_line c)
 IsLine-counts_line c = by_two (codes "instances ") (length c.instances) (codes " bindings ") (length c.bindings) refl refl

@@ -17,6 +17,7 @@ use Rattle.metis_ids.proofs.Lists.{has-push}
 use Rattle.metis_sort.specs.Terms.{all_waiting, awaits, edges_to, waiting}
 use Rattle.metis_sort.proofs.CountFacts.{and_swap, any_by_count, edges_to-push, occurrences-outside, ready_by_count, waiting_outside}
 use Rattle.metis_sort.proofs.OrderFacts.{find-filter, find_least, waits_at}
+use Rattle.metis_ids.proofs.Finding.{find_agree}
 
 -- ---- searches and filters
 
@@ -35,10 +36,6 @@ found_none t (y ∷ xs) h =
       | true ↦ λ e. absurd (cc)
       | false ↦ λ e. found_none t xs e
     ] h
-
-find_agree : (s t : ℕ → Bool) → ((x : ℕ) → s x ≡ t x) → (xs : List ℕ) → find s xs ≡ find t xs
-find_agree s t same [] = refl
-find_agree s t same (x ∷ xs) = let rest = find_agree s t same xs in λ i. cond (same x i) (Some x) (rest i)
 
 find_piece : (t : ℕ → Bool) (k a : ℕ) (ys : List ℕ) → find t (replicate k a ++ ys) ≡ cond (not (nat_eq k 0) && t a) (Some a) (find t ys)
 find_piece t zero a ys = refl

@@ -3,7 +3,8 @@ use Rattle.std.proofs.Common.{◌≡◌, ◌⊎◌, ℕ, true, List, ◌++◌, E
 use Rattle.std.specs.Prelude.{codes}
 use Rattle.std.specs.List.{list_all}
 use Rattle.std.proofs.lemmas.Bool.{and_from}
-use Rattle.metis_actions.specs.Terms.{fault_text, fault_tokens}
+use Rattle.metis_actions.proofs.FaultFeeds.{no_feed-fault_text}
+use Rattle.metis_actions.specs.Terms.{fault_text}
 use Rattle.metis_actions.specs.declared.faults.AFault.{AFault}
 use Rattle.metis_actions.specs.declared.faults.AFault.TheVariants as afault
 use Rattle.metis_output.proofs.LineWords.{by_number, number_then}
@@ -20,23 +21,8 @@ use Rattle.metis_steady.specs.declared.steady.Unsteady.{Unsteady}
 use Rattle.metis_steady.specs.declared.steady.Unsteady.TheVariants as unsteady
 
 module _ (u : Universe) (named : IsNamed u) where
-  no_feed-fault_tokens : (f : AFault) → list_all no_feed (fault_tokens u f) ≡ true
-  no_feed-fault_tokens (afault.InUse z) = and_from _ _ (no_feed-decimal z) refl
-  no_feed-fault_tokens (afault.NoInstance z) = and_from _ _ (no_feed-decimal z) refl
-  no_feed-fault_tokens (afault.NoState z p) = and_from _ _ (no_feed-decimal z) (and_from _ _ (no_feed-pair_word u named p) refl)
-  no_feed-fault_tokens afault.NoTransition = refl
-  no_feed-fault_tokens afault.SameInstance = refl
-  no_feed-fault_tokens afault.NoSuchPort = refl
-  no_feed-fault_tokens afault.Bound = refl
-  no_feed-fault_tokens afault.NotBound = refl
-  no_feed-fault_tokens (afault.Unmet z r) = and_from _ _ (no_feed-decimal z) (and_from _ _ (no_feed-port_name_of u named r) refl)
-  no_feed-fault_tokens afault.NoMemory = refl
-
-  pub no_feed-fault_text : (f : AFault) → no_feed (fault_text u f) ≡ true
-  no_feed-fault_text f = no_feed-join_with_byte 32 (fault_tokens u f) refl (no_feed-fault_tokens f)
-
   pub IsLine-bad_line : (k : ℕ) (f : AFault) → IsLine (bad_line k (fault_text u f))
-  IsLine-bad_line k f = number_then (codes "bad ") k (codes " " ++ (fault_text u f ++ codes "\n")) refl (by_word (codes " ") (fault_text u f) refl (no_feed-fault_text f))
+  IsLine-bad_line k f = number_then (codes "bad ") k (codes " " ++ (fault_text u f ++ codes "\n")) refl (by_word (codes " ") (fault_text u f) refl (no_feed-fault_text u named f))
 
 pub IsLine-loose_line : (k : ℕ) → IsLine (loose_line k)
 IsLine-loose_line k = by_number (codes "loose ") k refl

@@ -11,7 +11,7 @@ use Rattle.metis_tokens.proofs.Outcomes.{and_then_is}
 use Rattle.metis_tokens.proofs.Readers.{and_then_wrong}
 use Rattle.metis_tokens.specs.Terms.{Cursor, and_then, end_line, ended, exactly, lines_of, read_next, words}
 use Rattle.metis_tokens.specs.declared.fault.TFault.{TFault}
-use Rattle.metis_tokens.specs.declared.fault.TFault.TheVariants.{Line}
+use Rattle.metis_tokens.specs.declared.fault.TFault.TheVariants.{Line, NoMemory}
 use Rattle.metis_tokens.specs.declared.flaw.Flaw.{Flaw}
 use Rattle.metis_universe.specs.Terms.{IsTable, IsWordable, Universe, pair_count}
 use Rattle.metis_text.proofs.LineFlaws.{exactly_fails, lacks_fails, pair_fails, size_fails}
@@ -19,7 +19,8 @@ use Rattle.metis_text.proofs.PairsRead.{ArePairs}
 use Rattle.metis_text.proofs.RefusalWords.{lacks_is, lacks_tokens, next_pair_is, size_is, size_tokens}
 use Rattle.metis_text.proofs.RefusalSets.{pairs_ascend}
 use Rattle.metis_text.proofs.DueRead.{IsLeft, one_more, stops}
-use Rattle.metis_text.specs.Terms.{AreBegun, Due, HasFlaw, HasRefusalFault, IfFault, IsBegun, ReadsRefusal, above, begun_lines, goal_line, lacks_in, lacks_line, next_pair, next_pair_in, pair_line, pairs_from, pairs_line, refusal_end_from, refusal_header, refusal_in, refusal_parts, refusal_set_from, size_in, size_line, with_goal, with_pairs}
+use Rattle.metis_text.specs.Terms.{AreBegun, Due, HasFlaw, HasRefusalFault, IsBegun, ReadsRefusal, above, begun_lines, goal_line, lacks_in, lacks_line, next_pair, next_pair_in, pair_line, pairs_from, pairs_line, refusal_end_from, refusal_header, refusal_in, refusal_parts, refusal_set_from, size_in, size_line, with_goal, with_pairs}
+use Rattle.metis_ids.specs.Terms.{IfFault}
 use Rattle.metis_text.specs.RefusalFlaws.{first_line, last_line, of_line, past_end, too_short, with_all, with_first, with_none}
 use Rattle.metis_text.specs.declared.refusal_text.Refusal.{Refusal}
 
@@ -151,6 +152,6 @@ module _ (u : Universe) (bytes : List ℕ) (f : TFault) where
             ]
       ]
 
-pub had_by : (u : Universe) (bytes : List ℕ) (r : Result Refusal TFault) → IsTable u → ReadsRefusal r (refusal_in u bytes) → IfFault r (λ f. HasRefusalFault u bytes f)
+pub had_by : (u : Universe) (bytes : List ℕ) (r : Result Refusal TFault) → IsTable u → ReadsRefusal r (refusal_in u bytes) → IfFault NoMemory r (λ f. HasRefusalFault u bytes f)
 had_by u bytes (Ok r) table read = tt
 had_by u bytes (Err f) table read = λ known. told_is_had u bytes f table (read known)

@@ -25,9 +25,11 @@ use Rattle.metis_text.proofs.RowFlaws.{row_fails}
 use Rattle.metis_text.proofs.RowLine.{IsRow, row_is, row_tokens}
 use Rattle.metis_text.proofs.RowPlaces.{rows_long}
 use Rattle.metis_text.proofs.RowsRead.{AreRows}
-use Rattle.metis_text.specs.Terms.{AreSaid, DupRow, HasEnded, HasPlanFault, HasPlanFlaw, IfFault, IsOfDue, IsPlanBegun, Numbers, PlanDue, ReadsPlan, Row, Rows, action_line, begun_plan, counts_in, counts_line, dup_in, dup_line, dups_from, miscounted, next_action, next_dup, parts, plan_header, plan_in, row_in, rows_from, rows_of, second_line, with_actions, with_dups, with_row}
+use Rattle.metis_text.specs.Terms.{AreSaid, DupRow, HasEnded, HasPlanFault, HasPlanFlaw, IsOfDue, IsPlanBegun, Numbers, PlanDue, ReadsPlan, Row, Rows, action_line, begun_plan, counts_in, counts_line, dup_in, dup_line, dups_from, miscounted, next_action, next_dup, parts, plan_header, plan_in, row_in, rows_from, rows_of, second_line, with_actions, with_dups, with_row}
+use Rattle.metis_ids.specs.Terms.{IfFault}
 use Rattle.metis_text.specs.PlanFlaws.{first_line, last_line, of_line, past_end, too_short, with_all, with_first, with_none}
 use Rattle.metis_text.specs.declared.plan_text.PlanText.{PlanText}
+use Rattle.metis_tokens.specs.declared.fault.TFault.TheVariants.{NoMemory}
 
 -- ---- one line more
 
@@ -254,6 +256,6 @@ module _ (u : Universe) (bytes : List ℕ) (f : TFault) where
     | inr (w, read, open_end) ↦ elim (closed_fails u bytes w f read open_end) [ inl more ↦ past_end more | inr wrong ↦ miscounted wrong ]
   ]
 
-pub had_by : (u : Universe) (bytes : List ℕ) (r : Result PlanText TFault) → ReadsPlan r (plan_in u bytes) → IfFault r (λ f. HasPlanFault u bytes f)
+pub had_by : (u : Universe) (bytes : List ℕ) (r : Result PlanText TFault) → ReadsPlan r (plan_in u bytes) → IfFault NoMemory r (λ f. HasPlanFault u bytes f)
 had_by u bytes (Ok t) read = tt
 had_by u bytes (Err f) read = λ known. told_is_had u bytes f (read known)

@@ -3,7 +3,6 @@
 --     IsOther bytes line f      the line is not these bytes
 --     HasEnded begun bytes f      nothing but a piece without a line feed stands behind lines that begin a text
 --     IsOfDue begun flawed bytes f      the line behind lines that begin a text has a flaw
---     IfFault result P      of a fault that is no want of memory
 use Rattle.std.specs.Prelude.{◌≡◌, ◌≢◌, ◌+◌, ℕ, List, ◌++◌, Result, Ok, Err, codes, length, ⊤}
 use Rattle.std.specs.List.{All}
 use Rattle.metis_outside.specs.Terms.{bytes_of}
@@ -43,7 +42,3 @@ pub record IsOfDue {D : Type 0} (begun : List (List ℕ) → D → Type 0) (flaw
   pub no_feed : NoFeed line
   pub wrong : flawed due line flaw
   pub fault : f ≡ fault_at (length lines + 1) flaw
-
-abbrev pub IfFault : {A : Type 0} → Result A TFault → (TFault → Type 0) → Type 0
-IfFault (Ok x) P = ⊤
-IfFault (Err fault) P = fault ≢ NoMemory → P fault

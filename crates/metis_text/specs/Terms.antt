@@ -1,6 +1,6 @@
 -- What clauses and proofs cite of this crate, by one module.
 pub use Rattle.metis_text.specs.ActionLine.{Row, Words, action_in, after_in, bind_action, delete_words, ends_in, kind_in, move_action, move_words, new_action, new_in, new_words, rise, row_in, row_of, row_with, states_in, tie_words, unbind_action}
-pub use Rattle.metis_text.specs.DueLines.{HasEnded, IfFault, IsOfDue, IsOther, NoFeed}
+pub use Rattle.metis_text.specs.DueLines.{HasEnded, IsOfDue, IsOther, NoFeed}
 pub use Rattle.metis_text.specs.DupLine.{DupRow, at_event, dup_in, dup_of, dup_with, event_in, is_point}
 pub use Rattle.metis_text.specs.Faults.{IsFault, IsMiscounted, IsPastEnd, IsRefusalFault, IsWellFormedButCount, recounted}
 pub use Rattle.metis_text.specs.InRange.{IsActionInRange, IsEventInRange, IsPlanInRange}

@@ -2,7 +2,9 @@
 ghost use Rattle.std.specs.Prelude.{◌≡◌, ◌<◌, ◌-◌, ◌+◌, ◌^◌, ◌&&◌, IfOk, [], codes, length, map};
 ghost use Rattle.std.specs.Str.{bytes_eq};
 ghost use Rattle.metis_tokens.specs.Terms.{Reads, both, made, number_in, read_next};
-ghost use Rattle.metis_text.specs.Terms.{HasPlanFault, IfFault, IsTextOf, ReadsPlan, body_from, counted, counts_in, counts_of_tokens, dup_in, dup_row, dups_from, end_from, numbers_of, parts, plan_in, row_in, rows_from, rows_of};
+ghost use Rattle.metis_text.specs.Terms.{HasPlanFault, IsTextOf, ReadsPlan, body_from, counted, counts_in, counts_of_tokens, dup_in, dup_row, dups_from, end_from, numbers_of, parts, plan_in, row_in, rows_from, rows_of};
+ghost use Rattle.metis_ids.specs.Terms.{IfFault};
+ghost use Rattle.metis_tokens.specs.declared.fault.TFault.TheVariants.{NoMemory};
 
 use crate::action_line::row_in;
 use crate::dup_line::dup_in;
@@ -33,7 +35,7 @@ pub fn read_plan(alloc: Global, u: &Universe, bytes: &[u8]) -> Result<PlanText, 
     ensures fewer { IfOk result (λ t. length t.plan.actions < length bytes.now) }
 
     // Each fault is that of the first line that is not the one that is due, or of an end that is missing, or of the count.
-    ensures fault { IfFault result (λ f. HasPlanFault u.now bytes.now f) }
+    ensures fault { IfFault NoMemory result (λ f. HasPlanFault u.now bytes.now f) }
 {
     read_text(alloc, u, bytes)
 }

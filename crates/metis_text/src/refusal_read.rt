@@ -1,8 +1,10 @@
 //! Reads the text of a refusal.
 ghost use Rattle.std.specs.Prelude.{◌≡◌, ◌<◌, ◌-◌, ◌^◌, IfOk, [], length};
 ghost use Rattle.metis_tokens.specs.Terms.{Reads, read_next};
-ghost use Rattle.metis_text.specs.Terms.{HasRefusalFault, IfFault, ReadsRefusal, lacks_in, pairs_from, refusal_bytes, refusal_in, size_in};
+ghost use Rattle.metis_text.specs.Terms.{HasRefusalFault, ReadsRefusal, lacks_in, pairs_from, refusal_bytes, refusal_in, size_in};
+ghost use Rattle.metis_ids.specs.Terms.{IfFault};
 ghost use Rattle.metis_universe.specs.Terms.{IsWordable, pair_count};
+ghost use Rattle.metis_tokens.specs.declared.fault.TFault.TheVariants.{NoMemory};
 
 use crate::refusal_lines::{lacks_of, next_pair_of, size_of};
 use crate::refusal_text::Refusal;
@@ -23,7 +25,7 @@ pub fn read_refusal(alloc: Global, u: &Universe, bytes: &[u8]) -> Result<Refusal
     ensures text { IfOk result (λ r. bytes.now ≡ refusal_bytes u.now r.pairs.members r.lacks) }
 
     // Each fault is that of the first line that is wrong, by what this line says, or of an end that is missing.
-    ensures fault { IfFault result (λ f. HasRefusalFault u.now bytes.now f) }
+    ensures fault { IfFault NoMemory result (λ f. HasRefusalFault u.now bytes.now f) }
 {
     u.keeps_invariant();
     read_text(alloc, u, bytes)

@@ -9,6 +9,7 @@ pub mod NamedFaults
 pub mod NumberRead
 pub mod NumberTokens
 pub mod Outcomes
+pub mod OwnTexts
 pub mod PairTokens
 pub mod Printed
 pub mod Readers

@@ -1,5 +1,6 @@
 -- What is wrong with a line that is read.
 --     graver f g      of two flaws of a line the one that is told: of its form before its numbers, of its numbers before its names
+--     line_fault form number name n f      the fault of a text whose line n has the flaw, by the faults of its kind
 --     both a b      two parts of a line, or the graver of their flaws
 --     made make r, and_then r next      what is made of what was made, or gone on with;  its fault where there is one, of whatever kind
 --     found x, right holds x      what was looked for, or that a name is not there;  a number that has to be right
@@ -13,6 +14,12 @@ graver Number Form = Form
 graver Number Number = Number
 graver Number Name = Number
 graver Name g = g
+
+-- the fault of line n, where a kind of text has its own faults of a form, of a number and of a name
+abbrev pub line_fault : {F : Type 0} → (ℕ → F) → (ℕ → F) → (ℕ → F) → ℕ → Flaw → F
+line_fault form number name n Form = form n
+line_fault form number name n Number = number n
+line_fault form number name n Name = name n
 
 abbrev pub both : {A B : Type 0} → Result A Flaw → Result B Flaw → Result (A × B) Flaw
 both (Ok a) (Ok b) = Ok (a, b)

@@ -3,6 +3,7 @@ pub mod Flaws
 pub mod Line
 pub mod LineFaults
 pub mod MissingLine
+pub mod OwnTexts
 pub mod Scripts
 pub mod Tokens
 pub mod Words

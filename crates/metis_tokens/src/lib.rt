@@ -9,6 +9,7 @@ mod flaw;
 mod gather;
 mod missing;
 mod numbers;
+mod own;
 mod script;
 mod tokens;
 
@@ -17,6 +18,7 @@ pub use flaw::{Flaw, both, graver, numbered};
 pub use gather::numbers_in;
 pub use missing::missing_line;
 pub use numbers::push_numbers;
+pub use own::{Lined, read_own};
 pub use script::{pieces_of, script_lines};
 pub use tokens::{
     due, goal_in, number_in, pair_in, port_in, retake_tokens, state_near, tokens_of, type_in,

@@ -1,3 +1,4 @@
+//! Files, as a case stages them.
 ghost use Rattle.std.specs.Prelude.{◌≡◌, ℕ, List, OnOk};
 
 use metis_outside::Shelf;

@@ -1,3 +1,4 @@
+//! Output, as a case stages it.
 ghost use Rattle.std.specs.Prelude.{◌≡◌, ℕ};
 
 use metis_outside::Sink;

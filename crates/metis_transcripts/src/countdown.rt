@@ -1,3 +1,4 @@
+//! Which call is to fail.
 ghost use Rattle.std.specs.Prelude.{◌≡◌, ◌↔◌, ◌-◌, IsTrue};
 
 use std::marker::Model;

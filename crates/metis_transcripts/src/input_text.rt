@@ -1,3 +1,4 @@
+//! The input of a case.
 ghost use Rattle.std.specs.Prelude.{◌≡◌, ◌++◌, [], OnOk, length, min, take};
 
 use std::alloc::{AllocError, Global};

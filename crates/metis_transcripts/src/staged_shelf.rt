@@ -1,3 +1,4 @@
+//! The files of a case: those of a shelf, and its input.
 ghost use Rattle.std.specs.Prelude.{◌≡◌, ◌+◌, ◌-◌, ◌^◌, ◌<◌, [], IsErrOf, IsTrue, None, OnOk, Some, codes, length, min};
 ghost use Rattle.std.specs.Io.{ReadsAtMost};
 ghost use Rattle.std.specs.Io.KnownBytes.{ReadConsumes};

@@ -1,3 +1,4 @@
+//! The output of a case.
 ghost use Rattle.std.specs.Prelude.{◌≡◌, ◌-◌, IsErrOf, IsTrue};
 ghost use Rattle.metis_outside.specs.Terms.{CountsFault, Puts, is_told};
 

@@ -1,3 +1,4 @@
+//! Why cases stop.
 use metis_outside::{ReadAnswer, Trouble};
 use std::alloc::AllocError;
 

@@ -1,6 +1,8 @@
 //! The universe that a document means.
-ghost use Rattle.metis_ujson.specs.Terms.{Reads, rows_made, universe_in};
+ghost use Rattle.metis_ujson.specs.Terms.{rows_made, universe_in};
+ghost use Rattle.metis_ids.specs.Terms.{ReadsAs};
 ghost use Rattle.metis_universe.specs.Terms.{IsOfVersion};
+ghost use Rattle.metis_ujson.specs.declared.faults.UFault.TheVariants.{NoMemory};
 
 use crate::faults::UFault;
 use crate::forms::{Spelled, read_rows};
@@ -12,7 +14,7 @@ pub const UNIVERSE_LIMIT: u64 = 4_194_304;
 
 /// The universe that the bytes mean, or the first reason why they mean none.
 pub fn read_universe(alloc: Global, bytes: &[u8]) -> Result<Universe, UFault>
-    ensures { Reads (λ u. u) result (universe_in bytes.now) }
+    ensures { ReadsAs NoMemory (λ u. u) result (universe_in bytes.now) }
 {
     let Spelled { version, types } = read_rows(alloc, bytes)?;
     made(alloc, version, types)
@@ -21,7 +23,7 @@ pub fn read_universe(alloc: Global, bytes: &[u8]) -> Result<Universe, UFault>
 // The universe of the rows. Rows that could not be numbered are more than memory holds.
 fn made(alloc: Global, version: u32, types: Vec<TypeRow>) -> Result<Universe, UFault>
     requires { IsOfVersion version types.items }
-    ensures { Reads (λ u. u) result (rows_made (record { version = version; types = types.items })) }
+    ensures { ReadsAs NoMemory (λ u. u) result (rows_made (record { version = version; types = types.items })) }
 {
     if !rows_fit(&types) {
         return Err(UFault::NoMemory);

@@ -51,16 +51,6 @@ same_test true false up down = sym (up refl)
 same_test false true up down = down refl
 same_test false false up down = refl
 
--- a number before which all pass, and that does not, is one
-pub least_is_one : (P : ℕ → Type 0) (j k : ℕ) → (P j → ⊥) → (P k → ⊥) → ((i : ℕ) → i < j → P i) → ((i : ℕ) → i < k → P i) → j ≡ k
-least_is_one P j k one two below_j below_k = elim (cases_lt j k) [
-  | inl low ↦ absurd (one (below_k j low))
-  | inr high ↦ elim (cases_lt k j) [
-    | inl low ↦ absurd (two (below_j k low))
-    | inr same ↦ omega arith
-  ]
-]
-
 -- what is found passes the test
 pub found_passes : {A : Type 0} (t : A → Bool) (xs : List A) (x : A) → find t xs ≡ Some x → All (λ y. t y ≡ false) xs → ⊥
 found_passes t [] x h all = absurd (cc)

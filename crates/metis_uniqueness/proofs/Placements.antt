@@ -8,7 +8,7 @@ use Rattle.metis_ids.specs.declared.actions.Action.{Action}
 use Rattle.metis_ids.specs.declared.actions.Action.TheVariants.{New}
 use Rattle.metis_place.specs.Terms.{HostLists, IsNoRoom, IsPlacing, PlacingLists, free_rooms, is_placed_at, size_of}
 use Rattle.metis_universe.specs.Terms.{action_at}
-use Rattle.metis_uniqueness.proofs.Firsts.{least_is_one}
+use Rattle.metis_ids.proofs.Tests.{least_is_one}
 
 pub placing_is_one : (h : HostLists) (actions : List Action) (p q : PlacingLists) → IsPlacing h actions p → IsPlacing h actions q → p ≡ q
 placing_is_one h actions p q a b =

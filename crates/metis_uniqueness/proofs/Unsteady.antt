@@ -10,7 +10,8 @@ use Rattle.metis_actions.specs.declared.faults.AFault.{AFault}
 use Rattle.metis_replay.specs.Terms.{IsFirstBad}
 use Rattle.metis_universe.specs.Terms.{Allows, Config, Correct, IsRun, Universe, after, after_all, before, empty, is_steadfast, is_steadfast_after, is_steadfast_at}
 use Rattle.metis_waits.specs.Terms.{IsFirstLoose}
-use Rattle.metis_uniqueness.proofs.Firsts.{Among, least_is_one, parted}
+use Rattle.metis_uniqueness.proofs.Firsts.{Among, parted}
+use Rattle.metis_ids.proofs.Tests.{least_is_one}
 
 -- ---- the first that cannot be done
 

@@ -3,12 +3,14 @@ pub mod Ascending
 pub mod Attained
 pub mod Bindings
 pub mod Blocks
+pub mod Buckets
 pub mod BySight
 pub mod ClearRows
 pub mod Correctness
+pub mod DemandSums
 pub mod Demanded
 pub mod Demands
-pub mod DemandSums
+pub mod Different
 pub mod Edits
 pub mod Examples
 pub mod FirstFault
@@ -31,9 +33,9 @@ pub mod Places
 pub mod PlanExamples
 pub mod PortRows
 pub mod Ranges
-pub mod Rounds
 pub mod ResidualRows
 pub mod ResidualTable
+pub mod Rounds
 pub mod RowTables
 pub mod Same
 pub mod SeenNumbers
@@ -46,6 +48,7 @@ pub mod Sorted
 pub mod Sought
 pub mod SpelledRows
 pub mod Standing
+pub mod Texts
 pub mod TypeBlock
 pub mod TypeFaults
 pub mod TypePlaces

@@ -3,7 +3,7 @@ use Rattle.std.proofs.Common.{◌≡◌, ℕ, zero, suc, ◌+◌, ◌<◌, ◌�
 use Rattle.std.specs.Prelude.{IsTrue}
 use Rattle.std.specs.List.{All, filter, range_with_len}
 use Rattle.std.specs.List.Sorted.{IsStrictlyIncreasing}
-use Rattle.std.proofs.lemmas.List.Elements.{All-filter}
+use Rattle.std.proofs.lemmas.List.Elements.{All-filter, All-nil}
 use Rattle.std.proofs.lemmas.List.FromFn.{fill_by_all, get_or-map-range_with_len}
 use Rattle.std.proofs.lemmas.List.Sums.{sum_by-cons}
 use Rattle.metis_universe.specs.Terms.{IsNamed, IsTable, IsUniverse, IsWithinLimits, Pair, Universe, all_pairs, demand_total, further_left, has, initial_of, is_initial, is_left, is_name, no_pair, pair_at, pair_count, port_count, required_left, residual, residual_row, type_of}
@@ -11,9 +11,6 @@ use Rattle.metis_universe.proofs.ResidualRows.{left_length, left_low, left_none,
 
 none_increase : IsStrictlyIncreasing []
 none_increase k h = absurd (omega arith)
-
-none_all : (P : ℕ → Type 0) → All P []
-none_all P k d h = absurd (omega arith)
 
 module _ (u : Universe) (g : ℕ → ℕ) (avoided : List ℕ) where
   abbrev left : Universe
@@ -62,7 +59,7 @@ module _ (u : Universe) (g : ℕ → ℕ) (avoided : List ℕ) where
       provided = λ p h.
           let l = below p h in
           at_row (λ x. IsStrictlyIncreasing x.provided × All (λ r. r < port_count u) x.provided) p l
-          (provided_row (λ rs. IsStrictlyIncreasing rs × All (λ r. r < port_count u) rs) p (none_increase, none_all (λ r. r < port_count u)) (k.provided p l));
+          (provided_row (λ rs. IsStrictlyIncreasing rs × All (λ r. r < port_count u) rs) p (none_increase, All-nil (λ r. r < port_count u)) (k.provided p l));
       required = λ p h.
           let l = below p h in
           let own = k.required p l in

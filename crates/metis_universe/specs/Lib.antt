@@ -1,8 +1,9 @@
+pub mod Buckets
 pub mod Closed
 pub mod Config
 pub mod Goal
-pub mod Goals
 pub mod GoalWords
+pub mod Goals
 pub mod Kinds
 pub mod Layers
 pub mod Names
@@ -22,9 +23,9 @@ pub mod Single
 pub mod Spelled
 pub mod Steadfast
 pub mod Step
+pub mod Terms
 pub mod Texts
 pub mod Tidy
 pub mod Universe
 pub mod Unnamed
 pub mod Waits
-pub mod Terms

@@ -1,4 +1,5 @@
--- What clauses and proofs cite of this crate, by one module.
+-- What clauses and proofs cite of this crate, by one module. Universe.antt has the letters that definitions use.
+pub use Rattle.metis_universe.specs.Buckets.{IsChained, bucket_numbered, bucket_of, hash_of, name_numbered}
 pub use Rattle.metis_universe.specs.Closed.{Closed, IsProvidedIn, Refusal}
 pub use Rattle.metis_universe.specs.Config.{AreDifferent, Binding, Config, Correct, IsConfig, IsMet, IsProvider, binding_cmp, config_of, empty, is_bound, is_correct, is_met, is_tie, names, pair_of, put, remove, tie, untie}
 pub use Rattle.metis_universe.specs.Goal.{Attainable, Attains, Holds, IsAttainedSet, holding}

@@ -1,5 +1,7 @@
 -- What a universe is: its types, its pairs in document order, and the names of its ports.
 -- A pair is a type with one of its states. Types, pairs and ports are known by their numbers, from 0.
+-- The letters of all crates: u universe, t type, p q pairs, r port; c d configurations, z requirer or any instance, y provider;
+-- g goals, s support, x life lines, d ds dups; m n further numbers, k i places. In the laws of metis_reconfigure s is a port.
 --     pair_at u p      the row of pair p, and `no_pair` past the end
 --     type_of, provided_of, required_of, next_of, state_name_of      of a pair: its type, its ports, the pairs that its type may go to from it, its state's name
 --     initial_of u t, is_initial u p      the initial pair of a type;  whether p is one

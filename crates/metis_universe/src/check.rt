@@ -12,8 +12,8 @@ use crate::faults::{LimitKind, RowFault};
 use crate::limits::{MOST_DEMANDED, MOST_PAIRS, MOST_PORTS, MOST_REQUIRED, MOST_STATES};
 use crate::names::is_name;
 use crate::needs::{count_total, require_total};
-use crate::numbered::NumberedNames;
 use crate::rows::{NeedRow, StateRow, TypeRow};
+use crate::seen::SeenNames;
 use std::alloc::{AllocError, Global};
 
 /// The fault, unless the test passed.
@@ -193,7 +193,7 @@ fn fault_of_links(row: &TypeRow, t: u32) -> Option<RowFault>
 }
 
 /// A type before this one has the type's name.
-fn fault_of_earlier_type(row: &TypeRow, t: u32, seen: &NumberedNames) -> Option<RowFault>
+fn fault_of_earlier_type(row: &TypeRow, t: u32, seen: &SeenNames) -> Option<RowFault>
     requires { length seen.now < 2 ^ 32 }
     ensures { result ≡ option_map (λ first. TypeTwice t first) (position (bytes_eq row.now.name) seen.now) }
 {
@@ -202,7 +202,7 @@ fn fault_of_earlier_type(row: &TypeRow, t: u32, seen: &NumberedNames) -> Option<
 }
 
 /// The type itself: its name, an earlier type of that name, and how many states it has.
-fn fault_of_head(row: &TypeRow, t: u32, seen: &NumberedNames) -> Option<RowFault>
+fn fault_of_head(row: &TypeRow, t: u32, seen: &SeenNames) -> Option<RowFault>
     requires fits { TypeFits row.now }
     requires earlier { length seen.now < 2 ^ 32 }
     ensures { result ≡ head_fault (position (bytes_eq row.now.name) seen.now) t row.now }
@@ -232,7 +232,7 @@ fn fault_of_type(
     alloc: Global,
     row: &TypeRow,
     t: u32,
-    seen: &NumberedNames,
+    seen: &SeenNames,
     named: bool,
 ) -> Result<Option<RowFault>, AllocError>
     requires fits { TypeFits row.now }
@@ -256,7 +256,7 @@ fn fault_of_type(
 fn fault_of_types(
     alloc: Global,
     rows: &[TypeRow],
-    seen: &mut NumberedNames,
+    seen: &mut SeenNames,
     named: bool,
 ) -> Result<Option<RowFault>, AllocError>
     requires none { seen.old ≡ [] }
@@ -287,8 +287,8 @@ fn state_total(rows: &[TypeRow]) -> u64
 pub fn first_fault(
     alloc: Global,
     rows: &[TypeRow],
-    ports: &NumberedNames,
-    kinds: &mut NumberedNames,
+    ports: &SeenNames,
+    kinds: &mut SeenNames,
 ) -> Result<Option<RowFault>, AllocError>
     requires fits { RowsFit rows.now }
     requires ports { ports.now ≡ ports_of rows.now }

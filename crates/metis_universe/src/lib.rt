@@ -12,6 +12,7 @@ mod needs;
 mod numbered;
 mod reading;
 mod rows;
+mod seen;
 mod sights;
 mod universe;
 

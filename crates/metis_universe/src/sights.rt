@@ -3,8 +3,8 @@ ghost use Rattle.std.specs.Prelude.{◌≡◌, ◌∷◌, [], flat_map, map, IfO
 ghost use Rattle.metis_universe.specs.Terms.{IsNumbered, names_needed, number_within, ports_of, ports_of_state, ports_of_type, texts};
 
 use crate::limits::MOST_PORTS;
-use crate::numbered::NumberedNames;
 use crate::rows::{NeedRow, StateRow, TypeRow};
+use crate::seen::SeenNames;
 use metis_ids::PortIx;
 use std::alloc::{AllocError, Global};
 
@@ -15,7 +15,7 @@ const GREATEST: usize = u32::MAX as usize;
 #[derive(Drop)]
 pub struct Sights {
     /// Their names, in the order in which they are first seen.
-    pub ports: NumberedNames,
+    pub ports: SeenNames,
     /// The number of the port of each entry: of each state what it provides, and then what it requires.
     pub numbers: Vec<PortIx>,
 }
@@ -23,7 +23,7 @@ pub struct Sights {
 /// Adds the name unless it is there, and its number.
 fn add_name(
     alloc: Global,
-    seen: &mut NumberedNames,
+    seen: &mut SeenNames,
     numbers: &mut Vec<PortIx>,
     name: &str,
 ) -> Result<(), AllocError>
@@ -37,7 +37,7 @@ fn add_name(
 /// Adds the names that are not there yet, and the number of each.
 fn add_names(
     alloc: Global,
-    seen: &mut NumberedNames,
+    seen: &mut SeenNames,
     numbers: &mut Vec<PortIx>,
     names: &[String],
 ) -> Result<(), AllocError>
@@ -52,7 +52,7 @@ fn add_names(
 /// Adds the names of the ports of these entries that are not there yet, and the number of each.
 fn add_names_needed(
     alloc: Global,
-    seen: &mut NumberedNames,
+    seen: &mut SeenNames,
     numbers: &mut Vec<PortIx>,
     needs: &[NeedRow],
 ) -> Result<(), AllocError>
@@ -67,7 +67,7 @@ fn add_names_needed(
 /// Adds the ports of a type's states: of each state those that it provides, and then those that it requires.
 fn add_ports(
     alloc: Global,
-    seen: &mut NumberedNames,
+    seen: &mut SeenNames,
     numbers: &mut Vec<PortIx>,
     states: &[StateRow],
 ) -> Result<(), AllocError>
@@ -83,7 +83,7 @@ fn add_ports(
 /// Adds the ports of the types, type by type.
 fn add_ports_of_types(
     alloc: Global,
-    seen: &mut NumberedNames,
+    seen: &mut SeenNames,
     numbers: &mut Vec<PortIx>,
     rows: &[TypeRow],
 ) -> Result<(), AllocError>
@@ -101,7 +101,7 @@ pub fn ports_of(alloc: Global, rows: &[TypeRow]) -> Result<Sights, AllocError>
     ensures ports { IfOk result (λ found. found.ports ≡ ports_of rows.now) }
     ensures numbers { IfOk result (λ found. found.numbers.items ≡ map (number_within (ports_of rows.now)) (flat_map ports_of_type rows.now)) }
 {
-    let mut ports = NumberedNames::with_capacity(alloc, rows.len().min(MOST_PORTS as usize))?;
+    let mut ports = SeenNames::with_capacity(alloc, rows.len().min(MOST_PORTS as usize))?;
     let mut numbers = Vec::new(alloc);
     add_ports_of_types(alloc, &mut ports, &mut numbers, rows)?;
     Ok(Sights { ports, numbers })

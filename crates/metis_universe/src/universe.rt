@@ -12,6 +12,7 @@ use crate::check::first_fault;
 use crate::faults::RowFault;
 use crate::numbered::NumberedNames;
 use crate::rows::TypeRow;
+use crate::seen::SeenNames;
 use crate::sights::ports_of;
 use metis_ids::{Action, PairIx, PortIx, StateIx, TypeIx};
 use std::alloc::Global;
@@ -90,7 +91,7 @@ impl Universe {
         ensures by_sight { IfOk result IsBySight }
     {
         let found = ports_of(alloc, &rows)?;
-        let mut kinds = NumberedNames::with_capacity(alloc, rows.len())?;
+        let mut kinds = SeenNames::with_capacity(alloc, rows.len())?;
         if let Some(fault) = first_fault(alloc, &rows, &found.ports, &mut kinds)? {
             return Err(fault);
         }

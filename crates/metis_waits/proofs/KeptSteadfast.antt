@@ -19,6 +19,8 @@ use Rattle.metis_waits.proofs.Orders.{IsClosedUnderWaits}
 use Rattle.metis_waits.proofs.Passed.{all_steadfast}
 use Rattle.metis_waits.proofs.Providers.{slice_get-take}
 use Rattle.metis_waits.proofs.Pushed.{after_pushed}
+use Rattle.metis_universe.proofs.Bindings.{unprovided}
+use Rattle.metis_ids.proofs.Lists.{any_place}
 
 -- ---- from each action to all
 
@@ -44,18 +46,6 @@ steady_all u actions go = all_steadfast u actions (length actions) (omega arith)
 
 -- ---- one more action
 
--- no binding to y is there, if there is none of it by each requirer and port
-no_client : (y : ℕ) (bs : List Binding) → ((r z : ℕ) → list_any (is_tie r z y) bs ≡ false) → list_any (λ b. nat_eq b.2 y) bs ≡ false
-no_client y bs none = false_from_ne_true _ (λ h. found bs h none) where
-  found : (bs : List Binding) → list_any (λ b. nat_eq b.2 y) bs ≡ true → ((r z : ℕ) → list_any (is_tie r z y) bs ≡ false) → ⊥
-  found [] h none = false≢true h
-  found (b ∷ bs) h none = elim (or_cases (nat_eq b.2 y) (list_any (λ b. nat_eq b.2 y) bs) h) [
-    | inl here ↦ both_ways _ (none b.0 b.1) (or_left (is_tie b.0 b.1 y b) _ (own b (eqb-true b.2 y here)))
-    | inr later ↦ found bs later (λ r z. false_from_ne_true _ (λ t. both_ways _ (none r z) (or_right (is_tie r z y b) _ t)))
-  ] where
-    own : (b : Binding) → b.2 ≡ y → is_tie b.0 b.1 y b ≡ true
-    own b same = λ i. (eq-eqb b.0 b.0 refl i && eq-eqb b.1 b.1 refl i) && eq-eqb b.2 y same i
-
 -- a steadfast New is the first one of its instance
 new_is_first : (u : Universe) (earlier : List Action) (a : Action) (z : ℕ) → is_steadfast_after u earlier a ≡ true → is_new z a ≡ true → list_any (is_new z) earlier ≡ false
 new_is_first u earlier (New x t) z steady makes = subst (λ w. list_any (is_new w) earlier ≡ false) (eqb-true x z makes) (not-true _ steady)
@@ -64,17 +54,12 @@ new_is_first u earlier (Bind r x w) z steady makes = absurd (false≢true makes)
 new_is_first u earlier (Unbind r x w) z steady makes = absurd (false≢true makes)
 new_is_first u earlier (Move x p q) z steady makes = absurd (false≢true makes)
 
-any_from : (t : Action → Bool) (xs : List Action) (i : ℕ) (a : Action) → slice_get xs i ≡ Some a → t a ≡ true → list_any t xs ≡ true
-any_from t [] i a is h = cc
-any_from t (x ∷ xs) zero a is h = or_left (t x) (list_any t xs) (subst (λ b. t b ≡ true) (sym (same_Some x a is)) h)
-any_from t (x ∷ xs) (suc i) a is h = or_right (t x) (list_any t xs) (any_from t xs i a is h)
-
 -- so no instance is made twice
 made_once : (u : Universe) (A : List Action) (z n i : ℕ) → is_steadfast u A ≡ true → passes_at (is_new z) A n ≡ true → passes_at (is_new z) A i ≡ true → n < i → ⊥
 made_once u A z n i steady first second less =
     let one = passes_some (is_new z) A n first in
     let two = passes_some (is_new z) A i second in
-    both_ways _ (new_is_first u (take i A) two.0 z (steadfast_at u A i two.0 steady two.1) two.2) (any_from (is_new z) (take i A) n one.0 (slice_get-take A i n less ∙ one.1) one.2)
+    both_ways _ (new_is_first u (take i A) two.0 z (steadfast_at u A i two.0 steady two.1) two.2) (any_place (is_new z) (take i A) n one.0 (slice_get-take A i n less ∙ one.1) one.2)
 
 -- what these actions made, those of done numbers made
 abbrev AreMade : List Action → List ℕ → List Action → Type 0
@@ -97,7 +82,7 @@ module _ (u : Universe) (A : List Action) (run : IsRun u empty A) (steady : is_s
       ])
 
   none_to : (y : ℕ) → settles y a ≡ true → not (list_any (λ b. nat_eq b.2 y) (standing earlier)) ≡ true
-  none_to y change = ap not (no_client y (standing earlier) (λ r z.
+  none_to y change = ap not (unprovided y (standing earlier) (λ r z.
       ap (list_any (is_tie r z y)) (sym (bindings-after_all u empty earlier)) ∙ no_tie_to u A run steady done closed (after_all u empty earlier) agree i a at new waited r z y change))
 
   steady_next : is_steadfast_after u earlier a ≡ true

@@ -9,7 +9,7 @@ use Rattle.std.proofs.lemmas.List.Elements.{All-append, All-cons, All-nil}
 use Rattle.metis_ids.specs.declared.goals.Goal.{Goal}
 use Rattle.metis_text.proofs.DueRead.{IsLeft, one_more, stops}
 use Rattle.metis_text.proofs.LineFlaws.{exactly_fails}
-use Rattle.metis_text.specs.Terms.{IfFault}
+use Rattle.metis_ids.specs.Terms.{IfFault}
 use Rattle.metis_tokens.proofs.KnownLines.{exactly_is}
 use Rattle.metis_tokens.proofs.LinesTaken.{read_next_is}
 use Rattle.metis_tokens.proofs.Outcomes.{and_then_is}
@@ -28,6 +28,7 @@ use Rattle.metis_why_text.proofs.LineFlaws.{count_fails, goal_fails, item_fails}
 use Rattle.metis_why_text.proofs.LineTokens.{line_is}
 use Rattle.metis_why_text.specs.Terms.{AreTold, HasWhyFault, HasWhyFlaw, IsWhyBegun, ReadsWhy, WhyDue, begun_why, count_in, count_line, first_line, goal_line, lacks_in, lacks_line, lacks_tokens, last_line, line_in, line_text, line_tokens, lines_from, next_item, number_line, why_counted_from, why_end_from, why_header, why_in, why_parts, with_all, with_first, with_goal, with_items, with_none}
 use Rattle.metis_why_text.specs.WhyFlaws.{of_line, past_end, too_short}
+use Rattle.metis_tokens.specs.declared.fault.TFault.TheVariants.{NoMemory}
 
 module _ (u : Universe) (bytes : List ℕ) (f : TFault) where
   stop : {A : Type 0} (read : List ℕ → Result A Flaw) (due : WhyDue) (lines : List (List ℕ)) (l : Cursor) → IsWhyBegun u lines due → IsLeft bytes lines l
@@ -155,6 +156,6 @@ module _ (u : Universe) (bytes : List ℕ) (f : TFault) where
             ]
       ]
 
-pub had_by : (u : Universe) (bytes : List ℕ) (r : Result Explanation TFault) → IsTable u → ReadsWhy r (why_in u bytes) → IfFault r (λ f. HasWhyFault u bytes f)
+pub had_by : (u : Universe) (bytes : List ℕ) (r : Result Explanation TFault) → IsTable u → ReadsWhy r (why_in u bytes) → IfFault NoMemory r (λ f. HasWhyFault u bytes f)
 had_by u bytes (Ok r) table read = tt
 had_by u bytes (Err f) table read = λ known. told_is_had u bytes f table (read known)

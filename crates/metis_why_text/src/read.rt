@@ -1,11 +1,12 @@
 //! Reads the text of an explanation.
 ghost use Rattle.std.specs.Prelude.{◌≡◌, ◌<◌, ◌-◌, ◌^◌, IfOk, [], length};
 ghost use Rattle.std.specs.List.{All};
-ghost use Rattle.metis_text.specs.Terms.{IfFault};
+ghost use Rattle.metis_ids.specs.Terms.{IfFault};
 ghost use Rattle.metis_tokens.specs.Terms.{Reads, read_next};
 ghost use Rattle.metis_universe.specs.Terms.{IsWordable};
 ghost use Rattle.metis_why.specs.Terms.{IsTellable};
 ghost use Rattle.metis_why_text.specs.Terms.{HasWhyFault, ReadsWhy, count_in, lacks_in, line_in, lines_from, why_bytes, why_in};
+ghost use Rattle.metis_tokens.specs.declared.fault.TFault.TheVariants.{NoMemory};
 
 use crate::said::{count_of, lacks_in, line_in};
 use metis_ids::Goal;
@@ -26,7 +27,7 @@ pub fn read_why(alloc: Global, u: &Universe, bytes: &[u8]) -> Result<Explanation
     ensures text { IfOk result (λ why. bytes.now ≡ why_bytes u.now why.lacks why.lines.items) }
 
     // Each fault is that of the first line that is wrong, by what this line says, or of an end that is missing.
-    ensures fault { IfFault result (λ f. HasWhyFault u.now bytes.now f) }
+    ensures fault { IfFault NoMemory result (λ f. HasWhyFault u.now bytes.now f) }
 {
     u.keeps_invariant();
     read_text(alloc, u, bytes)

@@ -2,15 +2,18 @@
 ghost use Rattle.std.specs.Prelude.{◌≡◌, ◌≤◌, ◌^◌, ◌<◌, [], IfOk, IsTrue, length, map};
 ghost use Rattle.std.specs.List.{All, list_any};
 ghost use Rattle.metis_tokens.specs.Terms.{made};
-ghost use Rattle.metis_wishes.specs.Terms.{Reads, avoided_in, instance_in, is_about, kept_in, last_piece, lines_from, text_of, whole_lines, wish_in, wish_of, wishes_in, with_wish};
+ghost use Rattle.metis_ids.specs.Terms.{ReadsAs};
+ghost use Rattle.metis_wishes.specs.Terms.{avoided_in, instance_in, is_about, kept_in, wish_in, wish_of, wishes_in, with_wish};
+ghost use Rattle.metis_wishes.specs.declared.fault.WishFault.TheVariants.{NoMemory};
 
 use crate::fault::{WishFault, fault_at};
 use crate::wish::{Wish, is_same, subject_of};
 use metis_ids::InstNo;
 use metis_tokens::bytes::{is, place_of};
-use metis_tokens::{Flaw, number_in, pair_in, pieces_of, tokens_of, type_in};
+use metis_tokens::{Flaw, Lined, number_in, pair_in, pieces_of, read_own, tokens_of, type_in};
 use metis_universe::Universe;
 use std::alloc::Global;
+use std::marker::Model;
 
 /// The most bytes of a text of wishes.
 pub const WISHES_LIMIT: u64 = 65_536;
@@ -18,70 +21,71 @@ pub const WISHES_LIMIT: u64 = 65_536;
 /// The wishes that the bytes say, in the order of their lines, or their first fault.
 pub fn read_wishes(alloc: Global, u: &Universe, bytes: &[u8]) -> Result<Vec<Wish>, WishFault>
     requires { length bytes.now ≤ 65536 }
-    ensures read { Reads (λ wishes. wishes.items) result (wishes_in u.now bytes.now) }
+    ensures read { ReadsAs NoMemory (λ wishes. wishes.items) result (wishes_in u.now bytes.now) }
     ensures few { IfOk result (λ wishes. length wishes.items ≤ 65536) }
 {
     let pieces = pieces_of(alloc, bytes)?;
-    read_pieces(alloc, u, &pieces)
+    let mut wishes = Wishes {
+        listed: Vec::new(alloc),
+    };
+    read_own(alloc, u, "metis wishes 1", &pieces, &mut wishes)?;
+    Ok(wishes.listed)
 }
 
-// The last piece is what stands behind the last line feed.
-fn read_pieces(alloc: Global, u: &Universe, pieces: &[&[u8]]) -> Result<Vec<Wish>, WishFault>
-    requires { length pieces.now ≤ 65537 }
-    ensures read { Reads (λ wishes. wishes.items) result (text_of u.now (whole_lines (map (λ piece. piece.now) pieces.now)) (last_piece (map (λ piece. piece.now) pieces.now))) }
-    ensures few { IfOk result (λ wishes. length wishes.items ≤ 65536) }
-{
-    match pieces {
-        [lines @ .., rest] => read_text(alloc, u, lines, rest),
-        [] => Err(WishFault::Short),
-    }
+/// The wishes of the lines that were read.
+#[derive(Drop)]
+struct Wishes {
+    listed: Vec<Wish>,
 }
 
-fn read_text(
-    alloc: Global,
-    u: &Universe,
-    lines: &[&[u8]],
-    rest: &[u8],
-) -> Result<Vec<Wish>, WishFault>
-    requires { length lines.now ≤ 65536 }
-    ensures read { Reads (λ wishes. wishes.items) result (text_of u.now (map (λ line. line.now) lines.now) rest.now) }
-    ensures few { IfOk result (λ wishes. length wishes.items ≤ 65536) }
-{
-    match lines {
-        [header, lines @ ..] => {
-            if !is(header, "metis wishes 1") {
-                return Err(WishFault::Line(1));
-            }
-            read_lines(alloc, u, lines, rest)
-        }
-        [] => Err(WishFault::Short),
-    }
+impl Model for Wishes {
+    ghost use Rattle.std.specs.Prelude.{List};
+    ghost use Rattle.metis_wishes.specs.declared.wish.Wish.{Wish};
+
+    ghost Value = { List Wish };
+
+    ghost view = { λ w. w.listed.items };
 }
 
-// The lines from the second on, and what stands behind the last of them.
-fn read_lines(
-    alloc: Global,
-    u: &Universe,
-    lines: &[&[u8]],
-    rest: &[u8],
-) -> Result<Vec<Wish>, WishFault>
-    requires { length lines.now ≤ 65536 }
-    ensures read { Reads (λ wishes. wishes.items) result (lines_from u.now [] 2 (map (λ line. line.now) lines.now) rest.now) }
-    ensures few { IfOk result (λ wishes. length wishes.items ≤ 65536) }
-{
-    let mut wishes = Vec::new(alloc);
-    for (k, line) in lines.iter().enumerate() {
-        let number = k as u32 + 2;
-        if is(line, "end") {
-            if k + 1 < lines.len() || !rest.is_empty() {
-                return Err(WishFault::Line(number + 1));
-            }
-            return Ok(wishes);
-        }
-        let wish = next_wish(alloc, u, number, &wishes, line)?;
-        wishes.push(wish)?;
+impl Lined for Wishes {
+    ghost use Rattle.metis_wishes.specs.Terms.{is_last, more_wishes};
+    ghost use Rattle.metis_wishes.specs.declared.fault.WishFault.TheVariants.{Line, NoMemory, Short};
+
+    type Fault = WishFault;
+
+    ghost ends = { is_last };
+
+    ghost taken = { more_wishes };
+
+    ghost of_line = { Line };
+
+    ghost short = { Short };
+
+    ghost memory = { NoMemory };
+
+    fn ends_with(&self, line: &[u8]) -> bool {
+        is(line, "end")
     }
-    Err(WishFault::Short)
+
+    fn take(
+        &mut self,
+        alloc: Global,
+        u: &Universe,
+        number: u32,
+        line: &[u8],
+    ) -> Result<(), WishFault> {
+        let wish = next_wish(alloc, u, number, &self.listed, line)?;
+        self.listed.push(wish)?;
+        Ok(())
+    }
+
+    fn line_fault(number: u32) -> WishFault {
+        WishFault::Line(number)
+    }
+
+    fn short_fault() -> WishFault {
+        WishFault::Short
+    }
 }
 
 // The wish of the line of this number, behind these wishes.
@@ -92,7 +96,7 @@ fn next_wish(
     wishes: &[Wish],
     line: &[u8],
 ) -> Result<Wish, WishFault>
-    ensures { Reads (λ wish. wish) result (with_wish u.now number wishes.now line.now) }
+    ensures { ReadsAs NoMemory (λ wish. wish) result (with_wish u.now number wishes.now line.now) }
 {
     let tokens = tokens_of(alloc, line)?;
     match wish_in(u, &tokens) {

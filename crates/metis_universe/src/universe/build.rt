@@ -8,6 +8,7 @@ use crate::check::place_of_state;
 use crate::needs::further_numbers;
 use crate::numbered::NumberedNames;
 use crate::rows::{StateRow, TypeRow};
+use crate::seen::SeenNames;
 use crate::sights::Sights;
 use metis_ids::{PairIx, PortIx, TypeIx};
 use std::alloc::{AllocError, Global};
@@ -325,7 +326,7 @@ pub fn tables(
     alloc: Global,
     version: u32,
     rows: Vec<TypeRow>,
-    kinds: NumberedNames,
+    kinds: SeenNames,
     found: Sights,
 ) -> Result<Universe, AllocError>
     requires version { IsOfVersion version rows.items }
@@ -337,6 +338,8 @@ pub fn tables(
     ensures by_sight { IfOk result IsBySight }
 {
     let Sights { ports, numbers } = found;
+    let types = kinds.numbered(alloc)?;
+    let ports = ports.numbered(alloc)?;
     let (initials, pairs) = type_tables(alloc, rows, &ports, &numbers)?;
-    indexed(alloc, version, kinds, initials, pairs, ports)
+    indexed(alloc, version, types, initials, pairs, ports)
 }

@@ -1,6 +1,6 @@
 use Rattle.std.proofs.Common.{◌≡◌, ◌+◌, ◌++◌, map}
 use Rattle.std.specs.List.{range_with_len}
-use Rattle.metis_emit.specs.Terms.{tie_action}
+use Rattle.metis_ids.specs.Terms.{tie_action}
 use Rattle.metis_lines.specs.Terms.{slot_holding}
 use Rattle.metis_emit.proofs.writing.tie_slots.Given as goal
 

@@ -1,5 +1,6 @@
 use Rattle.std.proofs.Common.{◌≤◌, ap, ◌∙◌, subst, arith, length, map, Bor, List, ℕ}
-use Rattle.metis_place.specs.Terms.{ReadsHosts, last_piece, text_of, whole_lines}
+use Rattle.metis_place.specs.Terms.{ReadsHosts, text_of}
+use Rattle.metis_tokens.specs.Terms.{last_piece, whole_lines}
 use Rattle.std.proofs.lemmas.List.{length-map}
 use Rattle.metis_place.proofs.HostsBroken.{fault_read}
 use Rattle.metis_place.proofs.HostsRead.{few_read, sizes_read, text_read}

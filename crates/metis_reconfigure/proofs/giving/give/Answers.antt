@@ -1,5 +1,5 @@
 use Rattle.std.proofs.Common.{◌<◌, ◌++◌, ◌∷◌, [], length, arith, ap, ◌∙◌}
-use Rattle.metis_completion.proofs.Front.{rising_differ}
+use Rattle.metis_universe.proofs.Different.{rising_differ}
 use Rattle.metis_completion.specs.Terms.{given_in}
 use Rattle.metis_ids.proofs.Lists.{has_at}
 use Rattle.metis_layers.proofs.Ways.{all_has}

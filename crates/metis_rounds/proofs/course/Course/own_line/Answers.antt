@@ -8,15 +8,12 @@ use Rattle.metis_rounds.specs.declared.course.Course.{Course}
 use Rattle.metis_rounds.proofs.OwnRounds.{holds, own_line_of, rounds_go_on}
 use Rattle.metis_rounds.proofs.Owned.{is_held}
 use Rattle.metis_rounds.proofs.course.Course.own_line.Goals.{After-own_line}
+use Rattle.metis_rounds.proofs.Outcomes.{on_any}
 use Rattle.metis_rounds.proofs.course.Course.own_line.Goals as goal
 
 on_all : {X E P Q R S : Type 0} (r : Result X E) → OnOk r P → OnOk r Q → OnOk r R → (P → Q → R → S) → OnOk r S
 on_all (Ok x) p q r f = f p q r
 on_all (Err e) p q r f = tt
-
-on_any : {X E P : Type 0} (r : Result X E) → P → OnOk r P
-on_any (Ok x) h = h
-on_any (Err e) h = tt
 
 pub unwrap-line-requires : goal.unwrap-line-requires
 unwrap-line-requires c = subst IsSome (sym (c.holder.ensures ∙ held_first c.args.self.now.lines c.args.p c.requires.provider)) refl

@@ -7,6 +7,7 @@ use Rattle.metis_ids.specs.Terms.{has}
 use Rattle.metis_ids.specs.declared.events.Event.TheVariants.{At}
 use Rattle.metis_rounds.specs.Terms.{Empties, is_on, next_of, row_at, taken_of}
 use Rattle.metis_rounds.proofs.Beginning.{has_push}
+use Rattle.metis_rounds.proofs.Outcomes.{on_any}
 use Rattle.metis_rounds.proofs.going.Going.take.Goals as goal
 
 pub returns-clause-work : goal.returns-clause-work
@@ -20,10 +21,6 @@ returns-clause-work c =
     work l
     ∙ (λ i. has (pushed i) l || list_any (is_on l) (woken i))
     ∙ ap (λ b. b || list_any (is_on l) (row_at old.waiting (next_of old.taken.items line))) (has_push old.work.items line l)) c.add_lines.ensures
-
-on_any : {X E P : Type 0} (r : Result X E) → P → OnOk r P
-on_any (Ok x) h = h
-on_any (Err e) h = tt
 
 pub returns-clause-waiting : goal.returns-clause-waiting
 returns-clause-waiting c =

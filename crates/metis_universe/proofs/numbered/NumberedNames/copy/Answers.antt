@@ -1,29 +1,23 @@
-use Rattle.std.proofs.Common.{◌≡◌, ℕ, List, [], ◌∷◌, Option, Some, None, position, refl, sym, ap, ◌∙◌}
-use Rattle.std.specs.Prelude.{IsSomeAnd, MatchOption, String, string_bytes}
-use Rattle.std.specs.List.{AllZip}
+use Rattle.std.proofs.Common.{◌≡◌, ◌<◌, List, ℕ, length, string_bytes, sym, ap, ◌∙◌, subst}
+use Rattle.std.specs.List.{IsDistinct}
 use Rattle.std.specs.Str.{bytes_eq}
-use Rattle.std.specs.declared.alloc.Global.{Global}
-use Rattle.std.proofs.lemmas.Map.Entries.{lookup_clone}
-use Rattle.metis_universe.specs.Terms.{texts}
+use Rattle.std.proofs.lemmas.List.{length-map}
+use Rattle.std.proofs.lemmas.List.Elements.{same_from_all_zip}
+use Rattle.metis_universe.specs.Terms.{IsChained, bucket_numbered}
+use Rattle.metis_universe.proofs.Texts.{same_texts}
 use Rattle.metis_universe.proofs.numbered.NumberedNames.copy.Goals as goal
 
-same_texts : (xs ys : List (String Global)) → AllZip (λ x y. string_bytes y ≡ string_bytes x) xs ys → texts ys ≡ texts xs
-same_texts [] [] h = refl
-same_texts [] (y ∷ ys) h = absurd h
-same_texts (x ∷ xs) [] h = absurd h
-same_texts (x ∷ xs) (y ∷ ys) h = ap (λ t. t ∷ texts ys) h.0 ∙ ap (λ ts. string_bytes x ∷ ts) (same_texts xs ys h.1)
-
-same_number : (o p : Option ℕ) → MatchOption o (p ≡ None) (λ v. IsSomeAnd p (λ w. w ≡ v)) → p ≡ o
-same_number None p h = h
-same_number (Some v) None h = absurd h
-same_number (Some v) (Some w) h = ap Some h
+IsFound : List (List ℕ) → ℕ → List ℕ → List ℕ → Type 0
+IsFound names count lasts befores = IsDistinct bytes_eq names × (0 < length lasts) × IsChained (bucket_numbered names (length lasts)) count lasts befores
 
 pub invariant_of-result : goal.invariant_of-result
-invariant_of-result c = λ name.
+unfolding IsFound
+invariant_of-result c =
     let names = same_texts c.self.inside.names.items c.in_ok-clone.field-0.items c.in_ok-clone.ensures.cases.0 in
-    same_number _ _ (lookup_clone (λ (x y : String Global). string_bytes y ≡ string_bytes x) (λ (v w : ℕ). w ≡ v) (λ k. bytes_eq name (string_bytes k)) (λ x y h. ap (bytes_eq name) h) _ _ c.in_ok-clone-2.ensures.cases)
-    ∙ c.self.invariant name
-    ∙ ap (position (bytes_eq name)) (sym names)
+    let count : length c.in_ok-clone.field-0.items ≡ length c.self.inside.names.items = sym (length-map c.in_ok-clone.field-0.items (λ t. string_bytes t)) ∙ ap length names ∙ length-map c.self.inside.names.items (λ t. string_bytes t) in
+    let lasts : c.in_ok-clone-2.field-0.items ≡ c.self.inside.lasts.items = same_from_all_zip _ c.self.inside.lasts.items c.in_ok-clone-2.field-0.items c.in_ok-clone-2.ensures.cases.0 (λ x y h. h) in
+    let befores : c.in_ok-clone-3.field-0.items ≡ c.self.inside.befores.items = same_from_all_zip _ c.self.inside.befores.items c.in_ok-clone-3.field-0.items c.in_ok-clone-3.ensures.cases.0 (λ x y h. h) in
+    subst {A = List (List ℕ) × ℕ × List ℕ × List ℕ} (λ all. IsFound all.0 all.1 all.2 all.3) (sym (λ j. (names j, count j, lasts j, befores j))) c.self.invariant
 
 pub returns : goal.returns
 returns c = same_texts c.self.inside.names.items c.in_ok-clone.field-0.items c.in_ok-clone.ensures.cases.0 ∙ c.self.view_is

@@ -1,8 +1,9 @@
 //! What binds an instance to slots, or unbinds it.
 ghost use Rattle.std.specs.Prelude.{◌≡◌};
-ghost use Rattle.metis_emit.specs.Terms.{tie_action};
+ghost use Rattle.metis_ids.specs.Ties.{tie_action};
 
-use metis_ids::{Action, InstNo, PortIx};
+use crate::actions::Action;
+use crate::indices::{InstNo, PortIx};
 
 /// What becomes of the bindings of an instance to slots.
 #[derive(Clone, Copy)]
