@@ -1,6 +1,11 @@
+import importlib
+import io
+import pathlib
 import random
+import shutil
 import subprocess
 import sys
+import tempfile
 import unittest
 import unittest.mock
 
@@ -8,6 +13,7 @@ from metis_planner.importers.debian.control import (
     alternatives,
     NoControlFile,
     parts_of,
+    records,
     Relation,
     relation,
     shown,
@@ -24,7 +30,37 @@ class StanzasTest(unittest.TestCase):
         )
 
     def test_a_stanza_without_a_package_is_none(self):
-        self.assertEqual(list(stanzas("Version: 1\n")), [])
+        self.assertEqual(list(stanzas("Version: 1\n\nPackage: a\n")), [{"Package": "a"}])
+
+    def test_a_file_without_a_package_is_refused(self):
+        for text in ("Version: 1\n", "root:x:0:0:root:/root:/bin/bash\n", "\n"):
+            with self.assertRaisesRegex(NoControlFile, "^no control file of packages, since no stanza has a field Package$"):
+                list(stanzas(text))
+        self.assertEqual(list(stanzas("")), [])
+
+    def test_lines_may_end_as_on_windows(self):
+        text = "Package: a\nDepends: b,\n c\n\nPackage: d\nVersion: 1\n"
+        for size in range(1, 30):
+            with unittest.mock.patch("metis_planner.importers.debian.control.BLOCK", size):
+                self.assertEqual(list(stanzas(text.replace("\n", "\r\n"))), list(stanzas(text)), size)
+
+    def test_what_is_compressed_is_refused_by_name(self):
+        text = b"Package: a\n"
+        for module, name, command in (("gzip", "gzip", "zcat"), ("lzma", "xz", "xzcat"), ("bz2", "bzip2", "bzcat")):
+            with self.assertRaisesRegex(NoControlFile, f"^it is compressed by {name}; `{command} FILE` prints it$"):
+                list(records(io.BytesIO(importlib.import_module(module).compress(text))))
+
+    @unittest.skipUnless(shutil.which("dpkg"), "dpkg is not there")
+    def test_a_field_that_stands_twice_is_refused_as_dpkg_does(self):
+        text = "Package: a\nStatus: install ok installed\nVersion: 1\nArchitecture: all\nMaintainer: x\nDescription: y\nDepends: b\n"
+        with tempfile.TemporaryDirectory() as folder:
+            for more, fits in (("", True), ("Depends: c\n", False)):
+                pathlib.Path(folder, "status").write_text(f"{text}{more}\n")
+                done = subprocess.run(["dpkg-query", f"--admindir={folder}", "-W", "a"], capture_output=True, check=False)
+                self.assertEqual(done.returncode == 0, fits)
+        self.assertEqual(len(list(stanzas(text))), 1)
+        with self.assertRaisesRegex(NoControlFile, "^a stanza in which the field Depends stands twice$"):
+            list(stanzas(f"{text}Depends: c\n"))
 
 
 class RelationTest(unittest.TestCase):
@@ -171,7 +207,7 @@ class RecordsTest(unittest.TestCase):
                     list(stanzas("Package: " + "a" * 200))
 
     def test_fields(self):
-        text = "Package: a\nDepends: b\nDepends: c\n d\nUnknown: x\n y\nVersion : 1\nVersion\n z\nStatus:install ok installed\n"
+        text = "Package: a\nDepends: c\n d\nUnknown: x\n y\nVersion : 1\nVersion\n z\nStatus:install ok installed\n"
         expected = {"Package": "a", "Depends": "c d", "Status": "install ok installed"}
         self.assertEqual(list(stanzas(text)), [expected])
 

@@ -160,7 +160,8 @@ class ObjectsTest(unittest.TestCase):
         self.assertEqual(needs_of(found, "RoleBinding/n/b"), ["Role/n/r", "ServiceAccount/n/a"])
         self.assertEqual(needs_of(found, "Deployment/n/w"), ["ServiceAccount/n/a", "RoleBinding/n/b"])
         found, notes = imported(binding)
-        self.assertEqual((needs_of(found, "RoleBinding/n/b"), notes), ([], []))
+        self.assertEqual((needs_of(found, "RoleBinding/n/b"), len(notes)), ([], 1))
+        self.assertTrue(notes[0].endswith("RoleBinding/n/b names Role/n/r, which is not here"))
 
     def test_a_secret_that_a_controller_makes(self):
         certificate = manifest("Certificate", "c", "cert-manager.io/v1", spec={"secretName": "tls"})
@@ -274,8 +275,9 @@ class WaitsTest(unittest.TestCase):
 
     def test_a_service_without_pods_behind_it(self):
         found, notes = imported(service("db", app="db"), workload(**waiting("db:1")))
-        self.assertEqual(len(notes), 1)
+        self.assertEqual(len(notes), 2)
         self.assertRegex(notes[0], "^Deployment/n/w needs Service/n/db@endpoints, which nothing here gives")
+        self.assertTrue(notes[1].endswith("Service/n/db selects pods that no workload here makes"))
         found, notes = imported(service("db"), workload(**waiting("db:1")))
         self.assertEqual((needs_of(found, "Deployment/n/w"), notes), (["Service/n/db"], []))
 

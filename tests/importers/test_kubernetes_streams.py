@@ -261,3 +261,49 @@ class RulesTest(unittest.TestCase):
         spaces = manifest("Namespace", "one", namespace=None, labels={"l": "1"}), manifest("Namespace", "two", namespace=None)
         self.assertEqual(self.asked(*spaces, labels={"l": "1"}), ["Namespace/one"])
         self.assertEqual(self.asked(*spaces, labels={"kubernetes.io/metadata.name": "two"}), ["Namespace/two"])
+
+
+def hook(kind, name, phases, deletion="before-hook-creation,hook-succeeded", weight="0", **more):
+    annotations = {"helm.sh/hook": phases, "helm.sh/hook-delete-policy": deletion, "helm.sh/hook-weight": weight}
+    version = {"Job": "batch/v1", "Role": "rbac.authorization.k8s.io/v1"}.get(kind, "v1")
+    return manifest(kind, name, version, annotations=annotations, **more)
+
+
+def hook_job(name, phases, account="", weight="0", **pod):
+    spec = {"template": {"metadata": {}, "spec": {**({"serviceAccountName": account} if account else {}), **pod}}}
+    return hook("Job", name, phases, weight=weight, spec=spec)
+
+
+class HooksOfHelmTest(unittest.TestCase):
+    """What Helm does with hooks of several phases, and with hooks of one weight and name."""
+
+    def lacking(self, *manifests):
+        return [note for note in imported(*manifests)[1] if "there will be no plan" in note]
+
+    def test_a_hook_of_two_phases_is_made_again_in_the_second(self):
+        account = hook("ServiceAccount", "adm", "pre-install,post-install", weight="-1")
+        self.assertEqual(self.lacking(account, hook_job("patch", "post-install", "adm")), [])
+        # Not yet, for what comes before it there; nor in a phase that is none of its own; nor for what is no hook.
+        self.assertEqual(len(self.lacking(account, hook_job("patch", "post-install", "adm", weight="-2"))), 1)
+        early = hook("ServiceAccount", "adm", "pre-install")
+        self.assertEqual(len(self.lacking(early, hook_job("patch", "post-install", "adm"))), 1)
+        self.assertEqual(len(self.lacking(account, workload(serviceAccountName="adm"))), 1)
+
+    def test_hooks_of_one_weight_and_name_go_by_the_order_in_which_kinds_are_installed(self):
+        account, settings = hook("ServiceAccount", "app", "pre-install", ""), hook("ConfigMap", "app", "pre-install", "", data={"a": "b"})
+        container = {"name": "c", "envFrom": [{"configMapRef": {"name": "app"}}]}
+        found, notes = imported(account, settings, hook_job("app", "pre-install", "app", containers=[container]))
+        order = [needs_of(found, f"step/{number}") for number in (1, 2)]
+        self.assertEqual([step[-1].partition("/")[0] for step in order], ["ServiceAccount", "ConfigMap"])
+        self.assertEqual([note for note in notes if "no plan" in note], [])
+
+
+class TypedListTest(unittest.TestCase):
+    def test_items_of_a_typed_list_need_not_say_their_kind(self):
+        with tempfile.TemporaryDirectory() as folder:
+            path = pathlib.Path(folder) / "all.json"
+            path.write_text('{"apiVersion": "v1", "kind": "ConfigMapList", "items": [{"metadata": {"name": "a"}}, {"kind": "ConfigMap", "apiVersion": "v1", "metadata": {"name": "b"}}]}')
+            self.assertEqual([each.key for each in input.read_manifests([str(path)], "n")], ["ConfigMap/n/a", "ConfigMap/n/b"])
+            path.write_text('{"apiVersion": "v1", "kind": "List", "items": [{"metadata": {"name": "a"}}]}')
+            with self.assertRaises(Refused):
+                input.read_manifests([str(path)], "n")

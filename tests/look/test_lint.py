@@ -39,6 +39,10 @@ UNKNOWN = "Ingress/default/front names Service/default/wbe, which is not here"
 CIRCLE = {"services": {"shop": {"image": "s", "depends_on": ["mail"]}, "mail": {"image": "m", "depends_on": ["shop"]}}}
 
 
+LONG = "x" * 70
+SHARED_PORT = {"services": {"a": {"image": "i", "ports": ["80:80"]}, "b": {"image": "i", "ports": ["80:81"]}}}
+
+
 @unittest.skipIf(yaml is None, "PyYAML is not there")
 class ManifestsTest(unittest.TestCase):
     def setUp(self):
@@ -54,6 +58,46 @@ class ManifestsTest(unittest.TestCase):
 
     def test_what_is_lacking_is_an_error_and_ends_with_1(self):
         self.assertEqual(self.linted(POD), (1, f"FILE:8: {LACKING}\n"))
+
+    def test_a_long_name_stands_as_it_is_in_the_source(self):
+        text = POD.replace("name: web", f"name: {LONG}").replace("name: settings", f"name: {LONG}-settings")
+        said = f"Pod/default/{LONG} needs ConfigMap/default/{LONG}-settings, which nothing gives"
+        self.assertEqual(self.linted(text), (1, f"FILE:8: {said}\n"))
+
+    def test_a_milestone_has_the_place_of_its_object(self):
+        hook = POD.replace("{name: web, namespace: default}", "{name: web, namespace: default, annotations: {argocd.argoproj.io/sync-wave: '1'}}")
+        self.assertEqual(self.linted(hook + SETTINGS.replace("settings", "others"))[1][:7], "FILE:8:")
+
+    def test_many_causes_are_told_at_once_and_the_program_is_asked_once(self):
+        count = 150
+        text = "".join(POD.replace("name: web", f"name: web{at}").replace("name: settings", f"name: s{at}") + "---\n" for at in range(count))
+        status, out = self.linted(text)
+        self.assertEqual((status, out.count("which nothing gives")), (1, count))
+
+    def test_a_service_that_is_not_there_is_told_once(self):
+        rule = "{apiGroups: ['*'], apiVersions: ['*'], operations: [CREATE], resources: [pods]}"
+        hook = "apiVersion: admissionregistration.k8s.io/v1\nkind: ValidatingWebhookConfiguration\nmetadata: {name: w}\n"
+        hook += f"webhooks: [{{name: a.b.c, clientConfig: {{service: {{name: nope, namespace: default}}}}, rules: [{rule}]}}]\n"
+        self.assertEqual(self.linted(hook)[1].count("Service/default/nope"), 1)
+
+    def test_strict(self):
+        text = POD + SETTINGS + INGRESS
+        self.assertEqual(self.linted(text, "--strict"), (1, f"FILE:19: warning: {UNKNOWN}\n"))
+        self.assertEqual(self.linted(POD + SETTINGS, "--strict"), (0, ""))
+
+    def test_a_report_for_gitlab(self):
+        status, out = self.linted(POD + INGRESS, "--format", "gitlab")
+        error, warning = json.loads(out)
+        self.assertEqual((status, error["location"]), (1, {"path": "FILE", "lines": {"begin": 8}}))
+        self.assertEqual((error["description"], error["severity"], warning["severity"]), (LACKING, "major", "minor"))
+        self.assertEqual(len({error["fingerprint"], warning["fingerprint"]}), 2)
+        self.assertEqual(json.loads(self.linted(POD + SETTINGS, "--format", "gitlab")[1]), [])
+
+    def test_what_is_no_manifest_is_a_finding_with_its_line(self):
+        status, out = self.linted("kind: [\n", "--format", "json")
+        (found,) = json.loads(out)
+        self.assertEqual((status, found["rule"], found["file"], found["level"]), (1, "refused", "FILE", "error"))
+        self.assertGreaterEqual(found["line"], 1)
 
     def test_what_is_whole_says_nothing(self):
         self.assertEqual(self.linted(POD + SETTINGS), (0, ""))
@@ -84,6 +128,18 @@ class ManifestsTest(unittest.TestCase):
         self.assertLessEqual({each["ruleId"] for each in found["results"]}, known)
 
 
+class UnitsTest(unittest.TestCase):
+    def test_what_systemd_has_itself_is_given_and_others_are_named(self):
+        with tempfile.TemporaryDirectory() as folder:
+            units = pathlib.Path(folder, "etc/systemd/system")
+            units.mkdir(parents=True)
+            (units / "a.service").write_text("[Unit]\nRequires=network-online.target b.service\n[Service]\nExecStart=/bin/true\n")
+            words = ["-m", "metis_planner", "lint", "systemd", "--root", folder, "a.service"]
+            status, out, said = run(*words)
+            self.assertEqual((status, out.replace(folder, "ROOT"), said), (1, "ROOT/etc/systemd/system/a.service:2: a.service needs b.service, which nothing gives\n", ""))
+            self.assertEqual(run(*words, "--given", "b.service"), (0, "", ""))
+
+
 class ProjectTest(unittest.TestCase):
     def test_a_circle_is_told_once(self):
         with tempfile.TemporaryDirectory() as folder:
@@ -97,6 +153,53 @@ class ProjectTest(unittest.TestCase):
 
     def test_a_source_that_is_none_is_refused(self):
         self.assertEqual(run("-m", "metis_planner", "lint", "compose", text="{")[0], 1)
+
+
+class PackagesTest(unittest.TestCase):
+    def test_a_package_whose_name_has_a_plus(self):
+        with tempfile.TemporaryDirectory() as folder:
+            index = pathlib.Path(folder) / "Packages"
+            index.write_text("Package: g++\nVersion: 1\nArchitecture: amd64\n\nPackage: c\nVersion: 1\nDepends: d\nArchitecture: amd64\n")
+            self.assertEqual(run("-m", "metis_planner", "lint", "debian", "--index", str(index), "g++"), (0, "", ""))
+            status, out, _ = run("-m", "metis_planner", "lint", "debian", "--index", str(index), "c")
+            self.assertEqual((status, out), (1, "c needs d, which nothing gives\n"))
+
+
+class ProjectTest(unittest.TestCase):
+    def linted(self, project, *words):
+        with tempfile.TemporaryDirectory() as folder:
+            file = pathlib.Path(folder, "compose.json")
+            file.write_text(json.dumps(project, indent=1))
+            status, out, said = run("-m", "metis_planner", "lint", "compose", str(file), *words)
+            return status, out.replace(str(file), "FILE"), said
+
+    def test_what_nobody_defines_is_a_finding_at_its_line(self):
+        project = {"services": {"a": {"image": "i"}, "b": {"image": "i", "depends_on": ["nobody"]}}}
+        self.assertEqual(self.linted(project), (1, "FILE:1: service b: it depends on nobody, which nobody defines\n", ""))
+
+    def test_all_that_is_refused_is_told_and_an_import_tells_the_first(self):
+        text = "services:\n  a:\n    image: i\n    depends_on: [mail]\n  b:\n    image: i\n    networks: [n]\n  c: {image: i, networks: [m]}\n"
+        with tempfile.TemporaryDirectory() as folder:
+            file = pathlib.Path(folder, "compose.yaml")
+            file.write_text(text)
+            status, out, said = run("-m", "metis_planner", "lint", "compose", str(file))
+            lines = [line.removeprefix(f"{file}:") for line in out.splitlines()]
+            self.assertEqual((status, said), (1, ""))
+            self.assertEqual(
+                lines,
+                ["4: service a: it depends on mail, which nobody defines", "5: service b: no network n is defined", "8: service c: no network m is defined"],
+            )
+            first = run("-m", "metis_planner", "import", "compose", str(file))
+            self.assertEqual(first, (1, "", "metis: service a: it depends on mail, which nobody defines\n"))
+
+    def test_a_port_of_the_host_that_is_taken_twice_is_a_warning(self):
+        status, out, said = self.linted(SHARED_PORT)
+        self.assertEqual((status, said), (0, ""))
+        self.assertRegex(out, "^FILE:[0-9]+: warning: port 80.* is taken by 2 containers, of a, b: one host has it once\n$")
+
+    def test_a_file_that_is_not_there_is_no_finding(self):
+        status, out, said = run("-m", "metis_planner", "lint", "compose", "/nowhere/compose.yaml", "--format", "json")
+        self.assertEqual((status, out, said), (1, "", "metis: /nowhere/compose.yaml: No such file or directory\n"))
 
 
 if __name__ == "__main__":

@@ -189,7 +189,8 @@ def add_arguments(parser: argparse.ArgumentParser) -> None:
         "file", metavar="FILE", nargs="?", default="-", help="a project; standard input if none is named"
     )
     parser.add_argument("--next", metavar="FILE", help="a later form of the project, beside it in the same universe")
-    parser.add_argument("--profile", action="append", default=[], metavar="NAME", help="switches a profile on, in place of those that COMPOSE_PROFILES names")
+    help_text = "switches a profile on, in place of those that COMPOSE_PROFILES names"
+    parser.add_argument("--profile", action="append", default=[], metavar="NAME", help=help_text)
     parser.add_argument(
         "--given",
         action="append",

@@ -4,8 +4,12 @@ import collections
 import functools
 from collections.abc import Iterable
 
-from metis_planner.answers import Refused
+from metis_planner.answers import Refused, made_of_each
 from metis_planner.importers.compose.input import COMPLETED, HEALTHY, Need, Project, Service
+from metis_planner.text.documents import MOST_PAIRS
+
+# A service is absent, created and started at least.
+FEWEST_PAIRS = 3
 
 
 def switched_on(project: Project, profiles: Iterable[str]) -> set[str]:
@@ -15,8 +19,7 @@ def switched_on(project: Project, profiles: Iterable[str]) -> set[str]:
         for name, service in project.services.items()
         if not service.profiles or service.profiles & set(profiles) or "*" in profiles
     }
-    for name in sorted(on):
-        check_service(project, on, project.services[name])
+    made_of_each(sorted(on), lambda name: check_service(project, on, project.services[name]))
     check_container_names(project, on)
     return {name for name in on if project.services[name].replicas > 0}
 
@@ -71,6 +74,8 @@ class Deployment:
         self.on = switched_on(project, profiles)
         self.given: set[str] = set()
         self.give(given)
+        if len(self.wanted) * FEWEST_PAIRS > MOST_PAIRS:
+            raise Refused(f"{len(self.wanted)} services, and Metis takes at most {MOST_PAIRS} pairs of type and state")
 
     def give(self, names: Iterable[str]) -> None:
         """Takes more for what stands: those of these names that the project has, with all that they stand on."""

@@ -9,7 +9,7 @@ from metis_planner.importers.compose.variables import Unset, Variables
 
 # What is a space inside of a line.
 SPACE = "\t\v\f\r \x85\xa0"
-KEY = re.compile(r"[^\W]*[\w.\-\[\]]*")
+KEY = re.compile(r"[\w.\-\[\]]*")
 EXPORT = re.compile(rf"export[{re.escape(SPACE)}]+")
 INSIDE = {'"': re.compile(r'(?:[^"\\]|\\.)*', re.DOTALL), "'": re.compile(r"(?:[^'\\]|\\.)*", re.DOTALL)}
 ESCAPED = re.compile(r'\\([abcfnrtv$"\\])')

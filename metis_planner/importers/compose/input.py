@@ -7,7 +7,7 @@ import re
 from collections.abc import Iterator, Mapping
 from typing import Any, NamedTuple
 
-from metis_planner.answers import Refused
+from metis_planner.answers import Refused, made_of_each
 from metis_planner.importers.compose import keys
 from metis_planner.importers.compose.dotenv import read_variables
 from metis_planner.importers.compose.mounts import Mount, mounts_of
@@ -91,7 +91,7 @@ def read_project(path: str) -> Project:
     check_name(project, environment, path)
     external = frozenset(external_of(project, path))
     check_made_of(project, path)
-    services = {name: service_of(name, project["services"][name], project) for name in sorted(project["services"])}
+    services = made_of_each(sorted(project["services"]), lambda name: service_of(name, project["services"][name], project))
     notes = (*variables.notes(), *left_beside(path))
     name = text_of(project.get("name") or "", "name")
     return Project(name, services, external, notes, profiles_in(environment))

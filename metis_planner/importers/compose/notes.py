@@ -7,13 +7,14 @@ from metis_planner.importers.compose.deployment import Deployment
 from metis_planner.importers.compose.input import HEALTHY
 from metis_planner.importers.compose.next import NEXT
 from metis_planner.text.documents import MOST_OF_A_PORT
+from metis_planner.text.notes import Note
 
 
 def healths(deployment: Deployment) -> Iterator[str]:
     """Notes on services whose health somebody waits for, and whose check has to be in their image."""
     for name in deployment.wanted:
         if HEALTHY in deployment.asked.get(name, ()) and not deployment.service(name).is_checked:
-            yield f"{name} has no healthcheck here: it gets healthy if its image has one"
+            yield Note.about(name, "", f"{name} has no healthcheck here: it gets healthy if its image has one")
 
 
 def shared_ports(deployment: Deployment) -> Iterator[str]:
@@ -24,7 +25,8 @@ def shared_ports(deployment: Deployment) -> Iterator[str]:
             takers[port] += [name] * min(deployment.service(name).replicas, MOST_OF_A_PORT)
     for port, names in sorted(takers.items()):
         if len(names) > 1:
-            yield f"port {port} is taken by {len(names)} containers, of {', '.join(dict.fromkeys(names))}: one host has it once"
+            reason = f"port {port} is taken by {len(names)} containers, of {', '.join(dict.fromkeys(names))}: one host has it once"
+            yield Note.about(names[0], port.partition("/")[0], reason)
 
 
 def on_same_data(first: Deployment, second: Deployment, renamed: Set[str]) -> Iterator[str]:

@@ -22,6 +22,14 @@ LONGEST_SHOWN = 60
 END_OF_STANZA = b"\n\n"
 BLOCK = 1024 * 1024
 MOST_STANZA = 4 * 1024 * 1024
+# How compressed files begin, and what prints them.
+COMPRESSED = (
+    (b"\x1f\x8b", "gzip", "zcat"),
+    (b"\xfd7zXZ\x00", "xz", "xzcat"),
+    (b"BZh", "bzip2", "bzcat"),
+    (b"\x28\xb5\x2f\xfd", "zstd", "zstdcat"),
+    (b"\x04\x22\x4d\x18", "lz4", "lz4cat"),
+)
 
 
 # `<` and `>` are of old, and mean what `<=` and `>=` do.
@@ -54,13 +62,29 @@ def stanzas(text: str) -> Iterator[dict[str, str]]:
 
 def records(file: BinaryIO) -> Iterator[dict[str, str]]:
     """The same of a file of any length, of which no more is held than one stanza and a block."""
-    rest = b""
+    rest, has_text, has_package = b"", False, False
     while block := file.read(BLOCK):
-        *whole, rest = (rest + block).split(END_OF_STANZA)
-        yield from stanzas_in(whole)
+        if not has_text:
+            check_plain(block)
+        *whole, rest = (rest + block).replace(b"\r\n", b"\n").split(END_OF_STANZA)
+        has_text = True
+        for fields in stanzas_in(whole):
+            has_package = True
+            yield fields
         if len(rest) > MOST_STANZA:
             raise NoControlFile(f"a stanza of more than {MOST_STANZA} bytes")
-    yield from stanzas_in([rest])
+    for fields in stanzas_in([rest]):
+        has_package = True
+        yield fields
+    if has_text and not has_package:
+        raise NoControlFile("no control file of packages, since no stanza has a field Package")
+
+
+def check_plain(begin: bytes) -> None:
+    """Refuses what is compressed, as mirrors serve it, by the first bytes of a file."""
+    for magic, name, command in COMPRESSED:
+        if begin.startswith(magic):
+            raise NoControlFile(f"it is compressed by {name}; `{command} FILE` prints it")
 
 
 def stanzas_in(texts: Iterable[bytes]) -> Iterator[dict[str, str]]:
@@ -81,9 +105,10 @@ def fields_of(stanza: str) -> dict[str, str]:
             continue
         name, colon, value = line.partition(":")
         key = name if name in FIELDS and colon else None
+        if key in parts:
+            raise NoControlFile(f"a stanza in which the field {key} stands twice")
         if key:
             parts[key] = value.strip()
-            folded.pop(key, None)
     return {**parts, **{key: " ".join(lines) for key, lines in folded.items()}}
 
 

@@ -12,6 +12,8 @@ from metis_planner.text.documents import MOST_PAIRS
 
 # So many pairs that do not go together are named or counted, and no more are looked for.
 MOST_CONFLICTS = 1_000
+# How many packages are tried that would come along with others; each try goes over all that was chosen.
+MOST_TRIES = 3_000
 Leaning = dict[str, list[tuple[str, Options]]]
 
 
@@ -48,6 +50,7 @@ class Installation:
         self.broken: dict[str, str] = {}  # a given package, and the dependence that it would lose
         self.leaning_on: Leaning = collections.defaultdict(list)  # as that of the choices, of chosen packages
         self.unrecommended: dict[str, str] = {}
+        self.tries = 0
         self.choose(requested, with_recommends)
 
     def choose(self, requested: Sequence[str], with_recommends: bool) -> None:
@@ -215,6 +218,9 @@ class Installation:
 
     def try_to_take(self, name: str) -> bool:
         """Takes a package with all that it needs, unless that does not go together with the rest."""
+        self.tries += 1
+        if self.tries > MOST_TRIES:
+            raise TooManyWays(f"more than {MOST_TRIES} packages were tried that would come along, {name} the last")
         kept = self.state()
         try:
             self.take([name])

@@ -5,6 +5,7 @@ from collections.abc import Iterable, Iterator, Sequence
 
 from metis_planner.answers import Answer, Refused
 from metis_planner.importers.kubernetes import mentions
+from metis_planner.importers.kubernetes.faults import Faults
 from metis_planner.importers.kubernetes.given import given_names
 from metis_planner.importers.kubernetes.input import is_true, Manifest, read_manifests
 from metis_planner.importers.kubernetes.kinds import APPLIED, last_state
@@ -127,6 +128,7 @@ def notes_on(needs: Needs) -> Iterator[str]:
         yield f"and {len(missing) - MOST_NAMED} more needs that nothing here gives"
     yield from needs.notes
     yield from mentions.notes(needs.manifests, {*needs.known, *needs.given})
+    yield from Faults(needs).notes()
     yield from made_names(needs.manifests)
     left_out = [each.key for each in needs.steps.left_out]
     if left_out:

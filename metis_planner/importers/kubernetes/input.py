@@ -182,7 +182,14 @@ def objects_of(value: Any, path: str, depth: int) -> Iterator[dict[str, Any]]:
     if depth > DEEPEST_LIST:
         raise Refused(f"{path}: lists in lists too deeply")
     for each in mappings_in(value, "items", path):
-        yield from objects_of(each, path, depth + 1)
+        yield from objects_of(with_kind_of(value, each), path, depth + 1)
+
+
+def with_kind_of(typed: dict[str, Any], item: dict[str, Any]) -> dict[str, Any]:
+    """An item of a typed list, as `ConfigMapList`, whose items need not say of which kind they are."""
+    kind = typed["kind"].removesuffix("List")
+    said = {key: value for key, value in item.items() if value is not None}
+    return {"apiVersion": typed.get("apiVersion"), "kind": kind, **said} if kind and "kind" not in said else item
 
 
 def scope_of(told: dict[str, Any]) -> tuple[tuple[str, str], bool] | None:

@@ -11,6 +11,7 @@ from metis_planner.importers.kubernetes.input import is_true, Manifest, mappings
 from metis_planner.importers.kubernetes.kinds import (
     ENDPOINTS,
     has_pods,
+    keys_of_made_secret,
     kind_port,
     last_state,
     LONG_RUNNING,
@@ -19,7 +20,7 @@ from metis_planner.importers.kubernetes.kinds import (
 )
 from metis_planner.importers.kubernetes.phases import Steps
 from metis_planner.importers.kubernetes.pods import pod_spec, Reference, references, template_of
-from metis_planner.importers.kubernetes.waits import awaited_labels, check_commands, waits
+from metis_planner.importers.kubernetes.waits import awaited_labels, check_commands, settings_in, waits
 from metis_planner.importers.kubernetes.webhooks import (
     CONFIGURATIONS,
     conversions_of,
@@ -35,6 +36,8 @@ MOST_WEBHOOKS = 300
 # How often a webhook is asked about an object, and how many needs come of that.
 MOST_QUESTIONS = 100_000
 MOST_NEEDS = 200_000
+# How often a word of a selector or a rule is held against an object.
+MOST_COMPARED = 5_000_000
 # The kinds that are better there behind what they name.
 BEHIND_MENTIONED = (*mentions.BINDINGS, "Ingress", "PersistentVolumeClaim", "CronJob")
 # What was there and is deleted again: nothing gives it.
@@ -53,12 +56,13 @@ class Needs:
         self.known = {each.key for each in manifests}
         self.notes: list[str] = []
         self.services = {(each.namespace, each.name): each for each in self.of_kind("Service")}
-        self.settings = {(each.namespace, each.name): each for each in self.of_kind("ConfigMap")}
+        self.settings = settings_in(self.of_kind("ConfigMap"))
         self.namespaces = {
             each.name: {NAME_OF_NAMESPACE: each.name, **each.labels} for each in self.of_kind("Namespace")
         }
         self.groups = {text_at(each.spec, "group", each.key): each for each in self.of_kind("APIService")}
         check_commands(self.manifests)
+        self.check_selectors()
         self.claims = Claims(self.manifests, steps)
         self.applying: PortsOf = {each.key: list(self.before_it_is_applied(each)) for each in self.manifests}
         self.running: PortsOf = {each.key: list(self.before_it_is_well(each)) for each in self.manifests}
@@ -67,6 +71,14 @@ class Needs:
             for port in (*self.provided(each), *self.provided_early(each)):
                 self.given_by[port].append(each)
         self.ask_webhooks()
+
+    def check_selectors(self) -> None:
+        """Refuses a stream in which selectors would have to be held against too many pods."""
+        pods = sum(template_of(each) is not None for each in self.manifests)
+        chosen = (*self.services.values(), *self.of_kind("PodDisruptionBudget"))
+        words = sum(size_of(each.spec.get("selector")) for each in chosen)
+        if words * pods > MOST_COMPARED:
+            raise Refused(f"selectors of {words} words and {pods} workloads, and at most {MOST_COMPARED} times one is held against one")
 
     def of_kind(self, *kinds: str) -> list[Manifest]:
         return [each for each in self.manifests if each.kind in kinds and not each.is_custom]
@@ -159,19 +171,33 @@ class Needs:
 
     def labelled(self, pair: tuple[str, str], manifest: Manifest) -> Iterator[str]:
         """The other workloads of a namespace whose pods have a label."""
+        yield from (key for key in self.workloads_by_label.get((manifest.namespace, *pair), ()) if key != manifest.key)
+
+    @functools.cached_property
+    def workloads_by_label(self) -> dict[tuple[str, str, str], list[str]]:
+        """For each namespace and pair of a label the workloads whose pods have it."""
+        found: dict[tuple[str, str, str], list[str]] = collections.defaultdict(list)
         for each in self.of_kind(*LONG_RUNNING):
-            if each.namespace == manifest.namespace and each is not manifest and pair in pod_labels(each).items():
-                yield each.key
+            for key, value in pod_labels(each).items():
+                found[each.namespace, key, value].append(each.key)
+        return found
 
     def lacks(self, key: str, entry: str) -> bool:
-        """Whether an object is here, has entries, and not this one."""
-        manifest = self.by_key.get(key)
-        if manifest is None:
-            return False
-        entries = [
-            name for table in ("data", "stringData", "binaryData") for name in mapping(manifest.told, table, key)
-        ]
+        """Whether an object is here, or made of one that says its entries, and has some, and not this one."""
+        entries = self.entries.get(key, frozenset())
         return bool(entries) and entry not in entries
+
+    @functools.cached_property
+    def entries(self) -> dict[str, frozenset[str]]:
+        """The entries of each object that has some, and of the secrets that are made of others."""
+        found: dict[str, frozenset[str]] = {}
+        for each in self.manifests:
+            tables = ("data", "stringData", "binaryData") if each.kind in ("Secret", "ConfigMap") else ()
+            found[each.key] = frozenset(name for table in tables for name in mapping(each.told, table, each.key))
+            keys = keys_of_made_secret(each) if each.is_custom else None
+            for secret in made_secret(each) if keys else ():
+                found[secret] = frozenset(keys or ())
+        return found
 
     @functools.cached_property
     def bound(self) -> dict[tuple[str, str], list[str]]:
@@ -246,6 +272,10 @@ class Needs:
         if len(webhooks) * len(self.manifests) > MOST_QUESTIONS:
             counts = f"{len(webhooks)} webhooks and {len(self.manifests)} objects"
             raise Refused(f"{counts}, and at most {MOST_QUESTIONS} times one is asked about one")
+        words = sum(map(size_of, (part for webhook in webhooks for part in webhook.parts)))
+        if words * len(self.manifests) > MOST_COMPARED:
+            reason = f"webhooks of {words} words and {len(self.manifests)} objects"
+            raise Refused(f"{reason}, and at most {MOST_COMPARED} times one is held against one")
         added = [need for webhook in webhooks for need in self.needs_by(webhook)]
         if len(added) > MOST_NEEDS:
             raise Refused(f"more than {MOST_NEEDS} times an object needs a webhook")
@@ -307,6 +337,16 @@ class Needs:
         needed = (port for needs in (self.applying, self.running) for ports in needs.values() for port in ports)
         dangling = (each.key for _, each in mentions.dangling(self.manifests, self.known))
         return dict.fromkeys((*sorted(self.known), *(port.partition("@")[0] for port in needed), *dangling))
+
+
+def size_of(told: object) -> int:
+    """How many words a part of a manifest has, with those in its lists and mappings."""
+    count, work = 0, [told]
+    while work:
+        each = work.pop()
+        count += 1
+        work += [*each.keys(), *each.values()] if isinstance(each, dict) else each if isinstance(each, list) else []
+    return count
 
 
 def is_early(service: Manifest) -> bool:

@@ -15,6 +15,13 @@ PHASES_OF_HELM = {"pre-install": BEFORE, "crd-install": BEFORE, "post-install": 
 # Argo CD does not tell an installation from an upgrade.
 PHASES_OF_HELM_IN_ARGO = {**PHASES_OF_HELM, "pre-upgrade": BEFORE, "post-upgrade": AFTER}
 PHASES_OF_ARGO = {"PreSync": BEFORE, "Sync": MAIN, "PostSync": AFTER}
+# The order in which Helm installs kinds, which hooks of one weight and name keep; others come behind, by their names.
+INSTALL_ORDER_OF_HELM = (
+    "PriorityClass Namespace NetworkPolicy ResourceQuota LimitRange PodSecurityPolicy PodDisruptionBudget ServiceAccount Secret "
+    "ConfigMap StorageClass PersistentVolume PersistentVolumeClaim CustomResourceDefinition ClusterRole ClusterRoleBinding Role "
+    "RoleBinding Service DaemonSet Pod ReplicationController ReplicaSet Deployment HorizontalPodAutoscaler StatefulSet Job CronJob "
+    "IngressClass Ingress APIService MutatingWebhookConfiguration ValidatingWebhookConfiguration"
+).split()
 WHOLE = re.compile(r"[-+]?[0-9]{1,9}")
 
 
@@ -64,9 +71,15 @@ class Steps:
         return phase
 
     def is_gone_for(self, manifest: Manifest, other: Manifest) -> bool:
-        """Whether Helm has deleted a hook when another object comes: behind all hooks of its phase, if it is to."""
-        is_deleted = ON_SUCCESS in hooks_of(manifest, HELM_DELETION) and bool(hooks_of(manifest, HELM_HOOK))
-        return is_deleted and not self.is_argo and self.phase(manifest) < self.phase(other)
+        """Whether Helm has deleted a hook when another object comes: behind all hooks of its phase, if it is to.
+
+        A hook of several phases is made again in each of them, before the hooks that come behind it there.
+        """
+        if self.is_argo or ON_SUCCESS not in hooks_of(manifest, HELM_DELETION) or self.phase(manifest) >= self.phase(other):
+            return False
+        phases = phases_in_helm(manifest)
+        is_made_again = self.phase(other) in phases and place_in_helm(manifest) < place_in_helm(other)
+        return bool(phases) and not is_made_again
 
 
 def hooks_of(manifest: Manifest, key: str) -> list[str]:
@@ -74,15 +87,24 @@ def hooks_of(manifest: Manifest, key: str) -> list[str]:
 
 
 def rank_in_helm(manifest: Manifest) -> tuple[Any, ...] | None:
-    """The phase and the place in it; None for a hook that an installation does not run.
-
-    Hooks are run one by one, by their weights and then by their names.
-    """
-    hooks = hooks_of(manifest, HELM_HOOK)
-    if not hooks:
+    """The phase and the place in it; None for a hook that an installation does not run."""
+    if not hooks_of(manifest, HELM_HOOK):
         return (MAIN,)
-    phases = [PHASES_OF_HELM[hook] for hook in hooks if hook in PHASES_OF_HELM]
-    return (min(phases), weight_of(manifest, HELM_WEIGHT), manifest.name, manifest.kind) if phases else None
+    phases = phases_in_helm(manifest)
+    return (min(phases), *place_in_helm(manifest)) if phases else None
+
+
+def phases_in_helm(manifest: Manifest) -> list[int]:
+    """The phases of an installation in which Helm runs a hook."""
+    return [PHASES_OF_HELM[hook] for hook in hooks_of(manifest, HELM_HOOK) if hook in PHASES_OF_HELM]
+
+
+def place_in_helm(manifest: Manifest) -> tuple[Any, ...]:
+    """What orders the hooks of a phase, which are run one by one: their weights, then their names, then their kinds."""
+    kind = manifest.kind
+    is_known = kind in INSTALL_ORDER_OF_HELM and not manifest.is_custom
+    at = INSTALL_ORDER_OF_HELM.index(kind) if is_known else len(INSTALL_ORDER_OF_HELM)
+    return weight_of(manifest, HELM_WEIGHT), manifest.name, at, kind
 
 
 def rank_in_argo(manifest: Manifest) -> tuple[Any, ...] | None:

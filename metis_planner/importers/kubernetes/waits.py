@@ -31,6 +31,8 @@ KINDS_OF_WORDS = {
 }
 # The commands of all init containers of a stream together.
 MOST_COMMANDS = 512 * 1024
+# How often a variable of a command is looked up in a source of its environment.
+MOST_LOOKED_UP = 1_000_000
 # The words of a command, and what ends one and begins the next.
 WORDS = re.compile(r"[^\s\"'`;|&()<>,]+|[;|&()`\n]")
 ENDS = frozenset(";|&()`\n")
@@ -55,7 +57,7 @@ LOOKUPS = frozenset("nslookup dig host getent".split())
 # What stands behind the name of a service: its namespace, and the suffix of the cluster.
 BEHIND_NAME = re.compile(r"(?P<namespace>[a-z0-9-]+)(?:[.]svc(?:[.][a-z0-9.-]+)?)?[.]?")
 Services = Mapping[tuple[str, str], Manifest]
-Settings = Mapping[tuple[str, str], Manifest]  # the ConfigMaps, by namespace and name
+Settings = Mapping[tuple[str, str], Mapping[str, str]]  # the entries of ConfigMaps, by namespace and name
 
 
 def commands_of(manifest: Manifest) -> Iterator[tuple[dict[str, Any], str]]:
@@ -110,20 +112,30 @@ def environment_of(
         if source:
             value = entries_of(settings, manifest, source).get(text_at(source, "key", where), "")
         yield f"{text_at(each, 'name', where)}={value}"
-    named = set(VARIABLE.findall(text))
-    for each in mappings_in(container, "envFrom", where):
+    named = sorted(set(VARIABLE.findall(text)))
+    sources = mappings_in(container, "envFrom", where)
+    if len(named) * len(sources) > MOST_LOOKED_UP:
+        raise Refused(f"{where}: {len(named)} variables of a command and {len(sources)} sources of its environment are too many")
+    for each in sources:
         prefix = text_at(each, "prefix", where)
-        for key, value in entries_of(settings, manifest, mapping(each, "configMapRef", where)).items():
-            if prefix + key in named:
-                yield f"{prefix}{key}={value}"
+        entries = entries_of(settings, manifest, mapping(each, "configMapRef", where))
+        for variable in named if entries else ():
+            key = variable.removeprefix(prefix)
+            if variable.startswith(prefix) and key in entries:
+                yield f"{variable}={entries[key]}"
 
 
-def entries_of(settings: Settings, manifest: Manifest, source: dict[str, Any]) -> dict[str, str]:
+def entries_of(settings: Settings, manifest: Manifest, source: dict[str, Any]) -> Mapping[str, str]:
     """The entries of a ConfigMap that is named here, where the stream has it."""
-    found = settings.get((manifest.namespace, text_at(source, "name", manifest.key)))
-    if found is None:
-        return {}
-    return {key: value for key, value in mapping(found.told, "data", found.key).items() if isinstance(value, str)}
+    return settings.get((manifest.namespace, text_at(source, "name", manifest.key)), {})
+
+
+def settings_in(manifests: Iterable[Manifest]) -> Settings:
+    """The entries that are texts of these ConfigMaps."""
+    return {
+        (each.namespace, each.name): {key: value for key, value in mapping(each.told, "data", each.key).items() if isinstance(value, str)}
+        for each in manifests
+    }
 
 
 def hosts_in(text: str) -> Iterator[tuple[str, bool]]:

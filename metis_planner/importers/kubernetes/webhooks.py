@@ -25,6 +25,11 @@ class Webhook:
     object_selector: dict[str, Any]
     is_conversion: bool = False  # of custom resources between versions, in place of a question about them
 
+    @property
+    def parts(self) -> tuple[dict[str, Any], ...]:
+        """What is held against each object."""
+        return (*self.rules, self.namespace_selector, self.object_selector)
+
     def matches(
         self,
         labels: Mapping[str, str],

@@ -21,18 +21,24 @@ HARD_PULLS = ("Requires", "BindsTo")
 OF_TARGETS = (*PULLS, "Requisite")
 # Units of these kinds are made at boot, of the kernel's or the machine's own tables; where no file has one it is given.
 MADE_AT_BOOT = ("device", "slice", "scope", "mount", "swap", "automount")
-
-
-def is_given(name: str) -> bool:
-    return kind_of(name) in MADE_AT_BOOT
+# What each machine with systemd has, which units of one's own may name without bringing it.
+OWN_OF_SYSTEMD = (
+    "basic.target sysinit.target sockets.target timers.target paths.target slices.target swap.target local-fs.target "
+    "local-fs-pre.target remote-fs.target remote-fs-pre.target network.target network-pre.target network-online.target "
+    "nss-lookup.target nss-user-lookup.target time-set.target time-sync.target multi-user.target graphical.target default.target "
+    "rescue.target emergency.target shutdown.target umount.target final.target getty.target cryptsetup.target initrd.target "
+    "systemd-journald.service systemd-journald.socket systemd-journald-dev-log.socket systemd-udevd.service "
+    "systemd-tmpfiles-setup.service systemd-sysusers.service dbus.socket dbus.service"
+).split()
 
 
 class Pulled:
     """All units that one pulls in, and those that are not there."""
 
-    def __init__(self, folders: Folders | LiveUnits, target: str) -> None:
+    def __init__(self, folders: Folders | LiveUnits, target: str, given: Iterable[str] = ()) -> None:
         self.folders = folders
         self.target = target
+        self.given = frozenset(given)
         self.units: dict[str, Unit] = {}
         self.absent: set[str] = set()
         work = collections.deque([target])
@@ -48,7 +54,10 @@ class Pulled:
                 raise Refused(f"{target} pulls in more than {MOST_UNITS} units")
             unit = self.units[name] = self.whole(unit)
             work += [other for key in PULLS for other in unit[key]]
-        self.absent = {name for name in self.absent if not is_given(name)}
+        self.absent = {name for name in self.absent if not self.is_given(name)}
+
+    def is_given(self, name: str) -> bool:
+        return kind_of(name) in MADE_AT_BOOT or name in self.given
 
     def whole(self, unit: Unit) -> Unit:
         """A unit with what systemd adds, where each name is that of a unit itself. Of one that is loaded all is said."""
@@ -92,7 +101,7 @@ class Pulled:
         """The units that ask for another one to stand already, which nothing here starts."""
         for name, unit in sorted(self.units.items()):
             for other in unit["Requisite"]:
-                if other not in self.units and not is_given(other):
+                if other not in self.units and not self.is_given(other):
                     yield name, other
 
     def orders(self) -> dict[str, set[str]]:
@@ -128,7 +137,7 @@ class Pulled:
         self.units = {name: unit for name, unit in self.units.items() if name in reached}
 
 
-def universe(folders: Folders, target: str) -> tuple[str, list[str]]:
+def universe(folders: Folders, target: str, given: Iterable[str] = ()) -> tuple[str, list[str]]:
     """The document of a target, and notes on what is left out."""
     if not is_name(target) or unit_names.is_template(target):
         raise Refused(f"no name of a unit: {target}")
@@ -142,7 +151,7 @@ def universe(folders: Folders, target: str) -> tuple[str, list[str]]:
         if name in folders.circular:
             raise Refused(f"{target}: a link that leads back to itself")
         raise Refused(f"{target}: /{path} leads to no file that can be read")
-    return universe_of(Pulled(folders, name), target)
+    return universe_of(Pulled(folders, name, given), target)
 
 
 def live_universe(target: str) -> tuple[str, list[str]]:
@@ -201,6 +210,8 @@ def types_of(pulled: Pulled, failing: dict[str, str], names: Names) -> list[Comp
 
 def add_arguments(parser: argparse.ArgumentParser) -> None:
     parser.add_argument("target", metavar="TARGET", help="a unit, such as multi-user.target")
+    help_text = "a unit that the machine has besides, so that what requires it can start"
+    parser.add_argument("--given", action="append", default=[], metavar="UNIT", help=help_text)
     where = parser.add_mutually_exclusive_group()
     where.add_argument("--root", default="/", metavar="FOLDER", help="the root below which the unit files lie")
     where.add_argument(
@@ -211,4 +222,4 @@ def add_arguments(parser: argparse.ArgumentParser) -> None:
 def run(arguments: argparse.Namespace) -> Answer:
     if arguments.live:
         return Answer(*live_universe(arguments.target))
-    return Answer(*universe(Folders(arguments.root), arguments.target))
+    return Answer(*universe(Folders(arguments.root), arguments.target, arguments.given))

@@ -49,6 +49,17 @@ def template_of(name: str) -> str | None:
     return f"{prefix}@.{kind}" if instance else None
 
 
+def may_be_alias(name: str, other: str) -> bool:
+    """Whether a link of this name may lead to another unit: of one kind, and both plain, both templates, or both that instance.
+
+    An instance may also lead to its own template, or to one of another prefix.
+    """
+    if not is_name(other) or kind_of(other) != kind_of(name):
+        return False
+    own, its = parts_of(name)[1], parts_of(other)[1]
+    return own == its or bool(own) and its == ""
+
+
 def instance_of_template(template: str, name: str) -> str:
     """A template in place of which a unit means an instance: its own one, or one by its prefix."""
     prefix, instance, _ = parts_of(name)

@@ -2,6 +2,7 @@
 
 import collections
 import dataclasses
+import functools
 import pathlib
 import re
 from collections.abc import Iterable, Iterator, Sequence
@@ -33,6 +34,8 @@ MOST_TEXT = 8 * 1024 * 1024
 MOST_WORDS = 50_000
 # The names in all folders of units; a large desktop has a thousand.
 MOST_NAMES = 10_000
+# The drop-ins and links beside units, each counted for each unit for which it counts; a large desktop has some thousands.
+MOST_BESIDE = 50_000
 MOST_LINKS = 40
 SAME_KEYS = {"BindTo": "BindsTo", "RequiresOverridable": "Requires", "RequisiteOverridable": "Requisite"}
 DEPENDENCIES = frozenset("Requires Requisite BindsTo Wants Upholds After Before Conflicts".split())
@@ -56,7 +59,8 @@ LINKED = {"Wants": ".wants", "Requires": ".requires"}
 # A line ends at a line feed, a carriage return or a NUL, or at several of these, each once.
 END_OF_LINE = re.compile(r"\n(?:\r\0?|\0\r?)?|\r(?:\n\0?|\0\n?)?|\0(?:\n\r?|\r\n?)?")
 # What is not valid in a text for systemd: bytes that are no UTF-8, and characters that are none.
-NO_TEXT = re.compile("[\ud800-\udfff\ufdd0-\ufdef]|[" + "".join(chr(plane + last) for plane in range(0, 0x110000, 0x10000) for last in (0xFFFE, 0xFFFF)) + "]")
+NO_CHARACTERS = "".join(chr(plane + last) for plane in range(0, 0x110000, 0x10000) for last in (0xFFFE, 0xFFFF))
+NO_TEXT = re.compile(f"[\ud800-\udfff\ufdd0-\ufdef]|[{NO_CHARACTERS}]")
 
 
 @dataclasses.dataclass
@@ -140,7 +144,10 @@ class Folders:
     def __init__(self, root: str | pathlib.Path = "/") -> None:
         self.root = RootFolder(root)
         self.notes: list[str] = []
-        self.bytes_read = self.words = 0
+        # Drop-ins count for many units, and are read once.
+        self.is_masked = functools.cache(self.looks_masked)
+        self.text = functools.cache(self.read_text)
+        self.bytes_read = self.words = self.looked_at = 0
         places = {folder: self.root.real(folder) for folder in FOLDERS}
         self.places = {place for place in places.values() if place is not None}
         self.entries = {folder: frozenset(self.root.names(folder)) for folder in FOLDERS}
@@ -152,9 +159,10 @@ class Folders:
         self.first_of: dict[str, str] = {}
         for folder in self.folders:
             for name in self.entries[folder]:
-                if is_name(name):
+                if is_name(name) and not self.is_rejected(f"{folder}/{name}"):
                     self.first_of.setdefault(name, f"{folder}/{name}")
         self.loaded: dict[str, Unit | None] = {}
+        self.beside_units: dict[str, list[str]] = {}
         self.circular: set[str] = set()
         self.own_names: dict[str, str] = {}
         self.other_names = self.names_by_links()
@@ -169,6 +177,19 @@ class Folders:
                     others[own].append(name)
         return others
 
+    def is_rejected(self, path: str) -> bool:
+        """Whether systemd takes no notice of a link in these folders, since it leads to a unit of another sort."""
+        other = self.linked_in(path)
+        return other is not None and not unit_names.may_be_alias(path.rpartition("/")[2], other)
+
+    def linked_in(self, path: str) -> str | None:
+        """The last part of where a link leads that stays in these folders; None of a file, a mask, or a link out of them."""
+        target = self.root.link(path)
+        if target is None or self.is_masked(path):
+            return None
+        whole = target if target.startswith("/") else f"{path.rpartition('/')[0]}/{target}"
+        return target.rpartition("/")[2] if self.root.real(whole.rpartition("/")[0]) in self.places else None
+
     def first(self, name: str) -> str | None:
         """The file or link of this name that comes first, or None."""
         return self.first_of.get(name)
@@ -176,15 +197,8 @@ class Folders:
     def alias(self, name: str) -> str | None:
         """The unit that a link of this name leads to, or None: a link out of these folders is a file of that name."""
         path = self.first(name)
-        target = self.root.link(path) if path else None
-        if path is None or target is None or self.is_masked(path):
-            return None
-        other = target.rpartition("/")[2]
-        whole = target if target.startswith("/") else f"{path.rpartition('/')[0]}/{target}"
-        is_inside = self.root.real(whole.rpartition("/")[0]) in self.places
-        if not is_inside or other in (name, template_of(name)) or not is_name(other) or kind_of(other) != kind_of(name):
-            return None
-        return other
+        other = self.linked_in(path) if path else None
+        return None if other in (name, template_of(name)) else other
 
     def own_name(self, name: str) -> str:
         """The name of the unit for which a name is another one, by links; its own where these lead round in a circle."""
@@ -236,13 +250,13 @@ class Folders:
             settings[key] = self.named(name, settings[key])
         return Unit(name, settings)
 
-    def is_masked(self, path: str) -> bool:
+    def looks_masked(self, path: str) -> bool:
         if self.root.real(path) == "dev/null":
             return True
         file = self.root.file(path)
         return file is not None and file.stat().st_size == 0
 
-    def text(self, path: str) -> str | None:
+    def read_text(self, path: str) -> str | None:
         """The text of a file, where bytes that are no UTF-8 are kept as such, or None where it cannot be read."""
         file = self.root.file(path)
         try:
@@ -273,14 +287,23 @@ class Folders:
         for owners in (*self.owners(name), [kind_of(name)]):
             for folder in self.folders:
                 for owner in owners:
-                    if f"{owner}{suffix}" in self.entries[folder]:
-                        for entry in self.root.names(f"{folder}/{owner}{suffix}"):
+                    if f"{owner}{suffix}" in self.entries[folder] and self.root.link(f"{folder}/{owner}{suffix}") is None:
+                        for entry in self.entries_beside(f"{folder}/{owner}{suffix}"):
                             found.setdefault(entry, f"{folder}/{owner}{suffix}/{entry}")
+        self.looked_at += len(found)
+        if self.looked_at > MOST_BESIDE:
+            raise Refused(f"{name}: with the units before it more than {MOST_BESIDE} drop-ins and links beside units")
         return [(entry, path) for entry, path in sorted(found.items()) if not self.is_masked(path)]
+
+    def entries_beside(self, folder: str) -> list[str]:
+        """The entries of a folder, which is looked at once for all units for which it counts."""
+        if folder not in self.beside_units:
+            self.beside_units[folder] = self.root.names(folder)
+        return self.beside_units[folder]
 
     def drop_ins(self, name: str) -> list[str]:
         """The drop-ins of a unit, in the order of their names."""
-        return [path for entry, path in self.beside(name, ".d") if entry.endswith(".conf")]
+        return [path for entry, path in self.beside(name, ".d") if entry.endswith(".conf") and not entry.startswith(".")]
 
     def linked(self, name: str, suffix: str) -> list[str]:
         """The links in the folders of a suffix; what is a file itself there counts for nothing."""
