@@ -179,7 +179,7 @@ class Store:
 
     def up(self, commands: pathlib.Path, status: int = 0) -> str:
         """What `metis up` says on the way to version 2."""
-        words = ("--commands", commands, "--to", self.folder, "--wishes", WISHES, "--yes")
+        words = ("--commands", commands, "--to", self.folder, "--wishes", WISHES, "--yes", "--delete", "app@1", "--delete", "migration@1")
         return metis("up", EXAMPLE / "store.sketch", *TARGETS, *words, status=status)
 
     def shell_of(self, what: str) -> int | None:

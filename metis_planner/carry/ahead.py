@@ -61,7 +61,7 @@ def kept_request(folder: Folder) -> dict[str, object]:
     path = folder.path / REQUEST
     try:
         found = json.loads(read_text(str(path))) if path.is_file() else {}
-    except ValueError as fault:
+    except (ValueError, RecursionError) as fault:
         raise Refused(f"{path}: no JSON") from fault
     return found if isinstance(found, dict) else {}
 

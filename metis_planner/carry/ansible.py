@@ -4,6 +4,7 @@ make keeps the order, since Ansible knows no graph. A playbook gets the variable
 the host of its instance.
 """
 
+import re
 import shlex
 from collections.abc import Iterable, Mapping
 
@@ -28,6 +29,8 @@ VARIABLES = (
     "PROVIDER_HOST",
     "PROVIDER_ADDRESS",
 )
+# A user and an address, as ssh takes them in one word.
+REACHED = re.compile(r"([A-Za-z0-9_.][A-Za-z0-9_.\\-]*@)?[A-Za-z0-9_.\[][A-Za-z0-9_.:\[\]-]*")
 # Where a step runs that has no host.
 HERE = "localhost"
 
@@ -46,13 +49,16 @@ def script(playbook: str) -> str:
 
 
 def inventory(hosts: Iterable[str], address_of: Mapping[str, str], via_of: Mapping[str, tuple[str, ...]]) -> str:
-    """An inventory of hosts. One that is reached by ssh has its user and address from there; one without a way is this machine."""
+    """An inventory of hosts. One that is reached by ssh has its user and address from there; one without a way is this machine.
+
+    Ansible reads a value as a template, so what is no name there (`ssh HOST sudo sh`) is none here, and the host's address is taken.
+    """
     lines = ["[metis]"]
     for name in sorted(set(hosts)):
         via = via_of.get(name, ())
         if not via:
             lines.append(f"{name} ansible_connection=local")
-        elif via[0].rpartition("/")[2] == "ssh":
+        elif via[0].rpartition("/")[2] == "ssh" and REACHED.fullmatch(via[-1]):
             user, at, address = via[-1].rpartition("@")
             lines.append(f"{name} ansible_host={address}" + (f" ansible_user={user}" if at else ""))
         else:

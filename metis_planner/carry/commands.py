@@ -1,6 +1,8 @@
 """The commands file: what each step of a plan means on a real system. docs/EXPORTERS.md has its form."""
 
 import dataclasses
+import difflib
+import hashlib
 import os.path
 import re
 import shutil
@@ -12,6 +14,7 @@ from typing import Any, TypeVar
 from metis_planner.answers import Refused
 from metis_planner.carry import ansible
 from metis_planner.carry.patterns import Patterns
+from metis_planner.carry.possible import PossibleActions
 from metis_planner.text import plans
 from metis_planner.text.reading import read_text
 
@@ -22,13 +25,15 @@ DEFAULT_SECONDS = 3_600
 MOST_RETRIES = 1_000
 VARIABLE = re.compile(r"[A-Za-z_][A-Za-z0-9_]{0,63}")
 OWN_VARIABLES = "METIS_"
+INSTANCE = re.compile(rf"({plans.NAME.pattern})#({plans.NUMBER.pattern})")
 ADDRESS = re.compile(r"[A-Za-z0-9_.:@/\[\]-]{1,255}")
 SHELLS = {"sh", "dash", "bash", "ksh", "zsh"}
-KEYS = {"shell", "timeout", "env", "hosts", "step", "inventory"}
+KEYS = {"shell", "timeout", "env", "hosts", "instance", "step", "inventory"}
 STEP_KEYS = {"when", "run", "check", "playbook", "timeout", "retries", "pause", "lock"}
 HOST_KEYS = {"address", "via"}
 KINDS = {str: "text", int: "whole number", list: "list", dict: "table"}
 LONGEST_SLUG = 60
+LENGTH_OF_A_SUM = 12
 
 
 @dataclasses.dataclass(frozen=True)
@@ -62,6 +67,11 @@ class Rule:
         return f"# {self.when}: does it stand?\n{{\n:\n{self.check.rstrip()}\n}} </dev/null\n"
 
     @property
+    def sum(self) -> str:
+        """What tells the script from another one: it stands in the marks of what it did."""
+        return hashlib.sha256((self.run + "\0" + self.playbook).encode()).hexdigest()[:LENGTH_OF_A_SUM]
+
+    @property
     def does_nothing(self) -> bool:
         return not (self.run.strip() or self.check.strip() or self.playbook)
 
@@ -85,11 +95,23 @@ class Commands:
     hosts: dict[str, Host]
     rules: tuple[Rule, ...]
     patterns: Patterns = dataclasses.field(repr=False, compare=False)
+    instances: dict[str, dict[str, str]] = dataclasses.field(default_factory=dict)  # variables of single instances
+
+    def check_fits(self, possible: PossibleActions) -> None:
+        """Refuses what is for nothing that may happen."""
+        self.patterns.check_fits(possible)
+        for name in self.instances:
+            kind = name.rpartition("#")[0]
+            if kind not in possible.moves:
+                near = difflib.get_close_matches(kind, possible.moves, 1, 0.6)
+                raise Refused(f"instance {name}: there is no type {kind}{f'; did you mean {near[0]}?' if near else ''}")
 
     def check_hosts(self, hosts: Iterable[str]) -> None:
         for host in hosts:
             if host not in self.hosts:
                 raise Refused(f"the placement names the host {host}, of which the commands say nothing")
+            if host[0] in "-@" and any(rule.playbook for rule in self.rules):
+                raise Refused(f"the host {host}: a step has a playbook, and Ansible takes no host that begins with {host[0]}")
 
 
 def read_commands(path: str) -> Commands:
@@ -109,7 +131,8 @@ def commands_of(table: dict[str, Any]) -> Commands:
     found = Commands(
         shell=shell,
         inventory=asked(table, "inventory", str, "", "the file"),
-        variables=variables_of(asked(table, "env", dict, {}, "the file")),
+        variables=variables_of(asked(table, "env", dict, {}, "the file"), "env"),
+        instances=instances_of(asked(table, "instance", dict, {}, "the file")),
         hosts=hosts_of(asked(table, "hosts", dict, {}, "the file")),
         rules=rules,
         patterns=Patterns([rule.when for rule in rules]),
@@ -144,10 +167,13 @@ def number_of(table: dict[str, Any], key: str, most: int, otherwise: int, place:
 
 
 def words_of(value: object, place: str) -> tuple[str, ...]:
+    """A command and its words. One that began with a dash would be an option of what calls it."""
     if not isinstance(value, list) or not value or not all(isinstance(each, str) and each for each in value):
         raise Refused(f"{place} is no list of words")
     if any(not each.isprintable() for each in value):
         raise Refused(f"{place} has a word with a character that is not printed")
+    if value[0].startswith("-"):
+        raise Refused(f"{place}: no command begins with -")
     return tuple(value)
 
 
@@ -164,7 +190,7 @@ def rule_of(table: object, number: int, timeout: int) -> Rule:
     for key, text in texts.items():
         if "\0" in text or "\r" in text:
             raise Refused(f"{place}: {key} has a byte that no script has")
-    if not texts["playbook"].isprintable():
+    if not texts["playbook"].isprintable() or texts["playbook"].startswith("-"):
         raise Refused(f"{place}: playbook is no name of a file")
     lock = asked(table, "lock", str, "", place)
     if lock and not VARIABLE.fullmatch(lock):
@@ -180,13 +206,23 @@ def rule_of(table: object, number: int, timeout: int) -> Rule:
     )
 
 
-def variables_of(table: dict[str, Any]) -> dict[str, str]:
+def variables_of(table: dict[str, Any], place: str) -> dict[str, str]:
     for key, value in table.items():
         if not VARIABLE.fullmatch(key) or key.startswith(OWN_VARIABLES):
-            raise Refused(f"env: {plans.shown(key)} is no name for a variable of yours")
+            raise Refused(f"{place}: {plans.shown(key)} is no name for a variable of yours")
         if not isinstance(value, str) or "\0" in value:
-            raise Refused(f"env: {key} is no text")
+            raise Refused(f"{place}: {key} is no text")
     return dict(table)
+
+
+def instances_of(table: dict[str, Any]) -> dict[str, dict[str, str]]:
+    """The variables of single instances, as those of services that never had a METIS_NAME."""
+    found = {}
+    for name, each in table.items():
+        if not INSTANCE.fullmatch(name) or not isinstance(each, dict):
+            raise Refused(f'instance: {plans.shown(name)} is no table of an instance, such as [instance."db#1"]')
+        found[name] = variables_of(each, f"instance {name}")
+    return found
 
 
 def hosts_of(table: dict[str, Any]) -> dict[str, Host]:
@@ -197,7 +233,7 @@ def hosts_of(table: dict[str, Any]) -> dict[str, Host]:
         place = f"host {name}"
         check_keys(each, HOST_KEYS, place)
         address = asked(each, "address", str, name, place)
-        if not ADDRESS.fullmatch(address):
+        if not ADDRESS.fullmatch(address) or "address" in each and address.startswith("-"):
             raise Refused(f"{place}: address is no word")
         hosts[name] = Host(name, address, words_of(each["via"], f"{place}: via") if "via" in each else ())
     return hosts

@@ -5,16 +5,17 @@ away. It may be asked while the plan is carried out.
 import argparse
 
 from metis_planner.answers import Answer
-from metis_planner.carry.folder import Folder, part_of, written
+from metis_planner.carry.configuration import add_folder, folder_of
+from metis_planner.carry.folder import part_of, written
 from metis_planner.text import plans
 
 
 def add_arguments(parser: argparse.ArgumentParser) -> None:
-    parser.add_argument("folder", metavar="FOLDER")
+    add_folder(parser)
 
 
 def run(arguments: argparse.Namespace) -> Answer:
-    folder = Folder(arguments.folder)
+    folder = folder_of(arguments)
     steps = folder.steps()
     done = folder.settled(steps)
     begun = folder.begun(steps, done)

@@ -3,91 +3,90 @@ first.
 """
 
 import argparse
-import json
 import pathlib
 import tempfile
-from collections.abc import Sequence
+from collections.abc import Mapping, Sequence
 
 from metis_planner.answers import Answer, Refused
-from metis_planner.carry.ahead import REQUEST, UNIVERSE, answered
-from metis_planner.carry.folder import NO_HOST, Folder, part_of, written
-from metis_planner.carry.steps import Step
-from metis_planner.carry.up import (
-    DEFAULT_JOBS,
-    ENGINES,
-    PLACED,
-    PLAN,
-    Request,
-    asked,
-    carried_out,
-    document,
-    export_words,
-    exported,
-    shown,
-)
+from metis_planner.carry import export, refresh
+from metis_planner.carry.agreeing import asked, check_protected
+from metis_planner.carry.ahead import UNIVERSE, answered, kept_request
+from metis_planner.carry.configuration import MOST_JOBS, add_folder, checked_jobs, configured, folder_of, is_of
+from metis_planner.carry.exporting import PLACED, carried_out, export_words, exported, kept_commands
+from metis_planner.carry.folder import PLAN, Folder, part_of, written
+from metis_planner.carry.request import DEFAULT_JOBS, ENGINES, Request, protected
+from metis_planner.carry.seating import kept_placement
+from metis_planner.carry.steps import Step, who
+from metis_planner.carry.telling import shown
+from metis_planner.carry.up import document
 from metis_planner.text import plans
-from metis_planner.text.reading import read_text
 
 
 def add_arguments(parser: argparse.ArgumentParser) -> None:
-    parser.add_argument("folder", metavar="FOLDER", help="what `metis up` wrote, or `metis make`")
+    add_folder(parser, "what `metis up` wrote, or `metis make`")
     parser.add_argument("--universe", metavar="FILE", help="if `metis up` did not keep it")
     parser.add_argument("--commands", metavar="FILE", help="if `metis up` did not keep its name")
-    parser.add_argument("--engine", choices=ENGINES, default="make")
-    parser.add_argument("-j", "--jobs", type=int, metavar="N", default=DEFAULT_JOBS)
+    parser.add_argument("--engine", choices=ENGINES, help="that of `metis up`, if nothing is said")
+    parser.add_argument("-j", "--jobs", type=int, metavar="N", help=f"how many steps at the same time ({DEFAULT_JOBS})")
     parser.add_argument("--yes", action="store_true", help="do not ask")
-
-
-def kept_commands(folder: Folder) -> str | None:
-    path = folder.path / REQUEST
-    if not path.is_file():
-        return None
-    found = json.loads(read_text(str(path))).get("commands")
-    return found if isinstance(found, str) else None
 
 
 def request_of(folder: Folder, arguments: argparse.Namespace) -> Request:
     universe = arguments.universe or str(folder.path / UNIVERSE)
-    commands = arguments.commands or kept_commands(folder)
+    commands, kept = arguments.commands or kept_commands(folder), kept_request(folder)
     if not pathlib.Path(universe).is_file() or not commands:
         raise Refused(f"{folder.path}: it was not written by `metis up`: name the universe by --universe, and --commands")
-    return Request(universe, (), commands, arguments.folder, None, arguments.engine, arguments.jobs)
+    engine = arguments.engine or (kept["engine"] if kept.get("engine") in ENGINES else "make")
+    jobs = checked_jobs(arguments.jobs, "-j") or kept_jobs(kept)
+    return Request(universe, (), commands, str(folder.path), engine=str(engine), jobs=jobs)
 
 
-def placement_in(folder: Folder, plan: plans.Plan, steps: Sequence[Step]) -> str | None:
-    """The placement that the marks tell, for the instances of the plan; nothing if there are no hosts."""
-    marks = folder.marks()
-    host_of = {step.action.instance: marks[step.key].host for step in steps if step.key in marks}
-    if all(host in ("", NO_HOST) for host in host_of.values()):
-        return None
-    made = [action.instance for action in plan.actions if action.verb == "new"]
-    lines = [f"on {instance} {host_of[instance]}" for instance in made]
-    return "\n".join([*lines, f"placed {len(made)} hosts {len(set(host_of.values()))}", ""])
+def kept_jobs(kept: Mapping[str, object]) -> int:
+    """How many steps at the same time `up` was called with, if what is kept of that makes sense."""
+    jobs = kept.get("jobs")
+    return jobs if isinstance(jobs, int) and not isinstance(jobs, bool) and 1 <= jobs <= MOST_JOBS else DEFAULT_JOBS
+
+
+def check_standing(folder: Folder, steps: Sequence[Step], done: set[str]) -> None:
+    """Refuses to take away what is protected, by metis.toml here or by what `up` has kept of one."""
+    found = configured()
+    said = tuple(found.get("protect", ())) if is_of(found, str(folder.path)) else ()
+    gone = {step.action.instance for step in steps if step.action.verb == "delete" and step.key in done}
+    made = [step for step in steps if step.action.verb == "new" and step.key in done and step.action.instance not in gone]
+    check_protected([who(step.action) for step in made], protected(folder, said), str(folder.path), is_down=True)
+
+
+def way_back(folder: Folder, request: Request, part: plans.Plan, texts: pathlib.Path) -> plans.Plan:
+    """What takes all away that stands, behind what is done."""
+    (texts / PLAN).write_text(written(part))
+    (texts / UNIVERSE).write_text(document(request.universe), errors="surrogateescape")
+    universe, done_there = str(texts / UNIVERSE), str(texts / PLAN)
+    names = {universe: request.universe, done_there: f"the plan of what stands in {folder.path}"}
+    return plans.plan_of(answered(["rollout"], [universe, done_there], names), "the way back")
 
 
 def run(arguments: argparse.Namespace) -> Answer:
-    folder = Folder(arguments.folder)
+    folder = folder_of(arguments)
     steps = folder.steps()
     with folder.held():
         done = folder.done(steps)
     if not done:
         return Answer("", (f"{folder.path}: nothing is done in it",))
     request = request_of(folder, arguments)
+    check_standing(folder, steps, done)
     with tempfile.TemporaryDirectory(prefix="metis-down-") as name:
         texts = pathlib.Path(name)
-        (texts / PLAN).write_text(written(part_of(steps, done)))
-        (texts / UNIVERSE).write_text(document(request.universe), errors="surrogateescape")
-        universe, done_there = str(texts / UNIVERSE), str(texts / PLAN)
-        names = {universe: request.universe, done_there: f"the plan of what stands in {arguments.folder}"}
-        text = answered(["rollout"], [universe, done_there], names)
-        plan = plans.plan_of(text, "the way back")
-        (texts / PLAN).write_text(text)
-        placement = placement_in(folder, plan, steps)
-        if placement is not None:
-            (texts / PLACED).write_text(placement)
-        shown(plans.Plan(plan.actions[len(done) :], ()))
-        if not asked(f"Take all of this away, with its data, in {arguments.folder}?", arguments.yes):
+        plan = way_back(folder, request, part_of(steps, done), texts)
+        (texts / PLAN).write_text(written(plan))
+        placement = kept_placement(steps, folder.marks(), plan.actions)
+        (texts / PLACED).write_text(placement or "")
+        words = (texts / PLAN, texts / UNIVERSE, texts / PLACED if placement else None)
+        # What no step fits is said before anybody is asked.
+        export.handed_in(export_words(request, *words))
+        print("".join(f"{line}\n" for line in shown(plans.Plan(plan.actions[len(done) :], ()))), end="", flush=True)
+        if not asked(f"Take all of this away, with its data, in {folder.path}?", arguments.yes):
             return Answer("", ("nothing was done",), 1)
-        where = texts / PLACED if placement is not None else None
-        exported(request, export_words(request, texts / PLAN, texts / UNIVERSE, where))
+        # What was to be done again goes, too: nothing has to be mended before all is taken away.
+        refresh.forget(folder)
+        exported(request, *words)
     return Answer(status=1 if carried_out(request, folder) else 0)

@@ -5,12 +5,13 @@ import dataclasses
 import functools
 import hashlib
 import json
-from collections.abc import Callable, Iterable, Iterator, Mapping, Sequence
+import re
+from collections.abc import Callable, Collection, Iterable, Iterator, Mapping, Sequence
 
 from metis_planner.answers import Answer, Refused
 from metis_planner.carry import skeleton
 from metis_planner.carry.commands import Commands, Rule, read_commands
-from metis_planner.carry.folder import Folder, written
+from metis_planner.carry.folder import STALE, Folder, written
 from metis_planner.carry.origin import BasePlan, origin_of_new, origin_there
 from metis_planner.carry.patterns import subject
 from metis_planner.carry.placement import held, read_placement
@@ -29,6 +30,13 @@ NOTHING = ":"  # stands for a host, or a state, that there is not
 WITHOUT_A_RULE = "0"
 DIGEST_LENGTH = 12
 MOST_KINDS = 12
+OLD_FORM = re.compile(r"@old[1-9][0-9]*$")
+MARKED = "; one with run = '' would only mark such actions as done"
+LAX = "; --lax only marks such actions as done"
+
+
+def nothing() -> None:
+    """What goes with a plan that `metis make` writes."""
 
 
 def add_arguments(parser: argparse.ArgumentParser) -> None:
@@ -54,6 +62,8 @@ def add_arguments(parser: argparse.ArgumentParser) -> None:
     )
     help_text = "take steps that fit nothing, and actions without a step, which are only marked as done"
     parser.add_argument("--lax", action="store_true", help=help_text)
+    # Whether `up` calls: it has looked at the commands, which may be for what is gone too, and at what of the plan is done.
+    parser.set_defaults(is_up=False, noted=nothing)
 
 
 @dataclasses.dataclass(frozen=True)
@@ -76,6 +86,9 @@ class Export:
     rules: tuple[Rule | None, ...]  # of the steps
     rollouts: tuple[Rollout, ...] = ()
     sources: Mapping[str, str] = dataclasses.field(default_factory=dict)  # of types: what they are called there
+    names: Mapping[int, str] = dataclasses.field(default_factory=dict)  # of instances that were made under another name
+    done: frozenset[str] = frozenset()  # the keys of what is done
+    again: frozenset[str] = frozenset()  # and of what of it is to be done again
 
     @functools.cached_property
     def plan_text(self) -> str:
@@ -91,7 +104,8 @@ class Export:
     def digest(self) -> str:
         """What tells this export from another one into the same folder."""
         parts = (self.plan_text, self.commands, sorted(self.hosts.items()), self.rollouts, sorted(self.sources.items()))
-        return hashlib.sha256("\n".join(map(str, parts)).encode()).hexdigest()[:DIGEST_LENGTH]
+        more = [part for part in (sorted(self.names.items()), sorted(self.again)) if part]
+        return hashlib.sha256("\n".join(map(str, (*parts, *more))).encode()).hexdigest()[:DIGEST_LENGTH]
 
     def host(self, instance: int) -> str:
         return self.hosts.get(instance, NOTHING)
@@ -113,7 +127,12 @@ class Export:
             given.append(f"{NOTHING}{step.state}")
         if action.verb in ("bind", "unbind"):
             given += [action.words[0], action.words[2], action.provider_type, self.host(action.provider)]
-        return " ".join([*given, *step.bound])
+        return " ".join([*given, *map(self.as_named, step.bound)])
+
+    def as_named(self, bound: str) -> str:
+        """PORT=NAME, by the name under which the provider was made."""
+        port, _, name = bound.rpartition("=")
+        return f"{port}={self.names.get(int(name.rsplit('-', 1)[1]), name)}" if self.names else bound
 
 
 def run(arguments: argparse.Namespace, name: str, text_of: Callable[[Export], Iterable[str]]) -> Answer:
@@ -130,12 +149,14 @@ def run(arguments: argparse.Namespace, name: str, text_of: Callable[[Export], It
             origin = origin_there(folder, handed.plan, handed.steps, arguments)
             folder.check_hosts(handed.steps, handed.hosts)
             write_folder(folder, *whole(handed, origin, text_of), name)
+            arguments.noted()
     else:
         folder.check_empty()
         origin = origin_of_new(handed.plan, handed.steps, arguments)
         export, text = whole(handed, origin, text_of)
         with folder.made():
             write_folder(folder, export, text, name)
+            arguments.noted()
     return Answer("", [*origin.notes, *notes])
 
 
@@ -153,16 +174,21 @@ def handed_in(arguments: argparse.Namespace) -> tuple[Export, list[str]]:
     placement = read_placement(arguments.placement, plan) if arguments.placement else Placement(plan, {}, {})
     try:
         commands.check_hosts(placement.host_of.values())
-        if not arguments.lax:
-            commands.patterns.check_fits(possible_of(steps, arguments.universe))
+        possible = possible_of(steps, arguments.universe)
+        if not arguments.lax and not arguments.is_up:
+            commands.check_fits(possible)
     except Refused as refused:
         raise Refused(f"{arguments.commands}: {refused}") from refused
-    rules, without = rules_of(steps, commands)
+    folder = Folder(arguments.to)
+    marks = folder.marks() if folder.has_plan() else {}
+    rules, without = rules_of(steps, commands, possible, marks if arguments.is_up else ())
     if without and not arguments.lax:
-        raise Refused(f"{arguments.commands}: no step fits {kinds_of(without)}; --lax only marks such actions as done")
+        raise Refused(f"{arguments.commands}: {no_rule(without, '' if arguments.is_up else LAX)}")
     notes = [f"nothing is done for {kinds_of(without)}: no step of the commands fits"] if without else []
     sources = sources_in(arguments.universe) if arguments.universe else {}
-    return Export(plan, held(placement, steps), commands, placement.host_of, rules, sources=sources), notes
+    again = frozenset(key for key, mark in marks.items() if mark.more == STALE)
+    whole = Export(plan, held(placement, steps), commands, placement.host_of, rules, sources=sources, names=folder.names())
+    return dataclasses.replace(whole, done=frozenset(marks), again=again), notes
 
 
 def sources_in(path: str) -> dict[str, str]:
@@ -192,20 +218,37 @@ def document_at(universe: str) -> bytes:
     return document_of(universe).encode() if universe.endswith(".sketch") else read_bytes(universe, MOST_BYTES)
 
 
-def rules_of(steps: Iterable[Step], commands: Commands) -> tuple[tuple[Rule | None, ...], dict[str, int]]:
-    """The rule of each step; and how often there is none, by what the steps are."""
+def subjects(action: plans.Action, possible: PossibleActions) -> Iterator[str]:
+    """The texts with which patterns are compared: of a move into an old form also those of the moves into its state."""
+    yield subject(action)
+    after = OLD_FORM.sub("", action.words[2]) if action.verb == "move" else ""
+    if after and after != action.words[2]:
+        moves = sorted(possible.moves.get(action.type, ()))
+        yield from (f"{action.type}: {one} -> {other}" for one, other in moves if other == after)
+
+
+def rules_of(
+    steps: Iterable[Step], commands: Commands, possible: PossibleActions, done: Collection[str]
+) -> tuple[tuple[Rule | None, ...], dict[str, int]]:
+    """The rule of each step; and how often there is none, by what the steps are, for those that are not done."""
     rule_of: dict[str, Rule | None] = {}
     without: dict[str, int] = {}
     rules = []
     for step in steps:
         text = subject(step.action)
         if text not in rule_of:
-            place = commands.patterns.first(text)
+            found = (commands.patterns.first(each) for each in subjects(step.action, possible))
+            place = next((each for each in found if each is not None), None)
             rule_of[text] = None if place is None else commands.rules[place]
         rules.append(rule_of[text])
-        if rules[-1] is None:
+        if rules[-1] is None and step.key not in done:
             without[text] = without.get(text, 0) + 1
     return tuple(rules), without
+
+
+def no_rule(without: dict[str, int], more: str = "") -> str:
+    """That no step fits some actions."""
+    return f"no step fits {kinds_of(without)}{more or MARKED}"
 
 
 def kinds_of(counts: dict[str, int]) -> str:

@@ -8,19 +8,42 @@ import os
 import pathlib
 import re
 import shutil
+import time
 from collections.abc import Iterable, Iterator, Mapping, Sequence
 
 from metis_planner.answers import Refused
+from metis_planner.carry.living import check_ended
+from metis_planner.carry.own import check_own, make_own
 from metis_planner.carry.rollouts import Rollout
 from metis_planner.carry.steps import Step, steps_of, who
-from metis_planner.carry.writing import write_whole
+from metis_planner.carry.writing import sync_folder, write_whole
 from metis_planner.text import plans
 from metis_planner.text.reading import read_text
 
-PLAN, ROLLOUTS = "plan.txt", "rollouts"
+PLAN, ROLLOUTS, UNIVERSE = "plan.txt", "rollouts", "universe.json"
 DONE, LOG, LOCK, STEPS = "done", "log", "lock", "steps"
 # The words of `run` for each action, in the order of the plan; what happened, a line of JSON each; an inventory for Ansible.
 JOBS, EVENTS, INVENTORY = "jobs", "events", "inventory"
+# Which export `run` belongs to; where there is none, nothing can be done in the folder.
+EXPORT = "export"
+# By which METIS_NAME an instance was made, where its type has another name by now.
+NAMES = "names"
+# Has a file for each step that was done again. What is to be done again says its mark; before that is done nothing is unbound.
+AGAIN = "again"
+# In the place of the sum in a mark: the step is to be done again, since what did it is not what the description means now; or
+# a state has changed that its instance came through, of which is only told.
+STALE, CHANGED_SINCE = "by -", "by changed"
+# The first number that no instance of the folder ever had.
+FREE = "free"
+# How a folder is laid out. One without the file is of the first form, which has a history and no list of what stands.
+FORMAT, THIS_FORMAT = "format", 2
+# The states to which half-made instances are still to be brought of which the list says nothing: a line `INSTANCE STATE` each.
+# Steps of them that were begun have a line `INSTANCE.NUMBER ACTION`, and a log `began.INSTANCE.NUMBER`.
+ENDS, BEGAN = "ends", "began."
+# A list that was decided on and is not in its place yet, by its parts; and what was there before, by numbers.
+TURN, PAST, NUMBER = "turn", "past", "number"
+PARTS = (DONE, LOG, AGAIN, ROLLOUTS, UNIVERSE, NAMES, ENDS, FREE, PLAN)
+MOST_OF_THE_PAST = 10
 # What `split` takes away behind the plan that it writes.
 PARTED = "parted"
 # Held by whoever writes the folder, and by each step that is being done in it, which shares it with other steps.
@@ -39,11 +62,79 @@ class Mark:
     line: str
     times: str
     host: str  # empty where it is not known, and NO_HOST where it was done here
+    more: str = ""  # `by` and the sum of the script that did it, if that is known
+    address: str = NO_HOST  # of the host
+
+
+class Busy(Refused):
+    """That somebody else is at work in a folder just now."""
 
 
 class Folder:
     def __init__(self, path: str) -> None:
         self.path = pathlib.Path(path)
+        self.check_format()
+        self.finish_turning()
+
+    def check_format(self) -> None:
+        """Refuses a folder that a newer version wrote: what it does not know of it would be lost."""
+        path = self.path / FORMAT
+        found = read_text(str(path)).strip() if path.is_file() else str(THIS_FORMAT)
+        if not found.isdecimal() or int(found) > THIS_FORMAT:
+            raise Refused(
+                f"{self.path}: a folder of format {plans.shown(found)}, and this version of Metis knows {THIS_FORMAT}: "
+                "use the newer one that wrote it"
+            )
+
+    def note_format(self) -> None:
+        if not (self.path / FORMAT).is_file():
+            write_whole(self.path / FORMAT, f"{THIS_FORMAT}\n")
+
+    def finish_turning(self) -> None:
+        """Puts a list into its place that was decided on. Whoever is at it already is waited for."""
+        for _ in range(LOOKS * 5):
+            if not (self.path / TURN).is_dir():
+                return
+            check_own(self.path)
+            with open(self.path / LOCK / FOLDER_LOCK, "ab") as lock:
+                try:
+                    fcntl.flock(lock, fcntl.LOCK_EX | fcntl.LOCK_NB)
+                except BlockingIOError:
+                    time.sleep(0.05)
+                    continue
+                self.put_in_place()
+
+    def put_in_place(self) -> None:
+        """Puts the parts of a list that was decided on into their places; what was there goes to the past. The lock is held."""
+        turn = self.path / TURN
+        if not turn.is_dir():
+            return
+        if (turn / NUMBER).is_file():
+            past = self.path / PAST / (turn / NUMBER).read_text().strip()
+            past.mkdir(mode=0o700, parents=True, exist_ok=True)
+            for each in PARTS:
+                self.put_part(turn / each, past / each)
+            (turn / NUMBER).unlink()
+        turn.rmdir()
+        sync_folder(self.path)
+        for each in self.past()[:-MOST_OF_THE_PAST]:
+            shutil.rmtree(self.path / PAST / each, ignore_errors=True)
+
+    def put_part(self, fresh: pathlib.Path, past: pathlib.Path) -> None:
+        if not fresh.exists():
+            return
+        own = self.path / fresh.name
+        if own.exists() and not past.exists():
+            own.rename(past)
+            sync_folder(past.parent)
+        fresh.rename(own)
+        sync_folder(self.path)
+
+    def past(self) -> list[str]:
+        """The names of what was there before, the oldest first."""
+        top = self.path / PAST
+        found = [each.name for each in top.iterdir() if each.name.isdecimal()] if top.is_dir() else []
+        return sorted(found, key=int)
 
     def has_plan(self) -> bool:
         return (self.path / PLAN).is_file()
@@ -56,20 +147,25 @@ class Folder:
             except OSError as fault:
                 raise Refused(f"{self.path}: {fault.strerror}") from fault
             if others:
-                raise Refused(f"{self.path}: it has no {PLAN}, and is not empty")
+                why = "it has a plan already" if self.has_plan() else f"it has no {PLAN}, and is not empty"
+                raise Refused(f"{self.path}: {why}")
 
     def make(self) -> None:
         """Makes what a folder has in it. Scripts and logs may have what nobody else should see."""
         try:
             self.path.mkdir(mode=0o700, parents=True, exist_ok=True)
-            for each in (DONE, LOG, LOCK, STEPS):
+            make_own(self.path)
+            check_own(self.path)
+            for each in (DONE, LOG, AGAIN, LOCK, STEPS):
                 (self.path / each).mkdir(exist_ok=True)
+            self.note_format()
         except OSError as fault:
             raise Refused(f"{fault.filename}: {fault.strerror}") from fault
 
     @contextlib.contextmanager
     def held(self) -> Iterator[None]:
         """While nothing is being done in the folder, and nobody else writes it."""
+        check_own(self.path)
         try:
             lock = open(self.path / LOCK / FOLDER_LOCK, "ab")
         except OSError as fault:
@@ -78,7 +174,9 @@ class Folder:
             try:
                 fcntl.flock(lock, fcntl.LOCK_EX | fcntl.LOCK_NB)
             except BlockingIOError:
-                raise Refused(f"{self.path}: a step of its plan is being done, or somebody else writes it") from None
+                raise Busy(f"{self.path}: a step of its plan is being done, or somebody else writes it") from None
+            check_ended(self.path, LOG)
+            self.put_in_place()
             self.finish_parting()
             yield
 
@@ -98,6 +196,29 @@ class Folder:
 
     def plan(self) -> plans.Plan:
         return plans.plan_at(str(self.path / PLAN))
+
+    def names(self) -> dict[int, str]:
+        """The names of instances that were made when their type had another one."""
+        path = self.path / NAMES
+        lines = read_text(str(path)).splitlines() if path.is_file() else []
+        return {int(number): name for number, _, name in (line.partition(" ") for line in lines)}
+
+    def ends(self) -> dict[int, str]:
+        """The states to which half-made instances are to be brought of which its plan says nothing."""
+        return {int(number): state for number, state in self.lines_of_ends() if number.isdecimal()}
+
+    def began(self) -> dict[int, dict[str, str]]:
+        """The logs of steps of these that were begun, by their lines."""
+        found: dict[int, dict[str, str]] = {}
+        for name, line in self.lines_of_ends():
+            if not name.isdecimal():
+                found.setdefault(int(name.partition(".")[0]), {})[line] = f"{BEGAN}{name}"
+        return found
+
+    def lines_of_ends(self) -> list[tuple[str, str]]:
+        path = self.path / ENDS
+        lines = read_text(str(path)).splitlines() if path.is_file() else []
+        return [(name, text) for name, _, text in (line.partition(" ") for line in lines)]
 
     def text(self) -> str:
         """The text of its plan."""
@@ -142,6 +263,10 @@ class Folder:
                 return {entry.name: mark_of(pathlib.Path(entry.path)) for entry in entries if f"{DONE}/{entry.name}" not in gone}
         except OSError as fault:
             raise Refused(f"{fault.filename}: {fault.strerror}") from fault
+
+    def stale(self) -> set[str]:
+        """The keys of what is done, and is to be done again."""
+        return {key for key, mark in self.marks().items() if mark.more == STALE}
 
     def done(self, steps: Sequence[Step]) -> set[str]:
         """The keys of what is done. All of it has to be of these steps, and so has what it waited for."""
@@ -218,9 +343,14 @@ def head_of(path: pathlib.Path) -> str:
 
 
 def mark_of(path: pathlib.Path) -> Mark:
-    lines = [*path.read_text("utf-8", "replace").split("\n"), "", ""]
-    host = lines[2].split(" ")[1] if lines[2].startswith("on ") else ""
-    return Mark(lines[0], lines[1], host)
+    return mark_in(path.read_text("utf-8", "replace"))
+
+
+def mark_in(text: str) -> Mark:
+    """What the text of a mark says."""
+    lines = [*text.split("\n"), "", "", ""]
+    host, _, address = lines[2].removeprefix("on ").partition(" ") if lines[2].startswith("on ") else ("", "", "")
+    return Mark(lines[0], lines[1], host, lines[3] if lines[3].startswith("by ") else "", address or NO_HOST)
 
 
 def written(plan: plans.Plan) -> str:

@@ -5,7 +5,8 @@ import os
 import subprocess
 
 from metis_planner.answers import Answer, Refused
-from metis_planner.carry.folder import LOG, Folder, is_filled
+from metis_planner.carry.configuration import add_folder, folder_of
+from metis_planner.carry.folder import LOG, is_filled
 from metis_planner.carry.progress import step_named
 from metis_planner.text import plans
 from metis_planner.text.terminal import plain
@@ -15,19 +16,19 @@ LONGEST = 10_000
 
 
 def add_arguments(parser: argparse.ArgumentParser) -> None:
-    parser.add_argument("folder", metavar="FOLDER")
+    add_folder(parser)
     parser.add_argument("name", metavar="INSTANCE", help="an instance, as mysql#1; or the number of an action")
     parser.add_argument("-f", "--follow", action="store_true", help="go on with what the last of them prints")
 
 
 def run(arguments: argparse.Namespace) -> Answer:
-    folder = Folder(arguments.folder)
+    folder = folder_of(arguments)
     steps = [step for step in step_named(folder, arguments.name, folder.steps()) if is_filled(folder.path / LOG / step.key)]
     if not steps:
         raise Refused(f"{folder.path}: nothing of {plans.shown(arguments.name)} was begun that prints")
     if arguments.follow:
         last = folder.path / LOG / steps[-1].key
-        return Answer(status=subprocess.run(["tail", "-n", "+1", "-F", os.fspath(last)], check=False).returncode)
+        return Answer(status=subprocess.run(["tail", "-n", "+1", "-F", "--", os.fspath(last)], check=False).returncode)
     lines = []
     for step in steps:
         lines.append(f"# {step.action.number} {plans.in_words(step.action)}")

@@ -14,9 +14,13 @@ class PossibleActions:
         self.moves: dict[str, set[tuple[str, str]]] = {}
         self.required: dict[str, set[str]] = {}
         self.providers: dict[str, set[str]] = {}
-        for kind in types or ():
-            self.moves[kind.name] = {(state.name, each) for state in kind.states for each in state.next}
-            self.required[kind.name] = {port for state in kind.states for port in state.require}
+        self.add_types(types or ())
+
+    def add_types(self, types: Iterable[ComponentType]) -> None:
+        """Notes what types may do as possible."""
+        for kind in types:
+            self.moves.setdefault(kind.name, set()).update((state.name, each) for state in kind.states for each in state.next)
+            self.required.setdefault(kind.name, set()).update(port for state in kind.states for port in state.require)
             for state in kind.states:
                 for port in state.provide:
                     self.providers.setdefault(port, set()).add(kind.name)

@@ -14,8 +14,8 @@ import time
 from collections.abc import Iterable, Mapping, Sequence
 
 from metis_planner.answers import Refused
-from metis_planner.carry.folder import LOG, Folder, Mark, is_filled
-from metis_planner.carry.rollouts import Rollout, barrier_of
+from metis_planner.carry.folder import LOG, STALE, Folder, Mark, is_filled
+from metis_planner.carry.rollouts import Rollout, again_before, barrier_of
 from metis_planner.carry.steps import Step, who
 from metis_planner.text import plans
 
@@ -50,6 +50,7 @@ class Row:
     lines: tuple[str, ...] = ()  # the last ones that a failed step printed
     waits_for: tuple[int, ...] = ()
     seconds: float | None = None  # that a step which is done took
+    is_again: bool = False  # whether it was done, and is to be done again
 
     @property
     def instance(self) -> str:
@@ -60,7 +61,8 @@ class Row:
         action = self.step.action
         found: dict[str, object] = {"action": action.number, "key": self.step.key, "instance": self.instance}
         found |= {"what": plans.in_words(action), "stage": self.stage.value}
-        more = {"since": self.since, "status": self.status, "lines": self.lines, "waits_for": self.waits_for}
+        more: dict[str, object] = {"since": self.since, "status": self.status, "lines": self.lines}
+        more |= {"waits_for": self.waits_for, "again": self.is_again}
         found |= {key: value for key, value in more.items() if value}
         return found if self.seconds is None else {**found, "seconds": round(self.seconds, 3)}
 
@@ -124,6 +126,8 @@ def row_of_log(step: Step, path: pathlib.Path, held: set[tuple[int, int]]) -> Ro
 
 def row_of(step: Step, mark: Mark | None, log: pathlib.Path, held: set[tuple[int, int]]) -> Row:
     """How far a step is, as its mark and its log say; what neither knows waits."""
+    if mark and mark.more == STALE:
+        return dataclasses.replace(row_of_log(step, log, held) if is_filled(log) else Row(step, Stage.WAITING), is_again=True)
     if mark:
         times = TIMES.fullmatch(mark.times)
         return Row(step, Stage.DONE, seconds=float(times[2]) - float(times[1]) if times else None)
@@ -135,6 +139,19 @@ def waits_of(step: Step, rollouts: Sequence[Rollout]) -> list[int]:
     place = barrier_of(step, rollouts)
     more = [] if place is None else [*range(rollouts[place].old + 1, rollouts[place].fresh + 1)]
     return [*step.waits, *more]
+
+
+def waits_again(rows: Sequence[Row]) -> dict[int, list[int]]:
+    """By the numbers of steps that are not done, what is done again before them: what they stand on, and all before anything goes."""
+    again = {row.step.key: row.step.action.number for row in rows if row.is_again}
+    behind = again_before([row.step for row in rows], again)
+    found = {}
+    for row in rows if again else ():
+        action = row.step.action
+        if row.stage is not Stage.DONE:
+            is_going = action.verb in ("unbind", "delete")
+            found[action.number] = sorted(again.values() if is_going else behind[action.number])
+    return found
 
 
 def kind_of(step: Step) -> tuple[str, ...]:
@@ -167,6 +184,8 @@ def progress_of(folder: Folder) -> Progress:
     rows = [row_of(step, marks.get(step.key), folder.path / LOG / step.key, held) for step in steps]
     done = {row.step.action.number for row in rows if row.stage is Stage.DONE}
     waits = {step.action.number: waits_of(step, rollouts) for step in steps}
+    for number, before in waits_again(rows).items():
+        waits[number] += before
     for place, row in enumerate(rows):
         if row.stage is Stage.WAITING:
             open_ = tuple(other for other in waits[row.step.action.number] if other not in done)

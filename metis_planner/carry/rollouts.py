@@ -7,7 +7,7 @@ what it keeps: the fresh ones are bound to that, and it may be bound to them.
 """
 
 import dataclasses
-from collections.abc import Iterable, Sequence
+from collections.abc import Collection, Iterable, Sequence
 
 from metis_planner.answers import Refused
 from metis_planner.carry.steps import Step, lanes, who
@@ -131,3 +131,13 @@ def longest_chain(steps: Sequence[Step], rollouts: Sequence[Rollout]) -> int:
             longest = max(longest, longest_fresh[place])
         length.append(1 + longest)
     return max(length)
+
+
+def again_before(steps: Sequence[Step], again: Collection[str]) -> dict[int, frozenset[int]]:
+    """By the number of each step those before it, over others too, that are done again."""
+    behind: dict[int, frozenset[int]] = {}
+    for step in steps:
+        own = {number for number in step.waits if steps[number - 1].key in again}
+        before = own.union(*(behind[number] for number in step.waits)) if again else own
+        behind[step.action.number] = frozenset(before)
+    return behind

@@ -1,25 +1,41 @@
 #!/bin/sh
 # Does one action of the plan in this folder, and marks it as done. The Makefile calls it, and so does ninja.
 #
-#   ./run [-q | -c] KEY RULE NUMBER HOST VERB INSTANCE TYPE [WORD ..]
+#   ./run [-q] [-c | -a] KEY RULE NUMBER HOST VERB INSTANCE TYPE [WORD ..]
 #
 # What is done has a file done/KEY. What a step printed is in log/KEY, and what was run is log/KEY.sh: `sh log/KEY.sh` repeats
 # it by hand, on its host. What happens is a line of JSON in the file events. RULE is 0 for an action without a command, which is
-# only marked. With -c it does nothing, and asks by the check of the rule whether what was done still stands. It wants flock of util-linux; timeout, date, tail, tr and sync of coreutils; and sed.
+# only marked. With -c it does nothing, and asks by the check of the rule whether what was done still stands. With -a it does a step
+# again of which the mark says so, and then makes a file again/KEY. It wants flock of util-linux; timeout, date, tail, tr and sync of
+# coreutils; and sed.
+#
+# A text of others (a name, a source, a word of `via`, a path) is written by `printf '%s\n'` alone and stands in quotes: `echo` of some
+# shells makes a quote of \0047.
 set -eu
-cd "${0%/*}"
-quiet='' is_check=''
-case $1 in
--q) quiet=yes; shift ;;
--c) is_check=yes; shift ;;
-esac
+CDPATH='' cd -- "${0%/*}"
+# Where others may write, anybody could have put these commands here.
+modes=$(stat -c '0%a |' . run)
+if [ ! -O . ] || [ ! -O run ] || [ $((($modes 0) & 022)) -ne 0 ]; then
+  printf '%s\n' "$PWD: it, or run in it, belongs to somebody else or may be written by others" >&2
+  exit 77
+fi
+quiet='' is_check='' is_again=''
+while :; do
+  case $1 in
+  -q) quiet=yes ;;
+  -c) is_check=yes ;;
+  -a) is_again=yes ;;
+  *) break ;;
+  esac
+  shift
+done
 key=$1 rule=$2 number=$3 host=$4 verb=$5 instance=$6 type=$7
 shift 7
 from='' to='' port='' provider='' provider_type='' provider_host=:
 case $verb in
 new) what="make $type#$instance" line="new $instance $type" ;;
 delete) what="delete $type#$instance" line="delete $instance" from=${1#:}; shift ;;
-move) what="$type#$instance: $1 -> $2" line="move $instance $1 $2" from=$1 to=$2; shift 2 ;;
+move) what="$type#$instance: $1 -> $2" line="move $instance $1 $2" from=${1%@old[1-9]*} to=${2%@old[1-9]*}; shift 2 ;;
 bind) what="$type#$instance takes $1 from $3#$2" ;;
 unbind) what="$type#$instance lets $1 of $3#$2 go" ;;
 esac
@@ -28,7 +44,7 @@ bind | unbind) line="$verb $1 $instance $2" port=$1 provider=$2 provider_type=$3
 esac
 
 not_now() {
-  echo "$what: $1" >&2
+  printf '%s\n' "$what: $1" >&2
   exit 75
 }
 # Takes a lock that the shell has open. Status 75 of flock is that somebody else holds it; another one that there are no locks.
@@ -52,6 +68,7 @@ via=''
 case $host in
 @HOSTS@
 esac
+far_shell=@SHELLWORD@
 find_address() { # of a host, into `address`
   case $1 in
 @ADDRESSES@
@@ -66,11 +83,14 @@ find_source() { # of a type, into `source`: what it is called where an importer 
   esac
 }
 find_name() { # of an instance, into `name`: one that a file, a container or a unit may have
+  case $2 in
+@NAMES@
+  esac
   name=$1-$2
   case $name in *[/@]*) name=$(printf %s "$name" | tr /@ __) ;; esac
   case $name in [!A-Za-z0-9]*) name=x$name ;; esac
 }
-say() { if [ -z "$quiet" ]; then echo "$what$1"; fi; }
+say() { if [ -z "$quiet" ]; then printf '%s\n' "$what$1"; fi; }
 # What happens, for whoever follows it. No name has a character that JSON would have to escape.
 event() { # EVENT [MORE]
   printf '{"time":"%s","event":"%s","action":%s,"key":"%s","instance":"%s","what":"%s"%s}\n' \
@@ -86,11 +106,11 @@ uptime() { # hundredths of a second, into `now`, by a clock that nobody sets
 # The mark is there as a whole or not at all, also after a loss of power. It says what was done, when and where.
 mark() { # BEGUN ENDED
   find_address "$host"
-  printf '%s\n%s %s\non %s %s\n' "$line" "$1" "$2" "$host" "${address:-:}" >"log/$key.mark" &&
+  printf '%s\n%s %s\non %s %s\nby %s\n' "$line" "$1" "$2" "$host" "${address:-:}" "${sum-:}" >"log/$key.mark" &&
     { sync "log/$key.mark" 2>/dev/null || :; } && mv "log/$key.mark" "done/$key" && { sync done 2>/dev/null || :; }
 }
 could_not_mark() {
-  echo "$what: done, but done/$key could not be written, so it will be done again" >&2
+  printf '%s\n' "$what: done, but done/$key could not be written, so it will be done again" >&2
   exit 74
 }
 
@@ -98,15 +118,37 @@ could_not_mark() {
 exec 7>>lock/.folder
 hold 7 "somebody writes the folder anew" -s
 if [ "${METIS_EXPORT-@EXPORT@}" != @EXPORT@ ]; then not_now "the folder was written anew; call make again"; fi
+# Where the folder went over to another list, what was read before has other keys.
+there=
+if [ -e export ]; then read -r there <export || :; fi
+if [ "$there" != @EXPORT@ ]; then not_now "the folder was written anew, or not to its end; call metis up again"; fi
+# What is to be done again is in use meanwhile: before it is done, nothing goes on which it stands.
+if [ -z "$is_check" ]; then
+  case $verb in
+  delete | unbind)
+    for each in @AGAIN@; do
+      if [ ! -e "again/$each" ]; then not_now "a step is to be done again before; call make"; fi
+    done
+    ;;
+  esac
+fi
 # A step that calls make for a purpose of its own gets none of this make's flags.
 unset METIS_EXPORT MAKEFLAGS MFLAGS MAKELEVEL MAKEOVERRIDES
 
+# What is done is not done again, unless its mark says so.
+is_done() {
+  if [ ! -e "done/$key" ]; then return 1; fi
+  if [ -z "$is_again" ]; then return 0; fi
+  if grep -qx 'by -' "done/$key"; then return 1; fi
+  note_again
+}
+note_again() { if [ -n "$is_again" ]; then : >"again/$key"; fi; }
 log=log/$key
 if [ "$rule" = 0 ]; then
-  if [ -n "$is_check" ]; then exit 0; fi
-  if [ -e "done/$key" ]; then exit 0; fi
+  if [ -n "$is_check" ] || is_done; then exit 0; fi
   now=$(date +%s.%3N)
   mark "$now" "$now" || could_not_mark
+  note_again
   event marked
   exit 0
 fi
@@ -120,33 +162,41 @@ else
 fi
 hold 9 "somebody else is doing it"
 if [ -z "$is_check" ]; then
-  if [ -e "done/$key" ]; then exit 0; fi
-  again=''
+  if is_done; then exit 0; fi
+  again=$is_again
   if [ -s "$log" ]; then again=yes; fi
 fi
 # A playbook is run here, and reaches its host by itself.
 if [ -n "${here-}" ]; then via=''; fi
 
-# What a step inherits and must not keep: by these this script holds its locks.
+# What the shell of a step inherits and what it starts must not keep: by these this script and `timeout` hold their locks.
 without_locks='exec 7>&- 8>&- 9>&-'
+# Where the folder is now, also if it was copied or moved, for a shell's single quotes. The dot keeps a line feed at its end.
+folder=$(pwd -P | LC_ALL=C sed "s/'/'\\\\''/g"; echo .)
+folder=${folder%?.}
+case $folder in *@EXPORT@.*) not_now "the path of the folder has a word that ends a script" ;; esac
 step_script() { # what the shell of the step reads
   find_name "$type" "$instance"
   find_source "$type"
   find_address "$host"
-  echo "# $what"
-  if [ -z "$via" ]; then echo "$without_locks"; fi
-  echo "unset METIS_PORT METIS_PROVIDER METIS_PROVIDER_TYPE METIS_PROVIDER_NAME METIS_PROVIDER_HOST METIS_PROVIDER_ADDRESS"
-  echo "export METIS_ACTION='$number' METIS_VERB='$verb' METIS_AGAIN='$again' METIS_TEARDOWN='@TEARDOWN@' METIS_BOUND='$*'"
-  echo "export METIS_INSTANCE='$instance' METIS_TYPE='$type' METIS_SOURCE='$source' METIS_NAME='$name' METIS_FROM='$from' METIS_TO='$to'"
-  echo "export METIS_FOLDER='@PATH@'"
-  echo "export METIS_HOST='${host#:}' METIS_ADDRESS='$address'"
+  printf '%s\n' "# $what"
+  printf '%s\n' "$without_locks"
+  printf '%s\n' "unset METIS_PORT METIS_PROVIDER METIS_PROVIDER_TYPE METIS_PROVIDER_NAME METIS_PROVIDER_HOST METIS_PROVIDER_ADDRESS"
+  printf '%s\n' "export METIS_ACTION='$number' METIS_VERB='$verb' METIS_AGAIN='$again' METIS_TEARDOWN='@TEARDOWN@' METIS_BOUND='$*'"
+  printf '%s\n' "export METIS_INSTANCE='$instance' METIS_TYPE='$type' METIS_SOURCE='$source' METIS_NAME='$name' METIS_FROM='$from' METIS_TO='$to'"
+  printf '%s\n' "export METIS_FOLDER='$folder'"
+  printf '%s\n' "export METIS_HOST='${host#:}' METIS_ADDRESS='$address'"
   if [ -n "$port" ]; then
     find_name "$provider_type" "$provider"
     find_address "$provider_host"
-    echo "export METIS_PORT='$port' METIS_PROVIDER='$provider' METIS_PROVIDER_TYPE='$provider_type'"
-    echo "export METIS_PROVIDER_NAME='$name' METIS_PROVIDER_HOST='${provider_host#:}' METIS_PROVIDER_ADDRESS='$address'"
+    printf '%s\n' "export METIS_PORT='$port' METIS_PROVIDER='$provider' METIS_PROVIDER_TYPE='$provider_type'"
+    printf '%s\n' "export METIS_PROVIDER_NAME='$name' METIS_PROVIDER_HOST='${provider_host#:}' METIS_PROVIDER_ADDRESS='$address'"
   fi
-  cat steps/environment "steps/$step"
+  more=
+  case $type#$instance in
+@INSTANCES@
+  esac
+  cat steps/environment ${more:+"$more"} "steps/$step"
 }
 # What is left in the process group of a command that failed: its shell may have ended before what it had started.
 ending='end_group() {
@@ -161,47 +211,122 @@ ending='end_group() {
 }'
 eval "$ending"
 # For a host: a shell there gets all of it on its input, so that no word has to get through two shells. It holds a lock there, by
-# which a step whose connection was lost is not done a second time beside itself.
+# which a step whose connection was lost is not done a second time beside itself; a check needs none.
 far_script() {
-  echo "# $what, on ${host#:}"
-  echo "exec $via sh <<'@EXPORT@.far'"
-  echo "set -u"
-  echo "kept=/tmp/metis-\$(id -u)"
-  echo "mkdir -m 700 \"\$kept\" 2>/dev/null || :"
-  echo "[ -O \"\$kept\" ] && [ ! -L \"\$kept\" ] || { echo \"\$kept is somebody else's\" >&2; exit 73; }"
-  echo "if command -v flock >/dev/null; then"
-  echo "  exec 9>>\"\$kept/@FOLDER@.$key\""
-  echo "  flock -n 9 || { echo 'an earlier try of this step still goes on here' >&2; exit 75; }"
-  echo "fi"
-  echo "$ending"
-  echo "timeout -k 10 $limit @SHELL@ 9>&- <<'@EXPORT@.step' &"
+  printf '%s\n' "# $what, on ${host#:}"
+  printf '%s\n' "exec $via sh <<'@EXPORT@.far'"
+  printf '%s\n' "is_check=$is_check name=@FOLDER@.$key"
+  printf '%s\n' "$ending"
+  cat <<'END'
+set -u
+lock='' step='' status=0
+if [ -z "$is_check" ] && command -v flock >/dev/null; then
+  kept=/tmp/metis-$(id -u)
+  mkdir -m 700 "$kept" 2>/dev/null || :
+  [ -O "$kept" ] && [ ! -L "$kept" ] || { echo "$kept is somebody else's" >&2; exit 73; }
+  lock=$kept/$name
+  while :; do
+    exec 9>>"$lock"
+    flock -n 9 || { echo 'an earlier try of this step still goes on here' >&2; exit 75; }
+    # Whoever held it may have taken the file away after it was opened here, and then this lock keeps nobody out.
+    if [ ! -e /proc/self/fd/9 ] || [ "$lock" -ef /proc/self/fd/9 ]; then break; fi
+  done
+fi
+leave() { # STATUS; the file of the lock goes, by whoever holds it and nobody else
+  if [ -n "$lock" ] && [ "$lock" -ef /proc/self/fd/9 ]; then rm -f "$lock"; fi
+  exit "$1"
+}
+# Over a way that stays on this machine (chroot), a signal that ends the step here gets there as well.
+stop() {
+  trap '' INT TERM HUP PIPE
+  if [ -n "$step" ]; then
+    kill -TERM "$step" 2>/dev/null || :
+    wait "$step" || :
+    end_group "$step"
+  fi
+  leave 143
+}
+trap stop INT TERM HUP
+END
+  printf '%s\n' "timeout -k 10 $limit $far_shell <<'@EXPORT@.step' &"
   step_script "$@"
-  echo "@EXPORT@.step"
-  echo "step=\$! status=0"
-  echo "wait \"\$step\" || status=\$?"
-  echo "[ \"\$status\" -eq 0 ] || end_group \"\$step\""
-  echo "exit \"\$status\""
-  echo "@EXPORT@.far"
+  printf '%s\n' "@EXPORT@.step"
+  cat <<'END'
+step=$!
+trap '' PIPE
+wait "$step" || status=$?
+[ "$status" -eq 0 ] || end_group "$step"
+if [ -n "$is_check" ] && [ "$status" -lt 124 ]; then
+  printf '\n== said %s\n' "$status"
+  exit 0
+fi
+leave "$status"
+END
+  printf '%s\n' "@EXPORT@.far"
 }
 write_script() { if [ -n "$via" ]; then far_script "$@"; else step_script "$@"; fi >"$log.sh"; }
 
+# Where all that watches over a step is killed, the step may live on, and no lock says so. So the number of its process group is
+# in log/KEY.group while it is under way. That a number is still of that group is known by the boot, the PID namespace and the
+# folder, which is another one for a copy, and: its first process began at that moment, or one of the group writes to log/KEY.
+where_is() { cat /proc/sys/kernel/random/boot_id && stat -Lc %d:%i /proc/self/ns/pid .; }
+look_at() { # PROCESS: its group, into `of`, and when it began, into `since`; nothing for one that has ended
+  of='' since=''
+  { read -r stat <"/proc/$1/stat"; } 2>/dev/null || return 0
+  set -- ${stat##*) }
+  case ${1-Z} in [ZX]) ;; *) of=${3-} since=${20-} ;; esac
+}
+note_group() { # in the process that becomes `timeout`, of which $$ knows nothing
+  read -r own _ </proc/self/stat
+  look_at "$own"
+  printf '%s %s %s %s %s\n' $(where_is) "$own" "$since" >"$log.group"
+}
+find_group() { # that an earlier try has left, into `group`
+  group=''
+  [ -s "$log.group" ] || return 0
+  read -r boot space place number_of_group began <"$log.group" || return 0
+  set -- $(where_is)
+  [ "$boot $space $place" = "$*" ] || return 0
+  look_at "$number_of_group"
+  if [ "$since" = "$began" ]; then group=$number_of_group; fi
+  for each in /proc/[0-9]*; do
+    look_at "${each#/proc/}"
+    if [ "$of" = "$number_of_group" ] && { [ "$each/fd/1" -ef "$log" ] || [ "$each/fd/2" -ef "$log" ]; }; then group=$of; fi
+  done
+}
+forget_group() { kill -0 "-$!" 2>/dev/null || rm -f "$log.group"; } # not where nothing ends it, as on a disk that hangs
+end_earlier() {
+  find_group
+  if [ -n "$group" ]; then
+    end_group "$group"
+    find_group
+    if [ -n "$group" ]; then not_now "an earlier try still goes on, as the process group $group"; fi
+  fi
+  rm -f "$log.group"
+}
+
 # A command in the background, so that a signal is heard at once and handed on to it, and by timeout to all that it started.
 # It keeps the locks while it runs, also where this script is killed; what a step starts does not, or a server would keep them.
+# Of what was killed the shell says a word at `wait`: where nobody reads it, SIGPIPE must not end this script before the group.
 is_busy='' is_begun=''
 attend() {
   is_busy=yes
   "$@" &
+  trap '' PIPE
   status=0
   wait "$!" || status=$?
-  is_busy=
   if [ "$status" -ne 0 ]; then end_group "$!"; fi
+  trap - PIPE
+  is_busy=
 }
 stop() {
+  trap '' INT TERM HUP PIPE
   set +u
   if [ -n "$is_busy" ] && [ -n "$!" ]; then
     kill -TERM "$!" 2>/dev/null || :
     wait "$!" || :
     end_group "$!"
+    forget_group
   fi
   if [ -n "$is_begun" ]; then
     echo "== stopped by a signal" >&9 || :
@@ -211,8 +336,11 @@ stop() {
 }
 trap stop INT TERM HUP
 step() {
+  # What a check prints or writes has a bound, or it would fill the disk.
+  if [ -n "$is_check" ]; then ulimit -f 8192 2>/dev/null || :; else note_group 2>>"$log" || exit 74; fi
   if [ -n "$via" ]; then
-    exec timeout -k 10 $((limit ? limit + @GRACE@ : 0)) sh "$log.sh" </dev/null >>"$log" 2>&1
+    # More than the ten seconds that the other end has for what it ends.
+    exec timeout -k 15 $((limit ? limit + @GRACE@ : 0)) sh "$log.sh" </dev/null >>"$log" 2>&1
   fi
   exec timeout -k 10 "$limit" @SHELL@ <"$log.sh" >>"$log" 2>&1
 }
@@ -220,15 +348,31 @@ step() {
 if [ -n "$is_check" ]; then
   write_script "$@"
   attend step
-  if [ "$status" -eq 124 ]; then echo "no answer after $limit s" >>"$log"; fi
-  tail -n 3 "$log"
+  end=$(tail -c 2000 "$log" | sed '/^$/d' | tail -n 3) last=''
+  if [ -n "$end" ]; then last=$(printf '%s\n' "$end" | tail -n 1); fi
+  is_written=yes
+  printf '\n' 2>/dev/null >>"$log" || is_written=''
   rm -f "$log" "$log.sh"
-  exit "$status"
+  # Whoever asks has to know what the check said from what kept it from being asked: a limit, a kill, a shell that is not there (all
+  # of these from 124 on), a full disk, a way that is down. Over a way the far end says it, after the check has ended there: no
+  # status of the way itself (ssh 255, chroot 125, docker 1) tells.
+  if [ "$status" -eq 124 ]; then not_now "no answer after $limit s"; fi
+  if [ -n "$via" ]; then
+    case $status:$last in
+    0:'== said '*) printf '%s\n' "$end" && exit 0 ;;
+    esac
+    not_now "host ${host#:} did not say${last:+: $last}"
+  fi
+  if [ "$status" -gt 124 ]; then not_now "its check ended with status $status${last:+: $last}"; fi
+  if [ "$status" -ne 0 ] && [ -z "$is_written" ]; then not_now "what it said could not be written"; fi
+  printf '%s\n== said %s\n' "$end" "$status"
+  exit 0
 fi
+end_earlier
 if [ -n "$lock" ]; then
   # One lock for all folders of this user, since two of them may have steps for one machine.
   locks=${METIS_LOCKS:-/tmp}/metis-$(id -u)
-  mkdir -m 700 "$locks" 2>/dev/null || :
+  mkdir -m 700 -- "$locks" 2>/dev/null || :
   if [ ! -O "$locks" ] || [ -L "$locks" ]; then not_now "$locks is somebody else's"; fi
   find_address "$host"
   exec 8>>"$locks/lock.$(printf %s "$lock:${host#:}:$address" | tr / +)"
@@ -248,8 +392,10 @@ while [ "$try" -le "$retries" ]; do
   echo "== $(date -u +%Y-%m-%dT%H:%M:%SZ) $what, try $try of $((retries + 1))" >&9
   event begun ",\"try\":$try,\"host\":\"${host#:}\""
   attend step
-  if [ "$status" -eq 0 ]; then break; fi
+  if [ "$status" -eq 0 ]; then rm -f "$log.group"; break; fi
   echo "== status $status" >&9 || :
+  forget_group
+  if [ -e "$log.group" ]; then break; fi
 done
 uptime
 took=$(((now - start + 50) / 100)) ended=$((begun + (now - start) * 10))
@@ -266,6 +412,7 @@ if [ "$status" -ne 0 ]; then
   exit "$status"
 fi
 mark "$begun" "$ended" || could_not_mark
+note_again
 echo "== status 0" >&9 || :
 event done ",\"seconds\":$took"
 say ": done in $took s$(progress)"

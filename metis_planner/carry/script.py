@@ -5,19 +5,20 @@ import os
 import pathlib
 import re
 import shlex
+from collections.abc import Mapping
 from typing import TYPE_CHECKING
 
 from metis_planner.answers import Refused
 from metis_planner.carry import ansible
 from metis_planner.carry.commands import Commands, Host
-from metis_planner.carry.folder import INVENTORY, JOBS, STEPS, Folder
+from metis_planner.carry.folder import EXPORT, INVENTORY, JOBS, STEPS, Folder
 from metis_planner.carry.writing import write_whole
 
 if TYPE_CHECKING:
     from metis_planner.carry.export import Export
 
 TEMPLATE = pathlib.Path(__file__).resolve().parent / "run.sh"
-RUN, ENVIRONMENT = "run", "environment"
+RUN, ENVIRONMENT, INSTANCE = "run", "environment", "instance"
 SECONDS_OF_A_CHECK = 10
 GRACE = 30  # how many seconds more the way to a host gets than what is run on it
 LENGTH_OF_A_FOLDER = 12
@@ -34,6 +35,7 @@ def write_folder(folder: Folder, export: "Export", text: str, name: str) -> None
     write_whole(folder.path / JOBS, "".join(f"{job.words}\n" for job in export.jobs()))
     write_whole(folder.path / INVENTORY, inventory_of(export))
     folder.write_plan(export.plan_text, export.rollouts)
+    write_whole(folder.path / EXPORT, f"{export.digest}\n")
     write_whole(folder.path / name, text)
     folder.drop_engines(but=name, digest=export.digest)
 
@@ -53,16 +55,22 @@ def make_executable(path: pathlib.Path) -> None:
 
 
 def write_steps(path: pathlib.Path, commands: Commands) -> None:
-    exports = [f"export {key}={shlex.quote(value)}\n" for key, value in commands.variables.items()]
+    exports = [exports_in(commands.variables)]
     inventory = shlex.quote(os.path.abspath(commands.inventory)) if commands.inventory else f'"$METIS_FOLDER/{INVENTORY}"'
     exports.append(f"METIS_INVENTORY={inventory}\n")
+    exports_of = {place: exports_in(each) for place, each in enumerate(commands.instances.values(), 1)}
     files = {ENVIRONMENT: "".join(exports)} | {f"{rule.slug}.sh": rule.script for rule in commands.rules}
     files |= {f"{rule.slug}.check.sh": rule.check_script for rule in commands.rules if rule.check.strip()}
+    files |= {f"{INSTANCE}.{place}": text for place, text in exports_of.items()}
     for name, text in files.items():
         write_whole(path / name, text)
     for other in path.iterdir():
         if other.name not in files:
             other.unlink()
+
+
+def exports_in(variables: Mapping[str, str]) -> str:
+    return "".join(f"export {key}={shlex.quote(value)}\n" for key, value in variables.items())
 
 
 def way_to(host: Host) -> tuple[str, ...]:
@@ -79,7 +87,8 @@ def script(folder: Folder, export: "Export") -> str:
     commands = export.commands
     rules = [
         f"{rule.number}) step={rule.slug}.sh limit={rule.timeout} retries={rule.retries} pause={rule.pause} "
-        f"lock={rule.lock} check={f'{rule.slug}.check.sh' if rule.check.strip() else ''} here={'yes' if rule.playbook else ''} ;;\n"
+        f"lock={rule.lock} sum={rule.sum} check={f'{rule.slug}.check.sh' if rule.check.strip() else ''} "
+        f"here={'yes' if rule.playbook else ''} ;;\n"
         for rule in commands.rules
         if not rule.does_nothing
     ]
@@ -91,11 +100,14 @@ def script(folder: Folder, export: "Export") -> str:
         "HOSTS": "".join(f"'{host.name}') via={shlex.quote(shlex.join(way_to(host)))} ;;\n" for host in hosts if host.via),
         "ADDRESSES": "".join(f"  '{host.name}') address={shlex.quote(host.address)} ;;\n" for host in hosts),
         "SOURCES": "".join(f"  '{name}') source='{source}' ;;\n" for name, source in sorted(export.sources.items())),
+        "NAMES": "".join(f"  {each}) name='{name}' && return ;;\n" for each, name in sorted(folder.names().items())),
+        "INSTANCES": "".join(f"  '{name}') more=steps/{INSTANCE}.{each} ;;\n" for each, name in enumerate(commands.instances, 1)),
         "SHELL": shlex.join(commands.shell),
+        "SHELLWORD": shlex.quote(shlex.join(commands.shell)),
         "GRACE": str(GRACE),
         "CHECK": str(SECONDS_OF_A_CHECK),
-        "PATH": str(folder.path.resolve()).replace("'", "'\\''"),
-        "FOLDER": hashlib.sha256(str(folder.path.resolve()).encode()).hexdigest()[:LENGTH_OF_A_FOLDER],
+        "FOLDER": hashlib.sha256(os.fsencode(folder.path.resolve())).hexdigest()[:LENGTH_OF_A_FOLDER],
+        "AGAIN": " ".join(sorted(export.again)),
         "TEARDOWN": "yes" if export.leaves_nothing else "",
     }
     return HOLE.sub(

@@ -11,8 +11,9 @@ import shutil
 from collections.abc import Iterable, Sequence
 
 from metis_planner.answers import Answer, Refused
-from metis_planner.carry.folder import DONE, LOG, Folder, part_of, written
+from metis_planner.carry.folder import DONE, LOG, PLAN, Folder, part_of, written
 from metis_planner.carry.steps import Step
+from metis_planner.carry.writing import write_whole
 from metis_planner.text import plans
 
 
@@ -37,6 +38,8 @@ def run(arguments: argparse.Namespace) -> Answer:
         # From here on the marks of what is new count no more, also if this is ended before they are gone.
         kept = written(plans.Plan(plan.actions[:old], ()))
         folder.part_with(names, kept)
+        # The shorter plan comes first: a rollout that goes on from all of it is none, and without it the longer one would be one.
+        write_whole(folder.path / PLAN, kept)
         folder.write_plan(kept, rollouts[:-1])
         folder.finish_parting()
     made = sum(step.key in done for step in steps[old:])

@@ -10,6 +10,7 @@ import time
 from collections.abc import Iterator
 
 from metis_planner.answers import Answer
+from metis_planner.carry.configuration import add_folder, folder_of
 from metis_planner.carry.folder import Folder
 from metis_planner.carry.progress import Progress, Row, Stage, progress_of, seconds_since
 from metis_planner.text import plans
@@ -34,7 +35,7 @@ def bar(progress: Progress) -> str:
 
 
 def row_lines(row: Row) -> Iterator[str]:
-    what = plans.in_words(row.step.action)
+    what = f"{plans.in_words(row.step.action)}{' (again)' if row.is_again else ''}"
     if row.stage is Stage.RUNNING:
         seconds = seconds_since(row.since)
         yield f"  running  {what}" + ("" if seconds is None else f", for {max(0, round(seconds))} s")
@@ -85,13 +86,13 @@ def watch(folder: Folder) -> Progress:
 
 
 def add_arguments(parser: argparse.ArgumentParser) -> None:
-    parser.add_argument("folder", metavar="FOLDER", help="what `metis make` or `metis ninja` wrote")
+    add_folder(parser, "what `metis up`, `metis make` or `metis ninja` wrote")
     parser.add_argument("--watch", action="store_true", help="say it each second, until all is done or nothing runs")
     parser.add_argument("--json", action="store_true", help="one JSON object, with each action")
 
 
 def run(arguments: argparse.Namespace) -> Answer:
-    folder = Folder(arguments.folder)
+    folder = folder_of(arguments)
     if arguments.watch:
         progress = watch(folder)
         return Answer(status=1 if progress.count(Stage.FAILED) else 0)

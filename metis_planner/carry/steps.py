@@ -26,7 +26,7 @@ class Step:
     @property
     def line(self) -> str:
         """The action as the plan writes it, without its number."""
-        return f"{self.action.verb} {' '.join(self.action.words)}"
+        return plans.line_of(self.action)
 
 
 def name_of(kind: str, instance: int) -> str:

@@ -7,13 +7,13 @@ from metis_planner.carry.steps import Step
 from metis_planner.carry.writing import sync_folder
 
 
-def with_followers(steps: Sequence[Step], done: set[str], numbers: set[int]) -> list[Step]:
+def with_followers(steps: Sequence[Step], done: set[str], numbers: set[int], going: frozenset[int] = frozenset()) -> list[Step]:
     """The steps of these numbers, and all that is done and waited for one of them, in the order of the plan.
 
     If one of these needs an instance that was deleted since, nothing of that is there: all of its steps are among them too.
     """
     own = [step for step in steps if step.key in done]
-    gone = {step.action.instance for step in own if step.action.verb == "delete"}
+    gone = {step.action.instance for step in own if step.action.verb == "delete"} | going
     found: set[int] = set()
     more = set(numbers)
     while not more <= found:

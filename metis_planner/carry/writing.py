@@ -7,10 +7,10 @@ from metis_planner.answers import Refused
 
 
 def write_whole(path: pathlib.Path, text: str) -> None:
-    """Writes a file so that it is there as a whole, or as it was before."""
+    """Writes a file so that it is there as a whole, or as it was before. A path in the text may have bytes that are no UTF-8."""
     fresh = path.with_name(f"{path.name}.new")
     try:
-        with open(fresh, "w", encoding="utf-8") as file:
+        with open(fresh, "w", encoding="utf-8", errors="surrogateescape") as file:
             file.write(text)
             file.flush()
             os.fsync(file.fileno())

@@ -2,6 +2,7 @@
 
 import contextlib
 import io
+import os
 import pathlib
 import shutil
 import subprocess
@@ -123,6 +124,10 @@ class FolderCase(unittest.TestCase):
             self.skipTest(f"{', '.join(NEEDED)} are not all there")
         self.top = pathlib.Path(tempfile.mkdtemp())
         self.addCleanup(shutil.rmtree, self.top)
+        # Locks that go across folders are those of the test alone, or it would wait for what else the user carries out.
+        locks = mock.patch.dict(os.environ, {"METIS_LOCKS": str(self.top)})
+        locks.start()
+        self.addCleanup(locks.stop)
         self.folder = self.top / "f"
 
     def commands(self, body=LINE, **options):

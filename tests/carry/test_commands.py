@@ -50,7 +50,7 @@ def read(text):
 
 class CommandsTest(unittest.TestCase):
     def test_the_first_that_fits_counts(self):
-        rules, without = export.rules_of(steps_of(CROSSED), read(RULES))
+        rules, without = export.rules_of(steps_of(CROSSED), read(RULES), PossibleActions(), ())
         self.assertEqual(
             [rule and rule.number for rule in rules],
             [4, None, 4, None, 1, 2, None, 5, 4, None, 3, None, None, None, None],
@@ -90,7 +90,7 @@ class CommandsTest(unittest.TestCase):
 
     def test_faults_are_named(self):
         for text, reason in (
-            ("x = 1", "the file: nothing is known of 'x'; there are env, hosts, inventory, shell, step, timeout"),
+            ("x = 1", "the file: nothing is known of 'x'; there are env, hosts, instance, inventory, shell, step, timeout"),
             ("timeout = -1", "the file: timeout is not from 0 to 1000000"),
             ("timeout = true", "the file: timeout is no whole number"),
             ("step = 1", "the file: step is no list"),

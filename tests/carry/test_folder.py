@@ -9,7 +9,7 @@ import unittest
 from unittest import mock
 
 from metis_planner.answers import Refused
-from tests.carry.shapes import CROSSED, HELD, LINE, PLACED, ROLLED, TAKEN_DOWN, WEB, FolderCase, call, plan_text
+from tests.carry.shapes import CROSSED, HELD, LINE, PLACED, ROLLED, TAKEN_DOWN, WEB, FolderCase, call, plan_text, steps_of
 from tests.effort import FOREVER, is_running, wait_until
 
 TOP = pathlib.Path(__file__).resolve().parents[2]
@@ -56,7 +56,7 @@ class CarriedOutTest(FolderCase):
             said,
         )
         self.assertEqual(self.make()[0], 0)
-        self.assertRegex((self.folder / "done" / "0.2").read_text(), r"^bind sql 0 1\n[0-9.]+ [0-9.]+\non : :\n$")
+        self.assertRegex((self.folder / "done" / "0.2").read_text(), r"^bind sql 0 1\n[0-9.]+ [0-9.]+\non : :\nby :\n$")
         self.assertIn(
             "no step fits Web: new, Db: new", self.refused(WEB, commands='[env]\nX = ""\n', more=[])
         )
@@ -84,8 +84,12 @@ class CarriedOutTest(FolderCase):
     def test_a_mark_says_what_was_done_and_when(self):
         self.exported(WEB)
         self.make()
-        line, times, host, rest = (self.folder / "done" / "0.2").read_text().split("\n")
+        line, times, host, script, rest = (self.folder / "done" / "0.2").read_text().split("\n")
         self.assertEqual((line, host, rest), ("bind sql 0 1", "on : :", ""))
+        # By which script it was done: another one has another sum, and what the same one did has the same.
+        self.assertRegex(script, r"^by [0-9a-f]{12}$")
+        marks = {step.action.verb: (self.folder / "done" / step.key).read_text().split("\n")[3] for step in steps_of(WEB)}
+        self.assertEqual(len(set(marks.values())), 1)
         self.assertRegex(times, r"^[0-9]{10,}\.[0-9]{3} [0-9]{10,}\.[0-9]{3}$")
         self.assertEqual(subprocess.run(["sh", "-eu", self.folder / "log" / "0.2.sh"], check=False).returncode, 0)
         self.assertEqual(self.numbers().count(4), 2)
@@ -403,7 +407,7 @@ class SplitTest(FolderCase):
 class WordsTest(unittest.TestCase):
     def test_statuses_and_lines(self):
         for words, status, said in (
-            (["done", "/nowhere"], 1, "metis: /nowhere/plan.txt: No such file or directory\n"),
+            (["done", "/nowhere"], 1, "metis: /nowhere: no folder of Metis: it has no plan.txt\n"),
             (["graph", "/nowhere"], 1, "metis: /nowhere: No such file or directory\n"),
             (["graph", "a\nb\x1b[2J"], 1, "metis: a b\\x1b[2J: No such file or directory\n"),
             (["bake"], 2, None),

@@ -13,6 +13,10 @@ CYCLE = (
 )
 
 
+# The same two, which go, beside one that is kept: of the scaffold that holds both all is deleted in the removal.
+CHANGED_CYCLE = (*CYCLE[:4], "new 4 B", *CYCLE[5:8], "unbind p 0 1", "unbind p 1 0", "delete 0 after 10", "delete 1 after 9", "delete 3 after 11 12")
+
+
 class RolloutTest(unittest.TestCase):
     def test_the_fresh_ones_end_where_something_old_acts(self):
         self.assertEqual(rollout_in(steps_of(ROLLED), 5), Rollout(5, 10, 12))
@@ -24,6 +28,10 @@ class RolloutTest(unittest.TestCase):
 
     def test_a_scaffold_is_part_of_the_removal_also_where_it_comes_first(self):
         self.assertEqual(rollout_in(steps_of(plan_text(*CYCLE)), 4), Rollout(4, 5, 13))
+
+    def test_a_change_may_have_a_scaffold_too(self):
+        steps = steps_of(plan_text(*CHANGED_CYCLE))
+        self.assertEqual(change_in(steps, 5), Rollout(5, 8, 13))
 
     def test_a_fresh_double_that_is_deleted_before_the_removal_is_fresh(self):
         lines = ("new 0 A", "new 1 A", "new 2 B", "delete 2", "move 1 a b", "delete 0")

@@ -7,6 +7,7 @@ from metis_planner.answers import Answer, Refused
 from metis_planner.carry import export
 from metis_planner.carry.export import Export, add_arguments
 from metis_planner.carry.rollouts import barrier_of, ends_of, longest_chain
+from metis_planner.carry.steps import Step
 from metis_planner.text import plans
 
 __all__ = ["add_arguments", "run"]
@@ -49,19 +50,30 @@ def makefile(found: Export) -> Iterator[str]:
         raise Refused(f"{row} actions wait one for the other, and make is good for {MOST_IN_A_ROW}: use ninja")
     instances = sum(step.action.verb == "new" for step in found.steps)
     yield HEAD.format(actions=len(found.steps), instances=instances, digest=found.digest)
-    yield f"all: |{marks(ends_of(found.steps))}\nMakefile: ;\n\n"
+    again = "".join(f" again/{key}" for key in sorted(found.again))
+    yield f"all: |{marks(ends_of(found.steps))}{again}\nMakefile: ;\n\n"
     for place, rollout in enumerate(found.rollouts, 1):
         old, fresh = found.steps[: rollout.old], found.steps[rollout.old : rollout.fresh]
         yield f"# Of what {rollout.old} actions leave nothing goes before all that is new stands.\n"
         yield f".PHONY: old-{place} fresh-{place}\n"
         yield f"old-{place}: |{marks(ends_of(old))}\nfresh-{place}: |{marks(ends_of(fresh))}\n\n"
-    keys = [step.key for step in found.steps]
     for job in found.jobs():
-        waits = marks(keys[number - 1] for number in job.step.waits)
-        barrier = barrier_of(job.step, found.rollouts)
-        waits += "" if barrier is None else f" fresh-{barrier + 1}"
+        waits = marks_before(found, job.step)
+        if job.step.key in found.again:
+            yield f"# again: {plans.in_words(job.step.action)}\n"
+            yield f"again/{job.step.key}: | done/{job.step.key}\n\t@./run -a {job.words}\n"
         yield f"# {job.step.action.number} {plans.in_words(job.step.action)}\n"
         yield f"done/{job.step.key}:{' |' if waits else ''}{waits}\n\t@./run {job.words}\n"
+
+
+def marks_before(found: Export, step: Step) -> str:
+    """What a step waits for. What it stands on is done again before, if it is to be, and all of that before anything goes."""
+    keys = [found.steps[number - 1].key for number in step.waits]
+    waits = marks(keys) + "".join(f" again/{key}" for key in keys if key in found.again)
+    if step.action.verb in ("unbind", "delete") and step.key not in found.done:
+        waits += "".join(f" again/{key}" for key in sorted(found.again.difference(keys)))
+    barrier = barrier_of(step, found.rollouts)
+    return waits if barrier is None else f"{waits} fresh-{barrier + 1}"
 
 
 def marks(keys: Iterator[str] | list[str]) -> str:

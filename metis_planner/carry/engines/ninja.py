@@ -6,10 +6,10 @@ from collections.abc import Iterator
 
 from metis_planner.answers import Answer
 from metis_planner.carry import export
-from metis_planner.carry.engines.make import marks
+from metis_planner.carry.engines.make import marks, marks_before
 from metis_planner.carry.commands import Rule
-from metis_planner.carry.export import Export, add_arguments
-from metis_planner.carry.rollouts import barrier_of, ends_of
+from metis_planner.carry.export import Export, Job, add_arguments
+from metis_planner.carry.rollouts import ends_of
 from metis_planner.carry.steps import Step
 from metis_planner.text import plans
 
@@ -46,16 +46,20 @@ def ninja_file(found: Export) -> Iterator[str]:
         yield f"pool {pool}\n  depth = 1\n"
     for place, rollout in enumerate(found.rollouts, 1):
         yield f"build fresh-{place}: phony ||{marks(ends_of(found.steps[rollout.old : rollout.fresh]))}\n"
-    keys = [step.key for step in found.steps]
     for job in jobs:
-        waits = marks(keys[number - 1] for number in job.step.waits)
-        barrier = barrier_of(job.step, found.rollouts)
-        waits += "" if barrier is None else f" fresh-{barrier + 1}"
+        waits = marks_before(found, job.step)
         yield f"build done/{job.step.key}: do{' ||' if waits else ''}{waits}\n"
-        yield f"  words = {job.words}\n"
-        yield f"  what = {plans.in_words(job.step.action)}\n"
-        if job.rule and job.rule.lock:
-            yield f"  pool = {pool_of(found, job.step, job.rule)}\n"
+        yield from words_of(found, job)
+        if job.step.key in found.again:
+            yield f"build again/{job.step.key}: do || done/{job.step.key}\n"
+            yield from words_of(found, job, "-a ", "again: ")
+
+
+def words_of(found: Export, job: Job, flag: str = "", how: str = "") -> Iterator[str]:
+    yield f"  words = {flag}{job.words}\n"
+    yield f"  what = {how}{plans.in_words(job.step.action)}\n"
+    if job.rule and job.rule.lock:
+        yield f"  pool = {pool_of(found, job.step, job.rule)}\n"
 
 
 def pool_of(found: Export, step: Step, rule: Rule) -> str:

@@ -9,7 +9,7 @@ from collections.abc import Iterator
 from metis_planner.answers import Answer
 from metis_planner.carry import export
 from metis_planner.carry.export import Export, add_arguments
-from metis_planner.carry.rollouts import barrier_of, ends_of
+from metis_planner.carry.rollouts import again_before, barrier_of, ends_of
 from metis_planner.text import plans
 
 __all__ = ["add_arguments", "run"]
@@ -24,7 +24,7 @@ HEAD = """\
 #
 # A job whose action failed takes those that wait for it with it: they are cancelled, and submitted again at the next call.
 set -eu
-cd "$(dirname "$0")"
+case $0 in */*) CDPATH='' cd -- "${{0%/*}}" ;; esac
 export METIS_EXPORT={digest}
 submit() {{ # NAME JOBS WORD ..
   name=$1 jobs=$2
@@ -38,8 +38,8 @@ TAIL = """\
 # A last job waits for the others. If one failed it is cancelled, of which sbatch says nothing: the marks say it.
 sbatch --wait --quiet ${{METIS_SBATCH-}} --job-name=metis-all --output=/dev/null \\
   ${{last:+--dependency="afterok$last" --kill-on-invalid-dep=yes}} --wrap=true || :
-for each in $keys; do
-  [ -e "done/$each" ] || {{ echo "not all is done: metis status $PWD" >&2; exit 1; }}
+for each in $paths; do
+  [ -e "$each" ] || {{ printf '%s\n' "not all is done: metis status $PWD" >&2; exit 1; }}
 done
 """
 
@@ -54,12 +54,21 @@ def script(found: Export) -> Iterator[str]:
     fresh_ends = [
         [number_of[key] for key in ends_of(found.steps[each.old : each.fresh])] for each in found.rollouts
     ]
+    behind = again_before(found.steps, found.again)
     for job in found.jobs():
         number, barrier = job.step.action.number, barrier_of(job.step, found.rollouts)
         waits = sorted({*job.step.waits, *(fresh_ends[barrier] if barrier is not None else ())})
-        jobs = "".join(f"${{j{other}-}}" for other in waits)
+        again = behind[number]
+        if job.step.action.verb in ("unbind", "delete") and job.step.key not in found.done:
+            again = frozenset(number_of[key] for key in found.again)
+        jobs = "".join([*(f"${{j{other}-}}" for other in waits), *(f"${{a{other}-}}" for other in sorted(again - {number}))])
         name = shlex.quote(plans.in_words(job.step.action))
         yield f"[ -e done/{job.step.key} ] || j{number}=:$(submit {name} \"{jobs}\" ./run -q {job.words})\n"
+        if job.step.key in found.again:
+            before = f"${{j{number}-}}" + "".join(f"${{a{other}-}}" for other in sorted(behind[number]))
+            yield f"[ -e again/{job.step.key} ] || a{number}=:$(submit {name} \"{before}\" ./run -q -a {job.words})\n"
     ends = "".join(f"${{j{number_of[key]}-}}" for key in ends_of(found.steps))
-    yield f"last={ends}\nkeys='{' '.join(ends_of(found.steps))}'\n"
+    ends += "".join(f"${{a{number_of[key]}-}}" for key in sorted(found.again))
+    paths = [*(f"done/{key}" for key in ends_of(found.steps)), *(f"again/{key}" for key in sorted(found.again))]
+    yield f"last={ends}\npaths='{' '.join(paths)}'\n"
     yield TAIL.format()

@@ -1,0 +1,109 @@
+"""What `up` and `down` write into a folder and carry out there: plans with their hosts, by the engine that was chosen."""
+
+import argparse
+import pathlib
+import subprocess
+from collections.abc import Callable, Iterable, Iterator, Mapping, Sequence
+
+from metis_planner.answers import Refused
+from metis_planner.carry import export
+from metis_planner.carry.ahead import kept_request
+from metis_planner.carry.commands import Commands, Rule
+from metis_planner.carry.engines import slurm
+from metis_planner.carry.folder import PAST, PLAN, UNIVERSE, Folder, written
+from metis_planner.carry.possible import PossibleActions
+from metis_planner.carry.progress import progress_of
+from metis_planner.carry.request import ENGINES, Request
+from metis_planner.carry.seating import kept_placement
+from metis_planner.carry.stands import types_of
+from metis_planner.carry.status import lines_of
+from metis_planner.carry.steps import Step
+from metis_planner.carry.ways import Way
+from metis_planner.text.terminal import say
+
+PLACED = "placement"
+
+
+def exported(
+    request: Request,
+    plan: pathlib.Path,
+    universe: pathlib.Path,
+    placement: pathlib.Path | None,
+    noted: Callable[[], None] = export.nothing,
+) -> None:
+    """Writes the plan into its folder, with what goes with it while nobody else writes there; and says what there is to say."""
+    words = export_words(request, plan, universe, placement)
+    words.noted = noted
+    for note in export.run(words, *ENGINES[request.engine]).notes:
+        say(note)
+
+
+def export_words(
+    request: Request, plan: pathlib.Path, universe: pathlib.Path, placement: pathlib.Path | None
+) -> argparse.Namespace:
+    """The words of `metis make` for a plan."""
+    parser = argparse.ArgumentParser()
+    export.add_arguments(parser)
+    # A name that begins with a dash is a word's value by its =, and no word of its own.
+    words = [str(plan), f"--commands={request.commands}", f"--to={request.to}", f"--universe={universe}"]
+    found = parser.parse_args([*words, *([f"--placement={placement}"] if placement else [])])
+    # The commands were looked at before anybody was asked.
+    found.is_up = True
+    return found
+
+
+def carried_out(request: Request, folder: Folder) -> int:
+    """Runs the engine in the folder, whose own lines are its progress, and says at the end how far it is."""
+    words = {
+        "make": ["make", "-s", f"-j{request.jobs}", "-C", request.to],
+        "ninja": ["ninja", f"-j{request.jobs}", "-C", request.to],
+        "slurm": ["sh", str(folder.path.absolute() / slurm.NAME)],
+    }
+    status = subprocess.run(words[request.engine], check=False).returncode
+    for line in lines_of(progress_of(folder)):
+        say(line)
+    return status
+
+
+def possible_in(folder: Folder, universe: str, steps: Iterable[Step]) -> PossibleActions:
+    """What a step may be for: all that may happen by the description, in what the folder has or had, or in these steps."""
+    found = PossibleActions(types_of(universe))
+    places = (folder.path, *(folder.path / PAST / each for each in folder.past()))
+    for path in (place / UNIVERSE for place in places):
+        if path.is_file():
+            found.add_types(types_of(path.read_text(errors="surrogateescape")))
+    for step in steps:
+        found.add(step.action)
+    return found
+
+
+def checked_rules(
+    request: Request, commands: Commands, possible: PossibleActions, steps: Sequence[Step], done: Mapping[str, object]
+) -> Iterator[tuple[Step, Rule | None]]:
+    """The rule of each step. Refused is a rule that fits nothing, and a step that is not done and has none."""
+    try:
+        commands.check_fits(possible)
+        rules, without = export.rules_of(steps, commands, possible, done)
+    except Refused as refused:
+        raise Refused(f"{request.commands}: {refused}") from refused
+    if without:
+        raise Refused(f"{request.commands}: {export.no_rule(without)}")
+    return zip(steps, rules)
+
+
+def kept_commands(folder: Folder) -> str | None:
+    """The commands file by which `up` wrote a folder."""
+    found = kept_request(folder).get("commands")
+    return found if isinstance(found, str) else None
+
+
+def written_again(folder: Folder, way: Way, texts: pathlib.Path) -> None:
+    """Writes a folder for a list that is all done, by the commands, the engine and the hosts that it had."""
+    commands, engine = kept_commands(folder), str(kept_request(folder).get("engine", "make"))
+    assert commands is not None
+    request = Request("", (), commands, str(folder.path), engine=engine if engine in ENGINES else "make")
+    placement = kept_placement(folder.steps(), folder.marks(), way.plan.actions)
+    paths = {name: texts / name for name in (PLAN, UNIVERSE, PLACED)}
+    for name, text in ((PLAN, written(way.plan)), (UNIVERSE, way.universe), (PLACED, placement or "")):
+        paths[name].write_text(text, errors="surrogateescape")
+    exported(request, paths[PLAN], paths[UNIVERSE], paths[PLACED] if placement else None)
