@@ -59,7 +59,7 @@ plan | why | replay | rollout | reconfigure | audit | refute | confirm | waits |
     *) run_program "$@" ;;
     esac
     ;;
-help | --help | -h | version | --version | import | sketch | check | show | lint | up | down | make | ninja | slurm | engine | status | log | retry | \
+help | --help | -h | version | --version | import | sketch | check | show | lint | lean | up | adopt | down | make | ninja | slurm | engine | status | log | retry | \
     verify | inventory | done | split | graph | gantt | page)
     run_front "$@"
     ;;

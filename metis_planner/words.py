@@ -35,6 +35,9 @@ UNIVERSE_WORDS: Mapping[str, Word] = {
     "check": Word("metis_planner.look.check", "look a universe or a sketch over for faults and for what was hardly meant"),
     "lint": Word("metis_planner.look.lint", "say of manifests, projects or units what can never come up, with file and line"),
 }
+LEAN_WORDS: Mapping[str, Word] = {
+    "lean": Word("metis_planner.lean", "plan with few instances, by a search that the program checks; say how few there can be"),
+}
 PLAN_WORDS: Mapping[str, Word] = {
     "show": Word("metis_planner.look.show", "show what the program printed, with names in place of numbers, or as JSON"),
     "graph": Word("metis_planner.draw.graph", "draw a plan or a universe, for Graphviz or Mermaid"),
@@ -49,6 +52,7 @@ FOLDER_WORDS: Mapping[str, Word] = {
     "status": Word("metis_planner.carry.status", "say how far a folder is, also while it runs: --watch, --json"),
     "log": Word("metis_planner.carry.log", "print what the steps of an instance printed: metis log FOLDER mysql#1"),
     "retry": Word("metis_planner.carry.retry", "let the last step of an instance be done again, and what waited for it"),
+    "adopt": Word("metis_planner.carry.adopt", "mark as done what runs already, and start nothing"),
     "verify": Word("metis_planner.carry.verify", "ask whether what was done still stands, and let make heal what is lost"),
     "inventory": Word("metis_planner.carry.inventory", "print an inventory for Ansible of the hosts of a placement"),
     "done": Word("metis_planner.carry.done", "print what of a folder's plan is done, as a plan"),
@@ -61,6 +65,7 @@ OWN_WORDS: Mapping[str, Word] = {
 # How `help` groups them.
 GROUPS: Mapping[str, Mapping[str, Word]] = {
     "Make and look over universes": UNIVERSE_WORDS,
+    "Plan with few instances": LEAN_WORDS,
     "Look at plans and answers": PLAN_WORDS,
     "Carry plans out": FOLDER_WORDS,
     "More": OWN_WORDS,

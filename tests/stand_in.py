@@ -6,6 +6,7 @@ import sys
 from collections.abc import Sequence
 from typing import NamedTuple
 
+TOP = pathlib.Path(__file__).resolve().parents[1]
 SCRIPT = """\
 #!{python}
 import json, os, sys
@@ -16,6 +17,8 @@ for given, text, status in json.load(open({answers!r})):
     if given == words:
         sys.stdout.write(text)
         sys.exit(status)
+if words[0] in {judged!r}:
+    os.execve(sys.executable, [sys.executable, "-m", "tests.judge", *sys.argv[1:]], {{**os.environ, "PYTHONPATH": {top!r}}})
 sys.exit(f"the stand-in has no answer to {{words}}")
 """
 
@@ -28,12 +31,15 @@ class Answer(NamedTuple):
     status: int = 0
 
 
-def stand_in(folder: pathlib.Path, answers: Sequence[Answer]) -> pathlib.Path:
-    """The path of a program that has these answers and no others. It lists what it was asked in `asked` beside it."""
+def stand_in(folder: pathlib.Path, answers: Sequence[Answer], judged: Sequence[str] = ()) -> pathlib.Path:
+    """The path of a program that has these answers and no others. It lists what it was asked in `asked` beside it.
+
+    Words that are judged have no answers by hand: `tests.judge` follows the list of actions.
+    """
     program, table, log = folder / "stand-in", folder / "answers", folder / "asked"
     table.write_text(json.dumps([[list(each.words), each.text, each.status] for each in answers]))
     log.touch()
-    program.write_text(SCRIPT.format(python=sys.executable, log=str(log), answers=str(table)))
+    program.write_text(SCRIPT.format(python=sys.executable, log=str(log), answers=str(table), judged=list(judged), top=str(TOP)))
     program.chmod(0o755)
     return program
 

@@ -125,7 +125,8 @@ def of_what_is_missing(found: verdicts.Verdict) -> list[str]:
 def of_a_line(call: Call, number: int) -> list[str]:
     lines = read_text(call.files["EXPLANATION"], MOST_BYTES).split("\n")
     text = lines[number - 1] if number <= len(lines) else ""
-    return [f"line {number} does not hold: {shown(text)}", "it names a pair that no line explains, or a port that its pair does not require"]
+    why = "it names a pair that no line explains, or a port that its pair does not require"
+    return [f"line {number} does not hold: {shown(text)}", why]
 
 
 def of_no_room(call: Call, line: str) -> str:
@@ -135,4 +136,3 @@ def of_no_room(call: Call, line: str) -> str:
     if plan is not None and number.isdigit() and 1 <= int(number) <= len(plan.actions):
         what += f", {plans.in_words(plan.actions[int(number) - 1])}"
     return f"{what}, wants room for {size}, and no host has more than {free} left: add room or a host in {shown(call.files['HOSTS'])}"
-

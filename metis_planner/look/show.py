@@ -126,7 +126,7 @@ def change_value(plan: plans.Plan, old: int) -> dict[str, Any]:
     """A plan that goes on from another one: how many actions are done, and the instances by what becomes of them."""
     roles, type_of = roles_of(plan.actions, old), {each.instance: each.type for each in plan.actions if each.verb == "new"}
     rows = [{"instance": instance, "type": type_of[instance], "role": role} for instance, role in roles.items()]
-    return {**plan_value(plan), "done": old, "instances": sorted(rows, key=lambda row: row["instance"])}
+    return {**plan_value(plan), "done": old, "instances": sorted(rows, key=lambda row: int(row["instance"]))}
 
 
 def plan_value(plan: plans.Plan) -> dict[str, Any]:

@@ -38,6 +38,13 @@ def document_of(path: str) -> str:
     return text
 
 
+def universe_text(path: str) -> str:
+    """The document of the universe in a file, which may be a sketch; of standard input for `-`."""
+    if path.endswith(".sketch"):
+        return document_of(path)
+    return read_bytes(path, documents.MOST_BYTES).decode("utf-8", "surrogateescape")
+
+
 def run(arguments: argparse.Namespace) -> Answer:
     if arguments.universe is None:
         return Answer(document_of(arguments.file))

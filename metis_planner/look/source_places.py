@@ -15,6 +15,12 @@ from metis_planner.text.reading import read_text
 UNIT_FOLDERS = ("etc/systemd/system", "run/systemd/system", "usr/local/lib/systemd/system", "usr/lib/systemd/system", "lib/systemd/system")
 
 
+# A line as a refusal names it, behind the name of the file or in its words.
+LINE = re.compile(r"([0-9]{1,9})(?::[0-9]{1,9})?:")
+COMPONENT = re.compile(r"(?:service )?([^\s:]+): ")
+LINE_IN_WORDS = re.compile(r"\bline ([0-9]{1,9})\b")
+
+
 class Place(NamedTuple):
     """A line of a file; lines count from 1."""
 
@@ -84,7 +90,8 @@ def of_manifests(files: list[str]) -> PlaceOf:
                 regions.setdefault((kind[1], name[1]), []).append(begun)
 
     def place_of(component: str, needed: str) -> Place | None:
-        parts = component.split("/")
+        # the milestone of an object is a component of its own, as StatefulSet/shop/zk@ready
+        parts = component.partition("@")[0].split("/")
         found = regions.get((parts[0], parts[-1]), [])
         return found[0].place(needed) if found else None
 
@@ -128,6 +135,35 @@ def of_units(root: str) -> PlaceOf:
         return None
 
     return place_of
+
+
+def files_of(arguments: argparse.Namespace) -> list[str]:
+    """The files that an importer of files was given."""
+    files = getattr(arguments, "files", None) or [getattr(arguments, "file", None), getattr(arguments, "next", None)]
+    return [path for path in files if path is not None]
+
+
+def place_in(reason: str, files: list[str], place_of: PlaceOf) -> tuple[Place | None, str]:
+    """The place that a refusal names, or else the one file that it is about, and its reason without the place."""
+    for path in files:
+        if reason.startswith(f"{path}:"):
+            rest = reason.removeprefix(f"{path}:")
+            begun = LINE.match(rest)
+            named = begun or LINE_IN_WORDS.search(rest)
+            return Place(path, int(named[1]) if named else 1), rest[begun.end() if begun else 0 :].strip()
+    if len(files) != 1 or files[0] == "-":
+        return None, reason
+    return place_in_words(reason, place_of) or Place(files[0], 1), reason
+
+
+def place_in_words(reason: str, place_of: PlaceOf) -> Place | None:
+    """The line of the component with which a refusal begins, or the line below it that has a word of the reason."""
+    found = COMPONENT.match(reason)
+    begin = place_of(found[1], "") if found else None
+    if found is None or begin is None:
+        return None
+    places = (place_of(found[1], word) for word in re.findall(r"[\w./@-]+", reason[found.end() :]))
+    return next((place for place in places if place and place != begin), begin)
 
 
 def places_of(source: str, arguments: argparse.Namespace) -> PlaceOf:

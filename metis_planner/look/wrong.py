@@ -9,7 +9,7 @@ from collections.abc import Collection, Iterable
 
 from metis_planner.answers import Refused
 from metis_planner.program import STANDARD_INPUT, UNIVERSE, WORDS
-from metis_planner.text import plans, universes, verdicts, wishes
+from metis_planner.text import documents, plans, universes, verdicts, wishes
 from metis_planner.text.kinds import Kind, kind_of
 from metis_planner.text.reading import read_bytes
 from metis_planner.text.terminal import plain
@@ -93,7 +93,7 @@ def rows_at(path: str) -> Rows | None:
     if path == STANDARD_INPUT:
         return None
     try:
-        reading = universes.read_document(read_bytes(path, universes.documents.MOST_BYTES))
+        reading = universes.read_document(read_bytes(path, documents.MOST_BYTES))
     except Refused:
         return None
     return None if reading.faults else reading.rows
@@ -352,4 +352,3 @@ def of_a_line(path: str, data: str, number: int, what: str) -> list[str]:
         at, _, why = str(fault).partition(": ")
         reason = why if at == f"line {number}" else reason
     return [f"{shown(path)}:{number}: {reason}: {shown(text)}"]
-

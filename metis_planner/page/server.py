@@ -30,7 +30,7 @@ class Handler(http.server.BaseHTTPRequestHandler):
     timeout = 10
     server: Server
 
-    def do_GET(self) -> None:
+    def do_GET(self) -> None:  # noqa: N802, the name that the library calls
         is_ours = self.headers.get("Host") in self.server.hosts
         found = self.server.answers.get(self.path) if is_ours else None
         if found is None:

@@ -4,7 +4,7 @@ import dataclasses
 import hashlib
 import json
 import re
-from collections.abc import Iterable, Sequence
+from collections.abc import Iterable, Mapping, Sequence
 from typing import Any
 
 from metis_planner.answers import Refused
@@ -173,7 +173,13 @@ def written_type(component: ComponentType, source: str) -> str:
     return json.dumps(row, separators=(",", ":"))
 
 
-def document(comment: str, types: Sequence[ComponentType], names: Names) -> str:
+class Document(str):
+    """A document, and what its names stand for where they are others: of ports too, of which the document itself says nothing."""
+
+    texts: Mapping[str, str]
+
+
+def document(comment: str, types: Sequence[ComponentType], names: Names) -> Document:
     """The document of the universe of these types, one type a line, with a comment that says what it was made of."""
     for component in types:
         check_counts(component)
@@ -185,4 +191,6 @@ def document(comment: str, types: Sequence[ComponentType], names: Names) -> str:
     text = f'{{"aeolus":{version},"comment":{json.dumps(plain(comment, LONGEST_COMMENT))},"types":[\n{lines}]}}\n'
     if len(text) > MOST_BYTES:
         raise Refused(f"the document has {len(text)} bytes, and Metis takes at most {MOST_BYTES}")
-    return text
+    found = Document(text)
+    found.texts = {name: told for name, told in names.text_of.items() if name != told}
+    return found

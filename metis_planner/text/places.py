@@ -112,7 +112,7 @@ class Reader:
             if first == begins:
                 self.refuse(reason)
 
-    def number(self, found: re.Match) -> int | float:
+    def number(self, found: re.Match[str]) -> int | float:
         text = found[0]
         if abs(float(text)) == float("inf"):
             self.refuse("the number is too large")

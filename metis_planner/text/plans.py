@@ -295,6 +295,11 @@ def random_order(plan: Plan, random: "Random") -> list[Action]:
     return order
 
 
+def line_of(action: Action) -> str:
+    """An action as a plan writes it, without its number and without what it waits for."""
+    return f"{action.verb} {' '.join(action.words)}"
+
+
 def in_words(action: Action) -> str:
     """An action in words, as `Web#0 takes sql from Db#1`."""
     who = f"{action.type}#{action.instance}"

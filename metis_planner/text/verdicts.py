@@ -102,7 +102,7 @@ VERDICTS = (
     ),
     form("absent", "absent {instance}", "a wish names instance {instance}, which does not stand"),
     form("kept", "kept {instance} on {root}", "instance {instance} is to stay, and instance {root}, on which that depends, goes"),
-    form("unavoidable", "unavoidable {target}", "{target} cannot be attained without what is to be avoided", target=PAIR),
+    form("unavoidable", "unavoidable {target}", "no new instance reaches {target} without what is to be avoided", target=PAIR),
     form("unmet", "unmet {instance} {port}", "instance {instance} is to take {port} from another, and none can be had", port=NAME),
     form("needs", "needs {count}", "{count} targets are missing, and at most 256 are planned for at a time"),
 )

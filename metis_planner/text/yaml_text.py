@@ -37,7 +37,7 @@ class Placed(dict[str, Any]):
 Loader: Any = yaml.CSafeLoader if IS_FAST else yaml.SafeLoader
 
 
-class Nodes(Loader):
+class Nodes(Loader):  # type: ignore[misc]  # one of two, by what is installed
     """Composes the nodes of a text, not too many and not too deep, and leaves what a scalar says to others."""
 
     depth = count = 0
