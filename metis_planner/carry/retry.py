@@ -29,7 +29,8 @@ def check_not_begun(folder: Folder, name: str) -> None:
 
 def run(arguments: argparse.Namespace) -> Answer:
     folder = folder_of(arguments)
-    check_not_begun(folder, arguments.name)
+    with folder.held():
+        check_not_begun(folder, arguments.name)
     notes = ["what is gone is no part of the plan any more; metis up plans what is left"] if without_the_gone(folder) else []
     steps = folder.steps()
     with folder.held():

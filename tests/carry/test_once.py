@@ -320,7 +320,7 @@ class GroupTest(Waiting):
             with self.subTest(wrong=wrong):
                 (self.folder / "log" / "0.1.group").write_text(" ".join(words) + "\n")
                 (self.folder / "done" / "0.1").unlink(missing_ok=True)
-                self.assertEqual(call("retry", self.folder, "A#0")[2], f"metis: {self.folder}: nothing of 'A#0' is done, so make does it in any case\n")
+                self.assertEqual(call("retry", self.folder, "A#0")[2], f"metis: {self.folder}: nothing is taken back, since this is not done, and make does it again: make A#0\n")
                 self.assertEqual((self.make()[0], is_running(stranger), self.groups()), (0, True, []))
         # With all five it is taken for the group, which shows that the others were told apart by that one.
         (self.folder / "log" / "0.1.group").write_text(" ".join(right) + "\n")

@@ -380,7 +380,7 @@ class TemplateTest(unittest.TestCase):
         for name in ("step_script", "far_script"):
             body = text.split(f"\n{name}() {{")[1].split("\n}\n")[0]
             written = [line.strip() for line in body.split("\n") if line.strip().startswith(("echo", "printf"))]
-            self.assertGreater(len(written), 5)
+            self.assertGreaterEqual(len(written), 4)
             self.assertEqual([line for line in written if line.startswith("echo") or not line.startswith("printf '%s\\n' ")], [])
 
 

@@ -147,8 +147,8 @@ class ComposeTest(HostileCase):
         services = {
             f"s{number}": {"image": "i", "depends_on": [f"s{number - 1}"] if number else []} for number in range(20_000)
         }
-        reason = "pairs of type and state, and Metis takes at most 2000$"
-        self.assertRegex(self.project({"services": services}, most=LATER), reason)
+        reason = "20000 services, and Metis takes at most 2000 pairs of type and state"
+        self.assertEqual(self.project({"services": services}), reason)
 
     def test_an_endless_file(self):
         self.assertEqual(self.fed("import", "compose"), "-: more than 16777216 bytes")

@@ -125,7 +125,7 @@ class ChangeTest(unittest.TestCase):
         for line, words in (
             ("absent 7", "a wish names instance 7, which does not stand"),
             ("kept 0 on 1", "instance 0 is to stay, and instance 1, on which that depends, goes"),
-            ("unavoidable Web:run", "Web:run cannot be attained without what is to be avoided"),
+            ("unavoidable Web:run", "no new instance reaches Web:run without what is to be avoided"),
             ("unmet 0 sql", "instance 0 is to take sql from another, and none can be had"),
             ("needs 300", "300 targets are missing, and at most 256 are planned for at a time"),
             ("bad wishes twice 3", "wishes: line 3 has a wrong twice"),
