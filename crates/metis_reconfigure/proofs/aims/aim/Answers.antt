@@ -1,4 +1,5 @@
 use Rattle.std.proofs.Common.{◌≡◌, ◌<◌, ◌≤◌, ◌^◌, length, arith, ap, sym, subst, ◌∙◌}
+use Rattle.std.proofs.lemmas.Result.{err_from_is_err_and}
 use Rattle.std.specs.List.{filter}
 use Rattle.metis_rollout.specs.Terms.{members}
 use Rattle.metis_reconfigure.specs.Terms.{AreAims, left_to_plan, rebound_in}
@@ -29,6 +30,11 @@ returns-in-Some-clause-obstacle c =
     let is = first_is u w d c.args.request.now.goals.now g.avoided.members g.free.keys g.leaving.keys g.given left l c.requires.ground left_is c.in_ok-layers.ensures.layers c.deref.result.now ms_are
     c.unavoidable.result (c.unavoidable.ensures (left_to_plan u w d g.leaving.keys) over) in
     barred_unavoidable u w d c.args.request.now.goals.now g.avoided.members g.free.keys g.leaving.keys g.given left l c.requires.ground left_is c.in_ok-layers.ensures.layers c.deref.result.now ms_are c.in-Some.goal (is ∙ c.in-Some.is)
+
+pub returns-in_err-rebound-clause-obstacle : goal.returns-in_err-rebound-clause-obstacle
+returns-in_err-rebound-clause-obstacle c =
+    let p = err_from_is_err_and c.from_residual-in_err-rebound.result c.from_residual-in_err-rebound.ensures.1 in
+    rw p.1 (rw p.2 tt)
 
 pub targets_of-requires-clause-within : goal.targets_of-requires-clause-within
 targets_of-requires-clause-within c =
