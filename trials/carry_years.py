@@ -139,7 +139,9 @@ def adopted(store: Years, down: Sequence[str]) -> None:
     kept = {name: store.process(name) for name in there - set(down) if name.startswith(("database", "standby", "pool", "edge", "app"))}
     shutil.rmtree(store.folder)
     words = ("--commands", store.commands, "--to", store.folder, "--look", "20", "--trust", "route", "--trust", "migration@1", "--yes")
-    metis("adopt", store.top / "now.sketch", *TARGETS, *words, status=1 if down else 0)
+    # What is down cannot be found by its number, which the names of its files say.
+    numbers = (f"--number={name.rpartition('-')[0].replace('_', '@')}={name.rpartition('-')[2]}" for name in down)
+    metis("adopt", store.top / "now.sketch", *TARGETS, *words, *numbers, status=1 if down else 0)
     rested = sum(row["stage"] == "done" for row in store.status())
     expect({name: store.process(name) for name in kept} == kept, "adopting started or ended something")
     told = store.goes_on()
