@@ -78,16 +78,72 @@ FRONT_3 = {"front": "absent > configured > serving(-http*3 -stats +site)"}
 NO_STATS = {"front": "absent > configured > serving(-http*2 +site)"}
 WITH_LOCKS = {"api": "absent > installed > on(-sql -tables -cache -topics -locks +http)"}
 EDITS = (
-    Edit("a third replica", FRONT_3, (), (r"changed  front#\d+ \(serving\): needs http; its steps are done again while probe#\d+ takes from it", r"new      api#\d+"), ("api absent -> installed", "api installed -> on", "front configured -> serving yes")),
-    Edit("the worker needs the cache", {"worker": "absent > on(-sql -tables -topics -cache)"}, (), (r"changed  worker#\d+ \(on\): needs cache; its steps are done again",), ("worker absent -> on yes",)),
-    Edit("the front needs no figures", NO_STATS, ("--delete=stats", "--delete=copy"), (r"changed  front#\d+ \(serving\): lets stats go", r"going    .*stats#\d+", r"copy#\d+"), ("front configured -> serving yes", "stats delete", "copy delete"), refused="would be deleted with all data, and --yes does not agree to that"),
-    Edit("and their type is removed", {**NO_STATS, "stats": None}, ("--delete=stats", "--delete=copy"), (r"changed  front#\d+ \(serving\): lets stats go", r"going    .*stats#\d+"), ("front configured -> serving yes", "stats delete", "copy delete"), refused="would be deleted with all data"),
-    Edit("both replicas need locks", WITH_LOCKS, (), (r"changed  api#\d+", r"needs locks"), ("api installed -> on yes", "api installed -> on yes")),
-    Edit("a state has another name", {"worker": "absent > up(-sql -tables -topics)"}, ("--renamed=worker:on=up",), (), (), ("probe:on", "worker:up")),
-    Edit("a type has another name", {"worker": None, "jobs": "absent > on(-sql -tables -topics)"}, ("--renamed=worker=jobs",), (), (), ("probe:on", "jobs:on")),
-    Edit("a new version beside the old", {"cache": None, "cache@2": "absent > on(+cache)"}, ("--wish=rebind all", "--delete=cache"), (r"new      cache@2#\d+", r"going    cache#\d+ \(on\): the description has no cache any more"), ("cache@2 absent -> on", "cache delete"), refused="api#"),
-    Edit("a new version on the same data", {"db": None, "db@2": LINES["db"]}, ("--renamed=db=db@2",), (), ()),
-    Edit("one that nobody needs", {"backup": "absent > on(-read)"}, (), (r"new      backup#\d+",), ("backup absent -> on",), (*TARGETS, "backup:on")),
+    Edit(
+        "a third replica",
+        FRONT_3,
+        (),
+        (r"changed  front#\d+ \(serving\): needs http; its steps are done again while probe#\d+ takes from it", r"new      api#\d+"),
+        ("api absent -> installed", "api installed -> on", "front configured -> serving yes"),
+    ),
+    Edit(
+        "the worker needs the cache",
+        {"worker": "absent > on(-sql -tables -topics -cache)"},
+        (),
+        (r"changed  worker#\d+ \(on\): needs cache; its steps are done again",),
+        ("worker absent -> on yes",),
+    ),
+    Edit(
+        "the front needs no figures",
+        NO_STATS,
+        ("--delete=stats", "--delete=copy"),
+        (r"changed  front#\d+ \(serving\): lets stats go", r"going    .*stats#\d+", r"copy#\d+"),
+        ("front configured -> serving yes", "stats delete", "copy delete"),
+        refused="would be deleted with all data, and --yes does not agree to that",
+    ),
+    Edit(
+        "and their type is removed",
+        {**NO_STATS, "stats": None},
+        ("--delete=stats", "--delete=copy"),
+        (r"changed  front#\d+ \(serving\): lets stats go", r"going    .*stats#\d+"),
+        ("front configured -> serving yes", "stats delete", "copy delete"),
+        refused="would be deleted with all data",
+    ),
+    Edit(
+        "both replicas need locks",
+        WITH_LOCKS,
+        (),
+        (r"changed  api#\d+", r"needs locks"),
+        ("api installed -> on yes", "api installed -> on yes"),
+    ),
+    Edit(
+        "a state has another name",
+        {"worker": "absent > up(-sql -tables -topics)"},
+        ("--renamed=worker:on=up",),
+        targets=("probe:on", "worker:up"),
+    ),
+    Edit(
+        "a type has another name",
+        {"worker": None, "jobs": "absent > on(-sql -tables -topics)"},
+        ("--renamed=worker=jobs",),
+        targets=("probe:on", "jobs:on"),
+    ),
+    Edit(
+        "a new version beside the old",
+        {"cache": None, "cache@2": "absent > on(+cache)"},
+        ("--wish=rebind all", "--delete=cache"),
+        (r"new      cache@2#\d+", r"going    cache#\d+ \(on\): the description has no cache any more"),
+        ("cache@2 absent -> on", "cache delete"),
+        refused="api#",
+    ),
+    Edit("a new version on the same data", {"db": None, "db@2": LINES["db"]}, ("--renamed=db=db@2",)),
+    Edit(
+        "one that nobody needs",
+        {"backup": "absent > on(-read)"},
+        (),
+        (r"new      backup#\d+",),
+        ("backup absent -> on",),
+        (*TARGETS, "backup:on"),
+    ),
 )
 # After the first `up` has failed at this step, and what may go by name.
 FAILING = "api on"
@@ -102,7 +158,7 @@ HALFWAY = (
     ("its state has another name", {"api": "absent > ready > on(-sql -tables -cache -topics +http)"}),
     ("its end has another name", {"api": "absent > installed > up(-sql -tables -cache -topics +http)"}),
     ("the queue needs the disk", {"queue": "absent > on(-locks -disk +queue)"}),
-    ("a type that has to be new", {"mail": "absent > on(+mail)", "api": "absent > installed > on(-sql -tables -cache -topics -mail +http)"}),
+    ("a type that has to be new", {"mail": "off > on(+mail)", "api": "absent > installed > on(-sql -tables -cache -topics -mail +http)"}),
     ("the database gives one more", {"db": "absent > made(-disk) > primary(-disk +sql +log +blobs)"}),
 )
 COMPOSE = """\
@@ -110,7 +166,9 @@ services:
   db: {{image: "postgres:15", volumes: ["data:/var/lib/postgresql/data"]}}
   redis: {{image: "redis:7"}}
   migrate: {{image: "shop:{tag}", depends_on: [db]}}
-  web: {{image: "shop:{tag}", ports: ["3000:3000"], depends_on: {{migrate: {{condition: service_completed_successfully}}, redis: {{condition: service_started}}}}}}
+  web:
+    image: "shop:{tag}"
+    depends_on: {{migrate: {{condition: service_completed_successfully}}, redis: {{condition: service_started}}}}
   sidekiq: {{image: "shop:{tag}", depends_on: [web, redis]}}
   streaming: {{image: "shop-streaming:{tag}", depends_on: [db, redis]}}
 volumes: {{data: {{}}}}
@@ -155,6 +213,11 @@ class Archive:
         expect(told.startswith("good "), f"{what}: {told}")
 
 
+def fates(text: str, *words: str) -> list[str]:
+    """What is said of each instance, of these words."""
+    return [line.split()[0] for line in text.splitlines() if line.split()[:1] and line.split()[0] in words]
+
+
 def kinds(lines: Sequence[str]) -> list[str]:
     """What was done, by types in place of names."""
     return sorted(re.sub(r"^(\S+)-\d+ ", lambda found: f"{found[1].replace('_', '@')} ", line).strip() for line in lines)
@@ -178,8 +241,9 @@ def edited(top: pathlib.Path, edit: Edit) -> str:
     it.at_rest(edit.name)
     after = it.up(edit.targets, "--dry-run")
     expect(after.returncode == 0, f"{edit.name}: once more: {after.returncode} {after.stdout}")
-    others = [line.split()[0] for line in shown.stdout.splitlines() if line.split()[:1] in (["changed"], ["new"], ["going"])]
-    return f"{edit.name}: {dict(collections.Counter(others))}, {len(it.did())} steps, by its sum" + (", asked by name" if edit.refused else "")
+    others = fates(shown.stdout, "changed", "new", "going")
+    asked = ", asked by name" if edit.refused else ""
+    return f"{edit.name}: {dict(collections.Counter(others))}, {len(it.did())} steps, by its sum{asked}"
 
 
 def goes_back(top: pathlib.Path) -> str:
@@ -197,21 +261,21 @@ def goes_back(top: pathlib.Path) -> str:
 
 
 def tagged(top: pathlib.Path) -> list[str]:
-    it, told = Archive(top), []
-    it.universe, found = top / "project.json", []
+    it, told = Archive(top), list[str]()
+    it.universe = top / "project.json"
     for tag in ("v4.3.0", "v4.3.1", "v4.3.2", "v4.3.3"):
         it.write({})
         # An image that goes loses no data, and has no step for that.
-        it.commands.write_text(it.commands.read_text().replace("[[step]]\nwhen = \"*: new\"", "[[step]]\nwhen = \"image/*: delete\"\nrun = ''\n[[step]]\nwhen = \"*: new\"", 1))
+        goes = "[[step]]\nwhen = \"image/*: delete\"\nrun = ''\n"
+        it.commands.write_text(it.commands.read_text().replace("[[step]]", f"{goes}[[step]]", 1))
         (top / "compose.yaml").write_text(COMPOSE.format(tag=tag))
         it.universe.write_text(it.metis("import", "compose", "compose.yaml").stdout)
         done = it.up(("project:up",), "--yes")
         expect(done.returncode == 0, f"{tag}: {done.stdout}{done.stderr}")
         it.at_rest(tag)
-        count = it.metis("show", it.folder).stdout
-        found = [line.split()[0] for line in done.stdout.splitlines() if line.split()[:1] in (["changed"], ["new"], ["going"], ["kept"])]
+        found = fates(done.stdout, "changed", "new", "going", "kept")
         expect(not any(line.endswith("delete") and "db" in line for line in it.did()), f"{tag}: the database was deleted")
-        told.append(f"tag {tag} by --yes alone: {dict(collections.Counter(found))}, {len(it.did())} steps; {count.splitlines()[0] if count else ''}")
+        told.append(f"tag {tag} by --yes alone: {dict(collections.Counter(found))}, {len(it.did())} steps")
     return told
 
 
@@ -221,24 +285,24 @@ def mended(top: pathlib.Path, name: str, lines: dict[str, str | None]) -> str:
     expect(it.up(TARGETS, "--yes").returncode == 1, "the first call did not fail")
     before = it.did()
     it.write(lines)
-    done = it.up(TARGETS, "--yes")
+    done, named = it.up(TARGETS, "--yes"), list[str]()
     deleted = [line for line in it.did() if line.endswith("delete")]
     expect(not deleted, f"{name}: {deleted} without being named")
-    refused = done.returncode != 0
-    if refused:
+    if done.returncode:
         named = re.findall(r"--delete (\S+)", done.stderr)
         expect(bool(named) and not it.did(), f"{name}: {done.stdout}{done.stderr}")
         done = it.up(TARGETS, "--yes", *(f"--delete={each}" for each in named))
         gone = {line.split()[0] for line in it.did() if line.endswith("delete")}
-        expect(gone <= {each.replace("#", "-") for each in named} | {re.sub("#.*", "", each) for each in named}, f"{name}: {gone}, and {named} were named")
+        expect(gone <= {each.replace("#", "-") for each in named}, f"{name}: {gone}, and {named} were named")
     expect(done.returncode == 0, f"{name}: {done.stdout}{done.stderr}")
-    twice = {line.strip() for line in before} & {re.sub(" yes$", "", line).strip() for line in it.did()}
-    said = {line.split()[1].replace("#", "-") for line in done.stdout.splitlines() if line.startswith(("changed", "goes on"))} | {line.split()[2].replace("#", "-") for line in done.stdout.splitlines() if line.startswith("goes on")}
-    left = {line for line in twice if line.split()[0] not in said}
+    again = {line.strip() for line in before} & {line.removesuffix("yes").strip() for line in it.did()}
+    said = {found.replace("#", "-") for found in re.findall(r"^(?:changed|goes on) +(\S+#\d+)", done.stdout, re.MULTILINE)}
+    left = {line for line in again if line.split()[0] not in said}
     expect(not left, f"{name}: done twice: {left}\n{done.stdout}")
     it.at_rest(name)
-    goes_on = sum(line.startswith("goes on") for line in done.stdout.splitlines())
-    return f"{name}: {goes_on} go on, {len(it.did())} steps, {len(twice)} again" + (f"; refused first, and named {', '.join(named)}" if refused else "")
+    count = len(re.findall(r"^goes on", done.stdout, re.MULTILINE))
+    more = f"; refused first, and then {', '.join(named)} went by name" if named else ""
+    return f"{name}: {count} go on, {len(it.did())} steps, {len(again)} again{more}"
 
 
 def tried(top: pathlib.Path) -> None:

@@ -152,7 +152,8 @@ def adopted(store: Years, down: Sequence[str]) -> None:
     expect(not [each for each in store.begun() if "delete" in each], "something was deleted")
     store.at_rest()
     what = f"with {' and '.join(down)} down" if down else "whole"
-    say(f"adopted {what}: {rested} of {len(store.status())} marked, and up did {len(store.begun())}: {len(there)} instances as before, {rows} rows")
+    marked = f"{rested} of {len(store.status())} marked"
+    say(f"adopted {what}: {marked}, and up did {len(store.begun())}: {len(there)} instances as before, {rows} rows")
 
 
 def tried(top: pathlib.Path) -> None:

@@ -132,7 +132,8 @@ class AtOnceTest(ChangedCase):
         for pause in (0.0, 0.1, 0.2, 0.4, 0.6, 0.9):
             jobs = []
             for target in targets:
-                jobs.append(subprocess.Popen(list(map(str, self.words(target))), cwd=TOP, stdout=subprocess.PIPE, stderr=subprocess.STDOUT, text=True))
+                words = list(map(str, self.words(target)))
+                jobs.append(subprocess.Popen(words, cwd=TOP, stdout=subprocess.PIPE, stderr=subprocess.STDOUT, text=True))
                 with contextlib.suppress(subprocess.TimeoutExpired):
                     jobs[0].wait(pause)
             said = [job.communicate()[0] for job in jobs]
@@ -145,9 +146,8 @@ class AtOnceTest(ChangedCase):
                 self.assertEqual(last.returncode, 0, last.stdout + last.stderr)
                 self.assertEqual(self.left(), [])
                 done = call("done", self.folder)[1]
-                judged = subprocess.run(
-                    [os.environ["METIS_COMMAND"], "replay", self.folder / "universe.json", "-", "lb:on"], input=done, capture_output=True, text=True, check=False
-                )
+                words = [os.environ["METIS_COMMAND"], "replay", self.folder / "universe.json", "-", targets[0]]
+                judged = subprocess.run(words, input=done, capture_output=True, text=True, check=False)
                 self.assertEqual((judged.returncode, judged.stdout.split()[0]), (0, "good"), judged.stdout)
 
 
