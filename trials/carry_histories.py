@@ -242,7 +242,13 @@ def edit_of(history: History, counts: collections.Counter) -> None:
         halves(found, counts)
 
 
-WHY_LEFT = {"asked for": "not needed", "any more": "its end is gone", "has no way": "no way", "it lacks": "what it lacks cannot be had"}
+WHY_LEFT = {
+    "asked for": "not needed",
+    "any more": "its end is gone",
+    "has no way": "no way",
+    "it lacks": "what it lacks cannot be had",
+    "cannot be attained": "what it lacks cannot be had",
+}
 
 
 def halves(found, counts: collections.Counter) -> None:
