@@ -409,6 +409,8 @@ def main() -> int:
     if os.geteuid():
         print("carry_blows wants root")
         return 0
+    # What a shell starts in the background ignores it, and so would the calls and their steps.
+    signal.signal(signal.SIGINT, signal.default_int_handler)
     counts, begun, number = collections.Counter[str](), time.monotonic(), 0
     while counts.total() < arguments.blows:
         engine = arguments.engine or ("make", "ninja")[number % 2]

@@ -242,6 +242,15 @@ def edit_of(history: History, counts: collections.Counter) -> None:
         halves(found, counts)
 
 
+WHY_LEFT = {
+    "asked for": "not needed",
+    "any more": "its end is gone",
+    "has no way": "no way",
+    "it lacks": "what it lacks cannot be had",
+    "cannot be attained": "what it lacks cannot be had",
+}
+
+
 def halves(found, counts: collections.Counter) -> None:
     """What is half made is at its end, or why it is not is counted; what goes of it has a reason."""
     end = after(found.last.plan.actions, types_of(found.last.universe)).instances
@@ -249,7 +258,7 @@ def halves(found, counts: collections.Counter) -> None:
         counts["half made, and at its end"] += each in end and end[each].state == half.end
         expect(each in end and end[each].state == half.end or half.is_helper, f"half made {each} is not at its end {half.end}")
     for each, why in found.halves.left.items():
-        counts[f"half made, and left: {'not needed' if 'asked for' in why else 'its end is gone' if 'any more' in why else 'no way'}"] += 1
+        counts[f"half made, and left: {next((WHY_LEFT[words] for words in WHY_LEFT if words in why), why)}"] += 1
         expect(each in end or each in found.roles[GOING], f"half made {each} is lost")
 
 
