@@ -56,9 +56,9 @@ class Call:
         return list(checked_rules(self.request, self.commands, possible, steps, done))
 
     def losing(self, going: Sequence[str]) -> tuple[str, ...]:
-        """Of the instances that go, those whose deletion does something."""
+        """Of the instances that go, those whose deletion may lose data."""
         place = {each: self.commands.patterns.first(f"{each.rpartition('#')[0]}: delete") for each in going}
-        return tuple(each for each, found in place.items() if found is None or not self.commands.rules[found].does_nothing)
+        return tuple(each for each, found in place.items() if found is None or self.commands.rules[found].loses_data)
 
     def placement(self, actions: Sequence[plans.Action], universe: str, made: Collection[int]) -> str | None:
         """The placement of a list of which these instances were made; nothing if there are no hosts.
