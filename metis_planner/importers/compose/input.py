@@ -156,6 +156,12 @@ def own_sum(told: Mapping[str, Any]) -> str:
     return f"{OWN_SUM}{digest[:DIGEST_LENGTH]} {NO_IMAGE}"
 
 
+def with_sums(project: Project, sums: Mapping[str, str]) -> Project:
+    """The project with other sums of its services, such as Compose's own."""
+    services = {name: dataclasses.replace(each, sum=sums[name]) for name, each in project.services.items()}
+    return dataclasses.replace(project, services=services)
+
+
 def in_one_order(told: Any) -> Any:
     """A value in which it makes no difference in which order the keys of a mapping stand."""
     if isinstance(told, Mapping):
