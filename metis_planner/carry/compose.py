@@ -10,7 +10,7 @@ import pathlib
 import subprocess
 import tempfile
 import tomllib
-from collections.abc import Mapping, Sequence
+from collections.abc import Iterable, Mapping, Sequence
 from typing import Any, NamedTuple
 
 from metis_planner.answers import Refused
@@ -20,7 +20,7 @@ from metis_planner.importers.compose.input import DEFAULT_NAMES, NO_IMAGE, read_
 from metis_planner.text.terminal import say
 
 ENDINGS = (".yaml", ".yml")
-TARGET, FOLDER, COMMANDS = "project:up", ".metis", "commands.toml"
+TARGET, FOLDER, COMMANDS, CONTAINERS = "project:up", ".metis", "commands.toml", "containers"
 PLACE, NAME = "PROJECT", "COMPOSE_PROJECT_NAME"
 # What Compose and Docker are told by variables, and what of it names files.
 OF_DOCKER = ("DOCKER_HOST", "DOCKER_CONTEXT", "DOCKER_CONFIG", "DOCKER_CERT_PATH", "DOCKER_TLS_VERIFY")
@@ -61,10 +61,10 @@ class Project(NamedTuple):
         """Refuses to bring a project up beside itself."""
         there = containers(self)
         if there:
-            names = ", ".join(there)
+            names = ", ".join(each.name for each in there)
             raise Refused(
                 f"the project {self.name} runs already, and {to} knows nothing of it ({names}): "
-                "`docker compose down` takes it away, and keeps named volumes"
+                f"`metis adopt {self.path}` takes it over"
             )
 
 
@@ -146,7 +146,31 @@ def commands_of(kept: Mapping[str, str]) -> str:
     return whole_text("compose").replace(f"{PLACE} = {UNFILLED}", lines)
 
 
-def containers(project: Project) -> list[str]:
-    """The names of its containers that are there."""
-    words = ["ps", "--all", "--filter", f"label=com.docker.compose.project={project.name}", "--format", "{{.Names}}"]
-    return sorted(said(words, project.folder, project.kept).split())
+class Container(NamedTuple):
+    """A container by its labels, and its name."""
+
+    service: str
+    number: int
+    name: str
+
+
+def containers(project: Project) -> list[Container]:
+    """Its containers that are there."""
+    label = "com.docker.compose"
+    form = f'{{{{.Label "{label}.service"}}}} {{{{.Label "{label}.container-number"}}}} {{{{.Names}}}}'
+    words = ["ps", "--all", "--filter", f"label={label}.project={project.name}", "--filter", f"label={label}.oneoff=False"]
+    rows = (line.split(" ") for line in said([*words, "--format", form], project.folder, project.kept).splitlines())
+    return sorted(Container(service, int(number), name) for service, number, name in rows)
+
+
+def taken(project: Project, made: Iterable[tuple[str, str]]) -> tuple[dict[str, str], list[Container]]:
+    """Which container each instance has that a plan makes, by METIS_NAME as the steps write it down; and those that none has."""
+    sources = {kind["name"]: kind.get("source", kind["name"]) for kind in json.loads(project.document)["types"]}
+    free, found = containers(project), {}
+    for kind, name in made:
+        service = sources[kind].removeprefix("service/")
+        own = next((each for each in free if each.service == service and "/" not in kind.removeprefix("service/")), None)
+        if own:
+            free.remove(own)
+            found[name] = f"{own.service} {own.number}\n"
+    return found, free

@@ -100,11 +100,19 @@ class UpTest(ComposeCase):
         self.assertFalse((self.file.parent / ".metis").exists())
 
     def test_what_runs_already_is_not_brought_up_beside_itself(self):
-        self.write(containers="shop-db-1\nshop-web-1\n")
+        self.write(containers="db 1 shop-db-1\nweb 1 shop-web-1\n")
         status, _, err = self.up("--yes")
         self.assertEqual(status, 1)
         self.assertIn("shop runs already", err)
         self.assertIn("shop-db-1, shop-web-1", err)
+        self.assertIn(f"metis adopt {self.file}", err)
+
+    def test_an_instance_has_the_container_of_its_service_with_the_least_number(self):
+        self.write(containers="web 3 shop-web-3\nweb 1 shop-web-1\ndb 1 shop-db-1\n")
+        project = compose.project_at(str(self.file))
+        found, strays = compose.taken(project, [("web", "web-1"), ("db", "db-2"), ("image/db", "image_db-3"), ("db", "db-9")])
+        self.assertEqual(found, {"web-1": "web 1\n", "db-2": "db 1\n"})
+        self.assertEqual([each.name for each in strays], ["shop-web-3"])
 
     def test_variables_stay_with_the_folder(self):
         os.environ["COMPOSE_PROFILES"] = "debug"
