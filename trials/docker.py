@@ -357,7 +357,9 @@ def replicas(engine: Engine) -> None:
     trial.is_down()
 
 
-PARTS: dict[str, Callable[[Engine], None]] = {"edits": edits, "mended": mended, "resumed": resumed, "adopted": adopted, "lost": lost, "replicas": replicas, "killed": killed}
+PARTS: dict[str, Callable[[Engine], None]] = {
+    each.__name__: each for each in (edits, mended, resumed, adopted, lost, replicas, killed)
+}
 
 
 def main() -> int:
