@@ -7,30 +7,35 @@ numbers by which they are found. Marked is the largest part of the plan that is 
   a step whose check says yes is done, unless it waits for such a one; and then all that it waits for is done;
   of anything else nobody knows, and it is not marked: `make` does it (again).
 
+metis adopt compose.yaml needs no more words: it finds each container by Compose's labels.
+
 A deletion is never marked. A check that says yes for an instance that there is not is blind, and counts only with --trust TYPE.
 """
 
 import argparse
 import dataclasses
+import os
 import pathlib
 import re
 import tempfile
 import time
+import tomllib
 from collections.abc import Mapping, Sequence
 
 from metis_planner.answers import Answer, Refused
 from metis_planner.carry.agreeing import asked
 from metis_planner.carry.ahead import answered
 from metis_planner.carry.calling import Call
-from metis_planner.carry.commands import read_commands
+from metis_planner.carry.commands import commands_of, read_commands
+from metis_planner.carry.compose import COMMANDS, CONTAINERS, FOLDER, TARGET, Container, Project, is_project, project_at, taken
 from metis_planner.carry.configuration import configured, is_of
 from metis_planner.carry.exporting import exported
 from metis_planner.carry.finding import MOST_LOOKED_FOR, UNKNOWN, YES, Said, Search, all_numbers, front, verdicts
 from metis_planner.carry.folder import DONE, JOBS, Folder, written
 from metis_planner.carry.judging import Judge
 from metis_planner.carry.request import Request
-from metis_planner.carry.stands import with_numbers
-from metis_planner.carry.steps import Step, lanes, steps_of, who
+from metis_planner.carry.stands import types_of, with_numbers
+from metis_planner.carry.steps import Step, lanes, name_of, steps_of, who
 from metis_planner.carry.up import document
 from metis_planner.carry.writing import sync_folder, write_whole
 from metis_planner.text import plans
@@ -43,11 +48,11 @@ PLACE = re.compile(rf"({plans.NAME.pattern}#{NUMBER})=({plans.NAME.pattern})")
 
 
 def add_arguments(parser: argparse.ArgumentParser) -> None:
-    parser.add_argument("universe", metavar="UNIVERSE", help="a universe or a sketch")
+    parser.add_argument("universe", metavar="UNIVERSE", help="a universe, a sketch or a Compose file")
     parser.add_argument("targets", metavar="TARGET", nargs="*", help="TYPE:STATE or port:PORT")
     parser.add_argument("--plan", metavar="PLAN", help="the plan that was carried out, if it was kept, in place of targets")
-    parser.add_argument("--commands", metavar="FILE", required=True, help="what each step means (TOML), with checks")
-    parser.add_argument("--to", metavar="FOLDER", required=True, help="a folder that is not there yet")
+    parser.add_argument("--commands", metavar="FILE", help="what each step means (TOML), with checks")
+    parser.add_argument("--to", metavar="FOLDER", help="a folder that is not there yet")
     parser.add_argument("--hosts", metavar="FILE", help="hosts with their rooms")
     parser.add_argument("--on", metavar="NAME=HOST", action="append", default=[], help="where an instance runs, as db#1=left")
     parser.add_argument("--look", type=int, metavar="N", default=0, help="look for instances with the numbers below N")
@@ -63,6 +68,7 @@ class Trial:
     call: Call
     plan: plans.Plan
     placement: str | None = None
+    strays: Sequence[Container] = ()  # of a Compose project: containers that are none of the plan's
 
     def __post_init__(self) -> None:
         call = self.call
@@ -81,10 +87,40 @@ class Trial:
         texts = (pathlib.Path(judge.path(text)) for text in (written(self.plan), self.call.universe))
         plan, universe = texts
         placement = pathlib.Path(judge.path(self.placement)) if self.placement else None
-        exported(dataclasses.replace(self.call.request, to=to), plan, universe, placement)
+        project = self.call.request.project
+        commands = judge.path(project.commands) if project else self.call.request.commands
+        exported(dataclasses.replace(self.call.request, to=to, commands=commands), plan, universe, placement)
+        if project:
+            self.strays = write_containers(project, self.steps, pathlib.Path(to))
+
+
+def write_containers(project: Project, steps: Sequence[Step], folder: pathlib.Path) -> list[Container]:
+    """Says in a folder which container each instance is; and returns those that are none of the plan's."""
+    made = [(step.action.type, name_of(step.action.type, step.action.instance)) for step in steps if step.action.verb == "new"]
+    found, strays = taken(project, made)
+    (folder / CONTAINERS).mkdir(mode=0o700, exist_ok=True)
+    for name, text in found.items():
+        write_whole(folder / CONTAINERS / name, text)
+    return strays
+
+
+def with_project(arguments: argparse.Namespace) -> Project | None:
+    """The Compose project that is named in the place of a universe, and what it says of the other words."""
+    project = None
+    if is_project(arguments.universe) and not arguments.commands:
+        project = project_at(arguments.universe)
+        arguments.targets = arguments.targets or [TARGET]
+        arguments.to = arguments.to or os.path.join(os.path.dirname(arguments.universe), FOLDER)
+        arguments.commands = os.path.join(arguments.to, COMMANDS)
+        # An image is found by its name, of which there is one.
+        arguments.trust += [kind.name for kind in types_of(project.document) if kind.name.startswith("image/")]
+    if not arguments.commands or not arguments.to:
+        raise Refused("--commands FILE and --to FOLDER are wanted")
+    return project
 
 
 def run(arguments: argparse.Namespace) -> Answer:
+    project = with_project(arguments)
     final = Folder(arguments.to)
     if final.has_plan():
         raise Refused(f"{final.path}: it has a plan: `metis verify` asks of what is done in it")
@@ -92,7 +128,7 @@ def run(arguments: argparse.Namespace) -> Answer:
     if arguments.look > MOST_LOOKED_FOR:
         raise Refused(f"--look {arguments.look}: at most {MOST_LOOKED_FOR} numbers are looked for")
     with tempfile.TemporaryDirectory(prefix="metis-adopt-") as name:
-        call = call_of(arguments, final, pathlib.Path(name))
+        call = call_of(arguments, final, pathlib.Path(name), project)
         plan = plan_of(arguments, call)
         search = Search(*begun(call, plan), arguments.look, numbers_given(arguments.number, plan))
         search.find()
@@ -101,6 +137,8 @@ def run(arguments: argparse.Namespace) -> Answer:
         said = verdicts(trial.folder, trial.steps, arguments.trust, search.blind)
         done = front(trial.steps, {key: each.verdict for key, each in said.items()})
         tell(trial.steps, said, done, search, number_of)
+        for each in trial.strays:
+            say(f"{each.name} runs too, and is none of the plan's: nothing here will ever take it away")
         question = f"Mark {len(done)} of {len(trial.steps)} actions as done in {arguments.to}, and start nothing?"
         if not asked(question, arguments.yes):
             return Answer("", ("nothing was done",), 1)
@@ -109,14 +147,16 @@ def run(arguments: argparse.Namespace) -> Answer:
     return Answer("", (note,), 0 if len(done) == len(trial.steps) else 1)
 
 
-def call_of(arguments: argparse.Namespace, final: Folder, texts: pathlib.Path) -> Call:
+def call_of(arguments: argparse.Namespace, final: Folder, texts: pathlib.Path, project: Project | None) -> Call:
     """What is asked for, as `metis up` would be asked."""
     found = configured()
     protect = tuple(found["protect"]) if "protect" in found and is_of(found, arguments.to) else None
     request = Request(
         arguments.universe, tuple(arguments.targets), arguments.commands, arguments.to, hosts=arguments.hosts, protect=protect
     )
-    commands, universe = read_commands(arguments.commands), document(arguments.universe)
+    request = dataclasses.replace(request, project=project)
+    commands = commands_of(tomllib.loads(project.commands)) if project else read_commands(arguments.commands)
+    universe = project.document if project else document(arguments.universe)
     return Call(request, final, Judge(texts), universe, commands, hosts=places(arguments))
 
 

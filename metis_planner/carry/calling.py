@@ -8,6 +8,7 @@ from metis_planner.answers import Refused
 from metis_planner.carry import going_over
 from metis_planner.carry.ahead import UNIVERSE, answered
 from metis_planner.carry.commands import Commands, Rule
+from metis_planner.carry.compose import COMMANDS
 from metis_planner.carry.course import Aim
 from metis_planner.carry.exporting import carried_out, checked_rules, exported, possible_in
 from metis_planner.carry.folder import Folder, written
@@ -41,6 +42,7 @@ class Call:
     universe: str
     commands: Commands
     sum: str = ""  # of what was shown of it
+    lost: dict[int, str] = dataclasses.field(default_factory=dict)  # what stands by its marks and not by its checks, and why
     hosts: dict[int, str] = dataclasses.field(default_factory=dict)  # of what stands, or was begun
 
     @property
@@ -56,9 +58,9 @@ class Call:
         return list(checked_rules(self.request, self.commands, possible, steps, done))
 
     def losing(self, going: Sequence[str]) -> tuple[str, ...]:
-        """Of the instances that go, those whose deletion does something."""
+        """Of the instances that go, those whose deletion may lose data."""
         place = {each: self.commands.patterns.first(f"{each.rpartition('#')[0]}: delete") for each in going}
-        return tuple(each for each, found in place.items() if found is None or not self.commands.rules[found].does_nothing)
+        return tuple(each for each, found in place.items() if found is None or self.commands.rules[found].loses_data)
 
     def placement(self, actions: Sequence[plans.Action], universe: str, made: Collection[int]) -> str | None:
         """The placement of a list of which these instances were made; nothing if there are no hosts.
@@ -83,11 +85,15 @@ class Call:
         placement = self.placement(actions, universe, made_in(step for step in steps if step.key in marks))
         plan, path = (pathlib.Path(self.judge.path(each)) for each in (text, universe))
         place = pathlib.Path(self.judge.path(placement)) if placement else None
-        exported(self.request, plan, path, place, lambda: self.note(universe, part))
+        project = self.request.project
+        request = dataclasses.replace(self.request, commands=self.judge.path(project.commands)) if project else self.request
+        exported(request, plan, path, place, lambda: self.note(universe, part))
 
     def note(self, universe: str, part: str = "") -> None:
         """Notes in the folder over which universe its list is, and for what it was made. The folder's lock is held."""
         write_whole(self.folder.path / UNIVERSE, universe)
+        if self.request.project:
+            write_whole(self.folder.path / COMMANDS, self.request.project.commands)
         keep_request(self.request, self.folder, self.universe, part, self.sum)
 
     def kept_universe(self) -> str:
@@ -119,6 +125,9 @@ class Call:
 
     def settle(self) -> None:
         """All is done: the folder's list becomes one of what stands, over the description alone, without what is gone."""
+        project = self.request.project
+        if project and not project.is_whole:
+            self.universe = project.again().document
         stands = stands_in(self.folder)
         kept = self.kept_universe()
         if stands is None or self.universe == kept and not going_over.has_gone(stands):

@@ -29,7 +29,7 @@ INSTANCE = re.compile(rf"({plans.NAME.pattern})#({plans.NUMBER.pattern})")
 ADDRESS = re.compile(r"[A-Za-z0-9_.:@/\[\]-]{1,255}")
 SHELLS = {"sh", "dash", "bash", "ksh", "zsh"}
 KEYS = {"shell", "timeout", "env", "hosts", "instance", "step", "inventory"}
-STEP_KEYS = {"when", "run", "check", "playbook", "timeout", "retries", "pause", "lock"}
+STEP_KEYS = {"when", "run", "check", "playbook", "timeout", "retries", "pause", "lock", "keeps"}
 HOST_KEYS = {"address", "via"}
 KINDS = {str: "text", int: "whole number", list: "list", dict: "table"}
 LONGEST_SLUG = 60
@@ -49,6 +49,7 @@ class Rule:
     retries: int
     pause: int
     lock: str
+    keeps: bool = False  # of a deletion: that no data is lost by it
 
     @property
     def slug(self) -> str:
@@ -74,6 +75,11 @@ class Rule:
     @property
     def does_nothing(self) -> bool:
         return not (self.run.strip() or self.check.strip() or self.playbook)
+
+    @property
+    def loses_data(self) -> bool:
+        """Whether data may be lost by it, where it is for a deletion."""
+        return not (self.keeps or self.does_nothing)
 
 
 @dataclasses.dataclass(frozen=True)
@@ -195,6 +201,9 @@ def rule_of(table: object, number: int, timeout: int) -> Rule:
     lock = asked(table, "lock", str, "", place)
     if lock and not VARIABLE.fullmatch(lock):
         raise Refused(f"{place}: lock is no word of letters, digits and _")
+    keeps = table.get("keeps", False)
+    if not isinstance(keeps, bool) or keeps and not str(table["when"]).endswith(": delete"):
+        raise Refused(f"{place}: keeps is true or false, and for a deletion")
     return Rule(
         number=number,
         when=asked(table, "when", str, "", place),
@@ -203,6 +212,7 @@ def rule_of(table: object, number: int, timeout: int) -> Rule:
         retries=number_of(table, "retries", MOST_RETRIES, 0, place),
         pause=number_of(table, "pause", MOST_SECONDS, 1, place),
         lock=lock,
+        keeps=keeps,
     )
 
 

@@ -67,7 +67,7 @@ class Course:
         """What the description means for each instance that stands. What cannot be made any more by it is replaced."""
         return [
             each._replace(fate=REPLACED, why=each.why or self.beyond[each.instance]) if each.instance in self.beyond else each
-            for each in forms.changes_in(there, self.types)
+            for each in forms.changes_in(there, self.types, self.before)
         ]
 
     def merged(self, there: Configuration, old: Sequence[Change]) -> tuple[str, dict[int, str]]:

@@ -107,7 +107,7 @@ def stale_in(
     found: set[tuple[int, str]] = set()
     for change in changes:
         path, kind = paths[change.instance], change.kind
-        is_old = forms.OLD.fullmatch(change.state) is not None
+        is_old = change.is_other or forms.OLD.fullmatch(change.state) is not None
         other = [place for place, name in enumerate(path) if is_old or not forms.is_alike(had[kind].get(name), have[kind][name])]
         last = len(path) - (change.fate == CHANGED)
         found.update((change.instance, name) for name in path[min(other, default=last) :])

@@ -86,6 +86,7 @@ class Export:
     rules: tuple[Rule | None, ...]  # of the steps
     rollouts: tuple[Rollout, ...] = ()
     sources: Mapping[str, str] = dataclasses.field(default_factory=dict)  # of types: what they are called there
+    sums: Mapping[str, str] = dataclasses.field(default_factory=dict)  # of types: what tells their thing from an earlier form
     names: Mapping[int, str] = dataclasses.field(default_factory=dict)  # of instances that were made under another name
     done: frozenset[str] = frozenset()  # the keys of what is done
     again: frozenset[str] = frozenset()  # and of what of it is to be done again
@@ -104,7 +105,7 @@ class Export:
     def digest(self) -> str:
         """What tells this export from another one into the same folder."""
         parts = (self.plan_text, self.commands, sorted(self.hosts.items()), self.rollouts, sorted(self.sources.items()))
-        more = [part for part in (sorted(self.names.items()), sorted(self.again)) if part]
+        more = [part for part in (sorted(self.names.items()), sorted(self.again), sorted(self.sums.items())) if part]
         return hashlib.sha256("\n".join(map(str, (*parts, *more))).encode()).hexdigest()[:DIGEST_LENGTH]
 
     def host(self, instance: int) -> str:
@@ -138,7 +139,7 @@ class Export:
 def run(arguments: argparse.Namespace, name: str, text_of: Callable[[Export], Iterable[str]]) -> Answer:
     """Writes the plan into its folder, with the file of this name that an engine reads; or prints commands for it."""
     if arguments.skeleton:
-        return Answer(skeleton.text_of(plans.plan_at(arguments.plan)))
+        return Answer(skeleton_for(arguments))
     if not arguments.commands or not arguments.to:
         raise Refused("--commands FILE and --to FOLDER are wanted; --skeleton prints a commands file to begin with")
     folder = Folder(arguments.to)
@@ -158,6 +159,17 @@ def run(arguments: argparse.Namespace, name: str, text_of: Callable[[Export], It
             write_folder(folder, export, text, name)
             arguments.noted()
     return Answer("", [*origin.notes, *notes])
+
+
+def skeleton_for(arguments: argparse.Namespace) -> str:
+    """A commands file for the plan that the words name, and for all that may happen in its universe, if they name that."""
+    plan = plans.plan_at(arguments.plan)
+    if not arguments.universe:
+        return skeleton.text_of(plan, PossibleActions())
+    document = document_at(arguments.universe)
+    possible = PossibleActions(types_in(document, arguments.universe))
+    comment = json.loads(document).get("comment")
+    return skeleton.text_of(plan, possible, comment if isinstance(comment, str) else "")
 
 
 def whole(handed: Export, origin: BasePlan, text_of: Callable[[Export], Iterable[str]]) -> tuple[Export, str]:
@@ -185,23 +197,23 @@ def handed_in(arguments: argparse.Namespace) -> tuple[Export, list[str]]:
     if without and not arguments.lax:
         raise Refused(f"{arguments.commands}: {no_rule(without, '' if arguments.is_up else LAX)}")
     notes = [f"nothing is done for {kinds_of(without)}: no step of the commands fits"] if without else []
-    sources = sources_in(arguments.universe) if arguments.universe else {}
+    sources, sums = (told_in(arguments.universe, key) if arguments.universe else {} for key in ("source", "sum"))
     again = frozenset(key for key, mark in marks.items() if mark.more == STALE)
     whole = Export(plan, held(placement, steps), commands, placement.host_of, rules, sources=sources, names=folder.names())
-    return dataclasses.replace(whole, done=frozenset(marks), again=again), notes
+    return dataclasses.replace(whole, sums=sums, done=frozenset(marks), again=again), notes
 
 
-def sources_in(path: str) -> dict[str, str]:
-    """What types are called where an importer read of them, for those of a universe that say it; of standard input none."""
+def told_in(path: str, key: str) -> dict[str, str]:
+    """What an importer says of types by this key, for those of a universe of which it says that; of standard input none."""
     if path == "-":
         return {}
     document = document_at(path)
     types_in(document, path)  # refuses what is no universe
     types = json.loads(document).get("types", ())
-    found = {kind["name"]: kind["source"] for kind in types if isinstance(kind.get("source"), str)}
-    for name, source in found.items():
-        if not source.isprintable() or "'" in source:
-            raise Refused(f"{path}: the source of {name} has characters that no step can be handed")
+    found = {kind["name"]: kind[key] for kind in types if isinstance(kind.get(key), str)}
+    for name, text in found.items():
+        if not text.isprintable() or "'" in text:
+            raise Refused(f"{path}: the {key} of {name} has characters that no step can be handed")
     return found
 
 

@@ -82,7 +82,8 @@ def checked_rules(
 ) -> Iterator[tuple[Step, Rule | None]]:
     """The rule of each step. Refused is a rule that fits nothing, and a step that is not done and has none."""
     try:
-        commands.check_fits(possible)
+        if not request.project:  # those of a project are for all that any may have
+            commands.check_fits(possible)
         rules, without = export.rules_of(steps, commands, possible, done)
     except Refused as refused:
         raise Refused(f"{request.commands}: {refused}") from refused

@@ -34,6 +34,7 @@ class Change(NamedTuple):
     less: tuple[str, ...]  # ports that it does not require any more
     why: str = ""
     fewer: tuple[str, ...] = ()  # ports of which it requires fewer providers
+    is_other: bool = False  # whether its thing is another one by now, by the sum of its type
 
     @property
     def who(self) -> str:
@@ -49,13 +50,22 @@ def is_alike(one: State | None, other: State) -> bool:
     return one is not None and set(one.provide) == set(other.provide) and one.require == other.require
 
 
+def is_same_sum(one: str, other: str) -> bool:
+    """Whether two sums tell of the same thing. Their words are compared one by one, and `-` is one that was not known then."""
+    words, others = one.split(), other.split()
+    return len(words) == len(others) and all(a == b or "-" in (a, b) for a, b in zip(words, others))
+
+
 class Before(NamedTuple):
-    """An instance before a description is compared with it: how it stands, its form, and at which ports others take from it."""
+    """An instance before a description is compared with it: how it stands, its form, and at which ports others take from it; and
+    whether its thing is another one by now.
+    """
 
     instance: int
     standing: Standing
     form: State
     used: frozenset[str]
+    is_other: bool = False
 
     def change(self, meant: str, fate: str, why: str = "") -> Change:
         return Change(self.instance, self.standing.type, str(self.standing.state), meant, fate, {}, (), why)
@@ -66,8 +76,8 @@ def change_of(before: Before, there: Configuration, new: Mapping[str, State] | N
     kind, state = before.standing.type, str(before.standing.state)
     if new is None:
         return before.change(state, REPLACED, f"the description has no {kind} any more")
-    found = OLD.fullmatch(state)
-    meant = found[1] if found and state not in new else state
+    is_old = OLD.fullmatch(state)
+    meant = is_old[1] if is_old and state not in new else state
     form = new.get(meant)
     if form is None:
         hint = hint_for(kind, meant, before.form, new.values())
@@ -79,8 +89,9 @@ def change_of(before: Before, there: Configuration, new: Mapping[str, State] | N
     more = {port: count - have[port] for port, count in form.require.items() if count > have[port]}
     less = tuple(port for port in before.form.require if port not in form.require)
     fewer = tuple(port for port, count in before.form.require.items() if 0 < form.require.get(port, 0) < count)
-    is_same = state == meant and is_alike(before.form, form)
-    return before.change(meant, SAME if is_same else CHANGED)._replace(more=more, less=less, fewer=fewer)
+    is_same = state == meant and is_alike(before.form, form) and not before.is_other
+    found = before.change(meant, SAME if is_same else CHANGED)
+    return found._replace(more=more, less=less, fewer=fewer, is_other=before.is_other)
 
 
 def hint_for(kind: str, state: str, old: State | None, states: Iterable[State]) -> str:
@@ -91,14 +102,26 @@ def hint_for(kind: str, state: str, old: State | None, states: Iterable[State]) 
     return f"; if {alike[0]} is its new name, say so: --renamed {kind}:{state}={alike[0]}"
 
 
-def changes_in(there: Configuration, types: Sequence[ComponentType]) -> list[Change]:
-    """What a description means for each instance that stands, in the order of their numbers."""
-    after = by_name(types)
+def others_in(before: Iterable[ComponentType], types: Iterable[ComponentType]) -> set[str]:
+    """The types whose sums tell of another thing than before."""
+    had = {kind.name: kind.sum for kind in before}
+    return {kind.name for kind in types if not is_same_sum(had.get(kind.name, kind.sum), kind.sum)}
+
+
+def changes_in(
+    there: Configuration, types: Sequence[ComponentType], before: Iterable[ComponentType] = ()
+) -> list[Change]:
+    """What a description means for each instance that stands, in the order of their numbers; `before` is the one of before."""
+    after, others = by_name(types), others_in(before, types)
     used: dict[int, set[str]] = {}
     for port, _, to in there.bindings:
         used.setdefault(to, set()).add(port)
     return [
-        change_of(Before(instance, standing, form, frozenset(used.get(instance, ()))), there, after.get(standing.type))
+        change_of(
+            Before(instance, standing, form, frozenset(used.get(instance, ())), standing.type in others),
+            there,
+            after.get(standing.type),
+        )
         for instance, standing in sorted(there.instances.items())
         if (form := there.state(instance)) is not None
     ]
@@ -125,6 +148,8 @@ class Merged:
         if kind not in self.types:
             states = [written_state(state) for state in self.had[kind].states]
             source = {"source": self.sources[kind]} if kind in self.sources else {}
+            if self.had[kind].sum:
+                source["sum"] = self.had[kind].sum
             self.types[kind] = {"name": kind, **source, "initial": states[0]["name"], "states": states}
             self.value["types"].append(self.types[kind])
             self.old_types.add(kind)
@@ -219,5 +244,5 @@ def renamed_types(types: Iterable[ComponentType], names: Mapping[str, str]) -> t
             dataclasses.replace(state, name=new[state.name], next=tuple(new.get(each, each) for each in state.next))
             for state in kind.states
         )
-        found.append(ComponentType(names.get(kind.name, kind.name), tuple(states)))
+        found.append(ComponentType(names.get(kind.name, kind.name), tuple(states), kind.sum))
     return tuple(found)

@@ -100,6 +100,15 @@ def names_nothing(found: re.Match[str], possible: PossibleActions) -> bool:
     return any(part is not None and "*" not in part and part not in known for part, known in named)
 
 
+def fits_something(when: str, possible: PossibleActions) -> bool:
+    """Whether a pattern is for something that may happen; where only a plan is known, for a type of it."""
+    found = WHEN.fullmatch(when)
+    assert found is not None
+    if possible.has_universe:
+        return may_happen(found, possible)
+    return bool(matching(found["type"], possible.moves)) and not names_nothing(found, possible)
+
+
 def may_happen(found: re.Match[str], possible: PossibleActions) -> bool:
     kind = found["type"]
     kinds = matching(kind, possible.moves) if "*" in kind else [kind] if kind in possible.moves else []

@@ -9,6 +9,7 @@ from metis_planner.carry.ahead import UNIVERSE, Ahead, answered, plan_ahead
 from metis_planner.carry.calling import Call, made_in
 from metis_planner.carry.evolve import evolved
 from metis_planner.carry.going_over import known_of, marks_of
+from metis_planner.carry.lost import lost_in, moves_of
 from metis_planner.carry.rebase import NoList
 from metis_planner.carry.request import FIRST
 from metis_planner.carry.seating import hosts_of
@@ -29,12 +30,21 @@ def proposed(call: Call, protect: tuple[str, ...]) -> Proposal:
     if stands is not None:
         if call.request.is_lean and not call.is_begun():
             say(f"lean is for a first plan, and {call.request.to} has one already: it does not apply")
+        if call.request.project:
+            call.lost = lost_in(call.folder, stands)
         try:
-            return going_on(call, stands, protect)
+            found = going_on(call, stands, protect)
+            return dataclasses.replace(found, lines=(*lost_lines(call, stands), *found.lines))
         except NoList as why:
             reason = f"no list of what stands was found over {call.request.universe}, so its history is gone on with: {why}"
             say(f"{call.request.to}: {reason}")
     return planned(call)
+
+
+def lost_lines(call: Call, stands: Stands) -> Iterable[str]:
+    """A line for each instance that is lost."""
+    kinds = {step.action.instance: who(step.action) for step in stands.steps}
+    return [f"lost     {kinds[each]}: {reason}; its steps are done again" for each, reason in sorted(call.lost.items())]
 
 
 def standing(call: Call) -> Stands | None:
@@ -103,7 +113,9 @@ def resumed(call: Call, stands: Stands) -> Proposal:
     left = [step for step in stands.steps if step.key not in stands.marks]
     rules = call.rules(stands.steps, stands.marks)
     call.hosts |= hosts_of(call.folder)
-    again, notes = steps_again(call, refresh.stale(stands.steps, stands.marks), refresh.differing(rules, stands.marks))
+    done = [step for step in stands.steps if step.key in stands.marks]
+    stale = [*refresh.stale(stands.steps, stands.marks), *moves_of(call.lost, done)]
+    again, notes = steps_again(call, stale, refresh.differing(rules, stands.marks))
     made = {action.instance for action in stands.done.actions if action.verb == "new"}
     going = [who(step.action) for step in left if step.action.verb == "delete" and step.action.instance in made]
     words = tuple(plans.in_words(step.action) for step in left)
@@ -139,9 +151,12 @@ def names_of(steps: Iterable[Step]) -> tuple[str, ...]:
 
 def steps_again(call: Call, stale: Sequence[Step], differing: Sequence[Step]) -> tuple[list[Step], tuple[str, ...]]:
     """The steps that are done again, and what is only said, as long as nobody asks for it."""
+    own = list({step.key: step for step in stale}.values())
     if call.request.is_again:
-        return [*stale, *differing], ()
-    return [*stale], tuple(f"{plans.in_words(step.action)}: {refresh.ADVICE}" for step in differing)
+        return [*own, *(step for step in differing if step not in own)], ()
+    if call.request.project:  # a sum says what its containers are meant to be, and each check looks at the very one
+        return own, ()
+    return own, tuple(f"{plans.in_words(step.action)}: {refresh.ADVICE}" for step in differing)
 
 
 def evolution(call: Call, stands: Stands) -> Evolution:
@@ -222,6 +237,7 @@ def with_steps_again(call: Call, stands: Stands, found: Evolution) -> tuple[Way,
     marks = marks_of(known_of(stands, way, steps, found.names))
     rules = call.rules(steps, {step.key: None for step in steps[: way.done]})
     end = [pair for pair in rules[: way.done] if pair[0].action.instance in found.end]
-    again, notes = steps_again(call, refresh.stale(steps, marks), refresh.differing(end, marks))
+    standing = [step for step, _ in end]
+    again, notes = steps_again(call, [*refresh.stale(steps, marks), *moves_of(call.lost, standing)], refresh.differing(end, marks))
     places = {(step.action.instance, step.action.words[-1]) for step in again}
     return way._replace(stale=frozenset(places)), again, notes

@@ -4,11 +4,13 @@ import argparse
 import dataclasses
 import hashlib
 import json
+import os
 from collections.abc import Mapping
 from typing import Any
 
 from metis_planner.answers import Refused
 from metis_planner.carry.ahead import REQUEST, Wanted, is_asked_again, kept_request, request_text, text_of_wishes
+from metis_planner.carry.compose import COMMANDS, FOLDER, TARGET, Project, is_project, kept_in, project_at
 from metis_planner.carry.configuration import CONFIGURATION, checked_jobs, configured, is_of
 from metis_planner.carry.engines import make, ninja, slurm
 from metis_planner.carry.folder import Folder, sum_of
@@ -59,6 +61,7 @@ class Request:
     agreed: Agreed = Agreed()
     is_again: bool = False
     is_lean: bool = False  # for a first plan
+    project: Project | None = None  # of Compose, where its file stands for the universe
 
     @property
     def wanted(self) -> Wanted:
@@ -74,6 +77,10 @@ def request_of(arguments: argparse.Namespace) -> Request:
     universe = arguments.universe or found.get("universe")
     targets = tuple(arguments.targets or found.get("targets", ()))
     commands, to = arguments.commands or found.get("commands"), arguments.to or found.get("to")
+    project = None
+    if universe and is_project(str(universe)) and not commands:
+        targets, to = targets or (TARGET,), to or os.path.join(os.path.dirname(str(universe)), FOLDER)
+        project, commands = compose_project(str(universe), str(to)), os.path.join(str(to), COMMANDS)
     given = {"a universe": universe, "a target": targets, "--commands": commands, "--to": to}
     lacking = [name for name, value in given.items() if not value]
     if lacking:
@@ -97,7 +104,18 @@ def request_of(arguments: argparse.Namespace) -> Request:
         agreed=Agreed(arguments.yes, tuple(arguments.delete), tuple(arguments.change)),
         is_again=arguments.again,
         is_lean=arguments.lean or found.get("lean", False),
+        project=project,
     )
+
+
+def compose_project(path: str, to: str) -> Project:
+    """A Compose project that is to be carried out in a folder, which is none of another project."""
+    before = kept_in(to)
+    project = project_at(path, before)
+    project.check_kept(before, to)
+    if not Folder(to).has_plan():
+        project.check_fresh(to)
+    return project
 
 
 def new_names(found: Mapping[str, Any], said: list[str]) -> dict[str, str]:

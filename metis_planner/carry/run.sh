@@ -82,6 +82,12 @@ find_source() { # of a type, into `source`: what it is called where an importer 
   *) source=$1 ;;
   esac
 }
+find_sum() { # of a type, into `sum_of_type`: what tells its thing from an earlier form of it
+  case $1 in
+@SUMS@
+  *) sum_of_type='' ;;
+  esac
+}
 find_name() { # of an instance, into `name`: one that a file, a container or a unit may have
   case $2 in
 @NAMES@
@@ -178,12 +184,13 @@ case $folder in *@EXPORT@.*) not_now "the path of the folder has a word that end
 step_script() { # what the shell of the step reads
   find_name "$type" "$instance"
   find_source "$type"
+  find_sum "$type"
   find_address "$host"
   printf '%s\n' "# $what"
   printf '%s\n' "$without_locks"
   printf '%s\n' "unset METIS_PORT METIS_PROVIDER METIS_PROVIDER_TYPE METIS_PROVIDER_NAME METIS_PROVIDER_HOST METIS_PROVIDER_ADDRESS"
   printf '%s\n' "export METIS_ACTION='$number' METIS_VERB='$verb' METIS_AGAIN='$again' METIS_TEARDOWN='@TEARDOWN@' METIS_BOUND='$*'"
-  printf '%s\n' "export METIS_INSTANCE='$instance' METIS_TYPE='$type' METIS_SOURCE='$source' METIS_NAME='$name' METIS_FROM='$from' METIS_TO='$to'"
+  printf '%s\n' "export METIS_INSTANCE='$instance' METIS_TYPE='$type' METIS_SOURCE='$source' METIS_SUM='$sum_of_type' METIS_NAME='$name' METIS_FROM='$from' METIS_TO='$to'"
   printf '%s\n' "export METIS_FOLDER='$folder'"
   printf '%s\n' "export METIS_HOST='${host#:}' METIS_ADDRESS='$address'"
   if [ -n "$port" ]; then

@@ -100,6 +100,7 @@ def script(folder: Folder, export: "Export") -> str:
         "HOSTS": "".join(f"'{host.name}') via={shlex.quote(shlex.join(way_to(host)))} ;;\n" for host in hosts if host.via),
         "ADDRESSES": "".join(f"  '{host.name}') address={shlex.quote(host.address)} ;;\n" for host in hosts),
         "SOURCES": "".join(f"  '{name}') source='{source}' ;;\n" for name, source in sorted(export.sources.items())),
+        "SUMS": "".join(f"  '{name}') sum_of_type='{each}' ;;\n" for name, each in sorted(export.sums.items())),
         "NAMES": "".join(f"  {each}) name='{name}' && return ;;\n" for each, name in sorted(folder.names().items())),
         "INSTANCES": "".join(f"  '{name}') more=steps/{INSTANCE}.{each} ;;\n" for each, name in enumerate(commands.instances, 1)),
         "SHELL": shlex.join(commands.shell),

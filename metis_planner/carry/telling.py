@@ -100,6 +100,7 @@ def in_place(found: Evolution, instance: int) -> str:
     change = {change.instance: change for change in found.changes}[instance]
     parts = [f"needs {port}" + (f" {count} more" if count > 1 else "") for port, count in change.more.items()]
     parts += [f"needs fewer {port}" for port in change.fewer] + [f"lets {port} go" for port in change.less]
+    parts += ["its settings have changed"] if change.is_other else []
     users = ", ".join(found.who(user) for user in sorted(found.users.get(instance, ())))
     meanwhile = f" while {users} take{'' if ', ' in users else 's'} from it" if users else ""
     return f"{', '.join(parts) or 'by its description'}; its steps are done again{meanwhile}"

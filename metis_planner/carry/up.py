@@ -4,8 +4,11 @@ The universe, the plan and what was asked for stay in the folder. If the same wa
 stopped. If something else stands there, also by another description, what serves the targets is kept or changed in place, what is
 missing is made and bound to it, and then the rest is taken away; --wish LINE and --wishes FILE say what is to stay or to go
 besides (metis help reconfigure). What becomes of each instance is shown before anything is done. --yes agrees to all but what
-loses data: that is named by --delete. --dry-run shows what would be done, with a sum, and --expect SUM does just that. metis.toml in this
-folder may hold the words: universe, targets, commands, to, hosts, wishes, engine, jobs, lean, renamed, protect.
+loses data: that is named by --delete. --dry-run shows what would be done, with a sum, and --expect SUM does just that.
+
+metis up compose.yaml needs no more words: Compose says what the universe is, the target is project:up, the commands come with
+Metis, and the folder is .metis beside the file, or --to FOLDER. metis.toml in this folder may hold the words: universe, targets,
+commands, to, hosts, wishes, engine, jobs, lean, renamed, protect.
 """
 
 import argparse
@@ -13,12 +16,13 @@ import json
 import pathlib
 import sys
 import tempfile
+import tomllib
 
 from metis_planner.answers import Answer, Refused
 from metis_planner.carry.agreeing import asked, check_agreed, check_known, check_protected
 from metis_planner.carry.ahead import kept_request
 from metis_planner.carry.calling import Call
-from metis_planner.carry.commands import read_commands
+from metis_planner.carry.commands import commands_of, read_commands
 from metis_planner.carry.folder import Folder
 from metis_planner.carry.judging import Judge
 from metis_planner.carry.proposing import proposed
@@ -42,7 +46,7 @@ def document(path: str) -> str:
 
 
 def add_arguments(parser: argparse.ArgumentParser) -> None:
-    parser.add_argument("universe", metavar="UNIVERSE", nargs="?", help="a universe or a sketch")
+    parser.add_argument("universe", metavar="UNIVERSE", nargs="?", help="a universe, a sketch or a Compose file")
     parser.add_argument("targets", metavar="TARGET", nargs="*", help="TYPE:STATE or port:PORT")
     parser.add_argument("--commands", metavar="FILE", help="what each step means (TOML)")
     parser.add_argument("--to", metavar="FOLDER", help="where it is carried out, and goes on")
@@ -75,9 +79,11 @@ def run(arguments: argparse.Namespace) -> Answer:
     if arguments.json and not arguments.dry_run:
         raise Refused("--json is for --dry-run")
     folder = Folder(request.to)
-    commands = read_commands(request.commands)
+    project = request.project
+    commands = commands_of(tomllib.loads(project.commands)) if project else read_commands(request.commands)
+    universe = project.document if project else document(request.universe)
     with tempfile.TemporaryDirectory(prefix="metis-up-") as name:
-        call = Call(request, folder, Judge(pathlib.Path(name)), document(request.universe), commands)
+        call = Call(request, folder, Judge(pathlib.Path(name)), universe, commands)
         check_known(request.protect or (), folder, types_of(call.universe))
         protect = protected(folder, request.protect)
         proposal = proposed(call, protect)

@@ -44,6 +44,8 @@ class ComponentType:
 
     name: str
     states: tuple[State, ...]
+    # What tells the thing that it stands for from an earlier form of it, where an importer says that. The model has none of it.
+    sum: str = ""
 
     def demand(self) -> int:
         return sum(state.demand() for state in self.states)
@@ -109,7 +111,7 @@ def within_demand(component: ComponentType, names: Names) -> list[ComponentType]
                 parts.append(two_states(port, "absent", "there", (port,), dict(chunk)))
                 made[required].append(port)
         states[greatest] = dataclasses.replace(states[greatest], require=one_each(made[required]))
-    return [ComponentType(component.name, tuple(states)), *parts]
+    return [dataclasses.replace(component, states=tuple(states)), *parts]
 
 
 def chunks_of(required: Iterable[tuple[str, int]]) -> list[list[tuple[str, int]]]:
@@ -167,6 +169,7 @@ def written_type(component: ComponentType, source: str) -> str:
     row = {
         "name": component.name,
         **({"source": source} if source != component.name else {}),
+        **({"sum": component.sum} if component.sum else {}),
         "initial": component.states[0].name,
         "states": [written_state(state) for state in component.states],
     }

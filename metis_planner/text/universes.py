@@ -13,7 +13,7 @@ from metis_planner.text.reading import read_bytes
 
 NAME = re.compile(r"[A-Za-z0-9_./@-]+")
 ROOT_KEYS = ("aeolus", "types", "comment", "$schema")
-TYPE_KEYS = ("name", "source", "initial", "states")
+TYPE_KEYS = ("name", "source", "sum", "initial", "states")
 STATE_KEYS = ("name", "provide", "require", "next")
 NEED_KEYS = ("port", "count")
 LONGEST_SHOWN = 72
@@ -44,6 +44,7 @@ class TypeRow:
     name: Named
     initial: Named
     states: tuple[StateRow, ...]
+    sum: str = ""
 
 
 @dataclasses.dataclass(frozen=True, slots=True)
@@ -180,7 +181,9 @@ class Form:
         if len(self.faults) > before or not name or not initial or states is None or not isinstance(states.value, tuple):
             return None
         found = [self.state(f"type {place} state {at}", it) for at, it in enumerate(states.value)]
-        return TypeRow(name, initial, tuple(state for state in found if state))
+        told = node.value.get("sum")
+        own = told.value if told and isinstance(told.value, str) else ""
+        return TypeRow(name, initial, tuple(state for state in found if state), own)
 
     def state(self, where: str, node: Node) -> StateRow | None:
         line = f"bad universe U6 {where}"
@@ -317,7 +320,7 @@ def types_of(rows: Rows) -> tuple[documents.ComponentType, ...]:
     found = []
     for row in rows.types:
         states = sorted(row.states, key=lambda state: state.name.name != row.initial.name)
-        found.append(documents.ComponentType(row.name.name, tuple(map(state_of, states))))
+        found.append(documents.ComponentType(row.name.name, tuple(map(state_of, states)), row.sum))
     return tuple(found)
 
 

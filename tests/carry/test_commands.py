@@ -101,7 +101,7 @@ class CommandsTest(unittest.TestCase):
             (STEP + 'run = "a"\nlock = "a b"', "step 1: lock is no word of letters, digits and _"),
             (
                 STEP + 'run = "a"\nretry = 1',
-                "step 1: nothing is known of 'retry'; there are check, lock, pause, playbook, retries, run, timeout, when",
+                "step 1: nothing is known of 'retry'; there are check, keeps, lock, pause, playbook, retries, run, timeout, when",
             ),
             (STEP + 'run = "a"\nretries = 1001', "step 1: retries is not from 0 to 1000"),
             (2 * (STEP + 'run = "a"\n'), "step 2: step 1 is for A: new already"),

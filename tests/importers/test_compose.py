@@ -81,8 +81,8 @@ class ServicesTest(unittest.TestCase):
         )
         expected = {
             **service("a", things=("network/front", "volume/data", "image/x/y_1")),
-            **service("b", things=("network/default", "image/b")),
-            **thing("image/b"),
+            **service("b", things=("network/default", "image/test-b")),
+            **thing("image/test-b"),
             **thing("image/x/y_1"),
             **thing("network/default"),
             **thing("network/front"),
@@ -144,8 +144,12 @@ class ServicesTest(unittest.TestCase):
                 "e": {"image": "i", "network_mode": "service:d"},
             }
         )
-        self.assertEqual(found["a"], service("a", ["b/started", "c/started", "d/started"])["a"])
-        self.assertEqual(found["e"], service("e", ["d/started"])["e"])
+        waits = ["b/started", "c/started", "d/started"]
+        # The container of one in a namespace of another one, or with its volumes, can only be made where that one is.
+        created = "created -image/i -c/started -d/started > started > absent"
+        self.assertEqual(found["a"], ["absent > created", created, *service("a", waits)["a"][2:]])
+        created = "created -image/i -d/started > started > absent"
+        self.assertEqual(found["e"], ["absent > created", created, *service("e", ["d/started"])["e"][2:]])
 
     def test_what_a_service_says_itself_counts_before_that(self):
         found = imported({"a": {**waiting(b="service_healthy"), "links": ["b"]}, "b": alone()})
@@ -270,9 +274,13 @@ class BuildTest(unittest.TestCase):
                 "b": {"build": ".", "network_mode": "none", "profiles": ["off"]},
             }
             found = imported(services)
-            self.assertEqual(found["image/a"], ["absent > there", "there +image/a -image/b > absent"])
-            self.assertEqual(found["image/b"], thing("image/b")["image/b"])
+            self.assertEqual(found["image/test-a"], ["absent > there", "there +image/test-a -image/test-b > absent"])
+            self.assertEqual(found["image/test-b"], thing("image/test-b")["image/test-b"])
             self.assertNotIn("b", found)
+
+    def test_what_is_built_is_none_that_another_service_names(self):
+        found = imported({"app": {"build": ".", "network_mode": "none"}, "other": alone(image="app")})
+        self.assertEqual([name for name in found if name.startswith("image/")], ["image/app", "image/test-app"])
 
     def test_one_that_nobody_defines(self):
         with self.assertRaisesRegex(Refused, "^service a: it is built on b, which nobody defines$"):

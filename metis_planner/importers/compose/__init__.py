@@ -1,6 +1,8 @@
 """A Compose project: its networks, volumes, images and services, and what each service waits for."""
 
 import argparse
+import dataclasses
+import hashlib
 from collections.abc import Iterator, Sequence
 
 from metis_planner.answers import Answer, Refused
@@ -11,6 +13,7 @@ from metis_planner.importers.compose.notes import healths, on_same_data, shared_
 from metis_planner.text.documents import (
     check_limits,
     ComponentType,
+    DIGEST_LENGTH,
     document,
     Names,
     one_each,
@@ -30,6 +33,7 @@ class Writer:
     def __init__(self, deployment: Deployment, names: Names) -> None:
         self.deployment = deployment
         self.names = names
+        self.sums: dict[str, str] = {}
 
     def types(self) -> list[ComponentType]:
         services = [each for name in self.deployment.wanted for each in self.service(name)]
@@ -70,22 +74,49 @@ class Writer:
                 required.update(self.demand(other, milestone))
         return required
 
+    def sum(self, name: str) -> str:
+        """What tells the containers of a service from those of another form of it: its settings and image, whether its end is
+        awaited, and the same of each service with which it is restarted or made anew.
+        """
+        work = [name]
+        while work:
+            each = work[-1]
+            before = [other for other in self.deployment.followed(each) if other not in self.sums]
+            if before and each not in self.sums:
+                self.sums[each] = ""  # whoever follows itself by others is found once
+                work += before
+                continue
+            words = [self.deployment.service(each).sum]
+            words += ["once"] * (COMPLETED in self.deployment.asked.get(each, ()))
+            words += [self.sum_with(other) for other in self.deployment.followed(each)]
+            self.sums[work.pop()] = " ".join(words)
+        return self.sums[name]
+
+    def sum_with(self, name: str) -> str:
+        """A word that is another one where the containers of this service are."""
+        return f"with={name}:{hashlib.sha256(self.sums[name].encode()).hexdigest()[:DIGEST_LENGTH]}"
+
     def service(self, name: str) -> list[ComponentType]:
         later, is_apart = self.milestones(name)
         me, things = self.type_name(name), one_each(self.things(name))
         running = {**things, **self.waits(name)}
-        states = [State("absent", next=("created",)), State("created", require=things, next=(STARTED, "absent"))]
+        made_of = dict(things)
+        for other in self.deployment.shared(name):
+            if other not in self.deployment.given:
+                made_of.update(self.demand(other, self.deployment.needs(name)[other]))
+        states = [State("absent", next=("created",)), State("created", require=made_of, next=(STARTED, "absent"))]
         if later and not is_apart:
             # Also what has completed goes before what it waited for, as Compose takes a project down.
             states.append(State(STARTED, require=running, next=(later[0], "created")))
             states.append(State(later[0], (self.port(name, later[0]),), running, ("created",)))
         else:
             states.append(State(STARTED, (self.port(name, STARTED),), running, ("created",)))
-        types = [ComponentType(me, tuple(states))]
+        types = [ComponentType(me, tuple(states), self.sum(name))]
         if is_apart:
             for milestone in later:
                 port = self.port(name, milestone)
-                types.append(two_states(port, "awaited", milestone, (port,), self.demand(name, STARTED)))
+                apart = two_states(port, "awaited", milestone, (port,), self.demand(name, STARTED))
+                types.append(dataclasses.replace(apart, sum=f"apart {self.sum_with(name)}"))
         return types
 
     def whole(self) -> ComponentType:
@@ -106,8 +137,11 @@ class Plan:
         profiles: Sequence[str] = (),
         given: Sequence[str] = (),
         replaces_data: bool = False,
+        is_all_awaited: bool = False,
     ) -> None:
-        self.deployments = [Deployment(project, tuple(profiles) or project.profiles, given) for project in projects]
+        self.deployments = [
+            Deployment(project, tuple(profiles) or project.profiles, given, is_all_awaited) for project in projects
+        ]
         for name in given:
             if not any(deployment.knows(name) for deployment in self.deployments):
                 raise Refused(f"--given {name}: the project has no service, network, volume or image of this name")
@@ -203,10 +237,11 @@ def add_arguments(parser: argparse.ArgumentParser) -> None:
         action="store_true",
         help="with --next: volumes, and services that write to these or to folders of the host, are taken as all else",
     )
+    parser.add_argument("--wait", action="store_true", help="await each healthcheck, as `docker compose up --wait` does")
 
 
 def run(arguments: argparse.Namespace) -> Answer:
     paths = [arguments.file] + ([arguments.next] if arguments.next else [])
     projects = [read_project(path) for path in paths]
-    plan = Plan(projects, arguments.profile, arguments.given, arguments.replace_data)
+    plan = Plan(projects, arguments.profile, arguments.given, arguments.replace_data, arguments.wait)
     return Answer(plan.document(), list(dict.fromkeys(plan.notes())))

@@ -69,8 +69,11 @@ def never_comes(service: Service, need: Need) -> str | None:
 class Deployment:
     """The services of a project that are switched on, what each needs, and what already stands."""
 
-    def __init__(self, project: Project, profiles: Iterable[str], given: Iterable[str]) -> None:
+    def __init__(
+        self, project: Project, profiles: Iterable[str], given: Iterable[str], is_all_awaited: bool = False
+    ) -> None:
         self.project = project
+        self.is_all_awaited = is_all_awaited  # whether each healthcheck is
         self.on = switched_on(project, profiles)
         self.given: set[str] = set()
         self.give(given)
@@ -143,6 +146,15 @@ class Deployment:
             if other in self.on and never_comes(self.service(other), need) is None
         }
 
+    def shared(self, name: str) -> list[str]:
+        """The services without whose containers that of one cannot be made, since it takes a namespace or volumes of theirs."""
+        return [other for other in self.needs(name) if self.service(name).needs[other].is_shared]
+
+    def followed(self, name: str) -> list[str]:
+        """The services with which one is restarted or made anew."""
+        needs = self.service(name).needs.items()
+        return [other for other, need in sorted(needs) if need.is_followed and other in self.on]
+
     def knows(self, name: str) -> bool:
         """Whether the project has a service, network, volume or image of this name."""
         things = {thing for each in self.on for thing in self.things(each)}
@@ -164,6 +176,9 @@ class Deployment:
     def asked(self) -> dict[str, set[str]]:
         """For each service its milestones that some other one waits for."""
         asked: dict[str, set[str]] = collections.defaultdict(set)
+        for name in self.wanted if self.is_all_awaited else ():
+            if self.service(name).is_checked and not self.service(name).is_never_healthy:
+                asked[name].add(HEALTHY)
         for name in self.wanted:
             for other, milestone in self.needs(name).items():
                 asked[other].add(milestone)

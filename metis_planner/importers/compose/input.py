@@ -1,6 +1,8 @@
 """Reads a Compose project, as `docker compose config --format json` prints it, or as a file where PyYAML is there."""
 
 import dataclasses
+import hashlib
+import json
 import os
 import pathlib
 import re
@@ -12,6 +14,7 @@ from metis_planner.importers.compose import keys
 from metis_planner.importers.compose.dotenv import read_variables
 from metis_planner.importers.compose.mounts import Mount, mounts_of
 from metis_planner.importers.compose.variables import check_required, Variables
+from metis_planner.text.documents import DIGEST_LENGTH
 from metis_planner.text.reading import flag, listed, mapping, read_text, text_of, texts_in, value_of
 
 STARTED, HEALTHY, COMPLETED = "started", "healthy", "completed"
@@ -29,6 +32,9 @@ OF_SERVICE = (
 ).split()
 # Lists of a service in which nothing may stand twice.
 WITHOUT_DOUBLES = "depends_on networks profiles links volumes volumes_from ports".split()
+# What of a service is none of its container's; and how a sum begins that is not Compose's own, and says that of no image.
+APART = ("build", "pull_policy", "scale", "profiles")
+OWN_SUM, NO_IMAGE = "own:", "-"
 DEFAULT_NAMES = ("compose.yaml", "compose.yml", "docker-compose.yaml", "docker-compose.yml")
 MOST_ENV = 1024 * 1024
 ALWAYS = ("always", "unless-stopped")
@@ -43,6 +49,8 @@ class Need(NamedTuple):
 
     milestone: str
     is_required: bool = True
+    is_followed: bool = False  # whether it is to be restarted, or made anew, where the other one is
+    is_shared: bool = False  # whether its container can only be made where that of the other one is there
 
 
 @dataclasses.dataclass(frozen=True)
@@ -62,6 +70,7 @@ class Service:
     ports: tuple[str, ...] = ()  # of the host, each fixed
     container_name: str = ""
     fault: str = ""  # why Compose would not start it, which matters only where it is on
+    sum: str = ""  # what tells its containers from those of another form of it
 
     @property
     def volumes(self) -> tuple[str, ...]:
@@ -91,9 +100,10 @@ def read_project(path: str) -> Project:
     check_name(project, environment, path)
     external = frozenset(external_of(project, path))
     check_made_of(project, path)
-    services = made_of_each(sorted(project["services"]), lambda name: service_of(name, project["services"][name], project))
+    project["name"] = name = name_of(project, environment, path)
+    found = made_of_each(sorted(project["services"]), lambda name: service_of(name, project["services"][name], project))
+    services = {name: dataclasses.replace(each, sum=own_sum(told["services"][name])) for name, each in found.items()}
     notes = (*variables.notes(), *left_beside(path))
-    name = text_of(project.get("name") or "", "name")
     return Project(name, services, external, notes, profiles_in(environment))
 
 
@@ -130,6 +140,33 @@ def check_name(project: dict[str, Any], environment: Mapping[str, str], path: st
     for name in (project.get("name"), environment.get("COMPOSE_PROJECT_NAME")):
         if isinstance(name, str) and name and "$" not in name and not keys.PROJECT_NAME.fullmatch(name):
             raise Refused(f"{path}: no name of a project, which has small letters, digits, - and _: {name}")
+
+
+def name_of(project: dict[str, Any], environment: Mapping[str, str], path: str) -> str:
+    """The name of the project, if it says one, or the environment does."""
+    return text_of(project.get("name") or environment.get("COMPOSE_PROJECT_NAME") or "", "name")
+
+
+def own_sum(told: Mapping[str, Any]) -> str:
+    """A sum of what a container has of its service, variables as they stand. Compose's own is `docker compose config --hash`."""
+    own = {key: each for key, each in told.items() if key not in APART}
+    if isinstance(own.get("deploy"), dict):
+        own["deploy"] = {key: each for key, each in own["deploy"].items() if key != "replicas"}
+    digest = hashlib.sha256(json.dumps(in_one_order(own), default=str).encode()).hexdigest()
+    return f"{OWN_SUM}{digest[:DIGEST_LENGTH]} {NO_IMAGE}"
+
+
+def with_sums(project: Project, sums: Mapping[str, str]) -> Project:
+    """The project with other sums of its services, such as Compose's own."""
+    services = {name: dataclasses.replace(each, sum=sums[name]) for name, each in project.services.items()}
+    return dataclasses.replace(project, services=services)
+
+
+def in_one_order(told: Any) -> Any:
+    """A value in which it makes no difference in which order the keys of a mapping stand."""
+    if isinstance(told, Mapping):
+        return sorted(([str(key), in_one_order(each)] for key, each in told.items()), key=lambda pair: str(pair[0]))
+    return [in_one_order(each) for each in told] if isinstance(told, list) else told
 
 
 def external_of(project: dict[str, Any], path: str) -> Iterator[str]:
@@ -184,7 +221,7 @@ def service_of(name: str, told: Any, project: dict[str, Any]) -> Service:
     return Service(
         name,
         replicas_of(name, told),
-        image_of(name, told),
+        image_of(name, told, project.get("name") or ""),
         networks,
         mounts,
         needs_of(name, told),
@@ -210,12 +247,13 @@ def check_doubles(told: dict[str, Any], where: str) -> None:
             seen.add(word)
 
 
-def image_of(name: str, told: dict[str, Any]) -> str:
-    """The image of a service; one that is built and has no name is called as the service is."""
+def image_of(name: str, told: dict[str, Any], project: str) -> str:
+    """The image of a service; one that is built and has no name is called by the project, if that is known, and the service."""
     image = told.get("image")
     if image is not None and not isinstance(image, str):
         raise Refused(f"service {name}: its image is no text, and wants quotes: {image}")
-    return image or ("" if told.get("provider") else name)
+    built = f"{project}-{name}" if project else name
+    return image or ("" if told.get("provider") else built)
 
 
 def container_name_of(told: dict[str, Any], where: str) -> str:
@@ -292,23 +330,27 @@ def needs_of(name: str, told: dict[str, Any]) -> dict[str, Need]:
             raise Refused(f"{where}, depends_on: {other} has no condition, and Compose wants one")
         if not isinstance(condition, str) or condition not in MILESTONES:
             raise Refused(f"{where}: no condition {condition}, for {other}")
-        needs[str(other)] = Need(MILESTONES[condition], flag(each, "required", f"{where}, {other}", True))
-    for other in implied(told, where):
-        needs.setdefault(other, Need(STARTED))
+        is_required, is_followed = (flag(each, key, f"{where}, {other}", key == "required") for key in ("required", "restart"))
+        needs[str(other)] = Need(MILESTONES[condition], is_required, is_followed)
+    for other, is_shared in implied(told, where):
+        need = needs.get(other, Need(STARTED))
+        needs[other] = need._replace(is_followed=True, is_shared=need.is_shared or is_shared)
     if name in needs:
         raise Refused(f"{where}: it depends on itself")
     return needs
 
 
-def implied(told: dict[str, Any], where: str) -> Iterator[str]:
-    """The services that one needs by its links, the volumes or the namespaces that it takes from them."""
+def implied(told: dict[str, Any], where: str) -> Iterator[tuple[str, bool]]:
+    """The services that one needs by its links, the volumes or the namespaces that it takes from them; and whether by more than
+    links, so that its container is made of theirs.
+    """
     for link in texts_in(told, "links", where):
-        yield link.partition(":")[0]
-    yield from (other for other, _ in volumes_from(told, where))
+        yield link.partition(":")[0], False
+    yield from ((other, True) for other, _ in volumes_from(told, where))
     for key in ("network_mode", "ipc", "pid"):
         kind, _, other = text_of(told.get(key) or "", f"{where}, {key}").partition(":")
         if kind == "service":
-            yield other
+            yield other, True
 
 
 def built_on(told: dict[str, Any], where: str) -> Iterator[str]:

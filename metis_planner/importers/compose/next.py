@@ -3,7 +3,7 @@
 import dataclasses
 from collections.abc import Sequence
 
-from metis_planner.text.documents import ComponentType, Names
+from metis_planner.text.documents import ComponentType, Names, one_each
 
 PROJECT = "project"
 NEXT = "@next"
@@ -42,18 +42,33 @@ class BothForms:
         return renamed
 
     def is_other(self, component: ComponentType) -> bool:
-        return component.name in self.standing and self.standing[component.name] != component
+        """Whether a type is another one than that of its name. That it waits for more or fewer replicas alone makes it none."""
+        return component.name in self.standing and in_ones(self.standing[component.name]) != in_ones(component)
+
+    def at_both(self, component: ComponentType) -> ComponentType:
+        """A type that stands once, with as many providers as both forms have."""
+        later = {each.name: each for each in self.second}.get(component.name)
+        if component.name in self.renamed or later is None:
+            return component
+        states = (
+            dataclasses.replace(one, require={port: min(count, other.require[port]) for port, count in one.require.items()})
+            for one, other in zip(component.states, later.states)
+        )
+        return dataclasses.replace(component, states=tuple(states))
 
     def types(self) -> list[ComponentType]:
         ports = {
             port for each in self.second if each.name in self.renamed for state in each.states for port in state.provide
         }
-        port_of = {port: self.names.of(port + NEXT) for port in sorted(ports)}
+        port_of = {port: self.next_of(port) for port in sorted(ports)}
         fresh = [each for each in self.second if each.name in self.renamed or each.name not in self.standing]
-        return [*self.first, *(self.moved(each, port_of) for each in fresh)]
+        return [*map(self.at_both, self.first), *(self.moved(each, port_of) for each in fresh)]
+
+    def next_of(self, name: str) -> str:
+        return self.names.of(self.names.text_of.get(name, name) + NEXT)
 
     def moved(self, component: ComponentType, port_of: dict[str, str]) -> ComponentType:
-        name = self.names.of(component.name + NEXT) if component.name in self.renamed else component.name
+        name = self.next_of(component.name) if component.name in self.renamed else component.name
         states = tuple(
             dataclasses.replace(
                 state,
@@ -62,4 +77,10 @@ class BothForms:
             )
             for state in component.states
         )
-        return ComponentType(name, states)
+        return dataclasses.replace(component, name=name, states=states)
+
+
+def in_ones(component: ComponentType) -> ComponentType:
+    """A type as if it waited for one provider at each port."""
+    states = (dataclasses.replace(state, require=one_each(state.require)) for state in component.states)
+    return dataclasses.replace(component, states=tuple(states))

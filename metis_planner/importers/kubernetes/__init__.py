@@ -11,6 +11,7 @@ from metis_planner.importers.kubernetes.input import is_true, Manifest, read_man
 from metis_planner.importers.kubernetes.kinds import APPLIED, last_state
 from metis_planner.importers.kubernetes.needs import DELETED, Needs
 from metis_planner.importers.kubernetes.phases import ARGO_HOOK, HELM_HOOK, Steps
+from metis_planner.importers.kubernetes.split import split
 from metis_planner.text.documents import ComponentType, Names, State, document, one_each, two_states
 
 WHOLE = "manifests"
@@ -165,8 +166,13 @@ def add_arguments(parser: argparse.ArgumentParser) -> None:
         metavar="NAME",
         help="what the cluster has: KIND/NAMESPACE/NAME, KIND/NAME, or kind/KIND.GROUP for a definition of custom resources",
     )
+    parser.add_argument("--split", metavar="FOLDER", help="write each object into a file of its own there, for steps that apply it")
 
 
 def run(arguments: argparse.Namespace) -> Answer:
     manifests = read_manifests(arguments.files, arguments.namespace)
-    return Answer(*universe(manifests, arguments.given, arguments.wait))
+    text, notes = universe(manifests, arguments.given, arguments.wait)
+    if arguments.split:
+        count = split(needs_of(manifests, arguments.given, arguments.wait).manifests, arguments.split)
+        notes.append(f"{count} files are in {arguments.split}")
+    return Answer(text, notes)

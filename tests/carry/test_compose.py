@@ -1,0 +1,154 @@
+"""`metis up compose.yaml`, over a stand-in for docker that answers what it is asked: how the project is read, kept and told apart.
+
+`trials/docker.py` brings projects up by a real Docker.
+"""
+
+import json
+import os
+import pathlib
+import tomllib
+
+from metis_planner.answers import Refused
+from metis_planner.carry import compose, forms
+from metis_planner.text.documents import ComponentType, State
+from metis_planner.text.configurations import Configuration, Standing
+from tests.carry.shapes import FolderCase, call
+
+DOCKER = """#!/bin/sh
+cd "$STAND_IN"
+echo "$* ${COMPOSE_PROFILES-}" >>calls
+case "$*" in
+"compose config --format json") cat project.json ;;
+"compose config --hash *") cat hashes ;;
+"image inspect"*) cat image ;;
+"ps --all"*) cat containers ;;
+*) echo "no such words: $*" >&2; exit 1 ;;
+esac
+"""
+
+
+class ComposeCase(FolderCase):
+    def setUp(self):
+        super().setUp()
+        (self.top / "bin").mkdir()
+        (self.top / "bin/docker").write_text(DOCKER)
+        (self.top / "bin/docker").chmod(0o755)
+        (self.top / "shop").mkdir()
+        self.file = self.top / "shop/compose.yaml"
+        self.file.write_text("")
+        self.write(project=self.project(), hashes="db 1111\nweb 2222\n", image="sha256:abcdefabcdefabcdef\n", containers="")
+        before = dict(os.environ)
+        self.addCleanup(lambda: (os.environ.clear(), os.environ.update(before)))
+        os.environ.update(PATH=f"{self.top / 'bin'}:{os.environ['PATH']}", STAND_IN=str(self.top))
+        os.environ.pop("COMPOSE_PROFILES", None)
+
+    def project(self, name="shop"):
+        services = {"db": {"image": "db", "network_mode": "none"}, "web": {"build": {"context": "."}, "network_mode": "none"}}
+        services["web"]["depends_on"] = {"db": {"condition": "service_started", "required": True, "restart": True}}
+        return {"name": name, "services": services}
+
+    def write(self, **texts):
+        for name, text in texts.items():
+            path = self.top / ("project.json" if name == "project" else name)
+            path.write_text(json.dumps(text) if name == "project" else text)
+
+    def types(self):
+        return {kind["name"]: kind for kind in json.loads(compose.project_at(str(self.file)).document)["types"]}
+
+    def up(self, *words):
+        return call("up", self.file, *words)
+
+
+class ReadTest(ComposeCase):
+    def test_a_sum_is_the_hash_of_compose_and_the_identity_of_the_image(self):
+        types = self.types()
+        self.assertEqual(types["db"]["sum"], "1111 abcdefabcdef")
+        self.assertRegex(types["web"]["sum"], "^2222 abcdefabcdef with=db:[0-9a-f]{12}$")
+        self.assertIn("image/shop-web", types)
+
+    def test_an_image_that_is_not_there_has_no_identity(self):
+        (self.top / "image").unlink()
+        project = compose.project_at(str(self.file))
+        self.assertFalse(project.is_whole)
+        self.assertEqual({kind["name"]: kind for kind in json.loads(project.document)["types"]}["db"]["sum"], "1111 -")
+
+    def test_the_commands_name_the_folder_and_the_project(self):
+        os.environ["COMPOSE_PROFILES"] = 'a"b'
+        table = tomllib.loads(compose.project_at(str(self.file)).commands)
+        self.assertEqual(table["env"]["PROJECT"], str(self.file.parent))
+        self.assertEqual(table["env"]["COMPOSE_PROJECT_NAME"], "shop")
+        self.assertEqual(table["env"]["COMPOSE_PROFILES"], 'a"b')
+
+    def test_a_file_of_another_name_is_named_to_compose(self):
+        other = self.top / "shop/other.yaml"
+        other.write_text("")
+        self.assertEqual(compose.project_at(str(other)).kept["COMPOSE_FILE"], str(other))
+        self.assertNotIn("COMPOSE_FILE", compose.project_at(str(self.file)).kept)
+
+    def test_what_compose_says_against_the_file_is_said_in_a_line(self):
+        (self.top / "project.json").unlink()
+        status, out, err = self.up("--yes")
+        self.assertEqual((status, out, err.count("\n")), (1, "", 1), err)
+        self.assertIn("docker compose config --format json: ", err)
+
+
+class UpTest(ComposeCase):
+    def test_nothing_is_written_where_nobody_agrees(self):
+        status, out, _ = self.up("--dry-run")
+        self.assertEqual(status, 2)
+        self.assertIn("web", out)
+        self.assertFalse((self.file.parent / ".metis").exists())
+
+    def test_what_runs_already_is_not_brought_up_beside_itself(self):
+        self.write(containers="db 1 shop-db-1\nweb 1 shop-web-1\n")
+        status, _, err = self.up("--yes")
+        self.assertEqual(status, 1)
+        self.assertIn("shop runs already", err)
+        self.assertIn("shop-db-1, shop-web-1", err)
+        self.assertIn(f"metis adopt {self.file}", err)
+
+    def test_an_instance_has_the_container_of_its_service_with_the_least_number(self):
+        self.write(containers="web 3 shop-web-3\nweb 1 shop-web-1\ndb 1 shop-db-1\n")
+        project = compose.project_at(str(self.file))
+        found, strays = compose.taken(project, [("web", "web-1"), ("db", "db-2"), ("image/db", "image_db-3"), ("db", "db-9")])
+        self.assertEqual(found, {"web-1": "web 1\n", "db-2": "db 1\n"})
+        self.assertEqual([each.name for each in strays], ["shop-web-3"])
+
+    def test_variables_stay_with_the_folder(self):
+        os.environ["COMPOSE_PROFILES"] = "debug"
+        project = compose.project_at(str(self.file))
+        folder = self.top / "f"
+        folder.mkdir()
+        (folder / compose.COMMANDS).write_text(project.commands)
+        del os.environ["COMPOSE_PROFILES"]
+        kept = compose.kept_in(str(folder))
+        self.assertEqual(kept["COMPOSE_PROFILES"], "debug")
+        compose.project_at(str(self.file), kept)
+        self.assertTrue((self.top / "calls").read_text().splitlines()[-1].endswith(" debug"))
+
+    def test_another_project_or_daemon_is_refused(self):
+        project = compose.project_at(str(self.file))
+        project.check_kept({}, "f")
+        project.check_kept(project.kept, "f")
+        for key, value in (("COMPOSE_PROJECT_NAME", "other"), ("PROJECT", "/x"), ("DOCKER_HOST", "unix:///y")):
+            with self.assertRaisesRegex(Refused, f"f is of another project or daemon: {key} was {value}"):
+                project.check_kept({**project.kept, key: value}, "f")
+
+
+class SumTest(FolderCase):
+    def change(self, had, has):
+        states = (State("a", next=("b",)), State("b"))
+        before, after = ((ComponentType("A", states, each),) for each in (had, has))
+        there = Configuration(before)
+        there.instances = {0: Standing("A", "b")}
+        return forms.changes_in(there, after, before)[0].fate
+
+    def test_another_sum_is_a_change_in_place(self):
+        self.assertEqual(self.change("1 x", "2 x"), forms.CHANGED)
+        self.assertEqual(self.change("1 x", "1 y"), forms.CHANGED)
+        self.assertEqual(self.change("1 x", "1 x once"), forms.CHANGED)
+        self.assertEqual(self.change("1 x", "1 x"), forms.SAME)
+
+    def test_what_was_not_known_is_no_change(self):
+        self.assertEqual(self.change("1 -", "1 y"), forms.SAME)
+        self.assertEqual(self.change("2 -", "1 y"), forms.CHANGED)
