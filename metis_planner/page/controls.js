@@ -43,6 +43,10 @@ class Controls {
     });
     on("input", { slide: ({ value }) => this.play(false) || page.step(+value) });
     on("change", { order, guard: () => this.guard(), follow: () => page.live.follow() });
+    byId("names").addEventListener("click", ({ target }) => {
+      const lane = target.closest(".lane");
+      if (lane) page.lookAt(page.picture.rowOf(lane));
+    });
     byId("views").addEventListener("click", ({ target }) => target.value && page.show(target.value));
     byId("all").addEventListener("toggle", () => byId("all").open && page.panel.sayTable());
     document.addEventListener("keydown", (event) => this.press(event));
@@ -114,6 +118,10 @@ class Controls {
       const other = isArrow ? page.picture.beside(mark, key) : null;
       if (other) page.chooseMark(other);
       if (!isArrow && !page.advance(mark.ks)) page.choose(mark.ks);
+      return "done";
+    }
+    if (target.matches(".lane") && (key === " " || key === "Enter")) {
+      page.lookAt(page.picture.rowOf(target));
       return "done";
     }
     if (!target.matches(".lane") || (key !== "ArrowUp" && key !== "ArrowDown")) return false;

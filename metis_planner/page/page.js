@@ -105,7 +105,7 @@ class PlanPage {
     const name = instances.length === 1 ? `"${label}"` : isOfOneType ? `"${type}"` : "";
     byId("find").value = name && byId("find").value !== name ? name : "";
     this.layOut();
-    byId("names").querySelector("button")?.focus({ preventScroll: true });
+    byId("names").querySelector(".lane")?.focus({ preventScroll: true });
   }
 
   zoomBy(factor) {

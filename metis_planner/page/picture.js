@@ -24,7 +24,7 @@ class Picture {
     layout.rows.find(({ button }) => button)?.button.setAttribute("tabindex", 0);
     this.names.style.setProperty("--top", `${layout.top}px`);
     const { zoom } = this.page;
-    for (const part of [this.names, this.pane]) part.style.zoom = room ? 1 : zoom;
+    for (const part of [this.names, this.pane]) part.style.zoom = room || zoom === 1 ? "" : zoom;
     this.names.style.maxWidth = room || zoom <= 1 ? "" : `${Math.min(60, 30 * zoom)}%`;
     layout.fit(room ? room - this.names.offsetWidth : this.box.clientWidth / zoom - this.namesWidth());
     const { width, height, marks, edges } = layout;
@@ -123,12 +123,14 @@ class Picture {
     const { roles, wishes } = this.page.plan;
     const [role, wish] = row.instances.length === 1 ? [roles, wishes].map((all) => all.get(row.instances[0])) : [];
     const title = role ? `${row.label}: ${role}${wish ? `, as is wished: ${wish}` : ""}` : row.label;
-    const parts = nameParts(row.label).map((part, place) => part && h("span", { class: `part${place}` }, part));
+    const isShort = row.label.length <= END_OF_A_NAME;
+    const partOf = (part, place) => part && h("span", { class: `part${place}` }, part);
+    const parts = isShort ? row.label : nameParts(row.label).map(partOf);
     const shown = [role && h("small", { class: role }, ROLES[role], " "), parts];
     const own = { title, class: row.host ? "host" : "" };
     row.state = h("i");
-    const press = { class: "lane", tabindex: -1, click: () => this.page.lookAt(row) };
-    const name = row.host ? h("b", {}, shown) : h("button", press, h("b", {}, shown));
+    const lane = { class: isShort ? "lane" : "lane cut", tabindex: -1, role: "button" };
+    const name = h("b", row.host ? {} : lane, shown);
     row.button = row.host ? null : name;
     row.name = h("div", own, name, wish && h("small", { class: "wide" }, wish), row.state);
     row.name.style.height = `${row.height}px`;
@@ -201,6 +203,8 @@ class Picture {
       else if (pairs.some(([q]) => after.has(q))) element.classList.add("lit", "after");
     }
   }
+
+  rowOf = (lane) => this.layout.rows.find(({ button }) => button === lane);
 
   // The mark at a point, or the nearest one of those at most 12 away: what is small to see is not small to tap.
   near({ clientX, clientY }) {
