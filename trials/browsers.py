@@ -21,6 +21,11 @@ CHROMIUM = (
     "--disable-background-networking", "--disable-component-update", "--hide-scrollbars",
 )  # fmt: skip
 FIREFOX = ("firefox-esr", "--headless", "--no-remote", "--marionette", "--remote-allow-system-access")
+# By these Chromium knows what a key does where nothing else is said.
+CODES = {
+    "Tab": 9, "Enter": 13, "Escape": 27, " ": 32, "End": 35, "Home": 36,
+    "ArrowLeft": 37, "ArrowUp": 38, "ArrowRight": 39, "ArrowDown": 40,
+}  # fmt: skip
 NARROWEST = 500  # as narrow as Firefox makes a window
 PREFERENCES = {
     "marionette.port": 0,
@@ -152,8 +157,9 @@ class Chromium(Browser):
 
     def key(self, key: str) -> None:
         text = {"text": key} if len(key) == 1 else {"text": "\r"} if key == "Enter" else {}
-        self.call("Input.dispatchKeyEvent", type="keyDown", key=key, code=key, **text)
-        self.call("Input.dispatchKeyEvent", type="keyUp", key=key, code=key)
+        own = {"key": key, "code": "Space" if key == " " else key, "windowsVirtualKeyCode": CODES.get(key, 0)}
+        self.call("Input.dispatchKeyEvent", type="keyDown", **own, **text)
+        self.call("Input.dispatchKeyEvent", type="keyUp", **own)
 
     def type(self, text: str) -> None:
         self.call("Input.insertText", text=text)
@@ -203,6 +209,7 @@ class Chromium(Browser):
 class Firefox(Browser):
     name = "firefox-esr"
     keys = {
+        "ArrowUp": "\ue013", "ArrowDown": "\ue015", "Tab": "\ue004",
         "ArrowLeft": "\ue012", "ArrowRight": "\ue014", "Home": "\ue011", "End": "\ue010", "Enter": "\ue007", "Escape": "\ue00c",
     }  # fmt: skip
 
@@ -214,9 +221,17 @@ class Firefox(Browser):
         environment = {**os.environ, "HOME": self.home, "MOZ_HEADLESS": "1"}
         words = [*POLITE, *FIREFOX, "--profile", self.home]
         self.process = subprocess.Popen(words, stdout=quiet, stderr=quiet, env=environment)
-        self.socket = socket.create_connection(("127.0.0.1", self.port()), MOST_SECONDS)
         self.rest, self.count = b"", itertools.count(1)
         self.narrow: tuple[int, int] | None = None
+        try:
+            self.start()
+        except (OSError, TimeoutError, EOFError):
+            self.process.kill()
+            self.process.wait()
+            raise
+
+    def start(self) -> None:
+        self.socket = socket.create_connection(("127.0.0.1", self.port()), MOST_SECONDS)
         self.message()
         self.call("WebDriver:NewSession", capabilities={"alwaysMatch": {}})
         self.call("WebDriver:SetTimeouts", script=1000 * MOST_SECONDS, pageLoad=1000 * MOST_SECONDS)

@@ -4,12 +4,13 @@
     python3 -m trials page_edits [PART OF AN EDIT]
 
 An edit names the test that has to notice it: one of the suite, or one of `trials/page.py`, which wants Chromium. The status is
-the number of edits that nothing noticed.
+the number of edits that nothing noticed. First of all each test has to pass without an edit, and tests that compare bytes are left out.
 """
 
 import dataclasses
 import os
 import pathlib
+import re
 import shutil
 import subprocess
 import sys
@@ -18,7 +19,9 @@ import tempfile
 from metis_planner import program
 from trials.trial import TOP
 
-COPIED = ("metis_planner", "tests", "trials", "examples")
+COPIED = ("metis_planner", "tests", "trials", "examples", "docs", "tools")
+# They compare bytes with what docs/ keeps, so they would notice a blank, whatever it does.
+BYTES = ("test_the_pages_that_are_kept_are_as_they_would_be_made_now", "test_what_docs_show_is_what_the_code_draws")
 SUITE = "suite"
 
 
@@ -74,6 +77,28 @@ EDITS = (
     Edit("wished.py", "<pre>{html.escape(text)}</pre>", "<pre>{text}</pre>"),
     Edit("../carry/ahead.py", 'if kept.get("plan") == sum_of(folder.text().encode()) else None', "if kept else None"),
     Edit("picture.js", 'name, wish && h("small", { class: "wide" }, wish), row.state', "name, row.state", "test_each_instance_says_what_is_wished_of_it"),
+    # In the files that draw and listen, by the small DOM of the suite.
+    Edit("panel.js", "const isMet = from.length >= count;", "const isMet = true;"),
+    Edit("panel.js", '${count("")} waiting`;\n    put(byId("count")', '${count("") + count("ready")} waiting`;\n    put(byId("count")'),
+    Edit("panel.js", "const late = slack ?", "const late = !slack ?"),
+    Edit("controls.js", "if (isTyped || isPressed || isOff", "if (isPressed || isOff"),
+    Edit("controls.js", "if (isTyped || isPressed || isOff", "if (isTyped || isPressed"),
+    Edit("controls.js", "input[type=checkbox], select, button", "select, button"),
+    Edit("controls.js", 'page.keepsBarrier() ? "" : warning', 'page.keepsBarrier() ? warning : ""'),
+    Edit("live.js", "if (next.plan !== this.state.plan) location.reload();", ""),
+    Edit("live.js", "walk.waits.allAfter(number - 1).size", "walk.waits.allBefore(number - 1).size"),
+    Edit("live.js", "trying, this.lost)", "trying)"),
+    Edit("page.js", '? "" : "&barrier=off"', '? "" : ""'),
+    Edit("page.js", 'this.pin = chosen.length ?', "this.pin = false ?"),
+    Edit("picture.js", '(isGone ? "deleted" : "")', '""'),
+    Edit("picture.js", '${mark.label}, ${status || "waits"}', "${mark.label}"),
+    Edit("picture.js", "(farOf(mark) <= (near", "(farOf(mark) > (near"),
+    Edit("overview.js", "if (!buttons) return;", ""),
+    Edit("order.js", "redo = () => this.leaveFor(this.future, this.past);", "redo = () => {};"),
+    Edit("page.css", "--faint: #7d868c;", "--faint: #98a1a6;"),
+    Edit("server.py", "os.O_EXCL, 0o600", "os.O_EXCL, 0o644"),
+    Edit("progress.py", "if signs != self.signs or self.is_running():", "if True:"),
+    Edit("reasons.py", "out = max(beside) + self.width + 46", "out = self.width + 46"),
     Edit("panel.js", "host, wish, offered)", "host, offered)", "test_each_instance_says_what_is_wished_of_it"),
 )  # fmt: skip
 
@@ -85,21 +110,33 @@ def is_noticed(edit: Edit, top: pathlib.Path) -> bool:
     if text.count(edit.old) != 1:
         raise SystemExit(f"{edit.file}: {edit.old} stands {text.count(edit.old)} times in it")
     path.write_text(text.replace(edit.old, edit.new), "utf-8")
-    words = (
-        ["-m", "unittest", "tests.page.test_pages"]
-        if edit.test == SUITE
-        else ["-m", "trials", "page", f"ChromiumTest.{edit.test}"]
-    )
-    environment = {**os.environ, program.COMMAND: program.command()}
     try:
-        done = subprocess.run(
-            [sys.executable, *words], cwd=top, env=environment, capture_output=True, text=True, check=False
-        )
+        return fails(edit.test, top)
     finally:
         path.write_text(text, "utf-8")
+
+
+def fails(test: str, top: pathlib.Path) -> bool:
+    """Whether a test, or the suite, fails over the copy as it is."""
+    words = ["-m", "unittest", *suite_in(top)] if test == SUITE else ["-m", "trials", "page", f"ChromiumTest.{test}"]
+    environment = {**os.environ, program.COMMAND: program.command()}
+    done = subprocess.run([sys.executable, *words], cwd=top, env=environment, capture_output=True, text=True, check=False)
     if done.returncode and ("Ran " not in done.stderr or "_FailedTest" in done.stderr):
         raise SystemExit(done.stderr[-2000:])
     return done.returncode != 0
+
+
+def suite_in(top: pathlib.Path) -> list[str]:
+    """The tests of the suite by their names, without those that compare bytes."""
+    names = []
+    for module in ("test_pages", "test_served"):
+        case = ""
+        text = (top / "tests" / "page" / f"{module}.py").read_text("utf-8")
+        for found in re.finditer(r"^class (\w+)\(|^    def (test_\w+)\(", text, re.MULTILINE):
+            case = found[1] or case
+            if found[2] and found[2] not in BYTES:
+                names.append(f"tests.page.{module}.{case}.{found[2]}")
+    return names
 
 
 def main() -> int:
@@ -110,6 +147,9 @@ def main() -> int:
         top = pathlib.Path(name)
         for each in COPIED:
             shutil.copytree(TOP / each, top / each, ignore=shutil.ignore_patterns("__pycache__"))
+        for test in sorted({edit.test for edit in edits}):
+            if fails(test, top):
+                raise SystemExit(f"{test} fails without any edit, so it shows nothing")
         for edit in edits:
             is_seen = is_noticed(edit, top)
             missed += not is_seen

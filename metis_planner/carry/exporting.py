@@ -60,7 +60,7 @@ def carried_out(request: Request, folder: Folder) -> int:
         "slurm": ["sh", str(folder.path.absolute() / slurm.NAME)],
     }
     status = subprocess.run(words[request.engine], check=False).returncode
-    for line in lines_of(progress_of(folder)):
+    for line in lines_of(progress_of(folder), str(folder.path)):
         say(line)
     return status
 

@@ -5,20 +5,23 @@ With --watch it is said again and again until all is done or nothing runs any mo
 
 import argparse
 import json
+import shlex
+import shutil
 import sys
 import time
-from collections.abc import Iterator
+from collections.abc import Iterator, Sequence
 
 from metis_planner.answers import Answer
 from metis_planner.carry.configuration import add_folder, folder_of
 from metis_planner.carry.folder import Folder
 from metis_planner.carry.progress import Progress, Row, Stage, progress_of, seconds_since
-from metis_planner.text import plans
+from metis_planner.text import configurations, plans
 from metis_planner.text.terminal import plain
 
 WIDTH = 30
 SECONDS_BETWEEN = 1.0
 MOST_LISTED = 12
+MOST_STANDING = 40
 LONGEST = 100
 
 
@@ -34,27 +37,45 @@ def bar(progress: Progress) -> str:
     return f"[{'#' * full}{'.' * (WIDTH - full)}] {', '.join(parts)}{left}"
 
 
-def row_lines(row: Row) -> Iterator[str]:
+def row_lines(row: Row, folder: str) -> Iterator[str]:
     what = f"{plans.in_words(row.step.action)}{' (again)' if row.is_again else ''}"
     if row.stage is Stage.RUNNING:
         seconds = seconds_since(row.since)
         yield f"  running  {what}" + ("" if seconds is None else f", for {max(0, round(seconds))} s")
     elif row.stage is Stage.FAILED:
         how = "was stopped" if row.status == "stopped" else f"failed with status {row.status}"
-        yield f"  failed   {what}: {how}; metis log FOLDER {row.instance}"
+        yield f"  failed   {what}: {how}; metis log {shlex.quote(folder)} {row.instance}"
         yield from (f"             | {plain(line, LONGEST)}" for line in row.lines)
     elif row.stage is Stage.READY:
         yield f"  ready    {what}"
 
 
-def lines_of(progress: Progress) -> list[str]:
+def lines_of(progress: Progress, folder: str) -> list[str]:
     found = [bar(progress)]
     for stage in (Stage.RUNNING, Stage.FAILED, Stage.READY):
         rows = [row for row in progress.rows if row.stage is stage]
-        found += [line for row in rows[:MOST_LISTED] for line in row_lines(row)]
+        found += [line for row in rows[:MOST_LISTED] for line in row_lines(row, folder)]
         if len(rows) > MOST_LISTED:
             found.append(f"  {stage.value}: and {len(rows) - MOST_LISTED} more")
     return found
+
+
+def standing_lines(progress: Progress) -> Iterator[str]:
+    """What stands where all is done: each instance with its state, if a move has named one."""
+    standing = configurations.after([row.step.action for row in progress.rows]).instances
+    names = [f"{one.type}#{number}" + (f" ({one.state})" if one.state else "") for number, one in sorted(standing.items())]
+    yield from (f"  stands   {plain(name, LONGEST)}" for name in names[:MOST_STANDING])
+    if len(names) > MOST_STANDING:
+        yield f"  stands: and {len(names) - MOST_STANDING} more"
+
+
+def fitted(lines: Sequence[str], columns: int, rows: int) -> list[str]:
+    """As much of the lines as a terminal shows, one line of it each, with one left below for where one types."""
+    most = max(1, rows - 1)
+    shown = [line if len(line) < columns else f"{line[: max(0, columns - 4)]} .." for line in lines]
+    if len(shown) <= most:
+        return shown
+    return [*shown[: most - 1], f"  and {len(shown) - most + 1} more"[: max(1, columns - 1)]] if most > 1 else shown[:1]
 
 
 def value_of(progress: Progress) -> dict[str, object]:
@@ -65,19 +86,21 @@ def value_of(progress: Progress) -> dict[str, object]:
 
 def watch(folder: Folder) -> Progress:
     """Draws how far the folder is, until it is over or nothing runs. On a terminal the lines are drawn over those before."""
-    drawn, before = 0, ""
+    drawn, before, size_before = 0, "", shutil.get_terminal_size()
     is_terminal = sys.stdout.isatty()
     idle = 0
     while True:
         progress = progress_of(folder)
-        lines = lines_of(progress) if is_terminal else [bar(progress)]
+        size = shutil.get_terminal_size()
+        lines = fitted(lines_of(progress, str(folder.path)), *size) if is_terminal else [bar(progress)]
         text = "".join(f"{line}\n" for line in lines)
         if is_terminal and drawn:
-            sys.stdout.write(f"\x1b[{drawn}F\x1b[J")
+            # Where the window has changed, its lines lie otherwise than they were drawn.
+            sys.stdout.write(f"\x1b[{drawn}F\x1b[J" if size == size_before else "\x1b[H\x1b[J")
         if is_terminal or text != before:
             sys.stdout.write(text)
             sys.stdout.flush()
-        drawn, before = len(lines), text
+        drawn, before, size_before = len(lines), text, size
         idle = 0 if progress.count(Stage.RUNNING) else idle + 1
         # Between two steps nothing runs for a moment.
         if progress.is_over() or idle > 3:
@@ -100,4 +123,6 @@ def run(arguments: argparse.Namespace) -> Answer:
     status = 1 if progress.count(Stage.FAILED) else 0
     if arguments.json:
         return Answer(json.dumps(value_of(progress)) + "\n", status=status)
-    return Answer("".join(f"{line}\n" for line in lines_of(progress)), status=status)
+    lines = lines_of(progress, str(folder.path))
+    lines += standing_lines(progress) if progress.is_over() else []
+    return Answer("".join(f"{line}\n" for line in lines), status=status)

@@ -10,6 +10,11 @@ from metis_planner.text import plans
 VERBS = ("new", "delete", "bind", "unbind", "move")
 FILLS = {"new": "#d0d0d0", "delete": "#f0b49e", "bind": "#b5d3ee", "unbind": "#d8c6e8", "move": "#b9dfb3"}
 CRITICAL = "#c23b22"
+# What is not done: a thick dark frame where it failed, a dashed one while it runs.
+FRAMES = {
+    "failed": 'stroke="#5b0f0a" stroke-width="3"',
+    "running": 'stroke="#0067a5" stroke-width="2" stroke-dasharray="4 2"',
+}
 LANE, BAR, TOP, LEAST, WIDTH, MARGIN = 22, 14, 54, 3, 1000, 60
 CHARACTER = 6.2
 STEPS = (1, 2, 5)
@@ -25,6 +30,7 @@ class Bar:
     end: float
     slack: float
     is_critical: bool
+    status: str = ""  # `running` or `failed`, of what is not done
 
 
 @dataclasses.dataclass(frozen=True)
@@ -72,7 +78,10 @@ class Chart:
         x = self.left
         used = {bar.step.action.verb for lane in self.lanes for bar in lane}
         fills = {verb: f'fill="{FILLS[verb]}"' for verb in VERBS if verb in used}
-        fills["the longest chain"] = f'fill="white" stroke="{CRITICAL}" stroke-width="1.6"'
+        bars = [bar for lane in self.lanes for bar in lane]
+        if any(bar.is_critical for bar in bars):
+            fills["the longest chain"] = f'fill="white" stroke="{CRITICAL}" stroke-width="1.6"'
+        fills |= {name: f'fill="white" {frame}' for name, frame in FRAMES.items() if any(bar.status == name for bar in bars)}
         for name, look in fills.items():
             yield f'<rect x="{x:.1f}" y="8" width="12" height="10" {look}/>'
             yield f'<text x="{x + 16:.1f}" y="17">{name}</text>\n'
@@ -112,6 +121,7 @@ class Chart:
         is_long = bar.end > bar.start
         width = max((bar.end - bar.start) * self.scale, LEAST if is_long or bar.is_critical else 1)
         tip = f"{action.number} {plans.in_words(action)}: {bar.start:.10g} to {bar.end:.10g}"
+        tip += f", {bar.status}" if bar.status else ""
         tip += f", may start {bar.slack:.10g} later" if bar.slack else ""
         yield f"<g><title>{tip.replace('>', '&gt;')}</title>"
         if bar.slack and is_long:
@@ -119,8 +129,9 @@ class Chart:
             yield f'<line x1="{end:.1f}" y1="{middle}" x2="{end + bar.slack * self.scale:.1f}" y2="{middle}"'
             yield ' stroke="#bbbbbb" stroke-dasharray="2 2"/>'
         # The chain is a frame, so that a bar keeps the colour of what it does.
-        frame = f'"{CRITICAL}" stroke-width="1.6"' if bar.is_critical else '"white" stroke-width="0.7"'
-        yield f'<rect x="{x:.1f}" y="{y}" width="{width:.1f}" height="{BAR}" fill="{FILLS[action.verb]}" stroke={frame}/>'
+        frame = f'stroke="{CRITICAL}" stroke-width="1.6"' if bar.is_critical else 'stroke="white" stroke-width="0.7"'
+        frame = FRAMES.get(bar.status, frame)
+        yield f'<rect x="{x:.1f}" y="{y}" width="{width:.1f}" height="{BAR}" fill="{FILLS[action.verb]}" {frame}/>'
         for label in (f"{action.number} {short(action)}", str(action.number)):
             if len(label) * CHARACTER < width - 4:
                 yield f'<text x="{x + 3:.1f}" y="{y + 11}" fill="black">{label}</text>'

@@ -3,7 +3,8 @@ and these five numbers, or `gantt FOLDER` of what really happened in a folder.
 
 A lane is an instance. A bar is an action, from its start to its end. The dotted line behind it is the time that it may
 lose. Bars with a red frame are the chain that takes as long as the whole: who wants to be done sooner has to make one of
-these shorter. Pauses in which nothing ran are folded away.
+these shorter. In a folder in which something runs or has failed, that has a dashed or a dark frame in their place. Pauses in
+which nothing ran are folded away.
 """
 
 import argparse
@@ -13,7 +14,8 @@ import re
 from collections.abc import Mapping, Sequence
 
 from metis_planner.answers import Answer, Refused
-from metis_planner.carry.folder import Folder
+from metis_planner.carry.folder import LOG, Folder, Mark
+from metis_planner.carry.progress import Stage, held_files, row_of
 from metis_planner.carry.rollouts import barrier_of
 from metis_planner.carry.steps import Step, steps_of
 from metis_planner.draw import picture
@@ -80,19 +82,35 @@ def check(steps: Sequence[Step], schedule: Schedule, times: dict[str, int], path
 
 
 def bars_of_folder(folder: Folder) -> tuple[list[Bar], list[Fold]]:
-    """What the marks of a folder say of the actions that had a command, without the pauses in which none ran."""
+    """What the marks and events of a folder say of the actions that had a command, without the pauses in which none ran."""
     steps = folder.steps()
     marks = folder.marks()
+    tried, status = tried_in(folder, steps, marks)
     found = {step.action.number: TIMES.fullmatch(marks[step.key].times) for step in steps if step.key in marks}
     took = {number: (float(each[1]), float(each[2])) for number, each in found.items() if each}
-    if not took:
+    if not took and not tried:
         raise Refused(f"{folder.path}: no action with a command is done there")
-    chain = chain_of(folder, steps, took)
-    times, folds = folded(took)
+    chain = chain_of(folder, steps, took) if took and not tried else set()
+    times, folds = folded({**took, **tried})
     bars = [
-        Bar(step, *times[step.action.number], 0, step.action.number in chain) for step in steps if step.action.number in times
+        Bar(step, *times[number], 0, number in chain, status.get(number, ""))
+        for step in steps
+        if (number := step.action.number) in times
     ]
     return bars, folds
+
+
+def tried_in(
+    folder: Folder, steps: Sequence[Step], marks: Mapping[str, Mark]
+) -> tuple[dict[int, tuple[float, float]], dict[int, str]]:
+    """What was begun and is not done, as the page shows it: from when to when, and whether it runs or failed."""
+    from metis_planner.page.progress import moments_in, open_spans
+
+    held = held_files()
+    rows = [row_of(step, marks.get(step.key), folder.path / LOG / step.key, held) for step in steps]
+    begun = [row for row in rows if row.stage in (Stage.RUNNING, Stage.FAILED)]
+    status = {row.step.action.number: row.stage.value for row in begun}
+    return open_spans(begun, moments_in(folder)), status
 
 
 def spans_of(took: Mapping[int, tuple[float, float]]) -> list[tuple[float, float]]:

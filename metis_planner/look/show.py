@@ -6,16 +6,20 @@ goes on from another one, with --from OLD, it says what is kept, new and going, 
 """
 
 import argparse
+import fnmatch
 import functools
 import json
 import os
 import re
+import shutil
 import sys
-from collections.abc import Callable, Iterator
+import textwrap
+from collections.abc import Callable, Iterator, Mapping, Sequence
 from typing import TYPE_CHECKING, Any
 
 from metis_planner.answers import Answer, Refused
 from metis_planner.text import configurations, plans
+from metis_planner.text.doubles import told_doubles
 from metis_planner.text.reading import read_bytes
 from metis_planner.text.roles import GOING, KEPT, NEW, count_of, roles_of
 
@@ -28,6 +32,7 @@ VERBS = ("new", "delete", "bind", "unbind", "move")
 COLOURS = {"new": "32", "delete": "31", "bind": "2", "unbind": "2", "move": "1", "wait": "2"}
 COLOUR_OF_A_ROLE = {KEPT: "move", NEW: "new", GOING: "delete"}
 WIDTH_OF_A_ROLE = 7
+WIDEST_STAGE = 120
 # A text in words, for a set of hidden verbs and a way to colour; and the same as a value for JSON.
 Lines = Callable[[Any, "Look"], Iterator[str]]
 Value = Callable[[Any], dict[str, Any]]
@@ -38,12 +43,31 @@ class Look:
 
     def __init__(self, hidden: frozenset[str] = frozenset(), has_colours: bool = False, old: int | None = None) -> None:
         self.hidden, self.has_colours, self.old = hidden, has_colours, old
+        self.only: Sequence[str] = ()  # patterns for the names of instances
+        self.by_stage = False
+        self.columns = 0  # as wide as a line may be; 0 if that is open
 
     def coloured(self, text: str, name: str) -> str:
         return f"\x1b[{COLOURS[name]}m{text}\x1b[0m" if self.has_colours and text else text
 
     def is_shown(self, action: plans.Action) -> bool:
-        return action.verb not in self.hidden
+        return action.verb not in self.hidden and self.is_named(action)
+
+    def is_named(self, action: plans.Action) -> bool:
+        name = f"{action.type}#{action.instance}"
+        return not self.only or any(fnmatch.fnmatchcase(each, pattern) for pattern in self.only for each in (name, action.type))
+
+    def in_room(self, columns: int) -> "Look":
+        found = Look()
+        found.columns = columns
+        return found
+
+    def fitted(self, text: str) -> str:
+        """A text that is cut in its middle where a line has less room."""
+        if not self.columns or len(text) <= self.columns:
+            return text
+        left = max(1, (self.columns - 4) // 2)
+        return f"{text[:left]} .. {text[len(text) - max(1, self.columns - 4 - left) :]}"
 
 
 def width_of(actions: list[plans.Action]) -> int:
@@ -51,24 +75,98 @@ def width_of(actions: list[plans.Action]) -> int:
 
 
 def plan_lines(plan: plans.Plan, look: Look) -> Iterator[str]:
+    if look.columns:
+        yield look.fitted(head_line(plan))
     left = plan.actions[look.old or 0 :]
     roles = {} if look.old is None else roles_of(plan.actions, look.old)
     if look.old is not None:
         yield from role_lines(plan, roles, look)
     actions = [action for action in left if look.is_shown(action)]
+    if look.by_stage:
+        yield from stage_lines(plan, actions, look)
+    else:
+        yield from action_lines(actions, roles, look)
+    by_verb = sum(action.verb in look.hidden for action in left)
+    if by_verb:
+        yield f"      and {by_verb} that are hidden: {', '.join(verb for verb in VERBS if verb in look.hidden)}"
+    others = len(left) - len(actions) - by_verb
+    if others:
+        yield f"      and {others} of other instances"
+    for double in told_doubles(plan, {"universe": None, "first": first_states(plan)}):
+        yield f"{double.name} is one more {double.type} for {double.state}. Without it these would wait for each other:"
+        for number, event in enumerate(double.events, 1):
+            text = f"      {number}. {event.text} {event.behind}"
+            yield from textwrap.wrap(text, look.columns, subsequent_indent=" " * 9) if look.columns > 20 else [text]
+
+
+def action_lines(actions: list[plans.Action], roles: Mapping[int, str], look: Look) -> Iterator[str]:
     width = width_of(actions)
     for action in actions:
         words = plans.in_words(action)
+        role = "" if look.old is None else f"{roles.get(action.instance, ''):<{WIDTH_OF_A_ROLE}}"
         after = f"after {', '.join(map(str, action.after))}" if action.after else ""
         gap = " " * (width - len(words) + 2) if after else ""
-        role = "" if look.old is None else f"{roles.get(action.instance, ''):<{WIDTH_OF_A_ROLE}}"
+        if look.columns and len(f"{action.number:>4}  {role}{words}{gap}{after}") > look.columns:
+            # First the gap goes, then what it waits for beyond the first few, and then the middle of the name.
+            gap = "  " if after else ""
+            room = max(8, look.columns - len(f"{action.number:>4}  {role}{gap}"))
+            after = after if len(words) + len(after) <= room else first_of(after, max(12, room - len(words)))
+            words = Look.fitted(look.in_room(room - len(after)), words)
         yield f"{action.number:>4}  {role}{look.coloured(words, action.verb)}{gap}{look.coloured(after, 'wait')}"
-    hidden = len(left) - len(actions)
-    if hidden:
-        yield f"      and {hidden} that are hidden: {', '.join(verb for verb in VERBS if verb in look.hidden)}"
-    for dup in plan.dups:
-        events = ", ".join(dup.cycle)
-        yield f"one more for {dup.pair}: without it each of {events} would wait for the next, and the last for the first"
+
+
+def first_of(after: str, room: int) -> str:
+    """As many of the numbers that are waited for as there is room, and how many are left out."""
+    numbers = after.removeprefix("after ").split(", ")
+    for count in range(len(numbers), 0, -1):
+        left = len(numbers) - count
+        text = f"after {', '.join(numbers[:count])}" + (f" and {left} more" if left else "")
+        if len(text) <= room:
+            return text
+    return f"after {len(numbers)}"
+
+
+def stages_of(plan: plans.Plan) -> dict[int, int]:
+    """By the number of each action its stage, from 1: one more than the last of what it waits for and of its own instance."""
+    stages: dict[int, int] = {}
+    last: dict[int, int] = {}
+    for action in plan.actions:
+        before = [stages[number] for number in action.after] + [last.get(action.instance, 0)]
+        stages[action.number] = last[action.instance] = 1 + max(before)
+    return stages
+
+
+def stage_lines(plan: plans.Plan, actions: list[plans.Action], look: Look) -> Iterator[str]:
+    """What may go on at once, side by side."""
+    stages = stages_of(plan)
+    shown: dict[int, list[str]] = {}
+    for action in actions:
+        shown.setdefault(stages[action.number], []).append(f"{action.number} {plans.in_words(action)}")
+    most = look.columns or WIDEST_STAGE
+    for stage, texts in sorted(shown.items()):
+        line = f"stage {stage}:"
+        for text in texts:
+            if len(line) + 3 + len(text) > most and line.strip():
+                yield look.fitted(line)
+                line = "     "
+            line += f"{'' if line.endswith(':') or not line.strip() else ';'} {text}"
+        yield look.fitted(line)
+
+
+def first_states(plan: plans.Plan) -> list[tuple[str, str]]:
+    found: dict[str, str] = {}
+    for action in plan.actions:
+        if action.verb == "move":
+            found.setdefault(action.type, action.words[1])
+    return list(found.items())
+
+
+def head_line(plan: plans.Plan) -> str:
+    """How much a plan is: its instances, its actions, and in how many stages these can be done."""
+    made = sum(action.verb == "new" for action in plan.actions)
+    stages = max(stages_of(plan).values(), default=0)
+    counts = ((made, "instance"), (len(plan.actions), "action"), (stages, "stage"))
+    return ", ".join(f"{count} {what}{'' if count == 1 else 's'}" for count, what in counts)
 
 
 def role_lines(plan: plans.Plan, roles: dict[int, str], look: Look) -> Iterator[str]:
@@ -294,6 +392,9 @@ def add_arguments(parser: argparse.ArgumentParser) -> None:
     parser.add_argument("--json", action="store_true", help="one JSON object in place of lines")
     help_text = "leave such actions out; may be given several times"
     parser.add_argument("--hide", action="append", choices=VERBS, default=[], metavar="VERB", help=help_text)
+    help_text = "of a plan only what instances or types of this name do, as 'php*'; may be given several times"
+    parser.add_argument("--only", action="append", default=[], metavar="PATTERN", help=help_text)
+    parser.add_argument("--stage", action="store_true", help="of a plan what may go on at once, side by side")
     help_text = "auto: on a terminal, unless NO_COLOR is set"
     parser.add_argument("--color", choices=("auto", "always", "never"), default="auto", help=help_text)
 
@@ -315,4 +416,6 @@ def run(arguments: argparse.Namespace) -> Answer:
     if arguments.json:
         return Answer(json.dumps(value(found)) + "\n")
     look = Look(frozenset(arguments.hide), colours_are_wanted(arguments.color), old)
+    look.only, look.by_stage = arguments.only, arguments.stage
+    look.columns = shutil.get_terminal_size().columns if sys.stdout and sys.stdout.isatty() else 0
     return Answer("".join(f"{line}\n" for line in lines(found, look)))

@@ -12,7 +12,8 @@ import tempfile
 from collections.abc import Iterator
 
 from metis_planner.answers import Answer, Refused
-from metis_planner.carry.folder import Folder
+from metis_planner.carry import ahead
+from metis_planner.carry.folder import Folder, sum_of
 from metis_planner.carry.steps import steps_of
 from metis_planner.look.sketch import document_of
 from metis_planner.page import changes, progress, reasons, server, sheet, times, values, verdict, wished
@@ -21,6 +22,8 @@ from metis_planner.text.reading import read_text
 from metis_planner.text.terminal import plain
 
 MOST_ACTIONS = 5_000
+MOST_TARGETS = 8
+ADDRESS = "page.address"
 NO_UNIVERSE = "Not checked, since no universe was named: with --universe FILE the program replays each action."
 
 
@@ -42,6 +45,8 @@ def add_arguments(parser: argparse.ArgumentParser) -> None:
     parser.add_argument("--title", default="", help="what is written on top, as what the plan is for")
     parser.add_argument("--logs", action="store_true", help="of a folder: the end of each log of what is not done, too")
     parser.add_argument("--serve", action="store_true", help="of a folder: serve the page on 127.0.0.1, and follow it")
+    parser.add_argument("--port", type=int, metavar="N", help="of --serve: at this port, in place of that of the last time")
+    parser.add_argument("--open", action="store_true", help="of --serve: open a browser there")
     parser.add_argument(
         "--most", type=int, default=MOST_ACTIONS, metavar="N", help=f"refuse to show more actions ({MOST_ACTIONS})"
     )
@@ -97,9 +102,13 @@ def of_folder(arguments: argparse.Namespace) -> Answer:
     known: dict[str, verdict.Verdict] = {}
     if not arguments.serve:
         return Answer(folder_page(arguments, known))
+    followed = progress.Followed(Folder(arguments.plan), arguments.logs)
     server.serve(
         lambda: folder_page(arguments, known, sheet.OWN_SERVER),
-        lambda: progress.state_of(Folder(arguments.plan), arguments.logs),
+        followed.state,
+        pathlib.Path(arguments.plan) / ADDRESS,
+        arguments.port,
+        arguments.open,
     )
     return Answer()
 
@@ -112,11 +121,19 @@ def folder_page(arguments: argparse.Namespace, known: dict[str, verdict.Verdict]
     rollouts = folder.rollouts(len(steps))
     wishes = wished.of_folder(folder, steps, rollouts)
     value: values.Value = {**values.value_of(plan, steps, rollouts, arguments), "wishes": wishes.rows}
+    value["targets"] = targets_of(folder)
     value["live"] = {**progress.state_of(folder, arguments.logs), "serves": arguments.serve}
     if text not in known:
         known.clear()
         known[text] = replayed(arguments, text)
     return sheet.of_plan(title_of(arguments), known[text], plan, value, network, wishes.text)
+
+
+def targets_of(folder: Folder) -> list[str]:
+    """What `up` was asked for, if the plan in the folder is still its own."""
+    kept = ahead.kept_request(folder)
+    found = kept.get("targets") if kept.get("plan") == sum_of(folder.text().encode()) else None
+    return [plain(str(target), 100) for target in found[:MOST_TARGETS]] if isinstance(found, list) else []
 
 
 def replayed(arguments: argparse.Namespace, text: str) -> verdict.Verdict:

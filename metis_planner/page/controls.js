@@ -32,10 +32,21 @@ class Controls {
     const on = (name, acts) => document.addEventListener(name, ({ target }) => acts[target.id]?.(target));
     const layOut = () => page.layOut();
     const order = ({ value }) => page.reorder(value);
-    on("click", this.acts());
+    const acts = this.acts();
+    document.addEventListener("click", ({ target }) => {
+      if (target.getAttribute?.("aria-disabled") !== "true") acts[target.id]?.(target);
+    });
     on("input", Object.fromEntries([...CHECKS, "find"].map((id) => [id, layOut])));
+    byId("legend").addEventListener("click", ({ target }) => {
+      const { value } = target.closest("button") ?? {};
+      if (value) page.showOnly(value);
+    });
     on("input", { slide: ({ value }) => this.play(false) || page.step(+value) });
     on("change", { order, guard: () => this.guard(), follow: () => page.live.follow() });
+    byId("names").addEventListener("click", ({ target }) => {
+      const lane = target.closest(".lane");
+      if (lane) page.lookAt(page.picture.rowOf(lane));
+    });
     byId("views").addEventListener("click", ({ target }) => target.value && page.show(target.value));
     byId("all").addEventListener("toggle", () => byId("all").open && page.panel.sayTable());
     document.addEventListener("keydown", (event) => this.press(event));
@@ -57,7 +68,11 @@ class Controls {
       on("focusin", (event, ks) => isTold(event) || page.picture.light(ks));
       on("click", (event, ks) => this.click(event.target, ks));
     }
-    byId("pane").addEventListener("click", (event) => ksOf(event) || page.choose(null));
+    byId("pane").addEventListener("click", (event) => {
+      const near = ksOf(event) ? null : page.picture.near(event);
+      if (near) this.click(near.element, near.ks);
+      else if (!ksOf(event)) page.choose(null);
+    });
   }
 
   click(target, ks) {
@@ -65,7 +80,7 @@ class Controls {
     const isReady = target.closest("#now");
     page.point(null);
     if (target.closest(".ref") || !page.advance(ks)) page.choose(ks);
-    else if (isReady) queueMicrotask(() => byId("now").querySelector("button")?.focus());
+    else if (isReady) queueMicrotask(() => (byId("now").querySelector("button") ?? byId("told")).focus());
   }
 
   acts() {
@@ -77,25 +92,70 @@ class Controls {
       last: () => page.step(page.plan.size),
       play: () => this.play(!this.player),
       undo: () => page.act((walk) => walk.undo()),
+      redo: () => page.act((walk) => walk.redo()),
+      nearer: () => page.zoomBy(1.25),
+      farther: () => page.zoomBy(0.8),
+      copyLink: (button) => { page.writeAddress(); copied(location.href, button); },
+      copyOrder: (button) => copied(this.orderAsList(), button),
+      savePicture: () => saved("plan.svg", "image/svg+xml", page.picture.asFile()),
       present: () => (document.fullscreenElement ? document.exitFullscreen() : document.body.requestFullscreen()),
     };
   }
 
-  // What a key does. In a field it is typed; on a button blank and Enter press that.
+  orderAsList() {
+    const { plan, walk } = this.page;
+    return walk.order.map((k) => `${k + 1}  ${plan.inWords(k)}\n`).join("");
+  }
+
+  // On a mark arrows lead to the one beside it, and blank and Enter press it; on a name they lead to the next name; and
+  // the picture itself is scrolled. All this is so only where the focus came by keys.
+  pressThere({ key, target }) {
+    const { page } = this;
+    const isArrow = /^Arrow/.test(key);
+    if (target.id === "scroll") return /^(Arrow|Home$|End$|Page)/.test(key);
+    if (target.matches(".mark:focus-visible") && (isArrow || key === " " || key === "Enter")) {
+      const mark = page.picture.layout.markOf[ksOf({ target })[0]];
+      const other = isArrow ? page.picture.beside(mark, key) : null;
+      if (other) page.chooseMark(other);
+      if (!isArrow && !page.advance(mark.ks)) page.choose(mark.ks);
+      return "done";
+    }
+    if (target.matches(".lane") && (key === " " || key === "Enter")) {
+      page.lookAt(page.picture.rowOf(target));
+      return "done";
+    }
+    if (!target.matches(".lane") || (key !== "ArrowUp" && key !== "ArrowDown")) return false;
+    const all = [...byId("names").querySelectorAll(".lane")];
+    const other = all[all.indexOf(target) + (key === "ArrowUp" ? -1 : 1)];
+    if (other) {
+      for (const each of [target, other]) each.setAttribute("tabindex", each === other ? 0 : -1);
+      other.focus();
+    }
+    return "done";
+  }
+
+  // What a key does. In a field it is typed; on a button or a box blank and Enter press that.
   press(event) {
     const { page } = this;
-    const { first, prev, next, last, play, undo, present } = this.acts();
-    const keys = { ArrowLeft: prev, ArrowRight: next, Home: first, End: last, " ": play, u: undo, f: present };
+    const isOthers = event.ctrlKey || event.metaKey || event.altKey;
+    const there = isOthers || this.pressThere(event);
+    if (there === "done") event.preventDefault();
+    if (there) return;
+    const { first, prev, next, last, play, undo, redo, present } = this.acts();
+    const keys = { ArrowLeft: prev, ArrowRight: next, Home: first, End: last, " ": play, u: undo, r: redo, f: present };
     Object.assign(keys, { j: () => page.chooseNext(1), k: () => page.chooseNext(-1), Escape: () => page.choose(null) });
     Object.assign(keys, { "/": () => byId("find").focus(), b: () => byId("bindings").click() });
     keys.t = () => page.times && page.show(page.view === "time" ? "steps" : "time");
     keys.Enter = () => page.pin && (page.advance(page.pin) || page.choose(page.pin));
-    const on = event.target.closest("input[type=search], select, button, summary");
-    const isTyped = on?.matches("input, select");
-    if (isTyped && event.key === "Escape") on.blur();
-    const isOthers = event.ctrlKey || event.metaKey || event.altKey;
+    const on = event.target.closest("input[type=search], input[type=checkbox], select, button, summary");
+    const isTyped = on?.matches("input[type=search], select");
+    if (isTyped && event.key === "Escape") {
+      if (on.id === "find" && on.value) page.clear();
+      on.blur();
+    }
     const isPressed = on && (event.key === " " || event.key === "Enter");
-    if (isOthers || isTyped || isPressed || !Object.hasOwn(keys, event.key)) return;
+    const isOff = /^[a-z/]$/.test(event.key) && !byId("letters").checked;
+    if (isTyped || isPressed || isOff || !Object.hasOwn(keys, event.key)) return;
     event.preventDefault();
     keys[event.key]();
   }

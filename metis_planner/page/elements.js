@@ -21,6 +21,20 @@ function put(element, ...children) {
   return element;
 }
 
+// Into the clipboard; and the button says so for a while.
+async function copied(text, button) {
+  const was = button.textContent;
+  const said = await navigator.clipboard.writeText(text).then(() => "copied", () => "not copied");
+  put(button, said);
+  setTimeout(() => put(button, was), 1_500);
+}
+
+function saved(name, type, text) {
+  const href = URL.createObjectURL(new Blob([text], { type }));
+  h("a", { href, download: name }).click();
+  setTimeout(() => URL.revokeObjectURL(href), 1_000);
+}
+
 const pen = document.createElement("canvas").getContext("2d");
 pen.font = '11.5px system-ui, "DejaVu Sans", sans-serif';
 const widths = new Map();

@@ -68,7 +68,7 @@ class Layout {
     const hostRows = ([host, all]) => [{ host, label: host, instances: [] }, ...this.folded(all)];
     this.rows = hosts ? [...hosts].flatMap(hostRows) : this.folded(shown);
     const count = this.rows.filter(({ host }) => !host).length;
-    const least = this.isWordy ? 32 : count > 40 && !this.bars ? 17 : 20;
+    const least = this.isWordy || this.show.isNarrow ? 32 : count > 40 && !this.bars ? 17 : 20;
     this.rowHeight = Math.max(least, Math.min(54, Math.floor(380 / Math.max(1, count))));
     this.height = this.top;
     for (const row of this.rows) {

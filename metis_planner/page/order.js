@@ -72,12 +72,16 @@ class Walk {
   constructor(waits, at = 0) {
     this.waits = waits;
     this.past = [];
+    this.future = [];
     this.set([...waits.before.keys()], at, "printed", false);
   }
 
   // `name` is what the menu of orders calls it. An order that is left can be come back to, unless it was the folder's.
   set(order, at, name = this.name, isKept = true) {
-    if (isKept && order !== this.order) this.past = [...this.past, [this.order, this.at, this.name]].slice(-300);
+    if (isKept && order !== this.order) {
+      this.past = [...this.past, [this.order, this.at, this.name]].slice(-300);
+      this.future = [];
+    }
     if (order !== this.order) this.place = placesIn(order);
     this.order = order;
     this.name = name;
@@ -116,9 +120,14 @@ class Walk {
     this.set(order, count < 0 ? order.length : count);
   }
 
-  undo() {
-    const last = this.past.pop();
-    if (last) this.set(...last, false);
+  undo = () => this.leaveFor(this.past, this.future);
+  redo = () => this.leaveFor(this.future, this.past);
+
+  leaveFor(from, to) {
+    const other = from.pop();
+    if (!other) return;
+    to.push([this.order, this.at, this.name]);
+    this.set(...other, false);
   }
 }
 

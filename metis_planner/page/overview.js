@@ -13,12 +13,13 @@ class Overview {
 
   // Where the whole is seen anyway, there is no map.
   paint() {
-    const { canvas, picture: { box, names, layout } } = this;
+    const { canvas, picture: { box, layout } } = this;
     canvas.hidden = box.scrollWidth <= box.clientWidth + 2 && box.scrollHeight <= box.clientHeight + 2;
     if (canvas.hidden) return;
     const [width, height, ratio] = [canvas.clientWidth, canvas.clientHeight, devicePixelRatio];
     Object.assign(canvas, { width: width * ratio, height: height * ratio });
     const [ink, x, y] = [canvas.getContext("2d"), width / layout.width, height / layout.height];
+    const { zoom } = this.picture.page;
     const style = getComputedStyle(canvas);
     ink.scale(ratio, ratio);
     for (const [status, colour] of Object.entries(MAP_COLOURS)) {
@@ -28,14 +29,17 @@ class Overview {
       }
     }
     ink.strokeStyle = style.color;
-    const seen = [box.clientWidth - names.offsetWidth, box.clientHeight];
-    ink.strokeRect(box.scrollLeft * x + 0.5, box.scrollTop * y + 0.5, seen[0] * x - 1, seen[1] * y - 1);
+    const inside = [box.scrollLeft, box.scrollTop, box.clientWidth, box.clientHeight];
+    const [left, top, wide, high] = inside.map((n) => n / zoom);
+    const seen = wide - this.picture.namesWidth();
+    ink.strokeRect(left * x + 0.5, top * y + 0.5, seen * x - 1, high * y - 1);
   }
 
   move({ buttons, offsetX, offsetY }) {
-    const { canvas, picture: { box, names, layout } } = this;
+    const { canvas, picture: { box, layout, page: { zoom } } } = this;
     if (!buttons) return;
-    box.scrollLeft = (offsetX / canvas.clientWidth) * layout.width - (box.clientWidth - names.offsetWidth) / 2;
-    box.scrollTop = (offsetY / canvas.clientHeight) * layout.height - box.clientHeight / 2;
+    const room = box.clientWidth - this.picture.namesWidth() * zoom;
+    box.scrollLeft = (offsetX / canvas.clientWidth) * layout.width * zoom - room / 2;
+    box.scrollTop = (offsetY / canvas.clientHeight) * layout.height * zoom - box.clientHeight / 2;
   }
 }

@@ -30,13 +30,19 @@ class Panel {
 
   sayCount() {
     const { walk } = this.page;
-    const ready = this.page.ready().length;
-    const rest = ` · ${ready} ready · ${this.plan.size - walk.at - ready} waiting`;
+    const of = grouped(this.plan.actions.keys(), this.page.statusOf);
+    const count = (status) => of.get(status)?.length ?? 0;
+    const begun = ["running", "failed"].filter(count).map((status) => ` · ${count(status)} ${status}`);
+    const rest = `${begun.join("")} · ${count("ready")} ready · ${count("")} waiting`;
     put(byId("count"), `${walk.at} of ${this.plan.size}`, soft(rest));
     byId("slide").value = walk.at;
-    byId("undo").disabled = !walk.past.length;
-    for (const id of ["first", "prev"]) byId(id).disabled = walk.at === 0;
-    for (const id of ["next", "last"]) byId(id).disabled = walk.at === this.plan.size;
+    byId("slide").setAttribute("aria-valuetext", `${walk.at} of ${this.plan.size} are done`);
+    // A button that is off keeps the focus, which one that is disabled loses.
+    const off = (ids, isOff) => ids.forEach((id) => byId(id).setAttribute("aria-disabled", isOff));
+    off(["undo"], !walk.past.length);
+    off(["redo"], !walk.future.length);
+    off(["first", "prev"], walk.at === 0);
+    off(["next", "last"], walk.at === this.plan.size);
   }
 
   // What is pointed at or chosen, an action or those of one mark; else the next action.
@@ -53,12 +59,13 @@ class Panel {
   severalTold(ks) {
     const { page, plan } = this;
     const count = (status) => ks.filter((k) => page.statusOf(k) === status).length;
-    const [done, ready] = [count("done"), count("ready")];
-    const verb = page.live ? "try" : "do";
+    const ready = count("ready");
+    const begun = ["running", "failed"].filter(count).map((status) => `${count(status)} ${status}, `);
+    const verb = page.live ? "try" : "step";
     return [
       h("p", { class: "say" }, `${ks.length} actions in one mark`),
-      p(`${done} done, ${ready} ready, ${ks.length - done - ready} waiting`),
-      ready ? p(h("button", { click: () => page.advance(ks) }, `${verb} the ${ready} that are ready`)) : "",
+      p(`${count("done")} done, ${begun.join("")}${ready} ready, ${count("")} waiting`),
+      ready ? p(this.does(`${verb} the ${ready} that are ready`, () => page.advance(ks))) : "",
       ks.slice(0, MOST_TOLD).map((k) => p(sign(page.walk.isDone(k)), " ", this.ref(k), ` ${plan.inWords(k)}`)),
       ks.length > MOST_TOLD ? p(soft(`and ${ks.length - MOST_TOLD} more`)) : "",
     ];
@@ -70,21 +77,26 @@ class Panel {
     const begun = page.live?.begun(k);
     const left = [...page.walk.waits.allBefore(k)].filter((q) => !page.walk.isDone(q)).length;
     const states = { done: "done", ready: "ready now", running: "being done", failed: begun?.said };
-    const state = `${isNext ? "next; " : ""}${states[status] ?? `waits for ${left} more`}`;
+    const state = `${isNext && !begun ? "next; " : ""}${states[status] ?? `waits for ${left} more`}`;
     return [
       p(h("span", { class: "say" }, `${k + 1}  ${plan.inWords(k)}`), soft(` — ${state}`)),
       page.hot ? "" : this.button(k, status, left),
       this.before(k),
       this.after(k),
-      this.timeOf(k),
-      begun?.tail.length ? h("pre", {}, begun.tail.join("\n")) : "",
+      this.timeOf(k, status),
     ];
+  }
+
+  // A button that changes what is told, and with that itself: the focus goes on to what is told then.
+  does(text, act) {
+    const focus = () => (byId("told").querySelector("button:not(.ref)") ?? byId("told")).focus();
+    return h("button", { click: () => { act(); queueMicrotask(focus); } }, text);
   }
 
   button(k, status, left) {
     const { page } = this;
-    const verb = page.live ? "try it" : "do it";
-    const of = (text, click) => p(h("button", { click }, text));
+    const verb = page.live ? "try it" : "step it";
+    const of = (text, act) => p(this.does(text, act));
     if (status === "ready") return of(verb, () => page.advance([k]));
     if (status === "done") return of("back to before it", () => page.step(page.walk.place[k]));
     return status ? "" : of(`${verb}, with the ${left} that it needs`, () => page.act((walk) => walk.advanceTo(k)));
@@ -110,23 +122,31 @@ class Panel {
     return p(direct, " In all ", count("ups", `${before} before it`), ", and ", count("dns", `${after} after it`), ".");
   }
 
-  timeOf(k) {
+  timeOf(k, status) {
     const { times, live } = this.page;
     const [start, end, slack] = times?.bars[k] ?? [];
     if (start === undefined) return "";
-    const late = slack ? `; it may start ${slack} later.` : "; no time to lose.";
-    return p(`At ${+start.toFixed(2)} to ${+end.toFixed(2)} ${times.unit}`.trim(), live ? "." : late);
+    const of = (time) => `${+time.toFixed(2)} ${times.unit}`.trim();
+    if (status === "running") return p(`Since ${of(start)}, for ${of(end - start)}.`);
+    const late = slack ? `; it may start ${of(slack)} later.` : "; no time to lose.";
+    return p(`At ${+start.toFixed(2)} to ${of(end)}`, live ? "." : late);
   }
 
   sayNow(all) {
     const { page, plan } = this;
-    const ready = page.ready();
+    const found = new Set(page.found);
+    const all_ = page.ready();
+    const ready = all_.filter((k) => found.has(plan.actions[k].instance));
+    const hidden = all_.length - ready.length;
     const item = (k) => h("li", {}, h("button", { "data-k": k }, soft(`${k + 1} `), plan.inWords(k)));
     const any = page.live?.isFollowing() ? "Ready: make may begin any of these" : "Ready now: any of these may be next";
-    const none = page.walk.at === plan.size ? "Nothing is left" : "Nothing else is ready";
+    const nothing = hidden ? "Nothing shown is ready" : "Nothing else is ready";
+    const none = page.walk.at === plan.size ? "Nothing is left" : nothing;
     const title = ready.length > 1 ? any : ready.length ? "Ready now" : none;
     const more = ready.length > MOST_READY ? p(soft(`and ${ready.length - MOST_READY} more`)) : "";
-    put(byId("now"), this.lamps(all), h("h2", {}, title), h("ul", {}, ready.slice(0, MOST_READY).map(item)), more);
+    const rest = hidden ? p(soft(`and ${hidden} in lanes that are hidden`)) : "";
+    const list = h("ul", {}, ready.slice(0, MOST_READY).map(item));
+    put(byId("now"), this.lamps(all), h("h2", {}, title), list, more, rest);
   }
 
   // Of a rollout: whether what was there is whole, and what is to be.
@@ -145,7 +165,7 @@ class Panel {
 
   sayStanding(all) {
     const { plan, page } = this;
-    const found = new Set(page.instancesFound());
+    const found = new Set(page.found);
     const last = page.walk.at ? plan.actions[page.walk.order[page.walk.at - 1]] : {};
     const isFar = (instance) => Number(last.instance !== instance && last.provider !== instance);
     const shown = [...all.keys()].filter((instance) => found.has(instance)).sort((one, other) => one - other);
@@ -184,6 +204,20 @@ class Panel {
       others.map(([port, from]) => h("span", { class: "no" }, `bound: ${port} from ${plan.who(from)}`)),
       lacks.length ? soft(`○ ${plan.actions[next].to} will need ${listed(lacks)}`) : "",
     );
+  }
+
+  // How many lanes are shown of how many, and the way back to all of them.
+  sayFound() {
+    const { page, plan, page: { found, walk } } = this;
+    const asked = byId("find").value.trim();
+    const all = plan.lanes.size;
+    const none = `no lane ${asked ? `has ${asked}` : "is such"}`;
+    const lanes = found.length ? `${found.length} of ${plural(all, "lane")}` : none;
+    const next = plan.actions[walk.order[walk.at]];
+    const isHidden = found.length && next && !found.includes(next.instance);
+    const aside = isHidden ? "; the next action is in a lane that is hidden" : "";
+    const clear = h("button", { class: "ref", click: () => page.clear() }, "show all");
+    put(byId("found"), found.length === all && !asked && !page.only ? "" : [lanes, aside, " – ", clear]);
   }
 
   sayTable() {

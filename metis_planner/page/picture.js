@@ -21,8 +21,12 @@ class Picture {
   draw(layout, room) {
     this.layout = layout;
     put(this.names, layout.rows.map((row) => this.name(row)));
+    layout.rows.find(({ button }) => button)?.button.setAttribute("tabindex", 0);
     this.names.style.setProperty("--top", `${layout.top}px`);
-    layout.fit((room ?? this.box.clientWidth) - this.names.offsetWidth);
+    const { zoom } = this.page;
+    for (const part of [this.names, this.pane]) part.style.zoom = room || zoom === 1 ? "" : zoom;
+    this.names.style.maxWidth = room || zoom <= 1 ? "" : `${Math.min(60, 30 * zoom)}%`;
+    layout.fit(room ? room - this.names.offsetWidth : this.box.clientWidth / zoom - this.namesWidth());
     const { width, height, marks, edges } = layout;
     const label = `${plural(marks.length, "mark")} in ${plural(layout.rows.length, "row")}`;
     const name = marks.length > 150 ? "many" : "";
@@ -68,14 +72,15 @@ class Picture {
     const [isChain, isRect] = [bars && this.page.times.chain.has(ks[0]), bars || isWordy];
     const label = ks.length > 1 ? mark.text : `${mark.number}${this.page.plan.inWords(ks[0])}`;
     const name = `mark ${shape}${isChain ? " chain" : ""}`;
-    const own = { "data-k": ks.join(" "), class: name, tabindex: -1, role: "button" };
+    mark.label = label;
+    const own = { "data-k": ks.join(" "), class: name, tabindex: mark.index ? -1 : 0, role: "button" };
     const parts = bars ? this.bar(mark) : isWordy ? this.pill(mark) : [s("path", { d: SHAPES[shape] })];
     const under = { class: "tiny", x: isRect ? width / 2 : 0, y: isWordy ? 22 : 17, "text-anchor": "middle" };
     const number = ks.length === 1 && hasNumbers && !bars ? s("text", under, `${ks[0] + 1}`) : null;
     mark.count = ks.length > 1 ? s("text", under) : null;
     mark.corner = bars ? `${width},-8` : isWordy ? `${width},-12` : "8,-8";
     mark.status = "";
-    const at = { transform: `translate(${isRect ? x : x + width / 2},${y})`, "aria-label": label };
+    const at = { transform: `translate(${isRect ? x : x + width / 2},${y})`, "aria-label": `${label}, waits` };
     mark.element = s("g", { ...own, ...at }, parts, number, mark.count);
     return mark.element;
   }
@@ -118,9 +123,15 @@ class Picture {
     const { roles, wishes } = this.page.plan;
     const [role, wish] = row.instances.length === 1 ? [roles, wishes].map((all) => all.get(row.instances[0])) : [];
     const title = role ? `${row.label}: ${role}${wish ? `, as is wished: ${wish}` : ""}` : row.label;
-    const name = h("b", {}, role && h("small", { class: role }, ROLES[role], " "), row.label);
+    const isShort = row.label.length <= END_OF_A_NAME;
+    const partOf = (part, place) => part && h("span", { class: `part${place}` }, part);
+    const parts = isShort ? row.label : nameParts(row.label).map(partOf);
+    const shown = [role && h("small", { class: role }, ROLES[role], " "), parts];
     const own = { title, class: row.host ? "host" : "" };
     row.state = h("i");
+    const lane = { class: isShort ? "lane" : "lane cut", tabindex: -1, role: "button" };
+    const name = h("b", row.host ? {} : lane, shown);
+    row.button = row.host ? null : name;
     row.name = h("div", own, name, wish && h("small", { class: "wide" }, wish), row.state);
     row.name.style.height = `${row.height}px`;
     return row.name;
@@ -155,6 +166,7 @@ class Picture {
     if (status === mark.status) return;
     if (mark.status) mark.element.classList.remove(mark.status);
     if (status) mark.element.classList.add(status);
+    mark.element.setAttribute("aria-label", `${mark.label}, ${status || "waits"}`);
     if (mark.status === "failed") mark.element.querySelector(".badge").remove();
     if (status === "failed") {
       const sign = [s("circle", { r: 7 }), s("text", { y: 4, "text-anchor": "middle" }, "!")];
@@ -192,21 +204,65 @@ class Picture {
     }
   }
 
+  rowOf = (lane) => this.layout.rows.find(({ button }) => button === lane);
+
+  // The mark at a point, or the nearest one of those at most 12 away: what is small to see is not small to tap.
+  near({ clientX, clientY }) {
+    const { left, top } = this.svg.getBoundingClientRect();
+    const [x, y] = [(clientX - left) / this.page.zoom, (clientY - top) / this.page.zoom];
+    const farOf = (mark) => Math.max(mark.x - x, x - mark.x - mark.width, Math.abs(mark.y - y) - 4);
+    return this.layout.marks.reduce((near, mark) => (farOf(mark) <= (near ? farOf(near) : 12) ? mark : near), null);
+  }
+
   pin(ks, isPinned) {
     for (const k of ks ?? []) this.layout.markOf[k]?.element.classList.toggle("pin", isPinned);
+    const mark = this.layout.markOf[ks?.[0]];
+    if (mark && isPinned) this.rove(mark);
+  }
+
+  // Of all marks one is reached by Tab: the one that was chosen last. From there arrows lead on.
+  rove(mark) {
+    this.svg.querySelector(".mark[tabindex='0']")?.setAttribute("tabindex", -1);
+    mark.element.setAttribute("tabindex", 0);
+  }
+
+  // The mark beside one in its row, or the nearest one of the next row that has any.
+  beside(mark, key) {
+    const { marks } = mark.row;
+    const along = { ArrowLeft: -1, ArrowRight: 1 }[key];
+    if (along) return marks[marks.indexOf(mark) + along];
+    const rows = this.layout.rows.filter((row) => row.marks.length);
+    const row = rows[rows.indexOf(mark.row) + (key === "ArrowUp" ? -1 : 1)];
+    return row?.marks.reduce((near, each) => (Math.abs(each.x - mark.x) < Math.abs(near.x - mark.x) ? each : near));
   }
 
   // Scrolls the lanes so that an action is seen. The names cover what is left of it.
   bringIn(k) {
     const mark = this.layout.markOf[k];
     if (!mark) return;
-    const { box } = this;
-    const room = box.clientWidth - this.names.offsetWidth;
-    const isAside = mark.x < box.scrollLeft + 10 || mark.x + mark.width > box.scrollLeft + room - 10;
-    if (isAside) box.scrollLeft = mark.x - room / 3;
-    const isBelow = mark.y < box.scrollTop + 40 || mark.y > box.scrollTop + box.clientHeight - 20;
-    if (isBelow) box.scrollTop = mark.y - box.clientHeight / 2;
+    const { box, page: { zoom } } = this;
+    const [room, x, y] = [box.clientWidth - this.namesWidth() * zoom, mark.x * zoom, mark.y * zoom];
+    const isAside = x < box.scrollLeft + 10 || x + mark.width * zoom > box.scrollLeft + room - 10;
+    if (isAside) box.scrollLeft = x - room / 3;
+    const isBelow = y < box.scrollTop + 40 || y > box.scrollTop + box.clientHeight - 20;
+    if (isBelow) box.scrollTop = y - box.clientHeight / 2;
   }
 
-  lower = () => byId("head").setAttribute("transform", `translate(0,${this.box.scrollTop})`);
+  // How wide the names are before they are zoomed.
+  namesWidth = () => this.names.getBoundingClientRect().width / this.page.zoom;
+  lower = () => byId("head").setAttribute("transform", `translate(0,${this.box.scrollTop / this.page.zoom})`);
+
+  // The picture as a file of its own, with the names of the lanes and its style.
+  asFile() {
+    const { rows, width, height } = this.layout;
+    const side = 16 + Math.max(0, ...rows.map(({ label }) => widthOf(label)));
+    const nameOf = ({ label, y, height: own }) => s("text", { x: 8, y: y + own / 2 + 4, class: "lane-name" }, label);
+    const style = s("style", {}, document.querySelector("style").textContent);
+    const size = { xmlns: SVG, width: side + width, height, viewBox: `0 0 ${side + width} ${height}` };
+    const ground = s("rect", { class: "ground", width: side + width, height });
+    const drawn = s("g", { transform: `translate(${side},0)` });
+    for (const part of this.svg.childNodes) drawn.append(part.cloneNode(true));
+    const own = { ...size, class: this.svg.getAttribute("class") };
+    return s("svg", own, style, ground, rows.map(nameOf), drawn).outerHTML;
+  }
 }

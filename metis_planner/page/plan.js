@@ -28,6 +28,15 @@ function universeOf(rows) {
   return new Map(rows.map(([type, states]) => [type, new Map(states.map(stateOf))]));
 }
 
+// A name in three parts, of which the first is cut where there is no room, then the second, and the third never: what
+// tells names apart is at their end.
+const END_OF_A_NAME = 12;
+function nameParts(name) {
+  const own = name.lastIndexOf("/") + 1;
+  const end = Math.max(own, name.length - END_OF_A_NAME);
+  return [name.slice(0, own), name.slice(own, end), name.slice(end)];
+}
+
 class Plan {
   constructor(data) {
     const holds = new Map(data.holds);
@@ -79,11 +88,11 @@ class Plan {
     return `${this.who(action.provider)} has to ${other.verb === "new" ? "be there" : `be in ${other.to}`}`;
   }
 
-  // The instances that are looked for: by a part of a name, or with `*` for any part by a whole one.
+  // The instances that are looked for: by a part of a name, or by a whole one, in quotes or with `*` for any part.
   found(asked) {
-    const wanted = asked.trim().toLowerCase();
+    const [, quoted, wanted = quoted] = asked.trim().toLowerCase().match(/^"([^"]+)"$|^(.*)$/);
     const parts = wanted.split("*").map((part) => part.replace(/[.+?^${}()|[\]\\/]/g, "\\$&"));
-    const pattern = new RegExp(parts.length > 1 ? `^${parts.join(".*")}$` : parts[0]);
+    const pattern = new RegExp(quoted || parts.length > 1 ? `^${parts.join(".*")}$` : parts[0]);
     const portOf = (k) => (this.actions[k].verb === "bind" ? this.actions[k].port : "");
     const namesOf = (instance) => [this.who(instance), this.types.get(instance), this.hosts.get(instance) ?? ""];
     const isFound = ([instance, ks]) =>

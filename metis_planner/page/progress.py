@@ -6,11 +6,13 @@ How far each action is comes from `carry/progress.py`. The events say to the mil
 import datetime
 import hashlib
 import json
+import os
+import shlex
 import time
 from collections.abc import Mapping, Sequence
 
 from metis_planner.carry import progress
-from metis_planner.carry.folder import EVENTS, LOG, PLAN, ROLLOUTS, Folder, Mark
+from metis_planner.carry.folder import DONE, EVENTS, LOG, PLAN, ROLLOUTS, Folder, Mark
 from metis_planner.carry.progress import Row, Stage
 from metis_planner.carry.steps import Step
 from metis_planner.draw import gantt
@@ -35,10 +37,46 @@ def state_of(folder: Folder, with_logs: bool) -> State:
     return {
         "plan": hashlib.sha256(parts).hexdigest()[:16],
         "now": round(time.time(), 3),
+        "folder": shlex.quote(plain(folder.path.resolve().name, 200)),
         "done": as_it_happened(steps, took),
         "begun": [begun_value(folder, row, with_logs) for row in begun],
         "times": times_of(steps, took, open_spans(begun, moments_in(folder))),
     }
+
+
+class Followed:
+    """The state of a folder for who asks again and again: it is read anew if anything in the folder is newer, or if a step runs."""
+
+    def __init__(self, folder: Folder, with_logs: bool) -> None:
+        self.folder, self.with_logs = folder, with_logs
+        self.signs: tuple[object, ...] = ()
+        self.known: State = {}
+
+    def state(self) -> State:
+        signs = self.signs_now()
+        if signs != self.signs or self.is_running():
+            self.known = state_of(self.folder, self.with_logs)
+            self.signs = signs
+        else:
+            self.known = {**self.known, "now": round(time.time(), 3)}
+        return self.known
+
+    def is_running(self) -> bool:
+        begun = self.known.get("begun")
+        return isinstance(begun, list) and any(each["status"] == "running" for each in begun)
+
+    def signs_now(self) -> tuple[object, ...]:
+        """When what a page shows of the folder was changed last, and how long it is."""
+        path = self.folder.path
+        logs = sorted(os.scandir(path / LOG), key=lambda entry: entry.name) if (path / LOG).is_dir() else []
+        signs = [(each.name, each.stat().st_mtime_ns, each.stat().st_size) for each in logs]
+        for name in (PLAN, ROLLOUTS, DONE, EVENTS):
+            try:
+                found = (path / name).stat()
+            except OSError:
+                continue
+            signs.append((name, found.st_mtime_ns, found.st_size))
+        return tuple(signs)
 
 
 def settled_marks(folder: Folder, steps: Sequence[Step]) -> dict[str, Mark]:

@@ -215,24 +215,31 @@ class Picture:
 
     def link(self, link: Link) -> Iterator[str]:
         path, tip, text = self.curve(link)
+        is_aside = self.is_down and self.cause.nodes[link.start].column >= self.cause.nodes[link.end].column
+        wide = CHARACTER * len(link.text)
+        left = text[0] if is_aside else max(EDGE, text[0] - wide / 2)
+        self.reach(left + wide, 0)
         ring = " ring" if self.cause.is_in_ring(link) else ""
         way = " way" if link.is_way else ""
         own = f'data-lines="{"" if link.line is None else link.line}"'
         yield f'<path class="arrow{way}{ring}" {own} d="{path}"/>'
         yield f'<path class="tip{ring}" {own} d="M0 0L-9-5L-9 5Z" transform="translate({tip[0]:.1f},{tip[1]:.1f}) rotate({tip[2]})"/>'
         label = html.escape(link.text)
-        yield f'<text class="tag{ring}" {own} x="{text[0]:.1f}" y="{text[1]:.1f}" text-anchor="middle">{label}</text>'
+        at, anchor = (left, "start") if is_aside else (left + wide / 2, "middle")
+        yield f'<text class="tag{ring}" {own} x="{at:.1f}" y="{text[1]:.1f}" text-anchor="{anchor}">{label}</text>'
 
     def curve(self, link: Link) -> tuple[str, tuple[float, float, int], tuple[float, float]]:
         """The path of a link, its tip with the way it points, and where its text is."""
         (x, y), (to_x, to_y) = self.at[link.start], self.at[link.end]
         back = self.cause.nodes[link.start].column - self.cause.nodes[link.end].column
         if back >= 0 and self.is_down:
-            out = max(x, to_x) + self.width + 46
+            first, last = self.cause.nodes[link.end].column, self.cause.nodes[link.start].column
+            beside = [self.at[place][0] for place, node in enumerate(self.cause.nodes) if first <= node.column <= last]
+            out = max(beside) + self.width + 46
             y1, y2 = y + HEIGHT / 2, to_y + HEIGHT / 2
             path = curved((x + self.width, y1), (out, y1), (out, y2), (to_x + self.width + 7, y2))
             self.reach(out + 20, 0)
-            return path, (to_x + self.width, to_y + HEIGHT / 2, 180), (out - 12, (y + to_y + HEIGHT) / 2)
+            return path, (to_x + self.width, to_y + HEIGHT / 2, 180), (out - 4, (y + to_y + HEIGHT) / 2)
         if back >= 0:
             low = max(y, to_y) + HEIGHT + 30 + 14 * back
             x1, x2 = x + self.width / 2 + 12, to_x + self.width / 2 - 12

@@ -8,9 +8,9 @@ import pathlib
 from collections.abc import Iterable, Sequence
 
 from metis_planner.page import wished
-from metis_planner.page.doubles import told_doubles
 from metis_planner.page.verdict import Verdict
 from metis_planner.text import plans
+from metis_planner.text.doubles import told_doubles
 
 HERE = pathlib.Path(__file__).resolve().parent
 NO_NETWORK, OWN_SERVER = "'none'", "'self'"
@@ -19,6 +19,11 @@ OF_A_PLAN = (
 )  # fmt: skip
 PRESENT = '<button id="present" aria-label="full screen (f)">full screen</button>'
 OF_REASONS = ("elements", "reasons", "start")
+OF_WHAT = {
+    "plan": "A deployment plan. Step through it, or click what is ready to try an order of your own; nothing is carried out.",
+    "folder": "A deployment as it is carried out in a folder. This page looks at it and carries nothing out.",
+    "reasons": "Why there is no plan for this target. Point at a sentence to see it in the picture.",
+}
 
 
 def of_plan(
@@ -30,6 +35,9 @@ def of_plan(
     times = value["times"]
     if isinstance(times, dict) and times["note"]:
         summary += f"; {times['note']}"
+    targets = value.get("targets")
+    if isinstance(targets, list) and targets:
+        summary += f"; for {', '.join(map(str, targets))}"
     body = filled("plan.html", {"WISHES": wished.section(wishes), "DOUBLES": doubles_of(plan, value)})
     return page({"TITLE": title, "SUM": summary}, verdict, body, {"kind": "plan", **value}, OF_A_PLAN, network)
 
@@ -57,6 +65,7 @@ def page(
     told = {
         **texts,
         "KIND": str(value["kind"]),
+        "WHAT": OF_WHAT["folder" if "live" in value else str(value["kind"])],
         "TIME": "what happened" if "live" in value else "time",
         "VERDICT": verdict.kind,
         "SAID": verdict.text,

@@ -334,7 +334,7 @@ check = 'test -e "$TOP/$METIS_NAME" || {{ echo "it is gone"; exit 1; }}'
         job.communicate(timeout=DEADLINE)
         status, text, _ = call("status", self.folder)
         self.assertEqual(status, 1)
-        self.assertIn("  failed   Db#1: off -> on: failed with status 5; metis log FOLDER Db#1\n             | why\n", text)
+        self.assertIn(f"  failed   Db#1: off -> on: failed with status 5; metis log {self.folder} Db#1\n             | why\n", text)
         found = json.loads(call("status", self.folder, "--json")[1])
         self.assertEqual(found["counts"], {"done": 2, "running": 0, "failed": 1, "ready": 0, "waiting": 2})
         self.assertEqual(found["actions"][3]["waits_for"], [3])

@@ -1,3 +1,4 @@
+import fcntl
 import json
 import pathlib
 import shutil
@@ -5,7 +6,7 @@ import subprocess
 import unittest
 import xml.dom.minidom
 
-from metis_planner.draw.chart import CRITICAL, Chart
+from metis_planner.draw.chart import CRITICAL, FRAMES, Chart
 from tests.carry.shapes import CROSSED, REBOUND, ROLLED, WEB, FolderCase, call, plan_text
 from tests.carry.test_commands import UNIVERSE
 
@@ -158,6 +159,24 @@ class ChartTest(FolderCase):
         # 11 waited for the barrier, and what ended last of the fresh ones is 10, behind 9, behind 6.
         self.assertEqual(red, ["6", "9", "10", "11"])
         self.assertIn(">10.5 s</text>", chart)
+
+    def test_of_a_folder_what_failed_and_what_runs(self):
+        commands = '[[step]]\nwhen = "*: off -> on"\nrun = "exit 3"\n[[step]]\nwhen = "*: new"\nrun = "true"\n'
+        self.exported(WEB, commands=commands, more=["--lax"])
+        self.make("-k")
+        status, chart, said = call("gantt", self.folder)
+        self.assertEqual((status, said), (0, ""))
+        xml.dom.minidom.parseString(chart)
+        titles = [line.split("<title>")[1].split("</title>")[0] for line in chart.splitlines() if "<title>" in line]
+        (failed,) = [title for title in titles if title.startswith("3 Db#1: off -&gt; on")]
+        self.assertTrue(failed.endswith(", failed"), failed)
+        self.assertIn(FRAMES["failed"], next(line for line in chart.splitlines() if "<title>3 " in line))
+        self.assertIn(">failed</text>", chart)
+        self.assertNotIn("longest chain", chart)
+        with open(self.folder / "log" / "1.2", "ab") as log:
+            fcntl.flock(log, fcntl.LOCK_EX)
+            chart = call("gantt", self.folder)[1]
+        self.assertIn(FRAMES["running"], next(line for line in chart.splitlines() if "<title>3 " in line))
 
     def test_ticks_are_round_and_few(self):
         for finish, expected in (

@@ -3,7 +3,9 @@ import pathlib
 import tempfile
 import unittest
 
-from tests.carry.shapes import REBOUND, WEB
+from metis_planner.look import show
+from metis_planner.text import plans
+from tests.carry.shapes import CROSSED, REBOUND, WEB
 from tests.test_words import run
 from tests.text.test_plans import EXPLANATION, PLAN, REFUSAL
 
@@ -25,9 +27,59 @@ class ShowTest(unittest.TestCase):
             "4 Web#0 takes sql from Db#1 after 3",
             "5 Web#0 lets sql of Db#1 go",
             "6 delete Db#1 after 5",
-            "one more for Db:on: without it each of 0.2, 1.end would wait for the next, and the last for the first",
+            "Db#1 is one more Db for on. Without it these would wait for each other:",
+            "1. 0.2 waits for 2",
+            "2. 1.end waits for 1 again",
         ]
         self.assertEqual(self.shown(PLAN), expected)
+
+    def test_a_double_with_its_circle_in_words(self):
+        """Worked out by hand from the life lines of the plan: 0.2 is the second step of instance 0, and so on."""
+        status, shown, _ = run("-m", "metis_planner", "show", text=CROSSED)
+        self.assertEqual((status, "would wait for the next" in shown), (0, False))
+        lines = [line.strip() for line in shown.splitlines()]
+        at = lines.index("A#2 is one more A for a1. Without it these would wait for each other:")
+        self.assertEqual(lines[at + 1], "1. A#0: a1 -> a2 waits for 2")
+        self.assertTrue(lines[-1].endswith("waits for 1 again, in its own order"))
+
+    def test_only_what_is_named(self):
+        for pattern, numbers, others in (("Db*", [2, 3], 3), ("Web#0", [1, 4, 5], 2), ("Db", [2, 3], 3), ("*", [1, 2, 3, 4, 5], 0)):
+            status, shown, _ = run("-m", "metis_planner", "show", "--only", pattern, text=WEB)
+            lines = shown.splitlines()
+            self.assertEqual([int(line.split()[0]) for line in lines if "other instances" not in line], numbers, pattern)
+            self.assertEqual(f"and {others} of other instances" in shown, others > 0)
+        status, shown, _ = run("-m", "metis_planner", "show", "--only", "Db*", "--only", "Web*", text=WEB)
+        self.assertEqual(len(shown.splitlines()), 5)
+
+    def test_what_may_go_on_at_once(self):
+        status, shown, _ = run("-m", "metis_planner", "show", "--stage", text=WEB)
+        expected = [
+            "stage 1: 1 make Web#0; 2 make Db#1",
+            "stage 2: 3 Db#1: off -> on",
+            "stage 3: 4 Web#0 takes sql from Db#1",
+            "stage 4: 5 Web#0: off -> run",
+        ]
+        self.assertEqual(shown.splitlines(), expected)
+
+    def test_on_a_terminal_no_line_is_wider_than_it_and_the_first_says_how_much_there_is(self):
+        name = "Deployment-of-a-workflow-controller-with-a-long-name"
+        lines = [f"{n + 1} new {n} {name}" for n in range(30)]
+        lines += [f"{n + 31} bind some-port-of-it {n} 29" for n in range(20)]
+        lines += [f"51 delete 29 after {', '.join(map(str, range(31, 51)))}".replace(", ", " ")]
+        text = f"metis plan 1\ninstances 30 actions 51 dups 0\n{chr(10).join(lines)}\nend\n"
+        plan = plans.read(text)
+        for columns in (40, 60, 80, 120, 200):
+            look = show.Look()
+            look.columns = columns
+            for look.by_stage in (False, True):
+                found = list(show.plan_lines(plan, look))
+                self.assertLessEqual(max(map(len, found)), columns)
+                self.assertEqual(found[0], "30 instances, 51 actions, 3 stages")
+        wide = list(show.plan_lines(plan, show.Look()))
+        self.assertGreater(max(map(len, wide)), 80)
+        self.assertEqual(len(wide), 51)
+        for text in show.first_of("after 1, 2, 3, 4, 5, 6", 19), show.first_of("after 1, 2, 3", 99):
+            self.assertIn(text, ("after 1, 2 and 4 more", "after 1 and 5 more", "after 1, 2, 3"))
 
     def test_a_refusal(self):
         expected = ["port:sql is not attained; these 2 pairs are:", "Db:off", "Web:off"]
