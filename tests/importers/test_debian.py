@@ -355,6 +355,12 @@ class UpgradeTest(unittest.TestCase):
         self.assertEqual(found, expected)
         self.assertEqual(notes, ["upgraded too, so that what stands stays whole: tool"])
 
+    def test_who_is_broken_by_the_new_version_is_noted(self):
+        given = [installed("e"), installed("d", Depends="e (= 1)")]
+        stanzas = package("e", "2", Breaks="d (<< 2)"), package("d", "2", Depends="e (= 2)")
+        _, notes = imported("e", *stanzas, stands=given)
+        self.assertEqual(notes, ["upgraded too, so that what stands stays whole: d"])
+
     def test_who_depends_on_a_name_that_goes_joins(self):
         given = [installed("lib", Provides="api (= 1)"), installed("tool", Depends="api (= 1)")]
         stanzas = package("lib", "2", Provides="api (= 2)"), package("tool", "2", Depends="api (= 2)")
@@ -403,7 +409,7 @@ class UpgradeTest(unittest.TestCase):
         stanzas = package("a", Breaks="old (<< 2)"), package("old", "2"), package("rest", "2")
         found, notes = imported("a", *stanzas, stands=given)
         self.assertEqual(found, {**simple("a", "rest", "old"), **simple("old"), **simple("rest")})
-        self.assertEqual(notes, [])
+        self.assertEqual(notes, ["upgraded too, so that what stands stays whole: rest, old"])
 
     def test_what_is_broken_and_needs_what_breaks_it_is_unpacked_first(self):
         given = [installed("old")]

@@ -10,7 +10,8 @@ class BarredTest(unittest.TestCase):
         for field in ("Breaks", "Conflicts"):
             given = [installed("rest", **{field: "a (<< 9)"})]
             found, notes = imported("a", package("a"), package("rest", "2"), stands=given)
-            self.assertEqual((found, notes), ({**simple("a", "rest"), **simple("rest")}, []), field)
+            self.assertEqual(found, {**simple("a", "rest"), **simple("rest")}, field)
+            self.assertEqual(notes, ["upgraded too, so that what stands stays whole: rest"], field)
 
     def test_of_several_with_one_relation_each(self):
         given = [installed("r1", Breaks="a"), installed("r2", Breaks="a"), installed("r3", Breaks="a, b")]

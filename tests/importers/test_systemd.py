@@ -384,10 +384,15 @@ class MissingTest(unittest.TestCase):
         self.assertEqual(found, {**active("t.target"), **boot("t.target")})
         self.assertEqual(notes, [])
 
-    def test_conflicts_are_counted(self):
+    def test_conflicts_are_named(self):
         files = {"t.target": unit("Wants=a.service b.service"), "a.service": service("Conflicts=b.service x.service")}
         _, notes = imported("t.target", {**files, "b.service": service()})
-        self.assertEqual(notes, ["conflicts between these units, which cannot be said: 1"])
+        self.assertEqual(notes, ["conflicts between these units, which cannot be said: a.service with b.service"])
+
+    def test_of_many_conflicts_the_first_are_named(self):
+        files = {f"{each}.service": service("Conflicts=z.service") for each in "abcdefghijkl"}
+        _, notes = imported("t.target", {"t.target": unit("Wants=z.service " + " ".join(files)), **files, "z.service": service()})
+        self.assertRegex(notes[0], "^conflicts between these units, which cannot be said: a.service with z.service, b.service with .* and [0-9]+ more$")
 
 
 class RefusedTest(unittest.TestCase):

@@ -124,7 +124,7 @@ def universe(choices: Choices, request: Request) -> tuple[str, list[str]]:
         order.check()
     names = Names()
     writer = Writer(order, asked.names, asked.unset, request.is_strict, names)
-    notes = [*asked.notes, *unsound(choices), *notes_on(writer, found), *joining(writer, again)]
+    notes = [*asked.notes, *unsound(choices), *notes_on(writer, found), *joining(writer.order, asked.names, again)]
     return document(comment(writer, [*asked.names, *asked.unset]), writer.types(), names), notes
 
 
@@ -150,10 +150,10 @@ def notes_on(writer: Writer, found: Sequence[str]) -> Iterator[str]:
     yield from foreign.notes(installation.choices)
 
 
-def joining(writer: Writer, again: Sequence[str]) -> Iterator[str]:
+def joining(order: InstallOrder, names: Sequence[str], again: Sequence[str]) -> Iterator[str]:
     """Notes on what is upgraded so that what stands stays whole, and on what is installed again."""
-    given = writer.order.installation.choices.given
-    upgraded = [name for name in writer.joined if name in given.packages and name not in again]
+    given = order.installation.choices.given
+    upgraded = [name for name in order.unneeded(names) if name in given.packages and name not in again]
     if upgraded:
         yield f"upgraded too, so that what stands stays whole: {named(upgraded)}"
     if again:

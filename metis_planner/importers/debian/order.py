@@ -137,6 +137,11 @@ class InstallOrder:
         """These packages and all that comes before one of them."""
         return self.reached(names, lambda name: [*self.needs(name), *self.before(name)])
 
+    def unneeded(self, requested: Iterable[str]) -> list[str]:
+        """The packages on which no requested one depends: what stands would not be whole without them, or they are recommended."""
+        needed = self.reached(requested, lambda name: self.installation.needs(name, *NEEDS))
+        return [name for name in self.installation.chosen if name not in needed]
+
     def joined(self, requested: Iterable[str]) -> list[str]:
         """The packages that no requested one needs: what stands would not be whole without them, or they are recommended."""
         reached = self.all_before(requested)

@@ -189,11 +189,15 @@ def left_out(pulled: Pulled, failing: dict[str, str]) -> Iterator[str]:
     yield from (note for note in dict.fromkeys(pulled.folders.notes))
     for name, other in pulled.never_met():
         yield f"{name} asks for {other} to stand already, and nothing here starts that: it will fail"
-    conflicts = sum(
-        other in pulled.units and other != name for name, unit in pulled.units.items() for other in unit["Conflicts"]
+    conflicts = sorted(
+        f"{name} with {other}"
+        for name, unit in pulled.units.items()
+        for other in set(unit["Conflicts"])
+        if other in pulled.units and other != name
     )
     if conflicts:
-        yield f"conflicts between these units, which cannot be said: {conflicts}"
+        more = f" and {len(conflicts) - MOST_NAMED} more" if len(conflicts) > MOST_NAMED else ""
+        yield f"conflicts between these units, which cannot be said: {', '.join(conflicts[:MOST_NAMED])}{more}"
 
 
 def types_of(pulled: Pulled, failing: dict[str, str], names: Names) -> list[ComponentType]:
