@@ -29,7 +29,7 @@ import tempfile
 
 TOP = pathlib.Path(__file__).resolve().parent.parent
 
-from metis_planner.importers.systemd import Pulled, is_given
+from metis_planner.importers.systemd import Pulled
 from metis_planner.importers.systemd.units import Folders
 from trials import systemd_cases, systemd_mounts
 from trials.systemd_roots import COMMON, DESKTOP, RUNNING, SERVER
@@ -115,7 +115,7 @@ def compare(root, target):
     pulled = Pulled(folders, folders.own_name(target))
     pulled.leave_out(pulled.failing())
     ours = pulled.orders()
-    theirs = {name for name in told.started if name in ours or not is_given(name)}
+    theirs = {name for name in told.started if name in ours or not pulled.is_given(name)}
     lines, known, same = [], [], 0
     for name in sorted(ours.keys() - theirs):
         (known if told.conflicts(name) else lines).append(f"only here: {name}")
