@@ -74,7 +74,7 @@ class CarriedOutTest(FolderCase):
         self.exported(CROSSED, commands=self.commands(FAILS))
         status, _, said = self.make("-k", "-j4")
         self.assertEqual((status, self.marks()), (2, ["0.1", "0.2", "1.1", "2.1", "2.2"]))
-        self.assertIn("B#1: b0 -> b1: failed with status 7 after 0 s; the end of log/1.2:\n", said)
+        self.assertRegex(said, "B#1: b0 -> b1: failed with status 7 after [0-9]+ s; the end of log/1.2:\n")
         self.assertIn("  | this is ?[2J?why é\n", said)
         self.exported(CROSSED)
         self.assertEqual((self.make("-j4")[0], len(self.marks()), len(self.trace())), (0, 15, 16))
