@@ -274,6 +274,8 @@ class GroupTest(Waiting):
 
     def test_nobody_writes_the_folder_while_it_goes_on(self):
         shell, child = self.orphaned()
+        # What was killed may hold the folder for a moment more.
+        wait_until(lambda: "somebody else writes it" not in call("retry", self.folder, "A#0")[2])
         for words in (("retry", self.folder, "A#0"), ("split", self.folder, self.top / "new"), ("down", self.folder)):
             with self.subTest(words=words):
                 status, _, said = call(*words)
