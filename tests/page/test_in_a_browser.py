@@ -57,7 +57,7 @@ class Keys(FolderCase):
 
     def tab_to(self, selector):
         for _ in range(MOST_KEYS):
-            if self.js(f'document.activeElement.matches("{selector}")'):
+            if self.js(f'document.hasFocus() && document.activeElement.matches("{selector}")'):
                 return
             self.browser.key("Tab")
         self.fail(f"Tab does not come to {selector}")
@@ -76,8 +76,9 @@ class Keys(FolderCase):
                         nameless.append(self.js("document.activeElement.outerHTML"))
                 self.assertEqual(set(range(count)) - seen, set(), self.missed(seen))
                 self.assertEqual(nameless, [])
-                self.assertEqual(self.by_arrows(".mark"), self.js("document.querySelectorAll('#pic .mark').length"))
-                self.assertEqual(self.by_arrows(".lane"), self.js("document.querySelectorAll('.lane').length"))
+                for selector, among in ((".mark", "#pic .mark"), (".lane", ".lane")):
+                    self.open(*words)  # behind the last control Firefox leads to its own, and not back
+                    self.assertEqual(self.by_arrows(selector), self.js(f"document.querySelectorAll('{among}').length"))
 
     def missed(self, seen):
         return self.js(f"{STOPS}.filter((e, i) => !{json.dumps(sorted(seen))}.includes(i)).map((e) => e.outerHTML.slice(0, 90))")
