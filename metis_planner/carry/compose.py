@@ -93,7 +93,14 @@ def kept_in(to: str) -> dict[str, str]:
     if not path.is_file():
         return {}
     known = {*OF_DOCKER, PROFILES, *FILES, PLACE, NAME}
-    return {key: value for key, value in tomllib.loads(path.read_text())["env"].items() if key in known}
+    try:
+        told = tomllib.loads(path.read_text(encoding="utf-8"))
+    except (OSError, ValueError) as fault:
+        raise Refused(f"{path}: {fault}") from fault
+    env = told.get("env")
+    if not isinstance(env, dict):
+        raise Refused(f"{path}: it has no [env], which says of what project it is")
+    return {key: str(value) for key, value in env.items() if key in known}
 
 
 def variables(path: str, before: Mapping[str, str]) -> dict[str, str]:
@@ -121,6 +128,10 @@ def project_at(path: str, before: Mapping[str, str] = {}) -> Project:
     rows = said(["compose", "config", "--hash", "*"], folder, kept).splitlines()
     hashes = dict(row.split() for row in rows if len(row.split()) == 2)
     name = told["name"]
+    # Steps call Compose with names of services, and it would take such a one for an option.
+    options = [service for service in told["services"] if service.startswith("-")]
+    if options:
+        raise Refused(f"{path}: the name of service {options[0]} begins with a dash")
     images = {service: each.get("image") or f"{name}-{service}" for service, each in told["services"].items()}
     sums = {service: f"{hashes[service]} {identity(image, kept)}" for service, image in images.items()}
     with tempfile.TemporaryDirectory(prefix="metis-compose-") as texts:

@@ -126,6 +126,23 @@ class UpTest(ComposeCase):
         compose.project_at(str(self.file), kept)
         self.assertTrue((self.top / "calls").read_text().splitlines()[-1].endswith(" debug"))
 
+    def test_a_damaged_commands_file_is_refused_in_a_line(self):
+        folder = self.top / "f"
+        folder.mkdir()
+        for text in (b"[env\n", b"\xff\xfe", b"timeout = 1\n", b"env = 3\n"):
+            (folder / compose.COMMANDS).write_bytes(text)
+            with self.subTest(text), self.assertRaisesRegex(Refused, "^[^\n]*/commands.toml: "):
+                compose.kept_in(str(folder))
+
+    def test_no_name_of_a_service_is_an_option_of_compose(self):
+        project = self.project()
+        project["services"]["--force-recreate"] = {"image": "db", "network_mode": "none"}
+        self.write(project=project, hashes="db 1111\nweb 2222\n--force-recreate 3333\n")
+        status, out, said = self.up("--yes")
+        self.assertEqual((status, out), (1, ""))
+        self.assertIn("the name of service --force-recreate begins with a dash", said)
+        self.assertFalse((self.top / "shop/.metis").exists())
+
     def test_another_project_or_daemon_is_refused(self):
         project = compose.project_at(str(self.file))
         project.check_kept({}, "f")
