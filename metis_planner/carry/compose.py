@@ -72,15 +72,21 @@ def is_project(path: str) -> bool:
     return path.endswith(ENDINGS)
 
 
-def said(words: Sequence[str], folder: str, kept: Mapping[str, str]) -> str:
-    """What docker answers in a folder."""
+def asked(words: Sequence[str], folder: str, kept: Mapping[str, str]) -> "subprocess.CompletedProcess[str]":
     try:
-        done = subprocess.run(
+        return subprocess.run(
             ["docker", *words], cwd=folder, env={**os.environ, **kept}, stdin=subprocess.DEVNULL, capture_output=True,
             encoding="utf-8", errors="surrogateescape", check=False,
         )
     except OSError as fault:
         raise Refused(f"docker: {fault.strerror}") from fault
+
+
+def said(words: Sequence[str], folder: str, kept: Mapping[str, str]) -> str:
+    """What docker answers in a folder."""
+    done = asked(words, folder, kept)
+    if done.returncode and words[0] == "compose" and asked(["compose", "version"], folder, kept).returncode:
+        raise Refused("there is no `docker compose` here: install Docker Compose 2.22 or later")
     if done.returncode:
         last = (done.stderr.strip().splitlines() or [f"status {done.returncode}"])[-1]
         raise Refused(f"docker {' '.join(words)}: {last[:LONGEST_ANSWER]}")

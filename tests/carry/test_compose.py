@@ -20,6 +20,7 @@ echo "$* ${COMPOSE_PROFILES-}" >>calls
 case "$*" in
 "compose config --format json") cat project.json ;;
 "compose config --hash *") cat hashes ;;
+"compose version") cat version ;;
 "image inspect"*) cat image ;;
 "ps --all"*) cat containers ;;
 *) echo "no such words: $*" >&2; exit 1 ;;
@@ -36,7 +37,7 @@ class ComposeCase(FolderCase):
         (self.top / "shop").mkdir()
         self.file = self.top / "shop/compose.yaml"
         self.file.write_text("")
-        self.write(project=self.project(), hashes="db 1111\nweb 2222\n", image="sha256:abcdefabcdefabcdef\n", containers="")
+        self.write(project=self.project(), hashes="db 1111\nweb 2222\n", image="sha256:abcdefabcdefabcdef\n", containers="", version="2.26.1\n")
         before = dict(os.environ)
         self.addCleanup(lambda: (os.environ.clear(), os.environ.update(before)))
         os.environ.update(PATH=f"{self.top / 'bin'}:{os.environ['PATH']}", STAND_IN=str(self.top))
@@ -90,6 +91,12 @@ class ReadTest(ComposeCase):
         status, out, err = self.up("--yes")
         self.assertEqual((status, out, err.count("\n")), (1, "", 1), err)
         self.assertIn("docker compose config --format json: ", err)
+
+    def test_that_compose_is_not_there_is_said(self):
+        for name in ("project.json", "version"):
+            (self.top / name).unlink()
+        status, out, said = self.up("--yes")
+        self.assertEqual((status, out, said), (1, "", "metis: there is no `docker compose` here: install Docker Compose 2.22 or later\n"))
 
 
 class UpTest(ComposeCase):
