@@ -85,7 +85,7 @@ def chart_anew(text: str) -> str:
             action = step.action
             start, end = took.get(action.number, (0.0, 0.0))
             times = f"{BEGIN + start:.9f} {BEGIN + end:.9f}\n" if action.number in took else ""
-            (folder / DONE / step.key).write_text(f"{action.verb} {action.instance} {' '.join(action.words)}".strip() + f"\n{times}")
+            (folder / DONE / step.key).write_text(f"{step.line}\n{times}")
         chart = argparse.Namespace(plan=str(folder), waves=None, times=[], unit="", most=gantt.MOST_LANES)
         return gantt.run(chart).text
 

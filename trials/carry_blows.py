@@ -29,6 +29,7 @@ from collections.abc import Callable, Iterator
 from typing import NamedTuple
 
 from metis_planner.text import plans
+from metis_planner.text.actions import Bind, Delete, Move, New
 from trials.trial import TOP, Failed, expect
 
 METIS = str(TOP / "metis")
@@ -255,17 +256,17 @@ class Campaign:
         names, states, bound = dict[int, str](), dict[int, str](), dict[int, set[str]]()
         plan = plans.read(done)
         for action in plan.actions:
-            own, words = action.instance, action.words
-            if action.verb == "new":
-                names[own], states[own], bound[own] = f"{words[1].replace('@', '_')}-{own}", "made-up", set()
-            elif action.verb == "move":
-                states[own] = words[2]
-            elif action.verb == "delete":
+            own = action.instance
+            if isinstance(action, New):
+                names[own], states[own], bound[own] = f"{action.type.replace('@', '_')}-{own}", "made-up", set()
+            elif isinstance(action, Move):
+                states[own] = action.end
+            elif isinstance(action, Delete):
                 del states[own]
-            elif action.verb == "bind":
-                bound[own].add(f"port.{words[0]}.{names[action.provider]}")
+            elif isinstance(action, Bind):
+                bound[own].add(f"port.{action.port}.{names[action.provider]}")
             else:
-                bound[own].discard(f"port.{words[0]}.{names[action.provider]}")
+                bound[own].discard(f"port.{action.port}.{names[action.provider]}")
         for own, name in names.items():
             place = self.top / "system" / name
             if own in begun:

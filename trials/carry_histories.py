@@ -34,6 +34,7 @@ from metis_planner.carry.rebase import NoList
 from metis_planner.carry.stands import Stands, types_of
 from metis_planner.carry.steps import steps_of
 from metis_planner.text import plans, wishes
+from metis_planner.text.actions import Action, Bind, Move, New, Unbind, line_of
 from metis_planner.text.configurations import Configuration, after
 from metis_planner.carry.ways import GOING
 from tests import judge as rules
@@ -104,15 +105,15 @@ class Referee(Judge):
 
     asked = 0
 
-    def replayed(self, universe: str, actions: Sequence[plans.Action]) -> str:
+    def replayed(self, universe: str, actions: Sequence[Action]) -> str:
         Referee.asked += 1
         found: list[str] = []
         world = rules.World(json.loads(universe))
         try:
-            rules.follow(world, (plans.line_of(action) for action in actions), found)
+            rules.follow(world, (line_of(action) for action in actions), found)
         except (rules.No, KeyError, ValueError) as why:
             raise NoList(f"action {len(found) + 1}: {why}") from why
-        made = sum(action.verb == "new" for action in actions)
+        made = sum(isinstance(action, New) for action in actions)
         text = "\n".join(["metis plan 1", f"instances {made} actions {len(found)} dups 0", *found, "end", ""])
         if Referee.asked % 10 == 0:
             expect(super().replayed(universe, actions) == text, "the program has other waits")
@@ -186,10 +187,10 @@ def left_by(found: Configuration) -> tuple[dict, set]:
 def list_of(history: History, counts: collections.Counter) -> None:
     """The list of what stands leaves just that, and has nothing of what is gone."""
     stands = history.stands()
-    free = max((action.instance for action in stands.done.actions if action.verb == "new"), default=-1) + 1
+    free = max((action.instance for action in stands.done.actions if isinstance(action, New)), default=-1) + 1
     there = after(stands.done.actions, history.types)
     counts["stand"] += len(there.instances)
-    made = [action.instance for action in stands.done.actions if action.verb == "new"]
+    made = [action.instance for action in stands.done.actions if isinstance(action, New)]
     counts["gone"] += len(made) - len(there.instances)
     counts["actions before"] += len(stands.done.actions)
     try:
@@ -201,7 +202,7 @@ def list_of(history: History, counts: collections.Counter) -> None:
     counts["lists"] += 1
     counts["actions after"] += len(way.plan.actions)
     expect(left_by(after(way.plan.actions, history.types)) == left_by(there), "it leaves something else")
-    others = {action.instance for action in way.plan.actions if action.verb == "new"} - set(there.instances)
+    others = {action.instance for action in way.plan.actions if isinstance(action, New)} - set(there.instances)
     counts["with helpers"] += bool(others)
     expect(all(each >= free for each in others), "what is gone is in it")
 
@@ -224,7 +225,7 @@ def edit_of(history: History, counts: collections.Counter) -> None:
     # Where the plan stopped, what it was to bring about is asked for still.
     wanted = after(history.whole.actions, history.types) if history.whole else there
     targets = tuple(attained(history, universe, wanted))
-    free = max(action.instance for action in stands.done.actions if action.verb == "new") + 1
+    free = max(action.instance for action in stands.done.actions if isinstance(action, New)) + 1
     lines = ("rebind all",) if history.rng.random() < 0.8 else ()
     counts["edits"] += 1
     try:
@@ -266,11 +267,11 @@ def check_edit(found, universe, targets, there: Configuration) -> None:
     """The first part loses nothing, the end holds the targets, and what stays is in the state that is meant."""
     types = types_of(universe)
     if found.first:
-        made = {action.instance for action in found.first.fresh if action.verb == "new"} | set(found.halves.going)
+        made = {action.instance for action in found.first.fresh if isinstance(action, New)} | set(found.halves.going)
         loose = found.halves.loose
         for action in found.first.fresh:
-            is_new = action.verb in ("new", "bind") or action.verb == "move" and action.instance in made
-            is_loose = action.verb == "unbind" and (action.words[0], action.instance, action.provider) in loose
+            is_new = isinstance(action, New | Bind) or isinstance(action, Move) and action.instance in made
+            is_loose = isinstance(action, Unbind) and (action.port, action.instance, action.provider) in loose
             expect(is_new or is_loose or action.instance in made, f"{action} in a first part")
     end = after(found.last.plan.actions, types_of(found.last.universe))
     have = [f"{it.type}:{it.state}" for it in end.instances.values()]
@@ -284,7 +285,7 @@ def check_edit(found, universe, targets, there: Configuration) -> None:
             expect((it.type, it.state) == (change.kind, change.meant), f"{change.who} is in {it.state}, and {change.meant} is meant")
             for port, count in forms[it.type, it.state].require.items():
                 expect(end.served(change.instance, port) >= count, f"{change.who} lacks {port} at the end")
-    kept = set(found.last.plan.actions[place].instance for place in range(found.last.done) if found.last.plan.actions[place].verb == "new")
+    kept = {action.instance for action in found.last.plan.actions[: found.last.done] if isinstance(action, New)}
     expect(set(there.instances) <= kept, "an instance is lost in the list of what stands")
 
 

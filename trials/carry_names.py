@@ -20,6 +20,7 @@ import tempfile
 
 from metis_planner.carry import patterns, steps
 from metis_planner.text import plans
+from metis_planner.text.actions import line_of
 from trials import trial
 from trials.trial import TOP, Failed, expect
 
@@ -145,7 +146,7 @@ class Trial:
             action = wanted.pop(int(number))
             seen = (line, kind, name, host)
             meant = (
-                f"{action.verb} {' '.join(action.words)}",
+                line_of(action),
                 action.type,
                 steps.name_of(action.type, action.instance),
             )

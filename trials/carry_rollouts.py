@@ -22,6 +22,7 @@ from metis_planner.carry import steps
 from metis_planner.carry.folder import part_of, written
 from metis_planner.carry.rollouts import sign_of_a_rollout, rollout_in
 from metis_planner.text import plans
+from metis_planner.text.actions import Delete
 from trials import trial
 from trials.trial import TOP, Failed, expect
 
@@ -146,7 +147,7 @@ def try_universe(program: str, seed: int, folder: pathlib.Path) -> bool:
 def try_cycle(program: str, folder: pathlib.Path) -> None:
     universe = Universe(program, CYCLIC, folder)
     rolled = try_rollout(universe, trial.plan_text(BOUND_IN_A_CYCLE), ["A:full"])
-    scaffold = [step for step in rolled[len(BOUND_IN_A_CYCLE) :] if step.action.verb == "delete"]
+    scaffold = [step for step in rolled[len(BOUND_IN_A_CYCLE) :] if isinstance(step.action, Delete)]
     expect(len(scaffold) > 2, "no scaffold was made")
 
 

@@ -10,6 +10,7 @@ look at the wide one without doing anything; they have to be there.
 """
 
 import argparse
+import dataclasses
 import itertools
 import os
 import pathlib
@@ -62,11 +63,10 @@ def plan_of(lines: Iterator[str]) -> str:
         verb, *words = line.split(" ")
         if verb == "new":
             types[int(words[0])] = words[1]
-        instances = [int(words[place]) for place in plans.FORMS[verb][1]]
-        action = plans.Action(number, verb, tuple(words), (), tuple(types[each] for each in instances))
-        others = tuple(each for each in course.step(action).waits if each != last.get(instances[0]))
-        last[instances[0]] = number
-        actions.append(plans.Action(number, verb, action.words, others, action.types))
+        action = plans.action_of((verb, *words), types, number, ())
+        others = tuple(each for each in course.step(action).waits if each != last.get(action.instance))
+        last[action.instance] = number
+        actions.append(dataclasses.replace(action, after=others))
     return written(plans.Plan(tuple(actions), ()))
 
 

@@ -20,6 +20,7 @@ TOP = pathlib.Path(__file__).resolve().parent.parent
 from metis_planner.importers import compose
 from metis_planner.importers.compose import input
 from metis_planner.text import plans
+from metis_planner.text.actions import Delete, Move, New
 from metis_planner.text.reading import read_text, value_of
 from trials.trying import printed, try_files
 
@@ -67,13 +68,13 @@ class Host:
         return sum(name == service and state in REACHED[condition] for name, state in self.state.values())
 
     def do(self, action):
-        if action.verb == "new":
+        if isinstance(action, New):
             self.state[action.instance] = (action.type, "absent")
-        elif action.verb == "delete":
+        elif isinstance(action, Delete):
             self.take_away(action.instance)
-        elif action.verb == "move":
-            self.state[action.instance] = (action.type, action.words[2])
-            self.check_move(action.type, action.words[2])
+        elif isinstance(action, Move):
+            self.state[action.instance] = (action.type, action.end)
+            self.check_move(action.type, action.end)
 
     def check_move(self, name, state):
         told = self.services.get(name)

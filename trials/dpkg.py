@@ -42,6 +42,7 @@ from metis_planner.importers.debian.order import InstallOrder
 from metis_planner.importers.debian.packages import named, STATUS
 from metis_planner.importers.debian.set_up import SetUp
 from metis_planner.text import plans
+from metis_planner.text.actions import Move
 from metis_planner.text.documents import Names
 
 # Those by which apt also knows two records for the same version.
@@ -179,7 +180,7 @@ def carry_out(actions, order, packages, status=None):
         root = Root(pathlib.Path(folder), installation.choices.given, status)
         steps = Steps(order)
         for action in actions:
-            if action.verb == "move":
+            if isinstance(action, Move):
                 steps.do(action.type, root, packages)
         root.check(installation.choices.index, installation.chosen)
         return root.calls

@@ -24,6 +24,7 @@ TOP = pathlib.Path(__file__).resolve().parent.parent
 from metis_planner.importers import kubernetes
 from metis_planner.importers.kubernetes import input
 from metis_planner.text import plans
+from metis_planner.text.actions import Delete, Move, New
 from trials.trying import printed, try_files
 
 LAST = ("there", "ready", "complete", "established", "available")
@@ -93,16 +94,16 @@ class Cluster:
         self.faults = []
 
     def do(self, action):
-        if action.verb == "new":
+        if isinstance(action, New):
             self.type_of[action.instance] = action.type
             self.state[action.type] = "absent"
-        elif action.verb == "delete":
+        elif isinstance(action, Delete):
             name = self.type_of.pop(action.instance)
             self.check_delete(name)
             del self.state[name]
-        elif action.verb == "move":
-            self.state[action.type] = action.words[2]
-            self.check(action.type, action.words[2])
+        elif isinstance(action, Move):
+            self.state[action.type] = action.end
+            self.check(action.type, action.end)
 
     def is_well(self, name):
         """Whether an object is in its last state, which may be a component of its own."""

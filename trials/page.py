@@ -24,6 +24,7 @@ from trials.browsers import Chromium, Firefox
 from trials.page_cases import CASES, EXAMPLES, WISHES, Case, Changed, Tried, doubles_universe, metis, placed_case, said
 from trials.page_browsing import CLICK, BrowserCase
 from trials.trial import TOP
+from metis_planner.text.actions import Bind
 
 HOSTILE = (
     '"><img src=x onerror=window.hit=1></script x><img src=x onerror=window.hit=3></script>'
@@ -302,7 +303,7 @@ class ChromiumTest(Moments):
             if box == "foldLeaves":
                 self.assertLess(len(ks), tried.size - 20)
                 label = self.js("[...document.querySelectorAll('#names b')].at(-1).textContent")
-                takers = {action.instance for action in tried.plan.actions if action.verb == "bind"}
+                takers = {action.instance for action in tried.plan.actions if isinstance(action, Bind)}
                 leaves = {action.instance for action in tried.plan.actions} - takers
                 self.assertEqual(label, f"{len(leaves)} that need nothing")
             for _ in range(tried.size):

@@ -10,6 +10,7 @@ from metis_planner import program
 from metis_planner.carry.placement import held, read_placement
 from metis_planner.carry.steps import steps_of
 from metis_planner.page.changes import change_in
+from metis_planner.text.actions import line_of
 from metis_planner.text.plans import plan_at
 from trials.trial import TOP, expect
 
@@ -192,7 +193,7 @@ class Tried:
 
     def shown(self, order: list[int]) -> list[tuple[set[tuple[str, ...]], set[tuple[str, ...]]]]:
         """What `metis sim` shows after each of these actions: the instances and the bindings."""
-        actions = [f"{self.plan.actions[k].verb} {' '.join(self.plan.actions[k].words)}" for k in order]
+        actions = [line_of(self.plan.actions[k]) for k in order]
         script = "".join(f"{line}\nshow\n" for line in actions)
         lines = metis("sim", self.universe, "-", text=script).splitlines()
         found, at = [], 0

@@ -34,11 +34,12 @@ from metis_planner.carry.finding import MOST_LOOKED_FOR, UNKNOWN, YES, Said, Sea
 from metis_planner.carry.folder import DONE, JOBS, Folder, written
 from metis_planner.carry.judging import Judge
 from metis_planner.carry.request import Request
-from metis_planner.carry.stands import types_of, with_numbers
+from metis_planner.carry.stands import types_of
 from metis_planner.carry.steps import Step, lanes, name_of, steps_of, who
 from metis_planner.carry.up import document
 from metis_planner.carry.writing import sync_folder, write_whole
 from metis_planner.text import plans
+from metis_planner.text.actions import Action, Move, New, in_words, with_numbers
 from metis_planner.text.reading import read_text
 from metis_planner.text.terminal import say
 
@@ -96,7 +97,7 @@ class Trial:
 
 def write_containers(project: Project, steps: Sequence[Step], folder: pathlib.Path) -> list[Container]:
     """Says in a folder which container each instance is; and returns those that are none of the plan's."""
-    made = [(step.action.type, name_of(step.action.type, step.action.instance)) for step in steps if step.action.verb == "new"]
+    made = [(step.action.type, name_of(step.action.type, step.action.instance)) for step in steps if isinstance(step.action, New)]
     found, strays = taken(project, made)
     (folder / CONTAINERS).mkdir(mode=0o700, exist_ok=True)
     for name, text in found.items():
@@ -189,7 +190,7 @@ def numbers_given(words: Sequence[str], plan: plans.Plan) -> dict[str, list[int]
     """The numbers that were said for a type's instances."""
     counts: dict[str, int] = {}
     for action in plan.actions:
-        if action.verb == "new":
+        if isinstance(action, New):
             counts[action.type] = counts.get(action.type, 0) + 1
     given: dict[str, list[int]] = {}
     for word in words:
@@ -208,8 +209,7 @@ def numbers_given(words: Sequence[str], plan: plans.Plan) -> dict[str, list[int]
 
 def renumbered(plan: plans.Plan, number_of: Mapping[int, int]) -> plans.Plan:
     """The plan by other numbers of its instances."""
-    name = {str(old): str(new) for old, new in number_of.items()}
-    return plan._replace(actions=tuple(with_numbers(action, name) for action in plan.actions))
+    return plan._replace(actions=tuple(with_numbers(action, number_of) for action in plan.actions))
 
 
 def tell(
@@ -231,18 +231,24 @@ def report(steps: Sequence[Step], said: Mapping[str, Said], done: set[str]) -> l
     """A line for each instance: the state to which it is marked, what its checks said, and what is left."""
     lines = []
     for lane in lanes(steps).values():
-        own = [step for step in lane if step.key in done and step.action.verb in ("new", "move")]
-        state = "-" if not own else own[-1].action.words[2] if own[-1].action.verb == "move" else "made"
-        left = [plans.in_words(step.action) for step in lane if step.key not in done]
+        own = [step for step in lane if step.key in done and isinstance(step.action, New | Move)]
+        state = "-" if not own else state_after(own[-1].action)
+        left = [in_words(step.action) for step in lane if step.key not in done]
         words = "; ".join(words_for(step, said[step.key]) for step in lane if step.key in said)
         more = f" | left: {', '.join(left)}" if left else ""
         lines.append(f"{who(lane[0].action):<16} {state:<11} {words or 'no check'}{more}")
     return lines
 
 
+def state_after(action: Action) -> str:
+    """The state of an instance after the last of its actions that has a check."""
+    return action.end if isinstance(action, Move) else "made"
+
+
 def words_for(step: Step, said: Said) -> str:
+    what = step.action.end if isinstance(step.action, Move) else step.action.type
     reason = f" ({said.reason})" if said.verdict != YES and said.reason else ""
-    return f"{step.action.words[-1]}: {said.verdict}{reason}"
+    return f"{what}: {said.verdict}{reason}"
 
 
 def adopt(call: Call, trial: Trial, done: set[str]) -> None:

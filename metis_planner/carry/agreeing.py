@@ -10,6 +10,7 @@ from metis_planner.carry.request import ALL, Agreed, is_named
 from metis_planner.carry.steps import who
 from metis_planner.carry.telling import Proposal
 from metis_planner.text import plans
+from metis_planner.text.actions import New
 from metis_planner.text.documents import ComponentType
 
 
@@ -27,7 +28,7 @@ def asked(question: str, is_agreed: bool) -> bool:
 def check_known(protect: tuple[str, ...], folder: Folder, types: Iterable[ComponentType]) -> None:
     """Refuses to protect what there is not: a name that is misspelt protects nothing."""
     known = {ALL, *(kind.name for kind in types)}
-    made = [step.action for step in folder.steps() if step.action.verb == "new"] if folder.has_plan() else []
+    made = [step.action for step in folder.steps() if isinstance(step.action, New)] if folder.has_plan() else []
     known |= {action.type for action in made} | {who(action) for action in made}
     for each in protect:
         if each not in known:

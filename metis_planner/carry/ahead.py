@@ -16,6 +16,7 @@ from metis_planner.carry.folder import Folder, part_of, sum_of, written
 from metis_planner.look import no, wrong
 from metis_planner.program import Status, ask
 from metis_planner.text import plans, wishes
+from metis_planner.text.actions import in_words
 from metis_planner.text.reading import read_text
 from metis_planner.text.terminal import say
 
@@ -96,7 +97,7 @@ def what_is_done(folder: Folder) -> plans.Plan:
     with folder.held():
         done = folder.done(steps)
         for step in folder.begun(steps, done):
-            words = plans.in_words(step.action)
+            words = in_words(step.action)
             say(f"action {step.action.number} was begun and is not done: {words}; what it has done so far counts as nothing")
     return part_of(steps, done)
 

@@ -21,6 +21,7 @@ from metis_planner.carry.steps import Step, steps_of
 from metis_planner.carry.ways import Way
 from metis_planner.carry.writing import write_whole
 from metis_planner.text import plans
+from metis_planner.text.actions import Action, New
 from metis_planner.text.reading import read_text
 from metis_planner.text.terminal import say
 
@@ -29,7 +30,7 @@ MOST_OF_HOSTS = 65_536
 
 def made_in(steps: Iterable[Step]) -> set[int]:
     """The instances that some steps make."""
-    return {step.action.instance for step in steps if step.action.verb == "new"}
+    return {step.action.instance for step in steps if isinstance(step.action, New)}
 
 
 @dataclasses.dataclass
@@ -62,7 +63,7 @@ class Call:
         place = {each: self.commands.patterns.first(f"{each.rpartition('#')[0]}: delete") for each in going}
         return tuple(each for each, found in place.items() if found is None or self.commands.rules[found].loses_data)
 
-    def placement(self, actions: Sequence[plans.Action], universe: str, made: Collection[int]) -> str | None:
+    def placement(self, actions: Sequence[Action], universe: str, made: Collection[int]) -> str | None:
         """The placement of a list of which these instances were made; nothing if there are no hosts.
 
         What counts as made and stands on no host is only on the way to a list of what stands, and never will be anywhere.
@@ -78,7 +79,7 @@ class Call:
         hosts = Hosts.of(read_text(self.request.hosts, MOST_OF_HOSTS))
         return placement_text(hosts, actions, self.hosts, set(made) - set(self.hosts))
 
-    def export(self, actions: Sequence[plans.Action], text: str, universe: str, part: str = "") -> None:
+    def export(self, actions: Sequence[Action], text: str, universe: str, part: str = "") -> None:
         """Writes a list into the folder, and notes for what it is."""
         marks = self.folder.marks() if self.folder.has_plan() else {}
         steps = steps_of(plans.plan_of(text, "the plan"), "the plan")

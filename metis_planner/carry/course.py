@@ -11,7 +11,7 @@ from metis_planner.carry.judging import Judge
 from metis_planner.carry.named_wishes import Wishes
 from metis_planner.carry.stands import Stands, paths_for, types_of
 from metis_planner.carry.ways import Evolution
-from metis_planner.text import plans
+from metis_planner.text.actions import Action, Delete, Move, New, line_of
 from metis_planner.text.configurations import Configuration, after
 
 
@@ -53,13 +53,13 @@ class Course:
 
     def halves(self) -> Halves:
         """What of that which stands is half made, and what becomes of it."""
-        kinds = {action.instance: action.type for action in self.whole if action.verb == "new"}
+        kinds = {action.instance: action.type for action in self.whole if isinstance(action, New)}
         ends = {each: state for each, state in self.stands.ends.items() if each in kinds}
         noted = {each: self.names.get(f"{kinds[each]}:{state}", state) for each, state in ends.items()}
         steps = [dataclasses.replace(step, action=action) for step, action in zip(self.stands.steps, self.whole)]
         initial = {kind.name: kind.states[0].name for kind in self.before}
         ends = halfway.ends_in(steps, self.stands.marks, self.stands.begun, noted, initial)
-        helpers = {action.instance for action in self.whole if action.verb == "delete"}
+        helpers = {action.instance for action in self.whole if isinstance(action, Delete)}
         stopped = Stopped(after(self.done, self.before), self.done, ends, kinds, helpers)
         return halfway.halves_in(stopped, self.before, self.types, self.left | self.beyond)
 
@@ -90,11 +90,11 @@ class Course:
 
     def lines_now(self) -> dict[str, str]:
         """The lines of the folder's plan, by the names that types and states have now."""
-        return {plans.line_of(step.action): plans.line_of(action) for step, action in zip(self.stands.steps, self.whole)}
+        return {line_of(step.action): line_of(action) for step, action in zip(self.stands.steps, self.whole)}
 
-    def number(self, actions: Iterable[plans.Action]) -> None:
+    def number(self, actions: Iterable[Action]) -> None:
         """No number of these is used again."""
-        self.free = max([self.free, *(action.instance + 1 for action in actions if action.verb == "new")])
+        self.free = max([self.free, *(action.instance + 1 for action in actions if isinstance(action, New))])
 
     def logs(self, going: Mapping[int, Half]) -> dict[int, dict[str, str]]:
         """The keys of the logs of what was begun of half-made instances, or is done again, by the lines as they read now."""
@@ -106,14 +106,18 @@ class Course:
         }
         for step, action in zip(self.stands.steps, self.whole):
             half = going.get(action.instance)
-            if half is None or action.verb not in ("new", "move"):
+            if half is None or not isinstance(action, New | Move):
                 continue
             if step.key in self.stands.begun or half.is_back and step.key in self.stands.marks:
-                found.setdefault(half.instance, {})[plans.line_of(action)] = step.key
+                found.setdefault(half.instance, {})[line_of(action)] = step.key
         return found
 
 
 def renamed_line(line: str, kind: str, names: Mapping[str, str]) -> str:
-    """A line of an action of an instance of this type, by the names of now."""
-    verb, *words = line.split(" ")
-    return plans.line_of(forms.renamed([plans.Action(0, verb, tuple(words), (), (kind,))], names)[0])
+    """A line by which an instance of this type is made or moved, by the names of now."""
+    match line.split(" "):
+        case ["new", own, _]:
+            return f"new {own} {names.get(kind, kind)}"
+        case ["move", own, *states]:
+            return " ".join(["move", own, *(names.get(f"{kind}:{state}", state) for state in states)])
+    return line

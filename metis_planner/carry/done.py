@@ -7,7 +7,7 @@ import argparse
 from metis_planner.answers import Answer
 from metis_planner.carry.configuration import add_folder, folder_of
 from metis_planner.carry.folder import part_of, written
-from metis_planner.text import plans
+from metis_planner.text.actions import in_words
 
 
 def add_arguments(parser: argparse.ArgumentParser) -> None:
@@ -19,5 +19,5 @@ def run(arguments: argparse.Namespace) -> Answer:
     steps = folder.steps()
     done = folder.settled(steps)
     begun = folder.begun(steps, done)
-    notes = [f"action {step.action.number} was begun and is not done: {plans.in_words(step.action)}" for step in begun]
+    notes = [f"action {step.action.number} was begun and is not done: {in_words(step.action)}" for step in begun]
     return Answer(written(part_of(steps, done)), notes)

@@ -20,6 +20,7 @@ from metis_planner.carry.steps import Step, who
 from metis_planner.carry.telling import shown
 from metis_planner.carry.up import document
 from metis_planner.text import plans
+from metis_planner.text.actions import Delete, New
 
 
 def add_arguments(parser: argparse.ArgumentParser) -> None:
@@ -51,8 +52,8 @@ def check_standing(folder: Folder, steps: Sequence[Step], done: set[str]) -> Non
     """Refuses to take away what is protected, by metis.toml here or by what `up` has kept of one."""
     found = configured()
     said = tuple(found.get("protect", ())) if is_of(found, str(folder.path)) else ()
-    gone = {step.action.instance for step in steps if step.action.verb == "delete" and step.key in done}
-    made = [step for step in steps if step.action.verb == "new" and step.key in done and step.action.instance not in gone]
+    gone = {step.action.instance for step in steps if isinstance(step.action, Delete) and step.key in done}
+    made = [step for step in steps if isinstance(step.action, New) and step.key in done and step.action.instance not in gone]
     check_protected([who(step.action) for step in made], protected(folder, said), str(folder.path), is_down=True)
 
 

@@ -17,7 +17,7 @@ from metis_planner.carry.judging import Judge
 from metis_planner.carry.rebase import NoList, paths_in
 from metis_planner.carry.stands import Stands, in_forms
 from metis_planner.carry.ways import Evolution, Way, roles_in
-from metis_planner.text import plans
+from metis_planner.text.actions import Action, Move
 from metis_planner.text.configurations import Configuration, after
 from metis_planner.text.documents import ComponentType
 
@@ -84,18 +84,18 @@ def told_of(front: Front, there: Configuration, first: Way | None, last: Way) ->
     )
 
 
-def with_steps_again(last: Way, first: Way | None, front: Front, base: Sequence[plans.Action]) -> Way:
+def with_steps_again(last: Way, first: Way | None, front: Front, base: Sequence[Action]) -> Way:
     """The way with what is to be done again, and what is only said: that a state has changed through which an instance came."""
     before, types = front.course.before, front.forms.types
     stale = stale_in(front.changed, base, before, types)
     passed = stale_in([each for each in front.changes if each.fate == SAME], base, before, types)
-    went = {(action.instance, action.words[-1]) for action in (first.fresh if first else ()) if action.verb == "move"}
+    went = {(action.instance, action.end) for action in (first.fresh if first else ()) if isinstance(action, Move)}
     return last._replace(stale=stale, passed=passed - went)
 
 
 def stale_in(
     changes: Iterable[Change],
-    actions: Iterable[plans.Action],
+    actions: Iterable[Action],
     before: Sequence[ComponentType],
     types: Sequence[ComponentType],
 ) -> frozenset[tuple[int, str]]:

@@ -7,6 +7,7 @@ import hashlib
 import json
 import re
 from collections.abc import Callable, Collection, Iterable, Iterator, Mapping, Sequence
+from typing import assert_never
 
 from metis_planner.answers import Answer, Refused
 from metis_planner.carry import skeleton
@@ -18,9 +19,10 @@ from metis_planner.carry.placement import held, read_placement
 from metis_planner.carry.possible import PossibleActions
 from metis_planner.carry.rollouts import Rollout
 from metis_planner.carry.script import write_folder
-from metis_planner.carry.steps import Step, steps_of
+from metis_planner.carry.steps import Bound, Step, steps_of
 from metis_planner.look.sketch import document_of
 from metis_planner.text import plans
+from metis_planner.text.actions import Action, Bind, Delete, Move, New, Unbind
 from metis_planner.text.over_plans import Placement
 from metis_planner.text.documents import MOST_BYTES
 from metis_planner.text.reading import read_bytes
@@ -98,8 +100,7 @@ class Export:
     @functools.cached_property
     def leaves_nothing(self) -> bool:
         """Whether nothing stands at the end, so that a delete takes a part of all away and does not make room for another."""
-        verbs = [step.action.verb for step in self.steps]
-        return verbs.count("new") == verbs.count("delete")
+        return sum(isinstance(step.action, New) - isinstance(step.action, Delete) for step in self.steps) == 0
 
     @functools.cached_property
     def digest(self) -> str:
@@ -122,18 +123,22 @@ class Export:
         number = str(job.rule.number) if job.rule else WITHOUT_A_RULE
         given = [step.key, number, str(action.number), self.host(action.instance)]
         given += [action.verb, str(action.instance), action.type]
-        if action.verb == "move":
-            given += action.words[1:]
-        if action.verb == "delete":
-            given.append(f"{NOTHING}{step.state}")
-        if action.verb in ("bind", "unbind"):
-            given += [action.words[0], action.words[2], action.provider_type, self.host(action.provider)]
+        match action:
+            case New():
+                pass
+            case Delete():
+                given.append(f"{NOTHING}{step.state}")
+            case Move():
+                given += [action.start, action.end]
+            case Bind() | Unbind():
+                given += [action.port, str(action.provider), action.provider_type, self.host(action.provider)]
+            case _:
+                assert_never(action)
         return " ".join([*given, *map(self.as_named, step.bound)])
 
-    def as_named(self, bound: str) -> str:
+    def as_named(self, bound: Bound) -> str:
         """PORT=NAME, by the name under which the provider was made."""
-        port, _, name = bound.rpartition("=")
-        return f"{port}={self.names.get(int(name.rsplit('-', 1)[1]), name)}" if self.names else bound
+        return f"{bound.port}={self.names.get(bound.instance, bound.name)}"
 
 
 def run(arguments: argparse.Namespace, name: str, text_of: Callable[[Export], Iterable[str]]) -> Answer:
@@ -230,11 +235,13 @@ def document_at(universe: str) -> bytes:
     return document_of(universe).encode() if universe.endswith(".sketch") else read_bytes(universe, MOST_BYTES)
 
 
-def subjects(action: plans.Action, possible: PossibleActions) -> Iterator[str]:
+def subjects(action: Action, possible: PossibleActions) -> Iterator[str]:
     """The texts with which patterns are compared: of a move into an old form also those of the moves into its state."""
     yield subject(action)
-    after = OLD_FORM.sub("", action.words[2]) if action.verb == "move" else ""
-    if after and after != action.words[2]:
+    if not isinstance(action, Move):
+        return
+    after = OLD_FORM.sub("", action.end)
+    if after != action.end:
         moves = sorted(possible.moves.get(action.type, ()))
         yield from (f"{action.type}: {one} -> {other}" for one, other in moves if other == after)
 

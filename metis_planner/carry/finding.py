@@ -13,6 +13,7 @@ from metis_planner.carry.folder import Folder
 from metis_planner.carry.steps import Step, lanes
 from metis_planner.carry.verify import SAID, has_check_of, words_of
 from metis_planner.text import plans
+from metis_planner.text.actions import Delete, Move, New
 from metis_planner.text.terminal import plain
 
 YES, NO, UNKNOWN, BLIND = "yes", "no", "not known", "blind"
@@ -82,7 +83,7 @@ class Search:
         self.settled = {kind: list(numbers) for kind, numbers in self.given.items()}
 
     def last_checked(self, lane: Iterable[Step]) -> Step | None:
-        found = [step for step in lane if step.action.verb == "move" and has_check_of(self.folder, self.words[step.key])]
+        found = [step for step in lane if isinstance(step.action, Move) and has_check_of(self.folder, self.words[step.key])]
         return found[-1] if found else None
 
     def asked(self, step: Step, number_of: Mapping[int, int], numbers: Iterable[int]) -> list[Said]:
@@ -140,7 +141,7 @@ def names(numbers: Iterable[int]) -> str:
 def all_numbers(plan: plans.Plan, found: Mapping[int, int]) -> dict[int, int]:
     """The number of each instance of a plan: the one that was found, else its own, else one that nobody has."""
     number_of, taken = dict(found), set(found.values())
-    made = [action.instance for action in plan.actions if action.verb == "new"]
+    made = [action.instance for action in plan.actions if isinstance(action, New)]
     fresh = max([*taken, *made], default=0) + 1
     for instance in made:
         if instance not in number_of:
@@ -153,7 +154,7 @@ def all_numbers(plan: plans.Plan, found: Mapping[int, int]) -> dict[int, int]:
 def verdicts(folder: Folder, steps: Sequence[Step], trusted: Collection[str], blind: Collection[str]) -> dict[str, Said]:
     """What the checks say, twice alike. Of an instance the last state that holds tells of all before it."""
     words = words_of(folder, steps)
-    asked_of = [step for step in steps if step.action.verb in ("new", "move") and has_check_of(folder, words[step.key])]
+    asked_of = [step for step in steps if isinstance(step.action, New | Move) and has_check_of(folder, words[step.key])]
     rounds = []
     for turn in range(ROUNDS):
         time.sleep(SECONDS_BETWEEN if turn else 0)
@@ -184,7 +185,7 @@ def front(steps: Sequence[Step], verdict_of: Mapping[str, str]) -> set[str]:
     denied: set[int] = set()
     for step in steps:
         says_no = verdict_of.get(step.key) in (NO, UNKNOWN)
-        if says_no or denied.intersection(step.waits) or step.action.verb == "delete":
+        if says_no or denied.intersection(step.waits) or isinstance(step.action, Delete):
             denied.add(step.action.number)
     held: set[int] = set()
     for step in reversed(steps):

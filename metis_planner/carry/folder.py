@@ -18,6 +18,7 @@ from metis_planner.carry.rollouts import Rollout
 from metis_planner.carry.steps import Step, steps_of, who
 from metis_planner.carry.writing import sync_folder, write_whole
 from metis_planner.text import plans
+from metis_planner.text.actions import Action, New, line_of
 from metis_planner.text.reading import read_text
 
 PLAN, ROLLOUTS, UNIVERSE = "plan.txt", "rollouts", "universe.json"
@@ -355,22 +356,22 @@ def mark_in(text: str) -> Mark:
 
 def written(plan: plans.Plan) -> str:
     """The text of a plan."""
-    made = sum(action.verb == "new" for action in plan.actions)
+    made = sum(isinstance(action, New) for action in plan.actions)
     lines = ["metis plan 1", f"instances {made} actions {len(plan.actions)} dups {len(plan.dups)}"]
     for action in plan.actions:
         after = f" after {' '.join(map(str, action.after))}" if action.after else ""
-        lines.append(f"{action.number} {action.verb} {' '.join(action.words)}{after}")
+        lines.append(f"{action.number} {line_of(action)}{after}")
     lines += [f"dup {number} {dup.pair} cycle {' '.join(dup.cycle)}" for number, dup in enumerate(plan.dups, 1)]
     return "\n".join([*lines, "end", ""])
 
 
 def part_of(steps: Iterable[Step], kept: set[str]) -> plans.Plan:
     """The steps of these keys, as a plan of their own: each part of a plan is one that has all that its actions wait for."""
-    actions: list[plans.Action] = []
+    actions: list[Action] = []
     number_of: dict[int, int] = {}
     for step in steps:
         if step.key in kept:
             number_of[step.action.number] = len(actions) + 1
             after = tuple(number_of[number] for number in step.action.after)
-            actions.append(step.action._replace(number=len(actions) + 1, after=after))
+            actions.append(dataclasses.replace(step.action, number=len(actions) + 1, after=after))
     return plans.Plan(tuple(actions), ())

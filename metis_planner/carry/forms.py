@@ -9,9 +9,9 @@ import dataclasses
 import json
 import re
 from collections.abc import Iterable, Mapping, Sequence
-from typing import Any, NamedTuple
+from typing import Any, NamedTuple, assert_never
 
-from metis_planner.text import plans
+from metis_planner.text.actions import Action, Bind, Delete, Move, New, Unbind
 from metis_planner.text.configurations import Configuration, Standing
 from metis_planner.text.documents import LONGEST_NAME, ComponentType, State, written_state
 
@@ -221,17 +221,22 @@ def in_use(names: Mapping[str, str], types: Iterable[ComponentType]) -> dict[str
     return {old: new for old, new in names.items() if old not in known}
 
 
-def renamed(actions: Iterable[plans.Action], names: Mapping[str, str]) -> tuple[plans.Action, ...]:
+def renamed(actions: Iterable[Action], names: Mapping[str, str]) -> tuple[Action, ...]:
     """Actions by the names that types and states have now: OLD is a type or TYPE:STATE, and what it is called now."""
-    found = []
+    found: list[Action] = []
     for action in actions:
-        types = tuple(names.get(kind, kind) for kind in action.types)
-        words = list(action.words)
-        if action.verb == "new":
-            words[1] = types[0]
-        if action.verb == "move":
-            words[1:] = [names.get(f"{action.type}:{state}", state) for state in words[1:]]
-        found.append(action._replace(words=tuple(words), types=types))
+        kind = names.get(action.type, action.type)
+        match action:
+            case New() | Delete():
+                found.append(dataclasses.replace(action, type=kind))
+            case Bind() | Unbind():
+                provider_type = names.get(action.provider_type, action.provider_type)
+                found.append(dataclasses.replace(action, type=kind, provider_type=provider_type))
+            case Move():
+                start, end = (names.get(f"{action.type}:{state}", state) for state in (action.start, action.end))
+                found.append(dataclasses.replace(action, type=kind, start=start, end=end))
+            case _:
+                assert_never(action)
     return tuple(found)
 
 

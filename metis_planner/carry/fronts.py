@@ -15,7 +15,7 @@ from metis_planner.carry.rollouts import Rollout, change_in
 from metis_planner.carry.stands import in_forms, in_order, paths_for, renumbered, types_of
 from metis_planner.carry.steps import Step, steps_of
 from metis_planner.carry.ways import Way
-from metis_planner.text import plans
+from metis_planner.text.actions import Action, Bind, Unbind, line_of
 from metis_planner.text.configurations import Configuration, after
 
 BEGAN_HERE = "what is lacking"
@@ -83,7 +83,7 @@ class Front:
         course, going = self.course, self.halves.going
         old = Forms.of(course, held, [*(each for each in self.changes if each.fate == REPLACED), *self.changed])
         done = self.as_it_stands(old, held)
-        actions = (*done, *bonds("unbind", sorted(cut), after(done, old.types)))
+        actions = (*done, *bonds(Unbind, sorted(cut), after(done, old.types)))
         went = halfway.gone_on(old.types, actions, going, course.rest, old.means(course), Wanting(course.early, self.changed))
         actions = (*actions, *went.actions)
         course.number(actions)
@@ -95,7 +95,7 @@ class Front:
         ends = ends_behind(after(plan.actions, old.types), going)
         return Way(old.universe, plan, len(done), logs=course.logs(going), ends=ends), base
 
-    def as_it_stands(self, old: Forms, held: Configuration) -> tuple[plans.Action, ...]:
+    def as_it_stands(self, old: Forms, held: Configuration) -> tuple[Action, ...]:
         """The list of what stands, each in the form that it has."""
         now = in_forms(held, old.types, old.told)
         means = Means(self.course.judge.helpers(old.universe), self.course.free)
@@ -104,7 +104,7 @@ class Front:
         return done
 
     def paths_behind(
-        self, actions: Iterable[plans.Action], went: Went, old: Forms, meant: Configuration
+        self, actions: Iterable[Action], went: Went, old: Forms, meant: Configuration
     ) -> dict[int, tuple[str, ...]]:
         """The paths of what stands behind a first way: of what went on in it as it went, of others as they came."""
         moved = {action.instance for action in went.actions}
@@ -126,7 +126,7 @@ class Front:
             logs = {each: {line: began(each, place) for place, line in enumerate(own)} for each, own in logs.items()}
         return Way(universe, plan, len(base.actions), rollouts, logs=logs), went.left
 
-    def gone_on(self, begun: Sequence[plans.Action]) -> tuple[plans.Action, ...]:
+    def gone_on(self, begun: Sequence[Action]) -> tuple[Action, ...]:
         """The program's way on from a list to the targets, by the wishes."""
         aim, stood = self.course.aim, after(begun, self.forms.types)
         more = fewer(stood, self.changed, self.forms.types, aim.targets)
@@ -136,7 +136,7 @@ class Front:
             answer = self.course.judge.reconfigured(self.forms.universe, begun, wish, aim.targets)
         except Refused as refused:
             raise Refused(aim.wishes.placed(str(refused))) from refused
-        if [action.words for action in answer.actions[: len(begun)]] != [action.words for action in begun]:
+        if list(map(line_of, answer.actions[: len(begun)])) != list(map(line_of, begun)):
             raise Refused("what was planned does not go on from what stands")
         return answer.actions
 
@@ -166,20 +166,18 @@ def rollouts_in(steps: Sequence[Step], done: int, begun: int) -> tuple[Rollout, 
     return (dataclasses.replace(change_in(steps, begun), old=done),)
 
 
-def bonds(verb: str, lines: Iterable[Bond], there: Configuration) -> list[plans.Action]:
+def bonds(made: type[Bind] | type[Unbind], lines: Iterable[Bond], there: Configuration) -> list[Bind | Unbind]:
     """Bindings that are made or let go, as actions."""
-    return [
-        plans.Action(0, verb, (port, str(own), str(to)), (), (there.instances[own].type, there.instances[to].type))
-        for port, own, to in lines
-    ]
+    kinds = {each: it.type for each, it in there.instances.items()}
+    return [made(own, kinds[own], port, to, kinds[to]) for port, own, to in lines]
 
 
-def lacked_in(base: Rebased, stood: Configuration, meant: Configuration) -> list[plans.Action]:
+def lacked_in(base: Rebased, stood: Configuration, meant: Configuration) -> list[Action]:
     """The actions of a list that make and bind what is lacking in what is meant to stand."""
     wanted, more = set(base.added), set(base.added)
     own = set(meant.instances)
     while more:
-        more = {action.provider for action in base.actions if action.verb == "bind" and action.instance in wanted} - wanted - own
+        more = {action.provider for action in base.actions if isinstance(action, Bind) and action.instance in wanted} - wanted - own
         wanted |= more
     binds = [bond for bond in sorted(stood.bindings - meant.bindings) if bond[1] in own]
-    return [*(action for action in base.actions if action.instance in wanted), *bonds("bind", binds, stood)]
+    return [*(action for action in base.actions if action.instance in wanted), *bonds(Bind, binds, stood)]

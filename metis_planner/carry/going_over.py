@@ -16,6 +16,7 @@ from metis_planner.carry.steps import Step, name_of, steps_of
 from metis_planner.carry.turnover import Origin
 from metis_planner.carry.ways import Way
 from metis_planner.text import plans
+from metis_planner.text.actions import Delete, Move, New
 from metis_planner.text.configurations import after
 
 
@@ -47,7 +48,7 @@ def go_over(folder: Folder, stands: Stands, way: Way, names: Mapping[str, str] |
     """The folder goes over to this list. Its lock is held."""
     steps = steps_of(way.plan, "the way on")
     known = known_of(stands, way, steps, names)
-    free = max([first_free(folder), *(step.action.instance + 1 for step in steps if step.action.verb == "new")])
+    free = max([first_free(folder), *(step.action.instance + 1 for step in steps if isinstance(step.action, New))])
     files = {UNIVERSE: way.universe, NAMES: names_in(folder, stands, way), ENDS: ends_in(way), FREE: f"{free}\n"}
     turnover.turn_to(folder, written(way.plan), way.rollouts, known, files)
 
@@ -56,19 +57,19 @@ def marked_again(known: Mapping[str, Origin], steps: Iterable[Step], way: Way) -
     """The marks of the steps that are to be done again, or whose states have changed since they were done."""
     found = {}
     for step in steps:
-        place = (step.action.instance, step.action.words[-1])
-        if step.action.verb == "move" and place in way.stale | way.passed:
+        action = step.action
+        if isinstance(action, Move) and (place := (action.instance, action.end)) in way.stale | way.passed:
             found[step.key] = known[step.key].by(STALE if place in way.stale else CHANGED_SINCE)
     return found
 
 
 def names_in(folder: Folder, stands: Stands, way: Way) -> str:
     """The names of instances of the list that were made when their type had another one."""
-    there = {action.instance: action.type for action in way.plan.actions if action.verb == "new"}
+    there = {action.instance: action.type for action in way.plan.actions if isinstance(action, New)}
     named = {each: name for each, name in folder.names().items() if each in there}
     for step in stands.steps:
         instance, kind = step.action.instance, step.action.type
-        if step.action.verb == "new" and instance in there and there[instance] != kind:
+        if isinstance(step.action, New) and instance in there and there[instance] != kind:
             named.setdefault(instance, name_of(kind, instance))
     return "".join(f"{each} {name}\n" for each, name in sorted(named.items()))
 
@@ -83,7 +84,7 @@ def ends_in(way: Way) -> str:
 
 def begun_of(own: Mapping[str, str], steps: Sequence[Step], instance: int) -> dict[str, Origin]:
     """Where the logs of what was begun of an instance go: to the same steps, else to its first one, else they are kept."""
-    ways = [step for step in steps if step.action.verb in ("new", "move")]
+    ways = [step for step in steps if isinstance(step.action, New | Move)]
     found = {step.key: own[step.line] for step in ways if step.line in own}
     if not ways:
         found = {began(instance, place): key for place, key in enumerate(own.values())}
@@ -94,7 +95,7 @@ def begun_of(own: Mapping[str, str], steps: Sequence[Step], instance: int) -> di
 
 def has_gone(stands: Stands | None) -> bool:
     """Whether something of the list is gone."""
-    return stands is not None and any(action.verb == "delete" for action in stands.done.actions)
+    return stands is not None and any(isinstance(action, Delete) for action in stands.done.actions)
 
 
 def without_the_gone(folder: Folder) -> bool:

@@ -9,13 +9,13 @@ else made by the program. What was not begun is not made here: that follows the 
 
 import dataclasses
 from collections.abc import Collection, Iterable, Mapping, Sequence
-from typing import NamedTuple
+from typing import NamedTuple, assert_never
 
 from metis_planner.carry.forms import REPLACED, Change, by_name, hint_for, is_alike
 from metis_planner.carry.folder import Mark
-from metis_planner.carry.rebase import Bond, Builder, Means, NoList, paths_in
+from metis_planner.carry.rebase import Bond, Builder, Means, NoList, bond_of, paths_in
 from metis_planner.carry.steps import Step
-from metis_planner.text import plans
+from metis_planner.text.actions import Action, Bind, Delete, Move, New, Unbind
 from metis_planner.text.configurations import Configuration, Standing, after
 from metis_planner.text.documents import ComponentType, State
 
@@ -53,7 +53,7 @@ class Stopped(NamedTuple):
     """
 
     there: Configuration
-    done: Sequence[plans.Action]
+    done: Sequence[Action]
     ends: Mapping[int, str]
     kinds: Mapping[int, str]
     helpers: Collection[int]
@@ -69,7 +69,7 @@ class Wanting(NamedTuple):
 class Went(NamedTuple):
     """How half-made instances go on behind a list of actions: the actions, and why some could not."""
 
-    actions: tuple[plans.Action, ...]
+    actions: tuple[Action, ...]
     left: Mapping[int, str]
 
 
@@ -81,16 +81,16 @@ def ends_in(
     initial: Mapping[str, str],
 ) -> dict[int, str]:
     """The state to which the plan would still bring each instance that it has made or begun to make; `noted` has earlier ones."""
-    made = {step.action.instance for step in steps if step.action.verb == "new" and step.key in {*marks, *begun}}
-    made -= {step.action.instance for step in steps if step.action.verb == "delete" and step.key in {*marks, *begun}}
+    made = {step.action.instance for step in steps if isinstance(step.action, New) and step.key in {*marks, *begun}}
+    made -= {step.action.instance for step in steps if isinstance(step.action, Delete) and step.key in {*marks, *begun}}
     found = {each: state for each, state in noted.items() if each in made}
     for step in steps:
         action = step.action
         if action.instance in made and step.key not in marks:
-            if action.verb == "new":
+            if isinstance(action, New):
                 found[action.instance] = initial[action.type]
-            if action.verb == "move":
-                found[action.instance] = action.words[2]
+            if isinstance(action, Move):
+                found[action.instance] = action.end
     return found
 
 
@@ -171,27 +171,33 @@ class Onward(Builder):
 
     ends: Mapping[int, str] = dataclasses.field(default_factory=dict)
     leading: Collection[int] = ()  # those that go on by themselves, and not only where they are needed
-    rest: Sequence[plans.Action] = ()
+    rest: Sequence[Action] = ()
     under_way: list[int] = dataclasses.field(default_factory=list)
     seen: set[tuple[int, str]] = dataclasses.field(default_factory=set)
     asked: set[Bond] = dataclasses.field(default_factory=set)  # bindings of the rest to which it has come
 
-    def begin(self, actions: Iterable[plans.Action]) -> None:
+    def begin(self, actions: Iterable[Action]) -> None:
         for action in actions:
-            self.add(action.verb, *action.words)
+            self.add(action)
 
     def carry_on(self) -> None:
         """Follows the rest of the plan, and then brings each instance to its end that is not there yet."""
         for action in self.rest:
             if action.instance not in self.leading:
                 continue
-            bond = (action.words[0], action.instance, action.provider if action.verb in ("bind", "unbind") else -1)
-            if action.verb == "bind" and bond in self.target.bindings:
-                self.asked.add(bond)
-            elif action.verb == "unbind" and bond in self.now.bindings and self.is_spare(bond):
-                self.add("unbind", *bond)
-            elif action.verb == "move":
-                self.bring(action.instance, action.words[2])
+            match action:
+                case Bind():
+                    self.asked.update({bond_of(action)} & self.target.bindings)
+                case Unbind():
+                    bond = bond_of(action)
+                    if bond in self.now.bindings and self.is_spare(bond):
+                        self.unbind(bond)
+                case Move():
+                    self.bring(action.instance, action.end)
+                case New() | Delete():
+                    pass
+                case _:
+                    assert_never(action)
         for instance in self.leading:
             self.bring(instance, self.ends[instance])
 
@@ -210,7 +216,7 @@ class Onward(Builder):
         kind = self.types[self.target.instances[instance].type]
         states = {each.name: each for each in kind.states}
         if instance not in self.now.instances:
-            self.add("new", instance, kind.name)
+            self.add(New(instance, kind.name))
         now = str(self.now.instances[instance].state)
         if state == now or (instance, state) in self.seen:
             return
@@ -239,7 +245,8 @@ class Onward(Builder):
         if lacks := self.lacks(instance, state):
             raise NoList(f"it lacks {', '.join(lacks)}", instance)
         self.free(instance)
-        self.add("move", instance, self.now.instances[instance].state, name)
+        now = self.now.instances[instance]
+        self.add(Move(instance, now.type, str(now.state), name))
         self.seen.add((instance, name))
 
     def lacks(self, instance: int, state: State) -> dict[str, int]:
@@ -255,7 +262,7 @@ class Onward(Builder):
                 if not others:
                     raise NoList(f"{self.now.instances[own].type}#{own} takes {port} from it", instance)
                 self.bind((port, own, others[0]))
-            self.add("unbind", *bond)
+            self.unbind(bond)
 
     def had(self, instance: int, port: str) -> list[int]:
         return [to for name, _, to in self.taken.get(instance, ()) if name == port and self.now.provides(to, port)]
@@ -296,9 +303,9 @@ class Onwards:
     """How half-made instances go on: tried until no more of them has to be left, or to go before the others."""
 
     types: Mapping[str, ComponentType]
-    base: Sequence[plans.Action]
+    base: Sequence[Action]
     going: Mapping[int, Half]
-    rest: Sequence[plans.Action]
+    rest: Sequence[Action]
     means: Means
     only: Wanting | None
     left: dict[int, str] = dataclasses.field(default_factory=dict)
@@ -307,7 +314,7 @@ class Onwards:
     def __post_init__(self) -> None:
         self.stood = after(self.base, tuple(self.types.values()))
         shunned = {each for each, it in self.stood.instances.items() if (it.type, it.state) in self.means.shunned}
-        binds = ((it.words[0], it.instance, it.provider) for it in self.rest if it.verb == "bind")
+        binds = (bond_of(it) for it in self.rest if isinstance(it, Bind))
         self.planned = {bond for bond in binds if bond[2] not in shunned}
 
     def begun(self) -> Onward:
@@ -346,9 +353,9 @@ class Onwards:
 
 def gone_on(
     types: Iterable[ComponentType],
-    base: Sequence[plans.Action],
+    base: Sequence[Action],
     going: Mapping[int, Half],
-    rest: Sequence[plans.Action],
+    rest: Sequence[Action],
     means: Means,
     only: Wanting | None = None,
 ) -> Went:

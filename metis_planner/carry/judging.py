@@ -10,6 +10,7 @@ from metis_planner.carry.folder import written
 from metis_planner.carry.rebase import NoList
 from metis_planner.carry.stands import in_order
 from metis_planner.text import plans, wishes
+from metis_planner.text.actions import Action
 from metis_planner.text.configurations import after
 
 
@@ -27,7 +28,7 @@ class Judge:
         found.write_text(text, errors="surrogateescape")
         return str(found)
 
-    def replayed(self, universe: str, actions: Sequence[plans.Action]) -> str:
+    def replayed(self, universe: str, actions: Sequence[Action]) -> str:
         """The list with its waits, as the program prints it; NoList if it is no steadfast run."""
         path, text = self.path(universe), self.path(written(plans.Plan(tuple(actions), ())))
         wanted = f"good standing {len(after(actions).instances)} actions {len(actions)}"
@@ -39,12 +40,12 @@ class Judge:
         except Refused as refused:
             raise NoList(f"the program says: {refused}") from refused
 
-    def judged(self, universe: str, actions: Sequence[plans.Action], name: str) -> plans.Plan:
+    def judged(self, universe: str, actions: Sequence[Action], name: str) -> plans.Plan:
         """The list with its waits, as a plan."""
         return plans.plan_of(self.replayed(universe, in_order(actions)), name)
 
     def reconfigured(
-        self, universe: str, actions: Sequence[plans.Action], wished: str, targets: Sequence[str], names: Mapping[str, str] = {}
+        self, universe: str, actions: Sequence[Action], wished: str, targets: Sequence[str], names: Mapping[str, str] = {}
     ) -> plans.Plan:
         """The way on from what a list leaves; `names` has what texts are called where they are refused."""
         paths = [self.path(universe), self.path(written(plans.Plan(tuple(actions), ()))), self.path(wished)]
@@ -54,11 +55,11 @@ class Judge:
 
     def helpers(
         self, universe: str, avoided: Sequence[str] = ()
-    ) -> Callable[[Sequence[plans.Action], Sequence[str]], Sequence[plans.Action]]:
+    ) -> Callable[[Sequence[Action], Sequence[str]], Sequence[Action]]:
         """What makes ports beside all that stands, and nothing of it in an old form."""
         text = "".join(f"{line}\n" for line in (wishes.HEAD, "keep all", *(f"avoid {each}" for each in avoided), "end"))
 
-        def ask(actions: Sequence[plans.Action], ports: Sequence[str]) -> Sequence[plans.Action]:
+        def ask(actions: Sequence[Action], ports: Sequence[str]) -> Sequence[Action]:
             try:
                 plan = self.reconfigured(universe, actions, text, ports)
             except Refused as refused:

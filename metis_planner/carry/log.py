@@ -9,6 +9,7 @@ from metis_planner.carry.configuration import add_folder, folder_of
 from metis_planner.carry.folder import LOG, is_filled
 from metis_planner.carry.progress import step_named
 from metis_planner.text import plans
+from metis_planner.text.actions import in_words
 from metis_planner.text.terminal import plain
 
 MOST_BYTES = 1_048_576
@@ -31,7 +32,7 @@ def run(arguments: argparse.Namespace) -> Answer:
         return Answer(status=subprocess.run(["tail", "-n", "+1", "-F", "--", os.fspath(last)], check=False).returncode)
     lines = []
     for step in steps:
-        lines.append(f"# {step.action.number} {plans.in_words(step.action)}")
+        lines.append(f"# {step.action.number} {in_words(step.action)}")
         data = (folder.path / LOG / step.key).read_bytes()[-MOST_BYTES:]
         # A terminal gets no character that it would obey; blanks stay as they are.
         lines += [plain(line.replace(" ", "\N{NO-BREAK SPACE}"), LONGEST) for line in data.decode(errors="replace").splitlines()]

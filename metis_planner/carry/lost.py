@@ -7,6 +7,7 @@ from metis_planner.carry import verify
 from metis_planner.carry.folder import EXPORT, Folder
 from metis_planner.carry.stands import Stands
 from metis_planner.carry.steps import Step, who
+from metis_planner.text.actions import Move
 
 
 def lost_in(folder: Folder, stands: Stands) -> dict[int, str]:
@@ -23,4 +24,4 @@ def lost_in(folder: Folder, stands: Stands) -> dict[int, str]:
 
 def moves_of(lost: Iterable[int], steps: Iterable[Step]) -> list[Step]:
     """The moves of some instances among steps that are done."""
-    return [step for step in steps if step.action.verb == "move" and step.action.instance in set(lost)]
+    return [step for step in steps if isinstance(step.action, Move) and step.action.instance in set(lost)]

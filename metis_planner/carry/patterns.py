@@ -3,10 +3,12 @@
 import difflib
 import re
 from collections.abc import Iterable, Sequence
+from typing import assert_never
 
 from metis_planner.answers import Refused
 from metis_planner.carry.possible import PossibleActions
 from metis_planner.text import plans
+from metis_planner.text.actions import Action, Bind, Delete, Move, New, Unbind
 
 PART = r"[A-Za-z0-9_./@*-]+"
 WHEN = re.compile(
@@ -20,14 +22,17 @@ FORMS = (
 ANYTHING = r"[A-Za-z0-9_./@-]*"
 
 
-def subject(action: plans.Action) -> str:
+def subject(action: Action) -> str:
     """The text with which patterns are compared."""
-    words = action.words
-    if action.verb in ("new", "delete"):
-        return f"{action.type}: {action.verb}"
-    if action.verb == "move":
-        return f"{action.type}: {words[1]} -> {words[2]}"
-    return f"{action.type}: {action.verb} {words[0]} from {action.provider_type}"
+    match action:
+        case New() | Delete():
+            return f"{action.type}: {action.verb}"
+        case Move():
+            return f"{action.type}: {action.start} -> {action.end}"
+        case Bind() | Unbind():
+            return f"{action.type}: {action.verb} {action.port} from {action.provider_type}"
+        case _:
+            assert_never(action)
 
 
 def compiled(text: str) -> re.Pattern[str]:

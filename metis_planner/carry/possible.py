@@ -2,8 +2,8 @@
 
 from collections.abc import Iterable, Iterator
 
+from metis_planner.text.actions import Action, Bind, Move, Unbind
 from metis_planner.text.documents import ComponentType
-from metis_planner.text.plans import Action
 
 
 class PossibleActions:
@@ -28,11 +28,11 @@ class PossibleActions:
     def add(self, action: Action) -> None:
         """Notes an action of a plan as possible."""
         moves, required = self.moves.setdefault(action.type, set()), self.required.setdefault(action.type, set())
-        if action.verb == "move":
-            moves.add((action.words[1], action.words[2]))
-        if action.verb in ("bind", "unbind"):
-            required.add(action.words[0])
-            self.providers.setdefault(action.words[0], set()).add(action.provider_type)
+        if isinstance(action, Move):
+            moves.add((action.start, action.end))
+        if isinstance(action, Bind | Unbind):
+            required.add(action.port)
+            self.providers.setdefault(action.port, set()).add(action.provider_type)
 
     def subjects(self) -> Iterator[str]:
         """The actions, as a commands file names them."""

@@ -18,6 +18,7 @@ from metis_planner.carry.folder import LOG, STALE, Folder, Mark, is_filled
 from metis_planner.carry.rollouts import Rollout, again_before, barrier_of
 from metis_planner.carry.steps import Step, who
 from metis_planner.text import plans
+from metis_planner.text.actions import Delete, Move, Unbind, in_words
 
 LOCKS = pathlib.Path("/proc/locks")
 HELD = re.compile(r"\d+: FLOCK +\S+ +WRITE +\d+ ([0-9a-f]+):([0-9a-f]+):(\d+) ")
@@ -60,7 +61,7 @@ class Row:
         """As JSON has it, without what is empty."""
         action = self.step.action
         found: dict[str, object] = {"action": action.number, "key": self.step.key, "instance": self.instance}
-        found |= {"what": plans.in_words(action), "stage": self.stage.value}
+        found |= {"what": in_words(action), "stage": self.stage.value}
         more: dict[str, object] = {"since": self.since, "status": self.status, "lines": self.lines}
         more |= {"waits_for": self.waits_for, "again": self.is_again}
         found |= {key: value for key, value in more.items() if value}
@@ -149,7 +150,7 @@ def waits_again(rows: Sequence[Row]) -> dict[int, list[int]]:
     for row in rows if again else ():
         action = row.step.action
         if row.stage is not Stage.DONE:
-            is_going = action.verb in ("unbind", "delete")
+            is_going = isinstance(action, Unbind | Delete)
             found[action.number] = sorted(again.values() if is_going else behind[action.number])
     return found
 
@@ -157,7 +158,7 @@ def waits_again(rows: Sequence[Row]) -> dict[int, list[int]]:
 def kind_of(step: Step) -> tuple[str, ...]:
     """Actions of one kind take the same time, as far as that is known."""
     action = step.action
-    return (action.type, *action.words[1:]) if action.verb == "move" else (action.type, action.verb)
+    return (action.type, action.start, action.end) if isinstance(action, Move) else (action.type, action.verb)
 
 
 def least_left(rows: Sequence[Row], waits: Mapping[int, Sequence[int]]) -> float | None:

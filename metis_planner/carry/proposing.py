@@ -20,6 +20,7 @@ from metis_planner.carry.ways import GOING, IN_PLACE, Evolution, Way
 from metis_planner.lean.calls import Calls
 from metis_planner.lean.leanest import DEFAULT_CALLS, Leanest
 from metis_planner.text import plans
+from metis_planner.text.actions import Delete, Move, New, in_words
 from metis_planner.text.roles import roles_of
 from metis_planner.text.terminal import say
 
@@ -76,7 +77,7 @@ def planned(call: Call) -> Proposal:
     call.rules(steps, marks)
     call.placement(found.plan.actions, call.universe, made_in(step for step in steps if step.key in marks))
     roles = roles_in(found)
-    left = [plans.in_words(step.action) for step in steps if step.key not in marks]
+    left = [in_words(step.action) for step in steps if step.key not in marks]
     lines = tuple(shown(found.plan, found.old))
 
     def act() -> int:
@@ -101,7 +102,7 @@ def lean_ahead(call: Call) -> Ahead:
 
 def roles_in(found: Ahead) -> dict[str, list[str]]:
     """What becomes of each instance of a plan, by names."""
-    kinds = {action.instance: action.type for action in found.plan.actions if action.verb == "new"}
+    kinds = {action.instance: action.type for action in found.plan.actions if isinstance(action, New)}
     roles: dict[str, list[str]] = {}
     for instance, role in roles_of(found.plan.actions, found.old or 0).items():
         roles.setdefault(role, []).append(f"{kinds[instance]}#{instance}")
@@ -116,9 +117,9 @@ def resumed(call: Call, stands: Stands) -> Proposal:
     done = [step for step in stands.steps if step.key in stands.marks]
     stale = [*refresh.stale(stands.steps, stands.marks), *moves_of(call.lost, done)]
     again, notes = steps_again(call, stale, refresh.differing(rules, stands.marks))
-    made = {action.instance for action in stands.done.actions if action.verb == "new"}
-    going = [who(step.action) for step in left if step.action.verb == "delete" and step.action.instance in made]
-    words = tuple(plans.in_words(step.action) for step in left)
+    made = {action.instance for action in stands.done.actions if isinstance(action, New)}
+    going = [who(step.action) for step in left if isinstance(step.action, Delete) and step.action.instance in made]
+    words = tuple(in_words(step.action) for step in left)
     count = len(stands.done.actions)
     head = f"{count} actions are done, {len(left)} are left of what was begun" if left else f"all {count} actions are done"
 
@@ -129,11 +130,11 @@ def resumed(call: Call, stands: Stands) -> Proposal:
         return call.finish()
 
     return Proposal(
-        lines=(head, *lines_of(words, refresh.in_words(again))),
+        lines=(head, *lines_of(words, refresh.all_in_words(again))),
         roles={GOING: going},
         actions=words,
         act=act,
-        again=refresh.in_words(again),
+        again=refresh.all_in_words(again),
         changed=names_of(again),
         losing=call.losing(going),
         notes=notes,
@@ -156,7 +157,7 @@ def steps_again(call: Call, stale: Sequence[Step], differing: Sequence[Step]) ->
         return [*own, *(step for step in differing if step not in own)], ()
     if call.request.project:  # a sum says what its containers are meant to be, and each check looks at the very one
         return own, ()
-    return own, tuple(f"{plans.in_words(step.action)}: {refresh.ADVICE}" for step in differing)
+    return own, tuple(f"{in_words(step.action)}: {refresh.ADVICE}" for step in differing)
 
 
 def evolution(call: Call, stands: Stands) -> Evolution:
@@ -173,7 +174,7 @@ def first_resumed(call: Call, stands: Stands, left: Sequence[Step], protect: tup
     """The first part of a change, which was begun, and then the second one, as it follows when that is done."""
     call.rules(stands.steps, stands.marks)
     later = changed(call, stands.when_done(), evolution(call, stands.when_done()), protect)
-    words = tuple(plans.in_words(step.action) for step in left)
+    words = tuple(in_words(step.action) for step in left)
 
     def act() -> int:
         call.hosts |= hosts_of(call.folder)
@@ -194,9 +195,9 @@ def changed(call: Call, stands: Stands, found: Evolution, protect: tuple[str, ..
     last, again, notes = with_steps_again(call, stands, found)
     for way in (found.first, last):
         if way:
-            made = {action.instance for action in way.plan.actions[: way.done] if action.verb == "new"}
+            made = {action.instance for action in way.plan.actions[: way.done] if isinstance(action, New)}
             call.placement(way.plan.actions, way.universe, made)
-    words = tuple(plans.in_words(action) for action in found.fresh)
+    words = tuple(in_words(action) for action in found.fresh)
     names = names_of(again)
 
     def act() -> int:
@@ -210,11 +211,11 @@ def changed(call: Call, stands: Stands, found: Evolution, protect: tuple[str, ..
         return call.finish()
 
     return Proposal(
-        lines=(*rows_of(found, protect), *lines_of(words, refresh.in_words(again))),
+        lines=(*rows_of(found, protect), *lines_of(words, refresh.all_in_words(again))),
         roles={role: found.named(role) for role in found.roles},
         actions=words,
         act=act,
-        again=refresh.in_words(again),
+        again=refresh.all_in_words(again),
         changed=tuple(dict.fromkeys((*found.named(IN_PLACE), *names))),
         losing=call.losing(found.named(GOING)),
         notes=(*begun_in_vain(stands, found), *notes),
@@ -224,7 +225,7 @@ def changed(call: Call, stands: Stands, found: Evolution, protect: tuple[str, ..
 def begun_in_vain(stands: Stands, found: Evolution) -> list[str]:
     """What was begun and is not gone on with."""
     steps = [step for step in stands.steps if step.key in stands.begun and step.action.instance not in found.halves.going]
-    words = [f"action {step.action.number} was begun and is not done: {plans.in_words(step.action)}" for step in steps]
+    words = [f"action {step.action.number} was begun and is not done: {in_words(step.action)}" for step in steps]
     return [f"{each}; what it has done so far counts as nothing" for each in words]
 
 
@@ -239,5 +240,5 @@ def with_steps_again(call: Call, stands: Stands, found: Evolution) -> tuple[Way,
     end = [pair for pair in rules[: way.done] if pair[0].action.instance in found.end]
     standing = [step for step, _ in end]
     again, notes = steps_again(call, [*refresh.stale(steps, marks), *moves_of(call.lost, standing)], refresh.differing(end, marks))
-    places = {(step.action.instance, step.action.words[-1]) for step in again}
+    places = {(it.instance, it.end) for step in again if isinstance(it := step.action, Move)}
     return way._replace(stale=frozenset(places)), again, notes

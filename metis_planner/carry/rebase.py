@@ -12,7 +12,7 @@ import heapq
 from collections.abc import Callable, Iterable, Mapping, Sequence
 from typing import NamedTuple
 
-from metis_planner.text import plans
+from metis_planner.text.actions import Action, Bind, Delete, Move, New, Unbind, with_numbers
 from metis_planner.text.configurations import Configuration
 from metis_planner.text.documents import ComponentType, State
 
@@ -22,7 +22,12 @@ LACKING = 1_000
 # A binding: its port, who requires it, and who provides it.
 Bond = tuple[str, int, int]
 # The program's plan for these ports beside what a list leaves: the actions behind the list, or why there is none.
-Helpers = Callable[[Sequence[plans.Action], Sequence[str]], Sequence[plans.Action]]
+Helpers = Callable[[Sequence[Action], Sequence[str]], Sequence[Action]]
+
+
+def bond_of(action: Bind | Unbind) -> Bond:
+    """The binding that is made or let go."""
+    return action.port, action.instance, action.provider
 
 
 class NoList(ValueError):
@@ -49,7 +54,7 @@ class Means(NamedTuple):
 class Rebased(NamedTuple):
     """A list, the instances that it makes on the way or besides, and those of them that it leaves, as what others lacked."""
 
-    actions: tuple[plans.Action, ...]
+    actions: tuple[Action, ...]
     helpers: tuple[int, ...]
     added: tuple[int, ...] = ()
 
@@ -62,17 +67,17 @@ def without_loops(states: Iterable[str]) -> tuple[str, ...]:
     return tuple(found)
 
 
-def paths_in(actions: Iterable[plans.Action], types: Mapping[str, ComponentType]) -> dict[int, tuple[str, ...]]:
+def paths_in(actions: Iterable[Action], types: Mapping[str, ComponentType]) -> dict[int, tuple[str, ...]]:
     """The path of each instance that stands, from the state in which it was made, without loops."""
     found: dict[int, list[str]] = {}
     for action in actions:
-        if action.verb == "new":
+        if isinstance(action, New):
             kind = types.get(action.type)
             found[action.instance] = [kind.states[0].name] if kind else []
-        elif action.verb == "delete":
+        elif isinstance(action, Delete):
             found.pop(action.instance, None)
-        elif action.verb == "move":
-            found[action.instance] = [*(found[action.instance] or [action.words[1]]), action.words[2]]
+        elif isinstance(action, Move):
+            found[action.instance] = [*(found[action.instance] or [action.start]), action.end]
     return {instance: without_loops(path) for instance, path in found.items()}
 
 
@@ -109,7 +114,7 @@ class Builder:
     means: Means
     now: Configuration = dataclasses.field(init=False)
     first_free: int = dataclasses.field(init=False)
-    actions: list[plans.Action] = dataclasses.field(default_factory=list)
+    actions: list[Action] = dataclasses.field(default_factory=list)
     helpers: list[int] = dataclasses.field(default_factory=list)
     # By port who provides it now; by instance what it takes now; and by port and instance from whom it takes at the end.
     givers: dict[str, set[int]] = dataclasses.field(default_factory=dict)
@@ -144,30 +149,27 @@ class Builder:
 
     # -- actions
 
-    def add(self, verb: str, *words: object) -> None:
-        texts = tuple(map(str, words))
-        at = [int(texts[place]) for place in plans.FORMS[verb][1]]
-        types = (texts[1],) if verb == "new" else tuple(self.now.instances[each].type for each in at)
-        action = plans.Action(len(self.actions) + 1, verb, texts, (), types)
+    def add(self, action: Action) -> None:
+        action = dataclasses.replace(action, number=len(self.actions) + 1, after=())
         self.note(action, before=True)
         self.now.do(action)
         self.note(action, before=False)
         self.actions.append(action)
 
-    def note(self, action: plans.Action, before: bool) -> None:
+    def note(self, action: Action, before: bool) -> None:
         """Keeps who gives and who takes what, around an action."""
         instance = action.instance
-        if action.verb in ("new", "move", "delete"):
-            state = self.now.state(instance)
-            for port in state.provide if state else ():
-                found = self.givers.setdefault(port, set())
-                found.discard(instance) if before else found.add(instance)
-            if action.verb == "delete":
-                self.taken.pop(instance, None)
-        elif not before:
-            bond = (action.words[0], instance, action.provider)
-            own = self.taken.setdefault(instance, set())
-            own.add(bond) if action.verb == "bind" else own.discard(bond)
+        own = self.taken.setdefault(instance, set())
+        if isinstance(action, Bind | Unbind):
+            if not before:
+                own.add(bond_of(action)) if isinstance(action, Bind) else own.discard(bond_of(action))
+            return
+        state = self.now.state(instance)
+        for port in state.provide if state else ():
+            found = self.givers.setdefault(port, set())
+            found.discard(instance) if before else found.add(instance)
+        if isinstance(action, Delete):
+            del self.taken[instance]
 
     def bind(self, bond: Bond) -> None:
         port, own, to = bond
@@ -178,7 +180,11 @@ class Builder:
         if not any(port in state.require for state in kind.states):
             raise NoList(f"{kind.name}#{own} takes {port}, which no state of it requires")
         if bond not in self.now.bindings:
-            self.add("bind", port, own, to)
+            self.add(Bind(own, kind.name, port, to, self.now.instances[to].type))
+
+    def unbind(self, bond: Bond) -> None:
+        port, own, to = bond
+        self.add(Unbind(own, self.now.instances[own].type, port, to, self.now.instances[to].type))
 
     # -- an instance
 
@@ -276,7 +282,7 @@ class Builder:
 
     def go(self, instance: int, path: Sequence[str]) -> None:
         kind = self.target.instances[instance].type
-        self.add("new", instance, kind)
+        self.add(New(instance, kind))
         for place, name in enumerate(path):
             state = self.state(kind, name)
             assert state is not None
@@ -284,10 +290,10 @@ class Builder:
             for bond in sorted(want):
                 self.bind(bond)
             if place:
-                self.add("move", instance, path[place - 1], name)
+                self.add(Move(instance, kind, path[place - 1], name))
             for bond in sorted(self.taken.get(instance, ())):
                 if bond not in want and bond not in self.target.bindings:
-                    self.add("unbind", *bond)
+                    self.unbind(bond)
 
     def count_of_givers(self, port: str) -> int:
         return sum(self.pair(each) not in self.means.shunned for each in self.givers.get(port, ()))
@@ -296,19 +302,16 @@ class Builder:
         """What an instance lacks on its way is made by the program's plan, under numbers that nobody has had."""
         ports = [f"port:{port}" for port in sorted(lack) for _ in range(lack[port] + self.count_of_givers(port))]
         fresh = self.means.helpers_for(tuple(self.actions), ports)
-        name: dict[str, int] = {}
+        number_of: dict[int, int] = {}
         for action in fresh:
-            if action.verb in ("unbind", "delete") and str(action.instance) not in name:
+            if isinstance(action, Unbind | Delete) and action.instance not in number_of:
                 continue  # what others have to spare they keep
-            words = list(action.words)
-            for place in plans.FORMS[action.verb][1]:
-                if action.verb == "new" and place == 0:
-                    name[words[0]] = self.first_free
-                    self.helpers.append(self.first_free)
-                    self.first_free += 1
-                words[place] = str(name.get(words[place], words[place]))
-            self.add(action.verb, *words)
-            if action.verb == "delete":
+            if isinstance(action, New):
+                number_of[action.instance] = self.first_free
+                self.helpers.append(self.first_free)
+                self.first_free += 1
+            self.add(with_numbers(action, number_of))
+            if isinstance(action, Delete):
                 self.helpers.remove(self.actions[-1].instance)
         short = self.lacking(instance, path)
         if short:
@@ -324,7 +327,7 @@ class Builder:
         lacked = self.lacked() if self.means.is_completing else set()
         for bond in sorted(self.now.bindings - self.target.bindings - lacked):
             if bond[1] in own:
-                self.add("unbind", *bond)
+                self.unbind(bond)
         kept = self.kept_for(lacked)
         self.helpers = [each for each in self.helpers if each not in kept]
         self.drop_helpers()
@@ -380,7 +383,7 @@ class Builder:
         return found
 
     def made(self) -> list[int]:
-        return [action.instance for action in self.actions if action.verb == "new"]
+        return [action.instance for action in self.actions if isinstance(action, New)]
 
     def drop_helpers(self) -> None:
         """Deletes the helpers, the last one first. Those that are bound in a circle stay in the way."""
@@ -389,7 +392,7 @@ class Builder:
             free = [each for each in reversed(self.helpers) if each not in used]
             if not free:
                 raise NoList(f"{len(self.helpers)} helpers take from each other in a circle")
-            self.add("delete", free[0])
+            self.add(Delete(free[0], self.now.instances[free[0]].type))
             self.helpers.remove(free[0])
 
 

@@ -11,7 +11,7 @@ from metis_planner.carry.folder import AGAIN, CHANGED_SINCE, DONE, STALE, Folder
 from metis_planner.carry.steps import Step
 from metis_planner.carry.turnover import Origin
 from metis_planner.carry.writing import sync_folder, write_whole
-from metis_planner.text import plans
+from metis_planner.text.actions import Delete, Move, in_words
 
 # Of a step without a command.
 NO_SCRIPT = "by :"
@@ -24,9 +24,9 @@ def differing(rules: Iterable[tuple[Step, Rule | None]], marks: Mapping[str, Mar
     gone = set()
     for step, rule in rules:
         mark = marks.get(step.key)
-        if mark and step.action.verb == "delete":
+        if mark and isinstance(step.action, Delete):
             gone.add(step.action.instance)
-        if not mark or step.action.verb != "move" or not mark.more or mark.more == STALE or rule is None or rule.does_nothing:
+        if not mark or not isinstance(step.action, Move) or not mark.more or mark.more == STALE or rule is None or rule.does_nothing:
             continue
         if mark.more == CHANGED_SINCE or mark.more not in (NO_SCRIPT, f"by {rule.sum}"):
             found.append(step)
@@ -61,5 +61,5 @@ def mark_by(folder: Folder, key: str, more: str) -> None:
     sync_folder(path.parent)
 
 
-def in_words(steps: Iterable[Step]) -> tuple[str, ...]:
-    return tuple(plans.in_words(step.action) for step in steps)
+def all_in_words(steps: Iterable[Step]) -> tuple[str, ...]:
+    return tuple(in_words(step.action) for step in steps)

@@ -11,6 +11,7 @@ from metis_planner.carry.going_over import without_the_gone
 from metis_planner.carry.progress import step_named
 from metis_planner.carry.taking_back import take_back, with_followers
 from metis_planner.text import plans
+from metis_planner.text.actions import in_words
 
 
 def add_arguments(parser: argparse.ArgumentParser) -> None:
@@ -23,7 +24,7 @@ def check_not_begun(folder: Folder, name: str) -> None:
     steps = folder.steps()
     begun = folder.begun(step_named(folder, name, steps), folder.done(steps))
     if begun:
-        words = plans.in_words(begun[-1].action)
+        words = in_words(begun[-1].action)
         raise Refused(f"{folder.path}: nothing is taken back, since this is not done, and make does it again: {words}")
 
 
@@ -41,4 +42,4 @@ def run(arguments: argparse.Namespace) -> Answer:
             raise Refused(f"{folder.path}: nothing of {plans.shown(arguments.name)} is done, so make does it in any case")
         back = with_followers(steps, done, {own[-1].action.number})
         take_back(folder, back)
-    return Answer("", notes + [f"will be done again: {plans.in_words(step.action)}" for step in back])
+    return Answer("", notes + [f"will be done again: {in_words(step.action)}" for step in back])

@@ -11,6 +11,7 @@ from collections.abc import Collection, Iterable, Sequence
 
 from metis_planner.answers import Refused
 from metis_planner.carry.steps import Step, lanes, who
+from metis_planner.text.actions import Bind, Delete, Unbind
 from metis_planner.text.roles import KEPT, roles_of
 
 
@@ -36,7 +37,7 @@ def change_in(steps: Sequence[Step], old: int) -> Rollout:
         return rollout_in(steps, old)
     made = {step.action.instance for step in steps[:old]}
     border = next((place for place, step in enumerate(steps) if place >= old and is_removal(step, made)), len(steps))
-    removed = made | {step.action.instance for step in steps[border:] if step.action.verb == "delete"}
+    removed = made | {step.action.instance for step in steps[border:] if isinstance(step.action, Delete)}
     for step in steps[border:]:
         if step.action.instance not in removed:
             raise Refused(
@@ -47,7 +48,7 @@ def change_in(steps: Sequence[Step], old: int) -> Rollout:
 
 
 def is_removal(step: Step, made: set[int]) -> bool:
-    return step.action.verb in ("unbind", "delete") and step.action.instance in made
+    return isinstance(step.action, Unbind | Delete) and step.action.instance in made
 
 
 def roles_in(steps: Sequence[Step], rollouts: Sequence[Rollout]) -> dict[int, str]:
@@ -65,8 +66,8 @@ def rollout_in(steps: Sequence[Step], old: int) -> Rollout:
     """
     made = {step.action.instance for step in steps[:old]}
     cut = next((place for place, step in enumerate(steps) if place >= old and step.action.instance in made), len(steps))
-    last = {step.action.instance: step.action.verb for step in steps[cut:]}
-    removed = made | {instance for instance, verb in last.items() if verb == "delete"}
+    last = {step.action.instance: step.action for step in steps[cut:]}
+    removed = made | {instance for instance, action in last.items() if isinstance(action, Delete)}
     fresh = next(
         (place for place, step in enumerate(steps) if place >= old and step.action.instance in removed), len(steps)
     )
@@ -94,10 +95,10 @@ def sign_of_a_rollout(steps: Sequence[Step]) -> Step | None:
     group: dict[int, int] = {}
     for step in steps:
         group.setdefault(step.action.instance, step.action.instance)
-        if step.action.verb == "bind":
+        if isinstance(step.action, Bind):
             group[head_of(group, step.action.instance)] = head_of(group, step.action.provider)
     last = {lane[-1].action.instance: lane[-1] for lane in lanes(steps).values()}
-    standing = {head_of(group, instance) for instance, step in last.items() if step.action.verb != "delete"}
+    standing = {head_of(group, instance) for instance, step in last.items() if not isinstance(step.action, Delete)}
     gone = (step for instance, step in last.items() if standing and head_of(group, instance) not in standing)
     return next(gone, None)
 

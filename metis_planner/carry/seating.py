@@ -12,6 +12,7 @@ from metis_planner.answers import Refused
 from metis_planner.carry.folder import JOBS, NO_HOST, Folder, Mark
 from metis_planner.carry.steps import Step
 from metis_planner.text import plans
+from metis_planner.text.actions import Action, Delete, New
 from metis_planner.text.reading import read_text
 
 HOST = re.compile(rf"host ({plans.NAME.pattern}) ({plans.NUMBER.pattern})")
@@ -50,10 +51,10 @@ class Seats:
     def __post_init__(self) -> None:
         self.free = dict(self.hosts.rooms)
 
-    def reserve(self, actions: Sequence[plans.Action]) -> None:
+    def reserve(self, actions: Sequence[Action]) -> None:
         """Keeps the room of what stands, from the beginning."""
         for action in actions:
-            if action.verb == "new" and action.instance in self.fixed and action.instance not in self.never:
+            if isinstance(action, New) and action.instance in self.fixed and action.instance not in self.never:
                 host = self.fixed[action.instance]
                 if host not in self.free:
                     raise Refused(f"{action.type}#{action.instance} stands on host {host}, which is none of the hosts")
@@ -63,12 +64,12 @@ class Seats:
                 room = self.hosts.rooms[host]
                 raise Refused(f"host {host} has room for {room}, and what stands on it takes {room - free}")
 
-    def seat(self, action: plans.Action) -> None:
+    def seat(self, action: Action) -> None:
         """Puts what an action makes on a host; what it deletes takes no room any more."""
         instance = action.instance
-        if action.verb == "delete" and instance in self.at:
+        if isinstance(action, Delete) and instance in self.at:
             self.free[self.at[instance]] += self.sizes[instance]
-        if action.verb != "new":
+        if not isinstance(action, New):
             return
         size = 0 if instance in self.never else self.hosts.size(action.type)
         host = self.fixed.get(instance) if instance not in self.never else None
@@ -81,16 +82,16 @@ class Seats:
         self.at[instance], self.sizes[instance] = host, size
 
 
-def holds_in(seats: Seats, actions: Sequence[plans.Action]) -> Iterator[tuple[int, list[int]]]:
+def holds_in(seats: Seats, actions: Sequence[Action]) -> Iterator[tuple[int, list[int]]]:
     """Which actions wait for deletions on their hosts, and for which: as few of the first ones as make room for all so far."""
     made = dict.fromkeys(seats.free, 0)
     deletes: dict[str, list[tuple[int, int]]] = {host: [] for host in made}
     for action in actions:
         instance = action.instance
-        if action.verb not in ("new", "delete") or instance not in seats.at:
+        if not isinstance(action, New | Delete) or instance not in seats.at:
             continue
         host, size = seats.at[instance], seats.sizes[instance]
-        if action.verb == "delete":
+        if isinstance(action, Delete):
             deletes[host].append((action.number, size))
             continue
         made[host] += size
@@ -104,13 +105,13 @@ def holds_in(seats: Seats, actions: Sequence[plans.Action]) -> Iterator[tuple[in
             yield action.number, numbers
 
 
-def placement_text(hosts: Hosts, actions: Sequence[plans.Action], fixed: Mapping[int, str], never: Collection[int] = ()) -> str:
+def placement_text(hosts: Hosts, actions: Sequence[Action], fixed: Mapping[int, str], never: Collection[int] = ()) -> str:
     """The placement of a plan, in the text that `metis place` prints."""
     seats = Seats(hosts, fixed, never)
     seats.reserve(actions)
     for action in actions:
         seats.seat(action)
-    lines = [f"on {action.instance} {seats.at[action.instance]}" for action in actions if action.verb == "new"]
+    lines = [f"on {action.instance} {seats.at[action.instance]}" for action in actions if isinstance(action, New)]
     count = len(lines)
     lines += [f"hold {number} after {' '.join(map(str, numbers))}" for number, numbers in holds_in(seats, actions)]
     return "\n".join([*lines, f"placed {count} hosts {len(hosts.rooms)}", ""])
@@ -130,7 +131,7 @@ def hosts_of(folder: Folder) -> dict[int, str]:
     return {instance: host for instance, host in found.items() if host not in ("", NO_HOST)}
 
 
-def kept_placement(steps: Sequence[Step], marks: Mapping[str, Mark], actions: Sequence[plans.Action]) -> str | None:
+def kept_placement(steps: Sequence[Step], marks: Mapping[str, Mark], actions: Sequence[Action]) -> str | None:
     """The placement of a list whose instances all were made, as marks tell it; nothing if there are no hosts.
 
     What was only made on the way to it is on none, and gets any: no step of it is ever done.
@@ -139,6 +140,6 @@ def kept_placement(steps: Sequence[Step], marks: Mapping[str, Mark], actions: Se
     known = {instance: host for instance, host in host_of.items() if host not in ("", NO_HOST)}
     if not known:
         return None
-    made = [action.instance for action in actions if action.verb == "new"]
+    made = [action.instance for action in actions if isinstance(action, New)]
     lines = [f"on {instance} {known.get(instance, next(iter(known.values())))}" for instance in made]
     return "\n".join([*lines, f"placed {len(made)} hosts {len(set(known.values()))}", ""])

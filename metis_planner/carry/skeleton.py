@@ -14,6 +14,7 @@ from metis_planner.carry.patterns import Patterns, fits_something, subject
 from metis_planner.carry.possible import PossibleActions
 from metis_planner.importers.compose.input import DEFAULT_NAMES
 from metis_planner.text import plans
+from metis_planner.text.actions import Move
 
 FOLDER = pathlib.Path(__file__).resolve().parent / "skeletons"
 HEAD = """\
@@ -52,11 +53,11 @@ def source_of(plan: plans.Plan, comment: str = "") -> str:
     found = BY_IMPORTER.search(comment)
     if found:
         return found[1]
-    moves = [action for action in plan.actions if action.verb == "move"]
+    moves = [action for action in plan.actions if isinstance(action, Move)]
     for name, pattern in (("compose", OF_COMPOSE), ("kubernetes", OF_KUBERNETES)):
         if any(pattern.fullmatch(subject(action)) for action in moves):
             return name
-    states = {action.words[2] for action in moves}
+    states = {action.end for action in moves}
     return "debian" if "installed" in states and states <= OF_DEBIAN else ""
 
 
@@ -65,7 +66,7 @@ def by_hand(plan: plans.Plan) -> Iterator[Rule]:
     yield Rule("*: new", "", comment="Provision: a machine, a container, a folder named by METIS_NAME.")
     yield Rule("*: bind *", "", comment="Tell METIS_NAME where it finds METIS_PROVIDER_NAME.")
     yield Rule("*: unbind *", "")
-    kinds = dict.fromkeys(subject(action) for action in plan.actions if action.verb == "move")
+    kinds = dict.fromkeys(subject(action) for action in plan.actions if isinstance(action, Move))
     yield from to_fill_in(kinds)
     yield Rule("*: delete", TO_FILL_IN, comment="Take all of METIS_NAME away, in whatever state it is.")
 
@@ -92,7 +93,7 @@ def of_source(name: str, plan: plans.Plan, possible: PossibleActions) -> str:
     """What comes with the package for this plan, and a step to fill in for each move that it does not know."""
     text = fitting(whole_text(name), possible)
     patterns = Patterns(WHEN.findall(text))
-    moves = dict.fromkeys(subject(action) for action in plan.actions if action.verb == "move")
+    moves = dict.fromkeys(subject(action) for action in plan.actions if isinstance(action, Move))
     more = to_fill_in(each for each in moves if patterns.first(each) is None)
     if name == "compose" and any(pathlib.Path(each).is_file() for each in DEFAULT_NAMES):
         text = text.replace(UNFILLED, json.dumps(str(pathlib.Path.cwd())))

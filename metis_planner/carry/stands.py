@@ -1,5 +1,6 @@
 """What stands in a folder that `up` wrote: by the plan in it, by its marks, and by the universe that was kept with it."""
 
+import dataclasses
 import json
 import re
 from collections.abc import Iterable, Mapping, Sequence
@@ -9,6 +10,7 @@ from metis_planner.carry.folder import FREE, PAST, PLAN, UNIVERSE, Folder, Mark,
 from metis_planner.carry.rebase import paths_in, without_loops
 from metis_planner.carry.steps import Step
 from metis_planner.text import plans
+from metis_planner.text.actions import Action, New, with_numbers
 from metis_planner.text.configurations import Configuration, Standing
 from metis_planner.text.documents import ComponentType
 from metis_planner.text.reading import read_text
@@ -70,24 +72,16 @@ def first_free(folder: Folder) -> int:
     return max(found) + 1
 
 
-def renumbered(actions: Sequence[plans.Action], old: int, free: int) -> tuple[plans.Action, ...]:
+def renumbered(actions: Sequence[Action], old: int, free: int) -> tuple[Action, ...]:
     """The actions, of which those behind the first ones make instances under numbers that nobody ever had."""
-    made = [action.instance for action in actions[old:] if action.verb == "new"]
-    name = {str(instance): str(free + place) for place, instance in enumerate(made)}
-    return (*actions[:old], *(with_numbers(action, name) for action in actions[old:]))
+    made = [action.instance for action in actions[old:] if isinstance(action, New)]
+    number_of = {instance: free + place for place, instance in enumerate(made)}
+    return (*actions[:old], *(with_numbers(action, number_of) for action in actions[old:]))
 
 
-def with_numbers(action: plans.Action, name: Mapping[str, str]) -> plans.Action:
-    """An action by other numbers of its instances."""
-    words = list(action.words)
-    for place in plans.FORMS[action.verb][1]:
-        words[place] = name.get(words[place], words[place])
-    return action._replace(words=tuple(words))
-
-
-def in_order(actions: Iterable[plans.Action]) -> tuple[plans.Action, ...]:
+def in_order(actions: Iterable[Action]) -> tuple[Action, ...]:
     """Actions with their numbers, and without what they wait for."""
-    return tuple(action._replace(number=number, after=()) for number, action in enumerate(actions, 1))
+    return tuple(dataclasses.replace(action, number=number, after=()) for number, action in enumerate(actions, 1))
 
 
 def in_forms(there: Configuration, types: Sequence[ComponentType], states: Mapping[int, str]) -> Configuration:
@@ -98,7 +92,7 @@ def in_forms(there: Configuration, types: Sequence[ComponentType], states: Mappi
     return found
 
 
-def paths_for(done: Iterable[plans.Action], types: Sequence[ComponentType], now: Configuration) -> dict[int, tuple[str, ...]]:
+def paths_for(done: Iterable[Action], types: Sequence[ComponentType], now: Configuration) -> dict[int, tuple[str, ...]]:
     """The path of each instance, which ends in the state that it is to have."""
     found = paths_in(done, {kind.name: kind for kind in types})
     return {each: without_loops((*path[:-1], str(now.instances[each].state))) for each, path in found.items()}

@@ -15,7 +15,8 @@ from metis_planner.answers import Answer
 from metis_planner.carry.configuration import add_folder, folder_of
 from metis_planner.carry.folder import Folder
 from metis_planner.carry.progress import Progress, Row, Stage, progress_of, seconds_since
-from metis_planner.text import configurations, plans
+from metis_planner.text import configurations
+from metis_planner.text.actions import in_words
 from metis_planner.text.terminal import plain
 
 WIDTH = 30
@@ -38,7 +39,7 @@ def bar(progress: Progress) -> str:
 
 
 def row_lines(row: Row, folder: str) -> Iterator[str]:
-    what = f"{plans.in_words(row.step.action)}{' (again)' if row.is_again else ''}"
+    what = f"{in_words(row.step.action)}{' (again)' if row.is_again else ''}"
     if row.stage is Stage.RUNNING:
         seconds = seconds_since(row.since)
         yield f"  running  {what}" + ("" if seconds is None else f", for {max(0, round(seconds))} s")

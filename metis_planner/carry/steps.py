@@ -3,10 +3,19 @@
 import dataclasses
 import re
 from collections.abc import Iterable, Iterator
-from typing import NoReturn
+from typing import NamedTuple, NoReturn, assert_never
 
 from metis_planner.answers import Refused
 from metis_planner.text import plans
+from metis_planner.text.actions import Action, Bind, Delete, Move, New, Unbind, line_of
+
+
+class Bound(NamedTuple):
+    """A provider to which an instance is bound: at which port, its number, and its name."""
+
+    port: str
+    instance: int
+    name: str
 
 
 @dataclasses.dataclass(frozen=True, slots=True)
@@ -17,16 +26,16 @@ class Step:
     are the same in all of these.
     """
 
-    action: plans.Action
+    action: Action
     key: str
     waits: tuple[int, ...]
     state: str  # of the instance before the action; empty where it has not moved
-    bound: tuple[str, ...]  # before a move and a delete: PORT=NAME of each provider to which the instance is bound
+    bound: tuple[Bound, ...]  # before a move and a delete: the providers to which the instance is bound
 
     @property
     def line(self) -> str:
         """The action as the plan writes it, without its number."""
-        return plans.line_of(self.action)
+        return line_of(self.action)
 
 
 def name_of(kind: str, instance: int) -> str:
@@ -35,11 +44,11 @@ def name_of(kind: str, instance: int) -> str:
     return name if name[0].isalnum() else f"x{name}"
 
 
-def who(action: plans.Action) -> str:
+def who(action: Action) -> str:
     return f"{action.type}#{action.instance}"
 
 
-def refuse(action: plans.Action, reason: str) -> NoReturn:
+def refuse(action: Action, reason: str) -> NoReturn:
     raise Refused(f"action {action.number}: {reason}, so this is no steadfast run")
 
 
@@ -66,70 +75,79 @@ class Simulator:
     def __init__(self) -> None:
         self.instances: dict[int, Instance] = {}
 
-    def step(self, action: plans.Action) -> Step:
+    def step(self, action: Action) -> Step:
         """The step of the next action."""
-        own = self.made(action) if action.verb == "new" else self.there(action, action.instance)
+        own = self.made(action) if isinstance(action, New) else self.there(action, action.instance)
         state: str = own.state
-        bound: tuple[str, ...] = ()
-        if action.verb in ("move", "delete"):
-            bound = tuple(f"{port}={provider.name}" for (port, _), provider in own.taken.items())
+        bound: tuple[Bound, ...] = ()
+        if isinstance(action, Move | Delete):
+            bound = tuple(Bound(port, number, provider.name) for (port, number), provider in own.taken.items())
         waits = {own.last} if own.last else set()
-        waits.update(getattr(self, action.verb)(action, own))
+        waits.update(self.done(action, own))
         own.last = action.number
         own.count += 1
         return Step(action, f"{action.instance}.{own.count}", tuple(sorted(waits)), state, bound)
 
-    def made(self, action: plans.Action) -> Instance:
+    def made(self, action: Action) -> Instance:
         if action.instance in self.instances:
             refuse(action, f"instance {action.instance} is made a second time")
         return self.instances.setdefault(action.instance, Instance(name_of(action.type, action.instance)))
 
-    def there(self, action: plans.Action, instance: int) -> Instance:
+    def there(self, action: Action, instance: int) -> Instance:
         found = self.instances[instance]
         if not found.is_there:
             refuse(action, f"instance {instance} was deleted")
         return found
 
-    def new(self, action: plans.Action, own: Instance) -> Iterable[int]:
-        own.entered = action.number
-        return ()
+    def done(self, action: Action, own: Instance) -> Iterable[int]:
+        """Does the action; the numbers of what it waits for, beside the action before it of its own instance."""
+        match action:
+            case New():
+                own.entered = action.number
+                return ()
+            case Delete():
+                return self.delete(action, own)
+            case Bind():
+                return self.bind(action, own)
+            case Unbind():
+                self.release(action, own, (action.port, action.provider))
+                return ()
+            case Move():
+                return self.move(action, own)
+            case _:
+                assert_never(action)
 
-    def move(self, action: plans.Action, own: Instance) -> Iterable[int]:
-        _, source, target = action.words
-        if own.state not in ("", source):
-            refuse(action, f"{who(action)} is in {own.state}, and not in {source}")
+    def move(self, action: Move, own: Instance) -> Iterable[int]:
+        if own.state not in ("", action.start):
+            refuse(action, f"{who(action)} is in {own.state}, and not in {action.start}")
         freed = self.free(action, own)
-        own.entered, own.state = action.number, target
+        own.entered, own.state = action.number, action.end
         return freed
 
-    def delete(self, action: plans.Action, own: Instance) -> Iterable[int]:
+    def delete(self, action: Delete, own: Instance) -> Iterable[int]:
         freed = self.free(action, own)
         for binding in list(own.taken):
             self.release(action, own, binding)
         own.is_there = False
         return freed
 
-    def bind(self, action: plans.Action, own: Instance) -> Iterable[int]:
+    def bind(self, action: Bind, own: Instance) -> Iterable[int]:
         provider = self.there(action, action.provider)
-        binding = (action.words[0], action.provider)
+        binding = (action.port, action.provider)
         if provider is own or binding in own.taken:
             refuse(action, "it binds an instance to itself" if provider is own else "the binding is there already")
         own.taken[binding] = provider
         provider.users += 1
         return (provider.entered,)
 
-    def unbind(self, action: plans.Action, own: Instance) -> Iterable[int]:
-        self.release(action, own, (action.words[0], action.provider))
-        return ()
-
-    def free(self, action: plans.Action, own: Instance) -> list[int]:
+    def free(self, action: Action, own: Instance) -> list[int]:
         """The actions that let go of an instance which is to leave its state."""
         if own.users:
             refuse(action, f"{who(action)} still serves another")
         freed, own.freed = own.freed, []
         return freed
 
-    def release(self, action: plans.Action, own: Instance, binding: tuple[str, int]) -> None:
+    def release(self, action: Action, own: Instance, binding: tuple[str, int]) -> None:
         provider = own.taken.pop(binding, None)
         if provider is None:
             refuse(action, "there is no such binding to let go")

@@ -19,7 +19,7 @@ from metis_planner.carry.going_over import without_the_gone
 from metis_planner.carry.own import check_own
 from metis_planner.carry.steps import Step, lanes, who
 from metis_planner.carry.taking_back import take_back, with_followers
-from metis_planner.text import plans
+from metis_planner.text.actions import Delete, Move, New, in_words
 from metis_planner.text.reading import read_text
 from metis_planner.text.terminal import plain, say
 
@@ -73,17 +73,17 @@ def standing_in(folder: Folder, steps: Sequence[Step], done: set[str]) -> list[S
     going = going_in(folder, steps, done)
     for lane in lanes(steps).values():
         own = [step for step in lane if step.key in done]
-        if not own or own[-1].action.verb == "delete" or own[0].action.instance in going:
+        if not own or isinstance(own[-1].action, Delete) or own[0].action.instance in going:
             continue
-        last = [step for step in own if step.action.verb in ("new", "move")][-1]
-        state = last.action.words[2] if last.action.verb == "move" else "made"
+        last = [step for step in own if isinstance(step.action, New | Move)][-1]
+        state = last.action.end if isinstance(last.action, Move) else "made"
         found.append(Standing(last, state, words[last.key]))
     return found
 
 
 def going_in(folder: Folder, steps: Sequence[Step], done: set[str]) -> frozenset[int]:
     """The instances whose deletion was begun and is not done: what of them is left nobody knows, and nothing may need it."""
-    return frozenset(step.action.instance for step in folder.begun(steps, done) if step.action.verb == "delete")
+    return frozenset(step.action.instance for step in folder.begun(steps, done) if isinstance(step.action, Delete))
 
 
 def has_check(folder: Folder, standing: Standing) -> bool:
@@ -100,7 +100,7 @@ def ask(folder: Folder, standing: Standing) -> Asked:
         return Asked(standing, UNASKED)
     words = ["./run", "-c", *standing.words]
     done = subprocess.run(words, cwd=folder.path, stdin=subprocess.DEVNULL, capture_output=True, text=True, errors="replace", check=False)
-    return Asked(standing, *verdict_of(done.returncode, lines_in(done.stdout), lines_in(done.stderr), plans.in_words(standing.step.action)))
+    return Asked(standing, *verdict_of(done.returncode, lines_in(done.stdout), lines_in(done.stderr), in_words(standing.step.action)))
 
 
 def lines_in(text: str) -> list[str]:
@@ -151,9 +151,9 @@ def taken_back(folder: Folder, steps: Sequence[Step], asked: Sequence[Asked]) ->
         lost = {each.standing.step.action.number for each in asked if each.verdict == LOST}
         back = with_followers(steps, done, lost, going_in(folder, steps, done))
         take_back(folder, back)
-        made_anew = {step.action.instance for step in back if step.action.verb == "new"}
+        made_anew = {step.action.instance for step in back if isinstance(step.action, New)}
         for step in steps:
-            if step.action.verb == "delete" and step.action.instance in made_anew and step.key not in done:
+            if isinstance(step.action, Delete) and step.action.instance in made_anew and step.key not in done:
                 (folder.path / LOG / step.key).unlink(missing_ok=True)
     return back
 

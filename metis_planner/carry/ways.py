@@ -7,6 +7,7 @@ from metis_planner.carry.forms import CHANGED, Change
 from metis_planner.carry.halfway import Halves
 from metis_planner.carry.rollouts import Rollout
 from metis_planner.text import plans
+from metis_planner.text.actions import Action
 from metis_planner.text.configurations import Configuration
 
 KEPT, ONWARD, IN_PLACE, NEW, GOING = "kept", "goes on", "changed", "new", "going"
@@ -26,7 +27,7 @@ class Way(NamedTuple):
     ends: Mapping[int, str] = {}  # of half-made instances that this list leaves as they are
 
     @property
-    def fresh(self) -> tuple[plans.Action, ...]:
+    def fresh(self) -> tuple[Action, ...]:
         return self.plan.actions[self.done :]
 
 
@@ -44,7 +45,7 @@ class Evolution(NamedTuple):
     end: frozenset[int]  # what stands at the end
 
     @property
-    def fresh(self) -> tuple[plans.Action, ...]:
+    def fresh(self) -> tuple[Action, ...]:
         """The actions that are still to be done, in both parts."""
         return (*(self.first.fresh if self.first else ()), *self.last.fresh)
 

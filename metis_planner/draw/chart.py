@@ -5,10 +5,9 @@ from collections.abc import Iterator, Sequence
 
 from metis_planner.carry.steps import Step, who
 from metis_planner.draw.picture import short
-from metis_planner.text import plans
+from metis_planner.text.actions import VERBS, Verb, in_words
 
-VERBS = ("new", "delete", "bind", "unbind", "move")
-FILLS = {"new": "#d0d0d0", "delete": "#f0b49e", "bind": "#b5d3ee", "unbind": "#d8c6e8", "move": "#b9dfb3"}
+FILLS: dict[Verb, str] = {"new": "#d0d0d0", "delete": "#f0b49e", "bind": "#b5d3ee", "unbind": "#d8c6e8", "move": "#b9dfb3"}
 CRITICAL = "#c23b22"
 # What is not done: a thick dark frame where it failed, a dashed one while it runs.
 FRAMES = {
@@ -77,7 +76,7 @@ class Chart:
     def legend(self) -> Iterator[str]:
         x = self.left
         used = {bar.step.action.verb for lane in self.lanes for bar in lane}
-        fills = {verb: f'fill="{FILLS[verb]}"' for verb in VERBS if verb in used}
+        fills: dict[str, str] = {verb: f'fill="{FILLS[verb]}"' for verb in VERBS if verb in used}
         bars = [bar for lane in self.lanes for bar in lane]
         if any(bar.is_critical for bar in bars):
             fills["the longest chain"] = f'fill="white" stroke="{CRITICAL}" stroke-width="1.6"'
@@ -120,7 +119,7 @@ class Chart:
         action, x = bar.step.action, self.x(bar.start)
         is_long = bar.end > bar.start
         width = max((bar.end - bar.start) * self.scale, LEAST if is_long or bar.is_critical else 1)
-        tip = f"{action.number} {plans.in_words(action)}: {bar.start:.10g} to {bar.end:.10g}"
+        tip = f"{action.number} {in_words(action)}: {bar.start:.10g} to {bar.end:.10g}"
         tip += f", {bar.status}" if bar.status else ""
         tip += f", may start {bar.slack:.10g} later" if bar.slack else ""
         yield f"<g><title>{tip.replace('>', '&gt;')}</title>"

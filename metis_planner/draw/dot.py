@@ -10,6 +10,7 @@ from collections.abc import Iterator, Sequence
 from metis_planner.carry.rollouts import ends_of
 from metis_planner.carry.steps import Step, lanes, who
 from metis_planner.draw import picture
+from metis_planner.text.actions import Delete, Move, Verb
 from metis_planner.text.documents import ComponentType
 from metis_planner.text.roles import GOING, KEPT, NEW
 
@@ -20,7 +21,7 @@ digraph metis {{
   node [{FONT} fontsize=10 shape=box style="rounded,filled" fillcolor=white color="#444444" height=0.28 margin="0.08,0.03"]
   edge [{FONT} fontsize=9 color="#444444" arrowsize=0.6]
 """
-FILLS = {"new": "#eeeeee", "delete": "#f4c7b8", "bind": "#d7e8f7", "unbind": "#e9dff2", "move": "#d9efd5"}
+FILLS: dict[Verb, str] = {"new": "#eeeeee", "delete": "#f4c7b8", "bind": "#d7e8f7", "unbind": "#e9dff2", "move": "#d9efd5"}
 # Of an instance in a change: the border of its lane, and how it looks as one box.
 BORDERS = {KEPT: "#3c8d2f", NEW: "#1f5fa8", GOING: "#b8431f"}
 ROLE_FILLS = {KEPT: FILLS["move"], NEW: FILLS["bind"], GOING: FILLS["delete"]}
@@ -85,13 +86,13 @@ def instance_lines(scene: picture.Scene) -> Iterator[str]:
     for instance, lane in lanes(steps).items():
         types[instance] = lane[0].action.type
         label, fill = who(lane[0].action), FILLS["move"]
-        state = next((step.action.words[2] for step in reversed(lane) if step.action.verb == "move"), "")
+        state = next((it.end for step in reversed(lane) if isinstance(it := step.action, Move)), "")
         if state:
             label += f": {state}"
         role = scene.roles.get(instance)
         if role:
             label, fill = f"{label}, {role}", ROLE_FILLS[role]
-        elif lane[-1].action.verb == "delete":
+        elif isinstance(lane[-1].action, Delete):
             label, fill = f"{label}, deleted", FILLS["delete"]
         yield f'  i{instance} [label={quoted(label)} fillcolor="{fill}"]\n'
     for (instance, provider), ports in picture.ties(steps).items():

@@ -19,8 +19,9 @@ from metis_planner.carry.progress import Stage, held_files, row_of
 from metis_planner.carry.rollouts import barrier_of
 from metis_planner.carry.steps import Step, steps_of
 from metis_planner.draw import picture
-from metis_planner.draw.chart import VERBS, Bar, Chart, Fold
+from metis_planner.draw.chart import Bar, Chart, Fold
 from metis_planner.text import plans
+from metis_planner.text.actions import VERBS, Verb
 from metis_planner.text.over_plans import Schedule, read_over
 
 TIMES = re.compile(r"([0-9]{1,12}\.[0-9]{1,9}) ([0-9]{1,12}\.[0-9]{1,9})")
@@ -69,7 +70,7 @@ def bars_of_waves(plan: str, waves: str, durations: Sequence[int]) -> list[Bar]:
     ]
 
 
-def check(steps: Sequence[Step], schedule: Schedule, times: dict[str, int], path: str) -> None:
+def check(steps: Sequence[Step], schedule: Schedule, times: Mapping[Verb, int], path: str) -> None:
     """Refuses a schedule of another plan, or of other numbers."""
     ends = [start + times[step.action.verb] for step, (start, _) in zip(steps, schedule.starts)]
     for step, (start, latest) in zip(steps, schedule.starts):

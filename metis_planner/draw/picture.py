@@ -5,6 +5,7 @@ import dataclasses
 import functools
 import os
 from collections.abc import Callable, Iterable, Sequence
+from typing import assert_never
 
 from metis_planner.answers import Refused
 from metis_planner.carry.folder import Folder
@@ -12,6 +13,7 @@ from metis_planner.carry.origin import counts_of, rollouts_at
 from metis_planner.carry.rollouts import Rollout, roles_in
 from metis_planner.carry.steps import Step, steps_of, who
 from metis_planner.text import plans
+from metis_planner.text.actions import Action, Bind, Delete, Move, New, Unbind
 from metis_planner.text.documents import ComponentType
 from metis_planner.text.reading import decoded, read_bytes
 from metis_planner.text.universes import types_in
@@ -52,7 +54,7 @@ class Scene:
         """What becomes of each instance in the last change."""
         return roles_in(self.steps, self.rollouts)
 
-    def name_of(self, action: plans.Action) -> str:
+    def name_of(self, action: Action) -> str:
         """An instance, with what becomes of it."""
         role = self.roles.get(action.instance)
         return f"{who(action)}, {role}" if role else who(action)
@@ -95,7 +97,7 @@ def drawn_scene(
     of_plan: Callable[[Scene], Iterable[str]],
 ) -> str:
     if arguments.instances:
-        instances = sum(step.action.verb == "new" for step in scene.steps)
+        instances = sum(isinstance(step.action, New) for step in scene.steps)
         check_size(instances, arguments.most, "instances", "draw a smaller plan")
         return "".join(of_instances(scene))
     check_size(len(scene.steps), arguments.most, "actions", "draw it with --instances")
@@ -109,22 +111,26 @@ def check_size(count: int, most: int, what: str, instead: str) -> None:
         )
 
 
-def short(action: plans.Action) -> str:
+def short(action: Action) -> str:
     """An action in its own lane."""
-    words = action.words
-    if action.verb in ("new", "delete"):
-        return action.verb
-    if action.verb == "move":
-        return f"{words[1]} → {words[2]}"
-    return f"{action.verb} {words[0]}"
+    match action:
+        case New() | Delete():
+            return action.verb
+        case Move():
+            return f"{action.start} → {action.end}"
+        case Bind() | Unbind():
+            return f"{action.verb} {action.port}"
+        case _:
+            assert_never(action)
 
 
 def ties(steps: Iterable[Step]) -> dict[tuple[int, int], list[str]]:
     """The ports that an instance ever takes from another one, by the numbers of the two."""
     found: dict[tuple[int, int], list[str]] = {}
     for step in steps:
-        if step.action.verb == "bind":
-            found.setdefault((step.action.instance, step.action.provider), []).append(step.action.words[0])
+        action = step.action
+        if isinstance(action, Bind):
+            found.setdefault((action.instance, action.provider), []).append(action.port)
     return found
 
 

@@ -5,6 +5,7 @@ from typing import NamedTuple
 
 from metis_planner.lean.universe import Pair, Universe
 from metis_planner.text import plans
+from metis_planner.text.actions import Bind, Move, New
 
 
 class Cost(NamedTuple):
@@ -24,15 +25,15 @@ class Made:
         self.serving: dict[str, set[Pair]] = {}
         type_of, state_of = {}, {}
         for action in plan.actions:
-            if action.verb == "new":
+            if isinstance(action, New):
                 self.counts[action.type] += 1
                 type_of[action.instance] = action.type
                 state_of[action.instance] = universe.types[action.type].states[0].name
-            elif action.verb == "move":
-                state_of[action.instance] = action.words[2]
-            elif action.verb == "bind":
+            elif isinstance(action, Move):
+                state_of[action.instance] = action.end
+            elif isinstance(action, Bind):
                 provider = Pair(action.provider_type, state_of[action.provider])
-                self.serving.setdefault(action.words[0], set()).add(provider)
+                self.serving.setdefault(action.port, set()).add(provider)
         self.cost = Cost(len(type_of), len(plan.actions))
         self.on_cycles = {type_of[line] for dup in plan.dups for line in map(line_of, dup.cycle) if line in type_of}
 

@@ -6,6 +6,7 @@ from metis_planner.look.standing import MOST_BYTES, plan_of, types_at, who
 from metis_planner.look.wrong import Call, listed, rows_at, shown, targets_of
 from metis_planner.program import UNIVERSE
 from metis_planner.text import configurations, plans, verdicts
+from metis_planner.text.actions import Action, Bind, Delete, Move, New, in_words
 from metis_planner.text.configurations import Configuration
 from metis_planner.text.reading import read_text
 
@@ -82,7 +83,7 @@ def of_an_action(call: Call, found: verdicts.Verdict) -> list[str]:
         return [found.words]
     action = plan.actions[number - 1]
     before = configurations.after(plan.actions[: number - 1], types_at(call.files[UNIVERSE]))
-    step = f"step {number}, {plans.in_words(action)}"
+    step = f"step {number}, {in_words(action)}"
     if found.kind == "after":
         return [f"{step}, says behind 'after' something else than it has to wait for"]
     if found.kind == "loose":
@@ -90,7 +91,7 @@ def of_an_action(call: Call, found: verdicts.Verdict) -> list[str]:
     return [f"{step}, {why_refused(action, before, str(found.fields['reason']))}"]
 
 
-def why_refused(action: plans.Action, before: Configuration, reason: str) -> str:
+def why_refused(action: Action, before: Configuration, reason: str) -> str:
     code, *rest = reason.split(" ")
     if code == "A9":
         instance, port = int(rest[0]), rest[1]
@@ -99,21 +100,21 @@ def why_refused(action: plans.Action, before: Configuration, reason: str) -> str
         return f"would leave {who(instance, before)} with {have} of {want} {port}"
     if code == "A3":
         return f"cannot be done: {who(int(rest[0]), before)} is in {rest[1]} by then"
-    if code == "A4":
-        return f"cannot be done: {action.type} has no move from {action.words[1]} to {action.words[2]}"
-    if code == "A6" and action.verb == "bind":
-        return f"cannot be done: {action.type} requires {action.words[0]} in no state, or {action.provider_type} provides it in none"
+    if code == "A4" and isinstance(action, Move):
+        return f"cannot be done: {action.type} has no move from {action.start} to {action.end}"
+    if code == "A6" and isinstance(action, Bind):
+        return f"cannot be done: {action.type} requires {action.port} in no state, or {action.provider_type} provides it in none"
     return f"cannot be done: {verdicts.reason_in_words(reason)}"
 
 
-def why_loose(action: plans.Action, before: Configuration) -> str:
+def why_loose(action: Action, before: Configuration) -> str:
     """What a steadfast list does not do: another order of the actions could go wrong."""
-    if action.verb == "new":
+    if isinstance(action, New):
         return "uses the number of an earlier instance once more: give it a number of its own"
-    if action.verb == "bind":
-        return f"binds to {action.provider_type}#{action.provider} while that does not provide {action.words[0]}: bind it later"
+    if isinstance(action, Bind):
+        return f"binds to {action.provider_type}#{action.provider} while that does not provide {action.port}: bind it later"
     users = sorted({who(own, before) for _, own, to in before.bindings if to == action.instance})
-    verb = "goes" if action.verb == "delete" else "moves"
+    verb = "goes" if isinstance(action, Delete) else "moves"
     return f"{verb} while {listed(users) or 'others'} {'is' if len(users) == 1 else 'are'} bound to it: unbind first"
 
 
@@ -134,5 +135,5 @@ def of_no_room(call: Call, line: str) -> str:
     plan = plan_of(call)
     what = f"step {number}"
     if plan is not None and number.isdigit() and 1 <= int(number) <= len(plan.actions):
-        what += f", {plans.in_words(plan.actions[int(number) - 1])}"
+        what += f", {in_words(plan.actions[int(number) - 1])}"
     return f"{what}, wants room for {size}, and no host has more than {free} left: add room or a host in {shown(call.files['HOSTS'])}"

@@ -15,10 +15,11 @@ import shutil
 import sys
 import textwrap
 from collections.abc import Callable, Iterator, Mapping, Sequence
-from typing import TYPE_CHECKING, Any
+from typing import TYPE_CHECKING, Any, assert_never
 
 from metis_planner.answers import Answer, Refused
 from metis_planner.text import configurations, plans
+from metis_planner.text.actions import VERBS, Action, Bind, Delete, Move, New, Unbind, in_words
 from metis_planner.text.doubles import told_doubles
 from metis_planner.text.reading import read_bytes
 from metis_planner.text.roles import GOING, KEPT, NEW, count_of, roles_of
@@ -27,7 +28,6 @@ if TYPE_CHECKING:
     from metis_planner.text import over_plans, verdicts
 
 OTHER_BYTE = re.compile(rb"[^\x20-\x7e\n]")
-VERBS = ("new", "delete", "bind", "unbind", "move")
 # What is drawn dim, green, red and bold on a terminal.
 COLOURS = {"new": "32", "delete": "31", "bind": "2", "unbind": "2", "move": "1", "wait": "2"}
 COLOUR_OF_A_ROLE = {KEPT: "move", NEW: "new", GOING: "delete"}
@@ -50,10 +50,10 @@ class Look:
     def coloured(self, text: str, name: str) -> str:
         return f"\x1b[{COLOURS[name]}m{text}\x1b[0m" if self.has_colours and text else text
 
-    def is_shown(self, action: plans.Action) -> bool:
+    def is_shown(self, action: Action) -> bool:
         return action.verb not in self.hidden and self.is_named(action)
 
-    def is_named(self, action: plans.Action) -> bool:
+    def is_named(self, action: Action) -> bool:
         name = f"{action.type}#{action.instance}"
         return not self.only or any(fnmatch.fnmatchcase(each, pattern) for pattern in self.only for each in (name, action.type))
 
@@ -70,8 +70,8 @@ class Look:
         return f"{text[:left]} .. {text[len(text) - max(1, self.columns - 4 - left) :]}"
 
 
-def width_of(actions: list[plans.Action]) -> int:
-    return max((len(plans.in_words(action)) for action in actions), default=0)
+def width_of(actions: list[Action]) -> int:
+    return max((len(in_words(action)) for action in actions), default=0)
 
 
 def plan_lines(plan: plans.Plan, look: Look) -> Iterator[str]:
@@ -99,10 +99,10 @@ def plan_lines(plan: plans.Plan, look: Look) -> Iterator[str]:
             yield from textwrap.wrap(text, look.columns, subsequent_indent=" " * 9) if look.columns > 20 else [text]
 
 
-def action_lines(actions: list[plans.Action], roles: Mapping[int, str], look: Look) -> Iterator[str]:
+def action_lines(actions: list[Action], roles: Mapping[int, str], look: Look) -> Iterator[str]:
     width = width_of(actions)
     for action in actions:
-        words = plans.in_words(action)
+        words = in_words(action)
         role = "" if look.old is None else f"{roles.get(action.instance, ''):<{WIDTH_OF_A_ROLE}}"
         after = f"after {', '.join(map(str, action.after))}" if action.after else ""
         gap = " " * (width - len(words) + 2) if after else ""
@@ -136,12 +136,12 @@ def stages_of(plan: plans.Plan) -> dict[int, int]:
     return stages
 
 
-def stage_lines(plan: plans.Plan, actions: list[plans.Action], look: Look) -> Iterator[str]:
+def stage_lines(plan: plans.Plan, actions: list[Action], look: Look) -> Iterator[str]:
     """What may go on at once, side by side."""
     stages = stages_of(plan)
     shown: dict[int, list[str]] = {}
     for action in actions:
-        shown.setdefault(stages[action.number], []).append(f"{action.number} {plans.in_words(action)}")
+        shown.setdefault(stages[action.number], []).append(f"{action.number} {in_words(action)}")
     most = look.columns or WIDEST_STAGE
     for stage, texts in sorted(shown.items()):
         line = f"stage {stage}:"
@@ -156,14 +156,14 @@ def stage_lines(plan: plans.Plan, actions: list[plans.Action], look: Look) -> It
 def first_states(plan: plans.Plan) -> list[tuple[str, str]]:
     found: dict[str, str] = {}
     for action in plan.actions:
-        if action.verb == "move":
-            found.setdefault(action.type, action.words[1])
+        if isinstance(action, Move):
+            found.setdefault(action.type, action.start)
     return list(found.items())
 
 
 def head_line(plan: plans.Plan) -> str:
     """How much a plan is: its instances, its actions, and in how many stages these can be done."""
-    made = sum(action.verb == "new" for action in plan.actions)
+    made = sum(isinstance(action, New) for action in plan.actions)
     stages = max(stages_of(plan).values(), default=0)
     counts = ((made, "instance"), (len(plan.actions), "action"), (stages, "stage"))
     return ", ".join(f"{count} {what}{'' if count == 1 else 's'}" for count, what in counts)
@@ -222,7 +222,7 @@ def explanation_lines(explanation: plans.Explanation, _: Look) -> Iterator[str]:
 
 def change_value(plan: plans.Plan, old: int) -> dict[str, Any]:
     """A plan that goes on from another one: how many actions are done, and the instances by what becomes of them."""
-    roles, type_of = roles_of(plan.actions, old), {each.instance: each.type for each in plan.actions if each.verb == "new"}
+    roles, type_of = roles_of(plan.actions, old), {each.instance: each.type for each in plan.actions if isinstance(each, New)}
     rows = [{"instance": instance, "type": type_of[instance], "role": role} for instance, role in roles.items()]
     return {**plan_value(plan), "done": old, "instances": sorted(rows, key=lambda row: int(row["instance"]))}
 
@@ -235,17 +235,22 @@ def plan_value(plan: plans.Plan) -> dict[str, Any]:
     }
 
 
-def action_value(action: plans.Action) -> dict[str, Any]:
+def action_value(action: Action) -> dict[str, Any]:
     value: dict[str, Any] = {
         "number": action.number,
         "action": action.verb,
         "instance": action.instance,
         "type": action.type,
     }
-    if action.verb == "move":
-        value |= {"from": action.words[1], "to": action.words[2]}
-    if action.verb in ("bind", "unbind"):
-        value |= {"port": action.words[0], "provider": action.provider, "provider_type": action.provider_type}
+    match action:
+        case New() | Delete():
+            pass
+        case Move():
+            value |= {"from": action.start, "to": action.end}
+        case Bind() | Unbind():
+            value |= {"port": action.port, "provider": action.provider, "provider_type": action.provider_type}
+        case _:
+            assert_never(action)
     return {**value, "after": list(action.after)}
 
 
@@ -276,7 +281,7 @@ def schedule_lines(schedule: "over_plans.Schedule", look: Look) -> Iterator[str]
     starts = [f"at {early}" if early == late else f"at {early} to {late}" for _, (early, late) in rows]
     breadth = max(map(len, starts), default=0)
     for (action, _), start in zip(rows, starts):
-        words = plans.in_words(action)
+        words = in_words(action)
         mark = "chain" if action.number in chain else ""
         gap = " " * (width - len(words) + 2)
         yield f"{action.number:>4}  {look.coloured(words, action.verb)}{gap}{start:<{breadth}}  {mark}".rstrip()
@@ -294,17 +299,17 @@ def schedule_value(schedule: "over_plans.Schedule") -> dict[str, Any]:
 
 
 def placement_lines(placement: "over_plans.Placement", _: Look) -> Iterator[str]:
-    made = [(action, f"{action.type}#{action.instance}") for action in placement.plan.actions if action.verb == "new"]
+    made = [(action, f"{action.type}#{action.instance}") for action in placement.plan.actions if isinstance(action, New)]
     width = max((len(who) for _, who in made), default=0)
     for action, who in made:
         yield f"{who:<{width}}  on {placement.host_of[action.instance]}"
     for number, others in placement.holds.items():
         after = ", ".join(map(str, others))
-        yield f"{number:>4}  {plans.in_words(placement.plan.actions[number - 1])} waits for room, after {after}"
+        yield f"{number:>4}  {in_words(placement.plan.actions[number - 1])} waits for room, after {after}"
 
 
 def placement_value(placement: "over_plans.Placement") -> dict[str, Any]:
-    made = [action for action in placement.plan.actions if action.verb == "new"]
+    made = [action for action in placement.plan.actions if isinstance(action, New)]
     rows = [{"instance": each.instance, "type": each.type, "host": placement.host_of[each.instance]} for each in made]
     holds = [{"action": number, "after": list(others)} for number, others in placement.holds.items()]
     return {"kind": "placement", "instances": rows, "holds": holds}

@@ -7,6 +7,7 @@ from metis_planner.look.standing import left_by, plan_of, types_at, who
 from metis_planner.look.wrong import Call, listed, shown
 from metis_planner.program import UNIVERSE
 from metis_planner.text import plans, verdicts
+from metis_planner.text.actions import Delete
 from metis_planner.text.configurations import Configuration
 from metis_planner.text.reading import read_text
 from metis_planner.text.wishes import MOST_BYTES, Wish, wishes_in
@@ -68,7 +69,7 @@ def of_what_is_absent(asked: Asked, instance: int) -> list[str]:
     wish = asked.wish_for(instance, "keep", "rebind", "retire")
     where = f"{asked.at(wish)}: " if wish else ""
     path = shown(asked.call.files["PLAN"])
-    gone = next((each for each in asked.plan.actions if each.verb == "delete" and each.instance == instance), None)
+    gone = next((each for each in asked.plan.actions if isinstance(each, Delete) and each.instance == instance), None)
     why = f"step {gone.number} of {path} deletes {gone.type}#{instance}" if gone else f"{path} makes no instance {instance}"
     names = [who(each, asked.standing) for each in sorted(asked.standing.instances)]
     return [f"{where}{why}", f"what stands after it: {listed(names)}" if names else "nothing stands after it"]

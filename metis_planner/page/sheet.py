@@ -10,6 +10,7 @@ from collections.abc import Iterable, Sequence
 from metis_planner.page import wished
 from metis_planner.page.verdict import Verdict
 from metis_planner.text import plans
+from metis_planner.text.actions import New
 from metis_planner.text.doubles import told_doubles
 
 HERE = pathlib.Path(__file__).resolve().parent
@@ -29,7 +30,7 @@ OF_WHAT = {
 def of_plan(
     title: str, verdict: Verdict, plan: plans.Plan, value: dict[str, object], network: str = NO_NETWORK, wishes: str = ""
 ) -> str:
-    made = sum(action.verb == "new" for action in plan.actions)
+    made = sum(isinstance(action, New) for action in plan.actions)
     counts = [(made, "instance"), (len(plan.actions), "action"), (len(plan.dups), "double")]
     summary = ", ".join(counted(count, what) for count, what in counts if count or what != "double")
     times = value["times"]

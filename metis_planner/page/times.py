@@ -7,9 +7,9 @@ from metis_planner.answers import Refused
 from metis_planner.carry.rollouts import Rollout
 from metis_planner.carry.steps import Step
 from metis_planner.draw import gantt
-from metis_planner.draw.chart import VERBS
 from metis_planner.page.values import placement_of
 from metis_planner.text import plans
+from metis_planner.text.actions import VERBS, Verb
 from metis_planner.text.over_plans import Schedule, read_over
 from metis_planner.text.terminal import plain
 
@@ -50,7 +50,7 @@ def all_waits(steps: Sequence[Step], rollouts: Sequence[Rollout], holds: Holds) 
     return waits
 
 
-def scheduled(plan: plans.Plan, waits: Sequence[tuple[int, ...]], took: Mapping[str, int]) -> Schedule:
+def scheduled(plan: plans.Plan, waits: Sequence[tuple[int, ...]], took: Mapping[Verb, int]) -> Schedule:
     """The earliest and latest starts under these waits, each of which is for an action before."""
     lengths = [took[action.verb] for action in plan.actions]
     starts: list[int] = []

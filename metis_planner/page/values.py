@@ -2,6 +2,7 @@
 
 import argparse
 from collections.abc import Sequence
+from typing import assert_never
 
 from metis_planner.answers import Refused
 from metis_planner.carry.rollouts import Rollout, roles_in
@@ -9,6 +10,7 @@ from metis_planner.carry.steps import Step
 from metis_planner.draw import picture
 from metis_planner.page import changes
 from metis_planner.text import plans
+from metis_planner.text.actions import Bind, Delete, Move, New, Unbind
 from metis_planner.text.documents import ComponentType
 from metis_planner.text.over_plans import Placement, read_over
 from metis_planner.text.universes import read_types
@@ -43,9 +45,15 @@ def row_of(step: Step) -> list[object]:
     """The verb, the instance, what it waits for, and of a move its states, of a binding its port and provider."""
     action = step.action
     row: list[object] = [action.verb, action.instance, list(step.waits)]
-    if action.verb == "move":
-        return [*row, *action.words[1:]]
-    return [*row, action.words[0], action.provider] if action.verb in ("bind", "unbind") else row
+    match action:
+        case New() | Delete():
+            return row
+        case Move():
+            return [*row, action.start, action.end]
+        case Bind() | Unbind():
+            return [*row, action.port, action.provider]
+        case _:
+            assert_never(action)
 
 
 def types_in(arguments: argparse.Namespace, kept: set[str] | None = None) -> list[ComponentType] | None:
@@ -75,14 +83,15 @@ def first_states(steps: Sequence[Step], types: Sequence[ComponentType] | None) -
         return [(kind.name, kind.states[0].name) for kind in types]
     found: dict[str, str] = {}
     for step in steps:
-        if step.action.verb == "move":
-            found.setdefault(step.action.type, step.action.words[1])
+        action = step.action
+        if isinstance(action, Move):
+            found.setdefault(action.type, action.start)
     return list(found.items())
 
 
 def leaves_of(steps: Sequence[Step]) -> list[int]:
     """The instances that take nothing from others, while others take something from them."""
-    binds = [step.action for step in steps if step.action.verb == "bind"]
+    binds = [step.action for step in steps if isinstance(step.action, Bind)]
     return sorted({action.provider for action in binds} - {action.instance for action in binds})
 
 

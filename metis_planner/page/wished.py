@@ -11,6 +11,7 @@ from metis_planner.carry.folder import Folder
 from metis_planner.carry.rollouts import Rollout
 from metis_planner.carry.steps import Step
 from metis_planner.text import configurations
+from metis_planner.text.actions import Move
 from metis_planner.text.plans import shown
 from metis_planner.text.reading import read_text
 from metis_planner.text.roles import GOING, KEPT, roles_of
@@ -78,8 +79,8 @@ def wished(text: str, steps: Sequence[Step], rollouts: Sequence[Rollout]) -> Wis
     before, roles = configurations.after(actions[:old]), roles_of(actions, old)
     initial: dict[str, str] = {}
     for action in actions:
-        if action.verb == "move":
-            initial.setdefault(action.type, action.words[1])
+        if isinstance(action, Move):
+            initial.setdefault(action.type, action.start)
     lines = {(wish.verb == "avoid", wish.word): wish for wish in wishes_in(text)}
     about: dict[int, list[Wish]] = {}
     for instance, there in sorted(before.instances.items()):

@@ -5,8 +5,9 @@ Nothing is judged here: the program alone says whether an action is allowed. Thi
 
 import dataclasses
 from collections.abc import Iterable, Mapping
+from typing import assert_never
 
-from metis_planner.text import plans
+from metis_planner.text.actions import Action, Bind, Delete, Move, New, Unbind
 from metis_planner.text.documents import ComponentType, State
 
 
@@ -27,19 +28,23 @@ class Configuration:
         self.instances: dict[int, Standing] = {}
         self.bindings: set[tuple[str, int, int]] = set()
 
-    def do(self, action: plans.Action) -> None:
+    def do(self, action: Action) -> None:
         """Does an action, as far as it can be done."""
-        if action.verb == "new":
-            self.instances[action.instance] = Standing(action.type, self.initial.get(action.type))
-        elif action.verb == "delete":
-            self.instances.pop(action.instance, None)
-            self.bindings = {each for each in self.bindings if action.instance not in each[1:]}
-        elif action.verb == "move" and action.instance in self.instances:
-            self.instances[action.instance].state = action.words[2]
-        elif action.verb == "bind":
-            self.bindings.add((action.words[0], action.instance, action.provider))
-        elif action.verb == "unbind":
-            self.bindings.discard((action.words[0], action.instance, action.provider))
+        match action:
+            case New():
+                self.instances[action.instance] = Standing(action.type, self.initial.get(action.type))
+            case Delete():
+                self.instances.pop(action.instance, None)
+                self.bindings = {each for each in self.bindings if action.instance not in each[1:]}
+            case Bind():
+                self.bindings.add((action.port, action.instance, action.provider))
+            case Unbind():
+                self.bindings.discard((action.port, action.instance, action.provider))
+            case Move():
+                if action.instance in self.instances:
+                    self.instances[action.instance].state = action.end
+            case _:
+                assert_never(action)
 
     def state(self, instance: int) -> State | None:
         """The state in which an instance is, with what it provides and requires; nothing if that is not known."""
@@ -60,7 +65,7 @@ class Configuration:
         return 0 if state is None else state.require.get(port, 0)
 
 
-def after(actions: Iterable[plans.Action], types: Iterable[ComponentType] = ()) -> Configuration:
+def after(actions: Iterable[Action], types: Iterable[ComponentType] = ()) -> Configuration:
     """What stands after these actions."""
     found = Configuration(tuple(types))
     for action in actions:

@@ -5,6 +5,7 @@ import re
 from collections.abc import Sequence
 
 from metis_planner.text import plans
+from metis_planner.text.actions import Action, Move, New, in_words
 
 EVENT = re.compile(r"([0-9]{1,10})\.([0-9]{1,10})")
 MOST_DOUBLES = 300
@@ -52,10 +53,10 @@ def needs_of(value: dict[str, object]) -> Needs:
 def told_doubles(plan: plans.Plan, value: dict[str, object]) -> list[Double]:
     needs = needs_of(value)
     first_of = dict(pair for pair in value["first"]) if isinstance(value["first"], list) else {}
-    lives: dict[int, list[plans.Action]] = {}
+    lives: dict[int, list[Action]] = {}
     for action in plan.actions:
         lane = lives.setdefault(action.instance, [])
-        if action.verb in ("new", "move"):
+        if isinstance(action, New | Move):
             lane.append(action)
     found = []
     for place, dup in enumerate(plan.dups[:MOST_DOUBLES]):
@@ -68,7 +69,7 @@ def told_doubles(plan: plans.Plan, value: dict[str, object]) -> list[Double]:
     return found
 
 
-def event_of(event: str, lives: dict[int, list[plans.Action]], first_of: dict[str, str]) -> Event:
+def event_of(event: str, lives: dict[int, list[Action]], first_of: dict[str, str]) -> Event:
     """An event as a plan writes it: `end`, or a life line and a step in it, of which the first is the making."""
     if event == "end":
         return Event("the end of the plan")
@@ -78,12 +79,12 @@ def event_of(event: str, lives: dict[int, list[plans.Action]], first_of: dict[st
     if not steps or number > len(steps):
         return Event(event)
     kind, instance = steps[0].type, steps[0].instance
-    states = [first_of.get(kind, ""), *(step.words[2] for step in steps[1:])]
+    states = [first_of.get(kind, ""), *(step.end for step in steps[1:] if isinstance(step, Move))]
     before = states[number - 1] if number else None
     if number == len(steps):
         return Event(f"delete {kind}#{instance}", None, instance, kind, before, None)
     action = steps[number]
-    return Event(plans.in_words(action), action.number - 1, instance, kind, before, states[number])
+    return Event(in_words(action), action.number - 1, instance, kind, before, states[number])
 
 
 def told(events: Sequence[Event], number: int, needs: Needs) -> ToldEvent:

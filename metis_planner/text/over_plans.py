@@ -7,6 +7,7 @@ from typing import NoReturn, TypeVar
 
 from metis_planner.answers import Refused
 from metis_planner.text import plans
+from metis_planner.text.actions import Action, New
 from metis_planner.text.reading import read_text
 
 # No number of Metis is longer: times are sums of durations of up to a million.
@@ -42,7 +43,7 @@ class Placement:
 class NoRoom:
     """The action that makes an instance of this size, where no host has more than so much room."""
 
-    action: plans.Action
+    action: Action
     size: int
     free: int
 
@@ -51,7 +52,7 @@ def refuse(line: int, reason: str) -> NoReturn:
     raise plans.NoText(f"line {line}: {reason}")
 
 
-def action_at(plan: plans.Plan, number: int, line: int) -> plans.Action:
+def action_at(plan: plans.Plan, number: int, line: int) -> Action:
     if not 1 <= number <= len(plan.actions):
         refuse(line, f"the plan has no action {number}")
     return plan.actions[number - 1]
@@ -81,7 +82,7 @@ def read_schedule(lines: list[str], plan: plans.Plan) -> Schedule:
 
 def read_placement(lines: list[str], plan: plans.Plan) -> Placement:
     """What `place` prints over a plan: a line for each of its instances, one for each action that is held, and the count."""
-    made, host_of, holds = [each.instance for each in plan.actions if each.verb == "new"], {}, {}
+    made, host_of, holds = [each.instance for each in plan.actions if isinstance(each, New)], {}, {}
     for line, (text, instance) in enumerate(zip(lines, made), 1):
         found = ON.fullmatch(text)
         if not found or int(found[1]) != instance:

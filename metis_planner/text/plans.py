@@ -1,10 +1,11 @@
 """Reads what Metis prints: plans, refusals and explanations; and other orders of a plan that keep its waits."""
 
 import re
-from collections.abc import Callable, Sequence
+from collections.abc import Callable, Mapping, Sequence
 from typing import TYPE_CHECKING, NamedTuple, NoReturn
 
 from metis_planner.answers import Refused
+from metis_planner.text.actions import Action, Bind, Delete, Move, New, Unbind
 from metis_planner.text.reading import read_text
 
 if TYPE_CHECKING:
@@ -16,7 +17,13 @@ PAIR = re.compile(rf"{NAME.pattern}:{NAME.pattern}")
 NUMBER = re.compile(r"0|[1-9][0-9]{0,9}")
 MOST_NUMBER = 4_294_967_295
 # How many words stand behind the verb of an action, and which of them are instances; the others are names.
-FORMS = {"new": (2, (0,)), "delete": (1, (0,)), "bind": (3, (1, 2)), "unbind": (3, (1, 2)), "move": (3, (0,))}
+FORMS: dict[str, tuple[int, tuple[int, ...]]] = {
+    "new": (2, (0,)),
+    "delete": (1, (0,)),
+    "bind": (3, (1, 2)),
+    "unbind": (3, (1, 2)),
+    "move": (3, (0,)),
+}
 # How much of a word is shown where it is refused.
 LONGEST_SHOWN = 80
 # The longest plan that the program reads.
@@ -34,34 +41,6 @@ def refuse(line: int, reason: str) -> NoReturn:
 def shown(text: str) -> str:
     """A text in quotes, without what a terminal would obey, and not all of a long one."""
     return ascii(text if len(text) <= LONGEST_SHOWN else f"{text[:LONGEST_SHOWN]}..")
-
-
-class Action(NamedTuple):
-    """An action of a plan, with the numbers of those of other instances that it waits for."""
-
-    number: int
-    verb: str
-    words: tuple[str, ...]
-    after: tuple[int, ...]
-    types: tuple[str, ...]  # of its instances, in the order of the words
-
-    @property
-    def instance(self) -> int:
-        """The instance whose action this is; of a binding the one that requires."""
-        return int(self.words[FORMS[self.verb][1][0]])
-
-    @property
-    def type(self) -> str:
-        return self.types[0]
-
-    @property
-    def provider(self) -> int:
-        """The instance that a binding leads to."""
-        return int(self.words[2])
-
-    @property
-    def provider_type(self) -> str:
-        return self.types[1]
 
 
 class Dup(NamedTuple):
@@ -151,7 +130,7 @@ def read_plan(lines: Sequence[str]) -> Plan:
     type_of: dict[int, str] = {}
     known: dict[str, str] = {}
     actions = tuple(read_action(lines, number, type_of, known) for number in range(1, action_count + 1))
-    if sum(action.verb == "new" for action in actions) != instances:
+    if sum(isinstance(action, New) for action in actions) != instances:
         refuse(2, "not the number of instances that are made")
     first_dup = action_count + 3
     dups = tuple(read_dup(lines, first_dup + place, place + 1) for place in range(dup_count))
@@ -183,7 +162,23 @@ def read_action(lines: Sequence[str], number: int, type_of: dict[int, str], know
     for instance in named:
         if instance not in type_of:
             refuse(line, f"no line before made instance {instance}")
-    return Action(number, words[1], own_words, after, tuple(type_of[instance] for instance in named))
+    return action_of((words[1], *own_words), type_of, number, after)
+
+
+def action_of(words: Sequence[str], type_of: Mapping[int, str], number: int, after: tuple[int, ...]) -> Action:
+    """An action by the words that a plan has for it; `type_of` has the types of the instances that they name."""
+    match words:
+        case ["new", own, kind]:
+            return New(int(own), kind, number=number, after=after)
+        case ["delete", own]:
+            return Delete(int(own), type_of[int(own)], number=number, after=after)
+        case ["bind", port, own, to]:
+            return Bind(int(own), type_of[int(own)], port, int(to), type_of[int(to)], number=number, after=after)
+        case ["unbind", port, own, to]:
+            return Unbind(int(own), type_of[int(own)], port, int(to), type_of[int(to)], number=number, after=after)
+        case ["move", own, start, end]:
+            return Move(int(own), type_of[int(own)], start, end, number=number, after=after)
+    raise NoText(f"no action: {shown(' '.join(words))}")
 
 
 def read_dup(lines: Sequence[str], line: int, number: int) -> Dup:
@@ -293,27 +288,6 @@ def random_order(plan: Plan, random: "Random") -> list[Action]:
             if waits_for[other] == 0:
                 ready.append(other)
     return order
-
-
-def line_of(action: Action) -> str:
-    """An action as a plan writes it, without its number and without what it waits for."""
-    return f"{action.verb} {' '.join(action.words)}"
-
-
-def in_words(action: Action) -> str:
-    """An action in words, as `Web#0 takes sql from Db#1`."""
-    who = f"{action.type}#{action.instance}"
-    words = action.words
-    if action.verb == "new":
-        return f"make {who}"
-    if action.verb == "delete":
-        return f"delete {who}"
-    if action.verb == "move":
-        return f"{who}: {words[1]} -> {words[2]}"
-    provider = f"{action.provider_type}#{action.provider}"
-    if action.verb == "bind":
-        return f"{who} takes {words[0]} from {provider}"
-    return f"{who} lets {words[0]} of {provider} go"
 
 
 def plan_of(text: str, path: str) -> Plan:

@@ -3,7 +3,8 @@
 from collections.abc import Iterable, Sequence
 
 from metis_planner.answers import Refused
-from metis_planner.text.plans import Action, Plan, plan_at
+from metis_planner.text.actions import Action, Delete, New
+from metis_planner.text.plans import Plan, plan_at
 
 KEPT, NEW, GOING = "kept", "new", "going"
 
@@ -12,9 +13,9 @@ def standing(actions: Iterable[Action]) -> set[int]:
     """The instances that are there after these actions."""
     there: set[int] = set()
     for action in actions:
-        if action.verb == "new":
+        if isinstance(action, New):
             there.add(action.instance)
-        elif action.verb == "delete":
+        elif isinstance(action, Delete):
             there.discard(action.instance)
     return there
 

@@ -15,6 +15,7 @@ from metis_planner.carry.stands import stands_in
 from metis_planner.carry.steps import steps_of
 from metis_planner.carry.ways import Way
 from metis_planner.text import plans
+from metis_planner.text.actions import line_of
 from metis_planner.text.configurations import after
 from metis_planner.text.documents import ComponentType, State
 from tests.carry.shapes import plan_text
@@ -41,7 +42,7 @@ class RebaseTest(unittest.TestCase):
     def test_what_is_gone_is_left_out(self):
         done = actions(HISTORY)
         found = rebase.rebased((DB, WEB), after(done, (DB, WEB)), rebase.paths_in(done, {"Db": DB, "Web": WEB}), Means(no_helpers, 3))
-        self.assertEqual([it.words for it in found.actions], [it.words for it in actions(SHORT)])
+        self.assertEqual(list(map(line_of, found.actions)), list(map(line_of, actions(SHORT))))
 
     def test_a_helper_is_made_and_deleted_where_the_way_needs_one(self):
         tool = ComponentType("Tool", (State("off", next=("on",)), State("on", ("k",))))
@@ -52,7 +53,7 @@ class RebaseTest(unittest.TestCase):
         found = rebase.rebased(
             (tool, app), after(done, (tool, app)), rebase.paths_in(done, {"App": app, "Tool": tool}), Means(lambda _, ports: made, 9)
         )
-        texts = [f"{it.verb} {' '.join(it.words)}" for it in found.actions]
+        texts = list(map(line_of, found.actions))
         self.assertEqual(texts[:3] + texts[-1:], ["new 9 Tool", "move 9 off on", "new 0 App", "delete 9"])
         self.assertEqual(found.helpers, (9,))
 
@@ -102,7 +103,7 @@ class HalfwayTest(unittest.TestCase):
     def gone_on(self, *types, base=HALF, helpers=no_helpers):
         going = self.halves(*types).going
         found = halfway.gone_on(types, actions(plan_text(*base)), going, self.rest, Means(helpers, 9))
-        return [f"{it.verb} {' '.join(it.words)}" for it in found.actions], found.left
+        return list(map(line_of, found.actions)), found.left
 
     def test_the_end_is_the_state_that_the_plan_was_to_bring_it_to(self):
         self.assertEqual(self.halves(database(), WEB).going, {0: Half(0, "Db", "set", "set", "on"), 1: Half(1, "Web", "off", "off", "run")})
@@ -148,7 +149,7 @@ class HalfwayTest(unittest.TestCase):
         there.instances[0].state = "run"
         paths = {0: ("off", "run"), 1: ("off", "on")}
         found = rebase.rebased((DB, WEB), there, paths, Means(no_helpers, 2, is_completing=True))
-        self.assertEqual([f"{it.verb} {' '.join(it.words)}" for it in found.actions][2:4], ["new 0 Web", "bind sql 0 1"])
+        self.assertEqual(list(map(line_of, found.actions))[2:4], ["new 0 Web", "bind sql 0 1"])
 
     def test_the_log_of_what_was_begun_goes_with_it(self):
         top = pathlib.Path(tempfile.mkdtemp())

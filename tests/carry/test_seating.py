@@ -1,5 +1,6 @@
 """Placements where some instances stand already: the program's own where none does, and never more on a host than it has room for."""
 
+import dataclasses
 import json
 import pathlib
 import random
@@ -13,6 +14,7 @@ from metis_planner.carry.placement import held
 from metis_planner.carry.seating import Hosts, placement_text
 from metis_planner.carry.steps import steps_of
 from metis_planner.text import plans
+from metis_planner.text.actions import New
 from metis_planner.text.over_plans import read_placement
 from tests import real
 
@@ -74,7 +76,7 @@ class SeatingTest(unittest.TestCase):
         for _ in range(300):
             text, hosts = random_list(rng), Hosts.of(random_hosts(rng))
             plan = plans.plan_of(text, "p")
-            made = [action.instance for action in plan.actions if action.verb == "new"]
+            made = [action.instance for action in plan.actions if isinstance(action, New)]
             fixed = {each: rng.choice(list(hosts.rooms)) for each in made if rng.random() < 0.4}
             try:
                 placement = read_placement(placement_text(hosts, plan.actions, fixed).split("\n")[:-1], plan)
@@ -84,7 +86,7 @@ class SeatingTest(unittest.TestCase):
             self.assertEqual({each: placement.host_of[each] for each in fixed}, fixed)
             # The waits of the placement are among those of the steps; each order that keeps them keeps the rooms.
             waits = {step.action.number: step.waits for step in held(placement, steps_of(plan, "p"))}
-            kept = plan._replace(actions=tuple(action._replace(after=waits[action.number]) for action in plan.actions))
+            kept = plan._replace(actions=tuple(dataclasses.replace(action, after=waits[action.number]) for action in plan.actions))
             for _ in range(5):
                 self.check_rooms(hosts, placement.host_of, plans.random_order(kept, rng))
         self.assertGreater(answered, 100)
@@ -94,7 +96,7 @@ class SeatingTest(unittest.TestCase):
         for action in order:
             kind.setdefault(action.instance, action.type)
             size = hosts.size(kind[action.instance])
-            load[host_of[action.instance]] += size if action.verb == "new" else -size
+            load[host_of[action.instance]] += size if isinstance(action, New) else -size
             self.assertLessEqual(load[host_of[action.instance]], hosts.rooms[host_of[action.instance]])
 
     def test_what_does_not_fit_any_more_is_named(self):

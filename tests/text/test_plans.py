@@ -2,6 +2,7 @@ import random
 import unittest
 
 from metis_planner.text import plans
+from metis_planner.text.actions import Bind, Delete, Move, New
 
 PLAN = """metis plan 1
 instances 2 actions 6 dups 1
@@ -29,16 +30,15 @@ end
 class ReadTest(unittest.TestCase):
     def test_a_plan(self):
         plan = plans.read(PLAN)
-        self.assertEqual(plan.actions[0], plans.Action(1, "new", ("0", "Web"), (), ("Web",)))
-        self.assertEqual(plan.actions[3], plans.Action(4, "bind", ("sql", "0", "1"), (3,), ("Web", "Db")))
+        self.assertEqual(plan.actions[0], New(0, "Web", number=1))
+        self.assertEqual(plan.actions[3], Bind(0, "Web", "sql", 1, "Db", number=4, after=(3,)))
         self.assertEqual((plan.actions[3].instance, plan.actions[3].provider), (0, 1))
-        self.assertEqual(plan.actions[5], plans.Action(6, "delete", ("1",), (5,), ("Db",)))
+        self.assertEqual(plan.actions[5], Delete(1, "Db", number=6, after=(5,)))
         self.assertEqual(plan.dups, (plans.Dup("Db:on", ("0.2", "1.end")),))
 
     def test_places_are_fixed(self):
         plan = plans.read("metis plan 1\ninstances 1 actions 2 dups 0\n1 new 0 A\n2 move 0 after 1\nend\n")
-        self.assertEqual(plan.actions[1].words, ("0", "after", "1"))
-        self.assertEqual(plan.actions[1].after, ())
+        self.assertEqual(plan.actions[1], Move(0, "A", "after", "1", number=2, after=()))
 
     def test_a_refusal(self):
         self.assertEqual(plans.read(REFUSAL), plans.Refusal("port:sql", ("Db:off", "Web:off")))

@@ -8,7 +8,7 @@ from metis_planner.carry import export
 from metis_planner.carry.export import Export, add_arguments
 from metis_planner.carry.rollouts import barrier_of, ends_of, longest_chain
 from metis_planner.carry.steps import Step
-from metis_planner.text import plans
+from metis_planner.text.actions import Delete, New, Unbind, in_words
 
 __all__ = ["add_arguments", "run"]
 
@@ -48,7 +48,7 @@ def makefile(found: Export) -> Iterator[str]:
     row = longest_chain(found.steps, found.rollouts)
     if row > MOST_IN_A_ROW:
         raise Refused(f"{row} actions wait one for the other, and make is good for {MOST_IN_A_ROW}: use ninja")
-    instances = sum(step.action.verb == "new" for step in found.steps)
+    instances = sum(isinstance(step.action, New) for step in found.steps)
     yield HEAD.format(actions=len(found.steps), instances=instances, digest=found.digest)
     again = "".join(f" again/{key}" for key in sorted(found.again))
     yield f"all: |{marks(ends_of(found.steps))}{again}\nMakefile: ;\n\n"
@@ -60,9 +60,9 @@ def makefile(found: Export) -> Iterator[str]:
     for job in found.jobs():
         waits = marks_before(found, job.step)
         if job.step.key in found.again:
-            yield f"# again: {plans.in_words(job.step.action)}\n"
+            yield f"# again: {in_words(job.step.action)}\n"
             yield f"again/{job.step.key}: | done/{job.step.key}\n\t@./run -a {job.words}\n"
-        yield f"# {job.step.action.number} {plans.in_words(job.step.action)}\n"
+        yield f"# {job.step.action.number} {in_words(job.step.action)}\n"
         yield f"done/{job.step.key}:{' |' if waits else ''}{waits}\n\t@./run {job.words}\n"
 
 
@@ -70,7 +70,7 @@ def marks_before(found: Export, step: Step) -> str:
     """What a step waits for. What it stands on is done again before, if it is to be, and all of that before anything goes."""
     keys = [found.steps[number - 1].key for number in step.waits]
     waits = marks(keys) + "".join(f" again/{key}" for key in keys if key in found.again)
-    if step.action.verb in ("unbind", "delete") and step.key not in found.done:
+    if isinstance(step.action, Unbind | Delete) and step.key not in found.done:
         waits += "".join(f" again/{key}" for key in sorted(found.again.difference(keys)))
     barrier = barrier_of(step, found.rollouts)
     return waits if barrier is None else f"{waits} fresh-{barrier + 1}"

@@ -11,7 +11,7 @@ from metis_planner.carry.commands import Rule
 from metis_planner.carry.export import Export, Job, add_arguments
 from metis_planner.carry.rollouts import ends_of
 from metis_planner.carry.steps import Step
-from metis_planner.text import plans
+from metis_planner.text.actions import in_words
 
 __all__ = ["add_arguments", "run"]
 
@@ -57,7 +57,7 @@ def ninja_file(found: Export) -> Iterator[str]:
 
 def words_of(found: Export, job: Job, flag: str = "", how: str = "") -> Iterator[str]:
     yield f"  words = {flag}{job.words}\n"
-    yield f"  what = {how}{plans.in_words(job.step.action)}\n"
+    yield f"  what = {how}{in_words(job.step.action)}\n"
     if job.rule and job.rule.lock:
         yield f"  pool = {pool_of(found, job.step, job.rule)}\n"
 

@@ -10,7 +10,7 @@ from metis_planner.answers import Answer
 from metis_planner.carry import export
 from metis_planner.carry.export import Export, add_arguments
 from metis_planner.carry.rollouts import again_before, barrier_of, ends_of
-from metis_planner.text import plans
+from metis_planner.text.actions import Delete, Unbind, in_words
 
 __all__ = ["add_arguments", "run"]
 
@@ -59,10 +59,10 @@ def script(found: Export) -> Iterator[str]:
         number, barrier = job.step.action.number, barrier_of(job.step, found.rollouts)
         waits = sorted({*job.step.waits, *(fresh_ends[barrier] if barrier is not None else ())})
         again = behind[number]
-        if job.step.action.verb in ("unbind", "delete") and job.step.key not in found.done:
+        if isinstance(job.step.action, Unbind | Delete) and job.step.key not in found.done:
             again = frozenset(number_of[key] for key in found.again)
         jobs = "".join([*(f"${{j{other}-}}" for other in waits), *(f"${{a{other}-}}" for other in sorted(again - {number}))])
-        name = shlex.quote(plans.in_words(job.step.action))
+        name = shlex.quote(in_words(job.step.action))
         yield f"[ -e done/{job.step.key} ] || j{number}=:$(submit {name} \"{jobs}\" ./run -q {job.words})\n"
         if job.step.key in found.again:
             before = f"${{j{number}-}}" + "".join(f"${{a{other}-}}" for other in sorted(behind[number]))
