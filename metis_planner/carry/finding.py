@@ -2,7 +2,6 @@
 
 import concurrent.futures
 import dataclasses
-import re
 import subprocess
 import time
 from collections.abc import Collection, Iterable, Mapping, Sequence
@@ -21,9 +20,8 @@ DECOY = 900_001  # the number of an instance that there is not
 AT_ONCE, ROUNDS, SECONDS_BETWEEN = 16, 2, 1.0
 LONGEST = 100
 MOST_LOOKED_FOR = 1_000
-# Of the words of a job: what stands before the number of the instance, and behind its type.
-NUMBER_AT, BEHIND_THE_TYPE = 5, 7
-OWN_NUMBER = re.compile(r"(=.*-)(\d+)$")
+# Where the number of the instance stands among the words of a job.
+NUMBER_AT = 5
 
 
 class Said(NamedTuple):
@@ -51,14 +49,10 @@ def ask_all(folder: Folder, jobs: Iterable[Sequence[str]]) -> list[Said]:
         return list(pool.map(lambda words: ask(folder, words), jobs))
 
 
-def for_number(words: Sequence[str], number_of: Mapping[int, int], own: int) -> list[str]:
-    """The words of a job for an instance of another number; what it is bound to has the numbers found so far."""
-
-    def found(match: re.Match[str]) -> str:
-        return f"{match[1]}{number_of.get(int(match[2]), int(match[2]))}"
-
-    more = [OWN_NUMBER.sub(found, each) for each in words[BEHIND_THE_TYPE:]]
-    return [f"{own}.{words[0]}", *words[1:NUMBER_AT], str(own), words[NUMBER_AT + 1], *more]
+def for_number(step: Step, words: Sequence[str], number_of: Mapping[int, int], own: int) -> list[str]:
+    """The words of a step's job for an instance of another number; what it is bound to has the numbers found so far."""
+    more = [f"{each.port}={each.name_by(number_of.get(each.instance, each.instance))}" for each in step.bound]
+    return [f"{own}.{words[0]}", *words[1:NUMBER_AT], str(own), *words[NUMBER_AT + 1 : len(words) - len(more)], *more]
 
 
 @dataclasses.dataclass
@@ -87,7 +81,7 @@ class Search:
         return found[-1] if found else None
 
     def asked(self, step: Step, number_of: Mapping[int, int], numbers: Iterable[int]) -> list[Said]:
-        return ask_all(self.folder, [for_number(self.words[step.key], number_of, number) for number in numbers])
+        return ask_all(self.folder, [for_number(step, self.words[step.key], number_of, number) for number in numbers])
 
     def number_of(self) -> dict[int, int]:
         """The number of each instance of the plan where it runs, as far as that is settled."""

@@ -17,6 +17,10 @@ class Bound(NamedTuple):
     instance: int
     name: str
 
+    def name_by(self, number: int) -> str:
+        """The name that it would have by another number."""
+        return f"{self.name.removesuffix(str(self.instance))}{number}"
+
 
 @dataclasses.dataclass(frozen=True, slots=True)
 class Step:

@@ -33,7 +33,7 @@ class StepsTest(unittest.TestCase):
     def test_what_holds_before_a_move_and_a_delete(self):
         found = {step.action.number: (step.state, step.bound) for step in steps_of(CROSSED)}
         self.assertEqual(found[2], ("", ()))
-        self.assertEqual(found[6], ("a1", ("y=B-1",)))
+        self.assertEqual(found[6], ("a1", (("y", 1, "B-1"),)))
         self.assertEqual(found[8], ("a3", ()))
         self.assertEqual(found[15], ("a1", ()))
 
