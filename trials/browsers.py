@@ -1,6 +1,7 @@
 """Chromium and Firefox without a window, each driven as its makers do it: over pipes, and over Marionette; by no library."""
 
 import base64
+import contextlib
 import itertools
 import json
 import os
@@ -14,7 +15,7 @@ import time
 from collections.abc import Sequence
 from typing import Any
 
-MOST_SECONDS = 60
+MOST_SECONDS = 300  # only what never answers is given up
 POLITE = ("nice", "-n", "10")
 CHROMIUM = (
     "chromium", "--headless=new", "--no-sandbox", "--disable-gpu", "--remote-debugging-pipe", "--no-first-run",
@@ -26,6 +27,7 @@ CODES = {
     "Tab": 9, "Enter": 13, "Escape": 27, " ": 32, "End": 35, "Home": 36,
     "ArrowLeft": 37, "ArrowUp": 38, "ArrowRight": 39, "ArrowDown": 40,
 }  # fmt: skip
+CONTROL = "\ue009"  # as WebDriver writes that key
 NARROWEST = 500  # as narrow as Firefox makes a window
 PREFERENCES = {
     "marionette.port": 0,
@@ -37,6 +39,10 @@ PREFERENCES = {
     "network.captive-portal-service.enabled": False,
     "network.connectivity-service.enabled": False,
     "services.settings.server": "data:,",
+    "browser.download.folderList": 2,
+    "browser.download.always_ask_before_handling_new_types": False,
+    "browser.helperApps.neverAsk.saveToDisk": "image/svg+xml",
+    "browser.download.alwaysOpenPanel": False,
 }
 
 
@@ -51,6 +57,7 @@ class Browser:
 
     def __init__(self) -> None:
         self.home = tempfile.mkdtemp(prefix="page-")
+        self.saved = pathlib.Path(self.home) / "saved"  # where it puts what a page saves
         self.process: subprocess.Popen[bytes]
 
     def js(self, text: str) -> Any:
@@ -107,15 +114,18 @@ class Chromium(Browser):
         self.session = self.call("Target.attachToTarget", targetId=target, flatten=True)["sessionId"]
         for domain in ("Page", "Runtime", "Log", "Network"):
             self.call(f"{domain}.enable")
+        self.call("Browser.setDownloadBehavior", behavior="allow", downloadPath=str(self.saved))
+        self.call("Browser.grantPermissions", permissions=["clipboardReadWrite", "clipboardSanitizedWrite"])
         self.size(1280, 860)
         self.look()
 
     def size(self, width: int, height: int, scale: int = 1) -> None:
         self.call("Emulation.setDeviceMetricsOverride", width=width, height=height, deviceScaleFactor=scale, mobile=False)
 
-    def look(self, is_dark: bool = False, is_grey: bool = False, media: str = "") -> None:
+    def look(self, is_dark: bool = False, is_grey: bool = False, media: str = "", is_forced: bool = False) -> None:
         scheme = {"name": "prefers-color-scheme", "value": "dark" if is_dark else "light"}
-        self.call("Emulation.setEmulatedMedia", features=[scheme], media=media)
+        forced = {"name": "forced-colors", "value": "active" if is_forced else "none"}
+        self.call("Emulation.setEmulatedMedia", features=[scheme, forced], media=media)
         self.call("Emulation.setEmulatedVisionDeficiency", type="achromatopsia" if is_grey else "none")
 
     def message(self) -> dict[str, Any]:
@@ -160,6 +170,11 @@ class Chromium(Browser):
         own = {"key": key, "code": "Space" if key == " " else key, "windowsVirtualKeyCode": CODES.get(key, 0)}
         self.call("Input.dispatchKeyEvent", type="keyDown", **own, **text)
         self.call("Input.dispatchKeyEvent", type="keyUp", **own)
+
+    def paste(self) -> None:
+        key = {"key": "v", "code": "KeyV", "windowsVirtualKeyCode": ord("V"), "modifiers": 2}
+        self.call("Input.dispatchKeyEvent", type="rawKeyDown", commands=["paste"], **key)
+        self.call("Input.dispatchKeyEvent", type="keyUp", **key)
 
     def type(self, text: str) -> None:
         self.call("Input.insertText", text=text)
@@ -215,7 +230,8 @@ class Firefox(Browser):
 
     def __init__(self) -> None:
         super().__init__()
-        lines = [f"user_pref({json.dumps(name)}, {json.dumps(value)});" for name, value in PREFERENCES.items()]
+        preferences = {**PREFERENCES, "browser.download.dir": str(self.saved)}
+        lines = [f"user_pref({json.dumps(name)}, {json.dumps(value)});" for name, value in preferences.items()]
         (pathlib.Path(self.home) / "user.js").write_text("\n".join(lines), "utf-8")
         quiet = subprocess.DEVNULL
         environment = {**os.environ, "HOME": self.home, "MOZ_HEADLESS": "1"}
@@ -225,7 +241,7 @@ class Firefox(Browser):
         self.narrow: tuple[int, int] | None = None
         try:
             self.start()
-        except (OSError, TimeoutError, EOFError):
+        except (OSError, Fault, TimeoutError, EOFError):
             self.process.kill()
             self.process.wait()
             raise
@@ -236,6 +252,7 @@ class Firefox(Browser):
         self.call("WebDriver:NewSession", capabilities={"alwaysMatch": {}})
         self.call("WebDriver:SetTimeouts", script=1000 * MOST_SECONDS, pageLoad=1000 * MOST_SECONDS)
         self.size(1280, 860)
+        self.look()
 
     def port(self) -> int:
         """The port that it has chosen, and written into its profile."""
@@ -304,6 +321,17 @@ class Firefox(Browser):
         actions = [{"type": kind, "value": self.keys.get(key, key)} for kind in ("keyDown", "keyUp")]
         self.act([{"type": "key", "id": "keys", "actions": actions}])
 
+    def paste(self) -> None:
+        chord = [("keyDown", CONTROL), ("keyDown", "v"), ("keyUp", "v"), ("keyUp", CONTROL)]
+        self.act([{"type": "key", "id": "keys", "actions": [{"type": kind, "value": value} for kind, value in chord]}])
+
+    def look(self, is_dark: bool = False) -> None:
+        """A page that is opened then is seen in the dark, or in the light."""
+        script = "Services.prefs.setIntPref('layout.css.prefers-color-scheme.content-override', arguments[0]);"
+        self.call("Marionette:SetContext", value="chrome")
+        self.call("WebDriver:ExecuteScript", script=script, args=[0 if is_dark else 1])
+        self.call("Marionette:SetContext", value="content")
+
     def type(self, text: str) -> None:
         for each in text:
             self.key(each)
@@ -333,4 +361,5 @@ class Firefox(Browser):
         return found
 
     def quit(self) -> None:
-        self.call("Marionette:Quit", flags=["eForceQuit"])
+        with contextlib.closing(self.socket):
+            self.call("Marionette:Quit", flags=["eForceQuit"])

@@ -198,7 +198,7 @@ class Moments(BrowserCase):
         self.assertIn("waits for 10 more", self.text("told"))
         self.browser.click(x, y)
         self.assertEqual(self.state()["at"], 0)
-        self.js("[...document.querySelectorAll('#told button')].find((e) => e.textContent.startsWith('do it')).click()")
+        self.js("[...document.querySelectorAll('#told button')].find((e) => e.textContent.startsWith('step it')).click()")
         self.assertEqual(set(self.checked()["done"]), {2, 3, 4, 5, 6, 7, 8, 9, 10, 11, 12})
 
     def test_barrier(self) -> None:
@@ -431,8 +431,7 @@ class ChromiumTest(Moments):
             self.browser.open(url)
             self.until(lambda: self.marks().get("8") == "running" and self.marks().get("5") == "failed")
             self.assertIn("failed with status 1", self.text("warn"))
-            self.js("explorer.choose([4])")
-            self.assertIn("<img src=x onerror=window.hit=1>", self.text("told"))
+            self.assertIn("<img src=x onerror=window.hit=1>", self.text("logs"))
             self.assertIsNone(self.js("window.hit ?? null"))
             self.ask(url)
             self.stays_where_it_is()

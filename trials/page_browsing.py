@@ -150,7 +150,7 @@ class BrowserCase(unittest.TestCase):
             self.same_as_sim(shown, each)
         return order
 
-    def until(self, holds: Any, seconds: float = 20) -> None:
+    def until(self, holds: Any, seconds: float = 120) -> None:
         end = time.time() + seconds
         while not holds():
             self.assertLess(time.time(), end, "it did not come")

@@ -1,67 +1,15 @@
 """A page in a real browser, by keys alone: each control is reached by Tab or arrows, and does what it does by Enter or a blank."""
 
 import json
-import shutil
 import unittest
 
-from tests.carry.shapes import ROLLED, WEB, FolderCase, call
-from tests.page.test_pages import NUMBERS, WAVES, WAITING
+from tests.carry.shapes import ROLLED, WEB
+from tests.page.in_a_browser import HERE, NAMED, STOPS, InABrowser
+from tests.page.test_pages import WAITING
 from trials.browsers import Chromium, Firefox
 
-# All that can have the focus and is seen; of marks and names, between which arrows lead, the one that Tab reaches.
-STOPS = """[...document.querySelectorAll("button, input, select, summary, [tabindex]")].filter((e) => e.checkVisibility()
-  && e.tabIndex >= 0)"""
-HERE = f"{STOPS}.indexOf(document.activeElement)"
-NAMED = """(() => { const e = document.activeElement;
-  return (e.getAttribute("aria-label") ?? e.labels?.[0]?.textContent ?? e.textContent).trim(); })()"""
-MOST_KEYS = 400
 
-
-class Keys(FolderCase):
-    kind = Chromium
-
-    @classmethod
-    def setUpClass(cls):
-        if not shutil.which(cls.kind.name):
-            raise unittest.SkipTest(f"no {cls.kind.name}")
-        try:
-            cls.browser = cls.kind()
-        except (TimeoutError, EOFError) as fault:
-            raise unittest.SkipTest(f"{cls.kind.name} does not start: {fault}") from fault
-
-    @classmethod
-    def tearDownClass(cls):
-        cls.browser.close()
-
-    def path(self, name, text):
-        path = self.top / name
-        path.write_text(text)
-        return path
-
-    def open(self, *words):
-        status, text, notes = call("page", *words)
-        self.assertEqual(status, 0, notes)
-        self.browser.open(self.path("page.html", text))
-
-    def js(self, text):
-        return self.browser.js(text)
-
-    def pages(self):
-        """A plan with times, a rollout, and a folder in which something failed."""
-        web = self.path("web", WEB)
-        yield (web, "--waves", self.path("waves", WAVES), *NUMBERS)
-        yield (self.path("rolled", ROLLED), "--from", web)
-        self.exported(WEB, commands='[[step]]\nwhen = "Db: off -> on"\nrun = "echo no room; exit 3"\n', more=["--lax"])
-        self.make("-k")
-        yield (self.folder, "--logs")
-
-    def tab_to(self, selector):
-        for _ in range(MOST_KEYS):
-            if self.js(f'document.hasFocus() && document.activeElement.matches("{selector}")'):
-                return
-            self.browser.key("Tab")
-        self.fail(f"Tab does not come to {selector}")
-
+class Keys(InABrowser):
     def test_each_control_is_reached_by_keys_alone(self):
         for words in self.pages():
             with self.subTest(str(words[0])):
@@ -141,7 +89,8 @@ class Keys(FolderCase):
         self.open(self.path("long", f"metis plan 1\ninstances 3 actions 3 dups 0\n{lines}end\n"))
         whole = """[...document.querySelectorAll("#names .lane")].map((e) => { const end = e.querySelector(".part2");
           const [one, all] = [end, document.getElementById("names")].map((each) => each.getBoundingClientRect());
-          return [end.textContent, one.right <= all.right + 1 && end.scrollWidth <= end.clientWidth + 1 || getComputedStyle(end).display]; })"""
+          const isWhole = one.right <= all.right + 1 && end.scrollWidth <= end.clientWidth + 1;
+          return [end.textContent, isWhole || getComputedStyle(end).display]; })"""
         ends = [f"{kind}#{n}"[-12:] for n, kind in enumerate(kinds)]
         for width in (1280, 390):
             self.browser.size(width, 800)
@@ -183,7 +132,7 @@ class FirefoxTest(Keys):
     kind = Firefox
 
 
-del Keys
+del Keys, InABrowser
 
 
 if __name__ == "__main__":
