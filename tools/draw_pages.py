@@ -2,9 +2,10 @@
 """Draws anew what pages of docs/ show, by the code as it is: python3 tools/draw_pages.py [--check]
 
 The pages wordpress.html and lvm2.html keep their data and what the proved program said of them, in today's scripts and style.
-blog-run.svg is the chart of a folder in which the four services of the blog came up, whose times are in this file. With --check
-nothing is written, and the status is 1 if something would be. `python3 -m trials page_pictures --write` makes the pages from
-nothing, and page.png, which needs the proved program and Chromium.
+blog-run.svg is the chart of a folder in which the four services of the blog came up, whose times are in this file. page.png is
+the page of the blog in Chromium, and has in it, as a text of its own, the words and colours that it shows; it too keeps what the
+proved program said. With --check nothing is written, and the status is 1 if something would be; pixels, which depend on fonts, are
+not compared. `python3 -m trials page_pictures --write` makes the two pages from nothing, which needs the proved program.
 """
 
 import argparse
@@ -12,17 +13,24 @@ import html
 import json
 import pathlib
 import re
+import shutil
+import struct
 import subprocess
 import sys
 import tempfile
+import zlib
+from collections.abc import Callable, Iterator
 
 TOP = pathlib.Path(__file__).resolve().parent.parent
 sys.path.append(str(TOP))
 
 from metis_planner.carry.folder import DONE, Folder  # noqa: E402
+from metis_planner.carry.steps import steps_of  # noqa: E402
 from metis_planner.draw import gantt  # noqa: E402
-from metis_planner.page import sheet  # noqa: E402
+from metis_planner.page import sheet, times, values  # noqa: E402
 from metis_planner.page.verdict import Verdict  # noqa: E402
+from metis_planner.text import plans  # noqa: E402
+from trials.browsers import Chromium  # noqa: E402
 
 DOCS = TOP / "docs"
 TOOK = re.compile(r"<title>([0-9]+) [^<]*?: ([0-9.]+) to ([0-9.]+)")
@@ -47,6 +55,16 @@ instances 4 actions 15 dups 0
 15 move 0 inst run
 end
 """
+# The picture of its page: how long each kind of action takes, how wide and high it is, and how far one has stepped in it.
+TOOK_MINUTES = {"new": 20, "delete": 5, "bind": 1, "unbind": 1, "move": 60}
+SIZE, AT = (1280, 680), 8
+SIGNATURE, SHOWS = b"\x89PNG\r\n\x1a\n", "Shows"
+# What of a page does not depend on fonts: its words, its marks with their classes, and its colours.
+SHOWN = """({ words: document.body.innerText.split(/\\s+/).join(" "),
+  marks: [...document.querySelectorAll("#pic .mark")].map((e) => [e.getAttribute("class"), e.getAttribute("aria-label")]),
+  edges: document.querySelectorAll("#pic .wait").length,
+  colours: [...document.querySelector("style").textContent.match(/:root \\{[^}]*\\}/)[0].matchAll(/--[\\w-]+/g)]
+    .map(([name]) => `${name} ${getComputedStyle(document.documentElement).getPropertyValue(name)}`) })"""
 
 
 def page_anew(text: str) -> str:
@@ -90,19 +108,89 @@ def chart_anew(text: str) -> str:
         return gantt.run(chart).text
 
 
+def chunks_of(png: bytes) -> Iterator[tuple[bytes, bytes]]:
+    """The parts of a PNG, each with its kind."""
+    at = len(SIGNATURE)
+    while at < len(png):
+        (size,) = struct.unpack(">I", png[at : at + 4])
+        yield png[at + 4 : at + 8], png[at + 8 : at + 8 + size]
+        at += 12 + size
+
+
+def texts_in(png: bytes) -> dict[str, str]:
+    parts = (body.partition(b"\0") for kind, body in chunks_of(png) if kind == b"tEXt")
+    return {name.decode("latin-1"): text.decode("latin-1") for name, _, text in parts}
+
+
+def with_text(png: bytes, name: str, text: str) -> bytes:
+    """A PNG with a text in it, which is of ASCII."""
+    body = name.encode("ascii") + b"\0" + text.encode("ascii")
+    chunks = list(chunks_of(png))
+    chunks.insert(1, (b"tEXt", body))
+    written = (struct.pack(">I", len(data)) + kind + data + struct.pack(">I", zlib.crc32(kind + data)) for kind, data in chunks)
+    return SIGNATURE + b"".join(written)
+
+
+def blog_page(said: str) -> str:
+    """The page of the blog with its universe and times, and with what the proved program said of it."""
+    plan = plans.plan_of(BLOG, "blog")
+    steps = steps_of(plan, "blog")
+    universe = str(TOP / "examples" / "blog.json")
+    value = values.value_of(plan, steps, [], argparse.Namespace(universe=universe, placement=None))
+    schedule = times.scheduled(plan, [step.waits for step in steps], TOOK_MINUTES)
+    lengths = [TOOK_MINUTES[step.action.verb] for step in steps]
+    bars = [[first, first + length, last - first] for (first, last), length in zip(schedule.starts, lengths, strict=True)]
+    told = {"unit": "min", "bars": bars, "finish": schedule.finish, "chain": schedule.chain, "note": ""}
+    return sheet.of_plan("The blog: haproxy:run", Verdict("good", said), plan, {**value, "wishes": [], "times": told})
+
+
+def picture_anew(png: bytes) -> bytes:
+    """The page of the blog in Chromium; or the picture as it is, where it shows the same."""
+    kept = json.loads(texts_in(png)[SHOWS])
+    browser = Chromium()
+    try:
+        path = pathlib.Path(browser.home) / "blog.html"
+        path.write_text(blog_page(kept["said"]), "utf-8")
+        browser.size(*SIZE)
+        browser.open(path)
+        browser.js(f"(async () => {{ explorer.step({AT}); await new Promise((done) => setTimeout(done, 300)); }})()")
+        shown = {"said": kept["said"], **browser.js(SHOWN)}
+        if shown == kept:
+            return png
+        shot = pathlib.Path(browser.home) / "page.png"
+        browser.shot(shot)
+        return with_text(shot.read_bytes(), SHOWS, json.dumps(shown))
+    finally:
+        browser.close()
+
+
 ANEW = {"wordpress.html": page_anew, "lvm2.html": page_anew, "blog-run.svg": chart_anew}
+
+
+def in_bytes(draw: Callable[[str], str]) -> Callable[[bytes], bytes]:
+    return lambda data: draw(data.decode()).encode()
+
+
+def stale_files(is_check: bool) -> Iterator[str]:
+    """The files that the code draws in another way, which are written anew unless they are only looked at."""
+    found: dict[str, Callable[[bytes], bytes]] = {name: in_bytes(draw) for name, draw in ANEW.items()}
+    if shutil.which(Chromium.name):
+        found["page.png"] = picture_anew
+    else:
+        print(f"page.png: not looked at, since {Chromium.name} is not there", file=sys.stderr)
+    for name, drawn in found.items():
+        data = (DOCS / name).read_bytes()
+        anew = drawn(data)
+        if anew == data:
+            continue
+        if not is_check:
+            (DOCS / name).write_bytes(anew)
+        yield name
 
 
 def main() -> int:
     is_check = sys.argv[1:] == ["--check"]
-    stale = []
-    for name, drawn in ANEW.items():
-        text = (DOCS / name).read_text("utf-8")
-        anew = drawn(text)
-        if anew != text:
-            stale.append(name)
-        if anew != text and not is_check:
-            (DOCS / name).write_text(anew, "utf-8")
+    stale = list(stale_files(is_check))
     if stale:
         print(f"{', '.join(stale)}: {'not as the code draws it' if is_check else 'drawn anew'}")
     return 1 if is_check and stale else 0

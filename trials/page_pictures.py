@@ -3,6 +3,9 @@
 
     python3 -m trials page_pictures FOLDER
     python3 -m trials page_pictures --write
+
+A page that docs/ keeps says what the proved program said, so with a program that is not proved these two keep theirs, and are
+drawn anew with what they have, as the picture is (tools/draw_pages.py).
 """
 
 import dataclasses
@@ -12,6 +15,7 @@ import sys
 import tempfile
 from collections.abc import Sequence
 
+from metis_planner.page import verdict
 from trials.browsers import Chromium
 from trials.page_cases import CASES, EXAMPLES, Case, Changed, Tried, doubles_universe, metis, placed_case, said
 from trials.trial import TOP, expect
@@ -159,13 +163,12 @@ def main() -> None:
         browser = Chromium()
         try:
             if sys.argv[1] == "--write":
-                for each, text in pages.kept().items():
-                    (DOCS / each).write_text(text)
-                blog = {"blog": pages.file("blog.html", pages.of_plan("blog", "The blog: haproxy:run", "min"))}
-                browser.size(1280, 680)
-                browser.open(blog["blog"])
-                browser.js("(async () => { explorer.step(8); await new Promise((done) => setTimeout(done, 300)); })()")
-                browser.shot(DOCS / "page.png")
+                if verdict.is_proved():
+                    for each, text in pages.kept().items():
+                        (DOCS / each).write_text(text)
+                else:
+                    print("the program is not proved, so the pages keep what they say of it", file=sys.stderr)
+                subprocess.run([sys.executable, TOP / "tools" / "draw_pages.py"], check=True)
                 return
             out = pathlib.Path(sys.argv[1])
             out.mkdir(parents=True, exist_ok=True)
