@@ -27,7 +27,7 @@ CODES = {
     "Tab": 9, "Enter": 13, "Escape": 27, " ": 32, "End": 35, "Home": 36,
     "ArrowLeft": 37, "ArrowUp": 38, "ArrowRight": 39, "ArrowDown": 40,
 }  # fmt: skip
-CONTROL = "\ue009"  # as WebDriver writes that key
+SHIFT, CONTROL = "\ue008", "\ue009"  # as WebDriver writes these keys
 NARROWEST = 500  # as narrow as Firefox makes a window
 PREFERENCES = {
     "marionette.port": 0,
@@ -170,6 +170,12 @@ class Chromium(Browser):
         own = {"key": key, "code": "Space" if key == " " else key, "windowsVirtualKeyCode": CODES.get(key, 0)}
         self.call("Input.dispatchKeyEvent", type="keyDown", **own, **text)
         self.call("Input.dispatchKeyEvent", type="keyUp", **own)
+
+    def back(self) -> None:
+        """Shift and Tab."""
+        key = {"key": "Tab", "code": "Tab", "windowsVirtualKeyCode": CODES["Tab"], "modifiers": 8}
+        for kind in ("rawKeyDown", "keyUp"):
+            self.call("Input.dispatchKeyEvent", type=kind, **key)
 
     def paste(self) -> None:
         key = {"key": "v", "code": "KeyV", "windowsVirtualKeyCode": ord("V"), "modifiers": 2}
@@ -321,9 +327,16 @@ class Firefox(Browser):
         actions = [{"type": kind, "value": self.keys.get(key, key)} for kind in ("keyDown", "keyUp")]
         self.act([{"type": "key", "id": "keys", "actions": actions}])
 
+    def back(self) -> None:
+        """Shift and Tab."""
+        self.chord(SHIFT, self.keys["Tab"])
+
     def paste(self) -> None:
-        chord = [("keyDown", CONTROL), ("keyDown", "v"), ("keyUp", "v"), ("keyUp", CONTROL)]
-        self.act([{"type": "key", "id": "keys", "actions": [{"type": kind, "value": value} for kind, value in chord]}])
+        self.chord(CONTROL, "v")
+
+    def chord(self, held: str, key: str) -> None:
+        pressed = [("keyDown", held), ("keyDown", key), ("keyUp", key), ("keyUp", held)]
+        self.act([{"type": "key", "id": "keys", "actions": [{"type": kind, "value": value} for kind, value in pressed]}])
 
     def look(self, is_dark: bool = False) -> None:
         """A page that is opened then is seen in the dark, or in the light."""

@@ -60,10 +60,13 @@ class InABrowser(FolderCase):
         yield (self.folder, "--logs")
 
     def tab_to(self, selector):
+        """By Tab, or back by Shift and Tab from what comes after it: behind the last control Firefox leads to its own, and not back."""
+        is_after = f"""(() => {{ const e = document.activeElement; const to = document.querySelector("{selector}");
+          return e !== document.body && Boolean(to?.compareDocumentPosition(e) & Node.DOCUMENT_POSITION_FOLLOWING); }})()"""
         for _ in range(MOST_KEYS):
             if self.js(f'document.hasFocus() && document.activeElement.matches("{selector}")'):
                 return
-            self.browser.key("Tab")
+            self.browser.back() if self.js(is_after) else self.browser.key("Tab")
         self.fail(f"Tab does not come to {selector}")
 
     def shown(self, selector):

@@ -378,28 +378,34 @@ class ReasonsTest(PageCase):
 
     def test_labels_are_beside_their_arrows_and_within_the_picture(self):
         """Of names as Kubernetes has them: a label on an arrow back begins right of every box that it goes past."""
-        one, other = "PodDisruptionBudget/default/argo-workflows-server", "Deployment/default/argo-workflows-server"
+        one, two, three = (
+            f"{kind}/default/argo-workflows-server:ready" for kind in ("PodDisruptionBudget", "Deployment", "ServiceAccount")
+        )
         port = "budget/default/workflow-controller-and-more"
-        lines = [f"{one}:ready needs {port} from {other}:ready", f"{other}:ready needs {port} from {one}:ready"]
-        text = self.page(self.path("why", f"metis why 1\nlacks {one}:ready\nlines 2\n" + "\n".join(lines) + "\nend\n"))
-        pictures = re.findall(r'<svg class="(?:wide|narrow)" width="(\d+)".*?</svg>', text, re.DOTALL)
-        self.assertEqual(len(pictures), 2)
-        for svg in re.findall(r'<svg class="(?:wide|narrow)".*?</svg>', text, re.DOTALL):
-            width = float(re.search(r'width="(\d+)"', svg)[1])
-            boxes = [
-                float(x) + float(wide)
-                for x, wide in re.findall(r'transform="translate\(([\d.]+),[\d.]+\)"><rect width="([\d.]+)"', svg)
-            ]
-            tags = re.findall(r'<text class="tag[^"]*"[^>]* x="([\d.-]+)"[^>]*text-anchor="(\w+)">([^<]*)<', svg)
-            self.assertEqual(len(tags), 2)
-            for x, anchor, label in tags:
-                wide = reasons.CHARACTER * len(label)
-                left = float(x) - (wide / 2 if anchor == "middle" else 0)
-                self.assertGreaterEqual(left, 0)
-                self.assertLessEqual(left + wide, width)
-            aside = [float(x) for x, anchor, _ in tags if anchor == "start"]
-            self.assertEqual([x > max(boxes) for x in aside], [True])
+        back = [f"{each} needs {port} from {one}" for each in (two, three)]
+        # One that the arrow goes past; and two side by side.
+        for lines in ([f"{one} needs {port} from {two}", *back[:1]], [f"{one} needs {port} from {two} {three}", *back]):
+            why = f"metis why 1\nlacks {one}\nlines {len(lines)}\n" + "\n".join(lines) + "\nend\n"
+            text = self.page(self.path("why", why))
+            pictures = re.findall(r'<svg class="(?:wide|narrow)".*?</svg>', text, re.DOTALL)
+            self.assertEqual(len(pictures), 2)
+            for svg in pictures:
+                self.check_labels(svg, 2 * len(lines) - 2)
         self.assertIn("overflow-wrap: anywhere", re.search(r"\.pairs b \{(.*?)\}", (PAGE / "page.css").read_text())[1])
+
+    def check_labels(self, svg, count):
+        width = float(re.search(r'width="(\d+)"', svg)[1])
+        places = re.findall(r'transform="translate\(([\d.]+),[\d.]+\)"><rect width="([\d.]+)"', svg)
+        boxes = [float(x) + float(wide) for x, wide in places]
+        tags = re.findall(r'<text class="tag[^"]*"[^>]* x="([\d.-]+)"[^>]*text-anchor="(\w+)">([^<]*)<', svg)
+        self.assertEqual(len(tags), count)
+        for x, anchor, label in tags:
+            wide = reasons.CHARACTER * len(label)
+            left = float(x) - (wide / 2 if anchor == "middle" else 0)
+            self.assertGreaterEqual(left, 0)
+            self.assertLessEqual(left + wide, width)
+        aside = [float(x) for x, anchor, _ in tags if anchor == "start"]
+        self.assertEqual([x > max(boxes) for x in aside], [True] * (count // 2))
 
 
 class FollowedTest(PageCase):

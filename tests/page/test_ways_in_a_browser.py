@@ -197,7 +197,6 @@ class Ways(InABrowser):
             self.assertEqual(set(self.shown(LANES)), up)
             self.press("#behind", " ")
             self.assertEqual(set(self.shown(LANES)), up | down)
-            self.browser.open("about:blank")
         self.assertEqual((reached(3, True), reached(3, False)), ({"Blog#3", "Sql#1", "Httpd#2"}, {"Blog#3", "Lb#0"}))
 
     def test_a_name_chooses_its_lane(self):
