@@ -5,11 +5,12 @@ const byId = (id) => document.getElementById(id);
 const there = (children) => children.flat(4).filter((child) => child !== null && child !== undefined && child !== "");
 
 function filled(element, attributes, children) {
-  for (const [name, value] of Object.entries(attributes)) {
+  for (const name of Object.keys(attributes)) {
+    const value = attributes[name];
     if (typeof value === "function") element.addEventListener(name, value);
     else element.setAttribute(name, value);
   }
-  element.append(...there(children));
+  if (children.length) element.append(...there(children));
   return element;
 }
 
