@@ -2,6 +2,7 @@
 
 import contextlib
 import fcntl
+import importlib
 import io
 import os
 import pathlib
@@ -20,10 +21,23 @@ from tests.carry.shapes import WEB, FolderCase, call
 from tests.effort import DEADLINE
 from tests.test_words import TOP
 
-try:
-    import pyte
-except ImportError:
-    pyte = None
+DEBIAN = "/usr/lib/python3/dist-packages"  # where python3-pyte is, into which a Python that is not Debian's does not look
+
+
+def module_of_debian(name):
+    """A module, or None where it is not installed."""
+    with contextlib.suppress(ImportError):
+        return importlib.import_module(name)
+    sys.path.append(DEBIAN)
+    try:
+        return importlib.import_module(name)
+    except ImportError:
+        return None
+    finally:
+        sys.path.remove(DEBIAN)
+
+
+pyte = module_of_debian("pyte")
 MANY = 299
 SIZES = ((80, 24), (60, 15))
 
