@@ -69,6 +69,12 @@ class Look:
         left = max(1, (self.columns - 4) // 2)
         return f"{text[:left]} .. {text[len(text) - max(1, self.columns - 4 - left) :]}"
 
+    def wrapped(self, text: str, indent: int) -> list[str]:
+        """A text in as many lines as it takes, of which all but the first are indented; one line where the width is open."""
+        if self.columns <= indent + 10:
+            return [text]
+        return textwrap.wrap(text, self.columns, subsequent_indent=" " * indent, break_on_hyphens=False)
+
 
 def width_of(actions: list[Action]) -> int:
     return max((len(in_words(action)) for action in actions), default=0)
@@ -88,15 +94,16 @@ def plan_lines(plan: plans.Plan, look: Look) -> Iterator[str]:
         yield from action_lines(actions, roles, look)
     by_verb = sum(action.verb in look.hidden for action in left)
     if by_verb:
-        yield f"      and {by_verb} that are hidden: {', '.join(verb for verb in VERBS if verb in look.hidden)}"
+        hidden = ", ".join(verb for verb in VERBS if verb in look.hidden)
+        yield from look.wrapped(f"      and {by_verb} that are hidden: {hidden}", 6)
     others = len(left) - len(actions) - by_verb
     if others:
         yield f"      and {others} of other instances"
     for double in told_doubles(plan, {"universe": None, "first": first_states(plan)}):
-        yield f"{double.name} is one more {double.type} for {double.state}. Without it these would wait for each other:"
+        why = "Without it these would wait for each other:"
+        yield from look.wrapped(f"{double.name} is one more {double.type} for {double.state}. {why}", 0)
         for number, event in enumerate(double.events, 1):
-            text = f"      {number}. {event.text} {event.behind}"
-            yield from textwrap.wrap(text, look.columns, subsequent_indent=" " * 9) if look.columns > 20 else [text]
+            yield from look.wrapped(f"      {number}. {event.text} {event.behind}", 9)
 
 
 def action_lines(actions: list[Action], roles: Mapping[int, str], look: Look) -> Iterator[str]:
@@ -110,7 +117,8 @@ def action_lines(actions: list[Action], roles: Mapping[int, str], look: Look) ->
             # First the gap goes, then what it waits for beyond the first few, and then the middle of the name.
             gap = "  " if after else ""
             room = max(8, look.columns - len(f"{action.number:>4}  {role}{gap}"))
-            after = after if len(words) + len(after) <= room else first_of(after, max(12, room - len(words)))
+            if after and len(words) + len(after) > room:
+                after = first_of(after, max(12, room - len(words)))
             words = Look.fitted(look.in_room(room - len(after)), words)
         yield f"{action.number:>4}  {role}{look.coloured(words, action.verb)}{gap}{look.coloured(after, 'wait')}"
 
@@ -177,9 +185,10 @@ def role_lines(plan: plans.Plan, roles: dict[int, str], look: Look) -> Iterator[
         there = before if role == GOING else end
         names = [named(there, instance) for instance, each in roles.items() if each == role]
         if names:
-            yield look.coloured(f"{role:<{WIDTH_OF_A_ROLE}}{', '.join(names)}", COLOUR_OF_A_ROLE[role])
+            for line in look.wrapped(f"{role:<{WIDTH_OF_A_ROLE}}{', '.join(names)}", WIDTH_OF_A_ROLE):
+                yield look.coloured(line, COLOUR_OF_A_ROLE[role])
     count = len(plan.actions) - (look.old or 0)
-    yield f"the first {look.old} actions are done, and {count} are left" if count else "nothing is left to do"
+    yield from look.wrapped(f"the first {look.old} actions are done, and {count} are left" if count else "nothing is left to do", 0)
 
 
 def named(there: configurations.Configuration, instance: int) -> str:

@@ -1,16 +1,43 @@
+import contextlib
+import fcntl
+import io
 import json
+import os
 import pathlib
+import pty
+import re
+import struct
+import subprocess
+import sys
 import tempfile
+import termios
 import unittest
 
 from metis_planner.look import show
 from metis_planner.text import plans
 from tests.carry.shapes import CROSSED, REBOUND, WEB
-from tests.test_words import run
+from tests.test_words import TOP, run
 from tests.text.test_plans import EXPLANATION, PLAN, REFUSAL
 
 TWO = "metis plan 1\ninstances 2 actions 3 dups 0\n1 new 0 Web\n2 new 1 Db\n3 move 1 off on\nend\n"
 TIMES = "1 at 0 to 7\n2 at 0 to 0\n3 at 5 to 5\nfinish 12\nchain 2 3\n"
+
+
+def on_a_terminal(columns, *words, text=""):
+    """The lines that a command prints on a terminal of so many columns."""
+    parent, child = pty.openpty()
+    fcntl.ioctl(child, termios.TIOCSWINSZ, struct.pack("HHHH", 24, columns, 0, 0))
+    environment = {name: each for name, each in os.environ.items() if name not in ("COLUMNS", "LINES")}
+    command = [sys.executable, "-m", "metis_planner", *words]
+    with subprocess.Popen(command, cwd=TOP, stdin=subprocess.PIPE, stdout=child, env=environment) as process:
+        os.close(child)
+        process.stdin.write(text.encode())
+        process.stdin.close()
+        found = b""
+        with contextlib.suppress(OSError), io.FileIO(parent) as file:
+            while data := file.read(65536):
+                found += data
+    return found.decode().replace("\r\n", "\n").splitlines()
 
 
 class ShowTest(unittest.TestCase):
@@ -80,6 +107,33 @@ class ShowTest(unittest.TestCase):
         self.assertEqual(len(wide), 51)
         for text in show.first_of("after 1, 2, 3, 4, 5, 6", 19), show.first_of("after 1, 2, 3", 99):
             self.assertIn(text, ("after 1, 2 and 4 more", "after 1 and 5 more", "after 1, 2, 3"))
+
+    def test_it_is_as_wide_as_the_terminal(self):
+        name = "Deployment-of-a-workflow-controller-with-a-long-name"
+        lines = "".join(f"{n + 1} new {n} {name}\n" for n in range(9))
+        text = f"metis plan 1\ninstances 9 actions 9 dups 0\n{lines}end\n"
+        for columns, widest in ((40, 40), (120, len(f"   1  make {name}#0"))):
+            shown = [re.sub(r"\x1b\[[0-9;]*m", "", line) for line in on_a_terminal(columns, "show", "-", text=text)]
+            self.assertEqual((len(shown), shown[0]), (10, "9 instances, 9 actions, 1 stage"))
+            self.assertNotIn("after", "".join(shown))
+            self.assertEqual(max(map(len, shown)), widest)
+
+    def test_on_a_terminal_what_is_kept_and_what_is_doubled_is_no_wider_than_it(self):
+        name = "Deployment-of-a-workflow"
+        old = [f"{n + 1} new {n} {name}" for n in range(12)]
+        text = f"metis plan 1\ninstances 12 actions 13 dups 0\n{chr(10).join(old)}\n13 delete 11\nend\n"
+        for columns in (40, 60, 80):
+            look = show.Look(old=12)
+            look.columns = columns
+            found = list(show.plan_lines(plans.read(text), look))
+            self.assertLessEqual(max(map(len, found)), columns)
+            words = [line.replace(",", " ").split() for line in found[1:]]
+            for n in range(11):
+                self.assertEqual(sum(f"{name}#{n}" in line for line in words), 1, found)
+            look.old = None
+            found = list(show.plan_lines(plans.read(CROSSED.replace("A:a1", f"A:a{1:040}").replace("a1", f"a{1:040}")), look))
+            self.assertLessEqual(max(map(len, found)), columns)
+            self.assertIn("Without it these would wait for each other:", " ".join(" ".join(found).split()))
 
     def test_a_refusal(self):
         expected = ["port:sql is not attained; these 2 pairs are:", "Db:off", "Web:off"]
