@@ -3,8 +3,8 @@
 
     python3 -m trials page_edits [PART OF AN EDIT]
 
-An edit names the test that has to notice it: one of the suite, or one of `trials/page.py`, which wants Chromium. The status is
-the number of edits that nothing noticed. First of all each test has to pass without an edit, and tests that compare bytes are left out.
+An edit names the test that has to notice it: one of the suite, or one in a browser, of `tests/page` where it is named by its module
+and else of `trials/page.py`; these want Chromium. The status is the number of edits that nothing noticed. First of all each test has to pass without an edit, and tests that compare bytes are left out.
 """
 
 import dataclasses
@@ -23,6 +23,8 @@ COPIED = ("metis_planner", "tests", "trials", "examples", "docs", "tools")
 # They compare bytes with what docs/ keeps, so they would notice a blank, whatever it does.
 BYTES = ("test_the_pages_that_are_kept_are_as_they_would_be_made_now", "test_what_docs_show_is_what_the_code_draws")
 SUITE = "suite"
+KEYS, WAYS, READING = (f"test_{name}in_a_browser.ChromiumTest." for name in ("", "ways_", "reading_"))
+RESTART = "test_ways_in_a_browser.ChromiumServedTest.test_a_page_comes_back_after_a_restart_and_goes_on"
 
 
 @dataclasses.dataclass(frozen=True)
@@ -100,6 +102,43 @@ EDITS = (
     Edit("progress.py", "if signs != self.signs or self.is_running():", "if True:"),
     Edit("reasons.py", "out = max(beside) + self.width + 46", "out = self.width + 46"),
     Edit("panel.js", "host, wish, offered)", "host, offered)", "test_each_instance_says_what_is_wished_of_it"),
+    # In a browser: keys, what one finds and takes along, and what can be read.
+    Edit("controls.js", "input[type=checkbox], select, button", "select, button", KEYS + "test_a_blank_toggles_each_box_and_plays_nothing"),
+    Edit("picture.js", "tabindex: mark.index ? -1 : 0", "tabindex: -1", KEYS + "test_each_control_is_reached_by_keys_alone"),
+    Edit("panel.js", "queueMicrotask(focus);", "", KEYS + "test_a_plan_is_stepped_through_to_its_end_and_the_focus_stays"),
+    Edit("controls.js", 'if (target.id === "scroll") return', 'if (target.id === "pane") return', KEYS + "test_the_picture_is_scrolled_by_arrows"),
+    Edit("page.css", "#names :is(.part2, small) { flex: none; }", "", KEYS + "test_names_that_differ_at_their_end_are_told_apart"),
+    Edit("page.css", "  #names i { width: auto; text-align: left; }", "  #names i { display: none; }",
+         KEYS + "test_names_that_differ_at_their_end_are_told_apart"),
+    Edit("reasons.py", '<li tabindex="0" data-line', "<li data-line", KEYS + "test_reasons_are_reached_by_tab"),
+    Edit("page.js", "Math.min(4, this.zoom * factor)", "Math.min(4, this.zoom)", WAYS + "test_zoom"),
+    Edit("picture.js", "(clientX - left) / this.page.zoom", "(clientX - left)", WAYS + "test_zoom"),
+    Edit("picture.js", "style, ground, rows.map(nameOf), drawn", "style, ground, drawn", WAYS + "test_the_picture_is_saved_as_a_file_that_looks_like_it"),
+    Edit("picture.js", "style, ground, rows.map(nameOf), drawn", "ground, rows.map(nameOf), drawn",
+         WAYS + "test_the_picture_is_saved_as_a_file_that_looks_like_it"),
+    Edit("page.js", '`${view === "time" ? "&view=time" : ""}$', '`$', WAYS + "test_a_link_has_the_moment_the_order_the_search_the_view_and_the_choice"),
+    Edit("page.js", 'this.show(asked.get("view") === "time" && this.times ? "time" : "steps");', "",
+         WAYS + "test_a_link_has_the_moment_the_order_the_search_the_view_and_the_choice"),
+    Edit("controls.js", "return walk.order.map((k) =>", "return plan.actions.map((_, k) =>", WAYS + "test_the_order_as_a_list"),
+    Edit("order.js", "to.push([this.order, this.at, this.name]);", "", WAYS + "test_undo_and_redo"),
+    Edit("panel.js", "return;\n    const next", "return;\n    const next", WAYS + "test_undo_and_redo"),
+    Edit("panel.js", "`no lane ${asked ? `has ${asked}` : \"is such\"}`", '""', WAYS + "test_a_search_says_how_many_it_finds_and_has_a_way_out"),
+    Edit("page.js", "walk.waits.allAfter(plan.lanes.get(one)[0])", "walk.waits.allBefore(plan.lanes.get(one)[0])",
+         WAYS + "test_what_a_lane_needs_and_what_needs_it"),
+    Edit("page.js", "walk.waits.allBefore(plan.lanes.get(one).at(-1))", "walk.waits.allBefore(plan.lanes.get(one)[0])",
+         WAYS + "test_what_a_lane_needs_and_what_needs_it"),
+    Edit("controls.js", "if (lane) page.lookAt(page.picture.rowOf(lane));", "", WAYS + "test_a_name_chooses_its_lane"),
+    Edit("page.js", '(this.statusOf(k) || "waits") === this.only', "false", WAYS + "test_the_legend_filters"),
+    Edit("live.js", "pre.scrollTop = pre.scrollHeight;", "pre.scrollTop = 0;", WAYS + "test_the_end_of_a_log_is_seen"),
+    Edit("server.py", 'found = KEPT.fullmatch(path.read_text("ascii"))', "found = None", RESTART),
+    Edit("live.js", 'this.lost = "";\n      const', "const", RESTART),
+    Edit("page.css", "button[aria-pressed=true], .row.fresh { outline", "button[aria-pressed=true] { outline",
+         READING + "test_with_colours_that_are_forced_what_is_pressed_and_what_is_fresh_stand_out"),
+    Edit("page.css", "--ink: #22303a; --soft: #5d6a73;", "--ink: #22303a; --soft: #7d8a93;",
+         READING + "test_all_can_be_read_and_used_in_the_light_and_in_the_dark"),
+    Edit("page.css", "--dim: #8c99a1;", "--dim: #66727a;", READING + "test_all_can_be_read_and_used_in_the_light_and_in_the_dark"),
+    Edit("picture.js", "(farOf(mark) <= (near ? farOf(near) : 12) ?", "(farOf(mark) <= (near ? farOf(near) : 4) ?", READING + "test_a_binding_is_hit_by_a_finger"),
+    Edit("plan.html", ' role="group" aria-label="zoom"', ' aria-label="zoom"', READING + "test_all_can_be_read_and_used_on_a_phone"),
 )  # fmt: skip
 
 
@@ -118,7 +157,8 @@ def is_noticed(edit: Edit, top: pathlib.Path) -> bool:
 
 def fails(test: str, top: pathlib.Path) -> bool:
     """Whether a test, or the suite, fails over the copy as it is."""
-    words = ["-m", "unittest", *suite_in(top)] if test == SUITE else ["-m", "trials", "page", f"ChromiumTest.{test}"]
+    in_tests = suite_in(top) if test == SUITE else [f"tests.page.{test}"] if "." in test else []
+    words = ["-m", "unittest", *in_tests] if in_tests else ["-m", "trials", "page", f"ChromiumTest.{test}"]
     environment = {**os.environ, program.COMMAND: program.command()}
     done = subprocess.run([sys.executable, *words], cwd=top, env=environment, capture_output=True, text=True, check=False)
     if done.returncode and ("Ran " not in done.stderr or "_FailedTest" in done.stderr):

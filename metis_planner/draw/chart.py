@@ -16,6 +16,8 @@ FRAMES = {
 }
 LANE, BAR, TOP, LEAST, WIDTH, MARGIN = 22, 14, 54, 3, 1000, 60
 CHARACTER = 6.2
+# Where all is dark the chart is too: light and dark change places, and each colour stays what it is.
+DARK = "<style>@media (prefers-color-scheme: dark) { svg { filter: invert(.92) hue-rotate(180deg); } }</style>\n"
 STEPS = (1, 2, 5)
 MOST_TICKS = 12
 
@@ -64,6 +66,7 @@ class Chart:
         width, height = self.left + WIDTH + MARGIN, TOP + LANE * len(self.lanes) + 20
         yield f'<svg xmlns="http://www.w3.org/2000/svg" width="{width:.0f}" height="{height}"'
         yield f' viewBox="0 0 {width:.0f} {height}" font-family="DejaVu Sans, sans-serif" font-size="10">\n'
+        yield DARK
         yield f'<rect width="{width:.0f}" height="{height}" fill="white"/>\n'
         yield from self.legend()
         yield from (self.tick(time, height, "#e4e4e4", "#666666") for time in self.ticks())

@@ -89,14 +89,12 @@ class Keys(InABrowser):
         self.open(self.path("long", f"metis plan 1\ninstances 3 actions 3 dups 0\n{lines}end\n"))
         whole = """[...document.querySelectorAll("#names .lane")].map((e) => { const end = e.querySelector(".part2");
           const [one, all] = [end, document.getElementById("names")].map((each) => each.getBoundingClientRect());
-          const isWhole = one.right <= all.right + 1 && end.scrollWidth <= end.clientWidth + 1;
-          return [end.textContent, isWhole || getComputedStyle(end).display]; })"""
+          return [end.textContent, one.right <= all.right + 1 && end.scrollWidth <= end.clientWidth + 1]; })"""
         ends = [f"{kind}#{n}"[-12:] for n, kind in enumerate(kinds)]
         for width in (1280, 390):
             self.browser.size(width, 800)
             self.js("new Promise((done) => setTimeout(done, 100))")
-            found = self.js(whole)
-            self.assertEqual([text for text, _ in found], ends)
+            self.assertEqual(self.js(whole), [[text, True] for text in ends], width)
             box = "(e) => e.getBoundingClientRect()"
             inside = f"""(() => {{ const right = ({box})(document.getElementById("names")).right;
               return [...document.querySelectorAll("#names .part2")].every((e) => ({box})(e).right <= right + 0.5); }})()"""

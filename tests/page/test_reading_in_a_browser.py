@@ -5,11 +5,13 @@ axe-core would say more of it and is in no package of Debian; its rules that a p
 
 import json
 import pathlib
+import struct
 import unittest
+import zlib
 
-from tests.carry.shapes import CROSSED, ROLLED, WEB
+from tests.carry.shapes import CROSSED, ROLLED, WEB, call
 from tests.page.in_a_browser import InABrowser
-from tests.page.test_pages import REFUSAL, WAITING
+from tests.page.test_pages import NUMBERS, REFUSAL, WAITING, WAVES
 from trials.browsers import Chromium, Firefox
 
 CHECK = (pathlib.Path(__file__).resolve().parent / "reading.js").read_text("utf-8")
@@ -38,6 +40,36 @@ WRONGS = (
     ("size", "document.getElementById('nearer').style = 'min-height: 0; height: 14px; padding: 0; width: 8px'"),
     ("structure", "document.documentElement.lang = ''"),
 )  # fmt: skip
+
+
+def pixels_of(png, most=100):
+    """The first rows of a PNG of eight bits a colour, each a list of (red, green, blue)."""
+    at, data, head = 8, b"", b""
+    while at < len(png):
+        (size,) = struct.unpack(">I", png[at : at + 4])
+        kind, body = png[at + 4 : at + 8], png[at + 8 : at + 8 + size]
+        head, data = (body if kind == b"IHDR" else head), data + (body if kind == b"IDAT" else b"")
+        at += 12 + size
+    width, height, bits, colours = struct.unpack(">IIBB", head[:10])
+    assert bits == 8 and colours in (2, 6), (bits, colours)
+    deep, raw = (3 if colours == 2 else 4), zlib.decompress(data)
+    rows, before = [], bytes(width * deep)
+    for y in range(min(height, most)):
+        line = raw[y * (width * deep + 1) :][: width * deep + 1]
+        before = unfiltered(line[0], line[1:], before, deep)
+        rows.append([tuple(before[x : x + 3]) for x in range(0, width * deep, deep)])
+    return rows
+
+
+def unfiltered(kind, line, above, deep):
+    found = bytearray(line)
+    for at in range(len(found)):
+        left, up = (found[at - deep] if at >= deep else 0), above[at]
+        corner = above[at - deep] if at >= deep else 0
+        guess = left + up - corner
+        nearest = min((left, up, corner), key=lambda each: abs(guess - each))
+        found[at] = (found[at] + (0, left, up, (left + up) // 2, nearest)[kind]) % 256
+    return bytes(found)
 
 
 class Reading(InABrowser):
@@ -100,6 +132,26 @@ class Reading(InABrowser):
                 self.assertEqual(8 in self.js("explorer.walk.done()"), is_hit, (dx, dy))
         finally:
             self.browser.size(1280, 860)
+
+    def test_a_chart_is_dark_where_all_is_dark(self):
+        """By the pixel in its corner, and one of a bar of green, which stays green."""
+        self.path("plan", WEB)
+        status, text, _ = call("gantt", self.top / "plan", self.path("waves", WAVES), *NUMBERS)
+        self.assertEqual(status, 0)
+        chart, shot = self.path("chart.svg", text), self.top / "shot.png"
+        try:
+            for is_dark in (False, True):
+                self.browser.look(is_dark=is_dark)
+                self.browser.open(chart)
+                self.browser.shot(shot)
+                rows = pixels_of(shot.read_bytes())
+                self.assertEqual(max(rows[0][0]) < 60, is_dark, rows[0][0])
+                x, y = self.js("""(({ x, y, width, height }) => [x + 4, y + 3])(
+                  document.querySelector("g rect[fill='#b9dfb3']").getBoundingClientRect())""")
+                red, green, blue = rows[round(y)][round(x)]
+                self.assertGreater(green, max(red, blue), is_dark)
+        finally:
+            self.browser.look()
 
     def test_what_is_wrong_is_noticed(self):
         """The check itself: each of these wrongs, made in a page, is said by its rule."""

@@ -72,6 +72,11 @@ class Ways(InABrowser):
         for _ in range(12):
             self.press("#nearer")
         self.assertAlmostEqual(self.box(mark)[3] / before[0], 4, delta=0.2)  # an outline is as wide as before in Firefox
+        self.js("explorer.picture.bringIn(1)")
+        x, y, width, height = self.box("#pic .mark[data-k='1']")
+        self.browser.click(x + width + 24, y + height / 2)  # as near as 6 in a picture that is not zoomed
+        self.painted()
+        self.assertEqual(self.js("explorer.walk.done()"), [3, 1])
         self.assertGreater(self.js("document.getElementById('scroll').scrollWidth - document.getElementById('scroll').clientWidth"), 0)
         self.assertLessEqual(self.js("document.documentElement.scrollWidth"), 1280)
         for _ in range(20):
