@@ -3,8 +3,9 @@
 
     python3 -m trials page_edits [PART OF AN EDIT]
 
-An edit names the test that has to notice it: one of the suite, or one in a browser, of `tests/page` where it is named by its module
-and else of `trials/page.py`; these want Chromium. The status is the number of edits that nothing noticed. First of all each test has to pass without an edit, and tests that compare bytes are left out.
+An edit names the test that has to notice it: one of the suite, or one in a browser, of `tests/page` where it is named by its
+module and else of `trials/page.py`; these want Chromium. The status is the number of edits that nothing noticed. First of all each
+test has to pass without an edit, and tests that compare bytes are left out.
 """
 
 import dataclasses
@@ -121,7 +122,6 @@ EDITS = (
          WAYS + "test_a_link_has_the_moment_the_order_the_search_the_view_and_the_choice"),
     Edit("controls.js", "return walk.order.map((k) =>", "return plan.actions.map((_, k) =>", WAYS + "test_the_order_as_a_list"),
     Edit("order.js", "to.push([this.order, this.at, this.name]);", "", WAYS + "test_undo_and_redo"),
-    Edit("panel.js", "return;\n    const next", "return;\n    const next", WAYS + "test_undo_and_redo"),
     Edit("panel.js", "`no lane ${asked ? `has ${asked}` : \"is such\"}`", '""', WAYS + "test_a_search_says_how_many_it_finds_and_has_a_way_out"),
     Edit("page.js", "walk.waits.allAfter(plan.lanes.get(one)[0])", "walk.waits.allBefore(plan.lanes.get(one)[0])",
          WAYS + "test_what_a_lane_needs_and_what_needs_it"),
