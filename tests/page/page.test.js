@@ -41,6 +41,10 @@ test("the count, and the name of each mark with its status", async () => {
   await settled();
   assert.equal(text("count"), "2 of 5 · 1 ready · 2 waiting");
   assert.deepEqual([nameOf(page, 0), nameOf(page, 2)], ["1 make Web#0, done", "3 Db#1: off → on, ready"]);
+  assert.equal(page.querySelector("#told button").textContent, "step it");
+  explorer.choose([4]);
+  assert.equal(page.querySelector("#told button").textContent, "step it, with the 2 that it needs");
+  explorer.choose(null);
   explorer.step(5);
   await settled();
   assert.match(text("told"), /All is done/);
@@ -189,6 +193,26 @@ test("a search says how many lanes it finds, and the way out", async () => {
   explorer.showOnly("bind");
   await settled();
   assert.equal(text("found"), "");
+});
+
+test("a name of several lanes unfolds them", () => {
+  const { byId, page } = opened(ROLLED);
+  const names = () => page.querySelectorAll("#names div").map((row) => row.getAttribute("title").split(":")[0]);
+  byId("byType").click();
+  assert.deepEqual(names(), ["Web × 2", "Db × 2"]);
+  page.querySelectorAll(".lane")[1].click();
+  assert.deepEqual([byId("byType").checked, byId("find").value, names()], [false, '"Db"', ["Db#1", "Db#3"]]);
+  const five = [...Array(5).keys()];
+  const leaves = told({
+    types: [[0, "Web"], ...five.map((n) => [n + 1, "Db"])], leaves: five.map((n) => n + 1),
+    actions: [["new", 0, []], ...five.map((n) => ["new", n + 1, []]), ...five.map((n) => ["bind", 0, [n + 2], "sql", n + 1])],
+  });
+  const other = opened(leaves);
+  other.byId("foldLeaves").click();
+  const lanes = () => other.page.querySelectorAll("#names div").length;
+  assert.equal(lanes(), 2);
+  other.page.querySelectorAll(".lane")[1].click();
+  assert.deepEqual([other.byId("foldLeaves").checked, lanes()], [false, 5]);
 });
 
 test("names are cut in the middle: the end and the number stay", () => {

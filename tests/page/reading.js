@@ -88,6 +88,15 @@
     if (found < 2.99) say("outline", shape, found.toFixed(2));
   }
 
+  // Of the arrows those whose beginning is not done yet; the middle of one says on what it is.
+  for (const arrow of all("#pic:not(.dim) .wait:not(.kept), .arrow")) {
+    if (!isSeen(arrow)) continue;
+    counts.marks += 1;
+    const [style, ground] = [getComputedStyle(arrow), groundOf(arrow.ownerSVGElement)];
+    const found = contrast(seen(colourOf(style.stroke), opacityOf(arrow) * style.strokeOpacity, ground), ground);
+    if (found < 2.99) say("arrow", arrow, found.toFixed(2));
+  }
+
   // Names, roles and what the keys reach.
   const CONTROLS = "button, input, select, summary, a[href], [role=button]";
   const nameOf = (element) =>

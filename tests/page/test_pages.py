@@ -85,7 +85,7 @@ class PureTest(unittest.TestCase):
         done = subprocess.run(["node", "--test", HERE], capture_output=True, text=True, check=False)
         self.assertEqual(done.returncode, 0, done.stdout[-4000:] + done.stderr[-2000:])
         counts = dict(re.findall(r"^# (tests|pass) (\d+)$", done.stdout, re.MULTILINE))
-        self.assertGreaterEqual(int(counts["pass"]), 41)
+        self.assertGreaterEqual(int(counts["pass"]), 42)
         self.assertEqual(counts["pass"], counts["tests"])
 
     def test_limits(self):

@@ -22,6 +22,7 @@ WRONGS = (
     ("contrast", "explorer.step(5); explorer.picture.paint(new Map()); "
      "document.documentElement.style.setProperty('--on-done', '#5f7f95')"),
     ("outline", "document.documentElement.style.setProperty('--faint', '#b0b6ba')"),
+    ("arrow", "document.documentElement.style.setProperty('--faint', '#b0b6ba')"),
     ("name", "document.getElementById('find').removeAttribute('aria-label')"),
     ("name", "document.getElementById('next').removeAttribute('aria-label'); document.getElementById('next').textContent = ''"),
     ("name", "document.getElementById('scroll').setAttribute('aria-label', ''); document.getElementById('scroll').replaceChildren()"),
@@ -114,6 +115,33 @@ class Reading(InABrowser):
         finally:
             self.browser.size(1280, 860)
 
+    def test_marks_and_arrows_of_a_large_plan_stand_out(self):
+        lines = [line for n in range(60) for line in (f"new {2 * n} Web", f"new {2 * n + 1} Db", f"bind sql {2 * n} {2 * n + 1}")]
+        plan = "".join(f"{n} {line}{f' after {n - 1}' if 'bind' in line else ''}\n" for n, line in enumerate(lines, 1))
+        for is_dark in (False, True):
+            self.browser.look(is_dark=is_dark)
+            self.open(self.path("many", f"metis plan 1\ninstances 120 actions 180 dups 0\n{plan}end\n"))
+            self.js("['byType', 'foldLeaves'].map((id) => document.getElementById(id)).forEach((e) => e?.checked && e.click())")
+            self.assertTrue(self.js("document.getElementById('pic').classList.contains('many')"))
+            found = self.found()
+            self.assertEqual(found["faults"], [], is_dark)
+            self.assertGreaterEqual(found["marks"], 180 + 60)
+        self.browser.look()
+
+    def test_what_is_not_chosen_is_paler_and_no_line_strikes_its_words_through(self):
+        """A mark that is dimmed still covers the line on which it stands."""
+        self.open(self.path("rolled", ROLLED), "--from", self.path("web", WEB))
+        self.js("explorer.choose([5])")
+        self.painted()
+        dim = "[...document.querySelectorAll('#pic.dim .mark:not(.lit)')]"
+        opacities = self.js(f"{dim}.map((e) => +getComputedStyle(e).opacity)")
+        self.assertGreater(len(opacities), 3)
+        self.assertEqual(set(opacities), {1})
+        own = "(({ fill, fillOpacity }) => [fill, +fillOpacity])(getComputedStyle(e.querySelector('rect, path')))"
+        fills = self.js(f"{dim}.map((e) => {own})")
+        for fill, opacity in fills:
+            self.assertFalse(opacity < 1 or "/" in fill or "rgba" in fill or fill == "none", fill)
+
     def test_a_binding_is_hit_by_a_finger(self):
         """12 away from its middle each way, which is 24 across; and no farther away than that is meant by a tap."""
         self.browser.size(390, 800)
@@ -177,6 +205,12 @@ class ChromiumTest(Reading):
             self.assertEqual([each for each in controls if not each[1]], [], words)
             self.assertFalse([each for each in found if each[0] in ("image", "img") and not each[1]], words)
             self.assertLessEqual({"main", "banner"}, {role for role, _ in found}, words)
+
+    def test_a_wide_window_is_used(self):
+        self.browser.size(2560, 1200)
+        self.open(self.path("web", WEB))
+        self.assertGreater(self.js("document.querySelector('main').getBoundingClientRect().width"), 2400)
+        self.browser.size(1280, 860)
 
     def test_with_colours_that_are_forced_what_is_pressed_and_what_is_fresh_stand_out(self):
         """Where the colours of the page are taken away, an outline says it."""
