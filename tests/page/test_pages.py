@@ -475,9 +475,14 @@ class FollowedTest(PageCase):
 
 class FirstSightTest(PageCase):
     def test_a_page_says_what_it_is_and_that_it_carries_nothing_out(self):
-        for path, words in ((self.path("web", WEB), "A deployment plan"), (self.path("why", WAITING), "Why there is no plan")):
-            self.assertIn(f'<p id="what">{words}', self.page(path))
-        self.assertIn("nothing is carried out", self.page(self.path("web", WEB)))
+        self.exported(WEB)
+        for path, begins, says in (
+            (self.path("web", WEB), "A deployment plan", "nothing is carried out"),
+            (self.path("why", WAITING), "Why there is no plan", "sentence"),
+            (self.folder, "A deployment as it is carried out", "carries nothing out"),
+        ):
+            what = re.search(r'<p id="what">(.*?)</p>', self.page(path))[1]
+            self.assertTrue(what.startswith(begins) and says in what, what)
 
     def test_of_a_folder_the_targets_of_its_own_plan(self):
         self.exported(WEB)
