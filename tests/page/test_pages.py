@@ -436,6 +436,13 @@ class FollowedTest(PageCase):
             log.write(b"== 2026-01-01T00:00:00Z 3 of 5: Db#1: off -> on, try 1 of 1\n")
         self.assertEqual(self.state()["begun"][0]["said"], "was begun and is not done")
 
+    def test_words_to_copy_name_the_folder_as_one_word_of_a_shell(self):
+        self.exported(WEB)
+        odd = self.folder.rename(self.top / "a b; $(touch c)'")
+        words = progress.state_of(Folder(str(odd)), False)["folder"]
+        done = subprocess.run(["sh", "-c", f'printf "%s|" {words}'], cwd=self.top, capture_output=True, text=True, check=True)
+        self.assertEqual((done.stdout, (self.top / "c").exists()), (f"{odd.name}|", False))
+
     def test_events_say_when(self):
         self.exported(WEB)
         lines = [("00.500", "begun"), ("07.250", "begun"), ("09.500", "failed")]
