@@ -1,7 +1,8 @@
 #!/usr/bin/env python3
 """Draws anew what pages of docs/ show, by the code as it is: python3 tools/draw_pages.py [--check]
 
-The pages wordpress.html and lvm2.html keep their data and what the proved program said of them, in today's scripts and style.
+The pages wordpress.html and lvm2.html keep what the proved program said of them, in today's scripts, style and drawing; the first
+keeps its data too, and what the second is drawn of is in this file.
 blog-run.svg is the chart of a folder in which the four services of the blog came up, whose times are in this file. page.png is
 the page of the blog in Chromium, and has in it, as a text of its own, the words and colours that it shows; it too keeps what the
 proved program said. With --check nothing is written, and the status is 1 if something would be; pixels, which depend on fonts, are
@@ -27,9 +28,10 @@ sys.path.append(str(TOP))
 from metis_planner.carry.folder import DONE, Folder  # noqa: E402
 from metis_planner.carry.steps import steps_of  # noqa: E402
 from metis_planner.draw import gantt  # noqa: E402
-from metis_planner.page import sheet, times, values  # noqa: E402
+from metis_planner.page import reasons, sheet, times, values  # noqa: E402
 from metis_planner.page.verdict import Verdict  # noqa: E402
 from metis_planner.text import plans  # noqa: E402
+from metis_planner.text.documents import ComponentType  # noqa: E402
 from trials.browsers import Chromium  # noqa: E402
 
 DOCS = TOP / "docs"
@@ -55,7 +57,28 @@ instances 4 actions 15 dups 0
 15 move 0 inst run
 end
 """
-# The picture of its page: how long each kind of action takes, how wide and high it is, and how far one has stepped in it.
+# What `metis plan` and `metis why` say of examples/lvm2-strict.json and port:lvm2.
+REFUSAL = """metis refusal 1
+lacks port:lvm2
+pairs 7
+dmeventd:absent
+libaio1:absent
+libaio1:installed
+libdevmapper-event1.02.1:absent
+libdevmapper-event1.02.1:installed
+liblvm2cmd2.03:absent
+lvm2:absent
+end
+"""
+WHY = """metis why 1
+lacks port:lvm2 from lvm2:installed
+lines 3
+lvm2:installed needs dmeventd from dmeventd:installed
+dmeventd:installed needs liblvm2cmd2.03 from liblvm2cmd2.03:installed
+liblvm2cmd2.03:installed needs dmeventd from dmeventd:installed
+end
+"""
+# The picture of the page of the blog: how long each kind of action takes, how wide and high it is, and how far one has stepped in it.
 TOOK_MINUTES = {"new": 20, "delete": 5, "bind": 1, "unbind": 1, "move": 60}
 SIZE, AT = (1280, 680), 8
 SIGNATURE, SHOWS = b"\x89PNG\r\n\x1a\n", "Shows"
@@ -74,12 +97,21 @@ def page_anew(text: str) -> str:
     kind, said = re.search(r'<p id="verdict" class="(\w*)">(.*?)</p>', text, re.DOTALL).groups()  # type: ignore[union-attr]
     verdict = Verdict(kind, html.unescape(said))
     if data["kind"] == "reasons":
-        body = part(text, r"</header>\n(.*?)\n<script type=\"application/json\"")
-        return sheet.of_reasons(title, verdict, body)
+        return sheet.of_reasons(title, verdict, "\n".join(reasons.parts(lvm2_said(), lvm2_types())))
     summary = html.unescape(part(text, r'<p id="sum">(.*?)<span'))
     wishes, doubles = re.search(r'<section id="more">(.*?)</section>', text, re.DOTALL)[1], ""  # type: ignore[index]
     body = sheet.filled("plan.html", {"WISHES": wishes, "DOUBLES": doubles})
     return sheet.page({"TITLE": title, "SUM": summary}, verdict, body, data, sheet.OF_A_PLAN)
+
+
+def lvm2_said() -> reasons.Said:
+    refusal, explanation = plans.read(REFUSAL), plans.read(WHY)
+    assert isinstance(refusal, plans.Refusal) and isinstance(explanation, plans.Explanation)
+    return reasons.Said((refusal, REFUSAL), (explanation, WHY))
+
+
+def lvm2_types() -> list[ComponentType] | None:
+    return values.types_in(argparse.Namespace(universe=str(TOP / "examples" / "lvm2-strict.json")))
 
 
 def part(text: str, pattern: str) -> str:

@@ -96,7 +96,8 @@ def parts(said: Said, types: Sequence[ComponentType] | None) -> Iterator[str]:
         yield from explained(said.explanation[0])
     else:
         goal = html.escape(said.goal)
-        yield f'<p class="say">{goal} is not attained.</p><p>metis why says in a few lines what prevents it: add --why FILE.</p>'
+        why = "metis why says in a few lines what prevents it: add --why FILE."
+        yield f'<main><div><p class="say">{goal} is not attained.</p><p>{why}</p></div></main>'
     if said.refusal:
         yield from reached(said.refusal[0], types)
 
@@ -149,7 +150,8 @@ def reached(refusal: plans.Refusal, types: Sequence[ComponentType] | None) -> It
             kind, _, state = pair.partition(":")
             rows.setdefault(kind, []).append(state)
     more = "; dashed cannot" if types is not None else ""
-    yield f"<section><h2>How far one gets: {sheet.counted(len(got), 'pair')} can be attained{more}</h2><div class=pairs>"
+    title = f"How far one gets: {sheet.counted(len(got), 'pair')} can be attained{more}"
+    yield f'<section aria-label="how far one gets"><h2>{title}</h2><div class=pairs>'
     for kind, states in rows.items():
         chips = []
         for state in states:

@@ -76,7 +76,12 @@
   const holders = new Set();
   const walker = document.createTreeWalker(document.body, NodeFilter.SHOW_TEXT);
   while (walker.nextNode()) if (walker.currentNode.data.trim()) holders.add(walker.currentNode.parentElement);
-  for (const element of holders) if (!element.matches("script, style, noscript, title, option, tspan")) checkText(element);
+  for (const element of holders) {
+    if (element.matches("script, style, noscript, title, option, tspan")) continue;
+    checkText(element);
+    const isInPart = element.closest("header, main, footer, nav, section[aria-label], [role=region], [role=status]");
+    if (!isInPart && isSeen(element)) say("in no part of the page", element);
+  }
 
   for (const shape of all("#pic .mark > :is(path, rect), .node > rect")) {
     if (shape.closest(".dim .mark:not(.lit)") || !isSeen(shape)) continue;

@@ -40,6 +40,7 @@ WRONGS = (
     ("regions of one name", "document.getElementById('steps').setAttribute('aria-label', 'What is shown')"),
     ("size", "document.getElementById('nearer').style = 'min-height: 0; height: 14px; padding: 0; width: 8px'"),
     ("structure", "document.documentElement.lang = ''"),
+    ("in no part of the page", "document.body.append(document.createElement('b')); document.body.lastChild.textContent = 'x'"),
 )  # fmt: skip
 
 
@@ -83,6 +84,7 @@ class Reading(InABrowser):
         yield (self.path("crossed", CROSSED),)
         yield (self.path("why", WAITING),)
         yield (self.path("refusal", REFUSAL), "--why", self.path("why", WAITING))
+        yield (self.path("refusal", REFUSAL),)
 
     def test_all_can_be_read_and_used_in_the_light_and_in_the_dark(self):
         texts = set()
@@ -98,9 +100,9 @@ class Reading(InABrowser):
                         self.js(look)
                         found = self.found()
                         self.assertEqual(found["faults"], [], (words, is_dark, look))
-                        self.assertGreater(found["texts"], 10)
+                        self.assertGreater(found["texts"], 8)
                         self.assertGreaterEqual(found["controls"], 20 if is_plan else 0, words)
-                        self.assertGreater(found["marks"], 1)
+                        self.assertEqual(found["marks"] > 1, "refusal" not in str(words[0]) or len(words) > 1)
                     texts.add(self.js("getComputedStyle(document.body).backgroundColor"))
         finally:
             self.browser.look()
