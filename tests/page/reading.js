@@ -83,6 +83,12 @@
     if (!isInPart && isSeen(element)) say("in no part of the page", element);
   }
 
+  for (const element of all("input[placeholder]").filter(isSeen)) {
+    const [style, ground] = [getComputedStyle(element, "::placeholder"), groundOf(element)];
+    const found = contrast(seen(colourOf(style.color), style.opacity === "" ? 1 : +style.opacity, ground), ground);
+    if (found < 4.49) say("placeholder", element, found.toFixed(2));
+  }
+
   for (const shape of all("#pic .mark > :is(path, rect), .node > rect")) {
     if (shape.closest(".dim .mark:not(.lit)") || !isSeen(shape)) continue;
     counts.marks += 1;

@@ -21,6 +21,7 @@ WRONGS = (
     ("contrast", "document.documentElement.style.setProperty('--soft', '#8a949b')"),
     ("contrast", "explorer.step(5); explorer.picture.paint(new Map()); "
      "document.documentElement.style.setProperty('--on-done', '#5f7f95')"),
+    ("placeholder", "document.getElementById('find').style = 'background: #777; color: #000'"),
     ("outline", "document.documentElement.style.setProperty('--faint', '#b0b6ba')"),
     ("arrow", "document.documentElement.style.setProperty('--faint', '#b0b6ba')"),
     ("name", "document.getElementById('find').removeAttribute('aria-label')"),
