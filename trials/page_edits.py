@@ -103,6 +103,14 @@ EDITS = (
     Edit("progress.py", "if signs != self.signs or self.is_running():", "if True:"),
     Edit("reasons.py", "out = max(beside) + self.width + 46", "out = self.width + 46"),
     Edit("panel.js", "host, wish, offered)", "host, offered)", "test_each_instance_says_what_is_wished_of_it"),
+    Edit("page.js", "if (instances.length > 1) byId(", "if (instances.length > 9) byId("),
+    Edit("panel.js", '"step it"', '"do it"'),
+    Edit("panel.js", '${isNext && !begun ? "next; " : ""}', '${isNext ? "next; " : ""}'),
+    Edit("panel.js", "return p(`Since ${of(start)}, for ${of(end - start)}.`)", "return p(`At ${of(start)} to ${of(end)}.`)"),
+    Edit("sheet.py", "to try an order of your own; nothing is carried out.", "to try an order of your own."),
+    Edit("sheet.py", "summary += f\"; for {', '.join(map(str, targets))}\"", "pass"),
+    Edit("progress.py", "shlex.quote(plain(folder.path.resolve().name, 200))", "plain(folder.path.resolve().name, 200)"),
+    Edit("server.py", "if is_opened:", "if False:"),
     # In a browser: keys, what one finds and takes along, and what can be read.
     Edit("controls.js", "input[type=checkbox], select, button", "select, button", KEYS + "test_a_blank_toggles_each_box_and_plays_nothing"),
     Edit("picture.js", "tabindex: mark.index ? -1 : 0", "tabindex: -1", KEYS + "test_each_control_is_reached_by_keys_alone"),
@@ -138,6 +146,13 @@ EDITS = (
          READING + "test_all_can_be_read_and_used_in_the_light_and_in_the_dark"),
     Edit("page.css", "--dim: #8c99a1;", "--dim: #66727a;", READING + "test_all_can_be_read_and_used_in_the_light_and_in_the_dark"),
     Edit("picture.js", "(farOf(mark) <= (near ? farOf(near) : 12) ?", "(farOf(mark) <= (near ? farOf(near) : 4) ?", READING + "test_a_binding_is_hit_by_a_finger"),
+    Edit("page.css", ".many .wait { opacity: .9;", ".many .wait { opacity: .4;", READING + "test_marks_and_arrows_of_a_large_plan_stand_out"),
+    Edit("page.css", ".dim .mark:not(.lit) :is(path, rect) { stroke-opacity: .3; }", ".dim .mark:not(.lit) { opacity: .3; }",
+         READING + "test_what_is_not_chosen_is_paler_and_no_line_strikes_its_words_through"),
+    Edit("page.css", "max-width: 2600px", "max-width: 1900px", READING + "test_a_wide_window_is_used"),
+    Edit("page.css", " #find::placeholder { color: var(--soft); opacity: 1; }", "",
+         READING + "test_all_can_be_read_and_used_in_the_light_and_in_the_dark"),
+    Edit("../draw/chart.py", "        yield DARK\n", "", READING + "test_a_chart_is_dark_where_all_is_dark"),
     Edit("plan.html", ' role="group" aria-label="zoom"', ' aria-label="zoom"', READING + "test_all_can_be_read_and_used_on_a_phone"),
 )  # fmt: skip
 
