@@ -16,6 +16,8 @@ from collections.abc import Sequence
 from typing import Any
 
 MOST_SECONDS = 300  # only what never answers is given up
+# A Firefox now and then answers nothing from its start on. It is given up sooner, since another one answers then.
+MOST_TO_START, MOST_STARTS = 100, 3
 POLITE = ("nice", "-n", "10")
 CHROMIUM = (
     "chromium", "--headless=new", "--no-sandbox", "--disable-gpu", "--remote-debugging-pipe", "--no-first-run",
@@ -86,6 +88,16 @@ class Browser:
 
     def quit(self) -> None:
         raise NotImplementedError
+
+
+def started(kind: type[Browser]) -> Browser:
+    """A browser that answers, by a few tries."""
+    for _ in range(MOST_STARTS - 1):
+        try:
+            return kind()
+        except (TimeoutError, EOFError):
+            continue
+    return kind()
 
 
 class Chromium(Browser):
@@ -250,19 +262,23 @@ class Firefox(Browser):
         except (OSError, Fault, TimeoutError, EOFError):
             self.process.kill()
             self.process.wait()
+            if hasattr(self, "socket"):
+                self.socket.close()
+            shutil.rmtree(self.home, ignore_errors=True)
             raise
 
     def start(self) -> None:
-        self.socket = socket.create_connection(("127.0.0.1", self.port()), MOST_SECONDS)
+        self.socket = socket.create_connection(("127.0.0.1", self.port()), MOST_TO_START)
         self.message()
         self.call("WebDriver:NewSession", capabilities={"alwaysMatch": {}})
         self.call("WebDriver:SetTimeouts", script=1000 * MOST_SECONDS, pageLoad=1000 * MOST_SECONDS)
         self.size(1280, 860)
         self.look()
+        self.socket.settimeout(MOST_SECONDS)
 
     def port(self) -> int:
         """The port that it has chosen, and written into its profile."""
-        path, end = pathlib.Path(self.home) / "MarionetteActivePort", time.time() + MOST_SECONDS
+        path, end = pathlib.Path(self.home) / "MarionetteActivePort", time.time() + MOST_TO_START
         while not path.exists() or not path.read_text("ascii").strip():
             if time.time() > end or self.process.poll() is not None:
                 raise TimeoutError("firefox does not start")

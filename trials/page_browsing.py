@@ -8,7 +8,7 @@ import time
 import unittest
 from typing import Any
 
-from trials.browsers import Browser
+from trials.browsers import Browser, started
 from trials.page_cases import Tried, said
 
 # Shared pieces of scripts.
@@ -36,7 +36,7 @@ class BrowserCase(unittest.TestCase):
     def setUpClass(cls) -> None:
         if not shutil.which(cls.kind.name):
             raise unittest.SkipTest(f"no {cls.kind.name}")
-        cls.browser = cls.kind()
+        cls.browser = started(cls.kind)
         cls.top = pathlib.Path(tempfile.mkdtemp(prefix="page-"))
 
     @classmethod

@@ -8,7 +8,7 @@ import unittest
 from tests.carry.shapes import ROLLED, WEB, FolderCase, call
 from tests.effort import DEADLINE
 from tests.page.test_pages import NUMBERS, WAVES
-from trials.browsers import Chromium
+from trials.browsers import Chromium, started
 
 # All that can have the focus and is seen; of marks and names, between which arrows lead, the one that Tab reaches.
 STOPS = """[...document.querySelectorAll("button, input, select, summary, [tabindex]")].filter((e) => e.checkVisibility()
@@ -29,7 +29,7 @@ class InABrowser(FolderCase):
         if not shutil.which(cls.kind.name):
             raise unittest.SkipTest(f"no {cls.kind.name}")
         try:
-            cls.browser = cls.kind()
+            cls.browser = started(cls.kind)
         except (TimeoutError, EOFError) as fault:
             raise unittest.SkipTest(f"{cls.kind.name} does not start: {fault}") from fault
 
