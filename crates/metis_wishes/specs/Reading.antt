@@ -3,14 +3,17 @@
 --     with_wish u n wishes line      the wish of line n, behind these
 --     more_wishes u n wishes line, is_last wishes line      the wishes with it;  whether it is the last line
 --     wishes_in u bytes      what the bytes say
-use Rattle.std.specs.Prelude.{ℕ, ◌==◌, Bool, List, [], ◌∷◌, ◌++◌, codes, position, Result, Ok, Err, if◌then◌else◌}
+--     IsSaidBy u wishes lines      there are as many lines as wishes, and each says its wish
+--     HaveOwnSubjects wishes      no two of them are about the same
+use Rattle.std.specs.Prelude.{◌≡◌, ℕ, ◌==◌, Bool, List, [], ◌∷◌, ◌++◌, codes, position, Result, Ok, Err, IsFalse, if◌then◌else◌, ⊤}
+use Rattle.std.specs.List.{All}
 use Rattle.std.specs.Option.{is_some}
 use Rattle.std.specs.Str.{bytes_eq}
 use Rattle.metis_tokens.specs.Terms.{LineRules, line_fault, line_rules, made, named, number_in, own_text, pair_in, tokens}
 use Rattle.metis_tokens.specs.declared.flaw.Flaw.{Flaw}
 use Rattle.metis_tokens.specs.declared.flaw.Flaw.TheVariants as flaw
 use Rattle.metis_universe.specs.Terms.{Universe, type_named}
-use Rattle.metis_wishes.specs.Wishes.{is_about}
+use Rattle.metis_wishes.specs.Wishes.{is_about, is_same, subject_of}
 use Rattle.metis_wishes.specs.declared.fault.WishFault.{WishFault}
 use Rattle.metis_wishes.specs.declared.fault.WishFault.TheVariants.{Line, Short, Number, Name, Twice, NoMemory}
 use Rattle.metis_wishes.specs.declared.wish.Wish.{Wish}
@@ -64,3 +67,15 @@ wish_lines u = line_rules is_last (more_wishes u) Line Short
 
 abbrev pub wishes_in : Universe → List ℕ → Result (List Wish) WishFault
 wishes_in u bytes = own_text (codes "metis wishes 1") (wish_lines u) (λ wishes. wishes) [] bytes
+
+-- ---- what holds of them
+
+abbrev pub IsSaidBy : Universe → List Wish → List (List ℕ) → Type 0
+IsSaidBy u [] [] = ⊤
+IsSaidBy u [] (line ∷ lines) = ⊥
+IsSaidBy u (wish ∷ wishes) [] = ⊥
+IsSaidBy u (wish ∷ wishes) (line ∷ lines) = (wish_in u (tokens line) ≡ Ok wish) × IsSaidBy u wishes lines
+
+abbrev pub HaveOwnSubjects : List Wish → Type 0
+HaveOwnSubjects [] = ⊤
+HaveOwnSubjects (wish ∷ wishes) = All (λ later. IsFalse (is_same (subject_of wish) (subject_of later))) wishes × HaveOwnSubjects wishes
