@@ -30,7 +30,7 @@ use Rattle.metis_wishes.specs.Terms.{avoided, is_avoided}
 use Rattle.metis_wishes.specs.declared.wish.Wish.{Wish}
 use Rattle.metis_reconfigure.specs.Terms.{GoesWell, IsAnswered, Reconfiguration, binds_at, fresh_actions, fresh_givers, given, is_bind, is_unavoidable, left_by, left_to_plan, missing, pair_for, providers_short, rebinds_in, rebound_in, settled, short, targets, targets_behind}
 use Rattle.metis_reconfigure.proofs.Given.{given_ones, is_given}
-use Rattle.metis_reconfigure.proofs.Joined.{are_targets, besides, c_config, name, new_steady, target_named, ties as anew_ties, unused}
+use Rattle.metis_reconfigure.proofs.Joined.{are_targets, besides, c_config, name, name_unused, new_steady, target_named, ties as anew_ties, unused}
 use Rattle.metis_reconfigure.proofs.Keeping.{anew_are, anew_bind}
 use Rattle.metis_reconfigure.proofs.Rebound.{fresh_giver, in_rebinds, is_candidate}
 
@@ -218,6 +218,7 @@ module _ (u : Universe) (k : IsUniverse u) (wishes : List Wish) (old : List Acti
         let made = pair_touched (At (is_made front)) left y front (touches_own left front (going_from_steady left front front_steady)) (IsSome_at _ _ there) in
         let beside = (completion u k old s0 g are_given (avoided u wishes) front front_steady apart).1 in
         inr (
+          apart y made,
           well.0,
           ap (λ l. pair_of (left_by u (old ++ l)) y) one.3 ∙ beside.new_pairs y (apart y made) ∙ well.1,
           well.2,
@@ -247,7 +248,8 @@ module _ (u : Universe) (k : IsUniverse u) (wishes : List Wish) (old : List Acti
             let stands : pair_of stood y ≡ Some p = ap (pair_of stood) (sym f.named) ∙ target_named u k wishes old s0 r.leaving r.leave ts r.plan r.planned f.number f.low in
             let kept = binds_keep u stood (anew_ties u k wishes old s0 r.leaving r.leave ts r.plan r.planned) before (Bind s z y ∷ rest) y (sym (anew_are u k wishes old s0 goals r) ∙ is) in
             let same : left_by u (old ++ (fresh ++ before)) ≡ after_all u stood before = ap (left_by u) (sym (append_assoc old fresh before)) ∙ after_all-append u empty (old ++ fresh) before in
-            inr (p, ap (λ d. pair_of d y) same ∙ kept ∙ stands, f.gives_it, unavoided u wishes c r.leaving p s f.gives_it off)
+            let new_one = subst (λ x. is_made old x ≡ false) f.named (name_unused u k wishes old s0 r.leaving r.leave ts r.plan r.planned f.number) in
+            inr (new_one, p, ap (λ d. pair_of d y) same ∙ kept ∙ stands, f.gives_it, unavoided u wishes c r.leaving p s f.gives_it off)
       ]
 
   pub binds_go_well : (earlier rest : List Action) (s z y : ℕ) → fresh ++ rebinds_in r ≡ earlier ++ Bind s z y ∷ rest → GoesWell r earlier s y

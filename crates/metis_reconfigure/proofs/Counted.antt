@@ -93,6 +93,9 @@ module _ (u : Universe) (wishes : List Wish) (c : Config) (leaving zs : List ℕ
     | inr later ↦ all_met (next ts s) rs met.1 r later
   ]
 
+-- ---- what is wanted
+
+module _ (u : Universe) (c : Config) (leaving zs : List ℕ) where
   -- what one of those that lack the port wants
   pub wanted_by : (z r : ℕ) → has zs z ≡ true → 0 < lack u c leaving z r → wants u c r z ≤ wanted u c leaving zs r
   wanted_by z r among some =

@@ -6,6 +6,7 @@ pub mod AvoidedPairs
 pub mod Binds
 pub mod Choosing
 pub mod Counted
+pub mod EachLine
 pub mod Edging
 pub mod Enough
 pub mod Few
@@ -38,6 +39,8 @@ pub mod Tables
 pub mod Throughout
 pub mod Tidying
 pub mod Unavoided
+pub mod Unserved
+pub mod Using
 pub mod Wanted
 pub mod WhatStays
 pub mod Wishing

@@ -198,7 +198,7 @@ module _ (u : Universe) (k : IsUniverse u) (wishes : List Wish) (old : List Acti
           arith,
           length-append one two,
           enough_taken u wishes c leaving ts n kc leave b t z p r asked there (λ some.
-              let w = wanted_by u wishes c leaving (rebound_in wishes c) z r asked some in
+              let w = wanted_by u c leaving (rebound_in wishes c) z r asked some in
               let a = all_met u wishes c leaving (rebound_in wishes c) (filter_map (pair_for (left_to_plan u wishes c leaving)) (missing u c leaving goals)) (range_with_len 0 (port_count u)) ans.met r (has_range 0 (port_count u) r (omega arith) (omega (arith, required_low u k p r needs))) in
               omega (arith, w, a)),
         );

@@ -1,9 +1,10 @@
 -- What is read off tables: whether a goal is unavoidable, and what is to be planned for.
-use Rattle.std.proofs.Common.{◌≡◌, ℕ, ◌+◌, ◌<◌, Bool, true, false, cond, not, ◌||◌, List, [], ◌∷◌, ◌++◌, get_or, length, map, take, Option, Some, None, refl, sym, ap, ◌∙◌, subst, arith, inl, inr, append-nil, nat_eq}
+use Rattle.std.proofs.Common.{◌≡◌, ℕ, ◌+◌, ◌-◌, ◌<◌, ◌≤◌, Bool, true, false, cond, not, ◌&&◌, ◌||◌, List, [], ◌∷◌, ◌++◌, get_or, length, map, take, Option, Some, None, refl, sym, ap, ◌∙◌, subst, arith, inl, inr, append-nil, nat_eq}
 use Rattle.std.specs.Prelude.{◌⊎◌, IsSome, fold, max, nat_lt, replicate}
-use Rattle.std.specs.List.{All, cons_option, filter, filter_map, find, position_or_len, range_with_len, slice_index_or}
+use Rattle.std.proofs.Math.Nat.{max-le}
+use Rattle.std.specs.List.{All, cons_option, count_by, filter, filter_map, find, position_or_len, range_with_len, slice_index_or}
 use Rattle.std.specs.Option.{is_some, option_map_or}
-use Rattle.std.proofs.lemmas.Bool.{false_from_ne_true, false≢true, le-ltb, or_right}
+use Rattle.std.proofs.lemmas.Bool.{and_parts, false_from_ne_true, false≢true, le-ltb, lt-ltb, ltb-false, ltb-true, or_right}
 use Rattle.std.proofs.lemmas.List.{take_more}
 use Rattle.std.proofs.lemmas.List.Elements.{All-head, All-tail, filter_map-append}
 use Rattle.metis_completion.specs.Terms.{given_in}
@@ -12,11 +13,13 @@ use Rattle.metis_ids.proofs.Lists.{has_here, range_more}
 use Rattle.metis_ids.specs.declared.goals.Goal.{Goal}
 use Rattle.metis_ids.specs.declared.goals.Goal.TheVariants.{Pair, Port}
 use Rattle.metis_layers.specs.Terms.{IsLayers, Layers, first_at}
+use Rattle.metis_rollout.proofs.Quiet.{find_some}
 use Rattle.metis_universe.proofs.ResidualRows.{residual_count}
-use Rattle.metis_universe.specs.Terms.{Config, IsGoalOf, Universe, demand_of, further_of, has, pair_of, port_count, provider_of, required_of, requires}
+use Rattle.metis_universe.specs.Terms.{Config, IsGoalOf, Universe, demand_of, further_of, has, pair_of, port_count, provider_of, provides, required_of, requires}
 use Rattle.metis_wishes.specs.Terms.{avoided, is_avoided}
 use Rattle.metis_wishes.specs.declared.wish.Wish.{Wish}
-use Rattle.metis_reconfigure.specs.Terms.{AreMet, AreTables, HasRequired, IsLeft, IsUnmet, given, is_lacking, is_unavoidable, is_unavoidable_by, lack, lack_by, left_to_plan, pair_for, pair_in, providers_short, short, short_by, targets_behind, wanted, wanted_by, wants}
+use Rattle.metis_reconfigure.specs.Terms.{AreMet, AreTables, HasRequired, IsLeft, IsUnmet, given, is_lacking, is_unavoidable, is_unavoidable_by, is_unserved, is_unserved_by, lack, lack_by, left_to_plan, pair_for, pair_in, providers_short, short, short_by, targets_behind, wanted, wanted_by, wants}
+use Rattle.metis_reconfigure.proofs.Counted.{wanted_by as wanted_at}
 
 -- ---- what is left to plan
 
@@ -102,6 +105,53 @@ none_found t (x ∷ xs) h = elim (t x) as (λ b. cond b (Some x) (find t xs) ≡
   some_none : Some x ≡ None → ⊥
   some_none h = cc
 
+-- ---- who is unserved
+
+module _ (u : Universe) (c : Config) (leaving ts : List ℕ) (r : ℕ) where
+  abbrev lacks : ℕ → Bool
+  lacks z = nat_lt 0 (lack u c leaving z r)
+
+  abbrev there : ℕ
+  there = length (given u c leaving r) + count_by (λ p. provides u p r) ts
+
+  -- one that lacks the port and is not unserved wants no more than there are
+  wants_low : (z : ℕ) → nat_lt (count_by (λ p. provides u p r) ts) (wants u c r z - length (given u c leaving r)) ≡ false → wants u c r z ≤ there
+  wants_low z h = let most = ltb-false (count_by (λ p. provides u p r) ts) (wants u c r z - length (given u c leaving r)) h in omega (arith, most)
+
+  wanted_low : (zs : List ℕ) (a : ℕ) → a ≤ there → find (is_unserved u c leaving ts r) zs ≡ None → fold max a (map (wants u c r) (filter lacks zs)) ≤ there
+  wanted_low [] a low none = low
+  wanted_low (z ∷ zs) a low none = by (lacks z) (nat_lt (count_by (λ p. provides u p r) ts) (wants u c r z - length (given u c leaving r))) refl none where
+    by : (b e : Bool) → nat_lt (count_by (λ p. provides u p r) ts) (wants u c r z - length (given u c leaving r)) ≡ e
+        → cond (b && e) (Some z) (find (is_unserved u c leaving ts r) zs) ≡ None → fold max a (map (wants u c r) (cond b (z ∷ filter lacks zs) (filter lacks zs))) ≤ there
+    by true true is h = absurd (some_none h) where
+      some_none : Some z ≡ None → ⊥
+      some_none h = cc
+    by true false is h = wanted_low zs (max a (wants u c r z)) (max-le low (wants_low z is)) h
+    by false e is h = wanted_low zs a low h
+
+  -- where none is unserved the port is not short
+  pub none_unserved : (zs : List ℕ) → find (is_unserved u c leaving ts r) zs ≡ None → short u c leaving zs ts r ≡ 0
+  none_unserved zs none = let low = wanted_low zs 0 (omega arith) none in omega (arith, low)
+
+  -- and where one is it is
+  pub record IsUnserved (zs : List ℕ) (z : ℕ) : Type 0 where
+    pub among : has zs z ≡ true
+    pub lacking : 0 < lack u c leaving z r
+    pub more : there < wants u c r z
+
+  pub who_is_unserved : (zs : List ℕ) (z : ℕ) → find (is_unserved u c leaving ts r) zs ≡ Some z → IsUnserved zs z
+  who_is_unserved zs z is =
+      let at = find_some (is_unserved u c leaving ts r) zs z is in
+      let parts = and_parts (lacks z) (nat_lt (count_by (λ p. provides u p r) ts) (wants u c r z - length (given u c leaving r))) at.1 in
+      let most = ltb-true (count_by (λ p. provides u p r) ts) (wants u c r z - length (given u c leaving r)) parts.1 in
+      record { among = at.0; lacking = ltb-true 0 (lack u c leaving z r) parts.0; more = omega (arith, most) }
+
+  pub unserved_short : (zs : List ℕ) (z : ℕ) → find (is_unserved u c leaving ts r) zs ≡ Some z → 0 < short u c leaving zs ts r
+  unserved_short zs z is =
+      let k = who_is_unserved zs z is in
+      let most = wanted_at u c leaving zs z r k.among k.lacking in
+      omega (arith, k.more, most)
+
 module _ (u left : Universe) (c : Config) (leaving zs : List ℕ) where
   behind : List ℕ → List ℕ → List ℕ
   behind ts rs = targets_behind u left c leaving zs ts rs
@@ -170,19 +220,24 @@ module _ (u left : Universe) (c : Config) (leaving zs : List ℕ) where
     pub none_lacking : (first ts : List ℕ) (n : ℕ) → find (is_lacking u c (given_in rows n) n) zs ≡ None → AreSoFar first n ts → AreSoFar first (n + 1) ts
     none_lacking first ts n none so_far = skipped first ts n so_far (none_lacks ts n (sym (same_found n) ∙ none))
 
-    pub none_short : (first ts : List ℕ) (n : ℕ) → short_by u c (given_in rows n) zs ts n ≡ 0 → AreSoFar first n ts → AreSoFar first (n + 1) ts
-    none_short first ts n none so_far = skipped first ts n so_far (sym (same_short ts n) ∙ none)
+    same_unserved : (ts : List ℕ) (r : ℕ) → find (is_unserved_by u c (given_in rows r) ts r) zs ≡ find (is_unserved u c leaving ts r) zs
+    same_unserved ts r = ap (λ standing. find (is_unserved_by u c standing ts r) zs) (k.standing r)
+
+    pub none_short : (first ts : List ℕ) (n : ℕ) → find (is_unserved_by u c (given_in rows n) ts n) zs ≡ None → AreSoFar first n ts → AreSoFar first (n + 1) ts
+    none_short first ts n none so_far = skipped first ts n so_far (none_unserved u c leaving ts n zs (sym (same_unserved ts n) ∙ none))
 
     pub provided_more : (first ts : List ℕ) (n p : ℕ) → n < port_count u → first_at l n ≡ Some p → AreSoFar first n ts → AreSoFar first (n + 1) (ts ++ replicate (short_by u c (given_in rows n) zs ts n) p)
     provided_more first ts n p low is so_far =
         subst (λ m. AreSoFar first (n + 1) (ts ++ replicate m p)) (sym (same_short ts n)) (pushed first ts n p so_far (sym (provider n low) ∙ is))
 
-    pub unmet_here : (first ts : List ℕ) (n z : ℕ) → n < port_count u → first_at l n ≡ None → find (is_lacking u c (given_in rows n) n) zs ≡ Some z → 0 < short_by u c (given_in rows n) zs ts n
+    pub unmet_here : (first ts : List ℕ) (n z : ℕ) → n < port_count u → first_at l n ≡ None → find (is_unserved_by u c (given_in rows n) ts n) zs ≡ Some z
         → AreSoFar first n ts → IsUnmet u left c leaving zs first z n
-    unmet_here first ts n z low none lacks some so_far = record {
-      below = low;
-      met = so_far.met;
-      short = subst (λ xs. 0 < short u c leaving zs xs n) (sym so_far.targets) (subst (λ m. 0 < m) (same_short ts n) some);
-      without = sym (provider n low) ∙ none;
-      lacks = sym (same_found n) ∙ lacks;
-    }
+    unmet_here first ts n z low none unserved so_far =
+        let here = sym (same_unserved ts n) ∙ unserved in
+        record {
+          below = low;
+          met = so_far.met;
+          short = subst (λ xs. 0 < short u c leaving zs xs n) (sym so_far.targets) (unserved_short u c leaving ts n zs z here);
+          without = sym (provider n low) ∙ none;
+          unserved = subst (λ xs. find (is_unserved u c leaving xs n) zs ≡ Some z) (sym so_far.targets) here;
+        }

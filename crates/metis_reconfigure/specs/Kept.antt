@@ -3,7 +3,7 @@
 --     at_border r, at_end r      what stands before the removal;  what stands in the end
 --     binds_at actions r z y      whether one of the actions binds the port of the requirer to the provider
 --     IsJoined u wishes old goals r d      d is what old leaves, with the bindings of the rebinds, and what the fresh actions leave beside it
---     GoesWell r earlier s y      after old and these earlier actions the instance is a settled one, or in a pair that provides the port and is not avoided
+--     GoesWell r earlier s y      after old and these earlier actions the instance is a settled one, or one that old does not make, in a pair that provides the port and is not avoided
 --     is_kept r z      whether the instance is one of those that old leaves, and stays
 --     ActsBeside r a      the action is of an instance that old does not make, or a rebind
 --     after_old r, LeavesAlone r a      the actions after old;  the action does nothing to a kept instance but what a rebind says, or the end of a binding that is not to stay
@@ -60,7 +60,7 @@ pub record IsJoined (u : Universe) (wishes : List Wish) (old : List Action) (goa
 -- where a bind of the port may go
 abbrev pub GoesWell : {u : Universe} → {wishes : List Wish} → {old : List Action} → {goals : List Goal} → Reconfiguration u wishes old goals → List Action → ℕ → ℕ → Type 0
 GoesWell {u} {wishes} {old} r earlier s y = IsTrue (has (settled (left_by u old) r.leaving) y)
-    ⊎ ((q : ℕ) × (pair_of (left_by u (old ++ earlier)) y ≡ Some q) × IsTrue (provides u q s) × IsFalse (is_avoided u wishes q))
+    ⊎ (IsFalse (is_made old y) × ((q : ℕ) × (pair_of (left_by u (old ++ earlier)) y ≡ Some q) × IsTrue (provides u q s) × IsFalse (is_avoided u wishes q)))
 
 -- ---- what is left alone
 

@@ -10,5 +10,5 @@ pub use Rattle.metis_reconfigure.specs.Rebinding.{candidates, fresh_givers, name
 pub use Rattle.metis_reconfigure.specs.Reconfiguration.{Reconfiguration, before_removal, fresh_actions, joined, left_by, rebound_actions, reconfigured}
 pub use Rattle.metis_reconfigure.specs.Settled.{AreLeaving, dependents, given, gives, is_root, leads_up, left_to_plan, roots, settled, stands_on}
 pub use Rattle.metis_reconfigure.specs.Staying.{AreStaying, StayBegun, StayFor, StaysForOne, StaysToo, fresh_in, holds_up, next_serving, those_in, wished}
-pub use Rattle.metis_reconfigure.specs.Targeted.{AreTables, HasRequired, IfTargets, IfUnmet, IsGivenAt, IsLeft, IsUnmet, is_lacking, is_unavoidable_by, lack_by, pair_in, short_by, wanted_by}
+pub use Rattle.metis_reconfigure.specs.Targeted.{AreTables, HasRequired, IfTargets, IfUnmet, IsGivenAt, IsLeft, IsUnmet, is_lacking, is_unavoidable_by, is_unserved, is_unserved_by, lack_by, pair_in, short_by, wanted_by}
 pub use Rattle.metis_reconfigure.specs.Tidied.{IsTaken, IsTidied, target_instances}

@@ -104,7 +104,8 @@ pub fn what_a_kept_instance_stands_on_stays()
         → IsTrue (has r.staying y) × IsTrue (is_bound (at_end r) s z y) }
 {}
 
-/// Before the removal each bind goes to a settled instance, or to one that is then in a pair that provides the port and is not avoided.
+/// Before the removal each bind goes to a settled instance, or to one that old does not make, which is then in a pair that provides the
+/// port and is not avoided.
 pub fn no_new_bind_goes_to_what_is_avoided()
     ensures { (u : Universe) (wishes : List Wish) (old : List Action) (goals : List Goal) (r : Reconfiguration u wishes old goals)
         (earlier rest : List Action) (s z y : ℕ) → IsUniverse u → IsAnswered u wishes old goals r

@@ -16,6 +16,7 @@ mod reconfiguring;
 mod request;
 mod staying;
 mod targets;
+mod use_laws;
 mod wished;
 
 pub use answer::{Obstacle, Reconfigured};
@@ -40,4 +41,8 @@ pub use reach::{Edge, reached};
 pub use reconfiguring::reconfigure;
 pub use request::Request;
 pub use targets::{Sources, Targets, lack_of, targets_of};
+pub use use_laws::{
+    a_goal_is_missing_where_too_few_serve_it, each_line_is_kept,
+    the_unmet_wants_more_than_there_are, what_is_made_takes_what_serves, what_serves_is_given,
+};
 pub use wished::{kept_set, rebound_set, retired_set};

@@ -3,7 +3,7 @@ ghost use Rattle.std.specs.Prelude.{◌≡◌, ◌<◌, ◌++◌, ◌||◌, ℕ,
 ghost use Rattle.std.specs.List.{All, count_by, filter_map, find, range_with_len};
 ghost use Rattle.metis_config.specs.Terms.{IsOver, demanded};
 ghost use Rattle.metis_universe.specs.Terms.{IsGoalOf, Universe, has, pair_count, port_count, provides};
-ghost use Rattle.metis_reconfigure.specs.Terms.{AreMet, AreTables, HasRequired, IfTargets, IfUnmet, IsGivenAt, IsUnmet, is_lacking, lack, lack_by, pair_for, pair_in, short_by, targets_behind, wanted_by, wants};
+ghost use Rattle.metis_reconfigure.specs.Terms.{AreMet, AreTables, HasRequired, IfTargets, IfUnmet, IsGivenAt, IsUnmet, is_lacking, is_unserved_by, lack, lack_by, pair_for, pair_in, short_by, targets_behind, wanted_by, wants};
 
 use metis_completion::Given;
 use metis_config::Config;
@@ -18,7 +18,7 @@ use std::collections::BTreeSet;
 pub enum Targets {
     /// The pairs for the missing goals, and then the provider of each port as often as is short.
     Pairs(Vec<PairIx>),
-    /// The least port that is short and has no provider, and the least instance that lacks it.
+    /// The least port that is short and has no provider, and the least instance that lacks it and wants more providers than there are.
     Unmet(InstNo, PortIx),
 }
 
@@ -32,7 +32,8 @@ pub struct Sources<'a> {
 }
 
 /// The pairs for the missing goals, and then, port by port, the provider of each that those to be bound anew lack, as often as is short
-/// where there are the given instances and the targets so far; or the first port that is short and has no provider.
+/// where there are the given instances and the targets so far; or the first port that is short and has no provider, with the first
+/// instance that lacks it and wants more than these.
 pub fn targets_of(
     alloc: Global,
     u: &Universe,
@@ -55,13 +56,14 @@ pub fn targets_of(
     for number in 0..u.ports() {
         let port = PortIx(number);
         let standing = sources.given.of(port);
-        if let Some(z) = first_lacking(u, c, standing, rebound, &ports, port) {
+        if first_lacking(u, c, standing, rebound, &ports, port).is_none() {
+            continue;
+        }
+        if let Some(pair) = sources.layers.first_provider(port) {
             let short = short_of(u, c, standing, rebound, port, &targets);
-            match sources.layers.first_provider(port) {
-                Some(pair) => push_times(pair, short, &mut targets)?,
-                None if short > 0 => return Ok(Targets::Unmet(z, port)),
-                None => {}
-            }
+            push_times(pair, short, &mut targets)?;
+        } else if let Some(z) = first_unserved(u, c, standing, rebound, port, &targets) {
+            return Ok(Targets::Unmet(z, port));
         }
     }
     Ok(Targets::Pairs(targets))
@@ -114,6 +116,28 @@ fn short_of(
     wanted
         .saturating_sub(standing.len() as u64)
         .saturating_sub(providing(u, targets, port))
+}
+
+// The first of the instances that lacks the port, and wants more providers of it than there are with the targets.
+fn first_unserved(
+    u: &Universe,
+    c: &Config,
+    standing: &[InstNo],
+    rebound: &[InstNo],
+    port: PortIx,
+    targets: &[PairIx],
+) -> Option<InstNo>
+    requires { IsOver u.now c.now }
+    ensures { result ≡ find (is_unserved_by u.now c.now standing.now targets.now port) rebound.now }
+{
+    let planned = providing(u, targets, port);
+    for z in rebound {
+        let unserved = wants(u, c, port, *z).saturating_sub(standing.len() as u64);
+        if lack_among(u, c, standing, *z, port) > 0 && unserved > planned {
+            return Some(*z);
+        }
+    }
+    None
 }
 
 // How many providers of the port have to be there for these instances.

@@ -8,7 +8,7 @@ use Rattle.metis_universe.specs.Terms.{Config, Universe, demand_of, is_bound, pa
 use Rattle.metis_rollout.specs.Terms.{is_idle, members}
 use Rattle.metis_wishes.specs.Terms.{avoided, keeps_all, kept, named, rebound}
 use Rattle.metis_wishes.specs.declared.wish.Wish.{Wish}
-use Rattle.metis_reconfigure.specs.Terms.{AreMet, IsUnmet, firm_leaving, first_unavoidable, fresh_givers, given, gives, holds_up, is_firm, is_unavoidable, lack, left_to_plan, missing, missing_behind, next_serving, pair_for, providers_short, rebinds, rebound_in, settled, short, targets, targets_behind, wanted, wants, wished}
+use Rattle.metis_reconfigure.specs.Terms.{AreMet, IsUnmet, firm_leaving, first_unavoidable, fresh_givers, given, gives, holds_up, is_firm, is_unavoidable, is_unserved, lack, left_to_plan, missing, missing_behind, next_serving, pair_for, providers_short, rebinds, rebound_in, settled, short, targets, targets_behind, wanted, wants, wished}
 use Rattle.metis_uniqueness.proofs.Alike.{AreAlike}
 
 module _ (u : Universe) (wishes : List Wish) (c : Config) (l m : List ℕ) (same : AreAlike l m) where
@@ -41,6 +41,9 @@ module _ (u : Universe) (wishes : List Wish) (c : Config) (l m : List ℕ) (same
   short_same : (zs ts : List ℕ) (r : ℕ) → short u c l zs ts r ≡ short u c m zs ts r
   short_same zs ts r = λ i. wanted_same zs r i - length (given_same i r) - count_by (λ p. provides u p r) ts
 
+  unserved_same : (ts : List ℕ) (r : ℕ) (zs : List ℕ) → find (is_unserved u c l ts r) zs ≡ find (is_unserved u c m ts r) zs
+  unserved_same ts r zs = λ i. find (λ z. nat_lt 0 (lack_same i z r) && nat_lt (count_by (λ p. provides u p r) ts) (wants u c r z - length (given_same i r))) zs
+
   providers_same : (v : Universe) (zs ts : List ℕ) (r : ℕ) → providers_short u v c l zs ts r ≡ providers_short u v c m zs ts r
   providers_same v zs ts r = λ i. option_map_or (replicate (short_same zs ts r i)) (provider_of v r) []
 
@@ -68,7 +71,7 @@ module _ (u : Universe) (wishes : List Wish) (c : Config) (l m : List ℕ) (same
     met = met_same v zs ts (range_with_len 0 r) h.met;
     short = subst (λ n. 0 < n) (short_same zs (targets_behind u v c l zs ts (range_with_len 0 r)) r ∙ ap (λ xs. short u c m zs xs r) (behind_same v zs ts (range_with_len 0 r))) h.short;
     without = h.without;
-    lacks = subst (λ (f : ℕ → ℕ → ℕ). find (λ x. nat_lt 0 (f x r)) zs ≡ Some z) lack_same h.lacks;
+    unserved = sym (unserved_same (targets_behind u v c l zs ts (range_with_len 0 r)) r zs ∙ ap (λ xs. find (is_unserved u c m xs r) zs) (behind_same v zs ts (range_with_len 0 r))) ∙ h.unserved;
   }
 
   abbrev Unmets : Universe → List Goal → ℕ → ℕ → Type 0

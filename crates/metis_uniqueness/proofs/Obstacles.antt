@@ -1,5 +1,5 @@
 -- The first obstacle is one, and what can be answered has none.
-use Rattle.std.proofs.Common.{◌≡◌, ◌⊎◌, ℕ, zero, suc, ◌+◌, ◌<◌, true, not, ◌&&◌, List, ◌++◌, Option, Some, None, IsSome, length, nat_lt, sym, ap, ◌∙◌, subst, arith, inl, inr}
+use Rattle.std.proofs.Common.{◌≡◌, ◌⊎◌, ℕ, zero, suc, ◌+◌, ◌<◌, true, not, ◌&&◌, List, ◌++◌, Option, Some, None, IsSome, length, sym, ap, ◌∙◌, subst, arith, inl, inr}
 use Rattle.std.specs.List.{filter_map, find, range_with_len}
 use Rattle.std.specs.Option.{is_some}
 use Rattle.std.proofs.lemmas.Bool.{and_parts, both_ways, cases_lt, false≢true}
@@ -10,7 +10,7 @@ use Rattle.metis_ids.specs.declared.goals.Goal.{Goal}
 use Rattle.metis_universe.specs.Terms.{Config, Universe, has, pair_of, port_count, provider_of}
 use Rattle.metis_wishes.specs.Terms.{named}
 use Rattle.metis_wishes.specs.declared.wish.Wish.{Wish}
-use Rattle.metis_reconfigure.specs.Terms.{AreLeaving, AreMet, AreThere, IsAnswerable, IsLeastRoot, IsObstacle, IsUnmet, absent, firm_leaving, first_unavoidable, is_absent, is_firm, is_unavoidable, lack, left_by, left_to_plan, missing, pair_for, providers_short, rebound_in, short, targets, targets_behind}
+use Rattle.metis_reconfigure.specs.Terms.{AreLeaving, AreMet, AreThere, IsAnswerable, IsLeastRoot, IsObstacle, IsUnmet, absent, firm_leaving, first_unavoidable, is_absent, is_firm, is_unavoidable, is_unserved, left_by, left_to_plan, missing, pair_for, providers_short, rebound_in, short, targets, targets_behind}
 use Rattle.metis_reconfigure.specs.declared.answer.Obstacle.{Obstacle}
 use Rattle.metis_reconfigure.specs.declared.answer.Obstacle.TheVariants.{Absent, Kept, Unavoidable, Unmet, Needs}
 use Rattle.metis_uniqueness.proofs.Alike.{AreAlike}
@@ -50,10 +50,10 @@ module _ (u v : Universe) (c : Config) (l zs : List ℕ) where
         omega arith
     by (inr some) = no_some (provider_of v r) unmet.without (subst (λ p. IsSome (provider_of v p)) here some)
 
-  abbrev first_lacking : ℕ → Option ℕ
-  first_lacking p = find (λ x. nat_lt 0 (lack u c l x p)) zs
+  abbrev first_unserved : List ℕ → ℕ → Option ℕ
+  first_unserved ts p = find (is_unserved u c l (targets_behind u v c l zs ts (range_with_len 0 p)) p) zs
 
-  -- the first that is not met is one, with the first instance that lacks it
+  -- the first that is not met is one, with the first instance that is unserved
   unmet_is_one : (ts : List ℕ) (x y r s : ℕ) → IsUnmet u v c l zs ts x r → IsUnmet u v c l zs ts y s → Unmet x r ≡ Unmet y s
   unmet_is_one ts x y r s a b = elim (cases_lt r s) [
     | inl low ↦ absurd (met_is_not_unmet ts s x r low b.met a)
@@ -61,7 +61,7 @@ module _ (u v : Universe) (c : Config) (l zs : List ℕ) where
       | inl low ↦ absurd (met_is_not_unmet ts r y s low a.met b)
       | inr same ↦
           let port : r ≡ s = omega arith in
-          let inst : x ≡ y = same_Some x y (sym a.lacks ∙ subst (λ p. first_lacking p ≡ Some y) (sym port) b.lacks) in
+          let inst : x ≡ y = same_Some x y (sym a.unserved ∙ subst (λ p. first_unserved ts p ≡ Some y) (sym port) b.unserved) in
           λ i. Unmet (inst i) (port i)
     ]
   ]
